@@ -1,0 +1,33 @@
+-- Path maps that are alike: equal but for WRITABLE of table entries, as where one mapper adds flags to new tables.
+use Rattle.std.specs.Prelude.{◌≡◌, ◌⊎◌, ℕ, ◌<◌, ◌&&◌, nat_lt, Bool, true, false, List, length, Option, bit_and}
+use Rattle.x86_64_model.specs.Position.{lower_half, page_path}
+use Rattle.x86_64_model.specs.Entry.{names_table}
+use Rattle.x86_64_model.specs.Path.{path_at}
+use Rattle.x86_64_model.specs.PathMap.{PathMap, entry}
+use Rattle.x86_64_model.specs.Window.{Window, begins_with}
+use Rattle.x86_64_model.specs.Call.{Call, MapTo, MapToWithTableFlags, IdentityMap, Unmap, UpdateFlags, SetFlags, TranslatePage, Translate, TranslateAddress, CleanUp}
+
+abbrev pub without_writable : (entry : ℕ) → ℕ
+without_writable e = bit_and e 0xffff_ffff_ffff_fffd
+
+pub record AlikeTables (e f : ℕ) : Type 0 where
+  pub one_names : names_table e ≡ true
+  pub other_names : names_table f ≡ true
+  pub same_else : without_writable e ≡ without_writable f
+
+-- the entries at each path are equal, or both are table entries, equal but for WRITABLE
+abbrev pub Alike : (L : ℕ) → PathMap → PathMap → Type 0
+Alike L m n = (q : List ℕ) → (entry m q ≡ entry n q) ⊎ ((length q < L) × AlikeTables (entry m q) (entry n q))
+
+-- whether a call's page or address lies in the window, an identity map's page where it has one
+abbrev pub names_index : (L : ℕ) → Option Window → Call → Bool
+names_index L window (MapTo q frame given) = begins_with window q
+names_index L window (MapToWithTableFlags q frame given parent_flags) = begins_with window q
+names_index L window (IdentityMap level frame given) = nat_lt frame (lower_half L) && begins_with window (path_at L level frame)
+names_index L window (Unmap q) = begins_with window q
+names_index L window (UpdateFlags q given) = begins_with window q
+names_index L window (SetFlags level q given) = begins_with window q
+names_index L window (TranslatePage q) = begins_with window q
+names_index L window (Translate p) = begins_with window (page_path L p)
+names_index L window (TranslateAddress p) = begins_with window (page_path L p)
+names_index L window (CleanUp low high) = false

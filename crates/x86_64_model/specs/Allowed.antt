@@ -1,0 +1,50 @@
+-- Which calls are allowed. A call that isn't is answered so and changes nothing.
+use Rattle.std.specs.Prelude.{ℕ, ◌&&◌, ◌||◌, nat_lt, Bool, true, false, not, cond, List, find, Option, Some, None}
+use Rattle.x86_64_model.specs.Position.{lower_half}
+use Rattle.x86_64_model.specs.Entry.{present, huge, no_address}
+use Rattle.x86_64_model.specs.Path.{parents, is_small, front_at, path_at}
+use Rattle.x86_64_model.specs.PathMap.{PathMap, entry}
+use Rattle.x86_64_model.specs.Window.{Window, begins_with, entry_at}
+use Rattle.x86_64_model.specs.Refusal.{Answer, Done, Refused}
+use Rattle.x86_64_model.specs.MapRule.{parent_part}
+use Rattle.x86_64_model.specs.PageRules.{set_flags}
+use Rattle.x86_64_model.specs.Call.{Call, MapTo, MapToWithTableFlags, IdentityMap, Unmap, UpdateFlags, SetFlags, TranslatePage, Translate, TranslateAddress, CleanUp}
+
+-- there is no such parent, or it is present
+abbrev pub none_absent : PathMap → Option (List ℕ) → Bool
+none_absent paths None = true
+none_absent paths (Some p) = present (entry paths p)
+
+-- the parent flags have PRESENT, or every parent is present, down to and with the first huge one
+abbrev pub parents_present : PathMap → (parent_flags : ℕ) → List ℕ → Bool
+parents_present paths parent_flags q = present parent_flags || none_absent paths (find (λ p. not (present (entry paths p)) || huge (entry paths p)) (parents q))
+
+-- No address bits in either flags, no HUGE_PAGE in the parent flags nor in those of a 4KiB page, parents that will be present, and a page outside the window.
+abbrev pub map_allowed : (L : ℕ) → Option Window → PathMap → List ℕ → (flags parent_flags : ℕ) → Bool
+map_allowed L window paths q given parent_flags =
+    no_address given && no_address parent_flags && not (huge parent_flags) && (not (is_small L q) || not (huge given))
+    && parents_present paths parent_flags q && not (begins_with window q)
+
+abbrev pub refuses : Answer → Bool
+refuses (Done f) = false
+refuses (Refused why) = true
+
+abbrev pub both_or_none : Bool → Bool → Bool
+both_or_none a b = cond a b (not b)
+
+-- above level three no HUGE_PAGE; in levels three and two, where the call isn't refused, HUGE_PAGE as in the entry
+abbrev pub set_flags_allowed : (L : ℕ) (E : List ℕ → ℕ) → PathMap → (level : ℕ) (page : List ℕ) (flags : ℕ) → Bool
+set_flags_allowed L E paths level page given = cond (nat_lt 3 level) (not (huge given))
+    (refuses (set_flags L E paths level page given).answer || both_or_none (huge given) (huge (E (front_at L level page))))
+
+unfoldable pub allowed : (L : ℕ) → Option Window → PathMap → Call → Bool
+allowed L window paths (MapTo q frame given) = map_allowed L window paths q given (parent_part given)
+allowed L window paths (MapToWithTableFlags q frame given parent_flags) = map_allowed L window paths q given parent_flags
+allowed L window paths (IdentityMap level frame given) = nat_lt frame (lower_half L) && map_allowed L window paths (path_at L level frame) given (parent_part given)
+allowed L window paths (Unmap q) = not (begins_with window q)
+allowed L window paths (UpdateFlags q given) = no_address given && not (begins_with window q)
+allowed L window paths (SetFlags level q given) = no_address given && not (begins_with window q) && set_flags_allowed L (entry_at window paths) paths level q given
+allowed L window paths (TranslatePage q) = true
+allowed L window paths (Translate p) = true
+allowed L window paths (TranslateAddress p) = true
+allowed L window paths (CleanUp low high) = true

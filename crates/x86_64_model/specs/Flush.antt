@@ -1,0 +1,44 @@
+-- What is recorded of accepted calls, so that a cache of walks can be flushed.
+-- Intel SDM vol. 3A, "Invalidation of TLBs and Paging-Structure Caches".
+use Rattle.std.specs.Prelude.{ℕ, Bool, true, List, [], ◌∷◌, ◌++◌}
+use Rattle.x86_64_model.specs.Position.{page_path}
+use Rattle.x86_64_model.specs.Path.{begins, path_at}
+use Rattle.x86_64_model.specs.Refusal.{Done, Refused}
+use Rattle.x86_64_model.specs.Call.{Call, MapTo, MapToWithTableFlags, IdentityMap, Unmap, UpdateFlags, SetFlags, TranslatePage, Translate, TranslateAddress, CleanUp, Reply, NotAllowed, Answered, Position, Address, Cleaned}
+use Rattle.x86_64_model.specs.Machine.{Machine, State, step}
+
+pub data Item : Type 0 where
+  OnePage : (page : List ℕ) → Item
+  Everything : Item
+
+-- whether an item covers a position
+abbrev pub covers : (L : ℕ) → Item → (position : ℕ) → Bool
+covers L (OnePage q) p = begins q (page_path L p)
+covers L Everything p = true
+
+-- the item, if the call was accepted
+abbrev pub if_done : Reply → Item → List Item
+if_done (Answered (Done frame)) item = item ∷ []
+if_done (Answered (Refused why)) item = []
+if_done NotAllowed item = []
+if_done (Position t) item = []
+if_done (Address a) item = []
+if_done Cleaned item = []
+
+-- the items of a call that was answered so
+abbrev pub items_of : (L : ℕ) → Call → Reply → List Item
+items_of L (MapTo q frame given) reply = if_done reply (OnePage q)
+items_of L (MapToWithTableFlags q frame given parent_flags) reply = if_done reply (OnePage q)
+items_of L (IdentityMap level frame given) reply = if_done reply (OnePage (path_at L level frame))
+items_of L (Unmap q) reply = if_done reply (OnePage q)
+items_of L (UpdateFlags q given) reply = if_done reply (OnePage q)
+items_of L (SetFlags level q given) reply = if_done reply Everything
+items_of L (TranslatePage q) reply = []
+items_of L (Translate p) reply = []
+items_of L (TranslateAddress p) reply = []
+items_of L (CleanUp low high) reply = []
+
+-- the items of a list of calls
+abbrev pub all_items : Machine → State → List Call → List Item
+all_items m s [] = []
+all_items m s (call ∷ calls) = items_of m.levels call (step m s call).1 ++ all_items m (step m s call).0 calls

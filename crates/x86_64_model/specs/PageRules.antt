@@ -1,0 +1,50 @@
+-- What the calls on one entry answer and leave: `unmap`, `update_flags`, `translate_page` and `set_flags`.
+-- E is the entry at a path, as it is read. A refusal changes nothing, a success one entry.
+use Rattle.std.specs.Prelude.{ℕ, ◌%◌, ◌==◌, nat_le, not, cond, List, Option, Some, None, bit_or}
+use Rattle.x86_64_model.specs.Entry.{present, used, huge, address}
+use Rattle.x86_64_model.specs.Path.{is_small, level_of, front_at, span_size}
+use Rattle.x86_64_model.specs.PathMap.{PathMap, put}
+use Rattle.x86_64_model.specs.Refusal.{Refusal, PageNotMapped, ParentEntryHugePage, InvalidFrameAddress, Answer, Done, Refused, first_stop, refused_if, answer_unless}
+use Rattle.x86_64_model.specs.MapRule.{leaf_entry}
+
+pub record AfterChange : Type 0 where
+  pub paths : PathMap
+  pub answer : Answer
+
+-- nothing changes if there is a refusal
+abbrev pub refused_or : PathMap → Option Refusal → (next : AfterChange) → AfterChange
+refused_or paths None next = next
+refused_or paths (Some why) next = record { paths = paths; answer = Refused why }
+
+-- the page's entry has to be present, huge exactly for 2MiB and 1GiB, with an address that is a multiple of the page's size; then it becomes absent
+unfoldable pub unmap : (L : ℕ) (E : List ℕ → ℕ) → PathMap → (page : List ℕ) → AfterChange
+unmap L E paths q = let e = E q in
+    refused_or paths (first_stop E q)
+    (refused_or paths (refused_if (not (present e)) PageNotMapped
+    (cond (is_small L q)
+    (refused_if (huge e) ParentEntryHugePage None)
+    (refused_if (not (huge e)) ParentEntryHugePage (refused_if (not (address e % span_size L q == 0)) (InvalidFrameAddress (address e)) None))))
+    (record { paths = put paths q 0; answer = Done (address e) }))
+
+-- the page's entry has to be used, and huge for 2MiB and 1GiB; then its flags become those given, with HUGE_PAGE for 2MiB and 1GiB
+unfoldable pub update_flags : (L : ℕ) (E : List ℕ → ℕ) → PathMap → (page : List ℕ) (flags : ℕ) → AfterChange
+update_flags L E paths q given = let e = E q in
+    refused_or paths (first_stop E q)
+    (refused_or paths (refused_if (not (used e)) PageNotMapped (cond (is_small L q) None (refused_if (not (huge e)) PageNotMapped None)))
+    (record { paths = put paths q (leaf_entry L q (address e) given); answer = Done (address e) }))
+
+-- the page's entry has to be used, and for 2MiB and 1GiB huge with an address that is a multiple of the page's size; the answer is its frame
+unfoldable pub translate_page : (L : ℕ) (E : List ℕ → ℕ) → (page : List ℕ) → Answer
+translate_page L E q = let e = E q in
+    answer_unless (first_stop E q) (answer_unless (refused_if (not (used e)) PageNotMapped
+    (cond (is_small L q) None (refused_if (not (huge e)) (InvalidFrameAddress (address e)) (refused_if (not (address e % span_size L q == 0)) (InvalidFrameAddress (address e)) None))))
+    (Done (address e)))
+
+-- On the entry of a level on the page's path: a level that isn't above the page's own is refused, the entry has to be used, and its flags become those given.
+unfoldable pub set_flags : (L : ℕ) (E : List ℕ → ℕ) → PathMap → (level : ℕ) (page : List ℕ) (flags : ℕ) → AfterChange
+set_flags L E paths level page given =
+    cond (nat_le level (level_of L page)) (record { paths = paths; answer = Refused ParentEntryHugePage })
+    (let q = front_at L level page in
+    refused_or paths (first_stop E q)
+    (refused_or paths (refused_if (not (used (E q))) PageNotMapped None)
+    (record { paths = put paths q (bit_or (address (E q)) given); answer = Done (address (E q)) })))

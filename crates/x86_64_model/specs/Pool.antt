@@ -1,0 +1,46 @@
+-- Pools: lists of free frames, and what it is for one to fit a hierarchy.
+use Rattle.std.specs.Prelude.{◌≡◌, ◌⊎◌, ◌↔◌, ℕ, Bool, true, List, [], ◌∷◌, Option, Some, IsSome}
+use Rattle.x86_64_model.specs.Entry.{is_frame}
+use Rattle.x86_64_model.specs.PathMap.{PathMap, table_at}
+use Rattle.x86_64_model.specs.Memory.{Words}
+use Rattle.x86_64_model.specs.Window.{Window, IsValidFor}
+
+-- whether a frame is in the list
+abbrev pub In : List ℕ → (frame : ℕ) → Type 0
+In [] f = ⊥
+In (g ∷ gs) f = (g ≡ f) ⊎ In gs f
+
+-- each frame once
+abbrev pub EachOnce : List ℕ → Type 0
+EachOnce [] = Unit {0}
+EachOnce (f ∷ fs) = (In fs f → ⊥) × EachOnce fs
+
+-- whether a path leads to the frame's table, and which; the root is the table of the path of no index
+abbrev pub IsTable : (L root : ℕ) → PathMap → (frame : ℕ) → Type 0
+IsTable L root paths frame = (q : List ℕ) × (table_at L root paths q ≡ Some frame)
+
+-- a frame that is free or a table
+abbrev pub IsOwn : (L root : ℕ) → PathMap → (pool : List ℕ) → (frame : ℕ) → Type 0
+IsOwn L root paths pool f = In pool f ⊎ IsTable L root paths f
+
+-- The hierarchy is valid, and the pool fits it: its frames are distinct, in the memory, none of them frame 0, the root or a table,
+-- and the pool serves them and every table frame.
+pub record Fits (L : ℕ) (window : Option Window) (tables : Words) (root : ℕ) (paths : PathMap) (serves : ℕ → Bool) (pool : List ℕ) : Type 0 where
+  pub valid : IsValidFor L window tables root paths
+  pub each_once : EachOnce pool
+  pub in_memory : (f : ℕ) → In pool f → IsSome (tables f)
+  pub are_frames : (f : ℕ) → In pool f → is_frame f ≡ true
+  pub not_zero : In pool 0 → ⊥
+  pub no_table : (f : ℕ) → In pool f → IsTable L root paths f → ⊥
+  pub serves_pool : (f : ℕ) → In pool f → serves f ≡ true
+  pub serves_tables : (i : ℕ) (q : List ℕ) (f : ℕ) → table_at L root paths (i ∷ q) ≡ Some f → serves f ≡ true
+
+-- give held f is the pool after the frame f came back: a rearrangement of f and the frames that are held
+pub record IsGiving (give : List ℕ → ℕ → List ℕ) : Type 0 where
+  pub same_frames : (held : List ℕ) (f g : ℕ) → In (give held f) g ↔ In (f ∷ held) g
+  pub each_once : (held : List ℕ) (f : ℕ) → EachOnce (f ∷ held) → EachOnce (give held f)
+
+-- the pool after these frames came back, one at a time
+abbrev pub given_back : (give : List ℕ → ℕ → List ℕ) → (held back : List ℕ) → List ℕ
+given_back give held [] = held
+given_back give held (f ∷ fs) = given_back give (give held f) fs

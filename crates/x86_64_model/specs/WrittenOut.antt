@@ -1,0 +1,63 @@
+-- The page walk of four and of five levels and `translate` of four, written out word by word.
+-- `page_walk 4`, `page_walk 5` and `translate 4` are these, so that nobody has to trust a recursion.
+use Rattle.std.specs.Prelude.{ℕ, ◌+◌, ◌*◌, ◌/◌, ◌%◌, ◌^◌, ◌&&◌, not, Bool, cond, List, [], ◌∷◌, take, Option, Some, None, option_and_then, option_map}
+use Rattle.std.specs.List.{list_all}
+use Rattle.x86_64_model.specs.Position.{index}
+use Rattle.x86_64_model.specs.Entry.{present, writable, user, huge, address, flags, used}
+use Rattle.x86_64_model.specs.Memory.{Words}
+use Rattle.x86_64_model.specs.PageWalk.{Walked, read}
+use Rattle.x86_64_model.specs.Translation.{Translated, NotMapped, Mapped}
+
+abbrev pub path_of : (position : ℕ) → List ℕ
+path_of p = index 4 p ∷ index 3 p ∷ index 2 p ∷ index 1 p ∷ []
+
+-- a 2MiB or 1GiB entry's address, rounded down to the size
+abbrev pub start : (size entry : ℕ) → ℕ
+start size e = address e / size * size
+
+-- the walk arrives, having read these words
+abbrev pub arrives : (to : ℕ) (words : List ℕ) → Option Walked
+arrives to words = Some (record { address = to; write = list_all writable words; user = list_all user words })
+
+-- the walk on from level one, two, three, below the words of the levels above
+abbrev pub walk_1 : Words → (p w4 w3 w2 : ℕ) → Option Walked
+walk_1 tables p w4 w3 w2 = option_and_then
+    (λ w1. cond (present w1) (arrives (address w1 + p % 2 ^ 12) (w4 ∷ w3 ∷ w2 ∷ w1 ∷ [])) None)
+    (read tables (address w2) (index 1 p))
+
+abbrev pub walk_2 : Words → (p w4 w3 : ℕ) → Option Walked
+walk_2 tables p w4 w3 = option_and_then
+    (λ w2. cond (present w2) (cond (huge w2) (arrives (start (2 ^ 21) w2 + p % 2 ^ 21) (w4 ∷ w3 ∷ w2 ∷ [])) (walk_1 tables p w4 w3 w2)) None)
+    (read tables (address w3) (index 2 p))
+
+abbrev pub walk_3 : Words → (p w4 : ℕ) → Option Walked
+walk_3 tables p w4 = option_and_then
+    (λ w3. cond (present w3) (cond (huge w3) (arrives (start (2 ^ 30) w3 + p % 2 ^ 30) (w4 ∷ w3 ∷ [])) (walk_2 tables p w4 w3)) None)
+    (read tables (address w4) (index 3 p))
+
+unfoldable pub walk_4 : Words → (root p : ℕ) → Option Walked
+walk_4 tables root p = option_and_then (λ w4. cond (present w4 && not (huge w4)) (walk_3 tables p w4) None) (read tables root (index 4 p))
+
+-- from the entries at the first one, two, three, four indices
+abbrev pub answered : (p e1 e2 e3 e4 : ℕ) → Translated
+answered p e1 e2 e3 e4 =
+    cond (present e1)
+    (cond (present e2) (cond (huge e2) (Mapped (2 ^ 30) (start (2 ^ 30) e2) (p % 2 ^ 30) (flags e2))
+    (cond (present e3) (cond (huge e3) (Mapped (2 ^ 21) (start (2 ^ 21) e3) (p % 2 ^ 21) (flags e3))
+    (cond (used e4) (Mapped (2 ^ 12) (address e4) (p % 2 ^ 12) (flags e4)) NotMapped))
+    NotMapped)) NotMapped) NotMapped
+
+-- E is the entry at a path
+unfoldable pub translate_4 : (E : List ℕ → ℕ) (p : ℕ) → Translated
+translate_4 E p = answered p (E (take 1 (path_of p))) (E (take 2 (path_of p))) (E (take 3 (path_of p))) (E (path_of p))
+
+-- ---- five levels: one level above four
+
+-- an arrival with the rights that the word above grants
+abbrev pub narrowed : (w u : Bool) → Option Walked → Option Walked
+narrowed w u = option_map (λ v. record { address = v.address; write = w && v.write; user = u && v.user })
+
+unfoldable pub walk_5 : Words → (root p : ℕ) → Option Walked
+walk_5 tables root p = option_and_then
+    (λ w5. cond (present w5 && not (huge w5)) (narrowed (writable w5) (user w5) (walk_4 tables (address w5) p)) None)
+    (read tables root (index 5 p))
