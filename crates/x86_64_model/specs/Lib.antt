@@ -18,3 +18,8 @@ pub mod Allowed
 pub mod Machine
 pub mod Flush
 pub mod Alike
+pub mod Conserved
+pub mod Arrivals
+pub mod WalkDown
+pub mod Laws
+pub mod Lemmas

@@ -1,0 +1,48 @@
+-- Comparisons of walks: where one arrives, another does, no worse.
+use Rattle.std.specs.Prelude.{◌≡◌, ◌⊎◌, ◌+◌, ◌%◌, ◌≤◌, ℕ, Bool, true, List, [], ◌∷◌, length, Option, Some, None, option_and_then, cond, ◌&&◌, not}
+use Rattle.x86_64_model.specs.Position.{span}
+use Rattle.x86_64_model.specs.Entry.{present, huge, writable, user, address}
+use Rattle.x86_64_model.specs.Memory.{Words}
+use Rattle.x86_64_model.specs.PageWalk.{Walked, read}
+
+-- the same place, and no right lost
+pub record NoWorse (w v : Walked) : Type 0 where
+  pub same_place : v.address ≡ w.address
+  pub write_kept : w.write ≡ true → v.write ≡ true
+  pub user_kept : w.user ≡ true → v.user ≡ true
+
+-- where x arrives, y does, no worse
+abbrev pub Keeps : Option Walked → Option Walked → Type 0
+Keeps x y = (w : Walked) → x ≡ Some w → (v : Walked) × (y ≡ Some v) × NoWorse w v
+
+-- the same place, with each right and none besides but the parent flags'
+pub record Better (parent_flags : ℕ) (w v : Walked) : Type 0 where
+  pub same_place : v.address ≡ w.address
+  pub write_kept : w.write ≡ true → v.write ≡ true
+  pub user_kept : w.user ≡ true → v.user ≡ true
+  pub write_gained : v.write ≡ true → (w.write ≡ true) ⊎ (writable parent_flags ≡ true)
+  pub user_gained : v.user ≡ true → (w.user ≡ true) ⊎ (user parent_flags ≡ true)
+
+-- where x arrives, y does, no worse and with no right gained that the parent flags lack
+abbrev pub Arrives : (parent_flags : ℕ) → Option Walked → Option Walked → Type 0
+Arrives parent_flags x y = (w : Walked) → x ≡ Some w → (v : Walked) × (y ≡ Some v) × Better parent_flags w v
+
+-- the walk reaches the address, whatever its rights
+abbrev pub Reaches : Option Walked → (to : ℕ) → Type 0
+Reaches walk to = (w : Bool) × (u : Bool) × (walk ≡ Some (record { address = to; write = w; user = u }))
+
+-- the frame that the words lead to from a frame along indices, where each word is present and not huge
+abbrev pub leads : Words → (frame : ℕ) → List ℕ → Option ℕ
+leads T f [] = Some f
+leads T f (i ∷ q) = option_and_then (λ e. cond (present e && not (huge e)) (leads T (address e) q) None) (read T f i)
+
+-- what a `map_to` of a page at a level asks for: flags with PRESENT and no address bits, and a frame of the page's size
+pub record Asks (L level : ℕ) (q : List ℕ) (frame flags : ℕ) : Type 0 where
+  pub is_present : present flags ≡ true
+  pub no_address : address flags ≡ 0
+  pub at_level : length q + level ≡ L + 1
+  pub nonempty : 1 ≤ length q
+  pub low : 1 ≤ level
+  pub high : level ≤ 3
+  pub is_frame : address frame ≡ frame
+  pub aligned : frame % span level ≡ 0

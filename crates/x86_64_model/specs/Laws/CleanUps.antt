@@ -1,0 +1,26 @@
+-- Laws of clean ups.
+use Rattle.std.specs.Prelude.{◌≡◌, ◌<◌, ℕ, false, List, [], Option}
+use Rattle.x86_64_model.specs.Position.{page_path}
+use Rattle.x86_64_model.specs.PathMap.{PathMap}
+use Rattle.x86_64_model.specs.Memory.{Words}
+use Rattle.x86_64_model.specs.Hierarchy.{Holds}
+use Rattle.x86_64_model.specs.Window.{Window, begins_with, entry_at, IsValidFor}
+use Rattle.x86_64_model.specs.Translation.{translate}
+use Rattle.x86_64_model.specs.CleanUp.{clean_up}
+use Rattle.x86_64_model.specs.Pool.{IsGiving, given_back}
+use Rattle.x86_64_model.specs.Conserved.{Conserves}
+
+-- a clean up conserves frames, wherever the pool puts those that come back
+abbrev pub CleanUpConserves : Type 0
+CleanUpConserves = (L : ℕ) (T : Words) (root : ℕ) (M : PathMap) → Holds L T root M → (give : List ℕ → ℕ → List ℕ) → IsGiving give → (low high : ℕ) (pool : List ℕ)
+    → Conserves L root M pool (clean_up L M low high).paths (given_back give pool (clean_up L M low high).back)
+
+-- and changes no answer of `translate` outside the window
+abbrev pub CleanUpKeepsAnswers : Type 0
+CleanUpKeepsAnswers = (L : ℕ) (window : Option Window) (T : Words) (root : ℕ) (M : PathMap) → IsValidFor L window T root M → (low high p : ℕ)
+    → begins_with window (page_path L p) ≡ false → translate L (entry_at window (clean_up L M low high).paths) p ≡ translate L (entry_at window M) p
+
+-- done twice it is done once
+abbrev pub CleanUpsOnce : Type 0
+CleanUpsOnce = (L : ℕ) (window : Option Window) (T : Words) (root : ℕ) (M : PathMap) → IsValidFor L window T root M → (low high : ℕ)
+    → clean_up L (clean_up L M low high).paths low high ≡ record { paths = (clean_up L M low high).paths; back = [] }

@@ -1,0 +1,76 @@
+-- Laws of map calls.
+use Rattle.std.specs.Prelude.{◌≡◌, ◌≢◌, ◌⊎◌, ◌<◌, ◌≤◌, ◌+◌, ◌-◌, ◌*◌, ◌^◌, ◌%◌, ℕ, true, false, List, [], ◌∷◌, ◌++◌, length, take, Option, Some}
+use Rattle.std.specs.List.{AllByRecursion}
+use Rattle.x86_64_model.specs.Position.{span, page_path}
+use Rattle.x86_64_model.specs.Entry.{IsParentFlags, has, used, writable, user, address}
+use Rattle.x86_64_model.specs.Path.{parents, path_at}
+use Rattle.x86_64_model.specs.PathMap.{PathMap, entry}
+use Rattle.x86_64_model.specs.Memory.{Words}
+use Rattle.x86_64_model.specs.Hierarchy.{Holds}
+use Rattle.x86_64_model.specs.Window.{Window, begins_with, IsValidFor}
+use Rattle.x86_64_model.specs.PageWalk.{page_walk}
+use Rattle.x86_64_model.specs.Refusal.{Refusal, Done, Refused}
+use Rattle.x86_64_model.specs.MapRule.{map_rule, map_call, parent_part}
+use Rattle.x86_64_model.specs.WalkDown.{walk_down}
+use Rattle.x86_64_model.specs.Conserved.{IsFrame, Conserves, Takes}
+use Rattle.x86_64_model.specs.Arrivals.{Arrives, Asks}
+
+-- the walk down the parents, one at a time, comes to the rule at once
+abbrev pub WalkedDown : Type 0
+WalkedDown = (L : ℕ) (T : Words) (root : ℕ) (M : PathMap) → Holds L T root M → (supply : List ℕ) (more added : ℕ) (q : List ℕ) (e frame : ℕ)
+    → walk_down more added q e frame M supply (parents q) ≡ map_rule M supply more added (parents q) q e frame
+
+-- whatever a map call answers, where the walk arrived it still arrives, with no right lost and none gained that the parent flags lack
+abbrev pub MapKeepsWalks : Type 0
+MapKeepsWalks = (L : ℕ) (window : Option Window) (T U : Words) (root : ℕ) (M : PathMap) (supply : List ℕ) (more added : ℕ) (q : List ℕ) (frame given : ℕ)
+    → IsParentFlags more → IsValidFor L window T root M → IsValidFor L window U root (map_call L M supply more added q frame given).paths
+    → (p : ℕ) → Arrives more (page_walk L T root p) (page_walk L U root p)
+
+-- after an accepted `map_to` with PRESENT the walk of each position of the page arrives at the frame's start plus the offset, with just the rights that were asked for
+abbrev pub MapArrives : Type 0
+MapArrives = (L level : ℕ) (window : Option Window) (T U : Words) (root : ℕ) (M : PathMap) (supply : List ℕ) (added : ℕ) (q : List ℕ) (frame given : ℕ)
+    → Asks L level q frame given → IsParentFlags added → begins_with window q ≡ false → AllByRecursion IsFrame supply → IsValidFor L window T root M
+    → IsValidFor L window U root (map_call L M supply (parent_part given) added q frame given).paths
+    → (map_call L M supply (parent_part given) added q frame given).answer ≡ Done frame
+    → (p : ℕ) → take (length q) (page_path L p) ≡ q
+    → page_walk L U root p ≡ Some (record { address = frame + p % span level; write = writable given; user = user given })
+
+-- the same by addresses: of the page that starts at a multiple of its size, each offset
+abbrev pub MapArrivesInPage : Type 0
+MapArrivesInPage = (L level : ℕ) (window : Option Window) (T U : Words) (root : ℕ) (M : PathMap) (supply : List ℕ) (added n frame given : ℕ)
+    → let page = n * span level in let q = path_at L level page in let after = map_call L M supply (parent_part given) added q frame given in
+    Asks L level q frame given → IsParentFlags added → begins_with window q ≡ false → AllByRecursion IsFrame supply
+    → IsValidFor L window T root M → IsValidFor L window U root after.paths → after.answer ≡ Done frame
+    → (offset : ℕ) → offset < span level → page_walk L U root (page + offset) ≡ Some (record { address = frame + offset; write = writable given; user = user given })
+
+-- a map call conserves frames
+abbrev pub MapConserves : Type 0
+MapConserves = (L : ℕ) (T : Words) (root : ℕ) (M : PathMap) (supply : List ℕ) (more added i : ℕ) (q : List ℕ) (frame given : ℕ)
+    → IsParentFlags more → IsParentFlags added → AllByRecursion IsFrame supply → length (i ∷ q) ≤ L → Holds L T root M
+    → Conserves L root M supply (map_call L M supply more added (i ∷ q) frame given).paths (map_call L M supply more added (i ∷ q) frame given).supply
+
+-- and takes the first frames of the supply, at most one for each level above the page's: three with four levels
+abbrev pub MapTakesFew : Type 0
+MapTakesFew = (L : ℕ) (T : Words) (root : ℕ) (M : PathMap) (supply : List ℕ) (more added : ℕ) (q : List ℕ) (frame given : ℕ) → length q ≤ L → Holds L T root M
+    → Takes supply (map_call L M supply more added q frame given).supply (L - 1)
+
+-- ---- a refused map
+
+-- whether a path is in the list
+abbrev pub InPaths : List (List ℕ) → List ℕ → Type 0
+InPaths [] r = ⊥
+InPaths (p ∷ ps) r = (p ≡ r) ⊎ InPaths ps r
+
+-- what a refused map leaves: used entries keep their addresses, their flags only grow, by the parent flags, and on the page's path alone,
+-- and what is used below a table that is new is one of the page's parents
+pub record LeftByRefused (more : ℕ) (M N : PathMap) (q : List ℕ) : Type 0 where
+  pub same_addresses : (r : List ℕ) → used (entry M r) ≡ true → address (entry N r) ≡ address (entry M r)
+  pub flags_kept : (r : List ℕ) (flag : ℕ) → used (entry M r) ≡ true → has (entry M r) flag ≡ true → has (entry N r) flag ≡ true
+  pub flags_gained : (r : List ℕ) (k : ℕ) → used (entry M r) ≡ true → has (entry N r) (2 ^ k) ≡ true → (has (entry M r) (2 ^ k) ≡ true) ⊎ (has more (2 ^ k) ≡ true)
+  pub off_path : (r : List ℕ) → (InPaths (parents q) r → ⊥) → entry N r ≡ entry M r
+  pub new_tables : (i : ℕ) (r : List ℕ) (j : ℕ) → used (entry M (i ∷ r)) ≡ false → used (entry N (i ∷ r ++ j ∷ [])) ≡ true → InPaths (parents q) (i ∷ r ++ j ∷ [])
+
+abbrev pub RefusedMaps : Type 0
+RefusedMaps = (L : ℕ) (window : Option Window) (T : Words) (root : ℕ) (M : PathMap) (supply : List ℕ) (more added : ℕ) (q : List ℕ) (frame given : ℕ)
+    → IsValidFor L window T root M → IsParentFlags more
+    → (why : Refusal) → (map_call L M supply more added q frame given).answer ≡ Refused why → LeftByRefused more M (map_call L M supply more added q frame given).paths q

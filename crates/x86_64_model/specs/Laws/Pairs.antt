@@ -1,0 +1,34 @@
+-- The law of two machines whose path maps are alike.
+use Rattle.std.specs.Prelude.{◌≡◌, ◌⊎◌, ℕ, Bool, false, List}
+use Rattle.std.specs.List.{AllByRecursion}
+use Rattle.x86_64_model.specs.Entry.{IsParentFlags}
+use Rattle.x86_64_model.specs.Memory.{Words}
+use Rattle.x86_64_model.specs.Window.{Window}
+use Rattle.std.specs.Prelude.{Option}
+use Rattle.x86_64_model.specs.Pool.{IsGiving}
+use Rattle.x86_64_model.specs.Call.{Call, Reply}
+use Rattle.x86_64_model.specs.Machine.{Machine, State, replies_of, state_after}
+use Rattle.x86_64_model.specs.Alike.{without_writable, Alike, names_index}
+use Rattle.x86_64_model.specs.Laws.Steps.{FitsState, AllCalls}
+
+-- added flags: none, or PRESENT, and WRITABLE or not
+pub record IsAdded (added : ℕ) : Type 0 where
+  pub adds : IsParentFlags added
+  pub few : (without_writable added ≡ 0) ⊎ (without_writable added ≡ 1)
+
+abbrev pub NoneNames : (L : ℕ) → Option Window → List Call → Type 0
+NoneNames L window calls = AllByRecursion (λ call. names_index L window call ≡ false) calls
+
+pub record AlikeRuns (L : ℕ) (s t : State) (one other : List Reply) : Type 0 where
+  pub paths : Alike L s.paths t.paths
+  pub pools : s.pool ≡ t.pool
+  pub replies : one ≡ other
+
+-- Two machines of the same levels, whose path maps are alike and whose pools are equal, give one list of replies and end alike with equal pools,
+-- if no call names a recursive index of either.
+abbrev pub PairsReplyAlike : Type 0
+PairsReplyAlike = (m n : Machine) → m.levels ≡ n.levels → m.give ≡ n.give → IsGiving m.give → IsAdded m.added_flags → IsAdded n.added_flags
+    → (T U : Words) (root root' : ℕ) (serves serves' : ℕ → Bool)
+    → (calls : List Call) → AllCalls m.levels calls → NoneNames m.levels m.window calls → NoneNames n.levels n.window calls
+    → (s t : State) → FitsState m T root serves s → FitsState n U root' serves' t → Alike m.levels s.paths t.paths → s.pool ≡ t.pool
+    → AlikeRuns m.levels (state_after m s calls) (state_after n t calls) (replies_of m s calls) (replies_of n t calls)

@@ -1,0 +1,75 @@
+-- Laws of the machine's steps and of lists of calls.
+use Rattle.std.specs.Prelude.{◌≡◌, ◌↔◌, ℕ, Bool, true, false, List, [], ◌∷◌, take, drop, IsSome}
+use Rattle.std.specs.List.{AllByRecursion}
+use Rattle.x86_64_model.specs.Position.{page_path}
+use Rattle.x86_64_model.specs.Entry.{used, present}
+use Rattle.x86_64_model.specs.Path.{parents, begins}
+use Rattle.x86_64_model.specs.PathMap.{PathMap, entry}
+use Rattle.x86_64_model.specs.Memory.{Words}
+use Rattle.x86_64_model.specs.Window.{begins_with, entry_at, IsValidFor}
+use Rattle.x86_64_model.specs.PageWalk.{page_walk}
+use Rattle.x86_64_model.specs.Translation.{translate}
+use Rattle.x86_64_model.specs.Pool.{IsOwn, Fits}
+use Rattle.x86_64_model.specs.Call.{Call, IsCall}
+use Rattle.x86_64_model.specs.Machine.{Machine, IsMachine, State, step, state_after}
+use Rattle.x86_64_model.specs.Flush.{Item, OnePage, covers, items_of, all_items}
+use Rattle.x86_64_model.specs.Arrivals.{Keeps}
+
+-- the words are a valid hierarchy that means the state, and the pool fits it
+abbrev pub FitsState : (m : Machine) → Words → (root : ℕ) → (serves : ℕ → Bool) → State → Type 0
+FitsState m T root serves s = Fits m.levels m.window T root s.paths serves s.pool
+
+abbrev pub AllCalls : (L : ℕ) → List Call → Type 0
+AllCalls L calls = AllByRecursion (IsCall L) calls
+
+-- one step keeps the state fitting, whatever valid words mean it afterwards, if they have the frames that were there
+abbrev pub StepKeepsFit : Type 0
+StepKeepsFit = (m : Machine) → IsMachine m → (T U : Words) (root : ℕ) (serves : ℕ → Bool) (s : State) (call : Call) → IsCall m.levels call
+    → FitsState m T root serves s → IsValidFor m.levels m.window U root (step m s call).0.paths → ((f : ℕ) → IsSome (T f) → IsSome (U f))
+    → FitsState m U root serves (step m s call).0
+
+-- and there are such words, with all frames as before that were neither free nor a table's
+abbrev pub StepIsHeld : Type 0
+StepIsHeld = (m : Machine) → IsMachine m → (T : Words) (root : ℕ) (serves : ℕ → Bool) (s : State) (call : Call) → IsCall m.levels call
+    → FitsState m T root serves s
+    → (U : Words) × FitsState m U root serves (step m s call).0 × ((f : ℕ) → (IsOwn m.levels root s.paths s.pool f → ⊥) → U f ≡ T f)
+
+-- free and table frames are one set before and after any list of calls
+abbrev pub RunConserves : Type 0
+RunConserves = (m : Machine) → IsMachine m → (T : Words) (root : ℕ) (serves : ℕ → Bool) (s : State) (calls : List Call) → AllCalls m.levels calls
+    → FitsState m T root serves s
+    → (f : ℕ) → IsOwn m.levels root s.paths s.pool f ↔ IsOwn m.levels root (state_after m s calls).paths (state_after m s calls).pool f
+
+-- and after it the pool fits again
+abbrev pub RunKeepsFit : Type 0
+RunKeepsFit = (m : Machine) → IsMachine m → (T U : Words) (root : ℕ) (serves : ℕ → Bool) (s : State) (calls : List Call) → AllCalls m.levels calls
+    → FitsState m T root serves s → IsValidFor m.levels m.window U root (state_after m s calls).paths → ((f : ℕ) → IsSome (T f) → IsSome (U f))
+    → FitsState m U root serves (state_after m s calls)
+
+-- ---- what is flushed
+
+abbrev pub NoneCovers : (L : ℕ) → List Item → (position : ℕ) → Type 0
+NoneCovers L items p = AllByRecursion (λ item. covers L item p ≡ false) items
+
+-- Where the walk arrives in words that mean the state after the first k calls, and no item of a later call covers the position, which is outside the window:
+-- there it arrives at the end too, at the same address and with no right lost.
+abbrev pub FlushesSuffice : Type 0
+FlushesSuffice = (m : Machine) → IsMachine m → (T V U : Words) (root : ℕ) (serves : ℕ → Bool) (s : State) (calls : List Call) → AllCalls m.levels calls
+    → FitsState m T root serves s
+    → (k : ℕ) → IsValidFor m.levels m.window V root (state_after m s (take k calls)).paths → IsValidFor m.levels m.window U root (state_after m s calls).paths
+    → (p : ℕ) → begins_with m.window (page_path m.levels p) ≡ false → NoneCovers m.levels (all_items m (state_after m s (take k calls)) (drop k calls)) p
+    → Keeps (page_walk m.levels V root p) (page_walk m.levels U root p)
+
+-- ---- other pages
+
+-- no entry at these paths is used without PRESENT
+abbrev pub UsedPresent : PathMap → List (List ℕ) → Type 0
+UsedPresent M ps = AllByRecursion (λ r. used (entry M r) ≡ true → present (entry M r) ≡ true) ps
+
+-- a call whose token names a page changes no answer of `translate` outside it and outside the window, if no parent of the page was used without PRESENT
+abbrev pub CallsSpareOthers : Type 0
+CallsSpareOthers = (m : Machine) → IsMachine m → (T : Words) (root : ℕ) (serves : ℕ → Bool) (s : State) (call : Call) → IsCall m.levels call
+    → FitsState m T root serves s
+    → (q : List ℕ) → items_of m.levels call (step m s call).1 ≡ OnePage q ∷ [] → UsedPresent s.paths (parents q)
+    → (p : ℕ) → begins q (page_path m.levels p) ≡ false → begins_with m.window (page_path m.levels p) ≡ false
+    → translate m.levels (entry_at m.window (step m s call).0.paths) p ≡ translate m.levels (entry_at m.window s.paths) p

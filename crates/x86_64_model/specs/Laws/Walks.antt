@@ -1,0 +1,32 @@
+-- Laws of the page walk and of `translate`.
+use Rattle.std.specs.Prelude.{◌≡◌, ◌<◌, ◌+◌, ◌%◌, ℕ, List, ◌++◌, replicate, Option, Some, IsSome}
+use Rattle.x86_64_model.specs.Position.{span, page_path}
+use Rattle.x86_64_model.specs.PathMap.{PathMap}
+use Rattle.x86_64_model.specs.Memory.{Words}
+use Rattle.x86_64_model.specs.Window.{Window, entry_at, IsSelfEntry, IsValidFor}
+use Rattle.x86_64_model.specs.PageWalk.{page_walk}
+use Rattle.x86_64_model.specs.Translation.{translate, Agrees}
+use Rattle.x86_64_model.specs.WrittenOut.{walk_4, walk_5, translate_4}
+use Rattle.x86_64_model.specs.Arrivals.{Reaches, leads}
+
+-- the walks of four and of five levels, and `translate` of four, are those written out
+abbrev pub FourWrittenOut : Type 0
+FourWrittenOut = (T : Words) (root p : ℕ) → page_walk 4 T root p ≡ walk_4 T root p
+
+abbrev pub FiveWrittenOut : Type 0
+FiveWrittenOut = (T : Words) (root p : ℕ) → page_walk 5 T root p ≡ walk_5 T root p
+
+abbrev pub TranslateWrittenOut : Type 0
+TranslateWrittenOut = (E : List ℕ → ℕ) (p : ℕ) → translate 4 E p ≡ translate_4 E p
+
+-- in every valid hierarchy and at every position, in the window too, `translate` names a present mapping exactly where the walk arrives, at the same address
+abbrev pub TranslateAgrees : Type 0
+TranslateAgrees = (L : ℕ) (T : Words) (root : ℕ) (M : PathMap) (window : Option Window) → IsValidFor L window T root M
+    → (p : ℕ) → Agrees (translate L (entry_at window M) p) (page_walk L T root p)
+
+-- The walk of a position whose path is the recursive index some times and then q arrives at the frame that the words lead to along q,
+-- whatever all other words hold. So the window of the root and of each table shows just that table.
+abbrev pub WindowsReach : Type 0
+WindowsReach = (L : ℕ) → 0 < L → (T : Words) (root : ℕ) (window : Window) → window.index < 512 → IsSome (T root) → IsSelfEntry T root window
+    → (times : ℕ) (q : List ℕ) (f : ℕ) → leads T root q ≡ Some f
+    → (p : ℕ) → page_path L p ≡ replicate times window.index ++ q → Reaches (page_walk L T root p) (f + p % span 1)

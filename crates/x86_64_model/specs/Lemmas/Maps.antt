@@ -1,0 +1,6 @@
+pub mod Accepted
+pub mod Arrives
+pub mod Calls
+pub mod Down
+pub mod Frames
+pub mod Rights

@@ -1,0 +1,2 @@
+pub mod FiveLevels
+pub mod FourLevels
