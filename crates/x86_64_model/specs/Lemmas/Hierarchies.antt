@@ -5,3 +5,4 @@ pub mod Exists
 pub mod Held
 pub mod Marks
 pub mod Memories
+pub mod Trees

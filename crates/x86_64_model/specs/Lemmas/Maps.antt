@@ -4,3 +4,5 @@ pub mod Calls
 pub mod Down
 pub mod Frames
 pub mod Rights
+pub mod Takes
+pub mod Trees

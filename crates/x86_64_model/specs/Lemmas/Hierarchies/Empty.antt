@@ -1,4 +1,4 @@
--- An empty root is a valid hierarchy, with nothing map_rule.
+-- An empty root is a valid hierarchy, with nothing mapped.
 use Rattle.std.proofs.Common.{◌≡◌, ◌≢◌, ℕ, List, [], ◌∷◌, ◌++◌, Some, None, IsSome, refl, sym, ap, ◌∙◌, subst, unwrap_or}
 use Rattle.std.specs.FinMap.{empty, get-empty}
 use Rattle.x86_64_model.specs.Entry.{has, huge}

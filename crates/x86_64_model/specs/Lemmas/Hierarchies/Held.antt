@@ -32,11 +32,11 @@ one_by_law L tables root M N m m0 ma n n0 na =
 pub one_held : (L : ℕ) (tables : Words) (root : ℕ) (M N : PathMap) → Holds L tables root M → Holds L tables root N → M ≡ N
 one_held L tables root M N m n = one_by_law L tables root M N m.entries m.nothing_above m.used_alone n.entries n.nothing_above n.used_alone
 
-longer : (p : List ℕ) (i : ℕ) → p ≢ p ++ i ∷ []
+pub longer : (p : List ℕ) (i : ℕ) → p ≢ p ++ i ∷ []
 longer [] i e = cc
 longer (j ∷ p) i e = longer p i (let t : p ≡ p ++ i ∷ [] = cc in t)
 
-no_end : (p : List ℕ) (i : ℕ) → [] ≢ p ++ i ∷ []
+pub no_end : (p : List ℕ) (i : ℕ) → [] ≢ p ++ i ∷ []
 no_end [] i e = cc
 no_end (j ∷ p) i e = cc
 

@@ -47,7 +47,7 @@ pub nat_lt-suc : (m n : ℕ) → nat_lt (suc m) (suc n) ≡ nat_lt m n
 nat_lt-suc m n = elim (cases_lt m n) [ inl h ↦ lt-ltb (suc m) (suc n) (omega arith) ∙ sym (lt-ltb m n h) | inr h ↦ le-ltb (suc m) (suc n) (omega arith) ∙ sym (le-ltb m n h) ]
 
 module _ (more added : ℕ) (q : List ℕ) (e frame : ℕ) where
-  -- `map_rule`, from the used parents, the missing ones, and whether one is huge and the entry used
+  -- `mapped`, from the used parents, the missing ones, and whether one is huge and the entry used
   abbrev core : PathMap → List ℕ → (us ms : List (List ℕ)) → (stops full : Bool) → AfterMap
   core M supply us ms stops full =
       cond stops (record { paths = with_flags M more us; supply = supply; answer = Refused ParentEntryHugePage })
@@ -57,7 +57,7 @@ module _ (more added : ℕ) (q : List ℕ) (e frame : ℕ) where
       (record { paths = with_tables (with_flags M more us) (bit_or more added) ms supply; supply = drop (length ms) supply; answer = Refused (PageAlreadyMapped frame) })
       (record { paths = put (with_tables (with_flags M more us) (bit_or more added) ms supply) q e; supply = drop (length ms) supply; answer = Done frame })))
 
-  -- as `map_rule` goes on at the parents ps, after entries of others were written
+  -- as `mapped` goes on at the parents ps, after entries of others were written
   goes_on : (M N : PathMap) (supply : List ℕ) (ps : List (List ℕ)) → AllByRecursion (λ r. entry N r ≡ entry M r) ps → entry N q ≡ entry M q
       → map_rule N supply more added ps q e frame ≡ core N supply (filter (λ p. used (entry M p)) ps) (filter (λ p. not (used (entry M p))) ps) (list_any (λ p. used (entry M p) && huge (entry M p)) ps) (used (entry M q))
   unfolding map_rule

@@ -29,15 +29,15 @@ has_kept e m f h = eq-eqb _ f (and_or_distrib e m f ∙ ap (λ x. bit_or x (bit_
     ∙ same_from_bits _ _ (λ i. bit_at_or f (bit_and m f) i ∙ ap (λ x. max (bit_at f i) x) (bit_at_and m f i) ∙ absorbed (bit_at f i) (bit_at m i)))
 
 -- one bit
-has_bit : (e k : ℕ) → bit_at e k ≡ 1 → has e (2 ^ k) ≡ true
+pub has_bit : (e k : ℕ) → bit_at e k ≡ 1 → has e (2 ^ k) ≡ true
 unfolding has
 has_bit e k h = eq-eqb _ _ (and_pow e k ∙ ap (λ x. x * 2 ^ k) h ∙ omega arith)
 
-lacks_bit : (e k : ℕ) → bit_at e k ≡ 0 → has e (2 ^ k) ≡ false
+pub lacks_bit : (e k : ℕ) → bit_at e k ≡ 0 → has e (2 ^ k) ≡ false
 unfolding has
 lacks_bit e k h = ne_eqb _ _ (λ is. let z : 0 * 2 ^ k ≡ 2 ^ k = sym (and_pow e k ∙ ap (λ x. x * 2 ^ k) h) ∙ is in let p = pow_pos k in absurd (omega (arith, p, z)))
 
-zero_or_one : (x : ℕ) → x < 2 → (x ≡ 0) ⊎ (x ≡ 1)
+pub zero_or_one : (x : ℕ) → x < 2 → (x ≡ 0) ⊎ (x ≡ 1)
 zero_or_one zero h = inl refl
 zero_or_one (suc zero) h = inr refl
 zero_or_one (suc (suc x)) h = absurd (omega arith)

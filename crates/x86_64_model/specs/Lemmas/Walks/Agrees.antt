@@ -141,7 +141,7 @@ direct_reads L T root M valid = record {
 }
 
 module _ (L : ℕ) (T : Words) (root : ℕ) (M : PathMap) (w : Window) (valid : IsValid L (set_word T root w.index 0) root M) (self : IsSelfEntry T root w) where
-  is_some-unset : (g : ℕ) → IsSome (set_word T root w.index 0 g) → IsSome (T g)
+  pub is_some-unset : (g : ℕ) → IsSome (set_word T root w.index 0 g) → IsSome (T g)
   unfolding set_word
   is_some-unset g h = by (g == root) (T g) h
     where

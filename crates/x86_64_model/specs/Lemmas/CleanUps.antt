@@ -1,0 +1,5 @@
+pub mod Answers
+pub mod Frames
+pub mod Removed
+pub mod Trees
+pub mod Twice

@@ -1,0 +1,169 @@
+-- What a path map is like that words hold, said of the map alone.
+use Rattle.std.proofs.Common.{◌≡◌, ◌≢◌, ◌<◌, ◌≤◌, ℕ, ◌&&◌, Bool, true, false, not, cond, List, [], ◌∷◌, ◌++◌, length, map, Some, None, Option, nat_lt, refl, sym, ap, ◌∙◌, subst, subst₂, arith, le-ltb, ltb-true, append_assoc, ⊎_elim}
+use Rattle.std.proofs.lemmas.List.{same_from_push}
+use Rattle.std.proofs.lemmas.Bool.{cases_lt}
+use Rattle.x86_64_model.specs.Entry.{used, huge, address, names_table}
+use Rattle.x86_64_model.specs.Memory.{Words, word, word_in}
+use Rattle.x86_64_model.specs.PathMap.{PathMap, entry, put, HasUsedAlone, table_of, table_at}
+use Rattle.x86_64_model.specs.Path.{level_of, parents, AllBelow}
+use Rattle.x86_64_model.specs.Hierarchy.{entry_in, Holds, IsValid}
+use Rattle.x86_64_model.specs.Lemmas.Entries.Bits.{unused_zero}
+use Rattle.x86_64_model.specs.Lemmas.Paths.Puts.{cases_path, entry-put_same, entry-put_other, used_alone-put, by_last}
+use Rattle.x86_64_model.specs.Lemmas.Hierarchies.Held.{table_at_same, table_at_last, longer}
+use Rattle.x86_64_model.specs.Lemmas.Hierarchies.Changes.{unused_no_table, zero_not_used, unnamed, append_longer, map_again, each_parent}
+use Rattle.x86_64_model.specs.Lemmas.Maps.Down.{Descends}
+
+-- nothing is used below a path that leads to no table, or at an index that no table has
+pub record IsTree (L root : ℕ) (M : PathMap) : Type 0 where
+  pub nothing_above : entry M [] ≡ 0
+  pub used_alone : HasUsedAlone M
+  pub below : (q : List ℕ) (i : ℕ) → table_at L root M q ≡ None → entry M (q ++ i ∷ []) ≡ 0
+  pub small : (q : List ℕ) (i : ℕ) → 512 ≤ i → entry M (q ++ i ∷ []) ≡ 0
+
+pub record IsHierarchy (L root : ℕ) (M : PathMap) : Type 0 where
+  pub tree : IsTree L root M
+  pub not_zero : (i : ℕ) (p : List ℕ) → table_at L root M (i ∷ p) ≡ Some 0 → ⊥
+  pub none_huge : (q : List ℕ) → 3 < level_of L q → huge (entry M q) ≡ false
+
+pub tree_of_holds : (L : ℕ) (T : Words) (root : ℕ) (M : PathMap) → Holds L T root M → IsTree L root M
+unfolding word
+tree_of_holds L T root M holds = record {
+  nothing_above = holds.nothing_above;
+  used_alone = holds.used_alone;
+  below = λ q i h. holds.entries q i ∙ ap (λ t. entry_in T t i) h;
+  small = λ q i l. holds.entries q i ∙ past (table_at L root M q) i l;
+}
+  where
+    past : (t : Option ℕ) (i : ℕ) → 512 ≤ i → entry_in T t i ≡ 0
+    past None i l = refl
+    past (Some f) i l = ap (λ b. cond b (word_in (T f) i) 0) (le-ltb i 512 l)
+
+pub hierarchy_of_valid : (L : ℕ) (T : Words) (root : ℕ) (M : PathMap) → IsValid L T root M → IsHierarchy L root M
+hierarchy_of_valid L T root M valid = record { tree = tree_of_holds L T root M valid.holds; not_zero = valid.not_zero; none_huge = valid.none_huge }
+
+-- ---- tables
+
+pub some_one : (x y : ℕ) → Some x ≡ Some y → x ≡ y
+some_one x y e = cc
+
+pub table_at_is : (L root : ℕ) (M : PathMap) (q : List ℕ) → q ≢ [] → table_at L root M q ≡ table_of L q (entry M q)
+table_at_is L root M [] n = absurd (n refl)
+table_at_is L root M (i ∷ q) n = refl
+
+pub record Names (L : ℕ) (q : List ℕ) (e f : ℕ) : Type 0 where
+  pub is_table : names_table e ≡ true
+  pub high : length q < L
+  pub at : address e ≡ f
+
+pub table_of_gives : (L : ℕ) (q : List ℕ) (e f : ℕ) → table_of L q e ≡ Some f → Names L q e f
+unfolding table_of
+table_of_gives L q e f h = by (names_table e) (nat_lt (length q) L) refl refl h
+  where
+    by : (a b : Bool) → names_table e ≡ a → nat_lt (length q) L ≡ b → cond (a && b) (Some (address e)) None ≡ Some f → Names L q e f
+    by true true x y h = record { is_table = x; high = ltb-true (length q) L y; at = some_one _ _ h }
+    by true false x y h = let t : None ≡ Some f = h in cc
+    by false b x y h = let t : None ≡ Some f = h in cc
+
+pub none_or_some : (o : Option ℕ) → o ≢ None → (f : ℕ) × (o ≡ Some f)
+none_or_some None n = absurd (n refl)
+none_or_some (Some f) n = (f, refl)
+
+pub some_not_none : (f : ℕ) → Some f ≢ None
+some_not_none f e = cc
+
+pub plain_table : (e : ℕ) → names_table e ≡ true → huge e ≡ false
+plain_table e h = by (used e) (huge e) h
+  where
+    by : (u g : Bool) → (u && not g) ≡ true → g ≡ false
+    by true true h = cc
+    by true false h = refl
+    by false g h = cc
+
+pub no_table_unused : (L root : ℕ) (M : PathMap) (i : ℕ) (p : List ℕ) → used (entry M (i ∷ p)) ≡ false → table_at L root M (i ∷ p) ≡ None
+no_table_unused L root M i p u = ap (table_of L (i ∷ p)) (unused_zero _ u) ∙ unused_no_table L (i ∷ p)
+
+module _ (L root : ℕ) (M : PathMap) (tree : IsTree L root M) where
+  pub tree_below : (p : List ℕ) (k : ℕ) (s : List ℕ) → table_at L root M p ≡ None → entry M (p ++ k ∷ s) ≡ 0
+  tree_below p k [] h = tree.below p k h
+  tree_below p k (l ∷ s) h =
+      ap (entry M) (sym (append_assoc p (k ∷ []) (l ∷ s)))
+      ∙ tree_below (p ++ k ∷ []) l s (table_at_last L root M p k ∙ ap (table_of L (p ++ k ∷ [])) (tree.below p k h) ∙ unused_no_table L (p ++ k ∷ []))
+
+  -- where an entry is used, its table is there
+  pub used_last : (q : List ℕ) (i : ℕ) → used (entry M (q ++ i ∷ [])) ≡ true → (i < 512) × (table_at L root M q ≢ None)
+  used_last q i u = (
+    ⊎_elim (λ l. l) (λ l. absurd (clash (tree.small q i l))) (cases_lt i 512),
+    λ n. clash (tree.below q i n),
+  )
+    where
+      clash : entry M (q ++ i ∷ []) ≡ 0 → ⊥
+      clash z = let t : false ≡ true = sym (ap used z ∙ zero_not_used) ∙ u in cc
+
+  used_before : (q : List ℕ) (i : ℕ) → used (entry M (q ++ i ∷ [])) ≡ true → (j : ℕ) (p : List ℕ) → q ≡ j ∷ p → used (entry M q) ≡ true
+  used_before q i u j p e = elim (used (entry M q)) as (λ b. used (entry M q) ≡ b → b ≡ true) [
+    | true ↦ λ _. refl
+    | false ↦ λ n. absurd ((used_last q i u).1 (ap (table_at L root M) e ∙ no_table_unused L root M j p (ap (λ q. used (entry M q)) (sym e) ∙ n)))
+  ] refl
+
+  pub indices_below : (q : List ℕ) → used (entry M q) ≡ true → AllBelow q
+  indices_below = by_last (λ q. used (entry M q) ≡ true → AllBelow q) (λ u. tt) (λ q i ih u. push q i (front q i ih u) (used_last q i u).0)
+    where
+      push : (q : List ℕ) (i : ℕ) → AllBelow q → i < 512 → AllBelow (q ++ i ∷ [])
+      push [] i a l = (l, tt)
+      push (j ∷ q) i a l = (a.0, push q i a.1 l)
+
+      front : (q : List ℕ) (i : ℕ) → (used (entry M q) ≡ true → AllBelow q) → used (entry M (q ++ i ∷ [])) ≡ true → AllBelow q
+      front [] i ih u = tt
+      front (j ∷ q) i ih u = ih (used_before (j ∷ q) i u j q refl)
+
+  -- the parents of a page are as `Descends` says
+  pub tree_descends : (pre q : List ℕ) → Descends M (map (λ r. pre ++ r) (parents q)) (pre ++ q)
+  tree_descends pre [] = tt
+  tree_descends pre (i ∷ []) = tt
+  tree_descends pre (i ∷ j ∷ q) = subst₂ (λ ps q. Descends M ((pre ++ i ∷ []) ∷ ps) q) (map_again pre i (parents (j ∷ q))) (append_assoc pre (i ∷ []) (j ∷ q)) (
+    (λ h. each_parent (λ r. used (entry M r) ≡ false) (pre ++ i ∷ []) (λ k s. ap used (tree_below (pre ++ i ∷ []) k s (table_at_last L root M pre i ∙ unnamed L (pre ++ i ∷ []) _ h)) ∙ zero_not_used) (j ∷ q)),
+    each_parent (λ r. r ≢ pre ++ i ∷ []) (pre ++ i ∷ []) (append_longer (pre ++ i ∷ [])) (j ∷ q),
+    append_longer (pre ++ i ∷ []) j q,
+    tree_descends (pre ++ i ∷ []) (j ∷ q),
+  )
+
+-- ---- a path whose table is there
+
+abbrev pub Reached : ℕ → ℕ → PathMap → List ℕ → Type 0
+Reached L root M q = (p : List ℕ) (i : ℕ) → q ≡ p ++ i ∷ [] → (i < 512) × (table_at L root M p ≢ None)
+
+pub reached_used : (L root : ℕ) (M : PathMap) → IsTree L root M → (q : List ℕ) → used (entry M q) ≡ true → Reached L root M q
+reached_used L root M tree q u p i e = used_last L root M tree p i (subst (λ q. used (entry M q) ≡ true) e u)
+
+pub reached_next : (L root : ℕ) (M : PathMap) (p : List ℕ) (i : ℕ) → table_at L root M p ≢ None → i < 512 → Reached L root M (p ++ i ∷ [])
+reached_next L root M p i leads small r j e = let ends : (p ≡ r) × (i ≡ j) = same_from_push p r i j e in
+    (subst (λ j. j < 512) ends.1 small, subst (λ r. table_at L root M r ≢ None) ends.0 leads)
+
+module _ (L root : ℕ) (M : PathMap) (q : List ℕ) (w : ℕ) (nonempty : q ≢ []) where
+  at_put : table_at L root (put M q w) q ≡ table_of L q w
+  at_put = table_at_is L root _ q nonempty ∙ ap (table_of L q) (entry-put_same M q w)
+
+  else_put : (r : List ℕ) → r ≢ q → table_at L root (put M q w) r ≡ table_at L root M r
+  else_put r n = table_at_same L root _ M r (entry-put_other M q w r n)
+
+  pub tree_put : IsTree L root M → Reached L root M q → (table_of L q w ≡ None → table_at L root M q ≡ None) → IsTree L root (put M q w)
+  tree_put tree reached keeps = record {
+    nothing_above = entry-put_other M q w [] (λ e. nonempty (sym e)) ∙ tree.nothing_above;
+    used_alone = used_alone-put M q w tree.used_alone;
+    below = λ r i h. ⊎_elim
+        (λ e. absurd ((reached r i (sym e)).1 (sym (else_put r (λ is. longer q i (sym (ap (λ r. r ++ i ∷ []) (sym is) ∙ e)))) ∙ h)))
+        (λ n. entry-put_other M q w (r ++ i ∷ []) n ∙ tree.below r i (⊎_elim
+        (λ is. ap (table_at L root M) is ∙ keeps (sym at_put ∙ ap (table_at L root (put M q w)) (sym is) ∙ h))
+        (λ n. sym (else_put r n) ∙ h) (cases_path r q))) (cases_path (r ++ i ∷ []) q);
+    small = λ r i l. ⊎_elim
+        (λ e. absurd (let h = (reached r i (sym e)).0 in omega arith))
+        (λ n. entry-put_other M q w (r ++ i ∷ []) n ∙ tree.small r i l) (cases_path (r ++ i ∷ []) q);
+  }
+
+  pub hierarchy_put : IsHierarchy L root M → Reached L root M q → (table_of L q w ≡ None → table_at L root M q ≡ None) → table_of L q w ≢ Some 0 → (3 < level_of L q → huge w ≡ false)
+      → IsHierarchy L root (put M q w)
+  hierarchy_put h reached keeps nonzero low = record {
+    tree = tree_put h.tree reached keeps;
+    not_zero = λ i p t. ⊎_elim (λ e. nonzero (sym at_put ∙ ap (table_at L root (put M q w)) (sym e) ∙ t)) (λ n. h.not_zero i p (sym (else_put (i ∷ p) n) ∙ t)) (cases_path (i ∷ p) q);
+    none_huge = λ r up. ⊎_elim (λ e. ap (λ r. huge (entry (put M q w) r)) e ∙ ap huge (entry-put_same M q w) ∙ low (subst (λ q. 3 < level_of L q) e up)) (λ n. ap huge (entry-put_other M q w r n) ∙ h.none_huge r up) (cases_path r q);
+  }

@@ -1,0 +1,5 @@
+pub mod Effects
+pub mod Giving
+pub mod States
+pub mod Witness
+pub mod Writes
