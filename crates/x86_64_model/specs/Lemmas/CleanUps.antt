@@ -1,4 +1,5 @@
 pub mod Answers
+pub mod Arrivals
 pub mod Frames
 pub mod Removed
 pub mod Trees

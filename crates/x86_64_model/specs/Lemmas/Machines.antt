@@ -1,5 +1,9 @@
+pub mod Alike
 pub mod Effects
+pub mod Flushes
 pub mod Giving
+pub mod Laws
+pub mod Spares
 pub mod States
 pub mod Witness
 pub mod Writes

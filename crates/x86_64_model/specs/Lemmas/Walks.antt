@@ -1,3 +1,4 @@
 pub mod Agrees
+pub mod Fronts
 pub mod Windows
 pub mod WrittenOut

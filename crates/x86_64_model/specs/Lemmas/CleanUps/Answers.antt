@@ -4,21 +4,14 @@ use Rattle.x86_64_model.specs.Entry.{has, used, present, huge, address, flags}
 use Rattle.x86_64_model.specs.PathMap.{PathMap, entry}
 use Rattle.x86_64_model.specs.Lemmas.Hierarchies.Trees.{IsTree}
 use Rattle.x86_64_model.specs.Window.{Window, entry_at, begins_with}
-use Rattle.x86_64_model.specs.Lemmas.Maps.Arrives.{entry_outside, first_alone}
+use Rattle.x86_64_model.specs.Lemmas.Walks.Fronts.{translated_outside}
 use Rattle.x86_64_model.specs.Position.{index, span, page_path}
 use Rattle.x86_64_model.specs.PageWalk.{page_start}
 use Rattle.x86_64_model.specs.Translation.{Translated, NotMapped, Mapped, translate, translate_on}
 use Rattle.x86_64_model.specs.CleanUp.{is_removed, in_range, meets, clean_up}
-use Rattle.x86_64_model.specs.Lemmas.Entries.Bits.{unused_zero}
+use Rattle.x86_64_model.specs.Lemmas.Entries.Bits.{zero_absent, unused_absent}
 use Rattle.x86_64_model.specs.Lemmas.Walks.Agrees.{one_more}
 use Rattle.x86_64_model.specs.Lemmas.CleanUps.Removed.{removed_gives, removed_from, entry-cleaned, child_removed}
-
-pub zero_absent : present 0 ≡ false
-unfolding has
-zero_absent = refl
-
-pub unused_absent : (e : ℕ) → used e ≡ false → present e ≡ false
-unused_absent e u = ap present (unused_zero e u) ∙ zero_absent
 
 if_not : (b : Bool) (x y : Translated) → b ≡ false → cond b x y ≡ y
 if_not true x y h = cc
@@ -30,24 +23,6 @@ through h b true x y e z = cc
 through true true false x y e z = z
 through true false false x y e z = z
 through false b false x y e z = refl
-
--- outside the window the answer is the map's
-translated_outside : (window : Option Window) (M : PathMap) (p level i : ℕ) (c : List ℕ) → begins_with window (i ∷ []) ≡ false → translate_on (entry_at window M) p level (i ∷ c) ≡ translate_on (entry M) p level (i ∷ c)
-unfolding translate_on
-translated_outside window M p zero i c out = refl
-translated_outside window M p (suc zero) i c out = let r = c ++ index 1 p ∷ [] in
-    ap (λ e. cond (used e) (Mapped (span 1) (address e) (p % span 1) (flags e)) NotMapped) (entry_outside window M i r (first_alone window i [] r out))
-translated_outside window M p (suc (suc n)) i c out = let level = suc (suc n) in let r = c ++ index level p ∷ [] in
-    ap₂ (λ e t. cond (present e) (cond (nat_le level 3 && huge e) (Mapped (span level) (page_start level e) (p % span level) (flags e)) t) NotMapped)
-    (entry_outside window M i r (first_alone window i [] r out)) (translated_outside window M p (suc n) i r out)
-
-pub translate_outside : (L : ℕ) (window : Option Window) (M : PathMap) (p : ℕ) → begins_with window (page_path L p) ≡ false → translate_on (entry_at window M) p L [] ≡ translate_on (entry M) p L []
-unfolding translate_on page_path
-translate_outside zero window M p out = refl
-translate_outside (suc zero) window M p out = ap (λ e. cond (used e) (Mapped (span 1) (address e) (p % span 1) (flags e)) NotMapped) (entry_outside window M (index 1 p) [] out)
-translate_outside (suc (suc n)) window M p out = let level = suc (suc n) in let i = index level p in
-    ap₂ (λ e t. cond (present e) (cond (nat_le level 3 && huge e) (Mapped (span level) (page_start level e) (p % span level) (flags e)) t) NotMapped)
-    (entry_outside window M i [] (first_alone window i _ [] out)) (translated_outside window M p (suc n) i [] (first_alone window i _ [] out))
 
 module _ (L root : ℕ) (M : PathMap) (tree : IsTree L root M) (low high : ℕ) where
   abbrev pub N : PathMap
@@ -123,4 +98,4 @@ module _ (L root : ℕ) (M : PathMap) (tree : IsTree L root M) (low high : ℕ) 
       → translate L (entry_at window (clean_up L M low high).paths) p ≡ translate L (entry_at window M) p
   unfolding translate
   translate_cleaned_outside window p out =
-      translate_outside L window (clean_up L M low high).paths p out ∙ same p L [] (omega arith) ∙ sym (translate_outside L window M p out)
+      translated_outside L window (clean_up L M low high).paths p out ∙ same p L [] (omega arith) ∙ sym (translated_outside L window M p out)

@@ -82,3 +82,10 @@ address_is e = and_high e 40 12
 -- frames with one number are one
 pub same_frame : (f g : ℕ) → is_frame f ≡ true → is_frame g ≡ true → f / 4096 ≡ g / 4096 → f ≡ g
 same_frame f g a b e = sym (eqb-true _ f a) ∙ address_is f ∙ ap (λ n. n % 2 ^ 40 * 2 ^ 12) e ∙ sym (address_is g) ∙ eqb-true _ g b
+
+pub zero_absent : present 0 ≡ false
+unfolding has
+zero_absent = refl
+
+pub unused_absent : (e : ℕ) → used e ≡ false → present e ≡ false
+unused_absent e u = ap present (unused_zero e u) ∙ zero_absent
