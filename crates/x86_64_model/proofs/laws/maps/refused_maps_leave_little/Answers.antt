@@ -1,0 +1,5 @@
+use Rattle.x86_64_model.specs.Lemmas.Machines.Laws.{refused_maps}
+use Rattle.x86_64_model.proofs.laws.maps.refused_maps_leave_little.Goals as goal
+
+pub returns : goal.returns
+returns c = refused_maps

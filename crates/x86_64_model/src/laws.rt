@@ -1,0 +1,9 @@
+// The laws of the definitions. Each function's contract is a law, stated in `specs/Laws`; its body is empty.
+
+pub mod clean_ups;
+pub mod hierarchies;
+pub mod maps;
+pub mod pairs;
+pub mod positions;
+pub mod steps;
+pub mod walks;

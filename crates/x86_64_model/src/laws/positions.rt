@@ -1,0 +1,1 @@
+// Laws of positions, addresses and spans.

@@ -1,0 +1,33 @@
+// Laws of the machine's steps and of lists of calls.
+ghost use Rattle.x86_64_model.specs.Laws.Steps.{StepKeepsFit, StepIsHeld, RunConserves, RunKeepsFit, FlushesSuffice, CallsSpareOthers};
+
+/// One step keeps the state fitting.
+pub fn steps_keep_the_pool_fitting()
+    ensures { StepKeepsFit }
+{}
+
+/// After one step valid words hold the path map, and the pool fits them.
+#[tactic(auto, using(crate::specs::Lemmas::Machines::Laws::step_is_held))]
+pub fn steps_are_held_by_words()
+    ensures { StepIsHeld }
+{}
+
+/// Free and table frames are one set before and after any list of calls.
+pub fn runs_conserve_frames()
+    ensures { RunConserves }
+{}
+
+/// After any list of calls the pool fits again.
+pub fn runs_keep_the_pool_fitting()
+    ensures { RunKeepsFit }
+{}
+
+/// Where no later item covers a position, the walk arrives as it did.
+pub fn recorded_flushes_suffice()
+    ensures { FlushesSuffice }
+{}
+
+/// A call that names a page changes no answer of `translate` elsewhere.
+pub fn calls_spare_other_pages()
+    ensures { CallsSpareOthers }
+{}
