@@ -5,3 +5,5 @@ pub mod Maps
 pub mod CleanUps
 pub mod Steps
 pub mod Pairs
+pub mod Validity
+pub mod Pools

@@ -4,5 +4,6 @@ pub mod Hierarchies
 pub mod Machines
 pub mod Maps
 pub mod Paths
+pub mod Tables
 pub mod Walks
 pub mod Worked

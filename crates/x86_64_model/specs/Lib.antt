@@ -18,6 +18,8 @@ pub mod Allowed
 pub mod Machine
 pub mod Flush
 pub mod Alike
+pub mod Tables
+pub mod Marks
 pub mod Conserved
 pub mod Arrivals
 pub mod WalkDown

@@ -1,5 +1,5 @@
 -- Memory: a finite map from places to tables of words, and which frames lie at which places. A frame is named by its address.
-use Rattle.std.specs.Prelude.{◌≡◌, ℕ, Bool, true, cond, List, Option, Some, None, option_map, get_or, set, ◌==◌, ◌/◌, nat_lt}
+use Rattle.std.specs.Prelude.{◌≡◌, ℕ, Bool, true, cond, List, Option, Some, None, IsSome, option_map, get_or, set, ◌==◌, ◌/◌, nat_lt}
 use Rattle.std.specs.Ordering.{nat_cmp}
 use Rattle.std.specs.FinMap.{FinMap, get}
 use Rattle.x86_64_model.specs.Entry.{is_frame}
@@ -28,6 +28,10 @@ identity_places = record { covers = is_frame; place = λ f. f / 4096 }
 -- the table in each frame that is covered and in the memory
 abbrev pub Words : Type 0
 Words = ℕ → Option (List ℕ)
+
+-- only frames have tables
+abbrev pub OnlyFrames : Words → Type 0
+OnlyFrames tables = (f : ℕ) → IsSome (tables f) → is_frame f ≡ true
 
 abbrev pub words_of : Memory → Places → Words
 words_of memory places frame = cond (places.covers frame) (get memory (places.place frame)) None

@@ -4,6 +4,8 @@ pub mod clean_ups;
 pub mod hierarchies;
 pub mod maps;
 pub mod pairs;
+pub mod pools;
 pub mod positions;
 pub mod steps;
+pub mod validity;
 pub mod walks;

@@ -46,6 +46,12 @@ RunKeepsFit = (m : Machine) → IsMachine m → (T U : Words) (root : ℕ) (serv
     → FitsState m T root serves s → IsValidFor m.levels m.window U root (state_after m s calls).paths → ((f : ℕ) → IsSome (T f) → IsSome (U f))
     → FitsState m U root serves (state_after m s calls)
 
+-- and there are such words, with all frames as before that were neither free nor a table's
+abbrev pub RunIsHeld : Type 0
+RunIsHeld = (m : Machine) → IsMachine m → (T : Words) (root : ℕ) (serves : ℕ → Bool) (s : State) (calls : List Call) → AllCalls m.levels calls
+    → FitsState m T root serves s
+    → (U : Words) × FitsState m U root serves (state_after m s calls) × ((f : ℕ) → (IsOwn m.levels root s.paths s.pool f → ⊥) → U f ≡ T f)
+
 -- ---- what is flushed
 
 abbrev pub NoneCovers : (L : ℕ) → List Item → (position : ℕ) → Type 0

@@ -1,2 +1,4 @@
+pub mod Addresses
 pub mod Pages
 pub mod Puts
+pub mod Spans

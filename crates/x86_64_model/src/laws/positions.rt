@@ -1,1 +1,14 @@
 // Laws of positions, addresses and spans.
+ghost use Rattle.x86_64_model.specs.Laws.Positions.{PositionsAreAddresses, SpansAreIntervals};
+
+/// Each position is that of exactly one canonical address, in the same order, with four levels and with five.
+#[tactic(auto, using(crate::specs::Lemmas::Paths::Addresses::positions_are_addresses))]
+pub fn positions_are_canonical_addresses()
+    ensures { PositionsAreAddresses }
+{}
+
+/// The positions whose first indices are a path's are an interval, of as many as its entry spans.
+#[tactic(auto, using(crate::specs::Lemmas::Paths::Spans::spans_are_intervals))]
+pub fn spans_of_paths_are_intervals()
+    ensures { SpansAreIntervals }
+{}

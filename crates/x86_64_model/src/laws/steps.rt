@@ -1,5 +1,5 @@
 // Laws of the machine's steps and of lists of calls.
-ghost use Rattle.x86_64_model.specs.Laws.Steps.{StepKeepsFit, StepIsHeld, RunConserves, RunKeepsFit, FlushesSuffice, CallsSpareOthers};
+ghost use Rattle.x86_64_model.specs.Laws.Steps.{StepKeepsFit, StepIsHeld, RunConserves, RunKeepsFit, RunIsHeld, FlushesSuffice, CallsSpareOthers};
 
 /// One step keeps the state fitting.
 pub fn steps_keep_the_pool_fitting()
@@ -30,4 +30,10 @@ pub fn recorded_flushes_suffice()
 /// A call that names a page changes no answer of `translate` elsewhere.
 pub fn calls_spare_other_pages()
     ensures { CallsSpareOthers }
+{}
+
+/// After any list of calls there are valid words that mean the state, and other frames are as before.
+#[tactic(auto, using(crate::specs::Lemmas::Machines::Laws::run_is_held))]
+pub fn runs_are_held_by_words()
+    ensures { RunIsHeld }
 {}

@@ -8,7 +8,8 @@ use Rattle.std.specs.Ordering.{nat_cmp, eq_by_cmp, is_eq}
 use Rattle.std.specs.Cmp.{nat_cmp_total, tied_itself}
 use Rattle.std.specs.FinMap.{get, insert, get-insert, nat_cmp-IsAntisymmetric}
 use Rattle.x86_64_model.specs.Entry.{is_frame}
-use Rattle.x86_64_model.specs.Memory.{Words, Memory, Places, Distinct, identity_places, words_of, set_word}
+use Rattle.x86_64_model.specs.Laws.Validity.{MappingsShowFrames}
+use Rattle.x86_64_model.specs.Memory.{IsMapping, Words, Memory, Places, Distinct, identity_places, words_of, set_word}
 use Rattle.x86_64_model.specs.Lemmas.Entries.Bits.{same_frame}
 use Rattle.x86_64_model.specs.Window.{Window, outside_window}
 
@@ -67,3 +68,13 @@ outside_set (Some v) root T f i w apart = set_word_comm T f i w root v.index 0 (
 
 pub identity_distinct : Distinct identity_places
 identity_distinct f g a b e = same_frame f g a b e
+
+pub identity_is_mapping : IsMapping identity_places
+identity_is_mapping = record { frames = λ f h. h; distinct = identity_distinct }
+
+pub mappings_show_frames : MappingsShowFrames
+mappings_show_frames memory places mapping f = by (places.covers f) refl
+  where
+    by : (b : Bool) → places.covers f ≡ b → IsSome (cond b (get memory (places.place f)) None) → is_frame f ≡ true
+    by true c h = mapping.frames f c
+    by false c h = cc

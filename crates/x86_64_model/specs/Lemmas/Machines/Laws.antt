@@ -14,13 +14,13 @@ use Rattle.x86_64_model.specs.Call.{IsCall, Call, MapTo, MapToWithTableFlags, Id
 use Rattle.x86_64_model.specs.Machine.{Machine, State, do_call, step, state_after, replies_of}
 use Rattle.x86_64_model.specs.Allowed.{allowed}
 use Rattle.x86_64_model.specs.Flush.{Item, OnePage, Everything, if_done, items_of}
-use Rattle.x86_64_model.specs.Laws.Steps.{StepKeepsFit, StepIsHeld, RunConserves, RunKeepsFit, FlushesSuffice, UsedPresent, CallsSpareOthers}
+use Rattle.x86_64_model.specs.Laws.Steps.{StepKeepsFit, StepIsHeld, RunConserves, RunKeepsFit, RunIsHeld, FlushesSuffice, UsedPresent, CallsSpareOthers}
 use Rattle.x86_64_model.specs.Laws.CleanUps.{CleanUpConserves, CleanUpKeepsAnswers, CleanUpsOnce}
 use Rattle.x86_64_model.specs.Laws.Maps.{RefusedMaps, MapTakesFew, WalkedDown}
 use Rattle.x86_64_model.specs.Laws.Pairs.{NoneNames, AlikeRuns, PairsReplyAlike}
 use Rattle.x86_64_model.specs.Lemmas.Hierarchies.Trees.{tree_of_holds}
 use Rattle.x86_64_model.specs.Lemmas.Machines.Effects.{machine, MapMay, map_may, page_at_level, flip_not}
-use Rattle.x86_64_model.specs.Lemmas.Machines.States.{IsSound, all_in, sound_of_fits, step_fits, run_conserves, run_fits}
+use Rattle.x86_64_model.specs.Lemmas.Machines.States.{IsSound, all_in, sound_of_fits, step_fits, step_conserves, run_conserves, run_fits}
 use Rattle.x86_64_model.specs.Lemmas.Machines.Witness.{step_witness}
 use Rattle.x86_64_model.specs.Lemmas.Machines.Flushes.{flushes_suffice}
 use Rattle.x86_64_model.specs.Lemmas.Machines.Spares.{IsDone, map_elsewhere, unmap_elsewhere, update_elsewhere, refused_map}
@@ -41,6 +41,14 @@ step_is_held m is T root serves s call c fits = step_witness m.levels m.window T
 
 pub run_keeps_frames : RunConserves
 run_keeps_frames m is T root serves s calls c fits = (run_conserves m.levels m.window root serves m.added_flags is.adds m.give is.gives calls c s (sound_of_fits m.levels m.window T root serves s fits)).same_set
+
+pub run_is_held : RunIsHeld
+run_is_held m is T root serves s [] c fits = (T, fits, λ f n. refl)
+run_is_held m is T root serves s (call ∷ calls) c fits =
+    let one = step_is_held m is T root serves s call c.0 fits in
+    let rest = run_is_held m is one.0 root serves (step m s call).0 calls c.1 one.1 in
+    let same = (step_conserves m.levels m.window root serves s (sound_of_fits m.levels m.window T root serves s fits) m.added_flags is.adds m.give is.gives call c.0).same_set in
+    (rest.0, rest.1, λ f n. rest.2 f (λ own. n ((same f).1 own)) ∙ one.2 f n)
 
 pub run_keeps_fit : RunKeepsFit
 run_keeps_fit m is T U root serves s calls c fits valid kept = run_fits m.levels m.window T U root serves m.added_flags is.adds m.give is.gives s calls c fits valid kept
