@@ -2,7 +2,8 @@
 use Rattle.std.specs.Prelude.{◌≡◌, ◌≢◌, ◌↔◌, ℕ, ◌≤◌, List, ◌++◌, length, Some}
 use Rattle.x86_64_model.specs.Entry.{address}
 use Rattle.x86_64_model.specs.PathMap.{PathMap, table_at}
-use Rattle.x86_64_model.specs.Pool.{In, EachOnce, IsTable, IsOwn}
+use Rattle.x86_64_model.specs.Lists.{In, EachOnce}
+use Rattle.x86_64_model.specs.Pool.{IsTable, IsOwn}
 
 -- the address of a 4KiB frame other than frame 0
 pub record IsFrame (f : ℕ) : Type 0 where

@@ -1,6 +1,7 @@
 pub mod CleanUps
 pub mod Entries
 pub mod Hierarchies
+pub mod Lists
 pub mod Machines
 pub mod Maps
 pub mod Paths

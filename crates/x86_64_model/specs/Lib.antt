@@ -1,3 +1,4 @@
+pub mod Lists
 pub mod Position
 pub mod Entry
 pub mod Path

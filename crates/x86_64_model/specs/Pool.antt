@@ -1,19 +1,10 @@
 -- Pools: lists of free frames, and what it is for one to fit a hierarchy.
 use Rattle.std.specs.Prelude.{◌≡◌, ◌⊎◌, ◌↔◌, ℕ, Bool, true, List, [], ◌∷◌, Option, Some, IsSome}
+use Rattle.x86_64_model.specs.Lists.{In, EachOnce}
 use Rattle.x86_64_model.specs.Entry.{is_frame}
 use Rattle.x86_64_model.specs.PathMap.{PathMap, table_at}
 use Rattle.x86_64_model.specs.Memory.{Words}
 use Rattle.x86_64_model.specs.Window.{Window, IsValidFor}
-
--- whether a frame is in the list
-abbrev pub In : List ℕ → (frame : ℕ) → Type 0
-In [] f = ⊥
-In (g ∷ gs) f = (g ≡ f) ⊎ In gs f
-
--- each frame once
-abbrev pub EachOnce : List ℕ → Type 0
-EachOnce [] = Unit {0}
-EachOnce (f ∷ fs) = (In fs f → ⊥) × EachOnce fs
 
 -- whether a path leads to the frame's table, and which; the root is the table of the path of no index
 abbrev pub IsTable : (L root : ℕ) → PathMap → (frame : ℕ) → Type 0

@@ -7,7 +7,7 @@ use Rattle.x86_64_model.specs.Path.{indices}
 use Rattle.x86_64_model.specs.Memory.{Words, word, set_word}
 use Rattle.x86_64_model.specs.Hierarchy.{read_at}
 use Rattle.x86_64_model.specs.Window.{Window}
-use Rattle.x86_64_model.specs.Pool.{In, EachOnce}
+use Rattle.x86_64_model.specs.Lists.{In, EachOnce}
 
 -- the table in a frame and all below it, through n levels, a table before those below it
 unfoldable pub tables_from : (n : ℕ) → Words → (frame : ℕ) → List ℕ

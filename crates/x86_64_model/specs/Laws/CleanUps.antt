@@ -1,5 +1,5 @@
 -- Laws of clean ups.
-use Rattle.std.specs.Prelude.{◌≡◌, ◌<◌, ℕ, false, List, [], Option}
+use Rattle.std.specs.Prelude.{◌≡◌, ℕ, false, List, [], Option}
 use Rattle.x86_64_model.specs.Position.{page_path}
 use Rattle.x86_64_model.specs.PathMap.{PathMap}
 use Rattle.x86_64_model.specs.Memory.{Words}

@@ -1,6 +1,7 @@
 -- Laws of map calls.
-use Rattle.std.specs.Prelude.{◌≡◌, ◌≢◌, ◌⊎◌, ◌<◌, ◌≤◌, ◌+◌, ◌-◌, ◌*◌, ◌^◌, ◌%◌, ℕ, true, false, List, [], ◌∷◌, ◌++◌, length, take, Option, Some}
+use Rattle.std.specs.Prelude.{◌≡◌, ◌⊎◌, ◌<◌, ◌≤◌, ◌+◌, ◌-◌, ◌*◌, ◌^◌, ◌%◌, ℕ, true, false, List, [], ◌∷◌, ◌++◌, length, take, Option, Some}
 use Rattle.std.specs.List.{AllByRecursion}
+use Rattle.x86_64_model.specs.Lists.{In}
 use Rattle.x86_64_model.specs.Position.{span, page_path}
 use Rattle.x86_64_model.specs.Entry.{IsParentFlags, has, used, writable, user, address}
 use Rattle.x86_64_model.specs.Path.{parents, path_at}
@@ -56,19 +57,14 @@ MapTakesFew = (L : ℕ) (T : Words) (root : ℕ) (M : PathMap) (supply : List �
 
 -- ---- a refused map
 
--- whether a path is in the list
-abbrev pub InPaths : List (List ℕ) → List ℕ → Type 0
-InPaths [] r = ⊥
-InPaths (p ∷ ps) r = (p ≡ r) ⊎ InPaths ps r
-
 -- what a refused map leaves: used entries keep their addresses, their flags only grow, by the parent flags, and on the page's path alone,
 -- and what is used below a table that is new is one of the page's parents
 pub record LeftByRefused (more : ℕ) (M N : PathMap) (q : List ℕ) : Type 0 where
   pub same_addresses : (r : List ℕ) → used (entry M r) ≡ true → address (entry N r) ≡ address (entry M r)
   pub flags_kept : (r : List ℕ) (flag : ℕ) → used (entry M r) ≡ true → has (entry M r) flag ≡ true → has (entry N r) flag ≡ true
   pub flags_gained : (r : List ℕ) (k : ℕ) → used (entry M r) ≡ true → has (entry N r) (2 ^ k) ≡ true → (has (entry M r) (2 ^ k) ≡ true) ⊎ (has more (2 ^ k) ≡ true)
-  pub off_path : (r : List ℕ) → (InPaths (parents q) r → ⊥) → entry N r ≡ entry M r
-  pub new_tables : (i : ℕ) (r : List ℕ) (j : ℕ) → used (entry M (i ∷ r)) ≡ false → used (entry N (i ∷ r ++ j ∷ [])) ≡ true → InPaths (parents q) (i ∷ r ++ j ∷ [])
+  pub off_path : (r : List ℕ) → (In (parents q) r → ⊥) → entry N r ≡ entry M r
+  pub new_tables : (i : ℕ) (r : List ℕ) (j : ℕ) → used (entry M (i ∷ r)) ≡ false → used (entry N (i ∷ r ++ j ∷ [])) ≡ true → In (parents q) (i ∷ r ++ j ∷ [])
 
 abbrev pub RefusedMaps : Type 0
 RefusedMaps = (L : ℕ) (window : Option Window) (T : Words) (root : ℕ) (M : PathMap) (supply : List ℕ) (more added : ℕ) (q : List ℕ) (frame given : ℕ)

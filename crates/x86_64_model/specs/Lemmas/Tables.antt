@@ -2,7 +2,6 @@ pub mod Checked
 pub mod Exact
 pub mod Huge
 pub mod Keyed
-pub mod Lists
 pub mod MarkSteps
 pub mod Marked
 pub mod Meant

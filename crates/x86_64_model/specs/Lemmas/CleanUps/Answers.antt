@@ -1,6 +1,6 @@
 -- A clean up changes no answer of `translate`.
 use Rattle.std.proofs.Common.{zero, suc, ◌≡◌, ◌≤◌, ◌+◌, ◌%◌, ℕ, ◌&&◌, Bool, true, false, not, cond, List, [], ◌∷◌, ◌++◌, length, nat_lt, nat_le, None, Option, refl, sym, ap, ap₂, ◌∙◌, arith, ltb-true}
-use Rattle.x86_64_model.specs.Entry.{has, used, present, huge, address, flags}
+use Rattle.x86_64_model.specs.Entry.{used, present, huge, address, flags}
 use Rattle.x86_64_model.specs.PathMap.{PathMap, entry}
 use Rattle.x86_64_model.specs.Lemmas.Hierarchies.Trees.{IsTree}
 use Rattle.x86_64_model.specs.Window.{Window, entry_at, begins_with}

@@ -1,5 +1,5 @@
 -- A clean up keeps what each walk answers.
-use Rattle.std.proofs.Common.{zero, suc, ◌≡◌, ◌≤◌, ◌+◌, ◌%◌, ℕ, ◌&&◌, Bool, true, false, cond, List, [], ◌∷◌, ◌++◌, length, nat_le, None, Option, refl, sym, ap, ap₂, ◌∙◌, arith}
+use Rattle.std.proofs.Common.{zero, suc, ◌≡◌, ◌+◌, ◌%◌, ℕ, ◌&&◌, Bool, true, false, cond, List, [], ◌∷◌, ◌++◌, length, nat_le, None, Option, refl, sym, ap, ap₂, ◌∙◌, arith}
 use Rattle.x86_64_model.specs.Position.{index, span}
 use Rattle.x86_64_model.specs.Entry.{present, writable, user, huge, address}
 use Rattle.x86_64_model.specs.PathMap.{PathMap, entry}

@@ -1,59 +1,19 @@
 -- A clean up only moves frames: free and table frames are one set before and after.
-use Rattle.std.proofs.Common.{◌-◌, ◌≡◌, ◌≢◌, ◌⊎◌, ◌↔◌, inl, inr, ⊎_elim, ◌<◌, ◌≤◌, ℕ, ◌&&◌, Bool, true, false, not, cond, List, [], ◌∷◌, ◌++◌, length, map, filter, Some, None, nat_lt, refl, sym, ap, ◌∙◌, subst, arith, ltb-true}
+use Rattle.std.proofs.Common.{◌-◌, ◌≡◌, ◌≢◌, ◌↔◌, inl, inr, ⊎_elim, ◌<◌, ◌≤◌, ℕ, ◌&&◌, Bool, true, false, not, List, [], ◌∷◌, ◌++◌, length, map, filter, Some, None, nat_lt, refl, sym, ap, ◌∙◌, subst, arith, ltb-true}
 use Rattle.x86_64_model.specs.Entry.{used, present, huge, address}
 use Rattle.x86_64_model.specs.PathMap.{PathMap, entry, table_of, table_at}
 use Rattle.x86_64_model.specs.Path.{paths_below}
 use Rattle.x86_64_model.specs.Lemmas.Hierarchies.Trees.{IsTree, indices_below}
 use Rattle.x86_64_model.specs.CleanUp.{is_removed, in_range, clean_up, meets}
-use Rattle.x86_64_model.specs.Pool
-use Rattle.x86_64_model.specs.Pool.{IsTable, IsOwn}
+use Rattle.x86_64_model.specs.Pool.{IsOwn}
+use Rattle.x86_64_model.specs.Lemmas.Lists.Members.{in_left, in_right, in_append, in_filter, passes, in_map, from_map}
 use Rattle.x86_64_model.specs.Lemmas.Entries.Bits.{used_present}
 use Rattle.x86_64_model.specs.Lemmas.Hierarchies.Changes.{zero_not_used, unused_no_table}
-use Rattle.x86_64_model.specs.Lemmas.Hierarchies.Exists.{In, in_paths_below}
+use Rattle.x86_64_model.specs.Lists.{In}
+use Rattle.x86_64_model.specs.Lemmas.Hierarchies.Exists.{in_paths_below}
 use Rattle.x86_64_model.specs.Lemmas.Walks.Agrees.{named, names}
 use Rattle.x86_64_model.specs.Lemmas.CleanUps.Removed.{removed_gives}
 use Rattle.x86_64_model.specs.Lemmas.CleanUps.Answers.{gone, stays}
-
-pub in_cases : {X : Type 0} (xs ys : List X) (x : X) → In (xs ++ ys) x → In xs x ⊎ In ys x
-in_cases [] ys x h = inr h
-in_cases (z ∷ xs) ys x (inl e) = inl (inl e)
-in_cases (z ∷ xs) ys x (inr h) = ⊎_elim (λ a. inl (inr a)) (λ b. inr b) (in_cases xs ys x h)
-
-pub in_filter : {X : Type 0} (p : X → Bool) (xs : List X) (x : X) → In xs x → p x ≡ true → In (filter p xs) x
-in_filter p [] x h e = absurd h
-in_filter p (z ∷ xs) x (inl is) e = subst (λ b. In (cond b (z ∷ filter p xs) (filter p xs)) x) (sym (ap p is ∙ e)) (inl is)
-in_filter p (z ∷ xs) x (inr h) e = elim (p z) as (λ b. In (cond b (z ∷ filter p xs) (filter p xs)) x) [ true ↦ inr (in_filter p xs x h e) | false ↦ in_filter p xs x h e ]
-
-pub passes : {X : Type 0} (p : X → Bool) (xs : List X) (x : X) → In (filter p xs) x → p x ≡ true
-passes p [] x h = absurd h
-passes p (z ∷ xs) x h = elim (p z) as (λ b. p z ≡ b → In (cond b (z ∷ filter p xs) (filter p xs)) x → p x ≡ true) [
-  | true ↦ λ e. ⊎_elim (λ is. ap p (sym is) ∙ e) (λ h. passes p xs x h)
-  | false ↦ λ e h. passes p xs x h
-] refl h
-
-pub in_map : {X : Type 0} (f : X → ℕ) (xs : List X) (x : X) → In xs x → Pool.In (map f xs) (f x)
-in_map f [] x h = absurd h
-in_map f (z ∷ xs) x (inl e) = inl (ap f e)
-in_map f (z ∷ xs) x (inr h) = inr (in_map f xs x h)
-
-pub from_map : {X : Type 0} (f : X → ℕ) (xs : List X) (y : ℕ) → Pool.In (map f xs) y → (x : X) × (In xs x) × (f x ≡ y)
-from_map f [] y h = absurd h
-from_map f (z ∷ xs) y (inl e) = (z, inl refl, e)
-from_map f (z ∷ xs) y (inr h) = let more = from_map f xs y h in (more.0, inr more.1, more.2)
-
-pub own_left : (xs ys : List ℕ) (x : ℕ) → Pool.In xs x → Pool.In (xs ++ ys) x
-own_left [] ys x h = absurd h
-own_left (z ∷ xs) ys x (inl e) = inl e
-own_left (z ∷ xs) ys x (inr h) = inr (own_left xs ys x h)
-
-pub own_right : (xs ys : List ℕ) (x : ℕ) → Pool.In ys x → Pool.In (xs ++ ys) x
-own_right [] ys x h = h
-own_right (z ∷ xs) ys x h = inr (own_right xs ys x h)
-
-pub own_cases : (xs ys : List ℕ) (x : ℕ) → Pool.In (xs ++ ys) x → Pool.In xs x ⊎ Pool.In ys x
-own_cases [] ys x h = inr h
-own_cases (z ∷ xs) ys x (inl e) = inl (inl e)
-own_cases (z ∷ xs) ys x (inr h) = ⊎_elim (λ a. inl (inr a)) (λ b. inr b) (own_cases xs ys x h)
 
 four : (a b c d : Bool) → (a && b && not c && d) ≡ true → (a ≡ true) × (b ≡ true) × (c ≡ false)
 four true true false d h = (refl, refl, refl)
@@ -82,7 +42,7 @@ module _ (L root : ℕ) (M : PathMap) (tree : IsTree L root M) (low high : ℕ) 
 
   pub clean_same_set : (f : ℕ) → IsOwn L root M pool f ↔ IsOwn L root (clean_up L M low high).paths ((clean_up L M low high).back ++ pool) f
   unfolding clean_up
-  clean_same_set f = (⊎_elim (λ h. inl (own_right back pool f h)) (λ t. out t.0 t.1), ⊎_elim (λ h. ⊎_elim from_back (λ h. inl h) (own_cases back pool f h)) (λ t. inr (t.0, earlier t.0 t.1)))
+  clean_same_set f = (⊎_elim (λ h. inl (in_right back pool f h)) (λ t. out t.0 t.1), ⊎_elim (λ h. ⊎_elim from_back (λ h. inl h) (in_append back pool f h)) (λ t. inr (t.0, earlier t.0 t.1)))
     where
       back : List ℕ
       back = map (λ q. address (entry M q)) (filter (is_removed L M low high) (paths_below (L - 1) []))
@@ -93,7 +53,7 @@ module _ (L root : ℕ) (M : PathMap) (tree : IsTree L root M) (low high : ℕ) 
       out : (q : List ℕ) → table_at L root M q ≡ Some f → IsOwn L root (clean_up L M low high).paths (back ++ pool) f
       out [] h = inr ([], h)
       out (i ∷ q) h = elim (is_removed L M low high (i ∷ q)) as (λ b. is_removed L M low high (i ∷ q) ≡ b → IsOwn L root (clean_up L M low high).paths (back ++ pool) f) [
-        | true ↦ λ r. inl (own_left back pool f (subst (Pool.In back) (some_one _ _ (sym (leads i q r) ∙ h)) (in_map (λ q. address (entry M q)) (filter (is_removed L M low high) (paths_below (L - 1) [])) (i ∷ q) (in_filter (is_removed L M low high) (paths_below (L - 1) []) (i ∷ q) (listed i q r) r))))
+        | true ↦ λ r. inl (in_left back pool f (subst (In back) (some_one _ _ (sym (leads i q r) ∙ h)) (in_map (λ q. address (entry M q)) (filter (is_removed L M low high) (paths_below (L - 1) [])) (i ∷ q) (in_filter (is_removed L M low high) (paths_below (L - 1) []) (i ∷ q) (listed i q r) r))))
         | false ↦ λ r. inr (i ∷ q, ap (table_of L (i ∷ q)) (stays L root M tree low high (i ∷ q) r) ∙ h)
       ] refl
 
@@ -101,7 +61,7 @@ module _ (L root : ℕ) (M : PathMap) (tree : IsTree L root M) (low high : ℕ) 
       of_path [] r e = absurd (absent_used (entry M []) (in_range_parts L M low high [] (removed_gives L M low high [] r).itself).1 tree.nothing_above)
       of_path (i ∷ q) r e = inr (i ∷ q, leads i q r ∙ ap Some e)
 
-      from_back : Pool.In back f → IsOwn L root M pool f
+      from_back : In back f → IsOwn L root M pool f
       from_back h = let more = from_map (λ q. address (entry M q)) (filter (is_removed L M low high) (paths_below (L - 1) [])) f h in of_path more.0 (passes (is_removed L M low high) (paths_below (L - 1) []) more.0 more.1) more.2
 
       earlier : (q : List ℕ) → table_at L root (clean_up L M low high).paths q ≡ Some f → table_at L root M q ≡ Some f

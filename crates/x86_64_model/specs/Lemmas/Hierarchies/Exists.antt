@@ -1,53 +1,18 @@
 -- The path map that words hold.
-use Rattle.std.proofs.Common.{◌≡◌, ◌⊎◌, inl, inr, ⊎_elim, ◌<◌, ◌≤◌, ◌+◌, ℕ, zero, suc, ◌&&◌, true, false, not, cond, List, [], ◌∷◌, ◌++◌, length, fold, Some, None, Option, IsSome, nat_lt, refl, sym, ap, ◌∙◌, subst, arith, append_assoc, zero-add, unwrap_or, lt-ltb, le-ltb}
-use Rattle.std.specs.List.{flat_map, range_with_len}
+use Rattle.std.proofs.Common.{◌≡◌, ◌⊎◌, inl, inr, ⊎_elim, ◌<◌, ◌≤◌, ℕ, zero, suc, ◌&&◌, true, false, not, cond, List, [], ◌∷◌, ◌++◌, length, fold, Some, None, Option, IsSome, nat_lt, refl, sym, ap, ◌∙◌, subst, arith, append_assoc, unwrap_or, lt-ltb, le-ltb}
 use Rattle.std.specs.FinMap.{empty, get-empty}
 use Rattle.std.proofs.lemmas.Bool.{cases_lt}
 use Rattle.x86_64_model.specs.Entry.{huge, address, names_table}
 use Rattle.x86_64_model.specs.Memory.{Words, word, word_in}
 use Rattle.x86_64_model.specs.PathMap.{PathMap, entry, put, HasUsedAlone, table_of, table_at}
 use Rattle.x86_64_model.specs.Hierarchy.{entry_in, Holds, read_at, paths_of}
-use Rattle.x86_64_model.specs.Path.{paths_below, indices}
+use Rattle.x86_64_model.specs.Lists.{In}
+use Rattle.x86_64_model.specs.Path.{AllBelow, paths_below, indices}
+use Rattle.x86_64_model.specs.Lemmas.Lists.Members.{in_left, in_right, in_flat_map, in_indices}
 use Rattle.x86_64_model.specs.Lemmas.Paths.Puts.{entry-put, same_path, same_path_true, same_path_itself, used_alone-put, path_cmp}
 use Rattle.x86_64_model.specs.Lemmas.Hierarchies.Held.{Law, one_by_law}
 use Rattle.x86_64_model.specs.Lemmas.Maps.Down.{nat_lt-suc}
 use Rattle.x86_64_model.specs.Lemmas.Hierarchies.Changes.{unused_no_table, zero_not_used}
-
--- ---- membership of paths
-
-abbrev pub In : {X : Type 0} → List X → X → Type 0
-In [] x = ⊥
-In (y ∷ ys) x = (y ≡ x) ⊎ In ys x
-
-pub in_left : {X : Type 0} (xs ys : List X) (x : X) → In xs x → In (xs ++ ys) x
-in_left [] ys x h = absurd h
-in_left (y ∷ xs) ys x (inl e) = inl e
-in_left (y ∷ xs) ys x (inr h) = inr (in_left xs ys x h)
-
-pub in_right : {X : Type 0} (xs ys : List X) (x : X) → In ys x → In (xs ++ ys) x
-in_right [] ys x h = h
-in_right (y ∷ xs) ys x h = inr (in_right xs ys x h)
-
-in_flat_map : {X Y : Type 0} (f : X → List Y) (xs : List X) (x : X) (y : Y) → In xs x → In (f x) y → In (flat_map f xs) y
-in_flat_map f [] x y h g = absurd h
-in_flat_map f (z ∷ xs) x y (inl e) g = in_left _ _ y (subst (λ z. In (f z) y) (sym e) g)
-in_flat_map f (z ∷ xs) x y (inr h) g = in_right _ _ y (in_flat_map f xs x y h g)
-
-in_range : (n from i : ℕ) → i < n → In (range_with_len from n) (from + i)
-in_range zero from i h = absurd (omega arith)
-in_range (suc n) from zero h = inl (omega arith)
-in_range (suc n) from (suc i) h = inr (subst (In (range_with_len (from + 1) n)) same (in_range n (from + 1) i (omega arith)))
-  where
-    same : (from + 1) + i ≡ from + suc i
-    same = omega arith
-
-in_indices : (i : ℕ) → i < 512 → In indices i
-unfolding indices
-in_indices i h = subst (In indices) (zero-add i) (in_range 512 0 i h)
-
-abbrev pub AllBelow : List ℕ → Type 0
-AllBelow [] = Unit {0}
-AllBelow (i ∷ p) = (i < 512) × AllBelow p
 
 pub in_paths_below : (n : ℕ) (q : List ℕ) (i : ℕ) (p : List ℕ) → length (i ∷ p) ≤ n → AllBelow (i ∷ p) → In (paths_below n q) (q ++ i ∷ p)
 unfolding paths_below

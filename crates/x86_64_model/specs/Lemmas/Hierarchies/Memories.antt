@@ -1,9 +1,7 @@
 -- A write to a table of the memory is a write to the words, and the window stands aside from it.
-use Rattle.std.proofs.Common.{◌≡◌, ◌≢◌, ⊎_elim, ◌<◌, ℕ, zero, suc, ◌/◌, ◌==◌, Bool, true, false, cond, List, [], ◌∷◌, length, set, Some, None, Option, IsSome, option_map, refl, sym, ap, ap₂, ◌∙◌, subst, eq-eqb, eqb-true, ne_eqb, Ordering, Less, Equal, Greater}
-use Rattle.std.proofs.lemmas.Bool.{cases_eq, cases_lt}
+use Rattle.std.proofs.Common.{◌≡◌, ◌≢◌, ⊎_elim, ℕ, ◌==◌, Bool, true, false, cond, List, set, Some, None, Option, IsSome, option_map, refl, sym, ap, ap₂, ◌∙◌, eq-eqb, eqb-true, ne_eqb, Ordering, Less, Equal, Greater}
+use Rattle.std.proofs.lemmas.Bool.{cases_eq}
 use Rattle.std.proofs.lemmas.List.{set_comm}
-use Rattle.std.proofs.lemmas.Option.{slice_get_past}
-use Rattle.std.specs.List.{slice_get}
 use Rattle.std.specs.Ordering.{nat_cmp, eq_by_cmp, is_eq}
 use Rattle.std.specs.Cmp.{nat_cmp_total, tied_itself}
 use Rattle.std.specs.FinMap.{get, insert, get-insert, nat_cmp-IsAntisymmetric}

@@ -1,5 +1,5 @@
 -- Two machines whose path maps are alike give one list of replies, and stay alike.
-use Rattle.std.proofs.Common.{◌≡◌, ◌⊎◌, inl, inr, ⊎_elim, ◌<◌, ◌≤◌, ◌+◌, ◌-◌, ◌^◌, ◌%◌, ℕ, suc, zero, ◌==◌, ◌&&◌, ◌||◌, Bool, true, false, not, cond, List, [], ◌∷◌, length, take, find, filter, map, Some, None, Option, option_map, nat_lt, nat_le, bit_and, bit_or, min, max, refl, sym, ap, ap₂, ◌∙◌, subst, subst₂, arith, eqb-true}
+use Rattle.std.proofs.Common.{◌≡◌, ◌⊎◌, inl, inr, ⊎_elim, ◌<◌, ◌≤◌, ◌+◌, ◌-◌, ◌%◌, ℕ, suc, zero, ◌==◌, ◌&&◌, ◌||◌, Bool, true, false, not, cond, List, [], ◌∷◌, length, take, find, filter, map, Some, None, Option, option_map, nat_lt, nat_le, bit_and, bit_or, min, max, refl, sym, ap, ap₂, ◌∙◌, subst, subst₂, arith, eqb-true}
 use Rattle.std.specs.List.{AllByRecursion, list_all}
 use Rattle.std.specs.Int.{bit_at}
 use Rattle.std.proofs.lemmas.Nat.{and_assoc, and_comm, or_disjoint}
@@ -16,9 +16,9 @@ use Rattle.x86_64_model.specs.MapRule.{AfterMap, map_call, leaf_entry, parent_pa
 use Rattle.x86_64_model.specs.PageRules.{AfterChange, refused_or, unmap, update_flags, translate_page, set_flags}
 use Rattle.x86_64_model.specs.CleanUp.{in_range, meets, is_removed, clean_up}
 use Rattle.x86_64_model.specs.Pool.{IsGiving, given_back}
-use Rattle.x86_64_model.specs.Call.{IsCall, Call, MapTo, MapToWithTableFlags, IdentityMap, Unmap, UpdateFlags, SetFlags, TranslatePage, Translate, TranslateAddress, CleanUp, Reply, NotAllowed, Answered, Position, Address, Cleaned}
+use Rattle.x86_64_model.specs.Call.{IsCall, Call, MapTo, MapToWithTableFlags, IdentityMap, Unmap, UpdateFlags, SetFlags, TranslatePage, Translate, TranslateAddress, CleanUp, Reply, NotAllowed, Answered, Position, Address}
 use Rattle.x86_64_model.specs.Machine.{State, do_call, step, replies_of, state_after}
-use Rattle.x86_64_model.specs.Allowed.{none_absent, parents_present, map_allowed, refuses, both_or_none, set_flags_allowed, allowed}
+use Rattle.x86_64_model.specs.Allowed.{none_absent, parents_present, map_allowed, refuses, both_or_none, allowed}
 use Rattle.x86_64_model.specs.Alike.{without_writable, AlikeTables, Alike, names_index}
 use Rattle.x86_64_model.specs.Lemmas.Entries.Bits.{has_or, and_or_distrib, used_present}
 use Rattle.x86_64_model.specs.Lemmas.Paths.Puts.{cases_path, entry-put_same, entry-put_other}

@@ -1,12 +1,11 @@
 -- What a step leaves of the walks that no recorded item covers.
-use Rattle.std.proofs.Common.{◌≡◌, ◌≢◌, inl, ℕ, zero, suc, Bool, true, false, List, [], ◌∷◌, ◌++◌, take, drop, Some, None, Option, refl, sym, ap, ◌∙◌, subst, subst₂, eq-eqb}
-use Rattle.std.proofs.lemmas.Bool.{and_from}
+use Rattle.std.proofs.Common.{◌≡◌, inl, ℕ, zero, suc, Bool, true, false, List, [], ◌∷◌, ◌++◌, take, drop, Option, refl, sym, ◌∙◌, subst, subst₂}
 use Rattle.x86_64_model.specs.Entry.{IsParentFlags}
 use Rattle.x86_64_model.specs.Memory.{Words}
-use Rattle.x86_64_model.specs.PathMap.{PathMap, entry, put}
+use Rattle.x86_64_model.specs.PathMap.{entry, put}
 use Rattle.x86_64_model.specs.Path.{parents, begins}
-use Rattle.x86_64_model.specs.Window.{Window, entry_at, IsValidFor, begins_with}
-use Rattle.x86_64_model.specs.Position.{index, page_path}
+use Rattle.x86_64_model.specs.Window.{Window, IsValidFor, begins_with}
+use Rattle.x86_64_model.specs.Position.{page_path}
 use Rattle.x86_64_model.specs.PageWalk.{Walked, page_walk}
 use Rattle.x86_64_model.specs.MapRule.{map_call, leaf_entry}
 use Rattle.x86_64_model.specs.Pool.{IsGiving, Fits}
@@ -14,7 +13,6 @@ use Rattle.x86_64_model.specs.Call.{IsCall, Call}
 use Rattle.x86_64_model.specs.Machine.{State, step, state_after}
 use Rattle.x86_64_model.specs.Flush.{Item, items_of, all_items}
 use Rattle.x86_64_model.specs.Lemmas.Entries.Bits.{used_present}
-use Rattle.x86_64_model.specs.Lemmas.Paths.Puts.{entry-put_other}
 use Rattle.x86_64_model.specs.Lemmas.Walks.Agrees.{walked, page_walk_is, reads}
 use Rattle.x86_64_model.specs.Lemmas.Maps.Rights.{Grown, walked_grown, map_grows}
 use Rattle.x86_64_model.specs.Lemmas.Walks.Fronts.{walked_same, walked_outside, put_same}

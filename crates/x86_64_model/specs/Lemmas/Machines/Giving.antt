@@ -5,7 +5,8 @@ use Rattle.std.specs.Prelude.{IsPermutation}
 use Rattle.std.proofs.lemmas.Bool.{or_cases, eqb-false}
 use Rattle.std.proofs.lemmas.List.Sorted.{list_any-IsPermutation}
 use Rattle.std.proofs.lemmas.Map.Keys.{IsDistinct-IsPermutation}
-use Rattle.x86_64_model.specs.Pool.{In, EachOnce, IsGiving}
+use Rattle.x86_64_model.specs.Lists.{In, EachOnce}
+use Rattle.x86_64_model.specs.Pool.{IsGiving}
 
 or_left : (a b : Bool) → a ≡ true → (a || b) ≡ true
 or_left true b h = refl

@@ -13,7 +13,7 @@ use Rattle.x86_64_model.specs.Pool.{IsGiving, Fits}
 use Rattle.x86_64_model.specs.Call.{IsCall, Call, MapTo, MapToWithTableFlags, IdentityMap, Unmap, UpdateFlags, SetFlags, TranslatePage, Translate, TranslateAddress, CleanUp, NotAllowed, Answered}
 use Rattle.x86_64_model.specs.Machine.{Machine, State, do_call, step, state_after, replies_of}
 use Rattle.x86_64_model.specs.Allowed.{allowed}
-use Rattle.x86_64_model.specs.Flush.{Item, OnePage, Everything, if_done, items_of}
+use Rattle.x86_64_model.specs.Flush.{OnePage, Everything, if_done, items_of}
 use Rattle.x86_64_model.specs.Laws.Steps.{StepKeepsFit, StepIsHeld, RunConserves, RunKeepsFit, RunIsHeld, FlushesSuffice, UsedPresent, CallsSpareOthers}
 use Rattle.x86_64_model.specs.Laws.CleanUps.{CleanUpConserves, CleanUpKeepsAnswers, CleanUpsOnce}
 use Rattle.x86_64_model.specs.Laws.Maps.{RefusedMaps, MapTakesFew, WalkedDown}

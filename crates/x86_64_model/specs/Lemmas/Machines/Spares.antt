@@ -1,12 +1,11 @@
 -- What calls leave of `translate` elsewhere, and what a refused map leaves.
-use Rattle.std.proofs.Common.{◌≡◌, zero, suc, ◌+◌, ◌&&◌, nat_le, ap₂, ◌≢◌, ◌⊎◌, inl, inr, ⊎_elim, ◌<◌, ◌^◌, ◌%◌, ℕ, Bool, true, false, cond, List, [], ◌∷◌, ◌++◌, length, Some, None, Option, bit_or, refl, sym, ap, ◌∙◌, subst, subst₂, arith, eqb-true}
+use Rattle.std.proofs.Common.{◌≡◌, zero, suc, ◌+◌, ◌&&◌, nat_le, ap₂, ◌≢◌, ◌⊎◌, inl, inr, ⊎_elim, ◌<◌, ◌^◌, ◌%◌, ℕ, Bool, true, false, cond, List, [], ◌∷◌, ◌++◌, length, None, Option, bit_or, refl, sym, ap, ◌∙◌, subst, arith}
 use Rattle.std.specs.List.{AllByRecursion}
-use Rattle.std.proofs.lemmas.Bool.{and_parts}
-use Rattle.std.proofs.lemmas.List.{same_from_push}
 use Rattle.x86_64_model.specs.Entry.{IsParentFlags, has, used, present, huge, address, flags}
 use Rattle.x86_64_model.specs.PathMap.{PathMap, entry, put, table_of, table_at}
 use Rattle.x86_64_model.specs.Path.{level_of, parents, IsPage, begins}
 use Rattle.x86_64_model.specs.Window.{Window, entry_at, begins_with}
+use Rattle.x86_64_model.specs.Lists.{In}
 use Rattle.x86_64_model.specs.Position.{span, index, page_path}
 use Rattle.x86_64_model.specs.PageWalk.{page_start}
 use Rattle.x86_64_model.specs.Translation.{Translated, NotMapped, Mapped, translate_on, translate}
@@ -21,13 +20,13 @@ use Rattle.x86_64_model.specs.Lemmas.Maps.Down.{Descends, others, all_both}
 use Rattle.x86_64_model.specs.Lemmas.Maps.Frames.{IsFrame, AreParents, flags_or, frame_not_huge}
 use Rattle.x86_64_model.specs.Lemmas.Maps.Rights.{map_grows, has_kept, has_gained}
 use Rattle.x86_64_model.specs.Lemmas.Maps.Accepted.{map_ind}
-use Rattle.x86_64_model.specs.Lemmas.Hierarchies.Trees.{IsTree, IsHierarchy, tree_below, no_table_unused, table_of_gives, none_or_some, some_not_none, plain_table}
+use Rattle.x86_64_model.specs.Lemmas.Hierarchies.Trees.{IsTree, IsHierarchy, no_table_unused, some_not_none}
 use Rattle.x86_64_model.specs.Lemmas.Maps.Trees.{Chain, page_chain, page_descends, parents_are, marked_hierarchy, new_hierarchy, leads_on, new_leads, leaf_no_table, leaf_low}
 use Rattle.x86_64_model.specs.Lemmas.Machines.Effects.{unmap_change, update_change}
 use Rattle.x86_64_model.specs.Lemmas.Walks.Agrees.{one_more}
 use Rattle.x86_64_model.specs.Lemmas.Walks.Fronts.{translated_outside, translated_same, put_same, SameTests, same_tests, tested_same, nothing_mapped}
 pub use Rattle.x86_64_model.specs.Laws.Steps.{UsedPresent}
-pub use Rattle.x86_64_model.specs.Laws.Maps.{LeftByRefused, InPaths}
+pub use Rattle.x86_64_model.specs.Laws.Maps.{LeftByRefused}
 
 -- outside the window `translate` reads the path map
 abbrev pub translated_by : (L : ℕ) → PathMap → ℕ → Translated
@@ -166,7 +165,7 @@ module _ (more added : ℕ) (q : List ℕ) (e frame : ℕ) where
       (λ M p ps u a why x. refl)
       (λ M f fs p ps d u m ih a why x. ih a.1 why x ∙ entry-put_other M p _ r a.0)
 
-in_or_none : (r : List ℕ) (ps : List (List ℕ)) → InPaths ps r ⊎ AllByRecursion (λ p. r ≢ p) ps
+in_or_none : (r : List ℕ) (ps : List (List ℕ)) → In ps r ⊎ AllByRecursion (λ p. r ≢ p) ps
 in_or_none r [] = inr tt
 in_or_none r (p ∷ ps) = ⊎_elim (λ e. inl (inl (sym e))) (λ n. ⊎_elim (λ h. inl (inr h)) (λ a. inr (n, a)) (in_or_none r ps)) (cases_path r p)
 

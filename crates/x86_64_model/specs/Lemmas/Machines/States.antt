@@ -8,7 +8,8 @@ use Rattle.x86_64_model.specs.Window.{Window, outside_window, IsValidFor, begins
 use Rattle.x86_64_model.specs.Hierarchy.{IsValid}
 use Rattle.x86_64_model.specs.MapRule.{map_call}
 use Rattle.x86_64_model.specs.CleanUp.{clean_up, is_removed}
-use Rattle.x86_64_model.specs.Pool.{In, IsOwn, IsGiving, Fits, given_back}
+use Rattle.x86_64_model.specs.Lists.{In}
+use Rattle.x86_64_model.specs.Pool.{IsOwn, IsGiving, Fits, given_back}
 use Rattle.x86_64_model.specs.Path.{IsPage}
 use Rattle.x86_64_model.specs.Call.{IsCall, Call}
 use Rattle.x86_64_model.specs.Machine.{State, step, state_after}

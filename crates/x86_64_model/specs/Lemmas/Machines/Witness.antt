@@ -1,5 +1,5 @@
 -- Each state that is a hierarchy with a pool that fits is held by valid words.
-use Rattle.std.proofs.Common.{◌-◌, ◌≡◌, ◌≢◌, inl, inr, ⊎_elim, ◌<◌, ◌+◌, ℕ, zero, suc, ◌==◌, Bool, true, false, cond, List, [], ◌∷◌, ◌++◌, length, get_or, find, map, Some, None, Option, IsSome, nat_lt, refl, sym, ap, ap₂, ◌∙◌, subst, arith, eq-eqb, eqb-true, lt-ltb, le-ltb}
+use Rattle.std.proofs.Common.{◌-◌, ◌≡◌, inl, inr, ⊎_elim, ◌<◌, ◌+◌, ℕ, zero, suc, ◌==◌, Bool, true, false, cond, List, [], ◌∷◌, ◌++◌, length, get_or, find, map, Some, None, Option, IsSome, nat_lt, refl, sym, ap, ap₂, ◌∙◌, subst, arith, eq-eqb, eqb-true, lt-ltb, le-ltb}
 use Rattle.std.specs.List.{range_with_len}
 use Rattle.std.proofs.lemmas.Bool.{cases_lt, cases_eq, and_parts}
 use Rattle.x86_64_model.specs.Entry.{IsParentFlags, used, present, huge, address, names_table}
@@ -11,27 +11,15 @@ use Rattle.x86_64_model.specs.Window.{Window, IsValidFor}
 use Rattle.x86_64_model.specs.Pool.{IsOwn, IsTable, IsGiving, Fits}
 use Rattle.x86_64_model.specs.Call.{IsCall, Call}
 use Rattle.x86_64_model.specs.Machine.{State, step}
+use Rattle.x86_64_model.specs.Lemmas.Lists.Members.{find_in, found_is}
 use Rattle.x86_64_model.specs.Lemmas.Entries.Bits.{used_present}
 use Rattle.x86_64_model.specs.Lemmas.Hierarchies.Held.{word-set_same, word-set_frame, word-set_index, is_some-set, set_word_other}
 use Rattle.x86_64_model.specs.Lemmas.Hierarchies.Changes.{zero_not_used}
-use Rattle.x86_64_model.specs.Lemmas.Hierarchies.Exists.{In, in_paths_below}
+use Rattle.x86_64_model.specs.Lists.{In}
+use Rattle.x86_64_model.specs.Lemmas.Hierarchies.Exists.{in_paths_below}
 use Rattle.x86_64_model.specs.Lemmas.Hierarchies.Trees.{IsHierarchy, indices_below, table_of_gives}
 use Rattle.x86_64_model.specs.Lemmas.Machines.Effects.{machine}
 use Rattle.x86_64_model.specs.Lemmas.Machines.States.{Aside, word_unset, sound_of_fits, fits_of_sound, own_there, step_sound, step_conserves}
-
-find_in : {X : Type 0} (p : X → Bool) (xs : List X) (x : X) → In xs x → p x ≡ true → find p xs ≢ None
-find_in p [] x h e = absurd h
-find_in p (y ∷ xs) x h e = elim (p y) as (λ b. p y ≡ b → cond b (Some y) (find p xs) ≢ None) [
-  | true ↦ λ _ n. let t : Some y ≡ None = n in cc
-  | false ↦ λ f. ⊎_elim (λ is. absurd (let t : true ≡ false = sym e ∙ ap p (sym is) ∙ f in cc)) (λ h. find_in p xs x h e) h
-] refl
-
-found_is : {X : Type 0} (p : X → Bool) (xs : List X) (x : X) → find p xs ≡ Some x → p x ≡ true
-found_is p [] x e = let t : None ≡ Some x = e in cc
-found_is p (y ∷ xs) x e = elim (p y) as (λ b. p y ≡ b → cond b (Some y) (find p xs) ≡ Some x → p x ≡ true) [
-  | true ↦ λ h e. let is : y ≡ x = cc in ap p (sym is) ∙ h
-  | false ↦ λ h e. found_is p xs x e
-] refl e
 
 get_range : (g : ℕ → ℕ) (n from i : ℕ) → i < n → get_or (map g (range_with_len from n)) i 0 ≡ g (from + i)
 get_range g zero from i l = absurd (omega arith)

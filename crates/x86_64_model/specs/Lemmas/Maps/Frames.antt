@@ -4,7 +4,7 @@ use Rattle.std.proofs.lemmas.Nat.{and_or_apart, and_assoc, and_comm, le_or_l}
 use Rattle.std.specs.List.{AllByRecursion}
 use Rattle.x86_64_model.specs.Entry.{has, used, huge, address}
 use Rattle.x86_64_model.specs.PathMap.{PathMap, entry, put, table_of, table_at}
-use Rattle.x86_64_model.specs.Pool.{In}
+use Rattle.x86_64_model.specs.Lists.{In}
 use Rattle.x86_64_model.specs.MapRule.{AfterMap, map_rule}
 use Rattle.x86_64_model.specs.Refusal.{Done, Refused, PageAlreadyMapped}
 use Rattle.x86_64_model.specs.Lemmas.Entries.Bits.{has_or, address_or, used_from, unused_zero}

@@ -1,5 +1,5 @@
 -- A map takes the first frames of the supply, at most one for each level above the page's.
-use Rattle.std.proofs.Common.{◌≡◌, ◌≤◌, ◌-◌, zero-le, ℕ, List, [], ◌∷◌, ◌++◌, length, refl, ap, arith}
+use Rattle.std.proofs.Common.{◌≡◌, ◌≤◌, ◌-◌, zero-le, ℕ, List, [], ◌∷◌, length, refl, ap, arith}
 use Rattle.std.proofs.Common.{map}
 use Rattle.x86_64_model.specs.Conserved.{Takes}
 use Rattle.x86_64_model.specs.PathMap.{PathMap}

@@ -1,8 +1,7 @@
 -- Positions and the raw values of canonical addresses.
-use Rattle.std.proofs.Common.{◌≡◌, ◌⊎◌, ◌↔◌, inl, inr, ⊎_elim, ◌<◌, ◌≤◌, ◌+◌, ◌-◌, ◌*◌, ◌%◌, ◌^◌, ℕ, nat_lt, cond, refl, sym, ap, ap₂, ◌∙◌, subst, subst₂, arith, lt-ltb, le-ltb}
+use Rattle.std.proofs.Common.{◌≡◌, ◌⊎◌, ◌↔◌, inl, inr, ⊎_elim, ◌<◌, ◌≤◌, ◌+◌, ◌-◌, ◌*◌, ◌%◌, ◌^◌, ℕ, nat_lt, cond, refl, sym, ap, ◌∙◌, subst, subst₂, arith, lt-ltb, le-ltb}
 use Rattle.std.proofs.lemmas.Bool.{cases_lt}
 use Rattle.std.proofs.Math.Nat.{add-mul-mod_self_right, mod-eq_of_lt}
-use Rattle.x86_64_model.specs.Position.{position_count, lower_half, raw, IsCanonical}
 use Rattle.x86_64_model.specs.Laws.Positions.{AreAddresses, PositionsAreAddresses}
 
 -- half of the positions, all of them, and how far the upper half is moved up: a multiple of all

@@ -1,10 +1,10 @@
 -- The positions whose first indices are a path's are an interval.
-use Rattle.std.proofs.Common.{zero, suc, ◌≡◌, ◌↔◌, ◌<◌, ◌≤◌, ◌+◌, ◌-◌, ◌*◌, ◌/◌, ◌%◌, ◌^◌, ℕ, ◌==◌, ◌&&◌, true, List, [], ◌∷◌, length, fold, refl, sym, ap, ◌∙◌, subst, arith, eqb-true, eq-eqb, pow_pos}
+use Rattle.std.proofs.Common.{zero, suc, ◌≡◌, ◌↔◌, ◌<◌, ◌≤◌, ◌+◌, ◌-◌, ◌*◌, ◌/◌, ◌%◌, ◌^◌, ℕ, ◌==◌, true, List, [], ◌∷◌, length, fold, refl, sym, ap, ◌∙◌, subst, arith, eqb-true, eq-eqb, pow_pos}
 use Rattle.std.proofs.lemmas.Bool.{and_parts, and_from}
 use Rattle.std.proofs.lemmas.Nat.{pow-add, div-mul-add}
 use Rattle.std.proofs.Math.Nat.{div-div-eq-div-mul, div-mul-le_self, lt-div-mul-add, div-eq_of_lt}
-use Rattle.x86_64_model.specs.Position.{index, page_path, position_count}
-use Rattle.x86_64_model.specs.Path.{AllBelow, begins, span_start, span_size}
+use Rattle.x86_64_model.specs.Position.{index, page_path}
+use Rattle.x86_64_model.specs.Path.{AllBelow, begins, span_size}
 use Rattle.x86_64_model.specs.Laws.Positions.{SpansAreIntervals}
 
 -- the number of the span of level m + 1 that a position lies in

@@ -1,10 +1,7 @@
 -- What the marks say when they succeed: the list of the tables and the pool is sound.
-use Rattle.std.proofs.Common.{◌≡◌, ◌⊎◌, ◌↔◌, inl, inr, ⊎_elim, ◌<◌, ◌≤◌, ℕ, ◌==◌, ◌&&◌, ◌||◌, nat_lt, Bool, true, false, cond, List, [], ◌++◌, length, get_or, set, replicate, Some, None, Option, IsSome, IsTrue, option_map, option_and_then, refl, sym, ap, ◌∙◌, subst, lt-ltb, le-ltb, ltb-true, eqb-true, eq-eqb}
-use Rattle.std.proofs.lemmas.Bool.{cases_lt}
+use Rattle.std.proofs.Common.{◌≡◌, ◌⊎◌, ◌↔◌, inl, inr, ⊎_elim, ◌<◌, ℕ, ◌==◌, ◌||◌, Bool, true, false, cond, List, ◌++◌, get_or, set, replicate, Some, None, Option, IsSome, IsTrue, option_map, option_and_then, refl, sym, ap, ◌∙◌, subst, eqb-true, eq-eqb}
 use Rattle.std.proofs.lemmas.List.{get_or-replicate}
-use Rattle.std.proofs.lemmas.Option.{slice_get-get_or, slice_get_past}
-use Rattle.std.specs.List.{slice_get}
-use Rattle.x86_64_model.specs.Memory.{Words, Places, Distinct, set_word}
+use Rattle.x86_64_model.specs.Memory.{Words, set_word}
 use Rattle.x86_64_model.specs.Lemmas.Hierarchies.Held.{is_some-set}
 use Rattle.x86_64_model.specs.Tables.{tables_from, without_word, SoundTables, NoneHuge}
 use Rattle.x86_64_model.specs.Marks.{slot_in, IsSpots, mark_all}

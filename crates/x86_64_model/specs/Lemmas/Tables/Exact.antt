@@ -5,11 +5,13 @@ use Rattle.x86_64_model.specs.Memory.{Words, OnlyFrames, set_word}
 use Rattle.x86_64_model.specs.PathMap.{PathMap, table_at}
 use Rattle.x86_64_model.specs.Hierarchy.{IsValid, paths_of}
 use Rattle.x86_64_model.specs.Window.{Window, outside_window, SelfEntry}
-use Rattle.x86_64_model.specs.Pool.{In, EachOnce, IsTable, Fits}
+use Rattle.x86_64_model.specs.Lists.{In, EachOnce}
+use Rattle.x86_64_model.specs.Pool.{IsTable, Fits}
 use Rattle.x86_64_model.specs.Lemmas.Hierarchies.Held.{is_some-set}
 use Rattle.x86_64_model.specs.Lemmas.Hierarchies.Exists.{holds_paths_of, entry_paths_of}
 use Rattle.x86_64_model.specs.Tables.{tables_from, SoundTables}
-use Rattle.x86_64_model.specs.Lemmas.Tables.Lists.{in_left, in_right, in_append, once_append, once_left, once_right, once_apart}
+use Rattle.x86_64_model.specs.Lemmas.Lists.Members.{in_left, in_right, in_append}
+use Rattle.x86_64_model.specs.Lemmas.Lists.Once.{once_append, once_left, once_right, once_apart}
 use Rattle.x86_64_model.specs.Lemmas.Tables.Walked.{table_at_frame, in_tables, from_tables, once_tables, own_tables}
 
 is_some-unset : (T : Words) (f i w g : ℕ) → IsSome (set_word T f i w g) → IsSome (T g)

@@ -7,12 +7,13 @@ use Rattle.x86_64_model.specs.Memory.{Words, word, word_in}
 use Rattle.x86_64_model.specs.Path.{indices}
 use Rattle.x86_64_model.specs.PathMap.{table_of, table_at}
 use Rattle.x86_64_model.specs.Hierarchy.{read_at, paths_of}
-use Rattle.x86_64_model.specs.Pool.{In, EachOnce}
+use Rattle.x86_64_model.specs.Lists.{In, EachOnce}
 use Rattle.x86_64_model.specs.Lemmas.Hierarchies.Changes.{unused_no_table, zero_not_used}
 use Rattle.x86_64_model.specs.Lemmas.Maps.Down.{nat_lt-suc}
 use Rattle.x86_64_model.specs.Lemmas.Hierarchies.Exists.{entry_paths_of}
 use Rattle.x86_64_model.specs.Tables.{tables_from}
-use Rattle.x86_64_model.specs.Lemmas.Tables.Lists.{in_flat_map, from_flat_map, once_flat_map, once_part, same_part, in_indices, once_indices}
+use Rattle.x86_64_model.specs.Lemmas.Lists.Members.{in_flat_map, from_flat_map, in_indices}
+use Rattle.x86_64_model.specs.Lemmas.Lists.Once.{once_flat_map, once_part, same_part, once_indices}
 
 -- the frame of the table that a path leads to from a frame's table, through n levels
 abbrev pub frame_at : ℕ → Words → ℕ → List ℕ → Option ℕ
@@ -93,7 +94,7 @@ from_tables zero T f g (inr h) = absurd h
 from_tables (suc n) T f g (inl e) = ([], ap Some e)
 from_tables (suc n) T f g (inr h) =
     let r = from_flat_map (part n T f) indices g h in
-    let s = from_part n T f r.0 g (λ a. from_tables n T a g) r.1.1 in
+    let s = from_part n T f r.0 g (λ a. from_tables n T a g) r.2 in
     (r.0 ∷ s.0, s.1)
 
 pub from_below : (n : ℕ) (T : Words) (f i g : ℕ) → In (part n T f i) g → (p : List ℕ) × (frame_at (suc n) T f (i ∷ p) ≡ Some g)
@@ -108,7 +109,7 @@ pub once_tables : (n : ℕ) (T : Words) (f : ℕ) → Own n T f → EachOnce (ta
 unfolding tables_from
 once_tables zero T f own = (λ h. h, tt)
 once_tables (suc n) T f own = (
-  λ h. let r = from_flat_map (part n T f) indices f h in let s = from_below n T f r.0 f r.1.1 in let t : [] ≡ r.0 ∷ s.0 = own [] (r.0 ∷ s.0) f refl s.1 in cc,
+  λ h. let r = from_flat_map (part n T f) indices f h in let s = from_below n T f r.0 f r.2 in let t : [] ≡ r.0 ∷ s.0 = own [] (r.0 ∷ s.0) f refl s.1 in cc,
   once_flat_map (part n T f) indices once_indices
       (λ i. elim (names_table (word T f i)) as (λ b. names_table (word T f i) ≡ b → EachOnce (cond b (tables_from n T (address (word T f i))) [])) [
         | true ↦ λ b. once_tables n T (address (word T f i)) (λ p q g x y. let t : i ∷ p ≡ i ∷ q = own (i ∷ p) (i ∷ q) g (on i b p ∙ x) (on i b q ∙ y) in cc)

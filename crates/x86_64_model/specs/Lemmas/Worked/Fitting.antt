@@ -9,7 +9,8 @@ use Rattle.x86_64_model.specs.Window.{Window, IsValidFor}
 use Rattle.x86_64_model.specs.Hierarchy.{IsValid}
 use Rattle.x86_64_model.specs.MapRule.{map_rule}
 use Rattle.x86_64_model.specs.Refusal.{Done}
-use Rattle.x86_64_model.specs.Pool.{Fits, In}
+use Rattle.x86_64_model.specs.Lists.{In}
+use Rattle.x86_64_model.specs.Pool.{Fits}
 use Rattle.x86_64_model.specs.Machine.{State, do_call, step}
 use Rattle.x86_64_model.specs.Lemmas.Machines.Effects.{machine}
 use Rattle.x86_64_model.specs.Call.{MapTo, Answered, NotAllowed}
