@@ -7,3 +7,4 @@ pub mod Steps
 pub mod Pairs
 pub mod Validity
 pub mod Pools
+pub mod Ranges

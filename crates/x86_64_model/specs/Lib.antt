@@ -1,5 +1,6 @@
 pub mod Lists
 pub mod Position
+pub mod Range
 pub mod Entry
 pub mod Path
 pub mod PathMap

@@ -1,4 +1,5 @@
 pub mod Addresses
 pub mod Pages
 pub mod Puts
+pub mod Ranges
 pub mod Spans

@@ -74,7 +74,7 @@ found_is p (y ∷ xs) x e = elim (p y) as (λ b. p y ≡ b → cond b (Some y) (
 
 -- ---- the indices
 
-in_range : (n from i : ℕ) → i < n → In (range_with_len from n) (from + i)
+pub in_range : (n from i : ℕ) → i < n → In (range_with_len from n) (from + i)
 in_range zero from i h = absurd (omega arith)
 in_range (suc n) from zero h = inl (omega arith)
 in_range (suc n) from (suc i) h = inr (subst (In (range_with_len (from + 1) n)) same (in_range n (from + 1) i (omega arith)))
