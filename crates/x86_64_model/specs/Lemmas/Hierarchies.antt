@@ -5,4 +5,5 @@ pub mod Exists
 pub mod Held
 pub mod Marks
 pub mod Memories
+pub mod Puts
 pub mod Trees

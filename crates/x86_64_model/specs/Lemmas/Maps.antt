@@ -2,7 +2,10 @@ pub mod Accepted
 pub mod Arrives
 pub mod Calls
 pub mod Down
+pub mod Flags
 pub mod Frames
+pub mod Leaves
+pub mod PageCalls
 pub mod Rights
 pub mod Takes
 pub mod Trees

@@ -1,4 +1,5 @@
 pub mod Agrees
 pub mod Fronts
+pub mod Walked
 pub mod Windows
 pub mod WrittenOut

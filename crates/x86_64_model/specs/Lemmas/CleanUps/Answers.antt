@@ -10,8 +10,9 @@ use Rattle.x86_64_model.specs.PageWalk.{page_start}
 use Rattle.x86_64_model.specs.Translation.{Translated, NotMapped, Mapped, translate, translate_on}
 use Rattle.x86_64_model.specs.CleanUp.{is_removed, in_range, meets, clean_up}
 use Rattle.x86_64_model.specs.Lemmas.Entries.Bits.{zero_absent, unused_absent}
-use Rattle.x86_64_model.specs.Lemmas.Walks.Agrees.{one_more}
-use Rattle.x86_64_model.specs.Lemmas.CleanUps.Removed.{removed_gives, removed_from, entry-cleaned, child_removed}
+use Rattle.x86_64_model.specs.Lemmas.Walks.Walked.{one_more}
+use Rattle.x86_64_model.specs.Lemmas.CleanUps.Removed.{removed_gives, removed_from, child_removed}
+use Rattle.x86_64_model.specs.Lemmas.CleanUps.Keys.{entry-cleaned}
 
 if_not : (b : Bool) (x y : Translated) → b ≡ false → cond b x y ≡ y
 if_not true x y h = cc

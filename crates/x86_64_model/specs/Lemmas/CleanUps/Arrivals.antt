@@ -6,7 +6,7 @@ use Rattle.x86_64_model.specs.PathMap.{PathMap, entry}
 use Rattle.x86_64_model.specs.PageWalk.{Walked, arrives, page_start}
 use Rattle.x86_64_model.specs.CleanUp.{is_removed, clean_up}
 use Rattle.x86_64_model.specs.Lemmas.Entries.Bits.{zero_absent, unused_absent}
-use Rattle.x86_64_model.specs.Lemmas.Walks.Agrees.{walked, passed, one_more}
+use Rattle.x86_64_model.specs.Lemmas.Walks.Walked.{walked, passed, one_more}
 use Rattle.x86_64_model.specs.Lemmas.Hierarchies.Trees.{IsTree}
 use Rattle.x86_64_model.specs.Lemmas.CleanUps.Removed.{removed_gives}
 use Rattle.x86_64_model.specs.Lemmas.CleanUps.Answers.{is_table, gone, stays, child_unused, leaf_stays}

@@ -11,7 +11,8 @@ use Rattle.x86_64_model.specs.Lemmas.Entries.Bits.{used_present}
 use Rattle.x86_64_model.specs.Lemmas.Hierarchies.Changes.{zero_not_used, unused_no_table}
 use Rattle.x86_64_model.specs.Lists.{In}
 use Rattle.x86_64_model.specs.Lemmas.Hierarchies.Exists.{in_paths_below}
-use Rattle.x86_64_model.specs.Lemmas.Walks.Agrees.{named, names}
+use Rattle.x86_64_model.specs.Lemmas.Walks.Agrees.{named}
+use Rattle.x86_64_model.specs.Lemmas.Walks.Walked.{names}
 use Rattle.x86_64_model.specs.Lemmas.CleanUps.Removed.{removed_gives}
 use Rattle.x86_64_model.specs.Lemmas.CleanUps.Answers.{gone, stays}
 

@@ -1,84 +1,17 @@
 -- What a clean up removes.
-use Rattle.std.proofs.Common.{◌≡◌, ◌≢◌, ⊎_elim, ℕ, zero, suc, ◌==◌, ◌||◌, Bool, true, false, not, cond, List, [], ◌∷◌, ◌++◌, filter, map, flat_map, Some, None, Option, is_some, refl, sym, ap, ap₂, ◌∙◌, subst, arith, unwrap_or, append_assoc, ne_eqb, eq-eqb, eqb-true}
+use Rattle.std.proofs.Common.{◌≡◌, ℕ, ◌||◌, Bool, true, false, not, cond, List, [], ◌∷◌, ◌++◌, map, refl, sym, ap, ap₂, ◌∙◌, subst, append_assoc, eq-eqb, eqb-true}
 use Rattle.std.proofs.lemmas.List.{map-append}
-use Rattle.std.specs.List.{list_all, list_any}
-use Rattle.std.specs.FinMap.{keys, get, contains_key-keys, get-retain_keys}
-use Rattle.std.proofs.lemmas.Bool.{and_parts, and_from, or_cases}
+use Rattle.std.specs.List.{list_all}
+use Rattle.std.proofs.lemmas.Bool.{and_parts, and_from}
 use Rattle.x86_64_model.specs.Entry.{used}
 use Rattle.x86_64_model.specs.PathMap.{PathMap, entry, HasUsedAlone, table_of}
-use Rattle.x86_64_model.specs.Path.{parents, paths_below, indices, is_below}
+use Rattle.x86_64_model.specs.Path.{parents, is_below}
 use Rattle.x86_64_model.specs.CleanUp.{is_removed, in_range, clean_up}
-use Rattle.x86_64_model.specs.Lemmas.Paths.Puts.{same_path, same_path_true, same_path_itself, path_exact}
 use Rattle.x86_64_model.specs.Lemmas.Entries.Bits.{unused_zero}
 use Rattle.x86_64_model.specs.Lemmas.Hierarchies.Held.{table_at_last}
 use Rattle.x86_64_model.specs.Lemmas.Hierarchies.Changes.{zero_not_used, unused_no_table}
 use Rattle.x86_64_model.specs.Lemmas.Hierarchies.Trees.{IsTree, tree_below}
-
--- ---- the frames that come back: the list in order falls into the parts of each index
-
-filter-append : {X : Type 0} (p : X → Bool) (xs ys : List X) → filter p (xs ++ ys) ≡ filter p xs ++ filter p ys
-filter-append p [] ys = refl
-filter-append p (x ∷ xs) ys = elim (p x) as (λ b. cond b (x ∷ filter p (xs ++ ys)) (filter p (xs ++ ys)) ≡ cond b (x ∷ filter p xs) (filter p xs) ++ filter p ys) [ true ↦ ap (λ zs. x ∷ zs) (filter-append p xs ys) | false ↦ filter-append p xs ys ]
-
-filter-flat_map : {X Y : Type 0} (p : Y → Bool) (f : X → List Y) (xs : List X) → filter p (flat_map f xs) ≡ flat_map (λ x. filter p (f x)) xs
-filter-flat_map p f [] = refl
-filter-flat_map p f (x ∷ xs) = filter-append p (f x) (flat_map f xs) ∙ ap (λ ys. filter p (f x) ++ ys) (filter-flat_map p f xs)
-
-flat_map_same : {X Y : Type 0} (f g : X → List Y) (xs : List X) → ((x : X) → f x ≡ g x) → flat_map f xs ≡ flat_map g xs
-flat_map_same f g xs h = ap (λ f. flat_map f xs) (λ i x. h x i)
-
--- first what is removed below an index, and then the path itself
-pub removed_below : (p : List ℕ → Bool) (n : ℕ) (q : List ℕ) → filter p (paths_below (suc n) q) ≡ flat_map (λ i. filter p (paths_below n (q ++ i ∷ [])) ++ cond (p (q ++ i ∷ [])) ((q ++ i ∷ []) ∷ []) []) indices
-unfolding paths_below
-removed_below p n q = filter-flat_map p (λ i. paths_below n (q ++ i ∷ []) ++ (q ++ i ∷ []) ∷ []) indices
-    ∙ flat_map_same _ _ indices (λ i. filter-append p (paths_below n (q ++ i ∷ [])) ((q ++ i ∷ []) ∷ []))
-
--- ---- tests over all keys
-
-key_of_used : (M : PathMap) (p : List ℕ) → used (entry M p) ≡ true → list_any (same_path p) (keys M) ≡ true
-unfolding entry used
-key_of_used M p u = sym (contains_key-keys M p) ∙ by (get M p) u
-  where
-    by : (o : Option ℕ) → not (unwrap_or o 0 == 0) ≡ true → is_some o ≡ true
-    by None h = cc
-    by (Some x) h = refl
-
-all_at : (P : List ℕ → Bool) (ks : List (List ℕ)) (p : List ℕ) → list_all P ks ≡ true → list_any (same_path p) ks ≡ true → P p ≡ true
-all_at P [] p h g = cc
-all_at P (k ∷ ks) p h g = let parts = and_parts _ _ h in ⊎_elim (λ e. ap P (same_path_true p k e) ∙ parts.0) (λ g. all_at P ks p parts.1 g) (or_cases _ _ g)
-
-all_from : (P : List ℕ → Bool) (ks : List (List ℕ)) → ((p : List ℕ) → list_any (same_path p) ks ≡ true → P p ≡ true) → list_all P ks ≡ true
-all_from P [] h = refl
-all_from P (k ∷ ks) h = and_from _ _ (h k (ap (λ b. b || list_any (same_path k) ks) (same_path_itself k))) (all_from P ks (λ p g. h p (right _ _ g)))
-  where
-    right : (a b : Bool) → b ≡ true → (a || b) ≡ true
-    right true b e = refl
-    right false b e = e
-
--- a test holds at all keys exactly if it does at all used paths
-pub at_used : (M : PathMap) (P : List ℕ → Bool) → list_all P (keys M) ≡ true → (p : List ℕ) → used (entry M p) ≡ true → P p ≡ true
-at_used M P h p u = all_at P (keys M) p h (key_of_used M p u)
-
-used_of_key : (M : PathMap) → HasUsedAlone M → (p : List ℕ) → list_any (same_path p) (keys M) ≡ true → used (entry M p) ≡ true
-unfolding entry used
-used_of_key M alone p h = by (get M p) (alone p) (contains_key-keys M p ∙ h)
-  where
-    by : (o : Option ℕ) → o ≢ Some 0 → is_some o ≡ true → not (unwrap_or o 0 == 0) ≡ true
-    by None n h = cc
-    by (Some zero) n h = absurd (n refl)
-    by (Some (suc x)) n h = ap not (ne_eqb (suc x) 0 (λ e. absurd (omega arith)))
-
-pub from_used : (M : PathMap) → HasUsedAlone M → (P : List ℕ → Bool) → ((p : List ℕ) → used (entry M p) ≡ true → P p ≡ true) → list_all P (keys M) ≡ true
-from_used M alone P h = all_from P (keys M) (λ p g. h p (used_of_key M alone p g))
-
--- what a clean up leaves
-pub entry-cleaned : (L : ℕ) (M : PathMap) (low high : ℕ) (q : List ℕ) → entry (clean_up L M low high).paths q ≡ cond (is_removed L M low high q) 0 (entry M q)
-unfolding entry clean_up
-entry-cleaned L M low high q = ap (λ o. unwrap_or o 0) (get-retain_keys M (λ q. not (is_removed L M low high q)) q (λ x e. ap (λ x. not (is_removed L M low high x)) (sym (path_exact q x e)))) ∙ by (is_removed L M low high q) (get M q)
-  where
-    by : (b : Bool) (o : Option ℕ) → unwrap_or (cond (not b) o None) 0 ≡ cond b 0 (unwrap_or o 0)
-    by true o = refl
-    by false o = refl
+use Rattle.x86_64_model.specs.Lemmas.CleanUps.Keys.{at_used, from_used, entry-cleaned}
 
 -- ---- paths below others
 
@@ -94,7 +27,7 @@ goes_on_from_below (i ∷ q) (j ∷ p) h =
     let parts = and_parts _ _ h in let more = goes_on_from_below q p parts.1 in
     (more.0, more.1, ap₂ (λ k r. k ∷ r) (sym (eqb-true i j parts.0)) more.2)
 
-list_all-append : {X : Type 0} (P : X → Bool) (xs ys : List X) → list_all P xs ≡ true → list_all P ys ≡ true → list_all P (xs ++ ys) ≡ true
+pub list_all-append : {X : Type 0} (P : X → Bool) (xs ys : List X) → list_all P xs ≡ true → list_all P ys ≡ true → list_all P (xs ++ ys) ≡ true
 list_all-append P [] ys h g = g
 list_all-append P (x ∷ xs) ys h g = let parts = and_parts _ _ h in and_from _ _ parts.0 (list_all-append P xs ys parts.1 g)
 
@@ -107,11 +40,11 @@ pub record Removed (L : ℕ) (M : PathMap) (low high : ℕ) (q : List ℕ) : Typ
   pub above : list_all (in_range L M low high) (parents q) ≡ true
   pub below : (p : List ℕ) → is_below q p ≡ true → used (entry M p) ≡ true → in_range L M low high p ≡ true
 
-or_right : (a b : Bool) → (not a || b) ≡ true → a ≡ true → b ≡ true
+pub or_right : (a b : Bool) → (not a || b) ≡ true → a ≡ true → b ≡ true
 or_right true b h e = h
 or_right false b h e = cc
 
-or_from_right : (a b : Bool) → (a ≡ true → b ≡ true) → (not a || b) ≡ true
+pub or_from_right : (a b : Bool) → (a ≡ true → b ≡ true) → (not a || b) ≡ true
 or_from_right true b h = h refl
 or_from_right false b h = refl
 
@@ -148,7 +81,7 @@ module _ (L root : ℕ) (M : PathMap) (tree : IsTree L root M) (low high : ℕ) 
   ] refl
 
   -- a used path below has used paths above it
-  used_above : (j : ℕ) (s : List ℕ) → used (entry M (i ∷ c ++ j ∷ s)) ≡ true → used (entry M (i ∷ c ++ j ∷ [])) ≡ true
+  pub used_above : (j : ℕ) (s : List ℕ) → used (entry M (i ∷ c ++ j ∷ s)) ≡ true → used (entry M (i ∷ c ++ j ∷ [])) ≡ true
   used_above j [] u = u
   used_above j (k ∷ s) u = elim (used (entry M (i ∷ c ++ j ∷ []))) as (λ b. used (entry M (i ∷ c ++ j ∷ [])) ≡ b → b ≡ true) [
     | true ↦ λ _. refl
@@ -156,7 +89,7 @@ module _ (L root : ℕ) (M : PathMap) (tree : IsTree L root M) (low high : ℕ) 
         let t : false ≡ true = sym (ap used (ap (entry M) (sym (append_assoc (i ∷ c) (j ∷ []) (k ∷ s))) ∙ z) ∙ zero_not_used) ∙ u in cc
   ] refl
 
-  went : (j : ℕ) → entry (clean_up L M low high).paths (i ∷ c ++ j ∷ []) ≡ 0 → used (entry M (i ∷ c ++ j ∷ [])) ≡ true → Removed L M low high (i ∷ c ++ j ∷ [])
+  pub went : (j : ℕ) → entry (clean_up L M low high).paths (i ∷ c ++ j ∷ []) ≡ 0 → used (entry M (i ∷ c ++ j ∷ [])) ≡ true → Removed L M low high (i ∷ c ++ j ∷ [])
   went j z u = removed_gives L M low high _ (elim (is_removed L M low high (i ∷ c ++ j ∷ [])) as (λ b. cond b 0 (entry M (i ∷ c ++ j ∷ [])) ≡ 0 → b ≡ true) [
     | true ↦ λ _. refl
     | false ↦ λ e. let t : false ≡ true = sym (ap used e ∙ zero_not_used) ∙ u in cc

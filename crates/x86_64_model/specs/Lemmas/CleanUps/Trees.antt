@@ -9,7 +9,8 @@ use Rattle.x86_64_model.specs.Lists.{In, EachOnce}
 use Rattle.x86_64_model.specs.Pool.{IsGiving, given_back}
 use Rattle.x86_64_model.specs.Lemmas.Paths.Puts.{path_exact}
 use Rattle.x86_64_model.specs.Lemmas.Hierarchies.Changes.{unused_no_table, zero_not_huge, append_longer}
-use Rattle.x86_64_model.specs.Lemmas.CleanUps.Removed.{removed_gives, empty_if_removed, entry-cleaned}
+use Rattle.x86_64_model.specs.Lemmas.CleanUps.Removed.{removed_gives, empty_if_removed}
+use Rattle.x86_64_model.specs.Lemmas.CleanUps.Keys.{entry-cleaned}
 use Rattle.x86_64_model.specs.Lemmas.CleanUps.Answers.{gone, stays}
 use Rattle.x86_64_model.specs.Lemmas.CleanUps.Frames.{leads, clean_same_set, in_range_parts, absent_used}
 use Rattle.x86_64_model.specs.Lemmas.Lists.Members.{in_left, in_right, in_append, from_flat_map, from_map, passes}

@@ -9,7 +9,8 @@ use Rattle.x86_64_model.specs.CleanUp.{in_range, meets, is_removed, clean_up}
 use Rattle.x86_64_model.specs.Lemmas.Entries.Bits.{used_present}
 use Rattle.x86_64_model.specs.Lemmas.Paths.Puts.{same_paths}
 use Rattle.x86_64_model.specs.Lemmas.Hierarchies.Changes.{zero_not_used}
-use Rattle.x86_64_model.specs.Lemmas.CleanUps.Removed.{Removed, removed_gives, removed_from, entry-cleaned}
+use Rattle.x86_64_model.specs.Lemmas.CleanUps.Removed.{Removed, removed_gives, removed_from}
+use Rattle.x86_64_model.specs.Lemmas.CleanUps.Keys.{entry-cleaned}
 use Rattle.x86_64_model.specs.Lemmas.CleanUps.Answers.{gone, stays}
 use Rattle.x86_64_model.specs.Lemmas.CleanUps.Frames.{in_range_parts}
 use Rattle.x86_64_model.specs.Lemmas.CleanUps.Trees.{clean_tree}

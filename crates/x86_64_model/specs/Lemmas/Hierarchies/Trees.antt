@@ -1,15 +1,14 @@
 -- What a path map is like that words hold, said of the map alone.
-use Rattle.std.proofs.Common.{◌≡◌, ◌≢◌, ◌<◌, ◌≤◌, ℕ, ◌&&◌, Bool, true, false, not, cond, List, [], ◌∷◌, ◌++◌, length, map, Some, None, Option, nat_lt, refl, sym, ap, ◌∙◌, subst, subst₂, arith, le-ltb, ltb-true, append_assoc, ⊎_elim}
-use Rattle.std.proofs.lemmas.List.{same_from_push}
+use Rattle.std.proofs.Common.{◌≡◌, ◌≢◌, ◌<◌, ◌≤◌, ℕ, ◌&&◌, Bool, true, false, not, cond, List, [], ◌∷◌, ◌++◌, length, map, Some, None, Option, nat_lt, refl, sym, ap, ◌∙◌, subst₂, le-ltb, ltb-true, append_assoc, ⊎_elim}
 use Rattle.std.proofs.lemmas.Bool.{cases_lt}
 use Rattle.x86_64_model.specs.Entry.{used, huge, address, names_table}
 use Rattle.x86_64_model.specs.Memory.{Words, word, word_in}
-use Rattle.x86_64_model.specs.PathMap.{PathMap, entry, put, HasUsedAlone, table_of, table_at}
+use Rattle.x86_64_model.specs.PathMap.{PathMap, entry, HasUsedAlone, table_of, table_at}
 use Rattle.x86_64_model.specs.Path.{level_of, parents, AllBelow}
 use Rattle.x86_64_model.specs.Hierarchy.{entry_in, Holds, IsValid}
 use Rattle.x86_64_model.specs.Lemmas.Entries.Bits.{unused_zero}
-use Rattle.x86_64_model.specs.Lemmas.Paths.Puts.{cases_path, entry-put_same, entry-put_other, used_alone-put, by_last}
-use Rattle.x86_64_model.specs.Lemmas.Hierarchies.Held.{table_at_same, table_at_last, longer}
+use Rattle.x86_64_model.specs.Lemmas.Paths.Puts.{by_last}
+use Rattle.x86_64_model.specs.Lemmas.Hierarchies.Held.{table_at_last}
 use Rattle.x86_64_model.specs.Lemmas.Hierarchies.Changes.{unused_no_table, zero_not_used, unnamed, append_longer, map_again, each_parent}
 use Rattle.x86_64_model.specs.Lemmas.Maps.Down.{Descends}
 
@@ -99,7 +98,7 @@ module _ (L root : ℕ) (M : PathMap) (tree : IsTree L root M) where
       clash : entry M (q ++ i ∷ []) ≡ 0 → ⊥
       clash z = let t : false ≡ true = sym (ap used z ∙ zero_not_used) ∙ u in cc
 
-  used_before : (q : List ℕ) (i : ℕ) → used (entry M (q ++ i ∷ [])) ≡ true → (j : ℕ) (p : List ℕ) → q ≡ j ∷ p → used (entry M q) ≡ true
+  pub used_before : (q : List ℕ) (i : ℕ) → used (entry M (q ++ i ∷ [])) ≡ true → (j : ℕ) (p : List ℕ) → q ≡ j ∷ p → used (entry M q) ≡ true
   used_before q i u j p e = elim (used (entry M q)) as (λ b. used (entry M q) ≡ b → b ≡ true) [
     | true ↦ λ _. refl
     | false ↦ λ n. absurd ((used_last q i u).1 (ap (table_at L root M) e ∙ no_table_unused L root M j p (ap (λ q. used (entry M q)) (sym e) ∙ n)))
@@ -126,44 +125,3 @@ module _ (L root : ℕ) (M : PathMap) (tree : IsTree L root M) where
     append_longer (pre ++ i ∷ []) j q,
     tree_descends (pre ++ i ∷ []) (j ∷ q),
   )
-
--- ---- a path whose table is there
-
-abbrev pub Reached : ℕ → ℕ → PathMap → List ℕ → Type 0
-Reached L root M q = (p : List ℕ) (i : ℕ) → q ≡ p ++ i ∷ [] → (i < 512) × (table_at L root M p ≢ None)
-
-pub reached_used : (L root : ℕ) (M : PathMap) → IsTree L root M → (q : List ℕ) → used (entry M q) ≡ true → Reached L root M q
-reached_used L root M tree q u p i e = used_last L root M tree p i (subst (λ q. used (entry M q) ≡ true) e u)
-
-pub reached_next : (L root : ℕ) (M : PathMap) (p : List ℕ) (i : ℕ) → table_at L root M p ≢ None → i < 512 → Reached L root M (p ++ i ∷ [])
-reached_next L root M p i leads small r j e = let ends : (p ≡ r) × (i ≡ j) = same_from_push p r i j e in
-    (subst (λ j. j < 512) ends.1 small, subst (λ r. table_at L root M r ≢ None) ends.0 leads)
-
-module _ (L root : ℕ) (M : PathMap) (q : List ℕ) (w : ℕ) (nonempty : q ≢ []) where
-  at_put : table_at L root (put M q w) q ≡ table_of L q w
-  at_put = table_at_is L root _ q nonempty ∙ ap (table_of L q) (entry-put_same M q w)
-
-  else_put : (r : List ℕ) → r ≢ q → table_at L root (put M q w) r ≡ table_at L root M r
-  else_put r n = table_at_same L root _ M r (entry-put_other M q w r n)
-
-  pub tree_put : IsTree L root M → Reached L root M q → (table_of L q w ≡ None → table_at L root M q ≡ None) → IsTree L root (put M q w)
-  tree_put tree reached keeps = record {
-    nothing_above = entry-put_other M q w [] (λ e. nonempty (sym e)) ∙ tree.nothing_above;
-    used_alone = used_alone-put M q w tree.used_alone;
-    below = λ r i h. ⊎_elim
-        (λ e. absurd ((reached r i (sym e)).1 (sym (else_put r (λ is. longer q i (sym (ap (λ r. r ++ i ∷ []) (sym is) ∙ e)))) ∙ h)))
-        (λ n. entry-put_other M q w (r ++ i ∷ []) n ∙ tree.below r i (⊎_elim
-        (λ is. ap (table_at L root M) is ∙ keeps (sym at_put ∙ ap (table_at L root (put M q w)) (sym is) ∙ h))
-        (λ n. sym (else_put r n) ∙ h) (cases_path r q))) (cases_path (r ++ i ∷ []) q);
-    small = λ r i l. ⊎_elim
-        (λ e. absurd (let h = (reached r i (sym e)).0 in omega arith))
-        (λ n. entry-put_other M q w (r ++ i ∷ []) n ∙ tree.small r i l) (cases_path (r ++ i ∷ []) q);
-  }
-
-  pub hierarchy_put : IsHierarchy L root M → Reached L root M q → (table_of L q w ≡ None → table_at L root M q ≡ None) → table_of L q w ≢ Some 0 → (3 < level_of L q → huge w ≡ false)
-      → IsHierarchy L root (put M q w)
-  hierarchy_put h reached keeps nonzero low = record {
-    tree = tree_put h.tree reached keeps;
-    not_zero = λ i p t. ⊎_elim (λ e. nonzero (sym at_put ∙ ap (table_at L root (put M q w)) (sym e) ∙ t)) (λ n. h.not_zero i p (sym (else_put (i ∷ p) n) ∙ t)) (cases_path (i ∷ p) q);
-    none_huge = λ r up. ⊎_elim (λ e. ap (λ r. huge (entry (put M q w) r)) e ∙ ap huge (entry-put_same M q w) ∙ low (subst (λ q. 3 < level_of L q) e up)) (λ n. ap huge (entry-put_other M q w r n) ∙ h.none_huge r up) (cases_path r q);
-  }

@@ -1,209 +1,29 @@
--- What one call writes: nothing, one entry, a map, or a clean up.
-use Rattle.std.proofs.Common.{◌≡◌, ◌≢◌, ⊎_elim, ◌<◌, ◌≤◌, ◌*◌, ◌^◌, ℕ, zero, suc, ◌==◌, ◌&&◌, ◌||◌, Bool, true, false, not, cond, List, [], ◌∷◌, length, take, Some, None, Option, nat_lt, nat_le, bit_and, bit_or, refl, sym, ap, ap₂, ◌∙◌, subst, arith, eqb-true, ◌+◌, ◌-◌, le-ltb, ltb-true}
-use Rattle.std.proofs.lemmas.Nat.{and_assoc, and_comm, or_comm}
+-- What one step writes: nothing, one entry, a map, or a clean up.
+use Rattle.std.proofs.Common.{◌≡◌, ⊎_elim, ◌≤◌, ◌*◌, ◌^◌, ℕ, zero, suc, true, false, cond, List, [], ◌∷◌, length, take, Option, bit_and, refl, sym, ap, ◌∙◌, subst, arith, eqb-true, ◌+◌, ◌-◌}
 use Rattle.std.proofs.lemmas.Nat.Bits.{bit_at-lt, and_pow}
-use Rattle.std.proofs.lemmas.Bool.{and_parts, or_cases, leb-false}
+use Rattle.std.proofs.lemmas.Bool.{and_parts}
 use Rattle.std.specs.Int.{bit_at}
-use Rattle.x86_64_model.specs.Entry.{IsParentFlags, used, present, huge, address, names_table, no_address}
-use Rattle.x86_64_model.specs.PathMap.{PathMap, entry, put, table_of}
-use Rattle.x86_64_model.specs.Window.{Window, entry_at, begins_with}
+use Rattle.x86_64_model.specs.Entry.{IsParentFlags, huge, address}
+use Rattle.x86_64_model.specs.PathMap.{PathMap, put}
+use Rattle.x86_64_model.specs.Window.{Window, begins_with}
 use Rattle.x86_64_model.specs.Position.{page_path}
-use Rattle.x86_64_model.specs.Refusal.{Refusal, PageNotMapped, ParentEntryHugePage, Done, Refused, refused_if, first_stop}
-use Rattle.x86_64_model.specs.PageRules.{AfterChange, refused_or, unmap, update_flags, set_flags}
-use Rattle.x86_64_model.specs.MapRule.{map_call, leaf_entry, parent_part}
+use Rattle.x86_64_model.specs.MapRule.{map_call, parent_part}
 use Rattle.x86_64_model.specs.CleanUp.{clean_up}
-use Rattle.x86_64_model.specs.Path.{AllBelow, level_of, front_at, IsPage, path_at, begins}
+use Rattle.x86_64_model.specs.Path.{AllBelow, front_at, IsPage, path_at, begins}
 use Rattle.x86_64_model.specs.Call.{IsCall, Call, MapTo, MapToWithTableFlags, IdentityMap, Unmap, UpdateFlags, SetFlags, TranslatePage, Translate, TranslateAddress, CleanUp, NotAllowed}
 use Rattle.x86_64_model.specs.Machine.{Machine, State, after_map, after_change, do_call, step}
-use Rattle.x86_64_model.specs.Allowed.{parents_present, map_allowed, refuses, both_or_none, set_flags_allowed, allowed}
+use Rattle.x86_64_model.specs.Allowed.{parents_present, map_allowed, allowed}
 use Rattle.x86_64_model.specs.Pool.{given_back}
 use Rattle.x86_64_model.specs.Flush.{Item, OnePage, Everything, covers, if_done, items_of}
-use Rattle.x86_64_model.specs.Lemmas.Entries.Bits.{has_or, address_or, address_address, used_present}
-use Rattle.x86_64_model.specs.Lemmas.Hierarchies.Changes.{unused_no_table, unnamed}
-use Rattle.x86_64_model.specs.Lemmas.Maps.Frames.{used_or}
-use Rattle.x86_64_model.specs.Lemmas.Maps.Rights.{has_bit, zero_or_one}
-use Rattle.x86_64_model.specs.Lemmas.Walks.Agrees.{index_small, named}
+use Rattle.x86_64_model.specs.Lemmas.Maps.Flags.{has_bit, zero_or_one}
+use Rattle.x86_64_model.specs.Lemmas.Walks.Walked.{index_small}
 use Rattle.x86_64_model.specs.Lemmas.Hierarchies.Trees.{IsHierarchy}
-use Rattle.x86_64_model.specs.Lemmas.Maps.Arrives.{entry_outside}
 use Rattle.x86_64_model.specs.Lemmas.Paths.Pages.{length_taken}
-use Rattle.x86_64_model.specs.Lemmas.Maps.Trees.{leaf_no_table}
-
-pub page_outside : (L : ℕ) (window : Option Window) (M : PathMap) (q : List ℕ) → IsPage L q → begins_with window q ≡ false → entry_at window M q ≡ entry M q
-page_outside L window M [] page out = absurd (let l = page.nonempty in omega arith)
-page_outside L window M (i ∷ q) page out = entry_outside window M i q out
-
--- one used entry, outside the window, becomes a word that names the same table, or none as before
-pub record IsChange (L : ℕ) (window : Option Window) (M : PathMap) (q : List ℕ) (w : ℕ) : Type 0 where
-  pub is_used : used (entry M q) ≡ true
-  pub outside : begins_with window q ≡ false
-  pub same_table : table_of L q w ≡ table_of L q (entry M q)
-  pub low : 3 < level_of L q → huge w ≡ false
-
-refused_by : (P : AfterChange → Type 0) (M : PathMap) (o : Option Refusal) (next : AfterChange) → ((why : Refusal) → P (record { paths = M; answer = Refused why })) → (o ≡ None → P next) → P (refused_or M o next)
-refused_by P M None next fails works = works refl
-refused_by P M (Some why) next fails works = fails why
-
-not_refused : (b : Bool) (why : Refusal) (next : Option Refusal) → refused_if b why next ≡ None → (b ≡ false) × (next ≡ None)
-not_refused true why next h = let t : Some why ≡ None = h in cc
-not_refused false why next h = (refl, h)
-
-pub flip : (b : Bool) → not b ≡ false → b ≡ true
-flip true h = refl
-flip false h = cc
-
-pub flip_not : (b : Bool) → not b ≡ true → b ≡ false
-flip_not true h = cc
-flip_not false h = refl
-
-huge_names_none : (e : ℕ) → huge e ≡ true → names_table e ≡ false
-huge_names_none e h = by (used e) h
-  where
-    by : (u : Bool) {g : Bool} → g ≡ true → (u && not g) ≡ false
-    by true h = ap not h
-    by false h = refl
-
-pub leaf_none : (L : ℕ) (q : List ℕ) (e : ℕ) → ((length q == L) ≡ false → huge e ≡ true) → table_of L q e ≡ None
-unfolding table_of
-leaf_none L q e h = elim (length q == L) as (λ b. (length q == L) ≡ b → table_of L q e ≡ None) [
-  | true ↦ λ l. by (names_table e) (ap (λ n. nat_lt n L) (eqb-true (length q) L l) ∙ le-ltb L L (omega arith))
-  | false ↦ λ l. unnamed L q e (huge_names_none e (h l))
-] refl
-  where
-    by : (a : Bool) {b : Bool} → b ≡ false → cond (a && b) (Some (address e)) None ≡ None
-    by true h = ap (λ b. cond b (Some (address e)) None) h
-    by false h = refl
-
-module _ (L : ℕ) (window : Option Window) (M : PathMap) (q : List ℕ) (page : IsPage L q) (out : begins_with window q ≡ false) where
-  at_page : entry_at window M q ≡ entry M q
-  at_page = page_outside L window M q page out
-
-  low_page : (w : ℕ) → 3 < level_of L q → huge w ≡ false
-  low_page w up = absurd (let a = page.at_least in omega arith)
-
-  -- `unmap` refuses and changes nothing, or one leaf becomes unused
-  pub unmap_change : (P : AfterChange → Type 0) → ((why : Refusal) → P (record { paths = M; answer = Refused why }))
-      → (IsChange L window M q 0 → P (record { paths = put M q 0; answer = Done (address (entry M q)) })) → P (unmap L (entry_at window M) M q)
-  unfolding unmap
-  unmap_change P fails works = refused_by P M (first_stop (entry_at window M) q) _ fails (λ s.
-      refused_by P M _ _ fails (λ t. let p = not_refused (not (present (entry_at window M q))) _ _ t in
-      subst (λ e. P (record { paths = put M q 0; answer = Done (address e) })) (sym at_page) (works (record {
-        is_used = ap used (sym at_page) ∙ used_present _ (flip _ p.0);
-        outside = out;
-        same_table = unused_no_table L q ∙ sym (leaf_none L q (entry M q) (λ l. ap huge (sym at_page) ∙ big (entry_at window M q) (length q == L) _ l p.1));
-        low = low_page 0;
-      }))))
-    where
-      big : (e : ℕ) (b : Bool) (o : Option Refusal) → b ≡ false → cond b (refused_if (huge e) ParentEntryHugePage None) (refused_if (not (huge e)) ParentEntryHugePage o) ≡ None → huge e ≡ true
-      big e true o l h = cc
-      big e false o l h = flip _ (not_refused (not (huge e)) _ o h).0
-
-  -- `update_flags` refuses and changes nothing, or one leaf gets other flags
-  pub update_change : (given : ℕ) (P : AfterChange → Type 0) → ((why : Refusal) → P (record { paths = M; answer = Refused why }))
-      → (IsChange L window M q (leaf_entry L q (address (entry M q)) given) → P (record { paths = put M q (leaf_entry L q (address (entry M q)) given); answer = Done (address (entry M q)) })) → P (update_flags L (entry_at window M) M q given)
-  unfolding update_flags
-  update_change given P fails works = refused_by P M (first_stop (entry_at window M) q) _ fails (λ s.
-      refused_by P M _ _ fails (λ t. let p = not_refused (not (used (entry_at window M q))) _ _ t in
-      subst (λ e. P (record { paths = put M q (leaf_entry L q (address e) given); answer = Done (address e) })) (sym at_page) (works (record {
-        is_used = ap used (sym at_page) ∙ flip _ p.0;
-        outside = out;
-        same_table = leaf_no_table L q (address (entry M q)) given page ∙ sym (leaf_none L q (entry M q) (λ l. ap huge (sym at_page) ∙ big (entry_at window M q) (length q == L) l p.1));
-        low = low_page _;
-      }))))
-    where
-      big : (e : ℕ) (b : Bool) → b ≡ false → cond b None (refused_if (not (huge e)) PageNotMapped None) ≡ None → huge e ≡ true
-      big e true l h = cc
-      big e false l h = flip _ (not_refused (not (huge e)) _ None h).0
-
--- ---- flags of table entries
-
-address_no_huge : (e : ℕ) → bit_and (address e) 0x80 ≡ 0
-unfolding address
-address_no_huge e = and_assoc 0x80 e 0x000f_ffff_ffff_f000 ∙ and_comm e 0
-
-pub set_huge : (e given : ℕ) → huge (bit_or (address e) given) ≡ huge given
-set_huge e given = ap huge (or_comm (address e) given) ∙ has_or given (address e) 0x80 (address_no_huge e)
-
-pub set_address : (e given : ℕ) → address given ≡ 0 → address (bit_or (address e) given) ≡ address e
-set_address e given h = address_or (address e) given h ∙ address_address e
-
--- the same table, with flags that are huge as before
-pub set_same_table : (L : ℕ) (q : List ℕ) (e given : ℕ) → used e ≡ true → address given ≡ 0 → huge given ≡ huge e → (names_table e ≡ true → address e ≢ 0) → table_of L q (bit_or (address e) given) ≡ table_of L q e
-unfolding table_of
-set_same_table L q e given u a g nonzero = elim (huge e) as (λ b. huge e ≡ b → table_of L q (bit_or (address e) given) ≡ table_of L q e) [
-  | true ↦ λ h. unnamed L q _ (huge_names_none _ (set_huge e given ∙ g ∙ h)) ∙ sym (unnamed L q e (huge_names_none e h))
-  | false ↦ λ h. λ i. cond ((used_or (address e) given (nonzero (ap₂ (λ u h. u && not h) u h)) ∙ sym u) i && not ((set_huge e given ∙ g) i) && nat_lt (length q) L) (Some (set_address e given a i)) None
-] refl
-
-short_take : (n : ℕ) (q : List ℕ) → 1 ≤ n → n < length q → length (take n q) ≡ n
-short_take zero q l h = refl
-short_take (suc n) [] l h = absurd (omega arith)
-short_take (suc zero) (i ∷ q) l h = refl
-short_take (suc (suc n)) (i ∷ q) l h = ap suc (short_take (suc n) q (omega arith) (omega arith))
-
-begins_take : (window : Option Window) (n : ℕ) (q : List ℕ) → 1 ≤ n → begins_with window q ≡ false → begins_with window (take n q) ≡ false
-begins_take None n q l h = refl
-begins_take (Some w) zero q l h = absurd (omega arith)
-begins_take (Some w) (suc n) [] l h = refl
-begins_take (Some w) (suc n) (i ∷ q) l h = h
-
-module _ (L : ℕ) (window : Option Window) (root : ℕ) (M : PathMap) (h : IsHierarchy L root M) (level : ℕ) (page : List ℕ) (given : ℕ) (low : 2 ≤ level) (top : level ≤ L) (is : IsPage L page) (out : begins_with window page ≡ false) where
-  -- the path of the entry
-  abbrev at_level : List ℕ
-  at_level = front_at L level page
-
-  -- an entry of the map at a path that isn't empty
-  at_front : (q : List ℕ) → begins_with window q ≡ false → 0 < length q → entry_at window M q ≡ entry M q
-  at_front [] o l = absurd (omega arith)
-  at_front (i ∷ q) o l = entry_outside window M i q o
-
-  table_nonzero : (q : List ℕ) → 0 < length q → length q < L → names_table (entry M q) ≡ true → address (entry M q) ≢ 0
-  table_nonzero [] a b t z = absurd (omega arith)
-  table_nonzero (i ∷ q) a b t z = h.not_zero i q (named L (i ∷ q) (entry M (i ∷ q)) t b ∙ ap Some z)
-
-  pub set_flags_change : no_address given ≡ true → set_flags_allowed L (entry_at window M) M level page given ≡ true → (P : AfterChange → Type 0) → ((why : Refusal) → P (record { paths = M; answer = Refused why }))
-      → (IsChange L window M (front_at L level page) (bit_or (address (entry M (front_at L level page))) given) → P (record { paths = put M (front_at L level page) (bit_or (address (entry M (front_at L level page))) given); answer = Done (address (entry M (front_at L level page))) }))
-      → P (set_flags L (entry_at window M) M level page given)
-  unfolding set_flags
-  set_flags_change plain may P fails works = elim (nat_le level (level_of L page)) as (λ b. nat_le level (level_of L page) ≡ b → P (cond b (record { paths = M; answer = Refused ParentEntryHugePage }) (refused_or M (first_stop (entry_at window M) at_level)
-      (refused_or M (refused_if (not (used (entry_at window M at_level))) PageNotMapped None) (record { paths = put M at_level (bit_or (address (entry_at window M at_level)) given); answer = Done (address (entry_at window M at_level)) }))))) [
-        | true ↦ λ _. fails _
-        | false ↦ λ l. refused_by P M (first_stop (entry_at window M) at_level) _ fails (λ s.
-            refused_by P M _ _ fails (λ t.
-            let most = is.at_most in
-            let above : level_of L page < level = leb-false level (level_of L page) l in
-            let size : length at_level ≡ L + 1 - level = short_take (L + 1 - level) page (omega arith) (omega arith) in
-            let o = begins_take window (L + 1 - level) page (omega arith) out in
-            let at : entry_at window M at_level ≡ entry M at_level = at_front at_level o (omega arith) in
-            let u : used (entry M at_level) ≡ true = ap used (sym at) ∙ flip _ (not_refused (not (used (entry_at window M at_level))) _ _ t).0 in
-            let a = eqb-true (address given) 0 plain in
-            let same : huge given ≡ huge (entry M at_level) = huge_as l size s t at in
-            subst (λ e. P (record { paths = put M at_level (bit_or (address e) given); answer = Done (address e) })) (sym at) (works (record {
-              is_used = u;
-              outside = o;
-              same_table = set_same_table L at_level (entry M at_level) given u a same (table_nonzero at_level (omega arith) (omega arith));
-              low = λ up. set_huge _ given ∙ same ∙ h.none_huge at_level up;
-            }))))
-      ] refl
-    where
-      equal : (a b : Bool) → both_or_none a b ≡ true → a ≡ b
-      equal true b h = sym h
-      equal false b h = sym (flip_not b h)
-
-      huge_as : nat_le level (level_of L page) ≡ false → length at_level ≡ L + 1 - level → first_stop (entry_at window M) at_level ≡ None → refused_if (not (used (entry_at window M at_level))) PageNotMapped None ≡ None
-          → entry_at window M at_level ≡ entry M at_level → huge given ≡ huge (entry M at_level)
-      huge_as l size s t at = elim (nat_lt 3 level) as (λ b. nat_lt 3 level ≡ b → cond b (not (huge given)) (refuses (set_flags L (entry_at window M) M level page given).answer || both_or_none (huge given) (huge (entry_at window M at_level))) ≡ true → huge given ≡ huge (entry M at_level)) [
-        | true ↦ λ b m. flip_not _ m ∙ sym (h.none_huge at_level (let up = ltb-true 3 level b in omega arith))
-        | false ↦ λ b m. ⊎_elim
-            (λ r. let not_so : refuses (set_flags L (entry_at window M) M level page given).answer ≡ false = λ i. refuses (cond (l i) (record { paths = M; answer = Refused ParentEntryHugePage }) (refused_or M (s i) (refused_or M (t i)
-            (record { paths = put M at_level (bit_or (address (entry_at window M at_level)) given); answer = Done (address (entry_at window M at_level)) })))).answer in
-            let z : true ≡ false = sym r ∙ not_so in cc)
-            (λ e. equal _ _ e ∙ ap huge at)
-            (or_cases _ _ m)
-      ] refl may
+use Rattle.x86_64_model.specs.Lemmas.Machines.Changes.{IsChange, flip_not, unmap_change, update_change, set_flags_change}
 
 -- ---- the cases of a step
 
-no_bit : (m : ℕ) → huge m ≡ false → bit_and m 0x80 ≡ 0
+pub no_bit : (m : ℕ) → huge m ≡ false → bit_and m 0x80 ≡ 0
 no_bit m h = ⊎_elim (λ z. and_pow m 7 ∙ ap (λ x. x * 2 ^ 7) z) (λ o. absurd (let t : true ≡ false = sym (has_bit m 7 o) ∙ h in cc)) (zero_or_one (bit_at m 7) (bit_at-lt m 7))
 
 pub record MapMay (window : Option Window) (M : PathMap) (q : List ℕ) (given more : ℕ) : Type 0 where
@@ -221,7 +41,7 @@ map_may L window M q given more h =
       outside = flip_not _ p5.1;
     }
 
-below_taken : (p k n : ℕ) → AllBelow (take k (page_path n p))
+pub below_taken : (p k n : ℕ) → AllBelow (take k (page_path n p))
 unfolding page_path
 below_taken p zero n = tt
 below_taken p (suc k) zero = tt
@@ -236,7 +56,7 @@ page_at_level L level p a b c =
 abbrev pub machine : (L : ℕ) → Option Window → (added : ℕ) → (List ℕ → ℕ → List ℕ) → Machine
 machine L window added give = record { levels = L; window = window; added_flags = added; give = give }
 
-no_items : (L : ℕ) (call : Call) → items_of L call NotAllowed ≡ []
+pub no_items : (L : ℕ) (call : Call) → items_of L call NotAllowed ≡ []
 no_items L (MapTo q frame given) = refl
 no_items L (MapToWithTableFlags q frame given more) = refl
 no_items L (IdentityMap n frame given) = refl
@@ -254,7 +74,7 @@ module _ (L : ℕ) (window : Option Window) (added : ℕ) (give : List ℕ → �
     (maps : (q : List ℕ) (frame given more : ℕ) (items : List Item) → IsPage L q → MapMay window s.paths q given more → P (after_map (map_call L s.paths s.pool more added q frame given)).0 items)
     (changes : (q : List ℕ) (w : ℕ) (item : Item) → IsChange L window s.paths q w → ((p : ℕ) → covers L item p ≡ false → begins q (page_path L p) ≡ false) → P (record { paths = put s.paths q w; pool = s.pool }) (item ∷ []))
     (cleans : (low high : ℕ) → P (record { paths = (clean_up L s.paths low high).paths; pool = given_back give s.pool (clean_up L s.paths low high).back }) []) where
-  done_ind : (call : Call) → IsCall L call → allowed L window s.paths call ≡ true → P (do_call (machine L window added give) s call).0 (items_of L call (do_call (machine L window added give) s call).1)
+  pub done_ind : (call : Call) → IsCall L call → allowed L window s.paths call ≡ true → P (do_call (machine L window added give) s call).0 (items_of L call (do_call (machine L window added give) s call).1)
   unfolding do_call allowed
   done_ind (MapTo q frame given) is h = maps q frame given (parent_part given) _ is (map_may L window s.paths q given _ h)
   done_ind (MapToWithTableFlags q frame given more) is h = maps q frame given more _ is (map_may L window s.paths q given _ h)

@@ -13,14 +13,18 @@ use Rattle.x86_64_model.specs.Call.{IsCall, Call}
 use Rattle.x86_64_model.specs.Machine.{State, step, state_after}
 use Rattle.x86_64_model.specs.Flush.{Item, items_of, all_items}
 use Rattle.x86_64_model.specs.Lemmas.Entries.Bits.{used_present}
-use Rattle.x86_64_model.specs.Lemmas.Walks.Agrees.{walked, page_walk_is, reads}
-use Rattle.x86_64_model.specs.Lemmas.Maps.Rights.{Grown, walked_grown, map_grows}
+use Rattle.x86_64_model.specs.Lemmas.Walks.Walked.{walked, page_walk_is}
+use Rattle.x86_64_model.specs.Lemmas.Walks.Agrees.{reads}
+use Rattle.x86_64_model.specs.Lemmas.Maps.Flags.{Grown}
+use Rattle.x86_64_model.specs.Lemmas.Maps.Rights.{walked_grown, map_grows}
 use Rattle.x86_64_model.specs.Lemmas.Walks.Fronts.{walked_same, walked_outside, put_same}
 use Rattle.x86_64_model.specs.Arrivals.{Arrives}
 use Rattle.x86_64_model.specs.Lemmas.CleanUps.Arrivals.{walked_cleaned}
 use Rattle.x86_64_model.specs.Lemmas.Maps.Trees.{page_descends}
 use Rattle.x86_64_model.specs.Lemmas.Machines.Effects.{MapMay, step_ind, machine}
-use Rattle.x86_64_model.specs.Lemmas.Machines.States.{IsSound, AllCalls, step_sound, run_sound, sound_of_fits}
+use Rattle.x86_64_model.specs.Lemmas.Machines.States.{IsSound, step_sound, run_sound}
+use Rattle.x86_64_model.specs.Laws.Steps.{AllCalls}
+use Rattle.x86_64_model.specs.Lemmas.Machines.Fitting.{sound_of_fits}
 pub use Rattle.x86_64_model.specs.Arrivals.{NoWorse, Keeps}
 pub use Rattle.x86_64_model.specs.Laws.Steps.{NoneCovers}
 

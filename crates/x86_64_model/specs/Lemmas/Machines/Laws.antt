@@ -19,11 +19,14 @@ use Rattle.x86_64_model.specs.Laws.CleanUps.{CleanUpConserves, CleanUpKeepsAnswe
 use Rattle.x86_64_model.specs.Laws.Maps.{RefusedMaps, MapTakesFew, WalkedDown}
 use Rattle.x86_64_model.specs.Laws.Pairs.{NoneNames, AlikeRuns, PairsReplyAlike}
 use Rattle.x86_64_model.specs.Lemmas.Hierarchies.Trees.{tree_of_holds}
-use Rattle.x86_64_model.specs.Lemmas.Machines.Effects.{machine, MapMay, map_may, page_at_level, flip_not}
-use Rattle.x86_64_model.specs.Lemmas.Machines.States.{IsSound, all_in, sound_of_fits, step_fits, step_conserves, run_conserves, run_fits}
+use Rattle.x86_64_model.specs.Lemmas.Machines.Effects.{machine, MapMay, map_may, page_at_level}
+use Rattle.x86_64_model.specs.Lemmas.Machines.Changes.{flip_not}
+use Rattle.x86_64_model.specs.Lemmas.Machines.States.{IsSound, all_in, step_conserves}
+use Rattle.x86_64_model.specs.Lemmas.Machines.Fitting.{sound_of_fits, step_fits, run_conserves, run_fits}
 use Rattle.x86_64_model.specs.Lemmas.Machines.Witness.{step_witness}
 use Rattle.x86_64_model.specs.Lemmas.Machines.Flushes.{flushes_suffice}
-use Rattle.x86_64_model.specs.Lemmas.Machines.Spares.{IsDone, map_elsewhere, unmap_elsewhere, update_elsewhere, refused_map}
+use Rattle.x86_64_model.specs.Lemmas.Machines.Spares.{IsDone, map_elsewhere, unmap_elsewhere, update_elsewhere}
+use Rattle.x86_64_model.specs.Lemmas.Machines.Refused.{refused_map}
 use Rattle.x86_64_model.specs.Lemmas.CleanUps.Trees.{clean_conserves}
 use Rattle.x86_64_model.specs.Lemmas.CleanUps.Answers.{translate_cleaned_outside}
 use Rattle.x86_64_model.specs.Lemmas.Maps.Takes.{map_takes}

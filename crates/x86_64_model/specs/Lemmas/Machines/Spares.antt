@@ -1,29 +1,29 @@
--- What calls leave of `translate` elsewhere, and what a refused map leaves.
-use Rattle.std.proofs.Common.{◌≡◌, zero, suc, ◌+◌, ◌&&◌, nat_le, ap₂, ◌≢◌, ◌⊎◌, inl, inr, ⊎_elim, ◌<◌, ◌^◌, ◌%◌, ℕ, Bool, true, false, cond, List, [], ◌∷◌, ◌++◌, length, None, Option, bit_or, refl, sym, ap, ◌∙◌, subst, arith}
+-- What an accepted call leaves of `translate` elsewhere.
+use Rattle.std.proofs.Common.{◌≡◌, zero, suc, ◌+◌, ◌&&◌, nat_le, ap₂, ◌≢◌, ⊎_elim, ◌<◌, ◌%◌, ℕ, Bool, true, false, cond, List, [], ◌∷◌, ◌++◌, length, None, Option, bit_or, refl, sym, ap, ◌∙◌, subst, arith}
 use Rattle.std.specs.List.{AllByRecursion}
-use Rattle.x86_64_model.specs.Entry.{IsParentFlags, has, used, present, huge, address, flags}
+use Rattle.x86_64_model.specs.Entry.{IsParentFlags, used, present, huge, address, flags}
 use Rattle.x86_64_model.specs.PathMap.{PathMap, entry, put, table_of, table_at}
 use Rattle.x86_64_model.specs.Path.{level_of, parents, IsPage, begins}
 use Rattle.x86_64_model.specs.Window.{Window, entry_at, begins_with}
-use Rattle.x86_64_model.specs.Lists.{In}
 use Rattle.x86_64_model.specs.Position.{span, index, page_path}
 use Rattle.x86_64_model.specs.PageWalk.{page_start}
 use Rattle.x86_64_model.specs.Translation.{Translated, NotMapped, Mapped, translate_on, translate}
-use Rattle.x86_64_model.specs.Refusal.{Refusal, Answer, Done, Refused}
+use Rattle.x86_64_model.specs.Refusal.{Answer, Done, Refused}
 use Rattle.x86_64_model.specs.MapRule.{map_rule, map_call, leaf_entry}
 use Rattle.x86_64_model.specs.PageRules.{unmap, update_flags}
-use Rattle.x86_64_model.specs.Lemmas.Entries.Bits.{has_or, address_or, unused_absent}
+use Rattle.x86_64_model.specs.Lemmas.Entries.Bits.{has_or, unused_absent}
 use Rattle.x86_64_model.specs.Lemmas.Paths.Puts.{cases_path, entry-put_same, entry-put_other}
 use Rattle.x86_64_model.specs.Lemmas.Hierarchies.Held.{no_end}
-use Rattle.x86_64_model.specs.Lemmas.Hierarchies.Changes.{zero_not_used, append_longer}
+use Rattle.x86_64_model.specs.Lemmas.Hierarchies.Changes.{append_longer}
 use Rattle.x86_64_model.specs.Lemmas.Maps.Down.{Descends, others, all_both}
 use Rattle.x86_64_model.specs.Lemmas.Maps.Frames.{IsFrame, AreParents, flags_or, frame_not_huge}
-use Rattle.x86_64_model.specs.Lemmas.Maps.Rights.{map_grows, has_kept, has_gained}
+use Rattle.x86_64_model.specs.Lemmas.Maps.Flags.{has_kept}
 use Rattle.x86_64_model.specs.Lemmas.Maps.Accepted.{map_ind}
 use Rattle.x86_64_model.specs.Lemmas.Hierarchies.Trees.{IsTree, IsHierarchy, no_table_unused, some_not_none}
-use Rattle.x86_64_model.specs.Lemmas.Maps.Trees.{Chain, page_chain, page_descends, parents_are, marked_hierarchy, new_hierarchy, leads_on, new_leads, leaf_no_table, leaf_low}
-use Rattle.x86_64_model.specs.Lemmas.Machines.Effects.{unmap_change, update_change}
-use Rattle.x86_64_model.specs.Lemmas.Walks.Agrees.{one_more}
+use Rattle.x86_64_model.specs.Lemmas.Maps.Trees.{Chain, page_chain, page_descends, parents_are, marked_hierarchy, new_hierarchy, leads_on, new_leads}
+use Rattle.x86_64_model.specs.Lemmas.Maps.PageCalls.{leaf_no_table, leaf_low}
+use Rattle.x86_64_model.specs.Lemmas.Machines.Changes.{unmap_change, update_change}
+use Rattle.x86_64_model.specs.Lemmas.Walks.Walked.{one_more}
 use Rattle.x86_64_model.specs.Lemmas.Walks.Fronts.{translated_outside, translated_same, put_same, SameTests, same_tests, tested_same, nothing_mapped}
 pub use Rattle.x86_64_model.specs.Laws.Steps.{UsedPresent}
 pub use Rattle.x86_64_model.specs.Laws.Maps.{LeftByRefused}
@@ -63,14 +63,14 @@ marked_elsewhere L more marks M p r short h g = tested_same L p (entry M) (entry
 -- the entry of a new table, below which nothing is used
 module _ (L root : ℕ) (M : PathMap) (tree : IsTree L root M) (p : ℕ) (r : List ℕ) (w : ℕ) (nonempty : r ≢ []) (unused : used (entry M r) ≡ false) (low : huge w ≡ false) where
   -- what is below stays absent
-  below : (j : ℕ) → entry (put M r w) (r ++ j ∷ []) ≡ 0
+  pub below : (j : ℕ) → entry (put M r w) (r ++ j ∷ []) ≡ 0
   below j = entry-put_other M r w (r ++ j ∷ []) (append_longer r j []) ∙ tree.below r j (no_table r nonempty unused)
     where
       no_table : (r : List ℕ) → r ≢ [] → used (entry M r) ≡ false → table_at L root M r ≡ None
       no_table [] n u = absurd (n refl)
       no_table (i ∷ r) n u = no_table_unused L root M i r u
 
-  table_through : (b : Bool) (e : ℕ) (x y : Translated) → huge e ≡ false → y ≡ NotMapped → cond (present e) (cond (b && huge e) x y) NotMapped ≡ NotMapped
+  pub table_through : (b : Bool) (e : ℕ) (x y : Translated) → huge e ≡ false → y ≡ NotMapped → cond (present e) (cond (b && huge e) x y) NotMapped ≡ NotMapped
   table_through b e x y g z = by (present e)
     where
       plain : cond (b && huge e) x y ≡ NotMapped
@@ -80,7 +80,7 @@ module _ (L root : ℕ) (M : PathMap) (tree : IsTree L root M) (p : ℕ) (r : Li
       by true = plain
       by false = refl
 
-  new_from : (level : ℕ) (q : List ℕ) → length q + level ≡ L → length r < L → translate_on (entry (put M r w)) p level q ≡ translate_on (entry M) p level q
+  pub new_from : (level : ℕ) (q : List ℕ) → length q + level ≡ L → length r < L → translate_on (entry (put M r w)) p level q ≡ translate_on (entry M) p level q
   unfolding translate_on
   new_from zero q l short = refl
   new_from (suc zero) q l short = let t = q ++ index 1 p ∷ [] in
@@ -105,7 +105,7 @@ IsDone (Done f) = Unit {0}
 IsDone (Refused why) = ⊥
 
 module _ (L root more added : ℕ) (marks : IsParentFlags more) (adds : IsParentFlags added) (q : List ℕ) (e frame : ℕ) (no_table : table_of L q e ≡ None) (low : 3 < level_of L q → huge e ≡ false) (p : ℕ) (off : begins q (page_path L p) ≡ false) where
-  still_present : (M : PathMap) (r : List ℕ) (x : ℕ) (ps : List (List ℕ)) → AllByRecursion (λ t. t ≢ r) ps → UsedPresent M ps → UsedPresent (put M r x) ps
+  pub still_present : (M : PathMap) (r : List ℕ) (x : ℕ) (ps : List (List ℕ)) → AllByRecursion (λ t. t ≢ r) ps → UsedPresent M ps → UsedPresent (put M r x) ps
   still_present M r x ps apart h = all_both (λ t. used (entry M t) ≡ true → present (entry M t) ≡ true) (λ t. entry (put M r x) t ≡ entry M t) (λ t. used (entry (put M r x) t) ≡ true → present (entry (put M r x) t) ≡ true)
       (λ t h is u. ap present is ∙ h (ap used (sym is) ∙ u)) ps h (others more added q e frame M r x ps apart)
 
@@ -151,33 +151,3 @@ pub update_elsewhere : (L : ℕ) (window : Option Window) (M : PathMap) (q : Lis
     → translate L (entry_at window (update_flags L (entry_at window M) M q given).paths) p ≡ translate L (entry_at window M) p
 update_elsewhere L window M q given page aside p off out = update_change L window M q page aside given (λ c. translate L (entry_at window c.paths) p ≡ translate L (entry_at window M) p) (λ why. refl)
     (λ c. translate_outside L window _ p out ∙ put_elsewhere L M p q _ off ∙ sym (translate_outside L window M p out))
-
--- ---- a refused map
-
-module _ (more added : ℕ) (q : List ℕ) (e frame : ℕ) where
-  refused_leaves : (r : List ℕ) → (M : PathMap) (supply : List ℕ) (ps : List (List ℕ)) → Descends M ps q → AllByRecursion (λ p. r ≢ p) ps → (why : Refusal) → (map_rule M supply more added ps q e frame).answer ≡ Refused why
-      → entry (map_rule M supply more added ps q e frame).paths r ≡ entry M r
-  refused_leaves r = map_ind more added q e frame (λ M s ps m. AllByRecursion (λ p. r ≢ p) ps → (why : Refusal) → m.answer ≡ Refused why → entry m.paths r ≡ entry M r)
-      (λ M s u a why x. refl)
-      (λ M s u a why x. let t : Done frame ≡ Refused why = x in cc)
-      (λ M s p ps u h a why x. entry-put_other M p _ r a.0)
-      (λ M s p ps d u h m ih a why x. ih a.1 why x ∙ entry-put_other M p _ r a.0)
-      (λ M p ps u a why x. refl)
-      (λ M f fs p ps d u m ih a why x. ih a.1 why x ∙ entry-put_other M p _ r a.0)
-
-in_or_none : (r : List ℕ) (ps : List (List ℕ)) → In ps r ⊎ AllByRecursion (λ p. r ≢ p) ps
-in_or_none r [] = inr tt
-in_or_none r (p ∷ ps) = ⊎_elim (λ e. inl (inl (sym e))) (λ n. ⊎_elim (λ h. inl (inr h)) (λ a. inr (n, a)) (in_or_none r ps)) (cases_path r p)
-
-pub refused_map : (L root : ℕ) (M : PathMap) (supply : List ℕ) (more added : ℕ) (q : List ℕ) (frame given : ℕ) → IsTree L root M → IsParentFlags more
-    → (why : Refusal) → (map_call L M supply more added q frame given).answer ≡ Refused why → LeftByRefused more M (map_call L M supply more added q frame given).paths q
-refused_map L root M supply more added q frame given tree marks why refused =
-    let g = map_grows more added q (leaf_entry L q frame given) frame M supply (parents q) (page_descends L root M tree q) in
-    let left : (r : List ℕ) → AllByRecursion (λ p. r ≢ p) (parents q) → entry (map_call L M supply more added q frame given).paths r ≡ entry M r =
-    λ r a. refused_leaves more added q (leaf_entry L q frame given) frame r M supply (parents q) (page_descends L root M tree q) a why refused in record {
-      same_addresses = λ r u. ⊎_elim (λ is. ap address is) (λ is. ap address is ∙ address_or (entry M r) more marks.no_address) (g r u);
-      flags_kept = λ r flag u h. ⊎_elim (λ is. ap (λ e. has e flag) is ∙ h) (λ is. ap (λ e. has e flag) is ∙ has_kept (entry M r) more flag h) (g r u);
-      flags_gained = λ r k u h. ⊎_elim (λ is. inl (sym (ap (λ e. has e (2 ^ k)) is) ∙ h)) (λ is. has_gained (entry M r) more k (sym (ap (λ e. has e (2 ^ k)) is) ∙ h)) (g r u);
-      off_path = λ r n. left r (⊎_elim (λ i. absurd (n i)) (λ a. a) (in_or_none r (parents q)));
-      new_tables = λ i r j u v. ⊎_elim (λ h. h) (λ a. absurd (let z : false ≡ true = sym (ap used (left (i ∷ r ++ j ∷ []) a ∙ tree.below (i ∷ r) j (no_table_unused L root M i r u)) ∙ zero_not_used) ∙ v in cc)) (in_or_none (i ∷ r ++ j ∷ []) (parents q));
-    }

@@ -1,28 +1,27 @@
--- One step keeps a state fit: a hierarchy, and a pool that fits it.
-use Rattle.std.proofs.Common.{◌≡◌, ◌≢◌, ◌⊎◌, inl, inr, ⊎_elim, ℕ, zero, suc, Bool, true, false, cond, List, [], ◌∷◌, set, get_or, Some, None, Option, IsSome, option_map, nat_lt, refl, sym, ap, ◌∙◌, subst, eq-eqb, eqb-true}
+-- One step keeps a state sound: a hierarchy, and a pool beside it.
+use Rattle.std.proofs.Common.{◌≡◌, ◌≢◌, ◌⊎◌, inl, inr, ℕ, Bool, true, false, cond, List, [], ◌∷◌, Some, None, Option, refl, sym, ap, ◌∙◌, subst}
 use Rattle.std.specs.List.{AllByRecursion}
 use Rattle.x86_64_model.specs.Entry.{IsParentFlags, used, address}
-use Rattle.x86_64_model.specs.Memory.{Words, word, word_in, set_word}
 use Rattle.x86_64_model.specs.PathMap.{PathMap, entry, put, table_at}
-use Rattle.x86_64_model.specs.Window.{Window, outside_window, IsValidFor, begins_with}
-use Rattle.x86_64_model.specs.Hierarchy.{IsValid}
+use Rattle.x86_64_model.specs.Window.{Window, begins_with}
 use Rattle.x86_64_model.specs.MapRule.{map_call}
 use Rattle.x86_64_model.specs.CleanUp.{clean_up, is_removed}
 use Rattle.x86_64_model.specs.Lists.{In}
-use Rattle.x86_64_model.specs.Pool.{IsOwn, IsGiving, Fits, given_back}
+use Rattle.x86_64_model.specs.Pool.{IsOwn, IsGiving, given_back}
 use Rattle.x86_64_model.specs.Path.{IsPage}
 use Rattle.x86_64_model.specs.Call.{IsCall, Call}
 use Rattle.x86_64_model.specs.Machine.{State, step, state_after}
 use Rattle.x86_64_model.specs.Lemmas.Entries.Bits.{address_address}
 use Rattle.x86_64_model.specs.Lemmas.Paths.Puts.{entry-put_other}
 use Rattle.x86_64_model.specs.Lemmas.Hierarchies.Changes.{zero_not_used}
-use Rattle.x86_64_model.specs.Lemmas.Maps.Frames.{IsFrame, OneEach, Conserves, conserves_nothing, conserves_then, conserves_marked, same_tables}
-use Rattle.x86_64_model.specs.Lemmas.Walks.Agrees.{is_some-unset}
-use Rattle.x86_64_model.specs.Lemmas.Hierarchies.Trees.{IsHierarchy, hierarchy_of_valid, hierarchy_put, reached_used, table_of_gives, some_one}
-use Rattle.x86_64_model.specs.Lemmas.Maps.Trees.{map_hierarchy, map_conserved, map_aside, not_first}
+use Rattle.x86_64_model.specs.Lemmas.Maps.Frames.{IsFrame, OneEach, Conserves, conserves_nothing, conserves_marked, same_tables}
+use Rattle.x86_64_model.specs.Lemmas.Hierarchies.Trees.{IsHierarchy, table_of_gives, some_one}
+use Rattle.x86_64_model.specs.Lemmas.Hierarchies.Puts.{hierarchy_put, reached_used}
+use Rattle.x86_64_model.specs.Lemmas.Maps.PageCalls.{map_hierarchy, map_conserved, map_aside, not_first}
 use Rattle.x86_64_model.specs.Lemmas.CleanUps.Trees.{clean_hierarchy, clean_conserves}
-use Rattle.x86_64_model.specs.Lemmas.CleanUps.Removed.{entry-cleaned}
-use Rattle.x86_64_model.specs.Lemmas.Machines.Effects.{machine, IsChange, MapMay, step_ind}
+use Rattle.x86_64_model.specs.Lemmas.CleanUps.Keys.{entry-cleaned}
+use Rattle.x86_64_model.specs.Lemmas.Machines.Effects.{machine, MapMay, step_ind}
+use Rattle.x86_64_model.specs.Lemmas.Machines.Changes.{IsChange}
 pub use Rattle.x86_64_model.specs.Laws.Steps.{AllCalls}
 
 -- the map has no entry at the recursive index
@@ -42,14 +41,14 @@ pub all_in : (fs : List ℕ) → ((f : ℕ) → In fs f → IsFrame f) → AllBy
 all_in [] h = tt
 all_in (f ∷ fs) h = (h f (inl refl), all_in fs (λ g i. h g (inr i)))
 
-from_all : (fs : List ℕ) → AllByRecursion IsFrame fs → (f : ℕ) → In fs f → IsFrame f
+pub from_all : (fs : List ℕ) → AllByRecursion IsFrame fs → (f : ℕ) → In fs f → IsFrame f
 from_all [] a f h = absurd h
 from_all (g ∷ gs) a f (inl e) = subst IsFrame e a.0
 from_all (g ∷ gs) a f (inr h) = from_all gs a.1 f h
 
 module _ (L : ℕ) (window : Option Window) (root : ℕ) (serves : ℕ → Bool) (s : State) (sound : IsSound L window root serves s) where
   -- frames that are free afterwards and were free or a table's before
-  own_frame : (f : ℕ) → IsOwn L root s.paths s.pool f → f ≢ root → IsFrame f
+  pub own_frame : (f : ℕ) → IsOwn L root s.paths s.pool f → f ≢ root → IsFrame f
   own_frame f (inl i) n = sound.frames f i
   own_frame f (inr t) n = table t.0 t.1
     where
@@ -60,10 +59,10 @@ module _ (L : ℕ) (window : Option Window) (root : ℕ) (serves : ℕ → Bool)
         not_zero = λ z. sound.hierarchy.not_zero i q (e ∙ ap Some z);
       }
 
-  kept_served : (M : PathMap) (pool : List ℕ) → Conserves L root s.paths s.pool M pool → (f : ℕ) → IsOwn L root M pool f → (f ≡ root) ⊎ (serves f ≡ true)
+  pub kept_served : (M : PathMap) (pool : List ℕ) → Conserves L root s.paths s.pool M pool → (f : ℕ) → IsOwn L root M pool f → (f ≡ root) ⊎ (serves f ≡ true)
   kept_served M pool c f o = sound.served f ((c.same_set f).1 o)
 
-  sound_map : (more added : ℕ) → IsParentFlags added → (q : List ℕ) (frame given : ℕ) → IsPage L q → MapMay window s.paths q given more
+  pub sound_map : (more added : ℕ) → IsParentFlags added → (q : List ℕ) (frame given : ℕ) → IsPage L q → MapMay window s.paths q given more
       → IsSound L window root serves (record { paths = (map_call L s.paths s.pool more added q frame given).paths; pool = (map_call L s.paths s.pool more added q frame given).supply })
   sound_map more added adds q frame given page may =
       let kept = map_hierarchy L root more added may.marks adds q frame given page s.paths s.pool sound.hierarchy (all_in s.pool sound.frames) in
@@ -79,7 +78,7 @@ module _ (L : ℕ) (window : Option Window) (root : ℕ) (serves : ℕ → Bool)
       by None o a = tt
       by (Some w) o a = map_aside L root more added may.marks adds q frame given page s.paths s.pool sound.hierarchy (all_in s.pool sound.frames) w o ∙ a
 
-  sound_change : (q : List ℕ) (w : ℕ) → IsChange L window s.paths q w → IsSound L window root serves (record { paths = put s.paths q w; pool = s.pool })
+  pub sound_change : (q : List ℕ) (w : ℕ) → IsChange L window s.paths q w → IsSound L window root serves (record { paths = put s.paths q w; pool = s.pool })
   sound_change [] w c = absurd (let t : false ≡ true = sym (ap used sound.hierarchy.tree.nothing_above ∙ zero_not_used) ∙ c.is_used in cc)
   sound_change (i ∷ q) w c = let kept = conserves_marked L root s.paths _ s.pool (same_tables L root s.paths i q w c.same_table) in record {
     hierarchy = hierarchy_put L root s.paths (i ∷ q) w (λ e. cc) sound.hierarchy (reached_used L root s.paths sound.hierarchy.tree (i ∷ q) c.is_used) (λ z. sym c.same_table ∙ z)
@@ -94,7 +93,7 @@ module _ (L : ℕ) (window : Option Window) (root : ℕ) (serves : ℕ → Bool)
       by None o a = tt
       by (Some v) o a = entry-put_other s.paths (i ∷ q) w (v.index ∷ []) (not_first i v.index q o) ∙ a
 
-  sound_clean : (give : List ℕ → ℕ → List ℕ) → IsGiving give → (low high : ℕ)
+  pub sound_clean : (give : List ℕ → ℕ → List ℕ) → IsGiving give → (low high : ℕ)
       → IsSound L window root serves (record { paths = (clean_up L s.paths low high).paths; pool = given_back give s.pool (clean_up L s.paths low high).back })
   sound_clean give gives low high = let c = clean_conserves give gives L root s.paths sound.hierarchy.tree low high s.pool in let one = c.one_each sound.one_each in record {
     hierarchy = clean_hierarchy L root s.paths sound.hierarchy low high;
@@ -131,91 +130,3 @@ pub run_sound : (L : ℕ) (window : Option Window) (root : ℕ) (serves : ℕ �
     → (calls : List Call) → AllCalls L calls → (s : State) → IsSound L window root serves s → IsSound L window root serves (state_after (machine L window added give) s calls)
 run_sound L window root serves added adds give gives [] is s sound = sound
 run_sound L window root serves added adds give gives (call ∷ calls) is s sound = run_sound L window root serves added adds give gives calls is.1 _ (step_sound L window root serves s sound added adds give gives call is.0)
-
--- ---- and words
-
-get_set_zero : (words : List ℕ) (i : ℕ) → get_or (set words i 0) i 0 ≡ 0
-get_set_zero [] i = refl
-get_set_zero (x ∷ words) zero = refl
-get_set_zero (x ∷ words) (suc i) = get_set_zero words i
-
-pub word_unset : (T : Words) (f i : ℕ) → word (set_word T f i 0) f i ≡ 0
-unfolding word set_word
-word_unset T f i = by (nat_lt i 512) (T f) (eq-eqb f f refl)
-  where
-    by : (b : Bool) (o : Option (List ℕ)) {c : Bool} → c ≡ true → cond b (word_in (cond c (option_map (λ words. set words i 0) o) o) i) 0 ≡ 0
-    by false o e = refl
-    by true None e = ap (λ c. word_in (cond c (option_map (λ words. set words i 0) None) None) i) e
-    by true (Some words) e = ap (λ c. word_in (cond c (option_map (λ words. set words i 0) (Some words)) (Some words)) i) e ∙ get_set_zero words i
-
--- what valid words and a pool that fits say of the state
-pub sound_of_fits : (L : ℕ) (window : Option Window) (T : Words) (root : ℕ) (serves : ℕ → Bool) (s : State) → Fits L window T root s.paths serves s.pool → IsSound L window root serves s
-sound_of_fits L window T root serves s fits = record {
-  hierarchy = hierarchy_of_valid L (outside_window window root T) root s.paths fits.valid.valid;
-  aside = by window fits.valid.valid;
-  one_each = record { own_frames = fits.valid.valid.own_frames; each_once = fits.each_once; no_table = fits.no_table };
-  frames = λ f i. record { aligned = eqb-true (address f) f (fits.are_frames f i); not_zero = λ z. fits.not_zero (subst (In s.pool) z i) };
-  served = served;
-}
-  where
-    by : (v : Option Window) → IsValid L (outside_window v root T) root s.paths → Aside v s.paths
-    by None a = tt
-    by (Some w) a = a.holds.entries [] w.index ∙ word_unset T root w.index
-
-    table : (f : ℕ) (q : List ℕ) → table_at L root s.paths q ≡ Some f → (f ≡ root) ⊎ (serves f ≡ true)
-    table f [] e = inl (sym (some_one root f e))
-    table f (i ∷ q) e = inr (fits.serves_tables i q f e)
-
-    served : (f : ℕ) → IsOwn L root s.paths s.pool f → (f ≡ root) ⊎ (serves f ≡ true)
-    served f (inl i) = inr (fits.serves_pool f i)
-    served f (inr t) = table f t.0 t.1
-
--- and the other way round, with any words that hold the state and have the pool's frames
-pub fits_of_sound : (L : ℕ) (window : Option Window) (U : Words) (root : ℕ) (serves : ℕ → Bool) (s : State) → IsSound L window root serves s → IsValidFor L window U root s.paths
-    → ((f : ℕ) → In s.pool f → IsSome (U f)) → Fits L window U root s.paths serves s.pool
-fits_of_sound L window U root serves s sound valid there = record {
-  valid = valid;
-  each_once = sound.one_each.each_once;
-  in_memory = there;
-  are_frames = λ f i. eq-eqb (address f) f (sound.frames f i).aligned;
-  not_zero = λ i. (sound.frames 0 i).not_zero refl;
-  no_table = sound.one_each.no_table;
-  serves_pool = λ f i. ⊎_elim (λ e. absurd (sound.one_each.no_table f i ([], ap Some (sym e)))) (λ h. h) (sound.served f (inl i));
-  serves_tables = λ i q f t. ⊎_elim (λ e. let x : i ∷ q ≡ [] = sound.one_each.own_frames (i ∷ q) [] f t (ap Some (sym e)) in cc) (λ h. h) (sound.served f (inr (i ∷ q, t)));
-}
-
-pub own_there : (L : ℕ) (window : Option Window) (T : Words) (root : ℕ) (serves : ℕ → Bool) (s : State) → Fits L window T root s.paths serves s.pool → (f : ℕ) → IsOwn L root s.paths s.pool f → IsSome (T f)
-own_there L window T root serves s fits f (inl i) = fits.in_memory f i
-own_there L window T root serves s fits f (inr t) = by window fits.valid
-  where
-    by : (v : Option Window) → IsValidFor L v T root s.paths → IsSome (T f)
-    by None valid = valid.valid.holds.in_memory t.0 f t.1
-    by (Some w) valid = is_some-unset L T root s.paths w valid.valid valid.self f (valid.valid.holds.in_memory t.0 f t.1)
-
--- one step keeps the state fit: whatever valid words hold the path map afterwards, if they have the frames that were there
-pub step_fits : (L : ℕ) (window : Option Window) (T U : Words) (root : ℕ) (serves : ℕ → Bool) (added : ℕ) → IsParentFlags added → (give : List ℕ → ℕ → List ℕ) → IsGiving give
-    → (s : State) (call : Call) → IsCall L call → Fits L window T root s.paths serves s.pool
-    → IsValidFor L window U root (step (machine L window added give) s call).0.paths → ((f : ℕ) → IsSome (T f) → IsSome (U f))
-    → Fits L window U root (step (machine L window added give) s call).0.paths serves (step (machine L window added give) s call).0.pool
-step_fits L window T U root serves added adds give gives s call is fits valid kept =
-    let sound = sound_of_fits L window T root serves s fits in
-    fits_of_sound L window U root serves _ (step_sound L window root serves s sound added adds give gives call is) valid
-    (λ f i. kept f (own_there L window T root serves s fits f (((step_conserves L window root serves s sound added adds give gives call is).same_set f).1 (inl i))))
-
-pub run_conserves : (L : ℕ) (window : Option Window) (root : ℕ) (serves : ℕ → Bool) (added : ℕ) → IsParentFlags added → (give : List ℕ → ℕ → List ℕ) → IsGiving give
-    → (calls : List Call) → AllCalls L calls → (s : State) → IsSound L window root serves s
-    → Conserves L root s.paths s.pool (state_after (machine L window added give) s calls).paths (state_after (machine L window added give) s calls).pool
-run_conserves L window root serves added adds give gives [] is s sound = conserves_nothing L root s.paths s.pool
-run_conserves L window root serves added adds give gives (call ∷ calls) is s sound = conserves_then L root s.paths s.pool _ _ _ _
-    (step_conserves L window root serves s sound added adds give gives call is.0)
-    (run_conserves L window root serves added adds give gives calls is.1 _ (step_sound L window root serves s sound added adds give gives call is.0))
-
--- the headline's set: the frames of the pool and of the tables are one set before and after any list of calls, each once, and the pool fits again
-pub run_fits : (L : ℕ) (window : Option Window) (T U : Words) (root : ℕ) (serves : ℕ → Bool) (added : ℕ) → IsParentFlags added → (give : List ℕ → ℕ → List ℕ) → IsGiving give
-    → (s : State) (calls : List Call) → AllCalls L calls → Fits L window T root s.paths serves s.pool
-    → IsValidFor L window U root (state_after (machine L window added give) s calls).paths → ((f : ℕ) → IsSome (T f) → IsSome (U f))
-    → Fits L window U root (state_after (machine L window added give) s calls).paths serves (state_after (machine L window added give) s calls).pool
-run_fits L window T U root serves added adds give gives s calls is fits valid kept =
-    let sound = sound_of_fits L window T root serves s fits in
-    fits_of_sound L window U root serves _ (run_sound L window root serves added adds give gives calls is s sound) valid
-    (λ f i. kept f (own_there L window T root serves s fits f (((run_conserves L window root serves added adds give gives calls is s sound).same_set f).1 (inl i))))

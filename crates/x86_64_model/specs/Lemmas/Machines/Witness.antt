@@ -19,7 +19,8 @@ use Rattle.x86_64_model.specs.Lists.{In}
 use Rattle.x86_64_model.specs.Lemmas.Hierarchies.Exists.{in_paths_below}
 use Rattle.x86_64_model.specs.Lemmas.Hierarchies.Trees.{IsHierarchy, indices_below, table_of_gives}
 use Rattle.x86_64_model.specs.Lemmas.Machines.Effects.{machine}
-use Rattle.x86_64_model.specs.Lemmas.Machines.States.{Aside, word_unset, sound_of_fits, fits_of_sound, own_there, step_sound, step_conserves}
+use Rattle.x86_64_model.specs.Lemmas.Machines.States.{Aside, step_sound, step_conserves}
+use Rattle.x86_64_model.specs.Lemmas.Machines.Fitting.{word_unset, sound_of_fits, fits_of_sound, own_there}
 
 get_range : (g : ℕ → ℕ) (n from i : ℕ) → i < n → get_or (map g (range_with_len from n)) i 0 ≡ g (from + i)
 get_range g zero from i l = absurd (omega arith)

@@ -16,7 +16,7 @@ use Rattle.x86_64_model.specs.Lemmas.Hierarchies.Held.{valid_after, table_at_las
 use Rattle.x86_64_model.specs.Lemmas.Hierarchies.Memories.{outside_set}
 use Rattle.x86_64_model.specs.Lemmas.Hierarchies.Changes.{may_be_marked, zero_not_used}
 use Rattle.x86_64_model.specs.Lemmas.Hierarchies.Trees.{tree_of_holds, hierarchy_of_valid, used_last, none_or_some}
-use Rattle.x86_64_model.specs.Lemmas.Machines.Effects.{IsChange, unmap_change, update_change, set_flags_change}
+use Rattle.x86_64_model.specs.Lemmas.Machines.Changes.{IsChange, unmap_change, update_change, set_flags_change}
 
 -- a path that isn't empty, by its last index
 last_of : (q : List ℕ) → (q ≡ []) ⊎ ((p : List ℕ) × (i : ℕ) × (q ≡ p ++ i ∷ []))

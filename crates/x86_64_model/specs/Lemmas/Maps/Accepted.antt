@@ -9,7 +9,7 @@ use Rattle.x86_64_model.specs.Refusal.{Done, Refused, ParentEntryHugePage, PageA
 use Rattle.x86_64_model.specs.Lemmas.Entries.Bits.{has_or}
 use Rattle.x86_64_model.specs.Lemmas.Paths.Puts.{entry-put_same, entry-put_other}
 use Rattle.x86_64_model.specs.Lemmas.Maps.Frames.{IsFrame, used_or, used_not_zero, frame_not_huge, flags_or}
-use Rattle.x86_64_model.specs.Lemmas.Maps.Rights.{has_kept}
+use Rattle.x86_64_model.specs.Lemmas.Maps.Flags.{has_kept}
 use Rattle.x86_64_model.specs.Lemmas.Maps.Down.{Descends, others, descends_same, step_used, step_huge, step_new, step_none, step_last}
 
 module _ (more added : ℕ) (q : List ℕ) (e frame : ℕ) where

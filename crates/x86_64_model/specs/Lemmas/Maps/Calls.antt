@@ -10,7 +10,7 @@ use Rattle.x86_64_model.specs.Lemmas.Maps.Down.{Descends}
 use Rattle.x86_64_model.specs.Lemmas.Hierarchies.Changes.{parents_descend, map_again, unnamed}
 use Rattle.x86_64_model.specs.Laws.Maps.{MapConserves, MapKeepsWalks}
 use Rattle.x86_64_model.specs.Lemmas.Maps.Rights.{map_keeps_walks}
-use Rattle.x86_64_model.specs.Lemmas.Walks.Agrees.{one_more}
+use Rattle.x86_64_model.specs.Lemmas.Walks.Walked.{one_more}
 use Rattle.x86_64_model.specs.Lemmas.Maps.Accepted.{added_there}
 use Rattle.x86_64_model.specs.Lemmas.Maps.Arrives.{map_same}
 

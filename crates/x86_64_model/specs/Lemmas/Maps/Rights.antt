@@ -1,9 +1,9 @@
 -- A map call takes no walk away: an address where the walk arrived still arrives there, with no right lost and none gained that the parent flags lack.
-use Rattle.std.proofs.Common.{◌≡◌, ◌⊎◌, inl, inr, ⊎_elim, ◌<◌, ◌+◌, ◌*◌, ◌^◌, ◌%◌, ◌/◌, ℕ, zero, suc, ◌==◌, ◌&&◌, Bool, true, false, cond, List, [], ◌∷◌, ◌++◌, nat_le, Some, None, Option, bit_and, bit_or, min, max, refl, sym, ap, ap₂, ◌∙◌, subst, subst₂, arith, eq-eqb, eqb-true, ne_eqb, pow_pos}
-use Rattle.std.proofs.lemmas.Nat.Bits.{same_from_bits, bit_at_and, bit_at_or, bit_at-lt, and_pow}
+use Rattle.std.proofs.Common.{◌≡◌, ◌⊎◌, inl, inr, ⊎_elim, ◌+◌, ◌*◌, ◌^◌, ◌%◌, ◌/◌, ℕ, zero, suc, ◌==◌, ◌&&◌, Bool, true, false, cond, List, [], ◌∷◌, ◌++◌, nat_le, Some, None, Option, bit_or, max, refl, sym, ap, ◌∙◌, subst, subst₂, arith}
+use Rattle.std.proofs.lemmas.Nat.Bits.{same_from_bits, bit_at_or}
 use Rattle.std.proofs.lemmas.Bool.{and_parts, and_from}
 use Rattle.std.specs.Int.{bit_at}
-use Rattle.x86_64_model.specs.Entry.{has, used, huge, present, writable, user, address}
+use Rattle.x86_64_model.specs.Entry.{has, used, huge, present, writable, user}
 use Rattle.x86_64_model.specs.Memory.{Words}
 use Rattle.x86_64_model.specs.PathMap.{PathMap, entry, put}
 use Rattle.x86_64_model.specs.Window.{Window, windowed, entry_at, IsValidFor}
@@ -11,91 +11,45 @@ use Rattle.x86_64_model.specs.Position.{index, span}
 use Rattle.x86_64_model.specs.PageWalk.{Walked, arrives, page_walk}
 use Rattle.x86_64_model.specs.MapRule.{AfterMap, map_rule}
 use Rattle.x86_64_model.specs.Refusal.{Done, Refused, PageAlreadyMapped}
-use Rattle.x86_64_model.specs.Lemmas.Entries.Bits.{and_or_distrib, has_or, address_or, used_present}
+use Rattle.x86_64_model.specs.Lemmas.Entries.Bits.{used_present}
 use Rattle.x86_64_model.specs.Lemmas.Paths.Puts.{cases_path, entry-put_same, entry-put_other}
-use Rattle.x86_64_model.specs.Lemmas.Walks.Agrees.{reads, walked, page_walk_is}
+use Rattle.x86_64_model.specs.Lemmas.Walks.Agrees.{reads}
+use Rattle.x86_64_model.specs.Lemmas.Walks.Walked.{walked, page_walk_is}
 use Rattle.x86_64_model.specs.Lemmas.Maps.Frames.{IsParentFlags, used_or, used_not_zero}
 use Rattle.x86_64_model.specs.Lemmas.Maps.Down.{Descends, others, descends_same, step_used, step_huge, step_new, step_none, step_last}
 pub use Rattle.x86_64_model.specs.Arrivals.{Better, Arrives}
-
--- ---- flags that were added
-
-absorbed : (f m : ℕ) → max f (min m f) ≡ f
-absorbed f m = omega arith
-
-pub has_kept : (e m f : ℕ) → has e f ≡ true → has (bit_or e m) f ≡ true
-unfolding has
-has_kept e m f h = eq-eqb _ f (and_or_distrib e m f ∙ ap (λ x. bit_or x (bit_and m f)) (eqb-true _ f h)
-    ∙ same_from_bits _ _ (λ i. bit_at_or f (bit_and m f) i ∙ ap (λ x. max (bit_at f i) x) (bit_at_and m f i) ∙ absorbed (bit_at f i) (bit_at m i)))
-
--- one bit
-pub has_bit : (e k : ℕ) → bit_at e k ≡ 1 → has e (2 ^ k) ≡ true
-unfolding has
-has_bit e k h = eq-eqb _ _ (and_pow e k ∙ ap (λ x. x * 2 ^ k) h ∙ omega arith)
-
-pub lacks_bit : (e k : ℕ) → bit_at e k ≡ 0 → has e (2 ^ k) ≡ false
-unfolding has
-lacks_bit e k h = ne_eqb _ _ (λ is. let z : 0 * 2 ^ k ≡ 2 ^ k = sym (and_pow e k ∙ ap (λ x. x * 2 ^ k) h) ∙ is in let p = pow_pos k in absurd (omega (arith, p, z)))
-
-pub zero_or_one : (x : ℕ) → x < 2 → (x ≡ 0) ⊎ (x ≡ 1)
-zero_or_one zero h = inl refl
-zero_or_one (suc zero) h = inr refl
-zero_or_one (suc (suc x)) h = absurd (omega arith)
-
-pub has_gained : (e m k : ℕ) → has (bit_or e m) (2 ^ k) ≡ true → (has e (2 ^ k) ≡ true) ⊎ (has m (2 ^ k) ≡ true)
-has_gained e m k h = ⊎_elim
-    (λ e0. ⊎_elim
-    (λ m0. absurd (let t : false ≡ true = sym (lacks_bit (bit_or e m) k (bit_at_or e m k ∙ ap₂ max e0 m0)) ∙ h in cc))
-    (λ m1. inr (has_bit m k m1)) (zero_or_one (bit_at m k) (bit_at-lt m k)))
-    (λ e1. inl (has_bit e k e1)) (zero_or_one (bit_at e k) (bit_at-lt e k))
-
--- an entry that is present is as before but for added flags
-abbrev pub Grown : ℕ → ℕ → ℕ → Type 0
-Grown more e f = present e ≡ true → (f ≡ e) ⊎ (f ≡ bit_or e more)
-
-pub record Same (more e f : ℕ) : Type 0 where
-  is_present : present f ≡ true
-  same_huge : huge f ≡ huge e
-  same_address : address f ≡ address e
-  still : (flag : ℕ) → has e flag ≡ true → has f flag ≡ true
-  gained : (k : ℕ) → has f (2 ^ k) ≡ true → (has e (2 ^ k) ≡ true) ⊎ (has more (2 ^ k) ≡ true)
-
-same_after : (more e f : ℕ) → IsParentFlags more → present e ≡ true → Grown more e f → Same more e f
-same_after more e f marks h g = ⊎_elim
-    (λ is. subst (Same more e) (sym is) (record { is_present = h; same_huge = refl; same_address = refl; still = λ flag x. x; gained = λ k x. inl x }))
-    (λ is. subst (Same more e) (sym is) (record { is_present = has_kept e more 1 h; same_huge = has_or e more 0x80 marks.not_huge; same_address = address_or e more marks.no_address; still = λ flag. has_kept e more flag; gained = λ k. has_gained e more k }))
-    (g h)
+use Rattle.x86_64_model.specs.Lemmas.Maps.Flags.{Grown, Same, same_after}
 
 -- ---- the walk over entries that have grown
 
 -- a right that w grants v does too, and it grants no more than w and the flag
-abbrev Right : Bool → Bool → Bool → Type 0
+abbrev pub Right : Bool → Bool → Bool → Type 0
 Right given w v = (w ≡ true → v ≡ true) × (v ≡ true → (w ≡ true) ⊎ (given ≡ true))
 
-right_here : (more k e f : ℕ) (w v : Bool) → Same more e f → Right (has more (2 ^ k)) w v → Right (has more (2 ^ k)) (w && has e (2 ^ k)) (v && has f (2 ^ k))
+pub right_here : (more k e f : ℕ) (w v : Bool) → Same more e f → Right (has more (2 ^ k)) w v → Right (has more (2 ^ k)) (w && has e (2 ^ k)) (v && has f (2 ^ k))
 right_here more k e f w v s r = (
   λ h. let parts = and_parts _ _ h in and_from _ _ (r.0 parts.0) (s.still (2 ^ k) parts.1),
   λ h. let parts = and_parts _ _ h in ⊎_elim (λ a. ⊎_elim (λ b. inl (and_from _ _ a b)) (λ g. inr g) (s.gained k parts.1)) (λ g. inr g) (r.1 parts.0),
 )
 
-some_walked : (w v : Walked) → Some w ≡ Some v → w ≡ v
+pub some_walked : (w v : Walked) → Some w ≡ Some v → w ≡ v
 some_walked w v e = cc
 
-none_arrives : (more : ℕ) (y : Option Walked) → Arrives more None y
+pub none_arrives : (more : ℕ) (y : Option Walked) → Arrives more None y
 none_arrives more y w e = absurd (let t : None ≡ Some w = e in cc)
 
-arrive_same : (more a b : ℕ) (w u v x : Bool) → b ≡ a → Right (writable more) w v → Right (user more) u x → Arrives more (arrives a w u) (arrives b v x)
+pub arrive_same : (more a b : ℕ) (w u v x : Bool) → b ≡ a → Right (writable more) w v → Right (user more) u x → Arrives more (arrives a w u) (arrives b v x)
 arrive_same more a b w u v x ab rw ru walk e = subst (λ walk. (y : Walked) × (arrives b v x ≡ Some y) × Better more walk y) (some_walked _ walk e) (
   record { address = b; write = v; user = x },
   refl,
   record { same_place = ab; write_kept = rw.0; user_kept = ru.0; write_gained = rw.1; user_gained = ru.1 },
 )
 
-when : (more : ℕ) (b c : Bool) (x y : Option Walked) → (b ≡ true → c ≡ true) → (b ≡ true → Arrives more x y) → Arrives more (cond b x None) (cond c y None)
+pub when : (more : ℕ) (b c : Bool) (x y : Option Walked) → (b ≡ true → c ≡ true) → (b ≡ true → Arrives more x y) → Arrives more (cond b x None) (cond c y None)
 when more true c x y bc h = subst (λ c. Arrives more x (cond c y None)) (sym (bc refl)) (h refl)
 when more false c x y bc h = none_arrives more (cond c y None)
 
-either : (more : ℕ) (b c : Bool) (x₀ x₁ y₀ y₁ : Option Walked) → c ≡ b → Arrives more x₀ y₀ → Arrives more x₁ y₁ → Arrives more (cond b x₀ x₁) (cond c y₀ y₁)
+pub either : (more : ℕ) (b c : Bool) (x₀ x₁ y₀ y₁ : Option Walked) → c ≡ b → Arrives more x₀ y₀ → Arrives more x₁ y₁ → Arrives more (cond b x₀ x₁) (cond c y₀ y₁)
 either more true c x₀ x₁ y₀ y₁ cb h g = subst (λ c. Arrives more x₀ (cond c y₀ y₁)) (sym cb) h
 either more false c x₀ x₁ y₀ y₁ cb h g = subst (λ c. Arrives more x₁ (cond c y₀ y₁)) (sym cb) g
 
@@ -114,7 +68,7 @@ module _ (more p : ℕ) (E F : List ℕ → ℕ) (marks : IsParentFlags more) (g
 
 -- ---- what a map leaves of used entries
 
-or_or : (e m : ℕ) → bit_or (bit_or e m) m ≡ bit_or e m
+pub or_or : (e m : ℕ) → bit_or (bit_or e m) m ≡ bit_or e m
 or_or e m = same_from_bits _ _ (λ i. bit_at_or (bit_or e m) m i ∙ ap (λ x. max x (bit_at m i)) (bit_at_or e m i) ∙ twice (bit_at e i) (bit_at m i) ∙ sym (bit_at_or e m i))
   where
     twice : (a b : ℕ) → max (max a b) b ≡ max a b
@@ -124,21 +78,21 @@ or_or e m = same_from_bits _ _ (λ i. bit_at_or (bit_or e m) m i ∙ ap (λ x. m
 abbrev pub Grows : ℕ → PathMap → PathMap → Type 0
 Grows more M N = (r : List ℕ) → used (entry M r) ≡ true → (entry N r ≡ entry M r) ⊎ (entry N r ≡ bit_or (entry M r) more)
 
-grows_nothing : (more : ℕ) (M : PathMap) → Grows more M M
+pub grows_nothing : (more : ℕ) (M : PathMap) → Grows more M M
 grows_nothing more M r u = inl refl
 
-grows_then : (more : ℕ) (A B C : PathMap) → Grows more A B → Grows more B C → Grows more A C
+pub grows_then : (more : ℕ) (A B C : PathMap) → Grows more A B → Grows more B C → Grows more A C
 grows_then more A B C x y r u = ⊎_elim
     (λ e. ⊎_elim (λ g. inl (g ∙ e)) (λ g. inr (g ∙ ap (λ x. bit_or x more) e)) (y r (ap used e ∙ u)))
     (λ e. ⊎_elim (λ g. inr (g ∙ e)) (λ g. inr (g ∙ ap (λ x. bit_or x more) e ∙ or_or (entry A r) more)) (y r (ap used e ∙ used_or (entry A r) more (used_not_zero _ u))))
     (x r u)
 
-grows_marked : (more : ℕ) (M : PathMap) (p : List ℕ) → Grows more M (put M p (bit_or (entry M p) more))
+pub grows_marked : (more : ℕ) (M : PathMap) (p : List ℕ) → Grows more M (put M p (bit_or (entry M p) more))
 grows_marked more M p r u = ⊎_elim
     (λ is. inr (ap (entry (put M p (bit_or (entry M p) more))) is ∙ entry-put_same M p _ ∙ ap (λ r. bit_or (entry M r) more) (sym is)))
     (λ n. inl (entry-put_other M p _ r n)) (cases_path r p)
 
-grows_new : (more : ℕ) (M : PathMap) (p : List ℕ) (x : ℕ) → used (entry M p) ≡ false → Grows more M (put M p x)
+pub grows_new : (more : ℕ) (M : PathMap) (p : List ℕ) (x : ℕ) → used (entry M p) ≡ false → Grows more M (put M p x)
 grows_new more M p x n r u = inl (entry-put_other M p x r (λ is. let t : true ≡ false = sym u ∙ ap (λ r. used (entry M r)) is ∙ n in cc))
 
 module _ (more added : ℕ) (q : List ℕ) (e frame : ℕ) where
@@ -163,7 +117,7 @@ module _ (more added : ℕ) (q : List ℕ) (e frame : ℕ) where
         ]
       ] refl
 
-windowed_grown : (more : ℕ) (w : Window) (M N : PathMap) → Grows more M N → (r : List ℕ) → Grown more (windowed w M r) (windowed w N r)
+pub windowed_grown : (more : ℕ) (w : Window) (M N : PathMap) → Grows more M N → (r : List ℕ) → Grown more (windowed w M r) (windowed w N r)
 windowed_grown more w M N g [] h = inl refl
 windowed_grown more w M N g (i ∷ []) h = elim (i == w.index) as (λ b. present (cond b w.self_entry (entry M (i ∷ []))) ≡ true → (cond b w.self_entry (entry N (i ∷ [])) ≡ cond b w.self_entry (entry M (i ∷ []))) ⊎ (cond b w.self_entry (entry N (i ∷ [])) ≡ bit_or (cond b w.self_entry (entry M (i ∷ []))) more)) [
   | true ↦ λ h. inl refl
@@ -174,7 +128,7 @@ windowed_grown more w M N g (i ∷ j ∷ r) h = elim (i == w.index) as (λ b. pr
   | false ↦ λ h. g (i ∷ j ∷ r) (used_present _ h)
 ] h
 
-entry_at_grown : (more : ℕ) (window : Option Window) (M N : PathMap) → Grows more M N → (r : List ℕ) → Grown more (entry_at window M r) (entry_at window N r)
+pub entry_at_grown : (more : ℕ) (window : Option Window) (M N : PathMap) → Grows more M N → (r : List ℕ) → Grown more (entry_at window M r) (entry_at window N r)
 unfolding entry_at
 entry_at_grown more None M N g r h = g r (used_present _ h)
 entry_at_grown more (Some w) M N g r h = windowed_grown more w M N g r h

@@ -1,31 +1,31 @@
--- A map call leaves a hierarchy.
-use Rattle.std.proofs.Common.{◌≡◌, ◌≢◌, ◌<◌, ◌≤◌, ℕ, suc, ◌==◌, ◌&&◌, Bool, true, false, not, cond, List, [], ◌∷◌, ◌++◌, length, map, Some, None, nat_lt, bit_or, refl, sym, ap, ap₂, ◌∙◌, subst, subst₂, arith, le-ltb, append_assoc, eqb-true, eq-eqb}
+-- A map leaves a hierarchy.
+use Rattle.std.proofs.Common.{◌≡◌, ◌≢◌, ◌<◌, ◌≤◌, ℕ, suc, ◌&&◌, true, false, not, List, [], ◌∷◌, ◌++◌, length, map, Some, None, bit_or, refl, sym, ap, ap₂, ◌∙◌, subst, subst₂, arith, append_assoc}
 use Rattle.std.specs.List.{AllByRecursion}
-use Rattle.x86_64_model.specs.Entry.{IsParentFlags, has, used, huge, names_table}
+use Rattle.x86_64_model.specs.Entry.{IsParentFlags, used, huge}
 use Rattle.x86_64_model.specs.PathMap.{PathMap, entry, put, table_of, table_at}
 use Rattle.x86_64_model.specs.Path.{level_of, parents, AllBelow, IsPage}
-use Rattle.x86_64_model.specs.Window.{Window, begins_with}
-use Rattle.x86_64_model.specs.MapRule.{AfterMap, map_rule, map_call, leaf_entry}
+use Rattle.x86_64_model.specs.MapRule.{AfterMap, map_rule}
 use Rattle.x86_64_model.specs.Lemmas.Entries.Bits.{has_or}
 use Rattle.x86_64_model.specs.Lemmas.Paths.Puts.{entry-put_same}
 use Rattle.x86_64_model.specs.Lemmas.Hierarchies.Held.{no_end}
-use Rattle.x86_64_model.specs.Lemmas.Hierarchies.Changes.{map_again, unnamed}
+use Rattle.x86_64_model.specs.Lemmas.Hierarchies.Changes.{map_again}
 use Rattle.x86_64_model.specs.Lemmas.Maps.Down.{Descends, all_mapped}
-use Rattle.x86_64_model.specs.Lemmas.Maps.Frames.{IsFrame, AreParents, Conserves, map_conserves, table_of_marked, table_of_new, flags_or, frame_not_huge}
-use Rattle.x86_64_model.specs.Lemmas.Maps.Accepted.{map_ind, map_leaves, added_there}
+use Rattle.x86_64_model.specs.Lemmas.Maps.Frames.{IsFrame, AreParents, table_of_marked, table_of_new, flags_or, frame_not_huge}
+use Rattle.x86_64_model.specs.Lemmas.Maps.Accepted.{map_ind}
 use Rattle.x86_64_model.specs.Lemmas.Walks.Agrees.{named}
-use Rattle.x86_64_model.specs.Lemmas.Hierarchies.Trees.{IsTree, IsHierarchy, Reached, hierarchy_put, reached_used, reached_next, table_at_is, no_table_unused, some_one, some_not_none, tree_descends}
+use Rattle.x86_64_model.specs.Lemmas.Hierarchies.Trees.{IsTree, IsHierarchy, table_at_is, no_table_unused, some_one, some_not_none, tree_descends}
+use Rattle.x86_64_model.specs.Lemmas.Hierarchies.Puts.{Reached, hierarchy_put, reached_used, reached_next}
 
 -- each path is the one before and one more index
 abbrev pub Chain : List ℕ → List (List ℕ) → List ℕ → Type 0
 Chain pre [] q = (k : ℕ) × (k < 512) × (q ≡ pre ++ k ∷ [])
 Chain pre (p ∷ ps) q = (k : ℕ) × (k < 512) × (p ≡ pre ++ k ∷ []) × Chain p ps q
 
-parents_chain : (pre : List ℕ) (i : ℕ) (q : List ℕ) → AllBelow (i ∷ q) → Chain pre (map (λ r. pre ++ r) (parents (i ∷ q))) (pre ++ i ∷ q)
+pub parents_chain : (pre : List ℕ) (i : ℕ) (q : List ℕ) → AllBelow (i ∷ q) → Chain pre (map (λ r. pre ++ r) (parents (i ∷ q))) (pre ++ i ∷ q)
 parents_chain pre i [] a = (i, a.0, refl)
 parents_chain pre i (j ∷ q) a = (i, a.0, refl, subst₂ (λ ps q. Chain (pre ++ i ∷ []) ps q) (map_again pre i (parents (j ∷ q))) (append_assoc pre (i ∷ []) (j ∷ q)) (parents_chain (pre ++ i ∷ []) j q a.1))
 
-map_nothing : (ps : List (List ℕ)) → map (λ r. [] ++ r) ps ≡ ps
+pub map_nothing : (ps : List (List ℕ)) → map (λ r. [] ++ r) ps ≡ ps
 map_nothing [] = refl
 map_nothing (p ∷ ps) = ap (λ ps. p ∷ ps) (map_nothing ps)
 
@@ -36,11 +36,11 @@ page_chain L (i ∷ q) page = subst (λ ps. Chain [] ps (i ∷ q)) (map_nothing 
 pub page_descends : (L root : ℕ) (M : PathMap) → IsTree L root M → (q : List ℕ) → Descends M (parents q) q
 page_descends L root M tree q = subst (λ ps. Descends M ps q) (map_nothing (parents q)) (tree_descends L root M tree [] q)
 
-all_map : (P : List ℕ → Type 0) (f : List ℕ → List ℕ) (ps : List (List ℕ)) → AllByRecursion (λ p. P (f p)) ps → AllByRecursion P (map f ps)
+pub all_map : (P : List ℕ → Type 0) (f : List ℕ → List ℕ) (ps : List (List ℕ)) → AllByRecursion (λ p. P (f p)) ps → AllByRecursion P (map f ps)
 all_map P f [] h = tt
 all_map P f (p ∷ ps) h = (h.0, all_map P f ps h.1)
 
-parents_short : (q : List ℕ) → AllByRecursion (λ p. (0 < length p) × (length p < length q)) (parents q)
+pub parents_short : (q : List ℕ) → AllByRecursion (λ p. (0 < length p) × (length p < length q)) (parents q)
 parents_short [] = tt
 parents_short (i ∷ []) = tt
 parents_short (i ∷ j ∷ q) = ((omega arith, omega arith), all_map _ (λ q. i ∷ q) (parents (j ∷ q)) (all_mapped _ _ more (parents (j ∷ q)) (parents_short (j ∷ q))))
@@ -66,12 +66,12 @@ marked_hierarchy L root more M p marks h n u =
     zero [] n e = n refl
     zero (i ∷ p) n e = h.not_zero i p e
 
-nonempty : (p pre : List ℕ) (k : ℕ) → p ≡ pre ++ k ∷ [] → p ≢ []
+pub nonempty : (p pre : List ℕ) (k : ℕ) → p ≡ pre ++ k ∷ [] → p ≢ []
 nonempty p pre k e z = no_end pre k (sym z ∙ e)
 
 module _ (L root more added : ℕ) (marks : IsParentFlags more) (adds : IsParentFlags added) (q : List ℕ) (e frame : ℕ) (no_table : table_of L q e ≡ None) (low : 3 < level_of L q → huge e ≡ false) where
   -- before and after a way down
-  abbrev Goes : PathMap → List ℕ → List (List ℕ) → AfterMap → Type 0
+  abbrev pub Goes : PathMap → List ℕ → List (List ℕ) → AfterMap → Type 0
   Goes M s ps m = (pre : List ℕ) → Chain pre ps q → table_at L root M pre ≢ None → AreParents L ps → IsHierarchy L root M → AllByRecursion IsFrame s → IsHierarchy L root m.paths × AllByRecursion IsFrame m.supply
 
   pub reached_step : (M : PathMap) (p pre : List ℕ) (k : ℕ) → k < 512 → p ≡ pre ++ k ∷ [] → table_at L root M pre ≢ None → Reached L root M p
@@ -109,57 +109,3 @@ module _ (L root more added : ℕ) (marks : IsParentFlags more) (adds : IsParent
       (λ M p ps u pre c leads a h fr. (h, tt))
       (λ M f fs p ps d u m ih pre c leads a h fr. ih p c.3 (λ z. some_not_none f (sym (new_leads M p f fr.0 a.0.1 (nonempty p pre c.0 c.2)) ∙ z)) a.1
       (new_hierarchy M p pre c.0 f c.1 c.2 leads a.0.1 fr.0 h u) fr.1)
-
--- ---- a map call of a page
-
-itself : has 0x80 0x80 ≡ true
-unfolding has
-itself = refl
-
--- the entry of a page names no table
-pub leaf_no_table : (L : ℕ) (q : List ℕ) (frame given : ℕ) → IsPage L q → table_of L q (leaf_entry L q frame given) ≡ None
-unfolding table_of
-leaf_no_table L q frame given page = elim (length q == L) as (λ b. (length q == L) ≡ b → table_of L q (bit_or frame (cond b given (bit_or given 0x80))) ≡ None) [
-  | true ↦ λ e. last (names_table (bit_or frame given)) _ (eqb-true (length q) L e)
-  | false ↦ λ e. unnamed L q _ (by (used (bit_or frame (bit_or given 0x80))) (added_there frame (bit_or given 0x80) 0x80 (added_there given 0x80 0x80 itself)))
-] refl
-  where
-    by : (u : Bool) {h : Bool} → h ≡ true → (u && not h) ≡ false
-    by true e = ap not e
-    by false e = refl
-
-    last : (b : Bool) (x : ℕ) → length q ≡ L → cond (b && nat_lt (length q) L) (Some x) None ≡ None
-    last true x l = ap (λ b. cond b (Some x) None) (le-ltb (length q) L (omega arith))
-    last false x l = refl
-
-pub leaf_low : (L : ℕ) (q : List ℕ) (e : ℕ) → IsPage L q → 3 < level_of L q → huge e ≡ false
-leaf_low L q e page up = absurd (let a = page.at_least in omega arith)
-
-pub not_first : (i r : ℕ) (s : List ℕ) → (i == r) ≡ false → r ∷ [] ≢ i ∷ s
-not_first i r s out e = let x : r ≡ i = cc in let y : (i == r) ≡ true = eq-eqb i r (sym x) in let z : true ≡ false = sym y ∙ out in cc
-
-root_leads : (L root : ℕ) (M : PathMap) → table_at L root M [] ≢ None
-root_leads L root M = some_not_none root
-
-module _ (L root more added : ℕ) (marks : IsParentFlags more) (adds : IsParentFlags added) (q : List ℕ) (frame given : ℕ) (page : IsPage L q) (M : PathMap) (supply : List ℕ) (h : IsHierarchy L root M) (frames : AllByRecursion IsFrame supply) where
-  pub map_hierarchy : IsHierarchy L root (map_call L M supply more added q frame given).paths × AllByRecursion IsFrame (map_call L M supply more added q frame given).supply
-  map_hierarchy = map_goes L root more added marks adds q (leaf_entry L q frame given) frame (leaf_no_table L q frame given page) (leaf_low L q _ page) M supply (parents q) (page_descends L root M h.tree q)
-      [] (page_chain L q page) (root_leads L root M) (parents_are L q page.at_most) h frames
-
-  pub map_conserved : Conserves L root M supply (map_call L M supply more added q frame given).paths (map_call L M supply more added q frame given).supply
-  map_conserved = by q page
-    where
-      by : (q : List ℕ) → IsPage L q → Conserves L root M supply (map_call L M supply more added q frame given).paths (map_call L M supply more added q frame given).supply
-      by [] page = absurd (let l = page.nonempty in omega arith)
-      by (i ∷ q) page = map_conserves L root more added marks adds i q _ frame (leaf_no_table L (i ∷ q) frame given page) M supply (parents (i ∷ q)) (page_descends L root M h.tree (i ∷ q)) (parents_are L (i ∷ q) page.at_most) frames
-
-  -- other first indices keep their entries
-  pub map_aside : (w : Window) → begins_with (Some w) q ≡ false → entry (map_call L M supply more added q frame given).paths (w.index ∷ []) ≡ entry M (w.index ∷ [])
-  map_aside w = by q page
-    where
-      by : (q : List ℕ) → IsPage L q → begins_with (Some w) q ≡ false → entry (map_call L M supply more added q frame given).paths (w.index ∷ []) ≡ entry M (w.index ∷ [])
-      by [] page out = absurd (let l = page.nonempty in omega arith)
-      by (i ∷ q) page out =
-          let apart : (s t : List ℕ) → t ≡ i ∷ s → w.index ∷ [] ≢ t = λ s t is e. not_first i w.index s out (e ∙ is) in
-          map_leaves more added (i ∷ q) _ frame (w.index ∷ []) (apart q (i ∷ q) refl) M supply (parents (i ∷ q)) (page_descends L root M h.tree (i ∷ q))
-          (all_mapped _ _ (λ p (h : (s : List ℕ) × (p ≡ i ∷ s)). apart h.0 p h.1) (parents (i ∷ q)) (parents_begin i q))

@@ -1,9 +1,9 @@
 -- What the lists of ranges have.
-use Rattle.std.proofs.Common.{◌≡◌, ◌↔◌, ◌<◌, ◌≤◌, ◌+◌, ◌-◌, ◌*◌, ◌/◌, ℕ, zero, suc, inl, inr, cond, nat_lt, List, [], map, refl, sym, ap, ◌∙◌, subst, arith, le-ltb}
+use Rattle.std.proofs.Common.{◌≡◌, ◌↔◌, ◌<◌, ◌+◌, ◌-◌, ◌*◌, ◌/◌, ℕ, zero, suc, inl, inr, cond, [], sym, ap, ◌∙◌, subst, arith, le-ltb}
 use Rattle.std.specs.List.{range_with_len}
 use Rattle.std.proofs.Math.Nat.{mul-div_left}
 use Rattle.x86_64_model.specs.Lists.{In}
-use Rattle.x86_64_model.specs.Range.{starts_from, exclusive_range, inclusive_range}
+use Rattle.x86_64_model.specs.Range.{starts_from, inclusive_range}
 use Rattle.x86_64_model.specs.Laws.Ranges.{ExclusiveHas, InclusiveHas}
 use Rattle.x86_64_model.specs.Lemmas.Lists.Members.{in_map, from_map, in_range}
 

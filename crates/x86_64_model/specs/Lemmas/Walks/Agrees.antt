@@ -1,99 +1,31 @@
--- The page walk from the entries that it reads, and `translate`, at any number of levels.
-use Rattle.std.proofs.Common.{zero, suc, ◌≡◌, ◌≢◌, ◌<◌, ◌+◌, ◌%◌, ℕ, ◌==◌, ◌&&◌, Bool, true, false, not, cond, List, [], ◌∷◌, ◌++◌, length, get_or, nat_le, Some, None, Option, IsSome, option_map, option_and_then, refl, sym, ap, ap₂, ◌∙◌, subst, arith, lit<, mod-lt, set, eqb-true, lt-ltb, length-append}
+-- In a valid hierarchy the entries that are read are the words, and `translate` agrees with the walk.
+use Rattle.std.proofs.Common.{zero, suc, ◌≡◌, ◌≢◌, ◌<◌, ◌+◌, ℕ, ◌==◌, ◌&&◌, Bool, true, false, cond, List, [], ◌∷◌, ◌++◌, length, nat_le, Some, None, Option, IsSome, option_map, refl, sym, ap, ap₂, ◌∙◌, subst, arith, set, eqb-true, lt-ltb}
 use Rattle.std.proofs.lemmas.Bool.{eqb-false, leb-false}
-use Rattle.x86_64_model.specs.Entry.{used, present, writable, user, huge, address, flags, names_table}
-use Rattle.x86_64_model.specs.Memory.{Words, word, word_in, set_word}
+use Rattle.x86_64_model.specs.Entry.{used, present, huge, address, flags, names_table}
+use Rattle.x86_64_model.specs.Memory.{Words, word, set_word}
 use Rattle.x86_64_model.specs.PathMap.{PathMap, entry, table_of}
 use Rattle.x86_64_model.specs.Path.{level_of}
 use Rattle.x86_64_model.specs.Hierarchy.{entry_in, Holds, IsValid}
 use Rattle.x86_64_model.specs.Window.{Window, windowed, entry_at, IsSelfEntry, IsValidFor}
 use Rattle.x86_64_model.specs.Lemmas.Hierarchies.Held.{word-set_frame, word-set_index}
-use Rattle.x86_64_model.specs.Position.{index, span}
-use Rattle.x86_64_model.specs.PageWalk.{page_start, Walked, arrives, read, walk_on, page_walk}
+use Rattle.x86_64_model.specs.Position.{index}
+use Rattle.x86_64_model.specs.PageWalk.{Walked, arrives, page_walk}
 use Rattle.x86_64_model.specs.Translation.{Translated, NotMapped, Mapped, translate_on, translate, present_to, Agrees}
 use Rattle.x86_64_model.specs.Lemmas.Entries.Bits.{present_flags, used_present}
-
--- E gives the words that are read on the way down, as far as tables lead
-pub record Reads (L : ℕ) (tables : Words) (root : ℕ) (E : List ℕ → ℕ) : Type 0 where
-  pub first : (i : ℕ) → E (i ∷ []) ≡ word tables root i
-  pub next : (q : List ℕ) (j : ℕ) → names_table (E q) ≡ true → length q < L → E (q ++ j ∷ []) ≡ word tables (address (E q)) j
-  pub root_there : IsSome (tables root)
-  pub there : (q : List ℕ) → names_table (E q) ≡ true → length q < L → IsSome (tables (address (E q)))
-  pub none_huge : (q : List ℕ) → 3 < level_of L q → huge (E q) ≡ false
-
-pub read_there : (tables : Words) (f i : ℕ) → i < 512 → IsSome (tables f) → read tables f i ≡ Some (word tables f i)
-unfolding word
-read_there tables f i l h = by (tables f) h ∙ ap (λ b. Some (cond b (word_in (tables f) i) 0)) (sym (lt-ltb i 512 l))
-  where
-    by : (o : Option (List ℕ)) → IsSome o → option_map (λ words. get_or words i 0) o ≡ Some (word_in o i)
-    by None h = cc
-    by (Some words) h = refl
-
-pub index_small : (level p : ℕ) → index level p < 512
-unfolding index
-index_small level p = mod-lt _ (lit< tt)
-
-pub names : (w : ℕ) → present w ≡ true → huge w ≡ false → names_table w ≡ true
-names w h g = ap₂ (λ u h. u && not h) (used_present w h) g
-
--- ---- the walk, from the entries at the front parts of the path in place of the words
-
--- what a word of level two or more says, where next is the walk on from the table that it names
-abbrev pub passed : (level p : ℕ) → (w u : Bool) → (e : ℕ) → Option Walked → Option Walked
-passed level p w u e next = cond (present e)
-    (cond (huge e) (cond (nat_le level 3) (arrives (page_start level e + p % span level) (w && writable e) (u && user e)) None) next) None
-
-abbrev pub walked : (List ℕ → ℕ) → (p level : ℕ) → List ℕ → (w u : Bool) → Option Walked
-walked E p zero q w u = None
-walked E p (suc zero) q w u = let e = E (q ++ index 1 p ∷ []) in
-    cond (present e) (arrives (address e + p % span 1) (w && writable e) (u && user e)) None
-walked E p (suc (suc n)) q w u = let e = E (q ++ index (suc (suc n)) p ∷ []) in
-    passed (suc (suc n)) p w u e (walked E p (suc n) (q ++ index (suc (suc n)) p ∷ []) (w && writable e) (u && user e))
-
-pub on_if_table : (level p e : ℕ) (w u : Bool) (x y : Option Walked) → (present e ≡ true → huge e ≡ false → x ≡ y) → passed level p w u e x ≡ passed level p w u e y
-on_if_table level p e w u x y same = by (present e) (huge e) same
-  where
-    by : (h g : Bool) → (h ≡ true → g ≡ false → x ≡ y)
-        → cond h (cond g (cond (nat_le level 3) (arrives (page_start level e + p % span level) (w && writable e) (u && user e)) None) x) None
-        ≡ cond h (cond g (cond (nat_le level 3) (arrives (page_start level e + p % span level) (w && writable e) (u && user e)) None) y) None
-    by true true s = refl
-    by true false s = s refl refl
-    by false g s = refl
-
-pub one_more : (q : List ℕ) (i : ℕ) → length (q ++ i ∷ []) ≡ length q + 1
-one_more q i = length-append q (i ∷ [])
-
-module _ (L : ℕ) (tables : Words) (root : ℕ) (E : List ℕ → ℕ) (reads : Reads L tables root E) where
-  next : (q : List ℕ) (j : ℕ) → j < 512 → length q < L → present (E q) ≡ true → huge (E q) ≡ false → read tables (address (E q)) j ≡ Some (E (q ++ j ∷ []))
-  next q j s l h g = read_there tables (address (E q)) j s (reads.there q (names (E q) h g) l) ∙ ap Some (sym (reads.next q j (names (E q) h g) l))
-
-  walk_is : (p level : ℕ) (q : List ℕ) (w u : Bool) (f : ℕ) → length q + level ≡ L → ((j : ℕ) → j < 512 → read tables f j ≡ Some (E (q ++ j ∷ []))) → walk_on tables p level w u f ≡ walked E p level q w u
-  unfolding walk_on
-  walk_is p zero q w u f l at = refl
-  walk_is p (suc zero) q w u f l at = ap (option_and_then (λ e. cond (present e) (arrives (address e + p % span 1) (w && writable e) (u && user e)) None)) (at (index 1 p) (index_small 1 p))
-  walk_is p (suc (suc n)) q w u f l at =
-      let i = index (suc (suc n)) p in let e = E (q ++ i ∷ []) in
-      ap (option_and_then (λ e. passed (suc (suc n)) p w u e (walk_on tables p (suc n) (w && writable e) (u && user e) (address e)))) (at i (index_small (suc (suc n)) p))
-      ∙ on_if_table (suc (suc n)) p e w u _ _ (λ h g. walk_is p (suc n) (q ++ i ∷ []) (w && writable e) (u && user e) (address e)
-      (omega (arith, one_more q i, l))
-      (λ j s. next (q ++ i ∷ []) j s (omega (arith, one_more q i, l)) h g))
-
-  pub page_walk_is : (p : ℕ) → page_walk L tables root p ≡ walked E p L [] true true
-  unfolding page_walk
-  page_walk_is p = walk_is p L [] true true root (omega arith) (λ j s. read_there tables root j s reads.root_there ∙ ap Some (sym (reads.first j)))
+use Rattle.x86_64_model.specs.Lemmas.Walks.Walked.{Reads, walked, one_more, page_walk_is}
 
 -- ---- `translate` beside the walk
 
-abbrev to : Option Walked → Option ℕ
+abbrev pub to : Option Walked → Option ℕ
 to = option_map (λ w. w.address)
 
-leaf : (e size a o : ℕ) (w u : Bool) → to (cond (present e) (arrives (a + o) w u) None) ≡ present_to (cond (used e) (Mapped size a o (flags e)) NotMapped)
+pub leaf : (e size a o : ℕ) (w u : Bool) → to (cond (present e) (arrives (a + o) w u) None) ≡ present_to (cond (used e) (Mapped size a o (flags e)) NotMapped)
 leaf e size a o w u = elim (present e) as (λ b. present e ≡ b → to (cond b (arrives (a + o) w u) None) ≡ present_to (cond (used e) (Mapped size a o (flags e)) NotMapped)) [
   | true ↦ λ h. sym (ap (λ u. present_to (cond u (Mapped size a o (flags e)) NotMapped)) (used_present e h) ∙ ap (λ b. cond b (Some (a + o)) None) (present_flags e ∙ h))
   | false ↦ λ h. sym (elim (used e) as (λ u. present_to (cond u (Mapped size a o (flags e)) NotMapped) ≡ None) [ true ↦ ap (λ b. cond b (Some (a + o)) None) (present_flags e ∙ h) | false ↦ refl ])
 ] refl
 
-inner : (e size a o : ℕ) (b w u : Bool) (walk : Option Walked) (rest : Translated) → (b ≡ false → huge e ≡ false) → to walk ≡ present_to rest
+pub inner : (e size a o : ℕ) (b w u : Bool) (walk : Option Walked) (rest : Translated) → (b ≡ false → huge e ≡ false) → to walk ≡ present_to rest
     → to (cond (present e) (cond (huge e) (cond b (arrives (a + o) w u) None) walk) None) ≡ present_to (cond (present e) (cond (b && huge e) (Mapped size a o (flags e)) rest) NotMapped)
 inner e size a o b w u walk rest low same = by (present e) (huge e) b refl low
   where
@@ -117,16 +49,16 @@ pub named : (L : ℕ) (q : List ℕ) (e : ℕ) → names_table e ≡ true → le
 unfolding table_of
 named L q e h l = ap₂ (λ n b. cond (n && b) (Some (address e)) None) h (lt-ltb _ _ l)
 
-zero_names_none : {X : Type 0} → names_table 0 ≡ true → X
+pub zero_names_none : {X : Type 0} → names_table 0 ≡ true → X
 unfolding used
 zero_names_none h = cc
 
 module _ (L : ℕ) (T : Words) (root : ℕ) (M : PathMap) (holds : Holds L T root M) where
-  below_table : (q : List ℕ) (j : ℕ) → names_table (entry M q) ≡ true → length q < L → entry M (q ++ j ∷ []) ≡ word T (address (entry M q)) j
+  pub below_table : (q : List ℕ) (j : ℕ) → names_table (entry M q) ≡ true → length q < L → entry M (q ++ j ∷ []) ≡ word T (address (entry M q)) j
   below_table [] j h l = zero_names_none (ap names_table (sym holds.nothing_above) ∙ h)
   below_table (i ∷ q) j h l = holds.entries (i ∷ q) j ∙ ap (λ t. entry_in T t j) (named L (i ∷ q) (entry M (i ∷ q)) h l)
 
-  table_there : (q : List ℕ) → names_table (entry M q) ≡ true → length q < L → IsSome (T (address (entry M q)))
+  pub table_there : (q : List ℕ) → names_table (entry M q) ≡ true → length q < L → IsSome (T (address (entry M q)))
   table_there [] h l = zero_names_none (ap names_table (sym holds.nothing_above) ∙ h)
   table_there (i ∷ q) h l = holds.in_memory (i ∷ q) _ (named L (i ∷ q) (entry M (i ∷ q)) h l)
 
@@ -150,19 +82,19 @@ module _ (L : ℕ) (T : Words) (root : ℕ) (M : PathMap) (w : Window) (valid : 
       by true (Some words) h = h
       by false o h = h
 
-  not_root : (i : ℕ) (q : List ℕ) → names_table (entry M (i ∷ q)) ≡ true → length (i ∷ q) < L → address (entry M (i ∷ q)) ≢ root
+  pub not_root : (i : ℕ) (q : List ℕ) → names_table (entry M (i ∷ q)) ≡ true → length (i ∷ q) < L → address (entry M (i ∷ q)) ≢ root
   not_root i q h l e = let k : i ∷ q ≡ [] = valid.own_frames (i ∷ q) [] root (named L (i ∷ q) (entry M (i ∷ q)) h l ∙ ap Some e) refl in cc
 
-  plain : (i : ℕ) (q : List ℕ) (j : ℕ) → names_table (entry M (i ∷ q)) ≡ true → length (i ∷ q) < L → entry M ((i ∷ q) ++ j ∷ []) ≡ word T (address (entry M (i ∷ q))) j
+  pub plain : (i : ℕ) (q : List ℕ) (j : ℕ) → names_table (entry M (i ∷ q)) ≡ true → length (i ∷ q) < L → entry M ((i ∷ q) ++ j ∷ []) ≡ word T (address (entry M (i ∷ q))) j
   plain i q j h l = below_table L _ root M valid.holds (i ∷ q) j h l ∙ word-set_frame T root w.index 0 _ j (not_root i q h l)
 
-  first : (i : ℕ) → windowed w M (i ∷ []) ≡ word T root i
+  pub first : (i : ℕ) → windowed w M (i ∷ []) ≡ word T root i
   first i = elim (i == w.index) as (λ b. (i == w.index) ≡ b → cond b w.self_entry (entry M (i ∷ [])) ≡ word T root i) [
     | true ↦ λ e. self.is_word ∙ ap (word T root) (sym (eqb-true i w.index e))
     | false ↦ λ e. valid.holds.entries [] i ∙ word-set_index T root w.index 0 root i (eqb-false i w.index e)
   ] refl
 
-  below : (q : List ℕ) (j : ℕ) → names_table (windowed w M q) ≡ true → length q < L → windowed w M (q ++ j ∷ []) ≡ word T (address (windowed w M q)) j
+  pub below : (q : List ℕ) (j : ℕ) → names_table (windowed w M q) ≡ true → length q < L → windowed w M (q ++ j ∷ []) ≡ word T (address (windowed w M q)) j
   below [] j h l = zero_names_none h
   below (i ∷ []) j h l = elim (i == w.index) as (λ b. names_table (cond b w.self_entry (entry M (i ∷ []))) ≡ true → cond b (windowed w M (j ∷ [])) (entry M (i ∷ j ∷ [])) ≡ word T (address (cond b w.self_entry (entry M (i ∷ [])))) j) [
     | true ↦ λ h. first j ∙ ap (λ f. word T f j) (sym self.names_root)
@@ -173,7 +105,7 @@ module _ (L : ℕ) (T : Words) (root : ℕ) (M : PathMap) (w : Window) (valid : 
     | false ↦ λ h. plain i (k ∷ q) j h l
   ] h
 
-  there : (q : List ℕ) → names_table (windowed w M q) ≡ true → length q < L → IsSome (T (address (windowed w M q)))
+  pub there : (q : List ℕ) → names_table (windowed w M q) ≡ true → length q < L → IsSome (T (address (windowed w M q)))
   there [] h l = zero_names_none h
   there (i ∷ []) h l = elim (i == w.index) as (λ b. names_table (cond b w.self_entry (entry M (i ∷ []))) ≡ true → IsSome (T (address (cond b w.self_entry (entry M (i ∷ [])))))) [
     | true ↦ λ h. subst (λ f. IsSome (T f)) (sym self.names_root) (is_some-unset root (valid.holds.in_memory [] root refl))
@@ -184,7 +116,7 @@ module _ (L : ℕ) (T : Words) (root : ℕ) (M : PathMap) (w : Window) (valid : 
     | false ↦ λ h. is_some-unset _ (table_there L _ root M valid.holds (i ∷ k ∷ q) h l)
   ] h
 
-  low : (q : List ℕ) → 3 < level_of L q → huge (windowed w M q) ≡ false
+  pub low : (q : List ℕ) → 3 < level_of L q → huge (windowed w M q) ≡ false
   low [] h = ap huge (sym valid.holds.nothing_above) ∙ valid.none_huge [] h
   low (i ∷ []) h = elim (i == w.index) as (λ b. huge (cond b w.self_entry (entry M (i ∷ []))) ≡ false) [ true ↦ self.not_huge | false ↦ valid.none_huge (i ∷ []) h ]
   low (i ∷ j ∷ q) h = elim (i == w.index) as (λ b. huge (cond b (windowed w M (j ∷ q)) (entry M (i ∷ j ∷ q))) ≡ false) [ true ↦ low (j ∷ q) (omega arith) | false ↦ valid.none_huge (i ∷ j ∷ q) h ]

@@ -11,7 +11,7 @@ use Rattle.x86_64_model.specs.Translation.{Translated, NotMapped, Mapped, transl
 use Rattle.x86_64_model.specs.Lemmas.Entries.Bits.{zero_absent}
 use Rattle.x86_64_model.specs.Lemmas.Hierarchies.Changes.{zero_not_used}
 use Rattle.x86_64_model.specs.Lemmas.Paths.Puts.{entry-put_other}
-use Rattle.x86_64_model.specs.Lemmas.Walks.Agrees.{walked, passed, one_more}
+use Rattle.x86_64_model.specs.Lemmas.Walks.Walked.{walked, passed, one_more}
 use Rattle.x86_64_model.specs.Lemmas.Maps.Arrives.{entry_outside, first_alone}
 
 -- E and F are the same at the front parts of the path

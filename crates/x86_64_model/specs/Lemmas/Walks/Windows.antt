@@ -7,7 +7,7 @@ use Rattle.x86_64_model.specs.Position.{index, span, page_path}
 use Rattle.x86_64_model.specs.PageWalk.{page_start, read, arrives, walk_on, page_walk, Walked}
 use Rattle.x86_64_model.specs.Arrivals.{leads, Reaches}
 use Rattle.x86_64_model.specs.Laws.Walks.{WindowsReach}
-use Rattle.x86_64_model.specs.Lemmas.Walks.Agrees.{read_there, passed}
+use Rattle.x86_64_model.specs.Lemmas.Walks.Walked.{read_there, passed}
 
 -- where the words of the whole path lead on, the walk arrives there
 module _ (T : Words) (p g : ℕ) where
