@@ -8,3 +8,4 @@ pub mod Pairs
 pub mod Validity
 pub mod Pools
 pub mod Ranges
+pub mod Worked

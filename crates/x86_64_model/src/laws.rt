@@ -9,3 +9,4 @@ pub mod positions;
 pub mod steps;
 pub mod validity;
 pub mod walks;
+pub mod worked;

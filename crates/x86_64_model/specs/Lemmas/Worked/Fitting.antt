@@ -1,10 +1,10 @@
 -- The premises of the laws can be met, and some steps by computation.
-use Rattle.std.proofs.Common.{◌≡◌, ◌≢◌, ◌⊎◌, inl, inr, ⊎_elim, ℕ, zero, suc, get_or, ◌&&◌, true, false, cond, List, [], ◌∷◌, Some, None, IsSome, nat_lt, replicate, refl, sym, ap, ◌∙◌, subst, lit<, unwrap_or}
+use Rattle.std.proofs.Common.{◌≡◌, ◌≢◌, ◌⊎◌, inl, inr, ⊎_elim, ℕ, zero, suc, get_or, ◌&&◌, true, false, cond, List, [], ◌∷◌, Some, None, IsSome, nat_lt, replicate, refl, sym, ap, ◌∙◌, subst, lit<}
 use Rattle.std.proofs.lemmas.Bool.{eqb-false}
-use Rattle.std.specs.FinMap.{empty, get-empty}
+use Rattle.std.specs.FinMap.{empty}
 use Rattle.x86_64_model.specs.Entry.{has, used, address, is_frame}
 use Rattle.x86_64_model.specs.Memory.{Words, word}
-use Rattle.x86_64_model.specs.PathMap.{entry, table_of, table_at}
+use Rattle.x86_64_model.specs.PathMap.{table_of, table_at}
 use Rattle.x86_64_model.specs.Window.{Window, IsValidFor}
 use Rattle.x86_64_model.specs.Hierarchy.{IsValid}
 use Rattle.x86_64_model.specs.MapRule.{map_rule}
@@ -15,15 +15,13 @@ use Rattle.x86_64_model.specs.Machine.{State, do_call, step}
 use Rattle.x86_64_model.specs.Lemmas.Machines.Effects.{machine}
 use Rattle.x86_64_model.specs.Call.{MapTo, Answered, NotAllowed}
 use Rattle.x86_64_model.specs.Allowed.{allowed}
-use Rattle.x86_64_model.specs.Lemmas.Paths.Puts.{path_cmp, entry-put}
+use Rattle.x86_64_model.specs.Laws.Worked.{nothing_mapped, SomePoolFits}
+use Rattle.x86_64_model.specs.Lemmas.Worked.FourLevels.{entry-empty}
+use Rattle.x86_64_model.specs.Lemmas.Paths.Puts.{entry-put}
 use Rattle.x86_64_model.specs.Lemmas.Hierarchies.Changes.{unused_no_table}
 use Rattle.x86_64_model.specs.Lemmas.Hierarchies.Empty.{empty_valid}
 use Rattle.x86_64_model.specs.Lemmas.Hierarchies.Trees.{hierarchy_of_valid, some_one, some_not_none}
 use Rattle.x86_64_model.specs.Lemmas.Machines.Witness.{with_self, witness}
-
-entry-empty : (q : List ℕ) → entry empty q ≡ 0
-unfolding entry
-entry-empty q = ap (λ o. unwrap_or o 0) (get-empty path_cmp q)
 
 pub none : State
 none = record { paths = empty; pool = 0x2000 ∷ 0x3000 ∷ 0x4000 ∷ [] }
@@ -96,3 +94,7 @@ recursive_replies = simp (entry-put, entry-empty)
 window_not_allowed : step (machine 4 (Some last) 3 (λ held f. f ∷ held)) none (MapTo (511 ∷ 0 ∷ 0 ∷ 0 ∷ []) 0x5000 3) ≡ (none, NotAllowed)
 unfolding allowed last none has address
 window_not_allowed = refl
+
+pub some_pool_fits : SomePoolFits
+unfolding nothing_mapped
+some_pool_fits = (zeros, fits)

@@ -1,4 +1,4 @@
--- Worked rows of five levels, by computation.
+-- Worked examples of five levels, by computation.
 use Rattle.std.proofs.Common.{◌≡◌, ℕ, true, false, List, [], ◌∷◌, Some, None, refl, replicate}
 use Rattle.std.specs.FinMap.{empty, insert}
 use Rattle.std.specs.Ordering.{nat_cmp}

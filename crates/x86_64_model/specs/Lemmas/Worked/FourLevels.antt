@@ -1,9 +1,9 @@
--- Worked rows, by computation.
-use Rattle.std.proofs.Common.{◌≡◌, ◌≢◌, ℕ, true, false, cond, List, [], ◌∷◌, Some, None, refl, ap, unwrap_or, ◌==◌, nat_lt, replicate}
+-- The worked examples of four levels, by computation.
+use Rattle.std.proofs.Common.{◌≡◌, ◌≢◌, ℕ, true, false, cond, List, [], ◌∷◌, Some, None, refl, ap, unwrap_or}
 use Rattle.std.specs.FinMap.{empty, get-empty, get, insert, get-insert}
 use Rattle.std.specs.Cmp.{nat_cmp_total}
 use Rattle.std.specs.Ordering.{nat_cmp, eq_by_cmp}
-use Rattle.x86_64_model.specs.Memory.{Words, Memory, word, words_of, identity_places}
+use Rattle.x86_64_model.specs.Memory.{Memory, word, words_of, identity_places}
 use Rattle.x86_64_model.specs.Entry.{has, used, address, flags}
 use Rattle.x86_64_model.specs.PathMap.{PathMap, entry, put, table_at, table_of}
 use Rattle.x86_64_model.specs.MapRule.{map_rule, map_call}
@@ -13,6 +13,7 @@ use Rattle.x86_64_model.specs.Translation.{translate, translate_on, Mapped as Is
 use Rattle.x86_64_model.specs.PageWalk.{walk_on, page_walk}
 use Rattle.x86_64_model.specs.Window.{entry_at}
 use Rattle.x86_64_model.specs.Hierarchy.{IsValid}
+use Rattle.x86_64_model.specs.Laws.Worked.{nothing_mapped, three_frames, small_mapped, small_memory, large_mapped, shared_table_image, SmallMap, LargeMap}
 use Rattle.x86_64_model.specs.Lemmas.Paths.Puts.{entry-put, path_cmp}
 
 pub entry-empty : (q : List ℕ) → entry empty q ≡ 0
@@ -24,43 +25,33 @@ path : page_path 4 0x1abc ≡ 0 ∷ 0 ∷ 0 ∷ 1 ∷ []
 unfolding page_path index
 path = refl
 
-mapped_small : PathMap
-mapped_small = put (put (put (put empty (0 ∷ []) 0x2003) (0 ∷ 0 ∷ []) 0x3003) (0 ∷ 0 ∷ 0 ∷ []) 0x4003) (0 ∷ 0 ∷ 0 ∷ 1 ∷ []) 0x5003
-
-map_small : map_call 4 empty (0x2000 ∷ 0x3000 ∷ 0x4000 ∷ []) 3 0 (0 ∷ 0 ∷ 0 ∷ 1 ∷ []) 0x5000 3 ≡ record { paths = mapped_small; supply = []; answer = Done 0x5000 }
-unfolding map_rule mapped_small used
+map_small : map_call 4 nothing_mapped three_frames 3 0 (0 ∷ 0 ∷ 0 ∷ 1 ∷ []) 0x5000 3 ≡ record { paths = small_mapped; supply = []; answer = Done 0x5000 }
+unfolding map_rule small_mapped nothing_mapped used
 map_small = simp (entry-put, entry-empty)
 
-small_translates : translate 4 (entry_at None mapped_small) 0x1abc ≡ IsMapped 4096 0x5000 0xabc 3
-unfolding translate translate_on mapped_small entry_at used has index address flags
+small_translates : translate 4 (entry_at None small_mapped) 0x1abc ≡ IsMapped 4096 0x5000 0xabc 3
+unfolding translate translate_on small_mapped nothing_mapped entry_at used has index address flags
 small_translates = simp (entry-put, entry-empty)
 
 -- a 2MiB page
-mapped_large : PathMap
-mapped_large = put (put (put empty (0 ∷ []) 0x2001) (0 ∷ 0 ∷ []) 0x3001) (0 ∷ 0 ∷ 1 ∷ []) 0x400081
-
-map_large : map_call 4 empty (0x2000 ∷ 0x3000 ∷ 0x4000 ∷ []) 1 0 (0 ∷ 0 ∷ 1 ∷ []) 0x400000 1 ≡ record { paths = mapped_large; supply = 0x4000 ∷ []; answer = Done 0x400000 }
-unfolding map_rule mapped_large used
+map_large : map_call 4 nothing_mapped three_frames 1 0 (0 ∷ 0 ∷ 1 ∷ []) 0x400000 1 ≡ record { paths = large_mapped; supply = 0x4000 ∷ []; answer = Done 0x400000 }
+unfolding map_rule large_mapped nothing_mapped used
 map_large = simp (entry-put, entry-empty)
 
-large_translates : translate 4 (entry_at None mapped_large) 0x23_4567 ≡ IsMapped 0x20_0000 0x400000 0x34567 0x81
-unfolding translate translate_on mapped_large entry_at used has index address flags
+large_translates : translate 4 (entry_at None large_mapped) 0x23_4567 ≡ IsMapped 0x20_0000 0x400000 0x34567 0x81
+unfolding translate translate_on large_mapped nothing_mapped entry_at used has index address flags
 large_translates = simp (entry-put, entry-empty)
 
 -- a 4KiB page below it. The flags are added to the huge entry that refuses
-map_below_huge : map_call 4 mapped_large (0x4000 ∷ []) 3 0 (0 ∷ 0 ∷ 1 ∷ 1 ∷ []) 0x9000 3
-    ≡ record { paths = put (put (put mapped_large (0 ∷ []) 0x2003) (0 ∷ 0 ∷ []) 0x3003) (0 ∷ 0 ∷ 1 ∷ []) 0x400083; supply = 0x4000 ∷ []; answer = Refused ParentEntryHugePage }
-unfolding map_rule mapped_large used has
+pub map_below_huge : map_call 4 large_mapped (0x4000 ∷ []) 3 0 (0 ∷ 0 ∷ 1 ∷ 1 ∷ []) 0x9000 3
+    ≡ record { paths = put (put (put large_mapped (0 ∷ []) 0x2003) (0 ∷ 0 ∷ []) 0x3003) (0 ∷ 0 ∷ 1 ∷ []) 0x400083; supply = 0x4000 ∷ []; answer = Refused ParentEntryHugePage }
+unfolding map_rule large_mapped nothing_mapped used has
 map_below_huge = simp (entry-put, entry-empty)
-
--- two entries of the root name one frame
-shared_table_image : Words
-shared_table_image = λ f. cond (f == 0x1000) (Some (0x2003 ∷ 0x2002 ∷ replicate 510 0)) (cond (nat_lt f 0x8000) (Some (replicate 512 0)) None)
 
 apart_0_1 : ◌≢◌ {A = List ℕ} (0 ∷ []) (1 ∷ [])
 apart_0_1 h = cc
 
-shared_table_invalid : (M : PathMap) → IsValid 4 shared_table_image 0x1000 M → ⊥
+pub shared_table_invalid : (M : PathMap) → IsValid 4 shared_table_image 0x1000 M → ⊥
 unfolding shared_table_image word table_of used has address
 shared_table_invalid M valid =
     let at_0 : table_at 4 0x1000 M (0 ∷ []) ≡ Some 0x2000 = ap (table_of 4 (0 ∷ [])) (valid.holds.entries [] 0) in
@@ -68,12 +59,15 @@ shared_table_invalid M valid =
     apart_0_1 (valid.own_frames (0 ∷ []) (1 ∷ []) 0x2000 at_0 at_1)
 
 -- the walk over the words of the first map
-small_memory : Memory
-small_memory = insert (insert (insert (insert (empty {X = List ℕ} {R = nat_cmp}) 1 (0x2003 ∷ replicate 511 0)) 2 (0x3003 ∷ replicate 511 0)) 3 (0x4003 ∷ replicate 511 0)) 4 (0 ∷ 0x5003 ∷ replicate 510 0)
-
 pub get_it : (m : Memory) (k : ℕ) (v : List ℕ) (q : ℕ) → get (insert m k v) q ≡ cond (eq_by_cmp nat_cmp q k) (Some v) (get m q)
 get_it m k v q = get-insert nat_cmp_total m k v q
 
 small_walked : page_walk 4 (words_of small_memory identity_places) 0x1000 0x1abc ≡ Some (record { address = 0x5abc; write = true; user = false })
 unfolding page_walk walk_on small_memory has index address
 small_walked = simp get_it
+
+pub small : SmallMap
+small = record { left = map_small; translated = small_translates; walked = small_walked }
+
+pub large : LargeMap
+large = record { left = map_large; translated = large_translates }
