@@ -1,0 +1,2 @@
+pub mod Levels
+pub use Rattle.x86_64_model.specs.Position

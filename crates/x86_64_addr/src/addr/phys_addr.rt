@@ -1,0 +1,104 @@
+//! Physical addresses.
+ghost use Rattle.std.specs.Prelude.{◌≡◌, ℕ, ◌%◌, ◌^◌, ◌<◌, ◌↔◌, IsTrue, IsOk, IfOk, IfErr};
+
+use std::fmt::{Debug, Formatter, Result as FmtResult, Write};
+use std::marker::Model;
+
+/// A physical address, a number below 2^52.
+#[derive(Clone, Copy, PartialEq, Eq, PartialOrd, Ord, Hash)]
+pub struct PhysAddr(u64);
+
+impl Model for PhysAddr {
+    ghost use Rattle.std.specs.Prelude.{ℕ, ◌^◌, ◌<◌};
+
+    ghost Value = { ℕ };
+
+    ghost view = { λ a. a.0 };
+
+    ghost invariant = { λ a. a.0 < 2 ^ 52 };
+
+    ghost inverse = { λ n. record { 0 = n } };
+}
+
+/// A value was not a physical address: it was not below 2^52.
+///
+/// Contains the value.
+#[derive(PartialEq, Drop)]
+pub struct PhysAddrNotValid(pub u64);
+
+impl Debug for PhysAddrNotValid {
+    fn fmt<W: Write>(&self, f: &mut Formatter<W>) -> FmtResult {
+        let PhysAddrNotValid(value) = self;
+        write!(f, "PhysAddrNotValid({value:#x})")
+    }
+}
+
+impl PhysAddr {
+    /// Makes an address of a number, which must be below 2^52. Test that by [`try_new`](Self::try_new).
+    pub fn new(addr: u64) -> PhysAddr
+        requires { addr < 2 ^ 52 }
+        ensures { result ≡ addr }
+    {
+        PhysAddr(addr)
+    }
+
+    /// Makes the address whose number is a value modulo 2^52.
+    pub fn new_truncate(addr: u64) -> PhysAddr
+        ensures { result ≡ addr % 2 ^ 52 }
+    {
+        PhysAddr(addr % (1 << 52))
+    }
+
+    /// Makes an address of a number, which must be below 2^52, as [`new`](Self::new) does.
+    pub fn new_unsafe(addr: u64) -> PhysAddr
+        requires { addr < 2 ^ 52 }
+        ensures { result ≡ addr }
+    {
+        Self::new(addr)
+    }
+
+    /// Makes an address of a number.
+    ///
+    /// Answers `PhysAddrNotValid` with the value exactly where it isn't below 2^52.
+    pub fn try_new(addr: u64) -> Result<PhysAddr, PhysAddrNotValid>
+        ensures below { IsOk result ↔ (addr < 2 ^ 52) }
+        ensures value { IfOk result (λ a. a ≡ addr) }
+        ensures error { IfErr result (λ e. e.0 ≡ addr) }
+    {
+        let address = Self::new_truncate(addr);
+        if address.as_u64() == addr {
+            Ok(address)
+        } else {
+            Err(PhysAddrNotValid(addr))
+        }
+    }
+
+    /// Gives the address 0.
+    pub fn zero() -> PhysAddr
+        ensures { result ≡ 0 }
+    {
+        PhysAddr(0)
+    }
+
+    /// Gives the number.
+    pub fn as_u64(self) -> u64
+        ensures value { result ≡ self }
+        ensures below { self < 2 ^ 52 }
+    {
+        self.0
+    }
+
+    /// Tells whether the address is 0.
+    pub fn is_null(self) -> bool
+        ensures { IsTrue result ↔ (self ≡ 0) }
+    {
+        self == Self::zero()
+    }
+}
+
+impl Debug for PhysAddr {
+    fn fmt<W: Write>(&self, f: &mut Formatter<W>) -> FmtResult {
+        let value = self.as_u64();
+        write!(f, "PhysAddr({value:#x})")
+    }
+}

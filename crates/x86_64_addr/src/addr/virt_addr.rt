@@ -1,0 +1,172 @@
+//! Virtual addresses.
+ghost use Rattle.std.specs.Prelude.{◌≡◌, ℕ, ◌%◌, ◌^◌, ◌<◌, ◌↔◌, IsTrue, IsOk, IfOk, IfErr};
+ghost use Rattle.x86_64_model.specs.Position.{raw, IsCanonical, index};
+ghost use Rattle.x86_64_addr.specs.Levels.{level_number};
+
+use crate::index::{PageOffset, PageTableIndex, PageTableLevel};
+use std::fmt::{Debug, Formatter, Result as FmtResult, Write};
+use std::marker::Model;
+
+/// A canonical virtual address.
+///
+/// Equality, order and hash are those of the raw value, and so those of the position.
+#[derive(Clone, Copy, PartialEq, Eq, PartialOrd, Ord, Hash)]
+pub struct VirtAddr(u64);
+
+impl Model for VirtAddr {
+    ghost use Rattle.std.specs.Prelude.{◌≡◌, ℕ, ◌%◌, ◌^◌};
+    ghost use Rattle.std.proofs.Common.{ap};
+    ghost use Rattle.x86_64_model.specs.Position.{raw};
+
+    ghost Value = { ℕ };
+
+    ghost view = { λ a. a.0 % 2 ^ 48 };
+
+    ghost invariant = { λ a. raw 4 (a.0 % 2 ^ 48) ≡ a.0 };
+
+    ghost inverse = { λ p. record { 0 = raw 4 p } };
+
+    ghost inverse_ok = { λ a h. ap (λ n. record { 0 = n }) h };
+}
+
+/// A value was not a canonical virtual address: bits 48 to 63 were not copies of bit 47.
+///
+/// Contains the value.
+#[derive(PartialEq, Drop)]
+pub struct VirtAddrNotValid(pub u64);
+
+impl Debug for VirtAddrNotValid {
+    fn fmt<W: Write>(&self, f: &mut Formatter<W>) -> FmtResult {
+        let VirtAddrNotValid(value) = self;
+        write!(f, "VirtAddrNotValid({value:#x})")
+    }
+}
+
+impl VirtAddr {
+    /// Makes an address of its raw value, which must be canonical. Test that by [`try_new`](Self::try_new).
+    pub fn new(addr: u64) -> VirtAddr
+        requires { IsCanonical 4 addr }
+        ensures position { result ≡ addr % 2 ^ 48 }
+        ensures value { raw 4 result ≡ addr }
+    {
+        VirtAddr(addr)
+    }
+
+    /// Makes an address of its raw value.
+    ///
+    /// Answers `VirtAddrNotValid` with the value exactly where it isn't canonical.
+    pub fn try_new(addr: u64) -> Result<VirtAddr, VirtAddrNotValid>
+        ensures canonical { IsOk result ↔ IsCanonical 4 addr }
+        ensures position { IfOk result (λ a. a ≡ addr % 2 ^ 48) }
+        ensures value { IfOk result (λ a. raw 4 a ≡ addr) }
+        ensures error { IfErr result (λ e. e.0 ≡ addr) }
+    {
+        let address = Self::new_truncate(addr);
+        if address.as_u64() == addr {
+            Ok(address)
+        } else {
+            Err(VirtAddrNotValid(addr))
+        }
+    }
+
+    /// Makes the address whose position is a value modulo 2^48: bit 47 is copied to the bits above it.
+    pub fn new_truncate(addr: u64) -> VirtAddr
+        ensures { result ≡ addr % 2 ^ 48 }
+    {
+        let position = addr & 0x0000_ffff_ffff_ffff;
+        if position < 0x0000_8000_0000_0000 {
+            VirtAddr(position)
+        } else {
+            VirtAddr(position | 0xffff_0000_0000_0000)
+        }
+    }
+
+    /// Makes an address of its raw value, which must be canonical, as [`new`](Self::new) does.
+    pub fn new_unsafe(addr: u64) -> VirtAddr
+        requires { IsCanonical 4 addr }
+        ensures position { result ≡ addr % 2 ^ 48 }
+        ensures value { raw 4 result ≡ addr }
+    {
+        Self::new(addr)
+    }
+
+    /// Gives the address 0.
+    pub fn zero() -> VirtAddr
+        ensures { result ≡ 0 }
+    {
+        VirtAddr(0)
+    }
+
+    /// Gives the raw value.
+    pub fn as_u64(self) -> u64
+        ensures value { result ≡ raw 4 self }
+        ensures position { self < 2 ^ 48 }
+    {
+        self.0
+    }
+
+    /// Tells whether the address is 0.
+    pub fn is_null(self) -> bool
+        ensures { IsTrue result ↔ (self ≡ 0) }
+    {
+        self == Self::zero()
+    }
+
+    /// Gives the offset in the 4KiB page that the address lies in: the position modulo 4096.
+    pub fn page_offset(self) -> PageOffset
+        ensures { result ≡ self % 4096 }
+    {
+        PageOffset::new((self.as_u64() & 0xfff) as u16)
+    }
+
+    /// Gives the index of level one, bits 12 to 20.
+    #[tactic(auto, unfolding(x86_64_model::specs::Position::index))]
+    pub fn p1_index(self) -> PageTableIndex
+        ensures { result ≡ index 1 self }
+    {
+        PageTableIndex::new(((self.as_u64() >> 12) & 511) as u16)
+    }
+
+    /// Gives the index of level two, bits 21 to 29.
+    #[tactic(auto, unfolding(x86_64_model::specs::Position::index))]
+    pub fn p2_index(self) -> PageTableIndex
+        ensures { result ≡ index 2 self }
+    {
+        PageTableIndex::new(((self.as_u64() >> 21) & 511) as u16)
+    }
+
+    /// Gives the index of level three, bits 30 to 38.
+    #[tactic(auto, unfolding(x86_64_model::specs::Position::index))]
+    pub fn p3_index(self) -> PageTableIndex
+        ensures { result ≡ index 3 self }
+    {
+        PageTableIndex::new(((self.as_u64() >> 30) & 511) as u16)
+    }
+
+    /// Gives the index of level four, bits 39 to 47.
+    #[tactic(auto, unfolding(x86_64_model::specs::Position::index))]
+    pub fn p4_index(self) -> PageTableIndex
+        ensures { result ≡ index 4 self }
+    {
+        PageTableIndex::new(((self.as_u64() >> 39) & 511) as u16)
+    }
+
+    /// Gives the index of a level.
+    pub fn page_table_index(self, level: PageTableLevel) -> PageTableIndex
+        ensures { result ≡ index (level_number level) self }
+    {
+        match level {
+            PageTableLevel::One => self.p1_index(),
+            PageTableLevel::Two => self.p2_index(),
+            PageTableLevel::Three => self.p3_index(),
+            PageTableLevel::Four => self.p4_index(),
+        }
+    }
+}
+
+impl Debug for VirtAddr {
+    fn fmt<W: Write>(&self, f: &mut Formatter<W>) -> FmtResult {
+        let value = self.as_u64();
+        write!(f, "VirtAddr({value:#x})")
+    }
+}

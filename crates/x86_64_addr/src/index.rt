@@ -1,0 +1,155 @@
+//! Indices of page tables, offsets in pages, and levels of page tables.
+//!
+//! Intel SDM vol. 3A, "4-Level Paging and 5-Level Paging"; AMD APM vol. 2, "Long-Mode Page Translation".
+ghost use Rattle.std.specs.Prelude.{◌≡◌, ℕ, ◌%◌, ◌<◌};
+
+use std::marker::Model;
+
+/// An index of an entry in a page table, a number below 512.
+#[derive(Debug, Clone, Copy, PartialEq, Eq, PartialOrd, Ord, Hash)]
+pub struct PageTableIndex(u16);
+
+impl Model for PageTableIndex {
+    ghost Value = { ℕ };
+
+    ghost view = { λ i. i.0 };
+
+    ghost invariant = { λ i. i.0 < 512 };
+
+    ghost inverse = { λ n. record { 0 = n } };
+}
+
+impl PageTableIndex {
+    /// Makes an index of a number, which must be below 512.
+    pub fn new(index: u16) -> PageTableIndex
+        requires { index < 512 }
+        ensures { result ≡ index }
+    {
+        PageTableIndex(index)
+    }
+
+    /// Makes an index of a number modulo 512.
+    pub fn new_truncate(index: u16) -> PageTableIndex
+        ensures { result ≡ index % 512 }
+    {
+        PageTableIndex(index % 512)
+    }
+}
+
+impl From<PageTableIndex> for u16 {
+    ghost from_gives = { λ i n. (n ≡ i) × (n < 512) };
+
+    /// Gives the number, which is below 512.
+    fn from(index: PageTableIndex) -> u16 {
+        index.0
+    }
+}
+
+impl From<PageTableIndex> for u32 {
+    ghost from_gives = { λ i n. (n ≡ i) × (n < 512) };
+
+    /// Gives the number, which is below 512.
+    fn from(index: PageTableIndex) -> u32 {
+        index.0 as u32
+    }
+}
+
+impl From<PageTableIndex> for u64 {
+    ghost from_gives = { λ i n. (n ≡ i) × (n < 512) };
+
+    /// Gives the number, which is below 512.
+    fn from(index: PageTableIndex) -> u64 {
+        index.0 as u64
+    }
+}
+
+impl From<PageTableIndex> for usize {
+    ghost from_gives = { λ i n. (n ≡ i) × (n < 512) };
+
+    /// Gives the number, which is below 512.
+    fn from(index: PageTableIndex) -> usize {
+        index.0 as usize
+    }
+}
+
+/// An offset in a 4KiB page, a number of bytes below 4096.
+#[derive(Debug, Clone, Copy, PartialEq, Eq, PartialOrd, Ord, Hash)]
+pub struct PageOffset(u16);
+
+impl Model for PageOffset {
+    ghost Value = { ℕ };
+
+    ghost view = { λ o. o.0 };
+
+    ghost invariant = { λ o. o.0 < 4096 };
+
+    ghost inverse = { λ n. record { 0 = n } };
+}
+
+impl PageOffset {
+    /// Makes an offset of a number of bytes, which must be below 4096.
+    pub fn new(offset: u16) -> PageOffset
+        requires { offset < 4096 }
+        ensures { result ≡ offset }
+    {
+        PageOffset(offset)
+    }
+
+    /// Makes an offset of a number of bytes modulo 4096.
+    pub fn new_truncate(offset: u16) -> PageOffset
+        ensures { result ≡ offset % 4096 }
+    {
+        PageOffset(offset % 4096)
+    }
+}
+
+impl From<PageOffset> for u16 {
+    ghost from_gives = { λ o n. (n ≡ o) × (n < 4096) };
+
+    /// Gives the number of bytes, which is below 4096.
+    fn from(offset: PageOffset) -> u16 {
+        offset.0
+    }
+}
+
+impl From<PageOffset> for u32 {
+    ghost from_gives = { λ o n. (n ≡ o) × (n < 4096) };
+
+    /// Gives the number of bytes, which is below 4096.
+    fn from(offset: PageOffset) -> u32 {
+        offset.0 as u32
+    }
+}
+
+impl From<PageOffset> for u64 {
+    ghost from_gives = { λ o n. (n ≡ o) × (n < 4096) };
+
+    /// Gives the number of bytes, which is below 4096.
+    fn from(offset: PageOffset) -> u64 {
+        offset.0 as u64
+    }
+}
+
+impl From<PageOffset> for usize {
+    ghost from_gives = { λ o n. (n ≡ o) × (n < 4096) };
+
+    /// Gives the number of bytes, which is below 4096.
+    fn from(offset: PageOffset) -> usize {
+        offset.0 as usize
+    }
+}
+
+/// A level of page tables. The root is of level four, and the entries of level one map 4KiB pages.
+///
+/// Levels are ordered by their numbers.
+#[derive(Debug, Clone, Copy, PartialEq, Eq, PartialOrd, Ord, Hash)]
+pub enum PageTableLevel {
+    /// The level of a page table (PT).
+    One = 1,
+    /// The level of a page directory (PD).
+    Two,
+    /// The level of a page directory pointer table (PDPT).
+    Three,
+    /// The level of the root (PML4).
+    Four,
+}

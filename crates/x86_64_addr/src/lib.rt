@@ -1,0 +1,7 @@
+//! Virtual and physical addresses, and the indices that a virtual address has at each level of the page tables.
+#![tactic(auto)]
+
+pub mod addr;
+pub mod index;
+#[cfg(test)]
+mod tests;

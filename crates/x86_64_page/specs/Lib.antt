@@ -1,0 +1,3 @@
+pub mod Multiples
+pub use Rattle.x86_64_addr.specs.Levels
+pub use Rattle.x86_64_addr.specs.Position

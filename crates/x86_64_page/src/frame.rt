@@ -1,0 +1,94 @@
+//! Frames: aligned blocks of physical memory of the size of a page.
+ghost use Rattle.std.specs.Prelude.{◌≡◌, ℕ, ◌-◌, ◌%◌, ◌^◌, ◌<◌, ◌↔◌, IsOk, IfOk};
+
+use crate::page::{AddressNotAligned, PageSize};
+use std::fmt::{Debug, Formatter, Result as FmtResult, Write};
+use std::marker::{Model, PhantomData};
+use x86_64_addr::addr::PhysAddr;
+
+/// A frame of a size: it starts at a multiple of the size.
+///
+/// Contracts see it as its start address. Equality, order and hash are those of the start address.
+#[derive(Clone, Copy, PartialEq, Eq, PartialOrd, Ord, Hash)]
+pub struct PhysFrame<S: PageSize> {
+    start_address: PhysAddr,
+    size: PhantomData<S>,
+}
+
+impl<S: PageSize> Model for PhysFrame<S> {
+    ghost use Rattle.std.specs.Prelude.{◌≡◌, ℕ, ◌%◌, ◌^◌, ◌<◌};
+
+    ghost Value = { ℕ };
+
+    ghost view = { λ f. f.start_address };
+
+    ghost invariant = { λ f. (f.start_address < 2 ^ 52) × (f.start_address % S.SIZE ≡ 0) };
+
+    ghost inverse = { λ n. record { start_address = n; size = record {} } };
+}
+
+impl<S: PageSize> PhysFrame<S> {
+    /// Gives the frame that starts at an address.
+    ///
+    /// Answers `AddressNotAligned` exactly where the address isn't a multiple of the size.
+    pub fn from_start_address(address: PhysAddr) -> Result<Self, AddressNotAligned>
+        ensures aligned { IsOk result ↔ (address % S.SIZE ≡ 0) }
+        ensures value { IfOk result (λ f. f ≡ address) }
+    {
+        if address.as_u64() % S::SIZE == 0 {
+            Ok(Self::from_start_address_unchecked(address))
+        } else {
+            Err(AddressNotAligned)
+        }
+    }
+
+    /// Gives the frame that starts at an address, which must be a multiple of the size.
+    pub fn from_start_address_unchecked(start_address: PhysAddr) -> Self
+        requires { start_address % S.SIZE ≡ 0 }
+        ensures { result ≡ start_address }
+    {
+        // Each physical address is below 2^52, as each frame has to be.
+        let _number = start_address.as_u64();
+        PhysFrame {
+            start_address,
+            size: PhantomData,
+        }
+    }
+
+    /// Gives the frame that contains an address: its start is the address rounded down to the size.
+    #[tactic(auto, using(crate::specs::Multiples::rounded_down))]
+    pub fn containing_address(address: PhysAddr) -> Self
+        ensures { result ≡ address - address % S.SIZE }
+    {
+        let number = address.as_u64();
+        PhysFrame {
+            start_address: PhysAddr::new(number - number % S::SIZE),
+            size: PhantomData,
+        }
+    }
+
+    /// Gives the start address.
+    pub fn start_address(self) -> PhysAddr
+        ensures value { result ≡ self }
+        ensures below { self < 2 ^ 52 }
+        ensures aligned { self % S.SIZE ≡ 0 }
+        ensures aligned_to_4kib { self % 4096 ≡ 0 }
+    {
+        self.start_address
+    }
+
+    /// Gives the size in bytes.
+    pub fn size(self) -> u64
+        ensures { result ≡ S.SIZE }
+    {
+        S::SIZE
+    }
+}
+
+impl<S: PageSize> Debug for PhysFrame<S> {
+    fn fmt<W: Write>(&self, f: &mut Formatter<W>) -> FmtResult {
+        let size = S::DEBUG_STR;
+        let start = self.start_address.as_u64();
+        write!(f, "PhysFrame[{size}]({start:#x})")
+    }
+}

@@ -1,0 +1,7 @@
+//! Sizes of pages, and the frames of physical memory that pages are mapped to.
+#![tactic(auto)]
+
+pub mod frame;
+pub mod page;
+#[cfg(test)]
+mod tests;
