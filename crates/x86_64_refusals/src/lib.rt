@@ -1,0 +1,5 @@
+//! Tests in which memory is refused. They fill the address space, so they stand in a crate of their own.
+#![tactic(auto)]
+
+#[cfg(test)]
+mod tests;

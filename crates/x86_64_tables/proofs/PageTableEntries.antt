@@ -1,0 +1,30 @@
+-- What the tests of an entry's flags say of its frame.
+use Rattle.std.proofs.Common.{◌≡◌, ℕ, true, false, ◌==◌, bit_and, Ok, Err, refl, sym, ap, ◌∙◌}
+use Rattle.x86_64_model.specs.Entry.{has, flags, address}
+use Rattle.x86_64_tables.specs.declared.page_table.entry.FrameError.TheVariants.{FrameNotPresent, HugeFrame}
+use Rattle.x86_64_tables.specs.PageTableEntry.{frame_of}
+use Rattle.x86_64_tables.specs.Words.{has-flags}
+
+-- a test of a word's flags is the test of the word
+tested : (w f mask : ℕ) → f ≡ flags w → flags mask ≡ mask → has w mask ≡ (bit_and f mask == mask)
+unfolding has
+tested w f mask is known = sym (has-flags w mask known) ∙ ap (λ n. bit_and n mask == mask) (sym is)
+
+known_1 : flags 1 ≡ 1
+unfolding flags
+known_1 = refl
+
+known_128 : flags 128 ≡ 128
+unfolding flags
+known_128 = refl
+
+pub not_present : (w f : ℕ) → f ≡ flags w → (bit_and f 1 == 1) ≡ false → Err FrameNotPresent ≡ frame_of w
+not_present w f is absent = rw (tested w f 1 is known_1 ∙ absent) refl
+
+pub present_huge : (w f : ℕ) → f ≡ flags w → (bit_and f 1 == 1) ≡ true → (bit_and f 128 == 128) ≡ true
+    → Err HugeFrame ≡ frame_of w
+present_huge w f is present huge = rw (tested w f 1 is known_1 ∙ present, tested w f 128 is known_128 ∙ huge) refl
+
+pub present_small : (w f : ℕ) → f ≡ flags w → (bit_and f 1 == 1) ≡ true → (bit_and f 128 == 128) ≡ false
+    → Ok (address w) ≡ frame_of w
+present_small w f is present small = rw (tested w f 1 is known_1 ∙ present, tested w f 128 is known_128 ∙ small) refl

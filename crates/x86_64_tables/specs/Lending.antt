@@ -1,0 +1,16 @@
+-- What a table or a memory is once a word or a table that it lent comes back.
+use Rattle.std.specs.Prelude.{ℕ, List, Option, slice_set}
+use Rattle.std.specs.Borrow.{Lends, LendsIf, MutBor, Fml}
+use Rattle.std.specs.FinMap.{insert}
+use Rattle.x86_64_model.specs.Memory.{Memory}
+use Rattle.x86_64_tables.specs.contracts.page_table.entry.PageTableEntry.{the_row as entry_row}
+use Rattle.x86_64_tables.specs.contracts.page_table.table.PageTable.{the_row as table_row}
+use Rattle.x86_64_tables.specs.contracts.phys_memory.PhysMemory.{the_row as memory_row}
+
+-- the table ends with the last word behind r at the index
+abbrev pub LendsWord : MutBor (List ℕ) → (index : ℕ) → MutBor ℕ → Fml
+LendsWord table index r = Lends table_row entry_row table r (slice_set table.now index)
+
+-- the memory ends with the last table behind r at the place, and as it was where it lacks the place
+abbrev pub LendsTable : MutBor Memory → (place : ℕ) → Option (MutBor (List ℕ)) → Fml
+LendsTable memory place r = LendsIf memory_row table_row memory r (insert memory.now place) memory.now

@@ -1,0 +1,51 @@
+-- The flags of a page table entry.
+use Rattle.std.specs.Prelude.{◌≡◌, ◌↔◌, ℕ, ◌<◌, ◌^◌, List, [], ◌∷◌, codes, refl, bit_and}
+use Rattle.std.proofs.Common.{ap, sym, ◌∙◌}
+use Rattle.bitflags.specs.Sets.{known_bits, known_from}
+use Rattle.x86_64_model.specs.Entry.{address, flags}
+use Rattle.x86_64_tables.specs.Words.{address-flags, flags-no_address}
+use Rattle.x86_64_tables.specs.declared.page_table.flags.PageTableFlags.{PageTableFlags}
+
+-- the flags as bits of a word
+abbrev pub bits_of : PageTableFlags → ℕ
+bits_of given = given.0
+
+-- the name and the bits of each flag
+abbrev pub flag_table : List (List ℕ × ℕ)
+flag_table =
+    (codes "PRESENT", 2 ^ 0) ∷
+    (codes "WRITABLE", 2 ^ 1) ∷
+    (codes "USER_ACCESSIBLE", 2 ^ 2) ∷
+    (codes "WRITE_THROUGH", 2 ^ 3) ∷
+    (codes "NO_CACHE", 2 ^ 4) ∷
+    (codes "ACCESSED", 2 ^ 5) ∷
+    (codes "DIRTY", 2 ^ 6) ∷
+    (codes "HUGE_PAGE", 2 ^ 7) ∷
+    (codes "GLOBAL", 2 ^ 8) ∷
+    (codes "BIT_9", 2 ^ 9) ∷
+    (codes "BIT_10", 2 ^ 10) ∷
+    (codes "BIT_11", 2 ^ 11) ∷
+    (codes "BIT_52", 2 ^ 52) ∷
+    (codes "BIT_53", 2 ^ 53) ∷
+    (codes "BIT_54", 2 ^ 54) ∷
+    (codes "BIT_55", 2 ^ 55) ∷
+    (codes "BIT_56", 2 ^ 56) ∷
+    (codes "BIT_57", 2 ^ 57) ∷
+    (codes "BIT_58", 2 ^ 58) ∷
+    (codes "BIT_59", 2 ^ 59) ∷
+    (codes "BIT_60", 2 ^ 60) ∷
+    (codes "BIT_61", 2 ^ 61) ∷
+    (codes "BIT_62", 2 ^ 62) ∷
+    (codes "NO_EXECUTE", 2 ^ 63) ∷ []
+
+-- the known flags are every bit but 12 to 51
+pub known_bits-flag_table : known_bits flag_table ≡ 0xfff0_0000_0000_0fff
+unfolding known_from
+known_bits-flag_table = refl
+
+-- a word is known flags alone, so that `from_bits` is `Some`, exactly where it has no address bits
+pub known_flags : (w : ℕ) → w < 2 ^ 64 → (bit_and w (known_bits flag_table) ≡ w) ↔ (address w ≡ 0)
+unfolding flags
+known_flags w below =
+    let same : bit_and w (known_bits flag_table) ≡ flags w = ap (bit_and w) known_bits-flag_table in
+    (λ known. ap address (sym known ∙ same) ∙ address-flags w, λ none. same ∙ flags-no_address w below none)

@@ -1,0 +1,7 @@
+//! Page tables, their entries and flags, and a physical memory that consists of page tables.
+#![tactic(auto)]
+
+pub mod page_table;
+pub mod phys_memory;
+#[cfg(test)]
+mod tests;

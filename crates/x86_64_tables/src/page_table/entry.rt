@@ -1,0 +1,146 @@
+//! Entries of page tables.
+ghost use Rattle.std.specs.Prelude.{◌≡◌, ◌%◌, false, not, bit_or};
+ghost use Rattle.x86_64_model.specs.Entry.{used, huge, address, flags};
+ghost use Rattle.x86_64_tables.specs.PageTableEntry.{frame_of};
+ghost use Rattle.x86_64_tables.specs.PageTableFlags.{bits_of};
+
+use super::PageTableFlags;
+use bitflags::Flags;
+use std::fmt;
+use std::marker::Model;
+use x86_64_addr::addr::PhysAddr;
+use x86_64_page::frame::PhysFrame;
+use x86_64_page::page::Size4KiB;
+
+/// The bits of an entry that name an address.
+const ADDRESS_MASK: u64 = 0x000f_ffff_ffff_f000;
+
+/// The bits of an entry that are flags.
+const FLAGS_MASK: u64 = 0xfff0_0000_0000_0fff;
+
+/// Says why an entry names no 4KiB frame.
+#[derive(Clone, Copy, Debug, PartialEq)]
+pub enum FrameError {
+    /// The entry lacks `PRESENT`.
+    FrameNotPresent,
+    /// The entry has `PRESENT` and `HUGE_PAGE`.
+    HugeFrame,
+}
+
+/// Holds an entry of a page table, seen as its word.
+///
+/// Bits 12 to 51 name an address, the other bits are flags. Intel SDM vol. 3A, "Formats of paging-structure entries".
+#[derive(Clone, Drop)]
+pub struct PageTableEntry(u64);
+
+impl Model for PageTableEntry {
+    ghost use Rattle.std.specs.Prelude.{ℕ};
+
+    ghost Value = { ℕ };
+
+    ghost view = { λ entry. entry.0 };
+}
+
+impl PageTableEntry {
+    /// Makes an unused entry, the word 0.
+    pub fn new() -> PageTableEntry
+        ensures { result ≡ 0 }
+    {
+        PageTableEntry(0)
+    }
+
+    /// Tells whether the entry is unused: its word is 0.
+    #[tactic(auto, unfolding(x86_64_model::specs::Entry::used))]
+    pub fn is_unused(&self) -> bool
+        ensures { result ≡ not (used self.now) }
+    {
+        self.0 == 0
+    }
+
+    /// Makes the entry unused, the word 0.
+    pub fn set_unused(&mut self)
+        ensures { self.new ≡ 0 }
+    {
+        self.0 = 0;
+    }
+
+    /// Gives the flags: the word without bits 12 to 51.
+    #[tactic(auto, unfolding(x86_64_model::specs::Entry::flags))]
+    pub fn flags(&self) -> PageTableFlags
+        ensures { bits_of result ≡ flags self.now }
+    {
+        PageTableFlags::from_bits_retain(self.0 & FLAGS_MASK)
+    }
+
+    /// Gives the address: the bits 12 to 51 of the word, so a multiple of 4096. It may be 0.
+    #[tactic(auto, unfolding(x86_64_model::specs::Entry::address))]
+    pub fn addr(&self) -> PhysAddr
+        ensures { result ≡ address self.now }
+    {
+        PhysAddr::new(self.0 & ADDRESS_MASK)
+    }
+
+    /// Gives the 4KiB frame that the entry names.
+    ///
+    /// # Errors
+    ///
+    /// Without `PRESENT` it is `FrameNotPresent`, else with `HUGE_PAGE` it is `HugeFrame`.
+    pub fn frame(&self) -> Result<PhysFrame<Size4KiB>, FrameError>
+        ensures { result ≡ frame_of self.now }
+    {
+        let flags = self.flags();
+        if !flags.contains(PageTableFlags::PRESENT) {
+            Err(FrameError::FrameNotPresent)
+        } else if flags.contains(PageTableFlags::HUGE_PAGE) {
+            Err(FrameError::HugeFrame)
+        } else {
+            Ok(PhysFrame::from_start_address_unchecked(self.addr()))
+        }
+    }
+
+    /// Sets the word to the address and the flags.
+    ///
+    /// Condition: the address is a multiple of 4096.
+    pub fn set_addr(&mut self, addr: PhysAddr, flags: PageTableFlags)
+        requires { addr % 4096 ≡ 0 }
+        ensures { self.new ≡ bit_or addr (bits_of flags) }
+    {
+        self.0 = addr.as_u64() | flags.bits();
+    }
+
+    /// Sets the word to the frame's start address and the flags.
+    ///
+    /// Condition: the flags lack `HUGE_PAGE`.
+    pub fn set_frame(&mut self, frame: PhysFrame<Size4KiB>, flags: PageTableFlags)
+        requires { huge (bits_of flags) ≡ false }
+        ensures { self.new ≡ bit_or frame (bits_of flags) }
+    {
+        self.set_addr(frame.start_address(), flags);
+    }
+
+    /// Sets the flags and keeps the address.
+    pub fn set_flags(&mut self, flags: PageTableFlags)
+        ensures { self.new ≡ bit_or (address self.old) (bits_of flags) }
+    {
+        self.0 = self.addr().as_u64() | flags.bits();
+    }
+}
+
+impl Default for PageTableEntry {
+    ghost is_default = { λ entry. entry ≡ 0 };
+
+    fn default() -> PageTableEntry {
+        PageTableEntry::new()
+    }
+}
+
+impl fmt::Debug for PageTableEntry {
+    fn fmt<W: fmt::Write>(&self, f: &mut fmt::Formatter<W>) -> fmt::Result {
+        let addr = self.addr();
+        let flags = self.flags();
+        f.debug_struct("PageTableEntry")
+            .field("addr", &addr)
+            .field("flags", &flags)
+            .finish()
+    }
+}

@@ -1,0 +1,118 @@
+//! Tables of 512 entries.
+ghost use Rattle.std.specs.Prelude.{◌≡◌, ◌<◌, ◌↔◌, All, IsTrue, length, slice_index};
+ghost use Rattle.std.specs.Borrow.{sem};
+ghost use Rattle.x86_64_tables.specs.PageTable.{zero_words};
+ghost use Rattle.x86_64_tables.specs.Lending.{LendsWord};
+
+use super::PageTableEntry;
+use std::marker::Model;
+use std::ops::{Index, IndexMut};
+use std::{array, fmt};
+use x86_64_addr::index::PageTableIndex;
+
+/// How many entries a page table has.
+const ENTRY_COUNT: usize = 512;
+
+/// Holds the 512 entries of a page table, seen as the list of their words. Intel SDM vol. 3A, "Hierarchical Paging
+/// Structures: an Overview".
+///
+/// An entry is reached by its index, as in `table[15]`. Condition: an index that is a `usize` is below 512.
+#[derive(Clone, Drop)]
+pub struct PageTable {
+    entries: [PageTableEntry; ENTRY_COUNT],
+}
+
+impl Model for PageTable {
+    ghost use Rattle.std.specs.Prelude.{List, ℕ};
+
+    ghost Value = { List ℕ };
+
+    ghost view = { λ table. table.entries };
+}
+
+impl PageTable {
+    /// Makes a table of unused entries: 512 words 0.
+    pub fn new() -> PageTable
+        ensures { result ≡ zero_words }
+    {
+        PageTable {
+            entries: array::from_fn(|_| PageTableEntry::new()),
+        }
+    }
+
+    /// Makes all entries unused.
+    pub fn zero(&mut self)
+        ensures { self.new ≡ zero_words }
+    {
+        let entries = &mut self.entries[..];
+        for entry in entries.iter_mut() {
+            entry.set_unused();
+        }
+    }
+
+    /// Tells whether all entries are unused.
+    #[tactic(auto, unfolding(x86_64_model::specs::Entry::used))]
+    pub fn is_empty(&self) -> bool
+        ensures { IsTrue result ↔ All (λ word. word ≡ 0) self.now }
+    {
+        self.entries.iter().all(|entry| entry.is_unused())
+    }
+}
+
+impl Index<usize> for PageTable {
+    type Output = PageTableEntry;
+
+    ghost can_index = { λ _ i. i < 512 };
+
+    ghost index_gives = { λ table i word. (word ≡ slice_index table i) × (length table ≡ 512) };
+
+    fn index(&self, index: usize) -> &PageTableEntry {
+        &self.entries[index]
+    }
+}
+
+impl IndexMut<usize> for PageTable {
+    fn index_mut(&mut self, index: usize) -> &mut PageTableEntry
+        requires { index < 512 }
+        ensures* writes_back { sem 𝓛 (LendsWord self.entry index result) }
+        ensures value { result.now ≡ slice_index self.old index }
+        ensures size { length self.old ≡ 512 }
+    {
+        &mut self.entries[index]
+    }
+}
+
+impl Index<PageTableIndex> for PageTable {
+    type Output = PageTableEntry;
+
+    ghost index_gives = { λ table i word. (word ≡ slice_index table i) × (length table ≡ 512) };
+
+    fn index(&self, index: PageTableIndex) -> &PageTableEntry {
+        &self.entries[usize::from(index)]
+    }
+}
+
+impl IndexMut<PageTableIndex> for PageTable {
+    fn index_mut(&mut self, index: PageTableIndex) -> &mut PageTableEntry
+        ensures* writes_back { sem 𝓛 (LendsWord self.entry index result) }
+        ensures value { result.now ≡ slice_index self.old index }
+        ensures size { length self.old ≡ 512 }
+    {
+        let i = usize::from(index);
+        &mut self.entries[i]
+    }
+}
+
+impl Default for PageTable {
+    ghost is_default = { λ table. table ≡ zero_words };
+
+    fn default() -> PageTable {
+        PageTable::new()
+    }
+}
+
+impl fmt::Debug for PageTable {
+    fn fmt<W: fmt::Write>(&self, f: &mut fmt::Formatter<W>) -> fmt::Result {
+        f.debug_list().entries(self.entries.iter()).finish()
+    }
+}

@@ -1,0 +1,145 @@
+//! Physical memory that consists of page tables, and where frames lie in it.
+ghost use Rattle.std.specs.Prelude.{◌≡◌, ◌==◌, ◌/◌, ℕ, true, IfOk, nat_lt, if◌then◌else◌};
+ghost use Rattle.std.specs.Option.{option_copied, option_copied_mut};
+ghost use Rattle.std.specs.Borrow.{sem};
+ghost use Rattle.std.specs.FinMap as map;
+ghost use Rattle.x86_64_model.specs.Memory.{Places, IsMapping, identity_places};
+ghost use Rattle.x86_64_tables.specs.PageTable.{zero_words};
+ghost use Rattle.x86_64_tables.specs.Lending.{LendsTable};
+
+use crate::page_table::PageTable;
+use std::alloc::{AllocError, Global};
+use std::marker::Model;
+use x86_64_page::frame::PhysFrame;
+use x86_64_page::page::{PageSize, Size4KiB};
+
+/// Names a place in a physical memory, seen as its number.
+#[derive(Clone, Copy, Debug, PartialEq)]
+pub struct FramePlace(u64);
+
+impl Model for FramePlace {
+    ghost use Rattle.std.specs.Prelude.{ℕ};
+
+    ghost Value = { ℕ };
+
+    ghost view = { λ place. place.0 };
+
+    ghost inverse = { λ number. record { 0 = number } };
+}
+
+impl FramePlace {
+    /// Makes the place with a number.
+    pub fn new(number: u64) -> FramePlace
+        ensures { result ≡ number }
+    {
+        FramePlace(number)
+    }
+
+    /// Gives the number.
+    pub fn number(self) -> u64
+        ensures { result ≡ self }
+    {
+        self.0
+    }
+}
+
+/// Holds page tables, seen as a finite map from the numbers of places to tables. The places never change.
+#[derive(Drop)]
+pub struct PhysMemory {
+    tables: Vec<PageTable>,
+}
+
+impl Model for PhysMemory {
+    ghost use Rattle.std.specs.Prelude.{List, ℕ};
+    ghost use Rattle.std.specs.Ordering.{nat_cmp};
+    ghost use Rattle.std.specs.FinMap as map;
+    ghost use Rattle.std.specs.Coded.{coded_ℕ, coded_list};
+    ghost use Rattle.x86_64_tables.specs.PhysMemory.{tables_from};
+
+    ghost Value = { map.FinMap nat_cmp (List ℕ) };
+
+    ghost coded = { map.code coded_ℕ (coded_list coded_ℕ) };
+
+    ghost view = { λ memory. tables_from 0 memory.tables.items };
+}
+
+impl PhysMemory {
+    /// Makes a memory with the places 0 to `n` - 1, where all words are 0.
+    ///
+    /// # Errors
+    ///
+    /// `AllocError` where memory is refused.
+    pub fn new(alloc: Global, n: u64) -> Result<PhysMemory, AllocError>
+        ensures { IfOk result (λ memory.
+            (place : ℕ) → map.get memory place ≡ (if nat_lt place n then Some zero_words else None)) }
+    {
+        let mut tables = Vec::with_capacity(alloc, n as usize)?;
+        for _ in 0..n {
+            tables.push_reserved(PageTable::new());
+        }
+        Ok(PhysMemory { tables })
+    }
+
+    /// Gives the number of places.
+    pub fn len(&self) -> usize
+        ensures { result ≡ map.len self.now }
+    {
+        self.tables.len()
+    }
+
+    /// Gives the table at a place, or `None` where the memory lacks the place.
+    pub fn table(&self, place: FramePlace) -> Option<&PageTable>
+        ensures { option_copied result ≡ map.get self.now place }
+    {
+        self.tables.get(place.number() as usize)
+    }
+
+    /// Lends the table at a place to be changed, or gives `None` where the memory lacks the place.
+    pub fn table_mut(&mut self, place: FramePlace) -> Option<&mut PageTable>
+        ensures* writes_back { sem 𝓛 (LendsTable self.entry place result) }
+        ensures value { option_copied_mut result ≡ map.get self.old place }
+    {
+        self.tables.get_mut(place.number() as usize)
+    }
+}
+
+/// Says where 4KiB frames lie in a physical memory: which are covered, and at which place each of these lies.
+///
+/// Law: distinct covered frames have distinct places.
+pub trait PageTableFrameMapping {
+    ghost places: { Self → Places };
+
+    /// Gives the place of a frame.
+    ///
+    /// Condition: the frame is covered.
+    fn frame_to_pointer(&self, frame: PhysFrame<Size4KiB>) -> FramePlace
+        requires { (places self.now).covers frame ≡ true }
+        ensures { result ≡ (places self.now).place frame };
+
+    /// Tells whether a frame is covered.
+    fn covers(&self, frame: PhysFrame<Size4KiB>) -> bool
+        ensures { result ≡ (places self.now).covers frame };
+
+    ghost is_mapping: { (mapping : Self) → IsMapping (places mapping) };
+}
+
+/// Maps each 4KiB frame to the place of its number. All frames are covered.
+#[derive(Clone, Copy, Debug)]
+pub struct IdentityMapping;
+
+impl PageTableFrameMapping for IdentityMapping {
+    ghost use Rattle.x86_64_tables.specs.IdentityMapping.{is_mapping_identity};
+
+    ghost places = { λ _. identity_places };
+
+    fn frame_to_pointer(&self, frame: PhysFrame<Size4KiB>) -> FramePlace {
+        FramePlace::new(frame.start_address().as_u64() / Size4KiB::SIZE)
+    }
+
+    fn covers(&self, frame: PhysFrame<Size4KiB>) -> bool {
+        let _start = frame.start_address();
+        true
+    }
+
+    ghost is_mapping = { λ _. is_mapping_identity };
+}
