@@ -3,28 +3,20 @@ use Rattle.std.proofs.Common.{◌≡◌, ℕ, true, false, ◌==◌, bit_and, Ok
 use Rattle.x86_64_model.specs.Entry.{has, flags, address}
 use Rattle.x86_64_tables.specs.declared.page_table.entry.FrameError.TheVariants.{FrameNotPresent, HugeFrame}
 use Rattle.x86_64_tables.specs.PageTableEntry.{frame_of}
-use Rattle.x86_64_tables.specs.Words.{has-flags}
+use Rattle.x86_64_model.specs.Lemmas.Entries.Bits.{has_flags}
 
 -- a test of a word's flags is the test of the word
-tested : (w f mask : ℕ) → f ≡ flags w → flags mask ≡ mask → has w mask ≡ (bit_and f mask == mask)
+tested : (w f mask : ℕ) → f ≡ flags w → bit_and 0xfff0_0000_0000_0fff mask ≡ mask → has w mask ≡ (bit_and f mask == mask)
 unfolding has
-tested w f mask is known = sym (has-flags w mask known) ∙ ap (λ n. bit_and n mask == mask) (sym is)
-
-known_1 : flags 1 ≡ 1
-unfolding flags
-known_1 = refl
-
-known_128 : flags 128 ≡ 128
-unfolding flags
-known_128 = refl
+tested w f mask is known = sym (has_flags w mask known) ∙ ap (λ n. bit_and n mask == mask) (sym is)
 
 pub not_present : (w f : ℕ) → f ≡ flags w → (bit_and f 1 == 1) ≡ false → Err FrameNotPresent ≡ frame_of w
-not_present w f is absent = rw (tested w f 1 is known_1 ∙ absent) refl
+not_present w f is absent = rw (tested w f 1 is refl ∙ absent) refl
 
 pub present_huge : (w f : ℕ) → f ≡ flags w → (bit_and f 1 == 1) ≡ true → (bit_and f 128 == 128) ≡ true
     → Err HugeFrame ≡ frame_of w
-present_huge w f is present huge = rw (tested w f 1 is known_1 ∙ present, tested w f 128 is known_128 ∙ huge) refl
+present_huge w f is present huge = rw (tested w f 1 is refl ∙ present, tested w f 128 is refl ∙ huge) refl
 
 pub present_small : (w f : ℕ) → f ≡ flags w → (bit_and f 1 == 1) ≡ true → (bit_and f 128 == 128) ≡ false
     → Ok (address w) ≡ frame_of w
-present_small w f is present small = rw (tested w f 1 is known_1 ∙ present, tested w f 128 is known_128 ∙ small) refl
+present_small w f is present small = rw (tested w f 1 is refl ∙ present, tested w f 128 is refl ∙ small) refl

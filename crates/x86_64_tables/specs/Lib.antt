@@ -3,7 +3,5 @@ pub mod PageTableEntry
 pub mod PageTable
 pub mod PhysMemory
 pub mod Lending
-pub mod Words
-pub mod IdentityMapping
 pub use Rattle.x86_64_model.specs.Entry
 pub use Rattle.x86_64_model.specs.Memory

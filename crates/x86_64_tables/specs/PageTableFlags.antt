@@ -3,7 +3,7 @@ use Rattle.std.specs.Prelude.{◌≡◌, ◌↔◌, ℕ, ◌<◌, ◌^◌, List,
 use Rattle.std.proofs.Common.{ap, sym, ◌∙◌}
 use Rattle.bitflags.specs.Sets.{known_bits, known_from}
 use Rattle.x86_64_model.specs.Entry.{address, flags}
-use Rattle.x86_64_tables.specs.Words.{address-flags, flags-no_address}
+use Rattle.x86_64_model.specs.Lemmas.Entries.Words.{address-flags, flags-no_address}
 use Rattle.x86_64_tables.specs.declared.page_table.flags.PageTableFlags.{PageTableFlags}
 
 -- the flags as bits of a word

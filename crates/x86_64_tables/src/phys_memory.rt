@@ -128,7 +128,7 @@ pub trait PageTableFrameMapping {
 pub struct IdentityMapping;
 
 impl PageTableFrameMapping for IdentityMapping {
-    ghost use Rattle.x86_64_tables.specs.IdentityMapping.{is_mapping_identity};
+    ghost use Rattle.x86_64_model.specs.Lemmas.Hierarchies.Memories.{identity_is_mapping};
 
     ghost places = { λ _. identity_places };
 
@@ -141,5 +141,5 @@ impl PageTableFrameMapping for IdentityMapping {
         true
     }
 
-    ghost is_mapping = { λ _. is_mapping_identity };
+    ghost is_mapping = { λ _. identity_is_mapping };
 }

@@ -1,29 +1,20 @@
 -- Words made of an address and flags.
-use Rattle.std.specs.Prelude.{◌≡◌, ℕ, ◌+◌, ◌*◌, ◌/◌, ◌%◌, ◌^◌, ◌<◌, ◌==◌, bit_and, bit_or}
+use Rattle.std.specs.Prelude.{◌≡◌, ℕ, ◌+◌, ◌%◌, ◌^◌, ◌<◌, bit_and, bit_or}
 use Rattle.std.proofs.Common.{ap, sym, ◌∙◌, arith, lit<}
 use Rattle.std.proofs.lemmas.Nat.{and_assoc, and_or_apart, or_comm, and_comm, and-not}
-use Rattle.std.proofs.lemmas.Nat.Bits.{and_high}
 use Rattle.std.specs.Int.Bits.{and_zero_r}
-use Rattle.x86_64_model.specs.Entry.{address, flags, has}
-
--- an address by division
-pub address_by_division : (w : ℕ) → address w ≡ w / 2 ^ 12 % 2 ^ 40 * 2 ^ 12
-unfolding address
-address_by_division w = and_high w 40 12
+use Rattle.x86_64_model.specs.Entry.{address, flags}
+use Rattle.x86_64_model.specs.Lemmas.Entries.Bits.{address_is}
 
 pub address_aligned : (w : ℕ) → address w % 4096 ≡ 0
-address_aligned w = omega (arith, address_by_division w)
+address_aligned w = omega (arith, address_is w)
 
-pub address_below : (w : ℕ) → address w < 2 ^ 52
-address_below w = omega (arith, address_by_division w)
+pub address_within : (w : ℕ) → address w < 2 ^ 52
+address_within w = omega (arith, address_is w)
 
 -- a multiple of 4096 below 2^52 is an address
 pub address-multiple : (a : ℕ) → a % 4096 ≡ 0 → a < 2 ^ 52 → address a ≡ a
-address-multiple a aligned below = omega (arith, address_by_division a)
-
-pub address-address : (w : ℕ) → address (address w) ≡ address w
-unfolding address
-address-address w = and_assoc 0x000f_ffff_ffff_f000 w 0x000f_ffff_ffff_f000
+address-multiple a aligned below = omega (arith, address_is a)
 
 pub flags-flags : (w : ℕ) → flags (flags w) ≡ flags w
 unfolding flags
@@ -60,9 +51,3 @@ flags_plus_address w below =
 -- a word without address bits is flags alone
 pub flags-no_address : (w : ℕ) → w < 2 ^ 64 → address w ≡ 0 → flags w ≡ w
 flags-no_address w below none = omega (arith, flags_plus_address w below)
-
--- a test of flags in the flags of a word is the test in the word
-pub has-flags : (w mask : ℕ) → flags mask ≡ mask → has (flags w) mask ≡ has w mask
-unfolding has flags
-has-flags w mask known =
-    ap (λ n. n == mask) (and_assoc mask w 0xfff0_0000_0000_0fff ∙ ap (bit_and w) (and_comm 0xfff0_0000_0000_0fff mask ∙ known))
