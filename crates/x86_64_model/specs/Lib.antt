@@ -20,6 +20,7 @@ pub mod Allowed
 pub mod Machine
 pub mod Flush
 pub mod Alike
+pub mod Layout
 pub mod Tables
 pub mod Marks
 pub mod Conserved
