@@ -26,5 +26,6 @@ pub mod Marks
 pub mod Conserved
 pub mod Arrivals
 pub mod WalkDown
+pub mod Plain
 pub mod Laws
 pub mod Lemmas
