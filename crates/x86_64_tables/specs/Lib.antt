@@ -3,5 +3,9 @@ pub mod PageTableEntry
 pub mod PageTable
 pub mod PhysMemory
 pub mod Lending
+pub mod Translations
 pub use Rattle.x86_64_model.specs.Entry
 pub use Rattle.x86_64_model.specs.Memory
+pub use Rattle.x86_64_model.specs.Layout
+pub use Rattle.x86_64_model.specs.PageWalk
+pub use Rattle.x86_64_model.specs.Translation
