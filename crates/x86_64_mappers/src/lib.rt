@@ -1,0 +1,5 @@
+//! Mappers: they read and change the page tables of a physical memory that was lent to them.
+#![tactic(auto)]
+
+pub mod mapped_page_table;
+mod walker;

@@ -1,0 +1,89 @@
+//! The mapper that finds tables by a frame mapping.
+ghost use Rattle.std.specs.Prelude.{◌≡◌, None, Some, IsSome, ℕ, option_map};
+ghost use Rattle.x86_64_model.specs.Layout.{Valid, words, read_entry};
+ghost use Rattle.x86_64_model.specs.Memory.{words_of};
+ghost use Rattle.x86_64_model.specs.PageWalk.{page_walk};
+ghost use Rattle.x86_64_model.specs.Translation.{translate as translated};
+ghost use Rattle.x86_64_mappers.specs.Layouts.{direct};
+
+use crate::walker::Walker;
+use x86_64_addr::addr::VirtAddr;
+use x86_64_addr::index::PageTableIndex;
+use x86_64_page::frame::PhysFrame;
+use x86_64_page::page::Size4KiB;
+use x86_64_tables::mapper::{PageTables, Translate, TranslateResult};
+use x86_64_tables::page_table::PageTable;
+use x86_64_tables::phys_memory::{PageTableFrameMapping, PhysMemory};
+
+/// Maps pages in a hierarchy of four levels of tables, which it finds in a memory by a frame mapping.
+///
+/// It has the memory lent until it is dropped. Its hierarchy has no recursive index.
+pub struct MappedPageTable<'a, P> {
+    memory: &'a mut PhysMemory,
+    root: PhysFrame<Size4KiB>,
+    walker: Walker<P>,
+}
+
+impl<'a, P: Drop> Drop for MappedPageTable<'a, P> {
+    fn drop(self)
+        ensures { self.exit.0.now ≡ self.entry.memory.now }
+    {
+        let MappedPageTable {
+            memory: _,
+            root: _,
+            walker: _,
+        } = self;
+    }
+}
+
+impl<'a, P: PageTableFrameMapping> MappedPageTable<'a, P> {
+    /// Makes a mapper of the hierarchy that starts at a root, in a memory where the mapping says where frames lie.
+    ///
+    /// Condition: the hierarchy is valid.
+    pub fn new(memory: &'a mut PhysMemory, root: PhysFrame<Size4KiB>, mapping: P) -> Self
+        requires { Valid (direct (P.places mapping) root) memory.old }
+        ensures lent { result.memory.ghost_name ≡ memory.entry.ghost_name }
+        ensures memory { result.memory.now ≡ memory.old }
+        ensures root { result.root ≡ root }
+        ensures mapping { result.walker.mapping ≡ mapping }
+    {
+        MappedPageTable {
+            memory,
+            root,
+            walker: Walker::new(mapping),
+        }
+    }
+
+    /// Gives the table of level four, in the root's frame.
+    pub fn level_4_table(&self) -> &PageTable
+        requires { IsSome (words_of self.now.memory.now (P.places self.now.walker.mapping) self.now.root) }
+        ensures { words_of self.now.memory.now (P.places self.now.walker.mapping) self.now.root ≡ Some result.now }
+    {
+        self.walker.table(self.memory, self.root)
+    }
+
+    /// Gives the frame mapping.
+    pub fn page_table_frame_mapping(&self) -> &P
+        ensures { result.now ≡ self.now.walker.mapping }
+    {
+        self.walker.mapping()
+    }
+}
+
+impl<'a, P: PageTableFrameMapping> PageTables for MappedPageTable<'a, P> {
+    ghost memory = { λ mapper. mapper.memory.now };
+
+    ghost layout = { λ mapper. direct (P.places mapper.walker.mapping) mapper.root };
+
+    ghost lent = { λ mapper. mapper.memory.ghost_name };
+
+    fn recursive_index(&self) -> Option<PageTableIndex> {
+        None
+    }
+}
+
+impl<'a, P: PageTableFrameMapping> Translate for MappedPageTable<'a, P> {
+    fn translate(&self, addr: VirtAddr) -> TranslateResult {
+        self.walker.translate(self.memory, self.root, addr)
+    }
+}
