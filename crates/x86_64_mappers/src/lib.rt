@@ -2,4 +2,6 @@
 #![tactic(auto)]
 
 pub mod mapped_page_table;
+#[cfg(test)]
+mod tests;
 mod walker;

@@ -4,7 +4,7 @@ ghost use Rattle.x86_64_model.specs.Layout.{Valid, words, read_entry};
 ghost use Rattle.x86_64_model.specs.Memory.{words_of};
 ghost use Rattle.x86_64_model.specs.PageWalk.{page_walk};
 ghost use Rattle.x86_64_model.specs.Translation.{translate as translated};
-ghost use Rattle.x86_64_mappers.specs.Layouts.{direct};
+ghost use Rattle.x86_64_mappers.specs.Layouts.{direct, root_table, HasRoot};
 
 use crate::walker::Walker;
 use x86_64_addr::addr::VirtAddr;
@@ -42,10 +42,9 @@ impl<'a, P: PageTableFrameMapping> MappedPageTable<'a, P> {
     /// Condition: the hierarchy is valid.
     pub fn new(memory: &'a mut PhysMemory, root: PhysFrame<Size4KiB>, mapping: P) -> Self
         requires { Valid (direct (P.places mapping) root) memory.old }
-        ensures lent { result.memory.ghost_name ≡ memory.entry.ghost_name }
-        ensures memory { result.memory.now ≡ memory.old }
-        ensures root { result.root ≡ root }
-        ensures mapping { result.walker.mapping ≡ mapping }
+        ensures lent { ⟦<MappedPageTable<'a, P> as PageTables>⟧.lent result ≡ memory.entry.ghost_name }
+        ensures memory { ⟦<MappedPageTable<'a, P> as PageTables>⟧.memory result ≡ memory.old }
+        ensures layout { ⟦<MappedPageTable<'a, P> as PageTables>⟧.layout result ≡ direct (P.places mapping) root }
     {
         MappedPageTable {
             memory,
@@ -55,16 +54,18 @@ impl<'a, P: PageTableFrameMapping> MappedPageTable<'a, P> {
     }
 
     /// Gives the table of level four, in the root's frame.
+    ///
+    /// Condition: the root's frame is covered and in the memory, as it is where the hierarchy is valid.
     pub fn level_4_table(&self) -> &PageTable
-        requires { IsSome (words_of self.now.memory.now (P.places self.now.walker.mapping) self.now.root) }
-        ensures { words_of self.now.memory.now (P.places self.now.walker.mapping) self.now.root ≡ Some result.now }
+        requires { HasRoot (⟦<MappedPageTable<'a, P> as PageTables>⟧.layout self.now) (⟦<MappedPageTable<'a, P> as PageTables>⟧.memory self.now) }
+        ensures { root_table (⟦<MappedPageTable<'a, P> as PageTables>⟧.layout self.now) (⟦<MappedPageTable<'a, P> as PageTables>⟧.memory self.now) ≡ Some result.now }
     {
         self.walker.table(self.memory, self.root)
     }
 
     /// Gives the frame mapping.
     pub fn page_table_frame_mapping(&self) -> &P
-        ensures { result.now ≡ self.now.walker.mapping }
+        ensures { P.places result.now ≡ (⟦<MappedPageTable<'a, P> as PageTables>⟧.layout self.now).places }
     {
         self.walker.mapping()
     }
