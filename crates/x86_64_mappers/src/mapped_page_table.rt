@@ -18,13 +18,14 @@ use x86_64_tables::phys_memory::{PageTableFrameMapping, PhysMemory};
 /// Maps pages in a hierarchy of four levels of tables, which it finds in a memory by a frame mapping.
 ///
 /// It has the memory lent until it is dropped. Its hierarchy has no recursive index.
-pub struct MappedPageTable<'a, P> {
+pub struct MappedPageTable<'a, P: PageTableFrameMapping> {
     memory: &'a mut PhysMemory,
     root: PhysFrame<Size4KiB>,
     walker: Walker<P>,
+    ghost has_root: { HasRoot (direct (P.places walker.mapping) root) memory.now },
 }
 
-impl<'a, P: Drop> Drop for MappedPageTable<'a, P> {
+impl<'a, P: PageTableFrameMapping + Drop> Drop for MappedPageTable<'a, P> {
     fn drop(self)
         ensures { self.exit.0.now ≡ self.entry.memory.now }
     {
@@ -54,10 +55,7 @@ impl<'a, P: PageTableFrameMapping> MappedPageTable<'a, P> {
     }
 
     /// Gives the table of level four, in the root's frame.
-    ///
-    /// Condition: the root's frame is covered and in the memory, as it is where the hierarchy is valid.
     pub fn level_4_table(&self) -> &PageTable
-        requires { HasRoot (⟦<MappedPageTable<'a, P> as PageTables>⟧.layout self.now) (⟦<MappedPageTable<'a, P> as PageTables>⟧.memory self.now) }
         ensures { root_table (⟦<MappedPageTable<'a, P> as PageTables>⟧.layout self.now) (⟦<MappedPageTable<'a, P> as PageTables>⟧.memory self.now) ≡ Some result.now }
     {
         self.walker.table(self.memory, self.root)
