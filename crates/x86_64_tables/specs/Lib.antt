@@ -3,5 +3,7 @@ pub mod PageTableEntry
 pub mod PageTable
 pub mod PhysMemory
 pub mod Lending
+pub mod PageWalk
 pub use Rattle.x86_64_model.specs.Entry
 pub use Rattle.x86_64_model.specs.Memory
+pub use Rattle.x86_64_model.specs.PageWalk

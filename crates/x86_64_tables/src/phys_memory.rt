@@ -7,6 +7,10 @@ ghost use Rattle.x86_64_model.specs.Memory.{Places, IsMapping, identity_places};
 ghost use Rattle.x86_64_tables.specs.PageTable.{zero_words};
 ghost use Rattle.x86_64_tables.specs.Lending.{LendsTable};
 
+mod walk;
+
+pub use walk::{Walked, page_walk};
+
 use crate::page_table::PageTable;
 use std::alloc::{AllocError, Global};
 use std::marker::Model;
