@@ -1,3 +1,5 @@
 pub mod Places
 pub mod PageTableEntries
 pub mod WalkSteps
+pub mod PlacesInOrder
+pub mod WordsSeen

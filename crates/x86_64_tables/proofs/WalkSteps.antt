@@ -6,7 +6,7 @@ use Rattle.x86_64_model.specs.Memory.{Words}
 use Rattle.x86_64_model.specs.Position.{index, span}
 use Rattle.x86_64_model.specs.PageWalk.{page_start, Walked, arrives, read, walk_on, page_walk}
 use Rattle.x86_64_model.specs.Lemmas.Entries.Words.{address_aligned, address_within}
-use Rattle.x86_64_tables.specs.PageWalk.{arrival}
+use Rattle.x86_64_tables.specs.Walks.{arrival}
 
 -- what a word of level one says of the walk
 abbrev pub said_last : (p : ℕ) → (w u : Bool) → ℕ → Option Walked

@@ -3,7 +3,9 @@ pub mod PageTableEntry
 pub mod PageTable
 pub mod PhysMemory
 pub mod Lending
-pub mod PageWalk
+pub mod Walks
+pub mod Images
 pub use Rattle.x86_64_model.specs.Entry
 pub use Rattle.x86_64_model.specs.Memory
 pub use Rattle.x86_64_model.specs.PageWalk
+pub use Rattle.x86_64_model.specs.Hierarchy

@@ -6,7 +6,7 @@ ghost use Rattle.x86_64_model.specs.Memory.{words_of};
 ghost use Rattle.x86_64_model.specs.Position.{index, span};
 ghost use Rattle.x86_64_model.specs.PageWalk.{read, walk_on, page_walk as page_walk_of};
 ghost use Rattle.x86_64_tables.specs.PageTableFlags.{bits_of};
-ghost use Rattle.x86_64_tables.specs.PageWalk.{walked_of, arrival};
+ghost use Rattle.x86_64_tables.specs.Walks.{walked_of, arrival};
 
 use super::{PageTableFrameMapping, PhysMemory};
 use crate::page_table::{PageTableEntry, PageTableFlags};
@@ -101,7 +101,7 @@ fn walk_down<P: PageTableFrameMapping>(
 }
 
 /// Reads the entry at an index of the table in a frame, or gives `None` where the frame has no table in the memory.
-fn entry_at<'a, P: PageTableFrameMapping>(
+pub(super) fn entry_at<'a, P: PageTableFrameMapping>(
     memory: &'a PhysMemory,
     mapping: &P,
     frame: PhysFrame<Size4KiB>,
@@ -118,7 +118,7 @@ fn entry_at<'a, P: PageTableFrameMapping>(
 }
 
 /// Tells whether an entry has a flag.
-fn has_flag(entry: &PageTableEntry, flag: PageTableFlags) -> bool
+pub(super) fn has_flag(entry: &PageTableEntry, flag: PageTableFlags) -> bool
     requires { bit_and 0xfff0_0000_0000_0fff (bits_of flag) ≡ bits_of flag }
     ensures { result ≡ has entry.now (bits_of flag) }
 {
