@@ -1,19 +1,17 @@
 //! The mapper that finds tables by a frame mapping.
-ghost use Rattle.std.specs.Prelude.{◌≡◌, None, Some, IsSome, ℕ, option_map};
-ghost use Rattle.x86_64_model.specs.Layout.{Valid, words, read_entry};
-ghost use Rattle.x86_64_model.specs.Memory.{words_of};
-ghost use Rattle.x86_64_model.specs.PageWalk.{page_walk};
-ghost use Rattle.x86_64_model.specs.Translation.{translate as translated};
+ghost use Rattle.std.specs.Prelude.{◌≡◌, ◌↔◌, Some, IfOk, IsTrue};
+ghost use Rattle.x86_64_model.specs.Layout.{Valid};
 ghost use Rattle.x86_64_mappers.specs.Layouts.{direct, root_table, HasRoot};
 
 use crate::walker::Walker;
+use std::alloc::{AllocError, Global};
 use x86_64_addr::addr::VirtAddr;
 use x86_64_addr::index::PageTableIndex;
 use x86_64_page::frame::PhysFrame;
 use x86_64_page::page::Size4KiB;
 use x86_64_tables::mapper::{PageTables, Translate, TranslateResult};
 use x86_64_tables::page_table::PageTable;
-use x86_64_tables::phys_memory::{PageTableFrameMapping, PhysMemory};
+use x86_64_tables::phys_memory::{PageTableFrameMapping, PhysMemory, is_valid_hierarchy};
 
 /// Maps pages in a hierarchy of four levels of tables, which it finds in a memory by a frame mapping.
 ///
@@ -59,6 +57,17 @@ impl<'a, P: PageTableFrameMapping> MappedPageTable<'a, P> {
         ensures { root_table (⟦<MappedPageTable<'a, P> as PageTables>⟧.layout self.now) (⟦<MappedPageTable<'a, P> as PageTables>⟧.memory self.now) ≡ Some result.now }
     {
         self.walker.table(self.memory, self.root)
+    }
+
+    /// Tells whether the hierarchy is valid now.
+    ///
+    /// # Errors
+    ///
+    /// `AllocError` where memory is refused.
+    pub fn is_valid(&self, alloc: Global) -> Result<bool, AllocError>
+        ensures { IfOk result (λ valid. IsTrue valid ↔ Valid (⟦<MappedPageTable<'a, P> as PageTables>⟧.layout self.now) (⟦<MappedPageTable<'a, P> as PageTables>⟧.memory self.now)) }
+    {
+        is_valid_hierarchy(alloc, self.memory, self.walker.mapping(), self.root)
     }
 
     /// Gives the frame mapping.
