@@ -1,16 +1,14 @@
 -- The way down to the entry that maps an address, one level at a time.
-use Rattle.std.proofs.Common.{zero, suc, ◌≡◌, ◌≢◌, ◌<◌, ◌≤◌, ◌+◌, ◌-◌, ◌%◌, ℕ, ◌&&◌, Bool, true, false, not, cond, List, [], ◌∷◌, ◌++◌, length, nat_le, IsSome, Option, Some, Result, Ok, Err, refl, sym, ap, ap₂, ◌∙◌, arith}
+use Rattle.std.proofs.Common.{zero, suc, ◌≡◌, ◌<◌, ◌≤◌, ◌+◌, ◌-◌, ◌%◌, ℕ, ◌&&◌, Bool, true, false, not, cond, List, [], ◌∷◌, ◌++◌, length, nat_le, IsSome, Ok, Err, refl, sym, ap, ap₂, ◌∙◌, arith}
 use Rattle.std.proofs.lemmas.Bool.{le-leb, leb-false, leb-true}
 use Rattle.x86_64_model.specs.Entry.{used, present, huge, address, flags, names_table}
 use Rattle.x86_64_model.specs.Lemmas.Entries.Words.{address_aligned}
 use Rattle.x86_64_model.specs.Lemmas.Walks.Walked.{Reads, one_more, names}
 use Rattle.x86_64_model.specs.Memory.{Words, word}
 use Rattle.x86_64_model.specs.PageWalk.{page_start}
-use Rattle.x86_64_model.specs.Path.{level_of}
 use Rattle.x86_64_model.specs.Position.{index, span}
 use Rattle.x86_64_model.specs.Translation.{Translated, NotMapped, Mapped, translate_on, translate}
 use Rattle.x86_64_tables.specs.PageTableEntry.{frame_of}
-use Rattle.x86_64_tables.specs.declared.page_table.entry.FrameError.{FrameError}
 use Rattle.x86_64_tables.specs.declared.page_table.entry.FrameError.TheVariants.{FrameNotPresent, HugeFrame}
 
 -- what an entry of level two or more says, where rest is what those below it say

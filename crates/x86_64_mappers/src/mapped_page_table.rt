@@ -45,10 +45,11 @@ impl<'a, P: PageTableFrameMapping> MappedPageTable<'a, P> {
         ensures memory { ⟦<MappedPageTable<'a, P> as PageTables>⟧.memory result ≡ memory.old }
         ensures layout { ⟦<MappedPageTable<'a, P> as PageTables>⟧.layout result ≡ direct (P.places mapping) root }
     {
+        let walker = Walker::new(mapping);
         MappedPageTable {
             memory,
             root,
-            walker: Walker::new(mapping),
+            walker,
         }
     }
 

@@ -107,7 +107,13 @@ fn small_pages_are_translated(rt: HostRuntime) -> Result<(), Fail> {
         (0x3000, TranslateResult::NotMapped),
         (0x20_0000, TranslateResult::NotMapped),
     ];
-    let words = [(1, 0, 0x2003), (2, 0, 0x3003), (3, 0, 0x4003), (4, 1, 0x5003), (4, 2, 0x5002)];
+    let words = [
+        (1, 0, 0x2003),
+        (2, 0, 0x3003),
+        (3, 0, 0x4003),
+        (4, 1, 0x5003),
+        (4, 2, 0x5002),
+    ];
     for (addr, expected) in rows {
         check(&rt, rt.alloc(), &words, addr, expected)?;
     }
@@ -116,7 +122,12 @@ fn small_pages_are_translated(rt: HostRuntime) -> Result<(), Fail> {
 
 #[test]
 fn mappers_tell_of_their_tables(rt: HostRuntime) -> Result<(), Fail> {
-    let words = [(1, 0, 0x2003), (2, 0, 0x3003), (3, 0, 0x4003), (4, 1, 0x5003)];
+    let words = [
+        (1, 0, 0x2003),
+        (2, 0, 0x3003),
+        (3, 0, 0x4003),
+        (4, 1, 0x5003),
+    ];
     let mut memory = image(rt.alloc(), &words)?;
     let root = small(0x1000);
     assert!(rt; is_valid_hierarchy(rt.alloc(), &memory, &IdentityMapping, root)?);
@@ -124,11 +135,20 @@ fn mappers_tell_of_their_tables(rt: HostRuntime) -> Result<(), Fail> {
     assert!(rt; mapper.is_valid(rt.alloc())?);
     assert_eq!(rt; mapper.recursive_index(), None);
     assert_eq!(rt; word_of(&mapper.level_4_table()[0]), 0x2003);
-    assert_eq!(rt; mapper.page_table_frame_mapping().frame_to_pointer(root).number(), 1);
+    assert_eq!(rt;
+        mapper
+            .page_table_frame_mapping()
+            .frame_to_pointer(root)
+            .number(),
+        1
+    );
     let address = address_by(&mapper, VirtAddr::new(0x1abc));
     assert_eq!(rt; address, Some(PhysAddr::new(0x5abc)));
     let nowhere = address_by(&mapper, VirtAddr::new(0x2000));
     assert_eq!(rt; nowhere, None);
+    let frame = MappedFrame::Size4KiB(small(0x5000));
+    assert_eq!(rt; frame.start_address(), PhysAddr::new(0x5000));
+    assert_eq!(rt; frame.size(), 0x1000);
     let result = mapper.translate(VirtAddr::new(0x1abc));
     let text = format!(in rt.alloc(); "{result:?}")?;
     assert_eq!(rt;

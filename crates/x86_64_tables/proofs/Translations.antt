@@ -1,7 +1,7 @@
 -- Where a translation leads is a physical address.
 use Rattle.std.proofs.Common.{zero, suc, ◌≡◌, ℕ, ◌+◌, ◌%◌, ◌^◌, ◌<◌, ◌≤◌, ◌&&◌, nat_le, Bool, true, false, cond, List, [], ◌∷◌, ◌++◌, Option, Some, refl, sym, subst, arith}
 use Rattle.std.proofs.lemmas.Bool.{leb-true}
-use Rattle.x86_64_model.specs.Entry.{used, present, huge, address, flags}
+use Rattle.x86_64_model.specs.Entry.{address, flags}
 use Rattle.x86_64_model.specs.Lemmas.Entries.Words.{address_aligned, address_within}
 use Rattle.x86_64_model.specs.PageWalk.{page_start}
 use Rattle.x86_64_model.specs.Position.{span, index}

@@ -1,10 +1,9 @@
-use Rattle.std.proofs.Common.{◌∙◌, ◌-◌, ◌+◌, ◌%◌, ◌≡◌, false, true, not, ap, sym, Some, Err, arith}
-use Rattle.x86_64_model.specs.Entry.{used, flags}
+use Rattle.std.proofs.Common.{◌∙◌, ◌-◌, ◌+◌, ◌%◌, ◌≡◌, ap, sym, Some, Err, arith}
+use Rattle.x86_64_model.specs.Entry.{flags}
 use Rattle.x86_64_model.specs.Layout.{Layout, words, paths, read_entry}
 use Rattle.x86_64_model.specs.Lemmas.Walks.Agrees.{reads}
-use Rattle.x86_64_model.specs.Memory.{word}
 use Rattle.x86_64_model.specs.PageWalk.{page_start}
-use Rattle.x86_64_model.specs.Position.{index, span}
+use Rattle.x86_64_model.specs.Position.{span}
 use Rattle.x86_64_model.specs.Translation.{Mapped}
 use Rattle.x86_64_mappers.specs.Layouts.{direct}
 use Rattle.x86_64_mappers.proofs.Levels.{level_at}
