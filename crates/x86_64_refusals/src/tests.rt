@@ -1,7 +1,9 @@
 //! Calls that take memory, while there is none and then again.
 use std::alloc::{AllocError, Global};
 use std::test::Fail;
-use x86_64_tables::phys_memory::PhysMemory;
+use x86_64_addr::addr::PhysAddr;
+use x86_64_page::frame::PhysFrame;
+use x86_64_tables::phys_memory::{IdentityMapping, PhysMemory, is_valid_hierarchy};
 
 /// Takes all memory that there is, in blocks of falling size.
 fn hoard(alloc: Global) -> Result<Vec<Vec<u8>>, AllocError> {
@@ -43,6 +45,32 @@ fn a_new_memory_is_refused_until_there_is_room(rt: HostRuntime) -> Result<(), Fa
     }
     blocks.clear();
     assert_eq!(rt; places, 16);
+    assert!(rt; refusals > 0);
+    Ok(())
+}
+
+#[test]
+fn the_test_of_a_hierarchy_is_refused_until_there_is_room(rt: HostRuntime) -> Result<(), Fail> {
+    let alloc = rt.alloc();
+    let memory = PhysMemory::new(alloc, 4096)?;
+    let root = PhysFrame::containing_address(PhysAddr::new(0x1000));
+    let mut blocks = hoard(alloc)?;
+    let mut refusals = 0;
+    let mut answer = None;
+    for turn in 0..100_000 {
+        match is_valid_hierarchy(alloc, &memory, &IdentityMapping, root) {
+            Ok(is_valid) => {
+                answer = Some(is_valid);
+                break;
+            }
+            Err(AllocError) => refusals = turn + 1,
+        }
+        if blocks.pop().is_none() {
+            break;
+        }
+    }
+    blocks.clear();
+    assert_eq!(rt; answer, Some(true));
     assert!(rt; refusals > 0);
     Ok(())
 }
