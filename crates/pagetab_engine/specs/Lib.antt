@@ -1,0 +1,4 @@
+pub mod Line
+pub mod Hierarchy
+pub mod Number
+pub mod Slot
