@@ -3,9 +3,8 @@
 
 use pagetab_engine::ending::{Ending, Fault};
 use pagetab_engine::engine;
-use std::env;
-use std::io;
 use std::process::ExitCode;
+use std::{env, io};
 
 fn main(rt: HostRuntime) -> ExitCode {
     let ending = match arguments(&rt) {
@@ -14,13 +13,14 @@ fn main(rt: HostRuntime) -> ExitCode {
             let mut writer = io::writer(&rt);
             engine::run(rt.alloc(), words.as_slice(), &mut reader, &mut writer)
         }
-        Err(fault) => Ending::Stopped(fault),
+        // The arguments are there: only the memory to list them can be wanting.
+        Err(_) => Ending::Stopped(Fault::OutOfMemory),
     };
     report(&rt, ending)
 }
 
 /// Gives the words after the program's name.
-fn arguments(rt: &HostRuntime) -> Result<Vec<String>, Fault> {
+fn arguments(rt: &HostRuntime) -> io::Result<Vec<String>> {
     let mut words = Vec::new(rt.alloc());
     for word in env::args(rt)?.skip(1) {
         words.push(word)?;

@@ -3,11 +3,10 @@ ghost use Rattle.std.specs.Prelude.{◌≡◌, ◌≤◌, IfSome};
 ghost use Rattle.pagetab_engine.specs.Hierarchy.{IsReady};
 
 use crate::ending::{Ending, Fault};
-use crate::hierarchy;
 use crate::lines::Lines;
-use crate::number;
 use crate::reply::Reply;
 use crate::statement::{Command, Statement};
+use crate::{hierarchy, number};
 use std::alloc::Global;
 use std::io::{Read, Write};
 use x86_64_tables::phys_memory::PhysMemory;

@@ -3,8 +3,8 @@ ghost use Rattle.std.specs.Prelude.{◌≡◌, ⊤, IfOk, true};
 ghost use Rattle.x86_64_model.specs.Memory.{Memory};
 ghost use Rattle.pagetab_engine.specs.Hierarchy.{IsReady};
 
-use std::alloc::{AllocError, Global};
 use bitflags::Flags;
+use std::alloc::{AllocError, Global};
 use x86_64_addr::addr::{PhysAddr, VirtAddr};
 use x86_64_addr::index::PageTableIndex;
 use x86_64_page::frame::PhysFrame;
@@ -21,7 +21,11 @@ pub enum MappedFrame {
 
 #[derive(Clone, Copy, Debug)]
 pub enum TranslateResult {
-    Mapped { frame: MappedFrame, offset: u64, flags: PageTableFlags },
+    Mapped {
+        frame: MappedFrame,
+        offset: u64,
+        flags: PageTableFlags,
+    },
     NotMapped,
     InvalidFrameAddress(PhysAddr),
 }
@@ -81,27 +85,31 @@ pub fn translate(memory: &mut PhysMemory, addr: VirtAddr) -> TranslateResult
     ensures { memory.new ≡ memory.old }
 {
     let p4 = entry(memory, 0x1000, addr.p4_index());
-    if p4 == 0 {
+    if p4 & 1 == 0 {
         return TranslateResult::NotMapped;
     }
     let p3 = entry(memory, p4 & 0x000f_ffff_ffff_f000, addr.p3_index());
-    if p3 == 0 {
+    if p3 & 1 == 0 {
         return TranslateResult::NotMapped;
     }
     if p3 & 0x80 != 0 {
         return TranslateResult::Mapped {
-            frame: MappedFrame::Size1GiB(PhysFrame::containing_address(PhysAddr::new_truncate(p3 & 0x000f_ffff_ffff_f000))),
+            frame: MappedFrame::Size1GiB(PhysFrame::containing_address(PhysAddr::new_truncate(
+                p3 & 0x000f_ffff_ffff_f000,
+            ))),
             offset: addr.as_u64() & 0x3fff_ffff,
             flags: PageTableFlags::from_bits_truncate(p3),
         };
     }
     let p2 = entry(memory, p3 & 0x000f_ffff_ffff_f000, addr.p2_index());
-    if p2 == 0 {
+    if p2 & 1 == 0 {
         return TranslateResult::NotMapped;
     }
     if p2 & 0x80 != 0 {
         return TranslateResult::Mapped {
-            frame: MappedFrame::Size2MiB(PhysFrame::containing_address(PhysAddr::new_truncate(p2 & 0x000f_ffff_ffff_f000))),
+            frame: MappedFrame::Size2MiB(PhysFrame::containing_address(PhysAddr::new_truncate(
+                p2 & 0x000f_ffff_ffff_f000,
+            ))),
             offset: addr.as_u64() & 0x1f_ffff,
             flags: PageTableFlags::from_bits_truncate(p2),
         };
@@ -111,7 +119,9 @@ pub fn translate(memory: &mut PhysMemory, addr: VirtAddr) -> TranslateResult
         return TranslateResult::NotMapped;
     }
     TranslateResult::Mapped {
-        frame: MappedFrame::Size4KiB(PhysFrame::containing_address(PhysAddr::new_truncate(p1 & 0x000f_ffff_ffff_f000))),
+        frame: MappedFrame::Size4KiB(PhysFrame::containing_address(PhysAddr::new_truncate(
+            p1 & 0x000f_ffff_ffff_f000,
+        ))),
         offset: addr.as_u64() & 0xfff,
         flags: PageTableFlags::from_bits_truncate(p1),
     }
@@ -122,7 +132,12 @@ pub fn walk(memory: &PhysMemory, addr: VirtAddr) -> Option<Walked> {
     let mut table = 0x1000;
     let mut rights = 6;
     let at = addr.as_u64();
-    for (index, mask) in [(addr.p4_index(), 0), (addr.p3_index(), 0x3fff_ffff), (addr.p2_index(), 0x1f_ffff), (addr.p1_index(), 0xfff)] {
+    for (index, mask) in [
+        (addr.p4_index(), 0),
+        (addr.p3_index(), 0x3fff_ffff),
+        (addr.p2_index(), 0x1f_ffff),
+        (addr.p1_index(), 0xfff),
+    ] {
         let word = entry(memory, table, index);
         if word & 1 == 0 {
             return None;

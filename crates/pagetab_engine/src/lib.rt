@@ -9,7 +9,5 @@ pub mod number;
 mod reply;
 mod slot;
 mod statement;
-
-
 #[cfg(test)]
 mod tests;

@@ -20,9 +20,8 @@ pub fn parse(text: &str) -> Option<u64>
 fn parse_digits(digits: &str, radix: u32) -> Option<u64>
     requires lower_bound { 2 ≤ radix }
     requires upper_bound { radix ≤ 36 }
-    ensures {
-        SomeIff result (IsNumeral radix digits.now × (digits_value radix digits.now < 2 ^ 64))
-            (digits_value radix digits.now) }
+    ensures { SomeIff result (IsNumeral radix digits.now × (digits_value radix digits.now < 2 ^ 64))
+        (digits_value radix digits.now) }
 {
     if digits.starts_with('+') {
         return None;

@@ -19,7 +19,13 @@ pub enum Reply {
 impl Display for Reply {
     fn fmt<W: Write>(&self, f: &mut Formatter<W>) -> FmtResult {
         match self {
-            Reply::Translation(TranslateResult::Mapped { frame, offset, flags }) => {
+            Reply::Translation(
+                TranslateResult::Mapped {
+                    frame,
+                    offset,
+                    flags,
+                },
+            ) => {
                 let flags = flags.bits();
                 write_frame(f, frame)?;
                 write!(f, " {offset:#x} {flags:#x}")
