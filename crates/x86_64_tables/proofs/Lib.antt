@@ -1,2 +1,6 @@
 pub mod Places
 pub mod PageTableEntries
+pub mod WalkSteps
+pub mod PlacesInOrder
+pub mod WordsSeen
+pub mod Translations

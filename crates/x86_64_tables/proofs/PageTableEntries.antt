@@ -6,7 +6,7 @@ use Rattle.x86_64_tables.specs.PageTableEntry.{frame_of}
 use Rattle.x86_64_model.specs.Lemmas.Entries.Bits.{has_flags}
 
 -- a test of a word's flags is the test of the word
-tested : (w f mask : ℕ) → f ≡ flags w → bit_and 0xfff0_0000_0000_0fff mask ≡ mask → has w mask ≡ (bit_and f mask == mask)
+pub tested : (w f mask : ℕ) → f ≡ flags w → bit_and 0xfff0_0000_0000_0fff mask ≡ mask → has w mask ≡ (bit_and f mask == mask)
 unfolding has
 tested w f mask is known = sym (has_flags w mask known) ∙ ap (λ n. bit_and n mask == mask) (sym is)
 

@@ -3,5 +3,12 @@ pub mod PageTableEntry
 pub mod PageTable
 pub mod PhysMemory
 pub mod Lending
+pub mod Walks
+pub mod Images
+pub mod Translations
 pub use Rattle.x86_64_model.specs.Entry
 pub use Rattle.x86_64_model.specs.Memory
+pub use Rattle.x86_64_model.specs.Hierarchy
+pub use Rattle.x86_64_model.specs.PageWalk
+pub use Rattle.x86_64_model.specs.Layout
+pub use Rattle.x86_64_model.specs.Translation

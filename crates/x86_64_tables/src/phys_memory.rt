@@ -3,13 +3,22 @@ ghost use Rattle.std.specs.Prelude.{◌≡◌, ◌==◌, ◌/◌, ℕ, true, IfO
 ghost use Rattle.std.specs.Option.{option_copied, option_copied_mut};
 ghost use Rattle.std.specs.Borrow.{sem};
 ghost use Rattle.std.specs.FinMap as map;
+ghost use Rattle.std.specs.List.{position};
+ghost use Rattle.std.specs.Ordering.{nat_cmp, eq_by_cmp};
 ghost use Rattle.x86_64_model.specs.Memory.{Places, IsMapping, identity_places};
 ghost use Rattle.x86_64_tables.specs.PageTable.{zero_words};
 ghost use Rattle.x86_64_tables.specs.Lending.{LendsTable};
 
+#[cfg(test)]
+mod tests;
+mod validity;
+mod walk;
+
 use crate::page_table::PageTable;
 use std::alloc::{AllocError, Global};
 use std::marker::Model;
+pub use validity::is_valid_hierarchy;
+pub use walk::{Walked, page_walk};
 use x86_64_page::frame::PhysFrame;
 use x86_64_page::page::{PageSize, Size4KiB};
 
@@ -100,6 +109,18 @@ impl PhysMemory {
         ensures value { option_copied_mut result ≡ map.get self.old place }
     {
         self.tables.get_mut(place.number() as usize)
+    }
+
+    /// Gives how many places come before a place, or `None` where the memory lacks it.
+    fn index_of(&self, place: FramePlace) -> Option<usize>
+        ensures { result ≡ position (eq_by_cmp nat_cmp place) (map.keys self.now) }
+    {
+        let number = place.number() as usize;
+        if number < self.tables.len() {
+            Some(number)
+        } else {
+            None
+        }
     }
 }
 

@@ -1,0 +1,11 @@
+//! Page tables of x86-64: virtual and physical addresses, pages and frames, tables of four levels, and mappers over a
+//! physical memory that consists of page tables.
+//!
+//! The names and paths are those of the Rust crate `x86_64`. What is lent to a mapper here is a [`PhysMemory`].
+#![tactic(auto)]
+
+pub mod structures;
+
+pub use x86_64_addr::addr;
+pub use x86_64_addr::addr::{PhysAddr, VirtAddr};
+pub use x86_64_tables::phys_memory::{FramePlace, IdentityMapping, PhysMemory};

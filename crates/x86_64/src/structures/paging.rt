@@ -1,0 +1,10 @@
+//! Page tables, and what they map.
+pub mod mapper;
+pub mod page_table;
+
+pub use mapper::{MappedPageTable, Translate};
+pub use page_table::{PageOffset, PageTable, PageTableFlags, PageTableIndex};
+pub use x86_64_page::frame;
+pub use x86_64_page::frame::PhysFrame;
+pub use x86_64_page::page;
+pub use x86_64_page::page::{PageSize, Size1GiB, Size2MiB, Size4KiB};

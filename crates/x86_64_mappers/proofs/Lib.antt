@@ -1,0 +1,4 @@
+pub mod Levels
+pub mod Sought
+pub mod Translations
+pub mod Words

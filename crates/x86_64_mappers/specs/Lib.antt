@@ -1,0 +1,3 @@
+pub mod Layouts
+pub use Rattle.x86_64_model.specs.Layout
+pub use Rattle.x86_64_model.specs.Memory

@@ -1,0 +1,7 @@
+//! Mappers: they read and change the page tables of a physical memory that was lent to them.
+#![tactic(auto)]
+
+pub mod mapped_page_table;
+#[cfg(test)]
+mod tests;
+mod walker;

@@ -1,0 +1,88 @@
+//! The mapper that finds tables by a frame mapping.
+ghost use Rattle.std.specs.Prelude.{◌≡◌, None, Some, IsSome, ℕ, option_map};
+ghost use Rattle.x86_64_model.specs.Layout.{Valid, words, read_entry};
+ghost use Rattle.x86_64_model.specs.Memory.{words_of};
+ghost use Rattle.x86_64_model.specs.PageWalk.{page_walk};
+ghost use Rattle.x86_64_model.specs.Translation.{translate as translated};
+ghost use Rattle.x86_64_mappers.specs.Layouts.{direct, root_table, HasRoot};
+
+use crate::walker::Walker;
+use x86_64_addr::addr::VirtAddr;
+use x86_64_addr::index::PageTableIndex;
+use x86_64_page::frame::PhysFrame;
+use x86_64_page::page::Size4KiB;
+use x86_64_tables::mapper::{PageTables, Translate, TranslateResult};
+use x86_64_tables::page_table::PageTable;
+use x86_64_tables::phys_memory::{PageTableFrameMapping, PhysMemory};
+
+/// Maps pages in a hierarchy of four levels of tables, which it finds in a memory by a frame mapping.
+///
+/// It has the memory lent until it is dropped. Its hierarchy has no recursive index.
+pub struct MappedPageTable<'a, P: PageTableFrameMapping> {
+    memory: &'a mut PhysMemory,
+    root: PhysFrame<Size4KiB>,
+    walker: Walker<P>,
+    ghost has_root: { HasRoot (direct (P.places walker.mapping) root) memory.now },
+}
+
+impl<'a, P: PageTableFrameMapping + Drop> Drop for MappedPageTable<'a, P> {
+    fn drop(self)
+        ensures { self.exit.0.now ≡ self.entry.memory.now }
+    {
+        let MappedPageTable {
+            memory: _,
+            root: _,
+            walker: _,
+        } = self;
+    }
+}
+
+impl<'a, P: PageTableFrameMapping> MappedPageTable<'a, P> {
+    /// Makes a mapper of the hierarchy that starts at a root, in a memory where the mapping says where frames lie.
+    ///
+    /// Condition: the hierarchy is valid.
+    pub fn new(memory: &'a mut PhysMemory, root: PhysFrame<Size4KiB>, mapping: P) -> Self
+        requires { Valid (direct (P.places mapping) root) memory.old }
+        ensures lent { ⟦<MappedPageTable<'a, P> as PageTables>⟧.lent result ≡ memory.entry.ghost_name }
+        ensures memory { ⟦<MappedPageTable<'a, P> as PageTables>⟧.memory result ≡ memory.old }
+        ensures layout { ⟦<MappedPageTable<'a, P> as PageTables>⟧.layout result ≡ direct (P.places mapping) root }
+    {
+        MappedPageTable {
+            memory,
+            root,
+            walker: Walker::new(mapping),
+        }
+    }
+
+    /// Gives the table of level four, in the root's frame.
+    pub fn level_4_table(&self) -> &PageTable
+        ensures { root_table (⟦<MappedPageTable<'a, P> as PageTables>⟧.layout self.now) (⟦<MappedPageTable<'a, P> as PageTables>⟧.memory self.now) ≡ Some result.now }
+    {
+        self.walker.table(self.memory, self.root)
+    }
+
+    /// Gives the frame mapping.
+    pub fn page_table_frame_mapping(&self) -> &P
+        ensures { P.places result.now ≡ (⟦<MappedPageTable<'a, P> as PageTables>⟧.layout self.now).places }
+    {
+        self.walker.mapping()
+    }
+}
+
+impl<'a, P: PageTableFrameMapping> PageTables for MappedPageTable<'a, P> {
+    ghost memory = { λ mapper. mapper.memory.now };
+
+    ghost layout = { λ mapper. direct (P.places mapper.walker.mapping) mapper.root };
+
+    ghost lent = { λ mapper. mapper.memory.ghost_name };
+
+    fn recursive_index(&self) -> Option<PageTableIndex> {
+        None
+    }
+}
+
+impl<'a, P: PageTableFrameMapping> Translate for MappedPageTable<'a, P> {
+    fn translate(&self, addr: VirtAddr) -> TranslateResult {
+        self.walker.translate(self.memory, self.root, addr)
+    }
+}

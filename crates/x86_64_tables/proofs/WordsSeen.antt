@@ -1,0 +1,88 @@
+-- What a test of a hierarchy reads.
+use Rattle.std.proofs.Common.{◌≡◌, ◌≢◌, ◌<◌, ◌==◌, nat_lt, ℕ, Bool, true, false, cond, List, length, get_or, set, Some, None, Option, option_map, refl, sym, ap, ap₂, ◌∙◌, ⊎_elim, lt-ltb, eqb-true, eq-eqb, ◌&&◌, arith}
+use Rattle.std.proofs.lemmas.Bool.{cases_eq, cases_lt}
+use Rattle.std.proofs.lemmas.List.{get_or-set_same, get_or_past, set_past}
+use Rattle.x86_64_model.specs.Entry.{used, address, names_table}
+use Rattle.x86_64_model.specs.Memory.{Words, word, word_in, set_word}
+use Rattle.x86_64_model.specs.PageWalk.{read}
+use Rattle.x86_64_model.specs.Tables.{without_word}
+use Rattle.x86_64_model.specs.Lemmas.Hierarchies.Held.{word-set_frame, word-set_index}
+use Rattle.x86_64_tables.specs.Images.{below_word, word_or_absent}
+
+-- a word that is read
+pub word-read : (T : Words) (f i : ℕ) → i < 512 → word_or_absent (read T f i) ≡ word T f i
+unfolding word
+word-read T f i small = by (T f) ∙ sym (ap (λ b. cond b (word_in (T f) i) 0) (lt-ltb i 512 small))
+  where
+    by : (o : Option (List ℕ)) → word_or_absent (option_map (λ words. get_or words i 0) o) ≡ word_in o i
+    by None = refl
+    by (Some words) = refl
+
+-- the words with one read as 0
+zeroed : (words : List ℕ) (i : ℕ) → get_or (set words i 0) i 0 ≡ 0
+zeroed words i = ⊎_elim
+    (λ l. get_or-set_same words i 0 0 l)
+    (λ l. ap (λ w. get_or w i 0) (set_past words i 0 l) ∙ get_or_past words i 0 l)
+    (cases_lt i (length words))
+
+pub word-without_same : (r root : ℕ) (T : Words) (f i : ℕ) → f ≡ root → i ≡ r → 0 ≡ word (without_word (Some r) root T) f i
+unfolding word set_word
+word-without_same r root T f i e d =
+    sym (ap₂ (λ f i. word (set_word T root r 0) f i) e d ∙ by (nat_lt r 512) (root == root) (T root) (eqb_self root))
+  where
+    eqb_self : (n : ℕ) → (n == n) ≡ true
+    eqb_self n = grind arith
+
+    by : (a b : Bool) (o : Option (List ℕ)) → b ≡ true
+        → cond a (word_in (cond b (option_map (λ words. set words r 0) o) o) r) 0 ≡ 0
+    by true true None h = refl
+    by true true (Some words) h = zeroed words r
+    by true false o h = cc
+    by false b o h = refl
+
+pub word-without_none : (recursive : Option ℕ) (root : ℕ) (T : Words) (f i : ℕ)
+    → ((r : ℕ) → recursive ≡ Some r → f ≡ root → i ≢ r) → word T f i ≡ word (without_word recursive root T) f i
+word-without_none None root T f i apart = refl
+word-without_none (Some r) root T f i apart = ⊎_elim
+    (λ e. sym (word-set_index T root r 0 f i (apart r refl e)))
+    (λ n. sym (word-set_frame T root r 0 f i n))
+    (cases_eq f root)
+
+-- ---- what a word names
+
+pub zero_names_none : None ≡ below_word 0
+unfolding used
+zero_names_none = refl
+
+pub is_named : (w f : ℕ) → Some f ≡ below_word w → names_table w ≡ true
+is_named w f = by (names_table w)
+  where
+    by : (b : Bool) → Some f ≡ cond b (Some (address w)) None → b ≡ true
+    by true h = refl
+    by false h = absurd (let t : Some f ≡ None = h in cc)
+
+pub named_at : (w f : ℕ) → Some f ≡ below_word w → f ≡ address w
+named_at w f = by (names_table w)
+  where
+    by : (b : Bool) → Some f ≡ cond b (Some (address w)) None → f ≡ address w
+    by true h = let t : Some f ≡ Some (address w) = h in cc
+    by false h = absurd (let t : Some f ≡ None = h in cc)
+
+pub is_not_named : (w : ℕ) → None ≡ below_word w → names_table w ≡ false
+is_not_named w = by (names_table w)
+  where
+    by : (b : Bool) → None ≡ cond b (Some (address w)) None → b ≡ false
+    by true h = absurd (let t : None ≡ Some (address w) = h in cc)
+    by false h = refl
+
+-- ---- tests of equality
+
+pub are_equal : (f g : ℕ) (b : Bool) → b ≡ ((f == g) && true) → b ≡ true → f ≡ g
+are_equal f g b is h = eqb-true f g (by (f == g) (sym is ∙ h))
+  where
+    by : (b : Bool) → (b && true) ≡ true → b ≡ true
+    by true h = refl
+    by false h = h
+
+pub not_equal : (f g : ℕ) (b : Bool) → b ≡ ((f == g) && true) → b ≡ false → f ≢ g
+not_equal f g b is h e = let t : true ≡ false = sym (ap (λ b. b && true) (eq-eqb f g e)) ∙ sym is ∙ h in cc

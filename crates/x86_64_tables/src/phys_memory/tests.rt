@@ -1,0 +1,111 @@
+//! Tests of walks and of hierarchies, over memories that are given as words.
+use super::{FramePlace, IdentityMapping, PhysMemory, Walked, page_walk};
+use crate::page_table::PageTableFlags;
+use bitflags::Flags;
+use std::alloc::Global;
+use std::test::Fail;
+use x86_64_addr::addr::{PhysAddr, VirtAddr};
+use x86_64_addr::index::PageTableIndex;
+use x86_64_page::frame::PhysFrame;
+use x86_64_page::page::Size4KiB;
+
+/// The bits of a word that are flags.
+const FLAGS_MASK: u64 = 0xfff0_0000_0000_0fff;
+
+/// Gives the frame with a start address.
+fn frame_at(start: u64) -> PhysFrame<Size4KiB> {
+    PhysFrame::containing_address(PhysAddr::new_truncate(start))
+}
+
+/// Sets the word at an index of the table in a frame.
+fn set_word(memory: &mut PhysMemory, frame: u64, index: u16, word: u64) -> Result<(), Fail> {
+    let table = memory
+        .table_mut(FramePlace::new(frame / 0x1000))
+        .ok_or("a place")?;
+    let flags = PageTableFlags::from_bits_retain(word & FLAGS_MASK);
+    let entry = &mut table[PageTableIndex::new_truncate(index)];
+    entry.set_addr(frame_at(word).start_address(), flags);
+    Ok(())
+}
+
+/// Makes a memory of 8 places with words, each given by its frame, its index and itself.
+fn memory_with(alloc: Global, words: &[(u64, u16, u64)]) -> Result<PhysMemory, Fail> {
+    let mut memory = PhysMemory::new(alloc, 8)?;
+    for (frame, index, word) in words {
+        set_word(&mut memory, *frame, *index, *word)?;
+    }
+    Ok(memory)
+}
+
+/// Makes the same memory, where all words of the table in frame 0x2000 are ones.
+fn memory_of_ones(alloc: Global, words: &[(u64, u16, u64)]) -> Result<PhysMemory, Fail> {
+    let mut memory = memory_with(alloc, words)?;
+    for index in 0..512 {
+        set_word(&mut memory, 0x2000, index, u64::MAX)?;
+    }
+    Ok(memory)
+}
+
+/// Walks from the root in frame 0x1000.
+fn walk(memory: &PhysMemory, addr: u64) -> Option<Walked> {
+    page_walk(
+        memory,
+        &IdentityMapping,
+        frame_at(0x1000),
+        VirtAddr::new_truncate(addr),
+    )
+}
+
+/// Gives the arrival at an address, without `USER_ACCESSIBLE`.
+fn arrival(address: u64, write: bool) -> Option<Walked> {
+    Some(Walked {
+        address: PhysAddr::new_truncate(address),
+        write,
+        user: false,
+    })
+}
+
+#[test]
+fn walks_arrive(rt: HostRuntime) -> Result<(), Fail> {
+    let rows: [(&[(u64, u16, u64)], u64, Option<Walked>); 7] = [
+        (
+            &[
+                (0x1000, 0, 0x2003),
+                (0x2000, 0, 0x3003),
+                (0x3000, 0, 0x4003),
+                (0x4000, 1, 0x5003),
+            ],
+            0x1abc,
+            arrival(0x5abc, true),
+        ),
+        (
+            &[
+                (0x1000, 0, 0x2001),
+                (0x2000, 0, 0x3001),
+                (0x3000, 1, 0x40_0081),
+            ],
+            0x23_4567,
+            arrival(0x43_4567, false),
+        ),
+        (&[(0x1000, 0, 0x2003), (0x2000, 0, 0x3080)], 0, None),
+        (
+            &[(0x1000, 0, 0x2003), (0x2000, 1, 0x8000_0083)],
+            0x4012_3456,
+            arrival(0x8012_3456, true),
+        ),
+        (&[(0x1000, 0, 0x9003)], 0, None),
+        (
+            &[(0x1000, 511, 0x2003), (0x2000, 511, 0x4000_0083)],
+            0xffff_ffff_c000_0001,
+            arrival(0x4000_0001, true),
+        ),
+        (&[], 0, None),
+    ];
+    for (words, addr, expected) in rows {
+        let memory = memory_with(rt.alloc(), words)?;
+        assert_eq!(rt; walk(&memory, addr), expected, "at {addr:#x}");
+    }
+    let memory = memory_of_ones(rt.alloc(), &[(0x1000, 0, 0x2003)])?;
+    assert_eq!(rt; walk(&memory, 0), arrival(0x000f_ffff_c000_0000, true));
+    Ok(())
+}

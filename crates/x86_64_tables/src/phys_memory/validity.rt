@@ -1,0 +1,208 @@
+//! The test of a hierarchy: whether the words below a root are one.
+ghost use Rattle.std.specs.Prelude.{◌≡◌, ◌<◌, ◌↔◌, ℕ, cond, length, IfOk, IsTrue, Some, None, [], false, true, slice_index_or};
+ghost use Rattle.std.specs.FinMap.{keys};
+ghost use Rattle.std.specs.Option.{option_copied};
+ghost use Rattle.x86_64_model.specs.Entry.{huge};
+ghost use Rattle.x86_64_model.specs.Memory.{word, words_of};
+ghost use Rattle.x86_64_model.specs.Hierarchy.{IsValid, paths_of};
+ghost use Rattle.x86_64_model.specs.Tables.{tables_from, NoneHuge, SoundTables};
+ghost use Rattle.x86_64_model.specs.Marks.{serves_below, mark_one, mark_all};
+ghost use Rattle.x86_64_tables.specs.Images.{seen, mark_slot, below_word, word_or_absent};
+
+use super::walk::{entry_at, has_flag};
+use super::{PageTableFrameMapping, PhysMemory};
+use crate::page_table::{PageTableEntry, PageTableFlags};
+use std::alloc::{AllocError, Global};
+use x86_64_page::frame::PhysFrame;
+use x86_64_page::page::{PageSize, Size4KiB};
+
+/// How many frames there are.
+const FRAME_COUNT: u64 = 1 << 40;
+
+/// Tells whether the words below the root are a valid hierarchy of four levels.
+///
+/// In one the root and each table that a used word without `HUGE_PAGE` names above level one, present or not, is in
+/// the memory and is named once. None but the root is in frame 0, and no word of level four has `HUGE_PAGE`. The words
+/// of level one may be any. The test ends for any words, and takes memory for a mark for each place alone.
+///
+/// # Errors
+///
+/// `AllocError` where memory is refused.
+pub fn is_valid_hierarchy<P: PageTableFrameMapping>(
+    alloc: Global,
+    memory: &PhysMemory,
+    mapping: &P,
+    root: PhysFrame<Size4KiB>,
+) -> Result<bool, AllocError>
+    ensures { let words = words_of memory.now (P.places mapping.now) in
+        IfOk result (λ b. IsTrue b ↔ IsValid 4 words root (paths_of 4 words root)) }
+{
+    let image = Image {
+        memory,
+        mapping,
+        root,
+        recursive: None,
+        limit: FRAME_COUNT,
+    };
+    image.is_sound(alloc, 3)
+}
+
+/// Holds a hierarchy to be tested: its root in a memory, past the root's word at the recursive index where there is
+/// one. The frames of its tables, but for the root, have numbers from 1 to `limit` - 1.
+#[derive(Drop)]
+struct Image<'a, P> {
+    memory: &'a PhysMemory,
+    mapping: &'a P,
+    root: PhysFrame<Size4KiB>,
+    recursive: Option<usize>,
+    limit: u64,
+}
+
+impl<'a, P: PageTableFrameMapping> Image<'a, P> {
+    /// Tells whether each table, through so many levels below the root, is met once, in the memory and at a number
+    /// that tables may have, and no word above level three has `HUGE_PAGE`.
+    fn is_sound(&self, alloc: Global, levels: u8) -> Result<bool, AllocError>
+        ensures { let words = seen self.now.memory.now (P.places self.now.mapping.now) self.now.root self.now.recursive in
+            IfOk result (λ b. IsTrue b ↔ SoundTables levels words self.now.root (serves_below self.now.limit) []) }
+    {
+        let mut marks = vec![in alloc; false; self.memory.len()]?;
+        Ok(self.is_sound_by(levels, &mut marks))
+    }
+
+    /// Tells the same by marks, one for each place, which are all clear at first.
+    fn is_sound_by(&self, levels: u8, marks: &mut [bool]) -> bool
+        requires length { length marks.old ≡ length (keys self.now.memory.now) }
+        requires clear { (k : ℕ) → k < length (keys self.now.memory.now) → slice_index_or marks.old k true ≡ false }
+        ensures { let words = seen self.now.memory.now (P.places self.now.mapping.now) self.now.root self.now.recursive in
+            IsTrue result ↔ SoundTables levels words self.now.root (serves_below self.now.limit) [] }
+    {
+        if !self.mark_tables(marks, self.root, levels) {
+            return false;
+        }
+        self.none_huge(self.root, levels)
+    }
+
+    /// Marks the table in a frame and those below it, through so many levels, if each may be met and was not before.
+    fn mark_tables(&self, marks: &mut [bool], frame: PhysFrame<Size4KiB>, levels: u8) -> bool
+        requires { length marks.old ≡ length (keys self.now.memory.now) }
+        ensures { let words = seen self.now.memory.now (P.places self.now.mapping.now) self.now.root self.now.recursive in
+            let slot = mark_slot self.now.memory.now (P.places self.now.mapping.now) self.now.root self.now.limit in
+            cond result (Some marks.new) None ≡ mark_all slot marks.old (tables_from levels words frame) }
+    {
+        if !self.mark(marks, frame) {
+            return false;
+        }
+        if 0 < levels {
+            for index in 0..512 {
+                if let Some(below) = self.table_below(frame, index) {
+                    if !self.mark_tables(marks, below, levels - 1) {
+                        return false;
+                    }
+                }
+            }
+        }
+        true
+    }
+
+    /// Tells whether no word above level three has `HUGE_PAGE`, from the table in a frame through so many levels.
+    fn none_huge(&self, frame: PhysFrame<Size4KiB>, levels: u8) -> bool
+        ensures { let words = seen self.now.memory.now (P.places self.now.mapping.now) self.now.root self.now.recursive in
+            IsTrue result ↔ NoneHuge levels words frame }
+    {
+        if 2 < levels {
+            for index in 0..512 {
+                if self.is_huge(frame, index) {
+                    return false;
+                }
+                if let Some(below) = self.table_below(frame, index) {
+                    if !self.none_huge(below, levels - 1) {
+                        return false;
+                    }
+                }
+            }
+        }
+        true
+    }
+
+    /// Marks a frame, if it may be met and was not before.
+    #[tactic(auto, unfolding(x86_64_model::specs::Marks::mark_one))]
+    fn mark(&self, marks: &mut [bool], frame: PhysFrame<Size4KiB>) -> bool
+        requires { length marks.old ≡ length (keys self.now.memory.now) }
+        ensures { let slot = mark_slot self.now.memory.now (P.places self.now.mapping.now) self.now.root self.now.limit in
+            cond result (Some marks.new) None ≡ mark_one slot marks.old frame }
+    {
+        match self.slot(frame) {
+            Some(place) => {
+                if marks[place] {
+                    false
+                } else {
+                    marks[place] = true;
+                    true
+                }
+            }
+            None => false,
+        }
+    }
+
+    /// Gives the index of a frame's mark, if the frame may be met.
+    #[tactic(auto, unfolding(x86_64_model::specs::Marks::spot_of))]
+    fn slot(&self, frame: PhysFrame<Size4KiB>) -> Option<usize>
+        ensures value { result ≡ mark_slot self.now.memory.now (P.places self.now.mapping.now) self.now.root self.now.limit frame }
+        ensures within { (k : ℕ) → result ≡ Some k → k < length (keys self.now.memory.now) }
+    {
+        let number = frame.start_address().as_u64() / Size4KiB::SIZE;
+        if frame == self.root || (0 < number && number < self.limit) {
+            if self.mapping.covers(frame) {
+                return self.memory.index_of(self.mapping.frame_to_pointer(frame));
+            }
+        }
+        None
+    }
+
+    /// Tells whether the word at an index of the table in a frame has `HUGE_PAGE`.
+    fn is_huge(&self, frame: PhysFrame<Size4KiB>, index: usize) -> bool
+        requires { index < 512 }
+        ensures { let words = seen self.now.memory.now (P.places self.now.mapping.now) self.now.root self.now.recursive in
+            result ≡ huge (word words frame index) }
+    {
+        match self.entry(frame, index) {
+            Some(entry) => has_flag(entry, PageTableFlags::HUGE_PAGE),
+            None => false,
+        }
+    }
+
+    /// Gives the frame of the table that the word at an index of the table in a frame names.
+    fn table_below(&self, frame: PhysFrame<Size4KiB>, index: usize) -> Option<PhysFrame<Size4KiB>>
+        requires { index < 512 }
+        ensures { let words = seen self.now.memory.now (P.places self.now.mapping.now) self.now.root self.now.recursive in
+            result ≡ below_word (word words frame index) }
+    {
+        match self.entry(frame, index) {
+            Some(entry) => named_table(entry),
+            None => None,
+        }
+    }
+
+    /// Reads the entry at an index of the table in a frame, if there is one and it is not the recursive one.
+    fn entry(&self, frame: PhysFrame<Size4KiB>, index: usize) -> Option<&'a PageTableEntry>
+        requires { index < 512 }
+        ensures { let words = seen self.now.memory.now (P.places self.now.mapping.now) self.now.root self.now.recursive in
+            word_or_absent (option_copied result) ≡ word words frame index }
+    {
+        match self.recursive {
+            Some(recursive) if frame == self.root && index == recursive => None,
+            _ => entry_at(self.memory, self.mapping, frame, index),
+        }
+    }
+}
+
+/// Gives the frame of the table that an entry above level one names: a used entry without `HUGE_PAGE`.
+fn named_table(entry: &PageTableEntry) -> Option<PhysFrame<Size4KiB>>
+    ensures { result ≡ below_word entry.now }
+{
+    if entry.is_unused() || has_flag(entry, PageTableFlags::HUGE_PAGE) {
+        None
+    } else {
+        Some(PhysFrame::from_start_address_unchecked(entry.addr()))
+    }
+}
