@@ -1,7 +1,13 @@
--- The hierarchy that the program reads.
-use Rattle.std.specs.Prelude.{⊤}
-use Rattle.x86_64_model.specs.Memory.{Memory}
+-- The hierarchy that the program reads, and what answers a command on it.
+use Rattle.std.specs.Prelude.{◌≡◌, Some, option_map, ⊥}
+use Rattle.x86_64_model.specs.Layout.{Layout, Valid, words, read_entry}
+use Rattle.x86_64_model.specs.Memory.{Memory, identity_places}
+use Rattle.x86_64_mappers.specs.Layouts.{direct}
 
--- the memory holds a valid hierarchy
-abbrev pub IsReady : Memory → Type 0
-IsReady memory = ⊤
+-- the root stands in the frame 0x1000, and each frame lies at the place of its number
+abbrev pub layout : Layout
+layout = direct identity_places 0x1000
+
+-- the memory has a valid hierarchy
+abbrev pub IsHierarchy : Memory → Type 0
+IsHierarchy memory = Valid layout memory

@@ -1,4 +1,5 @@
-pub mod Line
-pub mod Hierarchy
 pub mod Number
+pub mod Line
 pub mod Slot
+pub mod Hierarchy
+pub mod Reply

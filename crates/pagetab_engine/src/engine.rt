@@ -1,6 +1,7 @@
 //! The run of the program.
 ghost use Rattle.std.specs.Prelude.{◌≡◌, ◌≤◌, IfSome};
-ghost use Rattle.pagetab_engine.specs.Hierarchy.{IsReady};
+ghost use Rattle.pagetab_engine.specs.Hierarchy.{IsHierarchy};
+ghost use Rattle.pagetab_engine.specs.Reply.{IsReply};
 
 use crate::ending::{Ending, Fault};
 use crate::lines::Lines;
@@ -82,7 +83,7 @@ fn answer_commands<R: Read, W: Write>(
     first: Option<Command>,
     writer: &mut W,
 ) -> Result<(), Fault>
-    requires { IsReady memory.old }
+    requires { IsHierarchy memory.old }
     ensures { memory.new ≡ memory.old }
 {
     let mut next = first;
@@ -104,12 +105,13 @@ fn answer_commands<R: Read, W: Write>(
 
 /// Answers a command.
 fn answer(memory: &mut PhysMemory, command: Command) -> Reply
-    requires { IsReady memory.old }
-    ensures { memory.new ≡ memory.old }
+    requires { IsHierarchy memory.old }
+    ensures reply { IsReply memory.old command result }
+    ensures same { memory.new ≡ memory.old }
 {
     match command {
         Command::Translate(addr) => Reply::Translation(hierarchy::translate(memory, addr)),
-        Command::Walk(addr) => Reply::Walk(hierarchy::walk(memory, addr)),
+        Command::Walk(addr) => Reply::Arrival(hierarchy::walk(memory, addr)),
         Command::Show(slot) => Reply::Word(slot.word(memory)),
     }
 }

@@ -1,9 +1,10 @@
 //! The texts of replies.
-use crate::hierarchy::{MappedFrame, TranslateResult, Walked};
 use bitflags::Flags;
 use std::fmt::{Display, Formatter, Result as FmtResult, Write};
 use x86_64_page::frame::PhysFrame;
 use x86_64_page::page::PageSize;
+use x86_64_tables::mapper::{MappedFrame, TranslateResult};
+use x86_64_tables::phys_memory::Walked;
 
 /// Answers a command.
 #[derive(Clone, Copy, Debug)]
@@ -11,7 +12,7 @@ pub enum Reply {
     /// What the mapper answers for an address.
     Translation(TranslateResult),
     /// Where the processor arrives, or `None`.
-    Walk(Option<Walked>),
+    Arrival(Option<Walked>),
     /// A word.
     Word(u64),
 }
@@ -31,8 +32,8 @@ impl Display for Reply {
                 write!(f, " {offset:#x} {flags:#x}")
             }
             Reply::Translation(_) => f.write_str("not mapped"),
-            Reply::Walk(None) => f.write_str("none"),
-            Reply::Walk(Some(walked)) => {
+            Reply::Arrival(None) => f.write_str("none"),
+            Reply::Arrival(Some(walked)) => {
                 let address = walked.address.as_u64();
                 let write = u8::from(walked.write);
                 let user = u8::from(walked.user);
