@@ -1,13 +1,14 @@
 -- The places of a memory, in their order.
-use Rattle.std.proofs.Common.{◌≡◌, ◌≢◌, ◌<◌, ◌≤◌, ◌+◌, ◌==◌, ◌&&◌, nat_lt, ℕ, zero, suc, Bool, true, false, cond, List, [], ◌∷◌, length, get_or, map, Option, Some, None, Ordering, Less, Equal, Greater, refl, sym, ap, ap₂, ◌∙◌, arith, lt-ltb, le-ltb}
+use Rattle.std.proofs.Common.{◌≡◌, ◌≢◌, ◌<◌, ◌≤◌, ◌+◌, ◌==◌, ◌&&◌, nat_lt, ℕ, zero, suc, Bool, true, false, cond, List, [], ◌∷◌, length, get_or, map, Some, None, Ordering, Less, Equal, Greater, refl, sym, ap, ap₂, ◌∙◌, arith, lt-ltb, le-ltb}
 use Rattle.std.proofs.lemmas.List.FromFn.{length-range_with_len, get_or-range_with_len}
+use Rattle.std.proofs.lemmas.List.{length-map}
 use Rattle.std.proofs.lemmas.List.Sums.{position_or_len_is}
 use Rattle.std.specs.Prelude.{T}
 use Rattle.std.specs.List.{position, position_or_len, range_with_len, slice_get}
 use Rattle.std.specs.Ordering.{nat_cmp, eq_by_cmp, is_eq, is_lt}
 use Rattle.std.specs.Cmp.{nat_cmp_total, tied_itself}
 use Rattle.std.specs.FinMap.Entries.{below_all}
-use Rattle.std.specs.FinMap.{get, keys, find, is_sorted, from_sorted, entries-from_sorted, get-from_sorted, same_map, nat_cmp-IsAntisymmetric}
+use Rattle.std.specs.FinMap.{get, keys, len, entries, len-entries, find, is_sorted, from_sorted, entries-from_sorted, get-from_sorted, same_map, nat_cmp-IsAntisymmetric}
 use Rattle.x86_64_model.specs.Memory.{Memory}
 use Rattle.x86_64_tables.specs.PhysMemory.{tables_from}
 use Rattle.x86_64_tables.proofs.Places.{get-tables}
@@ -77,8 +78,8 @@ module _ (ts : List (List ℕ)) where
   pub keys-tables : keys (tables_from 0 ts) ≡ range_with_len 0 (length ts)
   keys-tables = ap keys is_in_order ∙ keys-in_order
 
-  pub length_keys-tables : length (keys (tables_from 0 ts)) ≡ length ts
-  length_keys-tables = ap length keys-tables ∙ length-range_with_len 0 (length ts)
+  pub length_of_keys-tables : length (keys (tables_from 0 ts)) ≡ length ts
+  length_of_keys-tables = ap length keys-tables ∙ length-range_with_len 0 (length ts)
 
   key_at : (q k : ℕ) → k < length ts → (b : Bool) → eq_by_cmp nat_cmp q k ≡ b
       → eq_by_cmp nat_cmp q (get_or (range_with_len 0 (length ts)) k 0) ≡ b
@@ -107,3 +108,6 @@ module _ (ts : List (List ℕ)) where
   position_gone q l = sym (ap (position (eq_by_cmp nat_cmp q)) keys-tables
       ∙ ap₂ (λ p n. cond (nat_lt p n) (Some p) None) (past q l) (length-range_with_len 0 (length ts))
       ∙ ap (λ b. cond b (Some (length ts)) None) (le-ltb (length ts) (length ts) (omega arith)))
+
+pub length_keys : (memory : Memory) → length (keys memory) ≡ len memory
+length_keys memory = length-map (entries memory) (λ e. e.0) ∙ sym (len-entries memory)

@@ -1,5 +1,5 @@
 -- Where a page walk arrives, as code answers it.
-use Rattle.std.specs.Prelude.{ℕ, ◌+◌, ◌%◌, ◌&&◌, Bool}
+use Rattle.std.specs.Prelude.{ℕ, ◌+◌, ◌%◌, Bool}
 use Rattle.x86_64_model.specs.Position.{span}
 use Rattle.x86_64_model.specs.PageWalk.{page_start, Walked as Arrival}
 use Rattle.x86_64_tables.specs.declared.phys_memory.walk.Walked.{Walked}

@@ -116,7 +116,8 @@ impl PhysMemory {
         ensures { result ≡ position (eq_by_cmp nat_cmp place) (map.keys self.now) }
     {
         let number = place.number() as usize;
-        if number < self.tables.len() {
+        let tables = &self.tables;
+        if number < tables.len() {
             Some(number)
         } else {
             None

@@ -1,5 +1,5 @@
 //! Tests of walks and of hierarchies, over memories that are given as words.
-use super::{FramePlace, IdentityMapping, PhysMemory, Walked, page_walk};
+use super::{FramePlace, IdentityMapping, PhysMemory, Walked, is_valid_hierarchy, page_walk};
 use crate::page_table::PageTableFlags;
 use bitflags::Flags;
 use std::alloc::Global;
@@ -107,5 +107,67 @@ fn walks_arrive(rt: HostRuntime) -> Result<(), Fail> {
     }
     let memory = memory_of_ones(rt.alloc(), &[(0x1000, 0, 0x2003)])?;
     assert_eq!(rt; walk(&memory, 0), arrival(0x000f_ffff_c000_0000, true));
+    Ok(())
+}
+
+#[test]
+fn hierarchies_are_valid(rt: HostRuntime) -> Result<(), Fail> {
+    let rows: [(&[(u64, u16, u64)], bool); 15] = [
+        (&[], true),
+        (&[(0x1000, 0, 0x1003)], false),
+        (&[(0x1000, 0, 0x2003), (0x2000, 0, 0x2003)], false),
+        (
+            &[
+                (0x1000, 0, 0x2003),
+                (0x2000, 0, 0x3003),
+                (0x3000, 0, 0x2003),
+            ],
+            false,
+        ),
+        (&[(0x1000, 0, 0x2002), (0x2000, 0, 0x1003)], false),
+        (&[(0x1000, 0, 0x9003)], false),
+        (&[(0x1000, 0, 0x3)], false),
+        (&[(0x1000, 0, 0x2)], false),
+        (&[(0x1000, 0, 0x2083)], false),
+        (&[(0x1000, 0, 0x80)], false),
+        (&[(0x1000, 0, 0x2003), (0x2000, 0, 0x4000_1083)], true),
+        (
+            &[
+                (0x1000, 0, 0x2003),
+                (0x2000, 0, 0x3003),
+                (0x3000, 0, 0x4003),
+                (0x4000, 0, 0x4003),
+            ],
+            true,
+        ),
+        (&[(0x1000, 0, 0x2003), (0x1000, 1, 0x2002)], false),
+        (
+            &[
+                (0x1000, 0, 0x2003),
+                (0x2000, 0, 0x3003),
+                (0x3000, 0, 0x1003),
+            ],
+            false,
+        ),
+        (
+            &[
+                (0x1000, 0, 0x2003),
+                (0x2000, 0, 0x3003),
+                (0x3000, 0, 0x4003),
+                (0x4000, 0, 0x1003),
+            ],
+            true,
+        ),
+    ];
+    let root = frame_at(0x1000);
+    for (words, expected) in rows {
+        let memory = memory_with(rt.alloc(), words)?;
+        let is_valid = is_valid_hierarchy(rt.alloc(), &memory, &IdentityMapping, root)?;
+        assert_eq!(rt; is_valid, expected, "of {words:?}");
+    }
+    let memory = memory_of_ones(rt.alloc(), &[(0x1000, 0, 0x2003)])?;
+    assert!(rt; is_valid_hierarchy(rt.alloc(), &memory, &IdentityMapping, root)?);
+    let small = PhysMemory::new(rt.alloc(), 1)?;
+    assert!(rt; !is_valid_hierarchy(rt.alloc(), &small, &IdentityMapping, root)?);
     Ok(())
 }

@@ -61,6 +61,7 @@ struct Image<'a, P> {
 impl<'a, P: PageTableFrameMapping> Image<'a, P> {
     /// Tells whether each table, through so many levels below the root, is met once, in the memory and at a number
     /// that tables may have, and no word above level three has `HUGE_PAGE`.
+    #[tactic(auto, using(crate::proofs::PlacesInOrder::length_keys))]
     fn is_sound(&self, alloc: Global, levels: u8) -> Result<bool, AllocError>
         ensures { let words = seen self.now.memory.now (P.places self.now.mapping.now) self.now.root self.now.recursive in
             IfOk result (λ b. IsTrue b ↔ SoundTables levels words self.now.root (serves_below self.now.limit) []) }

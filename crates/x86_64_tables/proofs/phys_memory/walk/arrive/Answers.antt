@@ -1,4 +1,3 @@
-use Rattle.std.proofs.Common.{sym}
 use Rattle.x86_64_tables.proofs.WalkSteps.{arrives_within}
 use Rattle.x86_64_tables.proofs.phys_memory.walk.arrive.Goals as goal
 

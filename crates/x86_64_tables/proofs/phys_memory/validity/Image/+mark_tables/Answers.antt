@@ -53,12 +53,12 @@ loop-index-preserved g t c =
     let w = word words c.args.frame c.loop-index.index in
     c.loop-index.invariant ∙ elim c.match-table_below.branch [
       | in-Some+else-not-mark_tables b ↦
-        let below = sym b.in-Some.is ∙ c.table_below.ensures in
-        rest_named slot (c.args.levels - 1) words c.args.frame c.loop-index.index c.loop-index.marks (Some b.mark_tables.new.marks) w b.in-Some.below c.loop-index-test.true
-        refl (is_named w b.in-Some.below below) (named_at w b.in-Some.below below) b.if-not-mark_tables.ensures
-        ∙ ap (λ m. mark_all slot m (rest (c.args.levels - 1) words c.args.frame (c.loop-index.index + 1))) (sym b.marks-is)
+          let below = sym b.in-Some.is ∙ c.table_below.ensures in
+          rest_named slot (c.args.levels - 1) words c.args.frame c.loop-index.index c.loop-index.marks (Some b.mark_tables.new.marks) w b.in-Some.below c.loop-index-test.true
+          refl (is_named w b.in-Some.below below) (named_at w b.in-Some.below below) b.if-not-mark_tables.ensures
+          ∙ ap (λ m. mark_all slot m (rest (c.args.levels - 1) words c.args.frame (c.loop-index.index + 1))) (sym b.marks-is)
       | in_default b ↦
-        rest_other slot (c.args.levels - 1) words c.args.frame c.loop-index.index c.loop-index.marks w c.loop-index-test.true
-        refl (is_not_named w (sym b.in_default.is ∙ c.table_below.ensures))
-        ∙ ap (λ m. mark_all slot m (rest (c.args.levels - 1) words c.args.frame (c.loop-index.index + 1))) (sym b.marks-is)
+          rest_other slot (c.args.levels - 1) words c.args.frame c.loop-index.index c.loop-index.marks w c.loop-index-test.true
+          refl (is_not_named w (sym b.in_default.is ∙ c.table_below.ensures))
+          ∙ ap (λ m. mark_all slot m (rest (c.args.levels - 1) words c.args.frame (c.loop-index.index + 1))) (sym b.marks-is)
     ]

@@ -1,8 +1,6 @@
 use Rattle.std.proofs.Common.{◌∙◌, ap, sym}
-use Rattle.std.specs.Option.{option_copied}
 use Rattle.x86_64_model.specs.Entry.{huge}
 use Rattle.x86_64_model.specs.Lemmas.Hierarchies.Changes.{zero_not_huge}
-use Rattle.x86_64_tables.specs.Images.{word_or_absent}
 use Rattle.x86_64_tables.proofs.phys_memory.validity.Image.is_huge.Goals as goal
 
 pub returns-in-None : goal.returns-in-None
