@@ -1,5 +1,5 @@
 -- What answers a command.
-use Rattle.std.specs.Prelude.{◌≡◌, Some, option_map, ⊥}
+use Rattle.std.specs.Prelude.{◌≡◌, Some, option_map}
 use Rattle.x86_64_model.specs.Layout.{words, read_entry}
 use Rattle.x86_64_model.specs.Memory.{Memory}
 use Rattle.x86_64_model.specs.PageWalk.{page_walk}
