@@ -10,7 +10,7 @@ use crate::statement::{Command, Statement};
 use crate::{hierarchy, number};
 use std::alloc::Global;
 use std::io::{Read, Write};
-use x86_64_tables::phys_memory::PhysMemory;
+use x86_64::PhysMemory;
 
 /// Runs the program on its arguments: reads an image and commands from `reader`, and writes a reply to each command.
 ///

@@ -8,13 +8,10 @@ ghost use Rattle.x86_64_tables.specs.Walks.{walked_of};
 ghost use Rattle.pagetab_engine.specs.Hierarchy.{layout, IsHierarchy};
 
 use std::alloc::{AllocError, Global};
-use x86_64_addr::addr::{PhysAddr, VirtAddr};
-use x86_64_mappers::mapped_page_table::MappedPageTable;
-use x86_64_page::frame::PhysFrame;
-use x86_64_page::page::Size4KiB;
-use x86_64_tables::mapper::{Translate, TranslateResult};
-use x86_64_tables::phys_memory::{
-    IdentityMapping, PhysMemory, Walked, is_valid_hierarchy, page_walk,
+use x86_64::structures::paging::mapper::{MappedPageTable, Translate, TranslateResult};
+use x86_64::structures::paging::{PhysFrame, Size4KiB};
+use x86_64::{
+    IdentityMapping, PhysAddr, PhysMemory, VirtAddr, Walked, is_valid_hierarchy, page_walk,
 };
 
 /// Gives the root's frame.

@@ -1,10 +1,9 @@
 //! The texts of replies.
 use bitflags::Flags;
 use std::fmt::{Display, Formatter, Result as FmtResult, Write};
-use x86_64_page::frame::PhysFrame;
-use x86_64_page::page::PageSize;
-use x86_64_tables::mapper::{MappedFrame, TranslateResult};
-use x86_64_tables::phys_memory::Walked;
+use x86_64::Walked;
+use x86_64::structures::paging::mapper::{MappedFrame, TranslateResult};
+use x86_64::structures::paging::{PageSize, PhysFrame};
 
 /// Answers a command.
 #[derive(Clone, Copy, Debug)]

@@ -3,12 +3,9 @@ ghost use Rattle.std.specs.Prelude.{◌≡◌, ◌<◌, ◌/◌, ◌%◌, ◌*�
 ghost use Rattle.pagetab_engine.specs.Slot.{whole_entry, word_in, stored};
 
 use bitflags::Flags;
-use x86_64_addr::addr::PhysAddr;
-use x86_64_addr::index::PageTableIndex;
-use x86_64_page::frame::PhysFrame;
-use x86_64_page::page::{PageSize, Size4KiB};
-use x86_64_tables::page_table::{PageTableEntry, PageTableFlags};
-use x86_64_tables::phys_memory::{FramePlace, PhysMemory};
+use x86_64::structures::paging::page_table::{PageTableEntry, PageTableFlags, PageTableIndex};
+use x86_64::structures::paging::{PageSize, Size4KiB};
+use x86_64::{FramePlace, PhysAddr, PhysMemory};
 
 /// Names a word in memory: the place of a table and an index in it.
 #[derive(Clone, Copy, Debug, PartialEq)]

@@ -1,7 +1,7 @@
 //! What lines say.
 use crate::number;
 use crate::slot::Slot;
-use x86_64_addr::addr::VirtAddr;
+use x86_64::VirtAddr;
 
 /// Asks something about the hierarchy.
 #[derive(Clone, Copy, Debug, PartialEq)]
