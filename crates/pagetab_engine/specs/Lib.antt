@@ -3,3 +3,4 @@ pub mod Line
 pub mod Slot
 pub mod Hierarchy
 pub mod Reply
+pub mod Ending

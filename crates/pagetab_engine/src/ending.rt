@@ -1,5 +1,6 @@
 //! How runs of the program end.
 ghost use Rattle.std.specs.Prelude.{◌≡◌};
+ghost use Rattle.pagetab_engine.specs.Ending.{status_of};
 
 use std::alloc::AllocError;
 use std::fmt::{Display, Formatter, Result as FmtResult, Write};
@@ -31,7 +32,9 @@ pub enum Ending {
 
 impl Ending {
     /// Gives the exit status of the program.
-    pub fn status(self) -> u8 {
+    pub fn status(self) -> u8
+        ensures { result ≡ status_of self }
+    {
         match self {
             Ending::Done => 0,
             Ending::Stopped(Fault::BadLine(_)) => 1,
