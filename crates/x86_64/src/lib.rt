@@ -8,4 +8,6 @@ pub mod structures;
 
 pub use x86_64_addr::addr;
 pub use x86_64_addr::addr::{PhysAddr, VirtAddr};
-pub use x86_64_tables::phys_memory::{FramePlace, IdentityMapping, PhysMemory};
+pub use x86_64_tables::phys_memory::{
+    FramePlace, IdentityMapping, PhysMemory, Walked, is_valid_hierarchy, page_walk,
+};

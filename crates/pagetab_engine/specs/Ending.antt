@@ -1,0 +1,15 @@
+-- Exit statuses.
+use Rattle.std.specs.Prelude.{ℕ}
+use Rattle.pagetab_engine.specs.declared.ending.Fault.{Fault}
+use Rattle.pagetab_engine.specs.declared.ending.Fault.TheVariants.{BadLine, InvalidHierarchy, OutOfMemory, InputOutput, Usage}
+use Rattle.pagetab_engine.specs.declared.ending.Ending.{Ending}
+use Rattle.pagetab_engine.specs.declared.ending.Ending.TheVariants.{Done, Stopped}
+
+-- 0 at the end of the input, and another status for each kind of fault
+abbrev pub status_of : Ending → ℕ
+status_of Done = 0
+status_of (Stopped (BadLine number)) = 1
+status_of (Stopped InvalidHierarchy) = 2
+status_of (Stopped OutOfMemory) = 3
+status_of (Stopped InputOutput) = 4
+status_of (Stopped Usage) = 5

@@ -1,0 +1,6 @@
+pub mod Number
+pub mod Line
+pub mod Slot
+pub mod Hierarchy
+pub mod Reply
+pub mod Ending

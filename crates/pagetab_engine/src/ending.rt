@@ -1,0 +1,81 @@
+//! How runs of the program end.
+ghost use Rattle.std.specs.Prelude.{◌≡◌};
+ghost use Rattle.pagetab_engine.specs.Ending.{status_of};
+
+use std::alloc::AllocError;
+use std::fmt::{Display, Formatter, Result as FmtResult, Write};
+use std::io;
+
+/// Says why a run ended before its input did.
+#[derive(Clone, Copy, Debug, PartialEq, Eq)]
+pub enum Fault {
+    /// The line of this number, counted from 1, could not be read, or stood at the wrong place.
+    BadLine(u64),
+    /// The image is no valid hierarchy of page tables.
+    InvalidHierarchy,
+    /// Memory was refused.
+    OutOfMemory,
+    /// A read or a write failed.
+    InputOutput,
+    /// The arguments were not those of the program.
+    Usage,
+}
+
+/// Says how a run ended.
+#[derive(Clone, Copy, Debug, PartialEq, Eq)]
+pub enum Ending {
+    /// The whole input was read, and each command answered.
+    Done,
+    /// The run stopped at a fault. Replies that were given before it stay.
+    Stopped(Fault),
+}
+
+impl Ending {
+    /// Gives the exit status of the program.
+    pub fn status(self) -> u8
+        ensures { result ≡ status_of self }
+    {
+        match self {
+            Ending::Done => 0,
+            Ending::Stopped(Fault::BadLine(_)) => 1,
+            Ending::Stopped(Fault::InvalidHierarchy) => 2,
+            Ending::Stopped(Fault::OutOfMemory) => 3,
+            Ending::Stopped(Fault::InputOutput) => 4,
+            Ending::Stopped(Fault::Usage) => 5,
+        }
+    }
+}
+
+impl From<AllocError> for Fault {
+    ghost use Rattle.pagetab_engine.specs.declared.ending.Fault.TheVariants.{OutOfMemory};
+
+    ghost from_gives = { λ _ fault. fault ≡ OutOfMemory };
+
+    fn from(_error: AllocError) -> Fault {
+        Fault::OutOfMemory
+    }
+}
+
+impl From<io::Error> for Fault {
+    ghost use Rattle.pagetab_engine.specs.declared.ending.Fault.TheVariants.{InputOutput};
+
+    ghost from_gives = { λ _ fault. fault ≡ InputOutput };
+
+    fn from(_error: io::Error) -> Fault {
+        Fault::InputOutput
+    }
+}
+
+impl Display for Fault {
+    fn fmt<W: Write>(&self, f: &mut Formatter<W>) -> FmtResult {
+        match self {
+            Fault::BadLine(number) => write!(f, "bad line {number}"),
+            Fault::InvalidHierarchy => f.write_str("invalid hierarchy"),
+            Fault::OutOfMemory => f.write_str("out of memory"),
+            Fault::InputOutput => f.write_str("input or output failed"),
+            Fault::Usage => f.write_str(
+                "usage: pagetab direct N | offset N OFF | recursive N R | pair N R",
+            ),
+        }
+    }
+}
