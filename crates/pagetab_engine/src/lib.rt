@@ -9,5 +9,3 @@ pub mod number;
 mod reply;
 mod slot;
 mod statement;
-#[cfg(test)]
-mod tests;

@@ -1,5 +1,8 @@
 //! Calls that take memory, while there is none and then again.
+use pagetab_engine::ending::{Ending, Fault};
+use pagetab_engine::engine::run;
 use std::alloc::{AllocError, Global};
+use std::io::{self, Read, Write};
 use std::test::Fail;
 use x86_64_addr::addr::PhysAddr;
 use x86_64_page::frame::PhysFrame;
@@ -71,6 +74,71 @@ fn the_test_of_a_hierarchy_is_refused_until_there_is_room(rt: HostRuntime) -> Re
     }
     blocks.clear();
     assert_eq!(rt; answer, Some(true));
+    assert!(rt; refusals > 0);
+    Ok(())
+}
+
+/// Gives its bytes.
+#[derive(Drop)]
+struct Source<'a> {
+    rest: &'a [u8],
+}
+
+impl Read for Source<'_> {
+    fn read(&mut self, buf: &mut [u8]) -> io::Result<usize> {
+        let count = self.rest.len().min(buf.len());
+        let (given, rest) = self.rest.split_at(count);
+        buf[..count].copy_from_slice(given);
+        self.rest = rest;
+        Ok(count)
+    }
+}
+
+/// Counts what is written.
+#[derive(Drop)]
+struct Sink {
+    writes: u64,
+}
+
+impl Write for Sink {
+    fn write(&mut self, buf: &[u8]) -> io::Result<usize> {
+        self.writes = self.writes.saturating_add(1);
+        Ok(buf.len())
+    }
+
+    fn flush(&mut self) -> io::Result<()> {
+        Ok(())
+    }
+}
+
+#[test]
+fn the_program_wants_memory_until_there_is_room(rt: HostRuntime) -> Result<(), Fail> {
+    let alloc = rt.alloc();
+    let mut words = Vec::new(alloc);
+    words.push(String::from_str(alloc, "direct")?)?;
+    words.push(String::from_str(alloc, "4096")?)?;
+    let mut blocks = hoard(alloc)?;
+    let mut refusals = 0;
+    let mut last = Ending::Done;
+    let mut replies = 0;
+    for turn in 0..100_000 {
+        let mut source = Source {
+            rest: b"word 0x1000 0 0x2003\ntranslate 0\nwalk 0\n",
+        };
+        let mut sink = Sink { writes: 0 };
+        last = run(alloc, words.as_slice(), &mut source, &mut sink);
+        replies = sink.writes;
+        if last != Ending::Stopped(Fault::OutOfMemory) {
+            break;
+        }
+        refusals = turn + 1;
+        if blocks.pop().is_none() {
+            break;
+        }
+    }
+    blocks.clear();
+    assert_eq!(rt; last, Ending::Done);
+    assert_eq!(rt; replies, 2);
     assert!(rt; refusals > 0);
     Ok(())
 }

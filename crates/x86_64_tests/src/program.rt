@@ -1,6 +1,6 @@
-//! Runs of the engine, over readers and writers in memory.
-use crate::ending::{Ending, Fault};
-use crate::engine::run;
+//! Runs of the program `pagetab`, over readers and writers in memory: its rows, line by line.
+use pagetab_engine::ending::{Ending, Fault};
+use pagetab_engine::engine::run;
 use std::alloc::{AllocError, Global};
 use std::io::{self, Read, Write};
 use std::test::Fail;
