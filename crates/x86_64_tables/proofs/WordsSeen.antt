@@ -2,19 +2,20 @@
 use Rattle.std.proofs.Common.{◌≡◌, ◌≢◌, ◌<◌, ◌==◌, nat_lt, ℕ, Bool, true, false, cond, List, length, get_or, set, Some, None, Option, option_map, refl, sym, ap, ap₂, ◌∙◌, ⊎_elim, lt-ltb, eqb-true, eq-eqb, ◌&&◌, arith}
 use Rattle.std.proofs.lemmas.Bool.{cases_eq, cases_lt}
 use Rattle.std.proofs.lemmas.List.{get_or-set_same, get_or_past, set_past}
+use Rattle.std.specs.Prelude.{unwrap_or}
 use Rattle.x86_64_model.specs.Entry.{used, address, names_table}
 use Rattle.x86_64_model.specs.Memory.{Words, word, word_in, set_word}
 use Rattle.x86_64_model.specs.PageWalk.{read}
 use Rattle.x86_64_model.specs.Tables.{without_word}
 use Rattle.x86_64_model.specs.Lemmas.Hierarchies.Held.{word-set_frame, word-set_index}
-use Rattle.x86_64_tables.specs.Images.{below_word, word_or_absent}
+use Rattle.x86_64_tables.specs.Images.{below_word}
 
 -- a word that is read
-pub word-read : (T : Words) (f i : ℕ) → i < 512 → word_or_absent (read T f i) ≡ word T f i
+pub word-read : (T : Words) (f i : ℕ) → i < 512 → unwrap_or (read T f i) 0 ≡ word T f i
 unfolding word
 word-read T f i small = by (T f) ∙ sym (ap (λ b. cond b (word_in (T f) i) 0) (lt-ltb i 512 small))
   where
-    by : (o : Option (List ℕ)) → word_or_absent (option_map (λ words. get_or words i 0) o) ≡ word_in o i
+    by : (o : Option (List ℕ)) → unwrap_or (option_map (λ words. get_or words i 0) o) 0 ≡ word_in o i
     by None = refl
     by (Some words) = refl
 

@@ -16,7 +16,3 @@ mark_slot memory places root limit = slot_in (spot_of memory places) root (serve
 -- the frame of the table that a word names
 abbrev pub below_word : (word : ℕ) → Option ℕ
 below_word w = cond (names_table w) (Some (address w)) None
-
-abbrev pub word_or_absent : Option ℕ → ℕ
-word_or_absent None = 0
-word_or_absent (Some word) = word

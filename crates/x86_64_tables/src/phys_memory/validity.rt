@@ -1,5 +1,5 @@
 //! The test of a hierarchy: whether the words below a root are one.
-ghost use Rattle.std.specs.Prelude.{◌≡◌, ◌<◌, ◌↔◌, ℕ, cond, length, IfOk, IsTrue, Some, None, [], false, true, slice_index_or};
+ghost use Rattle.std.specs.Prelude.{◌≡◌, ◌<◌, ◌↔◌, ℕ, cond, length, IfOk, IsTrue, Some, None, [], false, true, slice_index_or, unwrap_or};
 ghost use Rattle.std.specs.FinMap.{keys};
 ghost use Rattle.std.specs.Option.{option_copied};
 ghost use Rattle.x86_64_model.specs.Entry.{huge};
@@ -7,7 +7,7 @@ ghost use Rattle.x86_64_model.specs.Memory.{word, words_of};
 ghost use Rattle.x86_64_model.specs.Hierarchy.{IsValid, paths_of};
 ghost use Rattle.x86_64_model.specs.Tables.{tables_from, NoneHuge, SoundTables};
 ghost use Rattle.x86_64_model.specs.Marks.{serves_below, mark_one, mark_all};
-ghost use Rattle.x86_64_tables.specs.Images.{seen, mark_slot, below_word, word_or_absent};
+ghost use Rattle.x86_64_tables.specs.Images.{seen, mark_slot, below_word};
 
 use super::walk::{entry_at, has_flag};
 use super::{PageTableFrameMapping, PhysMemory};
@@ -188,7 +188,7 @@ impl<'a, P: PageTableFrameMapping> Image<'a, P> {
     fn entry(&self, frame: PhysFrame<Size4KiB>, index: usize) -> Option<&'a PageTableEntry>
         requires { index < 512 }
         ensures { let words = seen self.now.memory.now (P.places self.now.mapping.now) self.now.root self.now.recursive in
-            word_or_absent (option_copied result) ≡ word words frame index }
+            unwrap_or (option_copied result) 0 ≡ word words frame index }
     {
         match self.recursive {
             Some(recursive) if frame == self.root && index == recursive => None,

@@ -1,7 +1,7 @@
 use Rattle.std.proofs.Common.{◌≡◌, ◌∙◌, ap, sym, Some}
 use Rattle.x86_64_model.specs.Memory.{word, words_of}
 use Rattle.x86_64_model.specs.Tables.{without_word}
-use Rattle.x86_64_tables.specs.Images.{word_or_absent}
+use Rattle.std.specs.Prelude.{unwrap_or}
 use Rattle.x86_64_tables.proofs.WordsSeen.{word-read, word-without_same, word-without_none, are_equal, not_equal}
 use Rattle.x86_64_tables.proofs.phys_memory.validity.Image.entry.Goals as goal
 use Rattle.x86_64_tables.proofs.phys_memory.validity.Image.entry.Goals.{in_default-via-in-Some+then-eq+else-index-recursive, in_default-via-in-Some+else-eq, in_default-via-in_default}
@@ -18,7 +18,7 @@ pub returns-in_default : goal.returns-in_default
 returns-in_default g c =
     let self = c.args.self.now in
     let words = words_of self.memory.now (g.P.PageTableFrameMapping.places self.mapping.now) in
-    ap word_or_absent c.entry_at.ensures ∙ word-read words c.args.frame c.args.index c.requires
+    ap (λ word. unwrap_or word 0) c.entry_at.ensures ∙ word-read words c.args.frame c.args.index c.requires
     ∙ word-without_none self.recursive self.root words c.args.frame c.args.index
     (λ r e f i. elim c.in_default.branch [
       | in_default-via-in-Some+then-eq+else-index-recursive w ↦ w.if-index-recursive.false (let s : Some r ≡ Some w.in-Some.recursive = sym e ∙ w.in-Some.is in cc)
