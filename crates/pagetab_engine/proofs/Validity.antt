@@ -1,5 +1,5 @@
 -- A layout without a recursive index is valid where its words are a valid hierarchy.
-use Rattle.std.specs.Prelude.{◌≡◌, ◌↔◌}
+use Rattle.std.specs.Prelude.{◌↔◌}
 use Rattle.x86_64_model.specs.Hierarchy.{IsValid, paths_of}
 use Rattle.x86_64_model.specs.Memory.{Memory, words_of, identity_places}
 use Rattle.pagetab_engine.specs.Hierarchy.{IsHierarchy}

@@ -1,5 +1,5 @@
 -- The hierarchy that the program reads, and what answers a command on it.
-use Rattle.x86_64_model.specs.Layout.{Layout, Valid, words, read_entry}
+use Rattle.x86_64_model.specs.Layout.{Layout, Valid}
 use Rattle.x86_64_model.specs.Memory.{Memory, identity_places}
 use Rattle.x86_64_mappers.specs.Layouts.{direct}
 

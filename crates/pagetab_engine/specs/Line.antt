@@ -1,5 +1,5 @@
 -- What was read of a line.
-use Rattle.std.specs.Prelude.{ℕ, ◌≤◌, ⊤}
+use Rattle.std.specs.Prelude.{◌≤◌, ⊤}
 use Rattle.pagetab_engine.specs.declared.lines.Line.{Line}
 use Rattle.pagetab_engine.specs.declared.lines.Line.TheVariants.{Text, TooLong, End}
 
