@@ -344,7 +344,7 @@ fn failed_reads_and_writes_end_the_run(rt: HostRuntime) -> Result<(), Fail> {
     let whole = run_failing(rt.alloc(), "direct 8", input.as_slice(), 0, 0)?;
     assert_eq!(rt; whole.ending, Ending::Done);
     assert_eq!(rt; whole.writes, 3);
-    for read in 1..whole.reads {
+    for read in 1..=whole.reads {
         let outcome = run_failing(rt.alloc(), "direct 8", input.as_slice(), read, 0)?;
         assert_eq!(rt; outcome.ending, failed, "read {read}");
         assert_eq!(rt; outcome.reads, read);
