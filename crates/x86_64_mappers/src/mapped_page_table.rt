@@ -44,9 +44,9 @@ impl<'a, P: PageTableFrameMapping> MappedPageTable<'a, P> {
     /// Condition: the hierarchy is valid.
     pub fn new(memory: &'a mut PhysMemory, root: PhysFrame<Size4KiB>, mapping: P) -> Self
         requires { Valid (direct (P.places mapping) root) memory.old }
-        ensures lent { ⟦<MappedPageTable<'a, P> as PageTables>⟧.lent result ≡ memory.entry.ghost_name }
-        ensures memory { ⟦<MappedPageTable<'a, P> as PageTables>⟧.memory result ≡ memory.old }
-        ensures layout { ⟦<MappedPageTable<'a, P> as PageTables>⟧.layout result ≡ direct (P.places mapping) root }
+        ensures lent { ⟦<Self as PageTables>⟧.lent result ≡ memory.entry.ghost_name }
+        ensures memory { ⟦<Self as PageTables>⟧.memory result ≡ memory.old }
+        ensures layout { ⟦<Self as PageTables>⟧.layout result ≡ direct (P.places mapping) root }
     {
         let walker = Walker::new(mapping);
         MappedPageTable {
@@ -58,7 +58,7 @@ impl<'a, P: PageTableFrameMapping> MappedPageTable<'a, P> {
 
     /// Gives the table of level four, in the root's frame.
     pub fn level_4_table(&self) -> &PageTable
-        ensures { root_table (⟦<MappedPageTable<'a, P> as PageTables>⟧.layout self.now) (⟦<MappedPageTable<'a, P> as PageTables>⟧.memory self.now) ≡ Some result.now }
+        ensures { root_table (⟦<Self as PageTables>⟧.layout self.now) (⟦<Self as PageTables>⟧.memory self.now) ≡ Some result.now }
     {
         self.walker.table(self.memory, self.root)
     }
@@ -78,14 +78,14 @@ impl<'a, P: PageTableFrameMapping> MappedPageTable<'a, P> {
     ///
     /// `AllocError` where memory is refused.
     pub fn is_valid(&self, alloc: Global) -> Result<bool, AllocError>
-        ensures { IfOk result (λ valid. IsTrue valid ↔ Valid (⟦<MappedPageTable<'a, P> as PageTables>⟧.layout self.now) (⟦<MappedPageTable<'a, P> as PageTables>⟧.memory self.now)) }
+        ensures { IfOk result (λ valid. IsTrue valid ↔ Valid (⟦<Self as PageTables>⟧.layout self.now) (⟦<Self as PageTables>⟧.memory self.now)) }
     {
         is_valid_hierarchy(alloc, self.memory, self.walker.mapping(), self.root)
     }
 
     /// Gives the frame mapping.
     pub fn page_table_frame_mapping(&self) -> &P
-        ensures { P.places result.now ≡ (⟦<MappedPageTable<'a, P> as PageTables>⟧.layout self.now).places }
+        ensures { P.places result.now ≡ (⟦<Self as PageTables>⟧.layout self.now).places }
     {
         self.walker.mapping()
     }

@@ -68,7 +68,8 @@ impl<P: PageTableFrameMapping> Walker<P> {
         addr: VirtAddr,
     ) -> TranslateResult
         requires { Valid (direct (P.places self.now.mapping) root) memory.now }
-        ensures { translation_of result ≡ Some (translated 4 (read_entry (direct (P.places self.now.mapping) root) memory.now) addr) }
+        ensures { let entry = read_entry (direct (P.places self.now.mapping) root) memory.now in
+            translation_of result ≡ Some (translated 4 entry addr) }
     {
         let mut frame = root;
         for level in [
@@ -95,7 +96,8 @@ impl<P: PageTableFrameMapping> Walker<P> {
 /// Gives the translation of an address by the entry of a level that maps its page.
 fn translation(level: PageTableLevel, entry: &PageTableEntry, addr: VirtAddr) -> TranslateResult
     requires { level_number level ≤ 3 }
-    ensures { translation_of result ≡ Some (Mapped (span (level_number level)) (page_start (level_number level) entry.now) (addr % span (level_number level)) (flags entry.now)) }
+    ensures { let n = level_number level in
+        translation_of result ≡ Some (Mapped (span n) (page_start n entry.now) (addr % span n) (flags entry.now)) }
 {
     let frame = mapped_frame(level, entry);
     TranslateResult::Mapped {

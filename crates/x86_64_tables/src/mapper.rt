@@ -1,10 +1,10 @@
 //! What all mappers have in common: the tables that they own for a while, and translations of addresses.
-ghost use Rattle.std.specs.Prelude.{◌≡◌, ◌<◌, ◌%◌, ◌^◌, Some, option_map, option_and_then};
+ghost use Rattle.std.specs.Prelude.{◌≡◌, Some, option_map};
 ghost use Rattle.std.specs.Borrow.{GName};
 ghost use Rattle.x86_64_model.specs.Memory.{Memory};
 ghost use Rattle.x86_64_model.specs.Layout.{Layout, Valid, words, read_entry};
 ghost use Rattle.x86_64_model.specs.PageWalk.{page_walk};
-ghost use Rattle.x86_64_model.specs.Translation.{translate as translated, address_of, present_to};
+ghost use Rattle.x86_64_model.specs.Translation.{translate as translated, address_of};
 
 use crate::page_table::PageTableFlags;
 use x86_64_addr::addr::{PhysAddr, VirtAddr};
@@ -91,16 +91,18 @@ pub trait Translate: PageTables {
     ///
     /// The entries of levels four, three and two need `PRESENT`, else it is `NotMapped`. With `HUGE_PAGE` an entry of level
     /// three maps a page of 1GiB, one of level two a page of 2MiB. An entry of level one maps a page of 4KiB unless it is
-    /// unused, also without `PRESENT`: see its flags. Where they have `PRESENT`, the processor finds the address there too,
-    /// and only there.
+    /// unused, also without `PRESENT`. The page walk arrives exactly where the answer's flags have `PRESENT`, at the same
+    /// address.
     ///
     /// Intel SDM vol. 3A, "Linear-Address Translation with 4-Level Paging and 5-Level Paging".
     ///
     /// Condition: the hierarchy is valid.
     fn translate(&self, addr: VirtAddr) -> TranslateResult
         requires { Valid (Self.layout self.now) (Self.memory self.now) }
-        ensures answer { translation_of result ≡ Some (translated (Self.layout self.now).levels (read_entry (Self.layout self.now) (Self.memory self.now)) addr) }
-        ensures walk { reaches result ≡ option_map (λ walked. walked.address) (page_walk (Self.layout self.now).levels (words (Self.layout self.now) (Self.memory self.now)) (Self.layout self.now).root addr) };
+        ensures answer { let layout = Self.layout self.now in let entry = read_entry layout (Self.memory self.now) in
+            translation_of result ≡ Some (translated layout.levels entry addr) }
+        ensures walk { let layout = Self.layout self.now in let tables = words layout (Self.memory self.now) in
+            reaches result ≡ option_map (λ walked. walked.address) (page_walk layout.levels tables layout.root addr) };
 
     /// Gives the physical address that an address is mapped to, `PRESENT` or not: the frame's start plus the offset. It is
     /// `None` where [`translate`](Self::translate) answers no mapping.
@@ -108,7 +110,8 @@ pub trait Translate: PageTables {
     /// Condition: the hierarchy is valid.
     final fn translate_addr(&self, addr: VirtAddr) -> Option<PhysAddr>
         requires { Valid (Self.layout self.now) (Self.memory self.now) }
-        ensures { result ≡ address_of (translated (Self.layout self.now).levels (read_entry (Self.layout self.now) (Self.memory self.now)) addr) }
+        ensures { let layout = Self.layout self.now in let entry = read_entry layout (Self.memory self.now) in
+            result ≡ address_of (translated layout.levels entry addr) }
     {
         match self.translate(addr) {
             TranslateResult::Mapped { frame, offset, .. } => {
