@@ -1,5 +1,5 @@
 -- A mapper whose root table was lent.
-use Rattle.std.proofs.Common.{◌≡◌, ℕ, Bool, true, false, cond, List, Option, None, IsSome, refl, ap, subst}
+use Rattle.std.proofs.Common.{◌≡◌, ℕ, Bool, true, false, cond, List, None, IsSome, refl, ap, subst}
 use Rattle.std.proofs.Props.{props}
 use Rattle.std.specs.FinMap.{get, insert}
 use Rattle.x86_64_model.specs.Memory.{Memory, Places}

@@ -66,7 +66,7 @@ impl<'a, P: PageTableFrameMapping> MappedPageTable<'a, P> {
     /// Lends the table of level four to be changed.
     pub fn level_4_table_mut(&mut self) -> &mut PageTable
         ensures* lends { sem 𝓛 (LendsRootTable P.row ⟦<P as PageTableFrameMapping>⟧ self.entry result) }
-        ensures value { root_table (⟦<MappedPageTable<'a, P> as PageTables>⟧.layout self.old) (⟦<MappedPageTable<'a, P> as PageTables>⟧.memory self.old) ≡ Some result.now }
+        ensures value { root_table (⟦<Self as PageTables>⟧.layout self.old) (⟦<Self as PageTables>⟧.memory self.old) ≡ Some result.now }
     {
         let place = self.walker.mapping().frame_to_pointer(self.root);
         self.memory.table_mut(place).unwrap()

@@ -16,12 +16,16 @@ pub returns : goal.returns
 returns g c =
     let mapper = c.args.self.now in
     let places = g.P.PageTableFrameMapping.places mapper.walker.mapping in
-    let at : c.frame_to_pointer-place.result ≡ places.place mapper.root = c.frame_to_pointer-place.ensures ∙ ap (λ m. (g.P.PageTableFrameMapping.places m).place mapper.root) c.mapping.ensures in
-    ((refl, λ w. alike places mapper.root mapper.memory.now w
-    (λ place there. record mapper { memory = record mapper.memory { now = insert mapper.memory.now place w }; has_root = there })
-    _ _ at _ _),
-    record {
-      lends = tt;
-      value = at_its_place places mapper.root mapper.memory.now mapper.has_root ∙ ap (get mapper.memory.now) (sym at)
-          ∙ sym c.table_mut.ensures.value ∙ ap option_copied_mut c.unwrap.ensures;
-    })
+    let at : c.frame_to_pointer-place.result ≡ places.place mapper.root = c.frame_to_pointer-place.ensures ∙ ap (λ m. (g.P.PageTableFrameMapping.places m).place mapper.root) c.mapping.ensures in (
+      (
+        refl,
+        λ w. alike places mapper.root mapper.memory.now w
+            (λ place there. record mapper { memory = record mapper.memory { now = insert mapper.memory.now place w }; has_root = there })
+            _ _ at _ _,
+      ),
+      record {
+        lends = tt;
+        value = at_its_place places mapper.root mapper.memory.now mapper.has_root ∙ ap (get mapper.memory.now) (sym at)
+            ∙ sym c.table_mut.ensures.value ∙ ap option_copied_mut c.unwrap.ensures;
+      },
+    )
