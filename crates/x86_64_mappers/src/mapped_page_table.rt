@@ -25,7 +25,7 @@ pub struct MappedPageTable<'a, P: PageTableFrameMapping> {
 
 impl<'a, P: PageTableFrameMapping + Drop> Drop for MappedPageTable<'a, P> {
     fn drop(self)
-        ensures { self.exit.0.now ≡ self.entry.memory.now }
+        ensures { self.exit.0.now ≡ ⟦<Self as PageTables>⟧.memory self.entry }
     {
         let MappedPageTable {
             memory: _,
