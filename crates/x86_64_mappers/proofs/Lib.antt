@@ -1,4 +1,5 @@
 pub mod Levels
+pub mod RootTables
 pub mod Sought
 pub mod Translations
 pub mod Words

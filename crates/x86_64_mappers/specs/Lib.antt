@@ -1,3 +1,4 @@
 pub mod Layouts
+pub mod Lending
 pub use Rattle.x86_64_model.specs.Layout
 pub use Rattle.x86_64_model.specs.Memory

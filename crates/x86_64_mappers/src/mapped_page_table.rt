@@ -36,6 +36,9 @@ impl<'a, P: PageTableFrameMapping + Drop> Drop for MappedPageTable<'a, P> {
 }
 
 impl<'a, P: PageTableFrameMapping> MappedPageTable<'a, P> {
+    ghost use Rattle.std.specs.Borrow.{sem};
+    ghost use Rattle.x86_64_mappers.specs.Lending.{LendsRootTable};
+
     /// Makes a mapper of the hierarchy that starts at a root, in a memory where the mapping says where frames lie.
     ///
     /// Condition: the hierarchy is valid.
@@ -58,6 +61,15 @@ impl<'a, P: PageTableFrameMapping> MappedPageTable<'a, P> {
         ensures { root_table (⟦<Self as PageTables>⟧.layout self.now) (⟦<Self as PageTables>⟧.memory self.now) ≡ Some result.now }
     {
         self.walker.table(self.memory, self.root)
+    }
+
+    /// Lends the table of level four to be changed.
+    pub fn level_4_table_mut(&mut self) -> &mut PageTable
+        ensures* lends { sem 𝓛 (LendsRootTable P.row ⟦<P as PageTableFrameMapping>⟧ self.entry result) }
+        ensures value { root_table (⟦<Self as PageTables>⟧.layout self.old) (⟦<Self as PageTables>⟧.memory self.old) ≡ Some result.now }
+    {
+        let place = self.walker.mapping().frame_to_pointer(self.root);
+        self.memory.table_mut(place).unwrap()
     }
 
     /// Tells whether the hierarchy is valid now.

@@ -1,5 +1,7 @@
 //! Translations of addresses in small hierarchies, and what a mapper says of its own.
-ghost use Rattle.std.specs.Prelude.{◌≡◌};
+ghost use Rattle.std.specs.Prelude.{◌≡◌, ◌/◌};
+ghost use Rattle.std.specs.FinMap.{insert};
+ghost use Rattle.x86_64_tables.specs.PageTable.{zero_words};
 ghost use Rattle.x86_64_model.specs.Layout.{Valid};
 ghost use Rattle.x86_64_model.specs.Memory.{identity_places};
 ghost use Rattle.x86_64_mappers.specs.Layouts.{direct};
@@ -156,4 +158,13 @@ fn mappers_tell_of_their_tables(rt: HostRuntime) -> Result<(), Fail> {
         "Mapped { frame: Size4KiB(PhysFrame[4KiB](0x5000)), offset: 2748, flags: PageTableFlags(0x3) }"
     );
     Ok(())
+}
+
+/// Makes the entries of the root unused. The owner knows what the memory holds then.
+fn clear_root(memory: &mut PhysMemory, root: PhysFrame<Size4KiB>)
+    requires { Valid (direct identity_places root) memory.old }
+    ensures { memory.new ≡ insert memory.old (root / 4096) zero_words }
+{
+    let mut mapper = MappedPageTable::new(memory, root, IdentityMapping);
+    mapper.level_4_table_mut().zero();
 }
