@@ -18,9 +18,6 @@ pub root_stays : (places : Places) (root : ℕ) (memory : Memory) (table : List 
     → HasRoot (direct places root) (insert memory (places.place root) table)
 root_stays places root memory table = by (places.covers root)
   where
-    k : ℕ
-    k = places.place root
-
     there : get (insert memory (places.place root) table) (places.place root) ≡ Some table
     there = get-insert nat_cmp_total memory (places.place root) table (places.place root)
         ∙ ap (λ b. cond b (Some table) (get memory (places.place root))) (ap is_eq (tied_itself nat_cmp_total (places.place root)))

@@ -18,7 +18,7 @@ use x86_64_page::page::{Size1GiB, Size2MiB, Size4KiB};
 use x86_64_tables::mapper::{MappedFrame, PageTables, Translate, TranslateResult};
 use x86_64_tables::page_table::{PageTableEntry, PageTableFlags};
 use x86_64_tables::phys_memory::{
-    FramePlace, IdentityMapping, PageTableFrameMapping, PhysMemory, is_valid_hierarchy,
+    FramePlace, IdentityMapping, PageTableFrameMapping, PhysMemory, is_valid_hierarchy, page_walk,
 };
 
 /// Translates an address by a mapper that is dropped then. The owner knows that the memory is as it was.
@@ -167,4 +167,22 @@ fn clear_root(memory: &mut PhysMemory, root: PhysFrame<Size4KiB>)
 {
     let mut mapper = MappedPageTable::new(memory, root, IdentityMapping);
     mapper.level_4_table_mut().zero();
+}
+
+#[test]
+fn root_tables_are_lent(rt: HostRuntime) -> Result<(), Fail> {
+    let words = [
+        (1, 0, 0x2003),
+        (2, 0, 0x3003),
+        (3, 0, 0x4003),
+        (4, 1, 0x5003),
+    ];
+    let mut memory = image(rt.alloc(), &words)?;
+    let root = small(0x1000);
+    assert!(rt; is_valid_hierarchy(rt.alloc(), &memory, &IdentityMapping, root)?);
+    let addr = VirtAddr::new(0x1abc);
+    assert!(rt; page_walk(&memory, &IdentityMapping, root, addr).is_some());
+    clear_root(&mut memory, root);
+    assert!(rt; page_walk(&memory, &IdentityMapping, root, addr).is_none());
+    Ok(())
 }
