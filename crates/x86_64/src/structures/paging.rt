@@ -4,7 +4,6 @@ pub mod page_table;
 
 pub use mapper::{MappedPageTable, Translate};
 pub use page_table::{PageOffset, PageTable, PageTableFlags, PageTableIndex};
-pub use x86_64_page::frame;
 pub use x86_64_page::frame::PhysFrame;
-pub use x86_64_page::page;
 pub use x86_64_page::page::{PageSize, Size1GiB, Size2MiB, Size4KiB};
+pub use x86_64_page::{frame, page};
