@@ -1,6 +1,10 @@
 //! Runs the engine on the program's arguments, standard input and standard output.
 #![tactic(auto)]
 
+ghost use Rattle.std.specs.Prelude.{◌≡◌};
+ghost use Rattle.std.specs.Process.{exit_status};
+ghost use Rattle.pagetab_engine.specs.Ending.{status_of};
+
 use pagetab_engine::ending::{Ending, Fault};
 use pagetab_engine::engine;
 use std::process::ExitCode;
@@ -35,7 +39,14 @@ fn report(rt: &impl Eprint, ending: Ending) -> ExitCode {
         Ending::Stopped(fault) => eprintln!(rt; "{fault}"),
     };
     match told {
-        Ok(()) => ExitCode::from(ending.status()),
-        Err(error) => ExitCode::from(Ending::Stopped(Fault::from(error)).status()),
+        Ok(()) => exit_code(ending),
+        Err(error) => exit_code(Ending::Stopped(Fault::from(error))),
     }
+}
+
+/// Gives the exit code of an ending.
+fn exit_code(ending: Ending) -> ExitCode
+    ensures { exit_status result ≡ status_of ending }
+{
+    ExitCode::from(ending.status())
 }
