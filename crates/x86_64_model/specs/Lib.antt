@@ -23,6 +23,7 @@ pub mod Alike
 pub mod Layout
 pub mod Tables
 pub mod Marks
+pub mod MapperCalls
 pub mod Conserved
 pub mod Arrivals
 pub mod WalkDown

@@ -1,8 +1,8 @@
 -- Multiples of a size of pages.
-use Rattle.std.specs.Prelude.{zero, suc, ◌≡◌, ℕ, ◌-◌, ◌*◌, ◌/◌, ◌%◌, ◌≤◌}
-use Rattle.std.proofs.Common.{subst, arith}
+use Rattle.std.specs.Prelude.{zero, suc, ◌≡◌, ℕ, ◌+◌, ◌-◌, ◌*◌, ◌/◌, ◌%◌, ◌^◌, ◌≤◌, ◌<◌, nat_lt, Bool, true, false, if◌then◌else◌}
+use Rattle.std.proofs.Common.{refl, subst, arith}
 use Rattle.std.proofs.Math.Nat.{mul-mod_left, div-mul-le_self, mod-eq-sub-div-mul}
-use Rattle.x86_64_addr.specs.Position.{span}
+use Rattle.x86_64_addr.specs.Position.{span, raw, lower_half}
 
 -- a number rounded down to a multiple of a size is one
 pub rounded_down : (number size : ℕ) → (number - number % size) % size ≡ 0
@@ -17,3 +17,24 @@ multiple_of_4KiB n z (suc zero) low high e h = let a : n % span 1 ≡ 0 = subst 
 multiple_of_4KiB n z (suc (suc zero)) low high e h = let a : n % span 2 ≡ 0 = subst (λ z. n % z ≡ 0) e h in omega arith
 multiple_of_4KiB n z (suc (suc (suc zero))) low high e h = let a : n % span 3 ≡ 0 = subst (λ z. n % z ≡ 0) e h in omega arith
 multiple_of_4KiB n z (suc (suc (suc (suc l)))) low high e h = absurd (omega arith)
+
+-- an address and its position leave the same remainder by a size, and rounded down they stay address and position
+pub record RoundedDown (position size : ℕ) : Type 0 where
+  pub remainder : raw 4 position % size ≡ position % size
+  pub start : (raw 4 position - raw 4 position % size) % 2 ^ 48 ≡ position - position % size
+
+-- the same where the raw value is the position or the position in the upper half
+rounded : (p size level : ℕ) → 1 ≤ level → level ≤ 3 → size ≡ span level → p < 2 ^ 48 → (upper : Bool)
+    → ((if upper then p else p + (2 ^ 64 - 2 ^ 48)) % size ≡ p % size)
+    × (((if upper then p else p + (2 ^ 64 - 2 ^ 48)) - (if upper then p else p + (2 ^ 64 - 2 ^ 48)) % size) % 2 ^ 48 ≡ p - p % size)
+rounded p z zero low high e small upper = absurd (omega arith)
+rounded p z (suc zero) low high e small true = let e' : z ≡ 0x1000 = e in rw e' (refl, omega arith)
+rounded p z (suc zero) low high e small false = let e' : z ≡ 0x1000 = e in rw e' (omega arith, omega arith)
+rounded p z (suc (suc zero)) low high e small true = let e' : z ≡ 0x20_0000 = e in rw e' (refl, omega arith)
+rounded p z (suc (suc zero)) low high e small false = let e' : z ≡ 0x20_0000 = e in rw e' (omega arith, omega arith)
+rounded p z (suc (suc (suc zero))) low high e small true = let e' : z ≡ 0x4000_0000 = e in rw e' (refl, omega arith)
+rounded p z (suc (suc (suc zero))) low high e small false = let e' : z ≡ 0x4000_0000 = e in rw e' (omega arith, omega arith)
+rounded p z (suc (suc (suc (suc l)))) low high e small upper = absurd (omega arith)
+
+pub rounded_position : (position size level : ℕ) → 1 ≤ level → level ≤ 3 → size ≡ span level → position < 2 ^ 48 → RoundedDown position size
+rounded_position p z level low high e small = let both = rounded p z level low high e small (nat_lt p (lower_half 4)) in record { remainder = both.0; start = both.1 }

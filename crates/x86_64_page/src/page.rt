@@ -1,10 +1,14 @@
-//! Sizes of pages.
+//! Pages: aligned blocks of virtual memory of one of three sizes.
 //!
 //! Intel SDM vol. 3A, "4-Level Paging and 5-Level Paging"; AMD APM vol. 2, "Long-Mode Page Translation".
-ghost use Rattle.std.specs.Prelude.{◌≡◌, ℕ, ◌≤◌};
-ghost use Rattle.x86_64_addr.specs.Position.{span};
+ghost use Rattle.std.specs.Prelude.{◌≡◌, ℕ, ◌-◌, ◌%◌, ◌≤◌, ◌↔◌, IsOk, IfOk};
+ghost use Rattle.x86_64_addr.specs.Levels.{level_number};
+ghost use Rattle.x86_64_addr.specs.Position.{span, index};
 
-use std::fmt::{Display, Formatter, Result as FmtResult, Write};
+use std::fmt::{Debug, Display, Formatter, Result as FmtResult, Write};
+use std::marker::{Model, PhantomData};
+use x86_64_addr::addr::VirtAddr;
+use x86_64_addr::index::{PageTableIndex, PageTableLevel};
 
 mod sealed {
     /// Keeps other crates from adding sizes.
@@ -137,5 +141,129 @@ pub struct AddressNotAligned;
 impl Display for AddressNotAligned {
     fn fmt<W: Write>(&self, f: &mut Formatter<W>) -> FmtResult {
         write!(f, "the given address was not sufficiently aligned")
+    }
+}
+
+/// A page of a size: it starts at a multiple of the size.
+///
+/// Contracts see it as the position of its start address. Equality, order and hash are those of the start address, and so
+/// those of the position.
+#[derive(Clone, Copy, PartialEq, Eq, PartialOrd, Ord, Hash)]
+pub struct Page<S: PageSize> {
+    start_address: VirtAddr,
+    size: PhantomData<S>,
+}
+
+impl<S: PageSize> Model for Page<S> {
+    ghost use Rattle.std.specs.Prelude.{◌≡◌, ℕ, ◌%◌, ◌^◌, ◌<◌};
+
+    ghost Value = { ℕ };
+
+    ghost view = { λ page. page.start_address };
+
+    ghost invariant = { λ page. (page.start_address < 2 ^ 48) × (page.start_address % S.SIZE ≡ 0) };
+
+    ghost inverse = { λ n. record { start_address = n; size = record {} } };
+}
+
+impl<S: PageSize> Page<S> {
+    /// Gives the page that starts at an address.
+    ///
+    /// Answers `AddressNotAligned` exactly where the address isn't a multiple of the size.
+    pub fn from_start_address(address: VirtAddr) -> Result<Self, AddressNotAligned>
+        ensures aligned { IsOk result ↔ (address % S.SIZE ≡ 0) }
+        ensures value { IfOk result (λ page. page ≡ address) }
+    {
+        if address.as_u64() % S::SIZE == 0 {
+            Ok(Self::from_start_address_unchecked(address))
+        } else {
+            Err(AddressNotAligned)
+        }
+    }
+
+    /// Gives the page that starts at an address, which must be a multiple of the size.
+    pub fn from_start_address_unchecked(start_address: VirtAddr) -> Self
+        requires { start_address % S.SIZE ≡ 0 }
+        ensures { result ≡ start_address }
+    {
+        // Each position is below 2^48, as each page has to be.
+        let _raw = start_address.as_u64();
+        Page {
+            start_address,
+            size: PhantomData,
+        }
+    }
+
+    /// Gives the page that contains an address: its start is the address rounded down to the size.
+    pub fn containing_address(address: VirtAddr) -> Self
+        ensures { result ≡ address - address % S.SIZE }
+    {
+        let raw = address.as_u64();
+        Page {
+            start_address: VirtAddr::new_truncate(raw - raw % S::SIZE),
+            size: PhantomData,
+        }
+    }
+
+    /// Gives the start address.
+    pub fn start_address(self) -> VirtAddr
+        ensures value { result ≡ self }
+        ensures aligned { self % S.SIZE ≡ 0 }
+    {
+        self.start_address
+    }
+
+    /// Gives the size in bytes.
+    pub fn size(self) -> u64
+        ensures { result ≡ S.SIZE }
+    {
+        S::SIZE
+    }
+
+    /// Gives the index of level four.
+    pub fn p4_index(self) -> PageTableIndex
+        ensures { result ≡ index 4 self }
+    {
+        self.start_address.p4_index()
+    }
+
+    /// Gives the index of level three.
+    pub fn p3_index(self) -> PageTableIndex
+        ensures { result ≡ index 3 self }
+    {
+        self.start_address.p3_index()
+    }
+
+    /// Gives the index of a level.
+    pub fn page_table_index(self, level: PageTableLevel) -> PageTableIndex
+        ensures { result ≡ index (level_number level) self }
+    {
+        self.start_address.page_table_index(level)
+    }
+}
+
+impl<S: NotGiantPageSize> Page<S> {
+    /// Gives the index of level two.
+    pub fn p2_index(self) -> PageTableIndex
+        ensures { result ≡ index 2 self }
+    {
+        self.start_address.p2_index()
+    }
+}
+
+impl Page<Size4KiB> {
+    /// Gives the index of level one.
+    pub fn p1_index(self) -> PageTableIndex
+        ensures { result ≡ index 1 self }
+    {
+        self.start_address.p1_index()
+    }
+}
+
+impl<S: PageSize> Debug for Page<S> {
+    fn fmt<W: Write>(&self, f: &mut Formatter<W>) -> FmtResult {
+        let size = S::DEBUG_STR;
+        let start = self.start_address.as_u64();
+        write!(f, "Page[{size}]({start:#x})")
     }
 }

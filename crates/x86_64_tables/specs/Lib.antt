@@ -6,6 +6,7 @@ pub mod Lending
 pub mod Walks
 pub mod Images
 pub mod Translations
+pub mod MapperAnswers
 pub use Rattle.x86_64_model.specs.Entry
 pub use Rattle.x86_64_model.specs.Memory
 pub use Rattle.x86_64_model.specs.Hierarchy

@@ -1,16 +1,20 @@
-//! What all mappers have in common: the tables that they own for a while, and translations of addresses.
-ghost use Rattle.std.specs.Prelude.{◌≡◌, Some, option_map};
+//! What all mappers have in common: the tables that they own for a while, translations of addresses, and maps of pages.
+ghost use Rattle.std.specs.Prelude.{◌≡◌, ℕ, Bool, true, not, List, Some, option_map, IfOk, IsTrue};
 ghost use Rattle.std.specs.Borrow.{GName};
+ghost use Rattle.x86_64_model.specs.Entry.{IsParentFlags};
 ghost use Rattle.x86_64_model.specs.Memory.{Memory};
 ghost use Rattle.x86_64_model.specs.Layout.{Layout, Valid, words, read_entry};
 ghost use Rattle.x86_64_model.specs.PageWalk.{page_walk};
 ghost use Rattle.x86_64_model.specs.Translation.{translate as translated, address_of};
 
+use crate::frame_alloc::FrameAllocator;
 use crate::page_table::PageTableFlags;
+use bitflags::Flags;
+use std::marker::Model;
 use x86_64_addr::addr::{PhysAddr, VirtAddr};
 use x86_64_addr::index::PageTableIndex;
 use x86_64_page::frame::PhysFrame;
-use x86_64_page::page::{Size1GiB, Size2MiB, Size4KiB};
+use x86_64_page::page::{Page, PageSize, Size1GiB, Size2MiB, Size4KiB};
 
 /// Holds a frame of one of the three sizes, to which a page of this size is mapped.
 #[derive(Clone, Copy, Debug, PartialEq)]
@@ -78,6 +82,9 @@ pub trait PageTables {
     /// Which memory was lent.
     ghost lent: { Self → GName };
 
+    // The flags that a new table entry gets beside the parent flags are such that an entry above a page may have them.
+    ghost added_flags: { (tables : Self) → IsParentFlags (layout tables).added_flags };
+
     /// Gives the recursive index, where the root names itself.
     fn recursive_index(&self) -> Option<PageTableIndex>
         ensures { result ≡ option_map (λ window. window.index) (layout self.now).window };
@@ -120,4 +127,177 @@ pub trait Translate: PageTables {
             TranslateResult::NotMapped | TranslateResult::InvalidFrameAddress(_) => None,
         }
     }
+}
+
+/// Says why a page was not mapped.
+#[derive(Clone, Copy, Debug, PartialEq)]
+pub enum MapToError<S: PageSize> {
+    /// A table was missing, and there was no frame for it.
+    FrameAllocationFailed,
+    /// A parent of the page maps a larger page.
+    ParentEntryHugePage,
+    /// The page's entry was used. The frame is the one asked for, not the one that the page is mapped to.
+    PageAlreadyMapped(PhysFrame<S>),
+}
+
+/// Says why a page was not unmapped.
+#[derive(Clone, Copy, Debug, PartialEq)]
+pub enum UnmapError {
+    /// A parent of the page maps a larger page, or the page's own entry has not `HUGE_PAGE` as its size wants it.
+    ParentEntryHugePage,
+    /// A parent or the page's own entry lacks `PRESENT`.
+    PageNotMapped,
+    /// The page's entry names an address that isn't a multiple of the page's size.
+    InvalidFrameAddress(PhysAddr),
+}
+
+/// Stands for a change to the mapping of a page, which the TLB may not have seen yet.
+///
+/// It must be spent, by [`ignore`](Self::ignore): letting it go is a compile error.
+#[must_use]
+#[derive(Debug)]
+pub struct MapperFlush<S: PageSize> {
+    page: Page<S>,
+}
+
+impl<S: PageSize> Model for MapperFlush<S> {
+    ghost use Rattle.std.specs.Prelude.{ℕ};
+
+    ghost Value = { ℕ };
+
+    ghost view = { λ flush. flush.page };
+}
+
+impl<S: PageSize> MapperFlush<S> {
+    /// Makes a token for a page.
+    pub fn new(page: Page<S>) -> Self
+        ensures { result ≡ page }
+    {
+        MapperFlush { page }
+    }
+
+    /// Gives the page.
+    pub fn page(&self) -> Page<S>
+        ensures { result ≡ self.now }
+    {
+        self.page
+    }
+
+    /// Spends the token without a flush.
+    pub fn ignore(self) {
+        let MapperFlush { page: _ } = self;
+    }
+}
+
+/// Maps and unmaps pages of a size.
+///
+/// The parents of a page are the entries on its path from the root down to the one above its own.
+pub trait Mapper<S: PageSize>: PageTables {
+    ghost use Rattle.x86_64_model.specs.Allowed.{map_allowed as is_map_allowed};
+    ghost use Rattle.x86_64_model.specs.Layout.{paths};
+    ghost use Rattle.x86_64_model.specs.MapperCalls.{IsReady, IsMapped, IsUnmapped};
+    ghost use Rattle.x86_64_model.specs.MapRule.{parent_part};
+    ghost use Rattle.x86_64_model.specs.Path.{path_at};
+    ghost use Rattle.x86_64_model.specs.Window.{begins_with};
+    ghost use Rattle.x86_64_tables.specs.MapperAnswers.{map_answer, unmap_answer};
+    ghost use Rattle.x86_64_tables.specs.PageTableFlags.{bits_of};
+
+    /// Maps a page to a frame with these flags, and `HUGE_PAGE` for 2MiB and 1GiB.
+    ///
+    /// From level four down, each missing table gets the first frame of the allocator, which is cleared and entered with
+    /// the parent flags, and each used parent gets the parent flags added. The frames may hold any words.
+    ///
+    /// Intel SDM vol. 3A, "Hierarchical Paging Structures: an Overview".
+    ///
+    /// Conditions: the hierarchy is valid, the allocator's frames are as in a pool that fits it, and
+    /// [`map_allowed`](Self::map_allowed) holds.
+    ///
+    /// # Errors
+    ///
+    /// `ParentEntryHugePage` where a parent maps a larger page; else `FrameAllocationFailed` where the allocator has too
+    /// few frames; else `PageAlreadyMapped` with the frame asked for where the page's entry is used. What a refused map
+    /// did on its way stays: new tables, and flags added to parents.
+    fn map_to_with_table_flags<A: FrameAllocator<Size4KiB>>(
+        &mut self,
+        page: Page<S>,
+        frame: PhysFrame<S>,
+        flags: PageTableFlags,
+        parent_flags: PageTableFlags,
+        frame_allocator: &mut A,
+    ) -> Result<MapperFlush<S>, MapToError<S>>
+        requires ready { IsReady (Self.layout self.old) (Self.memory self.old) (A.supply frame_allocator.old) }
+        requires allowed { let layout = Self.layout self.old in
+            IsTrue (is_map_allowed layout.levels layout.window (paths layout (Self.memory self.old)) (path_at layout.levels S.LEVEL page) (bits_of flags) (bits_of parent_flags)) }
+        ensures mapped { let layout = Self.layout self.old in
+            IsMapped layout (Self.memory self.old) (A.supply frame_allocator.old) (path_at layout.levels S.LEVEL page) frame (bits_of flags) (bits_of parent_flags) (map_answer frame result) (Self.memory self.new) (A.supply frame_allocator.new) }
+        ensures page { IfOk result (λ flush. flush ≡ page) }
+        ensures layout { Self.layout self.new ≡ Self.layout self.old }
+        ensures lent { Self.lent self.new ≡ Self.lent self.old }
+        ensures serves { A.serves frame_allocator.new ≡ A.serves frame_allocator.old };
+
+    /// Maps a page as [`map_to_with_table_flags`](Self::map_to_with_table_flags) does, where the parent flags are those of
+    /// `PRESENT`, `WRITABLE` and `USER_ACCESSIBLE` that are among the flags.
+    final fn map_to<A: FrameAllocator<Size4KiB>>(
+        &mut self,
+        page: Page<S>,
+        frame: PhysFrame<S>,
+        flags: PageTableFlags,
+        frame_allocator: &mut A,
+    ) -> Result<MapperFlush<S>, MapToError<S>>
+        requires ready { IsReady (Self.layout self.old) (Self.memory self.old) (A.supply frame_allocator.old) }
+        requires allowed { let layout = Self.layout self.old in
+            IsTrue (is_map_allowed layout.levels layout.window (paths layout (Self.memory self.old)) (path_at layout.levels S.LEVEL page) (bits_of flags) (parent_part (bits_of flags))) }
+        ensures mapped { let layout = Self.layout self.old in
+            IsMapped layout (Self.memory self.old) (A.supply frame_allocator.old) (path_at layout.levels S.LEVEL page) frame (bits_of flags) (parent_part (bits_of flags)) (map_answer frame result) (Self.memory self.new) (A.supply frame_allocator.new) }
+        ensures page { IfOk result (λ flush. flush ≡ page) }
+        ensures layout { Self.layout self.new ≡ Self.layout self.old }
+        ensures lent { Self.lent self.new ≡ Self.lent self.old }
+        ensures serves { A.serves frame_allocator.new ≡ A.serves frame_allocator.old }
+    {
+        let parent_flags = flags.intersection(
+            PageTableFlags::PRESENT
+                .union(PageTableFlags::WRITABLE)
+                .union(PageTableFlags::USER_ACCESSIBLE),
+        );
+        self.map_to_with_table_flags(page, frame, flags, parent_flags, frame_allocator)
+    }
+
+    /// Tells whether a page may be mapped with these flags and parent flags.
+    ///
+    /// Neither has address bits. `HUGE_PAGE` is not in the parent flags, nor in the flags of a 4KiB page. The parent flags
+    /// have `PRESENT`, or every parent has it, down to and with the first that also has `HUGE_PAGE`. The page's index of
+    /// level four isn't the recursive index.
+    ///
+    /// Condition: the hierarchy is valid.
+    fn map_allowed(
+        &self,
+        page: Page<S>,
+        flags: PageTableFlags,
+        parent_flags: PageTableFlags,
+    ) -> bool
+        requires { Valid (Self.layout self.now) (Self.memory self.now) }
+        ensures { let layout = Self.layout self.now in
+            result ≡ is_map_allowed layout.levels layout.window (paths layout (Self.memory self.now)) (path_at layout.levels S.LEVEL page) (bits_of flags) (bits_of parent_flags) };
+
+    /// Unmaps a page, and gives the frame that it was mapped to. No table is taken away.
+    ///
+    /// Conditions: the hierarchy is valid, and the page's index of level four isn't the recursive index.
+    ///
+    /// # Errors
+    ///
+    /// `PageNotMapped` where a parent, or else the page's own entry, lacks `PRESENT`; `ParentEntryHugePage` where a parent
+    /// before it has `HUGE_PAGE`, or the page's own entry has it with 4KiB or lacks it with 2MiB and 1GiB;
+    /// `InvalidFrameAddress` where the entry of a 2MiB or 1GiB page names an address that isn't a multiple of the size.
+    /// A refusal changes nothing.
+    fn unmap(&mut self, page: Page<S>) -> Result<(PhysFrame<S>, MapperFlush<S>), UnmapError>
+        requires valid { Valid (Self.layout self.old) (Self.memory self.old) }
+        requires outside { let layout = Self.layout self.old in
+            IsTrue (not (begins_with layout.window (path_at layout.levels S.LEVEL page))) }
+        ensures unmapped { let layout = Self.layout self.old in
+            IsUnmapped layout (Self.memory self.old) (path_at layout.levels S.LEVEL page) (unmap_answer result) (Self.memory self.new) }
+        ensures page { IfOk result (λ unmapped. unmapped.1 ≡ page) }
+        ensures layout { Self.layout self.new ≡ Self.layout self.old }
+        ensures lent { Self.lent self.new ≡ Self.lent self.old };
+
+    ghost four_levels: { (mapper : Self) → (Self.PageTables.layout mapper).levels ≡ 4 };
 }

@@ -1,0 +1,41 @@
+-- What the calls of a mapper leave in its memory: one record for each call. m is the memory before, n the memory after.
+use Rattle.std.specs.Prelude.{◌≡◌, ◌≢◌, ℕ, true, List}
+use Rattle.std.specs.FinMap.{get}
+use Rattle.x86_64_model.specs.Memory.{Memory, Places}
+use Rattle.x86_64_model.specs.Lists.{In}
+use Rattle.x86_64_model.specs.Pool.{IsTable, IsOwn, Fits}
+use Rattle.x86_64_model.specs.Refusal.{Answer}
+use Rattle.x86_64_model.specs.MapRule.{map_call}
+use Rattle.x86_64_model.specs.PageRules.{unmap}
+use Rattle.x86_64_model.specs.Layout.{Layout, words, paths, read_entry, Valid}
+
+-- the hierarchy is valid now, and the supply's frames are as in a pool that fits
+abbrev pub IsReady : Layout → Memory → (supply : List ℕ) → Type 0
+IsReady l m supply = Fits l.levels l.window (words l m) l.root (paths l m) (λ f. true) supply
+
+-- the root, a table, or a frame of the supply
+abbrev pub Owns : Layout → Memory → (supply : List ℕ) → (frame : ℕ) → Type 0
+Owns l m supply f = IsOwn l.levels l.root (paths l m) supply f
+
+-- the root, a table, or a frame that was taken from the supply, of which the rest was left
+abbrev pub Uses : Layout → Memory → (supply rest : List ℕ) → (frame : ℕ) → Type 0
+Uses l m supply rest f = Owns l m supply f × (In rest f → ⊥)
+
+-- the places where none of these frames lies keep their words
+abbrev pub KeepsOthers : Places → (frames : ℕ → Type 0) → Memory → Memory → Type 0
+KeepsOthers places frames m n = (k : ℕ) → ((f : ℕ) → frames f → places.place f ≢ k) → get n k ≡ get m k
+
+-- a call that maps a page: the path map, the supply and the answer are those of the map rule, the hierarchy is valid again and the rest of
+-- the supply fits it, and no word changed but in the root, the tables and the frames that were taken
+pub record IsMapped (l : Layout) (m : Memory) (supply : List ℕ) (page : List ℕ) (frame flags parent_flags : ℕ) (answer : Answer) (n : Memory) (rest : List ℕ) : Type 0 where
+  pub outcome : map_call l.levels (paths l m) supply parent_flags l.added_flags page frame flags ≡ record { paths = paths l n; supply = rest; answer = answer }
+  pub ready : IsReady l n rest
+  pub others : KeepsOthers l.places (Uses l m supply rest) m n
+
+-- a call that unmaps a page: the path map and the answer are those of the rule, the hierarchy is valid again and a supply that fitted it still
+-- does, and no word changed but in the root and the tables
+pub record IsUnmapped (l : Layout) (m : Memory) (page : List ℕ) (answer : Answer) (n : Memory) : Type 0 where
+  pub outcome : unmap l.levels (read_entry l m) (paths l m) page ≡ record { paths = paths l n; answer = answer }
+  pub valid : Valid l n
+  pub ready : (supply : List ℕ) → IsReady l m supply → IsReady l n supply
+  pub others : KeepsOthers l.places (IsTable l.levels l.root (paths l m)) m n
