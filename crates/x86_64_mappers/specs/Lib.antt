@@ -1,4 +1,12 @@
+pub mod Changed
+pub mod Goes
 pub mod Layouts
 pub mod Lending
+pub mod Outside
+pub mod Results
+pub mod Seen
+pub mod Stored
+pub mod Writes
+pub mod Written
 pub use Rattle.x86_64_model.specs.Layout
 pub use Rattle.x86_64_model.specs.Memory
