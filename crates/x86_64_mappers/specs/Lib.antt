@@ -6,6 +6,7 @@ pub mod Outside
 pub mod Results
 pub mod Seen
 pub mod Stored
+pub mod TableLending
 pub mod Writes
 pub mod Written
 pub use Rattle.x86_64_model.specs.Layout
