@@ -1,10 +1,15 @@
 pub mod Changed
+pub mod Down
 pub mod Goes
 pub mod Layouts
 pub mod Lending
+pub mod MapSteps
+pub mod Marked
+pub mod NewTables
 pub mod Outside
 pub mod Results
 pub mod Seen
+pub mod Steps
 pub mod Stored
 pub mod TableLending
 pub mod Writes
