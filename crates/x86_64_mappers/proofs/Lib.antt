@@ -1,3 +1,4 @@
+pub mod EntryWrites
 pub mod Levels
 pub mod RootTables
 pub mod Sought

@@ -1,4 +1,5 @@
 pub mod Changed
+pub mod CreateResults
 pub mod Down
 pub mod Goes
 pub mod Layouts
