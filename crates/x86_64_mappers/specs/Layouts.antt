@@ -1,5 +1,7 @@
 -- The layouts of mappers.
 use Rattle.std.specs.Prelude.{ℕ, List, Option, None, IsSome}
+use Rattle.std.proofs.Common.{refl}
+use Rattle.x86_64_model.specs.Entry.{IsParentFlags, address}
 use Rattle.x86_64_model.specs.Layout.{Layout, words}
 use Rattle.x86_64_model.specs.Memory.{Memory, Places}
 
@@ -14,3 +16,10 @@ root_table layout memory = words layout memory layout.root
 -- the root's frame is covered and in the memory
 abbrev pub HasRoot : Layout → Memory → Type 0
 HasRoot layout memory = IsSome (root_table layout memory)
+
+no_flags : IsParentFlags 0
+unfolding address
+no_flags = record { no_address = refl; not_huge = refl }
+
+pub direct_adds_none : (places : Places) (root : ℕ) → IsParentFlags (direct places root).added_flags
+direct_adds_none places root = no_flags

@@ -1,4 +1,5 @@
 pub mod Layouts
 pub mod Lending
+pub mod Pages
 pub use Rattle.x86_64_model.specs.Layout
 pub use Rattle.x86_64_model.specs.Memory
