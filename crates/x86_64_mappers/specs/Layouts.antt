@@ -9,6 +9,11 @@ use Rattle.x86_64_model.specs.Memory.{Memory, Places}
 abbrev pub direct : Places → (root : ℕ) → Layout
 direct places root = record { levels = 4; places = places; root = root; window = None; added_flags = 0 }
 
+-- no flags are flags that an entry above a page may have
+pub no_flags : IsParentFlags 0
+unfolding address
+no_flags = record { no_address = refl; not_huge = refl }
+
 -- the table in the root's frame
 abbrev pub root_table : Layout → Memory → Option (List ℕ)
 root_table layout memory = words layout memory layout.root
@@ -16,10 +21,3 @@ root_table layout memory = words layout memory layout.root
 -- the root's frame is covered and in the memory
 abbrev pub HasRoot : Layout → Memory → Type 0
 HasRoot layout memory = IsSome (root_table layout memory)
-
-no_flags : IsParentFlags 0
-unfolding address
-no_flags = record { no_address = refl; not_huge = refl }
-
-pub direct_adds_none : (places : Places) (root : ℕ) → IsParentFlags (direct places root).added_flags
-direct_adds_none places root = no_flags

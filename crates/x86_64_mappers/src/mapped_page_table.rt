@@ -1,7 +1,7 @@
 //! The mapper that finds tables by a frame mapping.
 ghost use Rattle.std.specs.Prelude.{◌≡◌, ◌↔◌, Some, IfOk, IsTrue};
 ghost use Rattle.x86_64_model.specs.Layout.{Valid};
-ghost use Rattle.x86_64_mappers.specs.Layouts.{direct, root_table, HasRoot, direct_adds_none};
+ghost use Rattle.x86_64_mappers.specs.Layouts.{direct, root_table, HasRoot};
 
 use crate::walker::Walker;
 use std::alloc::{AllocError, Global};
@@ -92,13 +92,15 @@ impl<'a, P: PageTableFrameMapping> MappedPageTable<'a, P> {
 }
 
 impl<'a, P: PageTableFrameMapping> PageTables for MappedPageTable<'a, P> {
+    ghost use Rattle.x86_64_mappers.specs.Layouts.{no_flags};
+
     ghost memory = { λ mapper. mapper.memory.now };
 
     ghost layout = { λ mapper. direct (P.places mapper.walker.mapping) mapper.root };
 
     ghost lent = { λ mapper. mapper.memory.ghost_name };
 
-    ghost added_flags = { λ mapper. direct_adds_none (P.places mapper.walker.mapping) mapper.root };
+    ghost added_flags = { λ _. no_flags };
 
     fn recursive_index(&self) -> Option<PageTableIndex> {
         None

@@ -94,7 +94,7 @@ impl<P: PageTableFrameMapping> Walker<P> {
 }
 
 impl<P: PageTableFrameMapping> Walker<P> {
-    ghost use Rattle.x86_64_mappers.specs.Results.{found};
+    ghost use Rattle.x86_64_mappers.specs.Results.{unmap_result};
     ghost use Rattle.x86_64_mappers.specs.Stops.{table_below, IsFound};
 
     /// Gives the frame of the table that the entry at an index of a table names.
@@ -109,7 +109,7 @@ impl<P: PageTableFrameMapping> Walker<P> {
         index: PageTableIndex,
     ) -> Result<PhysFrame<Size4KiB>, UnmapError>
         requires { IsSome (words_of memory.now (P.places self.now.mapping) frame) }
-        ensures { found result ≡ table_below (word (words_of memory.now (P.places self.now.mapping)) frame index) }
+        ensures { unmap_result result ≡ table_below (word (words_of memory.now (P.places self.now.mapping)) frame index) }
     {
         match self.entry(memory, frame, index).frame() {
             Ok(table) => Ok(table),
@@ -131,7 +131,7 @@ impl<P: PageTableFrameMapping> Walker<P> {
     ) -> Result<PhysFrame<Size4KiB>, UnmapError>
         requires valid { Valid (direct (P.places self.now.mapping) root) memory.now }
         requires levels { length parents.now < 4 }
-        ensures { IsFound (direct (P.places self.now.mapping) root) memory.now parents.now (found result) }
+        ensures { IsFound (direct (P.places self.now.mapping) root) memory.now parents.now (unmap_result result) }
     {
         let mut frame = root;
         for index in parents {
