@@ -1,3 +1,5 @@
+pub mod Flags
+pub mod LeafFrames
 pub mod Levels
 pub mod RootTables
 pub mod Sought
