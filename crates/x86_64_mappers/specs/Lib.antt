@@ -1,4 +1,5 @@
 pub mod Changed
+pub mod Down
 pub mod EntryChanges
 pub mod Finds
 pub mod Goes
@@ -6,12 +7,17 @@ pub mod Layouts
 pub mod LeafFrames
 pub mod Lending
 pub mod MapConditions
+pub mod MapSteps
+pub mod Marked
+pub mod NewTables
 pub mod Outside
 pub mod Pages
 pub mod Results
 pub mod Seen
+pub mod Steps
 pub mod Stops
 pub mod Stored
+pub mod TableLending
 pub mod Unmaps
 pub mod Writes
 pub mod Written

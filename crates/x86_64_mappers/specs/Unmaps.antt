@@ -1,5 +1,5 @@
 -- Unmapping a page: what the call answers, and what the memory is then.
-use Rattle.std.proofs.Common.{◌≡◌, ◌<◌, ◌+◌, ◌-◌, ◌%◌, ℕ, Bool, true, false, ◌==◌, not, cond, List, [], ◌∷◌, ◌++◌, length, Option, Some, None, Result, Ok, Err, refl, sym, ap, ap₂, ◌∙◌, arith}
+use Rattle.std.proofs.Common.{take, get_or, subst, ◌≡◌, ◌<◌, ◌+◌, ◌-◌, ◌%◌, ℕ, Bool, true, false, ◌==◌, not, cond, List, [], ◌∷◌, ◌++◌, length, Option, Some, None, Result, Ok, Err, refl, sym, ap, ap₂, ◌∙◌, arith}
 use Rattle.x86_64_model.specs.Entry.{present, huge, used, address}
 use Rattle.x86_64_model.specs.Layout.{Layout, words, paths, read_entry, Valid}
 use Rattle.x86_64_model.specs.Lemmas.Entries.Bits.{used_present}
@@ -15,7 +15,7 @@ use Rattle.x86_64_model.specs.Refusal.{Refusal, PageNotMapped, ParentEntryHugePa
 use Rattle.x86_64_model.specs.Window.{begins_with}
 use Rattle.x86_64_mappers.specs.EntryChanges.{entry_changed}
 use Rattle.x86_64_mappers.specs.LeafFrames.{leaf_by, leaf_frame, names_frame}
-use Rattle.x86_64_mappers.specs.Pages.{small_page}
+use Rattle.x86_64_mappers.specs.Pages.{path_parted, small_page}
 use Rattle.x86_64_mappers.specs.Stops.{table_read, IsFound}
 use Rattle.x86_64_mappers.specs.Writes.{IsSet}
 
@@ -70,7 +70,7 @@ module _ (l : Layout) (m : Memory) (valid : Valid l m) (level : ℕ) (path : Lis
   refused why h = record { outcome = h; valid = valid; ready = λ s r. r; others = λ k n. refl }
 
   -- a parent stops it
-  pub unmap_stopped : (why : Refusal) → IsFound l m path (Err why) → IsUnmapped l m q (Refused why) m
+  unmap_stopped : (why : Refusal) → IsFound l m path (Err why) → IsUnmapped l m q (Refused why) m
   unmap_stopped why found = refused why (unmap_is (Some why) _ (found last) refl)
 
   -- the entries are the path map's
@@ -93,11 +93,11 @@ module _ (l : Layout) (m : Memory) (valid : Valid l m) (level : ℕ) (path : Lis
     w_is = found.0.entries last
 
     -- the page's own entry refuses it
-    pub unmap_refused : (why : Refusal) → Err why ≡ leaf_frame level (word (words l m) g last) → IsUnmapped l m q (Refused why) m
+    unmap_refused : (why : Refusal) → Err why ≡ leaf_frame level (word (words l m) g last) → IsUnmapped l m q (Refused why) m
     unmap_refused why is = refused why (unmap_is None (Err why) (found.1 last) (ap (leaf_frame level) w_is ∙ sym is))
 
     -- the page's own entry became unused
-    pub unmapped : Distinct l.places → 0 < l.levels → (frame : ℕ) → Ok frame ≡ leaf_frame level (word (words l m) g last) → (n : Memory) → IsSet l.places m g last 0 n → IsUnmapped l m q (Done frame) n
+    unmapped : Distinct l.places → 0 < l.levels → (frame : ℕ) → Ok frame ≡ leaf_frame level (word (words l m) g last) → (n : Memory) → IsSet l.places m g last 0 n → IsUnmapped l m q (Done frame) n
     unmapped apart some_levels frame is n set =
         let e : entry M q ≡ word (words l m) g last = sym same_entry ∙ w_is in
         let leaf = names_frame level (word (words l m) g last) frame is in
@@ -113,3 +113,26 @@ module _ (l : Layout) (m : Memory) (valid : Valid l m) (level : ℕ) (path : Lis
           ready = after.ready;
           others = after.others;
         }
+
+-- ---- the page whose whole path has n + 1 indices
+
+module _ (l : Layout) (m : Memory) (valid : Valid l m) (level : ℕ) (q : List ℕ) (n : ℕ) (long : length q ≡ n + 1) (outside : begins_with l.window q ≡ false) (at_level : length q + level ≡ l.levels + 1) where
+  parted : take n q ++ get_or q n 0 ∷ [] ≡ q
+  parted = path_parted q n long
+
+  out : begins_with l.window (take n q ++ get_or q n 0 ∷ []) ≡ false
+  out = ap (begins_with l.window) parted ∙ outside
+
+  size : length (take n q ++ get_or q n 0 ∷ []) + level ≡ l.levels + 1
+  size = ap (λ q. length q + level) parted ∙ at_level
+
+  pub page_stopped : (why : Refusal) → IsFound l m (take n q) (Err why) → IsUnmapped l m q (Refused why) m
+  page_stopped why found = subst (λ q. IsUnmapped l m q (Refused why) m) parted (unmap_stopped l m valid level (take n q) (get_or q n 0) out size why found)
+
+  module _ (g : ℕ) (found : IsFound l m (take n q) (Ok g)) where
+    pub page_refused : (why : Refusal) → Err why ≡ leaf_frame level (word (words l m) g (get_or q n 0)) → IsUnmapped l m q (Refused why) m
+    page_refused why is = subst (λ q. IsUnmapped l m q (Refused why) m) parted (unmap_refused l m valid level (take n q) (get_or q n 0) out size g found why is)
+
+    pub page_unmapped : Distinct l.places → 0 < l.levels → (frame : ℕ) → Ok frame ≡ leaf_frame level (word (words l m) g (get_or q n 0)) → (after : Memory) → IsSet l.places m g (get_or q n 0) 0 after → IsUnmapped l m q (Done frame) after
+    page_unmapped apart some_levels frame is after set =
+        subst (λ q. IsUnmapped l m q (Done frame) after) parted (unmapped l m valid level (take n q) (get_or q n 0) out size g found apart some_levels frame is after set)

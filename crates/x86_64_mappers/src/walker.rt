@@ -1,31 +1,28 @@
 //! Tables by their frames, and the ways down to them.
-ghost use Rattle.std.specs.Prelude.{◌≡◌, ◌<◌, ◌≤◌, ◌%◌, length, Some, IsSome};
+ghost use Rattle.std.specs.Prelude.{◌≡◌, ◌<◌, ◌≤◌, ◌%◌, ℕ, Some, IsSome};
+ghost use Rattle.std.specs.Borrow.{sem};
 ghost use Rattle.x86_64_addr.specs.Levels.{level_number};
-ghost use Rattle.std.specs.Prelude.{◌==◌};
-ghost use Rattle.x86_64_model.specs.Entry.{flags, no_address};
-ghost use Rattle.x86_64_tables.specs.PageTableFlags.{bits_of};
+ghost use Rattle.x86_64_model.specs.Entry.{flags};
 ghost use Rattle.x86_64_model.specs.Layout.{Valid, read_entry};
 ghost use Rattle.x86_64_model.specs.Memory.{words_of, word};
 ghost use Rattle.x86_64_model.specs.PageWalk.{page_start};
 ghost use Rattle.x86_64_model.specs.Position.{span};
 ghost use Rattle.x86_64_model.specs.Translation.{translate as translated, Mapped};
+ghost use Rattle.x86_64_mappers.specs.TableLending.{LendsTableIn, LendsEntry};
 ghost use Rattle.x86_64_mappers.specs.Layouts.{direct};
-ghost use Rattle.x86_64_mappers.specs.LeafFrames.{leaf_frame};
-ghost use Rattle.x86_64_mappers.specs.MapConditions.{flags_allowed, meets_none_absent};
-ghost use Rattle.x86_64_mappers.specs.Results.{unmap_result};
+ghost use Rattle.x86_64_mappers.specs.Writes.{IsThere, IsSet, IsCleared, word_in_frame, with_word};
 ghost use Rattle.x86_64_tables.specs.Translations.{translation_of, frame_start, frame_size};
 
-use bitflags::Flags;
+mod condition;
+mod unmap;
+
 use x86_64_addr::addr::VirtAddr;
 use x86_64_addr::index::{PageTableIndex, PageTableLevel};
 use x86_64_page::frame::PhysFrame;
-use x86_64_page::page::{AddressNotAligned, PageSize, Size4KiB};
-use x86_64_tables::mapper::{MappedFrame, TranslateResult, UnmapError};
-use x86_64_tables::page_table::{FrameError, PageTable, PageTableEntry, PageTableFlags};
+use x86_64_page::page::Size4KiB;
+use x86_64_tables::mapper::{MappedFrame, TranslateResult};
+use x86_64_tables::page_table::{FrameError, PageTable, PageTableEntry};
 use x86_64_tables::phys_memory::{PageTableFrameMapping, PhysMemory};
-
-/// The bits of an entry that name an address.
-const ADDRESS_MASK: u64 = 0x000f_ffff_ffff_f000;
 
 /// Finds the tables of a memory by a frame mapping.
 #[derive(Drop)]
@@ -102,122 +99,43 @@ impl<P: PageTableFrameMapping> Walker<P> {
     }
 }
 
-impl<P: PageTableFrameMapping> Walker<P> {
-    ghost use Rattle.std.specs.Prelude.{ℕ, [], ◌∷◌, ◌++◌, ◌+◌};
-    ghost use Rattle.x86_64_model.specs.Allowed.{map_allowed};
-    ghost use Rattle.x86_64_model.specs.Layout.{paths};
-    ghost use Rattle.x86_64_model.specs.MapperCalls.{IsUnmapped};
-    ghost use Rattle.x86_64_mappers.specs.MapConditions.{are_present};
-    ghost use Rattle.x86_64_mappers.specs.Results.{answer_of};
-    ghost use Rattle.x86_64_mappers.specs.Stops.{table_below, IsFound};
-    ghost use Rattle.x86_64_mappers.specs.Writes.{IsThere, IsSet};
+/// Lends the table in a frame, which has to be covered and in the memory, to be changed.
+fn table_mut<'m, P: PageTableFrameMapping>(
+    memory: &'m mut PhysMemory,
+    mapping: &P,
+    frame: PhysFrame<Size4KiB>,
+) -> &'m mut PageTable
+    requires { IsThere (P.places mapping.now) memory.old frame }
+    ensures* writes_back { sem 𝓛 (LendsTableIn (P.places mapping.now) memory.entry frame result) }
+    ensures value { words_of memory.old (P.places mapping.now) frame ≡ Some result.now }
+{
+    let place = mapping.frame_to_pointer(frame);
+    memory.table_mut(place).unwrap()
+}
 
-    /// Gives the frame of the table that the entry at an index of a table names.
-    ///
-    /// # Errors
-    ///
-    /// Without `PRESENT` it is `PageNotMapped`, else with `HUGE_PAGE` it is `ParentEntryHugePage`.
-    fn next_table(
-        &self,
-        memory: &PhysMemory,
-        frame: PhysFrame<Size4KiB>,
-        index: PageTableIndex,
-    ) -> Result<PhysFrame<Size4KiB>, UnmapError>
-        requires { IsSome (words_of memory.now (P.places self.now.mapping) frame) }
-        ensures { unmap_result result ≡ table_below (word (words_of memory.now (P.places self.now.mapping)) frame index) }
-    {
-        match self.entry(memory, frame, index).frame() {
-            Ok(table) => Ok(table),
-            Err(FrameError::FrameNotPresent) => Err(UnmapError::PageNotMapped),
-            Err(FrameError::HugeFrame) => Err(UnmapError::ParentEntryHugePage),
-        }
-    }
+/// Lends the entry at an index of the table in a frame, which has to be covered and in the memory, to be changed.
+fn entry_mut<'m, P: PageTableFrameMapping>(
+    memory: &'m mut PhysMemory,
+    mapping: &P,
+    frame: PhysFrame<Size4KiB>,
+    index: PageTableIndex,
+) -> &'m mut PageTableEntry
+    requires { IsThere (P.places mapping.now) memory.old frame }
+    ensures* writes_back { sem 𝓛 (LendsEntry (P.places mapping.now) memory.entry frame index result) }
+    ensures value { result.now ≡ word_in_frame (P.places mapping.now) memory.old frame index }
+    ensures set { let places = P.places mapping.now in
+        (word : ℕ) → IsSet places memory.old frame index word (with_word places memory.old frame index word) }
+    ensures index { index < 512 }
+{
+    &mut table_mut(memory, mapping, frame)[usize::from(index)]
+}
 
-    /// Gives the frame of the table below the parents of a page, by their indices from the root down.
-    ///
-    /// # Errors
-    ///
-    /// `PageNotMapped` where a parent lacks `PRESENT`, and `ParentEntryHugePage` where one before it has `HUGE_PAGE`.
-    fn find_table(
-        &self,
-        memory: &PhysMemory,
-        root: PhysFrame<Size4KiB>,
-        parents: &[PageTableIndex],
-    ) -> Result<PhysFrame<Size4KiB>, UnmapError>
-        requires valid { Valid (direct (P.places self.now.mapping) root) memory.now }
-        requires levels { length parents.now < 4 }
-        ensures { IsFound (direct (P.places self.now.mapping) root) memory.now parents.now (unmap_result result) }
-    {
-        let mut frame = root;
-        for index in parents {
-            frame = self.next_table(memory, frame, *index)?;
-        }
-        Ok(frame)
-    }
-
-    /// Tells whether the parents of a page have `PRESENT`, down to and with the first that also has `HUGE_PAGE`.
-    fn are_present(
-        &self,
-        memory: &PhysMemory,
-        root: PhysFrame<Size4KiB>,
-        parents: &[PageTableIndex],
-    ) -> bool
-        requires valid { Valid (direct (P.places self.now.mapping) root) memory.now }
-        requires levels { length parents.now < 4 }
-        ensures { (last : ℕ) → result ≡ are_present (paths (direct (P.places self.now.mapping) root) memory.now) (parents.now ++ last ∷ []) }
-    {
-        meets_none_absent(self.find_table(memory, root, parents))
-    }
-
-    /// Tells whether the page whose parents have these indices may be mapped with these flags and parent flags.
-    pub fn path_allowed<S: PageSize>(
-        &self,
-        memory: &PhysMemory,
-        root: PhysFrame<Size4KiB>,
-        parents: &[PageTableIndex],
-        flags: PageTableFlags,
-        parent_flags: PageTableFlags,
-    ) -> bool
-        requires valid { Valid (direct (P.places self.now.mapping) root) memory.now }
-        requires size { length parents.now + S.LEVEL ≡ 4 }
-        ensures { let layout = direct (P.places self.now.mapping) root in
-            (last : ℕ) → result ≡ map_allowed 4 layout.window (paths layout memory.now) (parents.now ++ last ∷ []) (bits_of flags) (bits_of parent_flags) }
-    {
-        flags_allowed::<S>(flags, parent_flags)
-            && (parent_flags.contains(PageTableFlags::PRESENT)
-                || self.are_present(memory, root, parents))
-    }
-
-    /// Makes the entry at an index of the table in a frame unused. The frame has to be covered and in the memory.
-    fn set_unused(&self, memory: &mut PhysMemory, frame: PhysFrame<Size4KiB>, index: PageTableIndex)
-        requires { IsThere (P.places self.now.mapping) memory.old frame }
-        ensures { IsSet (P.places self.now.mapping) memory.old frame index 0 memory.new }
-    {
-        let place = self.mapping.frame_to_pointer(frame);
-        memory.table_mut(place).unwrap()[index].set_unused();
-    }
-
-    /// Unmaps the page whose parents have these indices, and whose own entry has the last one.
-    ///
-    /// # Errors
-    ///
-    /// Those of [`find_table`](Self::find_table), and else those of [`leaf_frame`].
-    pub fn unmap_path<S: PageSize>(
-        &self,
-        memory: &mut PhysMemory,
-        root: PhysFrame<Size4KiB>,
-        parents: &[PageTableIndex],
-        last: PageTableIndex,
-    ) -> Result<PhysFrame<S>, UnmapError>
-        requires valid { Valid (direct (P.places self.now.mapping) root) memory.old }
-        requires size { length parents.now + S.LEVEL ≡ 4 }
-        ensures { IsUnmapped (direct (P.places self.now.mapping) root) memory.old (parents.now ++ last ∷ []) (answer_of (unmap_result result)) memory.new }
-    {
-        let table = self.find_table(memory, root, parents)?;
-        let frame = leaf_frame(self.entry(memory, table, last))?;
-        self.set_unused(memory, table, last);
-        Ok(frame)
-    }
+/// Makes the entries unused of the table in a frame, which has to be covered and in the memory.
+fn clear<P: PageTableFrameMapping>(memory: &mut PhysMemory, mapping: &P, frame: PhysFrame<Size4KiB>)
+    requires { IsThere (P.places mapping.now) memory.old frame }
+    ensures { IsCleared (P.places mapping.now) memory.old frame memory.new }
+{
+    table_mut(memory, mapping, frame).zero();
 }
 
 /// Gives the translation of an address by the entry of a level that maps its page.
@@ -247,53 +165,4 @@ fn mapped_frame(level: PageTableLevel, entry: &PageTableEntry) -> MappedFrame
         PageTableLevel::Three => MappedFrame::Size1GiB(PhysFrame::containing_address(address)),
         PageTableLevel::Four => unreachable!(),
     }
-}
-
-/// Gives the frame that the entry of a page of a size names.
-///
-/// # Errors
-///
-/// Without `PRESENT` it is `PageNotMapped`; with `HUGE_PAGE` for 4KiB, or without it for 2MiB and 1GiB, it is
-/// `ParentEntryHugePage`; where the address isn't a multiple of the size it is `InvalidFrameAddress`.
-fn leaf_frame<S: PageSize>(entry: &PageTableEntry) -> Result<PhysFrame<S>, UnmapError>
-    ensures { unmap_result result ≡ leaf_frame S.LEVEL entry.now }
-{
-    let flags = entry.flags();
-    if !flags.contains(PageTableFlags::PRESENT) {
-        return Err(UnmapError::PageNotMapped);
-    }
-    if flags.contains(PageTableFlags::HUGE_PAGE) != (S::LEVEL > 1) {
-        return Err(UnmapError::ParentEntryHugePage);
-    }
-    let address = entry.addr();
-    match PhysFrame::from_start_address(address) {
-        Ok(frame) => Ok(frame),
-        Err(AddressNotAligned) => Err(UnmapError::InvalidFrameAddress(address)),
-    }
-}
-
-/// Tells whether a way down the parents of a page met none that lacks `PRESENT`.
-fn meets_none_absent(found: Result<PhysFrame<Size4KiB>, UnmapError>) -> bool
-    ensures { result ≡ meets_none_absent (unmap_result found) }
-{
-    !matches!(found, Err(UnmapError::PageNotMapped))
-}
-
-/// Tells whether a page of a size may be mapped with these flags and parent flags, wherever it is: neither has address
-/// bits, and `HUGE_PAGE` is not in the parent flags, nor in the flags of a 4KiB page.
-fn flags_allowed<S: PageSize>(flags: PageTableFlags, parent_flags: PageTableFlags) -> bool
-    ensures { result ≡ flags_allowed (S.LEVEL == 1) (bits_of flags) (bits_of parent_flags) }
-{
-    has_no_address(flags)
-        & has_no_address(parent_flags)
-        & !parent_flags.contains(PageTableFlags::HUGE_PAGE)
-        & ((S::LEVEL != 1) | !flags.contains(PageTableFlags::HUGE_PAGE))
-}
-
-/// Tells whether flags have no address bits.
-#[tactic(auto, unfolding(x86_64_model::specs::Entry::address))]
-fn has_no_address(flags: PageTableFlags) -> bool
-    ensures { result ≡ no_address (bits_of flags) }
-{
-    flags.bits() & ADDRESS_MASK == 0
 }

@@ -1,6 +1,6 @@
 use Rattle.std.proofs.Common.{◌==◌, ◌&&◌, ◌||◌, not}
 use Rattle.x86_64_model.specs.Entry.{has}
-use Rattle.x86_64_mappers.proofs.walker.flags_allowed.Goals as goal
+use Rattle.x86_64_mappers.proofs.walker.condition.flags_allowed.Goals as goal
 
 pub returns : goal.returns
 unfolding has
