@@ -2,8 +2,8 @@
 use Rattle.std.specs.Prelude.{Result, Ok, Err}
 use Rattle.x86_64_model.specs.Refusal.{Refusal}
 use Rattle.x86_64_model.specs.Refusal as refusal
-use Rattle.x86_64_mappers.specs.declared.walker.maps.PageTableCreateError.{PageTableCreateError}
-use Rattle.x86_64_mappers.specs.declared.walker.maps.PageTableCreateError.TheVariants.{MappedToHugePage, FrameAllocationFailed}
+use Rattle.x86_64_mappers.specs.declared.walker.map.PageTableCreateError.{PageTableCreateError}
+use Rattle.x86_64_mappers.specs.declared.walker.map.PageTableCreateError.TheVariants.{MappedToHugePage, FrameAllocationFailed}
 
 abbrev pub create_refusal : PageTableCreateError → Refusal
 create_refusal MappedToHugePage = refusal.ParentEntryHugePage

@@ -13,7 +13,9 @@ ghost use Rattle.x86_64_mappers.specs.TableLending.{LendsTableIn, LendsEntry};
 ghost use Rattle.x86_64_mappers.specs.Writes.{IsThere, IsSet, IsCleared, word_in_frame, with_word};
 ghost use Rattle.x86_64_tables.specs.Translations.{translation_of, frame_start, frame_size};
 
-mod maps;
+mod condition;
+mod map;
+mod unmap;
 
 use x86_64_addr::addr::VirtAddr;
 use x86_64_addr::index::{PageTableIndex, PageTableLevel};
