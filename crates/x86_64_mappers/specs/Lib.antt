@@ -1,5 +1,4 @@
 pub mod Changed
-pub mod CreateResults
 pub mod Down
 pub mod EntryChanges
 pub mod Finds
@@ -12,6 +11,7 @@ pub mod MapSteps
 pub mod Marked
 pub mod NewTables
 pub mod Outside
+pub mod PageMaps
 pub mod Pages
 pub mod Results
 pub mod Seen

@@ -7,7 +7,7 @@ ghost use Rattle.x86_64_model.specs.Lists.{In};
 ghost use Rattle.x86_64_model.specs.MapperCalls.{IsReady, IsMapped};
 ghost use Rattle.x86_64_mappers.specs.Layouts.{direct};
 ghost use Rattle.x86_64_mappers.specs.MapSteps.{IsDown};
-ghost use Rattle.x86_64_mappers.specs.CreateResults.{create_refusal, create_result};
+ghost use Rattle.x86_64_mappers.specs.Results.{create_refusal, create_result};
 ghost use Rattle.x86_64_mappers.specs.Writes.{IsThere, IsMade, IsLeafSet};
 ghost use Rattle.x86_64_tables.specs.MapperAnswers.{map_answer};
 ghost use Rattle.x86_64_tables.specs.PageTableFlags.{bits_of};
@@ -144,5 +144,31 @@ impl<P: PageTableFrameMapping> Walker<P> {
         };
         entry.set_addr(frame.start_address(), flags);
         Ok(())
+    }
+
+    /// Maps the page with a path to a frame. The path has an index for each level from four down to that of the page's entry.
+    ///
+    /// # Errors
+    ///
+    /// Those of [`create_tables`](Self::create_tables), and else those of [`set_leaf`](Self::set_leaf).
+    pub fn map_path<S: PageSize, A: FrameAllocator<Size4KiB>>(
+        &self,
+        memory: &mut PhysMemory,
+        root: PhysFrame<Size4KiB>,
+        path: &[PageTableIndex],
+        frame: PhysFrame<S>,
+        flags: PageTableFlags,
+        parent_flags: PageTableFlags,
+        frame_allocator: &mut A,
+    ) -> Result<(), MapToError<S>>
+        requires ready { IsReady (direct (P.places self.now.mapping) root) memory.old (A.supply frame_allocator.old) }
+        requires levels { length path.now + S.LEVEL ≡ 5 }
+        requires flags { IsParentFlags (bits_of parent_flags) }
+        ensures mapped { IsMapped (direct (P.places self.now.mapping) root) memory.old (A.supply frame_allocator.old) path.now frame (bits_of flags) (bits_of parent_flags) (map_answer frame result) memory.new (A.supply frame_allocator.new) }
+        ensures serves { A.serves frame_allocator.new ≡ A.serves frame_allocator.old }
+    {
+        let last = path.len() - 1;
+        let table = self.create_tables(memory, root, &path[..last], parent_flags, frame_allocator)?;
+        self.set_leaf(memory, table, path[last], frame, flags)
     }
 }

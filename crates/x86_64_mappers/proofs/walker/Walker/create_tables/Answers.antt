@@ -3,7 +3,7 @@ use Rattle.std.proofs.lemmas.List.{get_or_read}
 use Rattle.std.proofs.lemmas.Result.{err_from_is_err_and}
 use Rattle.x86_64_mappers.specs.Down.{turn, stop}
 use Rattle.x86_64_mappers.specs.Layouts.{direct, no_flags}
-use Rattle.x86_64_mappers.specs.CreateResults.{create_refusal}
+use Rattle.x86_64_mappers.specs.Results.{create_refusal}
 use Rattle.x86_64_mappers.proofs.EntryWrites.{parents_not_huge}
 use Rattle.x86_64_mappers.proofs.walker.Walker.create_tables.Goals as goal
 
