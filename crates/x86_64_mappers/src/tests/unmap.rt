@@ -89,12 +89,7 @@ fn pages_are_unmapped_once(rt: HostRuntime) -> Result<(), Fail> {
     assert_eq!(rt; first, Ok(small(0x5000)));
     let second = unmap::<Size4KiB>(&mut memory, root, page(0x1000));
     assert_eq!(rt; second, Err(UnmapError::PageNotMapped));
-    let left = [
-        (1, 0, 0x2003),
-        (2, 0, 0x3003),
-        (3, 0, 0x4003),
-        (4, 1, 0),
-    ];
+    let left = [(1, 0, 0x2003), (2, 0, 0x3003), (3, 0, 0x4003), (4, 1, 0)];
     for (place, index, word) in left {
         let table = memory.table(FramePlace::new(place)).ok_or("a place")?;
         assert_eq!(rt; word_of(&table[index]), word);
