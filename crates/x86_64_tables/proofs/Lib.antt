@@ -4,3 +4,4 @@ pub mod WalkSteps
 pub mod PlacesInOrder
 pub mod WordsSeen
 pub mod Translations
+pub mod Pools

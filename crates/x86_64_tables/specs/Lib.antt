@@ -7,6 +7,7 @@ pub mod Walks
 pub mod Images
 pub mod Translations
 pub mod MapperAnswers
+pub mod FramePool
 pub use Rattle.x86_64_model.specs.Entry
 pub use Rattle.x86_64_model.specs.Memory
 pub use Rattle.x86_64_model.specs.Hierarchy
