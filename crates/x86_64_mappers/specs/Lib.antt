@@ -1,4 +1,15 @@
+pub mod Changed
+pub mod Finds
+pub mod Goes
 pub mod Layouts
 pub mod Lending
+pub mod Outside
+pub mod Pages
+pub mod Results
+pub mod Seen
+pub mod Stops
+pub mod Stored
+pub mod Writes
+pub mod Written
 pub use Rattle.x86_64_model.specs.Layout
 pub use Rattle.x86_64_model.specs.Memory

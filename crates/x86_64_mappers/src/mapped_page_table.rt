@@ -92,11 +92,15 @@ impl<'a, P: PageTableFrameMapping> MappedPageTable<'a, P> {
 }
 
 impl<'a, P: PageTableFrameMapping> PageTables for MappedPageTable<'a, P> {
+    ghost use Rattle.x86_64_mappers.specs.Layouts.{no_flags};
+
     ghost memory = { λ mapper. mapper.memory.now };
 
     ghost layout = { λ mapper. direct (P.places mapper.walker.mapping) mapper.root };
 
     ghost lent = { λ mapper. mapper.memory.ghost_name };
+
+    ghost added_flags = { λ _. no_flags };
 
     fn recursive_index(&self) -> Option<PageTableIndex> {
         None

@@ -1,5 +1,5 @@
 //! Tables by their frames, and the ways down to them.
-ghost use Rattle.std.specs.Prelude.{◌≡◌, ◌≤◌, ◌%◌, Some, IsSome};
+ghost use Rattle.std.specs.Prelude.{◌≡◌, ◌<◌, ◌≤◌, ◌%◌, length, Some, IsSome};
 ghost use Rattle.x86_64_addr.specs.Levels.{level_number};
 ghost use Rattle.x86_64_model.specs.Entry.{flags};
 ghost use Rattle.x86_64_model.specs.Layout.{Valid, read_entry};
@@ -14,7 +14,7 @@ use x86_64_addr::addr::VirtAddr;
 use x86_64_addr::index::{PageTableIndex, PageTableLevel};
 use x86_64_page::frame::PhysFrame;
 use x86_64_page::page::Size4KiB;
-use x86_64_tables::mapper::{MappedFrame, TranslateResult};
+use x86_64_tables::mapper::{MappedFrame, TranslateResult, UnmapError};
 use x86_64_tables::page_table::{FrameError, PageTable, PageTableEntry};
 use x86_64_tables::phys_memory::{PageTableFrameMapping, PhysMemory};
 
@@ -90,6 +90,54 @@ impl<P: PageTableFrameMapping> Walker<P> {
         } else {
             translation(PageTableLevel::One, entry, addr)
         }
+    }
+}
+
+impl<P: PageTableFrameMapping> Walker<P> {
+    ghost use Rattle.x86_64_mappers.specs.Results.{unmap_result};
+    ghost use Rattle.x86_64_mappers.specs.Stops.{table_below, IsFound};
+
+    /// Gives the frame of the table that the entry at an index of a table names.
+    ///
+    /// # Errors
+    ///
+    /// Without `PRESENT` it is `PageNotMapped`, else with `HUGE_PAGE` it is `ParentEntryHugePage`.
+    fn next_table(
+        &self,
+        memory: &PhysMemory,
+        frame: PhysFrame<Size4KiB>,
+        index: PageTableIndex,
+    ) -> Result<PhysFrame<Size4KiB>, UnmapError>
+        requires { IsSome (words_of memory.now (P.places self.now.mapping) frame) }
+        ensures { unmap_result result ≡ table_below (word (words_of memory.now (P.places self.now.mapping)) frame index) }
+    {
+        match self.entry(memory, frame, index).frame() {
+            Ok(table) => Ok(table),
+            Err(FrameError::FrameNotPresent) => Err(UnmapError::PageNotMapped),
+            Err(FrameError::HugeFrame) => Err(UnmapError::ParentEntryHugePage),
+        }
+    }
+
+    /// Gives the frame of the table below the parents of a page, by their indices from the root down.
+    ///
+    /// # Errors
+    ///
+    /// `PageNotMapped` where a parent lacks `PRESENT`, and `ParentEntryHugePage` where one before it has `HUGE_PAGE`.
+    fn find_table(
+        &self,
+        memory: &PhysMemory,
+        root: PhysFrame<Size4KiB>,
+        parents: &[PageTableIndex],
+    ) -> Result<PhysFrame<Size4KiB>, UnmapError>
+        requires valid { Valid (direct (P.places self.now.mapping) root) memory.now }
+        requires levels { length parents.now < 4 }
+        ensures { IsFound (direct (P.places self.now.mapping) root) memory.now parents.now (unmap_result result) }
+    {
+        let mut frame = root;
+        for index in parents {
+            frame = self.next_table(memory, frame, *index)?;
+        }
+        Ok(frame)
     }
 }
 
