@@ -3,4 +3,5 @@ pub mod PageTableEntries
 pub mod WalkSteps
 pub mod PlacesInOrder
 pub mod WordsSeen
+pub mod ImageMarks
 pub mod Translations
