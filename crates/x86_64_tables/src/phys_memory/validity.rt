@@ -49,12 +49,11 @@ pub fn is_valid_hierarchy<P: PageTableFrameMapping>(
     image.is_sound(alloc, 3, None)
 }
 
-/// Tells whether the words below the root are a valid hierarchy of four levels, as `is_valid_hierarchy` does, and a pool
-/// fits it.
+/// Tells whether the words below the root are a valid hierarchy of four levels, and a pool fits it.
 ///
-/// A pool fits a hierarchy when its frames are distinct, covered, in the memory, and none is frame 0, the root or a
-/// table, and the pool serves every table frame: but for the root's, it has a number below the pool's limit. The test
-/// ends for any words and any pool, and takes memory for a mark for each place alone.
+/// The hierarchies are those of `is_valid_hierarchy`. A pool fits one when its frames are distinct, covered, in the
+/// memory, and none is frame 0, the root or a table, and the pool serves every table frame but the root: its number is
+/// below the pool's limit. The test ends for any words and any pool, and takes memory for a mark for each place alone.
 ///
 /// # Errors
 ///
