@@ -1,0 +1,16 @@
+-- A pool of frames: those that are free, in the order in which they are handed out, and the limit of their numbers.
+use Rattle.std.specs.Prelude.{◌≡◌, ◌↔◌, ℕ, ◌*◌, ◌%◌, ◌<◌, Bool, true, false, List, length, slice_index_or}
+use Rattle.x86_64_model.specs.Lists.{In, EachOnce}
+use Rattle.x86_64_model.specs.Marks.{serves_below}
+
+-- the free frames, each with a number from 1 to limit - 1
+pub record FreeFrames : Type 0 where
+  pub frames : List ℕ
+  pub limit : ℕ
+  pub served : (f : ℕ) → In frames f → serves_below limit f ≡ true
+
+-- Frames, each once, with a mark for each number below the limit, set where the frame of this number is among them.
+pub record IsMarked (frames : List ℕ) (marks : List Bool) : Type 0 where
+  pub aligned : (f : ℕ) → In frames f → f % 4096 ≡ 0
+  pub each_once : EachOnce frames
+  pub marked : (n : ℕ) → n < length marks → (slice_index_or marks n false ≡ true) ↔ In frames (n * 4096)

@@ -1,0 +1,200 @@
+//! A pool of free frames.
+ghost use Rattle.std.specs.Prelude.{◌≡◌, ◌≢◌, ◌↔◌, ℕ, ◌/◌, ◌≤◌, [], ◌∷◌, ◌++◌, true, length, slice_get, vec_len, IfOk, OnOk, OnErr, IsTrue};
+ghost use Rattle.x86_64_model.specs.Lists.{In};
+ghost use Rattle.x86_64_model.specs.Marks.{serves_below};
+
+use super::{FrameAllocator, FrameDeallocator, FrameKeeper, FrameStore};
+use std::alloc::{AllocError, Global};
+use std::collections::VecDeque;
+use std::marker::Model;
+use x86_64_page::frame::PhysFrame;
+use x86_64_page::page::{PageSize, Size4KiB};
+
+/// Says why a frame can't be added to a pool.
+#[derive(Clone, Copy, Debug, PartialEq)]
+pub enum PoolRefusal {
+    /// The frame starts at address 0.
+    Zero,
+    /// The frame's number isn't below the pool's limit.
+    OutOfRange,
+    /// The frame is in the pool.
+    AlreadyFree,
+}
+
+/// Holds free 4KiB frames, seen as a list, with numbers from 1 to a limit - 1. The limit never changes.
+///
+/// Frames are handed out from the front of the list, and come back to the front. Each call takes constant time, and none
+/// but `new` takes memory.
+#[derive(Drop)]
+pub struct FramePool {
+    frames: VecDeque<PhysFrame<Size4KiB>>,
+    // Whether the frame of each number below the limit is among the frames.
+    is_free: Vec<bool>,
+    ghost served: { (f : ℕ) → In frames.items f → serves_below (vec_len is_free) f ≡ true },
+}
+
+impl Model for FramePool {
+    ghost use Rattle.std.specs.Prelude.{◌≤◌, vec_len};
+    ghost use Rattle.std.specs.VecDeque.{deque_capacity};
+    ghost use Rattle.x86_64_tables.specs.FramePool.{FreeFrames, IsMarked};
+
+    ghost Value = { FreeFrames };
+
+    ghost view = { λ pool. record { frames = pool.frames.items; limit = vec_len pool.is_free; served = pool.served } };
+
+    ghost invariant = { λ pool. IsMarked pool.frames.items pool.is_free.items × (vec_len pool.is_free ≤ deque_capacity pool.frames) };
+}
+
+impl FramePool {
+    /// Makes a pool without frames, and reserves a place for each frame with a number from 1 to `limit` - 1.
+    ///
+    /// # Errors
+    ///
+    /// `AllocError` where memory is refused.
+    pub fn new(alloc: Global, limit: u64) -> Result<FramePool, AllocError>
+        ensures empty { IfOk result (λ pool. pool.frames ≡ []) }
+        ensures limit { IfOk result (λ pool. pool.limit ≡ limit) }
+    {
+        let places = limit as usize;
+        Ok(FramePool {
+            frames: VecDeque::with_capacity(alloc, places)?,
+            is_free: vec![in alloc; false; places]?,
+        })
+    }
+
+    /// Adds a frame at the back of the list.
+    ///
+    /// # Errors
+    ///
+    /// `Zero` for the frame at address 0, else `OutOfRange` where the frame's number isn't below the limit, else
+    /// `AlreadyFree` where the frame is in the pool. A refusal changes nothing.
+    pub fn try_add(&mut self, frame: PhysFrame<Size4KiB>) -> Result<(), PoolRefusal>
+        ensures zero { (result ≡ Err PoolRefusal.Zero) ↔ (frame ≡ 0) }
+        ensures out_of_range { (result ≡ Err PoolRefusal.OutOfRange) ↔ ((frame ≢ 0) × (self.old.limit ≤ frame / 4096)) }
+        ensures already_free { (result ≡ Err PoolRefusal.AlreadyFree) ↔ In self.old.frames frame }
+        ensures added { OnOk result (self.new.frames ≡ self.old.frames ++ frame ∷ []) }
+        ensures refused { OnErr result (self.new.frames ≡ self.old.frames) }
+        ensures limit { self.new.limit ≡ self.old.limit }
+    {
+        let number = number_of(frame);
+        if number == 0 {
+            return Err(PoolRefusal::Zero);
+        }
+        if self.limit() <= number {
+            return Err(PoolRefusal::OutOfRange);
+        }
+        if self.is_free[number as usize] {
+            return Err(PoolRefusal::AlreadyFree);
+        }
+        self.is_free[number as usize] = true;
+        self.frames.push_back(frame).unwrap();
+        Ok(())
+    }
+
+    /// Gives the number of free frames.
+    pub fn len(&self) -> usize
+        ensures { result ≡ length self.now.frames }
+    {
+        self.frames.len()
+    }
+
+    /// Tells whether a frame is free.
+    pub fn contains(&self, frame: PhysFrame<Size4KiB>) -> bool
+        ensures { IsTrue result ↔ In self.now.frames frame }
+    {
+        let number = number_of(frame);
+        number < self.limit() && self.is_free[number as usize]
+    }
+
+    /// Gives the `n`-th frame of the list, counted from 0, or `None` where the list isn't longer than `n`.
+    pub fn frame_at(&self, n: usize) -> Option<PhysFrame<Size4KiB>>
+        ensures { result ≡ slice_get self.now.frames n }
+    {
+        self.frames.get(n).copied()
+    }
+
+    /// Gives the limit: the frames that may be in the pool have numbers from 1 to the limit - 1.
+    pub(crate) fn limit(&self) -> u64
+        ensures { result ≡ self.now.limit }
+    {
+        self.is_free.len() as u64
+    }
+}
+
+/// Compares the lists alone: the same frames in the same order.
+impl PartialEq for FramePool {
+    ghost use Rattle.std.specs.Prelude.{◌==◌};
+    ghost use Rattle.std.specs.Cmp.Lexicographic.{pointwise};
+    ghost use Rattle.std.specs.Ordering.{on};
+    ghost use Rattle.std.specs.Cmp.Rules.{comparing};
+    ghost use Rattle.std.proofs.Common.{rules};
+
+    ghost eq = { on (λ pool. pool.frames) (pointwise ◌==◌) };
+
+    ghost laws = { Prim.search (comparing, rules) };
+
+    fn eq(&self, other: &FramePool) -> bool {
+        self.frames == other.frames
+    }
+}
+
+impl Eq for FramePool {
+    ghost use Rattle.std.specs.Cmp.Rules.{comparing};
+    ghost use Rattle.std.proofs.Common.{rules};
+
+    ghost laws = { Prim.search (comparing, rules) };
+}
+
+impl FrameKeeper<Size4KiB> for FramePool {
+    ghost use Rattle.x86_64_model.specs.Marks.{serves_below};
+
+    ghost serves = { λ pool. serves_below pool.limit };
+}
+
+impl FrameAllocator<Size4KiB> for FramePool {
+    ghost supply = { λ pool. pool.frames };
+
+    fn allocate_frame(&mut self) -> Option<PhysFrame<Size4KiB>> {
+        let frame = self.frames.pop_front()?;
+        self.is_free[number_of(frame) as usize] = false;
+        Some(frame)
+    }
+
+    ghost supply_is_served = { λ pool. pool.served };
+}
+
+impl FrameDeallocator<Size4KiB> for FramePool {
+    ghost use Rattle.std.specs.Prelude.{◌∷◌};
+    ghost use Rattle.std.proofs.lemmas.List.Sorted.{IsPermutation-refl};
+
+    ghost held = { λ pool. pool.frames };
+
+    ghost put = { λ held frame. frame ∷ held };
+
+    fn deallocate_frame(&mut self, frame: PhysFrame<Size4KiB>)
+        requires served { serves_below self.old.limit frame ≡ true }
+        requires not_held { In self.old.frames frame → ⊥ }
+        ensures held { self.new.frames ≡ frame ∷ self.old.frames }
+        ensures serves { serves_below self.new.limit ≡ serves_below self.old.limit }
+    {
+        self.is_free[number_of(frame) as usize] = true;
+        self.frames.push_front(frame).unwrap();
+    }
+
+    ghost held_is_served = { λ pool. pool.served };
+
+    ghost put_rearranges = { λ held frame. IsPermutation-refl (frame ∷ held) };
+}
+
+impl FrameStore for FramePool {
+    ghost use Rattle.std.specs.Prelude.{refl};
+
+    ghost one_list = { λ pool. refl };
+}
+
+/// Gives the number of a frame.
+fn number_of(frame: PhysFrame<Size4KiB>) -> u64
+    ensures { result ≡ frame / 4096 }
+{
+    frame.start_address().as_u64() / Size4KiB::SIZE
+}
