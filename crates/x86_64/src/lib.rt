@@ -4,10 +4,15 @@
 //! The names and paths are those of the Rust crate `x86_64`. What is lent to a mapper here is a [`PhysMemory`].
 #![tactic(auto)]
 
+mod calls;
+mod runs;
 pub mod structures;
 
+pub use calls::{Call, Reply, SizeCall, SizeReply};
+pub use runs::run;
 pub use x86_64_addr::addr;
 pub use x86_64_addr::addr::{PhysAddr, VirtAddr};
+pub use x86_64_tables::frame_alloc::{FrameKeeper, FramePool, FrameStore, PoolRefusal};
 pub use x86_64_tables::phys_memory::{
-    FramePlace, IdentityMapping, PhysMemory, Walked, is_valid_hierarchy, page_walk,
+    FramePlace, IdentityMapping, PhysMemory, Walked, is_valid_hierarchy, page_walk, pool_fits,
 };

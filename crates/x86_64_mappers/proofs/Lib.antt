@@ -1,4 +1,8 @@
+pub mod EntryWrites
+pub mod Flags
+pub mod LeafFrames
 pub mod Levels
+pub mod Paths
 pub mod RootTables
 pub mod Sought
 pub mod Translations

@@ -2,6 +2,7 @@
 #![tactic(auto)]
 
 pub mod mapped_page_table;
+mod path;
 #[cfg(test)]
 mod tests;
 mod walker;

@@ -1,13 +1,19 @@
 -- What a test of a hierarchy sees of the memory.
-use Rattle.std.specs.Prelude.{ℕ, Option, Some, None, cond}
+use Rattle.std.specs.Prelude.{ℕ, List, [], Option, Some, None, cond}
 use Rattle.x86_64_model.specs.Entry.{address, names_table}
 use Rattle.x86_64_model.specs.Memory.{Memory, Places, Words, words_of}
 use Rattle.x86_64_model.specs.Tables.{without_word}
 use Rattle.x86_64_model.specs.Marks.{serves_below, spot_of, slot_in}
+use Rattle.x86_64_tables.specs.FramePool.{FreeFrames}
 
 -- the words of a memory, with the root's word at the recursive index read as 0
 abbrev pub seen : Memory → Places → (root : ℕ) → (recursive : Option ℕ) → Words
 seen memory places root recursive = without_word recursive root (words_of memory places)
+
+-- the frames of a pool, none where there is no pool
+abbrev pub free_in : Option FreeFrames → List ℕ
+free_in None = []
+free_in (Some pool) = pool.frames
 
 -- where the mark of a frame stands: of the root, and of a frame with a number from 1 to limit - 1
 abbrev pub mark_slot : Memory → Places → (root limit : ℕ) → (frame : ℕ) → Option ℕ

@@ -11,6 +11,8 @@ pub mod FramePool
 pub use Rattle.x86_64_model.specs.Entry
 pub use Rattle.x86_64_model.specs.Memory
 pub use Rattle.x86_64_model.specs.Hierarchy
+pub use Rattle.x86_64_model.specs.Pool
+pub use Rattle.x86_64_model.specs.Marks
 pub use Rattle.x86_64_model.specs.PageWalk
 pub use Rattle.x86_64_model.specs.Layout
 pub use Rattle.x86_64_model.specs.Translation

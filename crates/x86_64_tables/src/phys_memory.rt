@@ -17,7 +17,7 @@ mod walk;
 use crate::page_table::PageTable;
 use std::alloc::{AllocError, Global};
 use std::marker::Model;
-pub use validity::is_valid_hierarchy;
+pub use validity::{is_valid_hierarchy, pool_fits};
 pub use walk::{Walked, page_walk};
 use x86_64_page::frame::PhysFrame;
 use x86_64_page::page::{PageSize, Size4KiB};

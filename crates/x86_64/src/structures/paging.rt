@@ -2,8 +2,9 @@
 pub mod mapper;
 pub mod page_table;
 
-pub use mapper::{MappedPageTable, Translate};
+pub use mapper::{MappedPageTable, Mapper, Translate};
 pub use page_table::{PageOffset, PageTable, PageTableFlags, PageTableIndex};
 pub use x86_64_page::frame::PhysFrame;
-pub use x86_64_page::page::{PageSize, Size1GiB, Size2MiB, Size4KiB};
+pub use x86_64_page::page::{Page, PageSize, Size1GiB, Size2MiB, Size4KiB};
 pub use x86_64_page::{frame, page};
+pub use x86_64_tables::frame_alloc::{FrameAllocator, FrameDeallocator};

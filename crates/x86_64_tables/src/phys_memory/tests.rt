@@ -1,5 +1,8 @@
-//! Tests of walks and of hierarchies, over memories that are given as words.
-use super::{FramePlace, IdentityMapping, PhysMemory, Walked, is_valid_hierarchy, page_walk};
+//! Tests of walks, of hierarchies and of pools that fit them, over memories that are given as words.
+use super::{
+    FramePlace, IdentityMapping, PhysMemory, Walked, is_valid_hierarchy, page_walk, pool_fits,
+};
+use crate::frame_alloc::FramePool;
 use crate::page_table::PageTableFlags;
 use bitflags::Flags;
 use std::alloc::Global;
@@ -44,6 +47,21 @@ fn memory_of_ones(alloc: Global, words: &[(u64, u16, u64)]) -> Result<PhysMemory
         set_word(&mut memory, 0x2000, index, u64::MAX)?;
     }
     Ok(memory)
+}
+
+/// Makes a pool of a limit with frames, each given by its start address.
+fn pool_with(alloc: Global, limit: u64, frames: &[u64]) -> Result<FramePool, Fail> {
+    let mut pool = FramePool::new(alloc, limit)?;
+    for frame in frames {
+        pool.try_add(frame_at(*frame)).ok().ok_or("a free frame")?;
+    }
+    Ok(pool)
+}
+
+/// Tells whether a pool fits the hierarchy below the root in frame 0x1000.
+fn fits(alloc: Global, memory: &PhysMemory, limit: u64, frames: &[u64]) -> Result<bool, Fail> {
+    let pool = pool_with(alloc, limit, frames)?;
+    Ok(pool_fits(alloc, memory, &IdentityMapping, frame_at(0x1000), &pool)?)
 }
 
 /// Walks from the root in frame 0x1000.
@@ -169,5 +187,52 @@ fn hierarchies_are_valid(rt: HostRuntime) -> Result<(), Fail> {
     assert!(rt; is_valid_hierarchy(rt.alloc(), &memory, &IdentityMapping, root)?);
     let small = PhysMemory::new(rt.alloc(), 1)?;
     assert!(rt; !is_valid_hierarchy(rt.alloc(), &small, &IdentityMapping, root)?);
+    Ok(())
+}
+
+#[test]
+fn pools_fit(rt: HostRuntime) -> Result<(), Fail> {
+    let mapped = [
+        (0x1000, 0, 0x2003),
+        (0x2000, 0, 0x3003),
+        (0x3000, 0, 0x4002),
+        (0x3000, 1, 0x5083),
+        (0x4000, 0, 0x6003),
+    ];
+    let rows: [(&[(u64, u16, u64)], u64, &[u64], bool); 18] = [
+        (&[], 8, &[0x2000, 0x3000, 0x4000], true),
+        (&[], 8, &[], true),
+        (&[], 8, &[0x7000], true),
+        (&[], 9, &[0x7000, 0x8000], false),
+        (&[], 8, &[0x1000], false),
+        (&[], 8, &[0x2000, 0x1000], false),
+        (&mapped, 8, &[0x7000, 0x6000, 0x5000], true),
+        (&mapped, 8, &[0x2000, 0x7000], false),
+        (&mapped, 8, &[0x7000, 0x3000, 0x6000], false),
+        (&mapped, 8, &[0x7000, 0x4000], false),
+        (&mapped, 5, &[], true),
+        (&mapped, 4, &[], false),
+        (&mapped, 1, &[], false),
+        (&[], 0, &[], true),
+        (&[(0x1000, 0, 0x1003)], 8, &[0x2000], false),
+        (&[(0x1000, 0, 0x80)], 8, &[0x2000], false),
+        (&[(0x1000, 0, 0x8003)], 16, &[0x2000], false),
+        (
+            &[(0x1000, 0, 0x2003), (0x1000, 1, 0x2002)],
+            8,
+            &[0x3000],
+            false,
+        ),
+    ];
+    for (words, limit, frames, expected) in rows {
+        let memory = memory_with(rt.alloc(), words)?;
+        let fits = fits(rt.alloc(), &memory, limit, frames)?;
+        assert_eq!(rt; fits, expected, "{frames:?} below {limit} of {words:?}");
+    }
+    let memory = memory_of_ones(rt.alloc(), &[(0x1000, 0, 0x2003)])?;
+    assert!(rt; fits(rt.alloc(), &memory, 8, &[0x3000])?);
+    assert!(rt; !fits(rt.alloc(), &memory, 8, &[0x2000])?);
+    let small = PhysMemory::new(rt.alloc(), 1)?;
+    assert!(rt; !fits(rt.alloc(), &small, 8, &[])?);
     Ok(())
 }

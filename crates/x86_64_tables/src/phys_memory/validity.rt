@@ -1,16 +1,18 @@
-//! The test of a hierarchy: whether the words below a root are one.
-ghost use Rattle.std.specs.Prelude.{◌≡◌, ◌<◌, ◌↔◌, ℕ, cond, length, IfOk, IsTrue, Some, None, [], false, true, slice_index_or, unwrap_or};
+//! The tests of a hierarchy: whether the words below a root are one, and whether a pool fits it.
+ghost use Rattle.std.specs.Prelude.{◌≡◌, ◌<◌, ◌↔◌, ℕ, cond, length, IfOk, IsTrue, Some, None, false, true, slice_index_or, unwrap_or};
 ghost use Rattle.std.specs.FinMap.{keys};
 ghost use Rattle.std.specs.Option.{option_copied};
 ghost use Rattle.x86_64_model.specs.Entry.{huge};
 ghost use Rattle.x86_64_model.specs.Memory.{word, words_of};
 ghost use Rattle.x86_64_model.specs.Hierarchy.{IsValid, paths_of};
+ghost use Rattle.x86_64_model.specs.Pool.{Fits};
 ghost use Rattle.x86_64_model.specs.Tables.{tables_from, NoneHuge, SoundTables};
 ghost use Rattle.x86_64_model.specs.Marks.{serves_below, mark_one, mark_all};
-ghost use Rattle.x86_64_tables.specs.Images.{seen, mark_slot, below_word};
+ghost use Rattle.x86_64_tables.specs.Images.{seen, free_in, mark_slot, below_word};
 
 use super::walk::{entry_at, has_flag};
 use super::{PageTableFrameMapping, PhysMemory};
+use crate::frame_alloc::FramePool;
 use crate::page_table::{PageTableEntry, PageTableFlags};
 use std::alloc::{AllocError, Global};
 use x86_64_page::frame::PhysFrame;
@@ -44,11 +46,40 @@ pub fn is_valid_hierarchy<P: PageTableFrameMapping>(
         recursive: None,
         limit: FRAME_COUNT,
     };
-    image.is_sound(alloc, 3)
+    image.is_sound(alloc, 3, None)
+}
+
+/// Tells whether the words below the root are a valid hierarchy of four levels, and a pool fits it.
+///
+/// The hierarchies are those of `is_valid_hierarchy`. A pool fits one when its frames are distinct, covered, in the
+/// memory, and none is frame 0, the root or a table, and the pool serves every table frame but the root: its number is
+/// below the pool's limit. The test ends for any words and any pool, and takes memory for a mark for each place alone.
+///
+/// # Errors
+///
+/// `AllocError` where memory is refused.
+pub fn pool_fits<P: PageTableFrameMapping>(
+    alloc: Global,
+    memory: &PhysMemory,
+    mapping: &P,
+    root: PhysFrame<Size4KiB>,
+    pool: &FramePool,
+) -> Result<bool, AllocError>
+    ensures { let words = words_of memory.now (P.places mapping.now) in
+        IfOk result (λ b. IsTrue b ↔ Fits 4 None words root (paths_of 4 words root) (serves_below pool.now.limit) pool.now.frames) }
+{
+    let image = Image {
+        memory,
+        mapping,
+        root,
+        recursive: None,
+        limit: pool.limit(),
+    };
+    image.is_sound(alloc, 3, Some(pool))
 }
 
 /// Holds a hierarchy to be tested: its root in a memory, past the root's word at the recursive index where there is
-/// one. The frames of its tables, but for the root, have numbers from 1 to `limit` - 1.
+/// one. The frames of its tables, but for the root, and those of a pool have numbers from 1 to `limit` - 1.
 #[derive(Drop)]
 struct Image<'a, P> {
     memory: &'a PhysMemory,
@@ -59,28 +90,39 @@ struct Image<'a, P> {
 }
 
 impl<'a, P: PageTableFrameMapping> Image<'a, P> {
-    /// Tells whether each table, through so many levels below the root, is met once, in the memory and at a number
-    /// that tables may have, and no word above level three has `HUGE_PAGE`.
+    /// Tells whether each table, through so many levels below the root, and each frame of the pool, where there is one,
+    /// is met once, in the memory and at a number that tables may have, and no word above level three has `HUGE_PAGE`.
     #[tactic(auto, using(crate::proofs::PlacesInOrder::length_keys))]
-    fn is_sound(&self, alloc: Global, levels: u8) -> Result<bool, AllocError>
+    fn is_sound(
+        &self,
+        alloc: Global,
+        levels: u8,
+        pool: Option<&FramePool>,
+    ) -> Result<bool, AllocError>
         ensures { let words = seen self.now.memory.now (P.places self.now.mapping.now) self.now.root self.now.recursive in
-            IfOk result (λ b. IsTrue b ↔ SoundTables levels words self.now.root (serves_below self.now.limit) []) }
+            IfOk result (λ b. IsTrue b ↔ SoundTables levels words self.now.root (serves_below self.now.limit) (free_in (option_copied pool.entry))) }
     {
         let mut marks = vec![in alloc; false; self.memory.len()]?;
-        Ok(self.is_sound_by(levels, &mut marks))
+        Ok(self.is_sound_by(levels, pool, &mut marks))
     }
 
     /// Tells the same by marks, one for each place, which are all clear at first.
-    fn is_sound_by(&self, levels: u8, marks: &mut [bool]) -> bool
+    fn is_sound_by(&self, levels: u8, pool: Option<&FramePool>, marks: &mut [bool]) -> bool
         requires length { length marks.old ≡ length (keys self.now.memory.now) }
         requires clear { (k : ℕ) → k < length (keys self.now.memory.now) → slice_index_or marks.old k true ≡ false }
         ensures { let words = seen self.now.memory.now (P.places self.now.mapping.now) self.now.root self.now.recursive in
-            IsTrue result ↔ SoundTables levels words self.now.root (serves_below self.now.limit) [] }
+            IsTrue result ↔ SoundTables levels words self.now.root (serves_below self.now.limit) (free_in (option_copied pool.entry)) }
     {
         if !self.mark_tables(marks, self.root, levels) {
             return false;
         }
-        self.none_huge(self.root, levels)
+        if !self.none_huge(self.root, levels) {
+            return false;
+        }
+        match pool {
+            Some(pool) => self.mark_pool(marks, pool),
+            None => true,
+        }
     }
 
     /// Marks the table in a frame and those below it, through so many levels, if each may be met and was not before.
@@ -99,6 +141,22 @@ impl<'a, P: PageTableFrameMapping> Image<'a, P> {
                     if !self.mark_tables(marks, below, levels - 1) {
                         return false;
                     }
+                }
+            }
+        }
+        true
+    }
+
+    /// Marks each frame of a pool, if each may be met and was not before.
+    fn mark_pool(&self, marks: &mut [bool], pool: &FramePool) -> bool
+        requires { length marks.old ≡ length (keys self.now.memory.now) }
+        ensures { let slot = mark_slot self.now.memory.now (P.places self.now.mapping.now) self.now.root self.now.limit in
+            cond result (Some marks.new) None ≡ mark_all slot marks.old pool.now.frames }
+    {
+        for n in 0..pool.len() {
+            if let Some(frame) = pool.frame_at(n) {
+                if !self.mark(marks, frame) {
+                    return false;
                 }
             }
         }

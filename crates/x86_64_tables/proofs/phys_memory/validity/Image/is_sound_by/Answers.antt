@@ -1,36 +1,38 @@
-use Rattle.std.proofs.Common.{length, refl, [], true}
-use Rattle.std.specs.FinMap.{keys}
-use Rattle.x86_64_model.specs.Memory.{words_of}
-use Rattle.x86_64_model.specs.Marks.{serves_below, spot_of, mark_all}
-use Rattle.x86_64_model.specs.Lemmas.Tables.Keyed.{spots_of}
-use Rattle.x86_64_model.specs.Lemmas.Tables.Checked.{still_there, was_there, refused_tables, accepted_pool}
-use Rattle.x86_64_tables.specs.Images.{seen}
+use Rattle.std.proofs.Common.{refl, [], true}
+use Rattle.std.specs.Option.{option_copied}
+use Rattle.x86_64_model.specs.Marks.{mark_all}
+use Rattle.x86_64_tables.specs.Images.{free_in}
+use Rattle.x86_64_tables.proofs.ImageMarks.{refused, accepted}
 use Rattle.x86_64_tables.proofs.phys_memory.validity.Image.is_sound_by.Goals as goal
 
 pub returns-then-not-mark_tables : goal.returns-then-not-mark_tables
 returns-then-not-mark_tables g c =
     let self = c.args.self.now in
-    let memory = self.memory.now in
     let places = g.P.PageTableFrameMapping.places self.mapping.now in
-    let words = words_of memory places in
-    let distinct = (g.met.P.PageTableFrameMapping.is_mapping self.mapping.now).distinct in (
+    let is_mapping = g.met.P.PageTableFrameMapping.is_mapping self.mapping.now in (
       λ h. cc,
-      λ sound. absurd (refused_tables words (length (keys memory)) (spot_of memory places) (spots_of memory places distinct)
-          self.root (serves_below self.limit) c.args.levels (seen memory places self.root self.recursive) [] c.args.marks.now c.requires.clear
-          (still_there self.recursive self.root words) (was_there self.recursive self.root words) c.if-not-mark_tables.ensures sound),
+      λ sound. absurd (refused self.memory.now places is_mapping self.root self.recursive self.limit c.args.levels
+          (free_in (option_copied c.args.pool)) c.args.marks.now c.requires.clear c.if-not-mark_tables.ensures sound),
     )
 
-pub returns : goal.returns
-unfolding mark_all
-returns g c =
+pub returns-then-not-none_huge : goal.returns-then-not-none_huge
+returns-then-not-none_huge g c = (λ h. cc, λ sound. c.if-not-none_huge.ensures.1 sound.none_huge)
+
+pub returns-in-Some : goal.returns-in-Some
+returns-in-Some g c =
     let self = c.args.self.now in
-    let memory = self.memory.now in
     let places = g.P.PageTableFrameMapping.places self.mapping.now in
-    let words = words_of memory places in
-    let distinct = (g.met.P.PageTableFrameMapping.is_mapping self.mapping.now).distinct in (
-      λ h. (accepted_pool words (length (keys memory)) (spot_of memory places) (spots_of memory places distinct)
-          self.root (serves_below self.limit) c.args.levels (seen memory places self.root self.recursive) [] c.args.marks.now c.requires.clear
-          (still_there self.recursive self.root words) (was_there self.recursive self.root words)
-          (c.none_huge.ensures.0 h) c.mark_tables.new.marks c.mark_tables.new.marks c.if-not-mark_tables.ensures true refl).0 refl,
-      λ sound. c.none_huge.ensures.1 sound.none_huge,
-    )
+    let is_mapping = g.met.P.PageTableFrameMapping.is_mapping self.mapping.now in
+    rw c.in-Some.is (accepted self.memory.now places is_mapping self.root self.recursive self.limit c.args.levels
+    c.in-Some.pool.now.frames c.args.marks.now c.requires.clear (c.if-not-none_huge.ensures.0 refl)
+    c.mark_tables.new.marks c.mark_pool.new.marks c.if-not-mark_tables.ensures c.mark_pool.result c.mark_pool.ensures)
+
+pub returns-in-None : goal.returns-in-None
+unfolding mark_all
+returns-in-None g c =
+    let self = c.args.self.now in
+    let places = g.P.PageTableFrameMapping.places self.mapping.now in
+    let is_mapping = g.met.P.PageTableFrameMapping.is_mapping self.mapping.now in
+    rw c.in-None.is (accepted self.memory.now places is_mapping self.root self.recursive self.limit c.args.levels
+    [] c.args.marks.now c.requires.clear (c.if-not-none_huge.ensures.0 refl)
+    c.mark_tables.new.marks c.mark_tables.new.marks c.if-not-mark_tables.ensures true refl)

@@ -1,0 +1,35 @@
+-- The calls of the machine that the calls of a list are, and which index of level four they name.
+use Rattle.std.specs.Prelude.{ℕ, ◌==◌, Bool, List, map}
+use Rattle.x86_64_model.specs.Position.{index}
+use Rattle.x86_64_model.specs.Path.{path_at}
+use Rattle.x86_64_model.specs.Call as machine
+use Rattle.x86_64_tables.specs.PageTableFlags.{bits_of}
+use Rattle.x86_64.specs.declared.calls.SizeCall.{SizeCall}
+use Rattle.x86_64.specs.declared.calls.SizeCall.TheVariants.{MapTo, Unmap}
+use Rattle.x86_64.specs.declared.calls.Call.{Call}
+use Rattle.x86_64.specs.declared.calls.Call.TheVariants.{Of4KiB, Translate, TranslateAddr}
+
+-- the call on a page that an entry of a level maps, where there are L levels
+abbrev pub size_call : {S : Type 0} → (L level : ℕ) → SizeCall S → machine.Call
+size_call L level (MapTo page frame flags) = machine.MapTo (path_at L level page) frame (bits_of flags)
+size_call L level (Unmap page) = machine.Unmap (path_at L level page)
+
+abbrev pub call_of : (L : ℕ) → Call → machine.Call
+call_of L (Of4KiB call) = size_call L 1 call
+call_of L (Translate addr) = machine.Translate addr
+call_of L (TranslateAddr addr) = machine.TranslateAddress addr
+
+abbrev pub calls_of : (L : ℕ) → List Call → List machine.Call
+calls_of L calls = map (call_of L) calls
+
+-- ---- the index of level four
+
+abbrev pub size_names : {S : Type 0} → SizeCall S → (i : ℕ) → Bool
+size_names (MapTo page frame flags) i = index 4 page == i
+size_names (Unmap page) i = index 4 page == i
+
+-- whether the call's page or address has this index of level four
+abbrev pub names : Call → (i : ℕ) → Bool
+names (Of4KiB call) i = size_names call i
+names (Translate addr) i = index 4 addr == i
+names (TranslateAddr addr) i = index 4 addr == i

@@ -1,0 +1,73 @@
+-- What a walker's steps do to a memory, one table at a time. m is the memory before, n the memory after.
+use Rattle.std.specs.Prelude.{◌≡◌, ◌⊎◌, ℕ, true, false, List, [], ◌∷◌, length, set, Some, IsSome, unwrap_or, bit_or, Result, Ok, Err}
+use Rattle.std.specs.FinMap.{insert}
+use Rattle.x86_64_model.specs.Entry.{used, huge, address, present}
+use Rattle.x86_64_model.specs.Memory.{Memory, Places, words_of, word}
+use Rattle.x86_64_model.specs.Refusal.{Refusal, PageNotMapped, ParentEntryHugePage, InvalidFrameAddress, PageAlreadyMapped, FrameAllocationFailed, Answer, Done, Refused}
+use Rattle.x86_64_tables.specs.PageTable.{zero_words}
+
+-- word i of the table in a frame
+abbrev pub word_in_frame : Places → Memory → (frame i : ℕ) → ℕ
+word_in_frame places m f i = word (words_of m places) f i
+
+-- the frame is covered and in the memory
+abbrev pub IsThere : Places → Memory → (frame : ℕ) → Type 0
+IsThere places m f = IsSome (words_of m places f)
+
+-- the memory with word i of the frame's table set
+abbrev pub with_word : Places → Memory → (f i w : ℕ) → Memory
+with_word places m f i w = insert m (places.place f) (set (unwrap_or (words_of m places f) []) i w)
+
+-- word i of the frame's table was set
+pub record IsSet (places : Places) (m : Memory) (f i w : ℕ) (n : Memory) : Type 0 where
+  pub table : List ℕ
+  pub is : words_of m places f ≡ Some table
+  pub long : length table ≡ 512
+  pub after : n ≡ insert m (places.place f) (set table i w)
+
+-- all words of the frame's table were set to 0
+pub record IsCleared (places : Places) (m : Memory) (f : ℕ) (n : Memory) : Type 0 where
+  pub there : IsThere places m f
+  pub after : n ≡ insert m (places.place f) zero_words
+
+-- a used word got flags
+pub record IsMarked (places : Places) (m : Memory) (f i more : ℕ) (n : Memory) : Type 0 where
+  pub is_used : used (word_in_frame places m f i) ≡ true
+  pub is_set : IsSet places m f i (bit_or (word_in_frame places m f i) more) n
+
+-- an unused word came to name the first frame of the supply, which was cleared
+pub record IsTaken (places : Places) (m : Memory) (s : List ℕ) (f i flags g : ℕ) (n : Memory) (rest : List ℕ) : Type 0 where
+  pub is_unused : used (word_in_frame places m f i) ≡ false
+  pub first : s ≡ g ∷ rest
+  pub middle : Memory
+  pub is_cleared : IsCleared places m g middle
+  pub is_set : IsSet places middle f i (bit_or g flags) n
+
+-- the table that word i of the frame f names, or a new one: the answer, and what is left of the supply
+abbrev pub IsMade : Places → (more added : ℕ) → Memory → (supply : List ℕ) → (f i : ℕ) → Result ℕ Refusal → Memory → (rest : List ℕ) → Type 0
+IsMade places more added m s f i (Ok g) n rest =
+    (IsMarked places m f i more n × (huge (word_in_frame places m f i) ≡ false) × (g ≡ address (word_in_frame places m f i)) × (rest ≡ s))
+    ⊎ IsTaken places m s f i (bit_or more added) g n rest
+IsMade places more added m s f i (Err ParentEntryHugePage) n rest = IsMarked places m f i more n × (huge (word_in_frame places m f i) ≡ true) × (rest ≡ s)
+IsMade places more added m s f i (Err FrameAllocationFailed) n rest = (used (word_in_frame places m f i) ≡ false) × (s ≡ []) × (n ≡ m) × (rest ≡ [])
+IsMade places more added m s f i (Err PageNotMapped) n rest = ⊥
+IsMade places more added m s f i (Err (InvalidFrameAddress a)) n rest = ⊥
+IsMade places more added m s f i (Err (PageAlreadyMapped g)) n rest = ⊥
+
+-- an unused word came to be the leaf w, or the word is used and the frame asked for is refused
+abbrev pub IsLeafSet : Places → Memory → (f i w frame : ℕ) → Answer → Memory → Type 0
+IsLeafSet places m f i w frame (Done g) n = (used (word_in_frame places m f i) ≡ false) × (g ≡ frame) × IsSet places m f i w n
+IsLeafSet places m f i w frame (Refused (PageAlreadyMapped g)) n = (used (word_in_frame places m f i) ≡ true) × (g ≡ frame) × (n ≡ m)
+IsLeafSet places m f i w frame (Refused PageNotMapped) n = ⊥
+IsLeafSet places m f i w frame (Refused ParentEntryHugePage) n = ⊥
+IsLeafSet places m f i w frame (Refused (InvalidFrameAddress a)) n = ⊥
+IsLeafSet places m f i w frame (Refused FrameAllocationFailed) n = ⊥
+
+-- the way down from a word w to the next table, where no table is made
+abbrev pub IsNext : (w : ℕ) → Result ℕ Refusal → Type 0
+IsNext w (Ok g) = (present w ≡ true) × (huge w ≡ false) × (g ≡ address w)
+IsNext w (Err PageNotMapped) = present w ≡ false
+IsNext w (Err ParentEntryHugePage) = (present w ≡ true) × (huge w ≡ true)
+IsNext w (Err (InvalidFrameAddress a)) = ⊥
+IsNext w (Err (PageAlreadyMapped g)) = ⊥
+IsNext w (Err FrameAllocationFailed) = ⊥
