@@ -1,26 +1,40 @@
--- What answers a command.
-use Rattle.std.specs.Prelude.{◌≡◌, Some, option_map}
-use Rattle.x86_64_model.specs.Layout.{words, read_entry}
-use Rattle.x86_64_model.specs.Memory.{Memory}
+-- What answers a command, and what it leaves.
+use Rattle.std.specs.Prelude.{◌≡◌, option_map}
+use Rattle.x86_64_model.specs.Layout.{words}
+use Rattle.x86_64_model.specs.Machine.{State}
 use Rattle.x86_64_model.specs.PageWalk.{page_walk}
-use Rattle.x86_64_model.specs.Translation.{translate}
-use Rattle.x86_64_tables.specs.Translations.{translation_of}
 use Rattle.x86_64_tables.specs.Walks.{walked_of}
-use Rattle.pagetab_engine.specs.Hierarchy.{layout}
+use Rattle.x86_64.specs.Runs.{call_step}
+use Rattle.pagetab_engine.specs.Hierarchy.{layout, machine, state_of}
 use Rattle.pagetab_engine.specs.Slot.{word_in}
+use Rattle.pagetab_engine.specs.declared.hierarchy.Hierarchy.{Hierarchy}
 use Rattle.pagetab_engine.specs.declared.statement.Command.{Command}
-use Rattle.pagetab_engine.specs.declared.statement.Command.TheVariants.{Translate, Walk, Show}
+use Rattle.pagetab_engine.specs.declared.statement.Command.TheVariants as command
 use Rattle.pagetab_engine.specs.declared.reply.Reply.{Reply}
-use Rattle.pagetab_engine.specs.declared.reply.Reply.TheVariants.{Translation, Arrival, Word}
+use Rattle.pagetab_engine.specs.declared.reply.Reply.TheVariants as reply
 
--- the reply to a command says what the definitions say of the memory
-abbrev pub IsReply : Memory → Command → Reply → Type 0
-IsReply memory (Translate addr) (Translation answer) = translation_of answer ≡ Some (translate 4 (read_entry layout memory) addr)
-IsReply memory (Walk addr) (Arrival walked) = option_map walked_of walked ≡ page_walk 4 (words layout memory) 0x1000 addr
-IsReply memory (Show slot) (Word word) = word ≡ word_in memory slot.place slot.index
-IsReply memory (Translate addr) (Arrival walked) = ⊥
-IsReply memory (Translate addr) (Word word) = ⊥
-IsReply memory (Walk addr) (Translation answer) = ⊥
-IsReply memory (Walk addr) (Word word) = ⊥
-IsReply memory (Show slot) (Translation answer) = ⊥
-IsReply memory (Show slot) (Arrival walked) = ⊥
+-- the reply to a call is the machine's, and that to another command says what the definitions say of the hierarchy
+abbrev pub IsReply : Hierarchy → Command → Reply → Type 0
+IsReply hierarchy (command.Call call) (reply.Answered answer) = answer ≡ (call_step machine (state_of hierarchy) call).1
+IsReply hierarchy (command.Walk addr) (reply.Arrival walked) = option_map walked_of walked ≡ page_walk 4 (words layout hierarchy.memory) 0x1000 addr
+IsReply hierarchy (command.Show slot) (reply.Word word) = word ≡ word_in hierarchy.memory slot.place slot.index
+IsReply hierarchy command.Pool (reply.Pool frames) = frames.items ≡ hierarchy.pool.frames
+IsReply hierarchy (command.Call call) (reply.Arrival walked) = ⊥
+IsReply hierarchy (command.Call call) (reply.Word word) = ⊥
+IsReply hierarchy (command.Call call) (reply.Pool frames) = ⊥
+IsReply hierarchy (command.Walk addr) (reply.Answered answer) = ⊥
+IsReply hierarchy (command.Walk addr) (reply.Word word) = ⊥
+IsReply hierarchy (command.Walk addr) (reply.Pool frames) = ⊥
+IsReply hierarchy (command.Show slot) (reply.Answered answer) = ⊥
+IsReply hierarchy (command.Show slot) (reply.Arrival walked) = ⊥
+IsReply hierarchy (command.Show slot) (reply.Pool frames) = ⊥
+IsReply hierarchy command.Pool (reply.Answered answer) = ⊥
+IsReply hierarchy command.Pool (reply.Arrival walked) = ⊥
+IsReply hierarchy command.Pool (reply.Word word) = ⊥
+
+-- the state after a command: the machine's after a call, and the same after another
+abbrev pub state_after : Hierarchy → Command → State
+state_after hierarchy (command.Call call) = (call_step machine (state_of hierarchy) call).0
+state_after hierarchy (command.Walk addr) = state_of hierarchy
+state_after hierarchy (command.Show slot) = state_of hierarchy
+state_after hierarchy command.Pool = state_of hierarchy

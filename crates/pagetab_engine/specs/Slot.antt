@@ -1,16 +1,11 @@
 -- Words in memory, by the places of tables.
-use Rattle.std.specs.Prelude.{ℕ, List, Option, Some, None, slice_set, slice_index, bit_or}
+use Rattle.std.specs.Prelude.{ℕ, List, Option, Some, None, slice_set, slice_index}
 use Rattle.std.specs.FinMap.{get, insert}
-use Rattle.x86_64_model.specs.Entry.{address, flags}
 use Rattle.x86_64_model.specs.Memory.{Memory}
-
--- an entry put together of its address and its flags: the entry itself, where it is below 2^64 as words are
-abbrev pub whole_entry : ℕ → ℕ
-whole_entry e = bit_or (address e) (flags e)
 
 abbrev pub word_of_table : Option (List ℕ) → (index : ℕ) → ℕ
 word_of_table None index = 0
-word_of_table (Some table) index = whole_entry (slice_index table index)
+word_of_table (Some table) index = slice_index table index
 
 -- the word at an index of the table at a place, 0 where there is no table
 abbrev pub word_in : Memory → (place index : ℕ) → ℕ

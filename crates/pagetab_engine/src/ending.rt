@@ -11,7 +11,7 @@ use std::io;
 pub enum Fault {
     /// The line of this number, counted from 1, could not be read, or stood at the wrong place.
     BadLine(u64),
-    /// The image is no valid hierarchy of page tables.
+    /// The image is no valid hierarchy of page tables, or its free frames do not fit it.
     InvalidHierarchy,
     /// Memory was refused.
     OutOfMemory,

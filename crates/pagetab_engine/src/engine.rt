@@ -1,16 +1,16 @@
 //! The run of the program.
-ghost use Rattle.std.specs.Prelude.{◌≡◌, ◌≤◌, IfSome};
-ghost use Rattle.pagetab_engine.specs.Hierarchy.{IsHierarchy};
-ghost use Rattle.pagetab_engine.specs.Reply.{IsReply};
+ghost use Rattle.std.specs.Prelude.{◌≡◌, ◌≤◌, IfOk, IfSome, OnOk, OnErr};
+ghost use Rattle.pagetab_engine.specs.Hierarchy.{state_of, IsHierarchy, Keeps};
+ghost use Rattle.pagetab_engine.specs.Reply.{IsReply, state_after};
 
 use crate::ending::{Ending, Fault};
+use crate::hierarchy::Hierarchy;
 use crate::lines::Lines;
+use crate::number;
 use crate::reply::Reply;
 use crate::statement::{Command, Statement};
-use crate::{hierarchy, number};
-use std::alloc::Global;
+use std::alloc::{AllocError, Global};
 use std::io::{Read, Write};
-use x86_64::PhysMemory;
 
 /// Runs the program on its arguments: reads an image and commands from `reader`, and writes a reply to each command.
 ///
@@ -37,13 +37,13 @@ fn serve<R: Read, W: Write>(
     let Some(places) = parse_arguments(words) else {
         return Err(Fault::Usage);
     };
-    let mut memory = PhysMemory::new(alloc, places)?;
+    let mut hierarchy = Hierarchy::new(alloc, places)?;
     let mut lines = Lines::new(reader);
-    let first = read_image(&mut lines, &mut memory, places)?;
-    if !hierarchy::is_valid(alloc, &memory)? {
+    let first = read_image(&mut lines, &mut hierarchy, places)?;
+    if !hierarchy.fits(alloc)? {
         return Err(Fault::InvalidHierarchy);
     }
-    answer_commands(alloc, &mut lines, &mut memory, places, first, writer)
+    answer_commands(alloc, &mut lines, &mut hierarchy, places, first, writer)
 }
 
 /// Reads the arguments `direct N`: the number of places, from 2 to 65536.
@@ -58,15 +58,19 @@ fn parse_arguments(words: &[String]) -> Option<u64>
     }
 }
 
-/// Writes the words of the image into memory, and gives the command that follows, or `None` at the end of the input.
+/// Loads the image, and gives the command that follows, or `None` at the end of the input.
 fn read_image<R: Read>(
     lines: &mut Lines<'_, R>,
-    memory: &mut PhysMemory,
+    hierarchy: &mut Hierarchy,
     places: u64,
 ) -> Result<Option<Command>, Fault> {
     for _ in 0..u64::MAX {
         match lines.next_statement(places)? {
-            Some(Statement::Word { slot, value }) => slot.set_word(memory, value),
+            Some(Statement::Image(line)) => {
+                if hierarchy.load(line).is_err() {
+                    return Err(lines.fault());
+                }
+            }
             Some(Statement::Command(command)) => return Ok(Some(command)),
             None => return Ok(None),
         }
@@ -78,25 +82,25 @@ fn read_image<R: Read>(
 fn answer_commands<R: Read, W: Write>(
     alloc: Global,
     lines: &mut Lines<'_, R>,
-    memory: &mut PhysMemory,
+    hierarchy: &mut Hierarchy,
     places: u64,
     first: Option<Command>,
     writer: &mut W,
 ) -> Result<(), Fault>
-    requires { IsHierarchy memory.old }
-    ensures { memory.new ≡ memory.old }
+    requires { IsHierarchy hierarchy.old }
+    ensures { Keeps hierarchy.old hierarchy.new }
 {
     let mut next = first;
     for _ in 0..u64::MAX {
         let Some(command) = next else {
             break;
         };
-        let reply = answer(memory, command);
+        let reply = answer(alloc, hierarchy, command)?;
         let text = format!(in alloc; "{reply}\n")?;
         writer.write_all(text.as_bytes())?;
         next = match lines.next_statement(places)? {
             Some(Statement::Command(command)) => Some(command),
-            Some(Statement::Word { .. }) => return Err(lines.fault()),
+            Some(Statement::Image(_)) => return Err(lines.fault()),
             None => None,
         };
     }
@@ -104,14 +108,21 @@ fn answer_commands<R: Read, W: Write>(
 }
 
 /// Answers a command.
-fn answer(memory: &mut PhysMemory, command: Command) -> Reply
-    requires { IsHierarchy memory.old }
-    ensures reply { IsReply memory.old command result }
-    ensures same { memory.new ≡ memory.old }
+///
+/// # Errors
+///
+/// `AllocError` where memory is refused; then nothing changes.
+fn answer(alloc: Global, hierarchy: &mut Hierarchy, command: Command) -> Result<Reply, AllocError>
+    requires { IsHierarchy hierarchy.old }
+    ensures reply { IfOk result (IsReply hierarchy.old command) }
+    ensures state { OnOk result (state_of hierarchy.new ≡ state_after hierarchy.old command) }
+    ensures unchanged { OnErr result (hierarchy.new ≡ hierarchy.old) }
+    ensures keeps { Keeps hierarchy.old hierarchy.new }
 {
-    match command {
-        Command::Translate(addr) => Reply::Translation(hierarchy::translate(memory, addr)),
-        Command::Walk(addr) => Reply::Arrival(hierarchy::walk(memory, addr)),
-        Command::Show(slot) => Reply::Word(slot.word(memory)),
-    }
+    Ok(match command {
+        Command::Call(call) => Reply::Answered(hierarchy.answer_call(alloc, call)?),
+        Command::Walk(addr) => Reply::Arrival(hierarchy.walk(addr)),
+        Command::Show(slot) => Reply::Word(hierarchy.word(slot)),
+        Command::Pool => Reply::Pool(hierarchy.free_frames(alloc)?),
+    })
 }

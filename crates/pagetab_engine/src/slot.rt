@@ -1,10 +1,10 @@
 //! Words in memory.
-ghost use Rattle.std.specs.Prelude.{◌≡◌, ◌<◌, ◌/◌, ◌%◌, ◌*◌, ◌↔◌, IsSome, IfSome};
-ghost use Rattle.pagetab_engine.specs.Slot.{whole_entry, word_in, stored};
+ghost use Rattle.std.specs.Prelude.{◌≡◌, ◌<◌, ◌/◌, ◌%◌, ◌^◌, ◌↔◌, IsSome, IfSome};
+ghost use Rattle.pagetab_engine.specs.Slot.{word_in, stored};
 
 use bitflags::Flags;
 use x86_64::structures::paging::page_table::{PageTableEntry, PageTableFlags, PageTableIndex};
-use x86_64::structures::paging::{PageSize, Size4KiB};
+use x86_64::structures::paging::{PageSize, PhysFrame, Size4KiB};
 use x86_64::{FramePlace, PhysAddr, PhysMemory};
 
 /// Names a word in memory: the place of a table and an index in it.
@@ -15,17 +15,16 @@ pub struct Slot {
 }
 
 impl Slot {
-    /// Gives the slot at an index of the table in a frame, where frame number n lies at place n.
+    /// Gives the slot at an index of the table in a frame, where each frame lies at the place of its number.
     ///
-    /// Answers `None` exactly where `frame` isn't the start address of a 4KiB frame with a number below `places`, or
-    /// `index` isn't below 512.
-    pub fn new(frame: u64, index: u64, places: u64) -> Option<Slot>
-        ensures fits { IsSome result ↔ ((frame % 4096 ≡ 0) × (frame / 4096 < places) × (index < 512)) }
+    /// Answers `None` exactly where `index` isn't below 512.
+    pub fn new(frame: PhysFrame<Size4KiB>, index: u64) -> Option<Slot>
+        ensures fits { IsSome result ↔ (index < 512) }
         ensures place { IfSome result (λ slot. slot.place ≡ frame / 4096) }
         ensures index { IfSome result (λ slot. slot.index ≡ index) }
     {
-        let number = frame / Size4KiB::SIZE;
-        if frame % Size4KiB::SIZE == 0 && number < places && index < 512 {
+        if index < 512 {
+            let number = frame.start_address().as_u64() / Size4KiB::SIZE;
             Some(Slot {
                 place: FramePlace::new(number),
                 index: PageTableIndex::new(index as u16),
@@ -55,9 +54,24 @@ impl Slot {
     }
 }
 
+/// Gives the 4KiB frame that starts at an address, for a memory of so many places.
+///
+/// Answers `None` exactly where no such frame starts there, or its number isn't below `places`.
+pub fn frame_at(start: u64, places: u64) -> Option<PhysFrame<Size4KiB>>
+    ensures fits { IsSome result ↔ ((start < 2 ^ 52) × (start % 4096 ≡ 0) × (start / 4096 < places)) }
+    ensures start { IfSome result (λ frame. frame ≡ start) }
+{
+    let frame = PhysFrame::from_start_address(PhysAddr::try_new(start).ok()?).ok()?;
+    if start / Size4KiB::SIZE < places {
+        Some(frame)
+    } else {
+        None
+    }
+}
+
 /// Gives the word of an entry.
 fn word_of(entry: &PageTableEntry) -> u64
-    ensures { result ≡ whole_entry entry.now }
+    ensures { result ≡ entry.now }
 {
     entry.addr().as_u64() | entry.flags().bits()
 }

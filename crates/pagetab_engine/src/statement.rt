@@ -1,24 +1,37 @@
 //! What lines say.
 use crate::number;
-use crate::slot::Slot;
-use x86_64::VirtAddr;
+use crate::slot::{Slot, frame_at};
+use bitflags::Flags;
+use x86_64::structures::paging::{Page, PageSize, PageTableFlags, PhysFrame, Size4KiB};
+use x86_64::{Call, PhysAddr, SizeCall, VirtAddr};
 
-/// Asks something about the hierarchy.
+/// Asks something of the hierarchy.
 #[derive(Clone, Copy, Debug, PartialEq)]
 pub enum Command {
-    /// `translate ADDR`: what the mapper answers for the address.
-    Translate(VirtAddr),
+    /// `translate ADDR`, `addr ADDR`, `map SIZE PAGE FRAME FLAGS` or `unmap SIZE PAGE`: a call of the mapper.
+    Call(Call),
     /// `walk ADDR`: where the processor arrives.
     Walk(VirtAddr),
     /// `show FRAME INDEX`: the word in the slot.
     Show(Slot),
+    /// `pool`: the free frames.
+    Pool,
+}
+
+/// Says what the image has.
+#[derive(Clone, Copy, Debug, PartialEq)]
+pub enum ImageLine {
+    /// `word FRAME INDEX VALUE`: the value in the slot.
+    Word { slot: Slot, value: u64 },
+    /// `free FRAME`: the frame among the free ones.
+    Free(PhysFrame<Size4KiB>),
 }
 
 /// Says what a line says.
 #[derive(Clone, Copy, Debug, PartialEq)]
 pub enum Statement {
-    /// `word FRAME INDEX VALUE`: the image has the value in the slot.
-    Word { slot: Slot, value: u64 },
+    /// A line of the image.
+    Image(ImageLine),
     /// A command.
     Command(Command),
 }
@@ -51,6 +64,50 @@ impl<'a> Fields<'a> {
         if field.is_empty() { None } else { Some(field) }
     }
 
+    /// Reads a statement, and leaves the fields past its last one.
+    fn parse_statement(&mut self, places: u64) -> Option<Statement> {
+        let name = self.next_field()?;
+        let statement = match name.as_bytes() {
+            b"word" => Statement::Image(ImageLine::Word {
+                slot: self.parse_slot(places)?,
+                value: self.parse_number()?,
+            }),
+            b"free" => Statement::Image(ImageLine::Free(self.parse_table_frame(places)?)),
+            b"walk" => Statement::Command(Command::Walk(self.parse_address()?)),
+            b"show" => Statement::Command(Command::Show(self.parse_slot(places)?)),
+            b"pool" => Statement::Command(Command::Pool),
+            _ => Statement::Command(Command::Call(self.parse_call(name)?)),
+        };
+        Some(statement)
+    }
+
+    /// Reads the fields of a call of this name.
+    fn parse_call(&mut self, name: &str) -> Option<Call> {
+        match name.as_bytes() {
+            b"translate" => Some(Call::Translate(self.parse_address()?)),
+            b"addr" => Some(Call::TranslateAddr(self.parse_address()?)),
+            _ => match self.next_field()?.as_bytes() {
+                b"4KiB" => Some(Call::Of4KiB(self.parse_size_call(name)?)),
+                _ => None,
+            },
+        }
+    }
+
+    /// Reads the fields past SIZE of a call of this name.
+    fn parse_size_call<S: PageSize>(&mut self, name: &str) -> Option<SizeCall<S>> {
+        match name.as_bytes() {
+            b"map" => Some(SizeCall::MapTo {
+                page: self.parse_page()?,
+                frame: self.parse_frame()?,
+                flags: self.parse_flags()?,
+            }),
+            b"unmap" => Some(SizeCall::Unmap {
+                page: self.parse_page()?,
+            }),
+            _ => None,
+        }
+    }
+
     /// Reads a number below 2^64.
     fn parse_number(&mut self) -> Option<u64> {
         number::parse(self.next_field()?)
@@ -63,23 +120,28 @@ impl<'a> Fields<'a> {
 
     /// Reads FRAME INDEX: the start address of a 4KiB frame whose number is below `places`, and an index below 512.
     fn parse_slot(&mut self, places: u64) -> Option<Slot> {
-        let frame = self.parse_number()?;
-        let index = self.parse_number()?;
-        Slot::new(frame, index, places)
+        let frame = self.parse_table_frame(places)?;
+        Slot::new(frame, self.parse_number()?)
     }
 
-    /// Reads a statement, and leaves the fields past its last one.
-    fn parse_statement(&mut self, places: u64) -> Option<Statement> {
-        let statement = match self.next_field()?.as_bytes() {
-            b"word" => Statement::Word {
-                slot: self.parse_slot(places)?,
-                value: self.parse_number()?,
-            },
-            b"translate" => Statement::Command(Command::Translate(self.parse_address()?)),
-            b"walk" => Statement::Command(Command::Walk(self.parse_address()?)),
-            b"show" => Statement::Command(Command::Show(self.parse_slot(places)?)),
-            _ => return None,
-        };
-        Some(statement)
+    /// Reads FRAME: the start address of a 4KiB frame whose number is below `places`.
+    fn parse_table_frame(&mut self, places: u64) -> Option<PhysFrame<Size4KiB>> {
+        frame_at(self.parse_number()?, places)
+    }
+
+    /// Reads PAGE: the start address of a page, which is canonical and a multiple of the size.
+    fn parse_page<S: PageSize>(&mut self) -> Option<Page<S>> {
+        Page::from_start_address(self.parse_address()?).ok()
+    }
+
+    /// Reads FRAME: the start address of a frame, which is below 2^52 and a multiple of the size.
+    fn parse_frame<S: PageSize>(&mut self) -> Option<PhysFrame<S>> {
+        let address = PhysAddr::try_new(self.parse_number()?).ok()?;
+        PhysFrame::from_start_address(address).ok()
+    }
+
+    /// Reads FLAGS: any number below 2^64.
+    fn parse_flags(&mut self) -> Option<PageTableFlags> {
+        Some(PageTableFlags::from_bits_retain(self.parse_number()?))
     }
 }

@@ -110,6 +110,9 @@ const LARGE: &str = "word 0x1000 0 0x2001\nword 0x2000 0 0x3001\nword 0x3000 1 0
 /// Two words of the root that name one table.
 const INVALID: &str = "word 0x1000 0 0x2003\nword 0x1000 1 0x2003\n";
 
+/// Three free frames, below an empty root.
+const POOL: &str = "free 0x2000\nfree 0x3000\nfree 0x4000\n";
+
 #[test]
 fn commands_are_answered(rt: HostRuntime) -> Result<(), Fail> {
     let rows = [
@@ -168,6 +171,153 @@ fn commands_are_answered(rt: HostRuntime) -> Result<(), Fail> {
     Ok(())
 }
 
+/// Asserts the replies to commands on an image, each beside its command.
+fn assert_replies(
+    rt: &HostRuntime,
+    image: &str,
+    exchanges: &[(&str, &str)],
+) -> Result<(), Fail> {
+    let mut lines = String::new(rt.alloc());
+    let mut replies = String::new(rt.alloc());
+    for (line, reply) in exchanges {
+        lines.push_str(line)?;
+        lines.push('\n')?;
+        replies.push_str(reply)?;
+        replies.push('\n')?;
+    }
+    let outcome = run_on(rt.alloc(), image, lines.as_bytes())?;
+    assert_eq!(rt; outcome.ending, Ending::Done, "{image}{lines}");
+    assert_eq!(rt;
+        str::from_utf8(outcome.written.as_slice()),
+        Ok(replies.as_str()),
+        "{image}{lines}"
+    );
+    Ok(())
+}
+
+#[test]
+fn pages_are_mapped(rt: HostRuntime) -> Result<(), Fail> {
+    // The words that the free frames hold are cleared.
+    let image = "free 0x2000\nfree 0x3000\nword 0x2000 1 0xffffffffffffffff\n\
+        word 0x3000 511 0xffffffffffffffff\nword 0x4000 0 0xffffffffffffffff\nfree 0x4000\n";
+    let first = [
+        ("pool", "pool 0x2000 0x3000 0x4000"),
+        ("map 4KiB 0x1000 0x5000 0x3", "ok"),
+        ("show 0x1000 0", "0x2003"),
+        ("show 0x2000 0", "0x3003"),
+        ("show 0x2000 1", "0x0"),
+        ("show 0x3000 0", "0x4003"),
+        ("show 0x3000 511", "0x0"),
+        ("show 0x4000 0", "0x0"),
+        ("show 0x4000 1", "0x5003"),
+        ("pool", "pool"),
+        ("addr 0x1abc", "0x5abc"),
+        ("translate 0x1abc", "mapped 4KiB 0x5000 0xabc 0x3"),
+        ("walk 0x1abc", "0x5abc write=1 user=0"),
+        ("addr 0x2abc", "none"),
+    ];
+    assert_replies(&rt, image, &first)?;
+    // Frame 0 without flags leaves the page's entry unused, and parent flags are added to used parents.
+    let later = [
+        ("map 4KiB 0x1000 0x5000 0x3", "ok"),
+        ("map 4KiB 0x2000 0x0 0x0", "ok"),
+        ("show 0x4000 2", "0x0"),
+        ("translate 0x2000", "not mapped"),
+        ("addr 0x2000", "none"),
+        ("map 4KiB 0x2000 0xffffffffff000 0x8000000000000005", "ok"),
+        ("show 0x1000 0", "0x2007"),
+        ("show 0x4000 2", "0x800ffffffffff005"),
+        ("addr 0x2fff", "0xfffffffffffff"),
+        ("walk 0x2fff", "0xfffffffffffff write=0 user=1"),
+    ];
+    assert_replies(&rt, POOL, &later)?;
+    // The upper half of the addresses, and flags in decimal.
+    let last = [
+        ("map 4KiB 0xfffffffffffff000 0x6000 1", "ok"),
+        ("show 0x1000 511", "0x2001"),
+        ("show 0x4000 511", "0x6001"),
+        ("addr 0xffffffffffffffff", "0x6fff"),
+    ];
+    assert_replies(&rt, POOL, &last)
+}
+
+#[test]
+fn maps_are_refused(rt: HostRuntime) -> Result<(), Fail> {
+    let mapped = [
+        ("map 4KiB 0x1000 0x5000 0x3", "ok"),
+        ("map 4KiB 0x1000 0x9000 0x1", "page already mapped 0x9000"),
+        ("show 0x1000 0", "0x2003"),
+        ("show 0x2000 0", "0x3003"),
+        ("show 0x3000 0", "0x4003"),
+        ("show 0x4000 1", "0x5003"),
+    ];
+    assert_replies(&rt, POOL, &mapped)?;
+    let few = "free 0x2000\nfree 0x3000\nword 0x3000 5 0xffffffffffffffff\n";
+    let too_few_frames = [
+        ("map 4KiB 0x1000 0x5000 0x3", "frame allocation failed"),
+        ("show 0x1000 0", "0x2003"),
+        ("show 0x2000 0", "0x3003"),
+        ("show 0x3000 0", "0x0"),
+        ("show 0x3000 5", "0x0"),
+        ("pool", "pool"),
+    ];
+    assert_replies(&rt, few, &too_few_frames)?;
+    let below_a_large_page = [
+        ("map 4KiB 0x201000 0x9000 0x3", "parent entry huge page"),
+        ("show 0x1000 0", "0x2003"),
+        ("show 0x2000 0", "0x3003"),
+        ("show 0x3000 1", "0x400083"),
+        ("pool", "pool"),
+        ("addr 0x234567", "0x434567"),
+    ];
+    assert_replies(&rt, LARGE, &below_a_large_page)?;
+    // No parent would have PRESENT, HUGE_PAGE in a 4KiB page's flags, address bits in flags.
+    let not_allowed = [
+        ("map 4KiB 0x1000 0x5000 0x0", "not allowed"),
+        ("map 4KiB 0x1000 0x5000 0x81", "not allowed"),
+        ("map 4KiB 0x1000 0x5000 0x1001", "not allowed"),
+        ("show 0x1000 0", "0x0"),
+        ("pool", "pool 0x2000 0x3000 0x4000"),
+    ];
+    assert_replies(&rt, POOL, &not_allowed)
+}
+
+#[test]
+fn pages_are_unmapped(rt: HostRuntime) -> Result<(), Fail> {
+    let mapped = [
+        ("map 4KiB 0x1000 0x5000 0x3", "ok"),
+        ("unmap 4KiB 0x2000", "page not mapped"),
+        ("unmap 4KiB 0x40000000", "page not mapped"),
+        ("unmap 4KiB 0x1000", "0x5000"),
+        ("unmap 4KiB 0x1000", "page not mapped"),
+        ("addr 0x1000", "none"),
+        ("show 0x1000 0", "0x2003"),
+        ("show 0x2000 0", "0x3003"),
+        ("show 0x3000 0", "0x4003"),
+        ("show 0x4000 1", "0x0"),
+        ("pool", "pool"),
+        ("map 4KiB 0x1000 0x9000 0x1", "ok"),
+        ("addr 0x1abc", "0x9abc"),
+    ];
+    assert_replies(&rt, POOL, &mapped)?;
+    let below_a_large_page = [
+        ("unmap 4KiB 0x201000", "parent entry huge page"),
+        ("show 0x3000 1", "0x400081"),
+    ];
+    assert_replies(&rt, LARGE, &below_a_large_page)
+}
+
+#[test]
+fn free_frames_are_listed_in_order(rt: HostRuntime) -> Result<(), Fail> {
+    assert_replies(&rt, "", &[("pool", "pool")])?;
+    assert_replies(&rt, FIRST, &[("pool", "pool")])?;
+    assert_replies(
+        &rt,
+        "free 0x7000\nfree 8192\nfree 0x0005000\n",
+        &[("pool", "pool 0x7000 0x2000 0x5000")],
+    )
+}
+
 #[test]
 fn bad_lines_end_the_run(rt: HostRuntime) -> Result<(), Fail> {
     let first_lines = [
@@ -203,10 +353,43 @@ fn bad_lines_end_the_run(rt: HostRuntime) -> Result<(), Fail> {
         "word 0x1000 0 0 0",
         "word 0x1800 0 0",
         "word 0x8000 0 0",
-        "free 0x2000",
-        "addr 0x0",
-        "map 4KiB 0x1000 0x5000 0x1",
-        "pool",
+        "free",
+        "free 0x2000 0x3000",
+        "free 0x0",
+        "free 0x2001",
+        "free 0x8000",
+        "free 0x10000000002000",
+        "free 0xfffffffffffff000",
+        "addr",
+        "addr 0x0 0x0",
+        "addr 0x800000000000",
+        "pool 0x2000",
+        "map",
+        "map 4KiB 0x1000 0x5000",
+        "map 4KiB 0x1000 0x5000 0x1 0x1",
+        "map 4KiB 0x1001 0x5000 0x1",
+        "map 4KiB 0x800000000000 0x5000 0x1",
+        "map 4KiB 0x1000 0x5001 0x1",
+        "map 4KiB 0x1000 0x10000000000000 0x1",
+        "map 4KiB 0x1000 0x5000 0x10000000000000000",
+        "map 0x1000 0x5000 0x1",
+        "map 4kib 0x1000 0x5000 0x1",
+        "map 2MiB 0x200000 0x400000 0x1",
+        "map 1GiB 0x40000000 0x80000000 0x1",
+        "unmap",
+        "unmap 4KiB",
+        "unmap 4KiB 0x1000 0x5000",
+        "unmap 4KiB 0x1001",
+        "unmap 4KiB 0x800000000000",
+        "unmap 0x1000",
+        "unmap 2MiB 0x200000",
+        "map-with 4KiB 0x1000 0x5000 0x1 0x1",
+        "identity 4KiB 0x5000 0x1",
+        "update 4KiB 0x1000 0x1",
+        "p4 4KiB 0x1000 0x1",
+        "translate-page 4KiB 0x1000",
+        "cleanup",
+        "4KiB 0x1000",
         "# a comment",
     ];
     for line in first_lines {
@@ -221,6 +404,8 @@ fn bad_lines_end_the_run(rt: HostRuntime) -> Result<(), Fail> {
     let later_lines = [
         ("", "\n  \nfoo\n", 3, ""),
         ("", "show 0 0\nword 0x1000 0 0\nshow 0 0\n", 2, "0x0\n"),
+        ("", "pool\nfree 0x2000\npool\n", 2, "pool\n"),
+        ("", "free 0x2000\nfree 0x3000\nfree 0x2000\n", 3, ""),
         (
             FIRST,
             "walk 0x1abc\nwalk\nwalk 0x1abc\n",
@@ -229,6 +414,7 @@ fn bad_lines_end_the_run(rt: HostRuntime) -> Result<(), Fail> {
         ),
         // A line that can't be read comes before the test of the image.
         (INVALID, "foo\n", 3, ""),
+        (INVALID, "free 0x0\n", 3, ""),
     ];
     for (image, lines, number, replies) in later_lines {
         let outcome = run_on(rt.alloc(), image, lines.as_bytes())?;
@@ -282,6 +468,9 @@ fn invalid_images_are_refused(rt: HostRuntime) -> Result<(), Fail> {
         "word 0x1000 0 0x3\n",
         "word 0x1000 0 0x2083\n",
         "word 0x1000 0 0x2003\nword 0x2000 0 0x3003\nword 0x3000 0 0x2003\n",
+        // The root and a table are free.
+        "free 0x1000\n",
+        "free 0x3000\nword 0x1000 0 0x2003\nword 0x2000 0 0x3002\n",
     ];
     for image in images {
         for lines in ["", "show 0 0\n", "\n walk 0\nfoo\n"] {
@@ -330,20 +519,21 @@ fn arguments_are_a_mode_and_its_numbers(rt: HostRuntime) -> Result<(), Fail> {
 
 #[test]
 fn failed_reads_and_writes_end_the_run(rt: HostRuntime) -> Result<(), Fail> {
-    let image = FIRST.as_bytes();
     let mut input = Vec::new(rt.alloc());
-    input.extend_from_slice(image)?;
-    input.extend_from_slice(b"translate 0x1abc\nwalk 0x1abc\nshow 0x1000 0\n")?;
+    input.extend_from_slice(b"free 0x6000\nfree 0x7000\n")?;
+    input.extend_from_slice(FIRST.as_bytes())?;
+    input.extend_from_slice(b"translate 0x1abc\nmap 4KiB 0x2000 0x9000 0x1\nwalk 0x1abc\npool\n")?;
     let replies = [
         "",
         "mapped 4KiB 0x5000 0xabc 0x3\n",
+        "ok\n",
         "0x5abc write=1 user=0\n",
-        "0x2003\n",
+        "pool 0x6000 0x7000\n",
     ];
     let failed = Ending::Stopped(Fault::InputOutput);
     let whole = run_failing(rt.alloc(), "direct 8", input.as_slice(), 0, 0)?;
     assert_eq!(rt; whole.ending, Ending::Done);
-    assert_eq!(rt; whole.writes, 3);
+    assert_eq!(rt; whole.writes, 4);
     for read in 1..=whole.reads {
         let outcome = run_failing(rt.alloc(), "direct 8", input.as_slice(), read, 0)?;
         assert_eq!(rt; outcome.ending, failed, "read {read}");
@@ -354,7 +544,7 @@ fn failed_reads_and_writes_end_the_run(rt: HostRuntime) -> Result<(), Fail> {
         );
     }
     let mut earlier = String::new(rt.alloc());
-    for (write, reply) in (1..).zip(replies).take(3) {
+    for (write, reply) in (1..).zip(replies).take(4) {
         earlier.push_str(reply)?;
         let outcome = run_failing(rt.alloc(), "direct 8", input.as_slice(), 0, write)?;
         assert_eq!(rt; outcome.ending, failed, "write {write}");
