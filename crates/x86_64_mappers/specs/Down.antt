@@ -1,32 +1,22 @@
 -- The way down the parents of a page, a step at a time, and the whole map.
-use Rattle.std.proofs.Common.{◌≡◌, false, ◌<◌, ◌≤◌, ◌+◌, ℕ, suc, List, [], ◌∷◌, ◌++◌, length, take, drop, get_or, IsSome, Result, Ok, Err, refl, sym, ap, ◌∙◌, subst, subst₂, add-one, arith}
-use Rattle.std.proofs.lemmas.List.{map-id, length-append, length-take, take_all, drop_all}
+use Rattle.std.proofs.Common.{◌≡◌, false, ◌<◌, ◌+◌, ℕ, suc, List, [], ◌∷◌, ◌++◌, length, take, drop, get_or, Result, Ok, Err, sym, ap, ◌∙◌, subst, add-one, arith}
+use Rattle.std.proofs.lemmas.List.{map-id, length-append, length-take}
 use Rattle.std.proofs.Math.Seq.{take-suc, drop-cons}
 use Rattle.x86_64_model.specs.Entry.{IsParentFlags}
-use Rattle.x86_64_model.specs.Layout.{Layout, words, paths}
+use Rattle.x86_64_model.specs.Layout.{Layout, paths}
 use Rattle.x86_64_model.specs.MapRule.{map_rule}
-use Rattle.x86_64_model.specs.MapperCalls.{IsReady}
 use Rattle.x86_64_model.specs.Memory.{Memory, Distinct}
 use Rattle.x86_64_model.specs.Path.{parents}
 use Rattle.x86_64_model.specs.Refusal.{Refusal, Answer, Refused}
 use Rattle.x86_64_model.specs.Window.{begins_with}
-use Rattle.x86_64_mappers.specs.Goes.{goes_nothing, goes_then}
+use Rattle.x86_64_mappers.specs.Goes.{goes_then}
 use Rattle.x86_64_mappers.specs.MapSteps.{mapped_from, Reached, Stopped, IsStep, IsAt, IsDown, IsPathMapped, IsLeaf}
 use Rattle.x86_64_mappers.specs.Outside.{beside_on, beside_at}
-use Rattle.x86_64_mappers.specs.Seen.{Beside, there_seen}
+use Rattle.x86_64_mappers.specs.Seen.{Beside}
 use Rattle.x86_64_mappers.specs.Steps.{step, leaf}
 use Rattle.x86_64_mappers.specs.Writes.{IsMade, IsLeafSet}
 
 module _ (l : Layout) (m : Memory) (s : List ℕ) (more : ℕ) (path : List ℕ) where
-  pub at_start : IsReady l m s → IsAt l m s more path [] path m s l.root
-  at_start ready = record { goes = goes_nothing l m s ready; leads = refl; outcome = λ last e frame. refl }
-
-  pub at_end : (k : ℕ) → length path ≤ k → (n : Memory) (rest : List ℕ) (g : ℕ) → IsAt l m s more path (take k path) (drop k path) n rest g → IsDown l m s more path (Ok g) n rest
-  at_end k past n rest g here = subst₂ (λ t d. IsAt l m s more path t d n rest g) (take_all k path past) (drop_all k path past) here
-
-  pub at_there : (done left : List ℕ) (n : Memory) (rest : List ℕ) (g : ℕ) → IsAt l m s more path done left n rest g → IsSome (words l n g)
-  at_there done left n rest g here = there_seen l.window l.root (words l n) g (here.goes.ready.valid.valid.holds.in_memory done g here.leads)
-
   module _ (done left : List ℕ) (i : ℕ) (n : Memory) (rest : List ℕ) (f : ℕ) (here : IsAt l m s more path done (i ∷ left) n rest f) (o : Memory) (fs : List ℕ) where
     at_next : (g : ℕ) → Reached l n rest more done i o fs g → IsAt l m s more path (done ++ i ∷ []) left o fs g
     at_next g r = record { goes = goes_then l m s n rest o fs here.goes r.goes; leads = r.leads; outcome = λ x e frame. here.outcome x e frame ∙ on left x e frame }

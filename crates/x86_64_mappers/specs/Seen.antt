@@ -3,7 +3,7 @@ use Rattle.std.proofs.Common.{◌≡◌, ◌≢◌, ⊎_elim, ℕ, ◌==◌, Boo
 use Rattle.std.proofs.lemmas.Bool.{cases_eq}
 use Rattle.std.proofs.lemmas.List.{length-set}
 use Rattle.x86_64_model.specs.Layout.{Layout, words}
-use Rattle.x86_64_model.specs.Lemmas.Hierarchies.Held.{set_word_other, word-set_frame, word-set_index, is_some-set}
+use Rattle.x86_64_model.specs.Lemmas.Hierarchies.Held.{word-set_frame, word-set_index, is_some-set}
 use Rattle.x86_64_model.specs.Memory.{Memory, Words, word, set_word}
 use Rattle.x86_64_model.specs.Window.{Window, outside_window, SelfEntry}
 
@@ -57,10 +57,6 @@ pub seen_same : (window : Option Window) (root : ℕ) (T U : Words) (f : ℕ) �
 unfolding set_word
 seen_same None root T U f e = e
 seen_same (Some v) root T U f e = ap (λ o. cond (f == root) (option_map (λ words. set words v.index 0) o) o) e
-
-pub seen_frame : (window : Option Window) (root : ℕ) (T : Words) (f : ℕ) → f ≢ root → outside_window window root T f ≡ T f
-seen_frame None root T f n = refl
-seen_frame (Some v) root T f n = set_word_other T root v.index 0 f n
 
 -- the self-entry stays
 pub self_kept : (window : Option Window) (root : ℕ) (T U : Words) → ((v : Window) → window ≡ Some v → word U root v.index ≡ word T root v.index) → SelfEntry T root window → SelfEntry U root window

@@ -1,7 +1,7 @@
 -- What a walker's steps do to a memory, one table at a time. m is the memory before, n the memory after.
 use Rattle.std.specs.Prelude.{◌≡◌, ◌⊎◌, ℕ, true, false, List, [], ◌∷◌, length, set, Some, IsSome, unwrap_or, bit_or, Result, Ok, Err}
 use Rattle.std.specs.FinMap.{insert}
-use Rattle.x86_64_model.specs.Entry.{used, huge, address, present}
+use Rattle.x86_64_model.specs.Entry.{used, huge, address}
 use Rattle.x86_64_model.specs.Memory.{Memory, Places, words_of, word}
 use Rattle.x86_64_model.specs.Refusal.{Refusal, PageNotMapped, ParentEntryHugePage, InvalidFrameAddress, PageAlreadyMapped, FrameAllocationFailed, Answer, Done, Refused}
 use Rattle.x86_64_tables.specs.PageTable.{zero_words}
@@ -62,12 +62,3 @@ IsLeafSet places m f i w frame (Refused PageNotMapped) n = ⊥
 IsLeafSet places m f i w frame (Refused ParentEntryHugePage) n = ⊥
 IsLeafSet places m f i w frame (Refused (InvalidFrameAddress a)) n = ⊥
 IsLeafSet places m f i w frame (Refused FrameAllocationFailed) n = ⊥
-
--- the way down from a word w to the next table, where no table is made
-abbrev pub IsNext : (w : ℕ) → Result ℕ Refusal → Type 0
-IsNext w (Ok g) = (present w ≡ true) × (huge w ≡ false) × (g ≡ address w)
-IsNext w (Err PageNotMapped) = present w ≡ false
-IsNext w (Err ParentEntryHugePage) = (present w ≡ true) × (huge w ≡ true)
-IsNext w (Err (InvalidFrameAddress a)) = ⊥
-IsNext w (Err (PageAlreadyMapped g)) = ⊥
-IsNext w (Err FrameAllocationFailed) = ⊥
