@@ -1,0 +1,75 @@
+//! The pages that are mapped, and the frames that they are mapped to.
+ghost use Rattle.std.specs.Prelude.{◌≡◌, ◌<◌, ◌≤◌};
+
+use std::alloc::{AllocError, Global};
+use x86_64::structures::paging::{Page, PhysFrame, Size4KiB};
+use x86_64::{PhysAddr, VirtAddr};
+
+/// How many numbers of pages there are in a scattered workload.
+const SCATTERED_PAGES: u64 = 1 << 22;
+
+/// The frame of the first page has this number.
+const FIRST_FRAME: u64 = 1 << 20;
+
+/// Says which pages are mapped.
+#[derive(Clone, Copy, Debug, PartialEq)]
+pub enum Pattern {
+    /// Page after page, from page 0 on.
+    Contiguous,
+    /// Pages all over 16GiB.
+    Scattered,
+}
+
+/// Names pages and frames, by the order in which they are mapped.
+#[derive(Clone, Copy, Debug)]
+pub struct Workload {
+    /// How many pages are mapped.
+    pub pages: u32,
+    pattern: Pattern,
+}
+
+impl Workload {
+    /// Makes a workload of so many pages.
+    pub fn new(pages: u32, pattern: Pattern) -> Workload {
+        Workload { pages, pattern }
+    }
+
+    /// Gives the `k`-th page.
+    pub fn page(self, k: u32) -> Page<Size4KiB> {
+        let number = match self.pattern {
+            Pattern::Contiguous => u64::from(k),
+            Pattern::Scattered => u64::from(k) * 0x9e37_79b1 % SCATTERED_PAGES,
+        };
+        Page::containing_address(VirtAddr::new_truncate(number * 4096))
+    }
+
+    /// Gives the frame to which the `k`-th page is mapped.
+    pub fn frame(self, k: u32) -> PhysFrame<Size4KiB> {
+        let number = FIRST_FRAME + u64::from(k);
+        PhysFrame::containing_address(PhysAddr::new_truncate(number * 4096))
+    }
+
+    /// Gives a bound on the places that the tables of the hierarchy take, frame 0 and the root's among them.
+    pub fn places(self) -> u64 {
+        let tables_of_level_one = match self.pattern {
+            Pattern::Contiguous => u64::from(self.pages) / 512 + 1,
+            Pattern::Scattered => SCATTERED_PAGES / 512,
+        };
+        tables_of_level_one + tables_of_level_one / 512 + 8
+    }
+
+    /// Gives the numbers of the pages in an order that is shuffled, always in the same way.
+    pub fn shuffled(self, alloc: Global) -> Result<Vec<u32>, AllocError> {
+        let mut order = Vec::with_capacity(alloc, self.pages as usize)?;
+        for k in 0..self.pages {
+            order.push(k)?;
+        }
+        let mut state = 1_u64;
+        for last in 1..order.len() {
+            state = state.wrapping_mul(6_364_136_223_846_793_005).wrapping_add(1_442_695_040_888_963_407);
+            let other = (state >> 33) as usize % (last + 1);
+            order.swap(last, other);
+        }
+        Ok(order)
+    }
+}
