@@ -6,9 +6,10 @@ ghost use Rattle.x86_64_model.specs.MapperCalls.{IsReady};
 use crate::workload::Workload;
 use std::alloc::{AllocError, Global};
 use std::io;
-use std::time::{Duration, Instant};
+use std::time::{Clock, Duration, Instant};
 use x86_64::structures::paging::mapper::{MappedPageTable, Mapper, Translate};
 use x86_64::structures::paging::{FrameAllocator, PageTableFlags, PhysFrame, Size4KiB};
+use bitflags::Flags;
 use x86_64::{FramePool, IdentityMapping, PhysAddr, PhysMemory, pool_fits};
 
 /// How often all pages are translated in a round.
@@ -71,4 +72,57 @@ fn translate_all<T: Translate>(mapper: &T, workload: Workload, order: &[u32]) ->
         }
     }
     found
+}
+
+/// Says what a round did, and how long each part took.
+#[derive(Clone, Copy, Debug)]
+pub struct Round {
+    /// How many pages were mapped, and to their frames translated, all times together, and unmapped.
+    pub counts: [u64; 3],
+    /// How long all maps, all translations and all unmaps took.
+    pub times: [Duration; 3],
+    /// How many frames the tables took.
+    pub tables: usize,
+}
+
+/// Maps, translates and unmaps all pages of a workload in a new hierarchy. Gives `None` where that is no valid one.
+pub fn measure(alloc: Global, clock: &impl Clock, workload: Workload) -> io::Result<Option<Round>> {
+    let root = frame_numbered(1);
+    let mut memory = PhysMemory::new(alloc, workload.places())?;
+    let mut pool = new_pool(alloc, workload.places())?;
+    if !pool_fits(alloc, &memory, &IdentityMapping, root, &pool)? {
+        return Ok(None);
+    }
+    let order = workload.shuffled(alloc)?;
+    let free = pool.len();
+    let mut mapper = MappedPageTable::new(&mut memory, root, IdentityMapping);
+    let start = Instant::now(clock)?;
+    let mapped = map_all(&mut mapper, &mut pool, workload);
+    let map_time = start.elapsed(clock)?;
+    let start = Instant::now(clock)?;
+    let found = translate_all(&mapper, workload, order.as_slice());
+    let translate_time = start.elapsed(clock)?;
+    let start = Instant::now(clock)?;
+    let unmapped = unmap_all(&mut mapper, workload);
+    let unmap_time = start.elapsed(clock)?;
+    Ok(Some(Round {
+        counts: [mapped, found, unmapped],
+        times: [map_time, translate_time, unmap_time],
+        tables: free.saturating_sub(pool.len()),
+    }))
+}
+
+/// Gives the 4KiB frame with a number modulo 2^40.
+fn frame_numbered(number: u64) -> PhysFrame<Size4KiB> {
+    PhysFrame::containing_address(PhysAddr::new_truncate(number.wrapping_mul(4096)))
+}
+
+/// Makes a pool of the frames with numbers from 2 to `limit` - 1.
+fn new_pool(alloc: Global, limit: u64) -> Result<FramePool, AllocError> {
+    let mut pool = FramePool::new(alloc, limit)?;
+    for number in 2..limit {
+        // A frame is refused that is there already, and none of these is.
+        let _added = pool.try_add(frame_numbered(number));
+    }
+    Ok(pool)
 }
