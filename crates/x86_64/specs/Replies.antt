@@ -59,14 +59,18 @@ abbrev pub translate_result : Translated → TranslateResult
 translate_result Nowhere = NotMapped
 translate_result (At size frame offset flags) = Mapped (mapped_frame size frame) offset (record { 0 = flags })
 
--- the reply to a call that the machine answers so. The machine gives no call other replies than those of the first clauses
+abbrev pub sized : {S : Type 0} → (SizeReply S → Reply) → Option (SizeReply S) → Reply
+sized wrap None = reply.NotAllowed
+sized wrap (Some answer) = wrap answer
+
+-- The reply to a call that the machine answers so. The machine gives a call on a page no other reply than an answer, and a translation no other
+-- than one of its own kind.
 abbrev pub reply_of : Call → machine.Reply → Reply
-reply_of (Of4KiB call) (machine.Answered answer) = reply.Of4KiB (size_reply call answer)
-reply_of call (machine.Answered answer) = reply.NotAllowed
-reply_of call (machine.Position translated) = reply.Translate (translate_result translated)
-reply_of call (machine.Address address) = reply.Address address
-reply_of call machine.Cleaned = reply.NotAllowed
-reply_of call machine.NotAllowed = reply.NotAllowed
+reply_of (Of4KiB call) answer = sized reply.Of4KiB (size_answer call answer)
+reply_of (Translate addr) (machine.Position translated) = reply.Translate (translate_result translated)
+reply_of (Translate addr) answer = reply.NotAllowed
+reply_of (TranslateAddr addr) (machine.Address address) = reply.Address address
+reply_of (TranslateAddr addr) answer = reply.NotAllowed
 
 -- a reply for each call
 abbrev pub replies_with : List Call → List machine.Reply → List Reply

@@ -1,22 +1,24 @@
 //! Lists of calls of a mapper.
-ghost use Rattle.std.specs.Prelude.{◌≡◌, ◌++◌, ◌↔◌, ℕ, not, Some, option_map, OnOk, OnErr};
-ghost use Rattle.x86_64_model.specs.Layout.{Layout};
-ghost use Rattle.x86_64_model.specs.Machine.{State, step, state_after};
+ghost use Rattle.std.specs.Prelude.{◌≡◌, ◌+◌, ◌<◌, ◌++◌, ◌↔◌, ℕ, not, length, OnOk, OnErr, vec_len};
+ghost use Rattle.std.specs.Vec.{vec_capacity};
+ghost use Rattle.x86_64_model.specs.Allowed.{allowed};
+ghost use Rattle.x86_64_model.specs.Layout.{Layout, Valid, paths};
+ghost use Rattle.x86_64_model.specs.Machine.{State, state_after};
 ghost use Rattle.x86_64_model.specs.MapRule.{parent_part};
 ghost use Rattle.x86_64_model.specs.MapperCalls.{Owns, KeepsOthers};
 ghost use Rattle.x86_64_model.specs.Path.{path_at};
 ghost use Rattle.x86_64_model.specs.Window.{begins_with};
 ghost use Rattle.x86_64_tables.specs.PageTableFlags.{bits_of};
-ghost use Rattle.x86_64.specs.Calls.{size_call, call_of, calls_of};
-ghost use Rattle.x86_64.specs.Replies.{size_answer, reply_of};
-ghost use Rattle.x86_64.specs.Runs.{machine_of, state_of, FitsPool, Keeps, replies_to};
+ghost use Rattle.x86_64.specs.Calls.{size_call, calls_of};
+ghost use Rattle.x86_64.specs.Runs.{machine_of, state_of, FitsPool, Keeps, size_step, call_step, replies_to};
 
 use crate::calls::{Call, Reply, SizeCall, SizeReply};
 use bitflags::Flags;
 use std::alloc::AllocError;
+use x86_64_page::frame::PhysFrame;
 use x86_64_page::page::{Page, PageSize, Size4KiB};
 use x86_64_tables::frame_alloc::FrameStore;
-use x86_64_tables::mapper::{Mapper, MapperFlush, PageTables, Translate};
+use x86_64_tables::mapper::{Mapper, MapperFlush, PageTables, Translate, UnmapError};
 use x86_64_tables::page_table::PageTableFlags;
 
 /// Answers calls in order, and appends a reply for each.
@@ -40,7 +42,8 @@ pub fn run<M: Mapper<Size4KiB> + Translate, F: FrameStore>(
         OnOk result (replies.new.items ≡ replies.old.items ++ replies_to (machine_of layout F.put) start calls.now) }
     ensures state { let layout = M.layout mapper.old in let start = state_of layout (M.memory mapper.old) (F.supply frames.old) in
         OnOk result (state_of layout (M.memory mapper.new) (F.supply frames.new) ≡ state_after (machine_of layout F.put) start (calls_of layout.levels calls.now)) }
-    ensures unchanged { OnErr result ((replies.new ≡ replies.old) × (mapper.new ≡ mapper.old) × (frames.new ≡ frames.old)) }
+    ensures unchanged { OnErr result ((replies.new.items ≡ replies.old.items) × (vec_capacity replies.new ≡ vec_capacity replies.old) × (mapper.new ≡ mapper.old) × (frames.new ≡ frames.old)) }
+    ensures needs_room { OnErr result (vec_capacity replies.old < vec_len replies.old + length calls.now) }
     ensures fits { FitsPool (M.layout mapper.new) (M.memory mapper.new) (F.serves frames.new) (F.supply frames.new) }
     ensures conserved { let layout = M.layout mapper.old in
         (f : ℕ) → Owns layout (M.memory mapper.old) (F.supply frames.old) f ↔ Owns layout (M.memory mapper.new) (F.supply frames.new) f }
@@ -64,8 +67,8 @@ fn serve<M: Mapper<Size4KiB> + Translate, F: FrameStore>(
     call: Call,
 ) -> Reply
     requires { FitsPool (M.layout mapper.old) (M.memory mapper.old) (F.serves frames.old) (F.supply frames.old) }
-    ensures step { let layout = M.layout mapper.old in let after = step (machine_of layout F.put) (state_of layout (M.memory mapper.old) (F.supply frames.old)) (call_of layout.levels call) in
-        (state_of layout (M.memory mapper.new) (F.supply frames.new) ≡ after.0) × (result ≡ reply_of call after.1) }
+    ensures step { let layout = M.layout mapper.old in let start = state_of layout (M.memory mapper.old) (F.supply frames.old) in
+        call_step (machine_of layout F.put) start call ≡ (state_of layout (M.memory mapper.new) (F.supply frames.new), result) }
     ensures keeps { Keeps (M.layout mapper.old) (F.serves frames.old) (M.memory mapper.old) (F.supply frames.old) (M.memory mapper.new) (F.supply frames.new) }
     ensures layout { M.layout mapper.new ≡ M.layout mapper.old }
     ensures lent { M.lent mapper.new ≡ M.lent mapper.old }
@@ -82,38 +85,47 @@ fn serve<M: Mapper<Size4KiB> + Translate, F: FrameStore>(
 }
 
 /// Answers a call on a page, or gives `None` where it is not allowed.
+#[tactic(auto, unfolding(x86_64_model::specs::Allowed::allowed))]
 fn serve_page<S: PageSize, M: Mapper<S>, F: FrameStore>(
     mapper: &mut M,
     frames: &mut F,
     call: SizeCall<S>,
 ) -> Option<SizeReply<S>>
     requires { FitsPool (M.layout mapper.old) (M.memory mapper.old) (F.serves frames.old) (F.supply frames.old) }
-    ensures step { let layout = M.layout mapper.old in let after = step (machine_of layout F.put) (state_of layout (M.memory mapper.old) (F.supply frames.old)) (size_call layout.levels S.LEVEL call) in
-        (state_of layout (M.memory mapper.new) (F.supply frames.new) ≡ after.0) × (result ≡ size_answer call after.1) }
+    ensures step { let layout = M.layout mapper.old in let start = state_of layout (M.memory mapper.old) (F.supply frames.old) in
+        size_step (machine_of layout F.put) S.LEVEL start call ≡ (state_of layout (M.memory mapper.new) (F.supply frames.new), result) }
     ensures keeps { Keeps (M.layout mapper.old) (F.serves frames.old) (M.memory mapper.old) (F.supply frames.old) (M.memory mapper.new) (F.supply frames.new) }
     ensures layout { M.layout mapper.new ≡ M.layout mapper.old }
     ensures lent { M.lent mapper.new ≡ M.lent mapper.old }
     ensures serves { F.serves frames.new ≡ F.serves frames.old }
 {
+    if !is_allowed(mapper, &call) {
+        return None;
+    }
     match call {
         SizeCall::MapTo { page, frame, flags } => {
-            if !mapper.map_allowed(page, flags, parent_flags(flags)) {
-                return None;
-            }
-            Some(SizeReply::Map(match mapper.map_to(page, frame, flags, frames) {
-                Ok(flush) => Ok(spend(flush)),
-                Err(error) => Err(error),
-            }))
+            let mapped = mapper.map_to(page, frame, flags, frames);
+            Some(SizeReply::Map(ignore(mapped)))
         }
         SizeCall::Unmap { page } => {
-            if !is_outside::<S, M>(mapper, page) {
-                return None;
-            }
-            Some(SizeReply::Unmap(match mapper.unmap(page) {
-                Ok((frame, flush)) => Ok((frame, spend(flush))),
-                Err(error) => Err(error),
-            }))
+            let unmapped = mapper.unmap(page);
+            Some(SizeReply::Unmap(ignore_unmapped(unmapped)))
         }
+    }
+}
+
+/// Tells whether the condition of a call on a page holds.
+#[tactic(auto, unfolding(x86_64_model::specs::Allowed::allowed))]
+fn is_allowed<S: PageSize, M: Mapper<S>>(mapper: &M, call: &SizeCall<S>) -> bool
+    requires { Valid (M.layout mapper.now) (M.memory mapper.now) }
+    ensures { let layout = M.layout mapper.now in
+        result ≡ allowed layout.levels layout.window (paths layout (M.memory mapper.now)) (size_call layout.levels S.LEVEL call.now) }
+{
+    match call {
+        SizeCall::MapTo { page, flags, .. } => {
+            mapper.map_allowed(*page, *flags, parent_flags(*flags))
+        }
+        SizeCall::Unmap { page } => is_outside(mapper, *page),
     }
 }
 
@@ -139,11 +151,24 @@ fn is_outside<S: PageSize, M: Mapper<S>>(mapper: &M, page: Page<S>) -> bool
     }
 }
 
-/// Gives the page of a token, and ignores the token.
-fn spend<S: PageSize>(flush: MapperFlush<S>) -> Page<S>
-    ensures { result ≡ flush }
+/// Ignores the token of a call that succeeded, and gives its page.
+fn ignore<S: PageSize, E>(flushed: Result<MapperFlush<S>, E>) -> Result<Page<S>, E>
+    ensures { result ≡ flushed }
 {
+    let flush = flushed?;
     let page = flush.page();
     flush.ignore();
-    page
+    Ok(page)
+}
+
+/// Ignores the token of an unmap that succeeded, and gives its page beside the frame.
+fn ignore_unmapped<S: PageSize>(
+    unmapped: Result<(PhysFrame<S>, MapperFlush<S>), UnmapError>,
+) -> Result<(PhysFrame<S>, Page<S>), UnmapError>
+    ensures { result ≡ unmapped }
+{
+    let (frame, flush) = unmapped?;
+    let page = flush.page();
+    flush.ignore();
+    Ok((frame, page))
 }

@@ -1,7 +1,8 @@
 -- What a walker's writes are to the words of tables.
-use Rattle.std.proofs.Common.{◌≡◌, ◌≢◌, ⊎_elim, ℕ, Bool, true, false, cond, nat_lt, Option, Some, None, IsSome, refl, sym, ap, ◌∙◌, subst, arith, eq-eqb, ne_eqb, ◌==◌}
+use Rattle.std.proofs.Common.{◌≡◌, ◌≢◌, ⊎_elim, ℕ, Bool, true, false, cond, nat_lt, Option, Some, None, IsSome, refl, sym, ap, ◌∙◌, subst, arith, eq-eqb, ne_eqb, ◌==◌, ◌<◌, lt-ltb, get_or, set}
 use Rattle.std.proofs.lemmas.Bool.{cases_eq}
-use Rattle.std.specs.FinMap.{get}
+use Rattle.std.proofs.lemmas.List.{set-get_or}
+use Rattle.std.specs.FinMap.{get, insert}
 use Rattle.x86_64_model.specs.Layout.{Layout, words}
 use Rattle.x86_64_model.specs.Lemmas.Hierarchies.Held.{is_some-set}
 use Rattle.x86_64_model.specs.Lemmas.Hierarchies.Memories.{outside_set, words_of-insert}
@@ -9,7 +10,7 @@ use Rattle.x86_64_model.specs.Memory.{Memory, Places, Distinct, words_of, word, 
 use Rattle.x86_64_model.specs.Window.{SelfEntry, outside_window}
 use Rattle.x86_64_tables.specs.PageTable.{zero_words, get_or-zero_words}
 use Rattle.x86_64_mappers.specs.Seen.{seen, Beside, self-set_word}
-use Rattle.x86_64_mappers.specs.Stored.{words_of-put, get-put, covered, there_is}
+use Rattle.x86_64_mappers.specs.Stored.{words_of-put, get-put, put_back, covered, there_is}
 use Rattle.x86_64_mappers.specs.Writes.{IsSet, IsCleared}
 
 pub not_none : {X : Type 0} (o : Option X) (x : X) → o ≡ Some x → IsSome o
@@ -29,6 +30,17 @@ module _ (places : Places) (apart : Distinct places) where
 
   pub set_keeps : (m : Memory) (f i w : ℕ) (n : Memory) → IsSet places m f i w n → (g : ℕ) → IsSome (words_of m places g) → IsSome (words_of n places g)
   set_keeps m f i w n s g h = subst (λ T. IsSome (T g)) (sym (set_is m f i w n s)) (is_some-set (words_of m places) f i w g h)
+
+  -- a word that was set to what it is
+  pub set_same : (m : Memory) (f i : ℕ) (n : Memory) → i < 512 → IsSet places m f i (word (words_of m places) f i) n → n ≡ m
+  unfolding word
+  set_same m f i n small k =
+      let is : word_in (words_of m places f) i ≡ get_or k.table i 0 = ap (λ o. word_in o i) k.is in
+      let there = there_is m places f (covered m places f (not_none _ k.table k.is)) in
+      k.after
+      ∙ ap (λ w. insert m (places.place f) (set k.table i w)) (ap (λ b. cond b (word_in (words_of m places f) i) 0) (lt-ltb i 512 small) ∙ is)
+      ∙ ap (insert m (places.place f)) (set-get_or k.table i 0)
+      ∙ put_back m (places.place f) k.table (sym there ∙ k.is)
 
   -- ---- a table that was cleared
 

@@ -3,14 +3,18 @@ ghost use Rattle.std.specs.Prelude.{◌≡◌, ◌↔◌, Some, IfOk, IsTrue};
 ghost use Rattle.x86_64_model.specs.Layout.{Valid};
 ghost use Rattle.x86_64_mappers.specs.Layouts.{direct, root_table, HasRoot};
 
+use crate::path::{page_indices, path_length};
 use crate::walker::Walker;
 use std::alloc::{AllocError, Global};
 use x86_64_addr::addr::VirtAddr;
 use x86_64_addr::index::PageTableIndex;
 use x86_64_page::frame::PhysFrame;
-use x86_64_page::page::Size4KiB;
-use x86_64_tables::mapper::{PageTables, Translate, TranslateResult};
-use x86_64_tables::page_table::PageTable;
+use x86_64_page::page::{Page, PageSize, Size4KiB};
+use x86_64_tables::frame_alloc::FrameAllocator;
+use x86_64_tables::mapper::{
+    MapToError, Mapper, MapperFlush, PageTables, Translate, TranslateResult, UnmapError,
+};
+use x86_64_tables::page_table::{PageTable, PageTableFlags};
 use x86_64_tables::phys_memory::{PageTableFrameMapping, PhysMemory, is_valid_hierarchy};
 
 /// Maps pages in a hierarchy of four levels of tables, which it finds in a memory by a frame mapping.
@@ -111,4 +115,71 @@ impl<'a, P: PageTableFrameMapping> Translate for MappedPageTable<'a, P> {
     fn translate(&self, addr: VirtAddr) -> TranslateResult {
         self.walker.translate(self.memory, self.root, addr)
     }
+}
+
+impl<'a, P: PageTableFrameMapping, S: PageSize> Mapper<S> for MappedPageTable<'a, P> {
+    ghost use Rattle.std.specs.Prelude.{not};
+    ghost use Rattle.x86_64_model.specs.Allowed.{map_allowed as is_map_allowed};
+    ghost use Rattle.x86_64_model.specs.Layout.{paths};
+    ghost use Rattle.x86_64_model.specs.MapperCalls.{IsReady, IsMapped, IsUnmapped};
+    ghost use Rattle.x86_64_model.specs.Path.{path_at};
+    ghost use Rattle.x86_64_model.specs.Window.{begins_with};
+    ghost use Rattle.x86_64_tables.specs.MapperAnswers.{map_answer, unmap_answer};
+    ghost use Rattle.x86_64_tables.specs.PageTableFlags.{bits_of};
+    ghost use Rattle.std.proofs.Common.{refl};
+
+    fn map_to_with_table_flags<A: FrameAllocator<Size4KiB>>(
+        &mut self,
+        page: Page<S>,
+        frame: PhysFrame<S>,
+        flags: PageTableFlags,
+        parent_flags: PageTableFlags,
+        frame_allocator: &mut A,
+    ) -> Result<MapperFlush<S>, MapToError<S>>
+        requires ready { IsReady (⟦<Self as PageTables>⟧.layout self.old) (⟦<Self as PageTables>⟧.memory self.old) (A.supply frame_allocator.old) }
+        requires allowed { let layout = ⟦<Self as PageTables>⟧.layout self.old in
+            IsTrue (is_map_allowed layout.levels layout.window (paths layout (⟦<Self as PageTables>⟧.memory self.old)) (path_at layout.levels S.LEVEL page) (bits_of flags) (bits_of parent_flags)) }
+        ensures mapped { let layout = ⟦<Self as PageTables>⟧.layout self.old in
+            IsMapped layout (⟦<Self as PageTables>⟧.memory self.old) (A.supply frame_allocator.old) (path_at layout.levels S.LEVEL page) frame (bits_of flags) (bits_of parent_flags) (map_answer frame result) (⟦<Self as PageTables>⟧.memory self.new) (A.supply frame_allocator.new) }
+        ensures page { IfOk result (λ flush. flush ≡ page) }
+        ensures layout { ⟦<Self as PageTables>⟧.layout self.new ≡ ⟦<Self as PageTables>⟧.layout self.old }
+        ensures lent { ⟦<Self as PageTables>⟧.lent self.new ≡ ⟦<Self as PageTables>⟧.lent self.old }
+        ensures serves { A.serves frame_allocator.new ≡ A.serves frame_allocator.old }
+    {
+        Ok(MapperFlush::new(page))
+    }
+
+    fn map_allowed(
+        &self,
+        page: Page<S>,
+        flags: PageTableFlags,
+        parent_flags: PageTableFlags,
+    ) -> bool
+        requires { Valid (⟦<Self as PageTables>⟧.layout self.now) (⟦<Self as PageTables>⟧.memory self.now) }
+        ensures { let layout = ⟦<Self as PageTables>⟧.layout self.now in
+            result ≡ is_map_allowed layout.levels layout.window (paths layout (⟦<Self as PageTables>⟧.memory self.now)) (path_at layout.levels S.LEVEL page) (bits_of flags) (bits_of parent_flags) }
+    {
+        let indices = page_indices(page);
+        let path = &indices[..path_length::<S>()];
+        self.walker
+            .path_allowed::<S>(self.memory, self.root, path, flags, parent_flags)
+    }
+
+    fn unmap(&mut self, page: Page<S>) -> Result<(PhysFrame<S>, MapperFlush<S>), UnmapError>
+        requires valid { Valid (⟦<Self as PageTables>⟧.layout self.old) (⟦<Self as PageTables>⟧.memory self.old) }
+        requires outside { let layout = ⟦<Self as PageTables>⟧.layout self.old in
+            IsTrue (not (begins_with layout.window (path_at layout.levels S.LEVEL page))) }
+        ensures unmapped { let layout = ⟦<Self as PageTables>⟧.layout self.old in
+            IsUnmapped layout (⟦<Self as PageTables>⟧.memory self.old) (path_at layout.levels S.LEVEL page) (unmap_answer result) (⟦<Self as PageTables>⟧.memory self.new) }
+        ensures page { IfOk result (λ unmapped. unmapped.1 ≡ page) }
+        ensures layout { ⟦<Self as PageTables>⟧.layout self.new ≡ ⟦<Self as PageTables>⟧.layout self.old }
+        ensures lent { ⟦<Self as PageTables>⟧.lent self.new ≡ ⟦<Self as PageTables>⟧.lent self.old }
+    {
+        let indices = page_indices(page);
+        let path = &indices[..path_length::<S>()];
+        let frame = self.walker.unmap_path(self.memory, self.root, path)?;
+        Ok((frame, MapperFlush::new(page)))
+    }
+
+    ghost four_levels = { λ mapper. refl };
 }

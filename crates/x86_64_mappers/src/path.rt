@@ -17,9 +17,9 @@ pub fn page_indices<S: PageSize>(page: Page<S>) -> [PageTableIndex; 4]
     ]
 }
 
-/// Gives how many parents the pages of a size have.
-pub fn parent_count<S: PageSize>() -> usize
-    ensures { result ≡ 4 - S.LEVEL }
+/// Gives how many indices the paths of pages of a size have: one for each level from four down to that of their entries.
+pub fn path_length<S: PageSize>() -> usize
+    ensures { result ≡ 5 - S.LEVEL }
 {
-    4 - S::LEVEL as usize
+    5 - S::LEVEL as usize
 }

@@ -1,5 +1,6 @@
 //! Tables by their frames, and the ways down to them.
-ghost use Rattle.std.specs.Prelude.{◌≡◌, ◌<◌, ◌≤◌, ◌%◌, length, Some, IsSome};
+ghost use Rattle.std.specs.Prelude.{◌≡◌, ◌<◌, ◌≤◌, ◌%◌, ℕ, Some, IsSome};
+ghost use Rattle.std.specs.Borrow.{sem};
 ghost use Rattle.x86_64_addr.specs.Levels.{level_number};
 ghost use Rattle.x86_64_model.specs.Entry.{flags};
 ghost use Rattle.x86_64_model.specs.Layout.{Valid, read_entry};
@@ -7,14 +8,19 @@ ghost use Rattle.x86_64_model.specs.Memory.{words_of, word};
 ghost use Rattle.x86_64_model.specs.PageWalk.{page_start};
 ghost use Rattle.x86_64_model.specs.Position.{span};
 ghost use Rattle.x86_64_model.specs.Translation.{translate as translated, Mapped};
+ghost use Rattle.x86_64_mappers.specs.TableLending.{LendsTableIn, LendsEntry};
 ghost use Rattle.x86_64_mappers.specs.Layouts.{direct};
+ghost use Rattle.x86_64_mappers.specs.Writes.{IsThere, IsSet, IsCleared, word_in_frame, with_word};
 ghost use Rattle.x86_64_tables.specs.Translations.{translation_of, frame_start, frame_size};
+
+mod condition;
+mod unmap;
 
 use x86_64_addr::addr::VirtAddr;
 use x86_64_addr::index::{PageTableIndex, PageTableLevel};
 use x86_64_page::frame::PhysFrame;
 use x86_64_page::page::Size4KiB;
-use x86_64_tables::mapper::{MappedFrame, TranslateResult, UnmapError};
+use x86_64_tables::mapper::{MappedFrame, TranslateResult};
 use x86_64_tables::page_table::{FrameError, PageTable, PageTableEntry};
 use x86_64_tables::phys_memory::{PageTableFrameMapping, PhysMemory};
 
@@ -93,52 +99,43 @@ impl<P: PageTableFrameMapping> Walker<P> {
     }
 }
 
-impl<P: PageTableFrameMapping> Walker<P> {
-    ghost use Rattle.x86_64_mappers.specs.Results.{unmap_result};
-    ghost use Rattle.x86_64_mappers.specs.Stops.{table_below, IsFound};
+/// Lends the table in a frame, which has to be covered and in the memory, to be changed.
+fn table_mut<'m, P: PageTableFrameMapping>(
+    memory: &'m mut PhysMemory,
+    mapping: &P,
+    frame: PhysFrame<Size4KiB>,
+) -> &'m mut PageTable
+    requires { IsThere (P.places mapping.now) memory.old frame }
+    ensures* writes_back { sem 𝓛 (LendsTableIn (P.places mapping.now) memory.entry frame result) }
+    ensures value { words_of memory.old (P.places mapping.now) frame ≡ Some result.now }
+{
+    let place = mapping.frame_to_pointer(frame);
+    memory.table_mut(place).unwrap()
+}
 
-    /// Gives the frame of the table that the entry at an index of a table names.
-    ///
-    /// # Errors
-    ///
-    /// Without `PRESENT` it is `PageNotMapped`, else with `HUGE_PAGE` it is `ParentEntryHugePage`.
-    fn next_table(
-        &self,
-        memory: &PhysMemory,
-        frame: PhysFrame<Size4KiB>,
-        index: PageTableIndex,
-    ) -> Result<PhysFrame<Size4KiB>, UnmapError>
-        requires { IsSome (words_of memory.now (P.places self.now.mapping) frame) }
-        ensures { unmap_result result ≡ table_below (word (words_of memory.now (P.places self.now.mapping)) frame index) }
-    {
-        match self.entry(memory, frame, index).frame() {
-            Ok(table) => Ok(table),
-            Err(FrameError::FrameNotPresent) => Err(UnmapError::PageNotMapped),
-            Err(FrameError::HugeFrame) => Err(UnmapError::ParentEntryHugePage),
-        }
-    }
+/// Lends the entry at an index of the table in a frame, which has to be covered and in the memory, to be changed.
+fn entry_mut<'m, P: PageTableFrameMapping>(
+    memory: &'m mut PhysMemory,
+    mapping: &P,
+    frame: PhysFrame<Size4KiB>,
+    index: PageTableIndex,
+) -> &'m mut PageTableEntry
+    requires { IsThere (P.places mapping.now) memory.old frame }
+    ensures* writes_back { sem 𝓛 (LendsEntry (P.places mapping.now) memory.entry frame index result) }
+    ensures value { result.now ≡ word_in_frame (P.places mapping.now) memory.old frame index }
+    ensures set { let places = P.places mapping.now in
+        (word : ℕ) → IsSet places memory.old frame index word (with_word places memory.old frame index word) }
+    ensures index { index < 512 }
+{
+    &mut table_mut(memory, mapping, frame)[usize::from(index)]
+}
 
-    /// Gives the frame of the table below the parents of a page, by their indices from the root down.
-    ///
-    /// # Errors
-    ///
-    /// `PageNotMapped` where a parent lacks `PRESENT`, and `ParentEntryHugePage` where one before it has `HUGE_PAGE`.
-    fn find_table(
-        &self,
-        memory: &PhysMemory,
-        root: PhysFrame<Size4KiB>,
-        parents: &[PageTableIndex],
-    ) -> Result<PhysFrame<Size4KiB>, UnmapError>
-        requires valid { Valid (direct (P.places self.now.mapping) root) memory.now }
-        requires levels { length parents.now < 4 }
-        ensures { IsFound (direct (P.places self.now.mapping) root) memory.now parents.now (unmap_result result) }
-    {
-        let mut frame = root;
-        for index in parents {
-            frame = self.next_table(memory, frame, *index)?;
-        }
-        Ok(frame)
-    }
+/// Makes the entries unused of the table in a frame, which has to be covered and in the memory.
+fn clear<P: PageTableFrameMapping>(memory: &mut PhysMemory, mapping: &P, frame: PhysFrame<Size4KiB>)
+    requires { IsThere (P.places mapping.now) memory.old frame }
+    ensures { IsCleared (P.places mapping.now) memory.old frame memory.new }
+{
+    table_mut(memory, mapping, frame).zero();
 }
 
 /// Gives the translation of an address by the entry of a level that maps its page.

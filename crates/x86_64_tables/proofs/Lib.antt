@@ -5,3 +5,4 @@ pub mod PlacesInOrder
 pub mod WordsSeen
 pub mod ImageMarks
 pub mod Translations
+pub mod Pools

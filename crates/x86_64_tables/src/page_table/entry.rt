@@ -1,5 +1,5 @@
 //! Entries of page tables.
-ghost use Rattle.std.specs.Prelude.{◌≡◌, ◌%◌, false, not, bit_or};
+ghost use Rattle.std.specs.Prelude.{◌≡◌, ◌<◌, ◌%◌, ◌^◌, false, not, bit_or};
 ghost use Rattle.x86_64_model.specs.Entry.{used, huge, address, flags};
 ghost use Rattle.x86_64_tables.specs.PageTableEntry.{frame_of};
 ghost use Rattle.x86_64_tables.specs.PageTableFlags.{bits_of};
@@ -67,7 +67,8 @@ impl PageTableEntry {
     /// Gives the flags: the word without bits 12 to 51.
     #[tactic(auto, unfolding(x86_64_model::specs::Entry::flags))]
     pub fn flags(&self) -> PageTableFlags
-        ensures { bits_of result ≡ flags self.now }
+        ensures value { bits_of result ≡ flags self.now }
+        ensures below { self.now < 2 ^ 64 }
     {
         PageTableFlags::from_bits_retain(self.0 & FLAGS_MASK)
     }

@@ -16,25 +16,25 @@ loop-index-init g c =
 pub next_table-requires : goal.next_table-requires
 next_table-requires g c = c.loop-index.invariant.leads.there
 
-pub returns-in_err-frame : goal.returns-in_err-frame
-returns-in_err-frame g c =
+pub returns-in_err-table : goal.returns-in_err-table
+returns-in_err-table g c =
     let l = direct (g.P.PageTableFrameMapping.places c.args.self.now.mapping) c.args.root in
     let m = c.args.memory.now in
     let item = get_or_read c.args.parents.now c.loop-index.index-index c.index-item.result c.loop-index-test.true c.index-item.is 0 in
     let e = err_from_is_err_and c.from_residual.result c.from_residual.ensures.1 in
-    rw (e.1, e.2) (find_stop l m c.requires.valid c.args.parents.now c.requires.levels c.loop-index.index-index c.loop-index-test.true c.loop-index.frame c.loop-index.invariant
-    (unmap_refusal c.in_err-frame.field-0.0)
-    (c.in_err-frame.ensures ∙ ap (λ i. table_below (word (words l m) c.loop-index.frame i)) item))
+    rw (e.1, e.2) (find_stop l m c.requires.valid c.args.parents.now c.requires.levels c.loop-index.index-index c.loop-index-test.true c.loop-index.table c.loop-index.invariant
+    (unmap_refusal c.in_err-table.field-0.0)
+    (c.in_err-table.ensures ∙ ap (λ i. table_below (word (words l m) c.loop-index.table i)) item))
 
 pub loop-index-preserved : goal.loop-index-preserved
 loop-index-preserved g c =
     let l = direct (g.P.PageTableFrameMapping.places c.args.self.now.mapping) c.args.root in
     let m = c.args.memory.now in
     let item = get_or_read c.args.parents.now c.loop-index.index-index c.index-item.result c.loop-index-test.true c.index-item.is 0 in
-    find_next l m c.requires.valid c.args.parents.now c.requires.levels c.loop-index.index-index c.loop-index-test.true c.loop-index.frame c.loop-index.invariant
-    c.in_ok-frame.frame
-    (c.in_ok-frame.ensures ∙ ap (λ i. table_below (word (words l m) c.loop-index.frame i)) item)
+    find_next l m c.requires.valid c.args.parents.now c.requires.levels c.loop-index.index-index c.loop-index-test.true c.loop-index.table c.loop-index.invariant
+    c.in_ok-table.table
+    (c.in_ok-table.ensures ∙ ap (λ i. table_below (word (words l m) c.loop-index.table i)) item)
 
 pub returns : goal.returns
 returns g c =
-    find_end (direct (g.P.PageTableFrameMapping.places c.args.self.now.mapping) c.args.root) c.args.memory.now c.args.parents.now c.loop-index.index-index c.loop-index.frame c.loop-index-test.false c.loop-index.invariant
+    find_end (direct (g.P.PageTableFrameMapping.places c.args.self.now.mapping) c.args.root) c.args.memory.now c.args.parents.now c.loop-index.index-index c.loop-index.table c.loop-index-test.false c.loop-index.invariant

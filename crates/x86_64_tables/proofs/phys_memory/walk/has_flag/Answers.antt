@@ -4,4 +4,4 @@ use Rattle.x86_64_tables.proofs.phys_memory.walk.has_flag.Goals as goal
 
 pub returns : goal.returns
 returns c =
-    c.contains.ensures tt ∙ sym (tested c.args.entry.now c.flags.result.0 c.args.flag.0 c.flags.ensures c.requires)
+    c.contains.ensures tt ∙ sym (tested c.args.entry.now c.flags.result.0 c.args.flag.0 c.flags.ensures.value c.requires)

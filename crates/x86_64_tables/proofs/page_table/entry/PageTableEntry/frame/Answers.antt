@@ -8,15 +8,15 @@ from_start_address_unchecked-requires c = rw c.addr.ensures (address_aligned c.a
 
 pub returns-then-not-contains : goal.returns-then-not-contains
 returns-then-not-contains c =
-    not_present c.args.self.now c.flags-flags.result.0 c.flags-flags.ensures (sym (c.contains.ensures tt) ∙ c.if-not-contains.true)
+    not_present c.args.self.now c.flags-flags.result.0 c.flags-flags.ensures.value (sym (c.contains.ensures tt) ∙ c.if-not-contains.true)
 
 pub returns-then-contains : goal.returns-then-contains
 returns-then-contains c =
-    present_huge c.args.self.now c.flags-flags.result.0 c.flags-flags.ensures (sym (c.contains.ensures tt) ∙ c.if-not-contains.false)
+    present_huge c.args.self.now c.flags-flags.result.0 c.flags-flags.ensures.value (sym (c.contains.ensures tt) ∙ c.if-not-contains.false)
     (sym (c.contains-else-not-contains.ensures tt) ∙ c.if-contains.true)
 
 pub returns-else-contains : goal.returns-else-contains
 returns-else-contains c =
     ap Ok (c.from_start_address_unchecked.ensures ∙ c.addr.ensures)
-    ∙ present_small c.args.self.now c.flags-flags.result.0 c.flags-flags.ensures (sym (c.contains.ensures tt) ∙ c.if-not-contains.false)
+    ∙ present_small c.args.self.now c.flags-flags.result.0 c.flags-flags.ensures.value (sym (c.contains.ensures tt) ∙ c.if-not-contains.false)
     (sym (c.contains-else-not-contains.ensures tt) ∙ c.if-contains.false)

@@ -1,0 +1,44 @@
+-- What a mapper's call leaves and answers is the machine's step.
+use Rattle.std.proofs.Common.{◌≡◌, ℕ, List, Option, Some, refl, ap, sym, ◌∙◌, subst}
+use Rattle.x86_64_model.specs.Memory.{Memory}
+use Rattle.x86_64_model.specs.Layout.{Layout, read_entry}
+use Rattle.x86_64_model.specs.Translation.{Translated, translate, address_of}
+use Rattle.x86_64_model.specs.Allowed.{allowed}
+use Rattle.x86_64_model.specs.Machine.{Machine, State, do_call}
+use Rattle.x86_64_tables.specs.Translations.{translation_of}
+use Rattle.x86_64_tables.specs.declared.mapper.MappedFrame.TheVariants.{Size4KiB, Size2MiB, Size1GiB}
+use Rattle.x86_64_tables.specs.declared.mapper.TranslateResult.{TranslateResult}
+use Rattle.x86_64_tables.specs.declared.mapper.TranslateResult.TheVariants.{Mapped, NotMapped, InvalidFrameAddress}
+use Rattle.x86_64_page.specs.declared.page.Size4KiB.{Size4KiB as Marker}
+use Rattle.x86_64.specs.declared.calls.SizeCall.{SizeCall}
+use Rattle.x86_64.specs.declared.calls.SizeReply.{SizeReply}
+use Rattle.x86_64.specs.declared.calls.Call.{Call}
+use Rattle.x86_64.specs.declared.calls.Call.TheVariants as call
+use Rattle.x86_64.specs.declared.calls.Reply.TheVariants as reply
+use Rattle.x86_64.specs.Replies.{translate_result, sized}
+use Rattle.x86_64.specs.Runs.{machine_of, state_of, size_step, call_step}
+
+pub size_served : (m : Machine) (s t : State) (c : Call) (on_page : SizeCall Marker) → c ≡ call.Of4KiB on_page → (told answer : Option (SizeReply Marker)) → told ≡ answer → size_step m 1 s on_page ≡ (t, told)
+    → call_step m s c ≡ (t, sized reply.Of4KiB answer)
+size_served m s t c on_page is told answer tells e = ap (call_step m s) is ∙ ap (λ (x : State × Option (SizeReply Marker)). (x.0, sized reply.Of4KiB x.1)) e ∙ ap (λ a. (t, sized reply.Of4KiB a)) tells
+
+some_same : {t u : Translated} → Some t ≡ Some u → t ≡ u
+some_same e = cc
+
+translation_back : (r : TranslateResult) (t : Translated) → translation_of r ≡ Some t → r ≡ translate_result t
+translation_back (Mapped (Size4KiB start) offset flags) t e = subst (λ t. Mapped (Size4KiB start) offset flags ≡ translate_result t) (some_same e) refl
+translation_back (Mapped (Size2MiB start) offset flags) t e = subst (λ t. Mapped (Size2MiB start) offset flags ≡ translate_result t) (some_same e) refl
+translation_back (Mapped (Size1GiB start) offset flags) t e = subst (λ t. Mapped (Size1GiB start) offset flags ≡ translate_result t) (some_same e) refl
+translation_back NotMapped t e = subst (λ t. NotMapped ≡ translate_result t) (some_same e) refl
+translation_back (InvalidFrameAddress address) t e = cc
+
+module _ (l : Layout) (put : List ℕ → ℕ → List ℕ) (m : Memory) (pool : List ℕ) (c : Call) (addr : ℕ) where
+  pub translate_served : c ≡ call.Translate addr → (r : TranslateResult) → translation_of r ≡ Some (translate l.levels (read_entry l m) addr)
+      → call_step (machine_of l put) (state_of l m pool) c ≡ (state_of l m pool, reply.Translate r)
+  unfolding allowed do_call
+  translate_served is r e = ap (call_step (machine_of l put) (state_of l m pool)) is ∙ ap (λ r. (state_of l m pool, reply.Translate r)) (sym (translation_back r _ e))
+
+  pub address_served : c ≡ call.TranslateAddr addr → (a : Option ℕ) → a ≡ address_of (translate l.levels (read_entry l m) addr)
+      → call_step (machine_of l put) (state_of l m pool) c ≡ (state_of l m pool, reply.Address a)
+  unfolding allowed do_call
+  address_served is a e = ap (call_step (machine_of l put) (state_of l m pool)) is ∙ ap (λ a. (state_of l m pool, reply.Address a)) (sym e)

@@ -1,0 +1,50 @@
+-- One call keeps what a list of calls keeps, and so do calls one after another.
+use Rattle.std.proofs.Common.{◌≡◌, ℕ, Bool, List, refl, sym, ◌∙◌, subst}
+use Rattle.x86_64_model.specs.Entry.{IsParentFlags}
+use Rattle.x86_64_model.specs.Memory.{Memory}
+use Rattle.x86_64_model.specs.Layout.{Layout, words, paths}
+use Rattle.x86_64_model.specs.Pool.{IsGiving}
+use Rattle.x86_64_model.specs.MapperCalls.{IsReady, Owns, KeepsOthers}
+use Rattle.x86_64_model.specs.Call.{Call, IsCall}
+use Rattle.x86_64_model.specs.Machine.{State, step}
+use Rattle.x86_64_model.specs.Lemmas.Maps.Frames.{Conserves}
+use Rattle.x86_64_model.specs.Lemmas.Machines.States.{IsSound, step_sound, step_conserves}
+use Rattle.x86_64_model.specs.Lemmas.Machines.Fitting.{sound_of_fits, fits_of_sound}
+use Rattle.x86_64.specs.Runs.{machine_of, state_of, FitsPool, Keeps}
+
+-- whatever a pool serves, its frames are as the calls of a mapper want them
+pub ready_of_fits : (l : Layout) (m : Memory) (serves : ℕ → Bool) (pool : List ℕ) → FitsPool l m serves pool → IsReady l m pool
+ready_of_fits l m serves pool fits = record {
+  valid = fits.valid;
+  each_once = fits.each_once;
+  in_memory = fits.in_memory;
+  are_frames = fits.are_frames;
+  not_zero = fits.not_zero;
+  no_table = fits.no_table;
+  serves_pool = λ f i. refl;
+  serves_tables = λ i q f t. refl;
+}
+
+pub keeps_nothing : (l : Layout) (serves : ℕ → Bool) (m : Memory) (pool : List ℕ) → FitsPool l m serves pool → Keeps l serves m pool m pool
+keeps_nothing l serves m pool fits = record { fits = fits; conserved = λ f. (λ own. own, λ own. own); others = λ k o. refl }
+
+pub keeps_then : (l : Layout) (serves : ℕ → Bool) (m n o : Memory) (pool rest last : List ℕ) → Keeps l serves m pool n rest → Keeps l serves n rest o last → Keeps l serves m pool o last
+keeps_then l serves m n o pool rest last one next = record {
+  fits = next.fits;
+  conserved = λ f. (λ own. (next.conserved f).0 ((one.conserved f).0 own), λ own. (one.conserved f).1 ((next.conserved f).1 own));
+  others = λ k none. next.others k (λ f own. none f ((one.conserved f).1 own)) ∙ one.others k none;
+}
+
+-- a step of the machine, where the words mean the state after it and are as a mapper leaves them
+pub keeps_step : (l : Layout) → IsParentFlags l.added_flags → (put : List ℕ → ℕ → List ℕ) → IsGiving put → (serves : ℕ → Bool) (m : Memory) (pool : List ℕ) → FitsPool l m serves pool
+    → (call : Call) → IsCall l.levels call → (n : Memory) (rest : List ℕ) → state_of l n rest ≡ (step (machine_of l put) (state_of l m pool) call).0
+    → IsReady l n rest → KeepsOthers l.places (Owns l m pool) m n → Keeps l serves m pool n rest
+keeps_step l adds put gives serves m pool fits call is n rest means ready others =
+    let sound = sound_of_fits l.levels l.window (words l m) l.root serves (state_of l m pool) fits in
+    let after = step_sound l.levels l.window l.root serves (state_of l m pool) sound l.added_flags adds put gives call is in
+    let same = step_conserves l.levels l.window l.root serves (state_of l m pool) sound l.added_flags adds put gives call is in
+    record {
+      fits = fits_of_sound l.levels l.window (words l n) l.root serves (state_of l n rest) (subst (IsSound l.levels l.window l.root serves) (sym means) after) ready.valid ready.in_memory;
+      conserved = (subst (λ (s : State). Conserves l.levels l.root (paths l m) pool s.paths s.pool) (sym means) same).same_set;
+      others = others;
+    }

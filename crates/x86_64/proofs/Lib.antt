@@ -1,0 +1,5 @@
+pub mod CallSteps
+pub mod FirstIndex
+pub mod Keeping
+pub mod PageSteps
+pub mod Rounds
