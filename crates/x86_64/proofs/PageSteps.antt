@@ -82,19 +82,19 @@ module _ (l : Layout) (put : List ℕ → ℕ → List ℕ) (serves : ℕ → Bo
   is_page : (page : ℕ) → IsPage l.levels (path_at l.levels level page)
   is_page page = let four = start.four in page_at_level l.levels level page start.low start.high (omega (arith, start.high))
 
-  pub map_serves : (S : Type 0) (call : SizeCall S) (page frame : ℕ) (flags : PageTableFlags) → call ≡ MapTo page frame flags → allowed l.levels l.window (paths l m) (size_call l.levels level call) ≡ true
+  pub map_serves : (S : Type 0) (call : SizeCall S) (page frame : ℕ) (flags : PageTableFlags) → call ≡ MapTo page frame flags → (test : Bool) → test ≡ allowed l.levels l.window (paths l m) (size_call l.levels level call) → test ≡ true
       → (r : Result ℕ (MapToError S)) (n : Memory) (rest : List ℕ)
       → IsMapped l m pool (path_at l.levels level page) frame (bits_of flags) (parent_part (bits_of flags)) (map_answer frame r) n rest → IfOk r (λ flush. flush ≡ page)
       → (told : Result ℕ (MapToError S)) → told ≡ r → Serves S l put serves m pool level call n rest (reply.Map told)
   unfolding do_call
-  map_serves S call page frame flags is may r n rest mapped same told tells = subst (λ call. allowed l.levels l.window (paths l m) (size_call l.levels level call) ≡ true → Serves S l put serves m pool level call n rest (reply.Map told)) (sym is)
+  map_serves S call page frame flags is test tests may r n rest mapped same told tells = subst (λ call. allowed l.levels l.window (paths l m) (size_call l.levels level call) ≡ true → Serves S l put serves m pool level call n rest (reply.Map told)) (sym is)
       (λ may. served S (MapTo page frame flags) page (is_page page) may n rest (map_answer frame r) (ap after_map mapped.outcome) mapped.ready (λ k none. mapped.others k (λ f uses. none f uses.0))
-      (reply.Map told) (map_reply S page frame flags r same ∙ ap reply.Map (sym tells))) may
+      (reply.Map told) (map_reply S page frame flags r same ∙ ap reply.Map (sym tells))) (sym tests ∙ may)
 
-  pub unmap_serves : (S : Type 0) (call : SizeCall S) (page : ℕ) → call ≡ Unmap page → allowed l.levels l.window (paths l m) (size_call l.levels level call) ≡ true
+  pub unmap_serves : (S : Type 0) (call : SizeCall S) (page : ℕ) → call ≡ Unmap page → (test : Bool) → test ≡ allowed l.levels l.window (paths l m) (size_call l.levels level call) → test ≡ true
       → (r : Result (ℕ × ℕ) UnmapError) (n : Memory) → IsUnmapped l m (path_at l.levels level page) (unmap_answer r) n → IfOk r (λ unmapped. unmapped.1 ≡ page)
       → (told : Result (ℕ × ℕ) UnmapError) → told ≡ r → Serves S l put serves m pool level call n pool (reply.Unmap told)
   unfolding do_call
-  unmap_serves S call page is may r n unmapped same told tells = subst (λ call. allowed l.levels l.window (paths l m) (size_call l.levels level call) ≡ true → Serves S l put serves m pool level call n pool (reply.Unmap told)) (sym is)
+  unmap_serves S call page is test tests may r n unmapped same told tells = subst (λ call. allowed l.levels l.window (paths l m) (size_call l.levels level call) ≡ true → Serves S l put serves m pool level call n pool (reply.Unmap told)) (sym is)
       (λ may. served S (Unmap page) page (is_page page) may n pool (unmap_answer r) (ap (after_change pool) unmapped.outcome) (unmapped.ready pool (ready_of_fits l m serves pool start.fits)) (λ k none. unmapped.others k (λ f table. none f (inr table)))
-      (reply.Unmap told) (unmap_reply S page r same ∙ ap reply.Unmap (sym tells))) may
+      (reply.Unmap told) (unmap_reply S page r same ∙ ap reply.Unmap (sym tells))) (sym tests ∙ may)

@@ -13,14 +13,14 @@ left : (calls : List Call) (i : ℕ) (call : Call) → i < length calls → call
 left calls i call here item = rw add-one (drop-cons calls i call here ∙ ap (λ c. c ∷ drop (suc i) calls) (sym item))
 
 module _ (m : Machine) (s t : State) (r : Reply) (calls : List Call) (i : ℕ) (call : Call) (here : i < length calls) (item : call ≡ get_or calls i call) (one : call_step m s call ≡ (t, r)) where
-  pub told_next : (items more : List Reply) → more ≡ items ++ r ∷ [] → more ++ replies_to m t (drop (i + 1) calls) ≡ items ++ replies_to m s (drop i calls)
-  told_next items more e =
+  pub told_next : (items more all : List Reply) → more ≡ items ++ r ∷ [] → items ++ replies_to m s (drop i calls) ≡ all → more ++ replies_to m t (drop (i + 1) calls) ≡ all
+  told_next items more all e before =
       let rest = drop (i + 1) calls in
       ap (λ xs. xs ++ replies_to m t rest) e ∙ append_assoc items (r ∷ []) (replies_to m t rest)
-      ∙ ap (λ (x : State × Reply). items ++ x.1 ∷ replies_to m x.0 rest) (sym one) ∙ ap (λ cs. items ++ replies_to m s cs) (sym (left calls i call here item))
+      ∙ ap (λ (x : State × Reply). items ++ x.1 ∷ replies_to m x.0 rest) (sym one) ∙ ap (λ cs. items ++ replies_to m s cs) (sym (left calls i call here item)) ∙ before
 
-  pub rest_next : state_after m t (calls_of m.levels (drop (i + 1) calls)) ≡ state_after m s (calls_of m.levels (drop i calls))
-  rest_next = ap (λ (x : State × Reply). state_after m x.0 (calls_of m.levels (drop (i + 1) calls))) (sym one) ∙ ap (λ cs. state_after m s (calls_of m.levels cs)) (sym (left calls i call here item))
+  pub rest_next : (all : State) → state_after m s (calls_of m.levels (drop i calls)) ≡ all → state_after m t (calls_of m.levels (drop (i + 1) calls)) ≡ all
+  rest_next all before = ap (λ (x : State × Reply). state_after m x.0 (calls_of m.levels (drop (i + 1) calls))) (sym one) ∙ ap (λ cs. state_after m s (calls_of m.levels cs)) (sym (left calls i call here item)) ∙ before
 
 -- the same layout and the same frames served
 module _ (k l : Layout) (same : l ≡ k) (put : List ℕ → ℕ → List ℕ) (served serves : ℕ → Bool) (same_served : serves ≡ served) (n o : Memory) (rest last : List ℕ) where

@@ -1,3 +1,4 @@
+pub mod EntryWrites
 pub mod Flags
 pub mod LeafFrames
 pub mod Levels

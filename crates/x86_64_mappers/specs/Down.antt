@@ -1,9 +1,9 @@
 -- The way down the parents of a page, a step at a time, and the whole map.
-use Rattle.std.proofs.Common.{◌≡◌, false, ◌<◌, ◌≤◌, ◌+◌, ℕ, suc, List, [], ◌∷◌, ◌++◌, length, take, drop, get_or, Result, Ok, Err, refl, sym, ap, ◌∙◌, subst, subst₂, add-one, arith}
+use Rattle.std.proofs.Common.{◌≡◌, false, ◌<◌, ◌≤◌, ◌+◌, ℕ, suc, List, [], ◌∷◌, ◌++◌, length, take, drop, get_or, IsSome, Result, Ok, Err, refl, sym, ap, ◌∙◌, subst, subst₂, add-one, arith}
 use Rattle.std.proofs.lemmas.List.{map-id, length-append, length-take, take_all, drop_all}
 use Rattle.std.proofs.Math.Seq.{take-suc, drop-cons}
 use Rattle.x86_64_model.specs.Entry.{IsParentFlags}
-use Rattle.x86_64_model.specs.Layout.{Layout, paths}
+use Rattle.x86_64_model.specs.Layout.{Layout, words, paths}
 use Rattle.x86_64_model.specs.MapRule.{map_rule}
 use Rattle.x86_64_model.specs.MapperCalls.{IsReady}
 use Rattle.x86_64_model.specs.Memory.{Memory, Distinct}
@@ -13,6 +13,7 @@ use Rattle.x86_64_model.specs.Window.{begins_with}
 use Rattle.x86_64_mappers.specs.Goes.{goes_nothing, goes_then}
 use Rattle.x86_64_mappers.specs.MapSteps.{mapped_from, Reached, Stopped, IsStep, IsAt, IsDown, IsPathMapped, IsLeaf}
 use Rattle.x86_64_mappers.specs.Outside.{beside_on, beside_at}
+use Rattle.x86_64_mappers.specs.Seen.{Beside, there_seen}
 use Rattle.x86_64_mappers.specs.Steps.{step, leaf}
 use Rattle.x86_64_mappers.specs.Writes.{IsMade, IsLeafSet}
 
@@ -22,6 +23,9 @@ module _ (l : Layout) (m : Memory) (s : List ℕ) (more : ℕ) (path : List ℕ)
 
   pub at_end : (k : ℕ) → length path ≤ k → (n : Memory) (rest : List ℕ) (g : ℕ) → IsAt l m s more path (take k path) (drop k path) n rest g → IsDown l m s more path (Ok g) n rest
   at_end k past n rest g here = subst₂ (λ t d. IsAt l m s more path t d n rest g) (take_all k path past) (drop_all k path past) here
+
+  pub at_there : (done left : List ℕ) (n : Memory) (rest : List ℕ) (g : ℕ) → IsAt l m s more path done left n rest g → IsSome (words l n g)
+  at_there done left n rest g here = there_seen l.window l.root (words l n) g (here.goes.ready.valid.valid.holds.in_memory done g here.leads)
 
   module _ (done left : List ℕ) (i : ℕ) (n : Memory) (rest : List ℕ) (f : ℕ) (here : IsAt l m s more path done (i ∷ left) n rest f) (o : Memory) (fs : List ℕ) where
     at_next : (g : ℕ) → Reached l n rest more done i o fs g → IsAt l m s more path (done ++ i ∷ []) left o fs g
@@ -53,20 +57,20 @@ module _ (l : Layout) (m : Memory) (s : List ℕ) (more : ℕ) (path : List ℕ)
     pub index_stop : (why : Refusal) → IsStep l n rest more (take k path) item (Err why) o fs → IsDown l m s more path (Err why) o fs
     index_stop why r = at_stop (take k path) (drop (suc k) path) item n rest f split o fs why r
 
--- a turn of the loop over the parents
+-- a turn of the loop over the parents, at the index i
 module _ (l : Layout) (apart : Distinct l.places) (adds : IsParentFlags l.added_flags) (m : Memory) (s : List ℕ) (more : ℕ) (path : List ℕ) (outside : begins_with l.window path ≡ false) (marks : IsParentFlags more) (short : length path < l.levels)
-    (k : ℕ) (within : k < length path) (n : Memory) (rest : List ℕ) (f : ℕ) (here : IsAt l m s more path (take k path) (drop k path) n rest f) (small : get_or path k 0 < 512) (o : Memory) (fs : List ℕ) where
-  room : length (take k path ++ get_or path k 0 ∷ []) < l.levels
+    (k : ℕ) (within : k < length path) (n : Memory) (rest : List ℕ) (f : ℕ) (here : IsAt l m s more path (take k path) (drop k path) n rest f) (i : ℕ) (is : i ≡ get_or path k 0) (small : i < 512) (o : Memory) (fs : List ℕ) where
+  room : length (take k path ++ i ∷ []) < l.levels
   room = simp length-append (omega (arith, length-take k path))
 
-  made : (r : Result ℕ Refusal) → IsMade l.places more l.added_flags n rest f (get_or path k 0) r o fs → IsStep l n rest more (take k path) (get_or path k 0) r o fs
-  made r h = step l apart n (take k path) (get_or path k 0) f here.leads small
-      (beside_at l n here.goes.ready.valid path k within outside f here.leads) more marks adds room rest here.goes.ready r o fs h
+  made : (r : Result ℕ Refusal) → IsMade l.places more l.added_flags n rest f i r o fs → IsStep l n rest more (take k path) (get_or path k 0) r o fs
+  made r h = subst (λ i. IsStep l n rest more (take k path) i r o fs) is
+      (step l apart n (take k path) i f here.leads small (subst (Beside l.window l.root f) (sym is) (beside_at l n here.goes.ready.valid path k within outside f here.leads)) more marks adds room rest here.goes.ready r o fs h)
 
-  pub turn : (g : ℕ) → IsMade l.places more l.added_flags n rest f (get_or path k 0) (Ok g) o fs → IsAt l m s more path (take (k + 1) path) (drop (k + 1) path) o fs g
+  pub turn : (g : ℕ) → IsMade l.places more l.added_flags n rest f i (Ok g) o fs → IsAt l m s more path (take (k + 1) path) (drop (k + 1) path) o fs g
   turn g h = index_next l m s more path k within n rest f here o fs g (made (Ok g) h)
 
-  pub stop : (why : Refusal) → IsMade l.places more l.added_flags n rest f (get_or path k 0) (Err why) o fs → IsDown l m s more path (Err why) o fs
+  pub stop : (why : Refusal) → IsMade l.places more l.added_flags n rest f i (Err why) o fs → IsDown l m s more path (Err why) o fs
   stop why h = index_stop l m s more path k within n rest f here o fs why (made (Err why) h)
 
 -- the whole map

@@ -11,6 +11,7 @@ pub mod MapSteps
 pub mod Marked
 pub mod NewTables
 pub mod Outside
+pub mod PageMaps
 pub mod Pages
 pub mod Results
 pub mod Seen

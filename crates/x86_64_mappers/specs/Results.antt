@@ -1,14 +1,20 @@
 -- The results of a walker's steps, with refusals in place of the errors.
 use Rattle.std.specs.Prelude.{ℕ, Result, Ok, Err}
+use Rattle.x86_64_model.specs.Refusal as refusal
 use Rattle.x86_64_model.specs.Refusal.{Refusal, Answer, Done, Refused}
-use Rattle.x86_64_tables.specs.MapperAnswers.{map_refusal, unmap_refusal}
-use Rattle.x86_64_tables.specs.declared.mapper.MapToError.{MapToError}
+use Rattle.x86_64_tables.specs.MapperAnswers.{unmap_refusal}
 use Rattle.x86_64_tables.specs.declared.mapper.UnmapError.{UnmapError}
+use Rattle.x86_64_mappers.specs.declared.walker.map.PageTableCreateError.{PageTableCreateError}
+use Rattle.x86_64_mappers.specs.declared.walker.map.PageTableCreateError.TheVariants.{MappedToHugePage, FrameAllocationFailed}
 
--- of a step of a map
-abbrev pub map_result : {S X : Type 0} → Result X (MapToError S) → Result X Refusal
-map_result (Ok x) = Ok x
-map_result (Err why) = Err (map_refusal why)
+abbrev pub create_refusal : PageTableCreateError → Refusal
+create_refusal MappedToHugePage = refusal.ParentEntryHugePage
+create_refusal FrameAllocationFailed = refusal.FrameAllocationFailed
+
+-- of a step of a map, where a table is made that is missing
+abbrev pub create_result : {X : Type 0} → Result X PageTableCreateError → Result X Refusal
+create_result (Ok x) = Ok x
+create_result (Err why) = Err (create_refusal why)
 
 -- of a step of an unmap
 abbrev pub unmap_result : {X : Type 0} → Result X UnmapError → Result X Refusal

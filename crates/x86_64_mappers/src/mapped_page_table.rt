@@ -146,6 +146,17 @@ impl<'a, P: PageTableFrameMapping, S: PageSize> Mapper<S> for MappedPageTable<'a
         ensures lent { ⟦<Self as PageTables>⟧.lent self.new ≡ ⟦<Self as PageTables>⟧.lent self.old }
         ensures serves { A.serves frame_allocator.new ≡ A.serves frame_allocator.old }
     {
+        let indices = page_indices(page);
+        let path = &indices[..path_length::<S>()];
+        self.walker.map_path(
+            self.memory,
+            self.root,
+            path,
+            frame,
+            flags,
+            parent_flags,
+            frame_allocator,
+        )?;
         Ok(MapperFlush::new(page))
     }
 

@@ -8,12 +8,13 @@ ghost use Rattle.x86_64_model.specs.Memory.{words_of, word};
 ghost use Rattle.x86_64_model.specs.PageWalk.{page_start};
 ghost use Rattle.x86_64_model.specs.Position.{span};
 ghost use Rattle.x86_64_model.specs.Translation.{translate as translated, Mapped};
-ghost use Rattle.x86_64_mappers.specs.TableLending.{LendsTableIn, LendsEntry};
 ghost use Rattle.x86_64_mappers.specs.Layouts.{direct};
+ghost use Rattle.x86_64_mappers.specs.TableLending.{LendsTableIn, LendsEntry};
 ghost use Rattle.x86_64_mappers.specs.Writes.{IsThere, IsSet, IsCleared, word_in_frame, with_word};
 ghost use Rattle.x86_64_tables.specs.Translations.{translation_of, frame_start, frame_size};
 
 mod condition;
+mod map;
 mod unmap;
 
 use x86_64_addr::addr::VirtAddr;

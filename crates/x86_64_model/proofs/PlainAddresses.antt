@@ -1,19 +1,15 @@
 -- A frame's start plus the offset in the page fits a word.
-use Rattle.std.proofs.Common.{◌≡◌, ℕ, zero, suc, ◌+◌, ◌*◌, ◌/◌, ◌%◌, ◌^◌, ◌≤◌, ◌<◌, ◌&&◌, nat_le, Bool, true, false, cond, List, [], ◌∷◌, ◌++◌, arith, lit<, lit≤, lt_of_le_of_lt, refl, sym, subst, IfOk, Result, Ok, Err}
+use Rattle.std.proofs.Common.{◌≡◌, ℕ, zero, suc, ◌+◌, ◌*◌, ◌/◌, ◌%◌, ◌^◌, ◌≤◌, ◌<◌, ◌&&◌, nat_le, Bool, true, false, cond, List, [], ◌∷◌, ◌++◌, arith, lit≤, refl, sym, subst, IfOk, Result, Ok, Err}
 use Rattle.std.specs.declared.alloc.AllocError.{AllocError}
 use Rattle.x86_64_model.specs.declared.plain.calls.Translated as plain
 use Rattle.x86_64_model.specs.Plain.Calls.{translated_of}
-use Rattle.std.proofs.lemmas.Nat.{and_le_r}
-use Rattle.std.proofs.lemmas.Bool.{leb-true}
+use Rattle.std.proofs.lemmas.Bool.{leb-true, and_parts}
 use Rattle.x86_64_model.specs.Position.{span, index}
 use Rattle.x86_64_model.specs.Entry.{present, huge, address, flags, used}
 use Rattle.x86_64_model.specs.PageWalk.{page_start}
 use Rattle.x86_64_model.specs.Translation.{Translated, NotMapped, Mapped, translate_on, translate}
 use Rattle.x86_64_model.specs.Plain.Machine.{CanAdd}
-
-address_below : (e : ℕ) → address e < 2 ^ 52
-unfolding address
-address_below e = lt_of_le_of_lt (and_le_r e 0x000f_ffff_ffff_f000) (lit< tt)
+use Rattle.x86_64_model.specs.Lemmas.Entries.Words.{address_within}
 
 -- pages are at most 1GiB
 small_span : (level : ℕ) → level ≤ 3 → (1 ≤ span level) × (span level ≤ 2 ^ 30)
@@ -30,25 +26,21 @@ fits : (a p s start : ℕ) → a < 2 ^ 52 → 1 ≤ s → s ≤ 2 ^ 30 → start
 fits a p s start h one most h2 = omega arith
 
 mapped_fits : (p level e given : ℕ) → level ≤ 3 → page_start level e + p % span level < 2 ^ 64
-mapped_fits p level e given h = fits (address e) p (span level) (page_start level e) (address_below e) (small_span level h).0 (small_span level h).1 (rounded (address e) (span level) (small_span level h).0)
+mapped_fits p level e given h = fits (address e) p (span level) (page_start level e) (address_within e) (small_span level h).0 (small_span level h).1 (rounded (address e) (span level) (small_span level h).0)
 
 either : (a : Bool) (x y : Translated) → (a ≡ true → CanAdd x) → CanAdd y → CanAdd (cond a x y)
 either true x y f g = f refl
 either false x y f g = g
 
-first : (a b : Bool) → (a && b) ≡ true → a ≡ true
-first true b h = refl
-first false b h = h
-
 can_add_on : (E : List ℕ → ℕ) (p level : ℕ) (q : List ℕ) → CanAdd (translate_on E p level q)
 unfolding translate_on
 can_add_on E p zero q = tt
 can_add_on E p (suc zero) q = let e = E (q ++ index 1 p ∷ []) in
-    either (used e) (Mapped (span 1) (address e) (p % span 1) (flags e)) NotMapped (λ u. fits (address e) p (span 1) (address e) (address_below e) (lit≤ tt) (lit≤ tt) (omega arith)) tt
+    either (used e) (Mapped (span 1) (address e) (p % span 1) (flags e)) NotMapped (λ u. fits (address e) p (span 1) (address e) (address_within e) (lit≤ tt) (lit≤ tt) (omega arith)) tt
 can_add_on E p (suc (suc n)) q = let level = suc (suc n) in let e = E (q ++ index level p ∷ []) in
     either (present e) (cond (nat_le level 3 && huge e) (Mapped (span level) (page_start level e) (p % span level) (flags e)) (translate_on E p (suc n) (q ++ index level p ∷ []))) NotMapped (λ _.
     either (nat_le level 3 && huge e) (Mapped (span level) (page_start level e) (p % span level) (flags e)) (translate_on E p (suc n) (q ++ index level p ∷ []))
-    (λ h. mapped_fits p level e (flags e) (leb-true level 3 (first (nat_le level 3) (huge e) h))) (can_add_on E p (suc n) (q ++ index level p ∷ []))) tt
+    (λ h. mapped_fits p level e (flags e) (leb-true level 3 (and_parts (nat_le level 3) (huge e) h).0)) (can_add_on E p (suc n) (q ++ index level p ∷ []))) tt
 
 pub can_add : (L : ℕ) (E : List ℕ → ℕ) (p : ℕ) → CanAdd (translate L E p)
 unfolding translate

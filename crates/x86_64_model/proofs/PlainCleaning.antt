@@ -1,7 +1,9 @@
 -- Clean up: spans, parents in range, keys, and the order of the frames.
 use Rattle.std.proofs.Common.{◌≡◌, ◌≢◌, ℕ, zero, suc, ◌+◌, ◌*◌, ◌-◌, ◌<◌, ◌≤◌, ◌^◌, ◌&&◌, cond, List, [], ◌∷◌, ◌++◌, length, take, map, filter, fold, Bool, true, false, None, is_some, refl, sym, ap, ◌∙◌, append_assoc, append-nil, arith}
 use Rattle.std.specs.List.{list_all, list_any, flat_map, range_with_len}
-use Rattle.std.proofs.lemmas.Bool.{and_parts}
+use Rattle.std.proofs.lemmas.Bool.{and_parts, false_from_ne_true}
+use Rattle.std.proofs.lemmas.Bool.Decides.{same_from_decides}
+use Rattle.std.proofs.lemmas.List.Folds.{list_all-map}
 use Rattle.std.specs.FinMap.{keys, from_entries, retain_keys, contains_key-keys, get-retain_keys, get-from_entries, same_map}
 use Rattle.std.specs.FinMap.Entries.{is_some-find, find-where_key}
 use Rattle.std.specs.Cmp.Lexicographic.{nat_list_cmp_total}
@@ -15,6 +17,7 @@ use Rattle.x86_64_model.specs.Plain.Cleaning.{frames}
 use Rattle.x86_64_model.specs.declared.plain.entries.PathEntry.{PathEntry}
 use Rattle.x86_64_model.specs.Lemmas.Paths.Puts.{path_cmp, same_path, path_exact}
 use Rattle.x86_64_model.specs.Lemmas.CleanUps.Keys.{all_at, all_from}
+use Rattle.x86_64_model.specs.Lemmas.CleanUps.Removed.{removed_gives}
 use Rattle.x86_64_model.proofs.PlainParents.{rest, rest_more, rest_all}
 
 -- ---- the number that indices write
@@ -49,20 +52,12 @@ none_fails P q n h = ap (list_all P) (rest_all q n h)
 -- ---- tests over all keys are tests over all items
 
 same_tests : (P : List ℕ → Bool) (ks ls : List (List ℕ)) → ((p : List ℕ) → list_any (same_path p) ks ≡ list_any (same_path p) ls) → list_all P ks ≡ list_all P ls
-same_tests P ks ls same = by (list_all P ks) (list_all P ls) (λ h. all_from P ls (λ p g. all_at P ks p h (same p ∙ g))) (λ h. all_from P ks (λ p g. all_at P ls p h (sym (same p) ∙ g)))
-  where
-    by : (a b : Bool) → (a ≡ true → b ≡ true) → (b ≡ true → a ≡ true) → a ≡ b
-    by true b f g = sym (f refl)
-    by false true f g = g refl
-    by false false f g = refl
+same_tests P ks ls same = same_from_decides {P = list_all P ls ≡ true} _ _
+    (λ h. all_from P ls (λ p g. all_at P ks p h (same p ∙ g)), λ h. all_from P ks (λ p g. all_at P ls p h (sym (same p) ∙ g))) (λ h. h, λ h. h)
 
 map-pairs : (items : List PathEntry) → map (λ e. e.0) (pairs items) ≡ map (λ item. item.path.items) items
 map-pairs [] = refl
 map-pairs (x ∷ items) = ap (λ ps. x.path.items ∷ ps) (map-pairs items)
-
-list_all-map : {X Y : Type 0} (P : Y → Bool) (f : X → Y) (xs : List X) → list_all P (map f xs) ≡ list_all (λ x. P (f x)) xs
-list_all-map P f [] = refl
-list_all-map P f (x ∷ xs) = ap (λ b. P (f x) && b) (list_all-map P f xs)
 
 pub keys_items : (P : List ℕ → Bool) (items : List PathEntry) → list_all (λ item. P item.path.items) items ≡ list_all P (keys (paths_of_items items))
 keys_items P items = sym (list_all-map P (λ item. item.path.items) items) ∙ ap (list_all P) (sym (map-pairs items))
@@ -92,18 +87,12 @@ parent_passes : (P : List ℕ → Bool) (j : ℕ) (q : List ℕ) (i : ℕ) (r : 
 parent_passes P j [] i r h = (and_parts _ _ h).0
 parent_passes P j (k ∷ q) i r h = parent_passes (λ p. P (j ∷ p)) k q i r (sym (list_all-map P (λ p. j ∷ p) (parents (k ∷ q ++ i ∷ r))) ∙ (and_parts _ _ h).1)
 
-false_if : (b : Bool) → (b ≡ true → ⊥) → b ≡ false
-false_if true h = absurd (h refl)
-false_if false h = refl
-
 module _ (L : ℕ) (M : PathMap) (low high : ℕ) where
   not_removed : (q : List ℕ) → in_range L M low high q ≡ false → is_removed L M low high q ≡ false
-  unfolding is_removed
-  not_removed q out = false_if _ (λ h. let t : true ≡ false = sym (and_parts _ _ (and_parts _ _ h).0).0 ∙ out in cc)
+  not_removed q out = false_from_ne_true _ (λ h. let t : true ≡ false = sym (removed_gives L M low high q h).itself ∙ out in cc)
 
   not_removed_below : (j : ℕ) (q : List ℕ) (i : ℕ) (r : List ℕ) → in_range L M low high (j ∷ q) ≡ false → is_removed L M low high (j ∷ q ++ i ∷ r) ≡ false
-  unfolding is_removed
-  not_removed_below j q i r out = false_if _ (λ h. let t : true ≡ false = sym (parent_passes (in_range L M low high) j q i r (and_parts _ _ (and_parts _ _ h).0).1) ∙ out in cc)
+  not_removed_below j q i r out = false_from_ne_true _ (λ h. let t : true ≡ false = sym (parent_passes (in_range L M low high) j q i r (removed_gives L M low high (j ∷ q ++ i ∷ r) h).above) ∙ out in cc)
 
   -- the path may go on or not
   not_removed_from : (j : ℕ) (q r : List ℕ) → in_range L M low high (j ∷ q) ≡ false → is_removed L M low high (j ∷ q ++ r) ≡ false

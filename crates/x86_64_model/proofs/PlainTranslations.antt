@@ -1,6 +1,6 @@
 -- What the entries say of a position, level by level.
-use Rattle.std.proofs.Common.{◌≡◌, ◌≢◌, ◌⊎◌, ⊎_elim, ℕ, zero, suc, ◌-◌, ◌%◌, ◌≤◌, ◌<◌, ◌&&◌, nat_le, Bool, true, false, cond, List, [], ◌∷◌, ◌++◌, refl, sym, ap, ◌∙◌, arith}
-use Rattle.std.proofs.lemmas.Bool.{le-leb, lt-leb}
+use Rattle.std.proofs.Common.{◌≡◌, ◌≢◌, ◌⊎◌, ⊎_elim, ℕ, zero, suc, ◌-◌, ◌%◌, ◌≤◌, ◌<◌, ◌&&◌, nat_le, true, false, cond, List, [], ◌∷◌, ◌++◌, refl, sym, ap, ◌∙◌, arith}
+use Rattle.std.proofs.lemmas.Bool.{le-leb, lt-leb, and_left, and_right}
 use Rattle.x86_64_model.specs.Position.{span, index}
 use Rattle.x86_64_model.specs.Entry.{present, huge, address, flags, used}
 use Rattle.x86_64_model.specs.PageWalk.{page_start}
@@ -39,11 +39,7 @@ above_huge E p level q e z o is a l h = sym (above E p level q e z o is ∙ ap (
 
 pub above_table : (E : List ℕ → ℕ) (p level : ℕ) (q : List ℕ) (e : ℕ) → level ≢ 0 → level ≢ 1 → e ≡ E (q ++ index level p ∷ []) → present e ≡ true → (3 < level) ⊎ (huge e ≡ false) → translate_on E p (level - 1) (q ++ index level p ∷ []) ≡ translate_on E p level q
 above_table E p level q e z o is a t = sym (above E p level q e z o is ∙ ap (λ b. cond b (cond (nat_le level 3 && huge e) (Mapped (span level) (page_start level e) (p % span level) (flags e)) (translate_on E p (level - 1) (q ++ index level p ∷ []))) NotMapped) a
-    ∙ ap (λ b. cond b (Mapped (span level) (page_start level e) (p % span level) (flags e)) (translate_on E p (level - 1) (q ++ index level p ∷ []))) (⊎_elim (λ l. ap (λ b. b && huge e) (lt-leb level 3 l)) (λ h. ap (λ b. nat_le level 3 && b) h ∙ both (nat_le level 3)) t))
-  where
-    both : (b : Bool) → (b && false) ≡ false
-    both true = refl
-    both false = refl
+    ∙ ap (λ b. cond b (Mapped (span level) (page_start level e) (p % span level) (flags e)) (translate_on E p (level - 1) (q ++ index level p ∷ []))) (⊎_elim (λ l. and_left (nat_le level 3) (huge e) (lt-leb level 3 l)) (λ h. and_right (nat_le level 3) (huge e) h) t))
 
 pub one_used : (E : List ℕ → ℕ) (p level : ℕ) (q : List ℕ) (e : ℕ) → level ≡ 1 → e ≡ E (q ++ index level p ∷ []) → used e ≡ true → Mapped (span 1) (address e) (p % span 1) (flags e) ≡ translate_on E p level q
 one_used E p level q e z is u = sym (at_one E p level q e z is ∙ ap (λ b. cond b (Mapped (span 1) (address e) (p % span 1) (flags e)) NotMapped) u)

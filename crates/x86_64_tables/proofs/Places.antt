@@ -10,21 +10,19 @@ use Rattle.std.proofs.lemmas.Bool.Decides.{eqb_tells}
 use Rattle.std.proofs.lemmas.Option.{slice_get_past, slice_get-get_or}
 use Rattle.std.proofs.lemmas.List.{length-replicate, get_or-replicate}
 use borrow.Follows.Closed.{read_of}
+use Rattle.x86_64_model.specs.Lemmas.Hierarchies.Memories.{other_key}
 use Rattle.x86_64_tables.specs.PageTable.{zero_words}
 use Rattle.x86_64_tables.specs.PhysMemory.{tables_from}
 
 same_place : (x y : ℕ) → x ≡ y → eq_by_cmp nat_cmp x y ≡ true
 same_place x y e = unsigned_tied x y ∙ eq-eqb x y e
 
-other_place : (x y : ℕ) → x ≢ y → eq_by_cmp nat_cmp x y ≡ false
-other_place x y n = unsigned_tied x y ∙ elim (eqb_tells x y) [ inl p ↦ absurd (n p.1) | inr p ↦ p.0 ]
-
 get-tables_before : (ts : List (List ℕ)) (p q : ℕ) → q < p → get (tables_from p ts) q ≡ None
 get-tables_before [] p q h = get-empty nat_cmp q
 get-tables_before (t ∷ ts) p q h =
     let rest = tables_from (p + 1) ts in
     get-insert nat_cmp_total rest p t q
-    ∙ ap (λ b. cond b (Some t) (get rest q)) (other_place q p (λ e. omega arith))
+    ∙ ap (λ b. cond b (Some t) (get rest q)) (other_key q p (λ e. omega arith))
     ∙ get-tables_before ts (p + 1) q (omega arith)
 
 get-tables_at : (ts : List (List ℕ)) (p k q : ℕ) → q ≡ p + k → get (tables_from p ts) q ≡ slice_get ts k
@@ -36,7 +34,7 @@ get-tables_at (t ∷ ts) p zero q e =
 get-tables_at (t ∷ ts) p (suc k) q e =
     let rest = tables_from (p + 1) ts in
     get-insert nat_cmp_total rest p t q
-    ∙ ap (λ b. cond b (Some t) (get rest q)) (other_place q p (λ f. omega arith))
+    ∙ ap (λ b. cond b (Some t) (get rest q)) (other_key q p (λ f. omega arith))
     ∙ get-tables_at ts (p + 1) k q (omega arith)
 
 pub get-tables : (ts : List (List ℕ)) (q : ℕ) → get (tables_from 0 ts) q ≡ slice_get ts q
@@ -68,7 +66,7 @@ get-set ts i q w h =
     let chosen : Bool → Option (List ℕ) = λ b. cond b (Some w) (slice_get ts q) in
     elim (eqb_tells q i) [
       | inl p ↦ ap (slice_get (slice_set ts i w)) p.1 ∙ (get_set_same ts i w h ∙ sym (ap chosen (same_place q i p.1)))
-      | inr p ↦ get_set_other ts i q w p.1 ∙ sym (ap chosen (other_place q i p.1))
+      | inr p ↦ get_set_other ts i q w p.1 ∙ sym (ap chosen (other_key q i p.1))
     ]
 
 -- a table that is changed is inserted at its place

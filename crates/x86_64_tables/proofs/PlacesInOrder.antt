@@ -1,28 +1,18 @@
 -- The places of a memory, in their order.
-use Rattle.std.proofs.Common.{◌≡◌, ◌≢◌, ◌<◌, ◌≤◌, ◌+◌, ◌==◌, ◌&&◌, nat_lt, ℕ, zero, suc, Bool, true, false, cond, List, [], ◌∷◌, length, get_or, map, Some, None, Ordering, Less, Equal, Greater, refl, sym, ap, ap₂, ◌∙◌, arith, lt-ltb, le-ltb}
+use Rattle.std.proofs.Common.{◌≡◌, ◌<◌, ◌≤◌, ◌+◌, ◌==◌, ◌&&◌, nat_lt, ℕ, zero, suc, Bool, true, false, cond, List, [], ◌∷◌, length, get_or, map, Some, None, Less, Equal, Greater, refl, sym, ap, ap₂, ◌∙◌, arith, lt-ltb, le-ltb}
 use Rattle.std.proofs.lemmas.List.FromFn.{length-range_with_len, get_or-range_with_len}
 use Rattle.std.proofs.lemmas.List.{length-map}
 use Rattle.std.proofs.lemmas.List.Sums.{position_or_len_is}
 use Rattle.std.specs.Prelude.{T}
 use Rattle.std.specs.List.{position, position_or_len, range_with_len, slice_get}
-use Rattle.std.specs.Ordering.{nat_cmp, eq_by_cmp, is_eq, is_lt}
-use Rattle.std.specs.Cmp.{nat_cmp_total, tied_itself}
+use Rattle.std.specs.Ordering.{nat_cmp, eq_by_cmp, is_lt}
+use Rattle.std.specs.Cmp.{nat_cmp_total}
 use Rattle.std.specs.FinMap.Entries.{below_all}
 use Rattle.std.specs.FinMap.{get, keys, len, entries, len-entries, find, is_sorted, from_sorted, entries-from_sorted, get-from_sorted, same_map, nat_cmp-IsAntisymmetric}
 use Rattle.x86_64_model.specs.Memory.{Memory}
+use Rattle.x86_64_model.specs.Lemmas.Hierarchies.Memories.{same_key, other_key}
 use Rattle.x86_64_tables.specs.PhysMemory.{tables_from}
 use Rattle.x86_64_tables.proofs.Places.{get-tables}
-
-same_key : (k : ℕ) → eq_by_cmp nat_cmp k k ≡ true
-same_key k = ap is_eq (tied_itself nat_cmp_total k)
-
-other_key : (a b : ℕ) → a ≢ b → eq_by_cmp nat_cmp a b ≡ false
-other_key a b n = by (nat_cmp a b) refl
-  where
-    by : (r : Ordering) → nat_cmp a b ≡ r → is_eq r ≡ false
-    by Less e = refl
-    by Equal e = absurd (n (nat_cmp-IsAntisymmetric a b e))
-    by Greater e = refl
 
 -- the tables with their places, from a place on
 abbrev numbered : ℕ → List (List ℕ) → List (ℕ × List ℕ)

@@ -1,13 +1,13 @@
 -- What a test of a hierarchy reads.
-use Rattle.std.proofs.Common.{◌≡◌, ◌≢◌, ◌<◌, ◌==◌, nat_lt, ℕ, Bool, true, false, cond, List, length, get_or, set, Some, None, Option, option_map, refl, sym, ap, ap₂, ◌∙◌, ⊎_elim, lt-ltb, eqb-true, eq-eqb, ◌&&◌, arith}
-use Rattle.std.proofs.lemmas.Bool.{cases_eq, cases_lt}
-use Rattle.std.proofs.lemmas.List.{get_or-set_same, get_or_past, set_past}
+use Rattle.std.proofs.Common.{◌≡◌, ◌≢◌, ◌<◌, ◌==◌, ℕ, Bool, true, false, cond, List, get_or, Some, None, Option, option_map, refl, sym, ap, ap₂, ◌∙◌, ⊎_elim, lt-ltb, eqb-true, eq-eqb, ◌&&◌}
+use Rattle.std.proofs.lemmas.Bool.{cases_eq}
 use Rattle.std.specs.Prelude.{unwrap_or}
 use Rattle.x86_64_model.specs.Entry.{used, address, names_table}
 use Rattle.x86_64_model.specs.Memory.{Words, word, word_in, set_word}
 use Rattle.x86_64_model.specs.PageWalk.{read}
 use Rattle.x86_64_model.specs.Tables.{without_word}
 use Rattle.x86_64_model.specs.Lemmas.Hierarchies.Held.{word-set_frame, word-set_index}
+use Rattle.x86_64_model.specs.Lemmas.Hierarchies.Unset.{word_unset}
 use Rattle.x86_64_tables.specs.Images.{below_word}
 
 -- a word that is read
@@ -20,26 +20,8 @@ word-read T f i small = by (T f) ∙ sym (ap (λ b. cond b (word_in (T f) i) 0) 
     by (Some words) = refl
 
 -- the words with one read as 0
-zeroed : (words : List ℕ) (i : ℕ) → get_or (set words i 0) i 0 ≡ 0
-zeroed words i = ⊎_elim
-    (λ l. get_or-set_same words i 0 0 l)
-    (λ l. ap (λ w. get_or w i 0) (set_past words i 0 l) ∙ get_or_past words i 0 l)
-    (cases_lt i (length words))
-
 pub word-without_same : (r root : ℕ) (T : Words) (f i : ℕ) → f ≡ root → i ≡ r → 0 ≡ word (without_word (Some r) root T) f i
-unfolding word set_word
-word-without_same r root T f i e d =
-    sym (ap₂ (λ f i. word (set_word T root r 0) f i) e d ∙ by (nat_lt r 512) (root == root) (T root) (eqb_self root))
-  where
-    eqb_self : (n : ℕ) → (n == n) ≡ true
-    eqb_self n = grind arith
-
-    by : (a b : Bool) (o : Option (List ℕ)) → b ≡ true
-        → cond a (word_in (cond b (option_map (λ words. set words r 0) o) o) r) 0 ≡ 0
-    by true true None h = refl
-    by true true (Some words) h = zeroed words r
-    by true false o h = cc
-    by false b o h = refl
+word-without_same r root T f i e d = sym (ap₂ (λ f i. word (set_word T root r 0) f i) e d ∙ word_unset T root r)
 
 pub word-without_none : (recursive : Option ℕ) (root : ℕ) (T : Words) (f i : ℕ)
     → ((r : ℕ) → recursive ≡ Some r → f ≡ root → i ≢ r) → word T f i ≡ word (without_word recursive root T) f i

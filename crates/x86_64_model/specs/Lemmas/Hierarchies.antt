@@ -7,3 +7,4 @@ pub mod Marks
 pub mod Memories
 pub mod Puts
 pub mod Trees
+pub mod Unset

@@ -1,6 +1,7 @@
 //! Which calls are allowed.
 ghost use Rattle.std.specs.Prelude.{◌≡◌, ◌≤◌, ℕ, IfOk};
 ghost use Rattle.x86_64_model.specs.Path.{parents};
+ghost use Rattle.x86_64_model.specs.Call.{IdentityMap, SetFlags};
 ghost use Rattle.x86_64_model.specs.Window.{entry_at as entry_at_of};
 ghost use Rattle.x86_64_model.specs.PageRules.{set_flags};
 ghost use Rattle.x86_64_model.specs.MapRule.{parent_part as parent_part_of};
@@ -66,6 +67,37 @@ fn map_allowed(
         & !begins_with(window, page)
 }
 
+/// Tells whether a map of a page is allowed, with the parent flags that its flags ask for.
+fn map_to_allowed(
+    levels: usize,
+    window: Option<PlainWindow>,
+    paths: &PathEntries,
+    page: &[u64],
+    flags: u64,
+) -> bool
+    ensures { result ≡ map_allowed_of levels (window_of window) paths.now page.now flags (parent_part_of flags) }
+{
+    map_allowed(levels, window, paths, page, flags, parent_part(flags))
+}
+
+/// Tells whether a map of the page of a level at the frame's own address is allowed.
+#[tactic(auto, unfolding(crate::specs::Allowed::allowed))]
+fn is_identity_map_allowed(
+    alloc: Global,
+    levels: usize,
+    window: Option<PlainWindow>,
+    paths: &PathEntries,
+    level: usize,
+    frame: u64,
+    flags: u64,
+) -> Result<bool, AllocError>
+    requires { levels ≤ 5 }
+    ensures { IfOk result (λ b. b ≡ allowed_of levels (window_of window) paths.now (IdentityMap level frame flags)) }
+{
+    let page = path_at(alloc, levels, level, frame)?;
+    Ok((frame < lower_half(levels)) & map_to_allowed(levels, window, paths, &page, flags))
+}
+
 /// Tells whether `set_flags` is refused, whatever the flags.
 fn set_flags_refuses(
     levels: usize,
@@ -110,6 +142,24 @@ fn set_flags_allowed(
         | both_or_none(is_huge(flags), is_huge(word))
 }
 
+/// Tells whether setting the flags of the entry of a level on a page's path is allowed.
+#[tactic(auto, unfolding(crate::specs::Allowed::allowed))]
+fn is_set_flags_allowed(
+    levels: usize,
+    window: Option<PlainWindow>,
+    paths: &PathEntries,
+    level: usize,
+    page: &[u64],
+    flags: u64,
+) -> bool
+    requires { levels ≤ 5 }
+    ensures { result ≡ allowed_of levels (window_of window) paths.now (SetFlags level page.now flags) }
+{
+    no_address(flags)
+        & !begins_with(window, page)
+        & set_flags_allowed(levels, window, paths, level, page, flags)
+}
+
 /// Tells whether a call is allowed.
 #[tactic(auto, unfolding(crate::specs::Allowed::allowed))]
 pub fn is_allowed(
@@ -123,14 +173,9 @@ pub fn is_allowed(
     ensures { IfOk result (λ b. b ≡ allowed_of levels (window_of window) paths.now (call_of call.now)) }
 {
     match call {
-        PlainCall::MapTo { page, flags, .. } => Ok(map_allowed(
-            levels,
-            window,
-            paths,
-            page,
-            *flags,
-            parent_part(*flags),
-        )),
+        PlainCall::MapTo { page, flags, .. } => {
+            Ok(map_to_allowed(levels, window, paths, page, *flags))
+        }
         PlainCall::MapToWithTableFlags {
             page,
             flags,
@@ -141,23 +186,14 @@ pub fn is_allowed(
             level,
             frame,
             flags,
-        } => {
-            let page = path_at(alloc, levels, *level, *frame)?;
-            let parent_flags = parent_part(*flags);
-            Ok(
-                (*frame < lower_half(levels))
-                    & map_allowed(levels, window, paths, &page, *flags, parent_flags),
-            )
-        }
+        } => is_identity_map_allowed(alloc, levels, window, paths, *level, *frame, *flags),
         PlainCall::Unmap { page } => Ok(!begins_with(window, page)),
         PlainCall::UpdateFlags { page, flags } => {
             Ok(no_address(*flags) & !begins_with(window, page))
         }
-        PlainCall::SetFlags { level, page, flags } => Ok(
-            no_address(*flags)
-                & !begins_with(window, page)
-                & set_flags_allowed(levels, window, paths, *level, page, *flags),
-        ),
+        PlainCall::SetFlags { level, page, flags } => {
+            Ok(is_set_flags_allowed(levels, window, paths, *level, page, *flags))
+        }
         PlainCall::TranslatePage { .. }
         | PlainCall::Translate { .. }
         | PlainCall::TranslateAddress { .. }

@@ -2,9 +2,10 @@
 ghost use Rattle.std.specs.Prelude.{◌≡◌, ◌≤◌, OnOk, IfOk};
 ghost use Rattle.x86_64_model.specs.Path.{path_at as path_at_of};
 ghost use Rattle.x86_64_model.specs.Window.{entry_at};
+ghost use Rattle.x86_64_model.specs.Call.{Answered, Address};
 ghost use Rattle.x86_64_model.specs.Pool.{given_back};
 ghost use Rattle.x86_64_model.specs.MapRule.{map_call as map_call_of, parent_part as parent_part_of};
-ghost use Rattle.x86_64_model.specs.PageRules.{unmap as unmap_of, update_flags as update_flags_of, set_flags as set_flags_of};
+ghost use Rattle.x86_64_model.specs.PageRules.{unmap as unmap_of, update_flags as update_flags_of, set_flags as set_flags_of, translate_page as translate_page_of};
 ghost use Rattle.x86_64_model.specs.Translation.{translate as translate_of, address_of as address_of_translated};
 ghost use Rattle.x86_64_model.specs.CleanUp.{clean_up as clean_up_of};
 ghost use Rattle.x86_64_model.specs.Machine.{after_map, after_change, do_call as do_call_of, step as step_of};
@@ -162,6 +163,28 @@ impl PlainMachine {
         Ok(PlainReply::Answered(answer))
     }
 
+    /// Says which frame the entry of a page names, or why none.
+    fn translate_page(&self, paths: &PathEntries, page: &[u64]) -> PlainReply
+        requires { self.now.levels ≤ 5 }
+        ensures { reply_of result ≡ Answered (translate_page_of self.now.levels (entry_at (window_of self.now.window) paths.now) page.now) }
+    {
+        PlainReply::Answered(translate_page(self.levels, self.window, paths, page))
+    }
+
+    /// Says which address a position leads to.
+    fn translate_address(
+        &self,
+        alloc: Global,
+        paths: &PathEntries,
+        position: u64,
+    ) -> Result<PlainReply, AllocError>
+        requires { self.now.levels ≤ 5 }
+        ensures { IfOk result (λ reply. reply_of reply ≡ Address (address_of_translated (translate_of self.now.levels (entry_at (window_of self.now.window) paths.now) position))) }
+    {
+        let translated = self.translate(alloc, paths, position)?;
+        Ok(PlainReply::Address(address_of(translated)))
+    }
+
     /// Gives back the empty tables of the positions from low to high.
     fn clean_up(
         &self,
@@ -204,12 +227,7 @@ impl PlainMachine {
             PlainCall::SetFlags { level, page, flags } => {
                 self.set_flags(state, *level, page, *flags)
             }
-            PlainCall::TranslatePage { page } => Ok(PlainReply::Answered(translate_page(
-                self.levels,
-                self.window,
-                &state.paths,
-                page,
-            ))),
+            PlainCall::TranslatePage { page } => Ok(self.translate_page(&state.paths, page)),
             PlainCall::Translate { position } => {
                 let alloc = *state.pool.allocator();
                 let translated = self.translate(alloc, &state.paths, *position)?;
@@ -217,8 +235,7 @@ impl PlainMachine {
             }
             PlainCall::TranslateAddress { position } => {
                 let alloc = *state.pool.allocator();
-                let translated = self.translate(alloc, &state.paths, *position)?;
-                Ok(PlainReply::Address(address_of(translated)))
+                self.translate_address(alloc, &state.paths, *position)
             }
             PlainCall::CleanUp { low, high } => self.clean_up(state, *low, *high),
         }

@@ -1,16 +1,23 @@
-use Rattle.std.proofs.Common.{◌∙◌, arith}
+use Rattle.std.proofs.Common.{◌∙◌, ◌++◌, arith}
+use Rattle.x86_64_model.specs.Machine.{Machine, State, state_after}
+use Rattle.x86_64.specs.Calls.{calls_of}
+use Rattle.x86_64.specs.Runs.{machine_of, state_of, replies_to}
 use Rattle.x86_64.proofs.Rounds.{told_next, rest_next, step_at, keeps_next}
 use Rattle.x86_64.proofs.runs.run.Goals as goal
 
 pub loop-call-preserved : goal.loop-call-preserved
 loop-call-preserved g c =
     let layout = g.M.PageTables.layout c.args.mapper.now in
+    let calls = c.args.calls.now in
+    let machine : Machine = machine_of layout g.F.FrameDeallocator.put in
+    let start : State = state_of layout (g.M.PageTables.memory c.args.mapper.now) (g.F.FrameAllocator.supply c.args.frames.now) in
     let before = c.loop-call.invariant in
     let after = c.serve.ensures in
     let one = step_at layout _ before.layout g.F.FrameDeallocator.put (g.F.FrameKeeper.serves c.args.frames.now) _ before.serves _ (g.M.PageTables.memory c.serve.new.mapper) _ (g.F.FrameAllocator.supply c.serve.new.frames) c.call-item.result c.serve.result after.step in
     record {
-      told = told_next _ _ _ _ c.args.calls.now c.loop-call.call-index c.call-item.result c.loop-call-test.true c.call-item.is one c.loop-call.replies.items c.push_reserved.new.self.items c.push_reserved.ensures.items ∙ before.told;
-      rest = rest_next _ _ _ c.serve.result c.args.calls.now c.loop-call.call-index c.call-item.result c.loop-call-test.true c.call-item.is one ∙ before.rest;
+      told = told_next machine _ _ _ calls c.loop-call.call-index c.call-item.result c.loop-call-test.true c.call-item.is one
+          c.loop-call.replies.items c.push_reserved.new.self.items (c.args.replies.now.items ++ replies_to machine start calls) c.push_reserved.ensures.items before.told;
+      rest = rest_next machine _ _ c.serve.result calls c.loop-call.call-index c.call-item.result c.loop-call-test.true c.call-item.is one (state_after machine start (calls_of layout.levels calls)) before.rest;
       room = omega arith;
       keeps = keeps_next layout _ before.layout g.F.FrameDeallocator.put _ _ before.serves _ _ _ _ _ _ before.keeps after.keeps;
       layout = after.layout ∙ before.layout;

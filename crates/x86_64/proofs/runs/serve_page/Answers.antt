@@ -1,4 +1,3 @@
-use Rattle.std.proofs.Common.{sym, ◌∙◌}
 use Rattle.x86_64_model.specs.Lemmas.Machines.Giving.{giving_from}
 use Rattle.x86_64.specs.declared.calls.SizeReply.TheVariants.{Map, Unmap}
 use Rattle.x86_64.proofs.runs.serve_page.Given.{Over}
@@ -17,7 +16,7 @@ map_is_served g c =
       low = g.S.PageSize.low;
       high = g.S.PageSize.high;
     } in
-    map_serves _ _ _ _ _ _ start _ c.args.call c.in-MapTo.page c.in-MapTo.frame c.in-MapTo.flags c.in-MapTo.is (sym c.is_allowed.ensures ∙ c.if-not-is_allowed.false)
+    map_serves _ _ _ _ _ _ start _ c.args.call c.in-MapTo.page c.in-MapTo.frame c.in-MapTo.flags c.in-MapTo.is _ c.is_allowed.ensures c.if-not-is_allowed.false
     c.map_to-mapped.result _ _ c.map_to-mapped.ensures.mapped c.map_to-mapped.ensures.page c.ignore.result c.ignore.ensures
 
 unmap_is_served : (g : Over) (c : goal.After-ignore_unmapped g) → Serves _ (g.M.PageTables.layout c.args.mapper.now) g.F.FrameDeallocator.put (g.F.FrameKeeper.serves c.args.frames.now) (g.M.PageTables.memory c.args.mapper.now)
@@ -32,7 +31,7 @@ unmap_is_served g c =
       low = g.S.PageSize.low;
       high = g.S.PageSize.high;
     } in
-    unmap_serves _ _ _ _ _ _ start _ c.args.call c.in-Unmap.page c.in-Unmap.is (sym c.is_allowed.ensures ∙ c.if-not-is_allowed.false)
+    unmap_serves _ _ _ _ _ _ start _ c.args.call c.in-Unmap.page c.in-Unmap.is _ c.is_allowed.ensures c.if-not-is_allowed.false
     c.unmap-unmapped.result _ c.unmap-unmapped.ensures.unmapped c.unmap-unmapped.ensures.page c.ignore_unmapped.result c.ignore_unmapped.ensures
 
 pub returns-in-MapTo-clause-step : goal.returns-in-MapTo-clause-step

@@ -1,42 +1,26 @@
 -- A clean up changes no answer of `translate`.
-use Rattle.std.proofs.Common.{zero, suc, ◌≡◌, ◌≤◌, ◌+◌, ◌%◌, ℕ, ◌&&◌, Bool, true, false, not, cond, List, [], ◌∷◌, ◌++◌, length, nat_lt, nat_le, None, Option, refl, sym, ap, ap₂, ◌∙◌, arith, ltb-true}
+use Rattle.std.proofs.Common.{zero, suc, ◌≡◌, ◌≤◌, ◌+◌, ◌%◌, ℕ, ◌&&◌, true, false, cond, List, [], ◌∷◌, ◌++◌, length, nat_le, None, Option, refl, sym, ap, ap₂, ◌∙◌, arith}
+use Rattle.std.proofs.lemmas.Bool.{cond-false}
 use Rattle.x86_64_model.specs.Entry.{used, present, huge, address, flags}
 use Rattle.x86_64_model.specs.PathMap.{PathMap, entry}
 use Rattle.x86_64_model.specs.Lemmas.Hierarchies.Trees.{IsTree}
 use Rattle.x86_64_model.specs.Window.{Window, entry_at, begins_with}
-use Rattle.x86_64_model.specs.Lemmas.Walks.Fronts.{translated_outside}
+use Rattle.x86_64_model.specs.Lemmas.Walks.Fronts.{translated_outside, through}
 use Rattle.x86_64_model.specs.Position.{index, span, page_path}
 use Rattle.x86_64_model.specs.PageWalk.{page_start}
-use Rattle.x86_64_model.specs.Translation.{Translated, NotMapped, Mapped, translate, translate_on}
-use Rattle.x86_64_model.specs.CleanUp.{is_removed, in_range, meets, clean_up}
+use Rattle.x86_64_model.specs.Translation.{NotMapped, Mapped, translate, translate_on}
+use Rattle.x86_64_model.specs.CleanUp.{is_removed, in_range, clean_up}
 use Rattle.x86_64_model.specs.Lemmas.Entries.Bits.{zero_absent, unused_absent}
 use Rattle.x86_64_model.specs.Lemmas.Walks.Walked.{one_more}
-use Rattle.x86_64_model.specs.Lemmas.CleanUps.Removed.{removed_gives, removed_from, child_removed}
+use Rattle.x86_64_model.specs.Lemmas.CleanUps.Removed.{removed_gives, removed_from, child_removed, in_range_parts}
 use Rattle.x86_64_model.specs.Lemmas.CleanUps.Keys.{entry-cleaned}
-
-if_not : (b : Bool) (x y : Translated) → b ≡ false → cond b x y ≡ y
-if_not true x y h = cc
-if_not false x y h = refl
-
--- an answer on the way, of a present table entry below which nothing is mapped
-through : (h b g : Bool) (x y : Translated) → g ≡ false → y ≡ NotMapped → cond h (cond (b && g) x y) NotMapped ≡ NotMapped
-through h b true x y e z = cc
-through true true false x y e z = z
-through true false false x y e z = z
-through false b false x y e z = refl
 
 module _ (L root : ℕ) (M : PathMap) (tree : IsTree L root M) (low high : ℕ) where
   abbrev pub N : PathMap
   N = (clean_up L M low high).paths
 
-  four : (a b c d : Bool) → (a && b && not c && d) ≡ true → (a ≡ true) × (b ≡ true) × (c ≡ false)
-  four true true false d h = (refl, refl, refl)
-  four true true true d h = cc
-  four true false c d h = cc
-  four false b c d h = cc
-
   pub is_table : (q : List ℕ) → in_range L M low high q ≡ true → huge (entry M q) ≡ false
-  is_table q h = (four (nat_lt (length q) L) (present (entry M q)) (huge (entry M q)) (meets L low high q) h).2
+  is_table q h = (in_range_parts L M low high q h).2
 
   pub gone : (q : List ℕ) → is_removed L M low high q ≡ true → entry N q ≡ 0
   gone q h = entry-cleaned L M low high q ∙ ap (λ b. cond b 0 (entry M q)) h
@@ -55,8 +39,7 @@ module _ (L root : ℕ) (M : PathMap) (tree : IsTree L root M) (low high : ℕ) 
   -- entries of level one are never removed
   pub leaf_stays : (q : List ℕ) → L ≤ length q → is_removed L M low high q ≡ false
   leaf_stays q l = elim (is_removed L M low high q) as (λ b. is_removed L M low high q ≡ b → b ≡ false) [
-    | true ↦ λ r. let f = four (nat_lt (length q) L) (present (entry M q)) (huge (entry M q)) (meets L low high q) (removed_gives L M low high q r).itself in
-        absurd (omega (arith, ltb-true (length q) L f.0, l))
+    | true ↦ λ r. absurd (omega (arith, (in_range_parts L M low high q (removed_gives L M low high q r).itself).0, l))
     | false ↦ λ r. refl
   ] refl
 
@@ -65,12 +48,12 @@ module _ (L root : ℕ) (M : PathMap) (tree : IsTree L root M) (low high : ℕ) 
   unfolding translate_on
   none_below p zero i c l r = refl
   none_below p (suc zero) i c l r = let j = index 1 p in
-      if_not (used (entry M (i ∷ c ++ j ∷ []))) _ _ (child_unused i c j r (leaf_stays (i ∷ c ++ j ∷ []) (omega (arith, one_more (i ∷ c) j, l))))
+      cond-false (used (entry M (i ∷ c ++ j ∷ []))) _ _ (child_unused i c j r (leaf_stays (i ∷ c ++ j ∷ []) (omega (arith, one_more (i ∷ c) j, l))))
   none_below p (suc (suc n)) i c l r = let j = index (suc (suc n)) p in
       elim (is_removed L M low high (i ∷ c ++ j ∷ [])) as (λ b. is_removed L M low high (i ∷ c ++ j ∷ []) ≡ b → translate_on (entry M) p (suc (suc n)) (i ∷ c) ≡ NotMapped) [
         | true ↦ λ k. through (present (entry M (i ∷ c ++ j ∷ []))) (nat_le (suc (suc n)) 3) _ _ _ (is_table _ (removed_gives L M low high _ k).itself)
             (none_below p (suc n) i (c ++ j ∷ []) (omega (arith, one_more (i ∷ c) j, l)) k)
-        | false ↦ λ k. if_not (present (entry M (i ∷ c ++ j ∷ []))) _ _ (unused_absent _ (child_unused i c j r k))
+        | false ↦ λ k. cond-false (present (entry M (i ∷ c ++ j ∷ []))) _ _ (unused_absent _ (child_unused i c j r k))
       ] refl
 
   none_at : (p level : ℕ) (q : List ℕ) (j : ℕ) → length (q ++ j ∷ []) + level ≡ L → is_removed L M low high (q ++ j ∷ []) ≡ true → translate_on (entry M) p level (q ++ j ∷ []) ≡ NotMapped
@@ -84,7 +67,7 @@ module _ (L root : ℕ) (M : PathMap) (tree : IsTree L root M) (low high : ℕ) 
       ap (λ e. cond (used e) (Mapped (span 1) (address e) (p % span 1) (flags e)) NotMapped) (stays r (leaf_stays r (omega (arith, one_more q (index 1 p), l))))
   same p (suc (suc n)) q l = let level = suc (suc n) in let j = index level p in let r = q ++ j ∷ [] in
       elim (is_removed L M low high r) as (λ b. is_removed L M low high r ≡ b → translate_on (entry N) p level q ≡ translate_on (entry M) p level q) [
-        | true ↦ λ k. if_not (present (entry N r)) _ _ (ap present (gone r k) ∙ zero_absent)
+        | true ↦ λ k. cond-false (present (entry N r)) _ _ (ap present (gone r k) ∙ zero_absent)
             ∙ sym (through (present (entry M r)) (nat_le level 3) _ _ _ (is_table r (removed_gives L M low high r k).itself) (none_at p (suc n) q j (omega (arith, one_more q j, l)) k))
         | false ↦ λ k. ap₂ (λ e t. cond (present e) (cond (nat_le level 3 && huge e) (Mapped (span level) (page_start level e) (p % span level) (flags e)) t) NotMapped)
             (stays r k) (same p (suc n) r (omega (arith, one_more q j, l)))

@@ -1,5 +1,6 @@
 -- A clean up keeps what each walk answers.
 use Rattle.std.proofs.Common.{zero, suc, ◌≡◌, ◌+◌, ◌%◌, ℕ, ◌&&◌, Bool, true, false, cond, List, [], ◌∷◌, ◌++◌, length, nat_le, None, Option, refl, sym, ap, ap₂, ◌∙◌, arith}
+use Rattle.std.proofs.lemmas.Bool.{cond-false}
 use Rattle.x86_64_model.specs.Position.{index, span}
 use Rattle.x86_64_model.specs.Entry.{present, writable, user, huge, address}
 use Rattle.x86_64_model.specs.PathMap.{PathMap, entry}
@@ -11,18 +12,15 @@ use Rattle.x86_64_model.specs.Lemmas.Hierarchies.Trees.{IsTree}
 use Rattle.x86_64_model.specs.Lemmas.CleanUps.Removed.{removed_gives}
 use Rattle.x86_64_model.specs.Lemmas.CleanUps.Answers.{is_table, gone, stays, child_unused, leaf_stays}
 
-if_not : (b : Bool) (x y : Option Walked) → b ≡ false → cond b x y ≡ y
-if_not b x y h = ap (λ b. cond b x y) h
-
 -- a word that isn't present leads nowhere, and one that names a table leads where the walk on does
 absent_passed : (level p e : ℕ) (w u : Bool) (x : Option Walked) → present e ≡ false → passed level p w u e x ≡ None
-absent_passed level p e w u x h = if_not (present e) _ None h
+absent_passed level p e w u x h = cond-false (present e) _ None h
 
 table_passed : (level p e : ℕ) (w u : Bool) (x : Option Walked) → huge e ≡ false → x ≡ None → passed level p w u e x ≡ None
 table_passed level p e w u x g z = by (present e)
   where
     low : cond (huge e) (cond (nat_le level 3) (arrives (page_start level e + p % span level) (w && writable e) (u && user e)) None) x ≡ None
-    low = if_not (huge e) _ x g ∙ z
+    low = cond-false (huge e) _ x g ∙ z
 
     by : (h : Bool) → cond h (cond (huge e) (cond (nat_le level 3) (arrives (page_start level e + p % span level) (w && writable e) (u && user e)) None) x) None ≡ None
     by true = low
@@ -36,7 +34,7 @@ module _ (L root : ℕ) (M : PathMap) (tree : IsTree L root M) (low high : ℕ) 
   none_below : (p level i : ℕ) (c : List ℕ) (w u : Bool) → length (i ∷ c) + level ≡ L → is_removed L M low high (i ∷ c) ≡ true → walked (entry M) p level (i ∷ c) w u ≡ None
   none_below p zero i c w u l r = refl
   none_below p (suc zero) i c w u l r = let j = index 1 p in
-      if_not (present (entry M (i ∷ c ++ j ∷ []))) _ None (unused_absent _ (child_unused L root M tree low high i c j r (leaf_stays L root M tree low high (i ∷ c ++ j ∷ []) (omega (arith, one_more (i ∷ c) j, l)))))
+      cond-false (present (entry M (i ∷ c ++ j ∷ []))) _ None (unused_absent _ (child_unused L root M tree low high i c j r (leaf_stays L root M tree low high (i ∷ c ++ j ∷ []) (omega (arith, one_more (i ∷ c) j, l)))))
   none_below p (suc (suc n)) i c w u l r = let j = index (suc (suc n)) p in
       elim (is_removed L M low high (i ∷ c ++ j ∷ [])) as (λ b. is_removed L M low high (i ∷ c ++ j ∷ []) ≡ b → walked (entry M) p (suc (suc n)) (i ∷ c) w u ≡ None) [
         | true ↦ λ k. table_passed (suc (suc n)) p (entry M (i ∷ c ++ j ∷ [])) w u _ (is_table L root M tree low high _ (removed_gives L M low high _ k).itself)

@@ -1,8 +1,9 @@
 -- The list of the tables that a clean up returns, and tests over the used paths.
-use Rattle.std.proofs.Common.{◌≡◌, ◌≢◌, ⊎_elim, ℕ, zero, suc, ◌==◌, ◌||◌, Bool, true, false, not, cond, List, [], ◌∷◌, ◌++◌, filter, flat_map, Some, None, Option, is_some, refl, sym, ap, ◌∙◌, arith, unwrap_or, ne_eqb}
+use Rattle.std.proofs.Common.{◌≡◌, ◌≢◌, ⊎_elim, ℕ, zero, suc, ◌==◌, Bool, true, false, not, cond, List, [], ◌∷◌, ◌++◌, filter, flat_map, Some, None, Option, is_some, refl, sym, ap, ◌∙◌, arith, unwrap_or, ne_eqb}
 use Rattle.std.specs.List.{list_all, list_any}
 use Rattle.std.specs.FinMap.{keys, get, contains_key-keys, get-retain_keys}
-use Rattle.std.proofs.lemmas.Bool.{and_parts, and_from, or_cases}
+use Rattle.std.proofs.lemmas.Bool.{and_parts, and_from, or_cases, or_left, or_right}
+use Rattle.std.proofs.lemmas.List.Elements.{filter-append}
 use Rattle.x86_64_model.specs.Entry.{used}
 use Rattle.x86_64_model.specs.PathMap.{PathMap, entry, HasUsedAlone}
 use Rattle.x86_64_model.specs.Path.{paths_below, indices}
@@ -10,10 +11,6 @@ use Rattle.x86_64_model.specs.CleanUp.{is_removed, clean_up}
 use Rattle.x86_64_model.specs.Lemmas.Paths.Puts.{same_path, same_path_true, same_path_itself, path_exact}
 
 -- ---- the frames that come back: the list in order falls into the parts of each index
-
-pub filter-append : {X : Type 0} (p : X → Bool) (xs ys : List X) → filter p (xs ++ ys) ≡ filter p xs ++ filter p ys
-filter-append p [] ys = refl
-filter-append p (x ∷ xs) ys = elim (p x) as (λ b. cond b (x ∷ filter p (xs ++ ys)) (filter p (xs ++ ys)) ≡ cond b (x ∷ filter p xs) (filter p xs) ++ filter p ys) [ true ↦ ap (λ zs. x ∷ zs) (filter-append p xs ys) | false ↦ filter-append p xs ys ]
 
 pub filter-flat_map : {X Y : Type 0} (p : Y → Bool) (f : X → List Y) (xs : List X) → filter p (flat_map f xs) ≡ flat_map (λ x. filter p (f x)) xs
 filter-flat_map p f [] = refl
@@ -44,11 +41,7 @@ all_at P (k ∷ ks) p h g = let parts = and_parts _ _ h in ⊎_elim (λ e. ap P 
 
 pub all_from : (P : List ℕ → Bool) (ks : List (List ℕ)) → ((p : List ℕ) → list_any (same_path p) ks ≡ true → P p ≡ true) → list_all P ks ≡ true
 all_from P [] h = refl
-all_from P (k ∷ ks) h = and_from _ _ (h k (ap (λ b. b || list_any (same_path k) ks) (same_path_itself k))) (all_from P ks (λ p g. h p (right _ _ g)))
-  where
-    right : (a b : Bool) → b ≡ true → (a || b) ≡ true
-    right true b e = refl
-    right false b e = e
+all_from P (k ∷ ks) h = and_from _ _ (h k (or_left _ _ (same_path_itself k))) (all_from P ks (λ p g. h p (or_right _ _ g)))
 
 -- a test holds at all keys exactly if it does at all used paths
 pub at_used : (M : PathMap) (P : List ℕ → Bool) → list_all P (keys M) ≡ true → (p : List ℕ) → used (entry M p) ≡ true → P p ≡ true

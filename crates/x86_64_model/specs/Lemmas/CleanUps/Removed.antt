@@ -1,9 +1,9 @@
 -- What a clean up removes.
-use Rattle.std.proofs.Common.{◌≡◌, ℕ, ◌||◌, Bool, true, false, not, cond, List, [], ◌∷◌, ◌++◌, map, refl, sym, ap, ap₂, ◌∙◌, subst, append_assoc, eq-eqb, eqb-true}
+use Rattle.std.proofs.Common.{◌≡◌, ℕ, ◌||◌, Bool, true, false, not, cond, List, [], ◌∷◌, ◌++◌, map, refl, sym, ap, ap₂, ◌∙◌, subst, append_assoc, eq-eqb, eqb-true, ◌<◌, length, ltb-true}
 use Rattle.std.proofs.lemmas.List.{map-append}
 use Rattle.std.specs.List.{list_all}
-use Rattle.std.proofs.lemmas.Bool.{and_parts, and_from}
-use Rattle.x86_64_model.specs.Entry.{used}
+use Rattle.std.proofs.lemmas.Bool.{and_parts, and_from, not-true}
+use Rattle.x86_64_model.specs.Entry.{used, present, huge}
 use Rattle.x86_64_model.specs.PathMap.{PathMap, entry, HasUsedAlone, table_of}
 use Rattle.x86_64_model.specs.Path.{parents, is_below}
 use Rattle.x86_64_model.specs.CleanUp.{is_removed, in_range, clean_up}
@@ -40,26 +40,33 @@ pub record Removed (L : ℕ) (M : PathMap) (low high : ℕ) (q : List ℕ) : Typ
   pub above : list_all (in_range L M low high) (parents q) ≡ true
   pub below : (p : List ℕ) → is_below q p ≡ true → used (entry M p) ≡ true → in_range L M low high p ≡ true
 
-pub or_right : (a b : Bool) → (not a || b) ≡ true → a ≡ true → b ≡ true
-or_right true b h e = h
-or_right false b h e = cc
+-- the parts of the test `in_range`
+pub in_range_parts : (L : ℕ) (M : PathMap) (low high : ℕ) (q : List ℕ) → in_range L M low high q ≡ true → (length q < L) × (present (entry M q) ≡ true) × (huge (entry M q) ≡ false)
+in_range_parts L M low high q h =
+    let table = and_parts _ _ (and_parts _ _ h).0 in
+    let first = and_parts _ _ table.0 in
+    (ltb-true (length q) L first.0, first.1, not-true (huge (entry M q)) table.1)
 
-pub or_from_right : (a b : Bool) → (a ≡ true → b ≡ true) → (not a || b) ≡ true
-or_from_right true b h = h refl
-or_from_right false b h = refl
+pub implied : (a b : Bool) → (not a || b) ≡ true → a ≡ true → b ≡ true
+implied true b h e = h
+implied false b h e = cc
+
+pub implied_from : (a b : Bool) → (a ≡ true → b ≡ true) → (not a || b) ≡ true
+implied_from true b h = h refl
+implied_from false b h = refl
 
 pub removed_gives : (L : ℕ) (M : PathMap) (low high : ℕ) (q : List ℕ) → is_removed L M low high q ≡ true → Removed L M low high q
 unfolding is_removed
 removed_gives L M low high q h = let parts = and_parts _ _ h in let front = and_parts _ _ parts.0 in record {
   itself = front.0;
   above = front.1;
-  below = λ p b u. or_right _ _ (at_used M (λ p. not (is_below q p) || in_range L M low high p) parts.1 p u) b;
+  below = λ p b u. implied _ _ (at_used M (λ p. not (is_below q p) || in_range L M low high p) parts.1 p u) b;
 }
 
 pub removed_from : (L : ℕ) (M : PathMap) → HasUsedAlone M → (low high : ℕ) (q : List ℕ) → Removed L M low high q → is_removed L M low high q ≡ true
 unfolding is_removed
 removed_from L M alone low high q r = and_from _ _ (and_from _ _ r.itself r.above)
-    (from_used M alone (λ p. not (is_below q p) || in_range L M low high p) (λ p u. or_from_right _ _ (λ b. r.below p b u)))
+    (from_used M alone (λ p. not (is_below q p) || in_range L M low high p) (λ p u. implied_from _ _ (λ b. r.below p b u)))
 
 -- ---- a table is empty after its part of the clean up exactly if it is removed
 

@@ -1,5 +1,6 @@
 -- A clean up leaves a hierarchy, and gives each frame back once.
 use Rattle.std.proofs.Common.{◌-◌, ◌≡◌, ◌≢◌, ◌↔◌, inl, inr, ⊎_elim, ℕ, zero, suc, Bool, true, false, not, cond, List, [], ◌∷◌, ◌++◌, filter, map, Some, None, Option, refl, sym, ap, ◌∙◌, subst, append_assoc}
+use Rattle.std.proofs.lemmas.List.{append_cancel_left}
 use Rattle.std.specs.FinMap.{get, get-retain_keys}
 use Rattle.x86_64_model.specs.Entry.{huge, address}
 use Rattle.x86_64_model.specs.PathMap.{PathMap, entry, HasUsedAlone, table_of, table_at}
@@ -7,12 +8,12 @@ use Rattle.x86_64_model.specs.Path.{paths_below, indices}
 use Rattle.x86_64_model.specs.CleanUp.{is_removed, clean_up}
 use Rattle.x86_64_model.specs.Lists.{In, EachOnce}
 use Rattle.x86_64_model.specs.Pool.{IsGiving, given_back}
-use Rattle.x86_64_model.specs.Lemmas.Paths.Puts.{path_exact}
-use Rattle.x86_64_model.specs.Lemmas.Hierarchies.Changes.{unused_no_table, zero_not_huge, append_longer}
+use Rattle.x86_64_model.specs.Lemmas.Paths.Puts.{path_exact, append_longer}
+use Rattle.x86_64_model.specs.Lemmas.Hierarchies.Changes.{zero_not_huge}
 use Rattle.x86_64_model.specs.Lemmas.CleanUps.Removed.{removed_gives, empty_if_removed}
 use Rattle.x86_64_model.specs.Lemmas.CleanUps.Keys.{entry-cleaned}
-use Rattle.x86_64_model.specs.Lemmas.CleanUps.Answers.{gone, stays}
-use Rattle.x86_64_model.specs.Lemmas.CleanUps.Frames.{leads, clean_same_set, in_range_parts, absent_used}
+use Rattle.x86_64_model.specs.Lemmas.CleanUps.Answers.{stays}
+use Rattle.x86_64_model.specs.Lemmas.CleanUps.Frames.{clean_same_set, root_stays, removed_leads, clean_table, clean_before}
 use Rattle.x86_64_model.specs.Lemmas.Lists.Members.{in_left, in_right, in_append, from_flat_map, from_map, passes}
 use Rattle.x86_64_model.specs.Lemmas.Lists.Once.{once_append, once_flat_map, once_indices, once_filter, once_map}
 use Rattle.x86_64_model.specs.Lemmas.Maps.Frames.{Conserves}
@@ -21,8 +22,7 @@ use Rattle.x86_64_model.specs.Lemmas.Hierarchies.Trees.{IsTree, IsHierarchy, som
 -- ---- each path once
 
 one_index : (q : List ℕ) (i j : ℕ) (s t : List ℕ) → q ++ i ∷ s ≡ q ++ j ∷ t → i ≡ j
-one_index [] i j s t e = cc
-one_index (k ∷ q) i j s t e = one_index q i j s t (let x : q ++ i ∷ s ≡ q ++ j ∷ t = cc in x)
+one_index q i j s t e = let rest : i ∷ s ≡ j ∷ t = append_cancel_left q (i ∷ s) (j ∷ t) e in cc
 
 goes_below : (n : ℕ) (q p : List ℕ) → In (paths_below n q) p → (i : ℕ) × (s : List ℕ) × (p ≡ q ++ i ∷ s)
 unfolding paths_below
@@ -64,20 +64,6 @@ module _ (give : List ℕ → ℕ → List ℕ) (gives : IsGiving give) where
 -- ---- what a clean up leaves
 
 module _ (L root : ℕ) (M : PathMap) (h : IsTree L root M) (low high : ℕ) where
-  abbrev Left : PathMap
-  Left = (clean_up L M low high).paths
-
-  -- a table that is left stood there before
-  pub clean_table : (i : ℕ) (q : List ℕ) (f : ℕ) → table_at L root (clean_up L M low high).paths (i ∷ q) ≡ Some f → (is_removed L M low high (i ∷ q) ≡ false) × (table_at L root M (i ∷ q) ≡ Some f)
-  clean_table i q f t = elim (is_removed L M low high (i ∷ q)) as (λ b. is_removed L M low high (i ∷ q) ≡ b → (b ≡ false) × (table_at L root M (i ∷ q) ≡ Some f)) [
-    | true ↦ λ r. absurd (some_not_none f (sym t ∙ ap (table_of L (i ∷ q)) (gone L root M h low high (i ∷ q) r) ∙ unused_no_table L (i ∷ q)))
-    | false ↦ λ r. (refl, ap (table_of L (i ∷ q)) (sym (stays L root M h low high (i ∷ q) r)) ∙ t)
-  ] refl
-
-  pub clean_before : (q : List ℕ) (f : ℕ) → table_at L root (clean_up L M low high).paths q ≡ Some f → table_at L root M q ≡ Some f
-  clean_before [] f t = t
-  clean_before (i ∷ q) f t = (clean_table i q f t).1
-
   none_left : (q : List ℕ) → entry M q ≡ 0 → entry (clean_up L M low high).paths q ≡ 0
   none_left q z = entry-cleaned L M low high q ∙ elim (is_removed L M low high q) as (λ b. cond b 0 (entry M q) ≡ 0) [ true ↦ refl | false ↦ z ]
 
@@ -113,12 +99,8 @@ clean_hierarchy L root M h low high = record {
 
 -- free and table frames are one set, each once, whatever the order in which a pool takes frames back
 module _ (give : List ℕ → ℕ → List ℕ) (gives : IsGiving give) (L root : ℕ) (M : PathMap) (h : IsTree L root M) (low high : ℕ) (pool : List ℕ) where
-  removed_leads : (q : List ℕ) → is_removed L M low high q ≡ true → table_at L root M q ≡ Some (address (entry M q))
-  removed_leads [] r = absurd (absent_used (entry M []) (in_range_parts L M low high [] (removed_gives L M low high [] r).itself).1 h.nothing_above)
-  removed_leads (i ∷ q) r = leads L root M h low high pool i q r
-
   still_no_table : (q : List ℕ) (f : ℕ) → table_at L root (clean_up L M low high).paths q ≡ Some f → (p : List ℕ) → q ≡ p → is_removed L M low high p ≡ true → ⊥
-  still_no_table [] f t p e r = some_not_none f (let x : is_removed L M low high [] ≡ true = ap (is_removed L M low high) e ∙ r in absurd (absent_used (entry M []) (in_range_parts L M low high [] (removed_gives L M low high [] x).itself).1 h.nothing_above))
+  still_no_table [] f t p e r = root_stays L root M h low high (ap (is_removed L M low high) e ∙ r)
   still_no_table (i ∷ q) f t p e r = let x = (clean_table L root M h low high i q f t).0 in let y : true ≡ false = sym r ∙ ap (is_removed L M low high) (sym e) ∙ x in cc
 
   pub clean_conserves : Conserves L root M pool (clean_up L M low high).paths (given_back give pool (clean_up L M low high).back)
@@ -132,11 +114,11 @@ module _ (give : List ℕ → ℕ → List ℕ) (gives : IsGiving give) (L root 
       own_frames = λ p q f a b. o.own_frames p q f (clean_before L root M h low high p f a) (clean_before L root M h low high q f b);
       each_once = given_once give gives pool back o.each_once
           (once_map (λ q. address (entry M q)) went (once_filter (is_removed L M low high) (paths_below (L - 1) []) (once_paths (L - 1) []))
-          (λ p q a b e. o.own_frames p q (address (entry M q)) (removed_leads p (was_removed p a) ∙ ap Some e) (removed_leads q (was_removed q b))))
-          (λ f a b. let more = from_map (λ q. address (entry M q)) went f a in o.no_table f b (more.0, removed_leads more.0 (was_removed more.0 more.1) ∙ ap Some more.2));
+          (λ p q a b e. o.own_frames p q (address (entry M q)) (removed_leads L root M h low high p (was_removed p a) ∙ ap Some e) (removed_leads L root M h low high q (was_removed q b))))
+          (λ f a b. let more = from_map (λ q. address (entry M q)) went f a in o.no_table f b (more.0, removed_leads L root M h low high more.0 (was_removed more.0 more.1) ∙ ap Some more.2));
       no_table = λ f i t. ⊎_elim
           (λ a. let more = from_map (λ q. address (entry M q)) went f a in
-          still_no_table t.0 f t.1 more.0 (o.own_frames t.0 more.0 f (clean_before L root M h low high t.0 f t.1) (removed_leads more.0 (was_removed more.0 more.1) ∙ ap Some more.2)) (was_removed more.0 more.1))
+          still_no_table t.0 f t.1 more.0 (o.own_frames t.0 more.0 f (clean_before L root M h low high t.0 f t.1) (removed_leads L root M h low high more.0 (was_removed more.0 more.1) ∙ ap Some more.2)) (was_removed more.0 more.1))
           (λ b. o.no_table f b (t.0, clean_before L root M h low high t.0 f t.1))
           (in_append back pool f ((given_frames give gives pool back f).0 i));
     };

@@ -1,5 +1,5 @@
 -- A clean up done twice is done once.
-use Rattle.std.proofs.Common.{◌-◌, ◌≡◌, ℕ, ◌&&◌, Bool, true, false, not, cond, List, [], ◌∷◌, length, map, filter, nat_lt, refl, sym, ap, ◌∙◌}
+use Rattle.std.proofs.Common.{◌-◌, ◌≡◌, ℕ, ◌&&◌, true, false, not, cond, List, [], ◌∷◌, length, map, nat_lt, refl, sym, ap, ◌∙◌}
 use Rattle.std.proofs.lemmas.Bool.{and_parts, and_from}
 use Rattle.std.specs.List.{list_all}
 use Rattle.x86_64_model.specs.Entry.{used, present, huge, address}
@@ -9,16 +9,12 @@ use Rattle.x86_64_model.specs.CleanUp.{in_range, meets, is_removed, clean_up}
 use Rattle.x86_64_model.specs.Lemmas.Entries.Bits.{used_present}
 use Rattle.x86_64_model.specs.Lemmas.Paths.Puts.{same_paths}
 use Rattle.x86_64_model.specs.Lemmas.Hierarchies.Changes.{zero_not_used}
-use Rattle.x86_64_model.specs.Lemmas.CleanUps.Removed.{Removed, removed_gives, removed_from}
+use Rattle.x86_64_model.specs.Lemmas.CleanUps.Removed.{Removed, removed_gives, removed_from, in_range_parts}
 use Rattle.x86_64_model.specs.Lemmas.CleanUps.Keys.{entry-cleaned}
 use Rattle.x86_64_model.specs.Lemmas.CleanUps.Answers.{gone, stays}
-use Rattle.x86_64_model.specs.Lemmas.CleanUps.Frames.{in_range_parts}
 use Rattle.x86_64_model.specs.Lemmas.CleanUps.Trees.{clean_tree}
 use Rattle.x86_64_model.specs.Lemmas.Hierarchies.Trees.{IsTree}
-
-none_pass : {X : Type 0} (p : X → Bool) (xs : List X) → ((x : X) → p x ≡ false) → filter p xs ≡ []
-none_pass p [] h = refl
-none_pass p (x ∷ xs) h = ap (λ b. cond b (x ∷ filter p xs) (filter p xs)) (h x) ∙ none_pass p xs h
+use Rattle.x86_64_model.specs.Lemmas.Lists.All.{every, filter_none}
 
 module _ (L root : ℕ) (M : PathMap) (tree : IsTree L root M) (low high : ℕ) where
   abbrev N : PathMap
@@ -63,4 +59,4 @@ module _ (L root : ℕ) (M : PathMap) (tree : IsTree L root M) (low high : ℕ) 
 
   pub none_again : (clean_up L N low high).back ≡ []
   unfolding clean_up
-  none_again = ap (map (λ q. address (entry (clean_up L M low high).paths q))) (none_pass (is_removed L (clean_up L M low high).paths low high) (paths_below (L - 1) []) none_removed)
+  none_again = ap (map (λ q. address (entry (clean_up L M low high).paths q))) (filter_none (is_removed L (clean_up L M low high).paths low high) (paths_below (L - 1) []) (every _ none_removed (paths_below (L - 1) [])))

@@ -1,6 +1,6 @@
 -- What setting flags leaves of an entry.
-use Rattle.std.proofs.Common.{◌≡◌, ◌≢◌, ne_eqb, ℕ, ◌==◌, ◌^◌, ◌<◌, true, false, not, bit_and, bit_or, refl, sym, ap, ◌∙◌, arith, min, max, eqb-true, subst, lit<, eq-eqb, ◌%◌, ◌/◌, ◌*◌, lt_of_le_of_lt}
-use Rattle.std.proofs.lemmas.Nat.{and_or_apart, and_assoc, and_comm, or_disjoint, and-not, and_mask, and_le_r}
+use Rattle.std.proofs.Common.{◌≡◌, ◌≢◌, ne_eqb, ℕ, ◌==◌, ◌^◌, ◌<◌, true, false, not, bit_and, bit_or, refl, sym, ap, ◌∙◌, arith, min, max, eqb-true, subst, lit<, eq-eqb, ◌%◌, ◌/◌, ◌*◌}
+use Rattle.std.proofs.lemmas.Nat.{and_or_apart, and_assoc, and_comm, or_disjoint, and-not, and_mask, or_comm}
 use Rattle.std.proofs.lemmas.Nat.Bits.{and_high, same_from_bits, bit_at_and, bit_at_or}
 use Rattle.std.specs.Int.{bit_at}
 use Rattle.x86_64_model.specs.Entry.{is_frame, has, present, address, flags, used}
@@ -62,11 +62,16 @@ or_assoc a b c = same_from_bits _ _ (λ i. bit_at_or (bit_or a b) c i ∙ ap (λ
 pub flags_added : (e m : ℕ) → e < 2 ^ 64 → bit_or (address e) (bit_or (flags e) m) ≡ bit_or e m
 flags_added e m h = sym (or_assoc (address e) (flags e) m) ∙ ap (λ x. bit_or x m) (whole e h)
 
+-- a frame has no flag
+pub no_flag : (f flag : ℕ) → address f ≡ f → bit_and 0x000f_ffff_ffff_f000 flag ≡ 0 → bit_and f flag ≡ 0
+unfolding address
+no_flag f flag a apart = ap (λ x. bit_and x flag) (sym a) ∙ and_assoc flag f 0x000f_ffff_ffff_f000 ∙ ap (bit_and f) apart ∙ and_comm f 0
+
+pub only_flags : (f x flag : ℕ) → address f ≡ f → bit_and 0x000f_ffff_ffff_f000 flag ≡ 0 → has (bit_or f x) flag ≡ has x flag
+only_flags f x flag a apart = ap (λ e. has e flag) (or_comm f x) ∙ has_or x f flag (no_flag f flag a apart)
+
 pub low_nine : (n : ℕ) → bit_and n 511 ≡ n % 512
 low_nine n = and_mask n 9
-
-pub address_below : (e : ℕ) → bit_and e 0x000f_ffff_ffff_f000 < 2 ^ 52
-address_below e = lt_of_le_of_lt (and_le_r e 0x000f_ffff_ffff_f000) (lit< tt)
 
 pub address_address : (e : ℕ) → address (address e) ≡ address e
 unfolding address

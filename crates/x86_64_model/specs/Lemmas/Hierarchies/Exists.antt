@@ -1,16 +1,16 @@
 -- The path map that words hold.
-use Rattle.std.proofs.Common.{◌≡◌, ◌⊎◌, inl, inr, ⊎_elim, ◌<◌, ◌≤◌, ℕ, zero, suc, ◌&&◌, true, false, not, cond, List, [], ◌∷◌, ◌++◌, length, fold, Some, None, Option, IsSome, nat_lt, refl, sym, ap, ◌∙◌, subst, arith, append_assoc, unwrap_or, lt-ltb, le-ltb}
-use Rattle.std.specs.FinMap.{empty, get-empty}
+use Rattle.std.proofs.Common.{◌≡◌, ◌⊎◌, inl, inr, ⊎_elim, ◌<◌, ◌≤◌, ℕ, zero, suc, ◌&&◌, true, false, not, cond, List, [], ◌∷◌, ◌++◌, length, fold, Some, None, IsSome, nat_lt, refl, sym, ap, ◌∙◌, subst, arith, append_assoc, lt-ltb}
+use Rattle.std.specs.FinMap.{empty}
 use Rattle.std.proofs.lemmas.Bool.{cases_lt}
 use Rattle.x86_64_model.specs.Entry.{huge, address, names_table}
-use Rattle.x86_64_model.specs.Memory.{Words, word, word_in}
+use Rattle.x86_64_model.specs.Memory.{Words, word}
 use Rattle.x86_64_model.specs.PathMap.{PathMap, entry, put, HasUsedAlone, table_of, table_at}
 use Rattle.x86_64_model.specs.Hierarchy.{entry_in, Holds, read_at, paths_of}
 use Rattle.x86_64_model.specs.Lists.{In}
 use Rattle.x86_64_model.specs.Path.{AllBelow, paths_below, indices}
 use Rattle.x86_64_model.specs.Lemmas.Lists.Members.{in_left, in_right, in_flat_map, in_indices}
-use Rattle.x86_64_model.specs.Lemmas.Paths.Puts.{entry-put, same_path, same_path_true, same_path_itself, used_alone-put, path_cmp}
-use Rattle.x86_64_model.specs.Lemmas.Hierarchies.Held.{Law, one_by_law}
+use Rattle.x86_64_model.specs.Lemmas.Paths.Puts.{entry-put, same_path, same_path_true, same_path_itself, used_alone-put, entry-empty, used_alone-empty}
+use Rattle.x86_64_model.specs.Lemmas.Hierarchies.Held.{Law, one_by_law, word_past}
 use Rattle.x86_64_model.specs.Lemmas.Maps.Down.{nat_lt-suc}
 use Rattle.x86_64_model.specs.Lemmas.Hierarchies.Changes.{unused_no_table, zero_not_used}
 
@@ -23,14 +23,6 @@ in_paths_below (suc n) q i (j ∷ p) l a = in_flat_map (λ i. paths_below n (q +
     (in_left (paths_below n (q ++ i ∷ [])) ((q ++ i ∷ []) ∷ []) (q ++ i ∷ j ∷ p) (subst (In (paths_below n (q ++ i ∷ []))) (append_assoc q (i ∷ []) (j ∷ p)) (in_paths_below n (q ++ i ∷ []) j p (omega arith) a.1)))
 
 -- ---- what is read
-
-word_past : (T : Words) (f i : ℕ) → 512 ≤ i → word T f i ≡ 0
-unfolding word
-word_past T f i h = ap (λ b. cond b (word_in (T f) i) 0) (le-ltb i 512 h)
-
-read_of_zero : (n : ℕ) (T : Words) (f i : ℕ) (p : List ℕ) → n ≡ 0 → read_at n T f (i ∷ p) ≡ 0
-read_of_zero zero T f i p e = refl
-read_of_zero (suc n) T f i p e = absurd (omega arith)
 
 -- a path that is too long, or has an index that is too large, has no entry
 pub read_or_in : (n : ℕ) (T : Words) (f i : ℕ) (p : List ℕ) → (read_at n T f (i ∷ p) ≡ 0) ⊎ ((length (i ∷ p) ≤ n) × AllBelow (i ∷ p))
@@ -80,33 +72,22 @@ module _ (r : List ℕ → ℕ) where
   fill_used_alone [] m h = h
   fill_used_alone (p ∷ ps) m h = fill_used_alone ps (put m p (r p)) (used_alone-put m p (r p) h)
 
-entry-empty : (q : List ℕ) → entry empty q ≡ 0
-unfolding entry
-entry-empty q = ap (λ o. unwrap_or o 0) (get-empty path_cmp q)
-
-used_alone-empty : HasUsedAlone empty
-used_alone-empty q h = let t : ◌≡◌ {A = Option ℕ} None (Some 0) = sym (get-empty path_cmp q) ∙ h in cc
-
 filled_alone : (L : ℕ) (T : Words) (root : ℕ) → HasUsedAlone (paths_of L T root)
 unfolding paths_of
 filled_alone L T root = fill_used_alone (read_at L T root) (paths_below L []) empty used_alone-empty
 
 module _ (L : ℕ) (T : Words) (root : ℕ) where
+  no_levels_none : (n : ℕ) → read_at n T root [] ≡ 0
+  no_levels_none zero = refl
+  no_levels_none (suc n) = refl
+
   pub entry_paths_of : (q : List ℕ) → entry (paths_of L T root) q ≡ read_at L T root q
   unfolding paths_of
-  entry_paths_of [] = fill_keeps (read_at L T root) (paths_below L []) empty [] (entry-empty [] ∙ none L)
-    where
-      none : (n : ℕ) → 0 ≡ read_at n T root []
-      none zero = refl
-      none (suc n) = refl
+  entry_paths_of [] = fill_keeps (read_at L T root) (paths_below L []) empty [] (entry-empty [] ∙ sym (no_levels_none L))
   entry_paths_of (i ∷ q) = ⊎_elim
       (λ z. fill_keeps (read_at L T root) (paths_below L []) empty (i ∷ q) (entry-empty (i ∷ q) ∙ sym z))
       (λ h. fill_in (read_at L T root) (paths_below L []) empty (i ∷ q) (in_paths_below L [] i q h.0 h.1))
       (read_or_in L T root i q)
-
-  no_levels_none : (n : ℕ) → read_at n T root [] ≡ 0
-  no_levels_none zero = refl
-  no_levels_none (suc n) = refl
 
   first_of_root : (n : ℕ) → 0 < n → (i : ℕ) → read_at n T root (i ∷ []) ≡ word T root i
   first_of_root zero h i = absurd (omega arith)

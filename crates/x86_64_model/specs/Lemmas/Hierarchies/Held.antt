@@ -1,5 +1,5 @@
 -- What words hold.
-use Rattle.std.proofs.Common.{◌≡◌, ◌≢◌, ◌⊎◌, inl, inr, ◌<◌, ℕ, ◌==◌, Bool, true, false, cond, List, [], ◌∷◌, ◌++◌, length, set, Some, None, Option, IsSome, option_map, nat_lt, refl, sym, ap, ap₂, ◌∙◌, subst, eq-eqb, ne_eqb, lt-ltb, ⊎_elim}
+use Rattle.std.proofs.Common.{◌≡◌, ◌≢◌, ◌⊎◌, inl, inr, ◌<◌, ℕ, ◌==◌, Bool, true, false, cond, List, [], ◌∷◌, ◌++◌, length, set, Some, None, Option, IsSome, option_map, nat_lt, refl, sym, ap, ap₂, ◌∙◌, subst, eq-eqb, ne_eqb, lt-ltb, ⊎_elim, le-ltb, ◌≤◌}
 use Rattle.std.proofs.lemmas.List.{same_from_push, get_or-set_same, get_or-set_other}
 use Rattle.std.proofs.lemmas.Bool.{cases_eq}
 use Rattle.x86_64_model.specs.Entry.{huge}
@@ -8,7 +8,7 @@ use Rattle.x86_64_model.specs.Memory.{Words, word, word_in, set_word}
 use Rattle.x86_64_model.specs.PathMap.{PathMap, entry, put, HasUsedAlone, table_of, table_at}
 use Rattle.x86_64_model.specs.Path.{level_of}
 use Rattle.x86_64_model.specs.Hierarchy.{entry_in, Holds, IsValid}
-use Rattle.x86_64_model.specs.Lemmas.Paths.Puts.{cases_path, entry-put_same, entry-put_other, used_alone-put, same_paths, by_last}
+use Rattle.x86_64_model.specs.Lemmas.Paths.Puts.{cases_path, entry-put_same, entry-put_other, used_alone-put, same_paths, by_last, append_longer, no_end}
 
 -- the table at a path depends on its own entry alone
 pub table_at_same : (L root : ℕ) (M N : PathMap) (p : List ℕ) → entry M p ≡ entry N p → table_at L root M p ≡ table_at L root N p
@@ -18,6 +18,13 @@ table_at_same L root M N (i ∷ p) e = ap (table_of L (i ∷ p)) e
 pub table_at_last : (L root : ℕ) (M : PathMap) (p : List ℕ) (i : ℕ) → table_at L root M (p ++ i ∷ []) ≡ table_of L (p ++ i ∷ []) (entry M (p ++ i ∷ []))
 table_at_last L root M [] i = refl
 table_at_last L root M (j ∷ p) i = refl
+
+pub table_at-put_same : (L root : ℕ) (M : PathMap) (p : List ℕ) (e : ℕ) → p ≢ [] → table_at L root (put M p e) p ≡ table_of L p e
+table_at-put_same L root M [] e n = absurd (n refl)
+table_at-put_same L root M (i ∷ p) e n = ap (table_of L (i ∷ p)) (entry-put_same M (i ∷ p) e)
+
+pub table_at-put_other : (L root : ℕ) (M : PathMap) (p : List ℕ) (e : ℕ) (q : List ℕ) → q ≢ p → table_at L root (put M p e) q ≡ table_at L root M q
+table_at-put_other L root M p e q apart = table_at_same L root _ M q (entry-put_other M p e q apart)
 
 abbrev pub Law : ℕ → Words → ℕ → PathMap → Type 0
 Law L tables root M = (q : List ℕ) (i : ℕ) → entry M (q ++ i ∷ []) ≡ entry_in tables (table_at L root M q) i
@@ -32,16 +39,10 @@ one_by_law L tables root M N m m0 ma n n0 na =
 pub one_held : (L : ℕ) (tables : Words) (root : ℕ) (M N : PathMap) → Holds L tables root M → Holds L tables root N → M ≡ N
 one_held L tables root M N m n = one_by_law L tables root M N m.entries m.nothing_above m.used_alone n.entries n.nothing_above n.used_alone
 
-pub longer : (p : List ℕ) (i : ℕ) → p ≢ p ++ i ∷ []
-longer [] i e = cc
-longer (j ∷ p) i e = longer p i (let t : p ≡ p ++ i ∷ [] = cc in t)
-
-pub no_end : (p : List ℕ) (i : ℕ) → [] ≢ p ++ i ∷ []
-no_end [] i e = cc
-no_end (j ∷ p) i e = cc
-
-some_one : {x y : ℕ} → Some x ≡ Some y → x ≡ y
-some_one e = cc
+-- the words past a table's end
+pub word_past : (T : Words) (f i : ℕ) → 512 ≤ i → word T f i ≡ 0
+unfolding word
+word_past T f i h = ap (λ b. cond b (word_in (T f) i) 0) (le-ltb i 512 h)
 
 -- a word after another was set
 pub word-set_same : (T : Words) (f i w : ℕ) (words : List ℕ) → T f ≡ Some words → i < length words → i < 512 → word (set_word T f i w) f i ≡ w
@@ -80,14 +81,14 @@ module _ (L : ℕ) (T : Words) (root : ℕ) (M : PathMap) (p : List ℕ) (i w f 
     (may : MayBecome L T root M p i w) where
   -- the table at each path afterwards
   here : table_at L root (put M (p ++ i ∷ []) w) (p ++ i ∷ []) ≡ table_of L (p ++ i ∷ []) w
-  here = table_at_last L root _ p i ∙ ap (table_of L (p ++ i ∷ [])) (entry-put_same M (p ++ i ∷ []) w)
+  here = table_at-put_same L root M (p ++ i ∷ []) w (λ e. no_end p i (sym e))
 
   there : (q : List ℕ) → q ≢ p ++ i ∷ [] → table_at L root (put M (p ++ i ∷ []) w) q ≡ table_at L root M q
-  there q apart = table_at_same L root _ M q (entry-put_other M (p ++ i ∷ []) w q apart)
+  there = table_at-put_other L root M (p ++ i ∷ []) w
 
   -- the frame that the new word names is not the one that it stands in
   not_own : (g : ℕ) → table_of L (p ++ i ∷ []) w ≡ Some g → g ≢ f
-  not_own g n e = longer p i (may.fresh g p n (leads ∙ ap Some (sym e)))
+  not_own g n e = append_longer p i [] (sym (may.fresh g p n (leads ∙ ap Some (sym e))))
 
   kept : (t : Option ℕ) (j : ℕ) → ((g : ℕ) → t ≡ Some g → (g ≢ f) ⊎ (j ≢ i)) → entry_in T t j ≡ entry_in (set_word T f i w) t j
   kept None j apart = refl
@@ -99,7 +100,7 @@ module _ (L : ℕ) (T : Words) (root : ℕ) (M : PathMap) (p : List ℕ) (i w f 
       set_here : q ++ j ∷ [] ≡ p ++ i ∷ [] → entry (put M (p ++ i ∷ []) w) (q ++ j ∷ []) ≡ entry_in (set_word T f i w) (table_at L root (put M (p ++ i ∷ []) w) q) j
       set_here e =
           let ends : (q ≡ p) × (j ≡ i) = same_from_push q p j i e in
-          let t : table_at L root (put M (p ++ i ∷ []) w) q ≡ Some f = ap (table_at L root (put M (p ++ i ∷ []) w)) ends.0 ∙ there p (longer p i) ∙ leads in
+          let t : table_at L root (put M (p ++ i ∷ []) w) q ≡ Some f = ap (table_at L root (put M (p ++ i ∷ []) w)) ends.0 ∙ there p (λ e. append_longer p i [] (sym e)) ∙ leads in
           ap (entry (put M (p ++ i ∷ []) w)) e ∙ entry-put_same M (p ++ i ∷ []) w
           ∙ sym (ap (λ t. entry_in (set_word T f i w) t j) t ∙ ap (word (set_word T f i w) f) ends.1 ∙ word-set_same T f i w words is within small)
 

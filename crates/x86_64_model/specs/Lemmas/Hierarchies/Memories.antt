@@ -1,26 +1,21 @@
 -- A write to a table of the memory is a write to the words, and the window stands aside from it.
-use Rattle.std.proofs.Common.{◌≡◌, ◌≢◌, ⊎_elim, ℕ, ◌==◌, Bool, true, false, cond, List, set, Some, None, Option, IsSome, option_map, refl, sym, ap, ap₂, ◌∙◌, eq-eqb, eqb-true, ne_eqb, Ordering, Less, Equal, Greater}
+use Rattle.std.proofs.Common.{◌≡◌, ◌≢◌, ⊎_elim, ℕ, ◌==◌, Bool, true, false, cond, List, set, Some, None, Option, IsSome, option_map, refl, sym, ap, ap₂, ◌∙◌, eq-eqb, eqb-true, ne_eqb}
 use Rattle.std.proofs.lemmas.Bool.{cases_eq}
 use Rattle.std.proofs.lemmas.List.{set_comm}
-use Rattle.std.specs.Ordering.{nat_cmp, eq_by_cmp, is_eq}
-use Rattle.std.specs.Cmp.{nat_cmp_total, tied_itself}
-use Rattle.std.specs.FinMap.{get, insert, get-insert, nat_cmp-IsAntisymmetric}
+use Rattle.std.specs.Ordering.{nat_cmp, eq_by_cmp}
+use Rattle.std.specs.Cmp.{nat_cmp_total, unsigned_tied}
+use Rattle.std.specs.FinMap.{get, insert, get-insert}
 use Rattle.x86_64_model.specs.Entry.{is_frame}
 use Rattle.x86_64_model.specs.Laws.Validity.{MappingsShowFrames}
 use Rattle.x86_64_model.specs.Memory.{IsMapping, Words, Memory, Places, Distinct, identity_places, words_of, set_word}
 use Rattle.x86_64_model.specs.Lemmas.Entries.Bits.{same_frame}
 use Rattle.x86_64_model.specs.Window.{Window, outside_window}
 
-same_key : (k : ℕ) → eq_by_cmp nat_cmp k k ≡ true
-same_key k = ap is_eq (tied_itself nat_cmp_total k)
+pub same_key : (k : ℕ) → eq_by_cmp nat_cmp k k ≡ true
+same_key k = unsigned_tied k k ∙ eq-eqb k k refl
 
-other_key : (a b : ℕ) → a ≢ b → eq_by_cmp nat_cmp a b ≡ false
-other_key a b n = by (nat_cmp a b) refl
-  where
-    by : (r : Ordering) → nat_cmp a b ≡ r → is_eq r ≡ false
-    by Less e = refl
-    by Equal e = absurd (n (nat_cmp-IsAntisymmetric a b e))
-    by Greater e = refl
+pub other_key : (a b : ℕ) → a ≢ b → eq_by_cmp nat_cmp a b ≡ false
+other_key a b n = unsigned_tied a b ∙ ne_eqb a b n
 
 -- a write to word i of the table at a covered frame's place
 pub words_of-insert : (memory : Memory) (places : Places) (f i w : ℕ) (words : List ℕ) → Distinct places → places.covers f ≡ true → get memory (places.place f) ≡ Some words

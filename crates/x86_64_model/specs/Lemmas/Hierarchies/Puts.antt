@@ -4,9 +4,9 @@ use Rattle.std.proofs.lemmas.List.{same_from_push}
 use Rattle.x86_64_model.specs.Entry.{used, huge}
 use Rattle.x86_64_model.specs.PathMap.{PathMap, entry, put, table_of, table_at}
 use Rattle.x86_64_model.specs.Path.{level_of}
-use Rattle.x86_64_model.specs.Lemmas.Paths.Puts.{cases_path, entry-put_same, entry-put_other, used_alone-put}
-use Rattle.x86_64_model.specs.Lemmas.Hierarchies.Held.{table_at_same, longer}
-use Rattle.x86_64_model.specs.Lemmas.Hierarchies.Trees.{IsTree, IsHierarchy, table_at_is, used_last}
+use Rattle.x86_64_model.specs.Lemmas.Paths.Puts.{cases_path, entry-put_same, entry-put_other, used_alone-put, append_longer}
+use Rattle.x86_64_model.specs.Lemmas.Hierarchies.Trees.{IsTree, IsHierarchy, used_last}
+use Rattle.x86_64_model.specs.Lemmas.Hierarchies.Held.{table_at-put_other, table_at-put_same}
 
 -- ---- a path whose table is there
 
@@ -21,18 +21,18 @@ reached_next L root M p i leads small r j e = let ends : (p ≡ r) × (i ≡ j) 
     (subst (λ j. j < 512) ends.1 small, subst (λ r. table_at L root M r ≢ None) ends.0 leads)
 
 module _ (L root : ℕ) (M : PathMap) (q : List ℕ) (w : ℕ) (nonempty : q ≢ []) where
-  pub at_put : table_at L root (put M q w) q ≡ table_of L q w
-  at_put = table_at_is L root _ q nonempty ∙ ap (table_of L q) (entry-put_same M q w)
+  at_put : table_at L root (put M q w) q ≡ table_of L q w
+  at_put = table_at-put_same L root M q w nonempty
 
-  pub else_put : (r : List ℕ) → r ≢ q → table_at L root (put M q w) r ≡ table_at L root M r
-  else_put r n = table_at_same L root _ M r (entry-put_other M q w r n)
+  else_put : (r : List ℕ) → r ≢ q → table_at L root (put M q w) r ≡ table_at L root M r
+  else_put = table_at-put_other L root M q w
 
   pub tree_put : IsTree L root M → Reached L root M q → (table_of L q w ≡ None → table_at L root M q ≡ None) → IsTree L root (put M q w)
   tree_put tree reached keeps = record {
     nothing_above = entry-put_other M q w [] (λ e. nonempty (sym e)) ∙ tree.nothing_above;
     used_alone = used_alone-put M q w tree.used_alone;
     below = λ r i h. ⊎_elim
-        (λ e. absurd ((reached r i (sym e)).1 (sym (else_put r (λ is. longer q i (sym (ap (λ r. r ++ i ∷ []) (sym is) ∙ e)))) ∙ h)))
+        (λ e. absurd ((reached r i (sym e)).1 (sym (else_put r (λ is. append_longer q i [] (ap (λ r. r ++ i ∷ []) (sym is) ∙ e))) ∙ h)))
         (λ n. entry-put_other M q w (r ++ i ∷ []) n ∙ tree.below r i (⊎_elim
         (λ is. ap (table_at L root M) is ∙ keeps (sym at_put ∙ ap (table_at L root (put M q w)) (sym is) ∙ h))
         (λ n. sym (else_put r n) ∙ h) (cases_path r q))) (cases_path (r ++ i ∷ []) q);

@@ -1,15 +1,16 @@
 -- What a path map is like that words hold, said of the map alone.
-use Rattle.std.proofs.Common.{◌≡◌, ◌≢◌, ◌<◌, ◌≤◌, ℕ, ◌&&◌, Bool, true, false, not, cond, List, [], ◌∷◌, ◌++◌, length, map, Some, None, Option, nat_lt, refl, sym, ap, ◌∙◌, subst₂, le-ltb, ltb-true, append_assoc, ⊎_elim}
-use Rattle.std.proofs.lemmas.Bool.{cases_lt}
+use Rattle.std.proofs.Common.{◌≡◌, ◌≢◌, ◌<◌, ◌≤◌, ℕ, ◌&&◌, true, false, not, List, [], ◌∷◌, ◌++◌, length, map, Some, None, Option, nat_lt, refl, sym, ap, ◌∙◌, ltb-true, ⊎_elim, IsSome}
+use Rattle.std.proofs.lemmas.Bool.{cases_lt, and_parts, not-true}
+use Rattle.std.proofs.lemmas.Option.{cond_some}
 use Rattle.x86_64_model.specs.Entry.{used, huge, address, names_table}
-use Rattle.x86_64_model.specs.Memory.{Words, word, word_in}
+use Rattle.x86_64_model.specs.Memory.{Words}
 use Rattle.x86_64_model.specs.PathMap.{PathMap, entry, HasUsedAlone, table_of, table_at}
 use Rattle.x86_64_model.specs.Path.{level_of, parents, AllBelow}
 use Rattle.x86_64_model.specs.Hierarchy.{entry_in, Holds, IsValid}
 use Rattle.x86_64_model.specs.Lemmas.Entries.Bits.{unused_zero}
 use Rattle.x86_64_model.specs.Lemmas.Paths.Puts.{by_last}
-use Rattle.x86_64_model.specs.Lemmas.Hierarchies.Held.{table_at_last}
-use Rattle.x86_64_model.specs.Lemmas.Hierarchies.Changes.{unused_no_table, zero_not_used, unnamed, append_longer, map_again, each_parent}
+use Rattle.x86_64_model.specs.Lemmas.Hierarchies.Held.{word_past}
+use Rattle.x86_64_model.specs.Lemmas.Hierarchies.Changes.{unused_no_table, zero_not_used, none_below, descends_from}
 use Rattle.x86_64_model.specs.Lemmas.Maps.Down.{Descends}
 
 -- nothing is used below a path that leads to no table, or at an index that no table has
@@ -25,7 +26,6 @@ pub record IsHierarchy (L root : ℕ) (M : PathMap) : Type 0 where
   pub none_huge : (q : List ℕ) → 3 < level_of L q → huge (entry M q) ≡ false
 
 pub tree_of_holds : (L : ℕ) (T : Words) (root : ℕ) (M : PathMap) → Holds L T root M → IsTree L root M
-unfolding word
 tree_of_holds L T root M holds = record {
   nothing_above = holds.nothing_above;
   used_alone = holds.used_alone;
@@ -35,15 +35,12 @@ tree_of_holds L T root M holds = record {
   where
     past : (t : Option ℕ) (i : ℕ) → 512 ≤ i → entry_in T t i ≡ 0
     past None i l = refl
-    past (Some f) i l = ap (λ b. cond b (word_in (T f) i) 0) (le-ltb i 512 l)
+    past (Some f) i l = word_past T f i l
 
 pub hierarchy_of_valid : (L : ℕ) (T : Words) (root : ℕ) (M : PathMap) → IsValid L T root M → IsHierarchy L root M
 hierarchy_of_valid L T root M valid = record { tree = tree_of_holds L T root M valid.holds; not_zero = valid.not_zero; none_huge = valid.none_huge }
 
 -- ---- tables
-
-pub some_one : (x y : ℕ) → Some x ≡ Some y → x ≡ y
-some_one x y e = cc
 
 pub table_at_is : (L root : ℕ) (M : PathMap) (q : List ℕ) → q ≢ [] → table_at L root M q ≡ table_of L q (entry M q)
 table_at_is L root M [] n = absurd (n refl)
@@ -56,37 +53,38 @@ pub record Names (L : ℕ) (q : List ℕ) (e f : ℕ) : Type 0 where
 
 pub table_of_gives : (L : ℕ) (q : List ℕ) (e f : ℕ) → table_of L q e ≡ Some f → Names L q e f
 unfolding table_of
-table_of_gives L q e f h = by (names_table e) (nat_lt (length q) L) refl refl h
-  where
-    by : (a b : Bool) → names_table e ≡ a → nat_lt (length q) L ≡ b → cond (a && b) (Some (address e)) None ≡ Some f → Names L q e f
-    by true true x y h = record { is_table = x; high = ltb-true (length q) L y; at = some_one _ _ h }
-    by true false x y h = let t : None ≡ Some f = h in cc
-    by false b x y h = let t : None ≡ Some f = h in cc
+table_of_gives L q e f h =
+    let is = cond_some (names_table e && nat_lt (length q) L) (address e) f h in
+    let parts = and_parts (names_table e) (nat_lt (length q) L) is.0 in
+    record { is_table = parts.0; high = ltb-true (length q) L parts.1; at = is.1 }
 
 pub none_or_some : (o : Option ℕ) → o ≢ None → (f : ℕ) × (o ≡ Some f)
 none_or_some None n = absurd (n refl)
 none_or_some (Some f) n = (f, refl)
 
+pub some_is : {X : Type 0} (o : Option X) → IsSome o → (x : X) × (o ≡ Some x)
+some_is None h = cc
+some_is (Some x) h = (x, refl)
+
 pub some_not_none : (f : ℕ) → Some f ≢ None
 some_not_none f e = cc
 
+pub used_table : (e : ℕ) → names_table e ≡ true → used e ≡ true
+used_table e h = (and_parts (used e) (not (huge e)) h).0
+
 pub plain_table : (e : ℕ) → names_table e ≡ true → huge e ≡ false
-plain_table e h = by (used e) (huge e) h
-  where
-    by : (u g : Bool) → (u && not g) ≡ true → g ≡ false
-    by true true h = cc
-    by true false h = refl
-    by false g h = cc
+plain_table e h = not-true (huge e) (and_parts (used e) (not (huge e)) h).1
 
 pub no_table_unused : (L root : ℕ) (M : PathMap) (i : ℕ) (p : List ℕ) → used (entry M (i ∷ p)) ≡ false → table_at L root M (i ∷ p) ≡ None
 no_table_unused L root M i p u = ap (table_of L (i ∷ p)) (unused_zero _ u) ∙ unused_no_table L (i ∷ p)
 
+pub unused_leads_nowhere : (L root : ℕ) (M : PathMap) (q : List ℕ) → q ≢ [] → used (entry M q) ≡ false → table_at L root M q ≡ None
+unused_leads_nowhere L root M [] n u = absurd (n refl)
+unused_leads_nowhere L root M (i ∷ p) n u = no_table_unused L root M i p u
+
 module _ (L root : ℕ) (M : PathMap) (tree : IsTree L root M) where
   pub tree_below : (p : List ℕ) (k : ℕ) (s : List ℕ) → table_at L root M p ≡ None → entry M (p ++ k ∷ s) ≡ 0
-  tree_below p k [] h = tree.below p k h
-  tree_below p k (l ∷ s) h =
-      ap (entry M) (sym (append_assoc p (k ∷ []) (l ∷ s)))
-      ∙ tree_below (p ++ k ∷ []) l s (table_at_last L root M p k ∙ ap (table_of L (p ++ k ∷ [])) (tree.below p k h) ∙ unused_no_table L (p ++ k ∷ []))
+  tree_below = none_below L root M tree.below
 
   -- where an entry is used, its table is there
   pub used_last : (q : List ℕ) (i : ℕ) → used (entry M (q ++ i ∷ [])) ≡ true → (i < 512) × (table_at L root M q ≢ None)
@@ -117,11 +115,4 @@ module _ (L root : ℕ) (M : PathMap) (tree : IsTree L root M) where
 
   -- the parents of a page are as `Descends` says
   pub tree_descends : (pre q : List ℕ) → Descends M (map (λ r. pre ++ r) (parents q)) (pre ++ q)
-  tree_descends pre [] = tt
-  tree_descends pre (i ∷ []) = tt
-  tree_descends pre (i ∷ j ∷ q) = subst₂ (λ ps q. Descends M ((pre ++ i ∷ []) ∷ ps) q) (map_again pre i (parents (j ∷ q))) (append_assoc pre (i ∷ []) (j ∷ q)) (
-    (λ h. each_parent (λ r. used (entry M r) ≡ false) (pre ++ i ∷ []) (λ k s. ap used (tree_below (pre ++ i ∷ []) k s (table_at_last L root M pre i ∙ unnamed L (pre ++ i ∷ []) _ h)) ∙ zero_not_used) (j ∷ q)),
-    each_parent (λ r. r ≢ pre ++ i ∷ []) (pre ++ i ∷ []) (append_longer (pre ++ i ∷ [])) (j ∷ q),
-    append_longer (pre ++ i ∷ []) j q,
-    tree_descends (pre ++ i ∷ []) (j ∷ q),
-  )
+  tree_descends = descends_from L root M tree.below

@@ -1,5 +1,5 @@
 -- Two machines whose path maps are alike give one list of replies, and stay alike.
-use Rattle.std.proofs.Common.{◌≡◌, inl, inr, ◌≤◌, ◌+◌, ◌-◌, ℕ, suc, zero, ◌==◌, ◌&&◌, ◌||◌, Bool, true, false, not, cond, List, [], ◌∷◌, length, take, find, Some, None, Option, nat_lt, refl, sym, ap, ap₂, ◌∙◌, subst, subst₂, arith}
+use Rattle.std.proofs.Common.{◌≡◌, inl, inr, ◌≤◌, ◌+◌, ◌-◌, ℕ, suc, zero, ◌==◌, ◌&&◌, ◌||◌, Bool, true, false, not, cond, List, [], ◌∷◌, length, take, find, Some, Option, nat_lt, refl, sym, ap, ap₂, ◌∙◌, subst, subst₂, arith}
 use Rattle.std.specs.List.{AllByRecursion}
 use Rattle.std.proofs.lemmas.Bool.{and_parts}
 use Rattle.x86_64_model.specs.Entry.{present, huge, address, no_address}
@@ -15,12 +15,11 @@ use Rattle.x86_64_model.specs.Call.{IsCall, Call, MapTo, MapToWithTableFlags, Id
 use Rattle.x86_64_model.specs.Machine.{State, do_call, step, replies_of, state_after}
 use Rattle.x86_64_model.specs.Allowed.{none_absent, map_allowed, refuses, both_or_none, allowed}
 use Rattle.x86_64_model.specs.Alike.{Alike, names_index}
-use Rattle.x86_64_model.specs.Lemmas.Maps.Down.{all_mapped}
 use Rattle.x86_64_model.specs.Lemmas.Maps.Frames.{IsFrame}
 use Rattle.x86_64_model.specs.Lemmas.Hierarchies.Trees.{IsTree}
 use Rattle.x86_64_model.specs.Lemmas.Maps.Trees.{parents_begin}
 use Rattle.x86_64_model.specs.Lemmas.Machines.Effects.{page_at_level, map_may, MapMay, machine}
-use Rattle.x86_64_model.specs.Lemmas.Maps.Arrives.{entry_outside}
+use Rattle.x86_64_model.specs.Lemmas.Maps.Arrives.{entry_outside, first_alone}
 use Rattle.x86_64_model.specs.Lemmas.Machines.States.{IsSound, step_sound, all_in}
 use Rattle.x86_64_model.specs.Laws.Steps.{AllCalls}
 use Rattle.x86_64_model.specs.Lemmas.Machines.Spares.{translate_outside}
@@ -29,12 +28,9 @@ use Rattle.x86_64_model.specs.Machine
 use Rattle.x86_64_model.specs.Lemmas.Machines.AlikeEntries.{LikeAt, like, alike_translated}
 use Rattle.x86_64_model.specs.Lemmas.Machines.AlikeMaps.{map_alike}
 use Rattle.x86_64_model.specs.Lemmas.Machines.AlikeRules.{ReadAlike, AlikeChanged, unmap_alike, update_alike, page_alike, set_alike, clean_alike, back_same}
+use Rattle.x86_64_model.specs.Lemmas.Lists.All.{all_mapped, every}
 
 -- ---- one call
-
-pub begins_on : (window : Option Window) (i : ℕ) (s t : List ℕ) → begins_with window (i ∷ s) ≡ false → begins_with window (i ∷ t) ≡ false
-begins_on None i s t h = refl
-begins_on (Some w) i s t h = h
 
 pub none_among : (M N : PathMap) (ps : List (List ℕ)) → AllByRecursion (λ p. LikeAt (entry M p) (entry N p)) ps
     → none_absent N (find (λ p. not (present (entry N p)) || huge (entry N p)) ps) ≡ none_absent M (find (λ p. not (present (entry M p)) || huge (entry M p)) ps)
@@ -44,10 +40,6 @@ none_among M N (p ∷ ps) a = by _ _ _ _ (λ i. not (a.0.same_present i) || a.0.
     by : (b c : Bool) (x y : Option (List ℕ)) → c ≡ b → present (entry N p) ≡ present (entry M p) → none_absent N x ≡ none_absent M y → none_absent N (cond c (Some p) x) ≡ none_absent M (cond b (Some p) y)
     by true c x y cb h g = ap (λ c. none_absent N (cond c (Some p) x)) cb ∙ h
     by false c x y cb h g = ap (λ c. none_absent N (cond c (Some p) x)) cb ∙ g
-
-pub every : (P : List ℕ → Type 0) → ((q : List ℕ) → P q) → (ps : List (List ℕ)) → AllByRecursion P ps
-every P h [] = tt
-every P h (p ∷ ps) = (h p, every P h ps)
 
 pub record AlikeResults (L : ℕ) (x y : State × Reply) : Type 0 where
   pub paths : Alike L x.0.paths y.0.paths
@@ -63,7 +55,7 @@ module _ (L : ℕ) (v w : Option Window) (M N : PathMap) (alike : Alike L M N) w
   }
     where
       both : (t : List ℕ) → LikeAt (entry_at v M (i ∷ t)) (entry_at w N (i ∷ t))
-      both t = subst₂ LikeAt (sym (entry_outside v M i t (begins_on v i s t a))) (sym (entry_outside w N i t (begins_on w i s t b))) (like L M N alike (i ∷ t))
+      both t = subst₂ LikeAt (sym (entry_outside v M i t (first_alone v i s t a))) (sym (entry_outside w N i t (first_alone w i s t b))) (like L M N alike (i ∷ t))
 
   pub page_read : (q : List ℕ) → IsPage L q → begins_with v q ≡ false → begins_with w q ≡ false → ReadAlike (entry_at v M) (entry_at w N) q
   page_read q page a b = read_alike q page.nonempty a b
@@ -71,7 +63,7 @@ module _ (L : ℕ) (v w : Option Window) (M N : PathMap) (alike : Alike L M N) w
   pub front_read : (n : ℕ) (q : List ℕ) → 1 ≤ n → IsPage L q → begins_with v q ≡ false → begins_with w q ≡ false → ReadAlike (entry_at v M) (entry_at w N) (take n q)
   front_read zero q l page a b = absurd (omega arith)
   front_read (suc n) [] l page a b = absurd (let l = page.nonempty in omega arith)
-  front_read (suc n) (i ∷ q) l page a b = read_alike (i ∷ take n q) (omega arith) (begins_on v i q (take n q) a) (begins_on w i q (take n q) b)
+  front_read (suc n) (i ∷ q) l page a b = read_alike (i ∷ take n q) (omega arith) (first_alone v i q (take n q) a) (first_alone w i q (take n q) b)
 
   pub map_allowed_same : (q : List ℕ) (given more : ℕ) → begins_with v q ≡ false → begins_with w q ≡ false → map_allowed L w N q given more ≡ map_allowed L v M q given more
   map_allowed_same q given more a b = λ i. no_address given && no_address more && not (huge more) && (not (length q == L) || not (huge given))

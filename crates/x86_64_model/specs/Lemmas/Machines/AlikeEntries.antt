@@ -1,17 +1,18 @@
 -- Entries that are alike: what calls read of them, and what setting flags and new tables leave of them.
-use Rattle.std.proofs.Common.{◌≡◌, ◌⊎◌, inl, inr, ⊎_elim, ◌<◌, ℕ, ◌==◌, ◌&&◌, true, false, not, List, [], length, bit_and, bit_or, min, max, refl, sym, ap, ap₂, ◌∙◌, subst, subst₂, arith, eqb-true}
+use Rattle.std.proofs.Common.{◌≡◌, ◌⊎◌, inl, inr, ⊎_elim, ◌<◌, ℕ, ◌==◌, true, false, List, [], length, bit_and, bit_or, min, max, refl, sym, ap, ◌∙◌, subst, subst₂, arith, eqb-true}
 use Rattle.std.specs.Int.{bit_at}
-use Rattle.std.proofs.lemmas.Nat.{and_assoc, and_comm, or_disjoint}
+use Rattle.std.specs.Int.Bits.{or_zero_r}
+use Rattle.std.proofs.lemmas.Nat.{and_assoc}
 use Rattle.std.proofs.lemmas.Nat.Bits.{same_from_bits, bit_at_and, bit_at_or}
-use Rattle.std.proofs.lemmas.Bool.{and_parts}
-use Rattle.x86_64_model.specs.Entry.{IsParentFlags, has, used, present, huge, address, names_table}
+use Rattle.x86_64_model.specs.Entry.{IsParentFlags, has, used, present, huge, address}
 use Rattle.x86_64_model.specs.PathMap.{PathMap, entry, put}
 use Rattle.x86_64_model.specs.Position.{page_path}
 use Rattle.x86_64_model.specs.Alike.{without_writable, AlikeTables, Alike}
-use Rattle.x86_64_model.specs.Lemmas.Entries.Bits.{has_or, and_or_distrib}
+use Rattle.x86_64_model.specs.Lemmas.Entries.Bits.{and_or_distrib}
 use Rattle.x86_64_model.specs.Lemmas.Paths.Puts.{cases_path, entry-put_same, entry-put_other}
-use Rattle.x86_64_model.specs.Lemmas.Maps.Frames.{IsFrame, used_or, used_not_zero, frame_not_huge, flags_or}
-use Rattle.x86_64_model.specs.Lemmas.Hierarchies.Trees.{plain_table}
+use Rattle.x86_64_model.specs.Lemmas.Maps.Frames.{IsFrame}
+use Rattle.x86_64_model.specs.Lemmas.Maps.Accepted.{marked_parent, new_parent}
+use Rattle.x86_64_model.specs.Lemmas.Hierarchies.Trees.{plain_table, used_table}
 use Rattle.x86_64_model.specs.Lemmas.Walks.Fronts.{SameTests, tested_same}
 use Rattle.x86_64_model.specs.Lemmas.Machines.Spares.{translated_by, length_path}
 pub use Rattle.x86_64_model.specs.Laws.Pairs.{IsAdded, NoneNames, AlikeRuns}
@@ -30,9 +31,6 @@ like_same e f is = record { same_used = ap used is; same_present = ap present is
 
 pub without : (e f part : ℕ) → bit_and 0xffff_ffff_ffff_fffd part ≡ part → without_writable e ≡ without_writable f → bit_and f part ≡ bit_and e part
 without e f part h same = sym (and_assoc part f 0xffff_ffff_ffff_fffd ∙ ap (bit_and f) h) ∙ ap (λ x. bit_and x part) (sym same) ∙ and_assoc part e 0xffff_ffff_ffff_fffd ∙ ap (bit_and e) h
-
-pub used_table : (e : ℕ) → names_table e ≡ true → used e ≡ true
-used_table e h = (and_parts _ _ h).0
 
 pub like_tables : (e f : ℕ) → AlikeTables e f → LikeAt e f
 unfolding has address
@@ -68,21 +66,15 @@ module _ (L : ℕ) (M N : PathMap) (alike : Alike L M N) where
 
 pub marked_tables : (more e f : ℕ) → IsParentFlags more → AlikeTables e f → AlikeTables (bit_or e more) (bit_or f more)
 marked_tables more e f marks t = record {
-  one_names = names e t.one_names;
-  other_names = names f t.other_names;
+  one_names = (marked_parent more e marks (used_table e t.one_names) (plain_table e t.one_names)).is_table;
+  other_names = (marked_parent more f marks (used_table f t.other_names) (plain_table f t.other_names)).is_table;
   same_else = and_or_distrib e more _ ∙ ap (λ x. bit_or x (bit_and more 0xffff_ffff_ffff_fffd)) t.same_else ∙ sym (and_or_distrib f more _);
 }
-  where
-    names : (e : ℕ) → names_table e ≡ true → names_table (bit_or e more) ≡ true
-    names e h = ap₂ (λ u g. u && not g) (used_or e more (used_not_zero e (used_table e h))) (has_or e more 0x80 marks.not_huge ∙ plain_table e h)
 
 pub alike_marked : (L more : ℕ) → IsParentFlags more → (M N : PathMap) → Alike L M N → (p : List ℕ) → Alike L (put M p (bit_or (entry M p) more)) (put N p (bit_or (entry N p) more))
 alike_marked L more marks M N alike p = alike_put L M N alike p _ _ (⊎_elim (λ e. inl (ap (λ x. bit_or x more) e)) (λ t. inr (t.0, marked_tables more _ _ marks t.1)) (alike p))
 
 -- ---- new tables: with PRESENT among the parent flags, added flags are at most WRITABLE
-
-pub or_zero : (x : ℕ) → bit_or x 0 ≡ x
-or_zero x = or_disjoint x 0 (and_comm x 0) ∙ omega arith
 
 pub or_part : (x part : ℕ) → bit_and x part ≡ part → bit_or x part ≡ x
 or_part x part h = same_from_bits _ _ (λ i. bit_at_or x part i ∙ by (bit_at x i) (bit_at part i) (sym (bit_at_and x part i) ∙ ap (λ y. bit_at y i) h))
@@ -96,16 +88,13 @@ has_is e f h = eqb-true _ f h
 
 pub nothing_added : (more added : ℕ) → present more ≡ true → IsAdded added → without_writable (bit_or more added) ≡ without_writable more
 nothing_added more added h is = and_or_distrib more added _ ∙ ⊎_elim
-    (λ z. ap (bit_or (without_writable more)) z ∙ or_zero _)
+    (λ z. ap (bit_or (without_writable more)) z ∙ or_zero_r _)
     (λ o. ap (bit_or (without_writable more)) o ∙ or_part (without_writable more) 1 (and_assoc 1 more 0xffff_ffff_ffff_fffd ∙ has_is more 1 h))
     is.few
 
 pub new_tables : (more a b f : ℕ) → IsParentFlags more → present more ≡ true → IsAdded a → IsAdded b → IsFrame f → AlikeTables (bit_or f (bit_or more a)) (bit_or f (bit_or more b))
 new_tables more a b f marks h ia ib frame = record {
-  one_names = names a ia;
-  other_names = names b ib;
+  one_names = (new_parent more a f marks ia.adds frame).is_table;
+  other_names = (new_parent more b f marks ib.adds frame).is_table;
   same_else = and_or_distrib f (bit_or more a) _ ∙ ap (bit_or (bit_and f 0xffff_ffff_ffff_fffd)) (nothing_added more a h ia ∙ sym (nothing_added more b h ib)) ∙ sym (and_or_distrib f (bit_or more b) _);
 }
-  where
-    names : (a : ℕ) → IsAdded a → names_table (bit_or f (bit_or more a)) ≡ true
-    names a ia = ap₂ (λ u g. u && not g) (used_or f (bit_or more a) frame.not_zero) (has_or f (bit_or more a) 0x80 (flags_or more a marks ia.adds).not_huge ∙ frame_not_huge f frame.aligned)

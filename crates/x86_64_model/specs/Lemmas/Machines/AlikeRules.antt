@@ -1,5 +1,6 @@
 -- The calls on one entry and clean ups on path maps that are alike.
 use Rattle.std.proofs.Common.{◌≡◌, ◌⊎◌, inl, inr, ⊎_elim, ◌<◌, ◌-◌, ◌%◌, ℕ, ◌==◌, ◌&&◌, Bool, true, false, not, cond, List, [], ◌∷◌, length, find, filter, map, Some, None, Option, option_map, nat_lt, nat_le, bit_or, refl, sym, ap, ◌∙◌, subst, subst₂}
+use Rattle.std.proofs.lemmas.Bool.Decides.{same_from_decides}
 use Rattle.std.specs.List.{AllByRecursion, list_all}
 use Rattle.x86_64_model.specs.Entry.{used, present, huge, address}
 use Rattle.x86_64_model.specs.PathMap.{PathMap, entry, put}
@@ -102,16 +103,12 @@ removed_alike L M N alike low high q r = record {
 pub other_way : (L : ℕ) (M N : PathMap) → Alike L M N → Alike L N M
 other_way L M N alike q = ⊎_elim (λ e. inl (sym e)) (λ t. inr (t.0, record { one_names = t.1.other_names; other_names = t.1.one_names; same_else = sym t.1.same_else })) (alike q)
 
-pub same_bools : (a b : Bool) → (a ≡ true → b ≡ true) → (b ≡ true → a ≡ true) → b ≡ a
-same_bools true b f g = f refl
-same_bools false true f g = let t : false ≡ true = g refl in cc
-same_bools false false f g = refl
-
 module _ (L root root' : ℕ) (M N : PathMap) (tree : IsTree L root M) (tree' : IsTree L root' N) (alike : Alike L M N) (low high : ℕ) where
   pub removed_same : (q : List ℕ) → is_removed L N low high q ≡ is_removed L M low high q
-  removed_same q = same_bools _ _
-      (λ h. removed_from L N tree'.used_alone low high q (removed_alike L M N alike low high q (removed_gives L M low high q h)))
-      (λ h. removed_from L M tree.used_alone low high q (removed_alike L N M (other_way L M N alike) low high q (removed_gives L N low high q h)))
+  removed_same q = same_from_decides {P = is_removed L M low high q ≡ true} _ _ (
+    λ h. removed_from L M tree.used_alone low high q (removed_alike L N M (other_way L M N alike) low high q (removed_gives L N low high q h)),
+    λ h. removed_from L N tree'.used_alone low high q (removed_alike L M N alike low high q (removed_gives L M low high q h)),
+  ) (λ h. h, λ h. h)
 
   pub clean_alike : Alike L (clean_up L M low high).paths (clean_up L N low high).paths
   clean_alike q = subst₂ (λ a b. (a ≡ b) ⊎ ((length q < L) × AlikeTables a b)) (sym (entry-cleaned L M low high q)) (sym (entry-cleaned L N low high q ∙ ap (λ b. cond b 0 (entry N q)) (removed_same q)))

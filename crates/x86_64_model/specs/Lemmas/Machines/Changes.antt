@@ -1,7 +1,6 @@
 -- What a call on one entry writes: nothing, or one entry, which names the same table as before.
-use Rattle.std.proofs.Common.{◌≡◌, ◌≢◌, ⊎_elim, ◌<◌, ◌≤◌, ℕ, zero, suc, ◌==◌, ◌&&◌, ◌||◌, Bool, true, false, not, cond, List, [], ◌∷◌, length, take, Some, None, Option, nat_lt, nat_le, bit_and, bit_or, refl, sym, ap, ap₂, ◌∙◌, subst, arith, eqb-true, ◌+◌, ◌-◌, le-ltb, ltb-true}
-use Rattle.std.proofs.lemmas.Nat.{and_assoc, and_comm, or_comm}
-use Rattle.std.proofs.lemmas.Bool.{or_cases, leb-false}
+use Rattle.std.proofs.Common.{◌≡◌, ◌≢◌, ⊎_elim, ◌<◌, ◌≤◌, ℕ, zero, suc, ◌==◌, ◌&&◌, ◌||◌, Bool, true, false, not, cond, List, [], ◌∷◌, length, take, Some, None, Option, nat_lt, nat_le, bit_or, refl, sym, ap, ap₂, ◌∙◌, subst, arith, eqb-true, ◌+◌, ◌-◌, ltb-true, length-take-le}
+use Rattle.std.proofs.lemmas.Bool.{or_cases, leb-false, not-true, not-false}
 use Rattle.x86_64_model.specs.Entry.{used, present, huge, address, names_table, no_address}
 use Rattle.x86_64_model.specs.PathMap.{PathMap, entry, put, table_of}
 use Rattle.x86_64_model.specs.Window.{Window, entry_at, begins_with}
@@ -10,17 +9,20 @@ use Rattle.x86_64_model.specs.PageRules.{AfterChange, refused_or, unmap, update_
 use Rattle.x86_64_model.specs.MapRule.{leaf_entry}
 use Rattle.x86_64_model.specs.Path.{level_of, front_at, IsPage}
 use Rattle.x86_64_model.specs.Allowed.{refuses, both_or_none, set_flags_allowed}
-use Rattle.x86_64_model.specs.Lemmas.Entries.Bits.{has_or, address_or, address_address, used_present}
+use Rattle.x86_64_model.specs.Lemmas.Entries.Bits.{address_or, address_address, used_present, only_flags}
 use Rattle.x86_64_model.specs.Lemmas.Hierarchies.Changes.{unused_no_table, unnamed}
 use Rattle.x86_64_model.specs.Lemmas.Maps.Frames.{used_or}
 use Rattle.x86_64_model.specs.Lemmas.Walks.Agrees.{named}
 use Rattle.x86_64_model.specs.Lemmas.Hierarchies.Trees.{IsHierarchy}
 use Rattle.x86_64_model.specs.Lemmas.Maps.Arrives.{entry_outside}
-use Rattle.x86_64_model.specs.Lemmas.Maps.PageCalls.{leaf_no_table}
+use Rattle.x86_64_model.specs.Lemmas.Maps.PageCalls.{leaf_low}
+use Rattle.x86_64_model.specs.Lemmas.Maps.Leaves.{none_at_leaf}
+pub use Rattle.x86_64_model.specs.Lemmas.Hierarchies.Changes.{huge_names_none, leaf_none}
 
-pub page_outside : (L : ℕ) (window : Option Window) (M : PathMap) (q : List ℕ) → IsPage L q → begins_with window q ≡ false → entry_at window M q ≡ entry M q
-page_outside L window M [] page out = absurd (let l = page.nonempty in omega arith)
-page_outside L window M (i ∷ q) page out = entry_outside window M i q out
+-- an entry of the map at a path that isn't empty
+pub at_front : (window : Option Window) (M : PathMap) (q : List ℕ) → begins_with window q ≡ false → 0 < length q → entry_at window M q ≡ entry M q
+at_front window M [] o l = absurd (omega arith)
+at_front window M (i ∷ q) o l = entry_outside window M i q o
 
 -- one used entry, outside the window, becomes a word that names the same table, or none as before
 pub record IsChange (L : ℕ) (window : Option Window) (M : PathMap) (q : List ℕ) (w : ℕ) : Type 0 where
@@ -37,38 +39,9 @@ pub not_refused : (b : Bool) (why : Refusal) (next : Option Refusal) → refused
 not_refused true why next h = let t : Some why ≡ None = h in cc
 not_refused false why next h = (refl, h)
 
-pub flip : (b : Bool) → not b ≡ false → b ≡ true
-flip true h = refl
-flip false h = cc
-
-pub flip_not : (b : Bool) → not b ≡ true → b ≡ false
-flip_not true h = cc
-flip_not false h = refl
-
-pub huge_names_none : (e : ℕ) → huge e ≡ true → names_table e ≡ false
-huge_names_none e h = by (used e) h
-  where
-    by : (u : Bool) {g : Bool} → g ≡ true → (u && not g) ≡ false
-    by true h = ap not h
-    by false h = refl
-
-pub leaf_none : (L : ℕ) (q : List ℕ) (e : ℕ) → ((length q == L) ≡ false → huge e ≡ true) → table_of L q e ≡ None
-unfolding table_of
-leaf_none L q e h = elim (length q == L) as (λ b. (length q == L) ≡ b → table_of L q e ≡ None) [
-  | true ↦ λ l. by (names_table e) (ap (λ n. nat_lt n L) (eqb-true (length q) L l) ∙ le-ltb L L (omega arith))
-  | false ↦ λ l. unnamed L q e (huge_names_none e (h l))
-] refl
-  where
-    by : (a : Bool) {b : Bool} → b ≡ false → cond (a && b) (Some (address e)) None ≡ None
-    by true h = ap (λ b. cond b (Some (address e)) None) h
-    by false h = refl
-
 module _ (L : ℕ) (window : Option Window) (M : PathMap) (q : List ℕ) (page : IsPage L q) (out : begins_with window q ≡ false) where
   pub at_page : entry_at window M q ≡ entry M q
-  at_page = page_outside L window M q page out
-
-  pub low_page : (w : ℕ) → 3 < level_of L q → huge w ≡ false
-  low_page w up = absurd (let a = page.at_least in omega arith)
+  at_page = at_front window M q out page.nonempty
 
   -- `unmap` refuses and changes nothing, or one leaf becomes unused
   pub unmap_change : (P : AfterChange → Type 0) → ((why : Refusal) → P (record { paths = M; answer = Refused why }))
@@ -77,15 +50,15 @@ module _ (L : ℕ) (window : Option Window) (M : PathMap) (q : List ℕ) (page :
   unmap_change P fails works = refused_by P M (first_stop (entry_at window M) q) _ fails (λ s.
       refused_by P M _ _ fails (λ t. let p = not_refused (not (present (entry_at window M q))) _ _ t in
       subst (λ e. P (record { paths = put M q 0; answer = Done (address e) })) (sym at_page) (works (record {
-        is_used = ap used (sym at_page) ∙ used_present _ (flip _ p.0);
+        is_used = ap used (sym at_page) ∙ used_present _ (not-false _ p.0);
         outside = out;
         same_table = unused_no_table L q ∙ sym (leaf_none L q (entry M q) (λ l. ap huge (sym at_page) ∙ big (entry_at window M q) (length q == L) _ l p.1));
-        low = low_page 0;
+        low = leaf_low L q 0 page;
       }))))
     where
       big : (e : ℕ) (b : Bool) (o : Option Refusal) → b ≡ false → cond b (refused_if (huge e) ParentEntryHugePage None) (refused_if (not (huge e)) ParentEntryHugePage o) ≡ None → huge e ≡ true
       big e true o l h = cc
-      big e false o l h = flip _ (not_refused (not (huge e)) _ o h).0
+      big e false o l h = not-false _ (not_refused (not (huge e)) _ o h).0
 
   -- `update_flags` refuses and changes nothing, or one leaf gets other flags
   pub update_change : (given : ℕ) (P : AfterChange → Type 0) → ((why : Refusal) → P (record { paths = M; answer = Refused why }))
@@ -94,24 +67,20 @@ module _ (L : ℕ) (window : Option Window) (M : PathMap) (q : List ℕ) (page :
   update_change given P fails works = refused_by P M (first_stop (entry_at window M) q) _ fails (λ s.
       refused_by P M _ _ fails (λ t. let p = not_refused (not (used (entry_at window M q))) _ _ t in
       subst (λ e. P (record { paths = put M q (leaf_entry L q (address e) given); answer = Done (address e) })) (sym at_page) (works (record {
-        is_used = ap used (sym at_page) ∙ flip _ p.0;
+        is_used = ap used (sym at_page) ∙ not-false _ p.0;
         outside = out;
-        same_table = leaf_no_table L q (address (entry M q)) given page ∙ sym (leaf_none L q (entry M q) (λ l. ap huge (sym at_page) ∙ big (entry_at window M q) (length q == L) l p.1));
-        low = low_page _;
+        same_table = none_at_leaf L q (address (entry M q)) given ∙ sym (leaf_none L q (entry M q) (λ l. ap huge (sym at_page) ∙ big (entry_at window M q) (length q == L) l p.1));
+        low = leaf_low L q _ page;
       }))))
     where
       big : (e : ℕ) (b : Bool) → b ≡ false → cond b None (refused_if (not (huge e)) PageNotMapped None) ≡ None → huge e ≡ true
       big e true l h = cc
-      big e false l h = flip _ (not_refused (not (huge e)) _ None h).0
+      big e false l h = not-false _ (not_refused (not (huge e)) _ None h).0
 
 -- ---- flags of table entries
 
-pub address_no_huge : (e : ℕ) → bit_and (address e) 0x80 ≡ 0
-unfolding address
-address_no_huge e = and_assoc 0x80 e 0x000f_ffff_ffff_f000 ∙ and_comm e 0
-
 pub set_huge : (e given : ℕ) → huge (bit_or (address e) given) ≡ huge given
-set_huge e given = ap huge (or_comm (address e) given) ∙ has_or given (address e) 0x80 (address_no_huge e)
+set_huge e given = only_flags (address e) given 0x80 (address_address e) refl
 
 pub set_address : (e given : ℕ) → address given ≡ 0 → address (bit_or (address e) given) ≡ address e
 set_address e given h = address_or (address e) given h ∙ address_address e
@@ -124,12 +93,6 @@ set_same_table L q e given u a g nonzero = elim (huge e) as (λ b. huge e ≡ b 
   | false ↦ λ h. λ i. cond ((used_or (address e) given (nonzero (ap₂ (λ u h. u && not h) u h)) ∙ sym u) i && not ((set_huge e given ∙ g) i) && nat_lt (length q) L) (Some (set_address e given a i)) None
 ] refl
 
-pub short_take : (n : ℕ) (q : List ℕ) → 1 ≤ n → n < length q → length (take n q) ≡ n
-short_take zero q l h = refl
-short_take (suc n) [] l h = absurd (omega arith)
-short_take (suc zero) (i ∷ q) l h = refl
-short_take (suc (suc n)) (i ∷ q) l h = ap suc (short_take (suc n) q (omega arith) (omega arith))
-
 pub begins_take : (window : Option Window) (n : ℕ) (q : List ℕ) → 1 ≤ n → begins_with window q ≡ false → begins_with window (take n q) ≡ false
 begins_take None n q l h = refl
 begins_take (Some w) zero q l h = absurd (omega arith)
@@ -140,11 +103,6 @@ module _ (L : ℕ) (window : Option Window) (root : ℕ) (M : PathMap) (h : IsHi
   -- the path of the entry
   abbrev pub at_level : List ℕ
   at_level = front_at L level page
-
-  -- an entry of the map at a path that isn't empty
-  pub at_front : (q : List ℕ) → begins_with window q ≡ false → 0 < length q → entry_at window M q ≡ entry M q
-  at_front [] o l = absurd (omega arith)
-  at_front (i ∷ q) o l = entry_outside window M i q o
 
   pub table_nonzero : (q : List ℕ) → 0 < length q → length q < L → names_table (entry M q) ≡ true → address (entry M q) ≢ 0
   table_nonzero [] a b t z = absurd (omega arith)
@@ -161,10 +119,10 @@ module _ (L : ℕ) (window : Option Window) (root : ℕ) (M : PathMap) (h : IsHi
             refused_by P M _ _ fails (λ t.
             let most = is.at_most in
             let above : level_of L page < level = leb-false level (level_of L page) l in
-            let size : length at_level ≡ L + 1 - level = short_take (L + 1 - level) page (omega arith) (omega arith) in
+            let size : length at_level ≡ L + 1 - level = length-take-le (L + 1 - level) page (omega arith) in
             let o = begins_take window (L + 1 - level) page (omega arith) out in
-            let at : entry_at window M at_level ≡ entry M at_level = at_front at_level o (omega arith) in
-            let u : used (entry M at_level) ≡ true = ap used (sym at) ∙ flip _ (not_refused (not (used (entry_at window M at_level))) _ _ t).0 in
+            let at : entry_at window M at_level ≡ entry M at_level = at_front window M at_level o (omega arith) in
+            let u : used (entry M at_level) ≡ true = ap used (sym at) ∙ not-false _ (not_refused (not (used (entry_at window M at_level))) _ _ t).0 in
             let a = eqb-true (address given) 0 plain in
             let same : huge given ≡ huge (entry M at_level) = huge_as l size s t at in
             subst (λ e. P (record { paths = put M at_level (bit_or (address e) given); answer = Done (address e) })) (sym at) (works (record {
@@ -177,12 +135,12 @@ module _ (L : ℕ) (window : Option Window) (root : ℕ) (M : PathMap) (h : IsHi
     where
       equal : (a b : Bool) → both_or_none a b ≡ true → a ≡ b
       equal true b h = sym h
-      equal false b h = sym (flip_not b h)
+      equal false b h = sym (not-true b h)
 
       huge_as : nat_le level (level_of L page) ≡ false → length at_level ≡ L + 1 - level → first_stop (entry_at window M) at_level ≡ None → refused_if (not (used (entry_at window M at_level))) PageNotMapped None ≡ None
           → entry_at window M at_level ≡ entry M at_level → huge given ≡ huge (entry M at_level)
       huge_as l size s t at = elim (nat_lt 3 level) as (λ b. nat_lt 3 level ≡ b → cond b (not (huge given)) (refuses (set_flags L (entry_at window M) M level page given).answer || both_or_none (huge given) (huge (entry_at window M at_level))) ≡ true → huge given ≡ huge (entry M at_level)) [
-        | true ↦ λ b m. flip_not _ m ∙ sym (h.none_huge at_level (let up = ltb-true 3 level b in omega arith))
+        | true ↦ λ b m. not-true _ m ∙ sym (h.none_huge at_level (let up = ltb-true 3 level b in omega arith))
         | false ↦ λ b m. ⊎_elim
             (λ r. let not_so : refuses (set_flags L (entry_at window M) M level page given).answer ≡ false = λ i. refuses (cond (l i) (record { paths = M; answer = Refused ParentEntryHugePage }) (refused_or M (s i) (refused_or M (t i)
             (record { paths = put M at_level (bit_or (address (entry_at window M at_level)) given); answer = Done (address (entry_at window M at_level)) })))).answer in

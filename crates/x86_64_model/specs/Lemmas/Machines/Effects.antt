@@ -1,7 +1,7 @@
 -- What one step writes: nothing, one entry, a map, or a clean up.
 use Rattle.std.proofs.Common.{◌≡◌, ⊎_elim, ◌≤◌, ◌*◌, ◌^◌, ℕ, zero, suc, true, false, cond, List, [], ◌∷◌, length, take, Option, bit_and, refl, sym, ap, ◌∙◌, subst, arith, eqb-true, ◌+◌, ◌-◌}
 use Rattle.std.proofs.lemmas.Nat.Bits.{bit_at-lt, and_pow}
-use Rattle.std.proofs.lemmas.Bool.{and_parts}
+use Rattle.std.proofs.lemmas.Bool.{and_parts, not-true}
 use Rattle.std.specs.Int.{bit_at}
 use Rattle.x86_64_model.specs.Entry.{IsParentFlags, huge, address}
 use Rattle.x86_64_model.specs.PathMap.{PathMap, put}
@@ -19,7 +19,7 @@ use Rattle.x86_64_model.specs.Lemmas.Maps.Flags.{has_bit, zero_or_one}
 use Rattle.x86_64_model.specs.Lemmas.Walks.Walked.{index_small}
 use Rattle.x86_64_model.specs.Lemmas.Hierarchies.Trees.{IsHierarchy}
 use Rattle.x86_64_model.specs.Lemmas.Paths.Pages.{length_taken}
-use Rattle.x86_64_model.specs.Lemmas.Machines.Changes.{IsChange, flip_not, unmap_change, update_change, set_flags_change}
+use Rattle.x86_64_model.specs.Lemmas.Machines.Changes.{IsChange, unmap_change, update_change, set_flags_change}
 
 -- ---- the cases of a step
 
@@ -36,9 +36,9 @@ pub map_may : (L : ℕ) (window : Option Window) (M : PathMap) (q : List ℕ) (g
 map_may L window M q given more h =
     let p5 = and_parts _ _ h in let p4 = and_parts _ _ p5.0 in let p3 = and_parts _ _ p4.0 in let p2 = and_parts _ _ p3.0 in let p1 = and_parts _ _ p2.0 in record {
       no_address_given = eqb-true (address given) 0 p1.0;
-      marks = record { no_address = eqb-true (address more) 0 p1.1; not_huge = no_bit more (flip_not _ p2.1) };
+      marks = record { no_address = eqb-true (address more) 0 p1.1; not_huge = no_bit more (not-true _ p2.1) };
       parents = p4.1;
-      outside = flip_not _ p5.1;
+      outside = not-true _ p5.1;
     }
 
 pub below_taken : (p k n : ℕ) → AllBelow (take k (page_path n p))
@@ -79,12 +79,12 @@ module _ (L : ℕ) (window : Option Window) (added : ℕ) (give : List ℕ → �
   done_ind (MapTo q frame given) is h = maps q frame given (parent_part given) _ is (map_may L window s.paths q given _ h)
   done_ind (MapToWithTableFlags q frame given more) is h = maps q frame given more _ is (map_may L window s.paths q given _ h)
   done_ind (IdentityMap level frame given) is h = maps (path_at L level frame) frame given (parent_part given) _ (page_at_level L level frame is.0 is.1 is.2) (map_may L window s.paths (path_at L level frame) given _ (and_parts _ _ h).1)
-  done_ind (Unmap q) is h = unmap_change L window s.paths q is (flip_not _ h) (λ c. P (after_change s.pool c).0 (if_done (after_change s.pool c).1 (OnePage q)))
+  done_ind (Unmap q) is h = unmap_change L window s.paths q is (not-true _ h) (λ c. P (after_change s.pool c).0 (if_done (after_change s.pool c).1 (OnePage q)))
       (λ why. nothing) (λ c. changes q 0 (OnePage q) c (λ p o. o))
-  done_ind (UpdateFlags q given) is h = update_change L window s.paths q is (flip_not _ (and_parts _ _ h).1) given (λ c. P (after_change s.pool c).0 (if_done (after_change s.pool c).1 (OnePage q)))
+  done_ind (UpdateFlags q given) is h = update_change L window s.paths q is (not-true _ (and_parts _ _ h).1) given (λ c. P (after_change s.pool c).0 (if_done (after_change s.pool c).1 (OnePage q)))
       (λ why. nothing) (λ c. changes q _ (OnePage q) c (λ p o. o))
   done_ind (SetFlags level q given) is h = let a = and_parts _ _ h in let b = and_parts _ _ a.0 in
-      set_flags_change L window root s.paths hierarchy level q given is.0 is.1 is.2 (flip_not _ b.1) b.0 a.1 (λ c. P (after_change s.pool c).0 (if_done (after_change s.pool c).1 Everything))
+      set_flags_change L window root s.paths hierarchy level q given is.0 is.1 is.2 (not-true _ b.1) b.0 a.1 (λ c. P (after_change s.pool c).0 (if_done (after_change s.pool c).1 Everything))
       (λ why. nothing) (λ c. changes (front_at L level q) _ Everything c (λ p o. cc))
   done_ind (TranslatePage q) is h = nothing
   done_ind (Translate p) is h = nothing

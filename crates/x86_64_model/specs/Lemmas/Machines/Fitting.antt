@@ -1,7 +1,8 @@
 -- One step keeps a pool fitting the words, and so does a list of calls.
-use Rattle.std.proofs.Common.{◌≡◌, ◌⊎◌, inl, inr, ⊎_elim, ℕ, zero, suc, Bool, true, false, cond, List, [], ◌∷◌, set, get_or, Some, None, Option, IsSome, option_map, nat_lt, refl, sym, ap, ◌∙◌, subst, eq-eqb, eqb-true}
+use Rattle.std.proofs.Common.{◌≡◌, ◌⊎◌, inl, inr, ⊎_elim, ℕ, Bool, true, List, [], ◌∷◌, Some, None, Option, IsSome, refl, sym, ap, ◌∙◌, subst, eq-eqb, eqb-true}
+use Rattle.std.proofs.lemmas.Option.{same_Some}
 use Rattle.x86_64_model.specs.Entry.{IsParentFlags, address}
-use Rattle.x86_64_model.specs.Memory.{Words, word, word_in, set_word}
+use Rattle.x86_64_model.specs.Memory.{Words}
 use Rattle.x86_64_model.specs.PathMap.{table_at}
 use Rattle.x86_64_model.specs.Window.{Window, outside_window, IsValidFor}
 use Rattle.x86_64_model.specs.Hierarchy.{IsValid}
@@ -10,27 +11,13 @@ use Rattle.x86_64_model.specs.Pool.{IsOwn, IsGiving, Fits}
 use Rattle.x86_64_model.specs.Call.{IsCall, Call}
 use Rattle.x86_64_model.specs.Machine.{State, step, state_after}
 use Rattle.x86_64_model.specs.Lemmas.Maps.Frames.{Conserves, conserves_nothing, conserves_then}
-use Rattle.x86_64_model.specs.Lemmas.Walks.Agrees.{is_some-unset}
-use Rattle.x86_64_model.specs.Lemmas.Hierarchies.Trees.{hierarchy_of_valid, some_one}
+use Rattle.x86_64_model.specs.Lemmas.Hierarchies.Trees.{hierarchy_of_valid}
+use Rattle.x86_64_model.specs.Lemmas.Hierarchies.Unset.{is_some-unset, word_unset}
 use Rattle.x86_64_model.specs.Lemmas.Machines.Effects.{machine}
 pub use Rattle.x86_64_model.specs.Laws.Steps.{AllCalls}
 use Rattle.x86_64_model.specs.Lemmas.Machines.States.{Aside, IsSound, step_sound, step_conserves, run_sound}
 
 -- ---- and words
-
-pub get_set_zero : (words : List ℕ) (i : ℕ) → get_or (set words i 0) i 0 ≡ 0
-get_set_zero [] i = refl
-get_set_zero (x ∷ words) zero = refl
-get_set_zero (x ∷ words) (suc i) = get_set_zero words i
-
-pub word_unset : (T : Words) (f i : ℕ) → word (set_word T f i 0) f i ≡ 0
-unfolding word set_word
-word_unset T f i = by (nat_lt i 512) (T f) (eq-eqb f f refl)
-  where
-    by : (b : Bool) (o : Option (List ℕ)) {c : Bool} → c ≡ true → cond b (word_in (cond c (option_map (λ words. set words i 0) o) o) i) 0 ≡ 0
-    by false o e = refl
-    by true None e = ap (λ c. word_in (cond c (option_map (λ words. set words i 0) None) None) i) e
-    by true (Some words) e = ap (λ c. word_in (cond c (option_map (λ words. set words i 0) (Some words)) (Some words)) i) e ∙ get_set_zero words i
 
 -- what valid words and a pool that fits say of the state
 pub sound_of_fits : (L : ℕ) (window : Option Window) (T : Words) (root : ℕ) (serves : ℕ → Bool) (s : State) → Fits L window T root s.paths serves s.pool → IsSound L window root serves s
@@ -47,7 +34,7 @@ sound_of_fits L window T root serves s fits = record {
     by (Some w) a = a.holds.entries [] w.index ∙ word_unset T root w.index
 
     table : (f : ℕ) (q : List ℕ) → table_at L root s.paths q ≡ Some f → (f ≡ root) ⊎ (serves f ≡ true)
-    table f [] e = inl (sym (some_one root f e))
+    table f [] e = inl (sym (same_Some root f e))
     table f (i ∷ q) e = inr (fits.serves_tables i q f e)
 
     served : (f : ℕ) → IsOwn L root s.paths s.pool f → (f ≡ root) ⊎ (serves f ≡ true)
@@ -74,7 +61,7 @@ own_there L window T root serves s fits f (inr t) = by window fits.valid
   where
     by : (v : Option Window) → IsValidFor L v T root s.paths → IsSome (T f)
     by None valid = valid.valid.holds.in_memory t.0 f t.1
-    by (Some w) valid = is_some-unset L T root s.paths w valid.valid valid.self f (valid.valid.holds.in_memory t.0 f t.1)
+    by (Some w) valid = is_some-unset T root w.index 0 f (valid.valid.holds.in_memory t.0 f t.1)
 
 -- one step keeps the state fit: whatever valid words hold the path map afterwards, if they have the frames that were there
 pub step_fits : (L : ℕ) (window : Option Window) (T U : Words) (root : ℕ) (serves : ℕ → Bool) (added : ℕ) → IsParentFlags added → (give : List ℕ → ℕ → List ℕ) → IsGiving give

@@ -1,6 +1,6 @@
 -- The machine's laws.
 use Rattle.std.proofs.Common.{◌≡◌, ℕ, Bool, true, false, cond, List, [], ◌∷◌, Option, refl, sym, ap, ◌∙◌, subst}
-use Rattle.std.proofs.lemmas.Bool.{and_parts}
+use Rattle.std.proofs.lemmas.Bool.{and_parts, not-true}
 use Rattle.x86_64_model.specs.PathMap.{PathMap}
 use Rattle.x86_64_model.specs.Path.{parents, IsPage, path_at, begins}
 use Rattle.x86_64_model.specs.Window.{Window, entry_at, begins_with}
@@ -20,7 +20,6 @@ use Rattle.x86_64_model.specs.Laws.Maps.{RefusedMaps, MapTakesFew, WalkedDown}
 use Rattle.x86_64_model.specs.Laws.Pairs.{NoneNames, AlikeRuns, PairsReplyAlike}
 use Rattle.x86_64_model.specs.Lemmas.Hierarchies.Trees.{tree_of_holds}
 use Rattle.x86_64_model.specs.Lemmas.Machines.Effects.{machine, MapMay, map_may, page_at_level}
-use Rattle.x86_64_model.specs.Lemmas.Machines.Changes.{flip_not}
 use Rattle.x86_64_model.specs.Lemmas.Machines.States.{IsSound, all_in, step_conserves}
 use Rattle.x86_64_model.specs.Lemmas.Machines.Fitting.{sound_of_fits, step_fits, run_conserves, run_fits}
 use Rattle.x86_64_model.specs.Lemmas.Machines.Witness.{step_witness}
@@ -120,8 +119,8 @@ module _ (L : ℕ) (window : Option Window) (root : ℕ) (serves : ℕ → Bool)
   done_spares (MapTo r frame given) is h e = maps_spare r frame given (parent_part given) is (map_may L window s.paths r given _ h) e
   done_spares (MapToWithTableFlags r frame given more) is h e = maps_spare r frame given more is (map_may L window s.paths r given more h) e
   done_spares (IdentityMap level frame given) is h e = maps_spare (path_at L level frame) frame given (parent_part given) (page_at_level L level frame is.0 is.1 is.2) (map_may L window s.paths (path_at L level frame) given _ (and_parts _ _ h).1) e
-  done_spares (Unmap r) is h e = let d = done_item (unmap L (entry_at window s.paths) s.paths r).answer r q e in unmap_elsewhere L window s.paths r is (flip_not _ h) p (ap (λ r. begins r (page_path L p)) d.1 ∙ off) out
-  done_spares (UpdateFlags r given) is h e = let d = done_item (update_flags L (entry_at window s.paths) s.paths r given).answer r q e in update_elsewhere L window s.paths r given is (flip_not _ (and_parts _ _ h).1) p (ap (λ r. begins r (page_path L p)) d.1 ∙ off) out
+  done_spares (Unmap r) is h e = let d = done_item (unmap L (entry_at window s.paths) s.paths r).answer r q e in unmap_elsewhere L window s.paths r is (not-true _ h) p (ap (λ r. begins r (page_path L p)) d.1 ∙ off) out
+  done_spares (UpdateFlags r given) is h e = let d = done_item (update_flags L (entry_at window s.paths) s.paths r given).answer r q e in update_elsewhere L window s.paths r given is (not-true _ (and_parts _ _ h).1) p (ap (λ r. begins r (page_path L p)) d.1 ∙ off) out
   done_spares (SetFlags level r given) is h e = absurd (never_page (set_flags L (entry_at window s.paths) s.paths level r given).answer q e)
   done_spares (TranslatePage r) is h e = refl
   done_spares (Translate t) is h e = refl

@@ -1,5 +1,5 @@
 -- What an accepted call leaves of `translate` elsewhere.
-use Rattle.std.proofs.Common.{◌≡◌, zero, suc, ◌+◌, ◌&&◌, nat_le, ap₂, ◌≢◌, ⊎_elim, ◌<◌, ◌%◌, ℕ, Bool, true, false, cond, List, [], ◌∷◌, ◌++◌, length, None, Option, bit_or, refl, sym, ap, ◌∙◌, subst, arith}
+use Rattle.std.proofs.Common.{◌≡◌, zero, suc, ◌+◌, ◌&&◌, nat_le, ap₂, ◌≢◌, ⊎_elim, ◌<◌, ◌%◌, ℕ, true, false, cond, List, [], ◌∷◌, ◌++◌, length, None, Option, bit_or, refl, sym, ap, ◌∙◌, subst, arith}
 use Rattle.std.specs.List.{AllByRecursion}
 use Rattle.x86_64_model.specs.Entry.{IsParentFlags, used, present, huge, address, flags}
 use Rattle.x86_64_model.specs.PathMap.{PathMap, entry, put, table_of, table_at}
@@ -12,21 +12,21 @@ use Rattle.x86_64_model.specs.Refusal.{Answer, Done, Refused}
 use Rattle.x86_64_model.specs.MapRule.{map_rule, map_call, leaf_entry}
 use Rattle.x86_64_model.specs.PageRules.{unmap, update_flags}
 use Rattle.x86_64_model.specs.Lemmas.Entries.Bits.{has_or, unused_absent}
-use Rattle.x86_64_model.specs.Lemmas.Paths.Puts.{cases_path, entry-put_same, entry-put_other}
-use Rattle.x86_64_model.specs.Lemmas.Hierarchies.Held.{no_end}
-use Rattle.x86_64_model.specs.Lemmas.Hierarchies.Changes.{append_longer}
-use Rattle.x86_64_model.specs.Lemmas.Maps.Down.{Descends, others, all_both}
+use Rattle.x86_64_model.specs.Lemmas.Paths.Puts.{cases_path, entry-put_same, entry-put_other, append_longer}
+use Rattle.x86_64_model.specs.Lemmas.Maps.Down.{Descends, others}
 use Rattle.x86_64_model.specs.Lemmas.Maps.Frames.{IsFrame, AreParents, flags_or, frame_not_huge}
 use Rattle.x86_64_model.specs.Lemmas.Maps.Flags.{has_kept}
 use Rattle.x86_64_model.specs.Lemmas.Maps.Accepted.{map_ind}
-use Rattle.x86_64_model.specs.Lemmas.Hierarchies.Trees.{IsTree, IsHierarchy, no_table_unused, some_not_none}
-use Rattle.x86_64_model.specs.Lemmas.Maps.Trees.{Chain, page_chain, page_descends, parents_are, marked_hierarchy, new_hierarchy, leads_on, new_leads}
-use Rattle.x86_64_model.specs.Lemmas.Maps.PageCalls.{leaf_no_table, leaf_low}
+use Rattle.x86_64_model.specs.Lemmas.Hierarchies.Trees.{IsTree, IsHierarchy, some_not_none, unused_leads_nowhere}
+use Rattle.x86_64_model.specs.Lemmas.Maps.Trees.{Chain, page_chain, page_descends, parents_are, marked_hierarchy, new_hierarchy, leads_on, new_leads, nonempty}
+use Rattle.x86_64_model.specs.Lemmas.Maps.PageCalls.{leaf_low}
+use Rattle.x86_64_model.specs.Lemmas.Maps.Leaves.{none_at_leaf}
 use Rattle.x86_64_model.specs.Lemmas.Machines.Changes.{unmap_change, update_change}
 use Rattle.x86_64_model.specs.Lemmas.Walks.Walked.{one_more}
-use Rattle.x86_64_model.specs.Lemmas.Walks.Fronts.{translated_outside, translated_same, put_same, SameTests, same_tests, tested_same, nothing_mapped}
+use Rattle.x86_64_model.specs.Lemmas.Walks.Fronts.{translated_outside, translated_same, put_same, SameTests, same_tests, tested_same, nothing_mapped, through}
 pub use Rattle.x86_64_model.specs.Laws.Steps.{UsedPresent}
 pub use Rattle.x86_64_model.specs.Laws.Maps.{LeftByRefused}
+use Rattle.x86_64_model.specs.Lemmas.Lists.All.{all_both}
 
 -- outside the window `translate` reads the path map
 abbrev pub translated_by : (L : ℕ) → PathMap → ℕ → Translated
@@ -64,21 +64,7 @@ marked_elsewhere L more marks M p r short h g = tested_same L p (entry M) (entry
 module _ (L root : ℕ) (M : PathMap) (tree : IsTree L root M) (p : ℕ) (r : List ℕ) (w : ℕ) (nonempty : r ≢ []) (unused : used (entry M r) ≡ false) (low : huge w ≡ false) where
   -- what is below stays absent
   pub below : (j : ℕ) → entry (put M r w) (r ++ j ∷ []) ≡ 0
-  below j = entry-put_other M r w (r ++ j ∷ []) (append_longer r j []) ∙ tree.below r j (no_table r nonempty unused)
-    where
-      no_table : (r : List ℕ) → r ≢ [] → used (entry M r) ≡ false → table_at L root M r ≡ None
-      no_table [] n u = absurd (n refl)
-      no_table (i ∷ r) n u = no_table_unused L root M i r u
-
-  pub table_through : (b : Bool) (e : ℕ) (x y : Translated) → huge e ≡ false → y ≡ NotMapped → cond (present e) (cond (b && huge e) x y) NotMapped ≡ NotMapped
-  table_through b e x y g z = by (present e)
-    where
-      plain : cond (b && huge e) x y ≡ NotMapped
-      plain = (elim b as (λ b. cond (b && huge e) x y ≡ y) [ true ↦ ap (λ g. cond g x y) g | false ↦ refl ]) ∙ z
-
-      by : (h : Bool) → cond h (cond (b && huge e) x y) NotMapped ≡ NotMapped
-      by true = plain
-      by false = refl
+  below j = entry-put_other M r w (r ++ j ∷ []) (append_longer r j []) ∙ tree.below r j (unused_leads_nowhere L root M r nonempty unused)
 
   pub new_from : (level : ℕ) (q : List ℕ) → length q + level ≡ L → length r < L → translate_on (entry (put M r w)) p level q ≡ translate_on (entry M) p level q
   unfolding translate_on
@@ -87,7 +73,7 @@ module _ (L root : ℕ) (M : PathMap) (tree : IsTree L root M) (p : ℕ) (r : Li
       ap (λ e. cond (used e) (Mapped (span 1) (address e) (p % span 1) (flags e)) NotMapped)
       (entry-put_other M r w t (λ e. let x : length t ≡ length r = ap length e in absurd (omega (arith, x, one_more q (index 1 p), l))))
   new_from (suc (suc n)) q l short = let level = suc (suc n) in let j = index level p in let t = q ++ j ∷ [] in ⊎_elim
-      (λ is. table_through (nat_le level 3) (entry (put M r w) t) _ _ (ap (λ t. huge (entry (put M r w) t)) is ∙ ap huge (entry-put_same M r w) ∙ low)
+      (λ is. through (present (entry (put M r w) t)) (nat_le level 3) (huge (entry (put M r w) t)) _ _ (ap (λ t. huge (entry (put M r w) t)) is ∙ ap huge (entry-put_same M r w) ∙ low)
       (nothing_mapped (entry (put M r w)) p (suc n) t (λ j. ap (λ t. entry (put M r w) (t ++ j ∷ [])) is ∙ below j))
       ∙ sym (ap (λ b. cond b (cond (nat_le level 3 && huge (entry M t)) (Mapped (span level) (page_start level (entry M t)) (p % span level) (flags (entry M t))) (translate_on (entry M) p (suc n) t)) NotMapped)
       (ap (λ t. present (entry M t)) is ∙ unused_absent _ unused)))
@@ -117,12 +103,12 @@ module _ (L root more added : ℕ) (marks : IsParentFlags more) (adds : IsParent
       (λ M s u pre c leads a h fr w x. put_elsewhere L M p q e off)
       (λ M s r ps u g pre c leads a h fr w x. absurd x)
       (λ M s r ps d u g m ih pre c leads a h fr w x.
-      let n : r ≢ [] = λ z. no_end pre c.0 (sym z ∙ c.2) in
+      let n : r ≢ [] = nonempty r pre c.0 c.2 in
       ih r c.3 (leads_on L root more added marks adds q e frame no_table low M r u g a.0.1 n) a.1 (marked_hierarchy L root more M r marks h n u) fr (still_present M r _ ps d.1 w.1) x
       ∙ marked_elsewhere L more marks M p r a.0.1 (w.0 u) g)
       (λ M r ps u pre c leads a h fr w x. refl)
       (λ M f fs r ps d u m ih pre c leads a h fr w x.
-      let n : r ≢ [] = λ z. no_end pre c.0 (sym z ∙ c.2) in
+      let n : r ≢ [] = nonempty r pre c.0 c.2 in
       ih r c.3 (λ z. some_not_none f (sym (new_leads L root more added marks adds q e frame no_table low M r f fr.0 a.0.1 n) ∙ z)) a.1
       (new_hierarchy L root more added marks adds q e frame no_table low M r pre c.0 f c.1 c.2 leads a.0.1 fr.0 h u) fr.1 (still_present M r _ ps d.1 w.1) x
       ∙ new_elsewhere L root M h.tree p r _ n u (has_or f (bit_or more added) 0x80 (flags_or more added marks adds).not_huge ∙ frame_not_huge f fr.0.aligned) a.0.1)
@@ -135,7 +121,7 @@ pub map_elsewhere : (L : ℕ) (window : Option Window) (root : ℕ) (M : PathMap
     → translate L (entry_at window (map_call L M supply more added q frame given).paths) p ≡ translate L (entry_at window M) p
 map_elsewhere L window root M supply more added q frame given h frames page marks adds before accepted p off out =
     translate_outside L window _ p out
-    ∙ map_spares L root more added marks adds q (leaf_entry L q frame given) frame (leaf_no_table L q frame given page) (leaf_low L q _ page) p off M supply (parents q) (page_descends L root M h.tree q)
+    ∙ map_spares L root more added marks adds q (leaf_entry L q frame given) frame (none_at_leaf L q frame given) (leaf_low L q _ page) p off M supply (parents q) (page_descends L root M h.tree q)
     [] (page_chain L q page) (some_not_none root) (parents_are L q page.at_most) h frames before accepted
     ∙ sym (translate_outside L window M p out)
 

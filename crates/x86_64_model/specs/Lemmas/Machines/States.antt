@@ -1,5 +1,6 @@
 -- One step keeps a state sound: a hierarchy, and a pool beside it.
 use Rattle.std.proofs.Common.{◌≡◌, ◌≢◌, ◌⊎◌, inl, inr, ℕ, Bool, true, false, cond, List, [], ◌∷◌, Some, None, Option, refl, sym, ap, ◌∙◌, subst}
+use Rattle.std.proofs.lemmas.Option.{same_Some}
 use Rattle.std.specs.List.{AllByRecursion}
 use Rattle.x86_64_model.specs.Entry.{IsParentFlags, used, address}
 use Rattle.x86_64_model.specs.PathMap.{PathMap, entry, put, table_at}
@@ -15,7 +16,7 @@ use Rattle.x86_64_model.specs.Lemmas.Entries.Bits.{address_address}
 use Rattle.x86_64_model.specs.Lemmas.Paths.Puts.{entry-put_other}
 use Rattle.x86_64_model.specs.Lemmas.Hierarchies.Changes.{zero_not_used}
 use Rattle.x86_64_model.specs.Lemmas.Maps.Frames.{IsFrame, OneEach, Conserves, conserves_nothing, conserves_marked, same_tables}
-use Rattle.x86_64_model.specs.Lemmas.Hierarchies.Trees.{IsHierarchy, table_of_gives, some_one}
+use Rattle.x86_64_model.specs.Lemmas.Hierarchies.Trees.{IsHierarchy, table_of_gives}
 use Rattle.x86_64_model.specs.Lemmas.Hierarchies.Puts.{hierarchy_put, reached_used}
 use Rattle.x86_64_model.specs.Lemmas.Maps.PageCalls.{map_hierarchy, map_conserved, map_aside, not_first}
 use Rattle.x86_64_model.specs.Lemmas.CleanUps.Trees.{clean_hierarchy, clean_conserves}
@@ -53,7 +54,7 @@ module _ (L : ℕ) (window : Option Window) (root : ℕ) (serves : ℕ → Bool)
   own_frame f (inr t) n = table t.0 t.1
     where
       table : (q : List ℕ) → table_at L root s.paths q ≡ Some f → IsFrame f
-      table [] e = absurd (n (sym (some_one root f e)))
+      table [] e = absurd (n (sym (same_Some root f e)))
       table (i ∷ q) e = let names = table_of_gives L (i ∷ q) (entry s.paths (i ∷ q)) f e in record {
         aligned = ap address (sym names.at) ∙ address_address (entry s.paths (i ∷ q)) ∙ names.at;
         not_zero = λ z. sound.hierarchy.not_zero i q (e ∙ ap Some z);

@@ -1,8 +1,9 @@
 -- Each state that is a hierarchy with a pool that fits is held by valid words.
-use Rattle.std.proofs.Common.{◌-◌, ◌≡◌, inl, inr, ⊎_elim, ◌<◌, ◌+◌, ℕ, zero, suc, ◌==◌, Bool, true, false, cond, List, [], ◌∷◌, ◌++◌, length, get_or, find, map, Some, None, Option, IsSome, nat_lt, refl, sym, ap, ap₂, ◌∙◌, subst, arith, eq-eqb, eqb-true, lt-ltb, le-ltb}
+use Rattle.std.proofs.Common.{◌-◌, ◌≡◌, inl, inr, ⊎_elim, ◌<◌, ℕ, ◌==◌, Bool, true, false, cond, List, [], ◌∷◌, ◌++◌, get_or, find, map, Some, None, Option, IsSome, nat_lt, refl, sym, ap, ap₂, ◌∙◌, subst, arith, eq-eqb, eqb-true, lt-ltb, le-ltb}
 use Rattle.std.specs.List.{range_with_len}
-use Rattle.std.proofs.lemmas.Bool.{cases_lt, cases_eq, and_parts}
-use Rattle.x86_64_model.specs.Entry.{IsParentFlags, used, present, huge, address, names_table}
+use Rattle.std.proofs.lemmas.Bool.{cases_lt, cases_eq}
+use Rattle.std.proofs.lemmas.List.FromFn.{length-map-range_with_len, get_or-map-range_with_len}
+use Rattle.x86_64_model.specs.Entry.{IsParentFlags, used, present, huge, address}
 use Rattle.x86_64_model.specs.Memory.{Words, word, word_in, set_word}
 use Rattle.x86_64_model.specs.PathMap.{PathMap, entry, table_at}
 use Rattle.x86_64_model.specs.Hierarchy.{entry_in, IsValid}
@@ -13,27 +14,23 @@ use Rattle.x86_64_model.specs.Call.{IsCall, Call}
 use Rattle.x86_64_model.specs.Machine.{State, step}
 use Rattle.x86_64_model.specs.Lemmas.Lists.Members.{find_in, found_is}
 use Rattle.x86_64_model.specs.Lemmas.Entries.Bits.{used_present}
-use Rattle.x86_64_model.specs.Lemmas.Hierarchies.Held.{word-set_same, word-set_frame, word-set_index, is_some-set, set_word_other}
+use Rattle.x86_64_model.specs.Lemmas.Hierarchies.Held.{word-set_same, word-set_frame, word-set_index, is_some-set, set_word_other, word_past}
 use Rattle.x86_64_model.specs.Lemmas.Hierarchies.Changes.{zero_not_used}
 use Rattle.x86_64_model.specs.Lists.{In}
 use Rattle.x86_64_model.specs.Lemmas.Hierarchies.Exists.{in_paths_below}
-use Rattle.x86_64_model.specs.Lemmas.Hierarchies.Trees.{IsHierarchy, indices_below, table_of_gives}
+use Rattle.x86_64_model.specs.Lemmas.Hierarchies.Trees.{IsHierarchy, indices_below, table_of_gives, used_table}
+use Rattle.x86_64_model.specs.Lemmas.Hierarchies.Unset.{word_unset}
 use Rattle.x86_64_model.specs.Lemmas.Machines.Effects.{machine}
 use Rattle.x86_64_model.specs.Lemmas.Machines.States.{Aside, step_sound, step_conserves}
-use Rattle.x86_64_model.specs.Lemmas.Machines.Fitting.{word_unset, sound_of_fits, fits_of_sound, own_there}
-
-get_range : (g : ℕ → ℕ) (n from i : ℕ) → i < n → get_or (map g (range_with_len from n)) i 0 ≡ g (from + i)
-get_range g zero from i l = absurd (omega arith)
-get_range g (suc n) from zero l = ap g (omega arith)
-get_range g (suc n) from (suc i) l = get_range g n (from + 1) i (omega arith) ∙ ap g (omega arith)
-
-length_range : (g : ℕ → ℕ) (n from : ℕ) → length (map g (range_with_len from n)) ≡ n
-length_range g zero from = refl
-length_range g (suc n) from = ap suc (length_range g n (from + 1))
+use Rattle.x86_64_model.specs.Lemmas.Machines.Fitting.{sound_of_fits, fits_of_sound, own_there}
 
 abbrev pub names_frame : Option ℕ → ℕ → Bool
 names_frame None f = false
 names_frame (Some g) f = g == f
+
+named_frame : (o : Option ℕ) (f : ℕ) → names_frame o f ≡ true → o ≡ Some f
+named_frame None f h = cc
+named_frame (Some g) f h = ap Some (eqb-true g f h)
 
 abbrev pub from_path : PathMap → Words → ℕ → Option (List ℕ) → Option (List ℕ)
 from_path M T f None = T f
@@ -47,18 +44,11 @@ module _ (L root : ℕ) (M : PathMap) (T : Words) (h : IsHierarchy L root M) (ow
   listed : (q : List ℕ) (f : ℕ) → table_at L root M q ≡ Some f → In ([] ∷ paths_below (L - 1) []) q
   listed [] f e = inl refl
   listed (i ∷ q) f e = let names = table_of_gives L (i ∷ q) (entry M (i ∷ q)) f e in let l = names.high in
-      inr (in_paths_below (L - 1) [] i q (omega arith) (indices_below L root M h.tree (i ∷ q) (used_of (entry M (i ∷ q)) names.is_table)))
-    where
-      used_of : (e : ℕ) → names_table e ≡ true → used e ≡ true
-      used_of e h = (and_parts _ _ h).0
+      inr (in_paths_below (L - 1) [] i q (omega arith) (indices_below L root M h.tree (i ∷ q) (used_table (entry M (i ∷ q)) names.is_table)))
 
   path_in : (f : ℕ) (o : Option (List ℕ)) → find (λ q. names_frame (table_at L root M q) f) ([] ∷ paths_below (L - 1) []) ≡ o → (q : List ℕ) → table_at L root M q ≡ Some f → o ≡ Some q
   path_in f None e q t = absurd (find_in (λ q. names_frame (table_at L root M q) f) ([] ∷ paths_below (L - 1) []) q (listed q f t) (ap (λ o. names_frame o f) t ∙ eq-eqb f f refl) e)
-  path_in f (Some p) e q t = ap Some (own p q f (by (table_at L root M p) (found_is (λ q. names_frame (table_at L root M q) f) ([] ∷ paths_below (L - 1) []) p e)) t)
-    where
-      by : (o : Option ℕ) → names_frame o f ≡ true → o ≡ Some f
-      by None h = cc
-      by (Some g) h = ap Some (eqb-true g f h)
+  path_in f (Some p) e q t = ap Some (own p q f (named_frame (table_at L root M p) f (found_is (λ q. names_frame (table_at L root M q) f) ([] ∷ paths_below (L - 1) []) p e)) t)
 
   -- the row of a table
   row_at : (q : List ℕ) (f : ℕ) → table_at L root M q ≡ Some f → words_for L root M T f ≡ Some (map (λ i. entry M (q ++ i ∷ [])) indices)
@@ -67,18 +57,14 @@ module _ (L root : ℕ) (M : PathMap) (T : Words) (h : IsHierarchy L root M) (ow
   same_elsewhere : (f : ℕ) → (IsTable L root M f → ⊥) → words_for L root M T f ≡ T f
   same_elsewhere f n = by (find (λ q. names_frame (table_at L root M q) f) ([] ∷ paths_below (L - 1) [])) refl
     where
-      named : (o : Option ℕ) → names_frame o f ≡ true → o ≡ Some f
-      named None h = cc
-      named (Some g) h = ap Some (eqb-true g f h)
-
       by : (o : Option (List ℕ)) → find (λ q. names_frame (table_at L root M q) f) ([] ∷ paths_below (L - 1) []) ≡ o → from_path M T f o ≡ T f
       by None e = refl
-      by (Some q) e = absurd (n (q, named (table_at L root M q) (found_is (λ q. names_frame (table_at L root M q) f) ([] ∷ paths_below (L - 1) []) q e)))
+      by (Some q) e = absurd (n (q, named_frame (table_at L root M q) f (found_is (λ q. names_frame (table_at L root M q) f) ([] ∷ paths_below (L - 1) []) q e)))
 
   word_at : (q : List ℕ) (f i : ℕ) → table_at L root M q ≡ Some f → word (words_for L root M T) f i ≡ entry M (q ++ i ∷ [])
   unfolding word indices
   word_at q f i t = ap (λ o. cond (nat_lt i 512) (word_in o i) 0) (row_at q f t) ∙ ⊎_elim
-      (λ l. ap (λ b. cond b (get_or (map (λ i. entry M (q ++ i ∷ [])) (range_with_len 0 512)) i 0) 0) (lt-ltb i 512 l) ∙ get_range (λ i. entry M (q ++ i ∷ [])) 512 0 i l ∙ ap (λ i. entry M (q ++ i ∷ [])) (omega arith))
+      (λ l. ap (λ b. cond b (get_or (map (λ i. entry M (q ++ i ∷ [])) (range_with_len 0 512)) i 0) 0) (lt-ltb i 512 l) ∙ get_or-map-range_with_len (λ i. entry M (q ++ i ∷ [])) 0 512 i i 0 l (omega arith))
       (λ l. ap (λ b. cond b (get_or (map (λ i. entry M (q ++ i ∷ [])) (range_with_len 0 512)) i 0) 0) (le-ltb i 512 l) ∙ sym (h.tree.small q i l))
       (cases_lt i 512)
 
@@ -118,7 +104,7 @@ module _ (L root : ℕ) (M : PathMap) (T : Words) (h : IsHierarchy L root M) (ow
   witness (Some w) a g = record {
     valid = valid_by (set_word (set_word (words_for L root M T) root w.index w.self_entry) root w.index 0) words (λ q f t. is_some-set _ root w.index 0 f (is_some-set _ root w.index w.self_entry f (some_row q f t)));
     self = record {
-      is_word = sym (word-set_same (words_for L root M T) root w.index w.self_entry _ (row_at [] root refl) (let l = length_range (λ i. entry M ([] ++ i ∷ [])) 512 0 in let s = g.0 in omega arith) g.0);
+      is_word = sym (word-set_same (words_for L root M T) root w.index w.self_entry _ (row_at [] root refl) (let l = length-map-range_with_len (λ i. entry M ([] ++ i ∷ [])) 0 512 in let s = g.0 in omega arith) g.0);
       is_present = g.1.0;
       not_huge = g.1.1;
       names_root = g.1.2;
@@ -141,10 +127,9 @@ module _ (L root : ℕ) (M : PathMap) (T : Words) (h : IsHierarchy L root M) (ow
   witness_else (Some w) f n = set_word_other (words_for L root M T) root w.index w.self_entry f (λ e. n ([], ap Some (sym e))) ∙ same_elsewhere f n
 
 good_self : (L : ℕ) (window : Option Window) (T : Words) (root : ℕ) (M N : PathMap) (h : IsHierarchy L root N) (own : (p q : List ℕ) (f : ℕ) → table_at L root N p ≡ Some f → table_at L root N q ≡ Some f → p ≡ q) → IsValidFor L window T root M → GoodSelf L root N T h own window
-unfolding word
 good_self L None T root M N h own valid = tt
 good_self L (Some w) T root M N h own valid = (
-  ⊎_elim (λ l. l) (λ l. absurd (let t : true ≡ false = sym (used_present _ valid.self.is_present) ∙ ap used (valid.self.is_word ∙ ap (λ b. cond b (word_in (T root) w.index) 0) (le-ltb w.index 512 l)) ∙ zero_not_used in cc)) (cases_lt w.index 512),
+  ⊎_elim (λ l. l) (λ l. absurd (let t : true ≡ false = sym (used_present _ valid.self.is_present) ∙ ap used (valid.self.is_word ∙ word_past T root w.index l) ∙ zero_not_used in cc)) (cases_lt w.index 512),
   (valid.self.is_present, valid.self.not_huge, valid.self.names_root),
 )
 

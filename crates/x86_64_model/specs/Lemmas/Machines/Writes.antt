@@ -1,6 +1,7 @@
 -- Which word of which frame a call on one entry changes.
-use Rattle.std.proofs.Common.{◌≡◌, ◌≢◌, ◌⊎◌, inl, inr, ⊎_elim, ◌<◌, ◌≤◌, ℕ, zero, suc, ◌==◌, eq-eqb, true, false, cond, List, [], ◌∷◌, ◌++◌, length, get_or, bit_or, Some, None, Option, IsSome, nat_lt, refl, sym, ap, ◌∙◌, subst, arith}
+use Rattle.std.proofs.Common.{◌≡◌, ◌≢◌, ◌⊎◌, inl, inr, ⊎_elim, ◌<◌, ◌≤◌, ℕ, ◌==◌, eq-eqb, true, false, cond, List, [], ◌∷◌, ◌++◌, length, get_or, bit_or, Some, None, Option, nat_lt, refl, sym, ap, ◌∙◌, subst}
 use Rattle.std.proofs.lemmas.Bool.{cases_lt, cases_eq}
+use Rattle.std.proofs.lemmas.List.{get_or_past}
 use Rattle.x86_64_model.specs.Entry.{used, huge, address, no_address}
 use Rattle.x86_64_model.specs.Memory.{Words, word, word_in, set_word}
 use Rattle.x86_64_model.specs.PathMap.{PathMap, entry, put, table_of, table_at}
@@ -15,7 +16,7 @@ use Rattle.x86_64_model.specs.Lemmas.Paths.Puts.{by_last}
 use Rattle.x86_64_model.specs.Lemmas.Hierarchies.Held.{valid_after, table_at_last, word-set_frame, word-set_index}
 use Rattle.x86_64_model.specs.Lemmas.Hierarchies.Memories.{outside_set}
 use Rattle.x86_64_model.specs.Lemmas.Hierarchies.Changes.{may_be_marked, zero_not_used}
-use Rattle.x86_64_model.specs.Lemmas.Hierarchies.Trees.{tree_of_holds, hierarchy_of_valid, used_last, none_or_some}
+use Rattle.x86_64_model.specs.Lemmas.Hierarchies.Trees.{tree_of_holds, hierarchy_of_valid, used_last, none_or_some, some_is}
 use Rattle.x86_64_model.specs.Lemmas.Machines.Changes.{IsChange, unmap_change, update_change, set_flags_change}
 
 -- a path that isn't empty, by its last index
@@ -42,17 +43,8 @@ within_words : (T : Words) (f i : ℕ) (words : List ℕ) → T f ≡ Some words
 unfolding word
 within_words T f i words is u = ⊎_elim (λ l. l) (λ l. absurd (let t : false ≡ true = sym (ap used (past l) ∙ zero_not_used) ∙ u in cc)) (cases_lt i (length words))
   where
-    past_get : (words : List ℕ) (i : ℕ) → length words ≤ i → get_or words i 0 ≡ 0
-    past_get [] i l = refl
-    past_get (x ∷ words) zero l = absurd (omega arith)
-    past_get (x ∷ words) (suc i) l = past_get words i (omega arith)
-
     past : length words ≤ i → cond (nat_lt i 512) (word_in (T f) i) 0 ≡ 0
-    past l = ap (λ o. cond (nat_lt i 512) (word_in o i) 0) is ∙ elim (nat_lt i 512) as (λ b. cond b (get_or words i 0) 0 ≡ 0) [ true ↦ past_get words i l | false ↦ refl ]
-
-some_words : (o : Option (List ℕ)) → IsSome o → (words : List ℕ) × (o ≡ Some words)
-some_words None h = cc
-some_words (Some words) h = (words, refl)
+    past l = ap (λ o. cond (nat_lt i 512) (word_in o i) 0) is ∙ elim (nat_lt i 512) as (λ b. cond b (get_or words i 0) 0 ≡ 0) [ true ↦ get_or_past words i 0 l | false ↦ refl ]
 
 -- one word of one frame changes, and the words hold the path map with the entry changed
 pub record Written (L : ℕ) (window : Option Window) (T : Words) (root : ℕ) (M : PathMap) (q : List ℕ) (w : ℕ) : Type 0 where
@@ -67,7 +59,7 @@ module _ (L : ℕ) (T : Words) (root : ℕ) (M : PathMap) (q : List ℕ) (w : �
   changed : IsValid L T root M → used (entry M q) ≡ true → table_of L q w ≡ table_of L q (entry M q) → (3 < level_of L q → huge w ≡ false)
       → (f i : ℕ) → IsWord L root M q f i → word T f i ≡ entry M q → IsValid L (set_word T f i w) root (put M q w)
   changed valid u same low f i place before =
-      let there = some_words (T f) (valid.holds.in_memory place.above f place.leads) in
+      let there = some_is (T f) (valid.holds.in_memory place.above f place.leads) in
       let e = place.path in
       subst (λ r. IsValid L (set_word T f i w) root (put M r w)) (sym e)
       (valid_after L T root M place.above i w f there.0 valid place.leads there.1 (within_words T f i there.0 there.1 (ap used before ∙ u)) place.small

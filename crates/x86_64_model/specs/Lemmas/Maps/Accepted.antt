@@ -65,13 +65,13 @@ turned p (r ∷ ps) h = (λ e. h.0 (sym e), turned p ps h.1)
 pub added_there : (e m flag : ℕ) → has m flag ≡ true → has (bit_or e m) flag ≡ true
 added_there e m flag h = subst (λ x. has x flag ≡ true) (or_comm m e) (has_kept m e flag h)
 
-marked_parent : (more e : ℕ) → IsParentFlags more → used e ≡ true → huge e ≡ false → IsParent more (bit_or e more)
+pub marked_parent : (more e : ℕ) → IsParentFlags more → used e ≡ true → huge e ≡ false → IsParent more (bit_or e more)
 marked_parent more e marks u h = record {
   is_table = ap₂ (λ a b. a && not b) (used_or e more (used_not_zero e u)) (has_or e more 0x80 marks.not_huge ∙ h);
   has_flags = λ flag. added_there e more flag;
 }
 
-new_parent : (more added f : ℕ) → IsParentFlags more → IsParentFlags added → IsFrame f → IsParent more (bit_or f (bit_or more added))
+pub new_parent : (more added f : ℕ) → IsParentFlags more → IsParentFlags added → IsFrame f → IsParent more (bit_or f (bit_or more added))
 new_parent more added f marks adds frame = record {
   is_table = ap₂ (λ a b. a && not b) (used_or f (bit_or more added) frame.not_zero) (has_or f (bit_or more added) 0x80 (flags_or more added marks adds).not_huge ∙ frame_not_huge f frame.aligned);
   has_flags = λ flag h. added_there f (bit_or more added) flag (has_kept more added flag h);

@@ -1,5 +1,5 @@
 -- After an accepted map with PRESENT the walk arrives at each address of the page, at the frame, with exactly the rights asked for.
-use Rattle.std.proofs.Common.{zero, suc, ◌≡◌, ◌≤◌, ◌+◌, ◌%◌, ℕ, ◌==◌, true, false, cond, List, [], ◌∷◌, length, take, map, Some, None, Option, bit_and, refl, sym, ap, ap₂, ◌∙◌, subst, arith}
+use Rattle.std.proofs.Common.{zero, suc, ◌≡◌, ◌≤◌, ◌+◌, ◌%◌, ℕ, ◌==◌, true, false, cond, List, [], ◌∷◌, length, take, map, Some, None, Option, bit_and, refl, sym, ap, ap₂, ◌∙◌, subst, arith, map-id}
 use Rattle.std.proofs.lemmas.Nat.{and_assoc, and_comm}
 use Rattle.std.specs.List.{AllByRecursion}
 use Rattle.x86_64_model.specs.Entry.{IsParentFlags, has, writable, user, address}
@@ -14,12 +14,14 @@ use Rattle.x86_64_model.specs.Refusal.{Done}
 use Rattle.x86_64_model.specs.Arrivals.{Asks as IsAsked}
 use Rattle.x86_64_model.specs.Laws.Maps.{MapArrives}
 use Rattle.x86_64_model.specs.Lemmas.Maps.Frames.{IsFrame}
-use Rattle.x86_64_model.specs.Lemmas.Maps.Down.{Descends, all_both}
-use Rattle.x86_64_model.specs.Lemmas.Hierarchies.Changes.{parents_descend, each_parent}
+use Rattle.x86_64_model.specs.Lemmas.Hierarchies.Changes.{each_parent}
+use Rattle.x86_64_model.specs.Lemmas.Hierarchies.Trees.{tree_of_holds}
 use Rattle.x86_64_model.specs.Lemmas.Walks.Agrees.{reads}
 use Rattle.x86_64_model.specs.Lemmas.Walks.Walked.{walked, page_walk_is}
 use Rattle.x86_64_model.specs.Lemmas.Maps.Accepted.{IsParent, map_makes}
 use Rattle.x86_64_model.specs.Lemmas.Maps.Leaves.{arrived, Above, walked_to, Asks, writable_by, user_by, leaf_is}
+use Rattle.x86_64_model.specs.Lemmas.Maps.Trees.{page_descends}
+use Rattle.x86_64_model.specs.Lemmas.Lists.All.{all_both}
 
 -- ---- beside the window the entries are the map's
 
@@ -40,10 +42,6 @@ parents_outside window N i (j ∷ c) h = (
   each_parent (λ r. entry_at window N r ≡ entry N r) (i ∷ []) (λ k s. entry_outside window N i (k ∷ s) (first_alone window i (j ∷ c) (k ∷ s) h)) (j ∷ c),
 )
 
-pub map_same : (ps : List (List ℕ)) → map (λ r. r) ps ≡ ps
-map_same [] = refl
-map_same (p ∷ ps) = ap (λ qs. p ∷ qs) (map_same ps)
-
 module _ (L level : ℕ) (window : Option Window) (T U : Words) (root : ℕ) (M : PathMap) (supply : List ℕ) (more added : ℕ) (q : List ℕ) (frame given : ℕ) where
   abbrev pub after : AfterMap
   after = map_call L M supply more added q frame given
@@ -56,12 +54,9 @@ module _ (L level : ℕ) (window : Option Window) (T U : Words) (root : ℕ) (M 
       ∙ by L q front outside asks.nonempty asks.at_level made.0 made.1
       ∙ ap₂ (λ w u. Some (record { address = frame + p % span level; write = w; user = u })) (writable_by L level more added q frame given asks (is_small L q)) (user_by L level more added q frame given asks (is_small L q))
     where
-      e : ℕ
-      e = leaf_entry L q frame given
-
       made : (entry after.paths q ≡ leaf_entry L q frame given) × AllByRecursion (λ p. IsParent more (entry after.paths p)) (parents q)
       made = map_makes more added q (leaf_entry L q frame given) frame asks.parent_flags asks.added_flags M supply (parents q)
-          (subst (λ ps. Descends M ps q) (map_same (parents q)) (parents_descend L (outside_window window root T) root M before.valid.holds [] q)) frames accepted
+          (page_descends L root M (tree_of_holds L (outside_window window root T) root M before.valid.holds) q) frames accepted
 
       above : Above (leaf_entry L q frame given) (writable more) (user more)
       above = (λ h. asks.grants_write (sym (writable_by L level more added q frame given asks (is_small L q)) ∙ h), λ h. asks.grants_user (sym (user_by L level more added q frame given asks (is_small L q)) ∙ h))
@@ -73,7 +68,7 @@ module _ (L level : ℕ) (window : Option Window) (T U : Words) (root : ℕ) (M 
       by zero (i ∷ c) f o l s is ps = absurd (omega (arith, s, asks.low))
       by (suc n) (i ∷ c) f o l s is ps =
           walked_to more p (leaf_entry L q frame given) frame (entry_at window after.paths) asks.parents_present above (length c) n level [] true true (omega (arith, s)) asks.low (λ h. refl, λ h. refl)
-          (subst (AllByRecursion (λ r. IsParent more (entry_at window after.paths r))) (sym (map_same _) ∙ ap (λ r. map (λ s. s) (parents r)) (sym f))
+          (subst (AllByRecursion (λ r. IsParent more (entry_at window after.paths r))) (sym (map-id _) ∙ ap (λ r. map (λ s. s) (parents r)) (sym f))
           (all_both (λ r. IsParent more (entry after.paths r)) (λ r. entry_at window after.paths r ≡ entry after.paths r) (λ r. IsParent more (entry_at window after.paths r))
           (λ r parent same. subst (IsParent more) (sym same) parent) (parents (i ∷ c)) ps (parents_outside window after.paths i c o)))
           (ap (entry_at window after.paths) f ∙ entry_outside window after.paths i c o ∙ is)

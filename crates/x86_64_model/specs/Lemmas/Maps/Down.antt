@@ -8,35 +8,12 @@ use Rattle.x86_64_model.specs.MapRule.{AfterMap, map_rule, with_flags, with_tabl
 use Rattle.x86_64_model.specs.Refusal.{Done, Refused, ParentEntryHugePage, PageAlreadyMapped, FrameAllocationFailed}
 use Rattle.x86_64_model.specs.WalkDown.{walk_down, with_first}
 use Rattle.x86_64_model.specs.Lemmas.Paths.Puts.{entry-put_other}
+use Rattle.x86_64_model.specs.Lemmas.Lists.All.{all_mapped, all_both, filter_same, any_same, filter_none, any_none}
 
 -- the parents ps are as in a hierarchy: no entry is used below one that names no table
 abbrev pub Descends : PathMap → List (List ℕ) → List ℕ → Type 0
 Descends M [] q = Unit {0}
 Descends M (p ∷ ps) q = (names_table (entry M p) ≡ false → AllByRecursion (λ r. used (entry M r) ≡ false) ps) × AllByRecursion (λ r. r ≢ p) ps × (q ≢ p) × Descends M ps q
-
-filter_same : {X : Type 0} (f g : X → Bool) (xs : List X) → AllByRecursion (λ x. f x ≡ g x) xs → filter f xs ≡ filter g xs
-filter_same f g [] h = refl
-filter_same f g (x ∷ xs) h = ap₂ (λ b ys. cond b (x ∷ ys) ys) h.0 (filter_same f g xs h.1)
-
-any_same : {X : Type 0} (f g : X → Bool) (xs : List X) → AllByRecursion (λ x. f x ≡ g x) xs → list_any f xs ≡ list_any g xs
-any_same f g [] h = refl
-any_same f g (x ∷ xs) h = ap₂ (λ b c. b || c) h.0 (any_same f g xs h.1)
-
-filter_none : {X : Type 0} (f : X → Bool) (xs : List X) → AllByRecursion (λ x. f x ≡ false) xs → filter f xs ≡ []
-filter_none f [] h = refl
-filter_none f (x ∷ xs) h = ap (λ b. cond b (x ∷ filter f xs) (filter f xs)) h.0 ∙ filter_none f xs h.1
-
-any_none : {X : Type 0} (f g : X → Bool) (xs : List X) → AllByRecursion (λ x. f x ≡ false) xs → list_any (λ x. f x && g x) xs ≡ false
-any_none f g [] h = refl
-any_none f g (x ∷ xs) h = ap (λ b. (b && g x) || list_any (λ x. f x && g x) xs) h.0 ∙ any_none f g xs h.1
-
-pub all_mapped : {X : Type 0} (P Q : X → Type 0) → ((x : X) → P x → Q x) → (xs : List X) → AllByRecursion P xs → AllByRecursion Q xs
-all_mapped P Q f [] h = tt
-all_mapped P Q f (x ∷ xs) h = (f x h.0, all_mapped P Q f xs h.1)
-
-pub all_both : {X : Type 0} (P Q R : X → Type 0) → ((x : X) → P x → Q x → R x) → (xs : List X) → AllByRecursion P xs → AllByRecursion Q xs → AllByRecursion R xs
-all_both P Q R f [] h g = tt
-all_both P Q R f (x ∷ xs) h g = (f x h.0 g.0, all_both P Q R f xs h.1 g.1)
 
 pub descends_same : (M N : PathMap) (ps : List (List ℕ)) (q : List ℕ) → AllByRecursion (λ r. entry N r ≡ entry M r) ps → Descends M ps q → Descends N ps q
 descends_same M N [] q same d = tt

@@ -1,17 +1,18 @@
 -- Frames are conserved by a map: free and table frames stay one set, each once.
-use Rattle.std.proofs.Common.{◌≡◌, ◌≢◌, ◌⊎◌, inl, inr, ⊎_elim, ◌<◌, ℕ, ◌==◌, ◌&&◌, true, false, not, cond, List, [], ◌∷◌, length, Some, None, nat_lt, bit_and, bit_or, refl, sym, ap, ◌∙◌, subst, arith, lt-ltb}
-use Rattle.std.proofs.lemmas.Nat.{and_or_apart, and_assoc, and_comm, le_or_l}
+use Rattle.std.proofs.Common.{◌≡◌, ◌≢◌, ◌⊎◌, inl, inr, ⊎_elim, ◌<◌, ℕ, ◌==◌, ◌&&◌, true, false, not, cond, List, [], ◌∷◌, length, Some, None, nat_lt, bit_or, refl, sym, ap, ◌∙◌, subst, arith, lt-ltb}
+use Rattle.std.proofs.lemmas.Nat.{and_or_apart, le_or_l}
 use Rattle.std.specs.List.{AllByRecursion}
 use Rattle.x86_64_model.specs.Entry.{has, used, huge, address}
 use Rattle.x86_64_model.specs.PathMap.{PathMap, entry, put, table_of, table_at}
 use Rattle.x86_64_model.specs.Lists.{In}
 use Rattle.x86_64_model.specs.MapRule.{AfterMap, map_rule}
 use Rattle.x86_64_model.specs.Refusal.{Done, Refused, PageAlreadyMapped}
-use Rattle.x86_64_model.specs.Lemmas.Entries.Bits.{has_or, address_or, used_from, unused_zero}
-use Rattle.x86_64_model.specs.Lemmas.Paths.Puts.{cases_path, entry-put_same, entry-put_other}
-use Rattle.x86_64_model.specs.Lemmas.Hierarchies.Held.{table_at_same}
+use Rattle.x86_64_model.specs.Lemmas.Entries.Bits.{has_or, address_or, used_from, no_flag}
+use Rattle.x86_64_model.specs.Lemmas.Paths.Puts.{cases_path}
+use Rattle.x86_64_model.specs.Lemmas.Hierarchies.Held.{table_at-put_other, table_at-put_same}
 use Rattle.x86_64_model.specs.Lemmas.Maps.Down.{Descends, others, step_used, step_huge, step_new, step_none, step_last, descends_same}
-use Rattle.x86_64_model.specs.Lemmas.Hierarchies.Changes.{zero_not_used, unused_no_table}
+use Rattle.x86_64_model.specs.Lemmas.Hierarchies.Changes.{zero_not_used}
+use Rattle.x86_64_model.specs.Lemmas.Hierarchies.Trees.{no_table_unused}
 pub use Rattle.x86_64_model.specs.Entry.{IsParentFlags}
 pub use Rattle.x86_64_model.specs.Conserved.{IsFrame, OneEach, Conserves}
 
@@ -22,8 +23,8 @@ pub used_or : (e m : ℕ) → e ≢ 0 → used (bit_or e m) ≡ true
 used_or e m n = used_from (bit_or e m) (λ z. n (let le = le_or_l e m in omega (arith, le, z)))
 
 pub frame_not_huge : (f : ℕ) → address f ≡ f → huge f ≡ false
-unfolding has address
-frame_not_huge f a = ap (λ x. bit_and x 0x80 == 0x80) (sym a) ∙ ap (λ x. x == 0x80) (and_assoc 0x80 f 0x000f_ffff_ffff_f000 ∙ and_comm f 0)
+unfolding has
+frame_not_huge f a = ap (λ x. x == 0x80) (no_flag f 0x80 a refl)
 
 pub used_not_zero : (e : ℕ) → used e ≡ true → e ≢ 0
 used_not_zero e u z = let t : true ≡ false = sym u ∙ ap used z ∙ zero_not_used in cc
@@ -58,31 +59,25 @@ conserves_marked L root M N pool same = record {
   };
 }
 
-table_at_put : (L root : ℕ) (M : PathMap) (i : ℕ) (p : List ℕ) (e : ℕ) → table_at L root (put M (i ∷ p) e) (i ∷ p) ≡ table_of L (i ∷ p) e
-table_at_put L root M i p e = ap (table_of L (i ∷ p)) (entry-put_same M (i ∷ p) e)
-
 -- a write that leaves the table that the path leads to
 pub same_tables : (L root : ℕ) (M : PathMap) (i : ℕ) (p : List ℕ) (e : ℕ) → table_of L (i ∷ p) e ≡ table_at L root M (i ∷ p) → (q : List ℕ) → table_at L root (put M (i ∷ p) e) q ≡ table_at L root M q
 same_tables L root M i p e same q = ⊎_elim
-    (λ h. ap (table_at L root (put M (i ∷ p) e)) h ∙ table_at_put L root M i p e ∙ same ∙ sym (ap (table_at L root M) h))
-    (λ n. table_at_same L root _ M q (entry-put_other M (i ∷ p) e q n)) (cases_path q (i ∷ p))
+    (λ h. ap (table_at L root (put M (i ∷ p) e)) h ∙ table_at-put_same L root M (i ∷ p) e (λ z. cc) ∙ same ∙ sym (ap (table_at L root M) h))
+    (table_at-put_other L root M (i ∷ p) e q) (cases_path q (i ∷ p))
 
 -- the first free frame becomes a table
 module _ (L root : ℕ) (M : PathMap) (f : ℕ) (fs : List ℕ) (i : ℕ) (p : List ℕ) (e : ℕ) (new : table_of L (i ∷ p) e ≡ Some f) (old : table_at L root M (i ∷ p) ≡ None) where
   here : table_at L root (put M (i ∷ p) e) (i ∷ p) ≡ Some f
-  here = table_at_put L root M i p e ∙ new
-
-  else_same : (q : List ℕ) → q ≢ i ∷ p → table_at L root (put M (i ∷ p) e) q ≡ table_at L root M q
-  else_same q n = table_at_same L root _ M q (entry-put_other M (i ∷ p) e q n)
+  here = table_at-put_same L root M (i ∷ p) e (λ z. cc) ∙ new
 
   -- a table afterwards is f or one from before
   table_cases : (q : List ℕ) (g : ℕ) → table_at L root (put M (i ∷ p) e) q ≡ Some g → ((q ≡ i ∷ p) × (f ≡ g)) ⊎ (table_at L root M q ≡ Some g)
   table_cases q g h = ⊎_elim
       (λ is. inl (is, let t : Some f ≡ Some g = sym (ap (table_at L root (put M (i ∷ p) e)) is ∙ here) ∙ h in cc))
-      (λ n. inr (sym (else_same q n) ∙ h)) (cases_path q (i ∷ p))
+      (λ n. inr (sym (table_at-put_other L root M (i ∷ p) e q n) ∙ h)) (cases_path q (i ∷ p))
 
   still : (q : List ℕ) (g : ℕ) → table_at L root M q ≡ Some g → table_at L root (put M (i ∷ p) e) q ≡ Some g
-  still q g h = else_same q (λ is. let t : Some g ≡ None = sym h ∙ ap (table_at L root M) is ∙ old in cc) ∙ h
+  still q g h = table_at-put_other L root M (i ∷ p) e q (λ is. let t : Some g ≡ None = sym h ∙ ap (table_at L root M) is ∙ old in cc) ∙ h
 
   pub conserves_taken : Conserves L root M (f ∷ fs) (put M (i ∷ p) e) fs
   conserves_taken = record {
@@ -109,9 +104,6 @@ module _ (L root more added : ℕ) (marks : IsParentFlags more) (adds : IsParent
   abbrev Keeps : PathMap → List ℕ → AfterMap → Type 0
   Keeps M supply m = Conserves L root M supply m.paths m.supply
 
-  unused_leads_nowhere : (M : PathMap) (j : ℕ) (p : List ℕ) → used (entry M (j ∷ p)) ≡ false → table_at L root M (j ∷ p) ≡ None
-  unused_leads_nowhere M j p u = ap (table_of L (j ∷ p)) (unused_zero _ u) ∙ unused_no_table L (j ∷ p)
-
   marked : (M : PathMap) (supply : List ℕ) (j : ℕ) (p : List ℕ) → used (entry M (j ∷ p)) ≡ true → Conserves L root M supply (put M (j ∷ p) (bit_or (entry M (j ∷ p)) more)) supply
   marked M supply j p u = conserves_marked L root M _ supply (same_tables L root M j p _ (table_of_marked L (j ∷ p) (entry M (j ∷ p)) more marks u))
 
@@ -120,7 +112,7 @@ module _ (L root more added : ℕ) (marks : IsParentFlags more) (adds : IsParent
   map_conserves M supply [] d a frames = subst (Keeps M supply) (sym (step_last more added (i ∷ q) e frame M supply))
       (elim (used (entry M (i ∷ q))) as (λ u. used (entry M (i ∷ q)) ≡ u → Keeps M supply (cond u (record { paths = M; supply = supply; answer = Refused (PageAlreadyMapped frame) }) (record { paths = put M (i ∷ q) e; supply = supply; answer = Done frame }))) [
         | true ↦ λ u. conserves_nothing L root M supply
-        | false ↦ λ u. conserves_marked L root M _ supply (same_tables L root M i q e (no_table ∙ sym (unused_leads_nowhere M i q u)))
+        | false ↦ λ u. conserves_marked L root M _ supply (same_tables L root M i q e (no_table ∙ sym (no_table_unused L root M i q u)))
       ] refl)
   map_conserves M supply ([] ∷ ps) d a frames = absurd (omega (arith, a.0.0))
   map_conserves M supply ((j ∷ p) ∷ ps) d a frames =
@@ -135,7 +127,7 @@ module _ (L root more added : ℕ) (marks : IsParentFlags more) (adds : IsParent
           | [] ↦ λ _. subst (Keeps M []) (sym (step_none more added (i ∷ q) e frame M (j ∷ p) ps d u)) (conserves_nothing L root M [])
           | f ∷ fs ↦ λ fr. subst (Keeps M (f ∷ fs)) (sym (step_new more added (i ∷ q) e frame M (j ∷ p) ps d f fs u))
               (conserves_then L root M (f ∷ fs) _ fs _ _
-              (conserves_taken L root M f fs j p _ (table_of_new L (j ∷ p) f (bit_or more added) (flags_or more added marks adds) fr.0 a.0.1) (unused_leads_nowhere M j p u))
+              (conserves_taken L root M f fs j p _ (table_of_new L (j ∷ p) f (bit_or more added) (flags_or more added marks adds) fr.0 a.0.1) (no_table_unused L root M j p u))
               (map_conserves (put M (j ∷ p) (bit_or f (bit_or more added))) fs ps (below _) a.1 fr.1))
         ] frames
       ] refl

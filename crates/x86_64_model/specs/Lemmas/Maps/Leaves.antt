@@ -1,27 +1,24 @@
 -- The walk to a page's entry, below parents that have the parent flags.
-use Rattle.std.proofs.Common.{zero, suc, ◌≡◌, ◌⊎◌, inl, inr, ⊎_elim, ◌≤◌, ◌+◌, ◌*◌, ◌/◌, ◌%◌, ℕ, ◌&&◌, Bool, true, false, not, cond, List, [], ◌∷◌, ◌++◌, length, take, map, nat_le, Some, Option, bit_and, bit_or, refl, sym, ap, ◌∙◌, subst, arith, eqb-true, le-leb, append_assoc}
-use Rattle.std.proofs.lemmas.Nat.{and_assoc, and_comm, or_comm}
+use Rattle.std.proofs.Common.{zero, suc, ◌≡◌, ◌⊎◌, inl, inr, ⊎_elim, ◌≤◌, ◌+◌, ◌*◌, ◌/◌, ◌%◌, ℕ, ◌&&◌, Bool, true, false, cond, List, [], ◌∷◌, ◌++◌, length, take, map, nat_le, Some, Option, bit_or, refl, sym, ap, ◌∙◌, subst, arith, eqb-true, le-leb, append_assoc, None}
 use Rattle.std.proofs.lemmas.Bool.{and_from}
 use Rattle.std.specs.List.{AllByRecursion}
 use Rattle.x86_64_model.specs.Entry.{IsParentFlags, has, present, writable, user, huge, address}
 use Rattle.x86_64_model.specs.Path.{parents, is_small}
 use Rattle.x86_64_model.specs.Position.{index, span, page_path}
 use Rattle.x86_64_model.specs.PageWalk.{page_start, Walked}
-use Rattle.x86_64_model.specs.Lemmas.Entries.Bits.{has_or, address_or}
-use Rattle.x86_64_model.specs.Lemmas.Hierarchies.Changes.{map_again}
+use Rattle.x86_64_model.specs.Lemmas.Entries.Bits.{has_or, address_or, only_flags}
+use Rattle.x86_64_model.specs.Lemmas.Hierarchies.Changes.{map_again, leaf_none}
+use Rattle.x86_64_model.specs.Lemmas.Hierarchies.Trees.{plain_table}
 use Rattle.x86_64_model.specs.Lemmas.Walks.Walked.{walked}
 use Rattle.x86_64_model.specs.Lemmas.Maps.Accepted.{IsParent, added_there}
+use Rattle.x86_64_model.specs.PathMap.{table_of}
+use Rattle.x86_64_model.specs.MapRule.{leaf_entry}
 
 -- an entry of a level that maps a page to a frame
 pub record Leaf (level e frame : ℕ) : Type 0 where
   pub is_present : present e ≡ true
   pub names : address e ≡ frame
   pub size : (level ≡ 1) ⊎ ((huge e ≡ true) × (level ≤ 3) × (frame % span level ≡ 0))
-
-pub plain : (u h : Bool) → (u && not h) ≡ true → h ≡ false
-plain true true e = cc
-plain true false e = refl
-plain false h e = cc
 
 pub take_then : (b : Bool) (x y z : Option Walked) → b ≡ true → x ≡ z → cond b x y ≡ z
 take_then true x y z h e = e
@@ -38,6 +35,11 @@ last_decides false false h = refl
 
 abbrev pub arrived : (to e : ℕ) → Option Walked
 arrived to e = Some (record { address = to; write = writable e; user = user e })
+
+-- the entry of a page names no table
+pub none_at_leaf : (L : ℕ) (q : List ℕ) (frame given : ℕ) → table_of L q (leaf_entry L q frame given) ≡ None
+unfolding has
+none_at_leaf L q frame given = leaf_none L q _ (λ large. ap (λ b. huge (bit_or frame (cond b given (bit_or given 0x80)))) large ∙ added_there frame (bit_or given 0x80) 0x80 (added_there given 0x80 0x80 refl))
 
 -- no less than what the entry grants
 abbrev pub Above : ℕ → Bool → Bool → Type 0
@@ -69,7 +71,7 @@ module _ (more p e frame : ℕ) (E : List ℕ → ℕ) (here_too : present more 
   walked_to (suc k) (suc n) level q w u l low a ps is leaf =
       let i = index (suc (suc n)) p in let r = q ++ i ∷ [] in let rest = take (suc k) (page_path (suc n) p) in
       let parent : IsParent more (E r) = ps.0 in
-      take_then (present (E r)) _ _ _ (parent.has_flags 1 here_too) (take_else (huge (E r)) _ _ _ (plain _ _ parent.is_table)
+      take_then (present (E r)) _ _ _ (parent.has_flags 1 here_too) (take_else (huge (E r)) _ _ _ (plain_table _ parent.is_table)
       (walked_to k n level r (w && writable (E r)) (u && user (E r)) (omega (arith, l)) low
       (λ h. and_from _ _ (a.0 h) (parent.has_flags 2 (above.0 h)), λ h. and_from _ _ (a.1 h) (parent.has_flags 4 (above.1 h)))
       (subst (AllByRecursion (λ r. IsParent more (E r))) (sym (map_again q i (parents rest))) ps.1)
@@ -91,14 +93,6 @@ pub record Asks (L level more added : ℕ) (q : List ℕ) (frame given : ℕ) : 
   pub high : level ≤ 3
   pub is_frame : address frame ≡ frame
   pub aligned : frame % span level ≡ 0
-
--- a frame has no flag
-pub no_flag : (f flag : ℕ) → address f ≡ f → bit_and 0x000f_ffff_ffff_f000 flag ≡ 0 → bit_and f flag ≡ 0
-unfolding address
-no_flag f flag a apart = ap (λ x. bit_and x flag) (sym a) ∙ and_assoc flag f 0x000f_ffff_ffff_f000 ∙ ap (bit_and f) apart ∙ and_comm f 0
-
-pub only_flags : (f x flag : ℕ) → address f ≡ f → bit_and 0x000f_ffff_ffff_f000 flag ≡ 0 → has (bit_or f x) flag ≡ has x flag
-only_flags f x flag a apart = ap (λ e. has e flag) (or_comm f x) ∙ has_or x f flag (no_flag f flag a apart)
 
 module _ (L level more added : ℕ) (q : List ℕ) (frame given : ℕ) (asks : Asks L level more added q frame given) where
   abbrev pub leaf_by : Bool → ℕ

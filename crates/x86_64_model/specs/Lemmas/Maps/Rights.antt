@@ -2,6 +2,7 @@
 use Rattle.std.proofs.Common.{◌≡◌, ◌⊎◌, inl, inr, ⊎_elim, ◌+◌, ◌*◌, ◌^◌, ◌%◌, ◌/◌, ℕ, zero, suc, ◌==◌, ◌&&◌, Bool, true, false, cond, List, [], ◌∷◌, ◌++◌, nat_le, Some, None, Option, bit_or, max, refl, sym, ap, ◌∙◌, subst, subst₂, arith}
 use Rattle.std.proofs.lemmas.Nat.Bits.{same_from_bits, bit_at_or}
 use Rattle.std.proofs.lemmas.Bool.{and_parts, and_from}
+use Rattle.std.proofs.lemmas.Option.{same_Some}
 use Rattle.std.specs.Int.{bit_at}
 use Rattle.x86_64_model.specs.Entry.{has, used, huge, present, writable, user}
 use Rattle.x86_64_model.specs.Memory.{Words}
@@ -32,14 +33,11 @@ right_here more k e f w v s r = (
   λ h. let parts = and_parts _ _ h in ⊎_elim (λ a. ⊎_elim (λ b. inl (and_from _ _ a b)) (λ g. inr g) (s.gained k parts.1)) (λ g. inr g) (r.1 parts.0),
 )
 
-pub some_walked : (w v : Walked) → Some w ≡ Some v → w ≡ v
-some_walked w v e = cc
-
 pub none_arrives : (more : ℕ) (y : Option Walked) → Arrives more None y
 none_arrives more y w e = absurd (let t : None ≡ Some w = e in cc)
 
 pub arrive_same : (more a b : ℕ) (w u v x : Bool) → b ≡ a → Right (writable more) w v → Right (user more) u x → Arrives more (arrives a w u) (arrives b v x)
-arrive_same more a b w u v x ab rw ru walk e = subst (λ walk. (y : Walked) × (arrives b v x ≡ Some y) × Better more walk y) (some_walked _ walk e) (
+arrive_same more a b w u v x ab rw ru walk e = subst (λ walk. (y : Walked) × (arrives b v x ≡ Some y) × Better more walk y) (same_Some _ walk e) (
   record { address = b; write = v; user = x },
   refl,
   record { same_place = ab; write_kept = rw.0; user_kept = ru.0; write_gained = rw.1; user_gained = ru.1 },

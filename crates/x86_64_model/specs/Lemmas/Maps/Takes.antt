@@ -1,6 +1,6 @@
 -- A map takes the first frames of the supply, at most one for each level above the page's.
 use Rattle.std.proofs.Common.{◌≡◌, ◌≤◌, ◌-◌, zero-le, ℕ, List, [], ◌∷◌, length, refl, ap, arith}
-use Rattle.std.proofs.Common.{map}
+use Rattle.std.proofs.lemmas.List.{length-map}
 use Rattle.x86_64_model.specs.Conserved.{Takes}
 use Rattle.x86_64_model.specs.PathMap.{PathMap}
 use Rattle.x86_64_model.specs.Path.{parents}
@@ -9,13 +9,9 @@ use Rattle.x86_64_model.specs.Lemmas.Maps.Accepted.{map_ind}
 use Rattle.x86_64_model.specs.Lemmas.Hierarchies.Trees.{IsTree}
 use Rattle.x86_64_model.specs.Lemmas.Maps.Trees.{page_descends}
 
-length_map : (f : List ℕ → List ℕ) (ps : List (List ℕ)) → length (map f ps) ≡ length ps
-length_map f [] = refl
-length_map f (p ∷ ps) = let e = length_map f ps in omega arith
-
 count_parents : (i : ℕ) (q : List ℕ) → length (parents (i ∷ q)) ≡ length q
 count_parents i [] = refl
-count_parents i (j ∷ q) = let e = length_map (λ q. i ∷ q) (parents (j ∷ q)) in let k = count_parents j q in omega arith
+count_parents i (j ∷ q) = let e = length-map (parents (j ∷ q)) (λ q. i ∷ q) in let k = count_parents j q in omega arith
 
 parents_few : (L : ℕ) (q : List ℕ) → length q ≤ L → length (parents q) ≤ L - 1
 parents_few L [] l = let z : 0 ≤ L - 1 = zero-le in z

@@ -1,20 +1,22 @@
 -- A map leaves a hierarchy.
-use Rattle.std.proofs.Common.{◌≡◌, ◌≢◌, ◌<◌, ◌≤◌, ℕ, suc, ◌&&◌, true, false, not, List, [], ◌∷◌, ◌++◌, length, map, Some, None, bit_or, refl, sym, ap, ap₂, ◌∙◌, subst, subst₂, arith, append_assoc}
+use Rattle.std.proofs.Common.{◌≡◌, ◌≢◌, ◌<◌, ◌≤◌, ℕ, suc, ◌&&◌, true, false, not, List, [], ◌∷◌, ◌++◌, length, map, Some, None, bit_or, refl, sym, ap₂, ◌∙◌, subst, subst₂, arith, append_assoc, map-id}
+use Rattle.std.proofs.lemmas.Option.{same_Some}
 use Rattle.std.specs.List.{AllByRecursion}
 use Rattle.x86_64_model.specs.Entry.{IsParentFlags, used, huge}
 use Rattle.x86_64_model.specs.PathMap.{PathMap, entry, put, table_of, table_at}
 use Rattle.x86_64_model.specs.Path.{level_of, parents, AllBelow, IsPage}
 use Rattle.x86_64_model.specs.MapRule.{AfterMap, map_rule}
 use Rattle.x86_64_model.specs.Lemmas.Entries.Bits.{has_or}
-use Rattle.x86_64_model.specs.Lemmas.Paths.Puts.{entry-put_same}
-use Rattle.x86_64_model.specs.Lemmas.Hierarchies.Held.{no_end}
+use Rattle.x86_64_model.specs.Lemmas.Hierarchies.Held.{table_at-put_same}
 use Rattle.x86_64_model.specs.Lemmas.Hierarchies.Changes.{map_again}
-use Rattle.x86_64_model.specs.Lemmas.Maps.Down.{Descends, all_mapped}
+use Rattle.x86_64_model.specs.Lemmas.Maps.Down.{Descends}
 use Rattle.x86_64_model.specs.Lemmas.Maps.Frames.{IsFrame, AreParents, table_of_marked, table_of_new, flags_or, frame_not_huge}
 use Rattle.x86_64_model.specs.Lemmas.Maps.Accepted.{map_ind}
 use Rattle.x86_64_model.specs.Lemmas.Walks.Agrees.{named}
-use Rattle.x86_64_model.specs.Lemmas.Hierarchies.Trees.{IsTree, IsHierarchy, table_at_is, no_table_unused, some_one, some_not_none, tree_descends}
+use Rattle.x86_64_model.specs.Lemmas.Hierarchies.Trees.{IsTree, IsHierarchy, table_at_is, some_not_none, tree_descends, unused_leads_nowhere}
 use Rattle.x86_64_model.specs.Lemmas.Hierarchies.Puts.{Reached, hierarchy_put, reached_used, reached_next}
+use Rattle.x86_64_model.specs.Lemmas.Lists.All.{all_mapped, all_map}
+use Rattle.x86_64_model.specs.Lemmas.Paths.Puts.{no_end}
 
 -- each path is the one before and one more index
 abbrev pub Chain : List ℕ → List (List ℕ) → List ℕ → Type 0
@@ -25,20 +27,12 @@ pub parents_chain : (pre : List ℕ) (i : ℕ) (q : List ℕ) → AllBelow (i �
 parents_chain pre i [] a = (i, a.0, refl)
 parents_chain pre i (j ∷ q) a = (i, a.0, refl, subst₂ (λ ps q. Chain (pre ++ i ∷ []) ps q) (map_again pre i (parents (j ∷ q))) (append_assoc pre (i ∷ []) (j ∷ q)) (parents_chain (pre ++ i ∷ []) j q a.1))
 
-pub map_nothing : (ps : List (List ℕ)) → map (λ r. [] ++ r) ps ≡ ps
-map_nothing [] = refl
-map_nothing (p ∷ ps) = ap (λ ps. p ∷ ps) (map_nothing ps)
-
 pub page_chain : (L : ℕ) (q : List ℕ) → IsPage L q → Chain [] (parents q) q
 page_chain L [] page = absurd (let l = page.nonempty in omega arith)
-page_chain L (i ∷ q) page = subst (λ ps. Chain [] ps (i ∷ q)) (map_nothing (parents (i ∷ q))) (parents_chain [] i q page.below)
+page_chain L (i ∷ q) page = subst (λ ps. Chain [] ps (i ∷ q)) (map-id (parents (i ∷ q))) (parents_chain [] i q page.below)
 
 pub page_descends : (L root : ℕ) (M : PathMap) → IsTree L root M → (q : List ℕ) → Descends M (parents q) q
-page_descends L root M tree q = subst (λ ps. Descends M ps q) (map_nothing (parents q)) (tree_descends L root M tree [] q)
-
-pub all_map : (P : List ℕ → Type 0) (f : List ℕ → List ℕ) (ps : List (List ℕ)) → AllByRecursion (λ p. P (f p)) ps → AllByRecursion P (map f ps)
-all_map P f [] h = tt
-all_map P f (p ∷ ps) h = (h.0, all_map P f ps h.1)
+page_descends L root M tree q = subst (λ ps. Descends M ps q) (map-id (parents q)) (tree_descends L root M tree [] q)
 
 pub parents_short : (q : List ℕ) → AllByRecursion (λ p. (0 < length p) × (length p < length q)) (parents q)
 parents_short [] = tt
@@ -78,27 +72,23 @@ module _ (L root more added : ℕ) (marks : IsParentFlags more) (adds : IsParent
   reached_step M p pre k l is leads = subst (Reached L root M) (sym is) (reached_next L root M pre k leads l)
 
   pub leads_on : (M : PathMap) (p : List ℕ) → used (entry M p) ≡ true → huge (entry M p) ≡ false → length p < L → p ≢ [] → table_at L root (put M p (bit_or (entry M p) more)) p ≢ None
-  leads_on M p u h l n z = some_not_none _ (sym (table_at_is L root _ p n ∙ ap (table_of L p) (entry-put_same M p _) ∙ table_of_marked L p (entry M p) more marks u
+  leads_on M p u h l n z = some_not_none _ (sym (table_at-put_same L root M p _ n ∙ table_of_marked L p (entry M p) more marks u
       ∙ named L p (entry M p) (ap₂ (λ u h. u && not h) u h) l) ∙ z)
 
   pub new_leads : (M : PathMap) (p : List ℕ) (f : ℕ) → IsFrame f → length p < L → p ≢ [] → table_at L root (put M p (bit_or f (bit_or more added))) p ≡ Some f
-  new_leads M p f fr l n = table_at_is L root _ p n ∙ ap (table_of L p) (entry-put_same M p _) ∙ table_of_new L p f (bit_or more added) (flags_or more added marks adds) fr l
+  new_leads M p f fr l n = table_at-put_same L root M p _ n ∙ table_of_new L p f (bit_or more added) (flags_or more added marks adds) fr l
 
   pub new_hierarchy : (M : PathMap) (p pre : List ℕ) (k f : ℕ) → k < 512 → p ≡ pre ++ k ∷ [] → table_at L root M pre ≢ None → length p < L → IsFrame f → IsHierarchy L root M → used (entry M p) ≡ false
       → IsHierarchy L root (put M p (bit_or f (bit_or more added)))
   new_hierarchy M p pre k f l is leads short fr h u =
       let n = nonempty p pre k is in
       let new = table_of_new L p f (bit_or more added) (flags_or more added marks adds) fr short in
-      hierarchy_put L root M p _ n h (reached_step M p pre k l is leads) (λ z. absurd (some_not_none f (sym new ∙ z))) (λ z. fr.not_zero (some_one f 0 (sym new ∙ z)))
+      hierarchy_put L root M p _ n h (reached_step M p pre k l is leads) (λ z. absurd (some_not_none f (sym new ∙ z))) (λ z. fr.not_zero (same_Some f 0 (sym new ∙ z)))
       (λ _. has_or f (bit_or more added) 0x80 (flags_or more added marks adds).not_huge ∙ frame_not_huge f fr.aligned)
 
   pub leaf_hierarchy : (M : PathMap) (pre : List ℕ) (k : ℕ) → k < 512 → q ≡ pre ++ k ∷ [] → table_at L root M pre ≢ None → IsHierarchy L root M → used (entry M q) ≡ false → IsHierarchy L root (put M q e)
   leaf_hierarchy M pre k l is leads h u =
-      hierarchy_put L root M q e (nonempty q pre k is) h (reached_step M q pre k l is leads) (λ _. unused q u (nonempty q pre k is)) (λ z. absurd (some_not_none 0 (sym z ∙ no_table))) low
-    where
-      unused : (q : List ℕ) → used (entry M q) ≡ false → q ≢ [] → table_at L root M q ≡ None
-      unused [] u n = absurd (n refl)
-      unused (i ∷ q) u n = no_table_unused L root M i q u
+      hierarchy_put L root M q e (nonempty q pre k is) h (reached_step M q pre k l is leads) (λ _. unused_leads_nowhere L root M q (nonempty q pre k is) u) (λ z. absurd (some_not_none 0 (sym z ∙ no_table))) low
 
   pub map_goes : (M : PathMap) (supply : List ℕ) (ps : List (List ℕ)) → Descends M ps q → Goes M supply ps (map_rule M supply more added ps q e frame)
   map_goes = map_ind more added q e frame Goes

@@ -1,7 +1,7 @@
 -- The addresses of a page have one path.
 use Rattle.std.proofs.Common.{zero, suc, ◌≡◌, ◌<◌, ◌≤◌, ◌+◌, ◌-◌, ◌*◌, ◌/◌, ◌%◌, ◌^◌, ℕ, ◌∷◌, length, take, Some, refl, sym, ap, ap₂, ◌∙◌, arith, pow_pos}
-use Rattle.std.proofs.lemmas.Nat.{pow-add}
-use Rattle.std.proofs.Math.Nat.{div-div-eq-div-mul, mul-add-div_right, mul-add-mod_self_right, mul-div_left, div-eq_of_lt, mod-eq_of_lt}
+use Rattle.std.proofs.lemmas.Nat.{pow-add, div-mul-add}
+use Rattle.std.proofs.Math.Nat.{div-div-eq-div-mul, mul-add-mod_self_right, mul-div_left, mod-eq_of_lt}
 use Rattle.x86_64_model.specs.Entry.{writable, user}
 use Rattle.x86_64_model.specs.Position.{index, span, page_path}
 use Rattle.x86_64_model.specs.Path.{path_at}
@@ -20,13 +20,10 @@ span_pos level = pow_pos (12 + 9 * (level - 1))
 span_up : (level k : ℕ) → 1 ≤ level → level ≤ k → span k ≡ span level * 2 ^ (9 * (k - level))
 span_up level k low high = ap (λ n. 2 ^ n) (let e : 12 + 9 * (k - 1) ≡ (12 + 9 * (level - 1)) + 9 * (k - level) = omega arith in e) ∙ pow-add 2 (12 + 9 * (level - 1)) (9 * (k - level))
 
-number : (s n o : ℕ) → 0 < s → o < s → (n * s + o) / s ≡ n
-number s n o pos l = mul-add-div_right pos n o ∙ ap (λ x. n + x) (div-eq_of_lt l) ∙ (let e : n + 0 ≡ n = omega arith in e)
-
 index_same : (level k n o : ℕ) → 1 ≤ level → level ≤ k → o < span level → index k (n * span level + o) ≡ index k (n * span level)
 unfolding index
 index_same level k n o low high l = ap (λ x. x % 512) (
-    by (n * span level + o) (number (span level) n o (span_pos level) l) ∙ sym (by (n * span level) (mul-div_left n (span_pos level))))
+    by (n * span level + o) (div-mul-add n (span level) o l) ∙ sym (by (n * span level) (mul-div_left n (span_pos level))))
   where
     by : (x : ℕ) → x / span level ≡ n → x / span k ≡ n / 2 ^ (9 * (k - level))
     by x e = ap (λ s. x / s) (span_up level k low high) ∙ sym (div-div-eq-div-mul x (span level) (2 ^ (9 * (k - level)))) ∙ ap (λ y. y / 2 ^ (9 * (k - level))) e

@@ -1,10 +1,11 @@
 -- Path maps by their entries.
 use Rattle.std.proofs.Common.{◌≡◌, ◌≢◌, ◌⊎◌, inl, inr, ℕ, ◌==◌, Bool, true, false, not, cond, List, [], ◌∷◌, ◌++◌, Some, None, Option, unwrap_or, refl, sym, ap, ◌∙◌, subst, eqb-true, append-nil, append_assoc}
 use Rattle.std.specs.Ordering.{nat_cmp, eq_by_cmp, is_eq}
-use Rattle.std.proofs.Common.{Ordering, Less, Equal, Greater}
+use Rattle.std.proofs.Common.{Ordering}
+use Rattle.std.proofs.lemmas.Option.{none-some}
 use Rattle.std.specs.Cmp.Lexicographic.{slice_cmp, nat_list_cmp_total}
-use Rattle.std.specs.Cmp.{tied_itself}
-use Rattle.std.specs.FinMap.{get, insert, remove, get-insert, get-remove, same_map, IsAntisymmetric, nat_cmp-IsAntisymmetric, slice_cmp-IsAntisymmetric}
+use Rattle.std.specs.Cmp.{tied_itself, Equal-is}
+use Rattle.std.specs.FinMap.{get, insert, remove, get-insert, get-remove, same_map, IsAntisymmetric, nat_cmp-IsAntisymmetric, slice_cmp-IsAntisymmetric, empty, get-empty}
 use Rattle.x86_64_model.specs.Entry.{used}
 use Rattle.x86_64_model.specs.PathMap.{PathMap, entry, put, HasUsedAlone}
 
@@ -21,13 +22,8 @@ same_path = eq_by_cmp path_cmp
 pub same_path_itself : (p : List ℕ) → same_path p p ≡ true
 same_path_itself p = ap is_eq (tied_itself nat_list_cmp_total p)
 
-equal : (r : Ordering) → is_eq r ≡ true → r ≡ Equal
-equal Less e = cc
-equal Equal e = refl
-equal Greater e = cc
-
 pub same_path_true : (q p : List ℕ) → same_path q p ≡ true → q ≡ p
-same_path_true q p h = path_exact q p (equal _ h)
+same_path_true q p h = path_exact q p ((Equal-is _).0 h)
 
 pub same_path_false : (q p : List ℕ) → q ≢ p → same_path q p ≡ false
 same_path_false q p apart = elim (same_path q p) as (λ b. same_path q p ≡ b → b ≡ false) [ true ↦ λ e. absurd (apart (same_path_true q p e)) | false ↦ λ _. refl ] refl
@@ -37,6 +33,14 @@ cases_path q p = elim (same_path q p) as (λ b. same_path q p ≡ b → (q ≡ p
   | true ↦ λ e. inl (same_path_true q p e)
   | false ↦ λ e. inr (λ is. let t : same_path q p ≡ true = ap (same_path q) (sym is) ∙ same_path_itself q in cc)
 ] refl
+
+-- where nothing is mapped
+pub entry-empty : (q : List ℕ) → entry empty q ≡ 0
+unfolding entry
+entry-empty q = ap (λ o. unwrap_or o 0) (get-empty path_cmp q)
+
+pub used_alone-empty : HasUsedAlone empty
+used_alone-empty q h = none-some 0 (sym (get-empty path_cmp q) ∙ h)
 
 pub entry-put : (M : PathMap) (p : List ℕ) (e : ℕ) (q : List ℕ) → entry (put M p e) q ≡ cond (same_path q p) e (entry M q)
 unfolding entry put used
@@ -87,6 +91,15 @@ same_paths M N m n is = same_map nat_list_cmp_total path_exact M N (λ p. by (ge
     by None (Some y) a b e = absurd (b (ap Some (sym e)))
     by (Some x) None a b e = absurd (a (ap Some e))
     by (Some x) (Some y) a b e = ap Some e
+
+-- a path that goes on is another one
+pub append_longer : (p : List ℕ) (k : ℕ) (s : List ℕ) → p ++ k ∷ s ≢ p
+append_longer [] k s e = cc
+append_longer (i ∷ p) k s e = append_longer p k s (let t : p ++ k ∷ s ≡ p = cc in t)
+
+pub no_end : (p : List ℕ) (i : ℕ) → [] ≢ p ++ i ∷ []
+no_end [] i e = cc
+no_end (j ∷ p) i e = cc
 
 -- an induction that adds an index at the end
 pub by_last : (P : List ℕ → Type 0) → P [] → ((q : List ℕ) (i : ℕ) → P q → P (q ++ i ∷ [])) → (p : List ℕ) → P p

@@ -1,8 +1,11 @@
 -- What the marks say when they succeed: the list of the tables and the pool is sound.
-use Rattle.std.proofs.Common.{◌≡◌, ◌⊎◌, ◌↔◌, inl, inr, ⊎_elim, ◌<◌, ℕ, ◌==◌, ◌||◌, Bool, true, false, cond, List, ◌++◌, get_or, set, replicate, Some, None, Option, IsSome, IsTrue, option_map, option_and_then, refl, sym, ap, ◌∙◌, subst, eqb-true, eq-eqb}
+use Rattle.std.proofs.Common.{◌≡◌, ◌⊎◌, ◌↔◌, inl, inr, ⊎_elim, ◌<◌, ℕ, ◌==◌, ◌||◌, Bool, true, false, cond, List, ◌++◌, get_or, replicate, Some, None, Option, IsSome, IsTrue, option_and_then, refl, sym, ap, ◌∙◌, subst, eqb-true, eq-eqb}
 use Rattle.std.proofs.lemmas.List.{get_or-replicate}
-use Rattle.x86_64_model.specs.Memory.{Words, set_word}
+use Rattle.std.proofs.lemmas.Bool.{or_left, or_right}
+use Rattle.x86_64_model.specs.Memory.{Words}
 use Rattle.x86_64_model.specs.Lemmas.Hierarchies.Held.{is_some-set}
+use Rattle.x86_64_model.specs.Lemmas.Hierarchies.Trees.{some_is}
+use Rattle.x86_64_model.specs.Lemmas.Hierarchies.Unset.{is_some-unset}
 use Rattle.x86_64_model.specs.Tables.{tables_from, without_word, SoundTables, NoneHuge}
 use Rattle.x86_64_model.specs.Marks.{slot_in, IsSpots, mark_all}
 use Rattle.x86_64_model.specs.Laws.Validity.{MarksTell}
@@ -27,21 +30,13 @@ module _ (W : Words) (size : ℕ) (spot : ℕ → Option ℕ) (spots : IsSpots W
       by false false ea eb h = absurd (let t : None ≡ Some k = h in cc)
 
   slot_of : (f k : ℕ) → Slotted f k → slot f ≡ Some k
-  slot_of f k s = ap (λ a. cond a (spot f) None) (⊎_elim (λ e. ap (λ b. b || serves f) (eq-eqb f root e)) (λ e. ap (λ b. (f == root) || b) e ∙ by (f == root)) s.served) ∙ s.at
-    where
-      by : (b : Bool) → (b || true) ≡ true
-      by true = refl
-      by false = refl
+  slot_of f k s = ap (λ a. cond a (spot f) None) (⊎_elim (λ e. or_left (f == root) (serves f) (eq-eqb f root e)) (λ e. or_right (f == root) (serves f) e) s.served) ∙ s.at
 
   slots_apart : (f g k : ℕ) → slot f ≡ Some k → slot g ≡ Some k → f ≡ g
   slots_apart f g k a b = spots.apart f g k (slotted f k a).at (slotted g k b).at
 
   there : (f k : ℕ) → Slotted f k → IsSome (W f)
   there f k s = (spots.there f).1 (subst IsSome (sym s.at) refl)
-
-  some_is : (o : Option ℕ) → IsSome o → (k : ℕ) × (o ≡ Some k)
-  some_is None h = cc
-  some_is (Some k) h = (k, refl)
 
   -- before any mark
   free_first : (marks : List Bool) → ((k : ℕ) → k < size → get_or marks k true ≡ false) → (f : ℕ) → IsSome (W f) → (f ≡ root) ⊎ (serves f ≡ true) → IsFree slot marks f
@@ -79,15 +74,6 @@ module _ (W : Words) (size : ℕ) (spot : ℕ → Option ℕ) (spots : IsSpots W
         → (b : Bool) → cond b (Some new) None ≡ mark_all slot m pool → IsTrue b ↔ SoundTables n T root serves pool
     accepted_pool low m new e true h = (λ _. marked_sound low (subst IsSome (sym (in_parts (Some m) e ∙ sym h)) refl), λ _. refl)
     accepted_pool low m new e false h = (λ t. cc, λ sound. let t : IsSome no_marks = subst IsSome (in_parts (Some m) e ∙ sym h) (sound_marked sound) in cc)
-
-is_some-unset : (T : Words) (f i w g : ℕ) → IsSome (set_word T f i w g) → IsSome (T g)
-unfolding set_word
-is_some-unset T f i w g h = by (g == f) (T g) h
-  where
-    by : (b : Bool) (o : Option (List ℕ)) → IsSome (cond b (option_map (λ words. set words i w) o) o) → IsSome o
-    by true None h = h
-    by true (Some words) h = refl
-    by false o h = h
 
 pub still_there : (recursive : Option ℕ) (root : ℕ) (T : Words) (f : ℕ) → IsSome (T f) → IsSome (without_word recursive root T f)
 still_there None root T f h = h

@@ -1,7 +1,7 @@
 -- A hierarchy is valid and a pool fits it exactly where the list of its tables and of the pool is sound.
-use Rattle.std.proofs.Common.{◌≡◌, ◌≢◌, ◌⊎◌, inl, inr, ⊎_elim, ℕ, suc, ◌==◌, Bool, true, false, cond, List, [], ◌∷◌, Some, None, Option, IsSome, option_map, set, refl, sym, ap, ◌∙◌, subst, arith}
+use Rattle.std.proofs.Common.{◌≡◌, ◌≢◌, ◌⊎◌, inl, inr, ⊎_elim, ℕ, suc, Bool, true, false, List, [], ◌∷◌, Some, None, Option, IsSome, refl, sym, ap, ◌∙◌, subst, arith}
 use Rattle.x86_64_model.specs.Entry.{huge}
-use Rattle.x86_64_model.specs.Memory.{Words, OnlyFrames, set_word}
+use Rattle.x86_64_model.specs.Memory.{Words, OnlyFrames}
 use Rattle.x86_64_model.specs.PathMap.{PathMap, table_at}
 use Rattle.x86_64_model.specs.Hierarchy.{IsValid, paths_of}
 use Rattle.x86_64_model.specs.Window.{Window, outside_window, SelfEntry}
@@ -9,19 +9,11 @@ use Rattle.x86_64_model.specs.Lists.{In, EachOnce}
 use Rattle.x86_64_model.specs.Pool.{IsTable, Fits}
 use Rattle.x86_64_model.specs.Lemmas.Hierarchies.Held.{is_some-set}
 use Rattle.x86_64_model.specs.Lemmas.Hierarchies.Exists.{holds_paths_of, entry_paths_of}
+use Rattle.x86_64_model.specs.Lemmas.Hierarchies.Unset.{is_some-unset}
 use Rattle.x86_64_model.specs.Tables.{tables_from, SoundTables}
 use Rattle.x86_64_model.specs.Lemmas.Lists.Members.{in_left, in_right, in_append}
 use Rattle.x86_64_model.specs.Lemmas.Lists.Once.{once_append, once_left, once_right, once_apart}
 use Rattle.x86_64_model.specs.Lemmas.Tables.Walked.{table_at_frame, in_tables, from_tables, once_tables, own_tables}
-
-is_some-unset : (T : Words) (f i w g : ℕ) → IsSome (set_word T f i w g) → IsSome (T g)
-unfolding set_word
-is_some-unset T f i w g h = by (g == f) (T g) h
-  where
-    by : (b : Bool) (o : Option (List ℕ)) → IsSome (cond b (option_map (λ words. set words i w) o) o) → IsSome o
-    by true None h = h
-    by true (Some words) h = refl
-    by false o h = h
 
 pub inside_window : (window : Option Window) (root : ℕ) (T : Words) (f : ℕ) → IsSome (outside_window window root T f) → IsSome (T f)
 inside_window None root T f h = h

@@ -1,25 +1,18 @@
 -- Which words may be huge, table by table.
-use Rattle.std.proofs.Common.{◌≡◌, ⊎_elim, ◌<◌, ◌≤◌, ◌+◌, ◌-◌, ℕ, zero, suc, true, false, cond, List, [], ◌∷◌, length, refl, sym, ap, ◌∙◌, subst, arith, le-ltb}
+use Rattle.std.proofs.Common.{◌≡◌, ⊎_elim, ◌<◌, ◌≤◌, ◌+◌, ◌-◌, ℕ, zero, suc, true, false, cond, List, [], ◌∷◌, length, refl, sym, ap, ◌∙◌, subst, arith}
 use Rattle.std.proofs.lemmas.Bool.{cases_lt}
 use Rattle.x86_64_model.specs.Entry.{huge, address, names_table}
-use Rattle.x86_64_model.specs.Memory.{Words, word, word_in}
+use Rattle.x86_64_model.specs.Memory.{Words, word}
 use Rattle.x86_64_model.specs.Hierarchy.{read_at}
 use Rattle.x86_64_model.specs.Tables.{NoneHuge}
 use Rattle.x86_64_model.specs.Lemmas.Hierarchies.Changes.{zero_not_huge}
+use Rattle.x86_64_model.specs.Lemmas.Hierarchies.Held.{word_past}
 use Rattle.x86_64_model.specs.Lemmas.Tables.Walked.{small_index}
-
-word_high : (T : Words) (f i : ℕ) → 512 ≤ i → 0 ≡ word T f i
-unfolding word
-word_high T f i h = sym (ap (λ b. cond b (word_in (T f) i) 0) (le-ltb i 512 h))
 
 -- a word is not huge, nor are those that are constrained below the table that it names
 pub record NotHuge (n : ℕ) (T : Words) (w : ℕ) : Type 0 where
   pub here : huge w ≡ false
   pub below : names_table w ≡ true → NoneHuge n T (address w)
-
-empty_path : (n : ℕ) (T : Words) (f : ℕ) → huge (read_at n T f []) ≡ false
-empty_path zero T f = zero_not_huge
-empty_path (suc n) T f = zero_not_huge
 
 pub few_levels : (n : ℕ) (T : Words) (f : ℕ) → n ≤ 2 → NoneHuge n T f
 few_levels n T f h = record { at = at }
@@ -33,7 +26,7 @@ all_words_from n T f levels each = record { at = at }
   where
     at : (p : List ℕ) → length p + 3 ≤ suc (suc n) → huge (read_at (suc (suc n)) T f p) ≡ false
     at [] l = zero_not_huge
-    at (i ∷ []) l = ⊎_elim (λ s. (each i s).here) (λ s. ap huge (sym (word_high T f i s)) ∙ zero_not_huge) (cases_lt i 512)
+    at (i ∷ []) l = ⊎_elim (λ s. (each i s).here) (λ s. ap huge (word_past T f i s) ∙ zero_not_huge) (cases_lt i 512)
     at (i ∷ j ∷ p) l = elim (names_table (word T f i)) as (λ b. names_table (word T f i) ≡ b → huge (cond b (read_at (suc n) T (address (word T f i)) (j ∷ p)) 0) ≡ false) [
       | true ↦ λ b. ((each i (small_index T f i b)).below b).at (j ∷ p) (omega arith)
       | false ↦ λ b. zero_not_huge

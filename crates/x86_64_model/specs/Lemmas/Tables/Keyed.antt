@@ -1,10 +1,10 @@
 -- A memory as a finite map, of whatever places: its tables have spots of their own.
-use Rattle.std.proofs.Common.{◌≡◌, ◌↔◌, ◌<◌, ◌+◌, ◌||◌, nat_lt, ℕ, zero, suc, Bool, true, false, not, cond, List, [], ◌∷◌, length, get_or, Some, None, Option, IsSome, is_some, refl, sym, ap, ◌∙◌, arith, lt-ltb}
+use Rattle.std.proofs.Common.{◌≡◌, ◌↔◌, ◌<◌, ◌+◌, ◌||◌, nat_lt, ℕ, zero, suc, Bool, true, false, not, cond, List, [], ◌∷◌, length, get_or, Some, None, IsSome, is_some, refl, sym, ap, ◌∙◌, arith, lt-ltb}
 use Rattle.std.proofs.lemmas.List.Quantifiers.{position-Some}
 use Rattle.std.specs.List.{position, position_or_len, list_any}
-use Rattle.std.specs.Ordering.{nat_cmp, eq_by_cmp, is_eq}
-use Rattle.std.proofs.Common.{Ordering, Less, Equal, Greater}
+use Rattle.std.specs.Ordering.{nat_cmp, eq_by_cmp}
 use Rattle.std.specs.FinMap.{get, keys, contains_key-keys, nat_cmp-IsAntisymmetric}
+use Rattle.std.specs.Cmp.{Equal-is}
 use Rattle.x86_64_model.specs.Memory.{Memory, Places, Distinct, words_of}
 use Rattle.x86_64_model.specs.Lemmas.Maps.Down.{nat_lt-suc}
 use Rattle.x86_64_model.specs.Laws.Validity.{MemoriesHaveSpots}
@@ -19,17 +19,9 @@ found p (x ∷ xs) = by (p x) (found p xs)
     by false e = let s : 1 + position_or_len p xs ≡ suc (position_or_len p xs) = omega arith in ap (λ k. nat_lt k (suc (length xs))) s ∙ nat_lt-suc (position_or_len p xs) (length xs) ∙ e
 
 same_place : (a b : ℕ) → eq_by_cmp nat_cmp a b ≡ true → a ≡ b
-same_place a b h = nat_cmp-IsAntisymmetric a b (by (nat_cmp a b) h)
-  where
-    by : (r : Ordering) → is_eq r ≡ true → r ≡ Equal
-    by Less e = cc
-    by Equal e = refl
-    by Greater e = cc
+same_place a b h = nat_cmp-IsAntisymmetric a b ((Equal-is _).0 h)
 
 module _ (memory : Memory) (places : Places) where
-  at : ℕ → Option ℕ
-  at f = position (eq_by_cmp nat_cmp (places.place f)) (keys memory)
-
   record Found (f k : ℕ) : Type 0 where
     covered : places.covers f ≡ true
     within : k < length (keys memory)

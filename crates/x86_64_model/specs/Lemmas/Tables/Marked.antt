@@ -2,6 +2,7 @@
 use Rattle.std.proofs.Common.{◌≡◌, ◌≢◌, ◌<◌, ℕ, Bool, true, false, cond, List, [], ◌∷◌, ◌++◌, length, get_or, set, Some, None, Option, IsSome, option_and_then, refl, sym, ap, ◌∙◌, subst, inl, inr, ⊎_elim}
 use Rattle.std.proofs.lemmas.Bool.{cases_lt}
 use Rattle.std.proofs.lemmas.List.{get_or-set_same, get_or-set_other, get_or_past}
+use Rattle.std.proofs.lemmas.Option.{same_Some}
 use Rattle.x86_64_model.specs.Lists.{In, EachOnce}
 use Rattle.x86_64_model.specs.Marks.{mark_one, mark_all}
 
@@ -23,9 +24,6 @@ pub record IsFree (slot : ℕ → Option ℕ) (m : List Bool) (f : ℕ) : Type 0
 module _ (slot : ℕ → Option ℕ) where
   free_within : (m : List Bool) (k : ℕ) → get_or m k true ≡ false → k < length m
   free_within m k h = ⊎_elim (λ l. l) (λ l. absurd (let t = get_or_past m k true l in cc (t, h))) (cases_lt k (length m))
-
-  some_one : {x y : ℕ} → Some x ≡ Some y → x ≡ y
-  some_one e = cc
 
   -- what it is for a frame to be marked
   record Marks (m : List Bool) (f : ℕ) (n : List Bool) : Type 0 where
@@ -67,7 +65,7 @@ module _ (slot : ℕ → Option ℕ) where
           let rest = on n h in
           let before : (g : ℕ) → In fs g → (free : IsFree slot (set m k.was_free.place true) g) × Unit {0} = λ g i. (subst (λ n. IsFree slot n g) k.after (rest.1 g i), tt) in (
             (
-              λ i. let r = before f i in (free_before m k.was_free.place f l r.0).0 (some_one (sym r.0.is ∙ k.was_free.is)),
+              λ i. let r = before f i in (free_before m k.was_free.place f l r.0).0 (same_Some _ _ (sym r.0.is ∙ k.was_free.is)),
               rest.0,
             ),
             λ g. ⊎_elim (λ e. subst (IsFree slot m) e k.was_free) (λ i. (free_before m k.was_free.place g l (before g i).0).1),

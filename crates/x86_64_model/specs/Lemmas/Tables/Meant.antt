@@ -1,44 +1,34 @@
 -- What the tests mean: the sound lists are the valid hierarchies, and the pools that fit them.
-use Rattle.std.proofs.Common.{◌≡◌, ◌≢◌, ◌↔◌, ⊎_elim, ◌<◌, ◌/◌, ◌^◌, ◌&&◌, nat_lt, ℕ, suc, Bool, true, false, cond, List, [], ◌∷◌, length, Some, None, Option, refl, sym, ap, ap₂, ◌∙◌, subst, arith, lt-ltb}
+use Rattle.std.proofs.Common.{◌≡◌, ◌≢◌, ◌↔◌, ⊎_elim, ◌/◌, ◌^◌, ◌&&◌, ℕ, suc, true, List, [], ◌∷◌, Some, Option, refl, sym, ap, ap₂, ◌∙◌, subst, arith, lt-ltb}
 use Rattle.std.proofs.lemmas.Bool.{cases_lt}
-use Rattle.x86_64_model.specs.Entry.{names_table, address}
+use Rattle.x86_64_model.specs.Entry.{address}
 use Rattle.x86_64_model.specs.Memory.{Words, OnlyFrames}
-use Rattle.x86_64_model.specs.PathMap.{PathMap, entry, table_of}
+use Rattle.x86_64_model.specs.PathMap.{PathMap, entry}
 use Rattle.x86_64_model.specs.Hierarchy.{IsValid, paths_of}
 use Rattle.x86_64_model.specs.Window.{Window, outside_window, SelfEntry}
 use Rattle.x86_64_model.specs.Pool.{Fits}
-use Rattle.x86_64_model.specs.Lemmas.Entries.Bits.{same_frame, is_frame_address, address_below}
+use Rattle.x86_64_model.specs.Lemmas.Entries.Bits.{same_frame, is_frame_address}
+use Rattle.x86_64_model.specs.Lemmas.Entries.Words.{address_within}
 use Rattle.x86_64_model.specs.Lemmas.Hierarchies.Exists.{held_is_paths_of}
+use Rattle.x86_64_model.specs.Lemmas.Hierarchies.Trees.{table_of_gives}
 use Rattle.x86_64_model.specs.Tables.{SoundTables}
 use Rattle.x86_64_model.specs.Marks.{serves_below}
 use Rattle.x86_64_model.specs.Laws.Validity.{ValidForItsPaths, SoundIsValid, SoundIsFitting}
 use Rattle.x86_64_model.specs.Lemmas.Tables.Exact.{sound_valid, valid_sound, sound_fits, fits_sound}
-
-below_address : (e : ℕ) → address e < 2 ^ 52
-unfolding address
-below_address e = address_below e
 
 -- frames are served by a pool with no limit, but for frame 0
 served : (e : ℕ) → address e ≢ 0 → serves_below (2 ^ 40) (address e) ≡ true
 unfolding address
 served e n = ap₂ (λ a b. a && b)
     (lt-ltb 0 (address e / 4096) (⊎_elim (λ l. l) (λ l. absurd (n (same_frame (address e) 0 (is_frame_address e) (is_frame_address 0) (omega arith)))) (cases_lt 0 (address e / 4096))))
-    (lt-ltb (address e / 4096) (2 ^ 40) (let l = below_address e in omega (arith, l)))
-
-named_by : (L : ℕ) (p : List ℕ) (e f : ℕ) → table_of L p e ≡ Some f → address e ≡ f
-unfolding table_of
-named_by L p e f = by (names_table e && nat_lt (length p) L)
-  where
-    by : (b : Bool) → cond b (Some (address e)) None ≡ Some f → address e ≡ f
-    by true h = let t : Some (address e) ≡ Some f = h in cc
-    by false h = let t : None ≡ Some f = h in cc
+    (lt-ltb (address e / 4096) (2 ^ 40) (let l = address_within e in omega (arith, l)))
 
 module _ (n : ℕ) (T : Words) (root : ℕ) where
   pub valid_means : SoundTables n T root (serves_below (2 ^ 40)) [] ↔ IsValid (suc n) T root (paths_of (suc n) T root)
   valid_means = (
     sound_valid n T root (serves_below (2 ^ 40)) [] refl,
     λ valid. valid_sound n T root (serves_below (2 ^ 40)) [] valid
-        (λ i q f e. let a = named_by (suc n) (i ∷ q) (entry (paths_of (suc n) T root) (i ∷ q)) f e in
+        (λ i q f e. let a = (table_of_gives (suc n) (i ∷ q) (entry (paths_of (suc n) T root) (i ∷ q)) f e).at in
         subst (λ f. serves_below (2 ^ 40) f ≡ true) a (served (entry (paths_of (suc n) T root) (i ∷ q)) (λ z. valid.not_zero i q (e ∙ ap Some (sym a ∙ z)))))
         tt (λ f i. absurd i) (λ f i. absurd i) (λ f i. absurd i),
   )

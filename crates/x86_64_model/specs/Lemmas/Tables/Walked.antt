@@ -1,9 +1,10 @@
 -- The list of a hierarchy's tables has the table that each path leads to, and each path's in its own place.
-use Rattle.std.proofs.Common.{◌≡◌, ◌≢◌, inl, inr, ⊎_elim, ◌<◌, ℕ, zero, suc, ◌&&◌, not, Bool, true, false, cond, List, [], ◌∷◌, length, Some, None, Option, nat_lt, refl, sym, ap, ap₂, ◌∙◌, subst, arith, lt-ltb, le-ltb}
+use Rattle.std.proofs.Common.{◌≡◌, inl, inr, ⊎_elim, ◌<◌, ℕ, zero, suc, ◌&&◌, not, Bool, true, false, cond, List, [], ◌∷◌, length, Some, None, Option, nat_lt, refl, sym, ap, ap₂, ◌∙◌, subst, arith, lt-ltb}
 use Rattle.std.specs.List.{flat_map}
 use Rattle.std.proofs.lemmas.Bool.{cases_lt}
+use Rattle.std.proofs.lemmas.Option.{none-some, same_Some}
 use Rattle.x86_64_model.specs.Entry.{huge, address, names_table}
-use Rattle.x86_64_model.specs.Memory.{Words, word, word_in}
+use Rattle.x86_64_model.specs.Memory.{Words, word}
 use Rattle.x86_64_model.specs.Path.{indices}
 use Rattle.x86_64_model.specs.PathMap.{table_of, table_at}
 use Rattle.x86_64_model.specs.Hierarchy.{read_at, paths_of}
@@ -11,6 +12,7 @@ use Rattle.x86_64_model.specs.Lists.{In, EachOnce}
 use Rattle.x86_64_model.specs.Lemmas.Hierarchies.Changes.{unused_no_table, zero_not_used}
 use Rattle.x86_64_model.specs.Lemmas.Maps.Down.{nat_lt-suc}
 use Rattle.x86_64_model.specs.Lemmas.Hierarchies.Exists.{entry_paths_of}
+use Rattle.x86_64_model.specs.Lemmas.Hierarchies.Held.{word_past}
 use Rattle.x86_64_model.specs.Tables.{tables_from}
 use Rattle.x86_64_model.specs.Lemmas.Lists.Members.{in_flat_map, from_flat_map, in_indices}
 use Rattle.x86_64_model.specs.Lemmas.Lists.Once.{once_flat_map, once_part, same_part, once_indices}
@@ -54,28 +56,21 @@ table_at_frame n T root (i ∷ q) = ap (table_of (suc n) (i ∷ q)) (entry_paths
 abbrev pub part : ℕ → Words → ℕ → ℕ → List ℕ
 part n T f i = cond (names_table (word T f i)) (tables_from n T (address (word T f i))) []
 
-some_one : {x y : ℕ} → Some x ≡ Some y → x ≡ y
-some_one e = cc
-
-none_some : (g : ℕ) → None ≢ Some g
-none_some g e = cc
-
 pub small_index : (T : Words) (f i : ℕ) → names_table (word T f i) ≡ true → i < 512
-unfolding word
-small_index T f i h = ⊎_elim (λ l. l) (λ l. absurd (let t : names_table 0 ≡ true = sym (ap (λ b. names_table (cond b (word_in (T f) i) 0)) (le-ltb i 512 l)) ∙ h in
+small_index T f i h = ⊎_elim (λ l. l) (λ l. absurd (let t : names_table 0 ≡ true = sym (ap names_table (word_past T f i l)) ∙ h in
     let u : names_table 0 ≡ false = ap (λ b. b && not (huge 0)) zero_not_used in cc)) (cases_lt i 512)
 
 in_part : (n : ℕ) (T : Words) (f i : ℕ) (p : List ℕ) (g : ℕ) → ((a : ℕ) → frame_at n T a p ≡ Some g → In (tables_from n T a) g) → frame_at (suc n) T f (i ∷ p) ≡ Some g → (i < 512) × In (part n T f i) g
 in_part n T f i p g on = elim (names_table (word T f i)) as (λ b. names_table (word T f i) ≡ b → cond b (frame_at n T (address (word T f i)) p) None ≡ Some g → (i < 512) × In (cond b (tables_from n T (address (word T f i))) []) g) [
   | true ↦ λ b e. (small_index T f i b, on (address (word T f i)) e)
-  | false ↦ λ b e. absurd (none_some g e)
+  | false ↦ λ b e. absurd (none-some g e)
 ] refl
 
 pub in_tables : (n : ℕ) (T : Words) (f : ℕ) (p : List ℕ) (g : ℕ) → frame_at n T f p ≡ Some g → In (tables_from n T f) g
 unfolding tables_from
-in_tables zero T f [] g e = inl (some_one e)
-in_tables zero T f (i ∷ p) g e = absurd (none_some g e)
-in_tables (suc n) T f [] g e = inl (some_one e)
+in_tables zero T f [] g e = inl (same_Some _ _ e)
+in_tables zero T f (i ∷ p) g e = absurd (none-some g e)
+in_tables (suc n) T f [] g e = inl (same_Some _ _ e)
 in_tables (suc n) T f (i ∷ p) g e = let h = in_part n T f i p g (λ a. in_tables n T a p g) e in inr (in_flat_map (part n T f) indices i g (in_indices i h.0) h.1)
 
 pub in_below : (n : ℕ) (T : Words) (f i : ℕ) (p : List ℕ) (g : ℕ) → frame_at (suc n) T f (i ∷ p) ≡ Some g → (i < 512) × In (part n T f i) g
@@ -124,11 +119,11 @@ once_tables (suc n) T f own = (
 pub own_tables : (n : ℕ) (T : Words) (f : ℕ) → EachOnce (tables_from n T f) → Own n T f
 unfolding tables_from
 own_tables zero T f once [] [] g x y = refl
-own_tables zero T f once [] (j ∷ q) g x y = absurd (none_some g y)
-own_tables zero T f once (i ∷ p) q g x y = absurd (none_some g x)
+own_tables zero T f once [] (j ∷ q) g x y = absurd (none-some g y)
+own_tables zero T f once (i ∷ p) q g x y = absurd (none-some g x)
 own_tables (suc n) T f once [] [] g x y = refl
-own_tables (suc n) T f once [] (j ∷ q) g x y = let h = in_below n T f j q g y in absurd (once.0 (subst (In (flat_map (part n T f) indices)) (sym (some_one x)) (in_flat_map (part n T f) indices j g (in_indices j h.0) h.1)))
-own_tables (suc n) T f once (i ∷ p) [] g x y = let h = in_below n T f i p g x in absurd (once.0 (subst (In (flat_map (part n T f) indices)) (sym (some_one y)) (in_flat_map (part n T f) indices i g (in_indices i h.0) h.1)))
+own_tables (suc n) T f once [] (j ∷ q) g x y = let h = in_below n T f j q g y in absurd (once.0 (subst (In (flat_map (part n T f) indices)) (sym (same_Some _ _ x)) (in_flat_map (part n T f) indices j g (in_indices j h.0) h.1)))
+own_tables (suc n) T f once (i ∷ p) [] g x y = let h = in_below n T f i p g x in absurd (once.0 (subst (In (flat_map (part n T f) indices)) (sym (same_Some _ _ y)) (in_flat_map (part n T f) indices i g (in_indices i h.0) h.1)))
 own_tables (suc n) T f once (i ∷ p) (j ∷ q) g x y =
     let h = in_below n T f i p g x in
     let k = in_below n T f j q g y in
@@ -137,4 +132,4 @@ own_tables (suc n) T f once (i ∷ p) (j ∷ q) g x y =
   where
     rest : (EachOnce (tables_from n T (address (word T f i))) → Own n T (address (word T f i))) → (b : Bool) → EachOnce (cond b (tables_from n T (address (word T f i))) []) → cond b (frame_at n T (address (word T f i)) p) None ≡ Some g → cond b (frame_at n T (address (word T f i)) q) None ≡ Some g → p ≡ q
     rest own true o x y = own o p q g x y
-    rest own false o x y = absurd (none_some g x)
+    rest own false o x y = absurd (none-some g x)

@@ -1,5 +1,5 @@
 -- In a valid hierarchy the entries that are read are the words, and `translate` agrees with the walk.
-use Rattle.std.proofs.Common.{zero, suc, ◌≡◌, ◌≢◌, ◌<◌, ◌+◌, ℕ, ◌==◌, ◌&&◌, Bool, true, false, cond, List, [], ◌∷◌, ◌++◌, length, nat_le, Some, None, Option, IsSome, option_map, refl, sym, ap, ap₂, ◌∙◌, subst, arith, set, eqb-true, lt-ltb}
+use Rattle.std.proofs.Common.{zero, suc, ◌≡◌, ◌≢◌, ◌<◌, ◌+◌, ℕ, ◌==◌, ◌&&◌, Bool, true, false, cond, List, [], ◌∷◌, ◌++◌, length, nat_le, Some, None, Option, IsSome, option_map, refl, sym, ap, ap₂, ◌∙◌, subst, arith, eqb-true, lt-ltb}
 use Rattle.std.proofs.lemmas.Bool.{eqb-false, leb-false}
 use Rattle.x86_64_model.specs.Entry.{used, present, huge, address, flags, names_table}
 use Rattle.x86_64_model.specs.Memory.{Words, word, set_word}
@@ -8,6 +8,7 @@ use Rattle.x86_64_model.specs.Path.{level_of}
 use Rattle.x86_64_model.specs.Hierarchy.{entry_in, Holds, IsValid}
 use Rattle.x86_64_model.specs.Window.{Window, windowed, entry_at, IsSelfEntry, IsValidFor}
 use Rattle.x86_64_model.specs.Lemmas.Hierarchies.Held.{word-set_frame, word-set_index}
+use Rattle.x86_64_model.specs.Lemmas.Hierarchies.Unset.{is_some-unset}
 use Rattle.x86_64_model.specs.Position.{index}
 use Rattle.x86_64_model.specs.PageWalk.{Walked, arrives, page_walk}
 use Rattle.x86_64_model.specs.Translation.{Translated, NotMapped, Mapped, translate_on, translate, present_to, Agrees}
@@ -73,15 +74,6 @@ direct_reads L T root M valid = record {
 }
 
 module _ (L : ℕ) (T : Words) (root : ℕ) (M : PathMap) (w : Window) (valid : IsValid L (set_word T root w.index 0) root M) (self : IsSelfEntry T root w) where
-  pub is_some-unset : (g : ℕ) → IsSome (set_word T root w.index 0 g) → IsSome (T g)
-  unfolding set_word
-  is_some-unset g h = by (g == root) (T g) h
-    where
-      by : (b : Bool) (o : Option (List ℕ)) → IsSome (cond b (option_map (λ words. set words w.index 0) o) o) → IsSome o
-      by true None h = h
-      by true (Some words) h = h
-      by false o h = h
-
   pub not_root : (i : ℕ) (q : List ℕ) → names_table (entry M (i ∷ q)) ≡ true → length (i ∷ q) < L → address (entry M (i ∷ q)) ≢ root
   not_root i q h l e = let k : i ∷ q ≡ [] = valid.own_frames (i ∷ q) [] root (named L (i ∷ q) (entry M (i ∷ q)) h l ∙ ap Some e) refl in cc
 
@@ -108,12 +100,12 @@ module _ (L : ℕ) (T : Words) (root : ℕ) (M : PathMap) (w : Window) (valid : 
   pub there : (q : List ℕ) → names_table (windowed w M q) ≡ true → length q < L → IsSome (T (address (windowed w M q)))
   there [] h l = zero_names_none h
   there (i ∷ []) h l = elim (i == w.index) as (λ b. names_table (cond b w.self_entry (entry M (i ∷ []))) ≡ true → IsSome (T (address (cond b w.self_entry (entry M (i ∷ [])))))) [
-    | true ↦ λ h. subst (λ f. IsSome (T f)) (sym self.names_root) (is_some-unset root (valid.holds.in_memory [] root refl))
-    | false ↦ λ h. is_some-unset _ (table_there L _ root M valid.holds (i ∷ []) h l)
+    | true ↦ λ h. subst (λ f. IsSome (T f)) (sym self.names_root) (is_some-unset T root w.index 0 root (valid.holds.in_memory [] root refl))
+    | false ↦ λ h. is_some-unset T root w.index 0 _ (table_there L _ root M valid.holds (i ∷ []) h l)
   ] h
   there (i ∷ k ∷ q) h l = elim (i == w.index) as (λ b. names_table (cond b (windowed w M (k ∷ q)) (entry M (i ∷ k ∷ q))) ≡ true → IsSome (T (address (cond b (windowed w M (k ∷ q)) (entry M (i ∷ k ∷ q)))))) [
     | true ↦ λ h. there (k ∷ q) h (omega arith)
-    | false ↦ λ h. is_some-unset _ (table_there L _ root M valid.holds (i ∷ k ∷ q) h l)
+    | false ↦ λ h. is_some-unset T root w.index 0 _ (table_there L _ root M valid.holds (i ∷ k ∷ q) h l)
   ] h
 
   pub low : (q : List ℕ) → 3 < level_of L q → huge (windowed w M q) ≡ false
@@ -126,7 +118,7 @@ module _ (L : ℕ) (T : Words) (root : ℕ) (M : PathMap) (w : Window) (valid : 
   window_reads = record {
     first = first;
     next = below;
-    root_there = is_some-unset root (valid.holds.in_memory [] root refl);
+    root_there = is_some-unset T root w.index 0 root (valid.holds.in_memory [] root refl);
     there = there;
     none_huge = low;
   }

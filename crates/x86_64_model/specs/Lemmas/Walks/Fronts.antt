@@ -1,6 +1,6 @@
 -- The walk and `translate` read the entries at the front parts of the position's path, and nothing else.
 use Rattle.std.proofs.Common.{zero, suc, ◌≡◌, ◌≢◌, ◌<◌, ◌+◌, ◌%◌, ℕ, ◌&&◌, Bool, true, false, cond, List, [], ◌∷◌, ◌++◌, length, nat_le, None, Option, refl, sym, ap, ap₂, ◌∙◌, subst, arith, append_assoc, eq-eqb}
-use Rattle.std.proofs.lemmas.Bool.{and_from}
+use Rattle.std.proofs.lemmas.Bool.{and_from, and_right, cond-false}
 use Rattle.x86_64_model.specs.Position.{index, span, page_path}
 use Rattle.x86_64_model.specs.Entry.{used, present, writable, user, huge, address, flags}
 use Rattle.x86_64_model.specs.Path.{begins}
@@ -79,15 +79,11 @@ pub record SameTests (e f : ℕ) : Type 0 where
 pub same_tests : (e f : ℕ) → f ≡ e → SameTests e f
 same_tests e f is = record { same_present = ap present is; same_huge = ap huge is; same_leaf = λ h. is }
 
-not_huge : (b g : Bool) (x y : Translated) → g ≡ false → cond (b && g) x y ≡ y
-not_huge true g x y h = ap (λ g. cond g x y) h
-not_huge false g x y h = refl
-
 same_inner : (b : Bool) (level o e f : ℕ) (x y : Translated) → SameTests e f → y ≡ x
     → cond (present f) (cond (b && huge f) (Mapped (span level) (page_start level f) o (flags f)) y) NotMapped ≡ cond (present e) (cond (b && huge e) (Mapped (span level) (page_start level e) o (flags e)) x) NotMapped
 same_inner b level o e f x y s yx = elim (huge e) as (λ h. huge e ≡ h → cond (present f) (cond (b && huge f) (Mapped (span level) (page_start level f) o (flags f)) y) NotMapped ≡ cond (present e) (cond (b && huge e) (Mapped (span level) (page_start level e) o (flags e)) x) NotMapped) [
   | true ↦ λ h. ap₂ (λ e x. cond (present e) (cond (b && huge e) (Mapped (span level) (page_start level e) o (flags e)) x) NotMapped) (s.same_leaf h) yx
-  | false ↦ λ h. ap₂ (λ h x. cond h x NotMapped) s.same_present (not_huge b (huge f) _ y (s.same_huge ∙ h) ∙ yx ∙ sym (not_huge b (huge e) _ x h))
+  | false ↦ λ h. ap₂ (λ h x. cond h x NotMapped) s.same_present (cond-false _ _ y (and_right b (huge f) (s.same_huge ∙ h)) ∙ yx ∙ sym (cond-false _ _ x (and_right b (huge e) h)))
 ] refl
 
 module _ (L p : ℕ) (E F : List ℕ → ℕ) (inner : (q : List ℕ) → length q < L → SameTests (E q) (F q)) (leaf : F (page_path L p) ≡ E (page_path L p)) where
@@ -101,11 +97,13 @@ module _ (L p : ℕ) (E F : List ℕ → ℕ) (inner : (q : List ℕ) → length
 
 -- ---- where nothing is used below
 
-if_not : (b : Bool) (x y : Translated) → b ≡ false → cond b x y ≡ y
-if_not b x y h = ap (λ b. cond b x y) h
+-- an entry that is no page leads on, and where nothing is mapped below, nowhere
+pub through : (h b g : Bool) (x y : Translated) → g ≡ false → y ≡ NotMapped → cond h (cond (b && g) x y) NotMapped ≡ NotMapped
+through true b g x y e z = cond-false (b && g) x y (and_right b g e) ∙ z
+through false b g x y e z = refl
 
 pub nothing_mapped : (E : List ℕ → ℕ) (p level : ℕ) (q : List ℕ) → ((j : ℕ) → E (q ++ j ∷ []) ≡ 0) → translate_on E p level q ≡ NotMapped
 unfolding translate_on
 nothing_mapped E p zero q h = refl
-nothing_mapped E p (suc zero) q h = if_not (used (E (q ++ index 1 p ∷ []))) _ NotMapped (ap used (h (index 1 p)) ∙ zero_not_used)
-nothing_mapped E p (suc (suc n)) q h = if_not (present (E (q ++ index (suc (suc n)) p ∷ []))) _ NotMapped (ap present (h (index (suc (suc n)) p)) ∙ zero_absent)
+nothing_mapped E p (suc zero) q h = cond-false (used (E (q ++ index 1 p ∷ []))) _ NotMapped (ap used (h (index 1 p)) ∙ zero_not_used)
+nothing_mapped E p (suc (suc n)) q h = cond-false (present (E (q ++ index (suc (suc n)) p ∷ []))) _ NotMapped (ap present (h (index (suc (suc n)) p)) ∙ zero_absent)

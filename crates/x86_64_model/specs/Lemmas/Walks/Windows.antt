@@ -1,5 +1,6 @@
 -- The walks of windows.
 use Rattle.std.proofs.Common.{zero, suc, ◌≡◌, ◌<◌, ◌+◌, ◌%◌, ℕ, ◌&&◌, Bool, true, false, not, cond, nat_le, List, [], ◌++◌, replicate, Some, None, Option, IsSome, option_and_then, refl, sym, ap, ap₂, ◌∙◌, arith}
+use Rattle.std.proofs.lemmas.Option.{same_Some}
 use Rattle.x86_64_model.specs.Entry.{present, huge, address, writable, user}
 use Rattle.x86_64_model.specs.Memory.{Words}
 use Rattle.x86_64_model.specs.Window.{Window, IsSelfEntry}
@@ -18,9 +19,6 @@ module _ (T : Words) (p g : ℕ) where
   unfolding walk_on page_path
   walk_leads zero w u f h = by (read T f (index 1 p)) h
     where
-      some_one : (x y : ℕ) → Some x ≡ Some y → x ≡ y
-      some_one x y e = cc
-
       at : (e : ℕ) (h g' : Bool) → present e ≡ h → cond (h && not g') (Some (address e)) None ≡ Some g
           → Reaches (cond (present e) (arrives (address e + p % span 1) (w && writable e) (u && user e)) None) (g + p % span 1)
       at e true true is l = cc
@@ -28,7 +26,7 @@ module _ (T : Words) (p g : ℕ) where
         w && writable e,
         u && user e,
         ap (λ b. cond b (arrives (address e + p % span 1) (w && writable e) (u && user e)) None) is
-            ∙ ap (λ a. arrives (a + p % span 1) (w && writable e) (u && user e)) (some_one (address e) g l),
+            ∙ ap (λ a. arrives (a + p % span 1) (w && writable e) (u && user e)) (same_Some (address e) g l),
       )
       at e false g' is l = cc
 

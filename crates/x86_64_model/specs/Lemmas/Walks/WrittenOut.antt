@@ -1,5 +1,6 @@
 -- The walk and `translate` over levels are, at four levels, those that are written out; and a fifth level is one more above four.
-use Rattle.std.proofs.Common.{zero, suc, ◌≡◌, ◌+◌, ◌%◌, ◌^◌, ℕ, ◌&&◌, Bool, true, false, not, cond, List, Some, None, Option, option_and_then, refl, ap, ap₂, ◌∙◌, ◌-◌, ◌*◌, length, arith}
+use Rattle.std.proofs.Common.{zero, suc, ◌≡◌, ◌+◌, ◌%◌, ◌^◌, ℕ, ◌&&◌, Bool, true, false, not, cond, List, Some, None, Option, option_and_then, refl, ap, ap₂, ◌∙◌, ◌-◌, ◌*◌, length, arith, sym}
+use Rattle.std.proofs.Math.Bool.{and_assoc, and-true}
 use Rattle.x86_64_model.specs.Path.{span_size}
 use Rattle.x86_64_model.specs.Entry.{present, writable, user, huge, address}
 use Rattle.x86_64_model.specs.Memory.{Words}
@@ -63,10 +64,6 @@ module _ (T : Words) (p : ℕ) where
 
   -- ---- what was granted above narrows what is granted below
 
-  and_assoc : (a b c : Bool) → ((a && b) && c) ≡ (a && (b && c))
-  and_assoc true b c = refl
-  and_assoc false b c = refl
-
   narrowed_at : (w u x y : Bool) (e to : ℕ) → arrives to ((w && x) && writable e) ((u && y) && user e) ≡ narrowed w u (arrives to (x && writable e) (y && user e))
   narrowed_at w u x y e to = ap₂ (λ a b. arrives to a b) (and_assoc w x (writable e)) (and_assoc u y (user e))
 
@@ -90,11 +87,7 @@ module _ (T : Words) (p : ℕ) where
       (narrowed_when w u _ _ _ (narrowed_at w u x y e _))
       (ap₂ (λ a b. walk_on T p (suc n) a b (address e)) (and_assoc w x (writable e)) (and_assoc u y (user e)) ∙ walk_narrowed (suc n) w u (x && writable e) (y && user e) (address e)))) (read T f (index (suc (suc n)) p))
 
-  right_true : (a : Bool) → a ≡ (a && true)
-  right_true true = refl
-  right_true false = refl
-
   pub walk_5_is : (root : ℕ) → page_walk 5 T root p ≡ walk_5 T root p
   unfolding page_walk walk_on walk_5
   walk_5_is root = then_same _ _ (λ e. top (present e) (huge e) _ _
-      (ap₂ (λ w u. walk_on T p 4 w u (address e)) (right_true (writable e)) (right_true (user e)) ∙ walk_narrowed 4 (writable e) (user e) true true (address e) ∙ ap (narrowed (writable e) (user e)) (walk_is (address e)))) (read T root (index 5 p))
+      (ap₂ (λ w u. walk_on T p 4 w u (address e)) (sym (and-true (writable e))) (sym (and-true (user e))) ∙ walk_narrowed 4 (writable e) (user e) true true (address e) ∙ ap (narrowed (writable e) (user e)) (walk_is (address e)))) (read T root (index 5 p))

@@ -1,10 +1,11 @@
 -- The premises of the laws can be met, and some steps by computation.
-use Rattle.std.proofs.Common.{◌≡◌, ◌≢◌, ◌⊎◌, inl, inr, ⊎_elim, ℕ, zero, suc, get_or, ◌&&◌, true, false, cond, List, [], ◌∷◌, Some, None, IsSome, nat_lt, replicate, refl, sym, ap, ◌∙◌, subst, lit<}
+use Rattle.std.proofs.Common.{◌≡◌, ◌≢◌, ◌⊎◌, inl, inr, ⊎_elim, ℕ, zero, suc, get_or, ◌&&◌, true, false, cond, List, [], ◌∷◌, Some, None, IsSome, nat_lt, replicate, refl, sym, ◌∙◌, subst, lit<}
 use Rattle.std.proofs.lemmas.Bool.{eqb-false}
+use Rattle.std.proofs.lemmas.Option.{none-some, same_Some}
 use Rattle.std.specs.FinMap.{empty}
 use Rattle.x86_64_model.specs.Entry.{has, used, address, is_frame}
 use Rattle.x86_64_model.specs.Memory.{Words, word}
-use Rattle.x86_64_model.specs.PathMap.{table_of, table_at}
+use Rattle.x86_64_model.specs.PathMap.{table_at}
 use Rattle.x86_64_model.specs.Window.{Window, IsValidFor}
 use Rattle.x86_64_model.specs.Hierarchy.{IsValid}
 use Rattle.x86_64_model.specs.MapRule.{map_rule}
@@ -16,11 +17,9 @@ use Rattle.x86_64_model.specs.Lemmas.Machines.Effects.{machine}
 use Rattle.x86_64_model.specs.Call.{MapTo, Answered, NotAllowed}
 use Rattle.x86_64_model.specs.Allowed.{allowed}
 use Rattle.x86_64_model.specs.Laws.Worked.{nothing_mapped, SomePoolFits}
-use Rattle.x86_64_model.specs.Lemmas.Worked.FourLevels.{entry-empty}
-use Rattle.x86_64_model.specs.Lemmas.Paths.Puts.{entry-put}
-use Rattle.x86_64_model.specs.Lemmas.Hierarchies.Changes.{unused_no_table}
-use Rattle.x86_64_model.specs.Lemmas.Hierarchies.Empty.{empty_valid}
-use Rattle.x86_64_model.specs.Lemmas.Hierarchies.Trees.{hierarchy_of_valid, some_one, some_not_none}
+use Rattle.x86_64_model.specs.Lemmas.Paths.Puts.{entry-put, entry-empty}
+use Rattle.x86_64_model.specs.Lemmas.Hierarchies.Empty.{empty_valid, leads_nowhere}
+use Rattle.x86_64_model.specs.Lemmas.Hierarchies.Trees.{hierarchy_of_valid}
 use Rattle.x86_64_model.specs.Lemmas.Machines.Witness.{with_self, witness}
 
 pub none : State
@@ -42,9 +41,6 @@ zero_words i = elim (nat_lt i 512) as (λ b. ◌≡◌ {A = ℕ} (cond b (get_or
 valid : IsValid 4 zeros 0x1000 empty
 unfolding zeros address
 valid = empty_valid 4 zeros 0x1000 refl zero_words
-
-no_tables : (root f i : ℕ) (q : List ℕ) → table_at 4 root empty (i ∷ q) ≢ Some f
-no_tables root f i q e = some_not_none f (sym e ∙ ap (table_of 4 (i ∷ q)) (entry-empty (i ∷ q)) ∙ unused_no_table 4 (i ∷ q))
 
 -- a state that fits, without a window
 pub fits : Fits 4 None zeros 0x1000 empty (λ f. true) (0x2000 ∷ 0x3000 ∷ 0x4000 ∷ [])
@@ -70,8 +66,8 @@ fits = record {
     each P a b c f (inr (inr (inr h))) = absurd h
 
     free : (f : ℕ) → In (0x2000 ∷ 0x3000 ∷ 0x4000 ∷ []) f → (q : List ℕ) → table_at 4 0x1000 empty q ≡ Some f → ⊥
-    free f i [] e = each (λ f. 0x1000 ≡ f → ⊥) (eqb-false 0x1000 0x2000 refl) (eqb-false 0x1000 0x3000 refl) (eqb-false 0x1000 0x4000 refl) f i (some_one 0x1000 f e)
-    free f i (j ∷ q) e = no_tables 0x1000 f j q e
+    free f i [] e = each (λ f. 0x1000 ≡ f → ⊥) (eqb-false 0x1000 0x2000 refl) (eqb-false 0x1000 0x3000 refl) (eqb-false 0x1000 0x4000 refl) f i (same_Some 0x1000 f e)
+    free f i (j ∷ q) e = none-some f (sym (leads_nowhere 4 0x1000 j q) ∙ e)
 
 -- and words that are valid for a recursive index
 pub last : Window

@@ -12,8 +12,8 @@ use Rattle.x86_64_model.specs.Translation.{translate, translate_on, Mapped as Is
 use Rattle.x86_64_model.specs.PageWalk.{walk_on, page_walk}
 use Rattle.x86_64_model.specs.Window.{entry_at}
 use Rattle.x86_64_model.specs.Path.{path_at}
-use Rattle.x86_64_model.specs.Lemmas.Paths.Puts.{entry-put}
-use Rattle.x86_64_model.specs.Lemmas.Worked.FourLevels.{entry-empty, get_it}
+use Rattle.x86_64_model.specs.Lemmas.Paths.Puts.{entry-put, entry-empty}
+use Rattle.x86_64_model.specs.Lemmas.Worked.FourLevels.{get_it}
 
 path : page_path 5 0x1abc ≡ 0 ∷ 0 ∷ 0 ∷ 0 ∷ 1 ∷ []
 unfolding page_path index

@@ -1,11 +1,11 @@
 -- The worked examples of four levels, by computation.
-use Rattle.std.proofs.Common.{◌≡◌, ◌≢◌, ℕ, true, false, cond, List, [], ◌∷◌, Some, None, refl, ap, unwrap_or}
-use Rattle.std.specs.FinMap.{empty, get-empty, get, insert, get-insert}
+use Rattle.std.proofs.Common.{◌≡◌, ◌≢◌, ℕ, true, false, cond, List, [], ◌∷◌, Some, None, refl, ap}
+use Rattle.std.specs.FinMap.{get, insert, get-insert}
 use Rattle.std.specs.Cmp.{nat_cmp_total}
 use Rattle.std.specs.Ordering.{nat_cmp, eq_by_cmp}
 use Rattle.x86_64_model.specs.Memory.{Memory, word, words_of, identity_places}
 use Rattle.x86_64_model.specs.Entry.{has, used, address, flags}
-use Rattle.x86_64_model.specs.PathMap.{PathMap, entry, put, table_at, table_of}
+use Rattle.x86_64_model.specs.PathMap.{PathMap, put, table_at, table_of}
 use Rattle.x86_64_model.specs.MapRule.{map_rule, map_call}
 use Rattle.x86_64_model.specs.Refusal.{Done, Refused, ParentEntryHugePage}
 use Rattle.x86_64_model.specs.Position.{index, page_path}
@@ -14,11 +14,7 @@ use Rattle.x86_64_model.specs.PageWalk.{walk_on, page_walk}
 use Rattle.x86_64_model.specs.Window.{entry_at}
 use Rattle.x86_64_model.specs.Hierarchy.{IsValid}
 use Rattle.x86_64_model.specs.Laws.Worked.{nothing_mapped, three_frames, small_mapped, small_memory, large_mapped, shared_table_image, SmallMap, LargeMap}
-use Rattle.x86_64_model.specs.Lemmas.Paths.Puts.{entry-put, path_cmp}
-
-pub entry-empty : (q : List ℕ) → entry empty q ≡ 0
-unfolding entry
-entry-empty q = ap (λ o. unwrap_or o 0) (get-empty path_cmp q)
+use Rattle.x86_64_model.specs.Lemmas.Paths.Puts.{entry-put, entry-empty}
 
 -- the path of 0x1abc
 path : page_path 4 0x1abc ≡ 0 ∷ 0 ∷ 0 ∷ 1 ∷ []

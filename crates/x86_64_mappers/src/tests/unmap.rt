@@ -1,0 +1,205 @@
+//! Unmaps of pages, and conditions of maps.
+ghost use Rattle.std.specs.Prelude.{◌≡◌, IsTrue, not};
+ghost use Rattle.x86_64_model.specs.Allowed.{map_allowed};
+ghost use Rattle.x86_64_model.specs.Layout.{Valid, paths};
+ghost use Rattle.x86_64_model.specs.MapperCalls.{IsUnmapped};
+ghost use Rattle.x86_64_model.specs.Memory.{identity_places};
+ghost use Rattle.x86_64_model.specs.Path.{path_at};
+ghost use Rattle.x86_64_model.specs.Window.{begins_with};
+ghost use Rattle.x86_64_mappers.specs.Layouts.{direct};
+ghost use Rattle.x86_64_mappers.specs.Results.{answer_of, unmap_result};
+ghost use Rattle.x86_64_tables.specs.PageTableFlags.{bits_of};
+
+use super::{image, small, word_of};
+use crate::mapped_page_table::MappedPageTable;
+use bitflags::Flags;
+use std::alloc::Global;
+use std::process::Abort;
+use std::test::Fail;
+use x86_64_addr::addr::{PhysAddr, VirtAddr};
+use x86_64_page::frame::PhysFrame;
+use x86_64_page::page::{Page, PageSize, Size1GiB, Size2MiB, Size4KiB};
+use x86_64_tables::mapper::{Mapper, UnmapError};
+use x86_64_tables::page_table::PageTableFlags;
+use x86_64_tables::phys_memory::{FramePlace, IdentityMapping, PhysMemory, is_valid_hierarchy};
+
+/// Unmaps a page by any mapper, whose path is not in the window.
+fn unmap_by<S: PageSize, M: Mapper<S>>(
+    mapper: &mut M,
+    page: Page<S>,
+) -> Result<PhysFrame<S>, UnmapError>
+    requires valid { Valid (M.layout mapper.old) (M.memory mapper.old) }
+    requires outside { let layout = M.layout mapper.old in
+        IsTrue (not (begins_with layout.window (path_at layout.levels S.LEVEL page))) }
+    ensures unmapped { let layout = M.layout mapper.old in
+        IsUnmapped layout (M.memory mapper.old) (path_at layout.levels S.LEVEL page) (answer_of (unmap_result result)) (M.memory mapper.new) }
+{
+    let (frame, flush) = mapper.unmap(page)?;
+    flush.ignore();
+    Ok(frame)
+}
+
+/// Unmaps a page by a mapper that is dropped then. The owner knows what the memory holds then.
+fn unmap<S: PageSize>(
+    memory: &mut PhysMemory,
+    root: PhysFrame<Size4KiB>,
+    page: Page<S>,
+) -> Result<PhysFrame<S>, UnmapError>
+    requires { Valid (direct identity_places root) memory.old }
+    ensures { IsUnmapped (direct identity_places root) memory.old (path_at 4 S.LEVEL page) (answer_of (unmap_result result)) memory.new }
+{
+    let mut mapper = MappedPageTable::new(memory, root, IdentityMapping);
+    unmap_by(&mut mapper, page)
+}
+
+/// Gives the page of a size that contains an address.
+fn page<S: PageSize>(address: u64) -> Page<S> {
+    Page::containing_address(VirtAddr::new_truncate(address))
+}
+
+/// Compares the unmap of a page in a memory with the root in frame 0x1000.
+fn check_unmap<S: PageSize>(
+    rt: &impl Abort,
+    alloc: Global,
+    words: &[(u64, u16, u64)],
+    address: u64,
+    expected: Result<u64, UnmapError>,
+) -> Result<(), Fail> {
+    let mut memory = image(alloc, words)?;
+    let root = small(0x1000);
+    assert!(rt; is_valid_hierarchy(alloc, &memory, &IdentityMapping, root)?);
+    let frame = unmap::<S>(&mut memory, root, page(address));
+    let start = frame.map(|frame| frame.start_address().as_u64());
+    assert_eq!(rt; start, expected, "at {address:#x}");
+    Ok(())
+}
+
+#[test]
+fn pages_are_unmapped_once(rt: HostRuntime) -> Result<(), Fail> {
+    let words = [
+        (1, 0, 0x2003),
+        (2, 0, 0x3003),
+        (3, 0, 0x4003),
+        (4, 1, 0x5003),
+    ];
+    let mut memory = image(rt.alloc(), &words)?;
+    let root = small(0x1000);
+    assert!(rt; is_valid_hierarchy(rt.alloc(), &memory, &IdentityMapping, root)?);
+    let first = unmap::<Size4KiB>(&mut memory, root, page(0x1000));
+    assert_eq!(rt; first, Ok(small(0x5000)));
+    let second = unmap::<Size4KiB>(&mut memory, root, page(0x1000));
+    assert_eq!(rt; second, Err(UnmapError::PageNotMapped));
+    let left = [
+        (1, 0, 0x2003),
+        (2, 0, 0x3003),
+        (3, 0, 0x4003),
+        (4, 1, 0),
+    ];
+    for (place, index, word) in left {
+        let table = memory.table(FramePlace::new(place)).ok_or("a place")?;
+        assert_eq!(rt; word_of(&table[index]), word);
+    }
+    Ok(())
+}
+
+#[test]
+fn missing_pages_are_not_unmapped(rt: HostRuntime) -> Result<(), Fail> {
+    let words = [
+        (1, 0, 0x2003),
+        (2, 0, 0x3003),
+        (3, 0, 0x4003),
+        (4, 1, 0x5003),
+        (4, 3, 0x5002),
+        (4, 4, 0x5081),
+    ];
+    let rows = [
+        (0x2000, UnmapError::PageNotMapped),
+        (0x3000, UnmapError::PageNotMapped),
+        (0x4000, UnmapError::ParentEntryHugePage),
+        (0x4000_0000, UnmapError::PageNotMapped),
+    ];
+    for (address, expected) in rows {
+        check_unmap::<Size4KiB>(&rt, rt.alloc(), &words, address, Err(expected))?;
+    }
+    let expected = Err(UnmapError::ParentEntryHugePage);
+    check_unmap::<Size2MiB>(&rt, rt.alloc(), &words, 0, expected)
+}
+
+#[test]
+fn huge_pages_are_unmapped(rt: HostRuntime) -> Result<(), Fail> {
+    let words = [
+        (1, 0, 0x2001),
+        (2, 0, 0x3001),
+        (3, 1, 0x40_0081),
+        (3, 2, 0x1081),
+        (2, 1, 0x8000_0083),
+        (2, 2, 0x8020_0083),
+    ];
+    let alloc = rt.alloc();
+    check_unmap::<Size2MiB>(&rt, alloc, &words, 0x20_0000, Ok(0x40_0000))?;
+    let address = UnmapError::InvalidFrameAddress(PhysAddr::new(0x1000));
+    check_unmap::<Size2MiB>(&rt, alloc, &words, 0x40_0000, Err(address))?;
+    let parent = UnmapError::ParentEntryHugePage;
+    check_unmap::<Size4KiB>(&rt, alloc, &words, 0x20_1000, Err(parent))?;
+    check_unmap::<Size1GiB>(&rt, alloc, &words, 0x4000_0000, Ok(0x8000_0000))?;
+    check_unmap::<Size1GiB>(&rt, alloc, &words, 0, Err(parent))?;
+    let address = UnmapError::InvalidFrameAddress(PhysAddr::new(0x8020_0000));
+    check_unmap::<Size1GiB>(&rt, alloc, &words, 0x8000_0000, Err(address))
+}
+
+/// Tells whether a page may be mapped, by any mapper.
+fn allowed_by<S: PageSize, M: Mapper<S>>(mapper: &M, page: Page<S>, flags: [u64; 2]) -> bool
+    requires { Valid (M.layout mapper.now) (M.memory mapper.now) }
+{
+    let [flags, parent_flags] = flags.map(PageTableFlags::from_bits_retain);
+    mapper.map_allowed(page, flags, parent_flags)
+}
+
+/// Compares the condition of the map of a page in a memory with the root in frame 0x1000, for its flags and parent flags.
+fn check_allowed<S: PageSize>(
+    rt: &impl Abort,
+    alloc: Global,
+    words: &[(u64, u16, u64)],
+    rows: &[(u64, [u64; 2], bool)],
+) -> Result<(), Fail> {
+    let mut memory = image(alloc, words)?;
+    let root = small(0x1000);
+    assert!(rt; is_valid_hierarchy(alloc, &memory, &IdentityMapping, root)?);
+    let mapper = MappedPageTable::new(&mut memory, root, IdentityMapping);
+    for (address, flags, expected) in rows {
+        let allowed = allowed_by::<S, _>(&mapper, page(*address), *flags);
+        assert_eq!(rt; allowed, *expected, "at {address:#x}");
+    }
+    Ok(())
+}
+
+#[test]
+fn conditions_of_maps_are_told(rt: HostRuntime) -> Result<(), Fail> {
+    let rows = [
+        (0x1000, [0x1, 0x1], true),
+        (0x1000, [0x0, 0x0], false),
+        (0x1000, [0x1, 0x2], false),
+        (0x1000, [0x81, 0x1], false),
+        (0x1000, [0x1001, 0x1], false),
+        (0x1000, [0x1, 0x81], false),
+        (0x1000, [0x1, 0x1001], false),
+    ];
+    check_allowed::<Size4KiB>(&rt, rt.alloc(), &[], &rows)?;
+    let rows = [(0x20_0000, [0x81, 0x1], true), (0, [0x81, 0x81], false)];
+    check_allowed::<Size2MiB>(&rt, rt.alloc(), &[], &rows)?;
+    let words = [
+        (1, 0, 0x2003),
+        (2, 0, 0x3002),
+        (2, 1, 0x81),
+        (1, 1, 0x4003),
+        (4, 0, 0x5003),
+        (5, 0, 0x6003),
+    ];
+    let rows = [
+        (0x0, [0x1, 0x0], false),
+        (0x4000_0000, [0x1, 0x0], true),
+        (0x80_0000_0000, [0x1, 0x0], true),
+        (0x80_0020_0000, [0x1, 0x0], false),
+    ];
+    check_allowed::<Size4KiB>(&rt, rt.alloc(), &words, &rows)
+}
