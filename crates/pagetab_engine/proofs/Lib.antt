@@ -1,1 +1,1 @@
-pub mod Validity
+pub mod Keeping

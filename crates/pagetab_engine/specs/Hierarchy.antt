@@ -29,7 +29,8 @@ IsHierarchy hierarchy = runs.FitsPool layout hierarchy.memory (serves_below hier
 abbrev pub IsOwn : Hierarchy → (frame : ℕ) → Type 0
 IsOwn hierarchy frame = Owns layout hierarchy.memory hierarchy.pool.frames frame
 
--- free frames and tables stay one set, and no word changes but in these
+-- the free frames fit the valid hierarchy again, these and the tables stay one set, and no word changes but in them and the root
 pub record Keeps (before after : Hierarchy) : Type 0 where
+  pub fits : IsHierarchy after
   pub conserved : (frame : ℕ) → IsOwn before frame ↔ IsOwn after frame
   pub others : KeepsOthers identity_places (IsOwn before) before.memory after.memory

@@ -58,7 +58,7 @@ fn parse_arguments(words: &[String]) -> Option<u64>
     }
 }
 
-/// Reads the image's words and free frames, and gives the command that follows, or `None` at the end of the input.
+/// Loads the image, and gives the command that follows, or `None` at the end of the input.
 fn read_image<R: Read>(
     lines: &mut Lines<'_, R>,
     hierarchy: &mut Hierarchy,
@@ -66,9 +66,8 @@ fn read_image<R: Read>(
 ) -> Result<Option<Command>, Fault> {
     for _ in 0..u64::MAX {
         match lines.next_statement(places)? {
-            Some(Statement::Word { slot, value }) => hierarchy.set_word(slot, value),
-            Some(Statement::Free(frame)) => {
-                if hierarchy.try_add(frame).is_err() {
+            Some(Statement::Image(line)) => {
+                if hierarchy.load(line).is_err() {
                     return Err(lines.fault());
                 }
             }
@@ -89,8 +88,7 @@ fn answer_commands<R: Read, W: Write>(
     writer: &mut W,
 ) -> Result<(), Fault>
     requires { IsHierarchy hierarchy.old }
-    ensures fits { IsHierarchy hierarchy.new }
-    ensures keeps { Keeps hierarchy.old hierarchy.new }
+    ensures { Keeps hierarchy.old hierarchy.new }
 {
     let mut next = first;
     for _ in 0..u64::MAX {
@@ -102,7 +100,7 @@ fn answer_commands<R: Read, W: Write>(
         writer.write_all(text.as_bytes())?;
         next = match lines.next_statement(places)? {
             Some(Statement::Command(command)) => Some(command),
-            Some(Statement::Word { .. } | Statement::Free(_)) => return Err(lines.fault()),
+            Some(Statement::Image(_)) => return Err(lines.fault()),
             None => None,
         };
     }
@@ -119,7 +117,6 @@ fn answer(alloc: Global, hierarchy: &mut Hierarchy, command: Command) -> Result<
     ensures reply { IfOk result (IsReply hierarchy.old command) }
     ensures state { OnOk result (state_of hierarchy.new ≡ state_after hierarchy.old command) }
     ensures unchanged { OnErr result (hierarchy.new ≡ hierarchy.old) }
-    ensures fits { IsHierarchy hierarchy.new }
     ensures keeps { Keeps hierarchy.old hierarchy.new }
 {
     Ok(match command {

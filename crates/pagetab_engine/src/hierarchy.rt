@@ -1,17 +1,17 @@
 //! The hierarchy of the program: its root stands in the frame 0x1000, and each frame lies at the place of its number.
-ghost use Rattle.std.specs.Prelude.{◌≡◌, ◌↔◌, ◌∷◌, ◌++◌, [], ℕ, if◌then◌else◌, IfOk, OnOk, OnErr, IsTrue, Some, None, nat_lt, option_map};
+ghost use Rattle.std.specs.Prelude.{◌≡◌, ◌↔◌, [], ℕ, if◌then◌else◌, IsOk, IfOk, OnOk, OnErr, IsTrue, Some, None, nat_lt, option_map};
 ghost use Rattle.std.specs.FinMap as map;
 ghost use Rattle.x86_64_model.specs.Layout.{words};
-ghost use Rattle.x86_64_model.specs.Machine.{step};
 ghost use Rattle.x86_64_model.specs.PageWalk.{page_walk as walk_of};
 ghost use Rattle.x86_64_tables.specs.PageTable.{zero_words};
 ghost use Rattle.x86_64_tables.specs.Walks.{walked_of};
-ghost use Rattle.x86_64.specs.Calls.{call_of};
-ghost use Rattle.x86_64.specs.Replies.{reply_of};
+ghost use Rattle.x86_64.specs.Runs.{call_step};
 ghost use Rattle.pagetab_engine.specs.Hierarchy.{layout, machine, state_of, IsHierarchy, Keeps};
-ghost use Rattle.pagetab_engine.specs.Slot.{word_in, stored};
+ghost use Rattle.pagetab_engine.specs.Image.{IsLoadable, memory_after, free_after};
+ghost use Rattle.pagetab_engine.specs.Slot.{word_in};
 
 use crate::slot::Slot;
+use crate::statement::ImageLine;
 use std::alloc::{AllocError, Global};
 use x86_64::structures::paging::mapper::MappedPageTable;
 use x86_64::structures::paging::{PhysFrame, Size4KiB};
@@ -52,25 +52,25 @@ impl Hierarchy {
         slot.word(&self.memory)
     }
 
-    /// Sets the word in a slot. Changes nothing where the memory lacks the table.
-    pub fn set_word(&mut self, slot: Slot, word: u64)
-        ensures { self.new ≡ record self.old { memory = stored self.old.memory slot.place slot.index word } }
-    {
-        slot.set_word(&mut self.memory, word);
-    }
-
-    /// Adds a frame at the back of the free ones.
+    /// Sets the word or adds the free frame, at the back of the others, that a line of the image says.
     ///
     /// # Errors
     ///
-    /// Those of [`FramePool::try_add`].
-    pub fn try_add(&mut self, frame: PhysFrame<Size4KiB>) -> Result<(), PoolRefusal>
-        ensures memory { self.new.memory ≡ self.old.memory }
-        ensures added { OnOk result (self.new.pool.frames ≡ self.old.pool.frames ++ frame ∷ []) }
-        ensures refused { OnErr result (self.new.pool.frames ≡ self.old.pool.frames) }
+    /// Those of [`FramePool::try_add`]; then nothing changes.
+    pub fn load(&mut self, line: ImageLine) -> Result<(), PoolRefusal>
+        ensures accepted { IsOk result ↔ IsLoadable self.old line }
+        ensures memory { OnOk result (self.new.memory ≡ memory_after self.old line) }
+        ensures free { OnOk result (self.new.pool.frames ≡ free_after self.old line) }
+        ensures refused { OnErr result ((self.new.memory ≡ self.old.memory) × (self.new.pool.frames ≡ self.old.pool.frames)) }
         ensures limit { self.new.pool.limit ≡ self.old.pool.limit }
     {
-        self.pool.try_add(frame)
+        match line {
+            ImageLine::Word { slot, value } => {
+                slot.set_word(&mut self.memory, value);
+                Ok(())
+            }
+            ImageLine::Free(frame) => self.pool.try_add(frame),
+        }
     }
 
     /// Tells whether the hierarchy is valid and its free frames fit it.
@@ -93,10 +93,9 @@ impl Hierarchy {
     /// `AllocError` where memory is refused; then nothing changes.
     pub fn answer_call(&mut self, alloc: Global, call: Call) -> Result<Reply, AllocError>
         requires { IsHierarchy self.old }
-        ensures reply { IfOk result (λ reply. reply ≡ reply_of call (step machine (state_of self.old) (call_of 4 call)).1) }
-        ensures state { OnOk result (state_of self.new ≡ (step machine (state_of self.old) (call_of 4 call)).0) }
+        ensures reply { IfOk result (λ reply. reply ≡ (call_step machine (state_of self.old) call).1) }
+        ensures state { OnOk result (state_of self.new ≡ (call_step machine (state_of self.old) call).0) }
         ensures unchanged { OnErr result (self.new ≡ self.old) }
-        ensures fits { IsHierarchy self.new }
         ensures keeps { Keeps self.old self.new }
     {
         let mut replies = Vec::with_capacity(alloc, 1)?;
@@ -120,10 +119,10 @@ impl Hierarchy {
     pub fn free_frames(&self, alloc: Global) -> Result<Vec<PhysFrame<Size4KiB>>, AllocError>
         ensures { IfOk result (λ frames. frames.items ≡ self.now.pool.frames) }
     {
-        let mut frames = Vec::with_capacity(alloc, self.pool.len())?;
+        let mut frames = Vec::new(alloc);
         for n in 0..self.pool.len() {
             if let Some(frame) = self.pool.frame_at(n) {
-                frames.push_reserved(frame);
+                frames.push(frame)?;
             }
         }
         Ok(frames)

@@ -3,10 +3,9 @@ ghost use Rattle.std.specs.Prelude.{◌≡◌, ◌<◌, ◌/◌, ◌%◌, ◌^�
 ghost use Rattle.pagetab_engine.specs.Slot.{word_in, stored};
 
 use bitflags::Flags;
-use x86_64::structures::paging::mapper::PageTableFrameMapping;
 use x86_64::structures::paging::page_table::{PageTableEntry, PageTableFlags, PageTableIndex};
 use x86_64::structures::paging::{PageSize, PhysFrame, Size4KiB};
-use x86_64::{FramePlace, IdentityMapping, PhysAddr, PhysMemory};
+use x86_64::{FramePlace, PhysAddr, PhysMemory};
 
 /// Names a word in memory: the place of a table and an index in it.
 #[derive(Clone, Copy, Debug, PartialEq)]
@@ -25,8 +24,9 @@ impl Slot {
         ensures index { IfSome result (λ slot. slot.index ≡ index) }
     {
         if index < 512 {
+            let number = frame.start_address().as_u64() / Size4KiB::SIZE;
             Some(Slot {
-                place: IdentityMapping.frame_to_pointer(frame),
+                place: FramePlace::new(number),
                 index: PageTableIndex::new(index as u16),
             })
         } else {

@@ -18,13 +18,20 @@ pub enum Command {
     Pool,
 }
 
+/// Says what the image has.
+#[derive(Clone, Copy, Debug, PartialEq)]
+pub enum ImageLine {
+    /// `word FRAME INDEX VALUE`: the value in the slot.
+    Word { slot: Slot, value: u64 },
+    /// `free FRAME`: the frame among the free ones.
+    Free(PhysFrame<Size4KiB>),
+}
+
 /// Says what a line says.
 #[derive(Clone, Copy, Debug, PartialEq)]
 pub enum Statement {
-    /// `word FRAME INDEX VALUE`: the image has the value in the slot.
-    Word { slot: Slot, value: u64 },
-    /// `free FRAME`: the frame is free.
-    Free(PhysFrame<Size4KiB>),
+    /// A line of the image.
+    Image(ImageLine),
     /// A command.
     Command(Command),
 }
@@ -61,11 +68,11 @@ impl<'a> Fields<'a> {
     fn parse_statement(&mut self, places: u64) -> Option<Statement> {
         let name = self.next_field()?;
         let statement = match name.as_bytes() {
-            b"word" => Statement::Word {
+            b"word" => Statement::Image(ImageLine::Word {
                 slot: self.parse_slot(places)?,
                 value: self.parse_number()?,
-            },
-            b"free" => Statement::Free(self.parse_table_frame(places)?),
+            }),
+            b"free" => Statement::Image(ImageLine::Free(self.parse_table_frame(places)?)),
             b"walk" => Statement::Command(Command::Walk(self.parse_address()?)),
             b"show" => Statement::Command(Command::Show(self.parse_slot(places)?)),
             b"pool" => Statement::Command(Command::Pool),

@@ -1,4 +1,5 @@
 pub mod Calls
+pub mod Moved
 pub mod Replies
 pub mod Runs
 pub use Rattle.x86_64_model.specs.Machine

@@ -31,7 +31,7 @@ impl<S: PageSize> SizeCall<S> {
     ghost use Rattle.x86_64.specs.Calls.{size_names};
 
     /// Tells whether the call's page has this index of level four.
-    pub fn names(&self, index: PageTableIndex) -> bool
+    fn names(&self, index: PageTableIndex) -> bool
         ensures { result ≡ size_names self.now index }
     {
         match self {

@@ -2,9 +2,7 @@
 use Rattle.std.proofs.Common.{◌≡◌, ◌<◌, ◌≤◌, ◌+◌, ◌==◌, ◌&&◌, ℕ, Bool, true, false, not, cond, nat_lt, List, [], ◌∷◌, ◌++◌, length, take, get_or, Some, None, Result, Ok, Err, bit_or, refl, sym, ap, ◌∙◌, subst, arith, eqb-true, le-ltb}
 use Rattle.x86_64_model.specs.Entry.{has, used, huge, address, names_table}
 use Rattle.x86_64_model.specs.Layout.{Layout}
-use Rattle.x86_64_model.specs.Lemmas.Hierarchies.Changes.{unnamed}
-use Rattle.x86_64_model.specs.Lemmas.Maps.Accepted.{added_there}
-use Rattle.x86_64_model.specs.Lemmas.Maps.PageCalls.{itself}
+use Rattle.x86_64_model.specs.Lemmas.Maps.Leaves.{none_at_leaf}
 use Rattle.x86_64_model.specs.MapRule.{leaf_entry}
 use Rattle.x86_64_model.specs.MapperCalls.{IsMapped}
 use Rattle.x86_64_model.specs.Memory.{Memory, Distinct}
@@ -16,24 +14,9 @@ use Rattle.x86_64_mappers.specs.MapSteps.{IsDown, IsPathMapped, IsLeaf}
 use Rattle.x86_64_mappers.specs.Pages.{path_parted, small_page}
 use Rattle.x86_64_mappers.specs.Writes.{IsLeafSet}
 
--- the entry of a page names no table
-pub page_leaf : (L : ℕ) (q : List ℕ) → L ≤ length q + 2 → length q ≤ L → (frame given : ℕ) → IsLeaf L q (leaf_entry L q frame given)
-unfolding table_of
-page_leaf L q low high frame given = record {
-  no_table = elim (length q == L) as (λ b. (length q == L) ≡ b → table_of L q (bit_or frame (cond b given (bit_or given 0x80))) ≡ None) [
-    | true ↦ λ e. lowest (names_table (bit_or frame given)) (eqb-true (length q) L e)
-    | false ↦ λ e. unnamed L q _ (large (used (bit_or frame (bit_or given 0x80))) (added_there frame (bit_or given 0x80) 0x80 (added_there given 0x80 0x80 itself)))
-  ] refl;
-  none_huge = λ above. absurd (omega arith);
-}
-  where
-    large : (u : Bool) {h : Bool} → h ≡ true → (u && not h) ≡ false
-    large true e = ap not e
-    large false e = refl
-
-    lowest : (b : Bool) → length q ≡ L → cond (b && nat_lt (length q) L) (Some (address (bit_or frame given))) None ≡ None
-    lowest true l = ap (λ b. cond b (Some (address (bit_or frame given))) None) (le-ltb (length q) L (omega arith))
-    lowest false l = refl
+-- the entry of a page may stand at its path
+pub page_leaf : (L : ℕ) (q : List ℕ) → L ≤ length q + 2 → (frame given : ℕ) → IsLeaf L q (leaf_entry L q frame given)
+page_leaf L q low frame given = record { no_table = none_at_leaf L q frame given; none_huge = λ above. absurd (omega arith) }
 
 module _ (l : Layout) (apart : Distinct l.places) (m : Memory) (s : List ℕ) (level : ℕ) (q : List ℕ) (last : ℕ) (size : length q ≡ last + 1) (at_level : length q + level ≡ l.levels + 1) (frame given more : ℕ) where
   -- what the path leads to is mapped as the call says
@@ -53,6 +36,6 @@ module _ (l : Layout) (apart : Distinct l.places) (m : Memory) (s : List ℕ) (l
       called answer o rest
       (subst (λ q. IsPathMapped l m s more q e frame answer o rest) parted
       (path_mapped l apart m s more (take last q) i e frame (omega arith) (ap (begins_with l.window) parted ∙ outside) small
-      (subst (λ q. IsLeaf l.levels q e) (sym parted) (page_leaf l.levels q (omega arith) (omega arith) frame given))
+      (subst (λ q. IsLeaf l.levels q e) (sym parted) (page_leaf l.levels q (omega arith) frame given))
       n rest g down answer o
       (subst (λ b. IsLeafSet l.places n g i (bit_or frame (cond b given (bit_or given 0x80))) frame answer o) (sym (small_page l.levels level q at_level)) k)))

@@ -2,4 +2,8 @@
 #![tactic(auto)]
 
 #[cfg(test)]
-mod tests;
+mod hoard;
+#[cfg(test)]
+mod library;
+#[cfg(test)]
+mod program;

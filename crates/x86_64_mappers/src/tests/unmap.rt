@@ -57,20 +57,21 @@ fn page<S: PageSize>(address: u64) -> Page<S> {
     Page::containing_address(VirtAddr::new_truncate(address))
 }
 
-/// Compares the unmap of a page in a memory with the root in frame 0x1000.
-fn check_unmap<S: PageSize>(
+/// Compares the unmaps of pages, each in a memory with these words and the root in frame 0x1000.
+fn check_unmaps<S: PageSize>(
     rt: &impl Abort,
     alloc: Global,
     words: &[(u64, u16, u64)],
-    address: u64,
-    expected: Result<u64, UnmapError>,
+    rows: &[(u64, Result<u64, UnmapError>)],
 ) -> Result<(), Fail> {
-    let mut memory = image(alloc, words)?;
     let root = small(0x1000);
-    assert!(rt; is_valid_hierarchy(alloc, &memory, &IdentityMapping, root)?);
-    let frame = unmap::<S>(&mut memory, root, page(address));
-    let start = frame.map(|frame| frame.start_address().as_u64());
-    assert_eq!(rt; start, expected, "at {address:#x}");
+    for (address, expected) in rows {
+        let mut memory = image(alloc, words)?;
+        assert!(rt; is_valid_hierarchy(alloc, &memory, &IdentityMapping, root)?);
+        let frame = unmap::<S>(&mut memory, root, page(*address));
+        let start = frame.map(|frame| frame.start_address().as_u64());
+        assert_eq!(rt; start, *expected, "at {address:#x}");
+    }
     Ok(())
 }
 
@@ -89,12 +90,7 @@ fn pages_are_unmapped_once(rt: HostRuntime) -> Result<(), Fail> {
     assert_eq!(rt; first, Ok(small(0x5000)));
     let second = unmap::<Size4KiB>(&mut memory, root, page(0x1000));
     assert_eq!(rt; second, Err(UnmapError::PageNotMapped));
-    let left = [
-        (1, 0, 0x2003),
-        (2, 0, 0x3003),
-        (3, 0, 0x4003),
-        (4, 1, 0),
-    ];
+    let left = [(1, 0, 0x2003), (2, 0, 0x3003), (3, 0, 0x4003), (4, 1, 0)];
     for (place, index, word) in left {
         let table = memory.table(FramePlace::new(place)).ok_or("a place")?;
         assert_eq!(rt; word_of(&table[index]), word);
@@ -113,16 +109,14 @@ fn missing_pages_are_not_unmapped(rt: HostRuntime) -> Result<(), Fail> {
         (4, 4, 0x5081),
     ];
     let rows = [
-        (0x2000, UnmapError::PageNotMapped),
-        (0x3000, UnmapError::PageNotMapped),
-        (0x4000, UnmapError::ParentEntryHugePage),
-        (0x4000_0000, UnmapError::PageNotMapped),
+        (0x2000, Err(UnmapError::PageNotMapped)),
+        (0x3000, Err(UnmapError::PageNotMapped)),
+        (0x4000, Err(UnmapError::ParentEntryHugePage)),
+        (0x4000_0000, Err(UnmapError::PageNotMapped)),
     ];
-    for (address, expected) in rows {
-        check_unmap::<Size4KiB>(&rt, rt.alloc(), &words, address, Err(expected))?;
-    }
-    let expected = Err(UnmapError::ParentEntryHugePage);
-    check_unmap::<Size2MiB>(&rt, rt.alloc(), &words, 0, expected)
+    check_unmaps::<Size4KiB>(&rt, rt.alloc(), &words, &rows)?;
+    let rows = [(0, Err(UnmapError::ParentEntryHugePage))];
+    check_unmaps::<Size2MiB>(&rt, rt.alloc(), &words, &rows)
 }
 
 #[test]
@@ -135,16 +129,17 @@ fn huge_pages_are_unmapped(rt: HostRuntime) -> Result<(), Fail> {
         (2, 1, 0x8000_0083),
         (2, 2, 0x8020_0083),
     ];
-    let alloc = rt.alloc();
-    check_unmap::<Size2MiB>(&rt, alloc, &words, 0x20_0000, Ok(0x40_0000))?;
-    let address = UnmapError::InvalidFrameAddress(PhysAddr::new(0x1000));
-    check_unmap::<Size2MiB>(&rt, alloc, &words, 0x40_0000, Err(address))?;
-    let parent = UnmapError::ParentEntryHugePage;
-    check_unmap::<Size4KiB>(&rt, alloc, &words, 0x20_1000, Err(parent))?;
-    check_unmap::<Size1GiB>(&rt, alloc, &words, 0x4000_0000, Ok(0x8000_0000))?;
-    check_unmap::<Size1GiB>(&rt, alloc, &words, 0, Err(parent))?;
-    let address = UnmapError::InvalidFrameAddress(PhysAddr::new(0x8020_0000));
-    check_unmap::<Size1GiB>(&rt, alloc, &words, 0x8000_0000, Err(address))
+    let unaligned = |address| Err(UnmapError::InvalidFrameAddress(PhysAddr::new_truncate(address)));
+    let rows = [(0x20_0000, Ok(0x40_0000)), (0x40_0000, unaligned(0x1000))];
+    check_unmaps::<Size2MiB>(&rt, rt.alloc(), &words, &rows)?;
+    let rows = [
+        (0x4000_0000, Ok(0x8000_0000)),
+        (0, Err(UnmapError::ParentEntryHugePage)),
+        (0x8000_0000, unaligned(0x8020_0000)),
+    ];
+    check_unmaps::<Size1GiB>(&rt, rt.alloc(), &words, &rows)?;
+    let rows = [(0x20_1000, Err(UnmapError::ParentEntryHugePage))];
+    check_unmaps::<Size4KiB>(&rt, rt.alloc(), &words, &rows)
 }
 
 /// Tells whether a page may be mapped, by any mapper.

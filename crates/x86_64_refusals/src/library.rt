@@ -1,0 +1,122 @@
+//! Calls of the library that take memory.
+ghost use Rattle.x86_64_model.specs.Marks.{serves_below};
+ghost use Rattle.x86_64_model.specs.Memory.{identity_places};
+ghost use Rattle.x86_64_mappers.specs.Layouts.{direct};
+ghost use Rattle.x86_64.specs.Runs.{FitsPool};
+
+use crate::hoard::answer_at_last;
+use std::alloc::{AllocError, Global};
+use std::test::Fail;
+use x86_64::structures::paging::{MappedPageTable, Page, PageTableFlags, PhysFrame, Size4KiB};
+use x86_64::{
+    Call, FramePlace, FramePool, IdentityMapping, PhysAddr, PhysMemory, Reply, SizeCall, SizeReply,
+    VirtAddr, is_valid_hierarchy, pool_fits, run,
+};
+
+/// The addresses of the frames that are free at first.
+const FREE: [u64; 3] = [0x2000, 0x3000, 0x4000];
+
+/// Gives the frame that contains an address.
+fn frame_at(address: u64) -> PhysFrame<Size4KiB> {
+    PhysFrame::containing_address(PhysAddr::new_truncate(address))
+}
+
+/// Makes a pool of the free frames, with numbers below a limit.
+fn pool_of(alloc: Global, limit: u64) -> Result<FramePool, Fail> {
+    let mut pool = FramePool::new(alloc, limit)?;
+    for frame in FREE {
+        pool.try_add(frame_at(frame))
+            .or(Err("the pool refuses a frame"))?;
+    }
+    Ok(pool)
+}
+
+#[test]
+fn memories_and_pools_are_made_once_there_is_room(rt: HostRuntime) -> Result<(), Fail> {
+    let alloc = rt.alloc();
+    assert_eq!(rt; PhysMemory::new(alloc, u64::MAX).err(), Some(AllocError));
+    let memory = answer_at_last(&rt, alloc, || PhysMemory::new(alloc, 16))?;
+    assert_eq!(rt; memory.len(), 16);
+    assert_eq!(rt; FramePool::new(alloc, u64::MAX).err(), Some(AllocError));
+    let mut pool = answer_at_last(&rt, alloc, || FramePool::new(alloc, 4096))?;
+    assert_eq!(rt; pool.try_add(frame_at(0xfff_000)), Ok(()));
+    Ok(())
+}
+
+#[test]
+fn hierarchies_and_pools_are_tested_once_there_is_room(rt: HostRuntime) -> Result<(), Fail> {
+    let alloc = rt.alloc();
+    let root = frame_at(0x1000);
+    let memory = PhysMemory::new(alloc, 4096)?;
+    let pool = pool_of(alloc, 4096)?;
+    let is_valid = answer_at_last(&rt, alloc, || {
+        is_valid_hierarchy(alloc, &memory, &IdentityMapping, root)
+    })?;
+    assert!(rt; is_valid);
+    let fits = answer_at_last(&rt, alloc, || {
+        pool_fits(alloc, &memory, &IdentityMapping, root, &pool)
+    })?;
+    assert!(rt; fits);
+    Ok(())
+}
+
+/// Owns a memory and a pool that fits the hierarchy in it.
+#[derive(Drop)]
+struct Owner {
+    memory: PhysMemory,
+    pool: FramePool,
+    root: PhysFrame<Size4KiB>,
+    ghost fits: { FitsPool (direct identity_places root) memory (serves_below pool.limit) pool.frames },
+}
+
+impl Owner {
+    /// Answers calls by a mapper that is dropped then.
+    fn answer(&mut self, calls: &[Call], replies: &mut Vec<Reply>) -> Result<(), AllocError> {
+        let mut mapper = MappedPageTable::new(&mut self.memory, self.root, IdentityMapping);
+        run(&mut mapper, &mut self.pool, calls, replies)
+    }
+
+    /// Tells whether the memory has unused entries alone, and the pool the frames that are free at first.
+    fn is_untouched(&self) -> bool {
+        let is_empty = (0..8).all(|place| {
+            self.memory
+                .table(FramePlace::new(place))
+                .is_some_and(|table| table.is_empty())
+        });
+        let is_free = (0..3)
+            .all(|n| self.pool.frame_at(n) == FREE.get(n).map(|frame| frame_at(*frame)));
+        is_empty && is_free && self.pool.len() == 3
+    }
+}
+
+#[test]
+fn lists_change_nothing_until_there_is_room(rt: HostRuntime) -> Result<(), Fail> {
+    let alloc = rt.alloc();
+    let root = frame_at(0x1000);
+    let memory = PhysMemory::new(alloc, 8)?;
+    let pool = pool_of(alloc, 8)?;
+    assert!(rt; pool_fits(alloc, &memory, &IdentityMapping, root, &pool)?);
+    let mut owner = Owner { memory, pool, root };
+    let page = Page::containing_address(VirtAddr::new(0x1000));
+    let call = Call::Of4KiB(SizeCall::MapTo {
+        page,
+        frame: frame_at(0x5000),
+        flags: PageTableFlags::PRESENT,
+    });
+    let calls = vec![in alloc; call; 4096]?;
+    let earlier = [Reply::NotAllowed];
+    let mut replies = Vec::from_slice(alloc, &earlier)?;
+    let mut is_kept = true;
+    answer_at_last(&rt, alloc, || {
+        let answer = owner.answer(&calls, &mut replies);
+        if answer.is_err() {
+            is_kept = is_kept && owner.is_untouched() && replies.as_slice() == earlier.as_slice();
+        }
+        answer
+    })?;
+    assert!(rt; is_kept);
+    assert_eq!(rt; replies.len(), 4097);
+    assert_eq!(rt; replies.get(1), Some(&Reply::Of4KiB(SizeReply::Map(Ok(page)))));
+    assert_eq!(rt; owner.pool.len(), 0);
+    Ok(())
+}

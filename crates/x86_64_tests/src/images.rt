@@ -1,0 +1,100 @@
+//! Memories and pools that tests begin with, runs on them, and what they hold then.
+ghost use Rattle.x86_64_model.specs.Marks.{serves_below};
+ghost use Rattle.x86_64_model.specs.Memory.{identity_places};
+ghost use Rattle.x86_64_mappers.specs.Layouts.{direct};
+ghost use Rattle.x86_64.specs.Runs.{FitsPool};
+
+use bitflags::Flags;
+use std::alloc::{AllocError, Global};
+use std::process::Abort;
+use std::test::Fail;
+use x86_64::structures::paging::{
+    MappedPageTable, Page, PageTableFlags, PageTableIndex, PhysFrame, Size4KiB,
+};
+use x86_64::{
+    Call, FramePlace, FramePool, IdentityMapping, PhysAddr, PhysMemory, Reply, VirtAddr, run,
+};
+
+/// The bits of a word that are flags.
+const FLAGS_MASK: u64 = 0xfff0_0000_0000_0fff;
+
+/// How many words a table has.
+pub const WORD_COUNT: u16 = 512;
+
+/// The address of the root's frame.
+pub const ROOT: u64 = 0x1000;
+
+/// Gives the frame that contains an address.
+pub fn frame_at(address: u64) -> PhysFrame<Size4KiB> {
+    PhysFrame::containing_address(PhysAddr::new_truncate(address))
+}
+
+/// Gives the page that contains an address.
+pub fn page_at(address: u64) -> Page<Size4KiB> {
+    Page::containing_address(VirtAddr::new_truncate(address))
+}
+
+/// Gives the flags with these bits, which may have address bits among them.
+pub fn flags_of(bits: u64) -> PageTableFlags {
+    PageTableFlags::from_bits_retain(bits)
+}
+
+/// Sets the word at an index of the table in a frame.
+pub fn set_word(memory: &mut PhysMemory, frame: u64, index: u16, word: u64) -> Result<(), Fail> {
+    let table = memory
+        .table_mut(FramePlace::new(frame / 0x1000))
+        .ok_or("no table in the frame")?;
+    let entry = &mut table[PageTableIndex::new_truncate(index)];
+    entry.set_addr(frame_at(word).start_address(), flags_of(word & FLAGS_MASK));
+    Ok(())
+}
+
+/// Makes all words of the table in a frame full of ones.
+pub fn fill(memory: &mut PhysMemory, frame: u64) -> Result<(), Fail> {
+    for index in 0..WORD_COUNT {
+        set_word(memory, frame, index, u64::MAX)?;
+    }
+    Ok(())
+}
+
+/// Gives the word at an index of the table in a frame.
+pub fn word_at(memory: &PhysMemory, frame: u64, index: u16) -> Result<u64, Fail> {
+    let table = memory
+        .table(FramePlace::new(frame / 0x1000))
+        .ok_or("no table in the frame")?;
+    let entry = &table[PageTableIndex::new_truncate(index)];
+    Ok(entry.addr().as_u64() | entry.flags().bits())
+}
+
+/// Makes a pool of free frames, with numbers below a limit.
+pub fn pool_of(alloc: Global, limit: u64, frames: &[u64]) -> Result<FramePool, Fail> {
+    let mut pool = FramePool::new(alloc, limit)?;
+    for frame in frames {
+        pool.try_add(frame_at(*frame))
+            .or(Err("the pool refuses a frame"))?;
+    }
+    Ok(pool)
+}
+
+/// Compares the free frames of a pool with these.
+pub fn compare_pool(rt: &impl Abort, pool: &FramePool, frames: &[u64], title: &str) {
+    assert_eq!(rt; pool.len(), frames.len(), "free frames: {title}");
+    for (n, frame) in frames.iter().enumerate() {
+        assert_eq!(rt; pool.frame_at(n), Some(frame_at(*frame)), "free frame {n}: {title}");
+    }
+}
+
+/// Answers calls by a mapper that is dropped then. The owner of the memory and of the pool knows that they fit again.
+pub fn run_on(
+    memory: &mut PhysMemory,
+    root: PhysFrame<Size4KiB>,
+    pool: &mut FramePool,
+    calls: &[Call],
+    replies: &mut Vec<Reply>,
+) -> Result<(), AllocError>
+    requires { FitsPool (direct identity_places root) memory.old (serves_below pool.old.limit) pool.old.frames }
+    ensures { FitsPool (direct identity_places root) memory.new (serves_below pool.new.limit) pool.new.frames }
+{
+    let mut mapper = MappedPageTable::new(memory, root, IdentityMapping);
+    run(&mut mapper, pool, calls, replies)
+}
