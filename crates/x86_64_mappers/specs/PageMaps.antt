@@ -1,6 +1,6 @@
 -- A map of a page, from the way down its parents and the write of its own entry.
-use Rattle.std.proofs.Common.{◌≡◌, ◌<◌, ◌≤◌, ◌+◌, ◌==◌, ◌&&◌, ℕ, Bool, true, false, not, cond, nat_lt, List, [], ◌∷◌, ◌++◌, length, take, get_or, Some, None, Result, Ok, Err, bit_or, refl, sym, ap, ◌∙◌, subst, arith, eqb-true, le-ltb}
-use Rattle.x86_64_model.specs.Entry.{has, used, huge, address, names_table}
+use Rattle.std.proofs.Common.{◌≡◌, ◌<◌, ◌≤◌, ◌+◌, ◌==◌, ◌&&◌, ℕ, Bool, true, false, not, cond, nat_lt, List, [], ◌∷◌, ◌++◌, length, take, get_or, Some, None, Ok, Err, bit_or, refl, sym, ap, ◌∙◌, subst, arith, eqb-true, le-ltb}
+use Rattle.x86_64_model.specs.Entry.{used, address, names_table}
 use Rattle.x86_64_model.specs.Layout.{Layout}
 use Rattle.x86_64_model.specs.Lemmas.Maps.Leaves.{none_at_leaf}
 use Rattle.x86_64_model.specs.MapRule.{leaf_entry}

@@ -67,7 +67,18 @@ const INDICES: [&[u64]; 4] = [&[0, 0, 3, 256, 511], &[0, 1, 1], &[0, 1, 1], &[0,
 const FRAMES: [u64; 4] = [0x0, 0x5000, 0x9000, 0x000f_ffff_ffff_f000];
 
 /// The flags that calls choose from. With `HUGE_PAGE`, with an address bit, and mostly without `PRESENT` a map isn't allowed.
-const FLAGS: [u64; 10] = [0x1, 0x3, 0x3, 0x3, 0x7, 0x0, 0x2, 0x81, 0x1003, 0x8000_0000_0000_0001];
+const FLAGS: [u64; 10] = [
+    0x1,
+    0x3,
+    0x3,
+    0x3,
+    0x7,
+    0x0,
+    0x2,
+    0x81,
+    0x1003,
+    0x8000_0000_0000_0001,
+];
 
 /// What a call does.
 #[derive(Clone, Copy)]
@@ -126,10 +137,16 @@ impl Chooser {
                     frame: frame_at(frame),
                     flags: flags_of(flags),
                 }),
-                PlainCall::MapTo { page: path, frame, flags },
+                PlainCall::MapTo {
+                    page: path,
+                    frame,
+                    flags,
+                },
             ),
             Kind::Unmap => (
-                Call::Of4KiB(SizeCall::Unmap { page: page_at(position) }),
+                Call::Of4KiB(SizeCall::Unmap {
+                    page: page_at(position),
+                }),
                 PlainCall::Unmap { page: path },
             ),
             Kind::Translate => (
@@ -145,10 +162,15 @@ impl Chooser {
 }
 
 /// Gives what the plain program's answer to a map is as an answer of `run`.
-fn map_result(page: Page<Size4KiB>, answer: Answer) -> Option<Result<Page<Size4KiB>, MapToError<Size4KiB>>> {
+fn map_result(
+    page: Page<Size4KiB>,
+    answer: Answer,
+) -> Option<Result<Page<Size4KiB>, MapToError<Size4KiB>>> {
     match answer {
         Answer::Done(_) => Some(Ok(page)),
-        Answer::Refused(Refusal::FrameAllocationFailed) => Some(Err(MapToError::FrameAllocationFailed)),
+        Answer::Refused(Refusal::FrameAllocationFailed) => Some(Err(
+            MapToError::FrameAllocationFailed,
+        )),
         Answer::Refused(Refusal::ParentEntryHugePage) => Some(Err(MapToError::ParentEntryHugePage)),
         Answer::Refused(Refusal::PageAlreadyMapped(frame)) => {
             Some(Err(MapToError::PageAlreadyMapped(frame_at(frame))))
@@ -158,7 +180,10 @@ fn map_result(page: Page<Size4KiB>, answer: Answer) -> Option<Result<Page<Size4K
 }
 
 /// The same of an unmap.
-fn unmap_result(page: Page<Size4KiB>, answer: Answer) -> Option<Result<(PhysFrame<Size4KiB>, Page<Size4KiB>), UnmapError>> {
+fn unmap_result(
+    page: Page<Size4KiB>,
+    answer: Answer,
+) -> Option<Result<(PhysFrame<Size4KiB>, Page<Size4KiB>), UnmapError>> {
     match answer {
         Answer::Done(frame) => Some(Ok((frame_at(frame), page))),
         Answer::Refused(Refusal::PageNotMapped) => Some(Err(UnmapError::PageNotMapped)),
@@ -171,14 +196,23 @@ fn unmap_result(page: Page<Size4KiB>, answer: Answer) -> Option<Result<(PhysFram
 fn translate_result(translated: Translated) -> TranslateResult {
     match translated {
         Translated::NotMapped => TranslateResult::NotMapped,
-        Translated::Mapped { size, frame, offset, flags } => {
+        Translated::Mapped {
+            size,
+            frame,
+            offset,
+            flags,
+        } => {
             let start = PhysAddr::new_truncate(frame);
             let frame = match size {
                 0x1000 => MappedFrame::Size4KiB(PhysFrame::containing_address(start)),
                 0x20_0000 => MappedFrame::Size2MiB(PhysFrame::containing_address(start)),
                 _ => MappedFrame::Size1GiB(PhysFrame::containing_address(start)),
             };
-            TranslateResult::Mapped { frame, offset, flags: flags_of(flags) }
+            TranslateResult::Mapped {
+                frame,
+                offset,
+                flags: flags_of(flags),
+            }
         }
     }
 }
@@ -283,7 +317,11 @@ impl Twins {
         compare_pool(rt, &self.pool, &self.plain.pool, "of the plain state");
         for index in 0..WORD_COUNT {
             assert_eq!(rt; word_at(&self.memory, 0x0, index)?, 0, "{index}");
-            assert_eq!(rt; word_at(&self.memory, STRANGER, index)?, u64::MAX, "{index}");
+            assert_eq!(rt;
+                word_at(&self.memory, STRANGER, index)?,
+                u64::MAX,
+                "{index}"
+            );
         }
         Ok(())
     }
