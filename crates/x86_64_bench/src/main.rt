@@ -9,7 +9,7 @@ mod rounds;
 mod workload;
 
 use crate::report::{report_counts, report_times};
-use crate::rounds::{Round, measure};
+use crate::rounds::measure;
 use crate::workload::{Pattern, Workload};
 use std::process::ExitCode;
 use std::{env, io};
@@ -59,13 +59,19 @@ fn run_once(rt: &HostRuntime) -> io::Result<ExitCode> {
 
 /// Does all rounds of a workload, and prints the time of each operation.
 fn run_rounds(rt: &HostRuntime, workload: Workload) -> io::Result<ExitCode> {
-    let mut rounds: Vec<Round> = Vec::with_capacity(rt.alloc(), ROUNDS)?;
+    let mut maps = Vec::with_capacity(rt.alloc(), ROUNDS)?;
+    let mut translations = Vec::with_capacity(rt.alloc(), ROUNDS)?;
+    let mut unmaps = Vec::with_capacity(rt.alloc(), ROUNDS)?;
     for _ in 0..ROUNDS {
-        match measure(rt.alloc(), rt, workload)? {
-            Some(round) => rounds.push(round)?,
-            None => return Ok(ExitCode::from(2)),
-        }
+        let Some(round) = measure(rt.alloc(), rt, workload)? else {
+            return Ok(ExitCode::from(2));
+        };
+        maps.push(round.map)?;
+        translations.push(round.translate)?;
+        unmaps.push(round.unmap)?;
     }
-    report_times(rt.alloc(), rt, rounds.as_slice())?;
+    report_times(rt.alloc(), rt, "map", maps.as_slice())?;
+    report_times(rt.alloc(), rt, "translate", translations.as_slice())?;
+    report_times(rt.alloc(), rt, "unmap", unmaps.as_slice())?;
     Ok(ExitCode::from(0))
 }

@@ -1,42 +1,48 @@
 //! What is printed of rounds.
-use crate::rounds::Round;
+use crate::rounds::{Part, Round};
 use std::alloc::Global;
+use std::fmt::{Display, Formatter, Result as FmtResult, Write};
 use std::io;
-use std::time::Duration;
 
-/// The names of what is counted and timed.
-const NAMES: [&str; 3] = ["map", "translate", "unmap"];
-
-/// Prints how often each operation was done in a round, and how many tables there were.
+/// Prints how often each operation was done in a round, and how many tables were made.
 pub fn report_counts(out: &impl Print, round: &Round) -> io::Result<()> {
-    for (name, count) in NAMES.into_iter().zip(round.counts) {
-        println!(out; "{name} {count}")?;
-    }
-    let tables = round.tables;
+    let Round {
+        map,
+        translate,
+        unmap,
+        tables,
+    } = round;
+    println!(out; "map {}", map.count)?;
+    println!(out; "translate {}", translate.count)?;
+    println!(out; "unmap {}", unmap.count)?;
     println!(out; "tables {tables}")
 }
 
-/// Prints the least and the median time of each operation, in tenths of a nanosecond.
-pub fn report_times(
-    alloc: Global,
-    out: &impl Eprint,
-    rounds: &[Round],
-) -> io::Result<()> {
-    for (i, name) in NAMES.into_iter().enumerate() {
-        let mut times = Vec::with_capacity(alloc, rounds.len())?;
-        for round in rounds {
-            times.push(tenths_each(round.times[i], round.counts[i]))?;
-        }
-        times.sort_unstable();
-        let least = times[0];
-        let median = times[times.len() / 2];
-        eprintln!(out; "{name}: least {}.{} ns, median {}.{} ns", least / 10, least % 10, median / 10, median % 10)?;
+/// Prints the least and the median time of an operation in nanoseconds.
+pub fn report_times(alloc: Global, out: &impl Eprint, name: &str, parts: &[Part]) -> io::Result<()> {
+    let mut times = Vec::with_capacity(alloc, parts.len())?;
+    for part in parts {
+        times.push(tenths_each(part))?;
     }
-    Ok(())
+    times.sort_unstable();
+    let least = Tenths(times.first().copied().unwrap_or(0));
+    let median = Tenths(times.get(times.len() / 2).copied().unwrap_or(0));
+    eprintln!(out; "{name}: least {least} ns, median {median} ns")
 }
 
-/// Gives the time of one of so many operations, in tenths of a nanosecond.
-fn tenths_each(time: Duration, count: u64) -> u64 {
-    let tenths = (time.as_nanos() as u64).saturating_mul(10);
-    tenths / count.max(1)
+/// Gives the time of one operation of a part, in tenths of a nanosecond.
+fn tenths_each(part: &Part) -> u64 {
+    let nanos = u64::try_from(part.time.as_nanos()).unwrap_or(u64::MAX);
+    nanos.saturating_mul(10) / part.count.max(1)
+}
+
+/// Shows a number of tenths with one decimal.
+#[derive(Clone, Copy)]
+struct Tenths(u64);
+
+impl Display for Tenths {
+    fn fmt<W: Write>(&self, f: &mut Formatter<W>) -> FmtResult {
+        let Tenths(tenths) = self;
+        write!(f, "{}.{}", tenths / 10, tenths % 10)
+    }
 }
