@@ -1,5 +1,5 @@
 -- A map with PRESENT and WRITABLE alone is always allowed where there is no recursive index.
-use Rattle.std.proofs.Common.{◌≡◌, ℕ, ◌||◌, ◌&&◌, Bool, true, false, None, List, refl, ap}
+use Rattle.std.proofs.Common.{◌≡◌, ℕ, ◌||◌, ◌&&◌, Bool, true, false, None, List, refl}
 use Rattle.x86_64_model.specs.Allowed.{map_allowed}
 use Rattle.x86_64_model.specs.Entry.{address, has}
 use Rattle.x86_64_model.specs.MapRule.{parent_part}

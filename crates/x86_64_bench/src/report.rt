@@ -19,7 +19,12 @@ pub fn report_counts(out: &impl Print, round: &Round) -> io::Result<()> {
 }
 
 /// Prints the least and the median time of an operation in nanoseconds.
-pub fn report_times(alloc: Global, out: &impl Eprint, name: &str, parts: &[Part]) -> io::Result<()> {
+pub fn report_times(
+    alloc: Global,
+    out: &impl Eprint,
+    name: &str,
+    parts: &[Part],
+) -> io::Result<()> {
     let mut times = Vec::with_capacity(alloc, parts.len())?;
     for part in parts {
         times.push(tenths_each(part))?;

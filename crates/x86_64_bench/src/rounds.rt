@@ -4,12 +4,12 @@ ghost use Rattle.x86_64_model.specs.Layout.{Valid};
 ghost use Rattle.x86_64_model.specs.MapperCalls.{IsReady};
 
 use crate::workload::Workload;
+use bitflags::Flags;
 use std::alloc::{AllocError, Global};
 use std::io;
 use std::time::{Clock, Duration, Instant};
 use x86_64::structures::paging::mapper::{MappedPageTable, Mapper, Translate};
 use x86_64::structures::paging::{FrameAllocator, PageTableFlags, PhysFrame, Size4KiB};
-use bitflags::Flags;
 use x86_64::{FramePool, IdentityMapping, PhysAddr, PhysMemory, pool_fits};
 
 /// How often all pages are translated in a round.

@@ -1,6 +1,5 @@
-use Rattle.std.proofs.Common.{◌≡◌, ℕ, Option, None, ap, ◌∙◌}
+use Rattle.std.proofs.Common.{◌≡◌, None, ap, ◌∙◌}
 use Rattle.x86_64_model.specs.Layout.{Layout}
-use Rattle.x86_64_model.specs.Window.{Window}
 use Rattle.x86_64_bench.proofs.Allowed.{plain_map_allowed}
 use Rattle.x86_64_bench.proofs.rounds.map_all.Goals as goal
 
