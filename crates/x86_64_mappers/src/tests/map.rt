@@ -95,7 +95,14 @@ fn tables_are_made_and_cleared(rt: HostRuntime) -> Result<(), Fail> {
     let mut memory = image(rt.alloc(), &[])?;
     fill(&mut memory, &[2, 3, 4])?;
     let mut pool = pool_of(rt.alloc(), &[0x2000, 0x3000, 0x4000])?;
-    let mapped = map::<Size4KiB>(&rt, rt.alloc(), &mut memory, &mut pool, [0x1000, 0x5000], [3, 3])?;
+    let mapped = map::<Size4KiB>(
+        &rt,
+        rt.alloc(),
+        &mut memory,
+        &mut pool,
+        [0x1000, 0x5000],
+        [3, 3],
+    )?;
     assert_eq!(rt; mapped, Ok(()));
     assert_eq!(rt; pool.len(), 0);
     let words = [
