@@ -5,5 +5,6 @@ pub mod Levels
 pub mod Paths
 pub mod RootTables
 pub mod Sought
+pub mod Suppliers
 pub mod Translations
 pub mod Words

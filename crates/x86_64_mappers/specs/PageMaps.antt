@@ -1,12 +1,10 @@
 -- A map of a page, from the way down its parents and the write of its own entry.
-use Rattle.std.proofs.Common.{◌≡◌, ◌<◌, ◌≤◌, ◌+◌, ◌==◌, ◌&&◌, ℕ, Bool, true, false, not, cond, nat_lt, List, [], ◌∷◌, ◌++◌, length, take, get_or, Some, None, Ok, Err, bit_or, refl, sym, ap, ◌∙◌, subst, arith, eqb-true, le-ltb}
-use Rattle.x86_64_model.specs.Entry.{used, address, names_table}
+use Rattle.std.proofs.Common.{◌≡◌, ◌<◌, ◌≤◌, ◌+◌, ◌==◌, ℕ, false, cond, List, [], ◌∷◌, ◌++◌, length, take, get_or, Ok, Err, bit_or, sym, ap, ◌∙◌, subst, arith}
 use Rattle.x86_64_model.specs.Layout.{Layout}
 use Rattle.x86_64_model.specs.Lemmas.Maps.Leaves.{none_at_leaf}
 use Rattle.x86_64_model.specs.MapRule.{leaf_entry}
 use Rattle.x86_64_model.specs.MapperCalls.{IsMapped}
 use Rattle.x86_64_model.specs.Memory.{Memory, Distinct}
-use Rattle.x86_64_model.specs.PathMap.{table_of}
 use Rattle.x86_64_model.specs.Refusal.{Refusal, Answer, Refused}
 use Rattle.x86_64_model.specs.Window.{begins_with}
 use Rattle.x86_64_mappers.specs.Down.{path_mapped, path_refused}

@@ -60,43 +60,42 @@ fn hierarchies_and_pools_are_tested_once_there_is_room(rt: HostRuntime) -> Resul
     Ok(())
 }
 
-/// Owns a memory and a pool that fits the hierarchy in it.
-#[derive(Drop)]
-struct Owner {
-    memory: PhysMemory,
-    pool: FramePool,
+/// Answers calls by a mapper that is dropped then. The owner of the memory and of the pool knows that they fit again.
+fn run_on(
+    memory: &mut PhysMemory,
     root: PhysFrame<Size4KiB>,
-    ghost fits: { FitsPool (direct identity_places root) memory (serves_below pool.limit) pool.frames },
+    pool: &mut FramePool,
+    calls: &[Call],
+    replies: &mut Vec<Reply>,
+) -> Result<(), AllocError>
+    requires { FitsPool (direct identity_places root) memory.old (serves_below pool.old.limit) pool.old.frames }
+    ensures { FitsPool (direct identity_places root) memory.new (serves_below pool.new.limit) pool.new.frames }
+{
+    let mut mapper = MappedPageTable::new(memory, root, IdentityMapping);
+    run(&mut mapper, pool, calls, replies)
 }
 
-impl Owner {
-    /// Answers calls by a mapper that is dropped then.
-    fn answer(&mut self, calls: &[Call], replies: &mut Vec<Reply>) -> Result<(), AllocError> {
-        let mut mapper = MappedPageTable::new(&mut self.memory, self.root, IdentityMapping);
-        run(&mut mapper, &mut self.pool, calls, replies)
-    }
-
-    /// Tells whether the memory has unused entries alone, and the pool the frames that are free at first.
-    fn is_untouched(&self) -> bool {
-        let is_empty = (0..8).all(|place| {
-            self.memory
-                .table(FramePlace::new(place))
-                .is_some_and(|table| table.is_empty())
-        });
-        let is_free = (0..3)
-            .all(|n| self.pool.frame_at(n) == FREE.get(n).map(|frame| frame_at(*frame)));
-        is_empty && is_free && self.pool.len() == 3
-    }
+/// Tells whether the memory has unused entries alone, the pool has the frames that are free at first, and the replies are
+/// the earlier one.
+fn is_untouched(memory: &PhysMemory, pool: &FramePool, replies: &[Reply]) -> bool {
+    let is_empty = (0..5).all(|place| {
+        memory
+            .table(FramePlace::new(place))
+            .is_some_and(|table| table.is_empty())
+    });
+    let is_free = (0..3).all(|n| pool.frame_at(n) == FREE.get(n).map(|frame| frame_at(*frame)));
+    is_empty && is_free && pool.len() == 3 && replies == [EARLIER].as_slice()
 }
+
+/// A reply from before the list.
+const EARLIER: Reply = Reply::NotAllowed;
 
 #[test]
 fn lists_change_nothing_until_there_is_room(rt: HostRuntime) -> Result<(), Fail> {
     let alloc = rt.alloc();
     let root = frame_at(0x1000);
-    let memory = PhysMemory::new(alloc, 8)?;
-    let pool = pool_of(alloc, 8)?;
-    assert!(rt; pool_fits(alloc, &memory, &IdentityMapping, root, &pool)?);
-    let mut owner = Owner { memory, pool, root };
+    let mut memory = PhysMemory::new(alloc, 5)?;
+    let mut pool = pool_of(alloc, 5)?;
     let page = Page::containing_address(VirtAddr::new(0x1000));
     let call = Call::Of4KiB(SizeCall::MapTo {
         page,
@@ -104,19 +103,29 @@ fn lists_change_nothing_until_there_is_room(rt: HostRuntime) -> Result<(), Fail>
         flags: PageTableFlags::PRESENT,
     });
     let calls = vec![in alloc; call; 4096]?;
-    let earlier = [Reply::NotAllowed];
-    let mut replies = Vec::from_slice(alloc, &earlier)?;
+    let mut replies = vec![in alloc; EARLIER]?;
     let mut is_kept = true;
-    answer_at_last(&rt, alloc, || {
-        let answer = owner.answer(&calls, &mut replies);
-        if answer.is_err() {
-            is_kept = is_kept && owner.is_untouched() && replies.as_slice() == earlier.as_slice();
-        }
-        answer
-    })?;
+    assert!(rt; pool_fits(alloc, &memory, &IdentityMapping, root, &pool)?);
+    answer_at_last(
+        &rt,
+        alloc,
+        ||
+            requires { FitsPool (direct identity_places root) memory (serves_below pool.limit) pool.frames }
+            ensures { FitsPool (direct identity_places root) memory.exit (serves_below pool.exit.limit) pool.exit.frames }
+        {
+            let answer = run_on(&mut memory, root, &mut pool, &calls, &mut replies);
+            if answer.is_err() {
+                is_kept = is_kept && is_untouched(&memory, &pool, &replies);
+            }
+            answer
+        },
+    )?;
     assert!(rt; is_kept);
     assert_eq!(rt; replies.len(), 4097);
-    assert_eq!(rt; replies.get(1), Some(&Reply::Of4KiB(SizeReply::Map(Ok(page)))));
-    assert_eq!(rt; owner.pool.len(), 0);
+    assert_eq!(rt;
+        replies.get(1),
+        Some(&Reply::Of4KiB(SizeReply::Map(Ok(page))))
+    );
+    assert_eq!(rt; pool.len(), 0);
     Ok(())
 }

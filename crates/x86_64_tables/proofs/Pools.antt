@@ -43,11 +43,11 @@ below_limit : (limit f : ℕ) → serves_below limit f ≡ true → f / 4096 < l
 below_limit limit f h = grind (arith, h)
 
 -- one that is served and not among them has room
-pub room : (frames : List ℕ) (limit f : ℕ) → EachOnce frames → ((g : ℕ) → In frames g → g % 4096 ≡ 0) → ((g : ℕ) → In frames g → serves_below limit g ≡ true)
+pub room : (frames : List ℕ) (marks : List Bool) (limit f : ℕ) → IsMarked frames marks → ((g : ℕ) → In frames g → serves_below limit g ≡ true)
     → (In frames f → ⊥) → f % 4096 ≡ 0 → serves_below limit f ≡ true → length frames < limit
-room frames limit f once aligned served out multiple fits =
-    let most = at_most (f ∷ frames) limit (out, once)
-    (λ g. ⊎_elim (λ e. subst (λ g. g % 4096 ≡ 0) e multiple) (aligned g))
+room frames marks limit f all served out multiple fits =
+    let most = at_most (f ∷ frames) limit (out, all.each_once)
+    (λ g. ⊎_elim (λ e. subst (λ g. g % 4096 ≡ 0) e multiple) (all.aligned g))
     (λ g. ⊎_elim (λ e. subst (λ g. g / 4096 < limit) e (below_limit limit f fits)) (λ i. below_limit limit g (served g i))) in
     omega arith
 

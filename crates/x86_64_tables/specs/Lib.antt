@@ -16,3 +16,4 @@ pub use Rattle.x86_64_model.specs.Marks
 pub use Rattle.x86_64_model.specs.PageWalk
 pub use Rattle.x86_64_model.specs.Layout
 pub use Rattle.x86_64_model.specs.Translation
+pub use Rattle.x86_64_model.specs.Lists

@@ -80,7 +80,11 @@ pub fn pool_of(alloc: Global, limit: u64, frames: &[u64]) -> Result<FramePool, F
 pub fn compare_pool(rt: &impl Abort, pool: &FramePool, frames: &[u64], title: &str) {
     assert_eq!(rt; pool.len(), frames.len(), "free frames: {title}");
     for (n, frame) in frames.iter().enumerate() {
-        assert_eq!(rt; pool.frame_at(n), Some(frame_at(*frame)), "free frame {n}: {title}");
+        assert_eq!(rt;
+            pool.frame_at(n),
+            Some(frame_at(*frame)),
+            "free frame {n}: {title}"
+        );
     }
 }
 

@@ -3,6 +3,7 @@ use pagetab_engine::ending::{Ending, Fault};
 use pagetab_engine::engine::run;
 use std::alloc::{AllocError, Global};
 use std::io::{self, Read, Write};
+use std::process::Abort;
 use std::test::Fail;
 
 const USAGE: &str = "usage: pagetab direct N | offset N OFF | recursive N R | pair N R";
@@ -173,19 +174,20 @@ fn commands_are_answered(rt: HostRuntime) -> Result<(), Fail> {
 
 /// Asserts the replies to commands on an image, each beside its command.
 fn assert_replies(
-    rt: &HostRuntime,
+    rt: &impl Abort,
+    alloc: Global,
     image: &str,
     exchanges: &[(&str, &str)],
 ) -> Result<(), Fail> {
-    let mut lines = String::new(rt.alloc());
-    let mut replies = String::new(rt.alloc());
+    let mut lines = String::new(alloc);
+    let mut replies = String::new(alloc);
     for (line, reply) in exchanges {
         lines.push_str(line)?;
         lines.push('\n')?;
         replies.push_str(reply)?;
         replies.push('\n')?;
     }
-    let outcome = run_on(rt.alloc(), image, lines.as_bytes())?;
+    let outcome = run_on(alloc, image, lines.as_bytes())?;
     assert_eq!(rt; outcome.ending, Ending::Done, "{image}{lines}");
     assert_eq!(rt;
         str::from_utf8(outcome.written.as_slice()),
@@ -216,7 +218,7 @@ fn pages_are_mapped(rt: HostRuntime) -> Result<(), Fail> {
         ("walk 0x1abc", "0x5abc write=1 user=0"),
         ("addr 0x2abc", "none"),
     ];
-    assert_replies(&rt, image, &first)?;
+    assert_replies(&rt, rt.alloc(), image, &first)?;
     // Frame 0 without flags leaves the page's entry unused, and parent flags are added to used parents.
     let later = [
         ("map 4KiB 0x1000 0x5000 0x3", "ok"),
@@ -230,7 +232,7 @@ fn pages_are_mapped(rt: HostRuntime) -> Result<(), Fail> {
         ("addr 0x2fff", "0xfffffffffffff"),
         ("walk 0x2fff", "0xfffffffffffff write=0 user=1"),
     ];
-    assert_replies(&rt, POOL, &later)?;
+    assert_replies(&rt, rt.alloc(), POOL, &later)?;
     // The upper half of the addresses, and flags in decimal.
     let last = [
         ("map 4KiB 0xfffffffffffff000 0x6000 1", "ok"),
@@ -238,7 +240,7 @@ fn pages_are_mapped(rt: HostRuntime) -> Result<(), Fail> {
         ("show 0x4000 511", "0x6001"),
         ("addr 0xffffffffffffffff", "0x6fff"),
     ];
-    assert_replies(&rt, POOL, &last)
+    assert_replies(&rt, rt.alloc(), POOL, &last)
 }
 
 #[test]
@@ -251,7 +253,7 @@ fn maps_are_refused(rt: HostRuntime) -> Result<(), Fail> {
         ("show 0x3000 0", "0x4003"),
         ("show 0x4000 1", "0x5003"),
     ];
-    assert_replies(&rt, POOL, &mapped)?;
+    assert_replies(&rt, rt.alloc(), POOL, &mapped)?;
     let few = "free 0x2000\nfree 0x3000\nword 0x3000 5 0xffffffffffffffff\n";
     let too_few_frames = [
         ("map 4KiB 0x1000 0x5000 0x3", "frame allocation failed"),
@@ -261,7 +263,7 @@ fn maps_are_refused(rt: HostRuntime) -> Result<(), Fail> {
         ("show 0x3000 5", "0x0"),
         ("pool", "pool"),
     ];
-    assert_replies(&rt, few, &too_few_frames)?;
+    assert_replies(&rt, rt.alloc(), few, &too_few_frames)?;
     let below_a_large_page = [
         ("map 4KiB 0x201000 0x9000 0x3", "parent entry huge page"),
         ("show 0x1000 0", "0x2003"),
@@ -270,7 +272,7 @@ fn maps_are_refused(rt: HostRuntime) -> Result<(), Fail> {
         ("pool", "pool"),
         ("addr 0x234567", "0x434567"),
     ];
-    assert_replies(&rt, LARGE, &below_a_large_page)?;
+    assert_replies(&rt, rt.alloc(), LARGE, &below_a_large_page)?;
     // No parent would have PRESENT, HUGE_PAGE in a 4KiB page's flags, address bits in flags.
     let not_allowed = [
         ("map 4KiB 0x1000 0x5000 0x0", "not allowed"),
@@ -279,7 +281,7 @@ fn maps_are_refused(rt: HostRuntime) -> Result<(), Fail> {
         ("show 0x1000 0", "0x0"),
         ("pool", "pool 0x2000 0x3000 0x4000"),
     ];
-    assert_replies(&rt, POOL, &not_allowed)
+    assert_replies(&rt, rt.alloc(), POOL, &not_allowed)
 }
 
 #[test]
@@ -299,20 +301,21 @@ fn pages_are_unmapped(rt: HostRuntime) -> Result<(), Fail> {
         ("map 4KiB 0x1000 0x9000 0x1", "ok"),
         ("addr 0x1abc", "0x9abc"),
     ];
-    assert_replies(&rt, POOL, &mapped)?;
+    assert_replies(&rt, rt.alloc(), POOL, &mapped)?;
     let below_a_large_page = [
         ("unmap 4KiB 0x201000", "parent entry huge page"),
         ("show 0x3000 1", "0x400081"),
     ];
-    assert_replies(&rt, LARGE, &below_a_large_page)
+    assert_replies(&rt, rt.alloc(), LARGE, &below_a_large_page)
 }
 
 #[test]
 fn free_frames_are_listed_in_order(rt: HostRuntime) -> Result<(), Fail> {
-    assert_replies(&rt, "", &[("pool", "pool")])?;
-    assert_replies(&rt, FIRST, &[("pool", "pool")])?;
+    assert_replies(&rt, rt.alloc(), "", &[("pool", "pool")])?;
+    assert_replies(&rt, rt.alloc(), FIRST, &[("pool", "pool")])?;
     assert_replies(
         &rt,
+        rt.alloc(),
         "free 0x7000\nfree 8192\nfree 0x0005000\n",
         &[("pool", "pool 0x7000 0x2000 0x5000")],
     )

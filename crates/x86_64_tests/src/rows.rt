@@ -5,13 +5,11 @@ use crate::images::{
 use std::alloc::Global;
 use std::process::Abort;
 use std::test::Fail;
-use x86_64::structures::paging::mapper::{
-    MapToError, MapperFlush, TranslateResult, UnmapError,
-};
-use x86_64::structures::paging::{MappedPageTable, Mapper, Page, Size4KiB};
+use x86_64::structures::paging::mapper::{MapToError, MapperFlush, TranslateResult, UnmapError};
+use x86_64::structures::paging::{MappedPageTable, Mapper, Page, PageTableIndex, Size4KiB};
 use x86_64::{
-    Call, IdentityMapping, PhysAddr, PhysMemory, PoolRefusal, Reply, SizeCall, SizeReply, VirtAddr,
-    FramePool, pool_fits,
+    Call, FramePool, IdentityMapping, PhysAddr, PhysMemory, PoolRefusal, Reply, SizeCall,
+    SizeReply, VirtAddr, pool_fits,
 };
 
 /// How many places the memory has.
@@ -119,11 +117,22 @@ fn begin(alloc: Global, free: &[u64]) -> Result<(PhysMemory, FramePool), Fail> {
     Ok((memory, pool))
 }
 
-/// Answers a row's calls by `run`, after an earlier reply, and compares what comes of them.
-fn check(rt: &impl Abort, alloc: Global, row: &Row<'_>, title: &str) -> Result<(), Fail> {
+/// Answers the calls of rows, and compares what comes of them.
+fn check(rt: &impl Abort, alloc: Global, rows: &[Row<'_>]) -> Result<(), Fail> {
+    for (number, row) in rows.iter().enumerate() {
+        check_row(rt, alloc, row, &format!(in alloc; "row {number}")?)?;
+    }
+    Ok(())
+}
+
+/// Answers a row's calls by `run`, the first in a list of its own, after an earlier reply, and compares what comes of them.
+fn check_row(rt: &impl Abort, alloc: Global, row: &Row<'_>, title: &str) -> Result<(), Fail> {
     let (mut memory, mut pool) = begin(alloc, row.free)?;
     let root = frame_at(ROOT);
-    assert!(rt; pool_fits(alloc, &memory, &IdentityMapping, root, &pool)?, "{title}");
+    assert!(rt;
+        pool_fits(alloc, &memory, &IdentityMapping, root, &pool)?,
+        "{title}"
+    );
     let mut calls = Vec::new(alloc);
     let mut wanted = vec![in alloc; Reply::Address(None)]?;
     for (call, reply) in row.calls {
@@ -131,7 +140,9 @@ fn check(rt: &impl Abort, alloc: Global, row: &Row<'_>, title: &str) -> Result<(
         wanted.push(*reply)?;
     }
     let mut replies = vec![in alloc; Reply::Address(None)]?;
-    run_on(&mut memory, root, &mut pool, &calls, &mut replies)?;
+    let (first, others) = calls.split_at(calls.len().min(1));
+    run_on(&mut memory, root, &mut pool, first, &mut replies)?;
+    run_on(&mut memory, root, &mut pool, others, &mut replies)?;
     assert_eq!(rt; replies, wanted, "{title}");
     compare(rt, &memory, &pool, row, title)?;
     let mapper = MappedPageTable::new(&mut memory, root, IdentityMapping);
@@ -167,10 +178,7 @@ fn maps_take_tables_from_the_front_of_the_pool(rt: HostRuntime) -> Result<(), Fa
             left: &[0x7000, 0x6000],
         },
     ];
-    for (number, row) in rows.iter().enumerate() {
-        check(&rt, rt.alloc(), row, &format!(in rt.alloc(); "row {number}")?)?;
-    }
-    Ok(())
+    check(&rt, rt.alloc(), &rows)
 }
 
 #[test]
@@ -199,23 +207,25 @@ fn refused_maps_leave_what_they_did(rt: HostRuntime) -> Result<(), Fail> {
             full: &[],
             left: &[],
         },
-        // Parent flags without PRESENT, HUGE_PAGE on a 4KiB page, an address bit.
-        Row {
-            free: &FREE,
-            calls: &[
-                (map(0x1000, 0x5000, 0x0), Reply::NotAllowed),
-                (map(0x1000, 0x5000, 0x81), Reply::NotAllowed),
-                (map(0x1000, 0x5000, 0x1001), Reply::NotAllowed),
-            ],
-            words: &[],
-            full: &FREE,
-            left: &FREE,
-        },
     ];
-    for (number, row) in rows.iter().enumerate() {
-        check(&rt, rt.alloc(), row, &format!(in rt.alloc(); "row {number}")?)?;
-    }
-    Ok(())
+    check(&rt, rt.alloc(), &rows)
+}
+
+#[test]
+fn maps_that_are_not_allowed_change_nothing(rt: HostRuntime) -> Result<(), Fail> {
+    // Parent flags without PRESENT, HUGE_PAGE on a 4KiB page, an address bit.
+    let row = Row {
+        free: &FREE,
+        calls: &[
+            (map(0x1000, 0x5000, 0x0), Reply::NotAllowed),
+            (map(0x1000, 0x5000, 0x81), Reply::NotAllowed),
+            (map(0x1000, 0x5000, 0x1001), Reply::NotAllowed),
+        ],
+        words: &[],
+        full: &FREE,
+        left: &FREE,
+    };
+    check(&rt, rt.alloc(), &[row])
 }
 
 #[test]
@@ -225,11 +235,7 @@ fn unmaps_leave_the_tables(rt: HostRuntime) -> Result<(), Fail> {
     let rows = [
         Row {
             free: &FREE,
-            calls: &[
-                first,
-                (unmap(0x2000), absent),
-                (unmap(0x4000_0000), absent),
-            ],
+            calls: &[first, (unmap(0x2000), absent), (unmap(0x4000_0000), absent)],
             words: &WORDS,
             full: &[],
             left: &[],
@@ -246,10 +252,7 @@ fn unmaps_leave_the_tables(rt: HostRuntime) -> Result<(), Fail> {
             left: &[],
         },
     ];
-    for (number, row) in rows.iter().enumerate() {
-        check(&rt, rt.alloc(), row, &format!(in rt.alloc(); "row {number}")?)?;
-    }
-    Ok(())
+    check(&rt, rt.alloc(), &rows)
 }
 
 /// Spends a token, and gives its page.
@@ -261,25 +264,41 @@ fn page_of(flush: MapperFlush<Size4KiB>) -> Page<Size4KiB> {
 
 #[test]
 fn mappers_answer_without_lists(rt: HostRuntime) -> Result<(), Fail> {
+    let after = Row {
+        free: &FREE,
+        calls: &[],
+        words: &[
+            (0x1000, 0, 0x2001),
+            (0x2000, 0, 0x3001),
+            (0x3000, 0, 0x4001),
+        ],
+        full: &[],
+        left: &[],
+    };
     let page = page_at(0x1000);
-    let frame = frame_at(0x5000);
+    let frames = (frame_at(0x5000), frame_at(0x9000));
+    let (present, writable) = (flags_of(0x1), flags_of(0x3));
     let (mut memory, mut pool) = begin(rt.alloc(), &FREE)?;
     let root = frame_at(ROOT);
     assert!(rt; pool_fits(rt.alloc(), &memory, &IdentityMapping, root, &pool)?);
     let mut mapper = MappedPageTable::new(&mut memory, root, IdentityMapping);
-    assert!(rt; !mapper.map_allowed(page, flags_of(0x3), flags_of(0x81)));
-    assert!(rt; mapper.map_allowed(page, flags_of(0x3), flags_of(0x1)));
-    let answer =
-        mapper.map_to_with_table_flags(page, frame, flags_of(0x3), flags_of(0x1), &mut pool);
+    assert!(rt; !mapper.map_allowed(page, writable, flags_of(0x81)));
+    assert!(rt; mapper.map_allowed(page, writable, present));
+    let answer = mapper.map_to_with_table_flags(page, frames.0, writable, present, &mut pool);
     assert_eq!(rt; answer.map(page_of), Ok(page));
-    assert!(rt; mapper.map_allowed(page, flags_of(0x1), flags_of(0x1)));
-    let answer = mapper.map_to(page, frame_at(0x9000), flags_of(0x1), &mut pool);
-    assert_eq!(rt; answer.map(page_of), Err(MapToError::PageAlreadyMapped(frame_at(0x9000))));
-    let answer = mapper.unmap(page_at(0x2000));
-    assert_eq!(rt; answer.map(|(frame, flush)| (frame, page_of(flush))), Err(UnmapError::PageNotMapped));
-    let answer = mapper.unmap(page);
-    assert_eq!(rt; answer.map(|(frame, flush)| (frame, page_of(flush))), Ok((frame, page)));
-    Ok(())
+    assert!(rt; mapper.map_allowed(page, present, present));
+    let answer = mapper.map_to(page, frames.1, present, &mut pool);
+    let error = MapToError::PageAlreadyMapped(frames.1);
+    assert_eq!(rt; answer.map(page_of), Err(error));
+    let answer = mapper
+        .unmap(page)
+        .map(|(frame, flush)| (frame, page_of(flush)));
+    assert_eq!(rt; answer, Ok((frames.0, page)));
+    let answer = mapper
+        .unmap(page)
+        .map(|(frame, flush)| (frame, page_of(flush)));
+    assert_eq!(rt; answer, Err(UnmapError::PageNotMapped));
+    compare(&rt, &memory, &pool, &after, "by the mapper")
 }
 
 #[test]
@@ -296,4 +315,20 @@ fn pools_refuse_frames(rt: HostRuntime) -> Result<(), Fail> {
     }
     compare_pool(&rt, &pool, &[0x2000], "after the refusals");
     Ok(())
+}
+
+#[test]
+fn calls_name_an_index_of_level_four(rt: HostRuntime) {
+    let rows = [
+        (map(0xffff_8000_0000_0000, 0x5000, 0x1), 256),
+        (unmap(0x7fff_ffff_f000), 255),
+        (Call::Translate(VirtAddr::new_truncate(u64::MAX)), 511),
+        (Call::TranslateAddr(VirtAddr::new(0x7f_ffff_ffff)), 0),
+    ];
+    for (call, index) in rows {
+        for other in 0..512 {
+            let names = call.names(PageTableIndex::new(other));
+            assert_eq!(rt; names, other == index, "{call:?}: {other}");
+        }
+    }
 }

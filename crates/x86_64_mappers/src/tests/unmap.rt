@@ -33,6 +33,7 @@ fn unmap_by<S: PageSize, M: Mapper<S>>(
         IsTrue (not (begins_with layout.window (path_at layout.levels S.LEVEL page))) }
     ensures unmapped { let layout = M.layout mapper.old in
         IsUnmapped layout (M.memory mapper.old) (path_at layout.levels S.LEVEL page) (answer_of (unmap_result result)) (M.memory mapper.new) }
+    ensures lent { M.lent mapper.new ≡ M.lent mapper.old }
 {
     let (frame, flush) = mapper.unmap(page)?;
     flush.ignore();

@@ -1,8 +1,6 @@
-//! Ways down to the tables of pages that are mapped.
-ghost use Rattle.std.specs.Prelude.{◌≡◌, ◌<◌, ◌+◌, ◌==◌, ℕ, false, cond, [], ◌∷◌, ◌++◌, length, None, IsTrue, bit_or};
-ghost use Rattle.x86_64_model.specs.Allowed.{map_allowed};
+//! Maps of pages.
+ghost use Rattle.std.specs.Prelude.{◌≡◌, ◌<◌, ◌+◌, ◌==◌, ℕ, false, cond, length, bit_or};
 ghost use Rattle.x86_64_model.specs.Entry.{huge, IsParentFlags};
-ghost use Rattle.x86_64_model.specs.Layout.{paths};
 ghost use Rattle.x86_64_model.specs.Lists.{In};
 ghost use Rattle.x86_64_model.specs.MapperCalls.{IsReady, IsMapped};
 ghost use Rattle.x86_64_mappers.specs.Layouts.{direct};

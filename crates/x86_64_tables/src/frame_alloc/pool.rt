@@ -1,5 +1,5 @@
 //! A pool of free frames.
-ghost use Rattle.std.specs.Prelude.{◌≡◌, ◌≢◌, ◌↔◌, ℕ, ◌/◌, ◌≤◌, [], ◌∷◌, ◌++◌, true, length, slice_get, vec_len, IfOk, OnOk, OnErr, IsTrue};
+ghost use Rattle.std.specs.Prelude.{◌≡◌, ◌≢◌, ◌↔◌, ℕ, ◌/◌, ◌≤◌, [], ◌∷◌, ◌++◌, true, length, drop, slice_get, vec_len, IfOk, OnOk, OnErr, IsTrue};
 ghost use Rattle.x86_64_model.specs.Lists.{In};
 ghost use Rattle.x86_64_model.specs.Marks.{serves_below};
 
@@ -10,26 +10,29 @@ use std::marker::Model;
 use x86_64_page::frame::PhysFrame;
 use x86_64_page::page::{PageSize, Size4KiB};
 
-/// Says why a frame can't be added to a pool.
+/// Says why a pool refuses a frame.
 #[derive(Clone, Copy, Debug, PartialEq)]
 pub enum PoolRefusal {
     /// The frame starts at address 0.
     Zero,
     /// The frame's number isn't below the pool's limit.
     OutOfRange,
-    /// The frame is in the pool.
+    /// The frame is free.
     AlreadyFree,
 }
 
-/// Holds free 4KiB frames, seen as a list, with numbers from 1 to a limit - 1. The limit never changes.
+/// Holds free 4KiB frames, seen as a list, and serves those with numbers from 1 to a limit - 1. The limit never changes.
 ///
-/// Frames are handed out from the front of the list, and come back to the front. Each call takes constant time, and none
-/// but `new` takes memory.
+/// Frames are handed out from the front of the list, and come back to the front. Only `new` takes memory. Adding a frame,
+/// taking one, putting one back and `contains` take constant time.
+///
+/// Equality is that of the lists: the same frames in the same order.
 #[derive(Drop)]
 pub struct FramePool {
     frames: VecDeque<PhysFrame<Size4KiB>>,
-    // Whether the frame of each number below the limit is among the frames.
+    // For each number below the limit whether the frame of this number is among the frames.
     is_free: Vec<bool>,
+    // The laws of the allocator speak of any value that contracts see, so this fact is a part of the value.
     ghost served: { (f : ℕ) → In frames.items f → serves_below (vec_len is_free) f ≡ true },
 }
 
@@ -46,7 +49,7 @@ impl Model for FramePool {
 }
 
 impl FramePool {
-    /// Makes a pool without frames, and reserves a place for each frame with a number from 1 to `limit` - 1.
+    /// Makes a pool without frames that serves those with numbers from 1 to `limit` - 1, and reserves a place for each.
     ///
     /// # Errors
     ///
@@ -67,26 +70,27 @@ impl FramePool {
     /// # Errors
     ///
     /// `Zero` for the frame at address 0, else `OutOfRange` where the frame's number isn't below the limit, else
-    /// `AlreadyFree` where the frame is in the pool. A refusal changes nothing.
+    /// `AlreadyFree` where the frame is free. A refusal changes nothing.
     pub fn try_add(&mut self, frame: PhysFrame<Size4KiB>) -> Result<(), PoolRefusal>
         ensures zero { (result ≡ Err PoolRefusal.Zero) ↔ (frame ≡ 0) }
         ensures out_of_range { (result ≡ Err PoolRefusal.OutOfRange) ↔ ((frame ≢ 0) × (self.old.limit ≤ frame / 4096)) }
         ensures already_free { (result ≡ Err PoolRefusal.AlreadyFree) ↔ In self.old.frames frame }
         ensures added { OnOk result (self.new.frames ≡ self.old.frames ++ frame ∷ []) }
-        ensures refused { OnErr result (self.new.frames ≡ self.old.frames) }
+        ensures refused { OnErr result (self.new ≡ self.old) }
         ensures limit { self.new.limit ≡ self.old.limit }
     {
         let number = number_of(frame);
         if number == 0 {
             return Err(PoolRefusal::Zero);
         }
-        if self.limit() <= number {
+        if self.is_free.len() <= number {
             return Err(PoolRefusal::OutOfRange);
         }
-        if self.is_free[number as usize] {
+        if self.is_free[number] {
             return Err(PoolRefusal::AlreadyFree);
         }
-        self.is_free[number as usize] = true;
+        self.is_free[number] = true;
+        // There are more numbers than free frames, so one of the reserved places is left.
         self.frames.push_back(frame).unwrap();
         Ok(())
     }
@@ -102,8 +106,7 @@ impl FramePool {
     pub fn contains(&self, frame: PhysFrame<Size4KiB>) -> bool
         ensures { IsTrue result ↔ In self.now.frames frame }
     {
-        let number = number_of(frame);
-        number < self.limit() && self.is_free[number as usize]
+        self.is_free.get(number_of(frame)) == Some(&true)
     }
 
     /// Gives the `n`-th frame of the list, counted from 0, or `None` where the list isn't longer than `n`.
@@ -113,7 +116,7 @@ impl FramePool {
         self.frames.get(n).copied()
     }
 
-    /// Gives the limit: the frames that may be in the pool have numbers from 1 to the limit - 1.
+    /// Gives the limit, below which are the numbers of all frames that are served.
     pub(crate) fn limit(&self) -> u64
         ensures { result ≡ self.now.limit }
     {
@@ -121,7 +124,6 @@ impl FramePool {
     }
 }
 
-/// Compares the lists alone: the same frames in the same order.
 impl PartialEq for FramePool {
     ghost use Rattle.std.specs.Prelude.{◌==◌};
     ghost use Rattle.std.specs.Cmp.Lexicographic.{pointwise};
@@ -133,7 +135,10 @@ impl PartialEq for FramePool {
 
     ghost laws = { Prim.search (comparing, rules) };
 
-    fn eq(&self, other: &FramePool) -> bool {
+    fn eq(&self, other: &FramePool) -> bool
+        ensures value { result ≡ pointwise ◌==◌ self.now.frames other.now.frames }
+        ensures same_frames { IsTrue result ↔ (self.now.frames ≡ other.now.frames) }
+    {
         self.frames == other.frames
     }
 }
@@ -146,17 +151,19 @@ impl Eq for FramePool {
 }
 
 impl FrameKeeper<Size4KiB> for FramePool {
-    ghost use Rattle.x86_64_model.specs.Marks.{serves_below};
-
     ghost serves = { λ pool. serves_below pool.limit };
 }
 
 impl FrameAllocator<Size4KiB> for FramePool {
     ghost supply = { λ pool. pool.frames };
 
-    fn allocate_frame(&mut self) -> Option<PhysFrame<Size4KiB>> {
+    fn allocate_frame(&mut self) -> Option<PhysFrame<Size4KiB>>
+        ensures first { result ≡ slice_get self.old.frames 0 }
+        ensures rest { self.new.frames ≡ drop 1 self.old.frames }
+        ensures limit { self.new.limit ≡ self.old.limit }
+    {
         let frame = self.frames.pop_front()?;
-        self.is_free[number_of(frame) as usize] = false;
+        self.is_free[number_of(frame)] = false;
         Some(frame)
     }
 
@@ -175,9 +182,10 @@ impl FrameDeallocator<Size4KiB> for FramePool {
         requires served { serves_below self.old.limit frame ≡ true }
         requires not_held { In self.old.frames frame → ⊥ }
         ensures held { self.new.frames ≡ frame ∷ self.old.frames }
-        ensures serves { serves_below self.new.limit ≡ serves_below self.old.limit }
+        ensures limit { self.new.limit ≡ self.old.limit }
     {
-        self.is_free[number_of(frame) as usize] = true;
+        self.is_free[number_of(frame)] = true;
+        // The frame was not among the others, so one of the reserved places is left.
         self.frames.push_front(frame).unwrap();
     }
 
@@ -193,8 +201,8 @@ impl FrameStore for FramePool {
 }
 
 /// Gives the number of a frame.
-fn number_of(frame: PhysFrame<Size4KiB>) -> u64
+fn number_of(frame: PhysFrame<Size4KiB>) -> usize
     ensures { result ≡ frame / 4096 }
 {
-    frame.start_address().as_u64() / Size4KiB::SIZE
+    (frame.start_address().as_u64() / Size4KiB::SIZE) as usize
 }

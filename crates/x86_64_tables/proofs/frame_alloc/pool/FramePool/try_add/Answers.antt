@@ -12,16 +12,16 @@ invariant_of-self-inside c =
 
 pub unwrap-requires : goal.unwrap-requires
 unwrap-requires c =
-    let pool = c.self.inside in let marked = c.self.invariant.0 in
+    let pool = c.self.inside in
     let out : In pool.frames.items c.args.frame → ⊥ = search rules in
     let fits : serves_below pool.is_free.len c.args.frame ≡ true = grind arith in
-    let free = room pool.frames.items pool.is_free.len c.args.frame marked.each_once marked.aligned pool.served out (omega arith) fits in
+    let free = room pool.frames.items pool.is_free.items pool.is_free.len c.args.frame c.self.invariant.0 pool.served out (omega arith) fits in
     c.push_back.ensures.succeeds (omega arith)
 
 pub invariant_of-self : goal.invariant_of-self
 invariant_of-self c =
-    let pool = c.self.inside in let marked = c.self.invariant.0 in
+    let pool = c.self.inside in
     let out : In pool.frames.items c.args.frame → ⊥ = search rules in
     let below : c.args.frame / 4096 < length pool.is_free.items = let sizes = pool.is_free.ok in grind arith in
-    let added = marked_back pool.frames.items pool.is_free.items c.args.frame marked out (omega arith) below in
+    let added = marked_back pool.frames.items pool.is_free.items c.args.frame c.self.invariant.0 out (omega arith) below in
     search rules
