@@ -1,5 +1,5 @@
 -- What no command changes, and so no commands one after another.
-use Rattle.std.proofs.Common.{◌≡◌, refl, ◌∙◌}
+use Rattle.std.proofs.Common.{refl, ◌∙◌}
 use Rattle.pagetab_engine.specs.Hierarchy.{IsHierarchy, Keeps}
 use Rattle.pagetab_engine.specs.declared.hierarchy.Hierarchy.{Hierarchy}
 

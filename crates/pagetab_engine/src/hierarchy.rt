@@ -52,7 +52,7 @@ impl Hierarchy {
         slot.word(&self.memory)
     }
 
-    /// Sets the word or adds the free frame, at the back of the others, that a line of the image says.
+    /// Loads a line of the image: sets its word, or adds its frame at the back of the free ones.
     ///
     /// # Errors
     ///
@@ -84,7 +84,7 @@ impl Hierarchy {
         pool_fits(alloc, &self.memory, &IdentityMapping, root(), &self.pool)
     }
 
-    /// Answers a call, by a run of the mapper that finds tables by their frames.
+    /// Runs the list of one call, by the mapper that finds tables by their frames, and gives the reply.
     ///
     /// Condition: the hierarchy is valid and its free frames fit it.
     ///

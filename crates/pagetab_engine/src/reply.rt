@@ -54,7 +54,10 @@ fn write_answer<W: Write>(f: &mut Formatter<W>, answer: &CallReply) -> FmtResult
 }
 
 /// Writes the reply to a call on a page.
-fn write_size_reply<S: PageSize, W: Write>(f: &mut Formatter<W>, reply: &SizeReply<S>) -> FmtResult {
+fn write_size_reply<S: PageSize, W: Write>(
+    f: &mut Formatter<W>,
+    reply: &SizeReply<S>,
+) -> FmtResult {
     match reply {
         SizeReply::Map(Ok(_)) => f.write_str("ok"),
         SizeReply::Map(Err(error)) => write_map_error(f, error),
@@ -64,7 +67,10 @@ fn write_size_reply<S: PageSize, W: Write>(f: &mut Formatter<W>, reply: &SizeRep
 }
 
 /// Writes why a page was not mapped.
-fn write_map_error<S: PageSize, W: Write>(f: &mut Formatter<W>, error: &MapToError<S>) -> FmtResult {
+fn write_map_error<S: PageSize, W: Write>(
+    f: &mut Formatter<W>,
+    error: &MapToError<S>,
+) -> FmtResult {
     match error {
         MapToError::FrameAllocationFailed => f.write_str("frame allocation failed"),
         MapToError::ParentEntryHugePage => f.write_str("parent entry huge page"),

@@ -7,6 +7,8 @@
 mod calls;
 mod runs;
 pub mod structures;
+#[cfg(test)]
+mod tests;
 
 pub use calls::{Call, Reply, SizeCall, SizeReply};
 pub use runs::run;

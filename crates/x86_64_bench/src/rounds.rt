@@ -4,9 +4,10 @@ ghost use Rattle.x86_64_model.specs.Layout.{Valid};
 ghost use Rattle.x86_64_model.specs.MapperCalls.{IsReady};
 
 use crate::workload::Workload;
+use bitflags::Flags;
 use std::alloc::{AllocError, Global};
 use std::io;
-use std::time::{Duration, Instant};
+use std::time::{Clock, Duration, Instant};
 use x86_64::structures::paging::mapper::{MappedPageTable, Mapper, Translate};
 use x86_64::structures::paging::{FrameAllocator, PageTableFlags, PhysFrame, Size4KiB};
 use x86_64::{FramePool, IdentityMapping, PhysAddr, PhysMemory, pool_fits};
@@ -26,12 +27,12 @@ fn map_all<M: Mapper<Size4KiB>, A: FrameAllocator<Size4KiB>>(
     ensures layout { M.layout mapper.new ≡ M.layout mapper.old }
 {
     let flags = PageTableFlags::PRESENT.union(PageTableFlags::WRITABLE);
-    let mut mapped = 0;
+    let mut mapped = 0_u64;
     for k in 0..workload.pages {
         match mapper.map_to(workload.page(k), workload.frame(k), flags, allocator) {
             Ok(flush) => {
                 flush.ignore();
-                mapped += 1;
+                mapped = mapped.saturating_add(1);
             }
             Err(_) => {}
         }
@@ -46,12 +47,12 @@ fn unmap_all<M: Mapper<Size4KiB>>(mapper: &mut M, workload: Workload) -> u64
     ensures valid { Valid (M.layout mapper.new) (M.memory mapper.new) }
     ensures layout { M.layout mapper.new ≡ M.layout mapper.old }
 {
-    let mut unmapped = 0;
+    let mut unmapped = 0_u64;
     for k in 0..workload.pages {
         match mapper.unmap(workload.page(k)) {
             Ok((_, flush)) => {
                 flush.ignore();
-                unmapped += 1;
+                unmapped = unmapped.saturating_add(1);
             }
             Err(_) => {}
         }
@@ -59,16 +60,102 @@ fn unmap_all<M: Mapper<Size4KiB>>(mapper: &mut M, workload: Workload) -> u64
     unmapped
 }
 
-/// Translates all pages in an order, and gives how many are mapped to their frames.
+/// Translates all pages in an order ten times, and gives how often one is mapped to its frame.
 fn translate_all<T: Translate>(mapper: &T, workload: Workload, order: &[u32]) -> u64
     requires { Valid (T.layout mapper.now) (T.memory mapper.now) }
 {
-    let mut found = 0;
+    let mut found = 0_u64;
+    for _ in 0..TRANSLATIONS {
+        found = found.saturating_add(translate_once(mapper, workload, order));
+    }
+    found
+}
+
+/// Translates all pages in an order, and gives how many are mapped to their frames.
+fn translate_once<T: Translate>(mapper: &T, workload: Workload, order: &[u32]) -> u64
+    requires { Valid (T.layout mapper.now) (T.memory mapper.now) }
+{
+    let mut found = 0_u64;
     for k in order {
         let addr = workload.page(*k).start_address();
         if mapper.translate_addr(addr) == Some(workload.frame(*k).start_address()) {
-            found += 1;
+            found = found.saturating_add(1);
         }
     }
     found
+}
+
+/// Says how often an operation was done, and how long all of these took.
+#[derive(Clone, Copy, Debug)]
+pub struct Part {
+    /// How often the operation was done and succeeded.
+    pub count: u64,
+    /// How long it took.
+    pub time: Duration,
+}
+
+/// Says what a round did.
+#[derive(Clone, Copy, Debug)]
+pub struct Round {
+    /// The maps of all pages.
+    pub map: Part,
+    /// The translations of all pages to their frames.
+    pub translate: Part,
+    /// The unmaps of all pages.
+    pub unmap: Part,
+    /// How many frames the new tables took.
+    pub tables: usize,
+}
+
+/// Maps, translates and unmaps all pages of a workload in a new hierarchy. Gives `None` where that is no valid one.
+pub fn measure(alloc: Global, clock: &impl Clock, workload: Workload) -> io::Result<Option<Round>> {
+    let root = frame_numbered(1);
+    let mut memory = PhysMemory::new(alloc, workload.places())?;
+    let mut pool = new_pool(alloc, workload.places())?;
+    if !pool_fits(alloc, &memory, &IdentityMapping, root, &pool)? {
+        return Ok(None);
+    }
+    let order = workload.shuffled(alloc)?;
+    let free = pool.len();
+    let mut mapper = MappedPageTable::new(&mut memory, root, IdentityMapping);
+    let start = Instant::now(clock)?;
+    let count = map_all(&mut mapper, &mut pool, workload);
+    let map = Part {
+        count,
+        time: start.elapsed(clock)?,
+    };
+    let tables = free.saturating_sub(pool.len());
+    let start = Instant::now(clock)?;
+    let count = translate_all(&mapper, workload, order.as_slice());
+    let translate = Part {
+        count,
+        time: start.elapsed(clock)?,
+    };
+    let start = Instant::now(clock)?;
+    let count = unmap_all(&mut mapper, workload);
+    let unmap = Part {
+        count,
+        time: start.elapsed(clock)?,
+    };
+    Ok(Some(Round {
+        map,
+        translate,
+        unmap,
+        tables,
+    }))
+}
+
+/// Gives the 4KiB frame with a number modulo 2^40.
+fn frame_numbered(number: u64) -> PhysFrame<Size4KiB> {
+    PhysFrame::containing_address(PhysAddr::new_truncate(number.wrapping_mul(4096)))
+}
+
+/// Makes a pool of the frames with numbers from 2 to `limit` - 1.
+fn new_pool(alloc: Global, limit: u64) -> Result<FramePool, AllocError> {
+    let mut pool = FramePool::new(alloc, limit)?;
+    for number in 2..limit {
+        // None of these frames is refused: each is in range, and is added once.
+        let _added = pool.try_add(frame_numbered(number));
+    }
+    Ok(pool)
 }

@@ -66,7 +66,9 @@ impl Workload {
         }
         let mut state = 1_u64;
         for last in 1..order.len() {
-            state = state.wrapping_mul(6_364_136_223_846_793_005).wrapping_add(1_442_695_040_888_963_407);
+            state = state
+                .wrapping_mul(6_364_136_223_846_793_005)
+                .wrapping_add(1_442_695_040_888_963_407);
             let other = (state >> 33) as usize % (last + 1);
             order.swap(last, other);
         }

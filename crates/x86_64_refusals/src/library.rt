@@ -78,7 +78,7 @@ fn run_on(
 /// Tells whether the memory has unused entries alone, the pool has the frames that are free at first, and the replies are
 /// the earlier one.
 fn is_untouched(memory: &PhysMemory, pool: &FramePool, replies: &[Reply]) -> bool {
-    let is_empty = (0..8).all(|place| {
+    let is_empty = (0..5).all(|place| {
         memory
             .table(FramePlace::new(place))
             .is_some_and(|table| table.is_empty())
@@ -94,8 +94,8 @@ const EARLIER: Reply = Reply::NotAllowed;
 fn lists_change_nothing_until_there_is_room(rt: HostRuntime) -> Result<(), Fail> {
     let alloc = rt.alloc();
     let root = frame_at(0x1000);
-    let mut memory = PhysMemory::new(alloc, 8)?;
-    let mut pool = pool_of(alloc, 8)?;
+    let mut memory = PhysMemory::new(alloc, 5)?;
+    let mut pool = pool_of(alloc, 5)?;
     let page = Page::containing_address(VirtAddr::new(0x1000));
     let call = Call::Of4KiB(SizeCall::MapTo {
         page,

@@ -22,15 +22,19 @@ impl Read for Source<'_> {
     }
 }
 
-/// Counts what is written.
+/// Compares what is written with what is wanted, since there is no memory to keep it in.
 #[derive(Drop)]
-struct Sink {
-    writes: u64,
+struct Sink<'a> {
+    wanted: &'a [u8],
+    is_wanted: bool,
 }
 
-impl Write for Sink {
+impl Write for Sink<'_> {
     fn write(&mut self, buf: &[u8]) -> io::Result<usize> {
-        self.writes = self.writes.saturating_add(1);
+        match self.wanted.strip_prefix(buf) {
+            Some(rest) => self.wanted = rest,
+            None => self.is_wanted = false,
+        }
         Ok(buf.len())
     }
 
@@ -39,8 +43,12 @@ impl Write for Sink {
     }
 }
 
-/// An image and commands, of which two are answered.
-const INPUT: &[u8] = b"word 0x1000 0 0x2003\ntranslate 0\nwalk 0\n";
+/// An image of which the table in frame 0x2000 is a part, and a command of each kind.
+const INPUT: &[u8] = b"word 0x1000 0 0x2003\nfree 0x3000\nfree 0x4000\n\
+    translate 0\nwalk 0\nshow 0x1000 0\nmap 4KiB 0x1000 0x5000 0x3\naddr 0x1abc\npool\nunmap 4KiB 0x1000\n";
+
+/// The replies.
+const REPLIES: &[u8] = b"not mapped\nnone\n0x2003\nok\n0x5abc\npool\n0x5000\n";
 
 #[test]
 fn the_program_wants_memory_until_there_is_room(rt: HostRuntime) -> Result<(), Fail> {
@@ -48,14 +56,21 @@ fn the_program_wants_memory_until_there_is_room(rt: HostRuntime) -> Result<(), F
     let mut words = Vec::new(alloc);
     words.push(String::from_str(alloc, "direct")?)?;
     words.push(String::from_str(alloc, "4096")?)?;
+    let mut is_wanted = true;
     let answer = answer_at_last(&rt, alloc, || {
         let mut source = Source { rest: INPUT };
-        let mut sink = Sink { writes: 0 };
-        match run(alloc, words.as_slice(), &mut source, &mut sink) {
+        let mut sink = Sink {
+            wanted: REPLIES,
+            is_wanted: true,
+        };
+        let ending = run(alloc, words.as_slice(), &mut source, &mut sink);
+        is_wanted = is_wanted && sink.is_wanted;
+        match ending {
             Ending::Stopped(Fault::OutOfMemory) => Err(AllocError),
-            ending => Ok((ending, sink.writes)),
+            _ => Ok((ending, sink.wanted.len())),
         }
     })?;
-    assert_eq!(rt; answer, (Ending::Done, 2));
+    assert_eq!(rt; answer, (Ending::Done, 0));
+    assert!(rt; is_wanted);
     Ok(())
 }

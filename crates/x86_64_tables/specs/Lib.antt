@@ -17,4 +17,3 @@ pub use Rattle.x86_64_model.specs.PageWalk
 pub use Rattle.x86_64_model.specs.Layout
 pub use Rattle.x86_64_model.specs.Translation
 pub use Rattle.x86_64_model.specs.Lists
-pub use Rattle.x86_64_model.specs.Marks

@@ -6,7 +6,7 @@ use std::alloc::Global;
 use std::process::Abort;
 use std::test::Fail;
 use x86_64::structures::paging::mapper::{MapToError, MapperFlush, TranslateResult, UnmapError};
-use x86_64::structures::paging::{MappedPageTable, Mapper, Page, Size4KiB};
+use x86_64::structures::paging::{MappedPageTable, Mapper, Page, PageTableIndex, Size4KiB};
 use x86_64::{
     Call, FramePool, IdentityMapping, PhysAddr, PhysMemory, PoolRefusal, Reply, SizeCall,
     SizeReply, VirtAddr, pool_fits,
@@ -207,20 +207,25 @@ fn refused_maps_leave_what_they_did(rt: HostRuntime) -> Result<(), Fail> {
             full: &[],
             left: &[],
         },
-        // Parent flags without PRESENT, HUGE_PAGE on a 4KiB page, an address bit.
-        Row {
-            free: &FREE,
-            calls: &[
-                (map(0x1000, 0x5000, 0x0), Reply::NotAllowed),
-                (map(0x1000, 0x5000, 0x81), Reply::NotAllowed),
-                (map(0x1000, 0x5000, 0x1001), Reply::NotAllowed),
-            ],
-            words: &[],
-            full: &FREE,
-            left: &FREE,
-        },
     ];
     check(&rt, rt.alloc(), &rows)
+}
+
+#[test]
+fn maps_that_are_not_allowed_change_nothing(rt: HostRuntime) -> Result<(), Fail> {
+    // Parent flags without PRESENT, HUGE_PAGE on a 4KiB page, an address bit.
+    let row = Row {
+        free: &FREE,
+        calls: &[
+            (map(0x1000, 0x5000, 0x0), Reply::NotAllowed),
+            (map(0x1000, 0x5000, 0x81), Reply::NotAllowed),
+            (map(0x1000, 0x5000, 0x1001), Reply::NotAllowed),
+        ],
+        words: &[],
+        full: &FREE,
+        left: &FREE,
+    };
+    check(&rt, rt.alloc(), &[row])
 }
 
 #[test]
@@ -259,39 +264,41 @@ fn page_of(flush: MapperFlush<Size4KiB>) -> Page<Size4KiB> {
 
 #[test]
 fn mappers_answer_without_lists(rt: HostRuntime) -> Result<(), Fail> {
+    let after = Row {
+        free: &FREE,
+        calls: &[],
+        words: &[
+            (0x1000, 0, 0x2001),
+            (0x2000, 0, 0x3001),
+            (0x3000, 0, 0x4001),
+        ],
+        full: &[],
+        left: &[],
+    };
     let page = page_at(0x1000);
-    let frame = frame_at(0x5000);
+    let frames = (frame_at(0x5000), frame_at(0x9000));
+    let (present, writable) = (flags_of(0x1), flags_of(0x3));
     let (mut memory, mut pool) = begin(rt.alloc(), &FREE)?;
     let root = frame_at(ROOT);
     assert!(rt; pool_fits(rt.alloc(), &memory, &IdentityMapping, root, &pool)?);
     let mut mapper = MappedPageTable::new(&mut memory, root, IdentityMapping);
-    assert!(rt; !mapper.map_allowed(page, flags_of(0x3), flags_of(0x81)));
-    assert!(rt; mapper.map_allowed(page, flags_of(0x3), flags_of(0x1)));
-    let answer = mapper.map_to_with_table_flags(
-        page,
-        frame,
-        flags_of(0x3),
-        flags_of(0x1),
-        &mut pool,
-    );
+    assert!(rt; !mapper.map_allowed(page, writable, flags_of(0x81)));
+    assert!(rt; mapper.map_allowed(page, writable, present));
+    let answer = mapper.map_to_with_table_flags(page, frames.0, writable, present, &mut pool);
     assert_eq!(rt; answer.map(page_of), Ok(page));
-    assert!(rt; mapper.map_allowed(page, flags_of(0x1), flags_of(0x1)));
-    let answer = mapper.map_to(page, frame_at(0x9000), flags_of(0x1), &mut pool);
-    assert_eq!(rt;
-        answer.map(page_of),
-        Err(MapToError::PageAlreadyMapped(frame_at(0x9000)))
-    );
-    let answer = mapper.unmap(page_at(0x2000));
-    assert_eq!(rt;
-        answer.map(|(frame, flush)| (frame, page_of(flush))),
-        Err(UnmapError::PageNotMapped)
-    );
-    let answer = mapper.unmap(page);
-    assert_eq!(rt;
-        answer.map(|(frame, flush)| (frame, page_of(flush))),
-        Ok((frame, page))
-    );
-    Ok(())
+    assert!(rt; mapper.map_allowed(page, present, present));
+    let answer = mapper.map_to(page, frames.1, present, &mut pool);
+    let error = MapToError::PageAlreadyMapped(frames.1);
+    assert_eq!(rt; answer.map(page_of), Err(error));
+    let answer = mapper
+        .unmap(page)
+        .map(|(frame, flush)| (frame, page_of(flush)));
+    assert_eq!(rt; answer, Ok((frames.0, page)));
+    let answer = mapper
+        .unmap(page)
+        .map(|(frame, flush)| (frame, page_of(flush)));
+    assert_eq!(rt; answer, Err(UnmapError::PageNotMapped));
+    compare(&rt, &memory, &pool, &after, "by the mapper")
 }
 
 #[test]
@@ -308,4 +315,20 @@ fn pools_refuse_frames(rt: HostRuntime) -> Result<(), Fail> {
     }
     compare_pool(&rt, &pool, &[0x2000], "after the refusals");
     Ok(())
+}
+
+#[test]
+fn calls_name_an_index_of_level_four(rt: HostRuntime) {
+    let rows = [
+        (map(0xffff_8000_0000_0000, 0x5000, 0x1), 256),
+        (unmap(0x7fff_ffff_f000), 255),
+        (Call::Translate(VirtAddr::new_truncate(u64::MAX)), 511),
+        (Call::TranslateAddr(VirtAddr::new(0x7f_ffff_ffff)), 0),
+    ];
+    for (call, index) in rows {
+        for other in 0..512 {
+            let names = call.names(PageTableIndex::new(other));
+            assert_eq!(rt; names, other == index, "{call:?}: {other}");
+        }
+    }
 }

@@ -1,4 +1,4 @@
-use Rattle.std.proofs.Common.{◌≡◌, ◌↔◌, ℕ, ap, ◌∙◌, rules}
+use Rattle.std.proofs.Common.{◌↔◌, ℕ, ap, ◌∙◌, rules}
 use Rattle.x86_64_model.specs.Layout.{Layout}
 use Rattle.x86_64_model.specs.Memory.{Memory, identity_places}
 use Rattle.x86_64_model.specs.MapperCalls.{Owns, KeepsOthers}

@@ -1,0 +1,14 @@
+use Rattle.std.proofs.Common.{◌↔◌, ℕ, rules}
+use Rattle.x86_64_model.specs.Layout.{Layout}
+use Rattle.x86_64_model.specs.Memory.{Memory}
+use Rattle.x86_64_model.specs.MapperCalls.{Owns}
+use Rattle.x86_64_mappers.specs.Layouts.{direct}
+use Rattle.x86_64.specs.Moved.{moved}
+use Rattle.x86_64.proofs.tests.run_in.Goals as goal
+
+pub returns-clause-conserved : goal.returns-clause-conserved
+returns-clause-conserved g c =
+    let free = g.F.FrameAllocator.supply c.args.frames.now in
+    let rest = g.F.FrameAllocator.supply c.run.new.frames in
+    moved (λ (l : Layout) (m n : Memory). (frame : ℕ) → Owns l m free frame ↔ Owns l n rest frame) _ (direct (g.P.PageTableFrameMapping.places c.args.mapping) c.args.root) _ c.args.memory.now c.run.new.mapper.memory.now _
+    c.new-mapper.ensures.layout c.new-mapper.ensures.memory (search rules) c.run.ensures.conserved
