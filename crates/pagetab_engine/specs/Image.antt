@@ -7,7 +7,7 @@ use Rattle.pagetab_engine.specs.declared.hierarchy.Hierarchy.{Hierarchy}
 use Rattle.pagetab_engine.specs.declared.statement.ImageLine.{ImageLine}
 use Rattle.pagetab_engine.specs.declared.statement.ImageLine.TheVariants.{Word, Free}
 
--- a frame that is to be free is not frame 0, lies in the memory, and is not free yet
+-- a frame that is to be free is not frame 0, has a number below the limit, and is not free yet
 abbrev pub IsLoadable : Hierarchy → ImageLine → Type 0
 IsLoadable hierarchy (Word slot value) = ⊤
 IsLoadable hierarchy (Free frame) = (frame ≢ 0) × (frame / 4096 < hierarchy.pool.limit) × (In hierarchy.pool.frames frame → ⊥)

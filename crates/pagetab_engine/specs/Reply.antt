@@ -19,22 +19,9 @@ IsReply hierarchy (command.Call call) (reply.Answered answer) = answer ≡ (call
 IsReply hierarchy (command.Walk addr) (reply.Arrival walked) = option_map walked_of walked ≡ page_walk 4 (words layout hierarchy.memory) 0x1000 addr
 IsReply hierarchy (command.Show slot) (reply.Word word) = word ≡ word_in hierarchy.memory slot.place slot.index
 IsReply hierarchy command.Pool (reply.Pool frames) = frames.items ≡ hierarchy.pool.frames
-IsReply hierarchy (command.Call call) (reply.Arrival walked) = ⊥
-IsReply hierarchy (command.Call call) (reply.Word word) = ⊥
-IsReply hierarchy (command.Call call) (reply.Pool frames) = ⊥
-IsReply hierarchy (command.Walk addr) (reply.Answered answer) = ⊥
-IsReply hierarchy (command.Walk addr) (reply.Word word) = ⊥
-IsReply hierarchy (command.Walk addr) (reply.Pool frames) = ⊥
-IsReply hierarchy (command.Show slot) (reply.Answered answer) = ⊥
-IsReply hierarchy (command.Show slot) (reply.Arrival walked) = ⊥
-IsReply hierarchy (command.Show slot) (reply.Pool frames) = ⊥
-IsReply hierarchy command.Pool (reply.Answered answer) = ⊥
-IsReply hierarchy command.Pool (reply.Arrival walked) = ⊥
-IsReply hierarchy command.Pool (reply.Word word) = ⊥
+IsReply hierarchy asked told = ⊥
 
 -- the state after a command: the machine's after a call, and the same after another
 abbrev pub state_after : Hierarchy → Command → State
 state_after hierarchy (command.Call call) = (call_step machine (state_of hierarchy) call).0
-state_after hierarchy (command.Walk addr) = state_of hierarchy
-state_after hierarchy (command.Show slot) = state_of hierarchy
-state_after hierarchy command.Pool = state_of hierarchy
+state_after hierarchy asked = state_of hierarchy
