@@ -2,9 +2,12 @@
 ghost use Rattle.std.specs.Prelude.{◌≡◌, ◌<◌, ◌↔◌, IsTrue};
 
 use crate::frame::PhysFrame;
-use crate::page::{AddressNotAligned, NotGiantPageSize, PageSize, Size1GiB, Size2MiB, Size4KiB};
+use crate::page::{
+    AddressNotAligned, NotGiantPageSize, Page, PageSize, Size1GiB, Size2MiB, Size4KiB,
+};
 use std::process::Abort;
-use x86_64_addr::addr::PhysAddr;
+use x86_64_addr::addr::{PhysAddr, VirtAddr};
+use x86_64_addr::index::{PageTableIndex, PageTableLevel};
 
 /// Compares a size's numbers, and the starts of the frames that contain two addresses.
 fn check_size<S: PageSize>(rt: &impl Abort, level: u64, size: u64, starts: [u64; 2]) {
@@ -71,5 +74,66 @@ fn frames_have_texts(rt: HostRuntime) {
     assert_eq!(rt;
         text.as_str(),
         "the given address was not sufficiently aligned"
+    );
+}
+
+/// Compares the page that contains the highest address, and its indices.
+fn check_highest_page<S: PageSize>(rt: &impl Abort, start: u64) {
+    let highest = VirtAddr::new_truncate(u64::MAX);
+    let start = VirtAddr::new_truncate(start);
+    let page = Page::<S>::containing_address(highest);
+    assert_eq!(rt; page.start_address(), start);
+    assert_eq!(rt; page.size(), S::SIZE);
+    assert_eq!(rt; Page::<S>::from_start_address(start), Ok(page));
+    assert_eq!(rt;
+        Page::<S>::from_start_address(highest),
+        Err(AddressNotAligned)
+    );
+    assert_eq!(rt; page.p4_index(), PageTableIndex::new(511));
+    assert_eq!(rt; page.p3_index(), PageTableIndex::new(511));
+    assert_eq!(rt;
+        page.page_table_index(PageTableLevel::Three),
+        PageTableIndex::new(511)
+    );
+}
+
+/// Equality of pages is that of their positions, and so is their order.
+fn are_ordered<S: PageSize>(left: Page<S>, right: Page<S>) -> bool
+    ensures { IsTrue result ↔ (left < right) }
+{
+    left < right && left != right
+}
+
+#[test]
+fn pages_start_at_multiples(rt: HostRuntime) {
+    check_highest_page::<Size4KiB>(&rt, 0xffff_ffff_ffff_f000);
+    check_highest_page::<Size2MiB>(&rt, 0xffff_ffff_ffe0_0000);
+    check_highest_page::<Size1GiB>(&rt, 0xffff_ffff_c000_0000);
+    let address = VirtAddr::new_truncate(0x8000_8040_3000);
+    let small = Page::<Size4KiB>::containing_address(address);
+    let large = Page::<Size2MiB>::containing_address(address);
+    let indices = [
+        small.p4_index(),
+        small.p3_index(),
+        small.p2_index(),
+        small.p1_index(),
+    ];
+    assert_eq!(rt; indices, [256, 2, 2, 3].map(PageTableIndex::new_truncate));
+    assert_eq!(rt; large.p2_index(), PageTableIndex::new(2));
+    let zero = Page::<Size4KiB>::from_start_address_unchecked(VirtAddr::zero());
+    assert!(rt; are_ordered(zero, small));
+    assert!(rt; !are_ordered(small, small));
+}
+
+#[test]
+fn pages_have_texts(rt: HostRuntime) {
+    let address = VirtAddr::new_truncate(0x4020_1abc);
+    let small = Page::<Size4KiB>::containing_address(address);
+    let large = Page::<Size2MiB>::containing_address(address);
+    let giant = Page::<Size1GiB>::containing_address(address);
+    let text = format!(in rt.alloc(); "{small:?} {large:?} {giant:?}").expect(&rt, "memory");
+    assert_eq!(rt;
+        text.as_str(),
+        "Page[4KiB](0x40201000) Page[2MiB](0x40200000) Page[1GiB](0x40000000)"
     );
 }
