@@ -87,30 +87,31 @@ impl Twins {
         })
     }
 
-    /// Compares the words of the table in a frame, to which a path leads, and of the tables below it through so many
-    /// levels, with the plain entries.
-    fn compare_tables(
-        &self,
-        rt: &impl Abort,
-        path: &mut Vec<u64>,
-        frame: u64,
-        levels: u8,
-    ) -> Result<(), Fail> {
-        for index in 0..WORD_COUNT {
-            path.push(u64::from(index))?;
-            let word = self.plain.paths.entry(path);
-            assert_eq!(rt; word_at(&self.memory, frame, index)?, word, "at {path:?}");
-            if 0 < levels && is_used(word) && !is_huge(word) {
-                self.compare_tables(rt, path, address(word), levels - 1)?;
+    /// Compares each word of the root and of each table with the plain entry at its path.
+    fn compare_tables(&self, rt: &impl Abort, alloc: Global) -> Result<(), Fail> {
+        let mut tables = Vec::new(alloc);
+        tables.push((Vec::new(alloc), ROOT))?;
+        for _ in 0..PLACES {
+            let Some((mut path, frame)) = tables.pop() else {
+                break;
+            };
+            for index in 0..WORD_COUNT {
+                path.push(u64::from(index))?;
+                let word = self.plain.paths.entry(&path);
+                assert_eq!(rt; word_at(&self.memory, frame, index)?, word, "at {path:?}");
+                if path.len() < MACHINE.levels && is_used(word) && !is_huge(word) {
+                    tables.push((Vec::from_slice(alloc, &path)?, address(word)))?;
+                }
+                path.pop();
             }
-            path.pop();
         }
+        assert!(rt; tables.is_empty());
         Ok(())
     }
 
     /// Compares the states.
     fn compare(&self, rt: &impl Abort, alloc: Global) -> Result<(), Fail> {
-        self.compare_tables(rt, &mut Vec::new(alloc), ROOT, 3)?;
+        self.compare_tables(rt, alloc)?;
         compare_pool(rt, &self.pool, &self.plain.pool, "of the plain state");
         for index in 0..WORD_COUNT {
             assert_eq!(rt; word_at(&self.memory, 0x0, index)?, 0, "{index}");
@@ -138,7 +139,7 @@ impl Twins {
             let (call, plain) = chooser.call(alloc)?;
             let reply = MACHINE.step(&mut self.plain, &plain)?;
             let reply = reply_to(call, reply).ok_or("a reply that fits no such call")?;
-            let kind = kind_of(&reply);
+            let kind = kind_of(reply);
             counts[kind] = counts[kind].saturating_add(1);
             calls.push(call)?;
             wanted.push(reply)?;

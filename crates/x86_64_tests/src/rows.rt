@@ -6,7 +6,9 @@ use std::alloc::Global;
 use std::process::Abort;
 use std::test::Fail;
 use x86_64::structures::paging::mapper::{MapToError, MapperFlush, TranslateResult, UnmapError};
-use x86_64::structures::paging::{MappedPageTable, Mapper, Page, PageTableIndex, Size4KiB};
+use x86_64::structures::paging::{
+    MappedPageTable, Mapper, Page, PageTableFlags, PageTableIndex, Size4KiB,
+};
 use x86_64::{
     Call, FramePool, IdentityMapping, PhysAddr, PhysMemory, PoolRefusal, Reply, SizeCall,
     SizeReply, VirtAddr, pool_fits,
@@ -71,9 +73,14 @@ fn unmapped(frame: u64, page: u64) -> Reply {
     Reply::Of4KiB(SizeReply::Unmap(Ok((frame_at(frame), page_at(page)))))
 }
 
-/// Makes the reply to an unmap that was refused.
-fn not_unmapped(error: UnmapError) -> Reply {
-    Reply::Of4KiB(SizeReply::Unmap(Err(error)))
+/// Makes the reply to an unmap of a page that wasn't mapped.
+fn absent() -> Reply {
+    Reply::Of4KiB(SizeReply::Unmap(Err(UnmapError::PageNotMapped)))
+}
+
+/// Maps the page 0x1000 to the frame 0x5000.
+fn first() -> (Call, Reply) {
+    (map(0x1000, 0x5000, 0x3), mapped(0x1000))
 }
 
 /// Gives the word that a row wants at an index of a frame.
@@ -152,27 +159,33 @@ fn check_row(rt: &impl Abort, alloc: Global, row: &Row<'_>, title: &str) -> Resu
 
 #[test]
 fn maps_take_tables_from_the_front_of_the_pool(rt: HostRuntime) -> Result<(), Fail> {
-    let first = (map(0x1000, 0x5000, 0x3), mapped(0x1000));
-    let failed = not_mapped(MapToError::FrameAllocationFailed);
-    let address = Reply::Address(Some(PhysAddr::new(0x5abc)));
     let rows = [
         Row {
             free: &FREE,
-            calls: &[first, (Call::TranslateAddr(VirtAddr::new(0x1abc)), address)],
+            calls: &[
+                first(),
+                (
+                    Call::TranslateAddr(VirtAddr::new(0x1abc)),
+                    Reply::Address(Some(PhysAddr::new(0x5abc))),
+                ),
+            ],
             words: &WORDS,
             full: &[],
             left: &[],
         },
         Row {
             free: &FREE[..2],
-            calls: &[(map(0x1000, 0x5000, 0x3), failed)],
+            calls: &[(
+                map(0x1000, 0x5000, 0x3),
+                not_mapped(MapToError::FrameAllocationFailed),
+            )],
             words: &WORDS[..2],
             full: &[],
             left: &[],
         },
         Row {
             free: &[0x2000, 0x3000, 0x4000, 0x7000, 0x6000],
-            calls: &[first],
+            calls: &[first()],
             words: &WORDS,
             full: &[0x6000, 0x7000],
             left: &[0x7000, 0x6000],
@@ -183,14 +196,17 @@ fn maps_take_tables_from_the_front_of_the_pool(rt: HostRuntime) -> Result<(), Fa
 
 #[test]
 fn refused_maps_leave_what_they_did(rt: HostRuntime) -> Result<(), Fail> {
-    let first = (map(0x1000, 0x5000, 0x3), mapped(0x1000));
-    let taken = not_mapped(MapToError::PageAlreadyMapped(frame_at(0x9000)));
-    let nowhere = Reply::Translate(TranslateResult::NotMapped);
     let rows = [
         // The frame of the reply is the one asked for.
         Row {
             free: &FREE,
-            calls: &[first, (map(0x1000, 0x9000, 0x1), taken)],
+            calls: &[
+                first(),
+                (
+                    map(0x1000, 0x9000, 0x1),
+                    not_mapped(MapToError::PageAlreadyMapped(frame_at(0x9000))),
+                ),
+            ],
             words: &WORDS,
             full: &[],
             left: &[],
@@ -199,9 +215,12 @@ fn refused_maps_leave_what_they_did(rt: HostRuntime) -> Result<(), Fail> {
         Row {
             free: &FREE,
             calls: &[
-                first,
+                first(),
                 (map(0x2000, 0x0, 0x0), mapped(0x2000)),
-                (Call::Translate(VirtAddr::new(0x2000)), nowhere),
+                (
+                    Call::Translate(VirtAddr::new(0x2000)),
+                    Reply::Translate(TranslateResult::NotMapped),
+                ),
             ],
             words: &WORDS,
             full: &[],
@@ -230,12 +249,14 @@ fn maps_that_are_not_allowed_change_nothing(rt: HostRuntime) -> Result<(), Fail>
 
 #[test]
 fn unmaps_leave_the_tables(rt: HostRuntime) -> Result<(), Fail> {
-    let first = (map(0x1000, 0x5000, 0x3), mapped(0x1000));
-    let absent = not_unmapped(UnmapError::PageNotMapped);
     let rows = [
         Row {
             free: &FREE,
-            calls: &[first, (unmap(0x2000), absent), (unmap(0x4000_0000), absent)],
+            calls: &[
+                first(),
+                (unmap(0x2000), absent()),
+                (unmap(0x4000_0000), absent()),
+            ],
             words: &WORDS,
             full: &[],
             left: &[],
@@ -243,9 +264,9 @@ fn unmaps_leave_the_tables(rt: HostRuntime) -> Result<(), Fail> {
         Row {
             free: &FREE,
             calls: &[
-                first,
+                first(),
                 (unmap(0x1000), unmapped(0x5000, 0x1000)),
-                (unmap(0x1000), absent),
+                (unmap(0x1000), absent()),
             ],
             words: &WORDS[..3],
             full: &[],
@@ -277,7 +298,8 @@ fn mappers_answer_without_lists(rt: HostRuntime) -> Result<(), Fail> {
     };
     let page = page_at(0x1000);
     let frames = (frame_at(0x5000), frame_at(0x9000));
-    let (present, writable) = (flags_of(0x1), flags_of(0x3));
+    let present = PageTableFlags::PRESENT;
+    let writable = flags_of(0x3);
     let (mut memory, mut pool) = begin(rt.alloc(), &FREE)?;
     let root = frame_at(ROOT);
     assert!(rt; pool_fits(rt.alloc(), &memory, &IdentityMapping, root, &pool)?);
@@ -298,6 +320,7 @@ fn mappers_answer_without_lists(rt: HostRuntime) -> Result<(), Fail> {
         .unmap(page)
         .map(|(frame, flush)| (frame, page_of(flush)));
     assert_eq!(rt; answer, Err(UnmapError::PageNotMapped));
+    drop(mapper);
     compare(&rt, &memory, &pool, &after, "by the mapper")
 }
 

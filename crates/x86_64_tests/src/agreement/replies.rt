@@ -1,4 +1,6 @@
 //! Replies of the plain program as those of `run`.
+ghost use Rattle.std.specs.Prelude.{◌<◌};
+
 use crate::images::{flags_of, frame_at};
 use x86_64::structures::paging::mapper::{MapToError, MappedFrame, TranslateResult, UnmapError};
 use x86_64::structures::paging::{Page, PhysFrame, Size4KiB};
@@ -61,43 +63,71 @@ fn translate_result(translated: Translated) -> TranslateResult {
     }
 }
 
-/// Gives the reply of `run` to a call that the plain program replies to so, or `None` where its reply fits no such call.
-pub fn reply_to(call: Call, plain: PlainReply) -> Option<Reply> {
-    match (call, plain) {
-        (_, PlainReply::NotAllowed) => Some(Reply::NotAllowed),
-        (Call::Of4KiB(SizeCall::MapTo { page, .. }), PlainReply::Answered(answer)) => {
-            Some(Reply::Of4KiB(SizeReply::Map(map_result(page, answer)?)))
-        }
-        (Call::Of4KiB(SizeCall::Unmap { page }), PlainReply::Answered(answer)) => {
-            Some(Reply::Of4KiB(SizeReply::Unmap(unmap_result(page, answer)?)))
-        }
-        (Call::Translate(_), PlainReply::Position(translated)) => {
-            Some(Reply::Translate(translate_result(translated)))
-        }
-        (Call::TranslateAddr(_), PlainReply::Address(address)) => {
-            Some(Reply::Address(address.map(PhysAddr::new_truncate)))
-        }
-        _ => None,
+/// The same of a call on a page.
+fn size_reply(call: SizeCall<Size4KiB>, answer: Answer) -> Option<SizeReply<Size4KiB>> {
+    match call {
+        SizeCall::MapTo { page, .. } => Some(SizeReply::Map(map_result(page, answer)?)),
+        SizeCall::Unmap { page } => Some(SizeReply::Unmap(unmap_result(page, answer)?)),
     }
 }
 
-/// Gives the number of a reply's kind.
-pub fn kind_of(reply: &Reply) -> usize {
-    match reply {
-        Reply::NotAllowed => 0,
-        Reply::Of4KiB(SizeReply::Map(Ok(_))) => 1,
-        Reply::Of4KiB(SizeReply::Map(Err(MapToError::FrameAllocationFailed))) => 2,
-        Reply::Of4KiB(SizeReply::Map(Err(MapToError::ParentEntryHugePage))) => 3,
-        Reply::Of4KiB(SizeReply::Map(Err(MapToError::PageAlreadyMapped(_)))) => 4,
-        Reply::Of4KiB(SizeReply::Unmap(Ok(_))) => 5,
-        Reply::Of4KiB(SizeReply::Unmap(Err(UnmapError::ParentEntryHugePage))) => 6,
-        Reply::Of4KiB(SizeReply::Unmap(Err(_))) => 7,
-        Reply::Translate(TranslateResult::NotMapped) => 8,
-        Reply::Translate(_) => 9,
-        Reply::Address(None) => 10,
-        Reply::Address(Some(_)) => 11,
+/// Gives the reply of `run` to a call that the plain program replies to so, or `None` where its reply fits no such call.
+pub fn reply_to(call: Call, plain: PlainReply) -> Option<Reply> {
+    match plain {
+        PlainReply::NotAllowed => Some(Reply::NotAllowed),
+        PlainReply::Answered(answer) => match call {
+            Call::Of4KiB(call) => Some(Reply::Of4KiB(size_reply(call, answer)?)),
+            _ => None,
+        },
+        PlainReply::Position(translated) => match call {
+            Call::Translate(_) => Some(Reply::Translate(translate_result(translated))),
+            _ => None,
+        },
+        PlainReply::Address(address) => match call {
+            Call::TranslateAddr(_) => Some(Reply::Address(address.map(PhysAddr::new_truncate))),
+            _ => None,
+        },
+        PlainReply::Cleaned => None,
     }
 }
 
 /// How many kinds of replies there are.
 pub const REPLY_KINDS: usize = 12;
+
+/// Gives the number of a reply's kind.
+pub fn kind_of(reply: Reply) -> usize
+    ensures { result < 12 }
+{
+    match reply {
+        Reply::NotAllowed => 0,
+        Reply::Address(None) => 1,
+        Reply::Address(Some(_)) => 2,
+        Reply::Translate(TranslateResult::NotMapped) => 3,
+        Reply::Translate(_) => 4,
+        Reply::Of4KiB(SizeReply::Map(result)) => map_kind(result),
+        Reply::Of4KiB(SizeReply::Unmap(result)) => unmap_kind(result),
+    }
+}
+
+/// The same of the reply to a map.
+fn map_kind(answer: Result<Page<Size4KiB>, MapToError<Size4KiB>>) -> usize
+    ensures { result < 12 }
+{
+    match answer {
+        Ok(_) => 5,
+        Err(MapToError::FrameAllocationFailed) => 6,
+        Err(MapToError::ParentEntryHugePage) => 7,
+        Err(MapToError::PageAlreadyMapped(_)) => 8,
+    }
+}
+
+/// The same of the reply to an unmap.
+fn unmap_kind(answer: Result<(PhysFrame<Size4KiB>, Page<Size4KiB>), UnmapError>) -> usize
+    ensures { result < 12 }
+{
+    match answer {
+        Ok(_) => 9,
+        Err(UnmapError::ParentEntryHugePage) => 10,
+        Err(_) => 11,
+    }
+}
