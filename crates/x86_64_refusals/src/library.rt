@@ -16,6 +16,9 @@ use x86_64::{
 /// The addresses of the frames that are free at first.
 const FREE: [u64; 3] = [0x2000, 0x3000, 0x4000];
 
+/// A reply from before a list.
+const EARLIER: Reply = Reply::NotAllowed;
+
 /// Gives the frame that contains an address.
 fn frame_at(address: u64) -> PhysFrame<Size4KiB> {
     PhysFrame::containing_address(PhysAddr::new_truncate(address))
@@ -47,7 +50,7 @@ fn memories_and_pools_are_made_once_there_is_room(rt: HostRuntime) -> Result<(),
 fn hierarchies_and_pools_are_tested_once_there_is_room(rt: HostRuntime) -> Result<(), Fail> {
     let alloc = rt.alloc();
     let root = frame_at(0x1000);
-    let memory = PhysMemory::new(alloc, 4096)?;
+    let mut memory = PhysMemory::new(alloc, 4096)?;
     let pool = pool_of(alloc, 4096)?;
     let is_valid = answer_at_last(&rt, alloc, || {
         is_valid_hierarchy(alloc, &memory, &IdentityMapping, root)
@@ -57,6 +60,9 @@ fn hierarchies_and_pools_are_tested_once_there_is_room(rt: HostRuntime) -> Resul
         pool_fits(alloc, &memory, &IdentityMapping, root, &pool)
     })?;
     assert!(rt; fits);
+    assert!(rt; is_valid_hierarchy(alloc, &memory, &IdentityMapping, root)?);
+    let mapper = MappedPageTable::new(&mut memory, root, IdentityMapping);
+    assert!(rt; answer_at_last(&rt, alloc, || mapper.is_valid(alloc))?);
     Ok(())
 }
 
@@ -86,9 +92,6 @@ fn is_untouched(memory: &PhysMemory, pool: &FramePool, replies: &[Reply]) -> boo
     let is_free = (0..3).all(|n| pool.frame_at(n) == FREE.get(n).map(|frame| frame_at(*frame)));
     is_empty && is_free && pool.len() == 3 && replies == [EARLIER].as_slice()
 }
-
-/// A reply from before the list.
-const EARLIER: Reply = Reply::NotAllowed;
 
 #[test]
 fn lists_change_nothing_until_there_is_room(rt: HostRuntime) -> Result<(), Fail> {
