@@ -1,6 +1,6 @@
 -- What the entry of a page says of its frame.
-use Rattle.std.proofs.Common.{◌≡◌, ◌%◌, ℕ, Bool, true, false, ◌==◌, not, cond, Result, Ok, Err, refl, sym, ◌∙◌}
-use Rattle.x86_64_model.specs.Entry.{present, huge, address}
+use Rattle.std.proofs.Common.{◌≡◌, ◌%◌, ℕ, Bool, true, false, ◌==◌, ◌&&◌, ◌||◌, not, cond, Result, Ok, Err, refl, sym, ◌∙◌}
+use Rattle.x86_64_model.specs.Entry.{present, used, huge, address}
 use Rattle.x86_64_model.specs.Position.{span}
 use Rattle.x86_64_model.specs.Refusal.{Refusal, PageNotMapped, ParentEntryHugePage, InvalidFrameAddress}
 
@@ -30,3 +30,14 @@ names_frame level e frame is = by (present e) (level == 1) (huge e) (address e %
     by true false false a x y z is = absurd (let t = is in cc)
     by true false true true x y z is = record { is_present = x; is_huge = λ t. z; names = (let t : frame ≡ address e = cc in t) }
     by true false true false x y z is = absurd (let t = is in cc)
+
+-- whether an entry maps a page of a level: it is used, and huge above level one
+abbrev pub maps_page : (level entry : ℕ) → Bool
+maps_page level e = used e && ((level == 1) || huge e)
+
+abbrev pub named_by : (is_used maps aligned : Bool) → (address : ℕ) → Result ℕ Refusal
+named_by u maps aligned a = cond (not u) (Err PageNotMapped) (cond (maps && aligned) (Ok a) (Err (InvalidFrameAddress a)))
+
+-- the frame that the entry of a page of a level names, present or not, or why it names none
+abbrev pub named_frame : (level entry : ℕ) → Result ℕ Refusal
+named_frame level e = named_by (used e) (maps_page level e) (address e % span level == 0) (address e)

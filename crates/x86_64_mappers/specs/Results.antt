@@ -2,8 +2,11 @@
 use Rattle.std.specs.Prelude.{ℕ, Result, Ok, Err}
 use Rattle.x86_64_model.specs.Refusal as refusal
 use Rattle.x86_64_model.specs.Refusal.{Refusal, Answer, Done, Refused}
-use Rattle.x86_64_tables.specs.MapperAnswers.{unmap_refusal}
+use Rattle.x86_64_tables.specs.MapperAnswers.{unmap_refusal, translate_refusal}
 use Rattle.x86_64_tables.specs.declared.mapper.UnmapError.{UnmapError}
+use Rattle.x86_64_tables.specs.declared.mapper.TranslateError.{TranslateError}
+use Rattle.x86_64_mappers.specs.declared.walker.find.PageTableWalkError.{PageTableWalkError}
+use Rattle.x86_64_mappers.specs.declared.walker.find.PageTableWalkError.TheVariants as walk
 use Rattle.x86_64_mappers.specs.declared.walker.map.PageTableCreateError.{PageTableCreateError}
 use Rattle.x86_64_mappers.specs.declared.walker.map.PageTableCreateError.TheVariants.{MappedToHugePage, FrameAllocationFailed}
 
@@ -15,6 +18,20 @@ create_refusal FrameAllocationFailed = refusal.FrameAllocationFailed
 abbrev pub create_result : {X : Type 0} → Result X PageTableCreateError → Result X Refusal
 create_result (Ok x) = Ok x
 create_result (Err why) = Err (create_refusal why)
+
+abbrev pub walk_refusal : PageTableWalkError → Refusal
+walk_refusal walk.NotMapped = refusal.PageNotMapped
+walk_refusal walk.MappedToHugePage = refusal.ParentEntryHugePage
+
+-- of a step down to a table that is there
+abbrev pub walk_result : {X : Type 0} → Result X PageTableWalkError → Result X Refusal
+walk_result (Ok x) = Ok x
+walk_result (Err why) = Err (walk_refusal why)
+
+-- of a step of a translation of a page
+abbrev pub translate_result : {X : Type 0} → Result X TranslateError → Result X Refusal
+translate_result (Ok x) = Ok x
+translate_result (Err why) = Err (translate_refusal why)
 
 -- of a step of an unmap
 abbrev pub unmap_result : {X : Type 0} → Result X UnmapError → Result X Refusal

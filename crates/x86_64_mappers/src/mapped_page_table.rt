@@ -12,7 +12,8 @@ use x86_64_page::frame::PhysFrame;
 use x86_64_page::page::{Page, PageSize, Size4KiB};
 use x86_64_tables::frame_alloc::FrameAllocator;
 use x86_64_tables::mapper::{
-    MapToError, Mapper, MapperFlush, PageTables, Translate, TranslateResult, UnmapError,
+    FlagUpdateError, MapToError, Mapper, MapperFlush, MapperFlushAll, PageTables, Translate,
+    TranslateError, TranslateResult, UnmapError,
 };
 use x86_64_tables::page_table::{PageTable, PageTableFlags};
 use x86_64_tables::phys_memory::{PageTableFrameMapping, PhysMemory, is_valid_hierarchy};
@@ -121,10 +122,13 @@ impl<'a, P: PageTableFrameMapping, S: PageSize> Mapper<S> for MappedPageTable<'a
     ghost use Rattle.std.specs.Prelude.{not};
     ghost use Rattle.x86_64_model.specs.Allowed.{map_allowed as is_map_allowed};
     ghost use Rattle.x86_64_model.specs.Layout.{paths};
-    ghost use Rattle.x86_64_model.specs.MapperCalls.{IsReady, IsMapped, IsUnmapped};
+    ghost use Rattle.x86_64_model.specs.Allowed.{allowed as is_allowed};
+    ghost use Rattle.x86_64_model.specs.Call.{UpdateFlags, SetFlags};
+    ghost use Rattle.x86_64_model.specs.MapperCalls.{IsReady, IsMapped, IsChanged, after_unmap, after_update, after_set_flags, page_translation};
     ghost use Rattle.x86_64_model.specs.Path.{path_at};
+    ghost use Rattle.x86_64_model.specs.Refusal.{refusal_of};
     ghost use Rattle.x86_64_model.specs.Window.{begins_with};
-    ghost use Rattle.x86_64_tables.specs.MapperAnswers.{map_answer, unmap_answer};
+    ghost use Rattle.x86_64_tables.specs.MapperAnswers.{map_answer, unmap_answer, flags_refusal, translate_answer};
     ghost use Rattle.x86_64_tables.specs.PageTableFlags.{bits_of};
     ghost use Rattle.std.proofs.Common.{refl};
 
@@ -180,8 +184,10 @@ impl<'a, P: PageTableFrameMapping, S: PageSize> Mapper<S> for MappedPageTable<'a
         requires valid { Valid (⟦<Self as PageTables>⟧.layout self.old) (⟦<Self as PageTables>⟧.memory self.old) }
         requires outside { let layout = ⟦<Self as PageTables>⟧.layout self.old in
             IsTrue (not (begins_with layout.window (path_at layout.levels S.LEVEL page))) }
-        ensures unmapped { let layout = ⟦<Self as PageTables>⟧.layout self.old in
-            IsUnmapped layout (⟦<Self as PageTables>⟧.memory self.old) (path_at layout.levels S.LEVEL page) (unmap_answer result) (⟦<Self as PageTables>⟧.memory self.new) }
+        ensures answer { let layout = ⟦<Self as PageTables>⟧.layout self.old in
+            unmap_answer result ≡ (after_unmap layout (⟦<Self as PageTables>⟧.memory self.old) (path_at layout.levels S.LEVEL page)).answer }
+        ensures changed { let layout = ⟦<Self as PageTables>⟧.layout self.old in
+            IsChanged layout (⟦<Self as PageTables>⟧.memory self.old) (after_unmap layout (⟦<Self as PageTables>⟧.memory self.old) (path_at layout.levels S.LEVEL page)) (⟦<Self as PageTables>⟧.memory self.new) }
         ensures page { IfOk result (λ unmapped. unmapped.1 ≡ page) }
         ensures layout { ⟦<Self as PageTables>⟧.layout self.new ≡ ⟦<Self as PageTables>⟧.layout self.old }
         ensures lent { ⟦<Self as PageTables>⟧.lent self.new ≡ ⟦<Self as PageTables>⟧.lent self.old }
@@ -190,6 +196,127 @@ impl<'a, P: PageTableFrameMapping, S: PageSize> Mapper<S> for MappedPageTable<'a
         let path = &indices[..path_length::<S>()];
         let frame = self.walker.unmap_path(self.memory, self.root, path)?;
         Ok((frame, MapperFlush::new(page)))
+    }
+
+    fn update_flags(
+        &mut self,
+        page: Page<S>,
+        flags: PageTableFlags,
+    ) -> Result<MapperFlush<S>, FlagUpdateError>
+        requires valid { Valid (⟦<Self as PageTables>⟧.layout self.old) (⟦<Self as PageTables>⟧.memory self.old) }
+        requires allowed { let layout = ⟦<Self as PageTables>⟧.layout self.old in
+            IsTrue (is_allowed layout.levels layout.window (paths layout (⟦<Self as PageTables>⟧.memory self.old)) (UpdateFlags (path_at layout.levels S.LEVEL page) (bits_of flags))) }
+        ensures refusal { let layout = ⟦<Self as PageTables>⟧.layout self.old in
+            flags_refusal result ≡ refusal_of (after_update layout (⟦<Self as PageTables>⟧.memory self.old) (path_at layout.levels S.LEVEL page) (bits_of flags)).answer }
+        ensures changed { let layout = ⟦<Self as PageTables>⟧.layout self.old in
+            IsChanged layout (⟦<Self as PageTables>⟧.memory self.old) (after_update layout (⟦<Self as PageTables>⟧.memory self.old) (path_at layout.levels S.LEVEL page) (bits_of flags)) (⟦<Self as PageTables>⟧.memory self.new) }
+        ensures page { IfOk result (λ flush. flush ≡ page) }
+        ensures layout { ⟦<Self as PageTables>⟧.layout self.new ≡ ⟦<Self as PageTables>⟧.layout self.old }
+        ensures lent { ⟦<Self as PageTables>⟧.lent self.new ≡ ⟦<Self as PageTables>⟧.lent self.old }
+    {
+        let indices = page_indices(page);
+        let path = &indices[..path_length::<S>()];
+        self.walker
+            .update_path::<S>(self.memory, self.root, path, flags)?;
+        Ok(MapperFlush::new(page))
+    }
+
+    fn set_flags_p4_entry(
+        &mut self,
+        page: Page<S>,
+        flags: PageTableFlags,
+    ) -> Result<MapperFlushAll, FlagUpdateError>
+        requires valid { Valid (⟦<Self as PageTables>⟧.layout self.old) (⟦<Self as PageTables>⟧.memory self.old) }
+        requires allowed { let layout = ⟦<Self as PageTables>⟧.layout self.old in
+            IsTrue (is_allowed layout.levels layout.window (paths layout (⟦<Self as PageTables>⟧.memory self.old)) (SetFlags 4 (path_at layout.levels S.LEVEL page) (bits_of flags))) }
+        ensures refusal { let layout = ⟦<Self as PageTables>⟧.layout self.old in
+            flags_refusal result ≡ refusal_of (after_set_flags layout (⟦<Self as PageTables>⟧.memory self.old) 4 (path_at layout.levels S.LEVEL page) (bits_of flags)).answer }
+        ensures changed { let layout = ⟦<Self as PageTables>⟧.layout self.old in
+            IsChanged layout (⟦<Self as PageTables>⟧.memory self.old) (after_set_flags layout (⟦<Self as PageTables>⟧.memory self.old) 4 (path_at layout.levels S.LEVEL page) (bits_of flags)) (⟦<Self as PageTables>⟧.memory self.new) }
+        ensures layout { ⟦<Self as PageTables>⟧.layout self.new ≡ ⟦<Self as PageTables>⟧.layout self.old }
+        ensures lent { ⟦<Self as PageTables>⟧.lent self.new ≡ ⟦<Self as PageTables>⟧.lent self.old }
+    {
+        let indices = page_indices(page);
+        let path = &indices[..path_length::<S>()];
+        self.walker
+            .set_table_flags::<S>(self.memory, self.root, path, 4, flags)?;
+        Ok(MapperFlushAll::new())
+    }
+
+    fn set_flags_p3_entry(
+        &mut self,
+        page: Page<S>,
+        flags: PageTableFlags,
+    ) -> Result<MapperFlushAll, FlagUpdateError>
+        requires valid { Valid (⟦<Self as PageTables>⟧.layout self.old) (⟦<Self as PageTables>⟧.memory self.old) }
+        requires allowed { let layout = ⟦<Self as PageTables>⟧.layout self.old in
+            IsTrue (is_allowed layout.levels layout.window (paths layout (⟦<Self as PageTables>⟧.memory self.old)) (SetFlags 3 (path_at layout.levels S.LEVEL page) (bits_of flags))) }
+        ensures refusal { let layout = ⟦<Self as PageTables>⟧.layout self.old in
+            flags_refusal result ≡ refusal_of (after_set_flags layout (⟦<Self as PageTables>⟧.memory self.old) 3 (path_at layout.levels S.LEVEL page) (bits_of flags)).answer }
+        ensures changed { let layout = ⟦<Self as PageTables>⟧.layout self.old in
+            IsChanged layout (⟦<Self as PageTables>⟧.memory self.old) (after_set_flags layout (⟦<Self as PageTables>⟧.memory self.old) 3 (path_at layout.levels S.LEVEL page) (bits_of flags)) (⟦<Self as PageTables>⟧.memory self.new) }
+        ensures layout { ⟦<Self as PageTables>⟧.layout self.new ≡ ⟦<Self as PageTables>⟧.layout self.old }
+        ensures lent { ⟦<Self as PageTables>⟧.lent self.new ≡ ⟦<Self as PageTables>⟧.lent self.old }
+    {
+        let indices = page_indices(page);
+        let path = &indices[..path_length::<S>()];
+        self.walker
+            .set_table_flags::<S>(self.memory, self.root, path, 3, flags)?;
+        Ok(MapperFlushAll::new())
+    }
+
+    fn set_flags_p2_entry(
+        &mut self,
+        page: Page<S>,
+        flags: PageTableFlags,
+    ) -> Result<MapperFlushAll, FlagUpdateError>
+        requires valid { Valid (⟦<Self as PageTables>⟧.layout self.old) (⟦<Self as PageTables>⟧.memory self.old) }
+        requires allowed { let layout = ⟦<Self as PageTables>⟧.layout self.old in
+            IsTrue (is_allowed layout.levels layout.window (paths layout (⟦<Self as PageTables>⟧.memory self.old)) (SetFlags 2 (path_at layout.levels S.LEVEL page) (bits_of flags))) }
+        ensures refusal { let layout = ⟦<Self as PageTables>⟧.layout self.old in
+            flags_refusal result ≡ refusal_of (after_set_flags layout (⟦<Self as PageTables>⟧.memory self.old) 2 (path_at layout.levels S.LEVEL page) (bits_of flags)).answer }
+        ensures changed { let layout = ⟦<Self as PageTables>⟧.layout self.old in
+            IsChanged layout (⟦<Self as PageTables>⟧.memory self.old) (after_set_flags layout (⟦<Self as PageTables>⟧.memory self.old) 2 (path_at layout.levels S.LEVEL page) (bits_of flags)) (⟦<Self as PageTables>⟧.memory self.new) }
+        ensures layout { ⟦<Self as PageTables>⟧.layout self.new ≡ ⟦<Self as PageTables>⟧.layout self.old }
+        ensures lent { ⟦<Self as PageTables>⟧.lent self.new ≡ ⟦<Self as PageTables>⟧.lent self.old }
+    {
+        let indices = page_indices(page);
+        let path = &indices[..path_length::<S>()];
+        self.walker
+            .set_table_flags::<S>(self.memory, self.root, path, 2, flags)?;
+        Ok(MapperFlushAll::new())
+    }
+
+    fn p3_flags_allowed(&self, page: Page<S>, flags: PageTableFlags) -> bool
+        requires { Valid (⟦<Self as PageTables>⟧.layout self.now) (⟦<Self as PageTables>⟧.memory self.now) }
+        ensures { let layout = ⟦<Self as PageTables>⟧.layout self.now in
+            result ≡ is_allowed layout.levels layout.window (paths layout (⟦<Self as PageTables>⟧.memory self.now)) (SetFlags 3 (path_at layout.levels S.LEVEL page) (bits_of flags)) }
+    {
+        let indices = page_indices(page);
+        let path = &indices[..path_length::<S>()];
+        self.walker
+            .table_flags_allowed::<S>(self.memory, self.root, path, 3, flags)
+    }
+
+    fn p2_flags_allowed(&self, page: Page<S>, flags: PageTableFlags) -> bool
+        requires { Valid (⟦<Self as PageTables>⟧.layout self.now) (⟦<Self as PageTables>⟧.memory self.now) }
+        ensures { let layout = ⟦<Self as PageTables>⟧.layout self.now in
+            result ≡ is_allowed layout.levels layout.window (paths layout (⟦<Self as PageTables>⟧.memory self.now)) (SetFlags 2 (path_at layout.levels S.LEVEL page) (bits_of flags)) }
+    {
+        let indices = page_indices(page);
+        let path = &indices[..path_length::<S>()];
+        self.walker
+            .table_flags_allowed::<S>(self.memory, self.root, path, 2, flags)
+    }
+
+    fn translate_page(&self, page: Page<S>) -> Result<PhysFrame<S>, TranslateError>
+        requires { Valid (⟦<Self as PageTables>⟧.layout self.now) (⟦<Self as PageTables>⟧.memory self.now) }
+        ensures { let layout = ⟦<Self as PageTables>⟧.layout self.now in
+            translate_answer result ≡ page_translation layout (⟦<Self as PageTables>⟧.memory self.now) (path_at layout.levels S.LEVEL page) }
+    {
+        let indices = page_indices(page);
+        let path = &indices[..path_length::<S>()];
+        self.walker.translate_path(self.memory, self.root, path)
     }
 
     ghost four_levels = { λ mapper. refl };

@@ -14,7 +14,10 @@ ghost use Rattle.x86_64_mappers.specs.Writes.{IsThere, IsSet, IsCleared, word_in
 ghost use Rattle.x86_64_tables.specs.Translations.{translation_of, frame_start, frame_size};
 
 mod condition;
+mod find;
 mod map;
+mod page;
+mod table_flags;
 mod unmap;
 
 use x86_64_addr::addr::VirtAddr;

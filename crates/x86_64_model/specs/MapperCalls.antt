@@ -6,7 +6,7 @@ use Rattle.x86_64_model.specs.Lists.{In}
 use Rattle.x86_64_model.specs.Pool.{IsTable, IsOwn, Fits}
 use Rattle.x86_64_model.specs.Refusal.{Answer}
 use Rattle.x86_64_model.specs.MapRule.{map_call}
-use Rattle.x86_64_model.specs.PageRules.{unmap}
+use Rattle.x86_64_model.specs.PageRules.{AfterChange, unmap, update_flags, set_flags, translate_page}
 use Rattle.x86_64_model.specs.Layout.{Layout, words, paths, read_entry, Valid}
 
 -- the hierarchy is valid now, and the supply's frames are as in a pool that fits
@@ -32,10 +32,23 @@ pub record IsMapped (l : Layout) (m : Memory) (supply : List ℕ) (page : List �
   pub ready : IsReady l n rest
   pub others : KeepsOthers l.places (Uses l m supply rest) m n
 
--- a call that unmaps a page: the path map and the answer are those of the rule, the hierarchy is valid again and a supply that fitted it still
--- does, and no word changed but in the root and the tables
-pub record IsUnmapped (l : Layout) (m : Memory) (page : List ℕ) (answer : Answer) (n : Memory) : Type 0 where
-  pub outcome : unmap l.levels (read_entry l m) (paths l m) page ≡ record { paths = paths l n; answer = answer }
+-- what the calls on one entry make of the hierarchy in a memory
+abbrev pub after_unmap : Layout → Memory → (page : List ℕ) → AfterChange
+after_unmap l m page = unmap l.levels (read_entry l m) (paths l m) page
+
+abbrev pub after_update : Layout → Memory → (page : List ℕ) → (flags : ℕ) → AfterChange
+after_update l m page given = update_flags l.levels (read_entry l m) (paths l m) page given
+
+abbrev pub after_set_flags : Layout → Memory → (level : ℕ) → (page : List ℕ) → (flags : ℕ) → AfterChange
+after_set_flags l m level page given = set_flags l.levels (read_entry l m) (paths l m) level page given
+
+abbrev pub page_translation : Layout → Memory → (page : List ℕ) → Answer
+page_translation l m page = translate_page l.levels (read_entry l m) page
+
+-- a call that changes one entry at most: the path map is that of the rule, the hierarchy is valid again and a supply that fitted it still does,
+-- and no word changed but in the root and the tables
+pub record IsChanged (l : Layout) (m : Memory) (after : AfterChange) (n : Memory) : Type 0 where
+  pub meant : after.paths ≡ paths l n
   pub valid : Valid l n
   pub ready : (supply : List ℕ) → IsReady l m supply → IsReady l n supply
   pub others : KeepsOthers l.places (IsTable l.levels l.root (paths l m)) m n

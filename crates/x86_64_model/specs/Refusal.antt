@@ -28,3 +28,8 @@ refused_if test why next = cond test (Some why) next
 abbrev pub answer_unless : Option Refusal → Answer → Answer
 answer_unless None next = next
 answer_unless (Some why) next = Refused why
+
+-- the refusal that an answer is, none where the call was done
+abbrev pub refusal_of : Answer → Option Refusal
+refusal_of (Done frame) = None
+refusal_of (Refused why) = Some why

@@ -1,11 +1,15 @@
 -- What the results of a mapper's calls say.
-use Rattle.std.specs.Prelude.{ℕ, Result, Ok, Err}
+use Rattle.std.specs.Prelude.{ℕ, Option, Some, None, Result, Ok, Err}
 use Rattle.x86_64_model.specs.Refusal as refusal
 use Rattle.x86_64_model.specs.Refusal.{Refusal, Answer, Done, Refused}
 use Rattle.x86_64_tables.specs.declared.mapper.MapToError.{MapToError}
 use Rattle.x86_64_tables.specs.declared.mapper.MapToError.TheVariants as map_to
 use Rattle.x86_64_tables.specs.declared.mapper.UnmapError.{UnmapError}
 use Rattle.x86_64_tables.specs.declared.mapper.UnmapError.TheVariants as unmap
+use Rattle.x86_64_tables.specs.declared.mapper.FlagUpdateError.{FlagUpdateError}
+use Rattle.x86_64_tables.specs.declared.mapper.FlagUpdateError.TheVariants as update
+use Rattle.x86_64_tables.specs.declared.mapper.TranslateError.{TranslateError}
+use Rattle.x86_64_tables.specs.declared.mapper.TranslateError.TheVariants as translate
 
 abbrev pub map_refusal : {S : Type 0} → MapToError S → Refusal
 map_refusal map_to.FrameAllocationFailed = refusal.FrameAllocationFailed
@@ -26,3 +30,22 @@ unmap_refusal (unmap.InvalidFrameAddress address) = refusal.InvalidFrameAddress 
 abbrev pub unmap_answer : Result (ℕ × ℕ) UnmapError → Answer
 unmap_answer (Ok unmapped) = Done unmapped.0
 unmap_answer (Err why) = Refused (unmap_refusal why)
+
+abbrev pub update_refusal : FlagUpdateError → Refusal
+update_refusal update.PageNotMapped = refusal.PageNotMapped
+update_refusal update.ParentEntryHugePage = refusal.ParentEntryHugePage
+
+-- why flags were not changed, none where they were
+abbrev pub flags_refusal : {X : Type 0} → Result X FlagUpdateError → Option Refusal
+flags_refusal (Ok _) = None
+flags_refusal (Err why) = Some (update_refusal why)
+
+abbrev pub translate_refusal : TranslateError → Refusal
+translate_refusal translate.PageNotMapped = refusal.PageNotMapped
+translate_refusal translate.ParentEntryHugePage = refusal.ParentEntryHugePage
+translate_refusal (translate.InvalidFrameAddress address) = refusal.InvalidFrameAddress address
+
+-- the answer of a translation of a page, which gives a frame
+abbrev pub translate_answer : Result ℕ TranslateError → Answer
+translate_answer (Ok frame) = Done frame
+translate_answer (Err why) = Refused (translate_refusal why)

@@ -1,16 +1,20 @@
 //! What all mappers have in common: the tables that they own for a while, translations of addresses, and maps of pages.
-ghost use Rattle.std.specs.Prelude.{◌≡◌, ℕ, Bool, true, not, List, Some, option_map, IfOk, IsTrue};
+ghost use Rattle.std.specs.Prelude.{◌≡◌, ◌<◌, ◌^◌, ℕ, Bool, true, not, List, Some, option_map, IfOk, IsTrue};
 ghost use Rattle.std.specs.Borrow.{GName};
 ghost use Rattle.x86_64_model.specs.Entry.{IsParentFlags};
 ghost use Rattle.x86_64_model.specs.Memory.{Memory};
+ghost use Rattle.x86_64_model.specs.MapRule.{parent_part};
 ghost use Rattle.x86_64_model.specs.Layout.{Layout, Valid, words, read_entry};
 ghost use Rattle.x86_64_model.specs.PageWalk.{page_walk};
 ghost use Rattle.x86_64_model.specs.Translation.{translate as translated, address_of};
+ghost use Rattle.x86_64_tables.specs.PageTableFlags.{bits_of};
+
+mod flush;
 
 use crate::frame_alloc::FrameAllocator;
 use crate::page_table::PageTableFlags;
 use bitflags::Flags;
-use std::marker::Model;
+pub use flush::{MapperFlush, MapperFlushAll};
 use x86_64_addr::addr::{PhysAddr, VirtAddr};
 use x86_64_addr::index::PageTableIndex;
 use x86_64_page::frame::PhysFrame;
@@ -151,56 +155,51 @@ pub enum UnmapError {
     InvalidFrameAddress(PhysAddr),
 }
 
-/// Stands for a change to the mapping of a page, which the TLB may not have seen yet.
-///
-/// It must be spent, by [`ignore`](Self::ignore): letting it go is a compile error.
-#[must_use]
-#[derive(Debug)]
-pub struct MapperFlush<S: PageSize> {
-    page: Page<S>,
+/// Says why the flags of an entry were not changed.
+#[derive(Clone, Copy, Debug, PartialEq)]
+pub enum FlagUpdateError {
+    /// A parent lacks `PRESENT`, or the entry is unused. For the page's own entry of 2MiB or 1GiB also: it lacks `HUGE_PAGE`.
+    PageNotMapped,
+    /// A parent maps a larger page, or there is no such entry above that of a page of this size.
+    ParentEntryHugePage,
 }
 
-impl<S: PageSize> Model for MapperFlush<S> {
-    ghost use Rattle.std.specs.Prelude.{ℕ};
-
-    ghost Value = { ℕ };
-
-    ghost view = { λ flush. flush.page };
+/// Says why a page has no frame.
+#[derive(Clone, Copy, Debug, PartialEq)]
+pub enum TranslateError {
+    /// A parent of the page lacks `PRESENT`, or the page's own entry is unused.
+    PageNotMapped,
+    /// A parent of the page maps a larger page.
+    ParentEntryHugePage,
+    /// The page's entry names a table, or an address that isn't a multiple of the page's size.
+    InvalidFrameAddress(PhysAddr),
 }
 
-impl<S: PageSize> MapperFlush<S> {
-    /// Makes a token for a page.
-    pub fn new(page: Page<S>) -> Self
-        ensures { result ≡ page }
-    {
-        MapperFlush { page }
-    }
-
-    /// Gives the page.
-    pub fn page(&self) -> Page<S>
-        ensures { result ≡ self.now }
-    {
-        self.page
-    }
-
-    /// Spends the token without a flush.
-    pub fn ignore(self) {
-        let MapperFlush { page: _ } = self;
-    }
+/// Gives the parent flags of [`map_to`](Mapper::map_to): those of `PRESENT`, `WRITABLE` and `USER_ACCESSIBLE` that are among
+/// the flags.
+pub fn parent_flags(flags: PageTableFlags) -> PageTableFlags
+    ensures { bits_of result ≡ parent_part (bits_of flags) }
+{
+    flags.intersection(
+        PageTableFlags::PRESENT
+            .union(PageTableFlags::WRITABLE)
+            .union(PageTableFlags::USER_ACCESSIBLE),
+    )
 }
 
-/// Maps and unmaps pages of a size.
+/// Maps and unmaps pages of a size, and changes the flags of the entries on their paths.
 ///
 /// The parents of a page are the entries on its path from the root down to the one above its own.
 pub trait Mapper<S: PageSize>: PageTables {
     ghost use Rattle.x86_64_model.specs.Allowed.{map_allowed as is_map_allowed};
     ghost use Rattle.x86_64_model.specs.Layout.{paths};
-    ghost use Rattle.x86_64_model.specs.MapperCalls.{IsReady, IsMapped, IsUnmapped};
-    ghost use Rattle.x86_64_model.specs.MapRule.{parent_part};
+    ghost use Rattle.x86_64_model.specs.Allowed.{allowed as is_allowed};
+    ghost use Rattle.x86_64_model.specs.Call.{UpdateFlags, SetFlags};
+    ghost use Rattle.x86_64_model.specs.MapperCalls.{IsReady, IsMapped, IsChanged, after_unmap, after_update, after_set_flags, page_translation};
     ghost use Rattle.x86_64_model.specs.Path.{path_at};
+    ghost use Rattle.x86_64_model.specs.Refusal.{refusal_of};
     ghost use Rattle.x86_64_model.specs.Window.{begins_with};
-    ghost use Rattle.x86_64_tables.specs.MapperAnswers.{map_answer, unmap_answer};
-    ghost use Rattle.x86_64_tables.specs.PageTableFlags.{bits_of};
+    ghost use Rattle.x86_64_tables.specs.MapperAnswers.{map_answer, unmap_answer, flags_refusal, translate_answer};
 
     /// Maps a page to a frame with these flags, and `HUGE_PAGE` for 2MiB and 1GiB.
     ///
@@ -254,12 +253,32 @@ pub trait Mapper<S: PageSize>: PageTables {
         ensures lent { Self.lent self.new ≡ Self.lent self.old }
         ensures serves { A.serves frame_allocator.new ≡ A.serves frame_allocator.old }
     {
-        let parent_flags = flags.intersection(
-            PageTableFlags::PRESENT
-                .union(PageTableFlags::WRITABLE)
-                .union(PageTableFlags::USER_ACCESSIBLE),
-        );
+        let parent_flags = parent_flags(flags);
         self.map_to_with_table_flags(page, frame, flags, parent_flags, frame_allocator)
+    }
+
+    /// Maps the page that starts at a frame's own address to the frame, as [`map_to`](Self::map_to) does.
+    ///
+    /// Conditions: those of [`map_to`](Self::map_to) for this page, and the frame starts below 2^47.
+    final fn identity_map<A: FrameAllocator<Size4KiB>>(
+        &mut self,
+        frame: PhysFrame<S>,
+        flags: PageTableFlags,
+        frame_allocator: &mut A,
+    ) -> Result<MapperFlush<S>, MapToError<S>>
+        requires low { frame < 2 ^ 47 }
+        requires ready { IsReady (Self.layout self.old) (Self.memory self.old) (A.supply frame_allocator.old) }
+        requires allowed { let layout = Self.layout self.old in
+            IsTrue (is_map_allowed layout.levels layout.window (paths layout (Self.memory self.old)) (path_at layout.levels S.LEVEL frame) (bits_of flags) (parent_part (bits_of flags))) }
+        ensures mapped { let layout = Self.layout self.old in
+            IsMapped layout (Self.memory self.old) (A.supply frame_allocator.old) (path_at layout.levels S.LEVEL frame) frame (bits_of flags) (parent_part (bits_of flags)) (map_answer frame result) (Self.memory self.new) (A.supply frame_allocator.new) }
+        ensures page { IfOk result (λ flush. flush ≡ frame) }
+        ensures layout { Self.layout self.new ≡ Self.layout self.old }
+        ensures lent { Self.lent self.new ≡ Self.lent self.old }
+        ensures serves { A.serves frame_allocator.new ≡ A.serves frame_allocator.old }
+    {
+        let page = Page::containing_address(VirtAddr::new(frame.start_address().as_u64()));
+        self.map_to(page, frame, flags, frame_allocator)
     }
 
     /// Tells whether a page may be mapped with these flags and parent flags.
@@ -293,11 +312,146 @@ pub trait Mapper<S: PageSize>: PageTables {
         requires valid { Valid (Self.layout self.old) (Self.memory self.old) }
         requires outside { let layout = Self.layout self.old in
             IsTrue (not (begins_with layout.window (path_at layout.levels S.LEVEL page))) }
-        ensures unmapped { let layout = Self.layout self.old in
-            IsUnmapped layout (Self.memory self.old) (path_at layout.levels S.LEVEL page) (unmap_answer result) (Self.memory self.new) }
+        ensures answer { let layout = Self.layout self.old in
+            unmap_answer result ≡ (after_unmap layout (Self.memory self.old) (path_at layout.levels S.LEVEL page)).answer }
+        ensures changed { let layout = Self.layout self.old in
+            IsChanged layout (Self.memory self.old) (after_unmap layout (Self.memory self.old) (path_at layout.levels S.LEVEL page)) (Self.memory self.new) }
         ensures page { IfOk result (λ unmapped. unmapped.1 ≡ page) }
         ensures layout { Self.layout self.new ≡ Self.layout self.old }
         ensures lent { Self.lent self.new ≡ Self.lent self.old };
 
+    /// Sets the flags of a page's own entry, with `HUGE_PAGE` for 2MiB and 1GiB, and keeps its frame.
+    ///
+    /// Conditions: the hierarchy is valid, the flags have no address bits, and the page's index of level four isn't the
+    /// recursive index.
+    ///
+    /// # Errors
+    ///
+    /// `PageNotMapped` or `ParentEntryHugePage` where a parent lacks `PRESENT` or has `HUGE_PAGE`; else `PageNotMapped` where
+    /// the page's own entry is unused, or lacks `HUGE_PAGE` with 2MiB and 1GiB. A refusal changes nothing.
+    fn update_flags(
+        &mut self,
+        page: Page<S>,
+        flags: PageTableFlags,
+    ) -> Result<MapperFlush<S>, FlagUpdateError>
+        requires valid { Valid (Self.layout self.old) (Self.memory self.old) }
+        requires allowed { let layout = Self.layout self.old in
+            IsTrue (is_allowed layout.levels layout.window (paths layout (Self.memory self.old)) (UpdateFlags (path_at layout.levels S.LEVEL page) (bits_of flags))) }
+        ensures refusal { let layout = Self.layout self.old in
+            flags_refusal result ≡ refusal_of (after_update layout (Self.memory self.old) (path_at layout.levels S.LEVEL page) (bits_of flags)).answer }
+        ensures changed { let layout = Self.layout self.old in
+            IsChanged layout (Self.memory self.old) (after_update layout (Self.memory self.old) (path_at layout.levels S.LEVEL page) (bits_of flags)) (Self.memory self.new) }
+        ensures page { IfOk result (λ flush. flush ≡ page) }
+        ensures layout { Self.layout self.new ≡ Self.layout self.old }
+        ensures lent { Self.lent self.new ≡ Self.lent self.old };
+
+    /// Sets the flags of the entry of level four on a page's path, and keeps its address.
+    ///
+    /// Conditions: the hierarchy is valid, the flags have no address bits and no `HUGE_PAGE`, and the page's index of level four
+    /// isn't the recursive index.
+    ///
+    /// # Errors
+    ///
+    /// `PageNotMapped` where the entry is unused. A refusal changes nothing.
+    fn set_flags_p4_entry(
+        &mut self,
+        page: Page<S>,
+        flags: PageTableFlags,
+    ) -> Result<MapperFlushAll, FlagUpdateError>
+        requires valid { Valid (Self.layout self.old) (Self.memory self.old) }
+        requires allowed { let layout = Self.layout self.old in
+            IsTrue (is_allowed layout.levels layout.window (paths layout (Self.memory self.old)) (SetFlags 4 (path_at layout.levels S.LEVEL page) (bits_of flags))) }
+        ensures refusal { let layout = Self.layout self.old in
+            flags_refusal result ≡ refusal_of (after_set_flags layout (Self.memory self.old) 4 (path_at layout.levels S.LEVEL page) (bits_of flags)).answer }
+        ensures changed { let layout = Self.layout self.old in
+            IsChanged layout (Self.memory self.old) (after_set_flags layout (Self.memory self.old) 4 (path_at layout.levels S.LEVEL page) (bits_of flags)) (Self.memory self.new) }
+        ensures layout { Self.layout self.new ≡ Self.layout self.old }
+        ensures lent { Self.lent self.new ≡ Self.lent self.old };
+
+    /// Sets the flags of the entry of level three on a page's path, and keeps its address.
+    ///
+    /// Conditions: the hierarchy is valid, and [`p3_flags_allowed`](Self::p3_flags_allowed) holds.
+    ///
+    /// # Errors
+    ///
+    /// `ParentEntryHugePage` for a 1GiB page, whose own entry this is; else `PageNotMapped` where the parent lacks `PRESENT`,
+    /// or the entry is unused. A refusal changes nothing.
+    fn set_flags_p3_entry(
+        &mut self,
+        page: Page<S>,
+        flags: PageTableFlags,
+    ) -> Result<MapperFlushAll, FlagUpdateError>
+        requires valid { Valid (Self.layout self.old) (Self.memory self.old) }
+        requires allowed { let layout = Self.layout self.old in
+            IsTrue (is_allowed layout.levels layout.window (paths layout (Self.memory self.old)) (SetFlags 3 (path_at layout.levels S.LEVEL page) (bits_of flags))) }
+        ensures refusal { let layout = Self.layout self.old in
+            flags_refusal result ≡ refusal_of (after_set_flags layout (Self.memory self.old) 3 (path_at layout.levels S.LEVEL page) (bits_of flags)).answer }
+        ensures changed { let layout = Self.layout self.old in
+            IsChanged layout (Self.memory self.old) (after_set_flags layout (Self.memory self.old) 3 (path_at layout.levels S.LEVEL page) (bits_of flags)) (Self.memory self.new) }
+        ensures layout { Self.layout self.new ≡ Self.layout self.old }
+        ensures lent { Self.lent self.new ≡ Self.lent self.old };
+
+    /// Sets the flags of the entry of level two on a page's path, and keeps its address.
+    ///
+    /// Conditions: the hierarchy is valid, and [`p2_flags_allowed`](Self::p2_flags_allowed) holds.
+    ///
+    /// # Errors
+    ///
+    /// `ParentEntryHugePage` for a 2MiB or 1GiB page; else `PageNotMapped` or `ParentEntryHugePage` where a parent lacks
+    /// `PRESENT` or has `HUGE_PAGE`; else `PageNotMapped` where the entry is unused. A refusal changes nothing.
+    fn set_flags_p2_entry(
+        &mut self,
+        page: Page<S>,
+        flags: PageTableFlags,
+    ) -> Result<MapperFlushAll, FlagUpdateError>
+        requires valid { Valid (Self.layout self.old) (Self.memory self.old) }
+        requires allowed { let layout = Self.layout self.old in
+            IsTrue (is_allowed layout.levels layout.window (paths layout (Self.memory self.old)) (SetFlags 2 (path_at layout.levels S.LEVEL page) (bits_of flags))) }
+        ensures refusal { let layout = Self.layout self.old in
+            flags_refusal result ≡ refusal_of (after_set_flags layout (Self.memory self.old) 2 (path_at layout.levels S.LEVEL page) (bits_of flags)).answer }
+        ensures changed { let layout = Self.layout self.old in
+            IsChanged layout (Self.memory self.old) (after_set_flags layout (Self.memory self.old) 2 (path_at layout.levels S.LEVEL page) (bits_of flags)) (Self.memory self.new) }
+        ensures layout { Self.layout self.new ≡ Self.layout self.old }
+        ensures lent { Self.lent self.new ≡ Self.lent self.old };
+
+    /// Tells whether the flags of the entry of level three on a page's path may be set to these: they have no address bits, the
+    /// page's index of level four isn't the recursive index, and where
+    /// [`set_flags_p3_entry`](Self::set_flags_p3_entry) doesn't refuse, `HUGE_PAGE` is in the flags exactly if the entry has it.
+    ///
+    /// Condition: the hierarchy is valid.
+    fn p3_flags_allowed(&self, page: Page<S>, flags: PageTableFlags) -> bool
+        requires { Valid (Self.layout self.now) (Self.memory self.now) }
+        ensures { let layout = Self.layout self.now in
+            result ≡ is_allowed layout.levels layout.window (paths layout (Self.memory self.now)) (SetFlags 3 (path_at layout.levels S.LEVEL page) (bits_of flags)) };
+
+    /// Tells whether the flags of the entry of level two on a page's path may be set to these: they have no address bits, the
+    /// page's index of level four isn't the recursive index, and where
+    /// [`set_flags_p2_entry`](Self::set_flags_p2_entry) doesn't refuse, `HUGE_PAGE` is in the flags exactly if the entry has it.
+    ///
+    /// Condition: the hierarchy is valid.
+    fn p2_flags_allowed(&self, page: Page<S>, flags: PageTableFlags) -> bool
+        requires { Valid (Self.layout self.now) (Self.memory self.now) }
+        ensures { let layout = Self.layout self.now in
+            result ≡ is_allowed layout.levels layout.window (paths layout (Self.memory self.now)) (SetFlags 2 (path_at layout.levels S.LEVEL page) (bits_of flags)) };
+
+    /// Gives the frame that a page's entry names, `PRESENT` or not.
+    ///
+    /// Condition: the hierarchy is valid.
+    ///
+    /// # Errors
+    ///
+    /// `PageNotMapped` or `ParentEntryHugePage` where a parent lacks `PRESENT` or has `HUGE_PAGE`; else `PageNotMapped` where
+    /// the page's own entry is unused; else `InvalidFrameAddress` where the entry of a 2MiB or 1GiB page names a table, or an
+    /// address that isn't a multiple of the size.
+    fn translate_page(&self, page: Page<S>) -> Result<PhysFrame<S>, TranslateError>
+        requires { Valid (Self.layout self.now) (Self.memory self.now) }
+        ensures { let layout = Self.layout self.now in
+            translate_answer result ≡ page_translation layout (Self.memory self.now) (path_at layout.levels S.LEVEL page) };
+
     ghost four_levels: { (mapper : Self) → (Self.PageTables.layout mapper).levels ≡ 4 };
 }
+
+/// Maps pages of all three sizes.
+pub trait MapperAllSizes: Mapper<Size4KiB> + Mapper<Size2MiB> + Mapper<Size1GiB> {}
+
+impl<M: Mapper<Size4KiB> + Mapper<Size2MiB> + Mapper<Size1GiB>> MapperAllSizes for M {}

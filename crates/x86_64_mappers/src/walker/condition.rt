@@ -1,24 +1,20 @@
 //! The condition of a map of a page.
 ghost use Rattle.std.specs.Prelude.{◌≡◌, ◌<◌, ◌+◌, ◌==◌, ℕ, [], ◌∷◌, ◌++◌, length};
 ghost use Rattle.x86_64_model.specs.Allowed.{map_allowed};
-ghost use Rattle.x86_64_model.specs.Entry.{no_address};
 ghost use Rattle.x86_64_model.specs.Layout.{Valid, paths};
 ghost use Rattle.x86_64_mappers.specs.Layouts.{direct};
 ghost use Rattle.x86_64_mappers.specs.MapConditions.{flags_allowed, are_present, meets_none_absent};
-ghost use Rattle.x86_64_mappers.specs.Results.{unmap_result};
+ghost use Rattle.x86_64_mappers.specs.Results.{walk_result};
 ghost use Rattle.x86_64_tables.specs.PageTableFlags.{bits_of};
 
 use super::Walker;
+use super::find::PageTableWalkError;
 use bitflags::Flags;
 use x86_64_addr::index::PageTableIndex;
 use x86_64_page::frame::PhysFrame;
 use x86_64_page::page::{PageSize, Size4KiB};
-use x86_64_tables::mapper::UnmapError;
 use x86_64_tables::page_table::PageTableFlags;
 use x86_64_tables::phys_memory::{PageTableFrameMapping, PhysMemory};
-
-/// The bits of an entry that name an address.
-const ADDRESS_MASK: u64 = 0x000f_ffff_ffff_f000;
 
 impl<P: PageTableFrameMapping> Walker<P> {
     /// Tells whether the parents of a page have `PRESENT`, down to and with the first that also has `HUGE_PAGE`.
@@ -58,10 +54,10 @@ impl<P: PageTableFrameMapping> Walker<P> {
 }
 
 /// Tells whether a way down the parents of a page met none that lacks `PRESENT`.
-fn meets_none_absent(found: Result<PhysFrame<Size4KiB>, UnmapError>) -> bool
-    ensures { result ≡ meets_none_absent (unmap_result found) }
+fn meets_none_absent(found: Result<PhysFrame<Size4KiB>, PageTableWalkError>) -> bool
+    ensures { result ≡ meets_none_absent (walk_result found) }
 {
-    !matches!(found, Err(UnmapError::PageNotMapped))
+    !matches!(found, Err(PageTableWalkError::NotMapped))
 }
 
 /// Tells whether a page of a size may be mapped with these flags and parent flags, wherever it is: neither has address
@@ -69,16 +65,8 @@ fn meets_none_absent(found: Result<PhysFrame<Size4KiB>, UnmapError>) -> bool
 fn flags_allowed<S: PageSize>(flags: PageTableFlags, parent_flags: PageTableFlags) -> bool
     ensures { result ≡ flags_allowed (S.LEVEL == 1) (bits_of flags) (bits_of parent_flags) }
 {
-    has_no_address(flags)
-        & has_no_address(parent_flags)
+    !flags.has_address_bits()
+        & !parent_flags.has_address_bits()
         & !parent_flags.contains(PageTableFlags::HUGE_PAGE)
         & ((S::LEVEL != 1) | !flags.contains(PageTableFlags::HUGE_PAGE))
-}
-
-/// Tells whether flags have no address bits.
-#[tactic(auto, unfolding(x86_64_model::specs::Entry::address))]
-fn has_no_address(flags: PageTableFlags) -> bool
-    ensures { result ≡ no_address (bits_of flags) }
-{
-    flags.bits() & ADDRESS_MASK == 0
 }

@@ -10,6 +10,7 @@ ghost use Rattle.x86_64_mappers.specs.Writes.{IsThere, IsMade, IsLeafSet};
 ghost use Rattle.x86_64_tables.specs.MapperAnswers.{map_answer};
 ghost use Rattle.x86_64_tables.specs.PageTableFlags.{bits_of};
 
+use super::page::leaf_flags;
 use super::{Walker, clear, entry_mut};
 use bitflags::Flags;
 use x86_64_addr::index::PageTableIndex;
@@ -135,12 +136,7 @@ impl<P: PageTableFrameMapping> Walker<P> {
         if !entry.is_unused() {
             return Err(MapToError::PageAlreadyMapped(frame));
         }
-        let flags = if S::LEVEL == 1 {
-            flags
-        } else {
-            flags.union(PageTableFlags::HUGE_PAGE)
-        };
-        entry.set_addr(frame.start_address(), flags);
+        entry.set_addr(frame.start_address(), leaf_flags::<S>(flags));
         Ok(())
     }
 

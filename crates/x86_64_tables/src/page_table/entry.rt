@@ -13,7 +13,7 @@ use x86_64_page::frame::PhysFrame;
 use x86_64_page::page::Size4KiB;
 
 /// The bits of an entry that name an address.
-const ADDRESS_MASK: u64 = 0x000f_ffff_ffff_f000;
+pub const ADDRESS_MASK: u64 = 0x000f_ffff_ffff_f000;
 
 /// The bits of an entry that are flags.
 const FLAGS_MASK: u64 = 0xfff0_0000_0000_0fff;

@@ -4,6 +4,7 @@
 ghost use Rattle.std.specs.Prelude.{⊤};
 ghost use Rattle.x86_64_tables.specs.PageTableFlags.{flag_table};
 
+use super::entry::ADDRESS_MASK;
 use bitflags::{Flag, Flags, bitflag_items};
 use std::fmt;
 
@@ -64,6 +65,19 @@ bitflag_items! {
         const BIT_62 = 1 << 62;
         /// Forbids instruction fetches, where the processor has this enabled.
         const NO_EXECUTE = 1 << 63;
+    }
+}
+
+impl PageTableFlags {
+    ghost use Rattle.std.specs.Prelude.{◌≡◌, not};
+    ghost use Rattle.x86_64_model.specs.Entry.{no_address};
+
+    /// Tells whether there are bits among the flags that are an entry's address: bits 12 to 51, which belong to no flag.
+    #[tactic(auto, unfolding(x86_64_model::specs::Entry::address))]
+    pub fn has_address_bits(self) -> bool
+        ensures { result ≡ not (no_address self.0) }
+    {
+        self.0 & ADDRESS_MASK != 0
     }
 }
 
