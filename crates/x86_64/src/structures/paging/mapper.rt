@@ -1,7 +1,7 @@
 //! Mappers, and what they answer.
 pub use x86_64_mappers::mapped_page_table::MappedPageTable;
 pub use x86_64_tables::mapper::{
-    MapToError, MappedFrame, Mapper, MapperFlush, PageTables, Translate, TranslateResult,
-    UnmapError,
+    FlagUpdateError, MapToError, MappedFrame, Mapper, MapperAllSizes, MapperFlush, MapperFlushAll,
+    PageTables, Translate, TranslateError, TranslateResult, UnmapError,
 };
 pub use x86_64_tables::phys_memory::PageTableFrameMapping;
