@@ -12,3 +12,7 @@ last_item q i size is = get_or_read q (length q - 1) i (omega (arith, size)) is 
 -- and fewer indices before it than there are levels
 pub few_parents : (q : List ℕ) (level : ℕ) → length q + level ≡ 5 → 1 ≤ level → length (take (length q - 1) q) < 4
 few_parents q level size low = omega (arith, length-take (length q - 1) q, size)
+
+-- and at least one index
+pub some_index : (q : List ℕ) (level : ℕ) → length q + level ≡ 5 → level ≤ 3 → 0 < length q
+some_index q level size high = omega (arith, size)

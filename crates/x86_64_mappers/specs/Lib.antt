@@ -1,5 +1,6 @@
 pub mod Changed
 pub mod Down
+pub mod EntryCalls
 pub mod EntryChanges
 pub mod Finds
 pub mod Goes
@@ -11,6 +12,7 @@ pub mod MapSteps
 pub mod Marked
 pub mod NewTables
 pub mod Outside
+pub mod PageCalls
 pub mod PageMaps
 pub mod Pages
 pub mod Results
@@ -19,7 +21,6 @@ pub mod Steps
 pub mod Stops
 pub mod Stored
 pub mod TableLending
-pub mod Unmaps
 pub mod Writes
 pub mod Written
 pub use Rattle.x86_64_model.specs.Layout

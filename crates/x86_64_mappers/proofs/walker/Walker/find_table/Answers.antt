@@ -3,7 +3,7 @@ use Rattle.std.proofs.lemmas.List.{get_or_read}
 use Rattle.std.proofs.lemmas.Result.{err_from_is_err_and}
 use Rattle.x86_64_model.specs.Layout.{words}
 use Rattle.x86_64_model.specs.Memory.{word}
-use Rattle.x86_64_tables.specs.MapperAnswers.{unmap_refusal}
+use Rattle.x86_64_mappers.specs.Results.{walk_refusal}
 use Rattle.x86_64_mappers.specs.Layouts.{direct}
 use Rattle.x86_64_mappers.specs.Stops.{table_below}
 use Rattle.x86_64_mappers.specs.Finds.{way_start, find_next, find_stop, find_end}
@@ -23,7 +23,7 @@ returns-in_err-table g c =
     let item = get_or_read c.args.parents.now c.loop-index.index-index c.index-item.result c.loop-index-test.true c.index-item.is 0 in
     let e = err_from_is_err_and c.from_residual.result c.from_residual.ensures.1 in
     rw (e.1, e.2) (find_stop l m c.requires.valid c.args.parents.now c.requires.levels c.loop-index.index-index c.loop-index-test.true c.loop-index.table c.loop-index.invariant
-    (unmap_refusal c.in_err-table.field-0.0)
+    (walk_refusal c.in_err-table.field-0.0)
     (c.in_err-table.ensures ∙ ap (λ i. table_below (word (words l m) c.loop-index.table i)) item))
 
 pub loop-index-preserved : goal.loop-index-preserved

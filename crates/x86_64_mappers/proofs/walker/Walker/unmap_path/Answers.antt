@@ -1,32 +1,44 @@
-use Rattle.std.proofs.Common.{◌-◌, length, refl, sym, ap, ◌∙◌, subst, lit<}
+use Rattle.std.proofs.Common.{◌≡◌, ◌-◌, Ok, Err, length, refl, sym, ap, ◌∙◌, subst, lit<}
 use Rattle.std.proofs.lemmas.Result.{err_from_is_err_and}
 use Rattle.x86_64_model.specs.Layout.{words}
-use Rattle.x86_64_model.specs.MapperCalls.{IsUnmapped}
+use Rattle.x86_64_model.specs.MapperCalls.{after_unmap}
 use Rattle.x86_64_model.specs.Memory.{word}
-use Rattle.x86_64_model.specs.Refusal.{Refused}
+use Rattle.x86_64_model.specs.Refusal.{Done, Refused}
 use Rattle.x86_64_tables.specs.MapperAnswers.{unmap_refusal}
-use Rattle.x86_64_mappers.specs.Changed.{set_same}
+use Rattle.x86_64_mappers.specs.EntryCalls.{Ends, stopped, refused, changed, word_is}
 use Rattle.x86_64_mappers.specs.LeafFrames.{leaf_frame}
 use Rattle.x86_64_mappers.specs.Layouts.{direct}
-use Rattle.x86_64_mappers.specs.Unmaps.{page_stopped, page_refused, page_unmapped}
+use Rattle.x86_64_mappers.specs.PageCalls.{unmap_says, unused_after, unmap_rule, unmap_change}
+use Rattle.x86_64_mappers.specs.Results.{walk_refusal, answer_of, unmap_result}
 use Rattle.x86_64_mappers.specs.Writes.{IsSet, with_word}
-use Rattle.x86_64_mappers.proofs.Paths.{has_last, last_item, few_parents}
+use Rattle.x86_64_mappers.proofs.EntryWrites.{unchanged}
+use Rattle.x86_64_mappers.proofs.Paths.{has_last, last_item, few_parents, some_index}
+use Rattle.x86_64_mappers.proofs.walker.Walker.unmap_path.Given.{Over}
 use Rattle.x86_64_mappers.proofs.walker.Walker.unmap_path.Goals as goal
 
 pub find_table-requires-clause-levels : goal.find_table-requires-clause-levels
 find_table-requires-clause-levels g c = few_parents c.args.path.now g.S.PageSize.LEVEL c.requires.levels g.S.PageSize.low
 
-pub returns-in_err-table : goal.returns-in_err-table
-returns-in_err-table g c =
+ends_stopped : (g : Over) (c : goal.After-from_residual g) → let l = direct (g.P.PageTableFrameMapping.places c.args.self.now.mapping) c.args.root in
+    Ends l c.args.memory.now (after_unmap l c.args.memory.now c.args.path.now) (answer_of (unmap_result c.from_residual.result)) c.args.memory.now
+ends_stopped g c =
     let l = direct (g.P.PageTableFrameMapping.places c.args.self.now.mapping) c.args.root in
     let q = c.args.path.now in
     let level = g.S.PageSize.LEVEL in
     let e = err_from_is_err_and c.from_residual.result c.from_residual.ensures.1 in
-    rw (e.1, e.2) (page_stopped l c.args.memory.now c.requires.valid level q (length q - 1) (has_last q level c.requires.levels g.S.PageSize.high) refl c.requires.levels
-    (unmap_refusal c.in_err-table.field-0.0) c.in_err-table.ensures)
+    rw (e.1, e.2) (stopped l c.args.memory.now c.requires.valid q (length q - 1) (has_last q level c.requires.levels g.S.PageSize.high) (unmap_says level) _ (unmap_rule l c.args.memory.now level q c.requires.levels)
+    (walk_refusal c.in_err-table.field-0.0) c.in_err-table.ensures)
 
-pub returns-in_err-frame : goal.returns-in_err-frame
-returns-in_err-frame g c =
+pub returns-in_err-table-clause-answer : goal.returns-in_err-table-clause-answer
+returns-in_err-table-clause-answer g c = sym (ends_stopped g c).answers
+
+pub returns-in_err-table-clause-changed : goal.returns-in_err-table-clause-changed
+returns-in_err-table-clause-changed g c = (ends_stopped g c).changed
+
+ends_refused : (g : Over) (c : goal.After-from_residual-in_err-frame g) → let places = g.P.PageTableFrameMapping.places c.args.self.now.mapping in let l = direct places c.args.root in
+    let i = c.index-path-last.result in
+    Ends l c.args.memory.now (after_unmap l c.args.memory.now c.args.path.now) (answer_of (unmap_result c.from_residual-in_err-frame.result)) (with_word places c.args.memory.now c.in_ok-table.table i c.entry_mut-entry.result.now)
+ends_refused g c =
     let places = g.P.PageTableFrameMapping.places c.args.self.now.mapping in
     let l = direct places c.args.root in
     let m = c.args.memory.now in
@@ -35,17 +47,24 @@ returns-in_err-frame g c =
     let size = has_last q level c.requires.levels g.S.PageSize.high in
     let table = c.in_ok-table.table in
     let i = c.index-path-last.result in
-    let w = c.entry_mut-entry.result.now in
-    let same = set_same places (g.met.P.PageTableFrameMapping.is_mapping c.args.self.now.mapping).distinct m table i (with_word places m table i w) c.entry_mut-entry.ensures.index
-    (subst (λ v. IsSet places m table i v (with_word places m table i w)) c.entry_mut-entry.ensures.value (c.entry_mut-entry.ensures.set w)) in
+    let entry = c.entry_mut-entry in
+    let same = unchanged places m table i entry.result.now entry.ensures.value _ (g.met.P.PageTableFrameMapping.is_mapping c.args.self.now.mapping).distinct entry.ensures.index (entry.ensures.set entry.result.now) in
     let e = err_from_is_err_and c.from_residual-in_err-frame.result c.from_residual-in_err-frame.ensures.1 in
     let why = unmap_refusal c.in_err-frame.field-0.0 in
-    rw (e.1, e.2) (subst (IsUnmapped l m q (Refused why)) (sym same)
-    (page_refused l m c.requires.valid level q (length q - 1) size refl c.requires.levels table c.in_ok-table.ensures why
-    (c.in_err-frame.ensures ∙ ap (leaf_frame level) (c.entry_mut-entry.ensures.value ∙ ap (word (words l m) table) (last_item q i size c.index-path-last.is)))))
+    rw (e.1, e.2) (subst (Ends l m (after_unmap l m q) (Refused why)) (sym same)
+    (refused l m c.requires.valid q (length q - 1) size (unmap_says level) _ (unmap_rule l m level q c.requires.levels) table c.in_ok-table.ensures why
+    (ap unused_after (sym (c.in_err-frame.ensures ∙ ap (leaf_frame level) (entry.ensures.value ∙ ap (word (words l m) table) (last_item q i size c.index-path-last.is)))))))
 
-pub returns : goal.returns
-returns g c =
+pub returns-in_err-frame-clause-answer : goal.returns-in_err-frame-clause-answer
+returns-in_err-frame-clause-answer g c = sym (ends_refused g c).answers
+
+pub returns-in_err-frame-clause-changed : goal.returns-in_err-frame-clause-changed
+returns-in_err-frame-clause-changed g c = (ends_refused g c).changed
+
+ends_done : (g : Over) (c : goal.After-memory-2-1 g) → let places = g.P.PageTableFrameMapping.places c.args.self.now.mapping in let l = direct places c.args.root in
+    let i = c.index-path-last.result in
+    Ends l c.args.memory.now (after_unmap l c.args.memory.now c.args.path.now) (Done c.in_ok-frame.frame) (with_word places c.args.memory.now c.in_ok-table.table i c.set_unused.new.self)
+ends_done g c =
     let places = g.P.PageTableFrameMapping.places c.args.self.now.mapping in
     let l = direct places c.args.root in
     let m = c.args.memory.now in
@@ -56,7 +75,17 @@ returns g c =
     let i = c.index-path-last.result in
     let after = with_word places m table i c.set_unused.new.self in
     let is = last_item q i size c.index-path-last.is in
-    page_unmapped l m c.requires.valid level q (length q - 1) size refl c.requires.levels table c.in_ok-table.ensures
-    (g.met.P.PageTableFrameMapping.is_mapping c.args.self.now.mapping).distinct (lit< tt)
-    c.in_ok-frame.frame (c.in_ok-frame.ensures ∙ ap (leaf_frame level) (c.entry_mut-entry.ensures.value ∙ ap (word (words l m) table) is)) after
+    let rule = unmap_rule l m level q c.requires.levels in
+    let found = c.in_ok-table.ensures in
+    let names = c.in_ok-frame.ensures ∙ ap (leaf_frame level) (c.entry_mut-entry.ensures.value ∙ ap (word (words l m) table) is) in
+    changed l m c.requires.valid q (length q - 1) size (unmap_says level) _ rule table found
+    (g.met.P.PageTableFrameMapping.is_mapping c.args.self.now.mapping).distinct (lit< tt) 0 c.in_ok-frame.frame (ap unused_after (sym names))
+    (unmap_change l m level q c.requires.levels refl g.S.PageSize.high (some_index q level c.requires.levels g.S.PageSize.high) c.in_ok-frame.frame
+    (names ∙ ap (leaf_frame level) (sym (word_is l m c.requires.valid q (length q - 1) size (unmap_says level) _ rule table found)))) after
     (subst (λ j. IsSet places m table j 0 after) is (subst (λ v. IsSet places m table i v after) c.set_unused.ensures (c.entry_mut-entry.ensures.set c.set_unused.new.self)))
+
+pub returns-clause-answer : goal.returns-clause-answer
+returns-clause-answer g c = sym (ends_done g c).answers
+
+pub returns-clause-changed : goal.returns-clause-changed
+returns-clause-changed g c = (ends_done g c).changed

@@ -5,5 +5,5 @@ use Rattle.x86_64_mappers.proofs.walker.condition.flags_allowed.Goals as goal
 pub returns : goal.returns
 unfolding has
 returns g c =
-    λ i. c.has_no_address.ensures i && c.has_no_address-2.ensures i && not (c.contains.ensures tt i)
+    λ i. c.has_address_bits.ensures i && c.has_address_bits-2.ensures i && not (c.contains.ensures tt i)
     && (not (c.LEVEL.ensures i == 1) || not (c.contains-2.ensures tt i))

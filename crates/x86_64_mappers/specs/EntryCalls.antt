@@ -1,0 +1,80 @@
+-- A call on one entry: what it answers and what the memory is then, from the way down to the entry's table, what the entry's word says, and the write.
+use Rattle.std.proofs.Common.{◌≡◌, ◌<◌, ◌+◌, ℕ, false, List, [], ◌∷◌, ◌++◌, length, take, get_or, Option, Some, None, Result, Ok, Err, refl, sym, ap, ◌∙◌, subst}
+use Rattle.x86_64_model.specs.Layout.{Layout, words, paths, read_entry, Valid}
+use Rattle.x86_64_model.specs.Lemmas.Machines.Changes.{IsChange}
+use Rattle.x86_64_model.specs.Lemmas.Maps.Arrives.{first_alone, entry_outside}
+use Rattle.x86_64_model.specs.MapperCalls.{IsChanged}
+use Rattle.x86_64_model.specs.Memory.{Memory, Distinct, word}
+use Rattle.x86_64_model.specs.PageRules.{AfterChange, refused_or}
+use Rattle.x86_64_model.specs.PathMap.{PathMap, entry, put, table_of, table_at}
+use Rattle.x86_64_model.specs.Refusal.{Refusal, Answer, Done, Refused, first_stop}
+use Rattle.x86_64_model.specs.Window.{begins_with}
+use Rattle.x86_64_mappers.specs.EntryChanges.{entry_changed}
+use Rattle.x86_64_mappers.specs.Pages.{path_parted}
+use Rattle.x86_64_mappers.specs.Stops.{table_read, IsFound}
+use Rattle.x86_64_mappers.specs.Writes.{IsSet}
+
+-- what a call answers that a rule gives, and what it leaves
+pub record Ends (l : Layout) (m : Memory) (after : AfterChange) (answer : Answer) (n : Memory) : Type 0 where
+  pub answers : after.answer ≡ answer
+  pub changed : IsChanged l m after n
+
+-- the rule of a call, where the entry says which word it becomes and which frame is answered, or why the call is refused
+abbrev pub after_entry : PathMap → List ℕ → (says : Result (ℕ × ℕ) Refusal) → AfterChange
+after_entry M q (Ok done) = record { paths = put M q done.0; answer = Done done.1 }
+after_entry M q (Err why) = record { paths = M; answer = Refused why }
+
+-- a call whose rule this is, on the entry at a path of n + 1 indices: nothing changes if a parent stops it or the entry refuses it
+module _ (l : Layout) (m : Memory) (valid : Valid l m) (q : List ℕ) (n : ℕ) (long : length q ≡ n + 1) (says : ℕ → Result (ℕ × ℕ) Refusal) (after : AfterChange)
+    (rule : after ≡ refused_or (paths l m) (first_stop (read_entry l m) q) (after_entry (paths l m) q (says (read_entry l m q)))) where
+  abbrev M : PathMap
+  M = paths l m
+
+  abbrev path : List ℕ
+  path = take n q
+
+  abbrev last : ℕ
+  last = get_or q n 0
+
+  parted : path ++ last ∷ [] ≡ q
+  parted = path_parted q n long
+
+  nothing : (why : Refusal) → after ≡ record { paths = M; answer = Refused why } → Ends l m after (Refused why) m
+  nothing why is = record {
+    answers = ap (λ (a : AfterChange). a.answer) is;
+    changed = record { meant = ap (λ (a : AfterChange). a.paths) is; valid = valid; ready = λ s r. r; others = λ k none. refl };
+  }
+
+  stop_is : (stop : Option Refusal) → first_stop (read_entry l m) (path ++ last ∷ []) ≡ stop → after ≡ refused_or M stop (after_entry M q (says (read_entry l m q)))
+  stop_is stop is = rule ∙ ap (λ s. refused_or M s (after_entry M q (says (read_entry l m q)))) (ap (first_stop (read_entry l m)) (sym parted) ∙ is)
+
+  -- a parent stops it
+  pub stopped : (why : Refusal) → IsFound l m path (Err why) → Ends l m after (Refused why) m
+  stopped why found = nothing why (stop_is (Some why) (found last))
+
+  module _ (g : ℕ) (found : IsFound l m path (Ok g)) where
+    -- the entry is the word in the table
+    pub word_is : read_entry l m q ≡ word (words l m) g last
+    word_is = ap (read_entry l m) (sym parted) ∙ found.0.entries last
+
+    said : (r : Result (ℕ × ℕ) Refusal) → says (word (words l m) g last) ≡ r → after ≡ after_entry M q r
+    said r is = stop_is None (found.1 last) ∙ ap (λ e. after_entry M q (says e)) word_is ∙ ap (after_entry M q) is
+
+    -- the entry refuses it
+    pub refused : (why : Refusal) → says (word (words l m) g last) ≡ Err why → Ends l m after (Refused why) m
+    refused why is = nothing why (said (Err why) is)
+
+    -- its word was set
+    pub changed : Distinct l.places → 0 < l.levels → (w frame : ℕ) → says (word (words l m) g last) ≡ Ok (w, frame) → IsChange l.levels l.window M q w
+        → (o : Memory) → IsSet l.places m g last w o → Ends l m after (Done frame) o
+    changed apart some_levels w frame is change o set =
+        let after_is = said (Ok (w, frame)) is in
+        let done = entry_changed l apart some_levels m valid path last w (subst (λ q. IsChange l.levels l.window M q w) (sym parted) change) g (same_table path last (ap (begins_with l.window) parted ∙ change.outside) found.0.table) o set in record {
+          answers = ap (λ (a : AfterChange). a.answer) after_is;
+          changed = record { meant = ap (λ (a : AfterChange). a.paths) after_is ∙ ap (λ q. put M q w) (sym parted) ∙ done.meant; valid = done.valid; ready = done.ready; others = done.others };
+        }
+      where
+        -- outside the window the path leads to the table in the path map
+        same_table : (path : List ℕ) (last : ℕ) → begins_with l.window (path ++ last ∷ []) ≡ false → table_read l.levels l.root (read_entry l m) path ≡ Some g → table_at l.levels l.root M path ≡ Some g
+        same_table [] z out is = is
+        same_table (i ∷ p) z out is = ap (table_of l.levels (i ∷ p)) (sym (entry_outside l.window M i p (first_alone l.window i (p ++ z ∷ []) p out))) ∙ is
