@@ -1,7 +1,7 @@
 -- The calls on the entry of a page: their rules, by what the entry says to a page of its level.
-use Rattle.std.proofs.Common.{◌≡◌, ◌<◌, ◌≤◌, ◌+◌, ◌-◌, ◌%◌, ℕ, Bool, true, false, ◌==◌, ◌&&◌, ◌||◌, not, cond, List, length, Option, Some, None, Result, Ok, Err, bit_or, refl, sym, ap, ap₂, ◌∙◌, subst, arith, eq-eqb, eqb-true}
+use Rattle.std.proofs.Common.{◌≡◌, ◌<◌, ◌≤◌, ◌+◌, ◌-◌, ◌%◌, ℕ, Bool, true, false, ◌==◌, ◌&&◌, ◌||◌, not, cond, List, [], ◌∷◌, ◌++◌, length, take, get_or, Option, Some, None, Result, Ok, Err, bit_or, refl, sym, ap, ap₂, ◌∙◌, subst, arith, eq-eqb, eqb-true}
 use Rattle.x86_64_model.specs.Entry.{present, used, huge, address}
-use Rattle.x86_64_model.specs.Layout.{Layout, paths, read_entry}
+use Rattle.x86_64_model.specs.Layout.{Layout, paths, read_entry, words}
 use Rattle.x86_64_model.specs.Lemmas.Entries.Bits.{used_present}
 use Rattle.x86_64_model.specs.Lemmas.Entries.Words.{address_aligned}
 use Rattle.x86_64_model.specs.Lemmas.Hierarchies.Changes.{unused_no_table}
@@ -9,7 +9,7 @@ use Rattle.x86_64_model.specs.Lemmas.Machines.Changes.{IsChange, at_front, leaf_
 use Rattle.x86_64_model.specs.Lemmas.Maps.Leaves.{none_at_leaf}
 use Rattle.x86_64_model.specs.MapperCalls.{after_unmap, after_update, page_translation}
 use Rattle.x86_64_model.specs.MapRule.{leaf_entry}
-use Rattle.x86_64_model.specs.Memory.{Memory}
+use Rattle.x86_64_model.specs.Memory.{Memory, word}
 use Rattle.x86_64_model.specs.PageRules.{AfterChange, unmap, update_flags, translate_page, refused_or}
 use Rattle.x86_64_model.specs.PathMap.{PathMap, entry, put, table_of}
 use Rattle.x86_64_model.specs.Position.{span}
@@ -17,8 +17,9 @@ use Rattle.x86_64_model.specs.Refusal.{Refusal, PageNotMapped, ParentEntryHugePa
 use Rattle.x86_64_model.specs.Window.{begins_with}
 use Rattle.x86_64_mappers.specs.EntryCalls.{after_entry}
 use Rattle.x86_64_mappers.specs.LeafFrames.{leaf_by, leaf_frame, names_frame, maps_page, named_by, named_frame}
-use Rattle.x86_64_mappers.specs.Pages.{small_page}
+use Rattle.x86_64_mappers.specs.Pages.{small_page, path_parted}
 use Rattle.x86_64_mappers.specs.Results.{answer_of}
+use Rattle.x86_64_mappers.specs.Stops.{IsFound}
 
 -- an unmap makes the entry unused and answers its frame
 abbrev pub unused_after : Result ℕ Refusal → Result (ℕ × ℕ) Refusal
@@ -35,6 +36,12 @@ page_word level a given = bit_or a (cond (level == 1) given (bit_or given 0x80))
 -- a change of flags keeps the address
 abbrev pub update_says : (level flags entry : ℕ) → Result (ℕ × ℕ) Refusal
 update_says level given e = cond (maps_page level e) (Ok (page_word level (address e) given, address e)) (Err PageNotMapped)
+
+pub updates : (level given e : ℕ) → maps_page level e ≡ true → update_says level given e ≡ Ok (page_word level (address e) given, address e)
+updates level given e maps = ap (λ b. cond b (Ok (page_word level (address e) given, address e)) (Err PageNotMapped)) maps
+
+pub updates_none : (level given e : ℕ) → maps_page level e ≡ false → update_says level given e ≡ Err PageNotMapped
+updates_none level given e maps = ap (λ b. cond b (Ok (page_word level (address e) given, address e)) (Err PageNotMapped)) maps
 
 module _ (l : Layout) (m : Memory) (level : ℕ) (q : List ℕ) (at_level : length q + level ≡ l.levels + 1) where
   abbrev M : PathMap
@@ -103,6 +110,19 @@ module _ (l : Layout) (m : Memory) (level : ℕ) (q : List ℕ) (at_level : leng
       by true false true true k x = refl
       by true false true false k x = refl
       by true false false a k x = refl
+
+  module _ (n : ℕ) (long : length q ≡ n + 1) where
+    parted : take n q ++ get_or q n 0 ∷ [] ≡ q
+    parted = path_parted q n long
+
+    -- a parent stops the translation
+    pub translate_stopped : (why : Refusal) → IsFound l m (take n q) (Err why) → page_translation l m q ≡ Refused why
+    translate_stopped why found = translate_rule ∙ ap (λ s. answer_unless s (answer_of (named_frame level e))) (ap (first_stop (read_entry l m)) (sym parted) ∙ found (get_or q n 0))
+
+    -- or the entry is asked, which is the word in the table
+    pub translate_told : (g : ℕ) → IsFound l m (take n q) (Ok g) → (r : Result ℕ Refusal) → r ≡ named_frame level (word (words l m) g (get_or q n 0)) → page_translation l m q ≡ answer_of r
+    translate_told g found r is = translate_rule ∙ ap (λ s. answer_unless s (answer_of (named_frame level e))) (ap (first_stop (read_entry l m)) (sym parted) ∙ found.1 (get_or q n 0))
+        ∙ ap (λ e. answer_of (named_frame level e)) (ap (read_entry l m) (sym parted) ∙ found.0.entries (get_or q n 0)) ∙ ap answer_of (sym is)
 
   -- ---- what is written
 

@@ -1,15 +1,12 @@
-use Rattle.std.proofs.Common.{rules, ◌≡◌, ◌+◌, ◌==◌, cond, length, bit_or, ℕ, ◌-◌, ◌*◌, ◌<◌, ◌≤◌, ◌/◌, ◌%◌, Bool, true, false, nat_eq, nat_lt, List, [], ◌∷◌, ◌++◌, slice_index_or, slice_set, bit_and, Fits, w8, w32, w64, Bor, MutBor}
-use Rattle.x86_64_model.specs.Entry.{address}
-use Rattle.x86_64_model.specs.Layout.{Valid}
-use Rattle.x86_64_model.specs.MapperCalls.{IsChanged, after_update, page_translation}
-use Rattle.x86_64_model.specs.Refusal.{refusal_of}
-use Rattle.x86_64_mappers.specs.LeafFrames.{maps_page, named_frame}
-use Rattle.x86_64_mappers.specs.Layouts.{direct}
-use Rattle.x86_64_mappers.specs.Results.{translate_result, answer_of}
-use Rattle.x86_64_tables.specs.MapperAnswers.{flags_refusal, translate_answer}
-use Rattle.x86_64_tables.specs.PageTableFlags.{bits_of}
+use Rattle.std.proofs.Common.{◌≡◌, ◌&&◌, ◌||◌, true, refl, sym, ◌∙◌, ne_eqb, arith}
+use Rattle.x86_64_model.specs.Entry.{used}
+use Rattle.x86_64_mappers.proofs.Flags.{tested}
 use Rattle.x86_64_mappers.proofs.walker.page.maps_page.Goals as goal
 
--- src/walker/page.rt:87:1
 pub returns-else-LEVEL-eq1 : goal.returns-else-LEVEL-eq1
-returns-else-LEVEL-eq1 g c = ?
+returns-else-LEVEL-eq1 g c =
+    let e = c.args.entry.now in
+    let there : used e ≡ true = (let a = c.is_unused.ensures in let b = c.if-not-is_unused.true in grind arith) in
+    let large = ne_eqb g.S.PageSize.LEVEL 1 (λ one. c.if-LEVEL-eq1.false (c.LEVEL.ensures ∙ one)) in
+    let huge = tested e c.flags.result.0 0x80 _ c.flags.ensures.value refl (c.contains.ensures tt) in
+    sym (λ i. there i && (large i || huge i))
