@@ -1,6 +1,5 @@
 //! The entries of pages: changes of their flags, and the frames that they name.
 ghost use Rattle.std.specs.Prelude.{◌≡◌, ◌+◌, ◌==◌, cond, length, bit_or};
-ghost use Rattle.x86_64_model.specs.Entry.{address};
 ghost use Rattle.x86_64_model.specs.Layout.{Valid};
 ghost use Rattle.x86_64_model.specs.MapperCalls.{IsChanged, after_update, page_translation};
 ghost use Rattle.x86_64_model.specs.Refusal.{refusal_of};
@@ -35,7 +34,6 @@ impl<P: PageTableFrameMapping> Walker<P> {
     ) -> Result<(), FlagUpdateError>
         requires valid { Valid (direct (P.places self.now.mapping) root) memory.old }
         requires levels { length path.now + S.LEVEL ≡ 5 }
-        requires no_address { address (bits_of flags) ≡ 0 }
         ensures refusal { flags_refusal result ≡ refusal_of (after_update (direct (P.places self.now.mapping) root) memory.old path.now (bits_of flags)).answer }
         ensures changed { let layout = direct (P.places self.now.mapping) root in
             IsChanged layout memory.old (after_update layout memory.old path.now (bits_of flags)) memory.new }

@@ -1,11 +1,10 @@
-use Rattle.std.proofs.Common.{◌≡◌, ◌-◌, true, false, not, cond, Ok, Err, length, refl, bit_or, sym, ap, ◌∙◌, subst, lit<}
+use Rattle.std.proofs.Common.{◌-◌, length, refl, bit_or, sym, ap, ◌∙◌, subst, lit<}
 use Rattle.std.proofs.lemmas.Result.{err_from_is_err_and}
 use Rattle.x86_64_model.specs.Entry.{address}
 use Rattle.x86_64_model.specs.Layout.{words, read_entry}
 use Rattle.x86_64_model.specs.MapperCalls.{after_update}
 use Rattle.x86_64_model.specs.Memory.{word}
 use Rattle.x86_64_model.specs.Refusal.{PageNotMapped, Done, Refused, refusal_of}
-use Rattle.x86_64_tables.specs.MapperAnswers.{update_refusal}
 use Rattle.x86_64_mappers.specs.EntryCalls.{Ends, stopped, refused, changed, word_is}
 use Rattle.x86_64_mappers.specs.LeafFrames.{maps_page}
 use Rattle.x86_64_mappers.specs.Layouts.{direct}
