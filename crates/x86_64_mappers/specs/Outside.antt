@@ -1,9 +1,10 @@
 -- Paths outside the recursive index.
-use Rattle.std.proofs.Common.{◌≡◌, ◌<◌, ℕ, suc, Bool, true, false, ◌&&◌, ◌==◌, not, cond, List, [], ◌∷◌, ◌++◌, length, take, drop, get_or, map, find, Option, Some, None, option_map, refl, sym, ap, ◌∙◌, eq-eqb}
+use Rattle.std.proofs.Common.{◌≡◌, ◌<◌, ℕ, suc, Bool, true, false, ◌&&◌, ◌==◌, not, cond, List, [], ◌∷◌, ◌++◌, length, take, drop, get_or, find, Option, Some, option_map, refl, sym, ap, ◌∙◌, eq-eqb}
 use Rattle.std.proofs.lemmas.List.{take-append-drop}
 use Rattle.std.proofs.Math.Seq.{drop-cons}
 use Rattle.std.specs.List.{AllByRecursion}
 use Rattle.x86_64_model.specs.Entry.{present, huge}
+use Rattle.x86_64_model.specs.Lemmas.Maps.Arrives.{parents_outside}
 use Rattle.x86_64_model.specs.Memory.{Memory}
 use Rattle.x86_64_model.specs.Layout.{Layout, paths, Valid}
 use Rattle.x86_64_model.specs.Path.{parents}
@@ -20,17 +21,6 @@ beside_on l m valid (j ∷ done) i left o f leads v e h k = let a : j ∷ done �
 pub beside_at : (l : Layout) (m : Memory) → Valid l m → (path : List ℕ) (k : ℕ) → k < length path → begins_with l.window path ≡ false → (f : ℕ) → table_at l.levels l.root (paths l m) (take k path) ≡ Some f → Beside l.window l.root f (get_or path k 0)
 beside_at l m valid path k within o f leads = beside_on l m valid (take k path) (get_or path k 0) (drop (suc k) path)
     (ap (λ d. begins_with l.window (take k path ++ d)) (sym (drop-cons path k 0 within)) ∙ ap (begins_with l.window) (take-append-drop k path) ∙ o) f leads
-
--- there `entry_at` is the entry
-pub entry_at_outside : (window : Option Window) (M : PathMap) (i : ℕ) (p : List ℕ) → begins_with window (i ∷ p) ≡ false → entry_at window M (i ∷ p) ≡ entry M (i ∷ p)
-unfolding entry_at
-entry_at_outside None M i p o = refl
-entry_at_outside (Some w) M i [] o = ap (λ b. cond b w.self_entry (entry M (i ∷ []))) o
-entry_at_outside (Some w) M i (j ∷ p) o = ap (λ b. cond b (entry_at (Some w) M (j ∷ p)) (entry M (i ∷ j ∷ p))) o
-
-all_map : (P : List ℕ → Type 0) (i : ℕ) (ps : List (List ℕ)) → ((x : List ℕ) → P (i ∷ x)) → AllByRecursion P (map (λ q. i ∷ q) ps)
-all_map P i [] h = tt
-all_map P i (p ∷ ps) h = (h p, all_map P i ps h)
 
 stops_same : (E F : List ℕ → ℕ) (ps : List (List ℕ)) → AllByRecursion (λ p. E p ≡ F p) ps
     → option_map (λ p. cond (present (E p)) ParentEntryHugePage PageNotMapped) (find (λ p. not (present (E p) && not (huge (E p)))) ps) ≡ option_map (λ p. cond (present (F p)) ParentEntryHugePage PageNotMapped) (find (λ p. not (present (F p) && not (huge (F p)))) ps)
@@ -51,13 +41,8 @@ stops_same E F (p ∷ ps) h = by (not (present (E p) && not (huge (E p)))) refl 
         ∙ rest
         ∙ sym (ap (λ b. option_map (λ p. cond (present (F p)) ParentEntryHugePage PageNotMapped) (cond b (Some p) (find (λ p. not (present (F p) && not (huge (F p)))) ps))) (sym same_test ∙ e))
 
+-- nothing stops a page there but what does so by the path map
 pub first_stop_outside : (window : Option Window) (M : PathMap) (q : List ℕ) → begins_with window q ≡ false → first_stop (entry_at window M) q ≡ first_stop (entry M) q
 unfolding first_stop
 first_stop_outside window M [] o = refl
-first_stop_outside window M (i ∷ []) o = refl
-first_stop_outside window M (i ∷ j ∷ p) o = stops_same (entry_at window M) (entry M) (parents (i ∷ j ∷ p))
-    (entry_at_outside window M i [] (begins window i (j ∷ p) [] o), all_map (λ x. entry_at window M x ≡ entry M x) i (parents (j ∷ p)) (λ x. entry_at_outside window M i x (begins window i (j ∷ p) x o)))
-  where
-    begins : (window : Option Window) (i : ℕ) (p q : List ℕ) → begins_with window (i ∷ p) ≡ false → begins_with window (i ∷ q) ≡ false
-    begins None i p q o = refl
-    begins (Some w) i p q o = o
+first_stop_outside window M (i ∷ p) o = stops_same (entry_at window M) (entry M) (parents (i ∷ p)) (parents_outside window M i p o)
