@@ -1,7 +1,8 @@
--- A mapper whose root table was lent.
-use Rattle.std.proofs.Common.{◌≡◌, ℕ, Bool, true, false, cond, List, None, IsSome, refl, ap, subst}
+-- The root's table of a mapper, and a mapper whose root table was lent.
+use Rattle.std.proofs.Common.{◌≡◌, ℕ, Bool, true, false, cond, List, [], None, IsSome, refl, ap, subst}
 use Rattle.std.proofs.Props.{props}
 use Rattle.std.specs.FinMap.{get, insert}
+use Rattle.x86_64_model.specs.Layout.{Valid}
 use Rattle.x86_64_model.specs.Memory.{Memory, Places}
 use Rattle.x86_64_mappers.specs.Layouts.{direct, root_table, HasRoot}
 
@@ -21,3 +22,7 @@ at_its_place places root memory = by (places.covers root)
     by : (c : Bool) → IsSome (cond c (get memory (places.place root)) None) → cond c (get memory (places.place root)) None ≡ get memory (places.place root)
     by true h = refl
     by false h = cc
+
+-- a valid hierarchy has it
+pub valid_root : (places : Places) (root : ℕ) (memory : Memory) → Valid (direct places root) memory → HasRoot (direct places root) memory
+valid_root places root memory valid = valid.valid.holds.in_memory [] root refl

@@ -1,27 +1,48 @@
 -- The block meets its trait, since its clauses are the trait's. Rattle makes this proof for other blocks; here it does not see which
--- impl meets the bound of a page that is passed by value.
+-- impl meets the bound of a page that is passed by value. A name's number is the method's place in the trait.
+use Rattle.x86_64_mappers.proofs.PageMethods.{meets_trait}
 use Rattle.x86_64_mappers.proofs.mapped_page_table.MappedPageTable.TheLaws.{the_holds}
 use Rattle.x86_64_mappers.proofs.mapped_page_table.MappedPageTableMapper.TheImpl.Statement.{statement}
-use Rattle.x86_64_mappers.proofs.mapped_page_table.MappedPageTableMapper.map_allowed.Met as met_allowed
-use Rattle.x86_64_mappers.proofs.mapped_page_table.MappedPageTableMapper.map_allowed.Symbol as allowed_symbol
+use Rattle.x86_64_mappers.proofs.mapped_page_table.MappedPageTableMapper.map_allowed.Met as met_map_allowed
+use Rattle.x86_64_mappers.proofs.mapped_page_table.MappedPageTableMapper.map_allowed.Symbol as map_allowed_symbol
 use Rattle.x86_64_mappers.proofs.mapped_page_table.MappedPageTableMapper.map_to_with_table_flags.Met as met_map
 use Rattle.x86_64_mappers.proofs.mapped_page_table.MappedPageTableMapper.map_to_with_table_flags.Symbol as map_symbol
+use Rattle.x86_64_mappers.proofs.mapped_page_table.MappedPageTableMapper.p2_flags_allowed.Met as met_p2_flags_allowed
+use Rattle.x86_64_mappers.proofs.mapped_page_table.MappedPageTableMapper.p2_flags_allowed.Symbol as p2_flags_allowed_symbol
+use Rattle.x86_64_mappers.proofs.mapped_page_table.MappedPageTableMapper.p3_flags_allowed.Met as met_p3_flags_allowed
+use Rattle.x86_64_mappers.proofs.mapped_page_table.MappedPageTableMapper.p3_flags_allowed.Symbol as p3_flags_allowed_symbol
+use Rattle.x86_64_mappers.proofs.mapped_page_table.MappedPageTableMapper.set_flags_p2_entry.Met as met_set_flags_p2_entry
+use Rattle.x86_64_mappers.proofs.mapped_page_table.MappedPageTableMapper.set_flags_p2_entry.Symbol as set_flags_p2_entry_symbol
+use Rattle.x86_64_mappers.proofs.mapped_page_table.MappedPageTableMapper.set_flags_p3_entry.Met as met_set_flags_p3_entry
+use Rattle.x86_64_mappers.proofs.mapped_page_table.MappedPageTableMapper.set_flags_p3_entry.Symbol as set_flags_p3_entry_symbol
+use Rattle.x86_64_mappers.proofs.mapped_page_table.MappedPageTableMapper.set_flags_p4_entry.Met as met_set_flags_p4_entry
+use Rattle.x86_64_mappers.proofs.mapped_page_table.MappedPageTableMapper.set_flags_p4_entry.Symbol as set_flags_p4_entry_symbol
+use Rattle.x86_64_mappers.proofs.mapped_page_table.MappedPageTableMapper.translate_page.Met as met_translate_page
+use Rattle.x86_64_mappers.proofs.mapped_page_table.MappedPageTableMapper.translate_page.Symbol as translate_page_symbol
 use Rattle.x86_64_mappers.proofs.mapped_page_table.MappedPageTableMapper.unmap.Met as met_unmap
 use Rattle.x86_64_mappers.proofs.mapped_page_table.MappedPageTableMapper.unmap.Symbol as unmap_symbol
+use Rattle.x86_64_mappers.proofs.mapped_page_table.MappedPageTableMapper.update_flags.Met as met_update_flags
+use Rattle.x86_64_mappers.proofs.mapped_page_table.MappedPageTableMapper.update_flags.Symbol as update_flags_symbol
 use Rattle.x86_64_mappers.specs.contracts.mapped_page_table.MappedPageTable as table
 use Rattle.x86_64_mappers.specs.contracts.mapped_page_table.MappedPageTableMapper.TheImpl as impl
 use Rattle.x86_64_mappers.specs.contracts.mapped_page_table.MappedPageTableMapper.TheImpl.Laws
-use Rattle.x86_64_mappers.specs.contracts.mapped_page_table.MappedPageTableMapper.map_allowed as own_allowed
+use Rattle.x86_64_mappers.specs.contracts.mapped_page_table.MappedPageTableMapper.map_allowed as own_map_allowed
 use Rattle.x86_64_mappers.specs.contracts.mapped_page_table.MappedPageTableMapper.map_to_with_table_flags as own_map
+use Rattle.x86_64_mappers.specs.contracts.mapped_page_table.MappedPageTableMapper.p2_flags_allowed as own_p2_flags_allowed
+use Rattle.x86_64_mappers.specs.contracts.mapped_page_table.MappedPageTableMapper.p3_flags_allowed as own_p3_flags_allowed
+use Rattle.x86_64_mappers.specs.contracts.mapped_page_table.MappedPageTableMapper.set_flags_p2_entry as own_set_flags_p2_entry
+use Rattle.x86_64_mappers.specs.contracts.mapped_page_table.MappedPageTableMapper.set_flags_p3_entry as own_set_flags_p3_entry
+use Rattle.x86_64_mappers.specs.contracts.mapped_page_table.MappedPageTableMapper.set_flags_p4_entry as own_set_flags_p4_entry
+use Rattle.x86_64_mappers.specs.contracts.mapped_page_table.MappedPageTableMapper.translate_page as own_translate_page
 use Rattle.x86_64_mappers.specs.contracts.mapped_page_table.MappedPageTableMapper.unmap as own_unmap
+use Rattle.x86_64_mappers.specs.contracts.mapped_page_table.MappedPageTableMapper.update_flags as own_update_flags
 use Rattle.x86_64_mappers.specs.contracts.mapped_page_table.MappedPageTablePageTables.TheImpl as tables
-use Rattle.x86_64_tables.specs.contracts.mapper.Mapper.map_allowed as asked_allowed
 use Rattle.x86_64_tables.specs.contracts.mapper.Mapper.map_to_with_table_flags as asked_map
-use Rattle.x86_64_tables.specs.contracts.mapper.Mapper.unmap as asked_unmap
 use Rattle.std.proofs.Common.{[], ◌∷◌, refl}
 use base.Logic.{SProp, id⊢, sep}
 use contract.BorrowLft.{⊑_refl, ⊑_trans}
 use contract.Lifetimes.{Lfts}
+use contract.Monad.{fact}
 use contract.Running.{within}
 use denote.Param.{layouts, bounded, param}
 use denote.RattleType.{RattleType}
@@ -33,13 +54,14 @@ use denote.Triple.Table.{run_framed, widened}
 use mir.Syntax.{method, Dict, a_type, dcons, dnil, erased}
 
 pub bound : statement
-bound = λ γ wired_map wired_allowed wired_unmap κ P S P-laws S-laws S-copy places places-dict size size-dict clone clone-dict eq eq-dict partial_eq partial_eq-dict partial_ord partial_ord-dict ord ord-dict sealed sealed-dict M 𝓤 𝓛 𝓜 𝓡 P-met size-met clone-met eq-met partial_eq-met partial_ord-met ord-met sealed-met.
+bound = λ γ wired_map wired_map_allowed wired_unmap wired_update_flags wired_set_flags_p4_entry wired_set_flags_p3_entry wired_set_flags_p2_entry wired_p3_flags_allowed wired_p2_flags_allowed wired_translate_page κ P S P-laws S-laws S-copy places places-dict size size-dict clone clone-dict eq eq-dict partial_eq partial_eq-dict partial_ord partial_ord-dict ord ord-dict sealed sealed-dict M 𝓤 𝓛 𝓜 𝓡 P-met size-met clone-met eq-met partial_eq-met partial_ord-met ord-met sealed-met.
     let mapper : RattleType = table.the_row (record { mir = erased; lft = κ }) (param 0 P) places in
     let dict : Dict = impl.dict P S places places-dict size size-dict clone clone-dict eq eq-dict partial_eq partial_eq-dict partial_ord partial_ord-dict ord ord-dict sealed sealed-dict in
     let ghosts = impl.ghosts P S places places-dict size size-dict clone clone-dict eq eq-dict partial_eq partial_eq-dict partial_ord partial_ord-dict ord ord-dict sealed sealed-dict in
     let tables_dict : Dict = tables.dict P places places-dict in
     let tables_ghosts = tables.ghosts P places places-dict in
     let holds = the_holds (record { mir = erased; lft = κ }) (param 0 P) places mapper.lives (⊑_refl mapper.lives) in
+    let page_method = meets_trait 𝓛 𝓜 𝓡 γ κ P.lives mapper.lives S.lives holds.0 holds.1.0 in
     record {
       four_levels = Laws.four_levels-law P S places places-dict size size-dict clone clone-dict eq eq-dict partial_eq partial_eq-dict partial_ord partial_ord-dict ord ord-dict sealed sealed-dict
           (record { is_mapping = P-met.is_mapping }) (record { laws = eq-met.laws }) (record { laws = partial_eq-met.laws }) (record { laws = partial_ord-met.laws })
@@ -68,47 +90,48 @@ bound = λ γ wired_map wired_allowed wired_unmap κ P S P-laws S-laws S-copy pl
           (widened 𝓤 𝓛.H (triple_of 𝓛 signature own) 𝓜 𝓡 γ _ (γ name) (map_symbol.as_method γ wired_map name refl)
           (met_map.met 𝓤 𝓛 𝓜 (within 𝓤 𝓛.H 𝓜 𝓡 γ) wired_map P S A P-laws S-laws A-laws S-copy places places-dict size size-dict clone clone-dict eq eq-dict partial_eq partial_eq-dict partial_ord partial_ord-dict ord ord-dict sealed sealed-dict frames frames-dict keeper keeper-dict P-met size-met clone-met eq-met partial_eq-met partial_ord-met ord-met sealed-met frames-met keeper-met));
       map_allowed =
+          let own = own_map_allowed.spec P S places places-dict size size-dict clone clone-dict eq eq-dict partial_eq partial_eq-dict partial_ord partial_ord-dict ord ord-dict sealed sealed-dict 𝓛 𝓜.mem 𝓡.returns in
           let name = method dict 1 (layouts [] tt) in
-          let at : Lfts 3 → Lfts 4 = λ τs. (τs.0, (κ, (τs.1.0, (τs.1.1.0, tt)))) in
-          let signature = own_allowed.signature P S places places-dict size size-dict clone clone-dict eq eq-dict partial_eq partial_eq-dict partial_ord partial_ord-dict ord ord-dict sealed sealed-dict in
-          let own = own_allowed.spec P S places places-dict size size-dict clone clone-dict eq eq-dict partial_eq partial_eq-dict partial_ord partial_ord-dict ord ord-dict sealed sealed-dict 𝓛 𝓜.mem 𝓡.returns in
-          let asked = asked_allowed.spec mapper S ghosts dict tables_ghosts tables_dict size size-dict clone clone-dict eq eq-dict partial_eq partial_eq-dict partial_ord partial_ord-dict ord ord-dict sealed sealed-dict 𝓛 𝓜.mem 𝓡.returns in
-          let outlives = (asked_allowed.signature mapper S ghosts dict tables_ghosts tables_dict size size-dict clone clone-dict eq eq-dict partial_eq partial_eq-dict partial_ord partial_ord-dict ord ord-dict sealed sealed-dict).outlives in
-          let clauses : Clauses' 𝓛 signature 3 outlives at = λ τs a. record { ghost = (asked τs a).ghost; requires = λ y. (asked τs a).requires y; ensures = (asked τs a).ensures } in
-          let conditions : (τs : Lfts 3) → Args signature (at τs) → Unit {0} → SProp 𝓤 = λ τs a y. own_allowed.requires-1 P S places places-dict size size-dict clone clone-dict eq eq-dict partial_eq partial_eq-dict partial_ord partial_ord-dict ord ord-dict sealed sealed-dict 𝓛 (at τs) 𝓜.mem 𝓡.returns a.0 a.1.0 a.1.1.0 a.1.1.1.0 in
-          implements 𝓛 signature 3 outlives at (𝓡.run (γ name)) (run_framed 𝓤 𝓛.H 𝓜 𝓡 (γ name)) own clauses
-          2 (λ τs. (τs.1.0, (τs.1.1.0, tt))) (λ τs. (mapper.lives, (S.lives, tt))) ((0, tt), ((1, tt), ((1, tt), ((2, tt), tt)))) conditions
-          (λ τs a y. id⊢ 𝓤 ((clauses τs a).requires y))
-          (λ τs h. let held = ⊑_trans τs.1.0 mapper.lives κ h.1.0 holds.0 in (
-            (⊑_refl τs.0, (held, (⊑_refl τs.1.0, (⊑_refl τs.1.1.0, tt)))),
-            (⊑_trans τs.0 τs.1.0 κ h.0.0 held, h.0),
-          ))
-          (λ τs a y. y)
-          (λ τs h a y. insides_in 𝓤 2 (τs.1.0, (τs.1.1.0, tt)) (P.lives, (S.lives, tt)) (conditions τs a y) (⊑_trans τs.1.0 mapper.lives P.lives h.1.0 holds.1.0, h.1.1))
-          (λ τs a y r. id⊢ 𝓤 ((own (at τs) a).ensures y r))
-          (widened 𝓤 𝓛.H (triple_of 𝓛 signature own) 𝓜 𝓡 γ _ (γ name) (allowed_symbol.as_method γ wired_allowed name refl)
-          (met_allowed.met 𝓤 𝓛 𝓜 (within 𝓤 𝓛.H 𝓜 𝓡 γ) wired_allowed P S P-laws S-laws S-copy places places-dict size size-dict clone clone-dict eq eq-dict partial_eq partial_eq-dict partial_ord partial_ord-dict ord ord-dict sealed sealed-dict P-met size-met clone-met eq-met partial_eq-met partial_ord-met ord-met sealed-met));
+          page_method _ _ own (λ κs a g. fact 𝓤 _) _ name (map_allowed_symbol.as_method γ wired_map_allowed name refl) (λ κs a g. refl)
+          (met_map_allowed.met 𝓤 𝓛 𝓜 (within 𝓤 𝓛.H 𝓜 𝓡 γ) wired_map_allowed P S P-laws S-laws S-copy places places-dict size size-dict clone clone-dict eq eq-dict partial_eq partial_eq-dict partial_ord partial_ord-dict ord ord-dict sealed sealed-dict P-met size-met clone-met eq-met partial_eq-met partial_ord-met ord-met sealed-met);
       unmap =
-          let name = method dict 2 (layouts [] tt) in
-          let at : Lfts 3 → Lfts 4 = λ τs. (τs.0, (κ, (τs.1.0, (τs.1.1.0, tt)))) in
-          let signature = own_unmap.signature P S places places-dict size size-dict clone clone-dict eq eq-dict partial_eq partial_eq-dict partial_ord partial_ord-dict ord ord-dict sealed sealed-dict in
           let own = own_unmap.spec P S places places-dict size size-dict clone clone-dict eq eq-dict partial_eq partial_eq-dict partial_ord partial_ord-dict ord ord-dict sealed sealed-dict 𝓛 𝓜.mem 𝓡.returns in
-          let asked = asked_unmap.spec mapper S ghosts dict tables_ghosts tables_dict size size-dict clone clone-dict eq eq-dict partial_eq partial_eq-dict partial_ord partial_ord-dict ord ord-dict sealed sealed-dict 𝓛 𝓜.mem 𝓡.returns in
-          let outlives = (asked_unmap.signature mapper S ghosts dict tables_ghosts tables_dict size size-dict clone clone-dict eq eq-dict partial_eq partial_eq-dict partial_ord partial_ord-dict ord ord-dict sealed sealed-dict).outlives in
-          let clauses : Clauses' 𝓛 signature 3 outlives at = λ τs a. record { ghost = (asked τs a).ghost; requires = λ y. (asked τs a).requires y; ensures = (asked τs a).ensures } in
-          let conditions : (τs : Lfts 3) → Args signature (at τs) → Unit {0} → SProp 𝓤 = λ τs a y.
-          sep 𝓤 (own_unmap.requires-valid P S places places-dict size size-dict clone clone-dict eq eq-dict partial_eq partial_eq-dict partial_ord partial_ord-dict ord ord-dict sealed sealed-dict 𝓛 (at τs) 𝓜.mem 𝓡.returns a.0 a.1.0)
-          (own_unmap.requires-outside P S places places-dict size size-dict clone clone-dict eq eq-dict partial_eq partial_eq-dict partial_ord partial_ord-dict ord ord-dict sealed sealed-dict 𝓛 (at τs) 𝓜.mem 𝓡.returns a.0 a.1.0) in
-          implements 𝓛 signature 3 outlives at (𝓡.run (γ name)) (run_framed 𝓤 𝓛.H 𝓜 𝓡 (γ name)) own clauses
-          2 (λ τs. (τs.1.0, (τs.1.1.0, tt))) (λ τs. (mapper.lives, (S.lives, tt))) ((0, tt), ((1, tt), ((1, tt), ((2, tt), tt)))) conditions
-          (λ τs a y. id⊢ 𝓤 ((clauses τs a).requires y))
-          (λ τs h. let held = ⊑_trans τs.1.0 mapper.lives κ h.1.0 holds.0 in (
-            (⊑_refl τs.0, (held, (⊑_refl τs.1.0, (⊑_refl τs.1.1.0, tt)))),
-            (⊑_trans τs.0 τs.1.0 κ h.0.0 held, h.0),
-          ))
-          (λ τs a y. y)
-          (λ τs h a y. insides_in 𝓤 2 (τs.1.0, (τs.1.1.0, tt)) (P.lives, (S.lives, tt)) (conditions τs a y) (⊑_trans τs.1.0 mapper.lives P.lives h.1.0 holds.1.0, h.1.1))
-          (λ τs a y r. id⊢ 𝓤 ((own (at τs) a).ensures y r))
-          (widened 𝓤 𝓛.H (triple_of 𝓛 signature own) 𝓜 𝓡 γ _ (γ name) (unmap_symbol.as_method γ wired_unmap name refl)
-          (met_unmap.met 𝓤 𝓛 𝓜 (within 𝓤 𝓛.H 𝓜 𝓡 γ) wired_unmap P S P-laws S-laws S-copy places places-dict size size-dict clone clone-dict eq eq-dict partial_eq partial_eq-dict partial_ord partial_ord-dict ord ord-dict sealed sealed-dict P-met size-met clone-met eq-met partial_eq-met partial_ord-met ord-met sealed-met));
+          let name = method dict 2 (layouts [] tt) in
+          page_method _ _ own (λ κs a g. sep 𝓤 (fact 𝓤 _) (fact 𝓤 _)) _ name (unmap_symbol.as_method γ wired_unmap name refl) (λ κs a g. refl)
+          (met_unmap.met 𝓤 𝓛 𝓜 (within 𝓤 𝓛.H 𝓜 𝓡 γ) wired_unmap P S P-laws S-laws S-copy places places-dict size size-dict clone clone-dict eq eq-dict partial_eq partial_eq-dict partial_ord partial_ord-dict ord ord-dict sealed sealed-dict P-met size-met clone-met eq-met partial_eq-met partial_ord-met ord-met sealed-met);
+      update_flags =
+          let own = own_update_flags.spec P S places places-dict size size-dict clone clone-dict eq eq-dict partial_eq partial_eq-dict partial_ord partial_ord-dict ord ord-dict sealed sealed-dict 𝓛 𝓜.mem 𝓡.returns in
+          let name = method dict 3 (layouts [] tt) in
+          page_method _ _ own (λ κs a g. sep 𝓤 (fact 𝓤 _) (fact 𝓤 _)) _ name (update_flags_symbol.as_method γ wired_update_flags name refl) (λ κs a g. refl)
+          (met_update_flags.met 𝓤 𝓛 𝓜 (within 𝓤 𝓛.H 𝓜 𝓡 γ) wired_update_flags P S P-laws S-laws S-copy places places-dict size size-dict clone clone-dict eq eq-dict partial_eq partial_eq-dict partial_ord partial_ord-dict ord ord-dict sealed sealed-dict P-met size-met clone-met eq-met partial_eq-met partial_ord-met ord-met sealed-met);
+      set_flags_p4_entry =
+          let own = own_set_flags_p4_entry.spec P S places places-dict size size-dict clone clone-dict eq eq-dict partial_eq partial_eq-dict partial_ord partial_ord-dict ord ord-dict sealed sealed-dict 𝓛 𝓜.mem 𝓡.returns in
+          let name = method dict 4 (layouts [] tt) in
+          page_method _ _ own (λ κs a g. sep 𝓤 (fact 𝓤 _) (fact 𝓤 _)) _ name (set_flags_p4_entry_symbol.as_method γ wired_set_flags_p4_entry name refl) (λ κs a g. refl)
+          (met_set_flags_p4_entry.met 𝓤 𝓛 𝓜 (within 𝓤 𝓛.H 𝓜 𝓡 γ) wired_set_flags_p4_entry P S P-laws S-laws S-copy places places-dict size size-dict clone clone-dict eq eq-dict partial_eq partial_eq-dict partial_ord partial_ord-dict ord ord-dict sealed sealed-dict P-met size-met clone-met eq-met partial_eq-met partial_ord-met ord-met sealed-met);
+      set_flags_p3_entry =
+          let own = own_set_flags_p3_entry.spec P S places places-dict size size-dict clone clone-dict eq eq-dict partial_eq partial_eq-dict partial_ord partial_ord-dict ord ord-dict sealed sealed-dict 𝓛 𝓜.mem 𝓡.returns in
+          let name = method dict 5 (layouts [] tt) in
+          page_method _ _ own (λ κs a g. sep 𝓤 (fact 𝓤 _) (fact 𝓤 _)) _ name (set_flags_p3_entry_symbol.as_method γ wired_set_flags_p3_entry name refl) (λ κs a g. refl)
+          (met_set_flags_p3_entry.met 𝓤 𝓛 𝓜 (within 𝓤 𝓛.H 𝓜 𝓡 γ) wired_set_flags_p3_entry P S P-laws S-laws S-copy places places-dict size size-dict clone clone-dict eq eq-dict partial_eq partial_eq-dict partial_ord partial_ord-dict ord ord-dict sealed sealed-dict P-met size-met clone-met eq-met partial_eq-met partial_ord-met ord-met sealed-met);
+      set_flags_p2_entry =
+          let own = own_set_flags_p2_entry.spec P S places places-dict size size-dict clone clone-dict eq eq-dict partial_eq partial_eq-dict partial_ord partial_ord-dict ord ord-dict sealed sealed-dict 𝓛 𝓜.mem 𝓡.returns in
+          let name = method dict 6 (layouts [] tt) in
+          page_method _ _ own (λ κs a g. sep 𝓤 (fact 𝓤 _) (fact 𝓤 _)) _ name (set_flags_p2_entry_symbol.as_method γ wired_set_flags_p2_entry name refl) (λ κs a g. refl)
+          (met_set_flags_p2_entry.met 𝓤 𝓛 𝓜 (within 𝓤 𝓛.H 𝓜 𝓡 γ) wired_set_flags_p2_entry P S P-laws S-laws S-copy places places-dict size size-dict clone clone-dict eq eq-dict partial_eq partial_eq-dict partial_ord partial_ord-dict ord ord-dict sealed sealed-dict P-met size-met clone-met eq-met partial_eq-met partial_ord-met ord-met sealed-met);
+      p3_flags_allowed =
+          let own = own_p3_flags_allowed.spec P S places places-dict size size-dict clone clone-dict eq eq-dict partial_eq partial_eq-dict partial_ord partial_ord-dict ord ord-dict sealed sealed-dict 𝓛 𝓜.mem 𝓡.returns in
+          let name = method dict 7 (layouts [] tt) in
+          page_method _ _ own (λ κs a g. fact 𝓤 _) _ name (p3_flags_allowed_symbol.as_method γ wired_p3_flags_allowed name refl) (λ κs a g. refl)
+          (met_p3_flags_allowed.met 𝓤 𝓛 𝓜 (within 𝓤 𝓛.H 𝓜 𝓡 γ) wired_p3_flags_allowed P S P-laws S-laws S-copy places places-dict size size-dict clone clone-dict eq eq-dict partial_eq partial_eq-dict partial_ord partial_ord-dict ord ord-dict sealed sealed-dict P-met size-met clone-met eq-met partial_eq-met partial_ord-met ord-met sealed-met);
+      p2_flags_allowed =
+          let own = own_p2_flags_allowed.spec P S places places-dict size size-dict clone clone-dict eq eq-dict partial_eq partial_eq-dict partial_ord partial_ord-dict ord ord-dict sealed sealed-dict 𝓛 𝓜.mem 𝓡.returns in
+          let name = method dict 8 (layouts [] tt) in
+          page_method _ _ own (λ κs a g. fact 𝓤 _) _ name (p2_flags_allowed_symbol.as_method γ wired_p2_flags_allowed name refl) (λ κs a g. refl)
+          (met_p2_flags_allowed.met 𝓤 𝓛 𝓜 (within 𝓤 𝓛.H 𝓜 𝓡 γ) wired_p2_flags_allowed P S P-laws S-laws S-copy places places-dict size size-dict clone clone-dict eq eq-dict partial_eq partial_eq-dict partial_ord partial_ord-dict ord ord-dict sealed sealed-dict P-met size-met clone-met eq-met partial_eq-met partial_ord-met ord-met sealed-met);
+      translate_page =
+          let own = own_translate_page.spec P S places places-dict size size-dict clone clone-dict eq eq-dict partial_eq partial_eq-dict partial_ord partial_ord-dict ord ord-dict sealed sealed-dict 𝓛 𝓜.mem 𝓡.returns in
+          let name = method dict 9 (layouts [] tt) in
+          page_method _ _ own (λ κs a g. fact 𝓤 _) _ name (translate_page_symbol.as_method γ wired_translate_page name refl) (λ κs a g. refl)
+          (met_translate_page.met 𝓤 𝓛 𝓜 (within 𝓤 𝓛.H 𝓜 𝓡 γ) wired_translate_page P S P-laws S-laws S-copy places places-dict size size-dict clone clone-dict eq eq-dict partial_eq partial_eq-dict partial_ord partial_ord-dict ord ord-dict sealed sealed-dict P-met size-met clone-met eq-met partial_eq-met partial_ord-met ord-met sealed-met);
     }

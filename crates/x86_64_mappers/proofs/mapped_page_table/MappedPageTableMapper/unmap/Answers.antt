@@ -1,5 +1,5 @@
-use Rattle.std.proofs.Common.{[], refl}
+use Rattle.x86_64_mappers.proofs.RootTables.{valid_root}
 use Rattle.x86_64_mappers.proofs.mapped_page_table.MappedPageTableMapper.unmap.Goals as goal
 
 pub invariant_of-self : goal.invariant_of-self
-invariant_of-self g c = record { has_root = c.unmap_path.ensures.valid.valid.holds.in_memory [] c.args.self.now.root refl }
+invariant_of-self g c = record { has_root = valid_root _ _ _ c.unmap_path.ensures.changed.valid }
