@@ -6,6 +6,7 @@ ghost use Rattle.x86_64_model.specs.Layout.{Valid, paths, read_entry};
 ghost use Rattle.x86_64_model.specs.MapperCalls.{IsChanged, after_set_flags};
 ghost use Rattle.x86_64_model.specs.Refusal.{refusal_of};
 ghost use Rattle.x86_64_mappers.specs.Layouts.{direct};
+ghost use Rattle.x86_64_mappers.specs.TableFlags.{keeps_huge};
 ghost use Rattle.x86_64_tables.specs.MapperAnswers.{flags_refusal};
 ghost use Rattle.x86_64_tables.specs.PageTableFlags.{bits_of};
 
@@ -91,6 +92,7 @@ impl<P: PageTableFrameMapping> Walker<P> {
         requires valid { Valid (direct (P.places self.now.mapping) root) memory.now }
         requires some { 0 < length path.now }
         requires levels { length path.now ≤ 4 }
+        ensures { result ≡ keeps_huge (read_entry (direct (P.places self.now.mapping) root) memory.now) path.now (bits_of flags) }
     {
         let last = path.len() - 1;
         let Ok(table) = self.find_table(memory, root, &path[..last]) else {
