@@ -5,7 +5,7 @@ use Rattle.x86_64_model.specs.Layout.{paths, read_entry}
 use Rattle.x86_64_model.specs.Path.{front_at}
 use Rattle.x86_64_tables.specs.PageTableFlags.{bits_of}
 use Rattle.x86_64_mappers.specs.Layouts.{direct}
-use Rattle.x86_64_mappers.specs.TableFlags.{keeps_huge, table_flags_rule}
+use Rattle.x86_64_mappers.specs.TableFlags.{keeps_huge, low_flags_rule}
 use Rattle.x86_64_mappers.proofs.walker.Walker.table_flags_allowed.Goals as goal
 
 pub returns-then-level-LEVEL : goal.returns-then-level-LEVEL
@@ -17,7 +17,7 @@ returns-then-level-LEVEL g c =
     let given = bits_of c.args.flags in
     let plain : no_address given ≡ true = not-false _ (sym c.has_address_bits.ensures ∙ c.if-not-has_address_bits.true) in
     let low = le-leb level c.LEVEL.result c.if-level-LEVEL.true in
-    low ∙ sym (table_flags_rule 4 None (paths l m) level q given c.requires.high g.S.PageSize.LEVEL c.requires.levels
+    low ∙ sym (low_flags_rule 4 None (paths l m) level q given g.S.PageSize.LEVEL c.requires.levels c.requires.high
     ∙ λ i. plain i && true && ((ap (nat_le level) (sym c.LEVEL.ensures) ∙ low) i || keeps_huge (read_entry l m) (front_at 4 level q) given))
 
 pub returns-else-level-LEVEL : goal.returns-else-level-LEVEL
@@ -29,7 +29,7 @@ returns-else-level-LEVEL g c =
     let given = bits_of c.args.flags in
     let plain : no_address given ≡ true = not-false _ (sym c.has_address_bits.ensures ∙ c.if-not-has_address_bits.true) in
     let high = ap (nat_le level) (sym c.LEVEL.ensures) ∙ lt-leb level c.LEVEL.result c.if-level-LEVEL.false in
-    c.keeps_huge.ensures ∙ sym (table_flags_rule 4 None (paths l m) level q given c.requires.high g.S.PageSize.LEVEL c.requires.levels
+    c.keeps_huge.ensures ∙ sym (low_flags_rule 4 None (paths l m) level q given g.S.PageSize.LEVEL c.requires.levels c.requires.high
     ∙ λ i. plain i && true && (high i || keeps_huge (read_entry l m) (front_at 4 level q) given))
 
 pub returns-else-not-has_address_bits : goal.returns-else-not-has_address_bits
@@ -41,5 +41,5 @@ returns-else-not-has_address_bits g c =
     let given = bits_of c.args.flags in
     let own = g.S.PageSize.LEVEL in
     let bits : no_address given ≡ false = not-true _ (sym c.has_address_bits.ensures ∙ c.if-not-has_address_bits.false) in
-    ap not c.if-not-has_address_bits.false ∙ sym (table_flags_rule 4 None (paths l m) level q given c.requires.high own c.requires.levels
+    ap not c.if-not-has_address_bits.false ∙ sym (low_flags_rule 4 None (paths l m) level q given own c.requires.levels c.requires.high
     ∙ ap (λ b. b && true && (nat_le level own || keeps_huge (read_entry l m) (front_at 4 level q) given)) bits)
