@@ -20,6 +20,8 @@ pub mod Seen
 pub mod Steps
 pub mod Stops
 pub mod Stored
+pub mod TableFlagCalls
+pub mod TableFlags
 pub mod TableLending
 pub mod Writes
 pub mod Written

@@ -1,11 +1,12 @@
 //! Flags of the entries above those of pages.
-ghost use Rattle.std.specs.Prelude.{◌≡◌, ◌<◌, ◌≤◌, ◌+◌, ◌&&◌, not, IsTrue, length};
-ghost use Rattle.x86_64_model.specs.Allowed.{allowed, set_flags_allowed};
+ghost use Rattle.std.specs.Prelude.{◌≡◌, ◌<◌, ◌≤◌, ◌+◌, IsTrue, length};
+ghost use Rattle.x86_64_model.specs.Allowed.{allowed};
 ghost use Rattle.x86_64_model.specs.Call.{SetFlags};
 ghost use Rattle.x86_64_model.specs.Layout.{Valid, paths, read_entry};
 ghost use Rattle.x86_64_model.specs.MapperCalls.{IsChanged, after_set_flags};
 ghost use Rattle.x86_64_model.specs.Refusal.{refusal_of};
 ghost use Rattle.x86_64_mappers.specs.Layouts.{direct};
+ghost use Rattle.x86_64_mappers.specs.TableFlags.{keeps_huge};
 ghost use Rattle.x86_64_tables.specs.MapperAnswers.{flags_refusal};
 ghost use Rattle.x86_64_tables.specs.PageTableFlags.{bits_of};
 
@@ -47,9 +48,10 @@ impl<P: PageTableFrameMapping> Walker<P> {
         if level <= S::LEVEL {
             return Err(FlagUpdateError::ParentEntryHugePage);
         }
-        let last = 4 - level as usize;
-        let table = self.find_table(memory, root, &path[..last])?;
-        let entry = entry_mut(memory, &self.mapping, table, path[last]);
+        let front = &path[..5 - level as usize];
+        let last = front.len() - 1;
+        let table = self.find_table(memory, root, &front[..last])?;
+        let entry = entry_mut(memory, &self.mapping, table, front[last]);
         if entry.is_unused() {
             return Err(FlagUpdateError::PageNotMapped);
         }
@@ -91,6 +93,7 @@ impl<P: PageTableFrameMapping> Walker<P> {
         requires valid { Valid (direct (P.places self.now.mapping) root) memory.now }
         requires some { 0 < length path.now }
         requires levels { length path.now ≤ 4 }
+        ensures { result ≡ keeps_huge (read_entry (direct (P.places self.now.mapping) root) memory.now) path.now (bits_of flags) }
     {
         let last = path.len() - 1;
         let Ok(table) = self.find_table(memory, root, &path[..last]) else {
