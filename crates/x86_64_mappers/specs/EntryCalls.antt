@@ -6,7 +6,7 @@ use Rattle.x86_64_model.specs.Lemmas.Maps.Arrives.{first_alone, entry_outside}
 use Rattle.x86_64_model.specs.MapperCalls.{IsChanged}
 use Rattle.x86_64_model.specs.Memory.{Memory, Distinct, word}
 use Rattle.x86_64_model.specs.PageRules.{AfterChange, refused_or}
-use Rattle.x86_64_model.specs.PathMap.{PathMap, entry, put, table_of, table_at}
+use Rattle.x86_64_model.specs.PathMap.{PathMap, put, table_of, table_at}
 use Rattle.x86_64_model.specs.Refusal.{Refusal, Answer, Done, Refused, first_stop}
 use Rattle.x86_64_model.specs.Window.{begins_with}
 use Rattle.x86_64_mappers.specs.EntryChanges.{entry_changed}

@@ -1,5 +1,5 @@
 -- The calls on the entry of a page: their rules, by what the entry says to a page of its level.
-use Rattle.std.proofs.Common.{◌≡◌, ◌<◌, ◌≤◌, ◌+◌, ◌-◌, ◌%◌, ℕ, Bool, true, false, ◌==◌, ◌&&◌, ◌||◌, not, cond, List, [], ◌∷◌, ◌++◌, length, take, get_or, Option, Some, None, Result, Ok, Err, bit_or, refl, sym, ap, ap₂, ◌∙◌, subst, arith, eq-eqb, eqb-true}
+use Rattle.std.proofs.Common.{◌≡◌, ◌<◌, ◌≤◌, ◌+◌, ◌-◌, ◌%◌, ℕ, Bool, true, false, ◌==◌, ◌&&◌, ◌||◌, not, cond, List, [], ◌∷◌, ◌++◌, length, take, get_or, Option, None, Result, Ok, Err, bit_or, refl, sym, ap, ap₂, ◌∙◌, arith, eq-eqb, eqb-true}
 use Rattle.x86_64_model.specs.Entry.{present, used, huge, address}
 use Rattle.x86_64_model.specs.Layout.{Layout, paths, read_entry, words}
 use Rattle.x86_64_model.specs.Lemmas.Entries.Bits.{used_present}
@@ -8,12 +8,11 @@ use Rattle.x86_64_model.specs.Lemmas.Hierarchies.Changes.{unused_no_table}
 use Rattle.x86_64_model.specs.Lemmas.Machines.Changes.{IsChange, at_front, leaf_none}
 use Rattle.x86_64_model.specs.Lemmas.Maps.Leaves.{none_at_leaf}
 use Rattle.x86_64_model.specs.MapperCalls.{after_unmap, after_update, page_translation}
-use Rattle.x86_64_model.specs.MapRule.{leaf_entry}
 use Rattle.x86_64_model.specs.Memory.{Memory, word}
-use Rattle.x86_64_model.specs.PageRules.{AfterChange, unmap, update_flags, translate_page, refused_or}
+use Rattle.x86_64_model.specs.PageRules.{unmap, update_flags, translate_page, refused_or}
 use Rattle.x86_64_model.specs.PathMap.{PathMap, entry, put, table_of}
 use Rattle.x86_64_model.specs.Position.{span}
-use Rattle.x86_64_model.specs.Refusal.{Refusal, PageNotMapped, ParentEntryHugePage, InvalidFrameAddress, Answer, Done, Refused, first_stop, refused_if, answer_unless}
+use Rattle.x86_64_model.specs.Refusal.{Refusal, PageNotMapped, ParentEntryHugePage, InvalidFrameAddress, Done, Refused, first_stop, refused_if, answer_unless}
 use Rattle.x86_64_model.specs.Window.{begins_with}
 use Rattle.x86_64_mappers.specs.EntryCalls.{after_entry}
 use Rattle.x86_64_mappers.specs.LeafFrames.{leaf_by, leaf_frame, names_frame, maps_page, named_by, named_frame}
