@@ -24,6 +24,13 @@ abbrev pub after_entry : PathMap → List ℕ → (says : Result (ℕ × ℕ) Re
 after_entry M q (Ok done) = record { paths = put M q done.0; answer = Done done.1 }
 after_entry M q (Err why) = record { paths = M; answer = Refused why }
 
+-- a refusal changes nothing
+pub unchanged_ends : (l : Layout) (m : Memory) → Valid l m → (after : AfterChange) (why : Refusal) → after ≡ record { paths = paths l m; answer = Refused why } → Ends l m after (Refused why) m
+unchanged_ends l m valid after why is = record {
+  answers = ap (λ (a : AfterChange). a.answer) is;
+  changed = record { meant = ap (λ (a : AfterChange). a.paths) is; valid = valid; ready = λ s r. r; others = λ k none. refl };
+}
+
 -- a call whose rule this is, on the entry at a path of n + 1 indices: nothing changes if a parent stops it or the entry refuses it
 module _ (l : Layout) (m : Memory) (valid : Valid l m) (q : List ℕ) (n : ℕ) (long : length q ≡ n + 1) (says : ℕ → Result (ℕ × ℕ) Refusal) (after : AfterChange)
     (rule : after ≡ refused_or (paths l m) (first_stop (read_entry l m) q) (after_entry (paths l m) q (says (read_entry l m q)))) where
@@ -39,18 +46,12 @@ module _ (l : Layout) (m : Memory) (valid : Valid l m) (q : List ℕ) (n : ℕ) 
   parted : path ++ last ∷ [] ≡ q
   parted = path_parted q n long
 
-  nothing : (why : Refusal) → after ≡ record { paths = M; answer = Refused why } → Ends l m after (Refused why) m
-  nothing why is = record {
-    answers = ap (λ (a : AfterChange). a.answer) is;
-    changed = record { meant = ap (λ (a : AfterChange). a.paths) is; valid = valid; ready = λ s r. r; others = λ k none. refl };
-  }
-
   stop_is : (stop : Option Refusal) → first_stop (read_entry l m) (path ++ last ∷ []) ≡ stop → after ≡ refused_or M stop (after_entry M q (says (read_entry l m q)))
   stop_is stop is = rule ∙ ap (λ s. refused_or M s (after_entry M q (says (read_entry l m q)))) (ap (first_stop (read_entry l m)) (sym parted) ∙ is)
 
   -- a parent stops it
   pub stopped : (why : Refusal) → IsFound l m path (Err why) → Ends l m after (Refused why) m
-  stopped why found = nothing why (stop_is (Some why) (found last))
+  stopped why found = unchanged_ends l m valid after why (stop_is (Some why) (found last))
 
   module _ (g : ℕ) (found : IsFound l m path (Ok g)) where
     -- the entry is the word in the table
@@ -62,7 +63,7 @@ module _ (l : Layout) (m : Memory) (valid : Valid l m) (q : List ℕ) (n : ℕ) 
 
     -- the entry refuses it
     pub refused : (why : Refusal) → says (word (words l m) g last) ≡ Err why → Ends l m after (Refused why) m
-    refused why is = nothing why (said (Err why) is)
+    refused why is = unchanged_ends l m valid after why (said (Err why) is)
 
     -- its word was set
     pub changed : Distinct l.places → 0 < l.levels → (w frame : ℕ) → says (word (words l m) g last) ≡ Ok (w, frame) → IsChange l.levels l.window M q w

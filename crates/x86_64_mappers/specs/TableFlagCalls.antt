@@ -14,7 +14,7 @@ use Rattle.x86_64_model.specs.Path.{front_at}
 use Rattle.x86_64_model.specs.PathMap.{PathMap, entry, put}
 use Rattle.x86_64_model.specs.Refusal.{Refusal, PageNotMapped, ParentEntryHugePage, Done, Refused, first_stop, refused_if}
 use Rattle.x86_64_model.specs.Window.{begins_with}
-use Rattle.x86_64_mappers.specs.EntryCalls.{Ends, after_entry, stopped, refused, changed, word_is}
+use Rattle.x86_64_mappers.specs.EntryCalls.{Ends, after_entry, unchanged_ends, stopped, refused, changed, word_is}
 use Rattle.x86_64_mappers.specs.Stops.{IsFound}
 use Rattle.x86_64_mappers.specs.TableFlags.{keeps_huge, front_length, never_stopped, own_level, table_flags_rule}
 use Rattle.x86_64_mappers.specs.Writes.{IsSet}
@@ -56,11 +56,7 @@ module _ (l : Layout) (m : Memory) (valid : Valid l m) (level : ℕ) (page : Lis
 
   -- the level isn't above that of the page's own entry
   pub flags_too_low : level ≤ own → Ends l m after (Refused ParentEntryHugePage) m
-  flags_too_low low =
-      let is = by_level true (le-leb level own low) in record {
-        answers = ap (λ (a : AfterChange). a.answer) is;
-        changed = record { meant = ap (λ (a : AfterChange). a.paths) is; valid = valid; ready = λ s r. r; others = λ k none. refl };
-      }
+  flags_too_low low = unchanged_ends l m valid after ParentEntryHugePage (by_level true (le-leb level own low))
 
   module _ (above : own < level) where
     rule : after ≡ refused_or M (first_stop E q) (after_entry M q (flags_say given (E q)))
