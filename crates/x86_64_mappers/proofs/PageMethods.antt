@@ -57,6 +57,6 @@ module _ {M : Type 1} {𝓤 : Ura M} (𝓛 : Logic 𝓤) (𝓜 : Model 𝓤 𝓛
         ))
         (λ τs a g. g)
         (λ τs h a g. subst (ent 𝓤 (conditions (at τs) a g)) (begins (at τs) a g)
-          (insides_in 𝓤 2 τs.1 (mapping, (size, tt)) (conditions (at τs) a g) (⊑_trans τs.1.0 mapper mapping h.1.0 in_mapping, h.1.1)))
+        (insides_in 𝓤 2 τs.1 (mapping, (size, tt)) (conditions (at τs) a g) (⊑_trans τs.1.0 mapper mapping h.1.0 in_mapping, h.1.1)))
         (λ τs a g r. id⊢ 𝓤 ((own (at τs) a).ensures g r))
         (widened 𝓤 𝓛.H (triple_of 𝓛 (signature params result) own) 𝓜 𝓡 γ own_name (γ name) linked met)

@@ -6,6 +6,7 @@ ghost use Rattle.x86_64_model.specs.Layout.{Valid};
 ghost use Rattle.x86_64_model.specs.Memory.{identity_places};
 ghost use Rattle.x86_64_mappers.specs.Layouts.{direct};
 
+mod flags;
 mod map;
 mod unmap;
 

@@ -2,7 +2,7 @@
 ghost use Rattle.std.specs.Prelude.{◌≡◌, IsTrue, not};
 ghost use Rattle.x86_64_model.specs.Allowed.{map_allowed};
 ghost use Rattle.x86_64_model.specs.Layout.{Valid, paths};
-ghost use Rattle.x86_64_model.specs.MapperCalls.{IsUnmapped};
+ghost use Rattle.x86_64_model.specs.MapperCalls.{IsChanged, after_unmap};
 ghost use Rattle.x86_64_model.specs.Memory.{identity_places};
 ghost use Rattle.x86_64_model.specs.Path.{path_at};
 ghost use Rattle.x86_64_model.specs.Window.{begins_with};
@@ -31,8 +31,10 @@ fn unmap_by<S: PageSize, M: Mapper<S>>(
     requires valid { Valid (M.layout mapper.old) (M.memory mapper.old) }
     requires outside { let layout = M.layout mapper.old in
         IsTrue (not (begins_with layout.window (path_at layout.levels S.LEVEL page))) }
-    ensures unmapped { let layout = M.layout mapper.old in
-        IsUnmapped layout (M.memory mapper.old) (path_at layout.levels S.LEVEL page) (answer_of (unmap_result result)) (M.memory mapper.new) }
+    ensures answer { let layout = M.layout mapper.old in
+        answer_of (unmap_result result) ≡ (after_unmap layout (M.memory mapper.old) (path_at layout.levels S.LEVEL page)).answer }
+    ensures changed { let layout = M.layout mapper.old in
+        IsChanged layout (M.memory mapper.old) (after_unmap layout (M.memory mapper.old) (path_at layout.levels S.LEVEL page)) (M.memory mapper.new) }
     ensures lent { M.lent mapper.new ≡ M.lent mapper.old }
 {
     let (frame, flush) = mapper.unmap(page)?;
@@ -47,14 +49,16 @@ fn unmap<S: PageSize>(
     page: Page<S>,
 ) -> Result<PhysFrame<S>, UnmapError>
     requires { Valid (direct identity_places root) memory.old }
-    ensures { IsUnmapped (direct identity_places root) memory.old (path_at 4 S.LEVEL page) (answer_of (unmap_result result)) memory.new }
+    ensures answer { answer_of (unmap_result result) ≡ (after_unmap (direct identity_places root) memory.old (path_at 4 S.LEVEL page)).answer }
+    ensures changed { let layout = direct identity_places root in
+        IsChanged layout memory.old (after_unmap layout memory.old (path_at 4 S.LEVEL page)) memory.new }
 {
     let mut mapper = MappedPageTable::new(memory, root, IdentityMapping);
     unmap_by(&mut mapper, page)
 }
 
 /// Gives the page of a size that contains an address.
-fn page<S: PageSize>(address: u64) -> Page<S> {
+pub fn page<S: PageSize>(address: u64) -> Page<S> {
     Page::containing_address(VirtAddr::new_truncate(address))
 }
 
