@@ -8,7 +8,8 @@ ghost use Rattle.x86_64.specs.Runs.{machine_of, state_of, FitsPool, replies_to};
 
 use crate::structures::paging::mapper::PageTableFrameMapping;
 use crate::structures::paging::{
-    MappedPageTable, Page, PageTableFlags, PageTableIndex, PhysFrame, Size4KiB,
+    MappedPageTable, Page, PageSize, PageTableFlags, PageTableIndex, PhysFrame, Size1GiB, Size2MiB,
+    Size4KiB,
 };
 use crate::{
     Call, FramePool, FrameStore, IdentityMapping, PhysAddr, PhysMemory, Reply, SizeCall, SizeReply,
@@ -91,14 +92,63 @@ fn owners_have_their_memory_back(rt: HostRuntime) -> Result<(), Fail> {
     Ok(())
 }
 
+/// Makes each call on a page.
+fn calls_on<S: PageSize>(page: Page<S>) -> [SizeCall<S>; 8] {
+    let frame = PhysFrame::containing_address(PhysAddr::zero());
+    let flags = PageTableFlags::PRESENT;
+    [
+        SizeCall::MapTo { page, frame, flags },
+        SizeCall::MapToWithTableFlags {
+            page,
+            frame,
+            flags,
+            parent_flags: flags,
+        },
+        SizeCall::Unmap { page },
+        SizeCall::UpdateFlags { page, flags },
+        SizeCall::SetFlagsP4 { page, flags },
+        SizeCall::SetFlagsP3 { page, flags },
+        SizeCall::SetFlagsP2 { page, flags },
+        SizeCall::TranslatePage { page },
+    ]
+}
+
+/// Tells whether a call names the index 256 of level four, and not 0.
+fn names_the_upper_half(call: Call) -> bool {
+    call.names(PageTableIndex::new(256)) && !call.names(PageTableIndex::new(0))
+}
+
 #[test]
 fn calls_name_an_index_of_level_four(rt: HostRuntime) -> Result<(), Fail> {
-    let addr = VirtAddr::new(0xffff_8000_0000_1000);
-    let [map, unmap] = both(Page::containing_address(addr));
-    let index = PageTableIndex::new(256);
-    for call in [map, unmap, Call::Translate(addr), Call::TranslateAddr(addr)] {
-        assert!(&rt; call.names(index), "{call:?}");
-        assert!(&rt; !call.names(PageTableIndex::new(0)), "{call:?}");
+    let addr = VirtAddr::new(0xffff_8000_4020_1000);
+    for call in calls_on::<Size4KiB>(Page::containing_address(addr)) {
+        assert!(&rt; names_the_upper_half(Call::Of4KiB(call)), "{call:?}");
+    }
+    for call in calls_on::<Size2MiB>(Page::containing_address(addr)) {
+        assert!(&rt; names_the_upper_half(Call::Of2MiB(call)), "{call:?}");
+    }
+    for call in calls_on::<Size1GiB>(Page::containing_address(addr)) {
+        assert!(&rt; names_the_upper_half(Call::Of1GiB(call)), "{call:?}");
+    }
+    assert!(&rt; names_the_upper_half(Call::Translate(addr)));
+    assert!(&rt; names_the_upper_half(Call::TranslateAddr(addr)));
+    Ok(())
+}
+
+#[test]
+fn identity_maps_name_an_index_below_the_upper_half(rt: HostRuntime) -> Result<(), Fail> {
+    let flags = PageTableFlags::PRESENT;
+    let last = Call::Of4KiB(SizeCall::IdentityMap {
+        frame: small(0x7fff_ffff_f000),
+        flags,
+    });
+    assert!(&rt; last.names(PageTableIndex::new(255)));
+    let above = Call::Of4KiB(SizeCall::IdentityMap {
+        frame: small(0x8000_0000_0000),
+        flags,
+    });
+    for index in [0, 255, 256, 511] {
+        assert!(&rt; !above.names(PageTableIndex::new(index)), "{index}");
     }
     Ok(())
 }
