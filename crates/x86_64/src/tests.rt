@@ -6,7 +6,7 @@ ghost use Rattle.x86_64_mappers.specs.Layouts.{direct};
 ghost use Rattle.x86_64.specs.Calls.{calls_of};
 ghost use Rattle.x86_64.specs.Runs.{machine_of, state_of, FitsPool, replies_to};
 
-use crate::structures::paging::mapper::PageTableFrameMapping;
+use crate::structures::paging::mapper::{FlagUpdateError, PageTableFrameMapping};
 use crate::structures::paging::{
     MappedPageTable, Page, PageSize, PageTableFlags, PageTableIndex, PhysFrame, Size1GiB, Size2MiB,
     Size4KiB,
@@ -16,7 +16,8 @@ use crate::{
     VirtAddr, pool_fits, run,
 };
 use bitflags::Flags;
-use std::alloc::AllocError;
+use std::alloc::{AllocError, Global};
+use std::process::Abort;
 use std::test::Fail;
 
 /// Answers calls by a mapper that is dropped then. The owner knows what the memory holds then.
@@ -63,33 +64,72 @@ fn both(page: Page<Size4KiB>) -> [Call; 2] {
     [Call::Of4KiB(map), Call::Of4KiB(SizeCall::Unmap { page })]
 }
 
-#[test]
-fn owners_have_their_memory_back(rt: HostRuntime) -> Result<(), Fail> {
-    let alloc = rt.alloc();
+/// Answers calls in an empty hierarchy whose pool has the frames 0x2000, 0x3000 and 0x4000, and compares the replies.
+fn check_replies(
+    rt: &impl Abort,
+    alloc: Global,
+    calls: &[Call],
+    wanted: &[Reply],
+) -> Result<(), Fail> {
     let mut memory = PhysMemory::new(alloc, 8)?;
     let mut pool = FramePool::new(alloc, 8)?;
     for address in [0x2000, 0x3000, 0x4000] {
         pool.try_add(small(address)).or(Err("a frame"))?;
     }
     let root = small(0x1000);
-    assert!(&rt; pool_fits(alloc, &memory, &IdentityMapping, root, &pool)?);
+    assert!(rt; pool_fits(alloc, &memory, &IdentityMapping, root, &pool)?);
     let mut replies = Vec::new(alloc);
-    let calls = both(page(0x1000));
     run_in(
         &mut memory,
         root,
         IdentityMapping,
         &mut pool,
-        &calls,
+        calls,
         &mut replies,
     )?;
+    assert_eq!(rt; replies.as_slice(), wanted);
+    Ok(())
+}
+
+#[test]
+fn pages_of_4kib_are_mapped_and_unmapped(rt: HostRuntime) -> Result<(), Fail> {
     let wanted = [
         Reply::Of4KiB(SizeReply::Map(Ok(page(0x1000)))),
         Reply::Of4KiB(SizeReply::Unmap(Ok((small(0x5000), page(0x1000))))),
     ];
-    assert_eq!(&rt; replies.as_slice(), wanted.as_slice());
-    assert_eq!(&rt; pool.len(), 0);
-    Ok(())
+    check_replies(&rt, rt.alloc(), &both(page(0x1000)), &wanted)
+}
+
+#[test]
+fn pages_of_1gib_are_mapped_and_changed(rt: HostRuntime) -> Result<(), Fail> {
+    let page = Page::<Size1GiB>::containing_address(VirtAddr::new(0x4000_0000));
+    let frame = PhysFrame::containing_address(PhysAddr::new(0x8000_0000));
+    let flags = PageTableFlags::PRESENT;
+    let calls = [
+        SizeCall::MapTo { page, frame, flags },
+        SizeCall::UpdateFlags { page, flags },
+        SizeCall::SetFlagsP4 { page, flags },
+        SizeCall::SetFlagsP3 { page, flags },
+        SizeCall::SetFlagsP2 { page, flags },
+        SizeCall::TranslatePage { page },
+        SizeCall::Unmap { page },
+    ];
+    let huge = Err(FlagUpdateError::ParentEntryHugePage);
+    let wanted = [
+        SizeReply::Map(Ok(page)),
+        SizeReply::Update(Ok(page)),
+        SizeReply::TableFlags(Ok(())),
+        SizeReply::TableFlags(huge),
+        SizeReply::TableFlags(huge),
+        SizeReply::Frame(Ok(frame)),
+        SizeReply::Unmap(Ok((frame, page))),
+    ];
+    check_replies(
+        &rt,
+        rt.alloc(),
+        &calls.map(Call::Of1GiB),
+        &wanted.map(Reply::Of1GiB),
+    )
 }
 
 /// Makes each call on a page.
