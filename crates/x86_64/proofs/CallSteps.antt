@@ -4,23 +4,16 @@ use Rattle.x86_64_model.specs.Memory.{Memory}
 use Rattle.x86_64_model.specs.Layout.{Layout, read_entry}
 use Rattle.x86_64_model.specs.Translation.{Translated, translate, address_of}
 use Rattle.x86_64_model.specs.Allowed.{allowed}
-use Rattle.x86_64_model.specs.Machine.{Machine, State, do_call}
+use Rattle.x86_64_model.specs.Machine.{do_call}
 use Rattle.x86_64_tables.specs.Translations.{translation_of}
 use Rattle.x86_64_tables.specs.declared.mapper.MappedFrame.TheVariants.{Size4KiB, Size2MiB, Size1GiB}
 use Rattle.x86_64_tables.specs.declared.mapper.TranslateResult.{TranslateResult}
 use Rattle.x86_64_tables.specs.declared.mapper.TranslateResult.TheVariants.{Mapped, NotMapped, InvalidFrameAddress}
-use Rattle.x86_64_page.specs.declared.page.Size4KiB.{Size4KiB as Marker}
-use Rattle.x86_64.specs.declared.calls.SizeCall.{SizeCall}
-use Rattle.x86_64.specs.declared.calls.SizeReply.{SizeReply}
 use Rattle.x86_64.specs.declared.calls.Call.{Call}
 use Rattle.x86_64.specs.declared.calls.Call.TheVariants as call
 use Rattle.x86_64.specs.declared.calls.Reply.TheVariants as reply
-use Rattle.x86_64.specs.Replies.{translate_result, sized}
-use Rattle.x86_64.specs.Runs.{machine_of, state_of, size_step, call_step}
-
-pub size_served : (m : Machine) (s t : State) (c : Call) (on_page : SizeCall Marker) → c ≡ call.Of4KiB on_page → (told answer : Option (SizeReply Marker)) → told ≡ answer → size_step m 1 s on_page ≡ (t, told)
-    → call_step m s c ≡ (t, sized reply.Of4KiB answer)
-size_served m s t c on_page is told answer tells e = ap (call_step m s) is ∙ ap (λ (x : State × Option (SizeReply Marker)). (x.0, sized reply.Of4KiB x.1)) e ∙ ap (λ a. (t, sized reply.Of4KiB a)) tells
+use Rattle.x86_64.specs.Replies.{translate_result}
+use Rattle.x86_64.specs.Runs.{machine_of, state_of, call_step}
 
 some_same : {t u : Translated} → Some t ≡ Some u → t ≡ u
 some_same e = cc

@@ -1,5 +1,6 @@
 //! Calls of a mapper as values, and the replies to them.
 ghost use Rattle.std.specs.Prelude.{◌≡◌};
+ghost use Rattle.x86_64.specs.Calls.{identity_page};
 
 use x86_64_addr::addr::{PhysAddr, VirtAddr};
 use x86_64_addr::index::PageTableIndex;
@@ -111,7 +112,7 @@ impl<S: PageSize> SizeCall<S> {
 }
 
 /// Gives the page at a frame's own address, if it starts below 2^47.
-pub fn identity_page<S: PageSize>(frame: PhysFrame<S>) -> Option<Page<S>>
+pub(crate) fn identity_page<S: PageSize>(frame: PhysFrame<S>) -> Option<Page<S>>
     ensures { result ≡ identity_page frame }
 {
     let start = frame.start_address().as_u64();

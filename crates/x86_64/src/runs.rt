@@ -1,24 +1,28 @@
 //! Lists of calls of a mapper.
-ghost use Rattle.std.specs.Prelude.{◌≡◌, ◌+◌, ◌<◌, ◌++◌, ◌↔◌, ℕ, not, length, OnOk, OnErr, vec_len};
+ghost use Rattle.std.specs.Prelude.{◌≡◌, ◌+◌, ◌<◌, ◌++◌, ◌↔◌, ◌&&◌, ℕ, not, length, OnOk, OnErr, vec_len};
 ghost use Rattle.std.specs.Vec.{vec_capacity};
 ghost use Rattle.x86_64_model.specs.Allowed.{allowed};
+ghost use Rattle.x86_64_model.specs.Entry.{huge, no_address};
 ghost use Rattle.x86_64_model.specs.Layout.{Layout, Valid, paths};
 ghost use Rattle.x86_64_model.specs.Machine.{State, state_after};
-ghost use Rattle.x86_64_model.specs.MapRule.{parent_part};
 ghost use Rattle.x86_64_model.specs.MapperCalls.{Owns, KeepsOthers};
 ghost use Rattle.x86_64_model.specs.Path.{path_at};
 ghost use Rattle.x86_64_model.specs.Window.{begins_with};
+ghost use Rattle.x86_64_tables.specs.MapperAnswers.{flags_refusal};
 ghost use Rattle.x86_64_tables.specs.PageTableFlags.{bits_of};
 ghost use Rattle.x86_64.specs.Calls.{size_call, calls_of};
 ghost use Rattle.x86_64.specs.Runs.{machine_of, state_of, FitsPool, Keeps, size_step, call_step, replies_to};
 
-use crate::calls::{Call, Reply, SizeCall, SizeReply};
+use crate::calls::{Call, Reply, SizeCall, SizeReply, identity_page};
 use bitflags::Flags;
 use std::alloc::AllocError;
 use x86_64_page::frame::PhysFrame;
-use x86_64_page::page::{Page, PageSize, Size4KiB};
+use x86_64_page::page::{Page, PageSize, Size1GiB, Size2MiB, Size4KiB};
 use x86_64_tables::frame_alloc::FrameStore;
-use x86_64_tables::mapper::{Mapper, MapperFlush, PageTables, Translate, UnmapError};
+use x86_64_tables::mapper::{
+    FlagUpdateError, Mapper, MapperAllSizes, MapperFlush, MapperFlushAll, PageTables, Translate,
+    UnmapError, parent_flags,
+};
 use x86_64_tables::page_table::PageTableFlags;
 
 /// Answers calls in order, and appends a reply for each.
@@ -31,7 +35,7 @@ use x86_64_tables::page_table::PageTableFlags;
 /// # Errors
 ///
 /// `AllocError` where the room for the replies is refused; then nothing changes.
-pub fn run<M: Mapper<Size4KiB> + Translate, F: FrameStore>(
+pub fn run<M: MapperAllSizes + Translate, F: FrameStore>(
     mapper: &mut M,
     frames: &mut F,
     calls: &[Call],
@@ -61,7 +65,7 @@ pub fn run<M: Mapper<Size4KiB> + Translate, F: FrameStore>(
 }
 
 /// Answers a call.
-fn serve<M: Mapper<Size4KiB> + Translate, F: FrameStore>(
+fn serve<M: MapperAllSizes + Translate, F: FrameStore>(
     mapper: &mut M,
     frames: &mut F,
     call: Call,
@@ -77,6 +81,14 @@ fn serve<M: Mapper<Size4KiB> + Translate, F: FrameStore>(
     match call {
         Call::Of4KiB(call) => match serve_page::<Size4KiB, M, F>(mapper, frames, call) {
             Some(reply) => Reply::Of4KiB(reply),
+            None => Reply::NotAllowed,
+        },
+        Call::Of2MiB(call) => match serve_page::<Size2MiB, M, F>(mapper, frames, call) {
+            Some(reply) => Reply::Of2MiB(reply),
+            None => Reply::NotAllowed,
+        },
+        Call::Of1GiB(call) => match serve_page::<Size1GiB, M, F>(mapper, frames, call) {
+            Some(reply) => Reply::Of1GiB(reply),
             None => Reply::NotAllowed,
         },
         Call::Translate(addr) => Reply::Translate(mapper.translate(addr)),
@@ -102,16 +114,37 @@ fn serve_page<S: PageSize, M: Mapper<S>, F: FrameStore>(
     if !is_allowed(mapper, &call) {
         return None;
     }
-    match call {
+    Some(match call {
         SizeCall::MapTo { page, frame, flags } => {
-            let mapped = mapper.map_to(page, frame, flags, frames);
-            Some(SizeReply::Map(ignore(mapped)))
+            SizeReply::Map(ignore(mapper.map_to(page, frame, flags, frames)))
         }
-        SizeCall::Unmap { page } => {
-            let unmapped = mapper.unmap(page);
-            Some(SizeReply::Unmap(ignore_unmapped(unmapped)))
+        SizeCall::MapToWithTableFlags {
+            page,
+            frame,
+            flags,
+            parent_flags,
+        } => {
+            let mapped = mapper.map_to_with_table_flags(page, frame, flags, parent_flags, frames);
+            SizeReply::Map(ignore(mapped))
         }
-    }
+        SizeCall::IdentityMap { frame, flags } => {
+            SizeReply::Map(ignore(mapper.identity_map(frame, flags, frames)))
+        }
+        SizeCall::Unmap { page } => SizeReply::Unmap(ignore_unmapped(mapper.unmap(page))),
+        SizeCall::UpdateFlags { page, flags } => {
+            SizeReply::Update(ignore(mapper.update_flags(page, flags)))
+        }
+        SizeCall::SetFlagsP4 { page, flags } => {
+            SizeReply::TableFlags(ignore_all(mapper.set_flags_p4_entry(page, flags)))
+        }
+        SizeCall::SetFlagsP3 { page, flags } => {
+            SizeReply::TableFlags(ignore_all(mapper.set_flags_p3_entry(page, flags)))
+        }
+        SizeCall::SetFlagsP2 { page, flags } => {
+            SizeReply::TableFlags(ignore_all(mapper.set_flags_p2_entry(page, flags)))
+        }
+        SizeCall::TranslatePage { page } => SizeReply::Frame(mapper.translate_page(page)),
+    })
 }
 
 /// Tells whether the condition of a call on a page holds.
@@ -125,19 +158,35 @@ fn is_allowed<S: PageSize, M: Mapper<S>>(mapper: &M, call: &SizeCall<S>) -> bool
         SizeCall::MapTo { page, flags, .. } => {
             mapper.map_allowed(*page, *flags, parent_flags(*flags))
         }
+        SizeCall::MapToWithTableFlags {
+            page,
+            flags,
+            parent_flags,
+            ..
+        } => mapper.map_allowed(*page, *flags, *parent_flags),
+        SizeCall::IdentityMap { frame, flags } => match identity_page(*frame) {
+            Some(page) => mapper.map_allowed(page, *flags, parent_flags(*flags)),
+            None => false,
+        },
         SizeCall::Unmap { page } => is_outside(mapper, *page),
+        SizeCall::UpdateFlags { page, flags } => {
+            !flags.has_address_bits() && is_outside(mapper, *page)
+        }
+        SizeCall::SetFlagsP4 { page, flags } => {
+            fit_p4_entry(*flags) && is_outside(mapper, *page)
+        }
+        SizeCall::SetFlagsP3 { page, flags } => mapper.p3_flags_allowed(*page, *flags),
+        SizeCall::SetFlagsP2 { page, flags } => mapper.p2_flags_allowed(*page, *flags),
+        SizeCall::TranslatePage { .. } => true,
     }
 }
 
-/// Gives the flags that `map_to` adds to the parents of a page.
-fn parent_flags(flags: PageTableFlags) -> PageTableFlags
-    ensures { bits_of result ≡ parent_part (bits_of flags) }
+/// Tells whether an entry of level four may have these flags: they have no address bits and no `HUGE_PAGE`.
+#[tactic(auto, unfolding(x86_64_model::specs::Entry::has))]
+fn fit_p4_entry(flags: PageTableFlags) -> bool
+    ensures { result ≡ no_address (bits_of flags) && not (huge (bits_of flags)) }
 {
-    flags.intersection(
-        PageTableFlags::PRESENT
-            .union(PageTableFlags::WRITABLE)
-            .union(PageTableFlags::USER_ACCESSIBLE),
-    )
+    !flags.has_address_bits() & !flags.contains(PageTableFlags::HUGE_PAGE)
 }
 
 /// Tells whether a page lies outside the recursive index.
@@ -159,6 +208,14 @@ fn ignore<S: PageSize, E>(flushed: Result<MapperFlush<S>, E>) -> Result<Page<S>,
     let page = flush.page();
     flush.ignore();
     Ok(page)
+}
+
+/// Ignores the token of a change to a table entry that succeeded.
+fn ignore_all(flushed: Result<MapperFlushAll, FlagUpdateError>) -> Result<(), FlagUpdateError>
+    ensures { flags_refusal result ≡ flags_refusal flushed }
+{
+    flushed?.ignore();
+    Ok(())
 }
 
 /// Ignores the token of an unmap that succeeded, and gives its page beside the frame.

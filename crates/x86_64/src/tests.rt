@@ -6,16 +6,18 @@ ghost use Rattle.x86_64_mappers.specs.Layouts.{direct};
 ghost use Rattle.x86_64.specs.Calls.{calls_of};
 ghost use Rattle.x86_64.specs.Runs.{machine_of, state_of, FitsPool, replies_to};
 
-use crate::structures::paging::mapper::PageTableFrameMapping;
+use crate::structures::paging::mapper::{FlagUpdateError, PageTableFrameMapping};
 use crate::structures::paging::{
-    MappedPageTable, Page, PageTableFlags, PageTableIndex, PhysFrame, Size4KiB,
+    MappedPageTable, Page, PageSize, PageTableFlags, PageTableIndex, PhysFrame, Size1GiB, Size2MiB,
+    Size4KiB,
 };
 use crate::{
     Call, FramePool, FrameStore, IdentityMapping, PhysAddr, PhysMemory, Reply, SizeCall, SizeReply,
     VirtAddr, pool_fits, run,
 };
 use bitflags::Flags;
-use std::alloc::AllocError;
+use std::alloc::{AllocError, Global};
+use std::process::Abort;
 use std::test::Fail;
 
 /// Answers calls by a mapper that is dropped then. The owner knows what the memory holds then.
@@ -62,43 +64,131 @@ fn both(page: Page<Size4KiB>) -> [Call; 2] {
     [Call::Of4KiB(map), Call::Of4KiB(SizeCall::Unmap { page })]
 }
 
-#[test]
-fn owners_have_their_memory_back(rt: HostRuntime) -> Result<(), Fail> {
-    let alloc = rt.alloc();
+/// Answers calls in an empty hierarchy whose pool has the frames 0x2000, 0x3000 and 0x4000, and compares the replies.
+fn check_replies(
+    rt: &impl Abort,
+    alloc: Global,
+    calls: &[Call],
+    wanted: &[Reply],
+) -> Result<(), Fail> {
     let mut memory = PhysMemory::new(alloc, 8)?;
     let mut pool = FramePool::new(alloc, 8)?;
     for address in [0x2000, 0x3000, 0x4000] {
         pool.try_add(small(address)).or(Err("a frame"))?;
     }
     let root = small(0x1000);
-    assert!(&rt; pool_fits(alloc, &memory, &IdentityMapping, root, &pool)?);
+    assert!(rt; pool_fits(alloc, &memory, &IdentityMapping, root, &pool)?);
     let mut replies = Vec::new(alloc);
-    let calls = both(page(0x1000));
     run_in(
         &mut memory,
         root,
         IdentityMapping,
         &mut pool,
-        &calls,
+        calls,
         &mut replies,
     )?;
-    let wanted = [
-        Reply::Of4KiB(SizeReply::Map(Ok(page(0x1000)))),
-        Reply::Of4KiB(SizeReply::Unmap(Ok((small(0x5000), page(0x1000))))),
-    ];
-    assert_eq!(&rt; replies.as_slice(), wanted.as_slice());
-    assert_eq!(&rt; pool.len(), 0);
+    assert_eq!(rt; replies.as_slice(), wanted);
     Ok(())
 }
 
 #[test]
+fn pages_of_4kib_are_mapped_and_unmapped(rt: HostRuntime) -> Result<(), Fail> {
+    let wanted = [
+        Reply::Of4KiB(SizeReply::Map(Ok(page(0x1000)))),
+        Reply::Of4KiB(SizeReply::Unmap(Ok((small(0x5000), page(0x1000))))),
+    ];
+    check_replies(&rt, rt.alloc(), &both(page(0x1000)), &wanted)
+}
+
+#[test]
+fn pages_of_1gib_are_mapped_and_changed(rt: HostRuntime) -> Result<(), Fail> {
+    let page = Page::<Size1GiB>::containing_address(VirtAddr::new(0x4000_0000));
+    let frame = PhysFrame::containing_address(PhysAddr::new(0x8000_0000));
+    let flags = PageTableFlags::PRESENT;
+    let calls = [
+        SizeCall::MapTo { page, frame, flags },
+        SizeCall::UpdateFlags { page, flags },
+        SizeCall::SetFlagsP4 { page, flags },
+        SizeCall::SetFlagsP3 { page, flags },
+        SizeCall::SetFlagsP2 { page, flags },
+        SizeCall::TranslatePage { page },
+        SizeCall::Unmap { page },
+    ];
+    let huge = Err(FlagUpdateError::ParentEntryHugePage);
+    let wanted = [
+        SizeReply::Map(Ok(page)),
+        SizeReply::Update(Ok(page)),
+        SizeReply::TableFlags(Ok(())),
+        SizeReply::TableFlags(huge),
+        SizeReply::TableFlags(huge),
+        SizeReply::Frame(Ok(frame)),
+        SizeReply::Unmap(Ok((frame, page))),
+    ];
+    check_replies(
+        &rt,
+        rt.alloc(),
+        &calls.map(Call::Of1GiB),
+        &wanted.map(Reply::Of1GiB),
+    )
+}
+
+/// Makes each call on a page.
+fn calls_on<S: PageSize>(page: Page<S>) -> [SizeCall<S>; 8] {
+    let frame = PhysFrame::containing_address(PhysAddr::zero());
+    let flags = PageTableFlags::PRESENT;
+    [
+        SizeCall::MapTo { page, frame, flags },
+        SizeCall::MapToWithTableFlags {
+            page,
+            frame,
+            flags,
+            parent_flags: flags,
+        },
+        SizeCall::Unmap { page },
+        SizeCall::UpdateFlags { page, flags },
+        SizeCall::SetFlagsP4 { page, flags },
+        SizeCall::SetFlagsP3 { page, flags },
+        SizeCall::SetFlagsP2 { page, flags },
+        SizeCall::TranslatePage { page },
+    ]
+}
+
+/// Tells whether a call names the index 256 of level four, and not 0.
+fn names_the_upper_half(call: Call) -> bool {
+    call.names(PageTableIndex::new(256)) && !call.names(PageTableIndex::new(0))
+}
+
+#[test]
 fn calls_name_an_index_of_level_four(rt: HostRuntime) -> Result<(), Fail> {
-    let addr = VirtAddr::new(0xffff_8000_0000_1000);
-    let [map, unmap] = both(Page::containing_address(addr));
-    let index = PageTableIndex::new(256);
-    for call in [map, unmap, Call::Translate(addr), Call::TranslateAddr(addr)] {
-        assert!(&rt; call.names(index), "{call:?}");
-        assert!(&rt; !call.names(PageTableIndex::new(0)), "{call:?}");
+    let addr = VirtAddr::new(0xffff_8000_4020_1000);
+    for call in calls_on::<Size4KiB>(Page::containing_address(addr)) {
+        assert!(&rt; names_the_upper_half(Call::Of4KiB(call)), "{call:?}");
+    }
+    for call in calls_on::<Size2MiB>(Page::containing_address(addr)) {
+        assert!(&rt; names_the_upper_half(Call::Of2MiB(call)), "{call:?}");
+    }
+    for call in calls_on::<Size1GiB>(Page::containing_address(addr)) {
+        assert!(&rt; names_the_upper_half(Call::Of1GiB(call)), "{call:?}");
+    }
+    assert!(&rt; names_the_upper_half(Call::Translate(addr)));
+    assert!(&rt; names_the_upper_half(Call::TranslateAddr(addr)));
+    Ok(())
+}
+
+#[test]
+fn identity_maps_name_an_index_below_the_upper_half(rt: HostRuntime) -> Result<(), Fail> {
+    let flags = PageTableFlags::PRESENT;
+    let last = Call::Of4KiB(SizeCall::IdentityMap {
+        frame: small(0x7fff_ffff_f000),
+        flags,
+    });
+    assert!(&rt; last.names(PageTableIndex::new(255)));
+    let above = Call::Of4KiB(SizeCall::IdentityMap {
+        frame: small(0x8000_0000_0000),
+        flags,
+    });
+    for index in [0, 255, 256, 511] {
+        assert!(&rt; !above.names(PageTableIndex::new(index)), "{index}");
     }
     Ok(())
 }

@@ -1,9 +1,5 @@
-use Rattle.std.proofs.Common.{None}
-use Rattle.x86_64.proofs.CallSteps.{size_served, translate_served, address_served}
+use Rattle.x86_64.proofs.CallSteps.{translate_served, address_served}
 use Rattle.x86_64.proofs.runs.serve.Goals as goal
-
-pub returns-in-None-clause-step : goal.returns-in-None-clause-step
-returns-in-None-clause-step g c = size_served _ _ _ _ _ c.in-Of4KiB.is _ None c.in-None.is c.serve_page.ensures.step
 
 pub returns-in-Translate-clause-step : goal.returns-in-Translate-clause-step
 returns-in-Translate-clause-step g c = translate_served _ _ _ _ _ _ c.in-Translate.is _ c.translate.ensures.answer

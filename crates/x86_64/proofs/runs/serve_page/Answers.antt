@@ -1,12 +1,14 @@
+use Rattle.std.proofs.Common.{refl, sym, ◌∙◌, lit≤}
 use Rattle.x86_64_model.specs.Lemmas.Machines.Giving.{giving_from}
-use Rattle.x86_64.specs.declared.calls.SizeReply.TheVariants.{Map, Unmap}
+use Rattle.x86_64.specs.declared.calls.SizeCall.TheVariants.{SetFlagsP4, SetFlagsP3, SetFlagsP2}
+use Rattle.x86_64.proofs.PageSteps.{Start, IsServed, map_to_served, map_with_flags_served, identity_map_served, unmap_served, update_served, set_flags_served, translate_served}
 use Rattle.x86_64.proofs.runs.serve_page.Given.{Over}
 use Rattle.x86_64.proofs.runs.serve_page.Goals as goal
-use Rattle.x86_64.proofs.PageSteps.{Start, Serves, map_serves, unmap_serves}
+use Rattle.x86_64.proofs.runs.serve_page.Goals.{in-MapTo, in-MapToWithTableFlags, in-IdentityMap, in-Unmap, in-UpdateFlags, in-SetFlagsP4, in-SetFlagsP3, in-SetFlagsP2, in-TranslatePage}
 
-map_is_served : (g : Over) (c : goal.After-ignore g) → Serves _ (g.M.PageTables.layout c.args.mapper.now) g.F.FrameDeallocator.put (g.F.FrameKeeper.serves c.args.frames.now) (g.M.PageTables.memory c.args.mapper.now)
-    (g.F.FrameAllocator.supply c.args.frames.now) g.S.PageSize.LEVEL c.args.call (g.M.PageTables.memory c.map_to-mapped.new.self) (g.F.FrameAllocator.supply c.map_to-mapped.new.frame_allocator) (Map c.ignore.result)
-map_is_served g c =
+is_served : (g : Over) (c : goal.Joined-call g) → IsServed _ (g.M.PageTables.layout c.args.mapper.now) g.F.FrameDeallocator.put (g.F.FrameKeeper.serves c.args.frames.now) (g.M.PageTables.memory c.args.mapper.now)
+    (g.F.FrameAllocator.supply c.args.frames.now) g.S.PageSize.LEVEL c.args.call (g.M.PageTables.memory c.match-call.mapper) (g.F.FrameAllocator.supply c.match-call.frames) c.match-call.result
+is_served g c =
     let mapper = c.args.mapper.now in
     let start : Start (g.M.PageTables.layout mapper) g.F.FrameDeallocator.put (g.F.FrameKeeper.serves c.args.frames.now) (g.M.PageTables.memory mapper) (g.F.FrameAllocator.supply c.args.frames.now) g.S.PageSize.LEVEL = record {
       four = g.met.M.Mapper.four_levels mapper;
@@ -16,32 +18,33 @@ map_is_served g c =
       low = g.S.PageSize.low;
       high = g.S.PageSize.high;
     } in
-    map_serves _ _ _ _ _ _ start _ c.args.call c.in-MapTo.page c.in-MapTo.frame c.in-MapTo.flags c.in-MapTo.is _ c.is_allowed.ensures c.if-not-is_allowed.false
-    c.map_to-mapped.result _ _ c.map_to-mapped.ensures.mapped c.map_to-mapped.ensures.page c.ignore.result c.ignore.ensures
+    elim c.match-call.branch [
+      | in-MapTo w ↦ rw (w.in-MapTo.is, w.mapper-is, w.frames-is, w.result-is)
+          (map_to_served start w.in-MapTo.page w.in-MapTo.frame w.in-MapTo.flags w.map_to.result _ _ w.map_to.ensures.mapped w.map_to.ensures.page w.ignore.result w.ignore.ensures)
+      | in-MapToWithTableFlags w ↦ rw (w.in-MapToWithTableFlags.is, w.mapper-is, w.frames-is, w.result-is)
+          (map_with_flags_served start w.in-MapToWithTableFlags.page w.in-MapToWithTableFlags.frame w.in-MapToWithTableFlags.flags w.in-MapToWithTableFlags.parent_flags w.map_to_with_table_flags-mapped.result _ _
+          w.map_to_with_table_flags-mapped.ensures.mapped w.map_to_with_table_flags-mapped.ensures.page w.ignore-in-MapToWithTableFlags.result w.ignore-in-MapToWithTableFlags.ensures)
+      | in-IdentityMap w ↦ rw (w.in-IdentityMap.is, w.mapper-is, w.frames-is, w.result-is)
+          (identity_map_served start w.in-IdentityMap.frame w.in-IdentityMap.flags w.identity_map.result _ _ w.identity_map.ensures.mapped w.identity_map.ensures.page w.ignore-in-IdentityMap.result w.ignore-in-IdentityMap.ensures)
+      | in-Unmap w ↦ rw (w.in-Unmap.is, w.mapper-is, w.frames-is, w.result-is)
+          (unmap_served start w.in-Unmap.page w.unmap.result _ w.unmap.ensures.answer w.unmap.ensures.changed w.unmap.ensures.page w.ignore_unmapped.result w.ignore_unmapped.ensures)
+      | in-UpdateFlags w ↦ rw (w.in-UpdateFlags.is, w.mapper-is, w.frames-is, w.result-is)
+          (update_served start w.in-UpdateFlags.page w.in-UpdateFlags.flags w.update_flags.result _ w.update_flags.ensures.refusal w.update_flags.ensures.changed w.update_flags.ensures.page w.ignore-in-UpdateFlags.result w.ignore-in-UpdateFlags.ensures)
+      | in-SetFlagsP4 w ↦ rw (w.in-SetFlagsP4.is, w.mapper-is, w.frames-is, w.result-is)
+          (set_flags_served start (SetFlagsP4 w.in-SetFlagsP4.page w.in-SetFlagsP4.flags) 4 w.in-SetFlagsP4.page w.in-SetFlagsP4.flags refl (lit≤ tt) (lit≤ tt) (λ a. refl)
+          w.set_flags_p4_entry.result _ w.set_flags_p4_entry.ensures.refusal w.set_flags_p4_entry.ensures.changed w.ignore_all.result w.ignore_all.ensures)
+      | in-SetFlagsP3 w ↦ rw (w.in-SetFlagsP3.is, w.mapper-is, w.frames-is, w.result-is)
+          (set_flags_served start (SetFlagsP3 w.in-SetFlagsP3.page w.in-SetFlagsP3.flags) 3 w.in-SetFlagsP3.page w.in-SetFlagsP3.flags refl (lit≤ tt) (lit≤ tt) (λ a. refl)
+          w.set_flags_p3_entry.result _ w.set_flags_p3_entry.ensures.refusal w.set_flags_p3_entry.ensures.changed w.ignore_all-in-SetFlagsP3.result w.ignore_all-in-SetFlagsP3.ensures)
+      | in-SetFlagsP2 w ↦ rw (w.in-SetFlagsP2.is, w.mapper-is, w.frames-is, w.result-is)
+          (set_flags_served start (SetFlagsP2 w.in-SetFlagsP2.page w.in-SetFlagsP2.flags) 2 w.in-SetFlagsP2.page w.in-SetFlagsP2.flags refl (lit≤ tt) (lit≤ tt) (λ a. refl)
+          w.set_flags_p2_entry.result _ w.set_flags_p2_entry.ensures.refusal w.set_flags_p2_entry.ensures.changed w.ignore_all-in-SetFlagsP2.result w.ignore_all-in-SetFlagsP2.ensures)
+      | in-TranslatePage w ↦ rw (w.in-TranslatePage.is, w.mapper-is, w.frames-is, w.result-is)
+          (translate_served start w.in-TranslatePage.page w.translate_page.result w.translate_page.ensures)
+    ]
 
-unmap_is_served : (g : Over) (c : goal.After-ignore_unmapped g) → Serves _ (g.M.PageTables.layout c.args.mapper.now) g.F.FrameDeallocator.put (g.F.FrameKeeper.serves c.args.frames.now) (g.M.PageTables.memory c.args.mapper.now)
-    (g.F.FrameAllocator.supply c.args.frames.now) g.S.PageSize.LEVEL c.args.call (g.M.PageTables.memory c.unmap-unmapped.new.self) (g.F.FrameAllocator.supply c.args.frames.now) (Unmap c.ignore_unmapped.result)
-unmap_is_served g c =
-    let mapper = c.args.mapper.now in
-    let start : Start (g.M.PageTables.layout mapper) g.F.FrameDeallocator.put (g.F.FrameKeeper.serves c.args.frames.now) (g.M.PageTables.memory mapper) (g.F.FrameAllocator.supply c.args.frames.now) g.S.PageSize.LEVEL = record {
-      four = g.met.M.Mapper.four_levels mapper;
-      adds = g.M.PageTables.added_flags mapper;
-      gives = giving_from _ g.met.F.FrameDeallocator.put_rearranges;
-      fits = c.requires;
-      low = g.S.PageSize.low;
-      high = g.S.PageSize.high;
-    } in
-    unmap_serves _ _ _ _ _ _ start _ c.args.call c.in-Unmap.page c.in-Unmap.is _ c.is_allowed.ensures c.if-not-is_allowed.false
-    c.unmap-unmapped.result _ c.unmap-unmapped.ensures.unmapped c.unmap-unmapped.ensures.page c.ignore_unmapped.result c.ignore_unmapped.ensures
+pub returns-clause-step : goal.returns-clause-step
+returns-clause-step g c = (is_served g c (sym c.is_allowed.ensures ∙ c.if-not-is_allowed.false)).step
 
-pub returns-in-MapTo-clause-step : goal.returns-in-MapTo-clause-step
-returns-in-MapTo-clause-step g c = (map_is_served g c).step
-
-pub returns-in-MapTo-clause-keeps : goal.returns-in-MapTo-clause-keeps
-returns-in-MapTo-clause-keeps g c = (map_is_served g c).keeps
-
-pub returns-in-Unmap-clause-step : goal.returns-in-Unmap-clause-step
-returns-in-Unmap-clause-step g c = (unmap_is_served g c).step
-
-pub returns-in-Unmap-clause-keeps : goal.returns-in-Unmap-clause-keeps
-returns-in-Unmap-clause-keeps g c = (unmap_is_served g c).keeps
+pub returns-clause-keeps : goal.returns-clause-keeps
+returns-clause-keeps g c = (is_served g c (sym c.is_allowed.ensures ∙ c.if-not-is_allowed.false)).keeps
