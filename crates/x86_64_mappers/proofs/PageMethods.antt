@@ -1,5 +1,6 @@
--- A method on pages of a mapper meets its trait's contract where it has the trait's clauses: the two differ in lifetimes alone. The trait's method
--- has one for the mapper, where the mapper's own has that of the lent memory and one for the frame mapping.
+-- A method of a mapper on pages of a size meets its trait's contract where it has the trait's clauses: the two differ in lifetimes alone. Beside
+-- those of the call and of the size, the trait's method has one for the mapper, and the mapper's own has that of its memory and one for its
+-- frame mapping.
 use Rattle.std.proofs.Common.{◌≡◌, List, [], ◌∷◌, subst}
 use base.Fml.{Lft}
 use base.Logic.{SProp, ent, id⊢}
@@ -44,10 +45,10 @@ module _ {M : Type 1} {𝓤 : Ura M} (𝓛 : Logic 𝓤) (𝓜 : Model 𝓤 𝓛
       ensures = (own (at τs) a).ensures;
     }
 
-    pub meets_trait : (own_name : Routine) (name : Callee) → own_name ≼⁺ γ name
+    pub meets_trait : (routine : Routine) (name : Callee) → routine ≼⁺ γ name
         → ((κs : Lfts 4) (a : Args (signature params result) κs) (g : (own κs a).ghost) → insides 𝓤 2 κs.1.1 (mapping, (size, tt)) (conditions κs a g) ≡ (own κs a).requires g)
-        → Meets 𝓛 (signature params result) (𝓡.run own_name) own → Triple 𝓤 (𝓡.run (γ name)) (moved 𝓛 (signature params result) 3 outlives at asked)
-    meets_trait own_name name linked begins met =
+        → Meets 𝓛 (signature params result) (𝓡.run routine) own → Triple 𝓤 (𝓡.run (γ name)) (moved 𝓛 (signature params result) 3 outlives at asked)
+    meets_trait routine name linked begins met =
         implements 𝓛 (signature params result) 3 outlives at (𝓡.run (γ name)) (run_framed 𝓤 𝓛.H 𝓜 𝓡 (γ name)) own asked
         2 (λ τs. τs.1) (λ τs. (mapper, (size, tt))) ((0, tt), ((1, tt), ((1, tt), ((2, tt), tt)))) (λ τs a g. conditions (at τs) a g)
         (λ τs a g. id⊢ 𝓤 ((asked τs a).requires g))
@@ -59,4 +60,4 @@ module _ {M : Type 1} {𝓤 : Ura M} (𝓛 : Logic 𝓤) (𝓜 : Model 𝓤 𝓛
         (λ τs h a g. subst (ent 𝓤 (conditions (at τs) a g)) (begins (at τs) a g)
         (insides_in 𝓤 2 τs.1 (mapping, (size, tt)) (conditions (at τs) a g) (⊑_trans τs.1.0 mapper mapping h.1.0 in_mapping, h.1.1)))
         (λ τs a g r. id⊢ 𝓤 ((own (at τs) a).ensures g r))
-        (widened 𝓤 𝓛.H (triple_of 𝓛 (signature params result) own) 𝓜 𝓡 γ own_name (γ name) linked met)
+        (widened 𝓤 𝓛.H (triple_of 𝓛 (signature params result) own) 𝓜 𝓡 γ routine (γ name) linked met)
