@@ -15,11 +15,9 @@ pub record NoWorse (w v : Walked) : Type 0 where
 abbrev pub Keeps : Option Walked → Option Walked → Type 0
 Keeps x y = (w : Walked) → x ≡ Some w → (v : Walked) × (y ≡ Some v) × NoWorse w v
 
--- the same place, with each right and none besides but the parent flags'
+-- no worse, and no right besides but the parent flags'
 pub record Better (parent_flags : ℕ) (w v : Walked) : Type 0 where
-  pub same_place : v.address ≡ w.address
-  pub write_kept : w.write ≡ true → v.write ≡ true
-  pub user_kept : w.user ≡ true → v.user ≡ true
+  pub no_worse : NoWorse w v
   pub write_gained : v.write ≡ true → (w.write ≡ true) ⊎ (writable parent_flags ≡ true)
   pub user_gained : v.user ≡ true → (w.user ≡ true) ⊎ (user parent_flags ≡ true)
 

@@ -1,12 +1,13 @@
-//! Tests of words, texts and memory.
+//! Tests of words, texts, tokens and memory.
+use crate::mapper::{MapperFlush, MapperFlushAll, parent_flags};
 use crate::page_table::{FrameError, PageTable, PageTableEntry, PageTableFlags};
 use crate::phys_memory::{FramePlace, IdentityMapping, PageTableFrameMapping, PhysMemory};
 use bitflags::Flags;
 use std::test::Fail;
-use x86_64_addr::addr::PhysAddr;
+use x86_64_addr::addr::{PhysAddr, VirtAddr};
 use x86_64_addr::index::PageTableIndex;
 use x86_64_page::frame::PhysFrame;
-use x86_64_page::page::Size4KiB;
+use x86_64_page::page::{Page, Size2MiB, Size4KiB};
 
 #[test]
 fn flags_are_bits(rt: HostRuntime) -> Result<(), Fail> {
@@ -32,6 +33,34 @@ fn flags_are_bits(rt: HostRuntime) -> Result<(), Fail> {
     assert_eq!(rt; huge, low | PageTableFlags::HUGE_PAGE);
     let text = format!(in rt.alloc(); "{huge:?}")?;
     assert_eq!(rt; text.as_str(), "PageTableFlags(0x83)");
+    Ok(())
+}
+
+#[test]
+fn flags_have_parts(rt: HostRuntime) -> Result<(), Fail> {
+    let parts = [
+        (0x0, 0x0, false),
+        (0x3, 0x3, false),
+        (0x8000_0000_0000_01fe, 0x6, false),
+        (0xfff0_0000_0000_0fff, 0x7, false),
+        (0x1005, 0x5, true),
+        (0x8_0000_0000_0080, 0x0, true),
+    ];
+    for (bits, parents, has_address) in parts {
+        let flags = PageTableFlags::from_bits_retain(bits);
+        assert_eq!(rt; parent_flags(flags).bits(), parents, "of {bits:#x}");
+        assert_eq!(rt; flags.has_address_bits(), has_address, "of {bits:#x}");
+    }
+    Ok(())
+}
+
+#[test]
+fn tokens_name_pages(rt: HostRuntime) -> Result<(), Fail> {
+    let page = Page::<Size2MiB>::containing_address(VirtAddr::new(0x20_0000));
+    let flush = MapperFlush::new(page);
+    assert_eq!(rt; flush.page(), page);
+    flush.ignore();
+    MapperFlushAll::new().ignore();
     Ok(())
 }
 

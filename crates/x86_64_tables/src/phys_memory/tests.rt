@@ -64,6 +64,11 @@ fn fits(alloc: Global, memory: &PhysMemory, limit: u64, frames: &[u64]) -> Resul
     Ok(pool_fits(alloc, memory, &IdentityMapping, frame_at(0x1000), &pool)?)
 }
 
+/// Tells whether words are a valid hierarchy below the root in frame 0x1000.
+fn is_valid(alloc: Global, memory: &PhysMemory) -> Result<bool, Fail> {
+    Ok(is_valid_hierarchy(alloc, memory, &IdentityMapping, frame_at(0x1000))?)
+}
+
 /// Walks from the root in frame 0x1000.
 fn walk(memory: &PhysMemory, addr: u64) -> Option<Walked> {
     page_walk(
@@ -85,7 +90,7 @@ fn arrival(address: u64, write: bool) -> Option<Walked> {
 
 #[test]
 fn walks_arrive(rt: HostRuntime) -> Result<(), Fail> {
-    let rows: [(&[(u64, u16, u64)], u64, Option<Walked>); 7] = [
+    let rows: [(&[(u64, u16, u64)], u64, Option<Walked>); 4] = [
         (
             &[
                 (0x1000, 0, 0x2003),
@@ -96,6 +101,20 @@ fn walks_arrive(rt: HostRuntime) -> Result<(), Fail> {
             0x1abc,
             arrival(0x5abc, true),
         ),
+        (&[(0x1000, 0, 0x2003), (0x2000, 0, 0x3080)], 0, None),
+        (&[(0x1000, 0, 0x9003)], 0, None),
+        (&[], 0, None),
+    ];
+    for (words, addr, expected) in rows {
+        let memory = memory_with(rt.alloc(), words)?;
+        assert_eq!(rt; walk(&memory, addr), expected, "at {addr:#x}");
+    }
+    Ok(())
+}
+
+#[test]
+fn walks_arrive_in_huge_pages(rt: HostRuntime) -> Result<(), Fail> {
+    let rows: [(&[(u64, u16, u64)], u64, Option<Walked>); 3] = [
         (
             &[
                 (0x1000, 0, 0x2001),
@@ -105,19 +124,16 @@ fn walks_arrive(rt: HostRuntime) -> Result<(), Fail> {
             0x23_4567,
             arrival(0x43_4567, false),
         ),
-        (&[(0x1000, 0, 0x2003), (0x2000, 0, 0x3080)], 0, None),
         (
             &[(0x1000, 0, 0x2003), (0x2000, 1, 0x8000_0083)],
             0x4012_3456,
             arrival(0x8012_3456, true),
         ),
-        (&[(0x1000, 0, 0x9003)], 0, None),
         (
             &[(0x1000, 511, 0x2003), (0x2000, 511, 0x4000_0083)],
             0xffff_ffff_c000_0001,
             arrival(0x4000_0001, true),
         ),
-        (&[], 0, None),
     ];
     for (words, addr, expected) in rows {
         let memory = memory_with(rt.alloc(), words)?;
@@ -130,89 +146,83 @@ fn walks_arrive(rt: HostRuntime) -> Result<(), Fail> {
 
 #[test]
 fn hierarchies_are_valid(rt: HostRuntime) -> Result<(), Fail> {
-    let rows: [(&[(u64, u16, u64)], bool); 15] = [
-        (&[], true),
-        (&[(0x1000, 0, 0x1003)], false),
-        (&[(0x1000, 0, 0x2003), (0x2000, 0, 0x2003)], false),
-        (
-            &[
-                (0x1000, 0, 0x2003),
-                (0x2000, 0, 0x3003),
-                (0x3000, 0, 0x2003),
-            ],
-            false,
-        ),
-        (&[(0x1000, 0, 0x2002), (0x2000, 0, 0x1003)], false),
-        (&[(0x1000, 0, 0x9003)], false),
-        (&[(0x1000, 0, 0x3)], false),
-        (&[(0x1000, 0, 0x2)], false),
-        (&[(0x1000, 0, 0x2083)], false),
-        (&[(0x1000, 0, 0x80)], false),
-        (&[(0x1000, 0, 0x2003), (0x2000, 0, 0x4000_1083)], true),
-        (
-            &[
-                (0x1000, 0, 0x2003),
-                (0x2000, 0, 0x3003),
-                (0x3000, 0, 0x4003),
-                (0x4000, 0, 0x4003),
-            ],
-            true,
-        ),
-        (&[(0x1000, 0, 0x2003), (0x1000, 1, 0x2002)], false),
-        (
-            &[
-                (0x1000, 0, 0x2003),
-                (0x2000, 0, 0x3003),
-                (0x3000, 0, 0x1003),
-            ],
-            false,
-        ),
-        (
-            &[
-                (0x1000, 0, 0x2003),
-                (0x2000, 0, 0x3003),
-                (0x3000, 0, 0x4003),
-                (0x4000, 0, 0x1003),
-            ],
-            true,
-        ),
+    let rows: [&[(u64, u16, u64)]; 4] = [
+        &[],
+        &[(0x1000, 0, 0x2003), (0x2000, 0, 0x4000_1083)],
+        &[
+            (0x1000, 0, 0x2003),
+            (0x2000, 0, 0x3003),
+            (0x3000, 0, 0x4003),
+            (0x4000, 0, 0x4003),
+        ],
+        &[
+            (0x1000, 0, 0x2003),
+            (0x2000, 0, 0x3003),
+            (0x3000, 0, 0x4003),
+            (0x4000, 0, 0x1003),
+        ],
     ];
-    let root = frame_at(0x1000);
-    for (words, expected) in rows {
+    for words in rows {
         let memory = memory_with(rt.alloc(), words)?;
-        let is_valid = is_valid_hierarchy(rt.alloc(), &memory, &IdentityMapping, root)?;
-        assert_eq!(rt; is_valid, expected, "of {words:?}");
+        assert!(rt; is_valid(rt.alloc(), &memory)?, "of {words:?}");
     }
     let memory = memory_of_ones(rt.alloc(), &[(0x1000, 0, 0x2003)])?;
-    assert!(rt; is_valid_hierarchy(rt.alloc(), &memory, &IdentityMapping, root)?);
-    let small = PhysMemory::new(rt.alloc(), 1)?;
-    assert!(rt; !is_valid_hierarchy(rt.alloc(), &small, &IdentityMapping, root)?);
+    assert!(rt; is_valid(rt.alloc(), &memory)?);
     Ok(())
 }
 
 #[test]
-fn pools_fit(rt: HostRuntime) -> Result<(), Fail> {
-    let mapped = [
-        (0x1000, 0, 0x2003),
-        (0x2000, 0, 0x3003),
-        (0x3000, 0, 0x4002),
-        (0x3000, 1, 0x5083),
-        (0x4000, 0, 0x6003),
+fn hierarchies_with_a_table_met_twice_are_not_valid(rt: HostRuntime) -> Result<(), Fail> {
+    let rows: [&[(u64, u16, u64)]; 6] = [
+        &[(0x1000, 0, 0x1003)],
+        &[(0x1000, 0, 0x2003), (0x2000, 0, 0x2003)],
+        &[
+            (0x1000, 0, 0x2003),
+            (0x2000, 0, 0x3003),
+            (0x3000, 0, 0x2003),
+        ],
+        &[(0x1000, 0, 0x2002), (0x2000, 0, 0x1003)],
+        &[(0x1000, 0, 0x2003), (0x1000, 1, 0x2002)],
+        &[
+            (0x1000, 0, 0x2003),
+            (0x2000, 0, 0x3003),
+            (0x3000, 0, 0x1003),
+        ],
     ];
-    let rows: [(&[(u64, u16, u64)], u64, &[u64], bool); 18] = [
+    for words in rows {
+        let memory = memory_with(rt.alloc(), words)?;
+        assert!(rt; !is_valid(rt.alloc(), &memory)?, "of {words:?}");
+    }
+    Ok(())
+}
+
+#[test]
+fn hierarchies_with_a_word_of_no_table_are_not_valid(rt: HostRuntime) -> Result<(), Fail> {
+    let rows: [&[(u64, u16, u64)]; 5] = [
+        &[(0x1000, 0, 0x9003)],
+        &[(0x1000, 0, 0x3)],
+        &[(0x1000, 0, 0x2)],
+        &[(0x1000, 0, 0x2083)],
+        &[(0x1000, 0, 0x80)],
+    ];
+    for words in rows {
+        let memory = memory_with(rt.alloc(), words)?;
+        assert!(rt; !is_valid(rt.alloc(), &memory)?, "of {words:?}");
+    }
+    let small = PhysMemory::new(rt.alloc(), 1)?;
+    assert!(rt; !is_valid(rt.alloc(), &small)?);
+    Ok(())
+}
+
+#[test]
+fn pools_fit_a_root(rt: HostRuntime) -> Result<(), Fail> {
+    let rows: [(&[(u64, u16, u64)], u64, &[u64], bool); 11] = [
         (&[], 8, &[0x2000, 0x3000, 0x4000], true),
         (&[], 8, &[], true),
         (&[], 8, &[0x7000], true),
         (&[], 9, &[0x7000, 0x8000], false),
         (&[], 8, &[0x1000], false),
         (&[], 8, &[0x2000, 0x1000], false),
-        (&mapped, 8, &[0x7000, 0x6000, 0x5000], true),
-        (&mapped, 8, &[0x2000, 0x7000], false),
-        (&mapped, 8, &[0x7000, 0x3000, 0x6000], false),
-        (&mapped, 8, &[0x7000, 0x4000], false),
-        (&mapped, 5, &[], true),
-        (&mapped, 4, &[], false),
-        (&mapped, 1, &[], false),
         (&[], 0, &[], true),
         (&[(0x1000, 0, 0x1003)], 8, &[0x2000], false),
         (&[(0x1000, 0, 0x80)], 8, &[0x2000], false),
@@ -229,10 +239,36 @@ fn pools_fit(rt: HostRuntime) -> Result<(), Fail> {
         let fits = fits(rt.alloc(), &memory, limit, frames)?;
         assert_eq!(rt; fits, expected, "{frames:?} below {limit} of {words:?}");
     }
+    let small = PhysMemory::new(rt.alloc(), 1)?;
+    assert!(rt; !fits(rt.alloc(), &small, 8, &[])?);
+    Ok(())
+}
+
+#[test]
+fn pools_fit_tables(rt: HostRuntime) -> Result<(), Fail> {
+    let words = [
+        (0x1000, 0, 0x2003),
+        (0x2000, 0, 0x3003),
+        (0x3000, 0, 0x4002),
+        (0x3000, 1, 0x5083),
+        (0x4000, 0, 0x6003),
+    ];
+    let rows: [(u64, &[u64], bool); 7] = [
+        (8, &[0x7000, 0x6000, 0x5000], true),
+        (8, &[0x2000, 0x7000], false),
+        (8, &[0x7000, 0x3000, 0x6000], false),
+        (8, &[0x7000, 0x4000], false),
+        (5, &[], true),
+        (4, &[], false),
+        (1, &[], false),
+    ];
+    let memory = memory_with(rt.alloc(), &words)?;
+    for (limit, frames, expected) in rows {
+        let fits = fits(rt.alloc(), &memory, limit, frames)?;
+        assert_eq!(rt; fits, expected, "{frames:?} below {limit}");
+    }
     let memory = memory_of_ones(rt.alloc(), &[(0x1000, 0, 0x2003)])?;
     assert!(rt; fits(rt.alloc(), &memory, 8, &[0x3000])?);
     assert!(rt; !fits(rt.alloc(), &memory, 8, &[0x2000])?);
-    let small = PhysMemory::new(rt.alloc(), 1)?;
-    assert!(rt; !fits(rt.alloc(), &small, 8, &[])?);
     Ok(())
 }

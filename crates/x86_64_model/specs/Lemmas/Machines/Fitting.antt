@@ -2,7 +2,9 @@
 use Rattle.std.proofs.Common.{◌≡◌, ◌⊎◌, inl, inr, ⊎_elim, ℕ, Bool, true, List, [], ◌∷◌, Some, None, Option, IsSome, refl, sym, ap, ◌∙◌, subst, eq-eqb, eqb-true}
 use Rattle.std.proofs.lemmas.Option.{same_Some}
 use Rattle.x86_64_model.specs.Entry.{IsParentFlags, address}
-use Rattle.x86_64_model.specs.Memory.{Words}
+use Rattle.x86_64_model.specs.Layout.{Layout, words, paths}
+use Rattle.x86_64_model.specs.MapperCalls.{IsReady}
+use Rattle.x86_64_model.specs.Memory.{Memory, Words}
 use Rattle.x86_64_model.specs.PathMap.{table_at}
 use Rattle.x86_64_model.specs.Window.{Window, outside_window, IsValidFor}
 use Rattle.x86_64_model.specs.Hierarchy.{IsValid}
@@ -18,6 +20,19 @@ pub use Rattle.x86_64_model.specs.Laws.Steps.{AllCalls}
 use Rattle.x86_64_model.specs.Lemmas.Machines.States.{Aside, IsSound, step_sound, step_conserves, run_sound}
 
 -- ---- and words
+
+-- whatever a pool serves, its frames are as the calls of a mapper want them
+pub ready_of_fits : (l : Layout) (m : Memory) (serves : ℕ → Bool) (pool : List ℕ) → Fits l.levels l.window (words l m) l.root (paths l m) serves pool → IsReady l m pool
+ready_of_fits l m serves pool fits = record {
+  valid = fits.valid;
+  each_once = fits.each_once;
+  in_memory = fits.in_memory;
+  are_frames = fits.are_frames;
+  not_zero = fits.not_zero;
+  no_table = fits.no_table;
+  serves_pool = λ f i. refl;
+  serves_tables = λ i q f t. refl;
+}
 
 -- what valid words and a pool that fits say of the state
 pub sound_of_fits : (L : ℕ) (window : Option Window) (T : Words) (root : ℕ) (serves : ℕ → Bool) (s : State) → Fits L window T root s.paths serves s.pool → IsSound L window root serves s

@@ -43,7 +43,7 @@ keeps_then x y z a b w is = let v = a w is in let u = b v.0 v.1 in (
 )
 
 keeps_arrives : (more : ℕ) (x y : Option Walked) → Arrives more x y → Keeps x y
-keeps_arrives more x y a w is = let v = a w is in (v.0, v.1, record { same_place = v.2.same_place; write_kept = v.2.write_kept; user_kept = v.2.user_kept })
+keeps_arrives more x y a w is = let v = a w is in (v.0, v.1, v.2.no_worse)
 
 module _ (L : ℕ) (window : Option Window) (root : ℕ) (serves : ℕ → Bool) (s : State) (sound : IsSound L window root serves s) (p : ℕ) where
   map_keeps : (more added : ℕ) → (q : List ℕ) (frame given : ℕ) → MapMay window s.paths q given more

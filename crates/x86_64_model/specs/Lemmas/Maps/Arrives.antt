@@ -51,7 +51,7 @@ module _ (L level : ℕ) (window : Option Window) (T U : Words) (root : ℕ) (M 
       → (p : ℕ) → take (length q) (page_path L p) ≡ q → page_walk L U root p ≡ Some (record { address = frame + p % span level; write = writable given; user = user given })
   map_arrives asks outside frames before valid accepted p front =
       page_walk_is L U root (entry_at window after.paths) (reads L U root after.paths window valid) p
-      ∙ by L q front outside asks.nonempty asks.at_level made.0 made.1
+      ∙ by L q front outside asks.page.nonempty asks.page.at_level made.0 made.1
       ∙ ap₂ (λ w u. Some (record { address = frame + p % span level; write = w; user = u })) (writable_by L level more added q frame given asks (is_small L q)) (user_by L level more added q frame given asks (is_small L q))
     where
       made : (entry after.paths q ≡ leaf_entry L q frame given) × AllByRecursion (λ p. IsParent more (entry after.paths p)) (parents q)
@@ -65,9 +65,9 @@ module _ (L level : ℕ) (window : Option Window) (T U : Words) (root : ℕ) (M 
           → entry after.paths r ≡ leaf_entry L q frame given → AllByRecursion (λ p. IsParent more (entry after.paths p)) (parents r)
           → walked (entry_at window after.paths) p n [] true true ≡ arrived (frame + p % span level) (leaf_entry L q frame given)
       by n [] f o l s is ps = absurd (omega (arith, l))
-      by zero (i ∷ c) f o l s is ps = absurd (omega (arith, s, asks.low))
+      by zero (i ∷ c) f o l s is ps = absurd (omega (arith, s, asks.page.low))
       by (suc n) (i ∷ c) f o l s is ps =
-          walked_to more p (leaf_entry L q frame given) frame (entry_at window after.paths) asks.parents_present above (length c) n level [] true true (omega (arith, s)) asks.low (λ h. refl, λ h. refl)
+          walked_to more p (leaf_entry L q frame given) frame (entry_at window after.paths) asks.parents_present above (length c) n level [] true true (omega (arith, s)) asks.page.low (λ h. refl, λ h. refl)
           (subst (AllByRecursion (λ r. IsParent more (entry_at window after.paths r))) (sym (map-id _) ∙ ap (λ r. map (λ s. s) (parents r)) (sym f))
           (all_both (λ r. IsParent more (entry after.paths r)) (λ r. entry_at window after.paths r ≡ entry after.paths r) (λ r. IsParent more (entry_at window after.paths r))
           (λ r parent same. subst (IsParent more) (sym same) parent) (parents (i ∷ c)) ps (parents_outside window after.paths i c o)))
@@ -89,19 +89,12 @@ part_is_flags given = record {
 
 pub asks_map_to : (L level added : ℕ) (q : List ℕ) (frame given : ℕ) → IsParentFlags added → IsAsked L level q frame given → Asks L level (parent_part given) added q frame given
 asks_map_to L level added q frame given adds asked = record {
+  page = asked;
   parent_flags = part_is_flags given;
   added_flags = adds;
   parents_present = part_has given 1 refl ∙ asked.is_present;
-  is_present = asked.is_present;
   grants_write = λ h. part_has given 2 refl ∙ h;
   grants_user = λ h. part_has given 4 refl ∙ h;
-  no_address = asked.no_address;
-  at_level = asked.at_level;
-  nonempty = asked.nonempty;
-  low = asked.low;
-  high = asked.high;
-  is_frame = asked.is_frame;
-  aligned = asked.aligned;
 }
 
 pub map_to_arrives : MapArrives

@@ -12,6 +12,7 @@ use Rattle.x86_64_model.specs.Lemmas.Hierarchies.Trees.{plain_table}
 use Rattle.x86_64_model.specs.Lemmas.Walks.Walked.{walked}
 use Rattle.x86_64_model.specs.Lemmas.Maps.Accepted.{IsParent, added_there}
 use Rattle.x86_64_model.specs.PathMap.{table_of}
+use Rattle.x86_64_model.specs.Arrivals.{Asks as IsAsked}
 use Rattle.x86_64_model.specs.MapRule.{leaf_entry}
 
 -- an entry of a level that maps a page to a frame
@@ -77,44 +78,37 @@ module _ (more p e frame : ℕ) (E : List ℕ → ℕ) (here_too : present more 
       (subst (AllByRecursion (λ r. IsParent more (E r))) (sym (map_again q i (parents rest))) ps.1)
       (ap E (append_assoc q (i ∷ []) rest) ∙ is) leaf))
 
--- ---- what a map call asks for
+-- ---- what a map call asks for: as a `map_to`, with parent flags that grant as much
 
 pub record Asks (L level more added : ℕ) (q : List ℕ) (frame given : ℕ) : Type 0 where
+  pub page : IsAsked L level q frame given
   pub parent_flags : IsParentFlags more
   pub added_flags : IsParentFlags added
   pub parents_present : present more ≡ true
-  pub is_present : present given ≡ true
   pub grants_write : writable given ≡ true → writable more ≡ true
   pub grants_user : user given ≡ true → user more ≡ true
-  pub no_address : address given ≡ 0
-  pub at_level : length q + level ≡ L + 1
-  pub nonempty : 1 ≤ length q
-  pub low : 1 ≤ level
-  pub high : level ≤ 3
-  pub is_frame : address frame ≡ frame
-  pub aligned : frame % span level ≡ 0
 
 module _ (L level more added : ℕ) (q : List ℕ) (frame given : ℕ) (asks : Asks L level more added q frame given) where
   abbrev pub leaf_by : Bool → ℕ
   leaf_by b = bit_or frame (cond b given (bit_or given 0x80))
 
   pub writable_by : (b : Bool) → writable (leaf_by b) ≡ writable given
-  writable_by true = only_flags frame given 2 asks.is_frame refl
-  writable_by false = only_flags frame (bit_or given 0x80) 2 asks.is_frame refl ∙ has_or given 0x80 2 refl
+  writable_by true = only_flags frame given 2 asks.page.is_frame refl
+  writable_by false = only_flags frame (bit_or given 0x80) 2 asks.page.is_frame refl ∙ has_or given 0x80 2 refl
 
   pub user_by : (b : Bool) → user (leaf_by b) ≡ user given
-  user_by true = only_flags frame given 4 asks.is_frame refl
-  user_by false = only_flags frame (bit_or given 0x80) 4 asks.is_frame refl ∙ has_or given 0x80 4 refl
+  user_by true = only_flags frame given 4 asks.page.is_frame refl
+  user_by false = only_flags frame (bit_or given 0x80) 4 asks.page.is_frame refl ∙ has_or given 0x80 4 refl
 
   pub leaf_is : (b : Bool) → is_small L q ≡ b → Leaf level (leaf_by b) frame
   unfolding address has
   leaf_is true small = record {
-    is_present = only_flags frame given 1 asks.is_frame refl ∙ asks.is_present;
-    names = address_or frame given asks.no_address ∙ asks.is_frame;
-    size = inl (let e : length q ≡ L = eqb-true (length q) L small in omega (arith, e, asks.at_level));
+    is_present = only_flags frame given 1 asks.page.is_frame refl ∙ asks.page.is_present;
+    names = address_or frame given asks.page.no_address ∙ asks.page.is_frame;
+    size = inl (let e : length q ≡ L = eqb-true (length q) L small in omega (arith, e, asks.page.at_level));
   }
   leaf_is false large = record {
-    is_present = only_flags frame (bit_or given 0x80) 1 asks.is_frame refl ∙ has_or given 0x80 1 refl ∙ asks.is_present;
-    names = address_or frame (bit_or given 0x80) (address_or given 0x80 refl ∙ asks.no_address) ∙ asks.is_frame;
-    size = inr (added_there frame (bit_or given 0x80) 0x80 (added_there given 0x80 0x80 refl), asks.high, asks.aligned);
+    is_present = only_flags frame (bit_or given 0x80) 1 asks.page.is_frame refl ∙ has_or given 0x80 1 refl ∙ asks.page.is_present;
+    names = address_or frame (bit_or given 0x80) (address_or given 0x80 refl ∙ asks.page.no_address) ∙ asks.page.is_frame;
+    size = inr (added_there frame (bit_or given 0x80) 0x80 (added_there given 0x80 0x80 refl), asks.page.high, asks.page.aligned);
   }

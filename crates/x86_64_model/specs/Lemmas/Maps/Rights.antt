@@ -40,7 +40,7 @@ pub arrive_same : (more a b : ℕ) (w u v x : Bool) → b ≡ a → Right (writa
 arrive_same more a b w u v x ab rw ru walk e = subst (λ walk. (y : Walked) × (arrives b v x ≡ Some y) × Better more walk y) (same_Some _ walk e) (
   record { address = b; write = v; user = x },
   refl,
-  record { same_place = ab; write_kept = rw.0; user_kept = ru.0; write_gained = rw.1; user_gained = ru.1 },
+  record { no_worse = record { same_place = ab; write_kept = rw.0; user_kept = ru.0 }; write_gained = rw.1; user_gained = ru.1 },
 )
 
 pub when : (more : ℕ) (b c : Bool) (x y : Option Walked) → (b ≡ true → c ≡ true) → (b ≡ true → Arrives more x y) → Arrives more (cond b x None) (cond c y None)
