@@ -1,9 +1,17 @@
 //! The texts of replies.
 use bitflags::Flags;
 use std::fmt::{Display, Formatter, Result as FmtResult, Write};
-use x86_64::structures::paging::mapper::{MapToError, MappedFrame, TranslateResult, UnmapError};
+use x86_64::structures::paging::mapper::{
+    FlagUpdateError, MapToError, MappedFrame, TranslateError, TranslateResult, UnmapError,
+};
 use x86_64::structures::paging::{PageSize, PhysFrame, Size4KiB};
 use x86_64::{PhysAddr, Reply as CallReply, SizeReply, Walked};
+
+/// The reply to a call on a page that is not mapped.
+const PAGE_NOT_MAPPED: &str = "page not mapped";
+
+/// The reply to a call on a page above which an entry maps a larger one.
+const PARENT_ENTRY_HUGE_PAGE: &str = "parent entry huge page";
 
 /// Answers a command.
 #[derive(Debug, Drop)]
@@ -46,6 +54,8 @@ impl Display for Reply {
 fn write_answer<W: Write>(f: &mut Formatter<W>, answer: &CallReply) -> FmtResult {
     match answer {
         CallReply::Of4KiB(reply) => write_size_reply(f, reply),
+        CallReply::Of2MiB(reply) => write_size_reply(f, reply),
+        CallReply::Of1GiB(reply) => write_size_reply(f, reply),
         CallReply::Translate(translation) => write_translation(f, translation),
         CallReply::Address(Some(address)) => write_address(f, *address),
         CallReply::Address(None) => f.write_str("none"),
@@ -63,6 +73,12 @@ fn write_size_reply<S: PageSize, W: Write>(
         SizeReply::Map(Err(error)) => write_map_error(f, error),
         SizeReply::Unmap(Ok((frame, _))) => write_address(f, frame.start_address()),
         SizeReply::Unmap(Err(error)) => write_unmap_error(f, error),
+        SizeReply::Update(Ok(_)) | SizeReply::TableFlags(Ok(())) => f.write_str("ok"),
+        SizeReply::Update(Err(error)) | SizeReply::TableFlags(Err(error)) => {
+            write_flags_error(f, error)
+        }
+        SizeReply::Frame(Ok(frame)) => write_address(f, frame.start_address()),
+        SizeReply::Frame(Err(error)) => write_frame_error(f, error),
     }
 }
 
@@ -73,7 +89,7 @@ fn write_map_error<S: PageSize, W: Write>(
 ) -> FmtResult {
     match error {
         MapToError::FrameAllocationFailed => f.write_str("frame allocation failed"),
-        MapToError::ParentEntryHugePage => f.write_str("parent entry huge page"),
+        MapToError::ParentEntryHugePage => f.write_str(PARENT_ENTRY_HUGE_PAGE),
         MapToError::PageAlreadyMapped(frame) => {
             f.write_str("page already mapped ")?;
             write_address(f, frame.start_address())
@@ -84,13 +100,33 @@ fn write_map_error<S: PageSize, W: Write>(
 /// Writes why a page was not unmapped.
 fn write_unmap_error<W: Write>(f: &mut Formatter<W>, error: &UnmapError) -> FmtResult {
     match error {
-        UnmapError::PageNotMapped => f.write_str("page not mapped"),
-        UnmapError::ParentEntryHugePage => f.write_str("parent entry huge page"),
-        UnmapError::InvalidFrameAddress(address) => {
-            f.write_str("invalid frame address ")?;
-            write_address(f, *address)
-        }
+        UnmapError::PageNotMapped => f.write_str(PAGE_NOT_MAPPED),
+        UnmapError::ParentEntryHugePage => f.write_str(PARENT_ENTRY_HUGE_PAGE),
+        UnmapError::InvalidFrameAddress(address) => write_invalid_address(f, *address),
     }
+}
+
+/// Writes why flags were not set.
+fn write_flags_error<W: Write>(f: &mut Formatter<W>, error: &FlagUpdateError) -> FmtResult {
+    f.write_str(match error {
+        FlagUpdateError::PageNotMapped => PAGE_NOT_MAPPED,
+        FlagUpdateError::ParentEntryHugePage => PARENT_ENTRY_HUGE_PAGE,
+    })
+}
+
+/// Writes why a page has no frame.
+fn write_frame_error<W: Write>(f: &mut Formatter<W>, error: &TranslateError) -> FmtResult {
+    match error {
+        TranslateError::PageNotMapped => f.write_str(PAGE_NOT_MAPPED),
+        TranslateError::ParentEntryHugePage => f.write_str(PARENT_ENTRY_HUGE_PAGE),
+        TranslateError::InvalidFrameAddress(address) => write_invalid_address(f, *address),
+    }
+}
+
+/// Writes that a page's entry has no address of a frame of its size.
+fn write_invalid_address<W: Write>(f: &mut Formatter<W>, address: PhysAddr) -> FmtResult {
+    f.write_str("invalid frame address ")?;
+    write_address(f, address)
 }
 
 /// Writes where an address is mapped to.

@@ -8,7 +8,7 @@ use x86_64::{Call, PhysAddr, SizeCall, VirtAddr};
 /// Asks something of the hierarchy.
 #[derive(Clone, Copy, Debug, PartialEq)]
 pub enum Command {
-    /// `translate ADDR`, `addr ADDR`, `map SIZE PAGE FRAME FLAGS` or `unmap SIZE PAGE`: a call of the mapper.
+    /// `translate ADDR`, `addr ADDR`, or a command on a page of a size: a call of the mapper.
     Call(Call),
     /// `walk ADDR`: where the processor arrives.
     Walk(VirtAddr),
@@ -88,6 +88,8 @@ impl<'a> Fields<'a> {
             b"addr" => Some(Call::TranslateAddr(self.parse_address()?)),
             _ => match self.next_field()?.as_bytes() {
                 b"4KiB" => Some(Call::Of4KiB(self.parse_size_call(name)?)),
+                b"2MiB" => Some(Call::Of2MiB(self.parse_size_call(name)?)),
+                b"1GiB" => Some(Call::Of1GiB(self.parse_size_call(name)?)),
                 _ => None,
             },
         }
@@ -101,9 +103,35 @@ impl<'a> Fields<'a> {
                 frame: self.parse_frame()?,
                 flags: self.parse_flags()?,
             }),
+            b"map-with" => Some(SizeCall::MapToWithTableFlags {
+                page: self.parse_page()?,
+                frame: self.parse_frame()?,
+                flags: self.parse_flags()?,
+                parent_flags: self.parse_flags()?,
+            }),
+            b"identity" => Some(SizeCall::IdentityMap {
+                frame: self.parse_frame()?,
+                flags: self.parse_flags()?,
+            }),
             b"unmap" => Some(SizeCall::Unmap {
                 page: self.parse_page()?,
             }),
+            b"translate-page" => Some(SizeCall::TranslatePage {
+                page: self.parse_page()?,
+            }),
+            _ => self.parse_flags_call(name),
+        }
+    }
+
+    /// Reads the fields past SIZE of a call of this name that sets flags: PAGE and FLAGS.
+    fn parse_flags_call<S: PageSize>(&mut self, name: &str) -> Option<SizeCall<S>> {
+        let page = self.parse_page()?;
+        let flags = self.parse_flags()?;
+        match name.as_bytes() {
+            b"update" => Some(SizeCall::UpdateFlags { page, flags }),
+            b"p4" => Some(SizeCall::SetFlagsP4 { page, flags }),
+            b"p3" => Some(SizeCall::SetFlagsP3 { page, flags }),
+            b"p2" => Some(SizeCall::SetFlagsP2 { page, flags }),
             _ => None,
         }
     }
