@@ -10,11 +10,8 @@ use crate::images::{
 use std::alloc::Global;
 use std::process::Abort;
 use std::test::Fail;
-
 use x86_64::structures::paging::mapper::{MappedFrame, TranslateResult};
-use x86_64::structures::paging::{
-    MappedPageTable, PageSize, Size1GiB, Size2MiB, Size4KiB,
-};
+use x86_64::structures::paging::{MappedPageTable, PageSize, Size1GiB, Size2MiB, Size4KiB};
 use x86_64::{
     Call, FramePool, IdentityMapping, PhysAddr, PhysMemory, Reply, SizeCall, SizeReply, VirtAddr,
     pool_fits,

@@ -109,9 +109,8 @@ fn size_reply<S: PageSize>(call: SizeCall<S>, answer: Answer) -> Option<SizeRepl
         SizeCall::UpdateFlags { page, .. } => {
             SizeReply::Update(flags_result(answer)?.map(|()| page))
         }
-        SizeCall::SetFlagsP4 { .. }
-        | SizeCall::SetFlagsP3 { .. }
-        | SizeCall::SetFlagsP2 { .. } => SizeReply::TableFlags(flags_result(answer)?),
+        SizeCall::SetFlagsP4 { .. } | SizeCall::SetFlagsP3 { .. } | SizeCall::SetFlagsP2 { .. } =>
+            SizeReply::TableFlags(flags_result(answer)?),
         SizeCall::TranslatePage { .. } => SizeReply::Frame(frame_result(answer)?),
     })
 }

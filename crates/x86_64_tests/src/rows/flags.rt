@@ -146,10 +146,7 @@ fn flags_keep_the_size_of_a_page(rt: HostRuntime) -> Result<(), Fail> {
         calls: &[
             first_large(),
             forbidden(set_level_2(0x20_0000, 0x1)),
-            small(
-                set_level_2(0x20_0000, 0x83),
-                SizeReply::TableFlags(Ok(())),
-            ),
+            small(set_level_2(0x20_0000, 0x83), SizeReply::TableFlags(Ok(()))),
             small(
                 unmap(0x20_0000),
                 SizeReply::Unmap(Err(UnmapError::ParentEntryHugePage)),
@@ -228,7 +225,12 @@ fn walks_follow_the_flags(rt: HostRuntime) -> Result<(), Fail> {
         let mut replies = Vec::new(rt.alloc());
         run_on(&mut memory, root, &mut pool, &calls, &mut replies)?;
         assert_eq!(rt; replies.as_slice(), wanted.as_slice());
-        let walked = page_walk(&memory, &IdentityMapping, root, VirtAddr::new_truncate(addr));
+        let walked = page_walk(
+            &memory,
+            &IdentityMapping,
+            root,
+            VirtAddr::new_truncate(addr),
+        );
         let wanted = arrival.map(|(address, write, user)| Walked {
             address: PhysAddr::new_truncate(address),
             write,

@@ -5,9 +5,7 @@ use super::{
 };
 use crate::images::{flags_of, frame_at, page_at};
 use std::test::Fail;
-use x86_64::structures::paging::mapper::{
-    FlagUpdateError, MapToError, TranslateError, UnmapError,
-};
+use x86_64::structures::paging::mapper::{FlagUpdateError, MapToError, TranslateError, UnmapError};
 use x86_64::structures::paging::{PageSize, Size4KiB};
 use x86_64::{PhysAddr, SizeCall, SizeReply};
 
@@ -37,10 +35,7 @@ fn maps_take_tables_from_the_front_of_the_pool(rt: HostRuntime) -> Result<(), Fa
         },
         Row {
             free: &FREE[..2],
-            calls: &[small(
-                map(0x1000, 0x5000, 0x3),
-                SizeReply::Map(Err(too_few)),
-            )],
+            calls: &[small(map(0x1000, 0x5000, 0x3), SizeReply::Map(Err(too_few)))],
             words: &WORDS[..2],
             full: &[],
             left: &[],

@@ -61,7 +61,10 @@ fn calls_name_an_index_of_level_four(rt: HostRuntime) {
         flags: flags_of(0x1),
     };
     let rows = [
-        (Call::Of4KiB(map(0xffff_8000_0000_0000, 0x5000, 0x1)), Some(256)),
+        (
+            Call::Of4KiB(map(0xffff_8000_0000_0000, 0x5000, 0x1)),
+            Some(256),
+        ),
         (Call::Of4KiB(unmap(0x7fff_ffff_f000)), Some(255)),
         (Call::Of2MiB(update(0xffff_ff80_0000_0000, 0x1)), Some(511)),
         (Call::Of1GiB(below), Some(255)),

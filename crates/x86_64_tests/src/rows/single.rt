@@ -124,7 +124,10 @@ fn mappers_set_flags_of_tables(rt: HostRuntime) -> Result<(), Fail> {
     assert!(rt; mapper.p2_flags_allowed(page, level_2));
     assert_eq!(rt; mapper.set_flags_p2_entry(page, level_2).map(done), Ok(()));
     assert!(rt; mapper.p2_flags_allowed(large, level_2));
-    assert_eq!(rt; mapper.set_flags_p2_entry(large, level_2).map(done), refused);
+    assert_eq!(rt;
+        mapper.set_flags_p2_entry(large, level_2).map(done),
+        refused
+    );
     assert!(rt; !mapper.p3_flags_allowed(page, flags_of(0x1001)));
     assert!(rt; mapper.p3_flags_allowed(page, level_3));
     assert_eq!(rt; mapper.set_flags_p3_entry(page, level_3).map(done), Ok(()));
