@@ -4,13 +4,14 @@ ghost use Rattle.x86_64_model.specs.Memory.{identity_places};
 ghost use Rattle.x86_64_mappers.specs.Layouts.{direct};
 ghost use Rattle.x86_64.specs.Runs.{FitsPool};
 
+use x86_64_tests::images::{ROOT, frame_at, page_at, pool_of, run_on};
 use crate::hoard::answer_at_last;
-use std::alloc::{AllocError, Global};
+use std::alloc::AllocError;
 use std::test::Fail;
-use x86_64::structures::paging::{MappedPageTable, Page, PageTableFlags, PhysFrame, Size4KiB};
+use x86_64::structures::paging::{MappedPageTable, PageTableFlags};
 use x86_64::{
-    Call, FramePlace, FramePool, IdentityMapping, PhysAddr, PhysMemory, Reply, SizeCall, SizeReply,
-    VirtAddr, is_valid_hierarchy, pool_fits, run,
+    Call, FramePlace, FramePool, IdentityMapping, PhysMemory, Reply, SizeCall, SizeReply,
+    is_valid_hierarchy, pool_fits,
 };
 
 /// The addresses of the frames that are free at first.
@@ -18,21 +19,6 @@ const FREE: [u64; 3] = [0x2000, 0x3000, 0x4000];
 
 /// A reply from before a list.
 const EARLIER: Reply = Reply::NotAllowed;
-
-/// Gives the frame that contains an address.
-fn frame_at(address: u64) -> PhysFrame<Size4KiB> {
-    PhysFrame::containing_address(PhysAddr::new_truncate(address))
-}
-
-/// Makes a pool of the free frames, with numbers below a limit.
-fn pool_of(alloc: Global, limit: u64) -> Result<FramePool, Fail> {
-    let mut pool = FramePool::new(alloc, limit)?;
-    for frame in FREE {
-        pool.try_add(frame_at(frame))
-            .or(Err("the pool refuses a frame"))?;
-    }
-    Ok(pool)
-}
 
 #[test]
 fn memories_and_pools_are_made_once_there_is_room(rt: HostRuntime) -> Result<(), Fail> {
@@ -49,9 +35,9 @@ fn memories_and_pools_are_made_once_there_is_room(rt: HostRuntime) -> Result<(),
 #[test]
 fn hierarchies_and_pools_are_tested_once_there_is_room(rt: HostRuntime) -> Result<(), Fail> {
     let alloc = rt.alloc();
-    let root = frame_at(0x1000);
+    let root = frame_at(ROOT);
     let mut memory = PhysMemory::new(alloc, 4096)?;
-    let pool = pool_of(alloc, 4096)?;
+    let pool = pool_of(alloc, 4096, &FREE)?;
     let is_valid = answer_at_last(&rt, alloc, || {
         is_valid_hierarchy(alloc, &memory, &IdentityMapping, root)
     })?;
@@ -64,21 +50,6 @@ fn hierarchies_and_pools_are_tested_once_there_is_room(rt: HostRuntime) -> Resul
     let mapper = MappedPageTable::new(&mut memory, root, IdentityMapping);
     assert!(rt; answer_at_last(&rt, alloc, || mapper.is_valid(alloc))?);
     Ok(())
-}
-
-/// Answers calls by a mapper that is dropped then. The owner of the memory and of the pool knows that they fit again.
-fn run_on(
-    memory: &mut PhysMemory,
-    root: PhysFrame<Size4KiB>,
-    pool: &mut FramePool,
-    calls: &[Call],
-    replies: &mut Vec<Reply>,
-) -> Result<(), AllocError>
-    requires { FitsPool (direct identity_places root) memory.old (serves_below pool.old.limit) pool.old.frames }
-    ensures { FitsPool (direct identity_places root) memory.new (serves_below pool.new.limit) pool.new.frames }
-{
-    let mut mapper = MappedPageTable::new(memory, root, IdentityMapping);
-    run(&mut mapper, pool, calls, replies)
 }
 
 /// Tells whether the memory has unused entries alone, the pool has the frames that are free at first, and the replies are
@@ -96,10 +67,10 @@ fn is_untouched(memory: &PhysMemory, pool: &FramePool, replies: &[Reply]) -> boo
 #[test]
 fn lists_change_nothing_until_there_is_room(rt: HostRuntime) -> Result<(), Fail> {
     let alloc = rt.alloc();
-    let root = frame_at(0x1000);
+    let root = frame_at(ROOT);
     let mut memory = PhysMemory::new(alloc, 5)?;
-    let mut pool = pool_of(alloc, 5)?;
-    let page = Page::containing_address(VirtAddr::new(0x1000));
+    let mut pool = pool_of(alloc, 5, &FREE)?;
+    let page = page_at(0x1000);
     let call = Call::Of4KiB(SizeCall::MapTo {
         page,
         frame: frame_at(0x5000),

@@ -1,17 +1,19 @@
 //! Lists of calls that a fixed rule makes, answered by `run` and by the plain slow program side by side.
 //!
 //! After each list these are compared: each reply of `run` with the plain program's; every word of the root and of each
-//! table with the plain state's entry at its path; the free frames, in order; and the words of two frames that are neither
-//! tables nor free, with what they were.
+//! table with the plain state's entry at its path; the free frames, in order; and the words of these and of the frames that
+//! are neither tables nor free, with what they were. At the end each outcome that a call of a kind and a size can have was met,
+//! and no other.
 mod chooser;
+mod outcomes;
 mod replies;
 
-use crate::images::{
-    ROOT, WORD_COUNT, compare_pool, fill, frame_at, pool_of, run_on, set_word, word_at,
-};
+use crate::images::{ROOT, WORD_COUNT, fill, frame_at, pool_of, run_on, set_word, word_at};
+use crate::rows::compare_pool;
 use chooser::Chooser;
-use replies::{REPLY_KINDS, kind_of, reply_to};
-use std::alloc::Global;
+use outcomes::{ACTIONS, Action, OUTCOMES, Outcome, outcome_of, possible_outcomes};
+use replies::reply_to;
+use std::alloc::{AllocError, Global};
 use std::process::Abort;
 use std::test::Fail;
 use x86_64::{FramePool, IdentityMapping, PhysMemory, pool_fits};
@@ -22,10 +24,10 @@ use x86_64_model::plain::{PathEntries, PlainMachine, PlainState};
 const PLACES: u64 = 16;
 
 /// How many lists are run on one memory.
-const LISTS: usize = 6;
+const LISTS: usize = 20;
 
 /// How many calls a list has.
-const CALLS: usize = 10;
+const CALLS: usize = 20;
 
 /// The plain machine of the direct mapper.
 const MACHINE: PlainMachine = PlainMachine {
@@ -34,14 +36,17 @@ const MACHINE: PlainMachine = PlainMachine {
     added_flags: 0,
 };
 
-/// The entries at first, each with its path and the frame of the table that it stands in. Pages of each size are mapped,
-/// and a table, a page and an entry that maps a page of 1GiB lack `PRESENT`.
-const ENTRIES: [(&[u64], u64, u64); 10] = [
+/// The entries at first, each with its path and the frame of the table that it stands in. Pages of each size are mapped; a
+/// table, a page and an entry that maps a page of 1GiB lack `PRESENT`; and two entries with `HUGE_PAGE` name an address that
+/// isn't a multiple of their size.
+const ENTRIES: [(&[u64], u64, u64); 12] = [
     (&[3], 0x1000, 0xb003),
     (&[3, 0], 0xb000, 0x4000_0083),
     (&[3, 1], 0xb000, 0xc003),
+    (&[3, 2], 0xb000, 0x4020_0083),
     (&[3, 1, 0], 0xc000, 0x20_0087),
     (&[3, 1, 1], 0xc000, 0xd002),
+    (&[3, 1, 2], 0xc000, 0x20_1083),
     (&[3, 1, 1, 0], 0xd000, 0x5081),
     (&[3, 1, 1, 1], 0xd000, 0x6003),
     (&[3, 1, 1, 511], 0xd000, 0x6002),
@@ -54,6 +59,17 @@ const FREE: [u64; 7] = [0x4000, 0x2000, 0x8000, 0x3000, 0x7000, 0x6000, 0xa000];
 
 /// A frame that is full of ones, and neither a table nor free.
 const STRANGER: u64 = 0x9000;
+
+/// The frames whose words are 0, and which are neither tables nor free.
+const EMPTY: [u64; 3] = [0x0, 0x5000, 0xf000];
+
+/// Says that an outcome came of a call, with the level of the page's entry or of the one that a translation ends at.
+#[derive(Clone, Copy, Debug, PartialEq)]
+struct Met {
+    action: Action,
+    level: u64,
+    outcome: Outcome,
+}
 
 /// Holds one hierarchy and its free frames twice: in a memory, and plainly.
 #[derive(Drop)]
@@ -113,35 +129,47 @@ impl Twins {
     fn compare(&self, rt: &impl Abort, alloc: Global) -> Result<(), Fail> {
         self.compare_tables(rt, alloc)?;
         compare_pool(rt, &self.pool, &self.plain.pool, "of the plain state");
-        for index in 0..WORD_COUNT {
-            assert_eq!(rt; word_at(&self.memory, 0x0, index)?, 0, "{index}");
-            assert_eq!(rt;
-                word_at(&self.memory, STRANGER, index)?,
-                u64::MAX,
-                "{index}"
-            );
+        for frame in EMPTY {
+            self.compare_frame(rt, frame, 0)?;
+        }
+        self.compare_frame(rt, STRANGER, u64::MAX)?;
+        for frame in &self.plain.pool {
+            self.compare_frame(rt, *frame, u64::MAX)?;
         }
         Ok(())
     }
 
-    /// Answers a list of calls both ways, and compares the replies and the states. Counts the replies by their kinds.
+    /// Compares each word of a frame with one.
+    fn compare_frame(&self, rt: &impl Abort, frame: u64, word: u64) -> Result<(), Fail> {
+        for index in 0..WORD_COUNT {
+            let found = word_at(&self.memory, frame, index)?;
+            assert_eq!(rt; found, word, "{index} of {frame:#x}");
+        }
+        Ok(())
+    }
+
+    /// Answers a list of calls both ways, and compares the replies and the states. Keeps what comes of each call.
     fn answer(
         &mut self,
         rt: &impl Abort,
         alloc: Global,
         chooser: &mut Chooser,
-        counts: &mut [u64; REPLY_KINDS],
+        met: &mut Vec<Met>,
     ) -> Result<(), Fail> {
         let root = frame_at(ROOT);
         let mut calls = Vec::new(alloc);
         let mut wanted = Vec::new(alloc);
         for _ in 0..CALLS {
-            let (call, plain) = chooser.call(alloc)?;
-            let reply = MACHINE.step(&mut self.plain, &plain)?;
-            let reply = reply_to(call, reply).ok_or("a reply that fits no such call")?;
-            let kind = kind_of(reply);
-            counts[kind] = counts[kind].saturating_add(1);
-            calls.push(call)?;
+            let choice = chooser.choice(alloc)?;
+            let reply = MACHINE.step(&mut self.plain, &choice.plain)?;
+            let reply = reply_to(choice.call, reply).ok_or("a reply that fits no such call")?;
+            let (level, outcome) = outcome_of(reply);
+            met.push(Met {
+                action: choice.action,
+                level: level.max(choice.level),
+                outcome,
+            })?;
+            calls.push(choice.call)?;
             wanted.push(reply)?;
         }
         assert!(rt; pool_fits(alloc, &self.memory, &IdentityMapping, root, &self.pool)?);
@@ -152,17 +180,38 @@ impl Twins {
     }
 }
 
+/// Gives what was met though it isn't possible, and what is possible and wasn't met.
+fn unexpected(alloc: Global, met: &[Met]) -> Result<Vec<Met>, AllocError> {
+    let mut unexpected = Vec::new(alloc);
+    for action in ACTIONS {
+        for level in 0..=3 {
+            for outcome in OUTCOMES {
+                let item = Met {
+                    action,
+                    level,
+                    outcome,
+                };
+                if met.contains(&item) != possible_outcomes(action, level).contains(&outcome) {
+                    unexpected.push(item)?;
+                }
+            }
+        }
+    }
+    Ok(unexpected)
+}
+
 #[test]
 fn run_agrees_with_the_plain_program(rt: HostRuntime) -> Result<(), Fail> {
     let mut chooser = Chooser::new(1);
-    let mut counts = [0; REPLY_KINDS];
+    let mut met = Vec::new(rt.alloc());
     for count in 0..=FREE.len() {
         let mut twins = Twins::new(rt.alloc(), &FREE[..count])?;
         twins.compare(&rt, rt.alloc())?;
         for _ in 0..LISTS {
-            twins.answer(&rt, rt.alloc(), &mut chooser, &mut counts)?;
+            twins.answer(&rt, rt.alloc(), &mut chooser, &mut met)?;
         }
     }
-    assert!(rt; counts.iter().all(|count| *count > 0), "{counts:?}");
+    let unexpected = unexpected(rt.alloc(), &met)?;
+    assert!(rt; unexpected.is_empty(), "{unexpected:?}");
     Ok(())
 }

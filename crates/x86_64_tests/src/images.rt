@@ -6,10 +6,9 @@ ghost use Rattle.x86_64.specs.Runs.{FitsPool};
 
 use bitflags::Flags;
 use std::alloc::{AllocError, Global};
-use std::process::Abort;
 use std::test::Fail;
 use x86_64::structures::paging::{
-    MappedPageTable, Page, PageTableFlags, PageTableIndex, PhysFrame, Size4KiB,
+    MappedPageTable, Page, PageSize, PageTableFlags, PageTableIndex, PhysFrame, Size4KiB,
 };
 use x86_64::{
     Call, FramePlace, FramePool, IdentityMapping, PhysAddr, PhysMemory, Reply, VirtAddr, run,
@@ -24,13 +23,13 @@ pub const WORD_COUNT: u16 = 512;
 /// The address of the root's frame.
 pub const ROOT: u64 = 0x1000;
 
-/// Gives the frame that contains an address.
-pub fn frame_at(address: u64) -> PhysFrame<Size4KiB> {
+/// Gives the frame of a size that contains an address.
+pub fn frame_at<S: PageSize>(address: u64) -> PhysFrame<S> {
     PhysFrame::containing_address(PhysAddr::new_truncate(address))
 }
 
-/// Gives the page that contains an address.
-pub fn page_at(address: u64) -> Page<Size4KiB> {
+/// Gives the page of a size that contains an address.
+pub fn page_at<S: PageSize>(address: u64) -> Page<S> {
     Page::containing_address(VirtAddr::new_truncate(address))
 }
 
@@ -45,7 +44,8 @@ pub fn set_word(memory: &mut PhysMemory, frame: u64, index: u16, word: u64) -> R
         .table_mut(FramePlace::new(frame / 0x1000))
         .ok_or("no table in the frame")?;
     let entry = &mut table[PageTableIndex::new_truncate(index)];
-    entry.set_addr(frame_at(word).start_address(), flags_of(word & FLAGS_MASK));
+    let frame = frame_at::<Size4KiB>(word);
+    entry.set_addr(frame.start_address(), flags_of(word & FLAGS_MASK));
     Ok(())
 }
 
@@ -74,18 +74,6 @@ pub fn pool_of(alloc: Global, limit: u64, frames: &[u64]) -> Result<FramePool, F
             .or(Err("the pool refuses a frame"))?;
     }
     Ok(pool)
-}
-
-/// Compares the free frames of a pool with these.
-pub fn compare_pool(rt: &impl Abort, pool: &FramePool, frames: &[u64], title: &str) {
-    assert_eq!(rt; pool.len(), frames.len(), "free frames: {title}");
-    for (n, frame) in frames.iter().enumerate() {
-        assert_eq!(rt;
-            pool.frame_at(n),
-            Some(frame_at(*frame)),
-            "free frame {n}: {title}"
-        );
-    }
 }
 
 /// Answers calls by a mapper that is dropped then. The owner of the memory and of the pool knows that they fit again.

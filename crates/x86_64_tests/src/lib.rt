@@ -1,11 +1,12 @@
-//! Tests that cross crates, from outside: the rows of the program and of lists of calls, as tables.
+//! Tests that cross crates, from outside, as tables where they can be. What tests begin with is public, for the crate of
+//! refused memory.
 #![tactic(auto)]
 
 #[cfg(test)]
 mod agreement;
-#[cfg(test)]
-mod images;
+pub mod images;
 #[cfg(test)]
 mod program;
 #[cfg(test)]
 mod rows;
+pub mod streams;

@@ -1,51 +1,71 @@
 //! Calls that a fixed rule chooses.
 ghost use Rattle.std.specs.Prelude.{◌≤◌, length};
 
+use super::outcomes::{ACTIONS, Action, PageAction};
 use crate::images::{flags_of, frame_at, page_at};
 use std::alloc::{AllocError, Global};
-use x86_64::structures::paging::{Page, Size4KiB};
+use x86_64::structures::paging::{PageSize, PhysFrame};
 use x86_64::{Call, SizeCall, VirtAddr};
 use x86_64_model::plain::PlainCall;
 
 /// The indices that calls choose from, level four first.
-const INDICES: [&[u64]; 4] = [&[0, 0, 3, 256, 511], &[0, 1, 1], &[0, 1, 1], &[0, 1, 511]];
+const INDICES: [&[u64]; 4] = [
+    &[0, 0, 3, 3, 256, 511],
+    &[0, 1, 1, 2],
+    &[0, 1, 1, 2],
+    &[0, 1, 511],
+];
 
-/// The frames that calls choose from.
-const FRAMES: [u64; 4] = [0x0, 0x5000, 0x9000, 0x000f_ffff_ffff_f000];
+/// The addresses in the frames that calls choose from. A page that starts at one of the last two isn't there.
+const FRAMES: [u64; 7] = [
+    0x0,
+    0x5000,
+    0x4020_1000,
+    0x4020_1000,
+    0x180_8040_0000,
+    0x8000_0000_0000,
+    0x000f_ffff_ffff_f000,
+];
 
-/// The flags that calls choose from. With `HUGE_PAGE`, with an address bit, and mostly without `PRESENT` a map isn't allowed.
-const FLAGS: [u64; 10] = [
+/// The flags that calls choose from. With an address bit none are allowed, nor with `HUGE_PAGE` for a map of 4KiB or of
+/// level four, and mostly not without `PRESENT` for a map.
+const FLAGS: [u64; 12] = [
     0x1,
-    0x3,
+    0x1,
     0x3,
     0x3,
     0x7,
     0x0,
     0x2,
     0x81,
+    0x83,
     0x1003,
+    0x11,
     0x8000_0000_0000_0001,
 ];
 
-/// What a call does.
-#[derive(Clone, Copy)]
-enum Kind {
-    Map,
-    Unmap,
-    Translate,
-    TranslateAddr,
+/// A call, for `run` and for the plain program.
+#[derive(Drop)]
+pub struct Choice {
+    /// What the call does.
+    pub action: Action,
+    /// The level of the page's entry, 0 for a call on no page.
+    pub level: u64,
+    /// The call for `run`, which has the page as its position.
+    pub call: Call,
+    /// The call for the plain program, which has the page as its indices.
+    pub plain: PlainCall,
 }
 
-/// The kinds that calls choose from.
-const KINDS: [Kind; 7] = [
-    Kind::Map,
-    Kind::Map,
-    Kind::Map,
-    Kind::Unmap,
-    Kind::Unmap,
-    Kind::Translate,
-    Kind::TranslateAddr,
-];
+/// Says what a call on a page is about.
+#[derive(Drop)]
+struct Subject {
+    position: u64,
+    path: Vec<u64>,
+    frame: u64,
+    flags: u64,
+    parent_flags: u64,
+}
 
 /// Chooses by a linear congruential rule, so that each run of the test makes the same calls.
 #[derive(Drop)]
@@ -70,8 +90,8 @@ impl Chooser {
         items[(self.state >> 33) as usize % items.len()]
     }
 
-    /// Chooses the indices of a page, level four first, and gives them with the page's position.
-    fn page(&mut self, alloc: Global) -> Result<(Vec<u64>, u64), AllocError> {
+    /// Chooses indices, level four first, and what else a call needs.
+    fn subject(&mut self, alloc: Global) -> Result<Subject, AllocError> {
         let mut path = Vec::new(alloc);
         let mut position = 0;
         for indices in INDICES {
@@ -79,42 +99,119 @@ impl Chooser {
             path.push(index)?;
             position = position << 9 | index;
         }
-        Ok((path, position << 12))
+        Ok(Subject {
+            position: position << 12,
+            path,
+            frame: self.choose(&FRAMES),
+            flags: self.choose(&FLAGS),
+            parent_flags: self.choose(&FLAGS),
+        })
     }
 
-    /// Chooses a call, and gives it for `run` and for the plain program. The first gets the page as its position, the second
-    /// as its indices.
-    pub fn call(&mut self, alloc: Global) -> Result<(Call, PlainCall), AllocError> {
-        let (path, position) = self.page(alloc)?;
-        let page = page_at(position);
+    /// Chooses a call.
+    pub fn choice(&mut self, alloc: Global) -> Result<Choice, AllocError> {
+        let subject = self.subject(alloc)?;
+        let position = subject.position;
         let addr = VirtAddr::new_truncate(position);
-        let frame = self.choose(&FRAMES);
-        let flags = self.choose(&FLAGS);
-        Ok(match self.choose(&KINDS) {
-            Kind::Map => (
-                map_call(page, frame, flags),
-                PlainCall::MapTo {
-                    page: path,
-                    frame,
-                    flags,
-                },
-            ),
-            Kind::Unmap => (
-                Call::Of4KiB(SizeCall::Unmap { page }),
-                PlainCall::Unmap { page: path },
-            ),
-            Kind::Translate => (Call::Translate(addr), PlainCall::Translate { position }),
-            Kind::TranslateAddr => (
-                Call::TranslateAddr(addr),
-                PlainCall::TranslateAddress { position },
-            ),
+        let action = self.choose(&ACTIONS);
+        Ok(match action {
+            Action::OnPage(action) => self.page_choice(action, subject),
+            Action::Translate => Choice {
+                action,
+                level: 0,
+                call: Call::Translate(addr),
+                plain: PlainCall::Translate { position },
+            },
+            Action::TranslateAddr => Choice {
+                action,
+                level: 0,
+                call: Call::TranslateAddr(addr),
+                plain: PlainCall::TranslateAddress { position },
+            },
         })
+    }
+
+    /// Chooses the size of a call on a page.
+    fn page_choice(&mut self, action: PageAction, subject: Subject) -> Choice {
+        let level = self.choose(&[1, 1, 2, 3]);
+        let (call, plain) = match level {
+            1 => {
+                let (call, plain) = size_call(action, subject);
+                (Call::Of4KiB(call), plain)
+            }
+            2 => {
+                let (call, plain) = size_call(action, subject);
+                (Call::Of2MiB(call), plain)
+            }
+            _ => {
+                let (call, plain) = size_call(action, subject);
+                (Call::Of1GiB(call), plain)
+            }
+        };
+        Choice {
+            action: Action::OnPage(action),
+            level,
+            call,
+            plain,
+        }
     }
 }
 
-/// Makes the call that maps a page.
-fn map_call(page: Page<Size4KiB>, frame: u64, flags: u64) -> Call {
-    let frame = frame_at(frame);
-    let flags = flags_of(flags);
-    Call::Of4KiB(SizeCall::MapTo { page, frame, flags })
+/// Makes a call on a page of a size, for `run` and for the plain program.
+fn size_call<S: PageSize>(action: PageAction, subject: Subject) -> (SizeCall<S>, PlainCall) {
+    let call = run_call(action, &subject);
+    (call, plain_call::<S>(action, subject))
+}
+
+/// Makes the call for `run`.
+fn run_call<S: PageSize>(action: PageAction, subject: &Subject) -> SizeCall<S> {
+    let page = page_at(subject.position);
+    let frame = frame_at(subject.frame);
+    let flags = flags_of(subject.flags);
+    match action {
+        PageAction::MapTo => SizeCall::MapTo { page, frame, flags },
+        PageAction::MapToWithTableFlags => SizeCall::MapToWithTableFlags {
+            page,
+            frame,
+            flags,
+            parent_flags: flags_of(subject.parent_flags),
+        },
+        PageAction::IdentityMap => SizeCall::IdentityMap { frame, flags },
+        PageAction::Unmap => SizeCall::Unmap { page },
+        PageAction::UpdateFlags => SizeCall::UpdateFlags { page, flags },
+        PageAction::SetFlagsP4 => SizeCall::SetFlagsP4 { page, flags },
+        PageAction::SetFlagsP3 => SizeCall::SetFlagsP3 { page, flags },
+        PageAction::SetFlagsP2 => SizeCall::SetFlagsP2 { page, flags },
+        PageAction::TranslatePage => SizeCall::TranslatePage { page },
+    }
+}
+
+/// Makes the call for the plain program.
+fn plain_call<S: PageSize>(action: PageAction, subject: Subject) -> PlainCall {
+    let mut page = subject.path;
+    page.truncate(5_u64.saturating_sub(S::LEVEL) as usize);
+    let frame: PhysFrame<S> = frame_at(subject.frame);
+    let frame = frame.start_address().as_u64();
+    let flags = subject.flags;
+    let set_flags = |level, page| PlainCall::SetFlags { level, page, flags };
+    match action {
+        PageAction::MapTo => PlainCall::MapTo { page, frame, flags },
+        PageAction::MapToWithTableFlags => PlainCall::MapToWithTableFlags {
+            page,
+            frame,
+            flags,
+            parent_flags: subject.parent_flags,
+        },
+        PageAction::IdentityMap => PlainCall::IdentityMap {
+            level: S::LEVEL as usize,
+            frame,
+            flags,
+        },
+        PageAction::Unmap => PlainCall::Unmap { page },
+        PageAction::UpdateFlags => PlainCall::UpdateFlags { page, flags },
+        PageAction::SetFlagsP4 => set_flags(4, page),
+        PageAction::SetFlagsP3 => set_flags(3, page),
+        PageAction::SetFlagsP2 => set_flags(2, page),
+        PageAction::TranslatePage => PlainCall::TranslatePage { page },
+    }
 }

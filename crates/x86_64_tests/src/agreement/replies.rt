@@ -1,17 +1,17 @@
 //! Replies of the plain program as those of `run`.
-ghost use Rattle.std.specs.Prelude.{◌<◌};
-
-use crate::images::{flags_of, frame_at};
-use x86_64::structures::paging::mapper::{MapToError, MappedFrame, TranslateResult, UnmapError};
-use x86_64::structures::paging::{Page, PhysFrame, Size4KiB};
+use crate::images::{flags_of, frame_at, page_at};
+use x86_64::structures::paging::mapper::{
+    FlagUpdateError, MapToError, MappedFrame, TranslateError, TranslateResult, UnmapError,
+};
+use x86_64::structures::paging::{Page, PageSize, PhysFrame};
 use x86_64::{Call, PhysAddr, Reply, SizeCall, SizeReply};
 use x86_64_model::plain::{Answer, PlainReply, Refusal, Translated};
 
 /// Gives what the plain program's answer to a map is as an answer of `run`.
-fn map_result(
-    page: Page<Size4KiB>,
+fn map_result<S: PageSize>(
+    page: Page<S>,
     answer: Answer,
-) -> Option<Result<Page<Size4KiB>, MapToError<Size4KiB>>> {
+) -> Option<Result<Page<S>, MapToError<S>>> {
     match answer {
         Answer::Done(_) => Some(Ok(page)),
         Answer::Refused(Refusal::FrameAllocationFailed) => Some(Err(
@@ -26,14 +26,46 @@ fn map_result(
 }
 
 /// The same of an unmap.
-fn unmap_result(
-    page: Page<Size4KiB>,
+fn unmap_result<S: PageSize>(
+    page: Page<S>,
     answer: Answer,
-) -> Option<Result<(PhysFrame<Size4KiB>, Page<Size4KiB>), UnmapError>> {
+) -> Option<Result<(PhysFrame<S>, Page<S>), UnmapError>> {
     match answer {
         Answer::Done(frame) => Some(Ok((frame_at(frame), page))),
         Answer::Refused(Refusal::PageNotMapped) => Some(Err(UnmapError::PageNotMapped)),
         Answer::Refused(Refusal::ParentEntryHugePage) => Some(Err(UnmapError::ParentEntryHugePage)),
+        Answer::Refused(Refusal::InvalidFrameAddress(frame)) => {
+            let address = PhysAddr::new_truncate(frame);
+            Some(Err(UnmapError::InvalidFrameAddress(address)))
+        }
+        Answer::Refused(_) => None,
+    }
+}
+
+/// The same of flags that were to be set.
+fn flags_result(answer: Answer) -> Option<Result<(), FlagUpdateError>> {
+    match answer {
+        Answer::Done(_) => Some(Ok(())),
+        Answer::Refused(Refusal::PageNotMapped) => Some(Err(FlagUpdateError::PageNotMapped)),
+        Answer::Refused(Refusal::ParentEntryHugePage) => {
+            Some(Err(FlagUpdateError::ParentEntryHugePage))
+        }
+        Answer::Refused(_) => None,
+    }
+}
+
+/// The same of the translation of a page.
+fn frame_result<S: PageSize>(answer: Answer) -> Option<Result<PhysFrame<S>, TranslateError>> {
+    match answer {
+        Answer::Done(frame) => Some(Ok(frame_at(frame))),
+        Answer::Refused(Refusal::PageNotMapped) => Some(Err(TranslateError::PageNotMapped)),
+        Answer::Refused(Refusal::ParentEntryHugePage) => {
+            Some(Err(TranslateError::ParentEntryHugePage))
+        }
+        Answer::Refused(Refusal::InvalidFrameAddress(frame)) => {
+            let address = PhysAddr::new_truncate(frame);
+            Some(Err(TranslateError::InvalidFrameAddress(address)))
+        }
         Answer::Refused(_) => None,
     }
 }
@@ -64,11 +96,23 @@ fn translate_result(translated: Translated) -> TranslateResult {
 }
 
 /// The same of a call on a page.
-fn size_reply(call: SizeCall<Size4KiB>, answer: Answer) -> Option<SizeReply<Size4KiB>> {
-    match call {
-        SizeCall::MapTo { page, .. } => Some(SizeReply::Map(map_result(page, answer)?)),
-        SizeCall::Unmap { page } => Some(SizeReply::Unmap(unmap_result(page, answer)?)),
-    }
+fn size_reply<S: PageSize>(call: SizeCall<S>, answer: Answer) -> Option<SizeReply<S>> {
+    Some(match call {
+        SizeCall::MapTo { page, .. } | SizeCall::MapToWithTableFlags { page, .. } => {
+            SizeReply::Map(map_result(page, answer)?)
+        }
+        SizeCall::IdentityMap { frame, .. } => {
+            let page = page_at(frame.start_address().as_u64());
+            SizeReply::Map(map_result(page, answer)?)
+        }
+        SizeCall::Unmap { page } => SizeReply::Unmap(unmap_result(page, answer)?),
+        SizeCall::UpdateFlags { page, .. } => {
+            SizeReply::Update(flags_result(answer)?.map(|()| page))
+        }
+        SizeCall::SetFlagsP4 { .. } | SizeCall::SetFlagsP3 { .. } | SizeCall::SetFlagsP2 { .. } =>
+            SizeReply::TableFlags(flags_result(answer)?),
+        SizeCall::TranslatePage { .. } => SizeReply::Frame(frame_result(answer)?),
+    })
 }
 
 /// Gives the reply of `run` to a call that the plain program replies to so, or `None` where its reply fits no such call.
@@ -77,7 +121,9 @@ pub fn reply_to(call: Call, plain: PlainReply) -> Option<Reply> {
         PlainReply::NotAllowed => Some(Reply::NotAllowed),
         PlainReply::Answered(answer) => match call {
             Call::Of4KiB(call) => Some(Reply::Of4KiB(size_reply(call, answer)?)),
-            _ => None,
+            Call::Of2MiB(call) => Some(Reply::Of2MiB(size_reply(call, answer)?)),
+            Call::Of1GiB(call) => Some(Reply::Of1GiB(size_reply(call, answer)?)),
+            Call::Translate(_) | Call::TranslateAddr(_) => None,
         },
         PlainReply::Position(translated) => match call {
             Call::Translate(_) => Some(Reply::Translate(translate_result(translated))),
@@ -88,46 +134,5 @@ pub fn reply_to(call: Call, plain: PlainReply) -> Option<Reply> {
             _ => None,
         },
         PlainReply::Cleaned => None,
-    }
-}
-
-/// How many kinds of replies there are.
-pub const REPLY_KINDS: usize = 12;
-
-/// Gives the number of a reply's kind.
-pub fn kind_of(reply: Reply) -> usize
-    ensures { result < 12 }
-{
-    match reply {
-        Reply::NotAllowed => 0,
-        Reply::Address(None) => 1,
-        Reply::Address(Some(_)) => 2,
-        Reply::Translate(TranslateResult::NotMapped) => 3,
-        Reply::Translate(_) => 4,
-        Reply::Of4KiB(SizeReply::Map(result)) => map_kind(result),
-        Reply::Of4KiB(SizeReply::Unmap(result)) => unmap_kind(result),
-    }
-}
-
-/// The same of the reply to a map.
-fn map_kind(answer: Result<Page<Size4KiB>, MapToError<Size4KiB>>) -> usize
-    ensures { result < 12 }
-{
-    match answer {
-        Ok(_) => 5,
-        Err(MapToError::FrameAllocationFailed) => 6,
-        Err(MapToError::ParentEntryHugePage) => 7,
-        Err(MapToError::PageAlreadyMapped(_)) => 8,
-    }
-}
-
-/// The same of the reply to an unmap.
-fn unmap_kind(answer: Result<(PhysFrame<Size4KiB>, Page<Size4KiB>), UnmapError>) -> usize
-    ensures { result < 12 }
-{
-    match answer {
-        Ok(_) => 9,
-        Err(UnmapError::ParentEntryHugePage) => 10,
-        Err(_) => 11,
     }
 }

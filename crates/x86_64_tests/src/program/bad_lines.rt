@@ -1,0 +1,193 @@
+//! Lines that can't be read.
+use super::{FIRST, INVALID, run_on};
+use pagetab_engine::ending::{Ending, Fault};
+use std::alloc::Global;
+use std::process::Abort;
+use std::test::Fail;
+
+/// Numbers, spaces and names that are none.
+const FORMS: [&str; 19] = [
+    "translate 18446744073709551616",
+    "translate 0x10000000000000000",
+    "translate 0X1",
+    "translate 0x",
+    "translate +1",
+    "translate -1",
+    "translate 1_0",
+    "translate 1a",
+    "translate\t1",
+    "\ttranslate 1",
+    "translate 1\r",
+    "\r",
+    "translate 1\0",
+    "translate \u{661}",
+    "translate\u{a0}1",
+    "Translate 1",
+    "4KiB 0x1000",
+    "cleanup",
+    "# a comment",
+];
+
+/// Lines of an image.
+const IMAGES: [&str; 12] = [
+    "word 0x1000 512 0x0",
+    "word 0x1000 0",
+    "word 0x1000 0 0 0",
+    "word 0x1800 0 0",
+    "word 0x8000 0 0",
+    "free",
+    "free 0x2000 0x3000",
+    "free 0x0",
+    "free 0x2001",
+    "free 0x8000",
+    "free 0x10000000002000",
+    "free 0xfffffffffffff000",
+];
+
+/// Commands that read.
+const READS: [&str; 22] = [
+    "translate",
+    "translate 1 1",
+    "translate 0x800000000000",
+    "walk",
+    "walk 1 1",
+    "show 0x1000",
+    "show 0x1000 0 0",
+    "show 0x1000 512",
+    "show 0x1001 0",
+    "show 0x8000 0",
+    "show 0xffffffffffffffff 0",
+    "addr",
+    "addr 0x0 0x0",
+    "addr 0x800000000000",
+    "pool 0x2000",
+    "translate-page 4KiB",
+    "translate-page 0x1000",
+    "translate-page 4KiB 0x1000 0x1",
+    "translate-page 4KiB 0x1001",
+    "translate-page 2MiB 0x1000",
+    "translate-page 1GiB 0x200000",
+    "translate-page 512GiB 0x0",
+];
+
+/// Maps.
+const MAPS: [&str; 32] = [
+    "map",
+    "map 4KiB 0x1000 0x5000",
+    "map 4KiB 0x1000 0x5000 0x1 0x1",
+    "map 4KiB 0x1001 0x5000 0x1",
+    "map 4KiB 0x800000000000 0x5000 0x1",
+    "map 4KiB 0x1000 0x5001 0x1",
+    "map 4KiB 0x1000 0x10000000000000 0x1",
+    "map 4KiB 0x1000 0x5000 0x10000000000000000",
+    "map 0x1000 0x5000 0x1",
+    "map 4kib 0x1000 0x5000 0x1",
+    "map 2MB 0x200000 0x400000 0x1",
+    "map 4MiB 0x0 0x0 0x1",
+    "map 2MiB 0x201000 0x400000 0x1",
+    "map 2MiB 0x200000 0x401000 0x1",
+    "map 1GiB 0x200000 0x80000000 0x1",
+    "map 1GiB 0x40000000 0x80200000 0x1",
+    "map 1GiB 0x40000000 0x10000000000000 0x1",
+    "map-with",
+    "map-with 4KiB 0x1000 0x5000 0x1",
+    "map-with 4KiB 0x1000 0x5000 0x1 0x1 0x1",
+    "map-with 4KiB 0x1000 0x5000 0x1 0x10000000000000000",
+    "map-with 2MiB 0x201000 0x400000 0x1 0x1",
+    "map-with 0x1000 0x5000 0x1 0x1",
+    "map_with 4KiB 0x1000 0x5000 0x1 0x1",
+    "identity",
+    "identity 4KiB 0x5000",
+    "identity 4KiB 0x5000 0x1 0x1",
+    "identity 4KiB 0x5001 0x1",
+    "identity 4KiB 0x10000000000000 0x1",
+    "identity 2MiB 0x201000 0x1",
+    "identity 1GiB 0x200000 0x1",
+    "identity 0x5000 0x1",
+];
+
+/// Unmaps, and flags that are set.
+const CHANGES: [&str; 25] = [
+    "unmap",
+    "unmap 4KiB",
+    "unmap 4KiB 0x1000 0x5000",
+    "unmap 4KiB 0x1001",
+    "unmap 4KiB 0x800000000000",
+    "unmap 0x1000",
+    "unmap 2MiB 0x201000",
+    "unmap 1GiB 0x200000",
+    "unmap 3MiB 0x0",
+    "update 4KiB 0x1000",
+    "update 4KiB 0x1000 0x1 0x1",
+    "update 0x1000 0x1",
+    "update 2MiB 0x1000 0x1",
+    "update 4KiB 0x800000000000 0x1",
+    "update 4KiB 0x1000 -1",
+    "p4 4KiB 0x1000",
+    "p4 4KiB 0x1000 0x1 0x1",
+    "p4 1GiB 0x200000 0x1",
+    "p3 4KiB 0x1000",
+    "p3 2MiB 0x1000 0x1",
+    "p2 0x1000 0x1",
+    "p2 4KiB 0x1001 0x1",
+    "p1 4KiB 0x1000 0x1",
+    "p5 4KiB 0x1000 0x1",
+    "P4 4KiB 0x1000 0x1",
+];
+
+/// Asserts that each line is bad as the first one, and that nothing is written.
+fn assert_bad(rt: &impl Abort, alloc: Global, lines: &[&str]) -> Result<(), Fail> {
+    for line in lines {
+        let outcome = run_on(alloc, "", line.as_bytes())?;
+        assert_eq!(rt;
+            outcome.ending,
+            Ending::Stopped(Fault::BadLine(1)),
+            "{line}"
+        );
+        assert!(rt; outcome.written.is_empty(), "{line}");
+    }
+    Ok(())
+}
+
+#[test]
+fn bad_lines_end_the_run(rt: HostRuntime) -> Result<(), Fail> {
+    assert_bad(&rt, rt.alloc(), &FORMS)?;
+    assert_bad(&rt, rt.alloc(), &IMAGES)?;
+    assert_bad(&rt, rt.alloc(), &READS)?;
+    assert_bad(&rt, rt.alloc(), &MAPS)?;
+    assert_bad(&rt, rt.alloc(), &CHANGES)
+}
+
+#[test]
+fn bad_lines_are_counted(rt: HostRuntime) -> Result<(), Fail> {
+    let rows: [(&str, &[u8], u64, &str); 8] = [
+        ("", b"\n  \nfoo\n", 3, ""),
+        ("", b"show 0 0\nword 0x1000 0 0\nshow 0 0\n", 2, "0x0\n"),
+        ("", b"pool\nfree 0x2000\npool\n", 2, "pool\n"),
+        ("", b"free 0x2000\nfree 0x3000\nfree 0x2000\n", 3, ""),
+        ("", b"show 0 0\nshow 0 \xff\n", 2, "0x0\n"),
+        (
+            FIRST,
+            b"walk 0x1abc\nwalk\nwalk 0x1abc\n",
+            6,
+            "0x5abc write=1 user=0\n",
+        ),
+        // A line that can't be read comes before the test of the image.
+        (INVALID, b"foo\n", 3, ""),
+        (INVALID, b"free 0x0\n", 3, ""),
+    ];
+    for (image, lines, number, replies) in rows {
+        let outcome = run_on(rt.alloc(), image, lines)?;
+        assert_eq!(rt;
+            outcome.ending,
+            Ending::Stopped(Fault::BadLine(number)),
+            "{image}{lines:?}"
+        );
+        assert_eq!(rt;
+            outcome.written.as_slice(),
+            replies.as_bytes(),
+            "{image}{lines:?}"
+        );
+    }
+    Ok(())
+}

@@ -1,0 +1,105 @@
+//! Readers and writers in memory.
+use std::io::{self, Read, Write};
+
+/// Gives its bytes seven at a time, and fails at the call of a number, counted from 1.
+#[derive(Drop)]
+pub struct Source<'a> {
+    rest: &'a [u8],
+    /// How often it was read.
+    pub calls: u64,
+    fails_at: u64,
+}
+
+impl<'a> Source<'a> {
+    /// Makes one with these bytes. It never fails where the number is 0.
+    pub fn new(bytes: &'a [u8], fails_at: u64) -> Source<'a> {
+        Source {
+            rest: bytes,
+            calls: 0,
+            fails_at,
+        }
+    }
+}
+
+impl Read for Source<'_> {
+    fn read(&mut self, buf: &mut [u8]) -> io::Result<usize> {
+        self.calls = self.calls.saturating_add(1);
+        if self.calls == self.fails_at {
+            return Err(io::Error::from(io::ErrorKind::Other));
+        }
+        let count = self.rest.len().min(buf.len()).min(7);
+        let (given, rest) = self.rest.split_at(count);
+        buf[..count].copy_from_slice(given);
+        self.rest = rest;
+        Ok(count)
+    }
+}
+
+/// Keeps what is written, and fails at the call of a number, counted from 1.
+#[derive(Drop)]
+pub struct Sink {
+    /// What was written.
+    pub bytes: Vec<u8>,
+    /// How often it was written to.
+    pub calls: u64,
+    fails_at: u64,
+}
+
+impl Sink {
+    /// Makes one that keeps what is written in a vector. It never fails where the number is 0.
+    pub fn new(bytes: Vec<u8>, fails_at: u64) -> Sink {
+        Sink {
+            bytes,
+            calls: 0,
+            fails_at,
+        }
+    }
+}
+
+impl Write for Sink {
+    fn write(&mut self, buf: &[u8]) -> io::Result<usize> {
+        self.calls = self.calls.saturating_add(1);
+        if self.calls == self.fails_at {
+            return Err(io::Error::from(io::ErrorKind::Other));
+        }
+        self.bytes.extend_from_slice(buf)?;
+        Ok(buf.len())
+    }
+
+    fn flush(&mut self) -> io::Result<()> {
+        Ok(())
+    }
+}
+
+/// Compares what is written with what is wanted, and takes no memory.
+#[derive(Drop)]
+pub struct Comparison<'a> {
+    /// What is still to be written.
+    pub rest: &'a [u8],
+    /// Tells whether all that was written was wanted.
+    pub agrees: bool,
+}
+
+impl<'a> Comparison<'a> {
+    /// Makes one of what is wanted.
+    pub fn new(wanted: &'a [u8]) -> Comparison<'a> {
+        Comparison {
+            rest: wanted,
+            agrees: true,
+        }
+    }
+}
+
+impl Write for Comparison<'_> {
+    fn write(&mut self, buf: &[u8]) -> io::Result<usize> {
+        match self.rest.strip_prefix(buf) {
+            Some(rest) => self.rest = rest,
+            None => self.agrees = false,
+        }
+        Ok(buf.len())
+    }
+
+    fn flush(&mut self) -> io::Result<()> {
+        Ok(())
+    }
+}
