@@ -6,6 +6,7 @@ use crate::frame_alloc::FramePool;
 use crate::page_table::PageTableFlags;
 use bitflags::Flags;
 use std::alloc::Global;
+use std::process::Abort;
 use std::test::Fail;
 use x86_64_addr::addr::{PhysAddr, VirtAddr};
 use x86_64_addr::index::PageTableIndex;
@@ -88,6 +89,33 @@ fn arrival(address: u64, write: bool) -> Option<Walked> {
     })
 }
 
+/// Compares walks from the root in frame 0x1000, each given by the words, the address and where it arrives.
+fn check_walks(
+    rt: &impl Abort,
+    alloc: Global,
+    rows: &[(&[(u64, u16, u64)], u64, Option<Walked>)],
+) -> Result<(), Fail> {
+    for (words, addr, expected) in rows {
+        let memory = memory_with(alloc, words)?;
+        assert_eq!(rt; walk(&memory, *addr), *expected, "at {addr:#x}");
+    }
+    Ok(())
+}
+
+/// Compares whether words, of which each row has some, are a valid hierarchy below the root in frame 0x1000.
+fn check_validity(
+    rt: &impl Abort,
+    alloc: Global,
+    rows: &[&[(u64, u16, u64)]],
+    expected: bool,
+) -> Result<(), Fail> {
+    for words in rows {
+        let memory = memory_with(alloc, words)?;
+        assert_eq!(rt; is_valid(alloc, &memory)?, expected, "of {words:?}");
+    }
+    Ok(())
+}
+
 #[test]
 fn walks_arrive(rt: HostRuntime) -> Result<(), Fail> {
     let rows: [(&[(u64, u16, u64)], u64, Option<Walked>); 4] = [
@@ -105,11 +133,7 @@ fn walks_arrive(rt: HostRuntime) -> Result<(), Fail> {
         (&[(0x1000, 0, 0x9003)], 0, None),
         (&[], 0, None),
     ];
-    for (words, addr, expected) in rows {
-        let memory = memory_with(rt.alloc(), words)?;
-        assert_eq!(rt; walk(&memory, addr), expected, "at {addr:#x}");
-    }
-    Ok(())
+    check_walks(&rt, rt.alloc(), &rows)
 }
 
 #[test]
@@ -135,10 +159,7 @@ fn walks_arrive_in_huge_pages(rt: HostRuntime) -> Result<(), Fail> {
             arrival(0x4000_0001, true),
         ),
     ];
-    for (words, addr, expected) in rows {
-        let memory = memory_with(rt.alloc(), words)?;
-        assert_eq!(rt; walk(&memory, addr), expected, "at {addr:#x}");
-    }
+    check_walks(&rt, rt.alloc(), &rows)?;
     let memory = memory_of_ones(rt.alloc(), &[(0x1000, 0, 0x2003)])?;
     assert_eq!(rt; walk(&memory, 0), arrival(0x000f_ffff_c000_0000, true));
     Ok(())
@@ -162,10 +183,7 @@ fn hierarchies_are_valid(rt: HostRuntime) -> Result<(), Fail> {
             (0x4000, 0, 0x1003),
         ],
     ];
-    for words in rows {
-        let memory = memory_with(rt.alloc(), words)?;
-        assert!(rt; is_valid(rt.alloc(), &memory)?, "of {words:?}");
-    }
+    check_validity(&rt, rt.alloc(), &rows, true)?;
     let memory = memory_of_ones(rt.alloc(), &[(0x1000, 0, 0x2003)])?;
     assert!(rt; is_valid(rt.alloc(), &memory)?);
     Ok(())
@@ -189,11 +207,7 @@ fn hierarchies_with_a_table_met_twice_are_not_valid(rt: HostRuntime) -> Result<(
             (0x3000, 0, 0x1003),
         ],
     ];
-    for words in rows {
-        let memory = memory_with(rt.alloc(), words)?;
-        assert!(rt; !is_valid(rt.alloc(), &memory)?, "of {words:?}");
-    }
-    Ok(())
+    check_validity(&rt, rt.alloc(), &rows, false)
 }
 
 #[test]
@@ -205,10 +219,7 @@ fn hierarchies_with_a_word_of_no_table_are_not_valid(rt: HostRuntime) -> Result<
         &[(0x1000, 0, 0x2083)],
         &[(0x1000, 0, 0x80)],
     ];
-    for words in rows {
-        let memory = memory_with(rt.alloc(), words)?;
-        assert!(rt; !is_valid(rt.alloc(), &memory)?, "of {words:?}");
-    }
+    check_validity(&rt, rt.alloc(), &rows, false)?;
     let small = PhysMemory::new(rt.alloc(), 1)?;
     assert!(rt; !is_valid(rt.alloc(), &small)?);
     Ok(())
