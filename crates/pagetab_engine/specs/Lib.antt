@@ -1,6 +1,10 @@
 pub mod Number
 pub mod Line
+pub mod Starts
+pub mod Fields
+pub mod PageCalls
 pub mod Slot
+pub mod Statements
 pub mod Hierarchy
 pub mod Image
 pub mod Reply

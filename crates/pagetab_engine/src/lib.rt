@@ -3,9 +3,11 @@
 
 pub mod ending;
 pub mod engine;
+mod fields;
 mod hierarchy;
 mod lines;
 pub mod number;
+mod page_call;
 mod reply;
 mod slot;
 mod statement;

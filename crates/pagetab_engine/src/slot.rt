@@ -1,6 +1,7 @@
 //! Words in memory.
-ghost use Rattle.std.specs.Prelude.{◌≡◌, ◌<◌, ◌/◌, ◌%◌, ◌^◌, ◌↔◌, IsSome, IfSome};
+ghost use Rattle.std.specs.Prelude.{◌≡◌, ◌<◌, ◌*◌, ◌/◌, ◌↔◌, IsSome, IfSome};
 ghost use Rattle.pagetab_engine.specs.Slot.{word_in, stored};
+ghost use Rattle.pagetab_engine.specs.Starts.{IsTableStart};
 
 use bitflags::Flags;
 use x86_64::structures::paging::page_table::{PageTableEntry, PageTableFlags, PageTableIndex};
@@ -58,7 +59,7 @@ impl Slot {
 ///
 /// Answers `None` exactly where no such frame starts there, or its number isn't below `places`.
 pub fn frame_at(start: u64, places: u64) -> Option<PhysFrame<Size4KiB>>
-    ensures fits { IsSome result ↔ ((start < 2 ^ 52) × (start % 4096 ≡ 0) × (start / 4096 < places)) }
+    ensures fits { IsSome result ↔ IsTableStart places start }
     ensures start { IfSome result (λ frame. frame ≡ start) }
 {
     let frame = PhysFrame::from_start_address(PhysAddr::try_new(start).ok()?).ok()?;
@@ -67,6 +68,17 @@ pub fn frame_at(start: u64, places: u64) -> Option<PhysFrame<Size4KiB>>
     } else {
         None
     }
+}
+
+/// Gives the slot at an index of the table in the 4KiB frame that starts at an address, for a memory of so many places.
+///
+/// Answers `None` exactly where [`frame_at`] does, or `index` isn't below 512.
+pub fn slot_at(start: u64, index: u64, places: u64) -> Option<Slot>
+    ensures fits { IsSome result ↔ (IsTableStart places start × (index < 512)) }
+    ensures start { IfSome result (λ slot. slot.place * 4096 ≡ start) }
+    ensures index { IfSome result (λ slot. slot.index ≡ index) }
+{
+    Slot::new(frame_at(start, places)?, index)
 }
 
 /// Gives the word of an entry.

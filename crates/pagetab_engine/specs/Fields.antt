@@ -1,0 +1,29 @@
+-- The fields of a line as texts.
+use Rattle.std.specs.Prelude.{ℕ, List, codes}
+use Rattle.pagetab_engine.specs.declared.fields.Name.{Name}
+use Rattle.pagetab_engine.specs.declared.fields.Name.TheVariants.{Word, Free, Translate, Addr, Walk, Show, Pool, Map, MapWith, Identity, Unmap, Update, P4, P3, P2, TranslatePage}
+use Rattle.pagetab_engine.specs.declared.fields.Size.{Size}
+use Rattle.pagetab_engine.specs.declared.fields.Size.TheVariants.{Size4KiB, Size2MiB, Size1GiB}
+
+abbrev pub name_text : Name → List ℕ
+name_text Word = codes "word"
+name_text Free = codes "free"
+name_text Translate = codes "translate"
+name_text Addr = codes "addr"
+name_text Walk = codes "walk"
+name_text Show = codes "show"
+name_text Pool = codes "pool"
+name_text Map = codes "map"
+name_text MapWith = codes "map-with"
+name_text Identity = codes "identity"
+name_text Unmap = codes "unmap"
+name_text Update = codes "update"
+name_text P4 = codes "p4"
+name_text P3 = codes "p3"
+name_text P2 = codes "p2"
+name_text TranslatePage = codes "translate-page"
+
+abbrev pub size_text : Size → List ℕ
+size_text Size4KiB = codes "4KiB"
+size_text Size2MiB = codes "2MiB"
+size_text Size1GiB = codes "1GiB"

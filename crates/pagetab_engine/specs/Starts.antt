@@ -1,0 +1,13 @@
+-- Start addresses of pages and frames of a size.
+use Rattle.std.specs.Prelude.{◌≡◌, ◌<◌, ◌/◌, ◌%◌, ◌^◌, ℕ}
+use Rattle.x86_64_addr.specs.Position.{IsCanonical}
+
+abbrev pub IsPageStart : (size start : ℕ) → Type 0
+IsPageStart size start = IsCanonical 4 start × (start % size ≡ 0)
+
+abbrev pub IsFrameStart : (size start : ℕ) → Type 0
+IsFrameStart size start = (start < 2 ^ 52) × (start % size ≡ 0)
+
+-- the start of a 4KiB frame in a memory of so many places
+abbrev pub IsTableStart : (places start : ℕ) → Type 0
+IsTableStart places start = IsFrameStart 4096 start × (start / 4096 < places)

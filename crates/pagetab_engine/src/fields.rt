@@ -1,0 +1,173 @@
+//! The fields of a line, which spaces part.
+ghost use Rattle.std.specs.Prelude.{◌≡◌, ◌≤◌, IfSome, take};
+ghost use Rattle.pagetab_engine.specs.Fields.{name_text, size_text};
+
+use crate::number;
+
+/// How many numbers a line has at most.
+const MOST_NUMBERS: usize = 4;
+
+/// The first field of a line, which says what the numbers are of.
+#[derive(Clone, Copy, Debug, PartialEq)]
+pub enum Name {
+    /// `word`.
+    Word,
+    /// `free`.
+    Free,
+    /// `translate`.
+    Translate,
+    /// `addr`.
+    Addr,
+    /// `walk`.
+    Walk,
+    /// `show`.
+    Show,
+    /// `pool`.
+    Pool,
+    /// `map`.
+    Map,
+    /// `map-with`.
+    MapWith,
+    /// `identity`.
+    Identity,
+    /// `unmap`.
+    Unmap,
+    /// `update`.
+    Update,
+    /// `p4`.
+    P4,
+    /// `p3`.
+    P3,
+    /// `p2`.
+    P2,
+    /// `translate-page`.
+    TranslatePage,
+}
+
+impl Name {
+    /// Reads a name.
+    fn parse(field: &str) -> Option<Name>
+        ensures { IfSome result (λ name. name_text name ≡ field.now) }
+    {
+        Some(match field.as_bytes() {
+            b"word" => Name::Word,
+            b"free" => Name::Free,
+            b"translate" => Name::Translate,
+            b"addr" => Name::Addr,
+            b"walk" => Name::Walk,
+            b"show" => Name::Show,
+            b"pool" => Name::Pool,
+            b"map" => Name::Map,
+            b"map-with" => Name::MapWith,
+            b"identity" => Name::Identity,
+            b"unmap" => Name::Unmap,
+            b"update" => Name::Update,
+            b"p4" => Name::P4,
+            b"p3" => Name::P3,
+            b"p2" => Name::P2,
+            b"translate-page" => Name::TranslatePage,
+            _ => return None,
+        })
+    }
+}
+
+/// The size of a page, as a line names it.
+#[derive(Clone, Copy, Debug, PartialEq)]
+pub enum Size {
+    /// `4KiB`.
+    Size4KiB,
+    /// `2MiB`.
+    Size2MiB,
+    /// `1GiB`.
+    Size1GiB,
+}
+
+impl Size {
+    /// Reads SIZE.
+    fn parse(field: &str) -> Option<Size>
+        ensures { IfSome result (λ size. size_text size ≡ field.now) }
+    {
+        match field.as_bytes() {
+            b"4KiB" => Some(Size::Size4KiB),
+            b"2MiB" => Some(Size::Size2MiB),
+            b"1GiB" => Some(Size::Size1GiB),
+            _ => None,
+        }
+    }
+}
+
+/// What stands in a line: a name, then SIZE where the line is about a page of a size, then numbers.
+#[derive(Drop)]
+pub struct Fields {
+    /// The name.
+    pub name: Name,
+    /// SIZE, if the second field is one.
+    pub size: Option<Size>,
+    numbers: [u64; MOST_NUMBERS],
+    count: usize,
+    ghost few: { count ≤ 4 },
+}
+
+impl Fields {
+    /// Reads a line. Answers `None` where it has no name, a field that is no number, or more numbers than any statement.
+    pub fn parse(line: &str) -> Option<Fields> {
+        let mut rest = Rest { text: line };
+        let name = Name::parse(rest.next_field()?)?;
+        let size = rest.next_size();
+        let mut numbers = [0; MOST_NUMBERS];
+        let count = rest.read_numbers(&mut numbers)?;
+        Some(Fields {
+            name,
+            size,
+            numbers,
+            count,
+        })
+    }
+
+    /// Gives the numbers.
+    pub fn numbers(&self) -> &[u64]
+        ensures { result.now ≡ take self.now.count self.now.numbers }
+    {
+        &self.numbers[..self.count]
+    }
+}
+
+/// The fields of a line that aren't read yet.
+#[derive(Drop)]
+struct Rest<'a> {
+    text: &'a str,
+}
+
+impl<'a> Rest<'a> {
+    /// Gives the next field, or `None` where only spaces are left.
+    fn next_field(&mut self) -> Option<&'a str> {
+        let text = self.text.trim_start_matches(' ');
+        let (field, rest) = text.split_once(' ').unwrap_or((text, ""));
+        self.text = rest;
+        if field.is_empty() { None } else { Some(field) }
+    }
+
+    /// Reads SIZE, and leaves the next field where it is none.
+    fn next_size(&mut self) -> Option<Size> {
+        let mut ahead = Rest { text: self.text };
+        let size = Size::parse(ahead.next_field()?)?;
+        self.text = ahead.text;
+        Some(size)
+    }
+
+    /// Reads all fields that are left as numbers, and gives how many they are.
+    fn read_numbers(&mut self, numbers: &mut [u64; MOST_NUMBERS]) -> Option<usize>
+        ensures { IfSome result (λ count. count ≤ 4) }
+    {
+        for (count, number) in numbers.iter_mut().enumerate() {
+            match self.next_field() {
+                Some(field) => *number = number::parse(field)?,
+                None => return Some(count),
+            }
+        }
+        match self.next_field() {
+            Some(_) => None,
+            None => Some(MOST_NUMBERS),
+        }
+    }
+}
