@@ -4,18 +4,18 @@ use std::alloc::Global;
 use std::fmt::{Display, Formatter, Result as FmtResult, Write};
 use std::io;
 
-/// Prints how often each operation was done in a round, and how many tables were made.
-pub fn report_counts(out: &impl Print, round: &Round) -> io::Result<()> {
+/// Prints how often each operation was done in a round on pages of a size, and how many tables were made.
+pub fn report_counts(out: &impl Print, size: &str, round: &Round) -> io::Result<()> {
     let Round {
         map,
         translate,
         unmap,
         tables,
     } = round;
-    println!(out; "map {}", map.count)?;
-    println!(out; "translate {}", translate.count)?;
-    println!(out; "unmap {}", unmap.count)?;
-    println!(out; "tables {tables}")
+    println!(out; "{size} map {}", map.count)?;
+    println!(out; "{size} translate {}", translate.count)?;
+    println!(out; "{size} unmap {}", unmap.count)?;
+    println!(out; "{size} tables {tables}")
 }
 
 /// Prints the least and the median time of an operation in nanoseconds.

@@ -9,14 +9,14 @@ use std::alloc::{AllocError, Global};
 use std::io;
 use std::time::{Clock, Duration, Instant};
 use x86_64::structures::paging::mapper::{MappedPageTable, Mapper, Translate};
-use x86_64::structures::paging::{FrameAllocator, PageTableFlags, PhysFrame, Size4KiB};
+use x86_64::structures::paging::{FrameAllocator, PageSize, PageTableFlags, PhysFrame, Size4KiB};
 use x86_64::{FramePool, IdentityMapping, PhysAddr, PhysMemory, pool_fits};
 
 /// How often all pages are translated in a round.
 const TRANSLATIONS: u64 = 10;
 
 /// Maps all pages, and gives how many were mapped.
-fn map_all<M: Mapper<Size4KiB>, A: FrameAllocator<Size4KiB>>(
+fn map_all<S: PageSize, M: Mapper<S>, A: FrameAllocator<Size4KiB>>(
     mapper: &mut M,
     allocator: &mut A,
     workload: Workload,
@@ -41,7 +41,7 @@ fn map_all<M: Mapper<Size4KiB>, A: FrameAllocator<Size4KiB>>(
 }
 
 /// Unmaps all pages, and gives how many were unmapped.
-fn unmap_all<M: Mapper<Size4KiB>>(mapper: &mut M, workload: Workload) -> u64
+fn unmap_all<S: PageSize, M: Mapper<S>>(mapper: &mut M, workload: Workload) -> u64
     requires valid { Valid (M.layout mapper.old) (M.memory mapper.old) }
     requires no_window { (M.layout mapper.old).window ≡ None }
     ensures valid { Valid (M.layout mapper.new) (M.memory mapper.new) }
@@ -61,24 +61,25 @@ fn unmap_all<M: Mapper<Size4KiB>>(mapper: &mut M, workload: Workload) -> u64
 }
 
 /// Translates all pages in an order ten times, and gives how often one is mapped to its frame.
-fn translate_all<T: Translate>(mapper: &T, workload: Workload, order: &[u32]) -> u64
+fn translate_all<S: PageSize, T: Translate>(mapper: &T, workload: Workload, order: &[u32]) -> u64
     requires { Valid (T.layout mapper.now) (T.memory mapper.now) }
 {
     let mut found = 0_u64;
     for _ in 0..TRANSLATIONS {
-        found = found.saturating_add(translate_once(mapper, workload, order));
+        found = found.saturating_add(translate_once::<S, T>(mapper, workload, order));
     }
     found
 }
 
 /// Translates all pages in an order, and gives how many are mapped to their frames.
-fn translate_once<T: Translate>(mapper: &T, workload: Workload, order: &[u32]) -> u64
+fn translate_once<S: PageSize, T: Translate>(mapper: &T, workload: Workload, order: &[u32]) -> u64
     requires { Valid (T.layout mapper.now) (T.memory mapper.now) }
 {
     let mut found = 0_u64;
     for k in order {
-        let addr = workload.page(*k).start_address();
-        if mapper.translate_addr(addr) == Some(workload.frame(*k).start_address()) {
+        let addr = workload.page::<S>(*k).start_address();
+        let wanted = workload.frame::<S>(*k).start_address();
+        if mapper.translate_addr(addr) == Some(wanted) {
             found = found.saturating_add(1);
         }
     }
@@ -107,8 +108,13 @@ pub struct Round {
     pub tables: usize,
 }
 
-/// Maps, translates and unmaps all pages of a workload in a new hierarchy. Gives `None` where that is no valid one.
-pub fn measure(alloc: Global, clock: &impl Clock, workload: Workload) -> io::Result<Option<Round>> {
+/// Maps, translates and unmaps all pages of a workload, which are of a size, in a new hierarchy. Gives `None` where that is no
+/// valid one.
+pub fn measure<S: PageSize>(
+    alloc: Global,
+    clock: &impl Clock,
+    workload: Workload,
+) -> io::Result<Option<Round>> {
     let root = frame_numbered(1);
     let mut memory = PhysMemory::new(alloc, workload.places())?;
     let mut pool = new_pool(alloc, workload.places())?;
@@ -119,20 +125,20 @@ pub fn measure(alloc: Global, clock: &impl Clock, workload: Workload) -> io::Res
     let free = pool.len();
     let mut mapper = MappedPageTable::new(&mut memory, root, IdentityMapping);
     let start = Instant::now(clock)?;
-    let count = map_all(&mut mapper, &mut pool, workload);
+    let count = map_all::<S, _, _>(&mut mapper, &mut pool, workload);
     let map = Part {
         count,
         time: start.elapsed(clock)?,
     };
     let tables = free.saturating_sub(pool.len());
     let start = Instant::now(clock)?;
-    let count = translate_all(&mapper, workload, order.as_slice());
+    let count = translate_all::<S, _>(&mapper, workload, order.as_slice());
     let translate = Part {
         count,
         time: start.elapsed(clock)?,
     };
     let start = Instant::now(clock)?;
-    let count = unmap_all(&mut mapper, workload);
+    let count = unmap_all::<S, _>(&mut mapper, workload);
     let unmap = Part {
         count,
         time: start.elapsed(clock)?,

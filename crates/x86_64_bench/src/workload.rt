@@ -2,7 +2,7 @@
 ghost use Rattle.std.specs.Prelude.{◌≡◌, ◌<◌, ◌≤◌};
 
 use std::alloc::{AllocError, Global};
-use x86_64::structures::paging::{Page, PhysFrame, Size4KiB};
+use x86_64::structures::paging::{Page, PageSize, PhysFrame};
 use x86_64::{PhysAddr, VirtAddr};
 
 /// How many numbers of pages there are in a scattered workload.
@@ -16,11 +16,11 @@ const FIRST_FRAME: u64 = 1 << 20;
 pub enum Pattern {
     /// Page after page, from page 0 on.
     Contiguous,
-    /// Pages all over 16GiB.
+    /// Pages all over 2^22 of them, which is 16GiB of 4KiB pages.
     Scattered,
 }
 
-/// Names pages and frames, by the order in which they are mapped.
+/// Names pages and frames of any size, by the order in which they are mapped.
 #[derive(Clone, Copy, Debug)]
 pub struct Workload {
     /// How many pages are mapped.
@@ -35,27 +35,28 @@ impl Workload {
     }
 
     /// Gives the `k`-th page.
-    pub fn page(self, k: u32) -> Page<Size4KiB> {
+    pub fn page<S: PageSize>(self, k: u32) -> Page<S> {
         let number = match self.pattern {
             Pattern::Contiguous => u64::from(k),
             Pattern::Scattered => u64::from(k) * 0x9e37_79b1 % SCATTERED_PAGES,
         };
-        Page::containing_address(VirtAddr::new_truncate(number * 4096))
+        Page::containing_address(VirtAddr::new_truncate(number.wrapping_mul(S::SIZE)))
     }
 
     /// Gives the frame to which the `k`-th page is mapped.
-    pub fn frame(self, k: u32) -> PhysFrame<Size4KiB> {
+    pub fn frame<S: PageSize>(self, k: u32) -> PhysFrame<S> {
         let number = FIRST_FRAME + u64::from(k);
-        PhysFrame::containing_address(PhysAddr::new_truncate(number * 4096))
+        PhysFrame::containing_address(PhysAddr::new_truncate(number.wrapping_mul(S::SIZE)))
     }
 
-    /// Gives a bound on the places that the tables of the hierarchy take, frame 0 and the root's among them.
+    /// Gives a bound on the places that the tables of the hierarchy take, frame 0 and the root's among them. A table maps as
+    /// many pages of any size.
     pub fn places(self) -> u64 {
-        let tables_of_level_one = match self.pattern {
+        let lowest_tables = match self.pattern {
             Pattern::Contiguous => u64::from(self.pages) / 512 + 1,
             Pattern::Scattered => SCATTERED_PAGES / 512,
         };
-        tables_of_level_one + tables_of_level_one / 512 + 8
+        lowest_tables + lowest_tables / 512 + 8
     }
 
     /// Gives the numbers of the pages in an order that is shuffled, always in the same way.

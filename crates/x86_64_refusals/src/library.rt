@@ -4,7 +4,6 @@ ghost use Rattle.x86_64_model.specs.Memory.{identity_places};
 ghost use Rattle.x86_64_mappers.specs.Layouts.{direct};
 ghost use Rattle.x86_64.specs.Runs.{FitsPool};
 
-use x86_64_tests::images::{ROOT, frame_at, page_at, pool_of, run_on};
 use crate::hoard::answer_at_last;
 use std::alloc::AllocError;
 use std::test::Fail;
@@ -13,6 +12,7 @@ use x86_64::{
     Call, FramePlace, FramePool, IdentityMapping, PhysMemory, Reply, SizeCall, SizeReply,
     is_valid_hierarchy, pool_fits,
 };
+use x86_64_tests::images::{ROOT, frame_at, page_at, pool_of, run_on};
 
 /// The addresses of the frames that are free at first.
 const FREE: [u64; 3] = [0x2000, 0x3000, 0x4000];

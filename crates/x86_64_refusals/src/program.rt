@@ -1,10 +1,10 @@
 //! A run of the program `pagetab`.
 use crate::hoard::answer_at_last;
-use x86_64_tests::streams::{Comparison, Source};
 use pagetab_engine::ending::{Ending, Fault};
 use pagetab_engine::engine::run;
 use std::alloc::AllocError;
 use std::test::Fail;
+use x86_64_tests::streams::{Comparison, Source};
 
 /// An image of which the table in frame 0x2000 is a part, and a command of each kind.
 const INPUT: &[u8] = b"word 0x1000 0 0x2003\nfree 0x3000\nfree 0x4000\n\

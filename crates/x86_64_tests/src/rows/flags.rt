@@ -78,17 +78,6 @@ fn pages_get_flags(rt: HostRuntime) -> Result<(), Fail> {
             full: &[],
             left: &[],
         },
-        // A larger page keeps HUGE_PAGE.
-        Row {
-            free: &FREE,
-            calls: &[
-                first_large(),
-                large(update(0x20_0000, 0x3), updated(0x20_0000)),
-            ],
-            words: &[LARGE_WORDS[0], LARGE_WORDS[1], (0x3000, 1, 0x40_0083)],
-            full: &[0x4000],
-            left: &[0x4000],
-        },
     ];
     check(&rt, rt.alloc(), &rows)
 }
@@ -117,26 +106,30 @@ fn tables_lose_flags_and_get_them_back(rt: HostRuntime) -> Result<(), Fail> {
             full: &[],
             left: &[],
         },
-        // Each level's entry is the one on the page's path.
-        Row {
-            free: &FREE,
-            calls: &[
-                first(),
-                small(set_level_4(0x1000, 0x7), SizeReply::TableFlags(Ok(()))),
-                small(set_level_3(0x1000, 0x5), SizeReply::TableFlags(Ok(()))),
-                small(set_level_2(0x1000, 0x1), SizeReply::TableFlags(Ok(()))),
-            ],
-            words: &[
-                (0x1000, 0, 0x2007),
-                (0x2000, 0, 0x3005),
-                (0x3000, 0, 0x4001),
-                (0x4000, 1, 0x5003),
-            ],
-            full: &[],
-            left: &[],
-        },
     ];
     check(&rt, rt.alloc(), &rows)
+}
+
+#[test]
+fn each_level_has_an_entry_on_the_path(rt: HostRuntime) -> Result<(), Fail> {
+    let row = Row {
+        free: &FREE,
+        calls: &[
+            first(),
+            small(set_level_4(0x1000, 0x7), SizeReply::TableFlags(Ok(()))),
+            small(set_level_3(0x1000, 0x5), SizeReply::TableFlags(Ok(()))),
+            small(set_level_2(0x1000, 0x1), SizeReply::TableFlags(Ok(()))),
+        ],
+        words: &[
+            (0x1000, 0, 0x2007),
+            (0x2000, 0, 0x3005),
+            (0x3000, 0, 0x4001),
+            (0x4000, 1, 0x5003),
+        ],
+        full: &[],
+        left: &[],
+    };
+    check(&rt, rt.alloc(), &[row])
 }
 
 #[test]
@@ -145,6 +138,7 @@ fn flags_keep_the_size_of_a_page(rt: HostRuntime) -> Result<(), Fail> {
         free: &FREE,
         calls: &[
             first_large(),
+            large(update(0x20_0000, 0x3), updated(0x20_0000)),
             forbidden(set_level_2(0x20_0000, 0x1)),
             small(set_level_2(0x20_0000, 0x83), SizeReply::TableFlags(Ok(()))),
             small(

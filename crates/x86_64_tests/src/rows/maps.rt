@@ -173,22 +173,27 @@ fn refused_maps_leave_what_they_did(rt: HostRuntime) -> Result<(), Fail> {
             full: &[],
             left: &[],
         },
-        // The parent that maps a larger page gets the flags too.
-        Row {
-            free: &FREE,
-            calls: &[
-                first_large(),
-                small(
-                    map(0x20_1000, 0x9000, 0x3),
-                    SizeReply::Map(Err(MapToError::ParentEntryHugePage)),
-                ),
-            ],
-            words: &[WORDS[0], WORDS[1], (0x3000, 1, 0x40_0083)],
-            full: &[0x4000],
-            left: &[0x4000],
-        },
     ];
     check(&rt, rt.alloc(), &rows)
+}
+
+#[test]
+fn maps_below_a_large_page_are_refused(rt: HostRuntime) -> Result<(), Fail> {
+    // Its entry gets the parent flags before it refuses.
+    let row = Row {
+        free: &FREE,
+        calls: &[
+            first_large(),
+            small(
+                map(0x20_1000, 0x9000, 0x3),
+                SizeReply::Map(Err(MapToError::ParentEntryHugePage)),
+            ),
+        ],
+        words: &[WORDS[0], WORDS[1], (0x3000, 1, 0x40_0083)],
+        full: &[0x4000],
+        left: &[0x4000],
+    };
+    check(&rt, rt.alloc(), &[row])
 }
 
 #[test]

@@ -128,7 +128,6 @@ fn mappers_set_flags_of_tables(rt: HostRuntime) -> Result<(), Fail> {
         mapper.set_flags_p2_entry(large, level_2).map(done),
         refused
     );
-    assert!(rt; !mapper.p3_flags_allowed(page, flags_of(0x1001)));
     assert!(rt; mapper.p3_flags_allowed(page, level_3));
     assert_eq!(rt; mapper.set_flags_p3_entry(page, level_3).map(done), Ok(()));
     let answer = mapper.set_flags_p4_entry(page, PageTableFlags::WRITABLE);
