@@ -1,2 +1,3 @@
 pub mod Alignment
 pub mod Keeping
+pub mod Pairs

@@ -1,4 +1,5 @@
 pub mod Number
+pub mod Arguments
 pub mod Line
 pub mod Starts
 pub mod Fields

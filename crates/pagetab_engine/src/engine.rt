@@ -1,5 +1,8 @@
 //! The run of the program.
-ghost use Rattle.std.specs.Prelude.{◌≡◌, ◌≤◌, IfOk, IfSome, OnOk, OnErr};
+ghost use Rattle.std.specs.Prelude.{◌≡◌, map, string_bytes, IfOk, OnOk, OnErr};
+ghost use Rattle.std.specs.Option.{SomeIff};
+ghost use Rattle.pagetab_engine.specs.Arguments.{IsPlaces, IsDirect, direct_places};
+ghost use Rattle.pagetab_engine.specs.Number.{number_of};
 ghost use Rattle.pagetab_engine.specs.Hierarchy.{state_of, IsHierarchy, Keeps};
 ghost use Rattle.pagetab_engine.specs.Reply.{IsReply, state_after};
 
@@ -46,15 +49,25 @@ fn serve<R: Read, W: Write>(
     answer_commands(alloc, &mut lines, &mut hierarchy, places, first, writer)
 }
 
-/// Reads the arguments `direct N`: the number of places, from 2 to 65536.
+/// Reads the arguments `direct N`: the number of places, from 2 to 65536. Answers `None` exactly where they aren't these.
 fn parse_arguments(words: &[String]) -> Option<u64>
-    ensures { IfSome result (λ places. (2 ≤ places) × (places ≤ 65536)) }
+    ensures { SomeIff result (IsDirect (map string_bytes words.now)) (direct_places (map string_bytes words.now)) }
 {
     match words {
-        [mode, places] if mode.as_str() == "direct" => {
-            number::parse(places.as_str()).filter(|places| (2..=65536).contains(places))
-        }
+        [mode, places] if mode.as_str() == "direct" => parse_places(places.as_str()),
         _ => None,
+    }
+}
+
+/// Reads a number of places, from 2 to 65536. Answers `None` exactly where the text is none.
+fn parse_places(text: &str) -> Option<u64>
+    ensures { SomeIff result (IsPlaces text.now) (number_of text.now) }
+{
+    let places = number::parse(text)?;
+    if (2..=65536).contains(&places) {
+        Some(places)
+    } else {
+        None
     }
 }
 
