@@ -17,7 +17,7 @@ use Rattle.x86_64_model.specs.Lemmas.Machines.Effects.{machine}
 use Rattle.x86_64_model.specs.Call.{MapTo, Answered, NotAllowed}
 use Rattle.x86_64_model.specs.Allowed.{allowed}
 use Rattle.x86_64_model.specs.Laws.Worked.{nothing_mapped, SomePoolFits}
-use Rattle.x86_64_model.specs.Lemmas.Paths.Puts.{entry-put, entry-empty}
+use Rattle.x86_64_model.specs.Lemmas.Paths.Puts.{entry-empty}
 use Rattle.x86_64_model.specs.Lemmas.Hierarchies.Empty.{empty_valid, leads_nowhere}
 use Rattle.x86_64_model.specs.Lemmas.Hierarchies.Trees.{hierarchy_of_valid}
 use Rattle.x86_64_model.specs.Lemmas.Machines.Witness.{with_self, witness}
@@ -80,11 +80,11 @@ valid_for = (with_self 4 0x1000 empty zeros (hierarchy_of_valid 4 zeros 0x1000 e
 -- the reply to the first map of a page by both machines
 direct_replies : (step (machine 4 None 0 (λ held f. f ∷ held)) none (MapTo (0 ∷ 0 ∷ 0 ∷ 1 ∷ []) 0x5000 3)).1 ≡ Answered (Done 0x5000)
 unfolding allowed do_call map_rule none used has address
-direct_replies = simp (entry-put, entry-empty)
+direct_replies = simp entry-empty
 
 recursive_replies : (step (machine 4 (Some last) 3 (λ held f. f ∷ held)) none (MapTo (0 ∷ 0 ∷ 0 ∷ 1 ∷ []) 0x5000 3)).1 ≡ Answered (Done 0x5000)
 unfolding allowed do_call map_rule none last used has address
-recursive_replies = simp (entry-put, entry-empty)
+recursive_replies = simp entry-empty
 
 -- a page inside the window
 window_not_allowed : step (machine 4 (Some last) 3 (λ held f. f ∷ held)) none (MapTo (511 ∷ 0 ∷ 0 ∷ 0 ∷ []) 0x5000 3) ≡ (none, NotAllowed)

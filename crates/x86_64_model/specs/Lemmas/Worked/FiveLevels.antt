@@ -29,7 +29,7 @@ mapped_small = put (put (put (put (put empty (0 ∷ []) 0x2003) (0 ∷ 0 ∷ [])
 
 map_small : map_call 5 empty (0x2000 ∷ 0x3000 ∷ 0x4000 ∷ 0x5000 ∷ []) 3 0 (0 ∷ 0 ∷ 0 ∷ 0 ∷ 1 ∷ []) 0x6000 3 ≡ record { paths = mapped_small; supply = []; answer = Done 0x6000 }
 unfolding map_rule mapped_small used
-map_small = simp (entry-put, entry-empty)
+map_small = simp entry-empty
 
 small_translates : translate 5 (entry_at None mapped_small) 0x1abc ≡ IsMapped 4096 0x6000 0xabc 3
 unfolding translate translate_on mapped_small entry_at used has index address flags
@@ -39,13 +39,13 @@ small_translates = simp entry-put
 short_of_frames : map_call 5 empty (0x2000 ∷ 0x3000 ∷ 0x4000 ∷ []) 3 0 (0 ∷ 0 ∷ 0 ∷ 0 ∷ 1 ∷ []) 0x6000 3
     ≡ record { paths = put (put (put empty (0 ∷ []) 0x2003) (0 ∷ 0 ∷ []) 0x3003) (0 ∷ 0 ∷ 0 ∷ []) 0x4003; supply = []; answer = Refused FrameAllocationFailed }
 unfolding map_rule used
-short_of_frames = simp (entry-put, entry-empty)
+short_of_frames = simp entry-empty
 
 -- a 2MiB page with PRESENT alone
 map_large : map_call 5 empty (0x2000 ∷ 0x3000 ∷ 0x4000 ∷ 0x5000 ∷ []) 1 0 (0 ∷ 0 ∷ 0 ∷ 1 ∷ []) 0x40_0000 1
     ≡ record { paths = put (put (put (put empty (0 ∷ []) 0x2001) (0 ∷ 0 ∷ []) 0x3001) (0 ∷ 0 ∷ 0 ∷ []) 0x4001) (0 ∷ 0 ∷ 0 ∷ 1 ∷ []) 0x40_0081; supply = 0x5000 ∷ []; answer = Done 0x40_0000 }
 unfolding map_rule used
-map_large = simp (entry-put, entry-empty)
+map_large = simp entry-empty
 
 small_memory : Memory
 small_memory = insert (insert (insert (insert (insert (empty {X = List ℕ} {R = nat_cmp}) 1 (0x2003 ∷ replicate 511 0)) 2 (0x3003 ∷ replicate 511 0)) 3 (0x4003 ∷ replicate 511 0)) 4 (0x5003 ∷ replicate 511 0)) 5 (0 ∷ 0x6003 ∷ replicate 510 0)

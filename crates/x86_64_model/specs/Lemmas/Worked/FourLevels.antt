@@ -23,26 +23,26 @@ path = refl
 
 map_small : map_call 4 nothing_mapped three_frames 3 0 (0 ∷ 0 ∷ 0 ∷ 1 ∷ []) 0x5000 3 ≡ record { paths = small_mapped; supply = []; answer = Done 0x5000 }
 unfolding map_rule small_mapped nothing_mapped used
-map_small = simp (entry-put, entry-empty)
+map_small = simp entry-empty
 
 small_translates : translate 4 (entry_at None small_mapped) 0x1abc ≡ IsMapped 4096 0x5000 0xabc 3
 unfolding translate translate_on small_mapped nothing_mapped entry_at used has index address flags
-small_translates = simp (entry-put, entry-empty)
+small_translates = simp entry-put
 
 -- a 2MiB page
 map_large : map_call 4 nothing_mapped three_frames 1 0 (0 ∷ 0 ∷ 1 ∷ []) 0x400000 1 ≡ record { paths = large_mapped; supply = 0x4000 ∷ []; answer = Done 0x400000 }
 unfolding map_rule large_mapped nothing_mapped used
-map_large = simp (entry-put, entry-empty)
+map_large = simp entry-empty
 
 large_translates : translate 4 (entry_at None large_mapped) 0x23_4567 ≡ IsMapped 0x20_0000 0x400000 0x34567 0x81
 unfolding translate translate_on large_mapped nothing_mapped entry_at used has index address flags
-large_translates = simp (entry-put, entry-empty)
+large_translates = simp entry-put
 
 -- a 4KiB page below it. The flags are added to the huge entry that refuses
 pub map_below_huge : map_call 4 large_mapped (0x4000 ∷ []) 3 0 (0 ∷ 0 ∷ 1 ∷ 1 ∷ []) 0x9000 3
     ≡ record { paths = put (put (put large_mapped (0 ∷ []) 0x2003) (0 ∷ 0 ∷ []) 0x3003) (0 ∷ 0 ∷ 1 ∷ []) 0x400083; supply = 0x4000 ∷ []; answer = Refused ParentEntryHugePage }
 unfolding map_rule large_mapped nothing_mapped used has
-map_below_huge = simp (entry-put, entry-empty)
+map_below_huge = simp entry-put
 
 apart_0_1 : ◌≢◌ {A = List ℕ} (0 ∷ []) (1 ∷ [])
 apart_0_1 h = cc
