@@ -12,19 +12,6 @@ use Rattle.x86_64_model.specs.Lemmas.Machines.States.{IsSound, step_sound, step_
 use Rattle.x86_64_model.specs.Lemmas.Machines.Fitting.{sound_of_fits, fits_of_sound}
 use Rattle.x86_64.specs.Runs.{machine_of, state_of, FitsPool, Keeps}
 
--- whatever a pool serves, its frames are as the calls of a mapper want them
-pub ready_of_fits : (l : Layout) (m : Memory) (serves : ℕ → Bool) (pool : List ℕ) → FitsPool l m serves pool → IsReady l m pool
-ready_of_fits l m serves pool fits = record {
-  valid = fits.valid;
-  each_once = fits.each_once;
-  in_memory = fits.in_memory;
-  are_frames = fits.are_frames;
-  not_zero = fits.not_zero;
-  no_table = fits.no_table;
-  serves_pool = λ f i. refl;
-  serves_tables = λ i q f t. refl;
-}
-
 pub keeps_nothing : (l : Layout) (serves : ℕ → Bool) (m : Memory) (pool : List ℕ) → FitsPool l m serves pool → Keeps l serves m pool m pool
 keeps_nothing l serves m pool fits = record { fits = fits; conserved = λ f. (λ own. own, λ own. own); others = λ k o. refl }
 

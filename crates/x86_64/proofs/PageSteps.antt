@@ -33,7 +33,8 @@ use Rattle.x86_64.specs.declared.calls.SizeReply.TheVariants as reply
 use Rattle.x86_64.specs.Calls.{size_call}
 use Rattle.x86_64.specs.Replies.{map_error, unmap_error, update_error, translate_error, result_of, size_reply, size_answer}
 use Rattle.x86_64.specs.Runs.{machine_of, state_of, FitsPool, Keeps, size_step}
-use Rattle.x86_64.proofs.Keeping.{ready_of_fits, keeps_step}
+use Rattle.x86_64_model.specs.Lemmas.Machines.Fitting.{ready_of_fits}
+use Rattle.x86_64.proofs.Keeping.{keeps_step}
 
 -- ---- results that answers are
 

@@ -6,6 +6,5 @@ pub mod PageMethods
 pub mod Paths
 pub mod RootTables
 pub mod Sought
-pub mod Suppliers
 pub mod Translations
 pub mod Words

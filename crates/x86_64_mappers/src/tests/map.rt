@@ -34,7 +34,7 @@ fn map_by<S: PageSize, M: Mapper<S>>(
 }
 
 /// Maps the page of a size at an address to the frame at another, in a memory with the root in frame 0x1000.
-#[tactic(auto, using(crate::proofs::Suppliers::ready_of_fits))]
+#[tactic(auto, using(x86_64_model::specs::Lemmas::Machines::Fitting::ready_of_fits))]
 fn map<S: PageSize>(
     rt: &impl Abort,
     alloc: Global,
