@@ -79,18 +79,18 @@ fn serve<M: MapperAllSizes + Translate, F: FrameStore>(
     ensures serves { F.serves frames.new ≡ F.serves frames.old }
 {
     match call {
-        Call::Of4KiB(call) => match serve_page::<Size4KiB, M, F>(mapper, frames, call) {
-            Some(reply) => Reply::Of4KiB(reply),
-            None => Reply::NotAllowed,
-        },
-        Call::Of2MiB(call) => match serve_page::<Size2MiB, M, F>(mapper, frames, call) {
-            Some(reply) => Reply::Of2MiB(reply),
-            None => Reply::NotAllowed,
-        },
-        Call::Of1GiB(call) => match serve_page::<Size1GiB, M, F>(mapper, frames, call) {
-            Some(reply) => Reply::Of1GiB(reply),
-            None => Reply::NotAllowed,
-        },
+        Call::Of4KiB(call) => {
+            let reply = serve_page::<Size4KiB, M, F>(mapper, frames, call);
+            reply.map_or(Reply::NotAllowed, Reply::Of4KiB)
+        }
+        Call::Of2MiB(call) => {
+            let reply = serve_page::<Size2MiB, M, F>(mapper, frames, call);
+            reply.map_or(Reply::NotAllowed, Reply::Of2MiB)
+        }
+        Call::Of1GiB(call) => {
+            let reply = serve_page::<Size1GiB, M, F>(mapper, frames, call);
+            reply.map_or(Reply::NotAllowed, Reply::Of1GiB)
+        }
         Call::Translate(addr) => Reply::Translate(mapper.translate(addr)),
         Call::TranslateAddr(addr) => Reply::Address(mapper.translate_addr(addr)),
     }
