@@ -54,13 +54,13 @@ const ENTRIES: [(&[u64], u64, u64); 12] = [
     (&[256, 0], 0xe000, 0x80),
 ];
 
-/// The frames that are free at first, of which a state gets the first few. Nothing else names them.
+/// The frames that are free at first, of which a state gets the first few.
 const FREE: [u64; 7] = [0x4000, 0x2000, 0x8000, 0x3000, 0x7000, 0x6000, 0xa000];
 
 /// A frame that is full of ones, and neither a table nor free.
 const STRANGER: u64 = 0x9000;
 
-/// The frames whose words are 0, and which are neither tables nor free.
+/// The other frames that are neither tables nor free. Their words are 0.
 const EMPTY: [u64; 3] = [0x0, 0x5000, 0xf000];
 
 /// Says that an outcome came of a call, with the level of the page's entry or of the one that a translation ends at.
@@ -77,11 +77,16 @@ struct Twins {
     memory: PhysMemory,
     pool: FramePool,
     plain: PlainState,
+    /// The frames whose words are 0 and stay so.
+    empty: Vec<u64>,
 }
 
 impl Twins {
-    /// Makes them of the entries at first and these free frames, which are full of ones, as the stranger is.
-    fn new(alloc: Global, free: &[u64]) -> Result<Twins, Fail> {
+    /// Makes them of the entries at first and so many free frames, which are full of ones, as the stranger is.
+    fn new(alloc: Global, count: usize) -> Result<Twins, Fail> {
+        let (free, others) = FREE.split_at(count.min(FREE.len()));
+        let mut empty = Vec::from_slice(alloc, &EMPTY)?;
+        empty.extend_from_slice(others)?;
         let mut memory = PhysMemory::new(alloc, PLACES)?;
         let mut paths = PathEntries::new(alloc);
         for (path, frame, word) in ENTRIES {
@@ -100,6 +105,7 @@ impl Twins {
                 paths,
                 pool: Vec::from_slice(alloc, free)?,
             },
+            empty,
         })
     }
 
@@ -129,8 +135,8 @@ impl Twins {
     fn compare(&self, rt: &impl Abort, alloc: Global) -> Result<(), Fail> {
         self.compare_tables(rt, alloc)?;
         compare_pool(rt, &self.pool, &self.plain.pool, "of the plain state");
-        for frame in EMPTY {
-            self.compare_frame(rt, frame, 0)?;
+        for frame in &self.empty {
+            self.compare_frame(rt, *frame, 0)?;
         }
         self.compare_frame(rt, STRANGER, u64::MAX)?;
         for frame in &self.plain.pool {
@@ -205,7 +211,7 @@ fn run_agrees_with_the_plain_program(rt: HostRuntime) -> Result<(), Fail> {
     let mut chooser = Chooser::new(1);
     let mut met = Vec::new(rt.alloc());
     for count in 0..=FREE.len() {
-        let mut twins = Twins::new(rt.alloc(), &FREE[..count])?;
+        let mut twins = Twins::new(rt.alloc(), count)?;
         twins.compare(&rt, rt.alloc())?;
         for _ in 0..LISTS {
             twins.answer(&rt, rt.alloc(), &mut chooser, &mut met)?;

@@ -16,7 +16,7 @@ const INDICES: [&[u64]; 4] = [
     &[0, 1, 511],
 ];
 
-/// The addresses in the frames that calls choose from. A page that starts at one of the last two isn't there.
+/// The addresses in the frames that calls choose from. The last two are too high for identity maps.
 const FRAMES: [u64; 7] = [
     0x0,
     0x5000,
@@ -27,8 +27,8 @@ const FRAMES: [u64; 7] = [
     0x000f_ffff_ffff_f000,
 ];
 
-/// The flags that calls choose from. With an address bit none are allowed, nor with `HUGE_PAGE` for a map of 4KiB or of
-/// level four, and mostly not without `PRESENT` for a map.
+/// The flags that calls choose from. Some have an address bit or `HUGE_PAGE` or lack `PRESENT`, so that some calls aren't
+/// allowed.
 const FLAGS: [u64; 12] = [
     0x1,
     0x1,

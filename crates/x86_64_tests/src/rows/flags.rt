@@ -82,14 +82,18 @@ fn pages_get_flags(rt: HostRuntime) -> Result<(), Fail> {
     check(&rt, rt.alloc(), &rows)
 }
 
+/// Takes `PRESENT` from the entry of level four above the page 0x1000.
+fn hide() -> (Call, Reply) {
+    small(set_level_4(0x1000, 0x2), SizeReply::TableFlags(Ok(())))
+}
+
 #[test]
 fn tables_lose_flags_and_get_them_back(rt: HostRuntime) -> Result<(), Fail> {
-    let set = small(set_level_4(0x1000, 0x2), SizeReply::TableFlags(Ok(())));
     let taken = MapToError::PageAlreadyMapped(frame_at(0x9000));
     let rows = [
         Row {
             free: &FREE,
-            calls: &[first(), set, nowhere(0x1000)],
+            calls: &[first(), hide(), nowhere(0x1000)],
             words: &[(0x1000, 0, 0x2002), WORDS[1], WORDS[2], WORDS[3]],
             full: &[],
             left: &[],
@@ -98,7 +102,7 @@ fn tables_lose_flags_and_get_them_back(rt: HostRuntime) -> Result<(), Fail> {
             free: &FREE,
             calls: &[
                 first(),
-                set,
+                hide(),
                 small(map(0x1000, 0x9000, 0x1), SizeReply::Map(Err(taken))),
                 address(0x1abc, 0x5abc),
             ],

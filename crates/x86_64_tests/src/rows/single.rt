@@ -64,6 +64,7 @@ fn done(flush: MapperFlushAll) {
 }
 
 #[test]
+#[tactic(auto, unfolding(x86_64_model::specs::Allowed::allowed, x86_64_model::specs::Entry::address))]
 fn mappers_set_flags_of_pages(rt: HostRuntime) -> Result<(), Fail> {
     let after = Row {
         free: &FREE,
@@ -95,15 +96,16 @@ fn mappers_set_flags_of_pages(rt: HostRuntime) -> Result<(), Fail> {
 }
 
 #[test]
+#[tactic(auto, unfolding(x86_64_model::specs::Allowed::allowed, x86_64_model::specs::Entry::address, x86_64_model::specs::Entry::has))]
 fn mappers_set_flags_of_tables(rt: HostRuntime) -> Result<(), Fail> {
     let after = Row {
         free: &FREE,
         calls: &[],
         words: &[
-            (0x1000, 0, 0x2002),
+            (0x1000, 0, 0x2001),
             (0x2000, 0, 0x3005),
             (0x3000, 0, 0x4009),
-            (0x4000, 1, 0x5001),
+            (0x4000, 1, 0x5003),
         ],
         full: &[],
         left: &[],
@@ -116,10 +118,12 @@ fn mappers_set_flags_of_tables(rt: HostRuntime) -> Result<(), Fail> {
     let root = frame_at(ROOT);
     assert!(rt; pool_fits(rt.alloc(), &memory, &IdentityMapping, root, &pool)?);
     let mut mapper = MappedPageTable::new(&mut memory, root, IdentityMapping);
-    let flags = PageTableFlags::PRESENT;
+    let flags = flags_of(0x3);
     assert!(rt; mapper.map_allowed(page, flags, flags));
-    let answer = mapper.map_to(page, frame_at(0x5000), flags, &mut pool);
+    let answer = mapper.map_to_with_table_flags(page, frame_at(0x5000), flags, flags, &mut pool);
     assert_eq!(rt; answer.map(page_of), Ok(page));
+    let answer = mapper.set_flags_p4_entry(page, PageTableFlags::PRESENT);
+    assert_eq!(rt; answer.map(done), Ok(()));
     assert!(rt; !mapper.p2_flags_allowed(page, flags_of(0x81)));
     assert!(rt; mapper.p2_flags_allowed(page, level_2));
     assert_eq!(rt; mapper.set_flags_p2_entry(page, level_2).map(done), Ok(()));
@@ -130,8 +134,6 @@ fn mappers_set_flags_of_tables(rt: HostRuntime) -> Result<(), Fail> {
     );
     assert!(rt; mapper.p3_flags_allowed(page, level_3));
     assert_eq!(rt; mapper.set_flags_p3_entry(page, level_3).map(done), Ok(()));
-    let answer = mapper.set_flags_p4_entry(page, PageTableFlags::WRITABLE);
-    assert_eq!(rt; answer.map(done), Ok(()));
     drop(mapper);
     compare(&rt, &memory, &pool, &after, "by the mapper")
 }
