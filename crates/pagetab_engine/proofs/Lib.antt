@@ -1,3 +1,4 @@
 pub mod Alignment
 pub mod Keeping
 pub mod Pairs
+pub mod Splitting

@@ -1,9 +1,21 @@
 -- The fields of a line as texts.
-use Rattle.std.specs.Prelude.{ℕ, List, codes}
+use Rattle.std.specs.Prelude.{ℕ, ◌==◌, Bool, true, false, List, [], ◌∷◌, codes, filter}
+use Rattle.std.specs.List.{slice_split}
 use Rattle.pagetab_engine.specs.declared.fields.Name.{Name}
 use Rattle.pagetab_engine.specs.declared.fields.Name.TheVariants.{Word, Free, Translate, Addr, Walk, Show, Pool, Map, MapWith, Identity, Unmap, Update, P4, P3, P2, TranslatePage}
 use Rattle.pagetab_engine.specs.declared.fields.Size.{Size}
 use Rattle.pagetab_engine.specs.declared.fields.Size.TheVariants.{Size4KiB, Size2MiB, Size1GiB}
+
+abbrev pub is_space : ℕ → Bool
+is_space byte = byte == 32
+
+abbrev pub has_bytes : List ℕ → Bool
+has_bytes [] = false
+has_bytes (byte ∷ bytes) = true
+
+-- the parts of a line between spaces, without the empty ones
+unfoldable pub fields_of : List ℕ → List (List ℕ)
+fields_of line = filter has_bytes (slice_split is_space line)
 
 abbrev pub name_text : Name → List ℕ
 name_text Word = codes "word"

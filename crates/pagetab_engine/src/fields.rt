@@ -1,6 +1,6 @@
 //! The fields of a line, which spaces part.
-ghost use Rattle.std.specs.Prelude.{◌≡◌, ◌≤◌, IfSome, take};
-ghost use Rattle.pagetab_engine.specs.Fields.{name_text, size_text};
+ghost use Rattle.std.specs.Prelude.{◌≡◌, ◌≤◌, [], ◌∷◌, MatchOption, IfSome, take};
+ghost use Rattle.pagetab_engine.specs.Fields.{fields_of, name_text, size_text};
 
 use crate::number;
 
@@ -140,11 +140,19 @@ struct Rest<'a> {
 
 impl<'a> Rest<'a> {
     /// Gives the next field, or `None` where only spaces are left.
-    fn next_field(&mut self) -> Option<&'a str> {
+    fn next_field(&mut self) -> Option<&'a str>
+        ensures { MatchOption result (fields_of self.old.text.now ≡ []) (λ field. fields_of self.old.text.now ≡ field.now ∷ fields_of self.new.text.now) }
+    {
         let text = self.text.trim_start_matches(' ');
-        let (field, rest) = text.split_once(' ').unwrap_or((text, ""));
+        self.text = "";
+        if text.is_empty() {
+            return None;
+        }
+        let Some((field, rest)) = text.split_once(' ') else {
+            return Some(text);
+        };
         self.text = rest;
-        if field.is_empty() { None } else { Some(field) }
+        Some(field)
     }
 
     /// Reads SIZE, and leaves the next field where it is none.
