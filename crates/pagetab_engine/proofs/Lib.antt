@@ -1,4 +1,5 @@
 pub mod Alignment
 pub mod Keeping
 pub mod Pairs
+pub mod Reading
 pub mod Splitting

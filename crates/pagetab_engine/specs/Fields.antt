@@ -1,6 +1,7 @@
 -- The fields of a line as texts.
-use Rattle.std.specs.Prelude.{ℕ, ◌==◌, Bool, true, false, List, [], ◌∷◌, codes, filter}
+use Rattle.std.specs.Prelude.{◌≡◌, ◌==◌, ℕ, ⊤, Bool, true, false, List, [], ◌∷◌, ◌++◌, codes, filter, Option, Some, None}
 use Rattle.std.specs.List.{slice_split}
+use Rattle.pagetab_engine.specs.Number.{IsNumber, number_of}
 use Rattle.pagetab_engine.specs.declared.fields.Name.{Name}
 use Rattle.pagetab_engine.specs.declared.fields.Name.TheVariants.{Word, Free, Translate, Addr, Walk, Show, Pool, Map, MapWith, Identity, Unmap, Update, P4, P3, P2, TranslatePage}
 use Rattle.pagetab_engine.specs.declared.fields.Size.{Size}
@@ -39,3 +40,17 @@ abbrev pub size_text : Size → List ℕ
 size_text Size4KiB = codes "4KiB"
 size_text Size2MiB = codes "2MiB"
 size_text Size1GiB = codes "1GiB"
+
+abbrev pub size_texts : Option Size → List (List ℕ)
+size_texts None = []
+size_texts (Some size) = size_text size ∷ []
+
+-- texts of numbers, and the numbers
+abbrev pub AreNumbers : (texts : List (List ℕ)) → (numbers : List ℕ) → Type 0
+AreNumbers [] [] = ⊤
+AreNumbers (text ∷ texts) (number ∷ numbers) = IsNumber text × (number_of text ≡ number) × AreNumbers texts numbers
+AreNumbers texts numbers = ⊥
+
+-- the fields of a line are the texts of a name, of a size where there is one, and of numbers
+abbrev pub Says : (line : List ℕ) → Name → Option Size → (numbers : List ℕ) → Type 0
+Says line name size numbers = (texts : List (List ℕ)) × (fields_of line ≡ name_text name ∷ (size_texts size ++ texts)) × AreNumbers texts numbers

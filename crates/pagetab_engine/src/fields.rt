@@ -1,6 +1,6 @@
 //! The fields of a line, which spaces part.
-ghost use Rattle.std.specs.Prelude.{◌≡◌, ◌≤◌, [], ◌∷◌, MatchOption, IfSome, take};
-ghost use Rattle.pagetab_engine.specs.Fields.{fields_of, name_text, size_text};
+ghost use Rattle.std.specs.Prelude.{◌≡◌, ◌≤◌, [], ◌∷◌, ◌++◌, MatchOption, IfSome, take};
+ghost use Rattle.pagetab_engine.specs.Fields.{fields_of, name_text, size_text, size_texts, AreNumbers, Says};
 
 use crate::number;
 
@@ -110,7 +110,9 @@ pub struct Fields {
 
 impl Fields {
     /// Reads a line. Answers `None` where it has no name, a field that is no number, or more numbers than any statement.
-    pub fn parse(line: &str) -> Option<Fields> {
+    pub fn parse(line: &str) -> Option<Fields>
+        ensures { IfSome result (λ fields. Says line.now fields.name fields.size (take fields.count fields.numbers)) }
+    {
         let mut rest = Rest { text: line };
         let name = Name::parse(rest.next_field()?)?;
         let size = rest.next_size();
@@ -156,7 +158,9 @@ impl<'a> Rest<'a> {
     }
 
     /// Reads SIZE, and leaves the next field where it is none.
-    fn next_size(&mut self) -> Option<Size> {
+    fn next_size(&mut self) -> Option<Size>
+        ensures { fields_of self.old.text.now ≡ size_texts result ++ fields_of self.new.text.now }
+    {
         let mut ahead = Rest { text: self.text };
         let size = Size::parse(ahead.next_field()?)?;
         self.text = ahead.text;
@@ -165,7 +169,8 @@ impl<'a> Rest<'a> {
 
     /// Reads all fields that are left as numbers, and gives how many they are.
     fn read_numbers(&mut self, numbers: &mut [u64; MOST_NUMBERS]) -> Option<usize>
-        ensures { IfSome result (λ count. count ≤ 4) }
+        ensures few { IfSome result (λ count. count ≤ 4) }
+        ensures read { IfSome result (λ count. AreNumbers (fields_of self.old.text.now) (take count numbers.new)) }
     {
         for (count, number) in numbers.iter_mut().enumerate() {
             match self.next_field() {

@@ -1,5 +1,6 @@
 //! What lines say.
 ghost use Rattle.std.specs.Prelude.{◌≡◌, ◌↔◌, Some, None, IsSome, IfSome};
+ghost use Rattle.pagetab_engine.specs.Fields.{Says};
 ghost use Rattle.pagetab_engine.specs.Statements.{IsPlain, IsStatement, statement_name, statement_size, statement_numbers};
 
 use crate::fields::{Fields, Name, Size};
@@ -41,7 +42,9 @@ pub enum Statement {
 
 impl Statement {
     /// Reads a line without its line feed, about a memory with so many places. Answers `None` where it is bad.
-    pub fn parse(line: &[u8], places: u64) -> Option<Statement> {
+    pub fn parse(line: &[u8], places: u64) -> Option<Statement>
+        ensures { IfSome result (λ statement. Says line.now (statement_name statement) (statement_size statement) (statement_numbers statement)) }
+    {
         let fields = Fields::parse(str::from_utf8(line).ok()?)?;
         Self::from_fields(fields.name, fields.size, fields.numbers(), places)
     }
