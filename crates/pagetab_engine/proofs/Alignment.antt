@@ -1,5 +1,5 @@
 -- Addresses that are multiples of a size.
-use Rattle.std.proofs.Common.{◌≡◌, ℕ, ◌%◌, ◌^◌, ◌≤◌, ◌<◌, sym, arith, subst, Result, Ok, Err, IfOk}
+use Rattle.std.proofs.Common.{◌≡◌, ℕ, ◌%◌, ◌^◌, ◌≤◌, arith, subst}
 use Rattle.x86_64_addr.specs.Position.{span, raw}
 use Rattle.x86_64_page.specs.Multiples.{rounded_position}
 

@@ -1,9 +1,7 @@
 -- How lines write statements: a name, SIZE where they are about a page of a size, and numbers.
 use Rattle.std.specs.Prelude.{◌<◌, ◌*◌, ℕ, ⊤, List, [], ◌∷◌, Option, Some, None}
 use Rattle.x86_64_addr.specs.Position.{raw, IsCanonical}
-use Rattle.x86_64.specs.declared.calls.Call.{Call}
-use Rattle.x86_64.specs.declared.calls.Call.TheVariants.{Of4KiB, Of2MiB, Of1GiB, Translate, TranslateAddr}
-use Rattle.pagetab_engine.specs.PageCalls.{IsPageCall, bytes_of, size_call_name, size_call_numbers, call_name, call_size, call_numbers}
+use Rattle.pagetab_engine.specs.PageCalls.{IsPageCall, bytes_of, call_name, call_size, call_numbers}
 use Rattle.pagetab_engine.specs.Starts.{IsTableStart}
 use Rattle.pagetab_engine.specs.declared.fields.Name.{Name}
 use Rattle.pagetab_engine.specs.declared.fields.Name.TheVariants as name

@@ -1,4 +1,4 @@
-use Rattle.std.proofs.Common.{rules, arith}
+use Rattle.std.proofs.Common.{arith}
 use Rattle.std.proofs.lemmas.Grind.{common_steps}
 use Rattle.pagetab_engine.proofs.Alignment.{same_remainder}
 use Rattle.pagetab_engine.proofs.page_call.page_at.Goals as goal
