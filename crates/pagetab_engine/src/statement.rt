@@ -43,7 +43,8 @@ pub enum Statement {
 impl Statement {
     /// Reads a line without its line feed, about a memory with so many places. Answers `None` where it is bad.
     pub fn parse(line: &[u8], places: u64) -> Option<Statement>
-        ensures { IfSome result (λ statement. Says line.now (statement_name statement) (statement_size statement) (statement_numbers statement)) }
+        ensures says { IfSome result (λ statement. Says line.now (statement_name statement) (statement_size statement) (statement_numbers statement)) }
+        ensures accepted { IfSome result (λ statement. IsStatement places (statement_name statement) (statement_size statement) (statement_numbers statement)) }
     {
         let fields = Fields::parse(str::from_utf8(line).ok()?)?;
         Self::from_fields(fields.name, fields.size, fields.numbers(), places)
