@@ -1,2 +1,3 @@
 pub mod Levels
 pub use Rattle.x86_64_model.specs.Position
+pub use Rattle.x86_64_model.specs.Successor

@@ -5,6 +5,7 @@
 //!
 //! Intel SDM vol. 1, "Canonical Addressing", and vol. 3A, "4-Level Paging and 5-Level Paging"; AMD APM vol. 2, "Canonical Address Form".
 mod phys_addr;
+mod steps;
 mod virt_addr;
 
 pub use phys_addr::{PhysAddr, PhysAddrNotValid};

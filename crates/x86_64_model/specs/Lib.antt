@@ -1,5 +1,6 @@
 pub mod Lists
 pub mod Position
+pub mod Successor
 pub mod Range
 pub mod Entry
 pub mod Path
