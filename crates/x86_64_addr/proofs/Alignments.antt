@@ -1,18 +1,22 @@
 -- Multiples of a power of two next to a number.
-use Rattle.std.proofs.Common.{◌≡◌, ⊎_elim, ℕ, ◌+◌, ◌-◌, ◌*◌, ◌/◌, ◌%◌, ◌<◌, ◌≤◌, sym, ap, ◌∙◌, subst, arith}
+use Rattle.std.proofs.Common.{◌≡◌, ⊎_elim, ℕ, ◌+◌, ◌-◌, ◌*◌, ◌/◌, ◌%◌, ◌<◌, ◌≤◌, IsTrue, sym, ap, ◌∙◌, subst, arith}
 use Rattle.std.proofs.lemmas.Nat.{and_mask, pow_pos, mod_below, div-add-mod'}
 use Rattle.std.proofs.lemmas.Bool.{cases_lt}
 use Rattle.std.proofs.Math.Nat.{mul-mod_left, mod_self, mod-eq_of_lt, add-mul, one-mul, mul-le-mul_right, le-div_iff_mul-le, div-mul-le_self}
-use Rattle.std.specs.Int.{IsPowerOfTwo, next_multiple_of}
+use Rattle.std.specs.Int.{is_power_of_two, next_multiple_of}
 use Rattle.std.specs.Int.RustNames.{bit_and}
 use Rattle.x86_64_model.specs.Alignment.{IsGreatestMultiple, IsLeastMultiple}
+use Rattle.x86_64_addr.proofs.PowersOfTwo.{power}
 
 -- the bits below a power of two are the remainder by it
-pub masked : (n a : ℕ) → IsPowerOfTwo a → bit_and n (a - 1) ≡ n % a
-masked n a p = subst (λ a. bit_and n (a - 1) ≡ n % a) (sym p.1) (and_mask n p.0)
+pub masked : (n a : ℕ) → IsTrue (is_power_of_two a) → bit_and n (a - 1) ≡ n % a
+masked n a p = let q = power a p in subst (λ a. bit_and n (a - 1) ≡ n % a) (sym q.1) (and_mask n q.0)
 
-positive : (a : ℕ) → IsPowerOfTwo a → 0 < a
-positive a p = subst (λ a. 0 < a) (sym p.1) (pow_pos p.0)
+pub positive : (a : ℕ) → IsTrue (is_power_of_two a) → 0 < a
+positive a p = let q = power a p in subst (λ a. 0 < a) (sym q.1) (pow_pos q.0)
+
+pub remainder_below : (n a : ℕ) → IsTrue (is_power_of_two a) → n % a < a
+remainder_below n a p = mod_below n a (positive a p)
 
 -- a multiple is its quotient times the alignment
 whole : (n a : ℕ) → n % a ≡ 0 → n / a * a ≡ n
@@ -24,7 +28,7 @@ down n a = omega (arith, div-add-mod' n a)
 quotients : (m n a : ℕ) → 0 < a → m ≤ n → m / a ≤ n / a
 quotients m n a l h = let below : m / a * a ≤ n = omega (arith, h, div-mul-le_self m a) in (le-div_iff_mul-le l).1 below
 
-pub greatest : (a n : ℕ) → IsPowerOfTwo a → IsGreatestMultiple a n (n - n % a)
+pub greatest : (a n : ℕ) → IsTrue (is_power_of_two a) → IsGreatestMultiple a n (n - n % a)
 greatest a n p = record {
   multiple = rw (down n a) (mul-mod_left (n / a) a);
   not_above = omega arith;
@@ -47,7 +51,7 @@ above n a pos l =
     let one : (n / a + 1) * a ≡ n / a * a + a = add-mul (n / a) 1 a ∙ ap (λ m. n / a * a + m) (one-mul a) in
     omega (arith, rest, one, div-add-mod' n a, mod_below n a pos)
 
-pub least : (a n : ℕ) → IsPowerOfTwo a → IsLeastMultiple a n (next_multiple_of n a)
+pub least : (a n : ℕ) → IsTrue (is_power_of_two a) → IsLeastMultiple a n (next_multiple_of n a)
 least a n p = ⊎_elim
     (λ l. let up = above n a pos l in record {
       multiple = rw up (mul-mod_left (n / a + 1) a);

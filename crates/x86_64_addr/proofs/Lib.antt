@@ -1,1 +1,2 @@
+mod PowersOfTwo
 mod Alignments

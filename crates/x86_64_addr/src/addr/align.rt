@@ -1,6 +1,6 @@
 //! Addresses rounded down and up to a multiple of a power of two.
 ghost use Rattle.std.specs.Prelude.{◌≡◌, ◌-◌, ◌%◌, ◌^◌, ◌<◌, ◌↔◌, IsTrue};
-ghost use Rattle.std.specs.Int.{IsPowerOfTwo, next_multiple_of};
+ghost use Rattle.std.specs.Int.{is_power_of_two, next_multiple_of};
 ghost use Rattle.x86_64_model.specs.Position.{raw};
 ghost use Rattle.x86_64_model.specs.Alignment.{IsGreatestMultiple, IsLeastMultiple};
 
@@ -10,7 +10,7 @@ use crate::addr::{PhysAddr, VirtAddr};
 ///
 /// `align` must be a power of two.
 pub fn align_down(addr: u64, align: u64) -> u64
-    requires { IsPowerOfTwo align }
+    requires { IsTrue (is_power_of_two align) }
     ensures value { result ≡ addr - addr % align }
     ensures greatest { IsGreatestMultiple align addr result }
 {
@@ -22,7 +22,7 @@ pub fn align_down(addr: u64, align: u64) -> u64
 /// `align` must be a power of two, and the multiple below 2^64.
 #[tactic(auto, using(crate::proofs::Alignments::least))]
 pub fn align_up(addr: u64, align: u64) -> u64
-    requires power { IsPowerOfTwo align }
+    requires power { IsTrue (is_power_of_two align) }
     requires fits { next_multiple_of addr align < 2 ^ 64 }
     ensures value { result ≡ next_multiple_of addr align }
     ensures least { IsLeastMultiple align addr result }
@@ -38,9 +38,9 @@ pub fn align_up(addr: u64, align: u64) -> u64
 /// Gives what a number has above the greatest multiple of `align` that isn't above it.
 ///
 /// `align` must be a power of two.
-#[tactic(auto, using(crate::proofs::Alignments::masked))]
+#[tactic(auto, using(crate::proofs::Alignments::masked, crate::proofs::Alignments::positive, crate::proofs::Alignments::remainder_below))]
 fn remainder(addr: u64, align: u64) -> u64
-    requires { IsPowerOfTwo align }
+    requires { IsTrue (is_power_of_two align) }
     ensures value { result ≡ addr % align }
     ensures below { addr % align < align }
 {
@@ -52,7 +52,7 @@ impl VirtAddr {
     ///
     /// `align` must be a power of two, and the raw value aligned up below 2^64.
     pub fn align_up(self, align: u64) -> VirtAddr
-        requires power { IsPowerOfTwo align }
+        requires power { IsTrue (is_power_of_two align) }
         requires fits { next_multiple_of (raw 4 self) align < 2 ^ 64 }
         ensures { result ≡ next_multiple_of (raw 4 self) align % 2 ^ 48 }
     {
@@ -63,7 +63,7 @@ impl VirtAddr {
     ///
     /// `align` must be a power of two.
     pub fn align_down(self, align: u64) -> VirtAddr
-        requires { IsPowerOfTwo align }
+        requires { IsTrue (is_power_of_two align) }
         ensures { result ≡ (raw 4 self - raw 4 self % align) % 2 ^ 48 }
     {
         VirtAddr::new_truncate(align_down(self.as_u64(), align))
@@ -73,7 +73,7 @@ impl VirtAddr {
     ///
     /// `align` must be a power of two.
     pub fn is_aligned(self, align: u64) -> bool
-        requires { IsPowerOfTwo align }
+        requires { IsTrue (is_power_of_two align) }
         ensures { IsTrue result ↔ (self % align ≡ 0) }
     {
         remainder(self.position(), align) == 0
@@ -85,7 +85,7 @@ impl PhysAddr {
     ///
     /// `align` must be a power of two, and the multiple below 2^52.
     pub fn align_up(self, align: u64) -> PhysAddr
-        requires power { IsPowerOfTwo align }
+        requires power { IsTrue (is_power_of_two align) }
         requires fits { next_multiple_of self align < 2 ^ 52 }
         ensures value { result ≡ next_multiple_of self align }
         ensures least { IsLeastMultiple align self result }
@@ -97,7 +97,7 @@ impl PhysAddr {
     ///
     /// `align` must be a power of two.
     pub fn align_down(self, align: u64) -> PhysAddr
-        requires { IsPowerOfTwo align }
+        requires { IsTrue (is_power_of_two align) }
         ensures value { result ≡ self - self % align }
         ensures greatest { IsGreatestMultiple align self result }
     {
@@ -106,7 +106,7 @@ impl PhysAddr {
 
     /// Tells whether the address is a multiple of `align`, which must be a power of two.
     pub fn is_aligned(self, align: u64) -> bool
-        requires { IsPowerOfTwo align }
+        requires { IsTrue (is_power_of_two align) }
         ensures { IsTrue result ↔ (self % align ≡ 0) }
     {
         remainder(self.as_u64(), align) == 0
