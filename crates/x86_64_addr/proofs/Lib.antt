@@ -1,2 +1,1 @@
-mod PowersOfTwo
 mod Alignments
