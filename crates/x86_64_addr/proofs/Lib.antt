@@ -1,1 +1,2 @@
 mod Alignments
+mod AlignedPositions

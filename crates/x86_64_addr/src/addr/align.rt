@@ -48,23 +48,25 @@ fn remainder(addr: u64, align: u64) -> u64
 }
 
 impl VirtAddr {
-    /// Gives the address whose position is that of the raw value aligned up by [`align_up`].
+    /// Gives the address at the position of the raw value aligned up by [`align_up`], which is the position aligned up.
     ///
-    /// `align` must be a power of two, and the raw value aligned up below 2^64.
+    /// By 2^48 and more that is the address 0. `align` must be a power of two, and the raw value aligned up below 2^64.
     pub fn align_up(self, align: u64) -> VirtAddr
         requires power { IsTrue (is_power_of_two align) }
         requires fits { next_multiple_of (raw 4 self) align < 2 ^ 64 }
-        ensures { result ≡ next_multiple_of (raw 4 self) align % 2 ^ 48 }
+        ensures value { result ≡ next_multiple_of (raw 4 self) align % 2 ^ 48 }
+        ensures position { result ≡ next_multiple_of self align % 2 ^ 48 }
     {
         VirtAddr::new_truncate(align_up(self.as_u64(), align))
     }
 
-    /// Gives the address whose position is that of the raw value aligned down by [`align_down`].
+    /// Gives the address at the position of the raw value aligned down by [`align_down`], which is the position aligned down.
     ///
     /// `align` must be a power of two.
     pub fn align_down(self, align: u64) -> VirtAddr
         requires { IsTrue (is_power_of_two align) }
-        ensures { result ≡ (raw 4 self - raw 4 self % align) % 2 ^ 48 }
+        ensures value { result ≡ (raw 4 self - raw 4 self % align) % 2 ^ 48 }
+        ensures position { result ≡ self - self % align }
     {
         VirtAddr::new_truncate(align_down(self.as_u64(), align))
     }
