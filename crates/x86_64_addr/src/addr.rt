@@ -4,8 +4,13 @@
 //! modulo 2^48, which leaves out the gap in the middle of the address space. A physical address is a number below 2^52.
 //!
 //! Intel SDM vol. 1, "Canonical Addressing", and vol. 3A, "4-Level Paging and 5-Level Paging"; AMD APM vol. 2, "Canonical Address Form".
+mod align;
 mod phys_addr;
+mod phys_operators;
+mod steps;
 mod virt_addr;
+mod virt_operators;
 
+pub use align::{align_down, align_up};
 pub use phys_addr::{PhysAddr, PhysAddrNotValid};
 pub use virt_addr::{VirtAddr, VirtAddrNotValid};

@@ -2,6 +2,7 @@
 //!
 //! Intel SDM vol. 3A, "4-Level Paging and 5-Level Paging"; AMD APM vol. 2, "Long-Mode Page Translation".
 ghost use Rattle.std.specs.Prelude.{◌≡◌, ℕ, ◌%◌, ◌<◌};
+ghost use Rattle.x86_64_model.specs.Successor.{forward, backward, steps_between};
 
 use std::marker::Model;
 
@@ -33,6 +34,47 @@ impl PageTableIndex {
         ensures { result ≡ index % 512 }
     {
         PageTableIndex(index % 512)
+    }
+
+    /// Gives the index so many entries on.
+    ///
+    /// Answers `None` exactly where there is none: where the sum isn't below 512.
+    pub fn forward_checked(start: PageTableIndex, count: usize) -> Option<PageTableIndex>
+        ensures { result ≡ forward 512 start count }
+    {
+        if count <= 511 - usize::from(start) {
+            Some(PageTableIndex(start.0 + count as u16))
+        } else {
+            None
+        }
+    }
+
+    /// Gives the index so many entries before.
+    ///
+    /// Answers `None` exactly where there is none: where the count is above the index.
+    pub fn backward_checked(start: PageTableIndex, count: usize) -> Option<PageTableIndex>
+        ensures { result ≡ backward start count }
+    {
+        if count <= usize::from(start) {
+            Some(PageTableIndex(start.0 - count as u16))
+        } else {
+            None
+        }
+    }
+
+    /// Counts the entries from one index up to another, as a lower and an upper bound, which are equal.
+    ///
+    /// Answers `(0, None)` where the second is below the first.
+    pub fn steps_between(start: &PageTableIndex, end: &PageTableIndex) -> (usize, Option<usize>)
+        ensures { result ≡ steps_between start.now end.now }
+    {
+        let (start, end) = (usize::from(*start), usize::from(*end));
+        if start <= end {
+            let count = end - start;
+            (count, Some(count))
+        } else {
+            (0, None)
+        }
     }
 }
 

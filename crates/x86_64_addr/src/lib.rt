@@ -3,5 +3,6 @@
 
 pub mod addr;
 pub mod index;
+pub mod laws;
 #[cfg(test)]
 mod tests;

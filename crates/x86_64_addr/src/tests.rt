@@ -5,6 +5,10 @@ ghost use Rattle.x86_64_addr.specs.Levels.{level_number};
 use crate::addr::{PhysAddr, PhysAddrNotValid, VirtAddr, VirtAddrNotValid};
 use crate::index::{PageOffset, PageTableIndex, PageTableLevel};
 
+mod align;
+mod operators;
+mod steps;
+
 /// Equality of addresses is that of their positions.
 fn are_equal(left: VirtAddr, right: VirtAddr) -> bool
     ensures { IsTrue result ↔ (left ≡ right) }

@@ -1,4 +1,5 @@
 pub mod Positions
+pub mod Successors
 pub mod Hierarchies
 pub mod Walks
 pub mod Maps

@@ -1,5 +1,7 @@
 pub mod Lists
 pub mod Position
+pub mod Successor
+pub mod Alignment
 pub mod Range
 pub mod Entry
 pub mod Path

@@ -7,6 +7,7 @@ pub mod pairs;
 pub mod pools;
 pub mod positions;
 pub mod steps;
+pub mod successors;
 pub mod validity;
 pub mod walks;
 pub mod worked;

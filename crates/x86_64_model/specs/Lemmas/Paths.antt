@@ -3,3 +3,4 @@ pub mod Pages
 pub mod Puts
 pub mod Ranges
 pub mod Spans
+pub mod Steps

@@ -1,0 +1,2 @@
+mod Alignments
+mod AlignedPositions

@@ -1,0 +1,116 @@
+//! Addresses rounded down and up to a multiple of a power of two.
+ghost use Rattle.std.specs.Prelude.{◌≡◌, ◌-◌, ◌%◌, ◌^◌, ◌<◌, ◌↔◌, IsTrue};
+ghost use Rattle.std.specs.Int.{is_power_of_two, next_multiple_of};
+ghost use Rattle.x86_64_model.specs.Position.{raw};
+ghost use Rattle.x86_64_model.specs.Alignment.{IsGreatestMultiple, IsLeastMultiple};
+
+use crate::addr::{PhysAddr, VirtAddr};
+
+/// Gives the greatest multiple of `align` that isn't above `addr`.
+///
+/// `align` must be a power of two.
+pub fn align_down(addr: u64, align: u64) -> u64
+    requires { IsTrue (is_power_of_two align) }
+    ensures value { result ≡ addr - addr % align }
+    ensures greatest { IsGreatestMultiple align addr result }
+{
+    addr - remainder(addr, align)
+}
+
+/// Gives the least multiple of `align` that isn't below `addr`.
+///
+/// `align` must be a power of two, and the multiple below 2^64.
+#[tactic(auto, using(crate::proofs::Alignments::least))]
+pub fn align_up(addr: u64, align: u64) -> u64
+    requires power { IsTrue (is_power_of_two align) }
+    requires fits { next_multiple_of addr align < 2 ^ 64 }
+    ensures value { result ≡ next_multiple_of addr align }
+    ensures least { IsLeastMultiple align addr result }
+{
+    let rest = remainder(addr, align);
+    if rest == 0 {
+        addr
+    } else {
+        addr + (align - rest)
+    }
+}
+
+/// Gives what a number has above the greatest multiple of `align` that isn't above it.
+///
+/// `align` must be a power of two.
+#[tactic(auto, using(crate::proofs::Alignments::masked, crate::proofs::Alignments::positive, crate::proofs::Alignments::remainder_below))]
+fn remainder(addr: u64, align: u64) -> u64
+    requires { IsTrue (is_power_of_two align) }
+    ensures value { result ≡ addr % align }
+    ensures below { addr % align < align }
+{
+    addr & (align - 1)
+}
+
+impl VirtAddr {
+    /// Gives the address at the position of the raw value aligned up by [`align_up`], which is the position aligned up.
+    ///
+    /// By 2^48 and more that is the address 0. `align` must be a power of two, and the raw value aligned up below 2^64.
+    pub fn align_up(self, align: u64) -> VirtAddr
+        requires power { IsTrue (is_power_of_two align) }
+        requires fits { next_multiple_of (raw 4 self) align < 2 ^ 64 }
+        ensures value { result ≡ next_multiple_of (raw 4 self) align % 2 ^ 48 }
+        ensures position { result ≡ next_multiple_of self align % 2 ^ 48 }
+    {
+        VirtAddr::new_truncate(align_up(self.as_u64(), align))
+    }
+
+    /// Gives the address at the position of the raw value aligned down by [`align_down`], which is the position aligned down.
+    ///
+    /// `align` must be a power of two.
+    pub fn align_down(self, align: u64) -> VirtAddr
+        requires { IsTrue (is_power_of_two align) }
+        ensures value { result ≡ (raw 4 self - raw 4 self % align) % 2 ^ 48 }
+        ensures position { result ≡ self - self % align }
+    {
+        VirtAddr::new_truncate(align_down(self.as_u64(), align))
+    }
+
+    /// Tells whether the position is a multiple of `align`. From 2^48 on that is the address 0 alone.
+    ///
+    /// `align` must be a power of two.
+    pub fn is_aligned(self, align: u64) -> bool
+        requires { IsTrue (is_power_of_two align) }
+        ensures { IsTrue result ↔ (self % align ≡ 0) }
+    {
+        remainder(self.position(), align) == 0
+    }
+}
+
+impl PhysAddr {
+    /// Gives the least multiple of `align` that isn't below the address.
+    ///
+    /// `align` must be a power of two, and the multiple below 2^52.
+    pub fn align_up(self, align: u64) -> PhysAddr
+        requires power { IsTrue (is_power_of_two align) }
+        requires fits { next_multiple_of self align < 2 ^ 52 }
+        ensures value { result ≡ next_multiple_of self align }
+        ensures least { IsLeastMultiple align self result }
+    {
+        PhysAddr::new(align_up(self.as_u64(), align))
+    }
+
+    /// Gives the greatest multiple of `align` that isn't above the address.
+    ///
+    /// `align` must be a power of two.
+    pub fn align_down(self, align: u64) -> PhysAddr
+        requires { IsTrue (is_power_of_two align) }
+        ensures value { result ≡ self - self % align }
+        ensures greatest { IsGreatestMultiple align self result }
+    {
+        PhysAddr::new(align_down(self.as_u64(), align))
+    }
+
+    /// Tells whether the address is a multiple of `align`, which must be a power of two.
+    pub fn is_aligned(self, align: u64) -> bool
+        requires { IsTrue (is_power_of_two align) }
+        ensures { IsTrue result ↔ (self % align ≡ 0) }
+    {
+        remainder(self.as_u64(), align) == 0
+    }
+}

@@ -1,0 +1,67 @@
+//! Sums and differences of virtual addresses, over raw values: they don't go over the gap in the middle of the address space.
+ghost use Rattle.std.specs.Prelude.{◌≡◌, ◌+◌, ◌-◌, ◌≤◌};
+ghost use Rattle.x86_64_model.specs.Position.{raw, IsCanonical};
+
+use crate::addr::VirtAddr;
+use std::ops::{Add, AddAssign, Sub, SubAssign};
+
+impl Add<u64> for VirtAddr {
+    type Output = VirtAddr;
+
+    ghost can_add = { λ address count. IsCanonical 4 (raw 4 address + count) };
+
+    ghost add_gives = { λ address count sum. raw 4 sum ≡ raw 4 address + count };
+
+    /// Gives the address whose raw value is the sum, which must be canonical, and so below 2^64.
+    fn add(self, rhs: u64) -> VirtAddr {
+        VirtAddr::new(self.as_u64() + rhs)
+    }
+}
+
+impl AddAssign<u64> for VirtAddr {
+    ghost can_add_assign = { λ address count. IsCanonical 4 (raw 4 address + count) };
+
+    ghost add_assign_gives = { λ address count sum. raw 4 sum ≡ raw 4 address + count };
+
+    /// Adds to the raw value. The sum must be canonical, and so below 2^64.
+    fn add_assign(&mut self, rhs: u64) {
+        *self = *self + rhs;
+    }
+}
+
+impl Sub<u64> for VirtAddr {
+    type Output = VirtAddr;
+
+    ghost can_sub = { λ address count. (count ≤ raw 4 address) × IsCanonical 4 (raw 4 address - count) };
+
+    ghost sub_gives = { λ address count rest. raw 4 rest ≡ raw 4 address - count };
+
+    /// Gives the address whose raw value is the difference, which must be canonical and not below 0.
+    fn sub(self, rhs: u64) -> VirtAddr {
+        VirtAddr::new(self.as_u64() - rhs)
+    }
+}
+
+impl SubAssign<u64> for VirtAddr {
+    ghost can_sub_assign = { λ address count. (count ≤ raw 4 address) × IsCanonical 4 (raw 4 address - count) };
+
+    ghost sub_assign_gives = { λ address count rest. raw 4 rest ≡ raw 4 address - count };
+
+    /// Subtracts from the raw value. The difference must be canonical and not below 0.
+    fn sub_assign(&mut self, rhs: u64) {
+        *self = *self - rhs;
+    }
+}
+
+impl Sub<VirtAddr> for VirtAddr {
+    type Output = u64;
+
+    ghost can_sub = { λ address other. raw 4 other ≤ raw 4 address };
+
+    ghost sub_gives = { λ address other count. count ≡ raw 4 address - raw 4 other };
+
+    /// Gives the difference of the raw values, which must not be below 0. It counts the gap, where that lies between.
+    fn sub(self, rhs: VirtAddr) -> u64 {
+        self.as_u64() - rhs.as_u64()
+    }
+}

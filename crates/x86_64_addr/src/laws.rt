@@ -1,0 +1,26 @@
+//! Laws of addresses: their order agrees with equality and with hashes. The bodies are empty; the contracts are the laws.
+//!
+//! The law of steps stands with their definitions, in `x86_64_model::laws::successors`.
+ghost use Rattle.std.specs.Prelude.{◌≡◌, ◌==◌, Some};
+ghost use Rattle.std.specs.Ordering.{nat_cmp};
+ghost use Rattle.std.specs.Hash as fed;
+ghost use Rattle.x86_64_model.specs.Position.{raw};
+
+use crate::addr::{PhysAddr, VirtAddr};
+use std::hash::Hash;
+
+/// Virtual addresses are equal and ordered as their positions are, and hashed by their raw values.
+pub fn virtual_addresses_are_ordered_by_position(left: VirtAddr, right: VirtAddr)
+    ensures equality { ⟦<VirtAddr as PartialEq>⟧.eq left right ≡ (left == right) }
+    ensures order { ⟦<VirtAddr as Ord>⟧.cmp left right ≡ nat_cmp left right }
+    ensures partial_order { ⟦<VirtAddr as PartialOrd>⟧.partial_cmp left right ≡ Some (nat_cmp left right) }
+    ensures hash { ⟦<VirtAddr as Hash>⟧.hash_input left ≡ fed.u64 (raw 4 left) }
+{}
+
+/// Physical addresses are equal, ordered and hashed as numbers.
+pub fn physical_addresses_are_ordered_by_number(left: PhysAddr, right: PhysAddr)
+    ensures equality { ⟦<PhysAddr as PartialEq>⟧.eq left right ≡ (left == right) }
+    ensures order { ⟦<PhysAddr as Ord>⟧.cmp left right ≡ nat_cmp left right }
+    ensures partial_order { ⟦<PhysAddr as PartialOrd>⟧.partial_cmp left right ≡ Some (nat_cmp left right) }
+    ensures hash { ⟦<PhysAddr as Hash>⟧.hash_input left ≡ fed.u64 left }
+{}
