@@ -16,13 +16,16 @@ pub record ArePageSteps (size : ℕ) : Type 0 where
   pub redone : (start n end : ℕ) → start < 2 ^ 48 → backward start (n * size) ≡ Some end → forward (2 ^ 48) end (n * size) ≡ Some start
   pub counted : (start n end : ℕ) → forward (2 ^ 48) start (n * size) ≡ Some end → pages_between size start end ≡ (n, Some n)
 
--- so many pages, each once
+counted_at : (size start n end : ℕ) → start ≤ end → (end - start) / size ≡ n → pages_between size start end ≡ (n, Some n)
+counted_at size start n end up pages =
+    ap (λ b. cond b (0, None) ((end - start) / size, Some ((end - start) / size))) (le-ltb end start up) ∙ ap (λ n. (n, Some n)) pages
+
+-- the pages from a start up to the one n pages on are n
 counted_in : (size start n end : ℕ) → 0 < size → start + n * size ≡ end → pages_between size start end ≡ (n, Some n)
 counted_in size start n end positive e =
     let up : start ≤ end = omega arith in
     let bytes : end - start ≡ n * size = omega arith in
-    let pages : (end - start) / size ≡ n = ap (λ b. b / size) bytes ∙ mul-div_cancel n positive in
-    ap (λ b. cond b (0, None) ((end - start) / size, Some ((end - start) / size))) (le-ltb end start up) ∙ ap (λ n. (n, Some n)) pages
+    counted_at size start n end up (ap (λ b. b / size) bytes ∙ mul-div_cancel n positive)
 
 pub page_steps_are_counted : (size : ℕ) → 0 < size → ArePageSteps size
 page_steps_are_counted size positive =

@@ -1,58 +1,30 @@
-//! Laws of pages and frames: of their order, equality and hash, and of steps along pages.
-ghost use Rattle.std.specs.Prelude.{◌≡◌, ◌↔◌, IsTrue};
+//! Laws of pages and frames: their order agrees with equality and with hashes, and steps along pages are counted. The bodies are
+//! empty; the contracts are the laws.
+ghost use Rattle.std.specs.Prelude.{◌≡◌, ◌==◌, Some};
 ghost use Rattle.std.specs.Ordering.{nat_cmp};
+ghost use Rattle.std.specs.Hash as fed;
+ghost use Rattle.x86_64_addr.specs.Position.{raw};
 ghost use Rattle.x86_64_page.specs.PageSteps.{ArePageSteps};
 
 use crate::frame::PhysFrame;
 use crate::page::{Page, PageSize};
-use std::cmp::Ordering;
-use std::hash::{Hash, Hasher};
+use std::hash::Hash;
 
-/// Pages are ordered as their positions are, and equal exactly where these are.
-pub fn compare_pages<S: PageSize>(page: &Page<S>, other: &Page<S>) -> (Ordering, bool)
-    ensures order { result.0 ≡ nat_cmp page.now other.now }
-    ensures equality { IsTrue result.1 ↔ (page.now ≡ other.now) }
-{
-    (page.cmp(other), page == other)
-}
+/// Pages are equal and ordered as their positions are, and hashed by their raw start addresses.
+pub fn pages_are_ordered_by_position<S: PageSize + Hash>(left: Page<S>, right: Page<S>)
+    ensures equality { ⟦<Page<S> as PartialEq>⟧.eq left right ≡ (left == right) }
+    ensures order { ⟦<Page<S> as Ord>⟧.cmp left right ≡ nat_cmp left right }
+    ensures partial_order { ⟦<Page<S> as PartialOrd>⟧.partial_cmp left right ≡ Some (nat_cmp left right) }
+    ensures hash { ⟦<Page<S> as Hash>⟧.hash_input left ≡ fed.u64 (raw 4 left) }
+{}
 
-/// Frames are ordered as their start addresses are, and equal exactly where these are.
-pub fn compare_frames<S: PageSize>(frame: &PhysFrame<S>, other: &PhysFrame<S>) -> (Ordering, bool)
-    ensures order { result.0 ≡ nat_cmp frame.now other.now }
-    ensures equality { IsTrue result.1 ↔ (frame.now ≡ other.now) }
-{
-    (frame.cmp(other), frame == other)
-}
-
-/// Equal pages leave equal hashers equal.
-pub fn hash_equal_pages<S: PageSize + Hash, H: Hasher>(
-    page: &Page<S>,
-    other: &Page<S>,
-    page_state: &mut H,
-    other_state: &mut H,
-)
-    requires pages { page.now ≡ other.now }
-    requires states { page_state.old ≡ other_state.old }
-    ensures { page_state.new ≡ other_state.new }
-{
-    page.hash(page_state);
-    other.hash(other_state);
-}
-
-/// Equal frames leave equal hashers equal.
-pub fn hash_equal_frames<S: PageSize + Hash, H: Hasher>(
-    frame: &PhysFrame<S>,
-    other: &PhysFrame<S>,
-    frame_state: &mut H,
-    other_state: &mut H,
-)
-    requires frames { frame.now ≡ other.now }
-    requires states { frame_state.old ≡ other_state.old }
-    ensures { frame_state.new ≡ other_state.new }
-{
-    frame.hash(frame_state);
-    other.hash(other_state);
-}
+/// Frames are equal, ordered and hashed as their start addresses are.
+pub fn frames_are_ordered_by_address<S: PageSize + Hash>(left: PhysFrame<S>, right: PhysFrame<S>)
+    ensures equality { ⟦<PhysFrame<S> as PartialEq>⟧.eq left right ≡ (left == right) }
+    ensures order { ⟦<PhysFrame<S> as Ord>⟧.cmp left right ≡ nat_cmp left right }
+    ensures partial_order { ⟦<PhysFrame<S> as PartialOrd>⟧.partial_cmp left right ≡ Some (nat_cmp left right) }
+    ensures hash { ⟦<PhysFrame<S> as Hash>⟧.hash_input left ≡ fed.u64 left }
+{}
 
 /// Steps along pages compose, steps back undo steps on, and they are counted.
 pub fn page_steps_are_counted<S: PageSize>()

@@ -3,12 +3,11 @@ ghost use Rattle.std.specs.Prelude.{◌≡◌, ◌<◌, ◌↔◌, IsTrue};
 
 use crate::frame::{PfnNotValid, PhysFrame};
 use crate::laws::{
-    compare_frames, compare_pages, hash_equal_frames, hash_equal_pages, page_steps_are_counted,
+    frames_are_ordered_by_address, page_steps_are_counted, pages_are_ordered_by_position,
 };
 use crate::page::{
     AddressNotAligned, NotGiantPageSize, Page, PageSize, Size1GiB, Size2MiB, Size4KiB,
 };
-use std::cmp::Ordering;
 use std::hash::{DefaultHasher, Hash, Hasher};
 use std::process::Abort;
 use x86_64_addr::addr::{PhysAddr, VirtAddr};
@@ -316,18 +315,18 @@ fn frames_have_numbers(rt: HostRuntime) {
     );
 }
 
-/// Hashes a page and a frame of a size twice, and compares them with themselves.
+/// Tells whether equal pages and frames of a size hash alike, and calls the laws of the size.
 fn check_laws<S: PageSize + Hash>(rt: &impl Abort) {
     let page = Page::<S>::containing_address(VirtAddr::new(0x4000_0000));
     let frame = PhysFrame::<S>::containing_address(PhysAddr::new(0x4000_0000));
-    let mut left = DefaultHasher::new();
-    let mut right = DefaultHasher::new();
-    hash_equal_pages(&page, &page, &mut left, &mut right);
-    hash_equal_frames(&frame, &frame, &mut left, &mut right);
-    assert_eq!(rt; left.finish(), right.finish());
-    let first = Page::<S>::containing_address(VirtAddr::zero());
-    assert!(rt; compare_pages(&first, &page) == (Ordering::Less, false));
-    assert!(rt; compare_frames(&frame, &frame) == (Ordering::Equal, true));
+    let [mut first, mut second] = [DefaultHasher::new(), DefaultHasher::new()];
+    page.hash(&mut first);
+    frame.hash(&mut first);
+    Page::<S>::containing_address(VirtAddr::new(0x4000_0123)).hash(&mut second);
+    PhysFrame::<S>::containing_address(PhysAddr::new(0x4000_0123)).hash(&mut second);
+    assert_eq!(rt; first.finish(), second.finish());
+    pages_are_ordered_by_position(page, page);
+    frames_are_ordered_by_address(frame, frame);
     page_steps_are_counted::<S>();
 }
 
