@@ -1,5 +1,5 @@
 -- Sums and differences of a multiple of a size and of so many times the size.
-use Rattle.std.specs.Prelude.{◌≡◌, ℕ, ◌+◌, ◌-◌, ◌*◌, ◌%◌, ◌≤◌, ◌<◌, nat_lt, Bool, true, false, if◌then◌else◌, Some, None}
+use Rattle.std.specs.Prelude.{◌≡◌, ℕ, ◌+◌, ◌-◌, ◌*◌, ◌%◌, ◌≤◌, ◌<◌, nat_lt, Bool, true, false, if◌then◌else◌, Option, Some, None}
 use Rattle.std.proofs.Common.{◌∙◌, refl, sym, ap, arith}
 use Rattle.std.proofs.Math.Nat.{add-mul-mod_self_right}
 use Rattle.std.proofs.lemmas.Nat.{pow_pos}
@@ -36,9 +36,10 @@ forward_in : (found size number : ℕ) → number % size ≡ 0 → (inside : Boo
 forward_in m z n aligned true e = let same : m ≡ n = cc in rw same aligned
 forward_in m z n aligned false e = absurd cc
 
-pub forward_is_multiple : (limit number count size found : ℕ) → number % size ≡ 0 → forward limit number (count * size) ≡ Some found → found % size ≡ 0
-forward_is_multiple limit n count z m aligned e =
-    forward_in m z (n + count * z) (sum_is_multiple n count z aligned) (nat_lt (n + count * z) limit) e
+pub forward_is_multiple : (limit number count size found : ℕ) (answer : Option ℕ) → number % size ≡ 0
+    → answer ≡ forward limit number (count * size) → answer ≡ Some found → found % size ≡ 0
+forward_is_multiple limit n count z m answer aligned is found =
+    forward_in m z (n + count * z) (sum_is_multiple n count z aligned) (nat_lt (n + count * z) limit) (sym is ∙ found)
 
 -- where there is a number so many sizes before a multiple of the size, it is one
 backward_in : (found count size number : ℕ) → number % size ≡ 0 → (outside : Bool) → nat_lt number (count * size) ≡ outside
@@ -49,8 +50,9 @@ backward_in m count z n aligned false at e =
     let enough : count * z ≤ n = grind (arith, at) in
     rw same (difference_is_multiple n count z enough aligned)
 
-pub backward_is_multiple : (number count size found : ℕ) → number % size ≡ 0 → backward number (count * size) ≡ Some found → found % size ≡ 0
-backward_is_multiple n count z m aligned e = backward_in m count z n aligned (nat_lt n (count * z)) refl e
+pub backward_is_multiple : (number count size found : ℕ) (answer : Option ℕ) → number % size ≡ 0
+    → answer ≡ backward number (count * size) → answer ≡ Some found → found % size ≡ 0
+backward_is_multiple n count z m answer aligned is found = backward_in m count z n aligned (nat_lt n (count * z)) refl (sym is ∙ found)
 
 -- the size of a level is not 0
 pub size_is_positive : (size level : ℕ) → size ≡ span level → 0 < size
