@@ -14,8 +14,8 @@ impl<S: PageSize> Page<S> {
         ensures { result ≡ forward (2 ^ 48) start (count * S.SIZE) }
     {
         let bytes = count.checked_mul(S::SIZE as usize)?;
-        let address = VirtAddr::forward_checked(start.start_address(), bytes)?;
-        Some(Page::from_start_address_unchecked(address))
+        let later = VirtAddr::forward_checked(start.start_address(), bytes)?;
+        Some(Page::from_start_address_unchecked(later))
     }
 
     /// Gives the page so many pages before.
@@ -25,8 +25,8 @@ impl<S: PageSize> Page<S> {
         ensures { result ≡ backward start (count * S.SIZE) }
     {
         let bytes = count.checked_mul(S::SIZE as usize)?;
-        let address = VirtAddr::backward_checked(start.start_address(), bytes)?;
-        Some(Page::from_start_address_unchecked(address))
+        let earlier = VirtAddr::backward_checked(start.start_address(), bytes)?;
+        Some(Page::from_start_address_unchecked(earlier))
     }
 
     /// Counts the pages from one up to another, as a lower and an upper bound, which are equal.
