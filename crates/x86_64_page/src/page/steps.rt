@@ -20,7 +20,7 @@ impl<S: PageSize> Page<S> {
 
     /// Gives the page so many pages before.
     ///
-    /// Answers `None` exactly where there is none: where the pages between are more than the position has.
+    /// Answers `None` exactly where there is none: where so many pages have more bytes than lie below the start.
     pub fn backward_checked(start: Self, count: usize) -> Option<Self>
         ensures { result ≡ backward start (count * S.SIZE) }
     {
