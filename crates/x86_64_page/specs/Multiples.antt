@@ -23,18 +23,35 @@ pub record RoundedDown (position size : ℕ) : Type 0 where
   pub remainder : raw 4 position % size ≡ position % size
   pub start : (raw 4 position - raw 4 position % size) % 2 ^ 48 ≡ position - position % size
 
--- the same where the raw value is the position or the position in the upper half
-rounded : (p size level : ℕ) → 1 ≤ level → level ≤ 3 → size ≡ span level → p < 2 ^ 48 → (upper : Bool)
-    → ((if upper then p else p + (2 ^ 64 - 2 ^ 48)) % size ≡ p % size)
-    × (((if upper then p else p + (2 ^ 64 - 2 ^ 48)) - (if upper then p else p + (2 ^ 64 - 2 ^ 48)) % size) % 2 ^ 48 ≡ p - p % size)
-rounded p z zero low high e small upper = absurd (omega arith)
-rounded p z (suc zero) low high e small true = let e' : z ≡ 0x1000 = e in rw e' (refl, omega arith)
-rounded p z (suc zero) low high e small false = let e' : z ≡ 0x1000 = e in rw e' (omega arith, omega arith)
-rounded p z (suc (suc zero)) low high e small true = let e' : z ≡ 0x20_0000 = e in rw e' (refl, omega arith)
-rounded p z (suc (suc zero)) low high e small false = let e' : z ≡ 0x20_0000 = e in rw e' (omega arith, omega arith)
-rounded p z (suc (suc (suc zero))) low high e small true = let e' : z ≡ 0x4000_0000 = e in rw e' (refl, omega arith)
-rounded p z (suc (suc (suc zero))) low high e small false = let e' : z ≡ 0x4000_0000 = e in rw e' (omega arith, omega arith)
-rounded p z (suc (suc (suc (suc l)))) low high e small upper = absurd (omega arith)
+-- the remainder is the same in the lower half of the address space and in the upper one
+remainder_in : (p size level : ℕ) → 1 ≤ level → level ≤ 3 → size ≡ span level → (lower : Bool) → (if lower then p else p + (2 ^ 64 - 2 ^ 48)) % size ≡ p % size
+remainder_in p z zero low high e lower = absurd (omega arith)
+remainder_in p z (suc zero) low high e true = refl
+remainder_in p z (suc zero) low high e false = let e' : z ≡ 0x1000 = e in rw e' (omega arith)
+remainder_in p z (suc (suc zero)) low high e true = refl
+remainder_in p z (suc (suc zero)) low high e false = let e' : z ≡ 0x20_0000 = e in rw e' (omega arith)
+remainder_in p z (suc (suc (suc zero))) low high e true = refl
+remainder_in p z (suc (suc (suc zero))) low high e false = let e' : z ≡ 0x4000_0000 = e in rw e' (omega arith)
+remainder_in p z (suc (suc (suc (suc l)))) low high e lower = absurd (omega arith)
+
+-- an address and its position leave the same remainder by the size of a level
+pub same_remainder : (position size level : ℕ) → 1 ≤ level → level ≤ 3 → size ≡ span level → raw 4 position % size ≡ position % size
+same_remainder p z level low high e = remainder_in p z level low high e (nat_lt p (lower_half 4))
+
+-- rounded down, the raw value in either half is that of the position rounded down
+rounded : (p size level : ℕ) → 1 ≤ level → level ≤ 3 → size ≡ span level → p < 2 ^ 48 → (lower : Bool)
+    → ((if lower then p else p + (2 ^ 64 - 2 ^ 48)) - (if lower then p else p + (2 ^ 64 - 2 ^ 48)) % size) % 2 ^ 48 ≡ p - p % size
+rounded p z zero low high e small lower = absurd (omega arith)
+rounded p z (suc zero) low high e small true = let e' : z ≡ 0x1000 = e in rw e' (omega arith)
+rounded p z (suc zero) low high e small false = let e' : z ≡ 0x1000 = e in rw e' (omega arith)
+rounded p z (suc (suc zero)) low high e small true = let e' : z ≡ 0x20_0000 = e in rw e' (omega arith)
+rounded p z (suc (suc zero)) low high e small false = let e' : z ≡ 0x20_0000 = e in rw e' (omega arith)
+rounded p z (suc (suc (suc zero))) low high e small true = let e' : z ≡ 0x4000_0000 = e in rw e' (omega arith)
+rounded p z (suc (suc (suc zero))) low high e small false = let e' : z ≡ 0x4000_0000 = e in rw e' (omega arith)
+rounded p z (suc (suc (suc (suc l)))) low high e small lower = absurd (omega arith)
 
 pub rounded_position : (position size level : ℕ) → 1 ≤ level → level ≤ 3 → size ≡ span level → position < 2 ^ 48 → RoundedDown position size
-rounded_position p z level low high e small = let both = rounded p z level low high e small (nat_lt p (lower_half 4)) in record { remainder = both.0; start = both.1 }
+rounded_position p z level low high e small = record {
+  remainder = same_remainder p z level low high e;
+  start = rounded p z level low high e small (nat_lt p (lower_half 4));
+}

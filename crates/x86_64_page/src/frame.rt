@@ -6,6 +6,11 @@ use std::fmt::{Debug, Formatter, Result as FmtResult, Write};
 use std::marker::{Model, PhantomData};
 use x86_64_addr::addr::PhysAddr;
 
+mod number;
+mod operators;
+
+pub use number::PfnNotValid;
+
 /// A frame of a size: it starts at a multiple of the size.
 ///
 /// Contracts see it as its start address. Equality, order and hash are those of the start address.

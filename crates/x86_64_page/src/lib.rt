@@ -2,6 +2,7 @@
 #![tactic(auto)]
 
 pub mod frame;
+pub mod laws;
 pub mod page;
 #[cfg(test)]
 mod tests;

@@ -1,10 +1,14 @@
 //! Values from outside: the sizes, the starts of frames and the texts.
 ghost use Rattle.std.specs.Prelude.{◌≡◌, ◌<◌, ◌↔◌, IsTrue};
 
-use crate::frame::PhysFrame;
+use crate::frame::{PfnNotValid, PhysFrame};
+use crate::laws::{
+    frames_are_ordered_by_address, page_steps_are_counted, pages_are_ordered_by_position,
+};
 use crate::page::{
     AddressNotAligned, NotGiantPageSize, Page, PageSize, Size1GiB, Size2MiB, Size4KiB,
 };
+use std::hash::{DefaultHasher, Hash, Hasher};
 use std::process::Abort;
 use x86_64_addr::addr::{PhysAddr, VirtAddr};
 use x86_64_addr::index::{PageTableIndex, PageTableLevel};
@@ -136,4 +140,196 @@ fn pages_have_texts(rt: HostRuntime) {
         text.as_str(),
         "Page[4KiB](0x40201000) Page[2MiB](0x40200000) Page[1GiB](0x40000000)"
     );
+}
+
+/// The last page of the lower half of the address space.
+const LOWER_LAST: u64 = 0x7fff_ffff_f000;
+/// The first page of the upper half.
+const UPPER_FIRST: u64 = 0xffff_8000_0000_0000;
+/// The last page of all.
+const LAST: u64 = 0xffff_ffff_ffff_f000;
+
+/// Gives the 4KiB page that contains an address.
+fn page(raw: u64) -> Page<Size4KiB> {
+    Page::containing_address(VirtAddr::new_truncate(raw))
+}
+
+#[test]
+fn pages_step_forward(rt: HostRuntime) {
+    let rows = [
+        (0, 0, Some(0)),
+        (0, 1, Some(0x1000)),
+        (0x1000, 1, Some(0x2000)),
+        (LOWER_LAST, 1, Some(UPPER_FIRST)),
+        (UPPER_FIRST, 1, Some(0xffff_8000_0000_1000)),
+        (LAST, 1, None),
+        (LOWER_LAST, 0x1_2345_6789, Some(0xffff_9234_5678_8000)),
+        (LOWER_LAST, 1 << 35, Some(LAST)),
+        (0x7fff_fff0_0000, 0x8_0000_00ff, Some(LAST)),
+        (0x7fff_fff0_0000, 0x8_0000_0100, None),
+        (LOWER_LAST, (1 << 35) + 1, None),
+        (0, 1 << 20, Some(1 << 32)),
+        (0, usize::MAX, None),
+    ];
+    for (start, count, end) in rows {
+        assert_eq!(rt;
+            Page::forward_checked(page(start), count),
+            end.map(page),
+            "{count:#x} from {start:#x}"
+        );
+    }
+}
+
+#[test]
+fn pages_step_backward(rt: HostRuntime) {
+    let rows = [
+        (0, 0, Some(0)),
+        (0, 1, None),
+        (0x1000, 1, Some(0)),
+        (UPPER_FIRST, 1, Some(LOWER_LAST)),
+        (0xffff_8000_0000_1000, 1, Some(UPPER_FIRST)),
+        (0xffff_9234_5678_8000, 0x1_2345_6789, Some(LOWER_LAST)),
+        (UPPER_FIRST, 1 << 35, Some(0)),
+        (UPPER_FIRST, 0x7_ffff_ff01, Some(0xf_f000)),
+        (UPPER_FIRST, (1 << 35) + 1, None),
+        (1 << 32, 1 << 20, Some(0)),
+        (LAST, usize::MAX, None),
+    ];
+    for (start, count, end) in rows {
+        assert_eq!(rt;
+            Page::backward_checked(page(start), count),
+            end.map(page),
+            "{count:#x} from {start:#x}"
+        );
+    }
+}
+
+#[test]
+fn pages_are_counted(rt: HostRuntime) {
+    let rows = [
+        (0, 0x1000, 1),
+        (LOWER_LAST, UPPER_FIRST, 1),
+        (UPPER_FIRST, 0xffff_8000_0000_1000, 1),
+        (0, 1 << 32, 1 << 20),
+        (0, 1 << 44, 1 << 32),
+    ];
+    for (start, end, count) in rows {
+        let (start, end) = (page(start), page(end));
+        assert_eq!(rt; Page::steps_between(&start, &end), (count, Some(count)));
+        assert_eq!(rt; Page::steps_between(&end, &start), (0, None));
+        assert_eq!(rt; Page::steps_between(&start, &start), (0, Some(0)));
+        assert_eq!(rt; Page::steps_between(&end, &end), (0, Some(0)));
+    }
+}
+
+#[test]
+fn large_pages_step(rt: HostRuntime) {
+    let first = Page::<Size1GiB>::containing_address(VirtAddr::zero());
+    let last = Page::<Size1GiB>::containing_address(VirtAddr::new_truncate(LAST));
+    assert_eq!(rt; Page::forward_checked(first, 0x3_ffff), Some(last));
+    assert_eq!(rt; Page::forward_checked(first, 0x4_0000), None);
+    assert_eq!(rt; Page::backward_checked(last, 0x3_ffff), Some(first));
+    assert_eq!(rt;
+        Page::steps_between(&first, &last),
+        (0x3_ffff, Some(0x3_ffff))
+    );
+}
+
+#[test]
+fn pages_have_sums(rt: HostRuntime) {
+    let mut large = Page::<Size2MiB>::containing_address(VirtAddr::new(0x20_0000));
+    assert_eq!(rt; (large + 2).start_address(), VirtAddr::new(0x60_0000));
+    assert_eq!(rt; (large - 1).start_address(), VirtAddr::zero());
+    large += 3;
+    assert_eq!(rt; large.start_address(), VirtAddr::new(0x80_0000));
+    large -= 2;
+    assert_eq!(rt; large.start_address(), VirtAddr::new(0x40_0000));
+    let zero = Page::<Size2MiB>::containing_address(VirtAddr::zero());
+    assert_eq!(rt; large - zero, 2);
+}
+
+#[test]
+fn pages_have_given_indices(rt: HostRuntime) {
+    let [one, two, three, last] = [1, 2, 3, 511].map(PageTableIndex::new_truncate);
+    let small = Page::from_page_table_indices(last, one, two, three);
+    assert_eq!(rt;
+        small.start_address(),
+        VirtAddr::new_truncate(0xffff_ff80_4040_3000)
+    );
+    let large = Page::from_page_table_indices_2mib(one, two, three);
+    assert_eq!(rt;
+        large.start_address(),
+        VirtAddr::new_truncate(0x80_8060_0000)
+    );
+    let giant = Page::from_page_table_indices_1gib(last, last);
+    assert_eq!(rt;
+        giant.start_address(),
+        VirtAddr::new_truncate(0xffff_ffff_c000_0000)
+    );
+}
+
+#[test]
+fn frames_have_sums(rt: HostRuntime) {
+    let mut large = PhysFrame::<Size2MiB>::containing_address(PhysAddr::new(0x20_0000));
+    assert_eq!(rt; (large + 2).start_address(), PhysAddr::new(0x60_0000));
+    assert_eq!(rt; (large - 1).start_address(), PhysAddr::zero());
+    large += 3;
+    assert_eq!(rt; large.start_address(), PhysAddr::new(0x80_0000));
+    large -= 2;
+    assert_eq!(rt; large.start_address(), PhysAddr::new(0x40_0000));
+    let zero = PhysFrame::<Size2MiB>::containing_address(PhysAddr::zero());
+    assert_eq!(rt; large - zero, 2);
+}
+
+/// Compares the number of the frame that contains 3GiB, and the frame of that number.
+fn check_number<S: PageSize>(rt: &impl Abort, number: u64) {
+    let frame = PhysFrame::<S>::containing_address(PhysAddr::new(0xc000_0000));
+    assert_eq!(rt; frame.pfn(), number);
+    assert_eq!(rt; PhysFrame::try_from_pfn(number), Ok(frame));
+}
+
+#[test]
+fn frames_have_numbers(rt: HostRuntime) {
+    check_number::<Size4KiB>(&rt, 0xc_0000);
+    check_number::<Size2MiB>(&rt, 0x600);
+    check_number::<Size1GiB>(&rt, 3);
+    let frame = PhysFrame::<Size4KiB>::from_pfn(0x123);
+    assert_eq!(rt; frame.start_address(), PhysAddr::new(0x12_3000));
+    assert_eq!(rt; frame.pfn(), 0x123);
+    assert_eq!(rt; PhysFrame::try_from_pfn(0x123), Ok(frame));
+    assert_eq!(rt; PhysFrame::from_pfn_unchecked(0x123), frame);
+    let past = PfnNotValid(0x100_0000_0000);
+    assert_eq!(rt;
+        PhysFrame::<Size4KiB>::try_from_pfn(0x100_0000_0000),
+        Err(past)
+    );
+    assert!(rt; PhysFrame::<Size4KiB>::try_from_pfn(0xff_ffff_ffff).is_ok());
+    assert_eq!(rt;
+        PhysFrame::<Size1GiB>::try_from_pfn(u64::MAX),
+        Err(PfnNotValid(u64::MAX))
+    );
+    let text = format!(in rt.alloc(); "{past}").expect(&rt, "memory");
+    assert_eq!(rt; text.as_str(), "PfnNotValid(0x10000000000)");
+}
+
+/// Tells whether equal pages and frames of a size hash alike, and calls the laws of the size.
+fn check_laws<S: PageSize + Hash>(rt: &impl Abort) {
+    let page = Page::<S>::containing_address(VirtAddr::new(0x4000_0000));
+    let frame = PhysFrame::<S>::containing_address(PhysAddr::new(0x4000_0000));
+    let [mut first, mut second] = [DefaultHasher::new(), DefaultHasher::new()];
+    page.hash(&mut first);
+    frame.hash(&mut first);
+    Page::<S>::containing_address(VirtAddr::new(0x4000_0123)).hash(&mut second);
+    PhysFrame::<S>::containing_address(PhysAddr::new(0x4000_0123)).hash(&mut second);
+    assert_eq!(rt; first.finish(), second.finish());
+    pages_are_ordered_by_position(page, page);
+    frames_are_ordered_by_address(frame, frame);
+    page_steps_are_counted::<S>();
+}
+
+#[test]
+fn laws_hold_in_three_sizes(rt: HostRuntime) {
+    check_laws::<Size4KiB>(&rt);
+    check_laws::<Size2MiB>(&rt);
+    check_laws::<Size1GiB>(&rt);
 }

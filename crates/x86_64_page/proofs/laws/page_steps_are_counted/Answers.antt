@@ -1,0 +1,7 @@
+use Rattle.x86_64_page.specs.Sums.{size_is_positive}
+use Rattle.x86_64_page.specs.PageSteps.{page_steps_are_counted}
+use Rattle.x86_64_page.proofs.laws.page_steps_are_counted.Goals as goal
+
+pub returns : goal.returns
+returns g c =
+    page_steps_are_counted g.S.PageSize.SIZE (size_is_positive g.S.PageSize.SIZE g.S.PageSize.LEVEL g.S.PageSize.size)

@@ -1,0 +1,59 @@
+-- Sums and differences of a multiple of a size and of so many times the size.
+use Rattle.std.specs.Prelude.{◌≡◌, ℕ, ◌+◌, ◌-◌, ◌*◌, ◌%◌, ◌≤◌, ◌<◌, nat_lt, Bool, true, false, if◌then◌else◌, Option, Some, None}
+use Rattle.std.proofs.Common.{◌∙◌, refl, sym, ap, arith}
+use Rattle.std.proofs.Math.Nat.{add-mul-mod_self_right}
+use Rattle.std.proofs.lemmas.Nat.{pow_pos}
+use Rattle.x86_64_addr.specs.Position.{span, raw}
+use Rattle.x86_64_addr.specs.Successor.{forward, backward}
+use Rattle.x86_64_page.specs.Multiples.{same_remainder}
+
+-- so many sizes above a multiple of the size is one
+pub sum_is_multiple : (number count size : ℕ) → number % size ≡ 0 → (number + count * size) % size ≡ 0
+sum_is_multiple n count z aligned = add-mul-mod_self_right n count z ∙ aligned
+
+-- so many sizes below a multiple of the size is one
+pub difference_is_multiple : (number count size : ℕ) → count * size ≤ number → number % size ≡ 0 → (number - count * size) % size ≡ 0
+difference_is_multiple n count z enough aligned =
+    let whole : n - count * z + count * z ≡ n = omega arith in
+    sym (add-mul-mod_self_right (n - count * z) count z) ∙ (ap (λ m. m % z) whole ∙ aligned)
+
+-- a position is a multiple of the size where its raw value is so many sizes above that of one that is
+pub sum_is_aligned : (sum position count size level : ℕ) → 1 ≤ level → level ≤ 3 → size ≡ span level
+    → raw 4 sum ≡ raw 4 position + count * size → position % size ≡ 0 → sum % size ≡ 0
+sum_is_aligned r p count z level low high e at aligned =
+    sym (same_remainder r z level low high e)
+    ∙ (ap (λ m. m % z) at ∙ sum_is_multiple (raw 4 p) count z (same_remainder p z level low high e ∙ aligned))
+
+-- the same of a position whose raw value is so many sizes below
+pub difference_is_aligned : (difference position count size level : ℕ) → 1 ≤ level → level ≤ 3 → size ≡ span level
+    → count * size ≤ raw 4 position → raw 4 difference ≡ raw 4 position - count * size → position % size ≡ 0 → difference % size ≡ 0
+difference_is_aligned r p count z level low high e enough at aligned =
+    sym (same_remainder r z level low high e)
+    ∙ (ap (λ m. m % z) at ∙ difference_is_multiple (raw 4 p) count z enough (same_remainder p z level low high e ∙ aligned))
+
+-- where there is a number so many sizes on from a multiple of the size, it is one
+forward_in : (found size number : ℕ) → number % size ≡ 0 → (inside : Bool) → (if inside then Some number else None) ≡ Some found → found % size ≡ 0
+forward_in m z n aligned true e = let same : m ≡ n = cc in rw same aligned
+forward_in m z n aligned false e = absurd cc
+
+pub forward_is_multiple : (limit number count size found : ℕ) (answer : Option ℕ) → number % size ≡ 0
+    → answer ≡ forward limit number (count * size) → answer ≡ Some found → found % size ≡ 0
+forward_is_multiple limit n count z m answer aligned is found =
+    forward_in m z (n + count * z) (sum_is_multiple n count z aligned) (nat_lt (n + count * z) limit) (sym is ∙ found)
+
+-- where there is a number so many sizes before a multiple of the size, it is one
+backward_in : (found count size number : ℕ) → number % size ≡ 0 → (outside : Bool) → nat_lt number (count * size) ≡ outside
+    → (if outside then None else Some (number - count * size)) ≡ Some found → found % size ≡ 0
+backward_in m count z n aligned true at e = absurd cc
+backward_in m count z n aligned false at e =
+    let same : m ≡ n - count * z = cc in
+    let enough : count * z ≤ n = grind (arith, at) in
+    rw same (difference_is_multiple n count z enough aligned)
+
+pub backward_is_multiple : (number count size found : ℕ) (answer : Option ℕ) → number % size ≡ 0
+    → answer ≡ backward number (count * size) → answer ≡ Some found → found % size ≡ 0
+backward_is_multiple n count z m answer aligned is found = backward_in m count z n aligned (nat_lt n (count * z)) refl (sym is ∙ found)
+
+-- the size of a level is not 0
+pub size_is_positive : (size level : ℕ) → size ≡ span level → 0 < size
+size_is_positive z level e = rw e (pow_pos (12 + 9 * (level - 1)))

@@ -1,0 +1,67 @@
+//! Sums of frames and numbers of frames, and differences.
+ghost use Rattle.std.specs.Prelude.{◌≡◌, ◌+◌, ◌-◌, ◌*◌, ◌/◌, ◌^◌, ◌<◌, ◌≤◌};
+
+use crate::frame::PhysFrame;
+use crate::page::PageSize;
+use std::ops::{Add, AddAssign, Sub, SubAssign};
+
+impl<S: PageSize> Add<u64> for PhysFrame<S> {
+    type Output = PhysFrame<S>;
+
+    ghost can_add = { λ frame count. frame + count * S.SIZE < 2 ^ 52 };
+
+    ghost add_gives = { λ frame count sum. sum ≡ frame + count * S.SIZE };
+
+    /// Gives the frame so many frames above, whose start must be below 2^52.
+    fn add(self, rhs: u64) -> PhysFrame<S> {
+        PhysFrame::from_start_address_unchecked(self.start_address() + rhs * S::SIZE)
+    }
+}
+
+impl<S: PageSize> AddAssign<u64> for PhysFrame<S> {
+    ghost can_add_assign = { λ frame count. frame + count * S.SIZE < 2 ^ 52 };
+
+    ghost add_assign_gives = { λ frame count sum. sum ≡ frame + count * S.SIZE };
+
+    /// Moves up by so many frames, as `+` does.
+    fn add_assign(&mut self, rhs: u64) {
+        *self = *self + rhs;
+    }
+}
+
+impl<S: PageSize> Sub<u64> for PhysFrame<S> {
+    type Output = PhysFrame<S>;
+
+    ghost can_sub = { λ frame count. count * S.SIZE ≤ frame };
+
+    ghost sub_gives = { λ frame count difference. difference ≡ frame - count * S.SIZE };
+
+    /// Gives the frame so many frames below, whose start must not be negative.
+    fn sub(self, rhs: u64) -> PhysFrame<S> {
+        PhysFrame::from_start_address_unchecked(self.start_address() - rhs * S::SIZE)
+    }
+}
+
+impl<S: PageSize> SubAssign<u64> for PhysFrame<S> {
+    ghost can_sub_assign = { λ frame count. count * S.SIZE ≤ frame };
+
+    ghost sub_assign_gives = { λ frame count difference. difference ≡ frame - count * S.SIZE };
+
+    /// Moves down by so many frames, as `-` does.
+    fn sub_assign(&mut self, rhs: u64) {
+        *self = *self - rhs;
+    }
+}
+
+impl<S: PageSize> Sub<PhysFrame<S>> for PhysFrame<S> {
+    type Output = u64;
+
+    ghost can_sub = { λ frame other. other ≤ frame };
+
+    ghost sub_gives = { λ frame other count. count ≡ (frame - other) / S.SIZE };
+
+    /// Gives how many frames the start is above that of the other, which must not be above it.
+    fn sub(self, rhs: PhysFrame<S>) -> u64 {
+        (self.start_address() - rhs.start_address()) / S::SIZE
+    }
+}

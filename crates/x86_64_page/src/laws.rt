@@ -1,0 +1,32 @@
+//! Laws of pages and frames: their order agrees with equality and with hashes, and steps along pages are counted. The bodies are
+//! empty; the contracts are the laws.
+ghost use Rattle.std.specs.Prelude.{◌≡◌, ◌==◌, Some};
+ghost use Rattle.std.specs.Ordering.{nat_cmp};
+ghost use Rattle.std.specs.Hash as fed;
+ghost use Rattle.x86_64_addr.specs.Position.{raw};
+ghost use Rattle.x86_64_page.specs.PageSteps.{ArePageSteps};
+
+use crate::frame::PhysFrame;
+use crate::page::{Page, PageSize};
+use std::hash::Hash;
+
+/// Pages are equal and ordered as their positions are, and hashed by their raw start addresses.
+pub fn pages_are_ordered_by_position<S: PageSize + Hash>(left: Page<S>, right: Page<S>)
+    ensures equality { ⟦<Page<S> as PartialEq>⟧.eq left right ≡ (left == right) }
+    ensures order { ⟦<Page<S> as Ord>⟧.cmp left right ≡ nat_cmp left right }
+    ensures partial_order { ⟦<Page<S> as PartialOrd>⟧.partial_cmp left right ≡ Some (nat_cmp left right) }
+    ensures hash { ⟦<Page<S> as Hash>⟧.hash_input left ≡ fed.u64 (raw 4 left) }
+{}
+
+/// Frames are equal, ordered and hashed as their start addresses are.
+pub fn frames_are_ordered_by_address<S: PageSize + Hash>(left: PhysFrame<S>, right: PhysFrame<S>)
+    ensures equality { ⟦<PhysFrame<S> as PartialEq>⟧.eq left right ≡ (left == right) }
+    ensures order { ⟦<PhysFrame<S> as Ord>⟧.cmp left right ≡ nat_cmp left right }
+    ensures partial_order { ⟦<PhysFrame<S> as PartialOrd>⟧.partial_cmp left right ≡ Some (nat_cmp left right) }
+    ensures hash { ⟦<PhysFrame<S> as Hash>⟧.hash_input left ≡ fed.u64 left }
+{}
+
+/// Steps along pages compose, steps back undo steps on, and they are counted.
+pub fn page_steps_are_counted<S: PageSize>()
+    ensures { ArePageSteps S.SIZE }
+{}
