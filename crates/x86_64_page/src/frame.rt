@@ -6,6 +6,10 @@ use std::fmt::{Debug, Formatter, Result as FmtResult, Write};
 use std::marker::{Model, PhantomData};
 use x86_64_addr::addr::PhysAddr;
 
+mod ranges;
+
+pub use ranges::{PhysFrameRange, PhysFrameRangeInclusive};
+
 /// A frame of a size: it starts at a multiple of the size.
 ///
 /// Contracts see it as its start address. Equality, order and hash are those of the start address.

@@ -3,5 +3,6 @@
 
 pub mod frame;
 pub mod page;
+pub mod range;
 #[cfg(test)]
 mod tests;

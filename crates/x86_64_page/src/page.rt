@@ -10,6 +10,10 @@ use std::marker::{Model, PhantomData};
 use x86_64_addr::addr::VirtAddr;
 use x86_64_addr::index::{PageTableIndex, PageTableLevel};
 
+mod ranges;
+
+pub use ranges::{PageRange, PageRangeInclusive};
+
 mod sealed {
     /// Keeps other crates from adding sizes.
     pub trait Sealed {}
