@@ -1,6 +1,8 @@
 //! Values from outside: the sizes, the starts of frames and the texts.
 ghost use Rattle.std.specs.Prelude.{◌≡◌, ◌<◌, ◌↔◌, IsTrue};
 
+mod ranges;
+
 use crate::frame::PhysFrame;
 use crate::page::{
     AddressNotAligned, NotGiantPageSize, Page, PageSize, Size1GiB, Size2MiB, Size4KiB,
