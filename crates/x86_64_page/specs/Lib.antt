@@ -1,3 +1,4 @@
+pub mod Blocks
 pub mod Indices
 pub mod Multiples
 pub mod PageSteps

@@ -8,8 +8,10 @@ use x86_64_addr::addr::PhysAddr;
 
 mod number;
 mod operators;
+mod ranges;
 
 pub use number::PfnNotValid;
+pub use ranges::{PhysFrameRange, PhysFrameRangeInclusive};
 
 /// A frame of a size: it starts at a multiple of the size.
 ///

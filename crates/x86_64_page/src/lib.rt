@@ -4,5 +4,6 @@
 pub mod frame;
 pub mod laws;
 pub mod page;
+pub mod range;
 #[cfg(test)]
 mod tests;

@@ -12,7 +12,10 @@ use x86_64_addr::index::{PageTableIndex, PageTableLevel};
 
 mod indices;
 mod operators;
+mod ranges;
 mod steps;
+
+pub use ranges::{PageRange, PageRangeInclusive};
 
 mod sealed {
     /// Keeps other crates from adding sizes.

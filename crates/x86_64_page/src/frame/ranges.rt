@@ -1,0 +1,63 @@
+//! Ranges of frames.
+ghost use Rattle.std.specs.Prelude.{◌≡◌, ℕ, ◌%◌};
+
+use crate::frame::PhysFrame;
+use crate::page::PageSize;
+use crate::range::{Block, BlockRange, BlockRangeInclusive};
+use x86_64_addr::addr::PhysAddr;
+
+/// The frames from `start` up to `end`, which is left out.
+pub type PhysFrameRange<S> = BlockRange<PhysFrame<S>>;
+
+/// The frames from `start` to `end`, which is among them.
+pub type PhysFrameRangeInclusive<S> = BlockRangeInclusive<PhysFrame<S>>;
+
+impl<S: PageSize> Block for PhysFrame<S> {
+    ghost use Rattle.std.proofs.Common.{inr, refl};
+    ghost use Rattle.std.specs.Prelude.{◌^◌};
+    ghost use Rattle.x86_64_page.specs.Blocks.{size_of_level};
+
+    ghost SIZE = { S.SIZE };
+
+    ghost LIMIT = { 0x10_0000_0000_0000 };
+
+    ghost place = { λ f. f };
+
+    const SIZE: u64 = S::SIZE;
+
+    const LIMIT: u64 = 0x10_0000_0000_0000;
+
+    const RANGE: &'static str = "PhysFrameRange";
+
+    const RANGE_INCLUSIVE: &'static str = "PhysFrameRangeInclusive";
+
+    fn place(&self) -> u64 {
+        self.start_address.as_u64()
+    }
+
+    fn at(start: u64) -> Self {
+        PhysFrame::from_start_address_unchecked(PhysAddr::new(start))
+    }
+
+    ghost known_size = { size_of_level S.SIZE S.LEVEL S.low S.high S.size };
+
+    ghost known_limit = { inr refl };
+}
+
+impl<S: PageSize> PhysFrame<S> {
+    /// Gives the frames from one up to another, which is left out.
+    pub fn range(start: Self, end: Self) -> PhysFrameRange<S>
+        ensures start { result.start ≡ start }
+        ensures end { result.end ≡ end }
+    {
+        PhysFrameRange { start, end }
+    }
+
+    /// Gives the frames from one to another, which is among them.
+    pub fn range_inclusive(start: Self, end: Self) -> PhysFrameRangeInclusive<S>
+        ensures start { result.start ≡ start }
+        ensures end { result.end ≡ end }
+    {
+        PhysFrameRangeInclusive { start, end }
+    }
+}
