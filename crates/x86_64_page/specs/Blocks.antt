@@ -1,6 +1,6 @@
 -- Pages and frames as blocks of memory: each is named by where it starts, a page by its position and a frame by its address.
 use Rattle.std.specs.Prelude.{zero, suc, ◌≡◌, ◌⊎◌, ℕ, ◌+◌, ◌-◌, ◌*◌, ◌/◌, ◌^◌, ◌≤◌, nat_lt, nat_le, cond, min, List, [], ◌∷◌, length}
-use Rattle.std.proofs.Common.{inl, inr, refl, arith}
+use Rattle.std.proofs.Common.{inl, inr, arith}
 use Rattle.x86_64_addr.specs.Position.{span}
 
 -- a block has one of the three sizes

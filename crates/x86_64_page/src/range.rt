@@ -1,14 +1,18 @@
 //! Ranges of pages and of frames: lists of blocks, by where each block starts.
 //!
 //! A range of pages goes by positions, so it goes on after the gap of the address space.
-ghost use Rattle.std.specs.Prelude.{◌≡◌, ℕ, ◌+◌, ◌-◌, ◌*◌, ◌%◌, ◌<◌, ◌≤◌, ◌↔◌, IsTrue, IfSome, Some, option_map, [], length, slice_get, reverse};
+ghost use Rattle.std.specs.Prelude.{◌≡◌, ℕ, ◌+◌, ◌*◌, ◌%◌, ◌<◌, ◌↔◌, IsTrue, IfSome, Some, option_map, [], length, slice_get, reverse};
 ghost use Rattle.std.specs.Iterator.{YieldsFirstBy, YieldsLastBy, item_count, UpTo, at_most};
 ghost use Rattle.std.specs.Iterator.SizeHint.{IsWithinCount};
-ghost use Rattle.x86_64_page.specs.Blocks.{IsBlockSize, IsLimit, blocks, blocks_inclusive, Ends, front_taken, back_taken, front_taken_inclusive, back_taken_inclusive};
+ghost use Rattle.x86_64_page.specs.Blocks.{IsBlockSize, IsLimit, blocks, Ends, front_taken, back_taken};
 
 use crate::frame::PhysFrame;
 use crate::page::{Page, PageSize};
 use std::fmt::{Debug, Formatter, Result as FmtResult, Write};
+
+mod inclusive;
+
+pub use inclusive::BlockRangeInclusive;
 
 mod sealed {
     use super::{Page, PageSize, PhysFrame};
@@ -173,154 +177,6 @@ impl<B: Block> DoubleEndedIterator for BlockRange<B> {
 impl<B: Block + Debug> Debug for BlockRange<B> {
     fn fmt<W: Write>(&self, f: &mut Formatter<W>) -> FmtResult {
         f.debug_struct(B::RANGE)
-            .field("start", &self.start)
-            .field("end", &self.end)
-            .finish()
-    }
-}
-
-/// The blocks from `start` to `end`, which is among them. It is empty where `start` lies after `end`.
-#[derive(Clone, Copy, PartialEq, Eq, Hash)]
-pub struct BlockRangeInclusive<B: Block> {
-    /// The first block.
-    pub start: B,
-    /// The last block.
-    pub end: B,
-}
-
-impl<B: Block> BlockRangeInclusive<B> {
-    /// Tells whether there is no block in the range.
-    pub fn is_empty(&self) -> bool
-        ensures { IsTrue result ↔ (blocks_inclusive B.SIZE (B.place self.now.start) (B.place self.now.end) ≡ []) }
-    {
-        self.end.place() < self.start.place()
-    }
-
-    /// Gives how many blocks there are.
-    pub fn len(&self) -> u64
-        ensures { result ≡ length (blocks_inclusive B.SIZE (B.place self.now.start) (B.place self.now.end)) }
-    {
-        self.size() / B::SIZE
-    }
-
-    /// Gives how many bytes there are in the blocks.
-    pub fn size(&self) -> u64
-        ensures { result ≡ length (blocks_inclusive B.SIZE (B.place self.now.start) (B.place self.now.end)) * B.SIZE }
-    {
-        (self.end.place() + B::SIZE).saturating_sub(self.start.place())
-    }
-
-    /// Drops `n` blocks and takes one, in constant time. The range is left as `n + 1` calls of `next` leave it.
-    pub fn nth(&mut self, n: usize) -> Option<B>
-        ensures item { option_map B.place result ≡ slice_get (blocks_inclusive B.SIZE (B.place self.old.start) (B.place self.old.end)) n }
-        ensures ends { record { start = B.place self.new.start; end = B.place self.new.end } ≡ front_taken_inclusive B.SIZE B.LIMIT (n + 1) (record { start = B.place self.old.start; end = B.place self.old.end }) }
-    {
-        let start = self.start.place();
-        let end = self.end.place();
-        if (n as u64) < self.len() {
-            let block = B::at(start + n as u64 * B::SIZE);
-            self.leave_at_front(block);
-            return Some(block);
-        }
-        if start <= end {
-            self.leave_at_front(self.end);
-        }
-        None
-    }
-
-    /// Drops `n` blocks from the back and takes one, in constant time. The range is left as `n + 1` calls of `next_back` leave
-    /// it.
-    pub fn nth_back(&mut self, n: usize) -> Option<B>
-        ensures item { option_map B.place result ≡ slice_get (reverse (blocks_inclusive B.SIZE (B.place self.old.start) (B.place self.old.end))) n }
-        ensures ends { record { start = B.place self.new.start; end = B.place self.new.end } ≡ back_taken_inclusive B.SIZE (n + 1) (record { start = B.place self.old.start; end = B.place self.old.end }) }
-    {
-        let start = self.start.place();
-        let end = self.end.place();
-        if (n as u64) < self.len() {
-            let block = B::at(end - n as u64 * B::SIZE);
-            self.leave_at_back(block);
-            return Some(block);
-        }
-        if start <= end {
-            self.leave_at_back(self.start);
-        }
-        None
-    }
-
-    /// Leaves the blocks after a block. Where it is the greatest, `end` is lowered, since no block comes after it.
-    fn leave_at_front(&mut self, block: B)
-        ensures raised { B.place block + B.SIZE < B.LIMIT → (B.place self.new.start ≡ B.place block + B.SIZE) × (B.place self.new.end ≡ B.place self.old.end) }
-        ensures lowered { B.LIMIT ≤ B.place block + B.SIZE → (B.place self.new.start ≡ B.place block) × (B.place self.new.end ≡ B.place block - B.SIZE) }
-    {
-        let place = block.place();
-        if place < B::LIMIT - B::SIZE {
-            self.start = B::at(place + B::SIZE);
-        } else {
-            self.start = block;
-            self.end = B::at(place - B::SIZE);
-        }
-    }
-
-    /// Leaves the blocks before a block. Where it is the first, `start` is raised, since no block comes before it.
-    fn leave_at_back(&mut self, block: B)
-        ensures lowered { B.SIZE ≤ B.place block → (B.place self.new.start ≡ B.place self.old.start) × (B.place self.new.end + B.SIZE ≡ B.place block) }
-        ensures raised { B.place block < B.SIZE → (B.place self.new.start ≡ B.SIZE) × (B.place self.new.end ≡ 0) × (B.place block ≡ 0) }
-    {
-        let place = block.place();
-        if 0 < place {
-            self.end = B::at(place - B::SIZE);
-        } else {
-            self.start = B::at(B::SIZE);
-            self.end = block;
-        }
-    }
-}
-
-impl<B: Block> Iterator for BlockRangeInclusive<B> {
-    type Item = B;
-
-    ghost next_gives = { λ r block s. YieldsFirstBy B.place (λ r. blocks_inclusive B.SIZE (B.place r.start) (B.place r.end)) r block s
-        × ((record { start = B.place s.start; end = B.place s.end }) ≡ front_taken_inclusive B.SIZE B.LIMIT 1 (record { start = B.place r.start; end = B.place r.end })) };
-
-    ghost remaining = { item_count (λ r. blocks_inclusive B.SIZE (B.place r.start) (B.place r.end)) };
-
-    fn next(&mut self) -> Option<B> {
-        if self.end.place() < self.start.place() {
-            return None;
-        }
-        let block = self.start;
-        self.leave_at_front(block);
-        Some(block)
-    }
-
-    fn size_hint(&self) -> (usize, Option<usize>)
-        ensures lower { IsWithinCount result.0 (at_most (length (blocks_inclusive B.SIZE (B.place self.now.start) (B.place self.now.end)))) }
-        ensures ends { IfSome result.1 (UpTo (at_most (length (blocks_inclusive B.SIZE (B.place self.now.start) (B.place self.now.end))))) }
-        ensures exact { result.0 ≡ length (blocks_inclusive B.SIZE (B.place self.now.start) (B.place self.now.end)) }
-        ensures upper { result.1 ≡ Some (length (blocks_inclusive B.SIZE (B.place self.now.start) (B.place self.now.end))) }
-    {
-        let len = self.len() as usize;
-        (len, Some(len))
-    }
-}
-
-impl<B: Block> DoubleEndedIterator for BlockRangeInclusive<B> {
-    ghost next_back_gives = { λ r block s. YieldsLastBy B.place (λ r. blocks_inclusive B.SIZE (B.place r.start) (B.place r.end)) r block s
-        × ((record { start = B.place s.start; end = B.place s.end }) ≡ back_taken_inclusive B.SIZE 1 (record { start = B.place r.start; end = B.place r.end })) };
-
-    fn next_back(&mut self) -> Option<B> {
-        if self.end.place() < self.start.place() {
-            return None;
-        }
-        let block = self.end;
-        self.leave_at_back(block);
-        Some(block)
-    }
-}
-
-impl<B: Block + Debug> Debug for BlockRangeInclusive<B> {
-    fn fmt<W: Write>(&self, f: &mut Formatter<W>) -> FmtResult {
-        f.debug_struct(B::RANGE_INCLUSIVE)
             .field("start", &self.start)
             .field("end", &self.end)
             .finish()

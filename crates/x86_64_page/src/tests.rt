@@ -1,6 +1,8 @@
 //! Values from outside: the sizes, the starts of frames and the texts.
 ghost use Rattle.std.specs.Prelude.{◌≡◌, ◌<◌, ◌↔◌, IsTrue};
 
+mod ranges;
+
 use crate::frame::{PfnNotValid, PhysFrame};
 use crate::laws::{
     frames_are_ordered_by_address, page_steps_are_counted, pages_are_ordered_by_position,

@@ -1,4 +1,4 @@
-use Rattle.std.proofs.Common.{◌≡◌, ◌+◌, ◌-◌, ◌*◌, ◌<◌, ◌≤◌, length, refl, arith}
+use Rattle.std.proofs.Common.{refl, arith}
 use Rattle.x86_64_page.proofs.Blocks.{nth_known, item, item_past, front-all, front-none}
 use Rattle.x86_64_page.proofs.range.BlockRange.nth.Goals as goal
 use Rattle.x86_64_page.proofs.range.BlockRange.nth.Goals.{then-start-end, else-start-end}

@@ -1,4 +1,4 @@
-use Rattle.std.proofs.Common.{◌≡◌, ◌+◌, ◌-◌, ◌*◌, ◌<◌, ◌≤◌, length, refl, arith}
+use Rattle.std.proofs.Common.{arith}
 use Rattle.x86_64_page.proofs.Blocks.{nth_known, item_back, item_back_past, back-all, back-none}
 use Rattle.x86_64_page.proofs.range.BlockRange.nth_back.Goals as goal
 use Rattle.x86_64_page.proofs.range.BlockRange.nth_back.Goals.{then-start-end, else-start-end}

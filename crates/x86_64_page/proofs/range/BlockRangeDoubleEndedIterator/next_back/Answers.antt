@@ -1,4 +1,4 @@
-use Rattle.std.proofs.Common.{rules, ◌<◌, ◌≡◌, ◌%◌, ◌-◌, refl}
+use Rattle.std.proofs.Common.{rules, ◌<◌, ◌≡◌, ◌-◌, refl}
 use Rattle.x86_64_page.specs.Blocks.{blocks}
 use Rattle.x86_64_page.proofs.Blocks.{blocks-last, goes_last, one_lowered}
 use Rattle.x86_64_page.proofs.range.BlockRangeDoubleEndedIterator.next_back.Goals as goal

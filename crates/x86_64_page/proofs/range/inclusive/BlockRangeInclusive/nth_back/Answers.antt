@@ -1,7 +1,7 @@
-use Rattle.std.proofs.Common.{◌≡◌, ◌+◌, ◌-◌, ◌*◌, ◌<◌, ◌≤◌, length, refl, arith}
+use Rattle.std.proofs.Common.{refl, arith}
 use Rattle.x86_64_page.proofs.Blocks.{nth_known_inclusive, item_back, item_back_past, next_aligned, back_inclusive-some, back_inclusive-all, back_inclusive-none}
-use Rattle.x86_64_page.proofs.range.BlockRangeInclusive.nth_back.Goals as goal
-use Rattle.x86_64_page.proofs.range.BlockRangeInclusive.nth_back.Goals.{then-start-end, else-start-end}
+use Rattle.x86_64_page.proofs.range.inclusive.BlockRangeInclusive.nth_back.Goals as goal
+use Rattle.x86_64_page.proofs.range.inclusive.BlockRangeInclusive.nth_back.Goals.{then-start-end, else-start-end}
 
 pub overflow_mul-n : goal.overflow_mul-n
 overflow_mul-n g c =

@@ -1,5 +1,5 @@
 use Rattle.x86_64_page.proofs.Blocks.{bytes_inclusive}
-use Rattle.x86_64_page.proofs.range.BlockRangeInclusive.size.Goals as goal
+use Rattle.x86_64_page.proofs.range.inclusive.BlockRangeInclusive.size.Goals as goal
 
 pub returns : goal.returns
 returns g c =

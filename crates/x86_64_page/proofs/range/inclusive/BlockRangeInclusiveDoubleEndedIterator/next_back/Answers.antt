@@ -1,6 +1,6 @@
 use Rattle.x86_64_page.specs.Blocks.{blocks_inclusive}
 use Rattle.x86_64_page.proofs.Blocks.{back_step, goes_last}
-use Rattle.x86_64_page.proofs.range.BlockRangeInclusiveDoubleEndedIterator.next_back.Goals as goal
+use Rattle.x86_64_page.proofs.range.inclusive.BlockRangeInclusiveDoubleEndedIterator.next_back.Goals as goal
 
 pub returns-clause-steps : goal.returns-clause-steps
 returns-clause-steps g c =
