@@ -27,7 +27,8 @@ pub fn recorded_flushes_suffice()
     ensures { FlushesSuffice }
 {}
 
-/// A call that names a page changes no answer of `translate` elsewhere.
+/// An accepted map, unmap or change of a page's flags changes no answer of `translate` outside the page and the window, where no
+/// parent of the page was used without PRESENT.
 pub fn calls_spare_other_pages()
     ensures { CallsSpareOthers }
 {}

@@ -24,7 +24,7 @@ impl<B: Block> BlockRangeInclusive<B> {
     pub fn is_empty(&self) -> bool
         ensures { IsTrue result ↔ (blocks_inclusive B.SIZE (B.place self.now.start) (B.place self.now.end) ≡ []) }
     {
-        self.end.place() < self.start.place()
+        self.start.place() > self.end.place()
     }
 
     /// Gives how many blocks there are.
@@ -97,9 +97,9 @@ impl<B: Block> BlockRangeInclusive<B> {
         ensures lowered { B.SIZE ≤ B.place block → (B.place self.new.start ≡ B.place self.old.start) × (B.place self.new.end + B.SIZE ≡ B.place block) }
         ensures raised { B.place block < B.SIZE → (B.place self.new.start ≡ B.SIZE) × (B.place self.new.end ≡ 0) × (B.place block ≡ 0) }
     {
-        let place = block.place();
-        if 0 < place {
-            self.end = B::at(place - B::SIZE);
+        let start = block.place();
+        if 0 < start {
+            self.end = B::at(start - B::SIZE);
         } else {
             self.start = B::at(B::SIZE);
             self.end = block;
