@@ -1,5 +1,5 @@
 //! The hierarchy of the program: its root stands in the frame 0x1000, and each frame lies at the place of its number.
-ghost use Rattle.std.specs.Prelude.{◌≡◌, ◌↔◌, [], ℕ, if◌then◌else◌, IsOk, IfOk, OnOk, OnErr, IsTrue, Some, None, nat_lt, option_map};
+ghost use Rattle.std.specs.Prelude.{◌≡◌, ◌↔◌, [], ℕ, if◌then◌else◌, IsOk, IfOk, IfErr, OnOk, OnErr, IsTrue, Some, None, nat_lt, option_map};
 ghost use Rattle.std.specs.FinMap as map;
 ghost use Rattle.x86_64_model.specs.Layout.{words};
 ghost use Rattle.x86_64_model.specs.PageWalk.{page_walk as walk_of};
@@ -7,7 +7,7 @@ ghost use Rattle.x86_64_tables.specs.PageTable.{zero_words};
 ghost use Rattle.x86_64_tables.specs.Walks.{walked_of};
 ghost use Rattle.x86_64.specs.Runs.{call_step};
 ghost use Rattle.pagetab_engine.specs.Hierarchy.{layout, machine, state_of, IsHierarchy, Keeps};
-ghost use Rattle.pagetab_engine.specs.Image.{IsLoadable, memory_after, free_after};
+ghost use Rattle.pagetab_engine.specs.Image.{IsLoadable, IsRefusedFor, memory_after, free_after};
 ghost use Rattle.pagetab_engine.specs.Slot.{word_in};
 
 use crate::slot::Slot;
@@ -61,6 +61,7 @@ impl Hierarchy {
         ensures accepted { IsOk result ↔ IsLoadable self.old line }
         ensures memory { OnOk result (self.new.memory ≡ memory_after self.old line) }
         ensures free { OnOk result (self.new.pool.frames ≡ free_after self.old line) }
+        ensures why { IfErr result (IsRefusedFor self.old line) }
         ensures refused { OnErr result ((self.new.memory ≡ self.old.memory) × (self.new.pool.frames ≡ self.old.pool.frames)) }
         ensures limit { self.new.pool.limit ≡ self.old.pool.limit }
     {
