@@ -1,5 +1,5 @@
 //! The fields of a line, which spaces part.
-ghost use Rattle.std.specs.Prelude.{◌≡◌, ◌≤◌, [], ◌∷◌, ◌++◌, MatchOption, IfSome, take};
+ghost use Rattle.std.specs.Prelude.{◌≡◌, ◌≢◌, ◌≤◌, ℕ, Option, List, [], ◌∷◌, ◌++◌, length, MatchOption, IfSome, IfNone, take};
 ghost use Rattle.pagetab_engine.specs.Fields.{fields_of, name_text, size_text, size_texts, AreNumbers, Says};
 
 use crate::number;
@@ -47,7 +47,8 @@ pub enum Name {
 impl Name {
     /// Reads a name.
     fn parse(field: &str) -> Option<Name>
-        ensures { IfSome result (λ name. name_text name ≡ field.now) }
+        ensures found { IfSome result (λ name. name_text name ≡ field.now) }
+        ensures none { IfNone result ((name : Name) → name_text name ≢ field.now) }
     {
         Some(match field.as_bytes() {
             b"word" => Name::Word,
@@ -85,7 +86,8 @@ pub enum Size {
 impl Size {
     /// Reads SIZE.
     fn parse(field: &str) -> Option<Size>
-        ensures { IfSome result (λ size. size_text size ≡ field.now) }
+        ensures found { IfSome result (λ size. size_text size ≡ field.now) }
+        ensures none { IfNone result ((size : Size) → size_text size ≢ field.now) }
     {
         match field.as_bytes() {
             b"4KiB" => Some(Size::Size4KiB),
@@ -109,9 +111,10 @@ pub struct Fields {
 }
 
 impl Fields {
-    /// Reads a line. Answers `None` where it has no name, a field that is no number, or more numbers than any statement.
+    /// Reads a line. Answers `None` exactly where it has no name, a field that is no number, or more numbers than any statement.
     pub fn parse(line: &str) -> Option<Fields>
-        ensures { IfSome result (λ fields. Says line.now fields.name fields.size (take fields.count fields.numbers)) }
+        ensures says { IfSome result (λ fields. Says line.now fields.name fields.size (take fields.count fields.numbers)) }
+        ensures none { IfNone result ((name : Name) (size : Option Size) (numbers : List ℕ) → length numbers ≤ 4 → ¬ (Says line.now name size numbers)) }
     {
         let mut rest = Rest { text: line };
         let name = Name::parse(rest.next_field()?)?;
@@ -159,7 +162,8 @@ impl<'a> Rest<'a> {
 
     /// Reads SIZE, and leaves the next field where it is none.
     fn next_size(&mut self) -> Option<Size>
-        ensures { fields_of self.old.text.now ≡ size_texts result ++ fields_of self.new.text.now }
+        ensures read { fields_of self.old.text.now ≡ size_texts result ++ fields_of self.new.text.now }
+        ensures none { IfNone result ((size : Size) (rest : List (List ℕ)) → fields_of self.old.text.now ≢ size_text size ∷ rest) }
     {
         let mut ahead = Rest { text: self.text };
         let size = Size::parse(ahead.next_field()?)?;
@@ -171,6 +175,7 @@ impl<'a> Rest<'a> {
     fn read_numbers(&mut self, numbers: &mut [u64; MOST_NUMBERS]) -> Option<usize>
         ensures few { IfSome result (λ count. count ≤ 4) }
         ensures read { IfSome result (λ count. AreNumbers (fields_of self.old.text.now) (take count numbers.new)) }
+        ensures none { IfNone result ((others : List ℕ) → length others ≤ 4 → ¬ (AreNumbers (fields_of self.old.text.now) others)) }
     {
         for (count, number) in numbers.iter_mut().enumerate() {
             match self.next_field() {
