@@ -5,6 +5,7 @@ pub mod PageSteps
 pub mod Steps
 pub mod Sums
 pub mod TakenInTurn
+pub mod TakenInTurnInclusive
 pub use Rattle.x86_64_addr.specs.Levels
 pub use Rattle.x86_64_addr.specs.Position
 pub use Rattle.x86_64_addr.specs.Successor

@@ -12,29 +12,29 @@ pub record AreTakenInTurn (size : ℕ) : Type 0 where
   pub none_back : (r : Ends) → back_taken size 0 r ≡ r
   pub back : (r : Ends) (n : ℕ) → r.start % size ≡ 0 → r.end % size ≡ 0 → back_taken size 1 (back_taken size n r) ≡ back_taken size (n + 1) r
 
-by_size : (P : ℕ → Type 0) → P 0x1000 → P 0x20_0000 → P 0x4000_0000 → (size : ℕ) → IsBlockSize size → P size
+pub by_size : (P : ℕ → Type 0) → P 0x1000 → P 0x20_0000 → P 0x4000_0000 → (size : ℕ) → IsBlockSize size → P size
 by_size P a b c z (inl e) = subst P (sym e) a
 by_size P a b c z (inr (inl e)) = subst P (sym e) b
 by_size P a b c z (inr (inr e)) = subst P (sym e) c
 
-length-blocks_from : (size start count : ℕ) → length (blocks_from size start count) ≡ count
+pub length-blocks_from : (size start count : ℕ) → length (blocks_from size start count) ≡ count
 length-blocks_from z s zero = refl
 length-blocks_from z s (suc n) = ap suc (length-blocks_from z (s + z) n)
 
 -- where more than n were left, one more is left after n
-left_some : (size start end n : ℕ) → IsBlockSize size → start % size ≡ 0 → end % size ≡ 0 → n < (end - start) / size
+pub left_some : (size start end n : ℕ) → IsBlockSize size → start % size ≡ 0 → end % size ≡ 0 → n < (end - start) / size
     → (1 ≤ (end - (start + n * size)) / size) × (1 ≤ (end - n * size - start) / size)
 left_some z s e n k = by_size (λ z. s % z ≡ 0 → e % z ≡ 0 → n < (e - s) / z → (1 ≤ (e - (s + n * z)) / z) × (1 ≤ (e - n * z - s) / z))
     (λ a b l. (omega arith, omega arith)) (λ a b l. (omega arith, omega arith)) (λ a b l. (omega arith, omega arith)) z k
 
 -- where all were taken, none is left
-left_none : (size start end : ℕ) → IsBlockSize size → start % size ≡ 0 → end % size ≡ 0
+pub left_none : (size start end : ℕ) → IsBlockSize size → start % size ≡ 0 → end % size ≡ 0
     → ((end - (start + (end - start) / size * size)) / size ≡ 0) × ((end - (end - start) / size * size - start) / size ≡ 0)
 left_none z s e k = by_size (λ z. s % z ≡ 0 → e % z ≡ 0 → ((e - (s + (e - s) / z * z)) / z ≡ 0) × ((e - (e - s) / z * z - s) / z ≡ 0))
     (λ a b. (omega arith, omega arith)) (λ a b. (omega arith, omega arith)) (λ a b. (omega arith, omega arith)) z k
 
 -- the same in numbers, of the start that is raised and of the end that is lowered
-raised : (size start end n count : ℕ) → IsBlockSize size → start % size ≡ 0 → end % size ≡ 0 → count ≡ (end - start) / size
+pub raised : (size start end n count : ℕ) → IsBlockSize size → start % size ≡ 0 → end % size ≡ 0 → count ≡ (end - start) / size
     → ((nat_le (suc n) count ≡ true) × (suc n ≤ count)) ⊎ ((nat_le (suc n) count ≡ false) × (count < suc n))
     → start + min n count * size + min 1 ((end - (start + min n count * size)) / size) * size ≡ start + min (n + 1) count * size
 raised z s e n c k a b is (inl y) =

@@ -6,6 +6,7 @@ ghost use Rattle.std.specs.Hash as fed;
 ghost use Rattle.x86_64_addr.specs.Position.{raw};
 ghost use Rattle.x86_64_page.specs.PageSteps.{ArePageSteps};
 ghost use Rattle.x86_64_page.specs.TakenInTurn.{AreTakenInTurn};
+ghost use Rattle.x86_64_page.specs.TakenInTurnInclusive.{AreTakenInTurnInclusive};
 
 use crate::frame::PhysFrame;
 use crate::page::{Page, PageSize};
@@ -33,7 +34,8 @@ pub fn page_steps_are_counted<S: PageSize>()
     ensures { ArePageSteps S.SIZE }
 {}
 
-/// Taking n + 1 blocks from a range that leaves its end out is taking n, and then one more, from the front and from the back.
+/// Taking n + 1 blocks from a range is taking n, and then one more, from the front and from the back.
 pub fn blocks_are_taken_in_turn<B: Block>()
-    ensures { AreTakenInTurn B.SIZE }
+    ensures exclusive { AreTakenInTurn B.SIZE }
+    ensures inclusive { AreTakenInTurnInclusive B.SIZE B.LIMIT }
 {}
