@@ -1,6 +1,6 @@
 -- Taking blocks from a range in turn: taking n + 1 is taking n, and then one more.
-use Rattle.std.specs.Prelude.{◌≡◌, ◌⊎◌, ℕ, zero, suc, ◌+◌, ◌-◌, ◌*◌, ◌/◌, ◌%◌, ◌<◌, ◌≤◌, min, cond, nat_lt, nat_le, Bool, true, false, length}
-use Rattle.std.proofs.Common.{inl, inr, refl, sym, ap, ap₂, ◌∙◌, subst, arith}
+use Rattle.std.specs.Prelude.{◌≡◌, ◌⊎◌, ℕ, zero, suc, ◌+◌, ◌-◌, ◌*◌, ◌/◌, ◌%◌, ◌<◌, ◌≤◌, min, nat_le, true, false, length}
+use Rattle.std.proofs.Common.{inl, inr, refl, sym, ap, subst, arith}
 use Rattle.std.proofs.Math.Nat.{min-eq_left, min-eq_right, min-zero, zero-min}
 use Rattle.std.proofs.lemmas.Bool.Decides.{leb_tells}
 use Rattle.x86_64_page.specs.Blocks.{IsBlockSize, blocks_from, blocks, Ends, front_taken, back_taken}
