@@ -1,13 +1,16 @@
-//! Laws of pages and frames: their order agrees with equality and with hashes, and steps along pages are counted. The bodies are
-//! empty; the contracts are the laws.
+//! Laws of pages and frames: their order agrees with equality and with hashes, and steps along pages are counted; blocks
+//! are taken from ranges one by one. The bodies are empty; the contracts are the laws.
 ghost use Rattle.std.specs.Prelude.{◌≡◌, ◌==◌, Some};
 ghost use Rattle.std.specs.Ordering.{nat_cmp};
 ghost use Rattle.std.specs.Hash as fed;
 ghost use Rattle.x86_64_addr.specs.Position.{raw};
 ghost use Rattle.x86_64_page.specs.PageSteps.{ArePageSteps};
+ghost use Rattle.x86_64_page.specs.TakenInTurn.{AreTakenInTurn};
+ghost use Rattle.x86_64_page.specs.TakenInTurnInclusive.{AreTakenInTurnInclusive};
 
 use crate::frame::PhysFrame;
 use crate::page::{Page, PageSize};
+use crate::range::Block;
 use std::hash::Hash;
 
 /// Pages are equal and ordered as their positions are, and hashed by their raw start addresses.
@@ -29,4 +32,10 @@ pub fn frames_are_ordered_by_address<S: PageSize + Hash>(left: PhysFrame<S>, rig
 /// Steps along pages compose, steps back undo steps on, and they are counted.
 pub fn page_steps_are_counted<S: PageSize>()
     ensures { ArePageSteps S.SIZE }
+{}
+
+/// Taking n + 1 blocks from a range is taking n, and then one more, from the front and from the back.
+pub fn blocks_are_taken_in_turn<B: Block>()
+    ensures exclusive { AreTakenInTurn B.SIZE }
+    ensures inclusive { AreTakenInTurnInclusive B.SIZE B.LIMIT }
 {}

@@ -1,5 +1,6 @@
 //! Values from outside: lists of pages and of frames from both ends, and the texts.
 use crate::frame::{PhysFrame, PhysFrameRange, PhysFrameRangeInclusive};
+use crate::laws::blocks_are_taken_in_turn;
 use crate::page::{Page, PageRange, PageRangeInclusive, PageSize, Size1GiB, Size2MiB, Size4KiB};
 use std::process::Abort;
 use x86_64_addr::addr::{PhysAddr, VirtAddr};
@@ -180,6 +181,7 @@ fn the_ends_of_memory_are_in_ranges(rt: HostRuntime) {
 
 #[test]
 fn blocks_are_skipped(rt: HostRuntime) {
+    blocks_are_taken_in_turn::<Page<Size4KiB>>();
     let all = Page::<Size4KiB>::range_inclusive(page(0), page(LAST));
     let mut range = all;
     assert_eq!(rt; raw(range.nth(1 << 35)), Some(0xffff_8000_0000_0000));
