@@ -9,16 +9,7 @@ use Rattle.std.proofs.lemmas.Bool.{lt-ltb, ltb-true, ltb-false, le-leb, leb-true
 use Rattle.std.proofs.lemmas.Bool.Decides.{leb_tells}
 use Rattle.std.proofs.lemmas.List.{reverse-append, length-reverse}
 use Rattle.x86_64_page.specs.Blocks.{IsBlockSize, IsLimit, blocks_from, blocks, blocks_inclusive, Ends, front_taken, back_taken, front_taken_inclusive, back_taken_inclusive}
-
--- what holds of each of the three sizes
-by_size : (P : ℕ → Type 0) → P 0x1000 → P 0x20_0000 → P 0x4000_0000 → (size : ℕ) → IsBlockSize size → P size
-by_size P a b c z (inl e) = subst P (sym e) a
-by_size P a b c z (inr (inl e)) = subst P (sym e) b
-by_size P a b c z (inr (inr e)) = subst P (sym e) c
-
-pub length-blocks_from : (size start count : ℕ) → length (blocks_from size start count) ≡ count
-length-blocks_from z s zero = refl
-length-blocks_from z s (suc n) = ap suc (length-blocks_from z (s + z) n)
+use Rattle.x86_64_page.specs.TakenInTurn.{by_size, length-blocks_from}
 
 -- the list from the back
 pub from-last : (size start count : ℕ) → blocks_from size start (suc count) ≡ blocks_from size start count ++ (start + count * size) ∷ []

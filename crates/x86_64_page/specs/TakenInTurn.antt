@@ -12,6 +12,7 @@ pub record AreTakenInTurn (size : ℕ) : Type 0 where
   pub none_back : (r : Ends) → back_taken size 0 r ≡ r
   pub back : (r : Ends) (n : ℕ) → r.start % size ≡ 0 → r.end % size ≡ 0 → back_taken size 1 (back_taken size n r) ≡ back_taken size (n + 1) r
 
+-- what holds of each of the three sizes
 pub by_size : (P : ℕ → Type 0) → P 0x1000 → P 0x20_0000 → P 0x4000_0000 → (size : ℕ) → IsBlockSize size → P size
 by_size P a b c z (inl e) = subst P (sym e) a
 by_size P a b c z (inr (inl e)) = subst P (sym e) b

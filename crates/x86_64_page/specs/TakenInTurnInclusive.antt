@@ -20,7 +20,7 @@ wide_limit : (size limit : ℕ) → IsBlockSize size → IsLimit limit → size 
 wide_limit z m k (inl h) = rw h (by_size (λ z. z + z ≤ 0x1_0000_0000_0000) (omega arith) (omega arith) (omega arith) z k)
 wide_limit z m k (inr h) = rw h (by_size (λ z. z + z ≤ 0x10_0000_0000_0000) (omega arith) (omega arith) (omega arith) z k)
 
--- where an end is reached, it is the limit's or the range's
+-- where blocks that were taken lead to the limit, the end lies there too
 reaches : (size limit start end n count : ℕ) → IsBlockSize size → start % size ≡ 0 → end % size ≡ 0 → count ≡ (end - start) / size → start < limit
     → ((nat_le (suc n) count ≡ true) × (suc n ≤ count)) ⊎ ((nat_le (suc n) count ≡ false) × (count < suc n))
     → limit ≤ start + min n count * size → limit ≤ end
