@@ -204,10 +204,7 @@ fn is_outside<S: PageSize, M: Mapper<S>>(mapper: &M, page: Page<S>) -> bool
 fn ignore<S: PageSize, E>(flushed: Result<MapperFlush<S>, E>) -> Result<Page<S>, E>
     ensures { result ≡ flushed }
 {
-    let flush = flushed?;
-    let page = flush.page();
-    flush.ignore();
-    Ok(page)
+    Ok(page_of_ignored(flushed?))
 }
 
 /// Ignores the token of a change to a table entry that succeeded.
@@ -225,7 +222,14 @@ fn ignore_unmapped<S: PageSize>(
     ensures { result ≡ unmapped }
 {
     let (frame, flush) = unmapped?;
+    Ok((frame, page_of_ignored(flush)))
+}
+
+/// Ignores a token, and gives its page.
+fn page_of_ignored<S: PageSize>(flush: MapperFlush<S>) -> Page<S>
+    ensures { result ≡ flush }
+{
     let page = flush.page();
     flush.ignore();
-    Ok((frame, page))
+    page
 }
