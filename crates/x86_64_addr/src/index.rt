@@ -1,7 +1,8 @@
 //! Indices of page tables, offsets in pages, and levels of page tables.
 //!
 //! Intel SDM vol. 3A, "4-Level Paging and 5-Level Paging"; AMD APM vol. 2, "Long-Mode Page Translation".
-ghost use Rattle.std.specs.Prelude.{◌≡◌, ℕ, ◌%◌, ◌<◌};
+ghost use Rattle.std.specs.Prelude.{◌≡◌, ℕ, ◌+◌, ◌-◌, ◌*◌, ◌%◌, ◌^◌, ◌<◌, ◌↔◌, IsSome, IfSome};
+ghost use Rattle.x86_64_addr.specs.Levels.{level_number};
 ghost use Rattle.x86_64_model.specs.Successor.{forward, backward, steps_between};
 
 use std::marker::Model;
@@ -194,4 +195,63 @@ pub enum PageTableLevel {
     Three,
     /// The level of the root (PML4).
     Four,
+}
+
+impl PageTableLevel {
+    /// Gives the level below: that of the tables which the entries of this level name.
+    ///
+    /// Answers `None` exactly for level one, whose entries name no tables.
+    ///
+    /// Intel SDM vol. 3A, "Hierarchical Paging Structures: an Overview".
+    pub fn next_lower_level(self) -> Option<PageTableLevel>
+        ensures above_one { IsSome result ↔ (1 < level_number self) }
+        ensures number { IfSome result (λ lower. level_number lower + 1 ≡ level_number self) }
+    {
+        match self {
+            PageTableLevel::One => None,
+            PageTableLevel::Two => Some(PageTableLevel::One),
+            PageTableLevel::Three => Some(PageTableLevel::Two),
+            PageTableLevel::Four => Some(PageTableLevel::Three),
+        }
+    }
+
+    /// Gives the level above: that of the entries which name the tables of this level.
+    ///
+    /// Answers `None` exactly for level four, which is that of the root.
+    ///
+    /// Intel SDM vol. 3A, "Hierarchical Paging Structures: an Overview".
+    pub fn next_higher_level(self) -> Option<PageTableLevel>
+        ensures below_four { IsSome result ↔ (level_number self < 4) }
+        ensures number { IfSome result (λ higher. level_number higher ≡ level_number self + 1) }
+    {
+        match self {
+            PageTableLevel::One => Some(PageTableLevel::Two),
+            PageTableLevel::Two => Some(PageTableLevel::Three),
+            PageTableLevel::Three => Some(PageTableLevel::Four),
+            PageTableLevel::Four => None,
+        }
+    }
+
+    /// Gives the alignment of the addresses that a table of this level describes, which is also how many bytes it describes.
+    ///
+    /// Intel SDM vol. 3A, "Hierarchical Paging Structures: an Overview".
+    pub fn table_address_space_alignment(self) -> u64
+        ensures { result ≡ 2 ^ (12 + 9 * level_number self) }
+    {
+        match self {
+            PageTableLevel::One => 1 << 21,
+            PageTableLevel::Two => 1 << 30,
+            PageTableLevel::Three => 1 << 39,
+            PageTableLevel::Four => 1 << 48,
+        }
+    }
+
+    /// Gives the alignment of the addresses that an entry of this level describes, which is also how many bytes it describes.
+    ///
+    /// Intel SDM vol. 3A, "Hierarchical Paging Structures: an Overview".
+    pub fn entry_address_space_alignment(self) -> u64
+        ensures { result ≡ 2 ^ (12 + 9 * (level_number self - 1)) }
+    {
+        self.table_address_space_alignment() / 512
+    }
 }

@@ -6,6 +6,8 @@ use crate::addr::{PhysAddr, PhysAddrNotValid, VirtAddr, VirtAddrNotValid};
 use crate::index::{PageOffset, PageTableIndex, PageTableLevel};
 
 mod align;
+mod derives;
+mod levels;
 mod operators;
 mod steps;
 
@@ -118,6 +120,7 @@ fn addresses_have_indices(rt: HostRuntime) {
 
 #[test]
 fn indices_and_offsets_are_numbers(rt: HostRuntime) {
+    assert_eq!(rt; PageTableIndex::new_truncate(513), PageTableIndex::new(1));
     let index = PageTableIndex::new_truncate(512 + 510);
     assert_eq!(rt; index, PageTableIndex::new(510));
     assert_eq!(rt; u32::from(index), 510);

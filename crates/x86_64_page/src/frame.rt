@@ -1,7 +1,7 @@
 //! Frames: aligned blocks of physical memory of the size of a page.
 ghost use Rattle.std.specs.Prelude.{◌≡◌, ℕ, ◌-◌, ◌%◌, ◌^◌, ◌<◌, ◌↔◌, IsOk, IfOk};
 
-use crate::page::{AddressNotAligned, PageSize};
+use crate::page::{AddressNotAligned, PageSize, write_block};
 use std::fmt::{Debug, Formatter, Result as FmtResult, Write};
 use std::marker::{Model, PhantomData};
 use x86_64_addr::addr::PhysAddr;
@@ -94,8 +94,7 @@ impl<S: PageSize> PhysFrame<S> {
 
 impl<S: PageSize> Debug for PhysFrame<S> {
     fn fmt<W: Write>(&self, f: &mut Formatter<W>) -> FmtResult {
-        let size = S::DEBUG_STR;
         let start = self.start_address.as_u64();
-        write!(f, "PhysFrame[{size}]({start:#x})")
+        write_block::<S, W>(f, "PhysFrame", start)
     }
 }

@@ -269,8 +269,17 @@ impl Page<Size4KiB> {
 
 impl<S: PageSize> Debug for Page<S> {
     fn fmt<W: Write>(&self, f: &mut Formatter<W>) -> FmtResult {
-        let size = S::DEBUG_STR;
         let start = self.start_address.as_u64();
-        write!(f, "Page[{size}]({start:#x})")
+        write_block::<S, W>(f, "Page", start)
     }
+}
+
+/// Writes what a page or a frame is, its size and its start, as in `Page[4KiB](0x1000)`.
+pub(crate) fn write_block<S: PageSize, W: Write>(
+    f: &mut Formatter<W>,
+    name: &str,
+    start: u64,
+) -> FmtResult {
+    let size = S::DEBUG_STR;
+    write!(f, "{name}[{size}]({start:#x})")
 }

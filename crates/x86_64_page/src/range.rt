@@ -176,9 +176,19 @@ impl<B: Block> DoubleEndedIterator for BlockRange<B> {
 
 impl<B: Block + Debug> Debug for BlockRange<B> {
     fn fmt<W: Write>(&self, f: &mut Formatter<W>) -> FmtResult {
-        f.debug_struct(B::RANGE)
-            .field("start", &self.start)
-            .field("end", &self.end)
-            .finish()
+        write_range(f, B::RANGE, &self.start, &self.end)
     }
+}
+
+/// Writes the name of a range and its ends.
+fn write_range<B: Block + Debug, W: Write>(
+    f: &mut Formatter<W>,
+    name: &str,
+    start: &B,
+    end: &B,
+) -> FmtResult {
+    f.debug_struct(name)
+        .field("start", start)
+        .field("end", end)
+        .finish()
 }

@@ -7,7 +7,7 @@ ghost use Rattle.std.specs.Iterator.{YieldsFirstBy, YieldsLastBy, item_count, Up
 ghost use Rattle.std.specs.Iterator.SizeHint.{IsWithinCount};
 ghost use Rattle.x86_64_page.specs.Blocks.{blocks_inclusive, Ends, front_taken_inclusive, back_taken_inclusive};
 
-use crate::range::Block;
+use crate::range::{Block, write_range};
 use std::fmt::{Debug, Formatter, Result as FmtResult, Write};
 
 /// The blocks from `start` to `end`, which is among them. It is empty where `start` lies after `end`.
@@ -151,9 +151,6 @@ impl<B: Block> DoubleEndedIterator for BlockRangeInclusive<B> {
 
 impl<B: Block + Debug> Debug for BlockRangeInclusive<B> {
     fn fmt<W: Write>(&self, f: &mut Formatter<W>) -> FmtResult {
-        f.debug_struct(B::RANGE_INCLUSIVE)
-            .field("start", &self.start)
-            .field("end", &self.end)
-            .finish()
+        write_range(f, B::RANGE_INCLUSIVE, &self.start, &self.end)
     }
 }

@@ -2,6 +2,8 @@
 use crate::frame::{PhysFrame, PhysFrameRange, PhysFrameRangeInclusive};
 use crate::laws::blocks_are_taken_in_turn;
 use crate::page::{Page, PageRange, PageRangeInclusive, PageSize, Size1GiB, Size2MiB, Size4KiB};
+use std::fmt::Debug;
+use std::hash::{DefaultHasher, Hash, Hasher};
 use std::process::Abort;
 use x86_64_addr::addr::{PhysAddr, VirtAddr};
 
@@ -228,4 +230,34 @@ fn ranges_have_texts(rt: HostRuntime) {
         "PhysFrameRange { start: PhysFrame[2MiB](0x0), end: PhysFrame[2MiB](0x200000) } \
          PhysFrameRangeInclusive { start: PhysFrame[2MiB](0x0), end: PhysFrame[2MiB](0x200000) }"
     );
+}
+
+fn hash_of<T: Hash>(value: &T) -> u64 {
+    let mut hasher = DefaultHasher::new();
+    value.hash(&mut hasher);
+    hasher.finish()
+}
+
+/// Compares a range with its copy and with another one.
+fn check_derives<T: Debug + Copy + Eq + Hash>(rt: &impl Abort, range: T, other: T) {
+    let copy = range;
+    assert_eq!(rt; copy, range);
+    assert_eq!(rt; hash_of(&copy), hash_of(&range), "of {range:?}");
+    assert!(rt; range != other, "{range:?} and {other:?}");
+}
+
+#[test]
+fn ranges_are_copied_and_hashed(rt: HostRuntime) {
+    let (start, end) = (page::<Size4KiB>(0), page(0x1000));
+    check_derives(&rt, Page::range(start, end), Page::range(end, start));
+    let other = Page::range_inclusive(start, start);
+    check_derives(&rt, Page::range_inclusive(start, end), other);
+    let (start, end) = (frame::<Size1GiB>(0), frame(0x4000_0000));
+    check_derives(
+        &rt,
+        PhysFrame::range(start, end),
+        PhysFrame::range(end, end),
+    );
+    let other = PhysFrame::range_inclusive(end, start);
+    check_derives(&rt, PhysFrame::range_inclusive(start, end), other);
 }

@@ -1,0 +1,34 @@
+//! What addresses, indices, offsets and levels have in common: they are copied, ordered and hashed.
+use crate::addr::{PhysAddr, VirtAddr};
+use crate::index::{PageOffset, PageTableIndex, PageTableLevel};
+use std::cmp::Ordering;
+use std::fmt::Debug;
+use std::hash::{DefaultHasher, Hash, Hasher};
+use std::process::Abort;
+
+fn hash_of<T: Hash>(value: &T) -> u64 {
+    let mut hasher = DefaultHasher::new();
+    value.hash(&mut hasher);
+    hasher.finish()
+}
+
+/// Compares a value with its copy and with a greater one.
+fn check_derives<T: Debug + Copy + Ord + Hash>(rt: &impl Abort, low: T, high: T) {
+    let copy = low;
+    assert_eq!(rt; copy, low);
+    assert_eq!(rt; hash_of(&copy), hash_of(&low), "of {low:?}");
+    assert_eq!(rt; low.cmp(&high), Ordering::Less, "{low:?} and {high:?}");
+    assert_eq!(rt; high.partial_cmp(&low), Some(Ordering::Greater));
+    assert!(rt; low != high);
+}
+
+#[test]
+fn values_are_ordered_and_hashed(rt: HostRuntime) {
+    let upper_half = VirtAddr::new(0xffff_8000_0000_0000);
+    check_derives(&rt, VirtAddr::new(0x7fff_ffff_ffff), upper_half);
+    check_derives(&rt, PhysAddr::zero(), PhysAddr::new(1));
+    check_derives(&rt, PageTableIndex::new(2), PageTableIndex::new(511));
+    check_derives(&rt, PageOffset::new(2), PageOffset::new(4095));
+    check_derives(&rt, PageTableLevel::One, PageTableLevel::Two);
+    check_derives(&rt, PageTableLevel::Three, PageTableLevel::Four);
+}
