@@ -2,6 +2,7 @@
 #![tactic(auto)]
 
 pub mod frame_alloc;
+pub mod laws;
 pub mod mapper;
 pub mod page_table;
 pub mod phys_memory;

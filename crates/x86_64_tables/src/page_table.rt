@@ -1,8 +1,12 @@
 //! Page tables and page table entries.
+mod entries;
 mod entry;
 mod flags;
 mod table;
+#[cfg(test)]
+mod tests;
 
+pub use entries::{Entries, EntriesMut};
 pub use entry::{FrameError, PageTableEntry};
 pub use flags::PageTableFlags;
 pub use table::PageTable;

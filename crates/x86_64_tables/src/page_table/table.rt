@@ -4,7 +4,7 @@ ghost use Rattle.std.specs.Borrow.{sem};
 ghost use Rattle.x86_64_tables.specs.PageTable.{zero_words};
 ghost use Rattle.x86_64_tables.specs.Lending.{LendsWord};
 
-use super::PageTableEntry;
+use super::{Entries, EntriesMut, PageTableEntry};
 use std::marker::Model;
 use std::ops::{Index, IndexMut};
 use std::{array, fmt};
@@ -48,6 +48,23 @@ impl PageTable {
         for entry in entries.iter_mut() {
             entry.set_unused();
         }
+    }
+
+    /// Gives the entries in order of index, each once.
+    pub fn iter(&self) -> Entries<'_>
+        ensures words { result ≡ self.now }
+        ensures size { length self.now ≡ 512 }
+    {
+        Entries::new(&self.entries)
+    }
+
+    /// Lends the entries to be changed, in order of index, each once.
+    pub fn iter_mut(&mut self) -> EntriesMut<'_>
+        ensures words { result ≡ self.old }
+        ensures size { length self.old ≡ 512 }
+    {
+        let entries = &mut self.entries;
+        EntriesMut::new(&mut entries[..])
     }
 
     /// Tells whether all entries are unused.
