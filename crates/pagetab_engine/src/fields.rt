@@ -114,6 +114,7 @@ impl Fields {
     /// Reads a line. Answers `None` exactly where it has no name, a field that is no number, or more numbers than any statement.
     pub fn parse(line: &str) -> Option<Fields>
         ensures says { IfSome result (λ fields. Says line.now fields.name fields.size (take fields.count fields.numbers)) }
+        ensures only { IfSome result (λ fields. (name : Name) (size : Option Size) (numbers : List ℕ) → Says line.now name size numbers → (name ≡ fields.name) × (size ≡ fields.size) × (numbers ≡ take fields.count fields.numbers)) }
         ensures none { IfNone result ((name : Name) (size : Option Size) (numbers : List ℕ) → length numbers ≤ 4 → ¬ (Says line.now name size numbers)) }
     {
         let mut rest = Rest { text: line };
