@@ -10,11 +10,15 @@ ghost use Rattle.x86_64_model.specs.Translation.{translate as translated, addres
 ghost use Rattle.x86_64_tables.specs.PageTableFlags.{bits_of};
 
 mod flush;
+mod recorder;
+#[cfg(test)]
+mod tests;
 
 use crate::frame_alloc::FrameAllocator;
 use crate::page_table::PageTableFlags;
 use bitflags::Flags;
 pub use flush::{MapperFlush, MapperFlushAll};
+pub use recorder::{FlushItem, FlushRecorder};
 use x86_64_addr::addr::{PhysAddr, VirtAddr};
 use x86_64_addr::index::PageTableIndex;
 use x86_64_page::frame::PhysFrame;

@@ -1,14 +1,15 @@
 //! Tokens for changes that the TLB may not have seen yet.
 //!
 //! Intel SDM vol. 3A, "Invalidation of TLBs and Paging-Structure Caches".
-ghost use Rattle.std.specs.Prelude.{◌≡◌};
+ghost use Rattle.std.specs.Prelude.{◌≡◌, ◌-◌, ◌<◌, [], ◌∷◌, ◌++◌, IsOk, IfErr, OnOk, OnErr};
 
+use super::recorder::{FlushItem, FlushRecorder};
 use std::marker::Model;
 use x86_64_page::page::{Page, PageSize};
 
 /// Stands for a change to the mapping of a page, which the TLB may not have seen yet.
 ///
-/// It must be spent, by [`ignore`](Self::ignore): letting it go is a compile error.
+/// It must be spent, by [`flush`](Self::flush) or [`ignore`](Self::ignore): letting it go is a compile error.
 #[must_use]
 #[derive(Debug)]
 pub struct MapperFlush<S: PageSize> {
@@ -38,6 +39,31 @@ impl<S: PageSize> MapperFlush<S> {
         self.page
     }
 
+    /// Spends the token, and records that the mapping of its page is flushed: the page's start address and size.
+    ///
+    /// Where the recorder has room it takes no memory, succeeds, and lowers the room by one.
+    ///
+    /// # Errors
+    ///
+    /// The token itself where memory is refused. Then the recorder stays as it is.
+    pub fn flush(self, recorder: &mut FlushRecorder) -> Result<(), Self>
+        ensures items { OnOk result (recorder.new.items ≡ recorder.old.items ++ FlushItem.Page self S.SIZE ∷ []) }
+        ensures room { OnOk result (recorder.new.room ≡ recorder.old.room - 1) }
+        ensures succeeds { 0 < recorder.old.room → IsOk result }
+        ensures token { IfErr result (λ token. token ≡ self) }
+        ensures unchanged { OnErr result (recorder.new ≡ recorder.old) }
+    {
+        let item = FlushItem::Page {
+            start: self.page.start_address(),
+            size: S::SIZE,
+        };
+        if recorder.record(item).is_err() {
+            return Err(self);
+        }
+        self.ignore();
+        Ok(())
+    }
+
     /// Spends the token without a flush.
     pub fn ignore(self) {
         let MapperFlush { page: _ } = self;
@@ -46,7 +72,7 @@ impl<S: PageSize> MapperFlush<S> {
 
 /// Stands for a change to a table entry, after which the TLB may hold any mapping that is no longer so.
 ///
-/// It must be spent, by [`ignore`](Self::ignore): letting it go is a compile error.
+/// It must be spent, by [`flush_all`](Self::flush_all) or [`ignore`](Self::ignore): letting it go is a compile error.
 #[must_use]
 #[derive(Debug)]
 pub struct MapperFlushAll(());
@@ -55,6 +81,27 @@ impl MapperFlushAll {
     /// Makes a token.
     pub fn new() -> Self {
         MapperFlushAll(())
+    }
+
+    /// Spends the token, and records that all mappings are flushed.
+    ///
+    /// Where the recorder has room it takes no memory, succeeds, and lowers the room by one.
+    ///
+    /// # Errors
+    ///
+    /// The token itself where memory is refused. Then the recorder stays as it is.
+    pub fn flush_all(self, recorder: &mut FlushRecorder) -> Result<(), Self>
+        ensures items { OnOk result (recorder.new.items ≡ recorder.old.items ++ FlushItem.All ∷ []) }
+        ensures room { OnOk result (recorder.new.room ≡ recorder.old.room - 1) }
+        ensures succeeds { 0 < recorder.old.room → IsOk result }
+        ensures token { IfErr result (λ token. token ≡ self) }
+        ensures unchanged { OnErr result (recorder.new ≡ recorder.old) }
+    {
+        if recorder.record(FlushItem::All).is_err() {
+            return Err(self);
+        }
+        self.ignore();
+        Ok(())
     }
 
     /// Spends the token without a flush.
