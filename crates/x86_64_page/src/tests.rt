@@ -310,11 +310,8 @@ fn frames_have_numbers(rt: HostRuntime) {
         PhysFrame::<Size1GiB>::try_from_pfn(u64::MAX),
         Err(PfnNotValid(u64::MAX))
     );
-    let text = format!(in rt.alloc(); "{past} {past:?}").expect(&rt, "memory");
-    assert_eq!(rt;
-        text.as_str(),
-        "PfnNotValid(0x10000000000) PfnNotValid(0x10000000000)"
-    );
+    let text = format!(in rt.alloc(); "{past}").expect(&rt, "memory");
+    assert_eq!(rt; text.as_str(), "PfnNotValid(0x10000000000)");
 }
 
 /// Tells whether equal pages and frames of a size hash alike, and calls the laws of the size.

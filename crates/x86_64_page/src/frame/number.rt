@@ -3,7 +3,7 @@ ghost use Rattle.std.specs.Prelude.{◌≡◌, ◌*◌, ◌/◌, ◌^◌, ◌<�
 
 use crate::frame::PhysFrame;
 use crate::page::PageSize;
-use std::fmt::{Debug, Display, Formatter, Result as FmtResult, Write};
+use std::fmt::{Display, Formatter, Result as FmtResult, Write};
 use x86_64_addr::addr::PhysAddr;
 
 /// The greatest physical address.
@@ -12,19 +12,13 @@ const LAST_ADDRESS: u64 = 0x000f_ffff_ffff_ffff;
 /// A number was not that of a frame: its start would not be below 2^52.
 ///
 /// Contains the number.
-#[derive(Clone, Copy, PartialEq, Eq)]
+#[derive(Debug, Clone, Copy, PartialEq, Eq)]
 pub struct PfnNotValid(pub u64);
-
-impl Debug for PfnNotValid {
-    fn fmt<W: Write>(&self, f: &mut Formatter<W>) -> FmtResult {
-        let PfnNotValid(number) = self;
-        write!(f, "PfnNotValid({number:#x})")
-    }
-}
 
 impl Display for PfnNotValid {
     fn fmt<W: Write>(&self, f: &mut Formatter<W>) -> FmtResult {
-        write!(f, "{self:?}")
+        let PfnNotValid(number) = self;
+        write!(f, "PfnNotValid({number:#x})")
     }
 }
 
