@@ -7,3 +7,5 @@ mod hoard;
 mod library;
 #[cfg(test)]
 mod program;
+#[cfg(test)]
+mod tokens;

@@ -3,6 +3,7 @@ mod flags;
 mod maps;
 mod pools;
 mod single;
+mod tokens;
 
 use crate::images::{
     ROOT, WORD_COUNT, fill, flags_of, frame_at, page_at, pool_of, run_on, word_at,
