@@ -15,6 +15,7 @@ pub use runs::run;
 pub use x86_64_addr::addr;
 pub use x86_64_addr::addr::{PhysAddr, VirtAddr};
 pub use x86_64_tables::frame_alloc::{FrameKeeper, FramePool, FrameStore, PoolRefusal};
+pub use x86_64_tables::mapper::{FlushItem, FlushRecorder};
 pub use x86_64_tables::phys_memory::{
     FramePlace, IdentityMapping, PhysMemory, Walked, is_valid_hierarchy, page_walk, pool_fits,
 };
