@@ -1,5 +1,7 @@
--- What was read of a line.
-use Rattle.std.specs.Prelude.{◌≤◌, ⊤}
+-- What was read of a line, and why none could be.
+use Rattle.std.specs.Prelude.{◌≡◌, ◌≤◌, ℕ, ⊤}
+use Rattle.pagetab_engine.specs.declared.ending.Fault.{Fault}
+use Rattle.pagetab_engine.specs.declared.ending.Fault.TheVariants.{BadLine, InputOutput}
 use Rattle.pagetab_engine.specs.declared.lines.Line.{Line}
 use Rattle.pagetab_engine.specs.declared.lines.Line.TheVariants.{Text, TooLong, End}
 
@@ -8,3 +10,9 @@ abbrev pub FitsLine : Line → Type 0
 FitsLine (Text length) = length ≤ 256
 FitsLine TooLong = ⊤
 FitsLine End = ⊤
+
+-- the line of this number is bad, or a read failed
+abbrev pub IsReadFault : (number : ℕ) → Fault → Type 0
+IsReadFault number (BadLine line) = line ≡ number
+IsReadFault number InputOutput = ⊤
+IsReadFault number fault = ⊥

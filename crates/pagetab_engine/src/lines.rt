@@ -1,6 +1,8 @@
 //! The lines of the input.
-ghost use Rattle.std.specs.Prelude.{◌≤◌, IfOk};
-ghost use Rattle.pagetab_engine.specs.Line.{FitsLine};
+ghost use Rattle.std.specs.Prelude.{◌≡◌, ◌≤◌, IfOk, IfErr, IfSome};
+ghost use Rattle.pagetab_engine.specs.Line.{FitsLine, IsReadFault};
+ghost use Rattle.pagetab_engine.specs.Statements.{IsStatement, statement_name, statement_size, statement_numbers};
+ghost use Rattle.pagetab_engine.specs.declared.ending.Fault.TheVariants.{BadLine};
 
 use crate::ending::Fault;
 use crate::statement::Statement;
@@ -36,7 +38,9 @@ enum Line {
 
 impl<'a, R: Read> Lines<'a, R> {
     /// Begins at the first line.
-    pub fn new(reader: &'a mut R) -> Self {
+    pub fn new(reader: &'a mut R) -> Self
+        ensures { result.number ≡ 0 }
+    {
         Lines {
             reader,
             buffer: [0; BUFFER],
@@ -53,7 +57,10 @@ impl<R: Read> Lines<'_, R> {
     /// # Errors
     ///
     /// `Fault::BadLine` where the line can't be read, and `Fault::InputOutput` where the reader fails.
-    pub fn next_statement(&mut self, places: u64) -> Result<Option<Statement>, Fault> {
+    pub fn next_statement(&mut self, places: u64) -> Result<Option<Statement>, Fault>
+        ensures accepted { IfOk result (λ next. IfSome next (λ statement. IsStatement places (statement_name statement) (statement_size statement) (statement_numbers statement))) }
+        ensures fault { IfErr result (IsReadFault self.new.number) }
+    {
         let mut line = [0; LONGEST];
         for _ in 0..u64::MAX {
             self.number = self.number.saturating_add(1);
@@ -74,7 +81,9 @@ impl<R: Read> Lines<'_, R> {
     }
 
     /// Gives the fault that the line that was read last is bad.
-    pub fn fault(&self) -> Fault {
+    pub fn fault(&self) -> Fault
+        ensures { result ≡ BadLine self.now.number }
+    {
         Fault::BadLine(self.number)
     }
 
