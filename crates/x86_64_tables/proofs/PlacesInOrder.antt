@@ -1,14 +1,14 @@
 -- The places of a memory, in their order.
 use Rattle.std.proofs.Common.{◌≡◌, ◌<◌, ◌≤◌, ◌+◌, ◌==◌, ◌&&◌, nat_lt, ℕ, zero, suc, Bool, true, false, cond, List, [], ◌∷◌, length, get_or, map, Some, None, Less, Equal, Greater, refl, sym, ap, ap₂, ◌∙◌, arith, lt-ltb, le-ltb}
 use Rattle.std.proofs.lemmas.List.FromFn.{length-range_with_len, get_or-range_with_len}
-use Rattle.std.proofs.lemmas.List.{length-map}
 use Rattle.std.proofs.lemmas.List.Sums.{position_or_len_is}
+use Rattle.std.proofs.lemmas.Option.{slice_get-get_or, slice_get_past}
 use Rattle.std.specs.Prelude.{T}
 use Rattle.std.specs.List.{position, position_or_len, range_with_len, slice_get}
 use Rattle.std.specs.Ordering.{nat_cmp, eq_by_cmp, is_lt}
 use Rattle.std.specs.Cmp.{nat_cmp_total}
 use Rattle.std.specs.FinMap.Entries.{below_all}
-use Rattle.std.specs.FinMap.{get, keys, len, entries, len-entries, find, is_sorted, from_sorted, entries-from_sorted, get-from_sorted, same_map, nat_cmp-IsAntisymmetric}
+use Rattle.std.specs.FinMap.{get, keys, find, is_sorted, from_sorted, entries-from_sorted, get-from_sorted, same_map, nat_cmp-IsAntisymmetric}
 use Rattle.x86_64_model.specs.Memory.{Memory}
 use Rattle.x86_64_model.specs.Lemmas.Hierarchies.Memories.{same_key, other_key}
 use Rattle.x86_64_tables.specs.PhysMemory.{tables_from}
@@ -99,5 +99,14 @@ module _ (ts : List (List ℕ)) where
       ∙ ap₂ (λ p n. cond (nat_lt p n) (Some p) None) (past q l) (length-range_with_len 0 (length ts))
       ∙ ap (λ b. cond b (Some (length ts)) None) (le-ltb (length ts) (length ts) (omega arith)))
 
-pub length_keys : (memory : Memory) → length (keys memory) ≡ len memory
-length_keys memory = length-map (entries memory) (λ e. e.0) ∙ sym (len-entries memory)
+  pub place_there : (q : ℕ) → q < length ts → Some q ≡ slice_get (keys (tables_from 0 ts)) q
+  place_there q l =
+      let n = length-range_with_len 0 (length ts) in
+      let s : 0 + q ≡ q = omega arith in
+      sym (ap (λ ks. slice_get ks q) keys-tables ∙ slice_get-get_or (range_with_len 0 (length ts)) q 0 (omega (arith, n, l))
+      ∙ ap Some (get_or-range_with_len 0 (length ts) q 0 l ∙ s))
+
+  pub place_gone : (q : ℕ) → length ts ≤ q → None ≡ slice_get (keys (tables_from 0 ts)) q
+  place_gone q l =
+      let n = length-range_with_len 0 (length ts) in
+      sym (ap (λ ks. slice_get ks q) keys-tables ∙ slice_get_past (range_with_len 0 (length ts)) q (omega (arith, n, l)))

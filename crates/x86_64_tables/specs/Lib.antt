@@ -8,6 +8,7 @@ pub mod Images
 pub mod Translations
 pub mod MapperAnswers
 pub mod FramePool
+pub mod Shifted
 pub mod FlushRecorder
 pub use Rattle.x86_64_model.specs.Entry
 pub use Rattle.x86_64_model.specs.Memory

@@ -1,9 +1,33 @@
 -- A memory as a map from places to tables.
-use Rattle.std.specs.Prelude.{ℕ, ◌+◌, List, [], ◌∷◌}
-use Rattle.std.specs.FinMap.{empty, insert}
+use Rattle.std.specs.Prelude.{◌≡◌, ℕ, ◌+◌, List, [], ◌∷◌, Some, IsSome, length}
+use Rattle.std.specs.Cmp.{Equal-is}
+use Rattle.std.specs.FinMap.{empty, insert, get, keys, len, entries, len-entries, contains_key-keys, nat_cmp-IsAntisymmetric}
+use Rattle.std.specs.List.{All, slice_get}
+use Rattle.std.specs.Ordering.{nat_cmp, eq_by_cmp}
+use Rattle.std.proofs.Common.{sym, ap, ◌∙◌, subst}
+use Rattle.std.proofs.lemmas.List.{length-map}
+use Rattle.std.proofs.lemmas.List.Folds.{Any-from_list_any, list_any_at}
+use Rattle.std.proofs.lemmas.Option.{slice_get_within, get_or_from_slice_get}
+use Rattle.x86_64_model.specs.Lemmas.Hierarchies.Memories.{same_key}
 use Rattle.x86_64_model.specs.Memory.{Memory}
 
 -- the tables at the places from one on
 abbrev pub tables_from : (place : ℕ) → List (List ℕ) → Memory
 tables_from place [] = empty
 tables_from place (table ∷ tables) = insert (tables_from (place + 1) tables) place table
+
+pub length_keys : (memory : Memory) → length (keys memory) ≡ len memory
+length_keys memory = length-map (entries memory) (λ e. e.0) ∙ sym (len-entries memory)
+
+-- the n-th place is there
+pub nth_place_there : (memory : Memory) (n place : ℕ) → slice_get (keys memory) n ≡ Some place → IsSome (get memory place)
+nth_place_there memory n place is =
+    contains_key-keys memory place ∙ list_any_at (eq_by_cmp nat_cmp place) (keys memory) n 0 (slice_get_within (keys memory) n place is)
+    (ap (eq_by_cmp nat_cmp place) (get_or_from_slice_get (keys memory) n place 0 is) ∙ same_key place)
+
+-- what holds of all places in their order holds of each place that is there
+pub all_places_there : (P : ℕ → Type 0) (memory : Memory) → All P (keys memory) → (place : ℕ) → IsSome (get memory place) → P place
+all_places_there P memory all place there =
+    let found = Any-from_list_any (eq_by_cmp nat_cmp place) (keys memory) (sym (contains_key-keys memory place) ∙ there) in
+    let same : place ≡ found.1 = nat_cmp-IsAntisymmetric place found.1 ((Equal-is _).0 found.4) in
+    subst P (found.3 ∙ sym same) (all found.0 found.1 found.2)

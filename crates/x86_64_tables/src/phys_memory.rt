@@ -3,18 +3,20 @@ ghost use Rattle.std.specs.Prelude.{◌≡◌, ◌==◌, ◌/◌, ℕ, true, IfO
 ghost use Rattle.std.specs.Option.{option_copied, option_copied_mut};
 ghost use Rattle.std.specs.Borrow.{sem};
 ghost use Rattle.std.specs.FinMap as map;
-ghost use Rattle.std.specs.List.{position};
+ghost use Rattle.std.specs.List.{position, slice_get};
 ghost use Rattle.std.specs.Ordering.{nat_cmp, eq_by_cmp};
 ghost use Rattle.x86_64_model.specs.Memory.{Places, IsMapping, identity_places};
 ghost use Rattle.x86_64_tables.specs.PageTable.{zero_words};
 ghost use Rattle.x86_64_tables.specs.Lending.{LendsTable};
 
+mod shift_mapping;
 #[cfg(test)]
 mod tests;
 mod validity;
 mod walk;
 
 use crate::page_table::PageTable;
+pub use shift_mapping::ShiftMapping;
 use std::alloc::{AllocError, Global};
 use std::marker::Model;
 pub use validity::{is_valid_hierarchy, pool_fits};
@@ -96,6 +98,18 @@ impl PhysMemory {
         self.tables.len()
     }
 
+    /// Gives the `n`-th place in the order of their numbers, counted from 0, or `None` where the memory has no more than `n`.
+    pub fn place_at(&self, n: usize) -> Option<FramePlace>
+        ensures { result ≡ slice_get (map.keys self.now) n }
+    {
+        let tables = &self.tables;
+        if n < tables.len() {
+            Some(FramePlace::new(n as u64))
+        } else {
+            None
+        }
+    }
+
     /// Gives the table at a place, or `None` where the memory lacks the place.
     pub fn table(&self, place: FramePlace) -> Option<&PageTable>
         ensures { option_copied result ≡ map.get self.now place }
@@ -143,6 +157,20 @@ pub trait PageTableFrameMapping {
         ensures { result ≡ (places self.now).covers frame };
 
     ghost is_mapping: { (mapping : Self) → IsMapping (places mapping) };
+}
+
+impl<P: PageTableFrameMapping> PageTableFrameMapping for &P {
+    ghost places = { λ mapping. P.places mapping.now };
+
+    fn frame_to_pointer(&self, frame: PhysFrame<Size4KiB>) -> FramePlace {
+        (**self).frame_to_pointer(frame)
+    }
+
+    fn covers(&self, frame: PhysFrame<Size4KiB>) -> bool {
+        (**self).covers(frame)
+    }
+
+    ghost is_mapping = { λ mapping. P.is_mapping mapping.now };
 }
 
 /// Maps each 4KiB frame to the place of its number. All frames are covered.

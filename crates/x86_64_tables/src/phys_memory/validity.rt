@@ -92,7 +92,7 @@ struct Image<'a, P> {
 impl<'a, P: PageTableFrameMapping> Image<'a, P> {
     /// Tells whether each table, through so many levels below the root, and each frame of the pool, where there is one,
     /// is met once, in the memory and at a number that tables may have, and no word above level three has `HUGE_PAGE`.
-    #[tactic(auto, using(crate::proofs::PlacesInOrder::length_keys))]
+    #[tactic(auto, using(crate::specs::PhysMemory::length_keys))]
     fn is_sound(
         &self,
         alloc: Global,

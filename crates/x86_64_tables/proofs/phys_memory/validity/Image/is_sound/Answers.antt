@@ -1,6 +1,6 @@
 use Rattle.std.proofs.Common.{◌∙◌, sym}
 use Rattle.x86_64_model.specs.Lemmas.Tables.Checked.{all_clear}
-use Rattle.x86_64_tables.proofs.PlacesInOrder.{length_keys}
+use Rattle.x86_64_tables.specs.PhysMemory.{length_keys}
 use Rattle.x86_64_tables.proofs.phys_memory.validity.Image.is_sound.Goals as goal
 
 pub is_sound_by-requires-clause-clear : goal.is_sound_by-requires-clause-clear
