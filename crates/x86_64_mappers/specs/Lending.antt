@@ -11,7 +11,10 @@ use Rattle.x86_64_tables.specs.contracts.page_table.table.PageTable.{the_row as 
 use Rattle.x86_64_tables.specs.declared.phys_memory.PageTableFrameMapping.{Ghosts}
 use Rattle.x86_64_mappers.specs.Layouts.{direct, HasRoot}
 use Rattle.x86_64_mappers.specs.declared.mapped_page_table.MappedPageTable.{MappedPageTable}
+use Rattle.x86_64_mappers.specs.declared.offset_page_table.OffsetPageTable.{OffsetPageTable}
 use Rattle.x86_64_mappers.specs.contracts.mapped_page_table.MappedPageTable.{the_row as mapper_row}
+use Rattle.x86_64_mappers.specs.contracts.offset_page_table.OffsetPageTable.{the_row as offset_mapper_row}
+use Rattle.x86_64_mappers.specs.Offsets.{offset_places}
 
 -- the root stays in the memory
 pub root_stays : (places : Places) (root : ℕ) (memory : Memory) (table : List ℕ) → HasRoot (direct places root) memory
@@ -32,4 +35,12 @@ LendsRootTable P G s r = Lends (mapper_row (record { mir = named 1; lft = [] }) 
     (λ table. record s.now {
       memory = record s.now.memory { now = insert s.now.memory.now ((G.places s.now.walker.mapping).place s.now.root) table };
       has_root = root_stays (G.places s.now.walker.mapping) s.now.root s.now.memory.now table s.now.has_root;
+    })
+
+-- the same of a mapper at an offset
+abbrev pub LendsOffsetRootTable : MutBor OffsetPageTable → MutBor (List ℕ) → Fml
+LendsOffsetRootTable s r = Lends (offset_mapper_row (record { mir = named 1; lft = [] })) table_row s r
+    (λ table. record s.now {
+      memory = record s.now.memory { now = insert s.now.memory.now ((offset_places s.now.walker.mapping.offset).place s.now.root) table };
+      has_root = root_stays (offset_places s.now.walker.mapping.offset) s.now.root s.now.memory.now table s.now.has_root;
     })

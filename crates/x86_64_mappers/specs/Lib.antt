@@ -11,6 +11,7 @@ pub mod MapConditions
 pub mod MapSteps
 pub mod Marked
 pub mod NewTables
+pub mod Offsets
 pub mod Outside
 pub mod PageCalls
 pub mod PageMaps

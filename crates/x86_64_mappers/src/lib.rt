@@ -1,7 +1,9 @@
 //! Mappers: they read and change the page tables of a physical memory that was lent to them.
 #![tactic(auto)]
 
+pub mod laws;
 pub mod mapped_page_table;
+pub mod offset_page_table;
 mod path;
 #[cfg(test)]
 mod tests;

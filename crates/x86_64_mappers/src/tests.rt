@@ -8,6 +8,7 @@ ghost use Rattle.x86_64_mappers.specs.Layouts.{direct};
 
 mod flags;
 mod map;
+mod offset;
 mod unmap;
 
 use crate::mapped_page_table::MappedPageTable;

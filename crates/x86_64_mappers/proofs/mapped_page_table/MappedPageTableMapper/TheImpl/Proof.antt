@@ -1,6 +1,6 @@
 -- The block meets its trait, since its clauses are the trait's. Rattle makes this proof for other blocks; here it does not see which
 -- impl meets the bound of a page that is passed by value. A name's number is the method's place in the trait.
-use Rattle.x86_64_mappers.proofs.PageMethods.{meets_trait}
+use Rattle.x86_64_mappers.proofs.PageMethods.{mapped_outlives, meets_trait, page_outlives}
 use Rattle.x86_64_mappers.proofs.mapped_page_table.MappedPageTable.TheLaws.{the_holds}
 use Rattle.x86_64_mappers.proofs.mapped_page_table.MappedPageTableMapper.TheImpl.Statement.{statement}
 use Rattle.x86_64_mappers.proofs.mapped_page_table.MappedPageTableMapper.map_allowed.Met as met_map_allowed
@@ -39,18 +39,12 @@ use Rattle.x86_64_mappers.specs.contracts.mapped_page_table.MappedPageTableMappe
 use Rattle.x86_64_mappers.specs.contracts.mapped_page_table.MappedPageTablePageTables.TheImpl as tables
 use Rattle.x86_64_tables.specs.contracts.mapper.Mapper.map_to_with_table_flags as asked_map
 use Rattle.std.proofs.Common.{[], ◌∷◌, refl}
-use base.Logic.{SProp, id⊢, sep}
+use base.Logic.{sep}
 use contract.BorrowLft.{⊑_refl, ⊑_trans}
-use contract.Lifetimes.{Lfts}
 use contract.Monad.{fact}
 use contract.Running.{within}
 use denote.Param.{layouts, bounded, param}
 use denote.RattleType.{RattleType}
-use denote.Triple.Carry.{insides_in}
-use denote.Triple.Entry.{Args}
-use denote.Triple.Impl.{implements, Clauses'}
-use denote.Triple.Spec.{triple_of}
-use denote.Triple.Table.{run_framed, widened}
 use mir.Syntax.{method, Dict, a_type, dcons, dnil, erased}
 
 pub bound : statement
@@ -61,34 +55,31 @@ bound = λ γ wired_map wired_map_allowed wired_unmap wired_update_flags wired_s
     let tables_dict : Dict = tables.dict P places places-dict in
     let tables_ghosts = tables.ghosts P places places-dict in
     let holds = the_holds (record { mir = erased; lft = κ }) (param 0 P) places mapper.lives (⊑_refl mapper.lives) in
-    let page_method = meets_trait 𝓛 𝓜 𝓡 γ κ P.lives mapper.lives S.lives holds.0 holds.1.0 in
+    let page_method = meets_trait 𝓛 𝓜 𝓡 γ 3 4 page_outlives mapped_outlives (λ τs. (τs.0, (κ, τs.1))) ((0, tt), ((1, tt), ((1, tt), ((2, tt), tt))))
+    2 2 (λ τs. τs.1) (mapper.lives, (S.lives, tt)) (λ κs. κs.1.1) (P.lives, (S.lives, tt))
+    (λ τs h. let held = ⊑_trans τs.1.0 mapper.lives κ h.1.0 holds.0 in (
+      (⊑_refl τs.0, (held, (⊑_refl τs.1.0, (⊑_refl τs.1.1.0, tt)))),
+      (⊑_trans τs.0 τs.1.0 κ h.0.0 held, h.0),
+    ))
+    (λ τs h. (⊑_trans τs.1.0 mapper.lives P.lives h.1.0 holds.1.0, h.1.1)) in
     record {
       four_levels = Laws.four_levels-law P S places places-dict size size-dict clone clone-dict eq eq-dict partial_eq partial_eq-dict partial_ord partial_ord-dict ord ord-dict sealed sealed-dict
           (record { is_mapping = P-met.is_mapping }) (record { laws = eq-met.laws }) (record { laws = partial_eq-met.laws }) (record { laws = partial_ord-met.laws })
           (record { total = ord-met.total; matches_partial_cmp = ord-met.matches_partial_cmp; matches_eq = ord-met.matches_eq });
       map_to_with_table_flags = λ A A-laws frames frames-dict keeper keeper-dict frames-met keeper-met.
           let name = method dict 0 (bounded (a_type ∷ []) (A, tt) (dcons frames-dict (dcons keeper-dict dnil))) in
-          let at : Lfts 5 → Lfts 6 = λ τs. (τs.0, (κ, (τs.1.0, (τs.1.1.0, (τs.1.1.1.0, (τs.1.1.1.1.0, tt)))))) in
-          let signature = own_map.signature P S A places places-dict size size-dict clone clone-dict eq eq-dict partial_eq partial_eq-dict partial_ord partial_ord-dict ord ord-dict sealed sealed-dict frames frames-dict keeper keeper-dict in
           let own = own_map.spec P S A places places-dict size size-dict clone clone-dict eq eq-dict partial_eq partial_eq-dict partial_ord partial_ord-dict ord ord-dict sealed sealed-dict frames frames-dict keeper keeper-dict 𝓛 𝓜.mem 𝓡.returns in
-          let asked = asked_map.spec mapper S A ghosts dict tables_ghosts tables_dict size size-dict clone clone-dict eq eq-dict partial_eq partial_eq-dict partial_ord partial_ord-dict ord ord-dict sealed sealed-dict frames frames-dict keeper keeper-dict 𝓛 𝓜.mem 𝓡.returns in
+          let own_outlives = (own_map.signature P S A places places-dict size size-dict clone clone-dict eq eq-dict partial_eq partial_eq-dict partial_ord partial_ord-dict ord ord-dict sealed sealed-dict frames frames-dict keeper keeper-dict).outlives in
           let outlives = (asked_map.signature mapper S A ghosts dict tables_ghosts tables_dict size size-dict clone clone-dict eq eq-dict partial_eq partial_eq-dict partial_ord partial_ord-dict ord ord-dict sealed sealed-dict frames frames-dict keeper keeper-dict).outlives in
-          let clauses : Clauses' 𝓛 signature 5 outlives at = λ τs a. record { ghost = (asked τs a).ghost; requires = λ y. (asked τs a).requires y; ensures = (asked τs a).ensures } in
-          let conditions : (τs : Lfts 5) → Args signature (at τs) → Unit {0} → SProp 𝓤 = λ τs a y.
-          sep 𝓤 (own_map.requires-ready P S A places places-dict size size-dict clone clone-dict eq eq-dict partial_eq partial_eq-dict partial_ord partial_ord-dict ord ord-dict sealed sealed-dict frames frames-dict keeper keeper-dict 𝓛 (at τs) 𝓜.mem 𝓡.returns a.0 a.1.0 a.1.1.0 a.1.1.1.0 a.1.1.1.1.0 a.1.1.1.1.1.0)
-          (own_map.requires-allowed P S A places places-dict size size-dict clone clone-dict eq eq-dict partial_eq partial_eq-dict partial_ord partial_ord-dict ord ord-dict sealed sealed-dict frames frames-dict keeper keeper-dict 𝓛 (at τs) 𝓜.mem 𝓡.returns a.0 a.1.0 a.1.1.0 a.1.1.1.0 a.1.1.1.1.0 a.1.1.1.1.1.0) in
-          implements 𝓛 signature 5 outlives at (𝓡.run (γ name)) (run_framed 𝓤 𝓛.H 𝓜 𝓡 (γ name)) own clauses
-          3 (λ τs. (τs.1.1.0, (τs.1.1.1.0, (τs.1.1.1.1.0, tt)))) (λ τs. (mapper.lives, (S.lives, (A.lives, tt)))) ((0, tt), ((2, tt), ((1, tt), ((2, tt), ((3, tt), ((4, tt), tt)))))) conditions
-          (λ τs a y. id⊢ 𝓤 ((clauses τs a).requires y))
+          meets_trait 𝓛 𝓜 𝓡 γ 5 6 outlives own_outlives (λ τs. (τs.0, (κ, τs.1))) ((0, tt), ((2, tt), ((1, tt), ((2, tt), ((3, tt), ((4, tt), tt))))))
+          3 3 (λ τs. τs.1.1) (mapper.lives, (S.lives, (A.lives, tt))) (λ κs. κs.1.1.1) (P.lives, (S.lives, (A.lives, tt)))
           (λ τs h. let held = ⊑_trans τs.1.1.0 mapper.lives κ h.1.0 holds.0 in (
             (⊑_refl τs.0, (held, (⊑_refl τs.1.0, (⊑_refl τs.1.1.0, (⊑_refl τs.1.1.1.0, (⊑_refl τs.1.1.1.1.0, tt)))))),
             (⊑_trans τs.0 τs.1.1.0 κ h.0.0 held, h.0),
           ))
-          (λ τs a y. y)
-          (λ τs h a y. insides_in 𝓤 3 (τs.1.1.0, (τs.1.1.1.0, (τs.1.1.1.1.0, tt))) (P.lives, (S.lives, (A.lives, tt))) (conditions τs a y) (⊑_trans τs.1.1.0 mapper.lives P.lives h.1.0 holds.1.0, h.1.1))
-          (λ τs a y r. id⊢ 𝓤 ((own (at τs) a).ensures y r))
-          (widened 𝓤 𝓛.H (triple_of 𝓛 signature own) 𝓜 𝓡 γ _ (γ name) (map_symbol.as_method γ wired_map name refl)
-          (met_map.met 𝓤 𝓛 𝓜 (within 𝓤 𝓛.H 𝓜 𝓡 γ) wired_map P S A P-laws S-laws A-laws S-copy places places-dict size size-dict clone clone-dict eq eq-dict partial_eq partial_eq-dict partial_ord partial_ord-dict ord ord-dict sealed sealed-dict frames frames-dict keeper keeper-dict P-met size-met clone-met eq-met partial_eq-met partial_ord-met ord-met sealed-met frames-met keeper-met));
+          (λ τs h. (⊑_trans τs.1.1.0 mapper.lives P.lives h.1.0 holds.1.0, h.1.1))
+          _ _ own (λ κs a g. sep 𝓤 (fact 𝓤 _) (fact 𝓤 _)) _ name (map_symbol.as_method γ wired_map name refl) (λ κs a g. refl)
+          (met_map.met 𝓤 𝓛 𝓜 (within 𝓤 𝓛.H 𝓜 𝓡 γ) wired_map P S A P-laws S-laws A-laws S-copy places places-dict size size-dict clone clone-dict eq eq-dict partial_eq partial_eq-dict partial_ord partial_ord-dict ord ord-dict sealed sealed-dict frames frames-dict keeper keeper-dict P-met size-met clone-met eq-met partial_eq-met partial_ord-met ord-met sealed-met frames-met keeper-met);
       map_allowed =
           let own = own_map_allowed.spec P S places places-dict size size-dict clone clone-dict eq eq-dict partial_eq partial_eq-dict partial_ord partial_ord-dict ord ord-dict sealed sealed-dict 𝓛 𝓜.mem 𝓡.returns in
           let name = method dict 1 (layouts [] tt) in

@@ -1,0 +1,14 @@
+use Rattle.std.proofs.Common.{◌≡◌, ◌&&◌, sym, ap, ◌∙◌, eq-eqb}
+use Rattle.x86_64_model.specs.Entry.{address}
+use Rattle.x86_64_model.specs.Lemmas.Entries.Words.{address-multiple}
+use Rattle.x86_64_mappers.specs.Offsets.{is_reached, reached_alike}
+use Rattle.x86_64_mappers.proofs.offset_page_table.phys_offset.PhysOffsetPageTableFrameMapping.covers.Goals as goal
+
+pub returns : goal.returns
+returns c =
+    let frame = c.args.frame in
+    let offset = c.args.self.now.offset in
+    let start = c.start_address.ensures in
+    let number : c.as_u64.result ≡ frame = c.as_u64.ensures.value ∙ start.value in
+    let is_frame = eq-eqb (address frame) frame (address-multiple frame start.aligned start.below) in
+    reached_alike c.reaches.result offset frame (rw number at c.reaches.ensures) ∙ sym (ap (λ b. b && is_reached offset frame) is_frame)
