@@ -1,7 +1,9 @@
 pub mod Alignment
+pub mod AtOffset
 pub mod Characters
 pub mod Keeping
-pub mod Pairs
 pub mod Reading
+pub mod Saying
+pub mod ShortLists
 pub mod Splitting
 pub mod Uniqueness

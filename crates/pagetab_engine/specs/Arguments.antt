@@ -1,16 +1,26 @@
 -- The arguments of the program.
 use Rattle.std.specs.Prelude.{◌≡◌, ◌≤◌, ℕ, List, [], ◌∷◌, codes}
+use Rattle.x86_64_model.specs.Position.{raw}
 use Rattle.pagetab_engine.specs.Number.{IsNumber, number_of}
+use Rattle.pagetab_engine.specs.declared.arguments.Arguments.{Arguments}
+use Rattle.pagetab_engine.specs.declared.arguments.Mode.{Mode}
+use Rattle.pagetab_engine.specs.declared.arguments.Mode.TheVariants.{Direct, Offset}
 
 -- a number of places, from 2 to 65536
 abbrev pub IsPlaces : List ℕ → Type 0
 IsPlaces text = IsNumber text × (2 ≤ number_of text) × (number_of text ≤ 65536)
 
--- the word `direct` and a number of places
-abbrev pub IsDirect : (words : List (List ℕ)) → Type 0
-IsDirect (mode ∷ places ∷ []) = (mode ≡ codes "direct") × IsPlaces places
-IsDirect words = ⊥
+-- the number that is the raw value of an address
+abbrev pub IsAddress : List ℕ → (address : ℕ) → Type 0
+IsAddress text address = IsNumber text × (raw 4 address ≡ number_of text)
 
-abbrev pub direct_places : (words : List (List ℕ)) → ℕ
-direct_places (mode ∷ places ∷ []) = number_of places
-direct_places words = 0
+-- the word `direct` alone, or the word `offset` and an address
+abbrev pub SaysMode : (word : List ℕ) → (more : List (List ℕ)) → Mode → Type 0
+SaysMode word [] Direct = word ≡ codes "direct"
+SaysMode word (text ∷ []) (Offset address) = (word ≡ codes "offset") × IsAddress text address
+SaysMode word more mode = ⊥
+
+-- a mode, with the number of places after its word
+abbrev pub Says : (words : List (List ℕ)) → Arguments → Type 0
+Says (word ∷ places ∷ more) arguments = IsPlaces places × (arguments.places ≡ number_of places) × SaysMode word more arguments.mode
+Says words arguments = ⊥

@@ -1,15 +1,12 @@
 //! The run of the program.
-ghost use Rattle.std.specs.Prelude.{◌≡◌, map, string_bytes, IfOk, OnOk, OnErr};
-ghost use Rattle.std.specs.Option.{SomeIff};
-ghost use Rattle.pagetab_engine.specs.Arguments.{IsPlaces, IsDirect, direct_places};
-ghost use Rattle.pagetab_engine.specs.Number.{number_of};
+ghost use Rattle.std.specs.Prelude.{◌≡◌, IfOk, OnOk, OnErr};
 ghost use Rattle.pagetab_engine.specs.Hierarchy.{state_of, IsHierarchy, Keeps};
 ghost use Rattle.pagetab_engine.specs.Reply.{IsReply, state_after};
 
+use crate::arguments::Arguments;
 use crate::ending::{Ending, Fault};
 use crate::hierarchy::Hierarchy;
 use crate::lines::Lines;
-use crate::number;
 use crate::reply::Reply;
 use crate::statement::{Command, Statement};
 use std::alloc::{AllocError, Global};
@@ -17,7 +14,8 @@ use std::io::{Read, Write};
 
 /// Runs the program on its arguments: reads an image and commands from `reader`, and writes a reply to each command.
 ///
-/// The only arguments so far are `direct N`, for a memory of N places. Each reply is a line, written by one `write_all`.
+/// The arguments so far are `direct N`, for a memory of N places, and `offset N OFF`, where the memory stands in the virtual
+/// address space from the address OFF on. Each reply is a line, written by one `write_all`.
 pub fn run<R: Read, W: Write>(
     alloc: Global,
     words: &[String],
@@ -37,38 +35,20 @@ fn serve<R: Read, W: Write>(
     reader: &mut R,
     writer: &mut W,
 ) -> Result<(), Fault> {
-    let Some(places) = parse_arguments(words) else {
+    let Some(arguments) = Arguments::parse(words) else {
         return Err(Fault::Usage);
     };
-    let mut hierarchy = Hierarchy::new(alloc, places)?;
+    let places = arguments.places;
+    let mut hierarchy = Hierarchy::new(alloc, arguments)?;
+    if !hierarchy.is_reached() {
+        return Err(Fault::Usage);
+    }
     let mut lines = Lines::new(reader);
     let first = read_image(&mut lines, &mut hierarchy, places)?;
     if !hierarchy.fits(alloc)? {
         return Err(Fault::InvalidHierarchy);
     }
     answer_commands(alloc, &mut lines, &mut hierarchy, places, first, writer)
-}
-
-/// Reads the arguments `direct N`: the number of places, from 2 to 65536. Answers `None` exactly where they aren't these.
-fn parse_arguments(words: &[String]) -> Option<u64>
-    ensures { SomeIff result (IsDirect (map string_bytes words.now)) (direct_places (map string_bytes words.now)) }
-{
-    match words {
-        [mode, places] if mode.as_str() == "direct" => parse_places(places.as_str()),
-        _ => None,
-    }
-}
-
-/// Reads a number of places, from 2 to 65536. Answers `None` exactly where the text is none.
-fn parse_places(text: &str) -> Option<u64>
-    ensures { SomeIff result (IsPlaces text.now) (number_of text.now) }
-{
-    let places = number::parse(text)?;
-    if (2..=65536).contains(&places) {
-        Some(places)
-    } else {
-        None
-    }
 }
 
 /// Loads the image, and gives the command that follows, or `None` at the end of the input.

@@ -5,44 +5,62 @@ ghost use Rattle.x86_64_model.specs.Layout.{words};
 ghost use Rattle.x86_64_model.specs.PageWalk.{page_walk as walk_of};
 ghost use Rattle.x86_64_tables.specs.PageTable.{zero_words};
 ghost use Rattle.x86_64_tables.specs.Walks.{walked_of};
-ghost use Rattle.x86_64.specs.Runs.{call_step};
-ghost use Rattle.pagetab_engine.specs.Hierarchy.{layout, machine, state_of, IsHierarchy, Keeps};
+ghost use Rattle.x86_64_model.specs.Marks.{serves_below};
+ghost use Rattle.x86_64.specs.Runs.{call_step, FitsPool, Keeps as KeepsPool};
+ghost use Rattle.x86_64_mappers.specs.Offsets.{OffsetFits};
+ghost use Rattle.pagetab_engine.specs.Hierarchy.{layout, machine, state_of, IsAnswered, IsReached, IsHierarchy, Keeps};
 ghost use Rattle.pagetab_engine.specs.Image.{IsLoadable, IsRefusedFor, memory_after, free_after};
 ghost use Rattle.pagetab_engine.specs.Slot.{word_in};
 
+use crate::arguments::{Arguments, Mode};
 use crate::slot::Slot;
 use crate::statement::ImageLine;
 use std::alloc::{AllocError, Global};
-use x86_64::structures::paging::mapper::MappedPageTable;
-use x86_64::structures::paging::{PhysFrame, Size4KiB};
+use x86_64::structures::paging::mapper::{MapperAllSizes, PageTables};
+use x86_64::structures::paging::{
+    MappedPageTable, OffsetPageTable, PhysFrame, Size4KiB, Translate,
+};
 use x86_64::{
     Call, FramePool, IdentityMapping, PhysAddr, PhysMemory, PoolRefusal, Reply, VirtAddr, Walked,
     page_walk, pool_fits, run,
 };
 
-/// Holds page tables in a memory, and the frames that are free for new ones.
+/// Holds page tables in a memory, how they are found there, and the frames that are free for new ones.
 #[derive(Drop)]
 pub struct Hierarchy {
+    mode: Mode,
     memory: PhysMemory,
     pool: FramePool,
 }
 
 impl Hierarchy {
-    /// Makes an empty hierarchy in a memory of so many places, none of whose frames is free.
+    /// Makes an empty hierarchy in a memory of as many places as the arguments say, none of whose frames is free.
     ///
     /// # Errors
     ///
     /// `AllocError` where memory is refused.
-    pub fn new(alloc: Global, places: u64) -> Result<Hierarchy, AllocError>
+    pub fn new(alloc: Global, arguments: Arguments) -> Result<Hierarchy, AllocError>
+        ensures mode { IfOk result (λ hierarchy. hierarchy.mode ≡ arguments.mode) }
         ensures memory { IfOk result (λ hierarchy.
-            (place : ℕ) → map.get hierarchy.memory place ≡ (if nat_lt place places then Some zero_words else None)) }
+            (place : ℕ) → map.get hierarchy.memory place ≡ (if nat_lt place arguments.places then Some zero_words else None)) }
         ensures pool { IfOk result (λ hierarchy. hierarchy.pool.frames ≡ []) }
-        ensures limit { IfOk result (λ hierarchy. hierarchy.pool.limit ≡ places) }
+        ensures limit { IfOk result (λ hierarchy. hierarchy.pool.limit ≡ arguments.places) }
     {
         Ok(Hierarchy {
-            memory: PhysMemory::new(alloc, places)?,
-            pool: FramePool::new(alloc, places)?,
+            mode: arguments.mode,
+            memory: PhysMemory::new(alloc, arguments.places)?,
+            pool: FramePool::new(alloc, arguments.places)?,
         })
+    }
+
+    /// Tells whether the mapper reaches each place of the memory.
+    pub fn is_reached(&self) -> bool
+        ensures { IsTrue result ↔ IsReached self.now.mode self.now.memory }
+    {
+        match self.mode {
+            Mode::Direct => true,
+            Mode::Offset(offset) => OffsetPageTable::offset_fits(&self.memory, offset),
+        }
     }
 
     /// Gives the word in a slot, 0 where the memory lacks the table.
@@ -64,6 +82,7 @@ impl Hierarchy {
         ensures why { IfErr result (IsRefusedFor self.old line) }
         ensures refused { OnErr result ((self.new.memory ≡ self.old.memory) × (self.new.pool.frames ≡ self.old.pool.frames)) }
         ensures limit { self.new.pool.limit ≡ self.old.pool.limit }
+        ensures mode { self.new.mode ≡ self.old.mode }
     {
         match line {
             ImageLine::Word { slot, value } => {
@@ -74,7 +93,7 @@ impl Hierarchy {
         }
     }
 
-    /// Tells whether the hierarchy is valid and its free frames fit it.
+    /// Tells whether the hierarchy is valid, its free frames fit it, and the mapper reaches each place.
     ///
     /// # Errors
     ///
@@ -82,12 +101,13 @@ impl Hierarchy {
     pub fn fits(&self, alloc: Global) -> Result<bool, AllocError>
         ensures { IfOk result (λ fits. IsTrue fits ↔ IsHierarchy self.now) }
     {
-        pool_fits(alloc, &self.memory, &IdentityMapping, root(), &self.pool)
+        let fits = pool_fits(alloc, &self.memory, &IdentityMapping, root(), &self.pool)?;
+        Ok(fits && self.is_reached())
     }
 
-    /// Runs the list of one call, by the mapper that finds tables by their frames, and gives the reply.
+    /// Runs the list of one call, by the mapper of the mode, and gives the reply.
     ///
-    /// Condition: the hierarchy is valid and its free frames fit it.
+    /// Condition: the hierarchy is valid, its free frames fit it, and the mapper reaches each place.
     ///
     /// # Errors
     ///
@@ -99,10 +119,12 @@ impl Hierarchy {
         ensures unchanged { OnErr result (self.new ≡ self.old) }
         ensures keeps { Keeps self.old self.new }
     {
-        let mut replies = Vec::with_capacity(alloc, 1)?;
-        let mut mapper = MappedPageTable::new(&mut self.memory, root(), IdentityMapping);
-        run(&mut mapper, &mut self.pool, &[call], &mut replies)?;
-        Ok(replies[0])
+        let mode = self.mode;
+        let (memory, pool) = (&mut self.memory, &mut self.pool);
+        match mode {
+            Mode::Direct => answer_direct(alloc, memory, pool, call),
+            Mode::Offset(offset) => answer_at_offset(alloc, memory, offset, pool, call),
+        }
     }
 
     /// Walks to an address as the processor does, or gives `None` where the walk arrives nowhere.
@@ -135,4 +157,80 @@ fn root() -> PhysFrame<Size4KiB>
     ensures { result ≡ 0x1000 }
 {
     PhysFrame::containing_address(PhysAddr::new(0x1000))
+}
+
+/// Runs the list of one call by a mapper, and gives the reply.
+///
+/// Condition: the mapper's hierarchy is valid, and the pool fits it.
+///
+/// # Errors
+///
+/// `AllocError` where memory is refused; then nothing changes.
+fn answer_by<M: MapperAllSizes + Translate>(
+    alloc: Global,
+    mapper: &mut M,
+    pool: &mut FramePool,
+    call: Call,
+) -> Result<Reply, AllocError>
+    requires { FitsPool (M.layout mapper.old) (M.memory mapper.old) (serves_below pool.old.limit) pool.old.frames }
+    ensures answered { IfOk result (IsAnswered (M.layout mapper.old) (M.memory mapper.old) pool.old.frames call (M.memory mapper.new) pool.new.frames) }
+    ensures unchanged { OnErr result ((M.memory mapper.new ≡ M.memory mapper.old) × (pool.new ≡ pool.old)) }
+    ensures keeps { KeepsPool (M.layout mapper.old) (serves_below pool.old.limit) (M.memory mapper.old) pool.old.frames (M.memory mapper.new) pool.new.frames }
+    ensures serves { serves_below pool.new.limit ≡ serves_below pool.old.limit }
+    ensures lent { M.lent mapper.new ≡ M.lent mapper.old }
+    ensures layout { M.layout mapper.new ≡ M.layout mapper.old }
+{
+    let calls = [call];
+    let mut replies = Vec::with_capacity(alloc, 1)?;
+    run(mapper, pool, &calls, &mut replies)?;
+    Ok(replies[0])
+}
+
+/// Runs the list of one call where each frame lies at the place of its number, and gives the reply.
+///
+/// Condition: the hierarchy is valid, and the pool fits it.
+///
+/// # Errors
+///
+/// `AllocError` where memory is refused; then nothing changes.
+fn answer_direct(
+    alloc: Global,
+    memory: &mut PhysMemory,
+    pool: &mut FramePool,
+    call: Call,
+) -> Result<Reply, AllocError>
+    requires { FitsPool layout memory.old (serves_below pool.old.limit) pool.old.frames }
+    ensures answered { IfOk result (IsAnswered layout memory.old pool.old.frames call memory.new pool.new.frames) }
+    ensures unchanged { OnErr result ((memory.new ≡ memory.old) × (pool.new ≡ pool.old)) }
+    ensures keeps { KeepsPool layout (serves_below pool.old.limit) memory.old pool.old.frames memory.new pool.new.frames }
+    ensures serves { serves_below pool.new.limit ≡ serves_below pool.old.limit }
+{
+    let mut mapper = MappedPageTable::new(memory, root(), IdentityMapping);
+    answer_by(alloc, &mut mapper, pool, call)
+}
+
+/// Runs the list of one call where the memory stands at an offset, and gives the reply.
+///
+/// Conditions: the hierarchy is valid, the pool fits it, and the offset fits the memory.
+///
+/// # Errors
+///
+/// `AllocError` where memory is refused; then nothing changes.
+fn answer_at_offset(
+    alloc: Global,
+    memory: &mut PhysMemory,
+    phys_offset: VirtAddr,
+    pool: &mut FramePool,
+    call: Call,
+) -> Result<Reply, AllocError>
+    requires pool { FitsPool layout memory.old (serves_below pool.old.limit) pool.old.frames }
+    requires offset { OffsetFits memory.old phys_offset }
+    ensures answered { IfOk result (IsAnswered layout memory.old pool.old.frames call memory.new pool.new.frames) }
+    ensures unchanged { OnErr result ((memory.new ≡ memory.old) × (pool.new ≡ pool.old)) }
+    ensures keeps { KeepsPool layout (serves_below pool.old.limit) memory.old pool.old.frames memory.new pool.new.frames }
+    ensures offset { OffsetFits memory.new phys_offset }
+    ensures serves { serves_below pool.new.limit ≡ serves_below pool.old.limit }
+{
+    let mut mapper = OffsetPageTable::new(memory, root(), phys_offset);
+    answer_by(alloc, &mut mapper, pool, call)
 }

@@ -1,6 +1,7 @@
 //! Runs the program `pagetab`: reads an image of page tables, tests it, and answers commands on it.
 #![tactic(auto)]
 
+mod arguments;
 pub mod ending;
 pub mod engine;
 mod fields;

@@ -17,5 +17,6 @@ pub use x86_64_addr::addr::{PhysAddr, VirtAddr};
 pub use x86_64_tables::frame_alloc::{FrameKeeper, FramePool, FrameStore, PoolRefusal};
 pub use x86_64_tables::mapper::{FlushItem, FlushRecorder};
 pub use x86_64_tables::phys_memory::{
-    FramePlace, IdentityMapping, PhysMemory, Walked, is_valid_hierarchy, page_walk, pool_fits,
+    FramePlace, IdentityMapping, PhysMemory, ShiftMapping, Walked, is_valid_hierarchy, page_walk,
+    pool_fits,
 };

@@ -1,5 +1,6 @@
 //! Mappers, and what they answer.
 pub use x86_64_mappers::mapped_page_table::MappedPageTable;
+pub use x86_64_mappers::offset_page_table::OffsetPageTable;
 pub use x86_64_tables::mapper::{
     FlagUpdateError, MapToError, MappedFrame, Mapper, MapperAllSizes, MapperFlush, MapperFlushAll,
     PageTables, Translate, TranslateError, TranslateResult, UnmapError,
