@@ -2,17 +2,21 @@
 ghost use Rattle.x86_64_model.specs.Marks.{serves_below};
 ghost use Rattle.x86_64_model.specs.Memory.{identity_places};
 ghost use Rattle.x86_64_mappers.specs.Layouts.{direct};
+ghost use Rattle.x86_64_mappers.specs.Offsets.{offset_places, OffsetFits};
 ghost use Rattle.x86_64.specs.Runs.{FitsPool};
 
 use bitflags::Flags;
 use std::alloc::{AllocError, Global};
 use std::test::Fail;
+use x86_64::structures::paging::mapper::PageTableFrameMapping;
 use x86_64::structures::paging::{
-    MappedPageTable, Page, PageSize, PageTableFlags, PageTableIndex, PhysFrame, Size4KiB,
+    MappedPageTable, OffsetPageTable, Page, PageSize, PageTableFlags, PageTableIndex, PhysFrame,
+    Size4KiB,
 };
 use x86_64::{
     Call, FramePlace, FramePool, IdentityMapping, PhysAddr, PhysMemory, Reply, VirtAddr, run,
 };
+use x86_64_mappers::laws::offset_has_the_tables_of_the_identity;
 
 /// The bits of a word that are flags.
 const FLAGS_MASK: u64 = 0xfff0_0000_0000_0fff;
@@ -76,7 +80,24 @@ pub fn pool_of(alloc: Global, limit: u64, frames: &[u64]) -> Result<FramePool, F
     Ok(pool)
 }
 
-/// Answers calls by a mapper that is dropped then. The owner of the memory and of the pool knows that they fit again.
+/// Answers calls by a mapper over a frame mapping. The mapper is dropped then, and the owner of the memory and of the pool knows
+/// that they fit again.
+pub fn run_over<P: PageTableFrameMapping + Drop>(
+    memory: &mut PhysMemory,
+    root: PhysFrame<Size4KiB>,
+    mapping: P,
+    pool: &mut FramePool,
+    calls: &[Call],
+    replies: &mut Vec<Reply>,
+) -> Result<(), AllocError>
+    requires { FitsPool (direct (P.places mapping) root) memory.old (serves_below pool.old.limit) pool.old.frames }
+    ensures { FitsPool (direct (P.places mapping) root) memory.new (serves_below pool.new.limit) pool.new.frames }
+{
+    let mut mapper = MappedPageTable::new(memory, root, mapping);
+    run(&mut mapper, pool, calls, replies)
+}
+
+/// Answers calls by a mapper over the identity mapping, as [`run_over`] does.
 pub fn run_on(
     memory: &mut PhysMemory,
     root: PhysFrame<Size4KiB>,
@@ -87,6 +108,23 @@ pub fn run_on(
     requires { FitsPool (direct identity_places root) memory.old (serves_below pool.old.limit) pool.old.frames }
     ensures { FitsPool (direct identity_places root) memory.new (serves_below pool.new.limit) pool.new.frames }
 {
-    let mut mapper = MappedPageTable::new(memory, root, IdentityMapping);
+    run_over(memory, root, IdentityMapping, pool, calls, replies)
+}
+
+/// Answers calls by a mapper of a memory that stands at an offset, as [`run_over`] does.
+pub fn run_at_offset(
+    memory: &mut PhysMemory,
+    root: PhysFrame<Size4KiB>,
+    phys_offset: VirtAddr,
+    pool: &mut FramePool,
+    calls: &[Call],
+    replies: &mut Vec<Reply>,
+) -> Result<(), AllocError>
+    requires pool { FitsPool (direct identity_places root) memory.old (serves_below pool.old.limit) pool.old.frames }
+    requires offset { OffsetFits memory.old phys_offset }
+    ensures { FitsPool (direct (offset_places phys_offset) root) memory.new (serves_below pool.new.limit) pool.new.frames }
+{
+    offset_has_the_tables_of_the_identity(memory, phys_offset);
+    let mut mapper = OffsetPageTable::new(memory, root, phys_offset);
     run(&mut mapper, pool, calls, replies)
 }

@@ -44,12 +44,25 @@ fn run_failing(
     })
 }
 
-/// Runs the engine on an image and lines after it, for a memory of 8 places.
-fn run_on(alloc: Global, image: &str, lines: &[u8]) -> Result<Outcome, AllocError> {
+/// Arguments for a memory of 8 places, one for each way to find tables there.
+const MODES: [&str; 2] = ["direct 8", "offset 8 0xffff800000000000"];
+
+/// Runs the engine on arguments, and on an image and lines after it.
+fn run_in(
+    alloc: Global,
+    arguments: &str,
+    image: &str,
+    lines: &[u8],
+) -> Result<Outcome, AllocError> {
     let mut input = Vec::new(alloc);
     input.extend_from_slice(image.as_bytes())?;
     input.extend_from_slice(lines)?;
-    run_failing(alloc, "direct 8", input.as_slice(), 0, 0)
+    run_failing(alloc, arguments, input.as_slice(), 0, 0)
+}
+
+/// Runs the engine on an image and lines after it, for a memory of 8 places.
+fn run_on(alloc: Global, image: &str, lines: &[u8]) -> Result<Outcome, AllocError> {
+    run_in(alloc, "direct 8", image, lines)
 }
 
 /// The words of four tables, which map the page 0x1000 of 4KiB to the frame 0x5000.
@@ -65,7 +78,7 @@ const INVALID: &str = "word 0x1000 0 0x2003\nword 0x1000 1 0x2003\n";
 /// Three free frames, below an empty root.
 const POOL: &str = "free 0x2000\nfree 0x3000\nfree 0x4000\n";
 
-/// Asserts the replies to commands on an image, each beside its command.
+/// Asserts the replies to commands on an image, each beside its command. They are the same however tables are found.
 fn assert_replies(
     rt: &impl Abort,
     alloc: Global,
@@ -80,12 +93,14 @@ fn assert_replies(
         replies.push_str(reply)?;
         replies.push('\n')?;
     }
-    let outcome = run_on(alloc, image, lines.as_bytes())?;
-    assert_eq!(rt; outcome.ending, Ending::Done, "{image}{lines}");
-    assert_eq!(rt;
-        str::from_utf8(outcome.written.as_slice()),
-        Ok(replies.as_str()),
-        "{image}{lines}"
-    );
+    for arguments in MODES {
+        let outcome = run_in(alloc, arguments, image, lines.as_bytes())?;
+        assert_eq!(rt; outcome.ending, Ending::Done, "{arguments}: {image}{lines}");
+        assert_eq!(rt;
+            str::from_utf8(outcome.written.as_slice()),
+            Ok(replies.as_str()),
+            "{arguments}: {image}{lines}"
+        );
+    }
     Ok(())
 }

@@ -1,25 +1,29 @@
 //! Calls on an empty root, as tables: the replies, and every word and free frame that they leave.
 mod flags;
+mod mappings;
 mod maps;
 mod pools;
 mod single;
 mod tokens;
 
 use crate::images::{
-    ROOT, WORD_COUNT, fill, flags_of, frame_at, page_at, pool_of, run_on, word_at,
+    ROOT, WORD_COUNT, fill, flags_of, frame_at, page_at, pool_of, run_at_offset, run_on, run_over,
+    word_at,
 };
 use std::alloc::Global;
 use std::process::Abort;
 use std::test::Fail;
 use x86_64::structures::paging::mapper::{MappedFrame, TranslateResult};
-use x86_64::structures::paging::{MappedPageTable, PageSize, Size1GiB, Size2MiB, Size4KiB};
+use x86_64::structures::paging::{
+    MappedPageTable, OffsetPageTable, PageSize, Size1GiB, Size2MiB, Size4KiB,
+};
 use x86_64::{
     Call, FramePool, IdentityMapping, PhysAddr, PhysMemory, Reply, SizeCall, SizeReply, VirtAddr,
     pool_fits,
 };
 
 /// How many places the memory has.
-const PLACES: u64 = 8;
+const PLACES: u32 = 8;
 
 /// Calls on an empty root, where the free frames are full of ones, and what comes of them.
 #[derive(Drop)]
@@ -35,6 +39,20 @@ struct Row<'a> {
     /// The free frames afterwards.
     left: &'a [u64],
 }
+
+/// The mappers that answer the calls.
+#[derive(Clone, Copy, Debug)]
+enum By {
+    /// The one over the identity mapping.
+    Identity,
+    /// The one over a reference to the identity mapping.
+    Reference,
+    /// The one of a memory at an offset.
+    Offset,
+}
+
+/// The offset of that memory.
+const OFFSET: u64 = 0xffff_8000_0000_0000;
 
 /// Three free frames, enough for the tables above one page.
 const FREE: [u64; 3] = [0x2000, 0x3000, 0x4000];
@@ -168,6 +186,25 @@ pub fn compare_pool(rt: &impl Abort, pool: &FramePool, frames: &[u64], title: &s
     }
 }
 
+/// Compares every word of a memory of so many places with what a row wants.
+fn compare_words(
+    rt: &impl Abort,
+    memory: &PhysMemory,
+    places: u32,
+    row: &Row<'_>,
+    title: &str,
+) -> Result<(), Fail> {
+    for place in 0..places {
+        let frame = u64::from(place) * 0x1000;
+        for index in 0..WORD_COUNT {
+            let word = word_at(memory, frame, index)?;
+            let wanted = wanted_word(row, frame, index);
+            assert_eq!(rt; word, wanted, "{title}: word {index} of {frame:#x}");
+        }
+    }
+    Ok(())
+}
+
 /// Compares every word of the memory and the free frames with what a row wants.
 fn compare(
     rt: &impl Abort,
@@ -176,44 +213,70 @@ fn compare(
     row: &Row<'_>,
     title: &str,
 ) -> Result<(), Fail> {
-    for place in 0..PLACES {
-        let frame = place * 0x1000;
-        for index in 0..WORD_COUNT {
-            let word = word_at(memory, frame, index)?;
-            let wanted = wanted_word(row, frame, index);
-            assert_eq!(rt; word, wanted, "{title}: word {index} of {frame:#x}");
-        }
-    }
+    compare_words(rt, memory, PLACES, row, title)?;
     compare_pool(rt, pool, row.left, title);
     Ok(())
 }
 
 /// Makes an empty root and free frames that are full of ones.
 fn begin(alloc: Global, free: &[u64]) -> Result<(PhysMemory, FramePool), Fail> {
-    let mut memory = PhysMemory::new(alloc, PLACES)?;
+    let mut memory = PhysMemory::new(alloc, u64::from(PLACES))?;
     for frame in free {
         fill(&mut memory, *frame)?;
     }
-    let pool = pool_of(alloc, PLACES, free)?;
+    let pool = pool_of(alloc, u64::from(PLACES), free)?;
     Ok((memory, pool))
 }
 
-/// Answers the calls of rows, and compares what comes of them.
+/// Answers the calls of rows by each of the mappers, and compares what comes of them.
 fn check(rt: &impl Abort, alloc: Global, rows: &[Row<'_>]) -> Result<(), Fail> {
     for (number, row) in rows.iter().enumerate() {
-        check_row(rt, alloc, row, &format!(in alloc; "row {number}")?)?;
+        for by in [By::Identity, By::Reference, By::Offset] {
+            check_row(
+                rt,
+                alloc,
+                row,
+                by,
+                &format!(in alloc; "row {number}, {by:?}")?,
+            )?;
+        }
+    }
+    Ok(())
+}
+
+/// Answers calls by a mapper, where the image and the pool fit.
+fn answer(
+    rt: &impl Abort,
+    alloc: Global,
+    by: By,
+    image: (&mut PhysMemory, &mut FramePool),
+    calls: &[Call],
+    replies: &mut Vec<Reply>,
+) -> Result<(), Fail> {
+    let (memory, pool) = image;
+    let root = frame_at(ROOT);
+    assert!(rt; pool_fits(alloc, memory, &IdentityMapping, root, pool)?);
+    match by {
+        By::Identity => run_on(memory, root, pool, calls, replies)?,
+        By::Reference => run_over(memory, root, &IdentityMapping, pool, calls, replies)?,
+        By::Offset => {
+            let offset = VirtAddr::new_truncate(OFFSET);
+            assert!(rt; OffsetPageTable::offset_fits(memory, offset));
+            run_at_offset(memory, root, offset, pool, calls, replies)?;
+        }
     }
     Ok(())
 }
 
 /// Answers a row's calls by `run`, the first in a list of its own, after an earlier reply, and compares what comes of them.
-fn check_row(rt: &impl Abort, alloc: Global, row: &Row<'_>, title: &str) -> Result<(), Fail> {
+fn check_row(
+    rt: &impl Abort,
+    alloc: Global,
+    row: &Row<'_>,
+    by: By,
+    title: &str,
+) -> Result<(), Fail> {
     let (mut memory, mut pool) = begin(alloc, row.free)?;
-    let root = frame_at(ROOT);
-    assert!(rt;
-        pool_fits(alloc, &memory, &IdentityMapping, root, &pool)?,
-        "{title}"
-    );
     let mut calls = Vec::new(alloc);
     let mut wanted = vec![in alloc; Reply::Address(None)]?;
     for (call, reply) in row.calls {
@@ -222,10 +285,22 @@ fn check_row(rt: &impl Abort, alloc: Global, row: &Row<'_>, title: &str) -> Resu
     }
     let mut replies = vec![in alloc; Reply::Address(None)]?;
     let (first, others) = calls.split_at(calls.len().min(1));
-    run_on(&mut memory, root, &mut pool, first, &mut replies)?;
-    run_on(&mut memory, root, &mut pool, others, &mut replies)?;
+    answer(rt, alloc, by, (&mut memory, &mut pool), first, &mut replies)?;
+    answer(
+        rt,
+        alloc,
+        by,
+        (&mut memory, &mut pool),
+        others,
+        &mut replies,
+    )?;
     assert_eq!(rt; replies, wanted, "{title}");
     compare(rt, &memory, &pool, row, title)?;
+    let root = frame_at(ROOT);
+    assert!(rt;
+        pool_fits(alloc, &memory, &IdentityMapping, root, &pool)?,
+        "{title}"
+    );
     let mapper = MappedPageTable::new(&mut memory, root, IdentityMapping);
     assert!(rt; mapper.is_valid(alloc)?, "{title}");
     Ok(())

@@ -8,7 +8,7 @@ use x86_64::{Call, FramePool, PoolRefusal, SizeCall, VirtAddr};
 
 #[test]
 fn pools_refuse_frames(rt: HostRuntime) -> Result<(), Fail> {
-    let mut pool = FramePool::new(rt.alloc(), PLACES)?;
+    let mut pool = FramePool::new(rt.alloc(), u64::from(PLACES))?;
     let rows = [
         (0x0, Err(PoolRefusal::Zero)),
         (0x8000, Err(PoolRefusal::OutOfRange)),
