@@ -22,12 +22,6 @@ first_present_more paths p ps = by (present (entry paths p)) (huge (entry paths 
 first_present_at : (paths : PathMap) (q : List ℕ) (n e : ℕ) → n < length q → e ≡ entry paths (take n q) → first_present paths (rest q n) ≡ cond (present e) (huge e || first_present paths (rest q (n + 1))) false
 first_present_at paths q n e h is = ap (first_present paths) (rest_more q n h) ∙ first_present_more paths (take n q) (rest q (n + 1)) ∙ ap (λ e. cond (present e) (huge e || first_present paths (rest q (n + 1))) false) (sym is)
 
-pub absent_here : (paths : PathMap) (q : List ℕ) (n e : ℕ) → n < length q → e ≡ entry paths (take n q) → present e ≡ false → first_present paths (rest q n) ≡ false
-absent_here paths q n e h is a = first_present_at paths q n e h is ∙ ap (λ b. cond b (huge e || first_present paths (rest q (n + 1))) false) a
-
-pub huge_here : (paths : PathMap) (q : List ℕ) (n e : ℕ) → n < length q → e ≡ entry paths (take n q) → present e ≡ true → huge e ≡ true → first_present paths (rest q n) ≡ true
-huge_here paths q n e h is a b = first_present_at paths q n e h is ∙ ap (λ b. cond b (huge e || first_present paths (rest q (n + 1))) false) a ∙ ap (λ b. b || first_present paths (rest q (n + 1))) b
-
 pub table_here : (paths : PathMap) (q : List ℕ) (n e : ℕ) → n < length q → e ≡ entry paths (take n q) → present e ≡ true → huge e ≡ false → first_present paths (rest q (n + 1)) ≡ first_present paths (rest q n)
 table_here paths q n e h is a b = sym (first_present_at paths q n e h is ∙ ap (λ b. cond b (huge e || first_present paths (rest q (n + 1))) false) a ∙ ap (λ b. b || first_present paths (rest q (n + 1))) b)
 

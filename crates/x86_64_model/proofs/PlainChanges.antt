@@ -9,9 +9,8 @@ use Rattle.x86_64_model.specs.PathMap.{PathMap, put}
 use Rattle.x86_64_model.specs.MapRule.{leaf_entry}
 use Rattle.x86_64_model.specs.Refusal as refusal
 use Rattle.x86_64_model.specs.Refusal.{first_stop, refused_if, answer_unless, Done, Refused, PageNotMapped, ParentEntryHugePage}
-use Rattle.x86_64_model.specs.PageRules.{AfterChange, refused_or, unmap, update_flags, translate_page, set_flags}
+use Rattle.x86_64_model.specs.PageRules.{AfterChange, refused_or, unmap_refusal, update_refusal, translate_refusal, unmap, update_flags, translate_page, set_flags}
 use Rattle.x86_64_model.specs.Plain.Calls.{refusals_of, answer_of}
-use Rattle.x86_64_model.specs.Plain.Changes.{unmap_refusal, update_refusal, translate_refusal}
 use Rattle.x86_64_model.specs.declared.plain.calls.Refusal.{Refusal}
 use Rattle.x86_64_model.specs.declared.plain.calls.Answer.{Answer}
 

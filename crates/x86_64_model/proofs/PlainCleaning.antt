@@ -18,7 +18,7 @@ use Rattle.x86_64_model.specs.declared.plain.entries.PathEntry.{PathEntry}
 use Rattle.x86_64_model.specs.Lemmas.Paths.Puts.{path_cmp, same_path, path_exact}
 use Rattle.x86_64_model.specs.Lemmas.CleanUps.Keys.{all_at, all_from}
 use Rattle.x86_64_model.specs.Lemmas.CleanUps.Removed.{removed_gives}
-use Rattle.x86_64_model.proofs.PlainParents.{rest, rest_more, rest_all}
+use Rattle.x86_64_model.proofs.PlainParents.{rest, rest_more}
 
 -- ---- the number that indices write
 
@@ -45,9 +45,6 @@ one_fails P q n b h is e = all_more P q n h ∙ ap (λ b. b && list_all P (rest 
 
 pub one_passes : (P : List ℕ → Bool) (q : List ℕ) (n : ℕ) (b : Bool) → n < length q → b ≡ P (take n q) → b ≡ true → list_all P (rest q (n + 1)) ≡ list_all P (rest q n)
 one_passes P q n b h is e = sym (all_more P q n h ∙ ap (λ b. b && list_all P (rest q (n + 1))) (sym is ∙ e))
-
-pub none_fails : (P : List ℕ → Bool) (q : List ℕ) (n : ℕ) → length q ≤ n → list_all P (rest q n) ≡ true
-none_fails P q n h = ap (list_all P) (rest_all q n h)
 
 -- ---- tests over all keys are tests over all items
 
@@ -106,9 +103,6 @@ module _ (L : ℕ) (M : PathMap) (low high : ℕ) where
       by : (b : Bool) → frames L M low high (ps ++ rs) ≡ frames L M low high ps ++ frames L M low high rs → map (λ q. address (entry M q)) (cond b (p ∷ filter (is_removed L M low high) (ps ++ rs)) (filter (is_removed L M low high) (ps ++ rs))) ≡ map (λ q. address (entry M q)) (cond b (p ∷ filter (is_removed L M low high) ps) (filter (is_removed L M low high) ps)) ++ frames L M low high rs
       by true h = ap (λ fs. address (entry M p) ∷ fs) h
       by false h = h
-
-  pub one_frame : (q : List ℕ) → is_removed L M low high q ≡ true → frames L M low high (q ∷ []) ≡ address (entry M q) ∷ []
-  one_frame q h = ap (λ b. map (λ q. address (entry M q)) (cond b (q ∷ []) [])) h
 
   pub no_frame : (q : List ℕ) → is_removed L M low high q ≡ false → frames L M low high (q ∷ []) ≡ []
   no_frame q h = ap (λ b. map (λ q. address (entry M q)) (cond b (q ∷ []) [])) h

@@ -1,5 +1,5 @@
 -- Maps of pages, parent by parent and case by case.
-use Rattle.std.proofs.Common.{◌≡◌, ℕ, ◌+◌, ◌<◌, ◌≤◌, ◌&&◌, ◌||◌, nat_lt, not, cond, List, [], ◌∷◌, ◌++◌, length, take, drop, filter, Bool, true, false, bit_or, refl, sym, ap, ◌∙◌, append_assoc, append-nil, arith}
+use Rattle.std.proofs.Common.{◌≡◌, ℕ, ◌+◌, ◌<◌, ◌≤◌, ◌&&◌, ◌||◌, nat_lt, not, cond, List, [], ◌∷◌, ◌++◌, length, take, drop, filter, Bool, true, false, bit_or, refl, sym, ap, ◌∙◌, append_assoc, arith}
 use Rattle.std.proofs.lemmas.List.{map-append, drop_all}
 use Rattle.std.proofs.lemmas.Bool.{lt-ltb, le-ltb}
 use Rattle.std.specs.Bool.{beq}
@@ -19,9 +19,6 @@ kept P q ns n h e = ap (λ ps. ps ++ filter P (rest q (n + 1))) (map-append (λ 
 
 pub passed : (P : List ℕ → Bool) (q ns : List ℕ) (n : ℕ) → n < length q → P (take n q) ≡ false → fronts q ns ++ filter P (rest q (n + 1)) ≡ fronts q ns ++ filter P (rest q n)
 passed P q ns n h e = ap (λ ps. fronts q ns ++ ps) (sym (ap (filter P) (rest_more q n h) ∙ ap (λ b. cond b (take n q ∷ filter P (rest q (n + 1))) (filter P (rest q (n + 1)))) e))
-
-pub all_passed : (P : List ℕ → Bool) (q ns : List ℕ) (n : ℕ) → length q ≤ n → fronts q ns ++ filter P (rest q n) ≡ fronts q ns
-all_passed P q ns n h = ap (λ ps. fronts q ns ++ filter P ps) (rest_all q n h) ∙ append-nil (fronts q ns)
 
 pub is_wanted_true : (paths : PathMap) (wanted b : Bool) (p : List ℕ) → b ≡ used (entry paths p) → beq b wanted ≡ true → is_wanted paths wanted p ≡ true
 is_wanted_true paths wanted b p is e = ap (λ u. cond wanted u (not u)) (sym is) ∙ by b wanted e
@@ -43,9 +40,6 @@ is_wanted_false paths wanted b p is n = ap (λ u. cond wanted u (not u)) (sym is
 
 pub any_more : (P : List ℕ → Bool) (q : List ℕ) (n : ℕ) → n < length q → list_any P (rest q n) ≡ (P (take n q) || list_any P (rest q (n + 1)))
 any_more P q n h = ap (list_any P) (rest_more q n h)
-
-pub any_here : (P : List ℕ → Bool) (q : List ℕ) (n : ℕ) → n < length q → P (take n q) ≡ true → true ≡ list_any P (rest q n)
-any_here P q n h e = sym (any_more P q n h ∙ ap (λ b. b || list_any P (rest q (n + 1))) e)
 
 pub any_later : (P : List ℕ → Bool) (q : List ℕ) (n : ℕ) → n < length q → P (take n q) ≡ false → list_any P (rest q (n + 1)) ≡ list_any P (rest q n)
 any_later P q n h e = sym (any_more P q n h ∙ ap (λ b. b || list_any P (rest q (n + 1))) e)

@@ -3,6 +3,7 @@ use Rattle.std.specs.Prelude.{ℕ, List, Option}
 use Rattle.x86_64_model.specs.PathMap.{PathMap}
 use Rattle.x86_64_model.specs.Memory.{Memory, Places, Words, words_of}
 use Rattle.x86_64_model.specs.Hierarchy.{paths_of}
+use Rattle.x86_64_model.specs.PageWalk.{Walked, page_walk}
 use Rattle.x86_64_model.specs.Window.{Window, outside_window, entry_at, IsValidFor}
 
 -- how many levels of tables there are, where frames lie, the root's frame, the recursive index and the self-entry where there is one,
@@ -29,3 +30,7 @@ read_entry l m q = entry_at l.window (paths l m) q
 -- the hierarchy is valid now, for the recursive index where there is one
 abbrev pub Valid : Layout → Memory → Type 0
 Valid l m = IsValidFor l.levels l.window (words l m) l.root (paths l m)
+
+-- where the processor arrives from a position
+abbrev pub walk : Layout → Memory → (position : ℕ) → Option Walked
+walk l m p = page_walk l.levels (words l m) l.root p

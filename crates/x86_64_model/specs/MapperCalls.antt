@@ -1,13 +1,15 @@
 -- What the calls of a mapper leave in its memory: one record for each call. m is the memory before, n the memory after.
-use Rattle.std.specs.Prelude.{◌≡◌, ◌≢◌, ℕ, true, List}
+use Rattle.std.specs.Prelude.{◌≡◌, ◌≢◌, ◌<◌, ◌+◌, ℕ, true, List, Some}
 use Rattle.std.specs.FinMap.{get}
 use Rattle.x86_64_model.specs.Memory.{Memory, Places}
+use Rattle.x86_64_model.specs.Entry.{writable, user}
 use Rattle.x86_64_model.specs.Lists.{In}
 use Rattle.x86_64_model.specs.Pool.{IsTable, IsOwn, Fits}
 use Rattle.x86_64_model.specs.Refusal.{Answer}
 use Rattle.x86_64_model.specs.MapRule.{map_call}
 use Rattle.x86_64_model.specs.PageRules.{AfterChange, unmap, update_flags, set_flags, translate_page}
-use Rattle.x86_64_model.specs.Layout.{Layout, words, paths, read_entry, Valid}
+use Rattle.x86_64_model.specs.Arrivals.{Arrives}
+use Rattle.x86_64_model.specs.Layout.{Layout, words, paths, read_entry, walk, Valid}
 
 -- the hierarchy is valid now, and the supply's frames are as in a pool that fits
 abbrev pub IsReady : Layout → Memory → (supply : List ℕ) → Type 0
@@ -25,12 +27,19 @@ Uses l m supply rest f = Owns l m supply f × (In rest f → ⊥)
 abbrev pub KeepsOthers : Places → (frames : ℕ → Type 0) → Memory → Memory → Type 0
 KeepsOthers places frames m n = (k : ℕ) → ((f : ℕ) → frames f → places.place f ≢ k) → get n k ≡ get m k
 
--- a call that maps a page: the path map, the supply and the answer are those of the map rule, the hierarchy is valid again and the rest of
--- the supply fits it, and no word changed but in the root, the tables and the frames that were taken
+-- A call that maps a page: the path map, the supply and the answer are those of the map rule, the hierarchy is valid again and the rest of
+-- the supply fits it, and no word changed but in the root, the tables and the frames that were taken. Where the processor arrived, it still
+-- does, at the same address, with no right lost and none gained that the parent flags lack.
 pub record IsMapped (l : Layout) (m : Memory) (supply : List ℕ) (page : List ℕ) (frame flags parent_flags : ℕ) (answer : Answer) (n : Memory) (rest : List ℕ) : Type 0 where
   pub outcome : map_call l.levels (paths l m) supply parent_flags l.added_flags page frame flags ≡ record { paths = paths l n; supply = rest; answer = answer }
   pub ready : IsReady l n rest
   pub others : KeepsOthers l.places (Uses l m supply rest) m n
+  pub walks : (p : ℕ) → Arrives parent_flags (walk l m p) (walk l n p)
+
+-- from each position of a page of a size the processor arrives at the frame's start plus the offset, with just the rights that the flags have
+abbrev pub ArrivesIn : Layout → Memory → (size page frame flags : ℕ) → Type 0
+ArrivesIn l m size page frame given =
+    (offset : ℕ) → offset < size → walk l m (page + offset) ≡ Some (record { address = frame + offset; write = writable given; user = user given })
 
 -- what the calls on one entry make of the hierarchy in a memory
 abbrev pub after_unmap : Layout → Memory → (page : List ℕ) → AfterChange

@@ -16,29 +16,44 @@ abbrev pub refused_or : PathMap → Option Refusal → (next : AfterChange) → 
 refused_or paths None next = next
 refused_or paths (Some why) next = record { paths = paths; answer = Refused why }
 
--- the page's entry has to be present, huge exactly for 2MiB and 1GiB, with an address that is a multiple of the page's size; then it becomes absent
+-- ---- the refusals by the page's own entry e, once no parent refuses
+
+-- it has to be present, huge exactly for 2MiB and 1GiB, with an address that is a multiple of the page's size
+abbrev pub unmap_refusal : (L : ℕ) (page : List ℕ) (e : ℕ) → Option Refusal
+unmap_refusal L q e = refused_if (not (present e)) PageNotMapped
+    (cond (is_small L q)
+    (refused_if (huge e) ParentEntryHugePage None)
+    (refused_if (not (huge e)) ParentEntryHugePage (refused_if (not (address e % span_size L q == 0)) (InvalidFrameAddress (address e)) None)))
+
+-- it has to be used, and huge for 2MiB and 1GiB
+abbrev pub update_refusal : (L : ℕ) (page : List ℕ) (e : ℕ) → Option Refusal
+update_refusal L q e = refused_if (not (used e)) PageNotMapped (cond (is_small L q) None (refused_if (not (huge e)) PageNotMapped None))
+
+-- it has to be used, and for 2MiB and 1GiB huge with an address that is a multiple of the page's size
+abbrev pub translate_refusal : (L : ℕ) (page : List ℕ) (e : ℕ) → Option Refusal
+translate_refusal L q e = refused_if (not (used e)) PageNotMapped
+    (cond (is_small L q) None (refused_if (not (huge e)) (InvalidFrameAddress (address e)) (refused_if (not (address e % span_size L q == 0)) (InvalidFrameAddress (address e)) None)))
+
+-- ---- the calls
+
+-- where nothing refuses, the page's entry becomes absent
 unfoldable pub unmap : (L : ℕ) (E : List ℕ → ℕ) → PathMap → (page : List ℕ) → AfterChange
 unmap L E paths q = let e = E q in
     refused_or paths (first_stop E q)
-    (refused_or paths (refused_if (not (present e)) PageNotMapped
-    (cond (is_small L q)
-    (refused_if (huge e) ParentEntryHugePage None)
-    (refused_if (not (huge e)) ParentEntryHugePage (refused_if (not (address e % span_size L q == 0)) (InvalidFrameAddress (address e)) None))))
+    (refused_or paths (unmap_refusal L q e)
     (record { paths = put paths q 0; answer = Done (address e) }))
 
--- the page's entry has to be used, and huge for 2MiB and 1GiB; then its flags become those given, with HUGE_PAGE for 2MiB and 1GiB
+-- where nothing refuses, the flags of the page's entry become those given, with HUGE_PAGE for 2MiB and 1GiB
 unfoldable pub update_flags : (L : ℕ) (E : List ℕ → ℕ) → PathMap → (page : List ℕ) (flags : ℕ) → AfterChange
 update_flags L E paths q given = let e = E q in
     refused_or paths (first_stop E q)
-    (refused_or paths (refused_if (not (used e)) PageNotMapped (cond (is_small L q) None (refused_if (not (huge e)) PageNotMapped None)))
+    (refused_or paths (update_refusal L q e)
     (record { paths = put paths q (leaf_entry L q (address e) given); answer = Done (address e) }))
 
--- the page's entry has to be used, and for 2MiB and 1GiB huge with an address that is a multiple of the page's size; the answer is its frame
+-- where nothing refuses, the answer is the frame of the page's entry
 unfoldable pub translate_page : (L : ℕ) (E : List ℕ → ℕ) → (page : List ℕ) → Answer
 translate_page L E q = let e = E q in
-    answer_unless (first_stop E q) (answer_unless (refused_if (not (used e)) PageNotMapped
-    (cond (is_small L q) None (refused_if (not (huge e)) (InvalidFrameAddress (address e)) (refused_if (not (address e % span_size L q == 0)) (InvalidFrameAddress (address e)) None))))
-    (Done (address e)))
+    answer_unless (first_stop E q) (answer_unless (translate_refusal L q e) (Done (address e)))
 
 -- On the entry of a level on the page's path: a level that isn't above the page's own is refused, the entry has to be used, and its flags become those given.
 unfoldable pub set_flags : (L : ℕ) (E : List ℕ → ℕ) → PathMap → (level : ℕ) (page : List ℕ) (flags : ℕ) → AfterChange

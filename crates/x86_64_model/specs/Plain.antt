@@ -2,7 +2,6 @@
 pub mod PathEntries
 pub mod Windows
 pub mod Calls
-pub mod Changes
 pub mod Fronts
 pub mod Cleaning
 pub mod Machine

@@ -1,5 +1,5 @@
--- The page walk of four and of five levels and `translate` of four, written out word by word.
--- `page_walk 4`, `page_walk 5` and `translate 4` are these, so that nobody has to trust a recursion.
+-- The page walk and `translate` of four and of five levels, written out word by word.
+-- `page_walk 4`, `page_walk 5`, `translate 4` and `translate 5` are these, so that nobody has to trust a recursion.
 use Rattle.std.specs.Prelude.{ℕ, ◌+◌, ◌*◌, ◌/◌, ◌%◌, ◌^◌, ◌&&◌, not, Bool, cond, List, [], ◌∷◌, take, Option, Some, None, option_and_then, option_map}
 use Rattle.std.specs.List.{list_all}
 use Rattle.x86_64_model.specs.Position.{index}
@@ -61,3 +61,6 @@ unfoldable pub walk_5 : Words → (root p : ℕ) → Option Walked
 walk_5 tables root p = option_and_then
     (λ w5. cond (present w5 && not (huge w5)) (narrowed (writable w5) (user w5) (walk_4 tables (address w5) p)) None)
     (read tables root (index 5 p))
+
+unfoldable pub translate_5 : (E : List ℕ → ℕ) (p : ℕ) → Translated
+translate_5 E p = cond (present (E (index 5 p ∷ []))) (translate_4 (λ q. E (index 5 p ∷ q)) p) NotMapped

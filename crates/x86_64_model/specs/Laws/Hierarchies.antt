@@ -1,5 +1,6 @@
 -- Laws of words that hold path maps, and of valid hierarchies.
 use Rattle.std.specs.Prelude.{◌≡◌, ◌≢◌, ◌<◌, ℕ, false, List, [], ◌∷◌, ◌++◌, length, Some, IsSome}
+use Rattle.std.specs.FinMap.{empty}
 use Rattle.x86_64_model.specs.Entry.{huge}
 use Rattle.x86_64_model.specs.Path.{level_of}
 use Rattle.x86_64_model.specs.PathMap.{PathMap, entry, put, table_of, table_at}
@@ -35,8 +36,8 @@ OneWordChanges = (L : ℕ) (T : Words) (root : ℕ) (M : PathMap) (p : List ℕ)
     → IsValid L (set_word T f i w) root (put M (p ++ i ∷ []) w)
 
 -- an empty root is a valid hierarchy with nothing in it
-abbrev pub EmptyIsValid : PathMap → Type 0
-EmptyIsValid none = (L : ℕ) (T : Words) (root : ℕ) → IsSome (T root) → ((i : ℕ) → word T root i ≡ 0) → IsValid L T root none
+abbrev pub EmptyIsValid : Type 0
+EmptyIsValid = (L : ℕ) (T : Words) (root : ℕ) → IsSome (T root) → ((i : ℕ) → word T root i ≡ 0) → IsValid L T root empty
 
 -- words that differ elsewhere keep a hierarchy valid
 abbrev pub OthersMayChange : Type 0

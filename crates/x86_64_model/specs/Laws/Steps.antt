@@ -1,19 +1,21 @@
 -- Laws of the machine's steps and of lists of calls.
-use Rattle.std.specs.Prelude.{◌≡◌, ◌↔◌, ℕ, Bool, true, false, List, [], ◌∷◌, take, drop, IsSome}
-use Rattle.std.specs.List.{AllByRecursion}
-use Rattle.x86_64_model.specs.Position.{page_path}
-use Rattle.x86_64_model.specs.Entry.{used, present}
-use Rattle.x86_64_model.specs.Path.{parents, begins}
+use Rattle.std.specs.Prelude.{◌≡◌, ◌↔◌, ◌+◌, ◌%◌, ℕ, Bool, true, false, List, [], ◌∷◌, length, take, drop, Option, Some, None, IsSome}
+use Rattle.std.specs.List.{AllByRecursion, slice_get}
+use Rattle.x86_64_model.specs.Position.{span, page_path}
+use Rattle.x86_64_model.specs.Entry.{used, present, writable, user}
+use Rattle.x86_64_model.specs.Path.{parents, begins, path_at}
 use Rattle.x86_64_model.specs.PathMap.{PathMap, entry}
 use Rattle.x86_64_model.specs.Memory.{Words}
 use Rattle.x86_64_model.specs.Window.{begins_with, entry_at, IsValidFor}
 use Rattle.x86_64_model.specs.PageWalk.{page_walk}
 use Rattle.x86_64_model.specs.Translation.{translate}
 use Rattle.x86_64_model.specs.Pool.{IsOwn, Fits}
-use Rattle.x86_64_model.specs.Call.{Call, IsCall}
+use Rattle.x86_64_model.specs.Call.{Call, MapTo, MapToWithTableFlags, IdentityMap, IsCall, Answered}
 use Rattle.x86_64_model.specs.Machine.{Machine, IsMachine, State, step, state_after}
 use Rattle.x86_64_model.specs.Flush.{Item, OnePage, covers, items_of, all_items}
-use Rattle.x86_64_model.specs.Arrivals.{Keeps}
+use Rattle.x86_64_model.specs.Arrivals.{Keeps, Arrives, Asks}
+use Rattle.x86_64_model.specs.MapRule.{parent_part}
+use Rattle.x86_64_model.specs.Refusal.{Done}
 
 -- the words are a valid hierarchy that means the state, and the pool fits it
 abbrev pub FitsState : (m : Machine) → Words → (root : ℕ) → (serves : ℕ → Bool) → State → Type 0
@@ -65,6 +67,38 @@ FlushesSuffice = (m : Machine) → IsMachine m → (T V U : Words) (root : ℕ) 
     → (k : ℕ) → IsValidFor m.levels m.window V root (state_after m s (take k calls)).paths → IsValidFor m.levels m.window U root (state_after m s calls).paths
     → (p : ℕ) → begins_with m.window (page_path m.levels p) ≡ false → NoneCovers m.levels (all_items m (state_after m s (take k calls)) (drop k calls)) p
     → Keeps (page_walk m.levels V root p) (page_walk m.levels U root p)
+
+-- ---- maps
+
+-- the flags that a call that maps a page gives its parents
+abbrev pub parent_flags_of : Call → Option ℕ
+parent_flags_of (MapTo q frame given) = Some (parent_part given)
+parent_flags_of (MapToWithTableFlags q frame given parent_flags) = Some parent_flags
+parent_flags_of (IdentityMap level frame given) = Some (parent_part given)
+parent_flags_of call = None
+
+-- the page, the frame and the flags of a `map_to` or an `identity_map`
+abbrev pub asked_of : (L : ℕ) → Call → Option (List ℕ × (ℕ × ℕ))
+asked_of L (MapTo q frame given) = Some (q, (frame, given))
+asked_of L (IdentityMap level frame given) = Some (path_at L level frame, (frame, given))
+asked_of L call = None
+
+-- Where the walk arrives in words that mean the state before a call of a list that maps a page, whatever it answers, it arrives in words that mean
+-- the state after it, at the same address, with no right lost and none gained that the parent flags lack.
+abbrev pub RunMapsKeepWalks : Type 0
+RunMapsKeepWalks = (m : Machine) (V U : Words) (root : ℕ) (s : State) (calls : List Call) (k more : ℕ) (call : Call) → slice_get calls k ≡ Some call → parent_flags_of call ≡ Some more
+    → IsValidFor m.levels m.window V root (state_after m s (take k calls)).paths → IsValidFor m.levels m.window U root (state_after m s (take (k + 1) calls)).paths
+    → (p : ℕ) → Arrives more (page_walk m.levels V root p) (page_walk m.levels U root p)
+
+-- In words that mean the state after a `map_to` or an `identity_map` of a list that was accepted with PRESENT, the walk arrives in all of the page, with just
+-- the rights that were asked for.
+abbrev pub RunMapsArrive : Type 0
+RunMapsArrive = (m : Machine) → IsMachine m → (T U : Words) (root : ℕ) (serves : ℕ → Bool) (s : State) (calls : List Call) → AllCalls m.levels calls
+    → FitsState m T root serves s
+    → (k level frame given : ℕ) (q : List ℕ) (call : Call) → slice_get calls k ≡ Some call → asked_of m.levels call ≡ Some (q, (frame, given)) → Asks m.levels level q frame given
+    → (step m (state_after m s (take k calls)) call).1 ≡ Answered (Done frame) → IsValidFor m.levels m.window U root (state_after m s (take (k + 1) calls)).paths
+    → (p : ℕ) → take (length q) (page_path m.levels p) ≡ q
+    → page_walk m.levels U root p ≡ Some (record { address = frame + p % span level; write = writable given; user = user given })
 
 -- ---- other pages
 

@@ -6,10 +6,10 @@ use Rattle.x86_64_model.specs.Memory.{Words}
 use Rattle.x86_64_model.specs.Window.{Window, entry_at, IsSelfEntry, IsValidFor}
 use Rattle.x86_64_model.specs.PageWalk.{page_walk}
 use Rattle.x86_64_model.specs.Translation.{translate, Agrees}
-use Rattle.x86_64_model.specs.WrittenOut.{walk_4, walk_5, translate_4}
+use Rattle.x86_64_model.specs.WrittenOut.{walk_4, walk_5, translate_4, translate_5}
 use Rattle.x86_64_model.specs.Arrivals.{Reaches, leads}
 
--- the walks of four and of five levels, and `translate` of four, are those written out
+-- the walks and `translate` of four and of five levels are those written out
 abbrev pub FourWrittenOut : Type 0
 FourWrittenOut = (T : Words) (root p : ℕ) → page_walk 4 T root p ≡ walk_4 T root p
 
@@ -18,6 +18,9 @@ FiveWrittenOut = (T : Words) (root p : ℕ) → page_walk 5 T root p ≡ walk_5 
 
 abbrev pub TranslateWrittenOut : Type 0
 TranslateWrittenOut = (E : List ℕ → ℕ) (p : ℕ) → translate 4 E p ≡ translate_4 E p
+
+abbrev pub TranslateFiveWrittenOut : Type 0
+TranslateFiveWrittenOut = (E : List ℕ → ℕ) (p : ℕ) → translate 5 E p ≡ translate_5 E p
 
 -- in every valid hierarchy and at every position, in the window too, `translate` names a present mapping exactly where the walk arrives, at the same address
 abbrev pub TranslateAgrees : Type 0

@@ -1,16 +1,18 @@
--- Worked examples of the definitions, with four levels and the root in frame 0x1000.
-use Rattle.std.specs.Prelude.{◌≡◌, ℕ, ◌==◌, nat_lt, true, false, cond, List, [], ◌∷◌, replicate, Some, None}
+-- Worked examples of the definitions, with the root in frame 0x1000, and with four levels unless it is said otherwise.
+use Rattle.std.specs.Prelude.{◌≡◌, ℕ, ◌==◌, nat_lt, true, false, cond, List, [], ◌∷◌, replicate, Option, Some, None}
 use Rattle.std.specs.FinMap.{empty, insert}
 use Rattle.std.specs.Ordering.{nat_cmp}
 use Rattle.x86_64_model.specs.PathMap.{PathMap, put}
 use Rattle.x86_64_model.specs.Memory.{Words, Memory, words_of, identity_places}
 use Rattle.x86_64_model.specs.Hierarchy.{IsValid}
-use Rattle.x86_64_model.specs.Window.{entry_at}
+use Rattle.x86_64_model.specs.Window.{Window, entry_at}
 use Rattle.x86_64_model.specs.PageWalk.{page_walk}
 use Rattle.x86_64_model.specs.Translation.{translate, Mapped}
-use Rattle.x86_64_model.specs.Refusal.{Done, Refused, ParentEntryHugePage}
+use Rattle.x86_64_model.specs.Refusal.{Done, Refused, ParentEntryHugePage, FrameAllocationFailed}
 use Rattle.x86_64_model.specs.MapRule.{map_call}
+use Rattle.x86_64_model.specs.PageRules.{update_flags}
 use Rattle.x86_64_model.specs.Pool.{Fits}
+use Rattle.x86_64_model.specs.Alike.{Alike}
 
 -- an empty root and three free frames
 unfoldable pub nothing_mapped : PathMap
@@ -33,6 +35,13 @@ pub record SmallMap : Type 0 where
   pub left : map_call 4 nothing_mapped three_frames 3 0 (0 ∷ 0 ∷ 0 ∷ 1 ∷ []) 0x5000 3 ≡ record { paths = small_mapped; supply = []; answer = Done 0x5000 }
   pub translated : translate 4 (entry_at None small_mapped) 0x1abc ≡ Mapped 0x1000 0x5000 0xabc 3
   pub walked : page_walk 4 (words_of small_memory identity_places) 0x1000 0x1abc ≡ Some (record { address = 0x5abc; write = true; user = false })
+
+-- its flags become WRITABLE alone: `translate` still names it, and the walk doesn't arrive
+pub record PageWithoutPresent : Type 0 where
+  pub left : update_flags 4 (entry_at None small_mapped) small_mapped (0 ∷ 0 ∷ 0 ∷ 1 ∷ []) 2
+      ≡ record { paths = put small_mapped (0 ∷ 0 ∷ 0 ∷ 1 ∷ []) 0x5002; answer = Done 0x5000 }
+  pub translated : translate 4 (entry_at None (put small_mapped (0 ∷ 0 ∷ 0 ∷ 1 ∷ []) 0x5002)) 0x1000 ≡ Mapped 0x1000 0x5000 0 2
+  pub walked : page_walk 4 (words_of (insert small_memory 4 (0 ∷ 0x5002 ∷ replicate 510 0)) identity_places) 0x1000 0x1000 ≡ None
 
 -- ---- the 2MiB page 0x20_0000 is mapped to frame 0x40_0000 with PRESENT
 
@@ -57,7 +66,70 @@ shared_table_image = λ f. cond (f == 0x1000) (Some (0x2003 ∷ 0x2002 ∷ repli
 abbrev pub SharedTableIsInvalid : Type 0
 SharedTableIsInvalid = (M : PathMap) → IsValid 4 shared_table_image 0x1000 M → ⊥
 
--- ---- the premises of the laws can be met
+-- ---- the same pages with five levels
 
-abbrev pub SomePoolFits : Type 0
-SomePoolFits = (T : Words) × Fits 4 None T 0x1000 nothing_mapped (λ f. true) three_frames
+abbrev pub four_frames : List ℕ
+four_frames = 0x2000 ∷ 0x3000 ∷ 0x4000 ∷ 0x5000 ∷ []
+
+-- the tables above the page's own
+unfoldable pub three_tables : PathMap
+three_tables = put (put (put nothing_mapped (0 ∷ []) 0x2003) (0 ∷ 0 ∷ []) 0x3003) (0 ∷ 0 ∷ 0 ∷ []) 0x4003
+
+unfoldable pub small_mapped_5 : PathMap
+small_mapped_5 = put (put three_tables (0 ∷ 0 ∷ 0 ∷ 0 ∷ []) 0x5003) (0 ∷ 0 ∷ 0 ∷ 0 ∷ 1 ∷ []) 0x6003
+
+unfoldable pub small_memory_5 : Memory
+small_memory_5 = insert (insert (insert (insert (insert (empty {X = List ℕ} {R = nat_cmp}) 1 (0x2003 ∷ replicate 511 0)) 2 (0x3003 ∷ replicate 511 0))
+    3 (0x4003 ∷ replicate 511 0)) 4 (0x5003 ∷ replicate 511 0)) 5 (0 ∷ 0x6003 ∷ replicate 510 0)
+
+pub record SmallMapFive : Type 0 where
+  pub left : map_call 5 nothing_mapped four_frames 3 0 (0 ∷ 0 ∷ 0 ∷ 0 ∷ 1 ∷ []) 0x6000 3
+      ≡ record { paths = small_mapped_5; supply = []; answer = Done 0x6000 }
+  pub translated : translate 5 (entry_at None small_mapped_5) 0x1abc ≡ Mapped 0x1000 0x6000 0xabc 3
+  pub walked : page_walk 5 (words_of small_memory_5 identity_places) 0x1000 0x1abc ≡ Some (record { address = 0x6abc; write = true; user = false })
+  pub short_of_frames : map_call 5 nothing_mapped three_frames 3 0 (0 ∷ 0 ∷ 0 ∷ 0 ∷ 1 ∷ []) 0x6000 3
+      ≡ record { paths = three_tables; supply = []; answer = Refused FrameAllocationFailed }
+
+unfoldable pub large_mapped_5 : PathMap
+large_mapped_5 = put (put (put (put nothing_mapped (0 ∷ []) 0x2001) (0 ∷ 0 ∷ []) 0x3001) (0 ∷ 0 ∷ 0 ∷ []) 0x4001) (0 ∷ 0 ∷ 0 ∷ 1 ∷ []) 0x400081
+
+abbrev pub LargeMapFive : Type 0
+LargeMapFive = map_call 5 nothing_mapped four_frames 1 0 (0 ∷ 0 ∷ 0 ∷ 1 ∷ []) 0x400000 1
+    ≡ record { paths = large_mapped_5; supply = 0x5000 ∷ []; answer = Done 0x400000 }
+
+-- ---- HUGE_PAGE one level below the root leads to a page with four levels, and nowhere with five
+
+unfoldable pub huge_memory : Memory
+huge_memory = insert (insert (empty {X = List ℕ} {R = nat_cmp}) 1 (0x2003 ∷ replicate 511 0)) 2 (0x83 ∷ replicate 511 0)
+
+pub record HugeBelowTheRoot : Type 0 where
+  pub four_levels : page_walk 4 (words_of huge_memory identity_places) 0x1000 0x1abc ≡ Some (record { address = 0x1abc; write = true; user = false })
+  pub five_levels : page_walk 5 (words_of huge_memory identity_places) 0x1000 0x1abc ≡ None
+
+-- ---- path maps that differ in WRITABLE
+
+-- a page by tables without WRITABLE, and the same page by tables with it
+unfoldable pub plain_tables : (page_entry : ℕ) → PathMap
+plain_tables e = put (put (put (put nothing_mapped (0 ∷ []) 0x2001) (0 ∷ 0 ∷ []) 0x3001) (0 ∷ 0 ∷ 0 ∷ []) 0x4001) (0 ∷ 0 ∷ 0 ∷ 1 ∷ []) e
+
+unfoldable pub writable_tables : (page_entry : ℕ) → PathMap
+writable_tables e = put (put (put (put nothing_mapped (0 ∷ []) 0x2003) (0 ∷ 0 ∷ []) 0x3003) (0 ∷ 0 ∷ 0 ∷ []) 0x4003) (0 ∷ 0 ∷ 0 ∷ 1 ∷ []) e
+
+-- they are alike where the page's own entries are equal, and not where these differ in WRITABLE
+pub record AlikeButForTables : Type 0 where
+  pub alike : Alike 4 (plain_tables 0x5001) (writable_tables 0x5001)
+  pub not_alike : Alike 4 (plain_tables 0x5003) (writable_tables 0x5001) → ⊥
+
+-- ---- the premises of the laws can be met, whatever the number of levels, without a recursive index and with one
+
+-- the root's last word but one names the root, with PRESENT and WRITABLE
+abbrev pub self_window : Window
+self_window = record { index = 510; self_entry = 0x1003 }
+
+-- an empty root and four free frames
+abbrev pub SomeWordsFit : (L : ℕ) → Option Window → Type 0
+SomeWordsFit L window = (T : Words) × Fits L window T 0x1000 nothing_mapped (λ f. true) four_frames
+
+pub record SomePoolFits : Type 0 where
+  pub direct : (L : ℕ) → SomeWordsFit L None
+  pub recursive : (L : ℕ) → SomeWordsFit L (Some self_window)

@@ -9,6 +9,7 @@ pub mod Flushes
 pub mod Giving
 pub mod Laws
 pub mod Refused
+pub mod RunWalks
 pub mod Spares
 pub mod States
 pub mod Witness

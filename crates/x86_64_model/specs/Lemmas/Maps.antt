@@ -5,6 +5,7 @@ pub mod Down
 pub mod Flags
 pub mod Frames
 pub mod Leaves
+pub mod Mapped
 pub mod PageCalls
 pub mod Rights
 pub mod Takes

@@ -1,5 +1,5 @@
 // Laws of words that hold path maps, and of valid hierarchies.
-ghost use Rattle.x86_64_model.specs.Laws.Hierarchies.{OnePathMap, HeldIsPathsOf, PathsOfIsHeld, OneWordChanges, OthersMayChange};
+ghost use Rattle.x86_64_model.specs.Laws.Hierarchies.{OnePathMap, HeldIsPathsOf, PathsOfIsHeld, OneWordChanges, OthersMayChange, EmptyIsValid};
 
 /// At most one path map is held by words.
 pub fn at_most_one_path_map()
@@ -25,4 +25,9 @@ pub fn one_word_changes_one_path()
 /// Words that differ outside its tables keep a hierarchy valid.
 pub fn other_words_may_change()
     ensures { OthersMayChange }
+{}
+
+/// A root whose words are all 0 is a valid hierarchy, in which nothing is mapped.
+pub fn empty_roots_are_valid()
+    ensures { EmptyIsValid }
 {}

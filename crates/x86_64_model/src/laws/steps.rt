@@ -1,5 +1,5 @@
 // Laws of the machine's steps and of lists of calls.
-ghost use Rattle.x86_64_model.specs.Laws.Steps.{StepKeepsFit, StepIsHeld, RunConserves, RunKeepsFit, RunIsHeld, FlushesSuffice, CallsSpareOthers};
+ghost use Rattle.x86_64_model.specs.Laws.Steps.{StepKeepsFit, StepIsHeld, RunConserves, RunKeepsFit, RunIsHeld, FlushesSuffice, RunMapsKeepWalks, RunMapsArrive, CallsSpareOthers};
 
 /// One step keeps the state fitting.
 pub fn steps_keep_the_pool_fitting()
@@ -37,4 +37,14 @@ pub fn calls_spare_other_pages()
 #[tactic(auto, using(crate::specs::Lemmas::Machines::Laws::run_is_held))]
 pub fn runs_are_held_by_words()
     ensures { RunIsHeld }
+{}
+
+/// Where the processor arrives before a map of a list, it still does after it, whatever the map answers.
+pub fn maps_in_runs_keep_walks()
+    ensures { RunMapsKeepWalks }
+{}
+
+/// After a `map_to` or an `identity_map` of a list that was accepted with PRESENT, the processor arrives in all of the page.
+pub fn maps_in_runs_arrive()
+    ensures { RunMapsArrive }
 {}

@@ -1,5 +1,5 @@
 // Laws of the page walk and of `translate`.
-ghost use Rattle.x86_64_model.specs.Laws.Walks.{FourWrittenOut, FiveWrittenOut, TranslateWrittenOut, TranslateAgrees, WindowsReach};
+ghost use Rattle.x86_64_model.specs.Laws.Walks.{FourWrittenOut, FiveWrittenOut, TranslateWrittenOut, TranslateFiveWrittenOut, TranslateAgrees, WindowsReach};
 
 /// The walk of four levels is the one written out.
 #[tactic(auto, using(crate::specs::Lemmas::Walks::WrittenOut::walk_is))]
@@ -17,6 +17,12 @@ pub fn five_levels_written_out()
 #[tactic(auto, using(crate::specs::Lemmas::Walks::WrittenOut::translate_is))]
 pub fn translate_written_out()
     ensures { TranslateWrittenOut }
+{}
+
+/// `translate` of five levels is one level above that of four.
+#[tactic(auto, using(crate::specs::Lemmas::Walks::WrittenOut::translate_5_is))]
+pub fn translate_of_five_levels_written_out()
+    ensures { TranslateFiveWrittenOut }
 {}
 
 /// In every valid hierarchy and at every address, `translate` names a present mapping exactly where the walk arrives, at the same address.

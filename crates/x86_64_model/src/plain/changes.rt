@@ -6,10 +6,9 @@ ghost use Rattle.x86_64_model.specs.PathMap.{put};
 ghost use Rattle.x86_64_model.specs.Window.{entry_at as entry_at_of};
 ghost use Rattle.x86_64_model.specs.MapRule.{leaf_entry as leaf_entry_of};
 ghost use Rattle.x86_64_model.specs.Refusal.{Done, PageNotMapped, answer_unless, refused_if};
-ghost use Rattle.x86_64_model.specs.PageRules.{refused_or, unmap as unmap_of, update_flags as update_flags_of, translate_page as translate_page_of, set_flags as set_flags_of};
+ghost use Rattle.x86_64_model.specs.PageRules.{refused_or, unmap_refusal as unmap_refusal_of, update_refusal as update_refusal_of, translate_refusal as translate_refusal_of, unmap as unmap_of, update_flags as update_flags_of, translate_page as translate_page_of, set_flags as set_flags_of};
 ghost use Rattle.x86_64_model.specs.Plain.Windows.{window_of};
 ghost use Rattle.x86_64_model.specs.Plain.Calls.{refusals_of, answer_of};
-ghost use Rattle.x86_64_model.specs.Plain.Changes.{unmap_refusal as unmap_refusal_of, update_refusal as update_refusal_of, translate_refusal as translate_refusal_of};
 
 use crate::plain::calls::{Answer, Refusal};
 use crate::plain::entries::PathEntries;

@@ -1,17 +1,31 @@
+ghost use Rattle.std.specs.Prelude.{◌≤◌};
+
 use super::{
     Answer, PathEntries, PlainCall, PlainMachine, PlainReply, PlainState, PlainWindow, Refusal,
     Translated,
 };
 use std::alloc::{AllocError, Global};
+use std::process::Abort;
 use std::test::Fail;
 
-const MACHINE: PlainMachine = PlainMachine {
+mod clean_ups;
+mod five_levels;
+mod pages;
+
+const FOUR_LEVELS: PlainMachine = PlainMachine {
     levels: 4,
     window: None,
     added_flags: 0,
 };
 
+/// The last position of four levels.
 const LAST: u64 = 0xffff_ffff_ffff;
+
+/// The recursive index 510 of a root in frame 0x1000.
+const WINDOW: PlainWindow = PlainWindow {
+    index: 510,
+    self_entry: 0x1003,
+};
 
 /// Makes a state without entries.
 fn state_of(alloc: Global, pool: &[u64]) -> Result<PlainState, AllocError> {
@@ -21,139 +35,109 @@ fn state_of(alloc: Global, pool: &[u64]) -> Result<PlainState, AllocError> {
     })
 }
 
-/// Makes the call that maps a page.
-fn map_to(alloc: Global, page: &[u64], frame: u64, flags: u64) -> Result<PlainCall, AllocError> {
-    let page = Vec::from_slice(alloc, page)?;
-    Ok(PlainCall::MapTo { page, frame, flags })
+/// A call of a table's row, with a page by the indices of its path.
+#[derive(Clone, Copy, Debug)]
+enum Turn<'a> {
+    MapTo(&'a [u64], u64, u64),
+    MapToWithTableFlags(&'a [u64], u64, u64, u64),
+    IdentityMap(usize, u64, u64),
+    Unmap(&'a [u64]),
+    UpdateFlags(&'a [u64], u64),
+    SetFlags(usize, &'a [u64], u64),
+    TranslatePage(&'a [u64]),
+    Translate(u64),
+    TranslateAddress(u64),
+    CleanUp(u64, u64),
 }
 
-fn done(frame: u64) -> PlainReply {
-    PlainReply::Answered(Answer::Done(frame))
+/// Makes the call.
+fn call_of(alloc: Global, turn: Turn) -> Result<PlainCall, AllocError> {
+    Ok(match turn {
+        Turn::MapTo(page, frame, flags) => PlainCall::MapTo {
+            page: Vec::from_slice(alloc, page)?,
+            frame,
+            flags,
+        },
+        Turn::MapToWithTableFlags(page, frame, flags, parent_flags) => {
+            PlainCall::MapToWithTableFlags {
+                page: Vec::from_slice(alloc, page)?,
+                frame,
+                flags,
+                parent_flags,
+            }
+        }
+        Turn::IdentityMap(level, frame, flags) => PlainCall::IdentityMap {
+            level,
+            frame,
+            flags,
+        },
+        Turn::Unmap(page) => PlainCall::Unmap {
+            page: Vec::from_slice(alloc, page)?,
+        },
+        Turn::UpdateFlags(page, flags) => PlainCall::UpdateFlags {
+            page: Vec::from_slice(alloc, page)?,
+            flags,
+        },
+        Turn::SetFlags(level, page, flags) => PlainCall::SetFlags {
+            level,
+            page: Vec::from_slice(alloc, page)?,
+            flags,
+        },
+        Turn::TranslatePage(page) => PlainCall::TranslatePage {
+            page: Vec::from_slice(alloc, page)?,
+        },
+        Turn::Translate(position) => PlainCall::Translate { position },
+        Turn::TranslateAddress(position) => PlainCall::TranslateAddress { position },
+        Turn::CleanUp(low, high) => PlainCall::CleanUp { low, high },
+    })
 }
 
-fn refused(why: Refusal) -> PlainReply {
-    PlainReply::Answered(Answer::Refused(why))
+/// Calls from a state without entries, the replies to them, and the entries and the pool that they leave.
+struct Case<'a> {
+    name: &'a str,
+    pool: &'a [u64],
+    rows: &'a [(Turn<'a>, PlainReply)],
+    entries: &'a [(&'a [u64], u64)],
+    left: &'a [u64],
 }
 
-#[test]
-fn small_page_comes_and_goes(rt: HostRuntime) -> Result<(), Fail> {
-    let alloc = rt.alloc();
-    let mut state = state_of(alloc, &[0x2000, 0x3000, 0x4000])?;
-    let call = PlainCall::MapToWithTableFlags {
-        page: vec![in alloc; 0, 0, 0, 1]?,
-        frame: 0x5000,
-        flags: 3,
-        parent_flags: 3,
-    };
-    assert_eq!(rt; MACHINE.step(&mut state, &call)?, done(0x5000));
-    assert_eq!(rt; state.paths.entry(&[0]), 0x2003);
-    assert_eq!(rt; state.paths.entry(&[0, 0]), 0x3003);
-    assert_eq!(rt; state.paths.entry(&[0, 0, 0]), 0x4003);
-    assert_eq!(rt; state.paths.entry(&[0, 0, 0, 1]), 0x5003);
-    assert!(rt; state.pool.is_empty());
-    assert_eq!(rt;
-        MACHINE.step(&mut state, &call)?,
-        refused(Refusal::PageAlreadyMapped(0x5000))
-    );
-    let other = map_to(alloc, &[1, 0, 0, 1], 0x6000, 3)?;
-    assert_eq!(rt;
-        MACHINE.step(&mut state, &other)?,
-        refused(Refusal::FrameAllocationFailed)
-    );
-    let page = vec![in alloc; 0, 0, 0, 1]?;
-    let ask = PlainCall::TranslatePage { page };
-    assert_eq!(rt; MACHINE.step(&mut state, &ask)?, done(0x5000));
-    let page = vec![in alloc; 0, 0, 0, 1]?;
-    let call = PlainCall::Unmap { page };
-    assert_eq!(rt; MACHINE.step(&mut state, &call)?, done(0x5000));
-    assert_eq!(rt;
-        MACHINE.step(&mut state, &call)?,
-        refused(Refusal::PageNotMapped)
-    );
-    let call = PlainCall::CleanUp { low: 0, high: LAST };
-    assert_eq!(rt; MACHINE.step(&mut state, &call)?, PlainReply::Cleaned);
-    assert_eq!(rt; state.pool.as_slice(), [0x2000, 0x3000, 0x4000].as_slice());
-    assert_eq!(rt; state.paths.entry(&[0]), 0);
+/// Makes the calls of each case, and compares the replies and what is left.
+fn check_cases(
+    rt: &impl Abort,
+    alloc: Global,
+    machine: &PlainMachine,
+    cases: &[Case],
+) -> Result<(), Fail>
+    requires { machine.now.levels ≤ 5 }
+{
+    for case in cases {
+        let mut state = state_of(alloc, case.pool)?;
+        for (turn, reply) in case.rows {
+            let call = call_of(alloc, *turn)?;
+            assert_eq!(rt;
+                machine.step(&mut state, &call)?,
+                *reply,
+                "{}: {turn:?}",
+                case.name
+            );
+        }
+        check_state(rt, &state, case);
+    }
     Ok(())
 }
 
-#[test]
-fn large_page_refuses_below_it(rt: HostRuntime) -> Result<(), Fail> {
-    let alloc = rt.alloc();
-    let mut state = state_of(alloc, &[0x2000, 0x3000, 0x4000])?;
-    let call = map_to(alloc, &[0, 0, 1], 0x40_0000, 1)?;
-    assert_eq!(rt; MACHINE.step(&mut state, &call)?, done(0x40_0000));
-    assert_eq!(rt; state.paths.entry(&[0]), 0x2001);
-    assert_eq!(rt; state.paths.entry(&[0, 0]), 0x3001);
-    assert_eq!(rt; state.paths.entry(&[0, 0, 1]), 0x40_0081);
-    assert_eq!(rt; state.pool.as_slice(), [0x4000].as_slice());
-    let translated = Translated::Mapped {
-        size: 0x20_0000,
-        frame: 0x40_0000,
-        offset: 0x3_4567,
-        flags: 0x81,
-    };
-    let position = 0x23_4567;
-    let call = PlainCall::Translate { position };
+/// Compares a state with the entries of a case, beside which there are no others, and with its pool.
+fn check_state(rt: &impl Abort, state: &PlainState, case: &Case) {
+    for (path, word) in case.entries {
+        assert_eq!(rt; state.paths.entry(path), *word, "{}: {path:?}", case.name);
+    }
     assert_eq!(rt;
-        MACHINE.step(&mut state, &call)?,
-        PlainReply::Position(translated)
+        state.paths.items.len(),
+        case.entries.len(),
+        "{}",
+        case.name
     );
-    let call = PlainCall::TranslateAddress { position };
-    assert_eq!(rt;
-        MACHINE.step(&mut state, &call)?,
-        PlainReply::Address(Some(0x43_4567))
-    );
-    let call = map_to(alloc, &[0, 0, 1, 1], 0x9000, 3)?;
-    assert_eq!(rt;
-        MACHINE.step(&mut state, &call)?,
-        refused(Refusal::ParentEntryHugePage)
-    );
-    assert_eq!(rt; state.paths.entry(&[0]), 0x2003);
-    assert_eq!(rt; state.paths.entry(&[0, 0]), 0x3003);
-    assert_eq!(rt; state.paths.entry(&[0, 0, 1]), 0x40_0083);
-    assert_eq!(rt; state.pool.as_slice(), [0x4000].as_slice());
-    Ok(())
-}
-
-#[test]
-fn flags_and_window(rt: HostRuntime) -> Result<(), Fail> {
-    let alloc = rt.alloc();
-    let window = PlainWindow {
-        index: 511,
-        self_entry: 0x1003,
-    };
-    let machine = PlainMachine {
-        levels: 4,
-        window: Some(window),
-        added_flags: 3,
-    };
-    let mut state = state_of(alloc, &[0x2000, 0x3000, 0x4000])?;
-    let call = PlainCall::IdentityMap {
-        level: 1,
-        frame: 0x7000,
-        flags: 1,
-    };
-    assert_eq!(rt; machine.step(&mut state, &call)?, done(0x7000));
-    assert_eq!(rt; state.paths.entry(&[0]), 0x2003);
-    let page = vec![in alloc; 0, 0, 0, 7]?;
-    let call = PlainCall::UpdateFlags { page, flags: 5 };
-    assert_eq!(rt; machine.step(&mut state, &call)?, done(0x7000));
-    assert_eq!(rt; state.paths.entry(&[0, 0, 0, 7]), 0x7005);
-    let page = vec![in alloc; 0, 0, 0, 7]?;
-    let call = PlainCall::SetFlags {
-        level: 4,
-        page,
-        flags: 7,
-    };
-    assert_eq!(rt; machine.step(&mut state, &call)?, done(0x2000));
-    assert_eq!(rt; state.paths.entry(&[0]), 0x2007);
-    let page = vec![in alloc; 511, 511, 511, 0]?;
-    let call = PlainCall::TranslatePage { page };
-    assert_eq!(rt; machine.step(&mut state, &call)?, done(0x2000));
-    let call = map_to(alloc, &[511, 0, 0, 0], 0x7000, 1)?;
-    assert_eq!(rt; machine.step(&mut state, &call)?, PlainReply::NotAllowed);
-    Ok(())
+    assert_eq!(rt; state.pool.as_slice(), case.left, "{}", case.name);
 }
 
 /// So many calls over some dozen entries take seconds at most.
@@ -165,16 +149,13 @@ fn many_calls(rt: HostRuntime) -> Result<(), Fail> {
         state.pool.push(number * 0x1000)?;
     }
     for turn in 0..12u64 {
-        let page = vec![in alloc; turn % 4, turn % 3, turn % 2, turn]?;
         let frame = 0x100_0000 + turn * 0x1000;
-        let call = PlainCall::MapTo {
-            page,
-            frame,
-            flags: 3,
-        };
-        assert_eq!(rt; MACHINE.step(&mut state, &call)?, done(frame));
+        let page = [turn % 4, turn % 3, turn % 2, turn];
+        let call = call_of(alloc, Turn::MapTo(&page, frame, 3))?;
+        let mapped = PlainReply::Answered(Answer::Done(frame));
+        assert_eq!(rt; FOUR_LEVELS.step(&mut state, &call)?, mapped);
         let call = PlainCall::CleanUp { low: 0, high: LAST };
-        assert_eq!(rt; MACHINE.step(&mut state, &call)?, PlainReply::Cleaned);
+        assert_eq!(rt; FOUR_LEVELS.step(&mut state, &call)?, PlainReply::Cleaned);
     }
     assert_eq!(rt; state.pool.len(), 39 - 4 - 12 - 12);
     Ok(())

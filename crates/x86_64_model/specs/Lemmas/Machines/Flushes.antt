@@ -79,7 +79,7 @@ run_keeps L window root serves added adds give gives (call ∷ calls) is s sound
 
 -- ---- after the first k calls
 
-take_all : (L k : ℕ) (calls : List Call) → AllCalls L calls → AllCalls L (take k calls) × AllCalls L (drop k calls)
+pub take_all : (L k : ℕ) (calls : List Call) → AllCalls L calls → AllCalls L (take k calls) × AllCalls L (drop k calls)
 take_all L zero calls h = (tt, h)
 take_all L (suc k) [] h = (tt, tt)
 take_all L (suc k) (call ∷ calls) h = let more = take_all L k calls h.1 in ((h.0, more.0), more.1)

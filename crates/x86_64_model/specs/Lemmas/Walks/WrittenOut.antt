@@ -4,10 +4,10 @@ use Rattle.std.proofs.Math.Bool.{and_assoc, and-true}
 use Rattle.x86_64_model.specs.Path.{span_size}
 use Rattle.x86_64_model.specs.Entry.{present, writable, user, huge, address}
 use Rattle.x86_64_model.specs.Memory.{Words}
-use Rattle.x86_64_model.specs.Position.{index, span, page_path}
+use Rattle.x86_64_model.specs.Position.{index, span}
 use Rattle.x86_64_model.specs.PageWalk.{page_start, Walked, arrives, read, walk_on, page_walk}
 use Rattle.x86_64_model.specs.Translation.{translate_on, translate}
-use Rattle.x86_64_model.specs.WrittenOut.{path_of, walk_1, walk_2, walk_3, walk_4, translate_4, narrowed, walk_5}
+use Rattle.x86_64_model.specs.WrittenOut.{walk_1, walk_2, walk_3, walk_4, translate_4, narrowed, walk_5, translate_5}
 
 two : (a b : Bool) → (a && b) ≡ (a && (b && true))
 two true true = refl
@@ -25,13 +25,13 @@ four false b c d = refl
 then_same : (f g : ℕ → Option Walked) → ((e : ℕ) → f e ≡ g e) → (o : Option ℕ) → option_and_then f o ≡ option_and_then g o
 then_same f g h o = ap (λ f. option_and_then f o) (λ i e. h e i)
 
-page_path_4 : (p : ℕ) → page_path 4 p ≡ path_of p
-unfolding page_path
-page_path_4 p = refl
-
 pub translate_is : (E : List ℕ → ℕ) (p : ℕ) → translate 4 E p ≡ translate_4 E p
 unfolding translate translate_on translate_4
 translate_is E p = refl
+
+pub translate_5_is : (E : List ℕ → ℕ) (p : ℕ) → translate 5 E p ≡ translate_5 E p
+unfolding translate translate_on translate_4 translate_5
+translate_5_is E p = refl
 
 -- the span of a path of n indices, by n
 pub span_size_is : (L : ℕ) (q : List ℕ) → span_size L q ≡ 2 ^ (12 + 9 * (L - length q))

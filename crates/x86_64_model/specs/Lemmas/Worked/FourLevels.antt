@@ -1,5 +1,5 @@
 -- The worked examples of four levels, by computation.
-use Rattle.std.proofs.Common.{◌≡◌, ◌≢◌, ℕ, true, false, cond, List, [], ◌∷◌, Some, None, refl, ap}
+use Rattle.std.proofs.Common.{◌≡◌, ◌≢◌, ℕ, true, false, cond, List, [], ◌∷◌, Some, None, ap, replicate}
 use Rattle.std.specs.FinMap.{get, insert, get-insert}
 use Rattle.std.specs.Cmp.{nat_cmp_total}
 use Rattle.std.specs.Ordering.{nat_cmp, eq_by_cmp}
@@ -7,19 +7,15 @@ use Rattle.x86_64_model.specs.Memory.{Memory, word, words_of, identity_places}
 use Rattle.x86_64_model.specs.Entry.{has, used, address, flags}
 use Rattle.x86_64_model.specs.PathMap.{PathMap, put, table_at, table_of}
 use Rattle.x86_64_model.specs.MapRule.{map_rule, map_call}
-use Rattle.x86_64_model.specs.Refusal.{Done, Refused, ParentEntryHugePage}
-use Rattle.x86_64_model.specs.Position.{index, page_path}
+use Rattle.x86_64_model.specs.PageRules.{update_flags}
+use Rattle.x86_64_model.specs.Refusal.{Done, Refused, ParentEntryHugePage, first_stop}
+use Rattle.x86_64_model.specs.Position.{index}
 use Rattle.x86_64_model.specs.Translation.{translate, translate_on, Mapped as IsMapped}
 use Rattle.x86_64_model.specs.PageWalk.{walk_on, page_walk}
 use Rattle.x86_64_model.specs.Window.{entry_at}
 use Rattle.x86_64_model.specs.Hierarchy.{IsValid}
-use Rattle.x86_64_model.specs.Laws.Worked.{nothing_mapped, three_frames, small_mapped, small_memory, large_mapped, shared_table_image, SmallMap, LargeMap}
+use Rattle.x86_64_model.specs.Laws.Worked.{nothing_mapped, three_frames, small_mapped, small_memory, large_mapped, shared_table_image, SmallMap, PageWithoutPresent, LargeMap}
 use Rattle.x86_64_model.specs.Lemmas.Paths.Puts.{entry-put, entry-empty}
-
--- the path of 0x1abc
-path : page_path 4 0x1abc ≡ 0 ∷ 0 ∷ 0 ∷ 1 ∷ []
-unfolding page_path index
-path = refl
 
 map_small : map_call 4 nothing_mapped three_frames 3 0 (0 ∷ 0 ∷ 0 ∷ 1 ∷ []) 0x5000 3 ≡ record { paths = small_mapped; supply = []; answer = Done 0x5000 }
 unfolding map_rule small_mapped nothing_mapped used
@@ -64,6 +60,23 @@ small_walked = simp get_it
 
 pub small : SmallMap
 small = record { left = map_small; translated = small_translates; walked = small_walked }
+
+-- the page without PRESENT
+updated : update_flags 4 (entry_at None small_mapped) small_mapped (0 ∷ 0 ∷ 0 ∷ 1 ∷ []) 2
+    ≡ record { paths = put small_mapped (0 ∷ 0 ∷ 0 ∷ 1 ∷ []) 0x5002; answer = Done 0x5000 }
+unfolding update_flags first_stop small_mapped nothing_mapped entry_at used has address
+updated = simp entry-put
+
+updated_translates : translate 4 (entry_at None (put small_mapped (0 ∷ 0 ∷ 0 ∷ 1 ∷ []) 0x5002)) 0x1000 ≡ IsMapped 0x1000 0x5000 0 2
+unfolding translate translate_on small_mapped nothing_mapped entry_at used has index address flags
+updated_translates = simp entry-put
+
+updated_walked : page_walk 4 (words_of (insert small_memory 4 (0 ∷ 0x5002 ∷ replicate 510 0)) identity_places) 0x1000 0x1000 ≡ None
+unfolding page_walk walk_on small_memory has index address
+updated_walked = simp get_it
+
+pub without_present : PageWithoutPresent
+without_present = record { left = updated; translated = updated_translates; walked = updated_walked }
 
 pub large : LargeMap
 large = record { left = map_large; translated = large_translates }
