@@ -2,6 +2,7 @@ pub mod Blocks
 pub mod Indices
 pub mod Multiples
 pub mod PageSteps
+pub mod Ranges
 pub mod Steps
 pub mod Sums
 pub mod TakenInTurn
@@ -9,3 +10,4 @@ pub mod TakenInTurnInclusive
 pub use Rattle.x86_64_addr.specs.Levels
 pub use Rattle.x86_64_addr.specs.Position
 pub use Rattle.x86_64_addr.specs.Successor
+pub use Rattle.x86_64_model.specs.Range

@@ -49,7 +49,8 @@ impl<S: PageSize> PhysFrame<S> {
         }
     }
 
-    /// Gives the frame that starts at an address, which must be a multiple of the size.
+    /// Gives the frame that starts at an address, which must be a multiple of the size. Test that by
+    /// [`from_start_address`](Self::from_start_address), or by [`PhysAddr::is_aligned`].
     pub fn from_start_address_unchecked(start_address: PhysAddr) -> Self
         requires { start_address % S.SIZE ≡ 0 }
         ensures { result ≡ start_address }

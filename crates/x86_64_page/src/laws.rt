@@ -1,10 +1,11 @@
-//! Laws of pages and frames: their order agrees with equality and with hashes, and steps along pages are counted; blocks
-//! are taken from ranges one by one. The bodies are empty; the contracts are the laws.
+//! Laws of pages and frames: their order agrees with equality and with hashes, and steps along pages are counted; the blocks
+//! of ranges are those of the definition, and are taken one by one. The bodies are empty; the contracts are the laws.
 ghost use Rattle.std.specs.Prelude.{◌≡◌, ◌==◌, Some};
 ghost use Rattle.std.specs.Ordering.{nat_cmp};
 ghost use Rattle.std.specs.Hash as fed;
 ghost use Rattle.x86_64_addr.specs.Position.{raw};
 ghost use Rattle.x86_64_page.specs.PageSteps.{ArePageSteps};
+ghost use Rattle.x86_64_page.specs.Ranges.{BlocksAreTheRange, InclusiveBlocksAreTheRange};
 ghost use Rattle.x86_64_page.specs.TakenInTurn.{AreTakenInTurn};
 ghost use Rattle.x86_64_page.specs.TakenInTurnInclusive.{AreTakenInTurnInclusive};
 
@@ -32,6 +33,13 @@ pub fn frames_are_ordered_by_address<S: PageSize + Hash>(left: PhysFrame<S>, rig
 /// Steps along pages compose, steps back undo steps on, and they are counted.
 pub fn page_steps_are_counted<S: PageSize>()
     ensures { ArePageSteps S.SIZE }
+{}
+
+/// The blocks of a range, by which the contracts of its calls speak, are those of its definition.
+#[tactic(auto, using(crate::specs::Ranges::blocks_are_the_range, crate::specs::Ranges::inclusive_blocks_are_the_range))]
+pub fn blocks_are_the_range()
+    ensures exclusive { BlocksAreTheRange }
+    ensures inclusive { InclusiveBlocksAreTheRange }
 {}
 
 /// Taking n + 1 blocks from a range is taking n, and then one more, from the front and from the back.

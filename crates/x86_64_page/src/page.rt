@@ -188,7 +188,8 @@ impl<S: PageSize> Page<S> {
         }
     }
 
-    /// Gives the page that starts at an address, which must be a multiple of the size.
+    /// Gives the page that starts at an address, which must be a multiple of the size. Test that by
+    /// [`from_start_address`](Self::from_start_address), or by [`VirtAddr::is_aligned`].
     pub fn from_start_address_unchecked(start_address: VirtAddr) -> Self
         requires { start_address % S.SIZE ≡ 0 }
         ensures { result ≡ start_address }
@@ -220,7 +221,7 @@ impl<S: PageSize> Page<S> {
         self.start_address
     }
 
-    /// Gives the size in bytes.
+    /// Gives the size in bytes, which is also the constant `SIZE` of [`Block`](crate::range::Block).
     pub fn size(self) -> u64
         ensures { result ≡ S.SIZE }
     {

@@ -10,6 +10,7 @@ use crate::laws::{
 use crate::page::{
     AddressNotAligned, NotGiantPageSize, Page, PageSize, Size1GiB, Size2MiB, Size4KiB,
 };
+use crate::range::Block;
 use std::hash::{DefaultHasher, Hash, Hasher};
 use std::process::Abort;
 use x86_64_addr::addr::{PhysAddr, VirtAddr};
@@ -115,6 +116,7 @@ fn pages_start_at_multiples(rt: HostRuntime) {
     check_highest_page::<Size4KiB>(&rt, 0xffff_ffff_ffff_f000);
     check_highest_page::<Size2MiB>(&rt, 0xffff_ffff_ffe0_0000);
     check_highest_page::<Size1GiB>(&rt, 0xffff_ffff_c000_0000);
+    assert_eq!(rt; Page::<Size2MiB>::SIZE, 0x20_0000);
     let address = VirtAddr::new_truncate(0x8000_8040_3000);
     let small = Page::<Size4KiB>::containing_address(address);
     let large = Page::<Size2MiB>::containing_address(address);

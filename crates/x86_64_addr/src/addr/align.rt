@@ -8,7 +8,7 @@ use crate::addr::{PhysAddr, VirtAddr};
 
 /// Gives the greatest multiple of `align` that isn't above `addr`.
 ///
-/// `align` must be a power of two.
+/// `align` must be a power of two: test that by [`u64::is_power_of_two`].
 pub fn align_down(addr: u64, align: u64) -> u64
     requires { IsTrue (is_power_of_two align) }
     ensures value { result ≡ addr - addr % align }
@@ -19,7 +19,8 @@ pub fn align_down(addr: u64, align: u64) -> u64
 
 /// Gives the least multiple of `align` that isn't below `addr`.
 ///
-/// `align` must be a power of two, and the multiple below 2^64.
+/// `align` must be a power of two, and the multiple below 2^64: test that by [`u64::is_power_of_two`] and
+/// [`u64::checked_next_multiple_of`].
 #[tactic(auto, using(crate::proofs::Alignments::least))]
 pub fn align_up(addr: u64, align: u64) -> u64
     requires power { IsTrue (is_power_of_two align) }
@@ -50,7 +51,8 @@ fn remainder(addr: u64, align: u64) -> u64
 impl VirtAddr {
     /// Gives the address at the position of the raw value aligned up by [`align_up`], which is the position aligned up.
     ///
-    /// By 2^48 and more that is the address 0. `align` must be a power of two, and the raw value aligned up below 2^64.
+    /// By 2^48 and more that is the address 0. `align` must be a power of two, and the raw value aligned up below 2^64: test
+    /// that by [`u64::is_power_of_two`] and [`u64::checked_next_multiple_of`].
     pub fn align_up(self, align: u64) -> VirtAddr
         requires power { IsTrue (is_power_of_two align) }
         requires fits { next_multiple_of (raw 4 self) align < 2 ^ 64 }
@@ -62,7 +64,7 @@ impl VirtAddr {
 
     /// Gives the address at the position of the raw value aligned down by [`align_down`], which is the position aligned down.
     ///
-    /// `align` must be a power of two.
+    /// `align` must be a power of two: test that by [`u64::is_power_of_two`].
     pub fn align_down(self, align: u64) -> VirtAddr
         requires { IsTrue (is_power_of_two align) }
         ensures value { result ≡ (raw 4 self - raw 4 self % align) % 2 ^ 48 }
@@ -73,7 +75,7 @@ impl VirtAddr {
 
     /// Tells whether the position is a multiple of `align`. From 2^48 on that is the address 0 alone.
     ///
-    /// `align` must be a power of two.
+    /// `align` must be a power of two: test that by [`u64::is_power_of_two`].
     pub fn is_aligned(self, align: u64) -> bool
         requires { IsTrue (is_power_of_two align) }
         ensures { IsTrue result ↔ (self % align ≡ 0) }
@@ -85,7 +87,8 @@ impl VirtAddr {
 impl PhysAddr {
     /// Gives the least multiple of `align` that isn't below the address.
     ///
-    /// `align` must be a power of two, and the multiple below 2^52.
+    /// `align` must be a power of two, and the multiple below 2^52: test that by [`u64::is_power_of_two`], and by
+    /// [`u64::checked_next_multiple_of`] and [`try_new`](Self::try_new).
     pub fn align_up(self, align: u64) -> PhysAddr
         requires power { IsTrue (is_power_of_two align) }
         requires fits { next_multiple_of self align < 2 ^ 52 }
@@ -97,7 +100,7 @@ impl PhysAddr {
 
     /// Gives the greatest multiple of `align` that isn't above the address.
     ///
-    /// `align` must be a power of two.
+    /// `align` must be a power of two: test that by [`u64::is_power_of_two`].
     pub fn align_down(self, align: u64) -> PhysAddr
         requires { IsTrue (is_power_of_two align) }
         ensures value { result ≡ self - self % align }
@@ -106,7 +109,9 @@ impl PhysAddr {
         PhysAddr::new(align_down(self.as_u64(), align))
     }
 
-    /// Tells whether the address is a multiple of `align`, which must be a power of two.
+    /// Tells whether the address is a multiple of `align`.
+    ///
+    /// `align` must be a power of two: test that by [`u64::is_power_of_two`].
     pub fn is_aligned(self, align: u64) -> bool
         requires { IsTrue (is_power_of_two align) }
         ensures { IsTrue result ↔ (self % align ≡ 0) }

@@ -1,4 +1,5 @@
-//! Sums and differences of virtual addresses, over raw values: they don't go over the gap in the middle of the address space.
+//! Sums and differences of virtual addresses, over raw values: they don't go over the gap in the middle of the address space,
+//! as [`VirtAddr::forward_checked`] and [`VirtAddr::backward_checked`] do.
 ghost use Rattle.std.specs.Prelude.{◌≡◌, ◌+◌, ◌-◌, ◌≤◌};
 ghost use Rattle.x86_64_model.specs.Position.{raw, IsCanonical};
 
@@ -12,7 +13,8 @@ impl Add<u64> for VirtAddr {
 
     ghost add_gives = { λ address count sum. raw 4 sum ≡ raw 4 address + count };
 
-    /// Gives the address whose raw value is the sum, which must be canonical, and so below 2^64.
+    /// Gives the address whose raw value is the sum, which must be canonical, and so below 2^64: test that by
+    /// [`u64::checked_add`] and [`VirtAddr::try_new`].
     fn add(self, rhs: u64) -> VirtAddr {
         VirtAddr::new(self.as_u64() + rhs)
     }
@@ -23,7 +25,7 @@ impl AddAssign<u64> for VirtAddr {
 
     ghost add_assign_gives = { λ address count sum. raw 4 sum ≡ raw 4 address + count };
 
-    /// Adds to the raw value. The sum must be canonical, and so below 2^64.
+    /// Adds to the raw value. The sum must be canonical, as for `+`.
     fn add_assign(&mut self, rhs: u64) {
         *self = *self + rhs;
     }
@@ -36,7 +38,8 @@ impl Sub<u64> for VirtAddr {
 
     ghost sub_gives = { λ address count rest. raw 4 rest ≡ raw 4 address - count };
 
-    /// Gives the address whose raw value is the difference, which must be canonical and not below 0.
+    /// Gives the address whose raw value is the difference, which must be canonical and not below 0: test that by
+    /// [`u64::checked_sub`] and [`VirtAddr::try_new`].
     fn sub(self, rhs: u64) -> VirtAddr {
         VirtAddr::new(self.as_u64() - rhs)
     }
@@ -47,7 +50,7 @@ impl SubAssign<u64> for VirtAddr {
 
     ghost sub_assign_gives = { λ address count rest. raw 4 rest ≡ raw 4 address - count };
 
-    /// Subtracts from the raw value. The difference must be canonical and not below 0.
+    /// Subtracts from the raw value. The difference must be canonical and not below 0, as for `-`.
     fn sub_assign(&mut self, rhs: u64) {
         *self = *self - rhs;
     }
@@ -60,7 +63,8 @@ impl Sub<VirtAddr> for VirtAddr {
 
     ghost sub_gives = { λ address other count. count ≡ raw 4 address - raw 4 other };
 
-    /// Gives the difference of the raw values, which must not be below 0. It counts the gap, where that lies between.
+    /// Gives the difference of the raw values, which must not be below 0: test that by `<=` of the addresses. It counts the
+    /// gap, where that lies between.
     fn sub(self, rhs: VirtAddr) -> u64 {
         self.as_u64() - rhs.as_u64()
     }

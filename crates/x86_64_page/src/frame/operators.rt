@@ -12,7 +12,8 @@ impl<S: PageSize> Add<u64> for PhysFrame<S> {
 
     ghost add_gives = { λ frame count sum. sum ≡ frame + count * S.SIZE };
 
-    /// Gives the frame so many frames above, whose start must be below 2^52.
+    /// Gives the frame so many frames above, whose start must be below 2^52: test that by [`u64::checked_add`] of its number
+    /// and [`PhysFrame::try_from_pfn`].
     fn add(self, rhs: u64) -> PhysFrame<S> {
         PhysFrame::from_start_address_unchecked(self.start_address() + rhs * S::SIZE)
     }
@@ -36,7 +37,8 @@ impl<S: PageSize> Sub<u64> for PhysFrame<S> {
 
     ghost sub_gives = { λ frame count difference. difference ≡ frame - count * S.SIZE };
 
-    /// Gives the frame so many frames below, whose start must not be negative.
+    /// Gives the frame so many frames below, whose start must not be negative: test that by `<=` of the count and
+    /// [`PhysFrame::pfn`].
     fn sub(self, rhs: u64) -> PhysFrame<S> {
         PhysFrame::from_start_address_unchecked(self.start_address() - rhs * S::SIZE)
     }
@@ -60,7 +62,8 @@ impl<S: PageSize> Sub<PhysFrame<S>> for PhysFrame<S> {
 
     ghost sub_gives = { λ frame other count. count ≡ (frame - other) / S.SIZE };
 
-    /// Gives how many frames the start is above that of the other, which must not be above it.
+    /// Gives how many frames the start is above that of the other, which must not be above it: test that by `<=` of the
+    /// frames.
     fn sub(self, rhs: PhysFrame<S>) -> u64 {
         (self.start_address() - rhs.start_address()) / S::SIZE
     }
