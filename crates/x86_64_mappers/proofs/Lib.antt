@@ -2,7 +2,6 @@ pub mod EntryWrites
 pub mod Flags
 pub mod LeafFrames
 pub mod Levels
-pub mod PageMethods
 pub mod Paths
 pub mod RootTables
 pub mod Sought

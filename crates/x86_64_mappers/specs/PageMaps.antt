@@ -1,9 +1,11 @@
 -- A map of a page, from the way down its parents and the write of its own entry.
 use Rattle.std.proofs.Common.{◌≡◌, ◌<◌, ◌≤◌, ◌+◌, ◌==◌, ℕ, false, cond, List, [], ◌∷◌, ◌++◌, length, take, get_or, Ok, Err, bit_or, sym, ap, ◌∙◌, subst, arith}
+use Rattle.x86_64_model.specs.Entry.{IsParentFlags}
 use Rattle.x86_64_model.specs.Layout.{Layout}
 use Rattle.x86_64_model.specs.Lemmas.Maps.Leaves.{none_at_leaf}
+use Rattle.x86_64_model.specs.Lemmas.Maps.Mapped.{walks_after}
 use Rattle.x86_64_model.specs.MapRule.{leaf_entry}
-use Rattle.x86_64_model.specs.MapperCalls.{IsMapped}
+use Rattle.x86_64_model.specs.MapperCalls.{IsReady, IsMapped}
 use Rattle.x86_64_model.specs.Memory.{Memory, Distinct}
 use Rattle.x86_64_model.specs.Refusal.{Refusal, Answer, Refused}
 use Rattle.x86_64_model.specs.Window.{begins_with}
@@ -16,10 +18,16 @@ use Rattle.x86_64_mappers.specs.Writes.{IsLeafSet}
 pub page_leaf : (L : ℕ) (q : List ℕ) → L ≤ length q + 2 → (frame given : ℕ) → IsLeaf L q (leaf_entry L q frame given)
 page_leaf L q low frame given = record { no_table = none_at_leaf L q frame given; none_huge = λ above. absurd (omega arith) }
 
-module _ (l : Layout) (apart : Distinct l.places) (m : Memory) (s : List ℕ) (level : ℕ) (q : List ℕ) (last : ℕ) (size : length q ≡ last + 1) (at_level : length q + level ≡ l.levels + 1) (frame given more : ℕ) where
+module _ (l : Layout) (apart : Distinct l.places) (m : Memory) (s : List ℕ) (level : ℕ) (q : List ℕ) (last : ℕ) (size : length q ≡ last + 1) (at_level : length q + level ≡ l.levels + 1) (frame given more : ℕ)
+    (before : IsReady l m s) (marks : IsParentFlags more) where
   -- what the path leads to is mapped as the call says
   called : (answer : Answer) (n : Memory) (rest : List ℕ) → IsPathMapped l m s more q (leaf_entry l.levels q frame given) frame answer n rest → IsMapped l m s q frame given more answer n rest
-  called answer n rest h = record { outcome = h.outcome; ready = h.goes.ready; others = h.goes.others }
+  called answer n rest h = record {
+    outcome = h.outcome;
+    ready = h.goes.ready;
+    others = h.goes.others;
+    walks = walks_after l m s q frame given more answer n rest marks before h.outcome h.goes.ready;
+  }
 
   pub page_stopped : (why : Refusal) (n : Memory) (rest : List ℕ) → IsDown l m s more (take last q) (Err why) n rest → IsMapped l m s q frame given more (Refused why) n rest
   page_stopped why n rest h = called (Refused why) n rest

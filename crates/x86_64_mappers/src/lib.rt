@@ -4,7 +4,6 @@
 pub mod laws;
 pub mod mapped_page_table;
 pub mod offset_page_table;
-mod path;
 #[cfg(test)]
 mod tests;
 mod walker;

@@ -1,3 +1,4 @@
+pub mod MapArrivals
 pub mod Places
 pub mod PageTableEntries
 pub mod WalkSteps
@@ -6,3 +7,4 @@ pub mod WordsSeen
 pub mod ImageMarks
 pub mod Translations
 pub mod Pools
+pub mod PagePaths

@@ -31,6 +31,11 @@ abbrev pub unmap_answer : Result (ℕ × ℕ) UnmapError → Answer
 unmap_answer (Ok unmapped) = Done unmapped.0
 unmap_answer (Err why) = Refused (unmap_refusal why)
 
+-- that of an unmap of a path, which gives a frame alone
+abbrev pub frame_answer : Result ℕ UnmapError → Answer
+frame_answer (Ok frame) = Done frame
+frame_answer (Err why) = Refused (unmap_refusal why)
+
 abbrev pub update_refusal : FlagUpdateError → Refusal
 update_refusal update.PageNotMapped = refusal.PageNotMapped
 update_refusal update.ParentEntryHugePage = refusal.ParentEntryHugePage

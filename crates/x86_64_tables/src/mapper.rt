@@ -1,8 +1,7 @@
 //! What all mappers have in common: the tables that they own for a while, translations of addresses, and maps of pages.
-ghost use Rattle.std.specs.Prelude.{◌≡◌, ◌<◌, ◌^◌, ℕ, Bool, true, not, List, Some, option_map, IfOk, IsTrue};
-ghost use Rattle.std.specs.Borrow.{GName};
+ghost use Rattle.std.specs.Prelude.{◌≡◌, ◌<◌, ◌^◌, true, not, Some, option_map, IfOk, OnErr, IsTrue};
 ghost use Rattle.x86_64_model.specs.Entry.{IsParentFlags};
-ghost use Rattle.x86_64_model.specs.Memory.{Memory};
+ghost use Rattle.x86_64_model.specs.Memory.{Memory, IsMapping};
 ghost use Rattle.x86_64_model.specs.MapRule.{parent_part};
 ghost use Rattle.x86_64_model.specs.Layout.{Layout, Valid, words, read_entry};
 ghost use Rattle.x86_64_model.specs.PageWalk.{page_walk};
@@ -10,6 +9,8 @@ ghost use Rattle.x86_64_model.specs.Translation.{translate as translated, addres
 ghost use Rattle.x86_64_tables.specs.PageTableFlags.{bits_of};
 
 mod flush;
+mod path;
+mod path_calls;
 mod recorder;
 #[cfg(test)]
 mod tests;
@@ -18,6 +19,8 @@ use crate::frame_alloc::FrameAllocator;
 use crate::page_table::PageTableFlags;
 use bitflags::Flags;
 pub use flush::{MapperFlush, MapperFlushAll};
+use path::{page_indices, path_length};
+pub use path_calls::PathCalls;
 pub use recorder::{FlushItem, FlushRecorder};
 use x86_64_addr::addr::{PhysAddr, VirtAddr};
 use x86_64_addr::index::PageTableIndex;
@@ -80,6 +83,8 @@ pub enum TranslateResult {
 }
 
 /// Owns tables of pages in a memory that was lent to it.
+///
+/// Laws: there are four levels of tables; only frames are covered, and distinct covered frames have distinct places.
 pub trait PageTables {
     /// The memory now.
     ghost memory: { Self → Memory };
@@ -87,8 +92,10 @@ pub trait PageTables {
     /// What no call changes: the number of levels, the root, and where frames lie in the memory.
     ghost layout: { Self → Layout };
 
-    /// Which memory was lent.
-    ghost lent: { Self → GName };
+    ghost Lent: { Type 0 };
+
+    /// Which memory was lent, and what finds frames in it.
+    ghost lent: { Self → Lent };
 
     // The flags that a new table entry gets beside the parent flags are such that an entry above a page may have them.
     ghost added_flags: { (tables : Self) → IsParentFlags (layout tables).added_flags };
@@ -96,6 +103,10 @@ pub trait PageTables {
     /// Gives the recursive index, where the root names itself.
     fn recursive_index(&self) -> Option<PageTableIndex>
         ensures { result ≡ option_map (λ window. window.index) (layout self.now).window };
+
+    ghost four_levels: { (tables : Self) → (layout tables).levels ≡ 4 };
+
+    ghost is_mapping: { (tables : Self) → IsMapping (layout tables).places };
 }
 
 /// Translates virtual addresses.
@@ -194,12 +205,13 @@ pub fn parent_flags(flags: PageTableFlags) -> PageTableFlags
 /// Maps and unmaps pages of a size, and changes the flags of the entries on their paths.
 ///
 /// The parents of a page are the entries on its path from the root down to the one above its own.
-pub trait Mapper<S: PageSize>: PageTables {
+pub trait Mapper<S: PageSize>: PathCalls {
     ghost use Rattle.x86_64_model.specs.Allowed.{map_allowed as is_map_allowed};
     ghost use Rattle.x86_64_model.specs.Layout.{paths};
     ghost use Rattle.x86_64_model.specs.Allowed.{allowed as is_allowed};
     ghost use Rattle.x86_64_model.specs.Call.{UpdateFlags, SetFlags};
-    ghost use Rattle.x86_64_model.specs.MapperCalls.{IsReady, IsMapped, IsChanged, after_unmap, after_update, after_set_flags, page_translation};
+    ghost use Rattle.x86_64_model.specs.MapperCalls.{ArrivesIn, IsReady, IsMapped, IsChanged, after_unmap, after_update, after_set_flags, page_translation};
+    ghost use Rattle.x86_64_model.specs.Entry.{present};
     ghost use Rattle.x86_64_model.specs.Path.{path_at};
     ghost use Rattle.x86_64_model.specs.Refusal.{refusal_of};
     ghost use Rattle.x86_64_model.specs.Window.{begins_with};
@@ -220,7 +232,10 @@ pub trait Mapper<S: PageSize>: PageTables {
     /// `ParentEntryHugePage` where a parent maps a larger page; else `FrameAllocationFailed` where the allocator has too
     /// few frames; else `PageAlreadyMapped` with the frame asked for where the page's entry is used. What a refused map
     /// did on its way stays: new tables, and flags added to parents.
-    fn map_to_with_table_flags<A: FrameAllocator<Size4KiB>>(
+    ///
+    /// Also after a refused map, where a page walk arrived before it still arrives, at the same address, with no right lost,
+    /// and none gained that the parent flags lack.
+    final fn map_to_with_table_flags<A: FrameAllocator<Size4KiB>>(
         &mut self,
         page: Page<S>,
         frame: PhysFrame<S>,
@@ -236,10 +251,20 @@ pub trait Mapper<S: PageSize>: PageTables {
         ensures page { IfOk result (λ flush. flush ≡ page) }
         ensures layout { Self.layout self.new ≡ Self.layout self.old }
         ensures lent { Self.lent self.new ≡ Self.lent self.old }
-        ensures serves { A.serves frame_allocator.new ≡ A.serves frame_allocator.old };
+        ensures serves { A.serves frame_allocator.new ≡ A.serves frame_allocator.old }
+    {
+        let indices = page_indices(page);
+        let path = &indices[..path_length::<S>()];
+        self.map_path(path, frame, flags, parent_flags, frame_allocator)?;
+        Ok(MapperFlush::new(page))
+    }
 
     /// Maps a page as [`map_to_with_table_flags`](Self::map_to_with_table_flags) does, where the parent flags are those of
     /// `PRESENT`, `WRITABLE` and `USER_ACCESSIBLE` that are among the flags.
+    ///
+    /// Where it succeeds with `PRESENT`, a page walk arrives from each address of the page, at the frame's start plus the
+    /// offset in the page, with the right to write exactly if `WRITABLE`, and that of a user exactly if `USER_ACCESSIBLE`, is
+    /// among the flags.
     final fn map_to<A: FrameAllocator<Size4KiB>>(
         &mut self,
         page: Page<S>,
@@ -253,6 +278,8 @@ pub trait Mapper<S: PageSize>: PageTables {
         ensures mapped { let layout = Self.layout self.old in
             IsMapped layout (Self.memory self.old) (A.supply frame_allocator.old) (path_at layout.levels S.LEVEL page) frame (bits_of flags) (parent_part (bits_of flags)) (map_answer frame result) (Self.memory self.new) (A.supply frame_allocator.new) }
         ensures page { IfOk result (λ flush. flush ≡ page) }
+        ensures arrives { let layout = Self.layout self.old in
+            IfOk result (λ _. present (bits_of flags) ≡ true → ArrivesIn layout (Self.memory self.new) S.SIZE page frame (bits_of flags)) }
         ensures layout { Self.layout self.new ≡ Self.layout self.old }
         ensures lent { Self.lent self.new ≡ Self.lent self.old }
         ensures serves { A.serves frame_allocator.new ≡ A.serves frame_allocator.old }
@@ -277,6 +304,8 @@ pub trait Mapper<S: PageSize>: PageTables {
         ensures mapped { let layout = Self.layout self.old in
             IsMapped layout (Self.memory self.old) (A.supply frame_allocator.old) (path_at layout.levels S.LEVEL frame) frame (bits_of flags) (parent_part (bits_of flags)) (map_answer frame result) (Self.memory self.new) (A.supply frame_allocator.new) }
         ensures page { IfOk result (λ flush. flush ≡ frame) }
+        ensures arrives { let layout = Self.layout self.old in
+            IfOk result (λ _. present (bits_of flags) ≡ true → ArrivesIn layout (Self.memory self.new) S.SIZE frame frame (bits_of flags)) }
         ensures layout { Self.layout self.new ≡ Self.layout self.old }
         ensures lent { Self.lent self.new ≡ Self.lent self.old }
         ensures serves { A.serves frame_allocator.new ≡ A.serves frame_allocator.old }
@@ -292,7 +321,7 @@ pub trait Mapper<S: PageSize>: PageTables {
     /// level four isn't the recursive index.
     ///
     /// Condition: the hierarchy is valid.
-    fn map_allowed(
+    final fn map_allowed(
         &self,
         page: Page<S>,
         flags: PageTableFlags,
@@ -300,7 +329,12 @@ pub trait Mapper<S: PageSize>: PageTables {
     ) -> bool
         requires { Valid (Self.layout self.now) (Self.memory self.now) }
         ensures { let layout = Self.layout self.now in
-            result ≡ is_map_allowed layout.levels layout.window (paths layout (Self.memory self.now)) (path_at layout.levels S.LEVEL page) (bits_of flags) (bits_of parent_flags) };
+            result ≡ is_map_allowed layout.levels layout.window (paths layout (Self.memory self.now)) (path_at layout.levels S.LEVEL page) (bits_of flags) (bits_of parent_flags) }
+    {
+        let indices = page_indices(page);
+        let path = &indices[..path_length::<S>()];
+        self.path_allowed::<S>(path, flags, parent_flags)
+    }
 
     /// Unmaps a page, and gives the frame that it was mapped to. No table is taken away.
     ///
@@ -312,7 +346,7 @@ pub trait Mapper<S: PageSize>: PageTables {
     /// before it has `HUGE_PAGE`, or the page's own entry has it with 4KiB or lacks it with 2MiB and 1GiB;
     /// `InvalidFrameAddress` where the entry of a 2MiB or 1GiB page names an address that isn't a multiple of the size.
     /// A refusal changes nothing.
-    fn unmap(&mut self, page: Page<S>) -> Result<(PhysFrame<S>, MapperFlush<S>), UnmapError>
+    final fn unmap(&mut self, page: Page<S>) -> Result<(PhysFrame<S>, MapperFlush<S>), UnmapError>
         requires valid { Valid (Self.layout self.old) (Self.memory self.old) }
         requires outside { let layout = Self.layout self.old in
             IsTrue (not (begins_with layout.window (path_at layout.levels S.LEVEL page))) }
@@ -320,9 +354,16 @@ pub trait Mapper<S: PageSize>: PageTables {
             unmap_answer result ≡ (after_unmap layout (Self.memory self.old) (path_at layout.levels S.LEVEL page)).answer }
         ensures changed { let layout = Self.layout self.old in
             IsChanged layout (Self.memory self.old) (after_unmap layout (Self.memory self.old) (path_at layout.levels S.LEVEL page)) (Self.memory self.new) }
+        ensures unchanged { OnErr result (Self.memory self.new ≡ Self.memory self.old) }
         ensures page { IfOk result (λ unmapped. unmapped.1 ≡ page) }
         ensures layout { Self.layout self.new ≡ Self.layout self.old }
-        ensures lent { Self.lent self.new ≡ Self.lent self.old };
+        ensures lent { Self.lent self.new ≡ Self.lent self.old }
+    {
+        let indices = page_indices(page);
+        let path = &indices[..path_length::<S>()];
+        let frame = self.unmap_path(path)?;
+        Ok((frame, MapperFlush::new(page)))
+    }
 
     /// Sets the flags of a page's own entry, with `HUGE_PAGE` for 2MiB and 1GiB, and keeps its frame.
     ///
@@ -333,7 +374,7 @@ pub trait Mapper<S: PageSize>: PageTables {
     ///
     /// `PageNotMapped` or `ParentEntryHugePage` where a parent lacks `PRESENT` or has `HUGE_PAGE`; else `PageNotMapped` where
     /// the page's own entry is unused, or lacks `HUGE_PAGE` with 2MiB and 1GiB. A refusal changes nothing.
-    fn update_flags(
+    final fn update_flags(
         &mut self,
         page: Page<S>,
         flags: PageTableFlags,
@@ -345,9 +386,16 @@ pub trait Mapper<S: PageSize>: PageTables {
             flags_refusal result ≡ refusal_of (after_update layout (Self.memory self.old) (path_at layout.levels S.LEVEL page) (bits_of flags)).answer }
         ensures changed { let layout = Self.layout self.old in
             IsChanged layout (Self.memory self.old) (after_update layout (Self.memory self.old) (path_at layout.levels S.LEVEL page) (bits_of flags)) (Self.memory self.new) }
+        ensures unchanged { OnErr result (Self.memory self.new ≡ Self.memory self.old) }
         ensures page { IfOk result (λ flush. flush ≡ page) }
         ensures layout { Self.layout self.new ≡ Self.layout self.old }
-        ensures lent { Self.lent self.new ≡ Self.lent self.old };
+        ensures lent { Self.lent self.new ≡ Self.lent self.old }
+    {
+        let indices = page_indices(page);
+        let path = &indices[..path_length::<S>()];
+        self.update_path::<S>(path, flags)?;
+        Ok(MapperFlush::new(page))
+    }
 
     /// Sets the flags of the entry of level four on a page's path, and keeps its address.
     ///
@@ -357,7 +405,7 @@ pub trait Mapper<S: PageSize>: PageTables {
     /// # Errors
     ///
     /// `PageNotMapped` where the entry is unused. A refusal changes nothing.
-    fn set_flags_p4_entry(
+    final fn set_flags_p4_entry(
         &mut self,
         page: Page<S>,
         flags: PageTableFlags,
@@ -369,8 +417,15 @@ pub trait Mapper<S: PageSize>: PageTables {
             flags_refusal result ≡ refusal_of (after_set_flags layout (Self.memory self.old) 4 (path_at layout.levels S.LEVEL page) (bits_of flags)).answer }
         ensures changed { let layout = Self.layout self.old in
             IsChanged layout (Self.memory self.old) (after_set_flags layout (Self.memory self.old) 4 (path_at layout.levels S.LEVEL page) (bits_of flags)) (Self.memory self.new) }
+        ensures unchanged { OnErr result (Self.memory self.new ≡ Self.memory self.old) }
         ensures layout { Self.layout self.new ≡ Self.layout self.old }
-        ensures lent { Self.lent self.new ≡ Self.lent self.old };
+        ensures lent { Self.lent self.new ≡ Self.lent self.old }
+    {
+        let indices = page_indices(page);
+        let path = &indices[..path_length::<S>()];
+        self.set_table_flags::<S>(path, 4, flags)?;
+        Ok(MapperFlushAll::new())
+    }
 
     /// Sets the flags of the entry of level three on a page's path, and keeps its address.
     ///
@@ -380,7 +435,7 @@ pub trait Mapper<S: PageSize>: PageTables {
     ///
     /// `ParentEntryHugePage` for a 1GiB page, whose own entry this is; else `PageNotMapped` where the parent lacks `PRESENT`,
     /// or the entry is unused. A refusal changes nothing.
-    fn set_flags_p3_entry(
+    final fn set_flags_p3_entry(
         &mut self,
         page: Page<S>,
         flags: PageTableFlags,
@@ -392,8 +447,15 @@ pub trait Mapper<S: PageSize>: PageTables {
             flags_refusal result ≡ refusal_of (after_set_flags layout (Self.memory self.old) 3 (path_at layout.levels S.LEVEL page) (bits_of flags)).answer }
         ensures changed { let layout = Self.layout self.old in
             IsChanged layout (Self.memory self.old) (after_set_flags layout (Self.memory self.old) 3 (path_at layout.levels S.LEVEL page) (bits_of flags)) (Self.memory self.new) }
+        ensures unchanged { OnErr result (Self.memory self.new ≡ Self.memory self.old) }
         ensures layout { Self.layout self.new ≡ Self.layout self.old }
-        ensures lent { Self.lent self.new ≡ Self.lent self.old };
+        ensures lent { Self.lent self.new ≡ Self.lent self.old }
+    {
+        let indices = page_indices(page);
+        let path = &indices[..path_length::<S>()];
+        self.set_table_flags::<S>(path, 3, flags)?;
+        Ok(MapperFlushAll::new())
+    }
 
     /// Sets the flags of the entry of level two on a page's path, and keeps its address.
     ///
@@ -403,7 +465,7 @@ pub trait Mapper<S: PageSize>: PageTables {
     ///
     /// `ParentEntryHugePage` for a 2MiB or 1GiB page; else `PageNotMapped` or `ParentEntryHugePage` where a parent lacks
     /// `PRESENT` or has `HUGE_PAGE`; else `PageNotMapped` where the entry is unused. A refusal changes nothing.
-    fn set_flags_p2_entry(
+    final fn set_flags_p2_entry(
         &mut self,
         page: Page<S>,
         flags: PageTableFlags,
@@ -415,28 +477,45 @@ pub trait Mapper<S: PageSize>: PageTables {
             flags_refusal result ≡ refusal_of (after_set_flags layout (Self.memory self.old) 2 (path_at layout.levels S.LEVEL page) (bits_of flags)).answer }
         ensures changed { let layout = Self.layout self.old in
             IsChanged layout (Self.memory self.old) (after_set_flags layout (Self.memory self.old) 2 (path_at layout.levels S.LEVEL page) (bits_of flags)) (Self.memory self.new) }
+        ensures unchanged { OnErr result (Self.memory self.new ≡ Self.memory self.old) }
         ensures layout { Self.layout self.new ≡ Self.layout self.old }
-        ensures lent { Self.lent self.new ≡ Self.lent self.old };
+        ensures lent { Self.lent self.new ≡ Self.lent self.old }
+    {
+        let indices = page_indices(page);
+        let path = &indices[..path_length::<S>()];
+        self.set_table_flags::<S>(path, 2, flags)?;
+        Ok(MapperFlushAll::new())
+    }
 
     /// Tells whether the flags of the entry of level three on a page's path may be set to these: they have no address bits, the
     /// page's index of level four isn't the recursive index, and where
     /// [`set_flags_p3_entry`](Self::set_flags_p3_entry) doesn't refuse, `HUGE_PAGE` is in the flags exactly if the entry has it.
     ///
     /// Condition: the hierarchy is valid.
-    fn p3_flags_allowed(&self, page: Page<S>, flags: PageTableFlags) -> bool
+    final fn p3_flags_allowed(&self, page: Page<S>, flags: PageTableFlags) -> bool
         requires { Valid (Self.layout self.now) (Self.memory self.now) }
         ensures { let layout = Self.layout self.now in
-            result ≡ is_allowed layout.levels layout.window (paths layout (Self.memory self.now)) (SetFlags 3 (path_at layout.levels S.LEVEL page) (bits_of flags)) };
+            result ≡ is_allowed layout.levels layout.window (paths layout (Self.memory self.now)) (SetFlags 3 (path_at layout.levels S.LEVEL page) (bits_of flags)) }
+    {
+        let indices = page_indices(page);
+        let path = &indices[..path_length::<S>()];
+        self.table_flags_allowed::<S>(path, 3, flags)
+    }
 
     /// Tells whether the flags of the entry of level two on a page's path may be set to these: they have no address bits, the
     /// page's index of level four isn't the recursive index, and where
     /// [`set_flags_p2_entry`](Self::set_flags_p2_entry) doesn't refuse, `HUGE_PAGE` is in the flags exactly if the entry has it.
     ///
     /// Condition: the hierarchy is valid.
-    fn p2_flags_allowed(&self, page: Page<S>, flags: PageTableFlags) -> bool
+    final fn p2_flags_allowed(&self, page: Page<S>, flags: PageTableFlags) -> bool
         requires { Valid (Self.layout self.now) (Self.memory self.now) }
         ensures { let layout = Self.layout self.now in
-            result ≡ is_allowed layout.levels layout.window (paths layout (Self.memory self.now)) (SetFlags 2 (path_at layout.levels S.LEVEL page) (bits_of flags)) };
+            result ≡ is_allowed layout.levels layout.window (paths layout (Self.memory self.now)) (SetFlags 2 (path_at layout.levels S.LEVEL page) (bits_of flags)) }
+    {
+        let indices = page_indices(page);
+        let path = &indices[..path_length::<S>()];
+        self.table_flags_allowed::<S>(path, 2, flags)
+    }
 
     /// Gives the frame that a page's entry names, `PRESENT` or not.
     ///
@@ -447,12 +526,15 @@ pub trait Mapper<S: PageSize>: PageTables {
     /// `PageNotMapped` or `ParentEntryHugePage` where a parent lacks `PRESENT` or has `HUGE_PAGE`; else `PageNotMapped` where
     /// the page's own entry is unused; else `InvalidFrameAddress` where the entry of a 2MiB or 1GiB page names a table, or an
     /// address that isn't a multiple of the size.
-    fn translate_page(&self, page: Page<S>) -> Result<PhysFrame<S>, TranslateError>
+    final fn translate_page(&self, page: Page<S>) -> Result<PhysFrame<S>, TranslateError>
         requires { Valid (Self.layout self.now) (Self.memory self.now) }
         ensures { let layout = Self.layout self.now in
-            translate_answer result ≡ page_translation layout (Self.memory self.now) (path_at layout.levels S.LEVEL page) };
-
-    ghost four_levels: { (mapper : Self) → (Self.PageTables.layout mapper).levels ≡ 4 };
+            translate_answer result ≡ page_translation layout (Self.memory self.now) (path_at layout.levels S.LEVEL page) }
+    {
+        let indices = page_indices(page);
+        let path = &indices[..path_length::<S>()];
+        self.translate_path(path)
+    }
 }
 
 /// Maps pages of all three sizes.

@@ -7,7 +7,7 @@ ghost use Rattle.x86_64_model.specs.Memory.{identity_places};
 ghost use Rattle.x86_64_model.specs.Path.{path_at};
 ghost use Rattle.x86_64_model.specs.Window.{begins_with};
 ghost use Rattle.x86_64_mappers.specs.Layouts.{direct};
-ghost use Rattle.x86_64_mappers.specs.Results.{answer_of, unmap_result};
+ghost use Rattle.x86_64_tables.specs.MapperAnswers.{frame_answer};
 ghost use Rattle.x86_64_tables.specs.PageTableFlags.{bits_of};
 
 use super::{image, small, word_of};
@@ -32,7 +32,7 @@ fn unmap_by<S: PageSize, M: Mapper<S>>(
     requires outside { let layout = M.layout mapper.old in
         IsTrue (not (begins_with layout.window (path_at layout.levels S.LEVEL page))) }
     ensures answer { let layout = M.layout mapper.old in
-        answer_of (unmap_result result) ≡ (after_unmap layout (M.memory mapper.old) (path_at layout.levels S.LEVEL page)).answer }
+        frame_answer result ≡ (after_unmap layout (M.memory mapper.old) (path_at layout.levels S.LEVEL page)).answer }
     ensures changed { let layout = M.layout mapper.old in
         IsChanged layout (M.memory mapper.old) (after_unmap layout (M.memory mapper.old) (path_at layout.levels S.LEVEL page)) (M.memory mapper.new) }
     ensures lent { M.lent mapper.new ≡ M.lent mapper.old }
@@ -49,7 +49,7 @@ fn unmap<S: PageSize>(
     page: Page<S>,
 ) -> Result<PhysFrame<S>, UnmapError>
     requires { Valid (direct identity_places root) memory.old }
-    ensures answer { answer_of (unmap_result result) ≡ (after_unmap (direct identity_places root) memory.old (path_at 4 S.LEVEL page)).answer }
+    ensures answer { frame_answer result ≡ (after_unmap (direct identity_places root) memory.old (path_at 4 S.LEVEL page)).answer }
     ensures changed { let layout = direct identity_places root in
         IsChanged layout memory.old (after_unmap layout memory.old (path_at 4 S.LEVEL page)) memory.new }
 {

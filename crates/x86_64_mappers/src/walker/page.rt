@@ -1,5 +1,5 @@
 //! The entries of pages: changes of their flags, and the frames that they name.
-ghost use Rattle.std.specs.Prelude.{◌≡◌, ◌+◌, ◌==◌, cond, length, bit_or};
+ghost use Rattle.std.specs.Prelude.{◌≡◌, ◌+◌, ◌==◌, cond, length, bit_or, OnErr};
 ghost use Rattle.x86_64_model.specs.Layout.{Valid};
 ghost use Rattle.x86_64_model.specs.MapperCalls.{IsChanged, after_update, page_translation};
 ghost use Rattle.x86_64_model.specs.Refusal.{refusal_of};
@@ -37,6 +37,7 @@ impl<P: PageTableFrameMapping> Walker<P> {
         ensures refusal { flags_refusal result ≡ refusal_of (after_update (direct (P.places self.now.mapping) root) memory.old path.now (bits_of flags)).answer }
         ensures changed { let layout = direct (P.places self.now.mapping) root in
             IsChanged layout memory.old (after_update layout memory.old path.now (bits_of flags)) memory.new }
+        ensures unchanged { OnErr result (memory.new ≡ memory.old) }
     {
         let last = path.len() - 1;
         let table = self.find_table(memory, root, &path[..last])?;

@@ -1,5 +1,5 @@
 //! Flags of the entries above those of pages.
-ghost use Rattle.std.specs.Prelude.{◌≡◌, ◌<◌, ◌≤◌, ◌+◌, IsTrue, length};
+ghost use Rattle.std.specs.Prelude.{◌≡◌, ◌<◌, ◌≤◌, ◌+◌, IsTrue, OnErr, length};
 ghost use Rattle.x86_64_model.specs.Allowed.{allowed};
 ghost use Rattle.x86_64_model.specs.Call.{SetFlags};
 ghost use Rattle.x86_64_model.specs.Layout.{Valid, paths, read_entry};
@@ -44,6 +44,7 @@ impl<P: PageTableFrameMapping> Walker<P> {
         ensures refusal { flags_refusal result ≡ refusal_of (after_set_flags (direct (P.places self.now.mapping) root) memory.old level path.now (bits_of flags)).answer }
         ensures changed { let layout = direct (P.places self.now.mapping) root in
             IsChanged layout memory.old (after_set_flags layout memory.old level path.now (bits_of flags)) memory.new }
+        ensures unchanged { OnErr result (memory.new ≡ memory.old) }
     {
         if level <= S::LEVEL {
             return Err(FlagUpdateError::ParentEntryHugePage);

@@ -1,10 +1,11 @@
 //! Unmaps of pages.
-ghost use Rattle.std.specs.Prelude.{◌≡◌, ◌+◌, length};
+ghost use Rattle.std.specs.Prelude.{◌≡◌, ◌+◌, length, OnErr};
 ghost use Rattle.x86_64_model.specs.Layout.{Valid};
 ghost use Rattle.x86_64_model.specs.MapperCalls.{IsChanged, after_unmap};
 ghost use Rattle.x86_64_mappers.specs.Layouts.{direct};
 ghost use Rattle.x86_64_mappers.specs.LeafFrames.{leaf_frame};
-ghost use Rattle.x86_64_mappers.specs.Results.{unmap_result, answer_of};
+ghost use Rattle.x86_64_mappers.specs.Results.{unmap_result};
+ghost use Rattle.x86_64_tables.specs.MapperAnswers.{frame_answer};
 
 use super::{Walker, entry_mut};
 use bitflags::Flags;
@@ -29,9 +30,10 @@ impl<P: PageTableFrameMapping> Walker<P> {
     ) -> Result<PhysFrame<S>, UnmapError>
         requires valid { Valid (direct (P.places self.now.mapping) root) memory.old }
         requires levels { length path.now + S.LEVEL ≡ 5 }
-        ensures answer { answer_of (unmap_result result) ≡ (after_unmap (direct (P.places self.now.mapping) root) memory.old path.now).answer }
+        ensures answer { frame_answer result ≡ (after_unmap (direct (P.places self.now.mapping) root) memory.old path.now).answer }
         ensures changed { let layout = direct (P.places self.now.mapping) root in
             IsChanged layout memory.old (after_unmap layout memory.old path.now) memory.new }
+        ensures unchanged { OnErr result (memory.new ≡ memory.old) }
     {
         let last = path.len() - 1;
         let table = self.find_table(memory, root, &path[..last])?;

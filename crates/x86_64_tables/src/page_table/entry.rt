@@ -119,7 +119,7 @@ impl PageTableEntry {
         self.set_addr(frame.start_address(), flags);
     }
 
-    /// Sets the flags and keeps the address.
+    /// Sets the flags and keeps the address. Bits 12 to 51, where the flags have them, are added to those of the address.
     pub fn set_flags(&mut self, flags: PageTableFlags)
         ensures { self.new ≡ bit_or (address self.old) (bits_of flags) }
     {

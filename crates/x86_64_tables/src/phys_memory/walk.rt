@@ -28,10 +28,11 @@ pub struct Walked {
 
 /// Walks the tables below the root as the processor does, or gives `None` where the walk arrives nowhere.
 ///
-/// Each level is one word of a table. A word without `PRESENT`, or in a table that is not in the memory, ends the walk.
-/// With `HUGE_PAGE` a word of level two or three maps a page, and one of level four ends the walk; at level one it
-/// is no such bit. The tables may be any words. Intel SDM vol. 3A, "Linear-Address Translation with 4-Level Paging and
-/// 5-Level Paging"; AMD APM vol. 2, "Long-Mode Page Translation".
+/// Each level is one word of a table. A word without `PRESENT` ends the walk with `None`, and so does a table whose frame
+/// is not covered by the mapping, or lies at a place that the memory lacks. With `HUGE_PAGE` a word of level two or three
+/// maps a page, and one of level four ends the walk; at level one it is no such bit. The tables may be any words. Intel SDM
+/// vol. 3A, "Linear-Address Translation with 4-Level Paging and 5-Level Paging"; AMD APM vol. 2, "Long-Mode Page
+/// Translation".
 pub fn page_walk<P: PageTableFrameMapping>(
     memory: &PhysMemory,
     mapping: &P,

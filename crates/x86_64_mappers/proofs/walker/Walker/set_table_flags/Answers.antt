@@ -1,4 +1,4 @@
-use Rattle.std.proofs.Common.{◌≡◌, ◌≤◌, ◌<◌, ◌-◌, ◌+◌, ℕ, List, length, ap, sym, ◌∙◌, subst, arith}
+use Rattle.std.proofs.Common.{◌≡◌, ◌≤◌, ◌<◌, ◌-◌, ◌+◌, ℕ, List, length, refl, ap, sym, ◌∙◌, subst, arith}
 use Rattle.std.proofs.lemmas.Bool.{not-true, not-false}
 use Rattle.std.proofs.lemmas.Result.{err_from_is_err_and}
 use Rattle.x86_64_model.specs.MapperCalls.{IsChanged, after_set_flags}
@@ -24,7 +24,7 @@ returns-then-level-LEVEL g c =
     let m = c.args.memory.now in
     let low : c.args.level ≤ g.S.PageSize.LEVEL = omega (arith, c.if-level-LEVEL.true, c.LEVEL.ensures) in
     let ends = flags_too_low l m c.requires.valid c.args.level c.args.path.now (bits_of c.args.flags) g.S.PageSize.LEVEL c.requires.levels low in
-    record { refusal = ap refusal_of (sym ends.answers); changed = ends.changed }
+    record { refusal = ap refusal_of (sym ends.answers); changed = ends.changed; unchanged = refl }
 
 pub returns-in_err-table : goal.returns-in_err-table
 returns-in_err-table g c =
@@ -38,7 +38,7 @@ returns-in_err-table g c =
     let ends = flags_stopped l m c.requires.valid level q (bits_of c.args.flags) own c.requires.levels above c.requires.low c.requires.high c.requires.allowed
     (length (front_at 4 level q) - 1) size (walk_refusal c.in_err-table.field-0.0) c.in_err-table.ensures in
     let e = err_from_is_err_and c.from_residual.result c.from_residual.ensures.1 in
-    record { refusal = rw (e.1, e.2) (ap refusal_of (sym ends.answers)); changed = ends.changed }
+    record { refusal = rw (e.1, e.2) (ap refusal_of (sym ends.answers)); changed = ends.changed; unchanged = rw e.1 refl }
 
 pub returns-then-is_unused : goal.returns-then-is_unused
 returns-then-is_unused g c =
@@ -58,7 +58,7 @@ returns-then-is_unused g c =
     let ends = flags_of_unused l m c.requires.valid level q given own c.requires.levels above c.requires.low c.requires.high c.requires.allowed (length (front_at 4 level q) - 1) size
     table c.in_ok-table.ensures i entry.result.now (last_item (front_at 4 level q) i size c.index-front-last.is) entry.ensures.value unused in
     let same = unchanged places m table i entry.result.now entry.ensures.value _ (g.met.P.PageTableFrameMapping.is_mapping c.args.self.now.mapping).distinct entry.ensures.index (entry.ensures.set entry.result.now) in
-    record { refusal = ap refusal_of (sym ends.answers); changed = subst (IsChanged l m (after_set_flags l m level q given)) (sym same) ends.changed }
+    record { refusal = ap refusal_of (sym ends.answers); changed = subst (IsChanged l m (after_set_flags l m level q given)) (sym same) ends.changed; unchanged = same }
 
 pub returns : goal.returns
 returns g c =
@@ -79,4 +79,4 @@ returns g c =
     let ends = flags_set l m c.requires.valid level q given own c.requires.levels above c.requires.low c.requires.high c.requires.allowed (length (front_at 4 level q) - 1) size
     table c.in_ok-table.ensures i entry.result.now (last_item (front_at 4 level q) i size c.index-front-last.is) entry.ensures.value
     (g.met.P.PageTableFrameMapping.is_mapping c.args.self.now.mapping).distinct some after (subst (λ w. IsSet places m table i w after) c.set_flags.ensures (entry.ensures.set c.set_flags.new.self)) in
-    record { refusal = ap refusal_of (sym ends.answers); changed = ends.changed }
+    record { refusal = ap refusal_of (sym ends.answers); changed = ends.changed; unchanged = tt }

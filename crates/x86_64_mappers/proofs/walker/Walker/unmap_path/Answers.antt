@@ -1,15 +1,15 @@
-use Rattle.std.proofs.Common.{◌-◌, length, refl, sym, ap, ◌∙◌, subst, lit<}
+use Rattle.std.proofs.Common.{◌≡◌, ◌-◌, length, refl, sym, ap, ◌∙◌, subst, lit<}
 use Rattle.std.proofs.lemmas.Result.{err_from_is_err_and}
 use Rattle.x86_64_model.specs.Layout.{words}
 use Rattle.x86_64_model.specs.MapperCalls.{after_unmap}
 use Rattle.x86_64_model.specs.Memory.{word}
 use Rattle.x86_64_model.specs.Refusal.{Done, Refused}
-use Rattle.x86_64_tables.specs.MapperAnswers.{unmap_refusal}
+use Rattle.x86_64_tables.specs.MapperAnswers.{unmap_refusal, frame_answer}
 use Rattle.x86_64_mappers.specs.EntryCalls.{Ends, stopped, refused, changed, word_is}
 use Rattle.x86_64_mappers.specs.LeafFrames.{leaf_frame}
 use Rattle.x86_64_mappers.specs.Layouts.{direct}
 use Rattle.x86_64_mappers.specs.PageCalls.{unmap_says, unused_after, unmap_rule, unmap_change}
-use Rattle.x86_64_mappers.specs.Results.{walk_refusal, answer_of, unmap_result}
+use Rattle.x86_64_mappers.specs.Results.{walk_refusal}
 use Rattle.x86_64_mappers.specs.Writes.{IsSet, with_word}
 use Rattle.x86_64_mappers.proofs.EntryWrites.{unchanged}
 use Rattle.x86_64_mappers.proofs.Paths.{has_last, last_item, few_parents, some_index}
@@ -20,7 +20,7 @@ pub find_table-requires-clause-levels : goal.find_table-requires-clause-levels
 find_table-requires-clause-levels g c = few_parents c.args.path.now g.S.PageSize.LEVEL c.requires.levels g.S.PageSize.low
 
 ends_stopped : (g : Over) (c : goal.After-from_residual g) → let l = direct (g.P.PageTableFrameMapping.places c.args.self.now.mapping) c.args.root in
-    Ends l c.args.memory.now (after_unmap l c.args.memory.now c.args.path.now) (answer_of (unmap_result c.from_residual.result)) c.args.memory.now
+    Ends l c.args.memory.now (after_unmap l c.args.memory.now c.args.path.now) (frame_answer c.from_residual.result) c.args.memory.now
 ends_stopped g c =
     let l = direct (g.P.PageTableFrameMapping.places c.args.self.now.mapping) c.args.root in
     let q = c.args.path.now in
@@ -35,9 +35,16 @@ returns-in_err-table-clause-answer g c = sym (ends_stopped g c).answers
 pub returns-in_err-table-clause-changed : goal.returns-in_err-table-clause-changed
 returns-in_err-table-clause-changed g c = (ends_stopped g c).changed
 
+-- the entry that was lent was left as it is
+is_left : (g : Over) (c : goal.After-from_residual-in_err-frame g) → with_word (g.P.PageTableFrameMapping.places c.args.self.now.mapping) c.args.memory.now c.in_ok-table.table c.index-path-last.result c.entry_mut-entry.result.now ≡ c.args.memory.now
+is_left g c =
+    let entry = c.entry_mut-entry in
+    unchanged (g.P.PageTableFrameMapping.places c.args.self.now.mapping) c.args.memory.now c.in_ok-table.table c.index-path-last.result entry.result.now entry.ensures.value _
+    (g.met.P.PageTableFrameMapping.is_mapping c.args.self.now.mapping).distinct entry.ensures.index (entry.ensures.set entry.result.now)
+
 ends_refused : (g : Over) (c : goal.After-from_residual-in_err-frame g) → let places = g.P.PageTableFrameMapping.places c.args.self.now.mapping in let l = direct places c.args.root in
     let i = c.index-path-last.result in
-    Ends l c.args.memory.now (after_unmap l c.args.memory.now c.args.path.now) (answer_of (unmap_result c.from_residual-in_err-frame.result)) (with_word places c.args.memory.now c.in_ok-table.table i c.entry_mut-entry.result.now)
+    Ends l c.args.memory.now (after_unmap l c.args.memory.now c.args.path.now) (frame_answer c.from_residual-in_err-frame.result) (with_word places c.args.memory.now c.in_ok-table.table i c.entry_mut-entry.result.now)
 ends_refused g c =
     let places = g.P.PageTableFrameMapping.places c.args.self.now.mapping in
     let l = direct places c.args.root in
@@ -48,10 +55,9 @@ ends_refused g c =
     let table = c.in_ok-table.table in
     let i = c.index-path-last.result in
     let entry = c.entry_mut-entry in
-    let same = unchanged places m table i entry.result.now entry.ensures.value _ (g.met.P.PageTableFrameMapping.is_mapping c.args.self.now.mapping).distinct entry.ensures.index (entry.ensures.set entry.result.now) in
     let e = err_from_is_err_and c.from_residual-in_err-frame.result c.from_residual-in_err-frame.ensures.1 in
     let why = unmap_refusal c.in_err-frame.field-0.0 in
-    rw (e.1, e.2) (subst (Ends l m (after_unmap l m q) (Refused why)) (sym same)
+    rw (e.1, e.2) (subst (Ends l m (after_unmap l m q) (Refused why)) (sym (is_left g c))
     (refused l m c.requires.valid q (length q - 1) size (unmap_says level) _ (unmap_rule l m level q c.requires.levels) table c.in_ok-table.ensures why
     (ap unused_after (sym (c.in_err-frame.ensures ∙ ap (leaf_frame level) (entry.ensures.value ∙ ap (word (words l m) table) (last_item q i size c.index-path-last.is)))))))
 
@@ -60,6 +66,11 @@ returns-in_err-frame-clause-answer g c = sym (ends_refused g c).answers
 
 pub returns-in_err-frame-clause-changed : goal.returns-in_err-frame-clause-changed
 returns-in_err-frame-clause-changed g c = (ends_refused g c).changed
+
+pub returns-in_err-frame-clause-unchanged : goal.returns-in_err-frame-clause-unchanged
+returns-in_err-frame-clause-unchanged g c =
+    let e = err_from_is_err_and c.from_residual-in_err-frame.result c.from_residual-in_err-frame.ensures.1 in
+    rw e.1 (is_left g c)
 
 ends_done : (g : Over) (c : goal.After-memory-2-1 g) → let places = g.P.PageTableFrameMapping.places c.args.self.now.mapping in let l = direct places c.args.root in
     let i = c.index-path-last.result in

@@ -1,4 +1,4 @@
-use Rattle.std.proofs.Common.{◌-◌, length, refl, bit_or, sym, ap, ◌∙◌, subst, lit<}
+use Rattle.std.proofs.Common.{◌≡◌, ◌-◌, length, refl, bit_or, sym, ap, ◌∙◌, subst, lit<}
 use Rattle.std.proofs.lemmas.Result.{err_from_is_err_and}
 use Rattle.x86_64_model.specs.Entry.{address}
 use Rattle.x86_64_model.specs.Layout.{words, read_entry}
@@ -37,6 +37,13 @@ returns-in_err-table-clause-refusal g c =
 pub returns-in_err-table-clause-changed : goal.returns-in_err-table-clause-changed
 returns-in_err-table-clause-changed g c = (ends_stopped g c).changed
 
+-- the entry that was lent was left as it is
+is_left : (g : Over) (c : goal.After-memory-1 g) → with_word (g.P.PageTableFrameMapping.places c.args.self.now.mapping) c.args.memory.now c.in_ok-table.table c.index-path-last.result c.entry_mut-entry.result.now ≡ c.args.memory.now
+is_left g c =
+    let entry = c.entry_mut-entry in
+    unchanged (g.P.PageTableFrameMapping.places c.args.self.now.mapping) c.args.memory.now c.in_ok-table.table c.index-path-last.result entry.result.now entry.ensures.value _
+    (g.met.P.PageTableFrameMapping.is_mapping c.args.self.now.mapping).distinct entry.ensures.index (entry.ensures.set entry.result.now)
+
 ends_refused : (g : Over) (c : goal.After-memory-1 g) → let places = g.P.PageTableFrameMapping.places c.args.self.now.mapping in let l = direct places c.args.root in
     Ends l c.args.memory.now (after_update l c.args.memory.now c.args.path.now c.args.flags.0) (Refused PageNotMapped) (with_word places c.args.memory.now c.in_ok-table.table c.index-path-last.result c.entry_mut-entry.result.now)
 ends_refused g c =
@@ -50,9 +57,8 @@ ends_refused g c =
     let table = c.in_ok-table.table in
     let i = c.index-path-last.result in
     let entry = c.entry_mut-entry in
-    let same = unchanged places m table i entry.result.now entry.ensures.value _ (g.met.P.PageTableFrameMapping.is_mapping c.args.self.now.mapping).distinct entry.ensures.index (entry.ensures.set entry.result.now) in
     let none = sym (c.maps_page.ensures ∙ ap (maps_page level) (entry.ensures.value ∙ ap (word (words l m) table) (last_item q i size c.index-path-last.is))) ∙ c.if-not-maps_page.true in
-    subst (Ends l m (after_update l m q given) (Refused PageNotMapped)) (sym same)
+    subst (Ends l m (after_update l m q given) (Refused PageNotMapped)) (sym (is_left g c))
     (refused l m c.requires.valid q (length q - 1) size (update_says level given) _ (update_rule l m level q c.requires.levels given) table c.in_ok-table.ensures PageNotMapped
     (updates_none level given _ none))
 
@@ -61,6 +67,9 @@ returns-then-not-maps_page-clause-refusal g c = sym (ap refusal_of (ends_refused
 
 pub returns-then-not-maps_page-clause-changed : goal.returns-then-not-maps_page-clause-changed
 returns-then-not-maps_page-clause-changed g c = (ends_refused g c).changed
+
+pub returns-then-not-maps_page-clause-unchanged : goal.returns-then-not-maps_page-clause-unchanged
+returns-then-not-maps_page-clause-unchanged g c = is_left g c
 
 ends_done : (g : Over) (c : goal.After-memory-2-1 g) → let places = g.P.PageTableFrameMapping.places c.args.self.now.mapping in let l = direct places c.args.root in
     Ends l c.args.memory.now (after_update l c.args.memory.now c.args.path.now c.args.flags.0) (Done (address (read_entry l c.args.memory.now c.args.path.now))) (with_word places c.args.memory.now c.in_ok-table.table c.index-path-last.result c.set_flags.new.self)
