@@ -1,5 +1,5 @@
 -- What a mapper's call leaves and answers is the machine's step.
-use Rattle.std.proofs.Common.{◌≡◌, ℕ, List, Option, Some, refl, ap, sym, ◌∙◌, subst}
+use Rattle.std.proofs.Common.{◌≡◌, ℕ, List, Option, Some, option_map, refl, ap, sym, ◌∙◌, subst}
 use Rattle.x86_64_model.specs.Memory.{Memory}
 use Rattle.x86_64_model.specs.Layout.{Layout, read_entry}
 use Rattle.x86_64_model.specs.Translation.{Translated, translate, address_of}
@@ -18,20 +18,20 @@ use Rattle.x86_64.specs.Runs.{machine_of, state_of, call_step}
 some_same : {t u : Translated} → Some t ≡ Some u → t ≡ u
 some_same e = cc
 
-translation_back : (r : TranslateResult) (t : Translated) → translation_of r ≡ Some t → r ≡ translate_result t
-translation_back (Mapped (Size4KiB start) offset flags) t e = subst (λ t. Mapped (Size4KiB start) offset flags ≡ translate_result t) (some_same e) refl
-translation_back (Mapped (Size2MiB start) offset flags) t e = subst (λ t. Mapped (Size2MiB start) offset flags ≡ translate_result t) (some_same e) refl
-translation_back (Mapped (Size1GiB start) offset flags) t e = subst (λ t. Mapped (Size1GiB start) offset flags ≡ translate_result t) (some_same e) refl
-translation_back NotMapped t e = subst (λ t. NotMapped ≡ translate_result t) (some_same e) refl
+translation_back : (r : TranslateResult) (t : Translated) → translation_of r ≡ Some t → Some r ≡ translate_result t
+translation_back (Mapped (Size4KiB start) offset flags) t e = subst (λ t. Some (Mapped (Size4KiB start) offset flags) ≡ translate_result t) (some_same e) refl
+translation_back (Mapped (Size2MiB start) offset flags) t e = subst (λ t. Some (Mapped (Size2MiB start) offset flags) ≡ translate_result t) (some_same e) refl
+translation_back (Mapped (Size1GiB start) offset flags) t e = subst (λ t. Some (Mapped (Size1GiB start) offset flags) ≡ translate_result t) (some_same e) refl
+translation_back NotMapped t e = subst (λ t. Some NotMapped ≡ translate_result t) (some_same e) refl
 translation_back (InvalidFrameAddress address) t e = cc
 
 module _ (l : Layout) (put : List ℕ → ℕ → List ℕ) (m : Memory) (pool : List ℕ) (c : Call) (addr : ℕ) where
   pub translate_served : c ≡ call.Translate addr → (r : TranslateResult) → translation_of r ≡ Some (translate l.levels (read_entry l m) addr)
-      → call_step (machine_of l put) (state_of l m pool) c ≡ (state_of l m pool, reply.Translate r)
+      → call_step (machine_of l put) (state_of l m pool) c ≡ (state_of l m pool, Some (reply.Translate r))
   unfolding allowed do_call
-  translate_served is r e = ap (call_step (machine_of l put) (state_of l m pool)) is ∙ ap (λ r. (state_of l m pool, reply.Translate r)) (sym (translation_back r _ e))
+  translate_served is r e = ap (call_step (machine_of l put) (state_of l m pool)) is ∙ ap (λ o. (state_of l m pool, option_map reply.Translate o)) (sym (translation_back r _ e))
 
   pub address_served : c ≡ call.TranslateAddr addr → (a : Option ℕ) → a ≡ address_of (translate l.levels (read_entry l m) addr)
-      → call_step (machine_of l put) (state_of l m pool) c ≡ (state_of l m pool, reply.Address a)
+      → call_step (machine_of l put) (state_of l m pool) c ≡ (state_of l m pool, Some (reply.Address a))
   unfolding allowed do_call
-  address_served is a e = ap (call_step (machine_of l put) (state_of l m pool)) is ∙ ap (λ a. (state_of l m pool, reply.Address a)) (sym e)
+  address_served is a e = ap (call_step (machine_of l put) (state_of l m pool)) is ∙ ap (λ a. (state_of l m pool, Some (reply.Address a))) (sym e)

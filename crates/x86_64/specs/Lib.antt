@@ -3,5 +3,7 @@ pub mod Moved
 pub mod Offsets
 pub mod Replies
 pub mod Runs
+pub mod Flushes
+pub mod ToldReplies
 pub use Rattle.x86_64_model.specs.Machine
 pub use Rattle.x86_64_model.specs.MapperCalls

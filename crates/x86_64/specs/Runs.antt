@@ -1,16 +1,17 @@
 -- What a list of calls makes of a mapper and a frame store: they are a machine and its state.
-use Rattle.std.specs.Prelude.{◌↔◌, ℕ, Bool, List, Option}
+use Rattle.std.specs.Prelude.{◌≡◌, ◌↔◌, ℕ, Bool, true, List, [], ◌∷◌, length, drop, Option}
+use Rattle.std.specs.List.{AllByRecursion}
 use Rattle.x86_64_model.specs.Memory.{Memory}
 use Rattle.x86_64_model.specs.Layout.{Layout, words, paths}
 use Rattle.x86_64_model.specs.Pool.{Fits}
 use Rattle.x86_64_model.specs.MapperCalls.{Owns, KeepsOthers}
-use Rattle.x86_64_model.specs.Machine.{Machine, State, step, replies_of}
+use Rattle.x86_64_model.specs.Machine.{Machine, State, step}
 use Rattle.x86_64.specs.declared.calls.Call.{Call}
 use Rattle.x86_64.specs.declared.calls.Reply.{Reply}
 use Rattle.x86_64.specs.declared.calls.SizeCall.{SizeCall}
 use Rattle.x86_64.specs.declared.calls.SizeReply.{SizeReply}
-use Rattle.x86_64.specs.Calls.{size_call, call_of, calls_of}
-use Rattle.x86_64.specs.Replies.{size_answer, reply_of, replies_with}
+use Rattle.x86_64.specs.Calls.{size_call, call_of}
+use Rattle.x86_64.specs.Replies.{size_answer, reply_of, changes_nothing}
 
 -- the machine of a mapper with this layout, and of a store that puts a frame back so
 abbrev pub machine_of : Layout → (put : List ℕ → ℕ → List ℕ) → Machine
@@ -24,17 +25,26 @@ state_of layout memory pool = record { paths = paths layout memory; pool = pool 
 abbrev pub FitsPool : Layout → Memory → (serves : ℕ → Bool) → (pool : List ℕ) → Type 0
 FitsPool layout memory serves pool = Fits layout.levels layout.window (words layout memory) layout.root (paths layout memory) serves pool
 
--- the state after a call on a page that an entry of the level maps, and the reply, none where the call isn't allowed
-abbrev pub size_step : {S : Type 0} → Machine → (level : ℕ) → State → SizeCall S → State × Option (SizeReply S)
+-- the state after a call on a page that an entry of the level maps, and the reply, with none for a call that isn't allowed
+abbrev pub size_step : {S : Type 0} → Machine → (level : ℕ) → State → SizeCall S → State × Option (Option (SizeReply S))
 size_step machine level state call = let after = step machine state (size_call machine.levels level call) in (after.0, size_answer call after.1)
 
 -- the state after a call, and the reply
-abbrev pub call_step : Machine → State → Call → State × Reply
+abbrev pub call_step : Machine → State → Call → State × Option Reply
 call_step machine state call = let after = step machine state (call_of machine.levels call) in (after.0, reply_of call after.1)
 
--- the machine's replies to calls, from a state on
-abbrev pub replies_to : Machine → State → List Call → List Reply
-replies_to machine state calls = replies_with calls (replies_of machine state (calls_of machine.levels calls))
+-- a reply to each call, from a state on
+abbrev pub replies_to : Machine → State → List Call → List (Option Reply)
+replies_to machine state [] = []
+replies_to machine state (call ∷ calls) = let after = call_step machine state call in after.1 ∷ replies_to machine after.0 calls
+
+-- the replies that were appended
+abbrev pub appended : (before after : List Reply) → List Reply
+appended before after = drop (length before) after
+
+-- where every reply says that nothing changed, no word did
+abbrev pub UnchangedIfRefused : List Reply → (m n : Memory) → Type 0
+UnchangedIfRefused replies m n = AllByRecursion (λ reply. changes_nothing reply ≡ true) replies → n ≡ m
 
 -- From a memory m and a pool to a memory n and the rest of the pool: the rest fits the hierarchy again, free and table frames are one set
 -- before and after, and no word changed but in the root, the tables and the free frames of the start.

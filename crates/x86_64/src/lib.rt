@@ -5,17 +5,19 @@
 #![tactic(auto)]
 
 mod calls;
+pub mod laws;
 mod runs;
 pub mod structures;
 #[cfg(test)]
 mod tests;
 
 pub use calls::{Call, Reply, SizeCall, SizeReply};
-pub use runs::run;
+pub use runs::{run, run_flushed};
 pub use x86_64_addr::addr;
 pub use x86_64_addr::addr::{PhysAddr, VirtAddr};
+pub use x86_64_page::range::Block;
 pub use x86_64_tables::frame_alloc::{FrameKeeper, FramePool, FrameStore, PoolRefusal};
-pub use x86_64_tables::mapper::{FlushItem, FlushRecorder};
+pub use x86_64_tables::mapper::{FlushItem, FlushRecorder, PageTables, parent_flags};
 pub use x86_64_tables::phys_memory::{
     FramePlace, IdentityMapping, PhysMemory, ShiftMapping, Walked, is_valid_hierarchy, page_walk,
     pool_fits,

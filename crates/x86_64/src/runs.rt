@@ -1,5 +1,5 @@
 //! Lists of calls of a mapper.
-ghost use Rattle.std.specs.Prelude.{◌≡◌, ◌+◌, ◌<◌, ◌++◌, ◌↔◌, ◌&&◌, ℕ, not, length, OnOk, OnErr, vec_len};
+ghost use Rattle.std.specs.Prelude.{◌≡◌, ◌+◌, ◌<◌, ◌≤◌, ◌++◌, ◌↔◌, ◌&&◌, ℕ, true, not, length, map, Some, OnOk, OnErr, vec_len};
 ghost use Rattle.std.specs.Vec.{vec_capacity};
 ghost use Rattle.x86_64_model.specs.Allowed.{allowed};
 ghost use Rattle.x86_64_model.specs.Entry.{huge, no_address};
@@ -11,26 +11,31 @@ ghost use Rattle.x86_64_model.specs.Window.{begins_with};
 ghost use Rattle.x86_64_tables.specs.MapperAnswers.{flags_refusal};
 ghost use Rattle.x86_64_tables.specs.PageTableFlags.{bits_of};
 ghost use Rattle.x86_64.specs.Calls.{size_call, calls_of};
-ghost use Rattle.x86_64.specs.Runs.{machine_of, state_of, FitsPool, Keeps, size_step, call_step, replies_to};
+ghost use Rattle.x86_64.specs.Flushes.{recorded, items_where, items_of, items_told};
+ghost use Rattle.x86_64.specs.Replies.{changes_nothing_where, changes_nothing};
+ghost use Rattle.x86_64.specs.Runs.{machine_of, state_of, FitsPool, Keeps, size_step, call_step, replies_to, appended, UnchangedIfRefused};
+
+mod flushed;
+mod tokens;
 
 use crate::calls::{Call, Reply, SizeCall, SizeReply, identity_page};
 use bitflags::Flags;
+pub use flushed::run_flushed;
 use std::alloc::AllocError;
-use x86_64_page::frame::PhysFrame;
+use tokens::{Ignored, Tokens, take, take_all, take_unmapped};
 use x86_64_page::page::{Page, PageSize, Size1GiB, Size2MiB, Size4KiB};
 use x86_64_tables::frame_alloc::FrameStore;
-use x86_64_tables::mapper::{
-    FlagUpdateError, Mapper, MapperAllSizes, MapperFlush, MapperFlushAll, PageTables, Translate,
-    UnmapError, parent_flags,
-};
+use x86_64_tables::mapper::{Mapper, MapperAllSizes, PageTables, Translate, parent_flags};
 use x86_64_tables::page_table::PageTableFlags;
 
 /// Answers calls in order, and appends a reply for each.
 ///
 /// One reply for each call is reserved first. A call whose condition does not hold is answered [`Reply::NotAllowed`] and
-/// changes nothing; no other call is. The tokens of the mapper are ignored, so no flush is recorded.
+/// changes nothing; no other call is. Where each call is answered so, or is refused and no map, or only asks, no word changes.
+/// The tokens of the mapper are ignored, so no flush is recorded.
 ///
-/// Conditions: the hierarchy is valid, and the frame store fits it.
+/// Conditions: the hierarchy is valid, and the frame store fits it. For a `FramePool` test both by
+/// [`pool_fits`](crate::pool_fits).
 ///
 /// # Errors
 ///
@@ -43,7 +48,10 @@ pub fn run<M: MapperAllSizes + Translate, F: FrameStore>(
 ) -> Result<(), AllocError>
     requires { FitsPool (M.layout mapper.old) (M.memory mapper.old) (F.serves frames.old) (F.supply frames.old) }
     ensures replies { let layout = M.layout mapper.old in let start = state_of layout (M.memory mapper.old) (F.supply frames.old) in
-        OnOk result (replies.new.items ≡ replies.old.items ++ replies_to (machine_of layout F.put) start calls.now) }
+        OnOk result (map Some replies.new.items ≡ map Some replies.old.items ++ replies_to (machine_of layout F.put) start calls.now) }
+    ensures one_each { OnOk result (length replies.new.items ≡ length replies.old.items + length calls.now) }
+    ensures refused { let told = appended replies.old.items replies.new.items in
+        OnOk result (UnchangedIfRefused told (M.memory mapper.old) (M.memory mapper.new)) }
     ensures state { let layout = M.layout mapper.old in let start = state_of layout (M.memory mapper.old) (F.supply frames.old) in
         OnOk result (state_of layout (M.memory mapper.new) (F.supply frames.new) ≡ state_after (machine_of layout F.put) start (calls_of layout.levels calls.now)) }
     ensures unchanged { OnErr result ((replies.new.items ≡ replies.old.items) × (vec_capacity replies.new ≡ vec_capacity replies.old) × (mapper.new ≡ mapper.old) × (frames.new ≡ frames.old)) }
@@ -58,37 +66,70 @@ pub fn run<M: MapperAllSizes + Translate, F: FrameStore>(
     ensures serves { F.serves frames.new ≡ F.serves frames.old }
 {
     replies.reserve(calls.len())?;
-    for call in calls {
-        replies.push_reserved(serve(mapper, frames, *call));
-    }
+    serve_all(mapper, frames, calls, replies, &mut Ignored);
     Ok(())
 }
 
-/// Answers a call.
-fn serve<M: MapperAllSizes + Translate, F: FrameStore>(
+/// Answers calls in order, for which there is room.
+fn serve_all<M: MapperAllSizes + Translate, F: FrameStore, K: Tokens>(
     mapper: &mut M,
     frames: &mut F,
-    call: Call,
-) -> Reply
-    requires { FitsPool (M.layout mapper.old) (M.memory mapper.old) (F.serves frames.old) (F.supply frames.old) }
-    ensures step { let layout = M.layout mapper.old in let start = state_of layout (M.memory mapper.old) (F.supply frames.old) in
-        call_step (machine_of layout F.put) start call ≡ (state_of layout (M.memory mapper.new) (F.supply frames.new), result) }
+    calls: &[Call],
+    replies: &mut Vec<Reply>,
+    tokens: &mut K,
+)
+    requires fits { FitsPool (M.layout mapper.old) (M.memory mapper.old) (F.serves frames.old) (F.supply frames.old) }
+    requires reserved { vec_len replies.old + length calls.now ≤ vec_capacity replies.old }
+    requires room { K.has_room tokens.old (length calls.now) }
+    ensures replies { let layout = M.layout mapper.old in let start = state_of layout (M.memory mapper.old) (F.supply frames.old) in
+        map Some replies.new.items ≡ map Some replies.old.items ++ replies_to (machine_of layout F.put) start calls.now }
+    ensures one_each { length replies.new.items ≡ length replies.old.items + length calls.now }
+    ensures refused { let told = appended replies.old.items replies.new.items in
+        UnchangedIfRefused told (M.memory mapper.old) (M.memory mapper.new) }
+    ensures items { let told = appended replies.old.items replies.new.items in
+        K.items tokens.new ≡ K.items tokens.old ++ recorded K.records (items_told told) }
+    ensures state { let layout = M.layout mapper.old in let start = state_of layout (M.memory mapper.old) (F.supply frames.old) in
+        state_of layout (M.memory mapper.new) (F.supply frames.new) ≡ state_after (machine_of layout F.put) start (calls_of layout.levels calls.now) }
     ensures keeps { Keeps (M.layout mapper.old) (F.serves frames.old) (M.memory mapper.old) (F.supply frames.old) (M.memory mapper.new) (F.supply frames.new) }
     ensures layout { M.layout mapper.new ≡ M.layout mapper.old }
     ensures lent { M.lent mapper.new ≡ M.lent mapper.old }
     ensures serves { F.serves frames.new ≡ F.serves frames.old }
 {
+    for call in calls {
+        replies.push_reserved(serve(mapper, frames, *call, tokens));
+    }
+}
+
+/// Answers a call.
+fn serve<M: MapperAllSizes + Translate, F: FrameStore, K: Tokens>(
+    mapper: &mut M,
+    frames: &mut F,
+    call: Call,
+    tokens: &mut K,
+) -> Reply
+    requires fits { FitsPool (M.layout mapper.old) (M.memory mapper.old) (F.serves frames.old) (F.supply frames.old) }
+    requires room { K.has_room tokens.old 1 }
+    ensures step { let layout = M.layout mapper.old in let start = state_of layout (M.memory mapper.old) (F.supply frames.old) in
+        call_step (machine_of layout F.put) start call ≡ (state_of layout (M.memory mapper.new) (F.supply frames.new), Some result) }
+    ensures still { changes_nothing result ≡ true → M.memory mapper.new ≡ M.memory mapper.old }
+    ensures keeps { Keeps (M.layout mapper.old) (F.serves frames.old) (M.memory mapper.old) (F.supply frames.old) (M.memory mapper.new) (F.supply frames.new) }
+    ensures layout { M.layout mapper.new ≡ M.layout mapper.old }
+    ensures lent { M.lent mapper.new ≡ M.lent mapper.old }
+    ensures serves { F.serves frames.new ≡ F.serves frames.old }
+    ensures items { K.items tokens.new ≡ K.items tokens.old ++ recorded K.records (items_of result) }
+    ensures room { (n : ℕ) → K.has_room tokens.old (n + 1) → K.has_room tokens.new n }
+{
     match call {
         Call::Of4KiB(call) => {
-            let reply = serve_page::<Size4KiB, M, F>(mapper, frames, call);
+            let reply = serve_page::<Size4KiB, M, F, K>(mapper, frames, call, tokens);
             reply.map_or(Reply::NotAllowed, Reply::Of4KiB)
         }
         Call::Of2MiB(call) => {
-            let reply = serve_page::<Size2MiB, M, F>(mapper, frames, call);
+            let reply = serve_page::<Size2MiB, M, F, K>(mapper, frames, call, tokens);
             reply.map_or(Reply::NotAllowed, Reply::Of2MiB)
         }
         Call::Of1GiB(call) => {
-            let reply = serve_page::<Size1GiB, M, F>(mapper, frames, call);
+            let reply = serve_page::<Size1GiB, M, F, K>(mapper, frames, call, tokens);
             reply.map_or(Reply::NotAllowed, Reply::Of1GiB)
         }
         Call::Translate(addr) => Reply::Translate(mapper.translate(addr)),
@@ -98,25 +139,30 @@ fn serve<M: MapperAllSizes + Translate, F: FrameStore>(
 
 /// Answers a call on a page, or gives `None` where it is not allowed.
 #[tactic(auto, unfolding(x86_64_model::specs::Allowed::allowed))]
-fn serve_page<S: PageSize, M: Mapper<S>, F: FrameStore>(
+fn serve_page<S: PageSize, M: Mapper<S>, F: FrameStore, K: Tokens>(
     mapper: &mut M,
     frames: &mut F,
     call: SizeCall<S>,
+    tokens: &mut K,
 ) -> Option<SizeReply<S>>
-    requires { FitsPool (M.layout mapper.old) (M.memory mapper.old) (F.serves frames.old) (F.supply frames.old) }
+    requires fits { FitsPool (M.layout mapper.old) (M.memory mapper.old) (F.serves frames.old) (F.supply frames.old) }
+    requires room { K.has_room tokens.old 1 }
     ensures step { let layout = M.layout mapper.old in let start = state_of layout (M.memory mapper.old) (F.supply frames.old) in
-        size_step (machine_of layout F.put) S.LEVEL start call ≡ (state_of layout (M.memory mapper.new) (F.supply frames.new), result) }
+        size_step (machine_of layout F.put) S.LEVEL start call ≡ (state_of layout (M.memory mapper.new) (F.supply frames.new), Some result) }
+    ensures still { changes_nothing_where result ≡ true → M.memory mapper.new ≡ M.memory mapper.old }
     ensures keeps { Keeps (M.layout mapper.old) (F.serves frames.old) (M.memory mapper.old) (F.supply frames.old) (M.memory mapper.new) (F.supply frames.new) }
     ensures layout { M.layout mapper.new ≡ M.layout mapper.old }
     ensures lent { M.lent mapper.new ≡ M.lent mapper.old }
     ensures serves { F.serves frames.new ≡ F.serves frames.old }
+    ensures items { K.items tokens.new ≡ K.items tokens.old ++ recorded K.records (items_where S.SIZE result) }
+    ensures room { (n : ℕ) → K.has_room tokens.old (n + 1) → K.has_room tokens.new n }
 {
     if !is_allowed(mapper, &call) {
         return None;
     }
     Some(match call {
         SizeCall::MapTo { page, frame, flags } => {
-            SizeReply::Map(ignore(mapper.map_to(page, frame, flags, frames)))
+            SizeReply::Map(take(tokens, mapper.map_to(page, frame, flags, frames)))
         }
         SizeCall::MapToWithTableFlags {
             page,
@@ -125,23 +171,23 @@ fn serve_page<S: PageSize, M: Mapper<S>, F: FrameStore>(
             parent_flags,
         } => {
             let mapped = mapper.map_to_with_table_flags(page, frame, flags, parent_flags, frames);
-            SizeReply::Map(ignore(mapped))
+            SizeReply::Map(take(tokens, mapped))
         }
         SizeCall::IdentityMap { frame, flags } => {
-            SizeReply::Map(ignore(mapper.identity_map(frame, flags, frames)))
+            SizeReply::Map(take(tokens, mapper.identity_map(frame, flags, frames)))
         }
-        SizeCall::Unmap { page } => SizeReply::Unmap(ignore_unmapped(mapper.unmap(page))),
+        SizeCall::Unmap { page } => { SizeReply::Unmap(take_unmapped(tokens, mapper.unmap(page))) }
         SizeCall::UpdateFlags { page, flags } => {
-            SizeReply::Update(ignore(mapper.update_flags(page, flags)))
+            SizeReply::Update(take(tokens, mapper.update_flags(page, flags)))
         }
         SizeCall::SetFlagsP4 { page, flags } => {
-            SizeReply::TableFlags(ignore_all(mapper.set_flags_p4_entry(page, flags)))
+            SizeReply::TableFlags(take_all(tokens, mapper.set_flags_p4_entry(page, flags)))
         }
         SizeCall::SetFlagsP3 { page, flags } => {
-            SizeReply::TableFlags(ignore_all(mapper.set_flags_p3_entry(page, flags)))
+            SizeReply::TableFlags(take_all(tokens, mapper.set_flags_p3_entry(page, flags)))
         }
         SizeCall::SetFlagsP2 { page, flags } => {
-            SizeReply::TableFlags(ignore_all(mapper.set_flags_p2_entry(page, flags)))
+            SizeReply::TableFlags(take_all(tokens, mapper.set_flags_p2_entry(page, flags)))
         }
         SizeCall::TranslatePage { page } => SizeReply::Frame(mapper.translate_page(page)),
     })
@@ -198,38 +244,4 @@ fn is_outside<S: PageSize, M: Mapper<S>>(mapper: &M, page: Page<S>) -> bool
         Some(index) => page.p4_index() != index,
         None => true,
     }
-}
-
-/// Ignores the token of a call that succeeded, and gives its page.
-fn ignore<S: PageSize, E>(flushed: Result<MapperFlush<S>, E>) -> Result<Page<S>, E>
-    ensures { result ≡ flushed }
-{
-    Ok(page_of_ignored(flushed?))
-}
-
-/// Ignores the token of a change to a table entry that succeeded.
-fn ignore_all(flushed: Result<MapperFlushAll, FlagUpdateError>) -> Result<(), FlagUpdateError>
-    ensures { flags_refusal result ≡ flags_refusal flushed }
-{
-    flushed?.ignore();
-    Ok(())
-}
-
-/// Ignores the token of an unmap that succeeded, and gives its page beside the frame.
-fn ignore_unmapped<S: PageSize>(
-    unmapped: Result<(PhysFrame<S>, MapperFlush<S>), UnmapError>,
-) -> Result<(PhysFrame<S>, Page<S>), UnmapError>
-    ensures { result ≡ unmapped }
-{
-    let (frame, flush) = unmapped?;
-    Ok((frame, page_of_ignored(flush)))
-}
-
-/// Ignores a token, and gives its page.
-fn page_of_ignored<S: PageSize>(flush: MapperFlush<S>) -> Page<S>
-    ensures { result ≡ flush }
-{
-    let page = flush.page();
-    flush.ignore();
-    page
 }

@@ -1,10 +1,10 @@
 //! Lists of calls in small hierarchies, and what the owner of a memory learns of them.
-ghost use Rattle.std.specs.Prelude.{◌≡◌, ◌++◌, ◌↔◌, ℕ, OnOk, OnErr};
+ghost use Rattle.std.specs.Prelude.{◌≡◌, ◌++◌, ◌↔◌, ℕ, map, Some, OnOk, OnErr};
 ghost use Rattle.x86_64_model.specs.Machine.{State, state_after};
 ghost use Rattle.x86_64_model.specs.MapperCalls.{Owns, KeepsOthers};
 ghost use Rattle.x86_64_mappers.specs.Layouts.{direct};
 ghost use Rattle.x86_64.specs.Calls.{calls_of};
-ghost use Rattle.x86_64.specs.Runs.{machine_of, state_of, FitsPool, replies_to};
+ghost use Rattle.x86_64.specs.Runs.{machine_of, state_of, FitsPool, replies_to, appended, UnchangedIfRefused};
 
 use crate::structures::paging::mapper::{FlagUpdateError, PageTableFrameMapping};
 use crate::structures::paging::{
@@ -31,7 +31,8 @@ fn run_in<P: PageTableFrameMapping + Drop, F: FrameStore>(
 ) -> Result<(), AllocError>
     requires { FitsPool (direct (P.places mapping) root) memory.old (F.serves frames.old) (F.supply frames.old) }
     ensures replies { let layout = direct (P.places mapping) root in
-        OnOk result (replies.new.items ≡ replies.old.items ++ replies_to (machine_of layout F.put) (state_of layout memory.old (F.supply frames.old)) calls.now) }
+        OnOk result (map Some replies.new.items ≡ map Some replies.old.items ++ replies_to (machine_of layout F.put) (state_of layout memory.old (F.supply frames.old)) calls.now) }
+    ensures refused { OnOk result (UnchangedIfRefused (appended replies.old.items replies.new.items) memory.old memory.new) }
     ensures state { let layout = direct (P.places mapping) root in
         OnOk result (state_of layout memory.new (F.supply frames.new) ≡ state_after (machine_of layout F.put) (state_of layout memory.old (F.supply frames.old)) (calls_of 4 calls.now)) }
     ensures unchanged { OnErr result ((replies.new.items ≡ replies.old.items) × (memory.new ≡ memory.old) × (frames.new ≡ frames.old)) }

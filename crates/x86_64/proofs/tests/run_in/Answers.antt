@@ -1,10 +1,17 @@
 use Rattle.std.proofs.Common.{◌↔◌, ℕ, rules}
+use Rattle.std.specs.Result.{OnOk}
 use Rattle.x86_64_model.specs.Layout.{Layout}
 use Rattle.x86_64_model.specs.Memory.{Memory}
 use Rattle.x86_64_model.specs.MapperCalls.{Owns}
 use Rattle.x86_64_mappers.specs.Layouts.{direct}
 use Rattle.x86_64.specs.Moved.{moved}
+use Rattle.x86_64.specs.Runs.{UnchangedIfRefused, appended}
 use Rattle.x86_64.proofs.tests.run_in.Goals as goal
+
+pub returns-clause-refused : goal.returns-clause-refused
+returns-clause-refused g c =
+    moved (λ (l : Layout) (m n : Memory). OnOk c.run.result (UnchangedIfRefused (appended c.args.replies.now.items c.run.new.replies.items) m n)) _ (direct (g.P.PageTableFrameMapping.places c.args.mapping) c.args.root)
+    _ c.args.memory.now c.run.new.mapper.memory.now _ c.new-mapper.ensures.layout c.new-mapper.ensures.memory (search rules) c.run.ensures.refused
 
 pub returns-clause-conserved : goal.returns-clause-conserved
 returns-clause-conserved g c =

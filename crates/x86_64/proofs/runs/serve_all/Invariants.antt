@@ -1,9 +1,10 @@
-use Rattle.std.proofs.Common.{◌≡◌, ◌+◌, ◌-◌, ◌≤◌, ◌++◌, length, drop, vec_len}
+use Rattle.std.proofs.Common.{◌≡◌, ◌+◌, ◌-◌, ◌≤◌, ◌++◌, length, map, drop, Some, vec_len}
 use Rattle.std.specs.Vec.{vec_capacity}
 use Rattle.x86_64_model.specs.Machine.{Machine, State, state_after}
 use Rattle.x86_64.specs.Calls.{calls_of}
-use Rattle.x86_64.specs.Runs.{machine_of, state_of, Keeps, replies_to}
-use Rattle.x86_64.proofs.runs.run.Given as goal
+use Rattle.x86_64.specs.Flushes.{recorded, items_told}
+use Rattle.x86_64.specs.Runs.{machine_of, state_of, Keeps, replies_to, appended, UnchangedIfRefused}
+use Rattle.x86_64.proofs.runs.serve_all.Given as goal
 
 abbrev pub invariant-loop-call : goal.invariant-loop-call
 invariant-loop-call g l =
@@ -12,11 +13,15 @@ invariant-loop-call g l =
     let start : State = state_of layout (g.M.PageTables.memory l.fn.mapper) (g.F.FrameAllocator.supply l.fn.frames) in
     let now : State = state_of layout (g.M.PageTables.memory l.mapper) (g.F.FrameAllocator.supply l.frames) in
     record {
-      told : l.replies.items ++ replies_to machine now (drop l.call-index l.calls) ≡ l.fn.replies.items ++ replies_to machine start l.calls;
+      told : map Some l.replies.items ++ replies_to machine now (drop l.call-index l.calls) ≡ map Some l.fn.replies.items ++ replies_to machine start l.calls;
+      longer : length l.fn.replies.items ≤ length l.replies.items;
+      still : UnchangedIfRefused (appended l.fn.replies.items l.replies.items) (g.M.PageTables.memory l.fn.mapper) (g.M.PageTables.memory l.mapper);
       rest : state_after machine now (calls_of layout.levels (drop l.call-index l.calls)) ≡ state_after machine start (calls_of layout.levels l.calls);
       room : vec_len l.replies + (length l.calls - l.call-index) ≤ vec_capacity l.replies;
       keeps : Keeps layout (g.F.FrameKeeper.serves l.fn.frames) (g.M.PageTables.memory l.fn.mapper) (g.F.FrameAllocator.supply l.fn.frames) (g.M.PageTables.memory l.mapper) (g.F.FrameAllocator.supply l.frames);
       layout : g.M.PageTables.layout l.mapper ≡ layout;
       lent : g.M.PageTables.lent l.mapper ≡ g.M.PageTables.lent l.fn.mapper;
+      items : g.K.Tokens.items l.tokens ≡ g.K.Tokens.items l.fn.tokens ++ recorded g.K.Tokens.records (items_told (appended l.fn.replies.items l.replies.items));
+      tokens : g.K.Tokens.has_room l.tokens (length l.calls - l.call-index);
       serves : g.F.FrameKeeper.serves l.frames ≡ g.F.FrameKeeper.serves l.fn.frames;
     }

@@ -1,0 +1,88 @@
+-- What is recorded of calls: an item for the token of each that was accepted, in order, and no other.
+use Rattle.std.specs.Prelude.{◌≡◌, ◌≤◌, ◌+◌, ◌==◌, ℕ, Bool, true, false, cond, take, drop, List, [], ◌∷◌, ◌++◌, Result, Ok, Err, Option, Some, None}
+use Rattle.std.specs.List.{AllByRecursion}
+use Rattle.std.proofs.Common.{arith}
+use Rattle.x86_64_model.specs.Arrivals.{Keeps}
+use Rattle.x86_64_model.specs.Flush as flush
+use Rattle.x86_64_model.specs.Layout.{Layout}
+use Rattle.x86_64_model.specs.Machine.{State, state_after}
+use Rattle.x86_64_model.specs.Memory.{Words}
+use Rattle.x86_64_model.specs.PageWalk.{page_walk}
+use Rattle.x86_64_model.specs.Path.{path_at}
+use Rattle.x86_64_model.specs.Position.{page_path}
+use Rattle.x86_64_model.specs.Window.{begins_with, IsValidFor}
+use Rattle.x86_64_tables.specs.declared.mapper.recorder.FlushItem.{FlushItem}
+use Rattle.x86_64_tables.specs.declared.mapper.recorder.FlushItem.TheVariants.{Page, All}
+use Rattle.x86_64.specs.Calls.{calls_of}
+use Rattle.x86_64.specs.Runs.{machine_of}
+use Rattle.x86_64.specs.declared.calls.Call.{Call}
+use Rattle.x86_64.specs.declared.calls.SizeReply.{SizeReply}
+use Rattle.x86_64.specs.declared.calls.SizeReply.TheVariants.{Map, Unmap, Update, TableFlags, Frame}
+use Rattle.x86_64.specs.declared.calls.Reply.{Reply}
+use Rattle.x86_64.specs.declared.calls.Reply.TheVariants as reply
+
+-- these items where they are recorded
+abbrev pub recorded : Bool → List FlushItem → List FlushItem
+recorded true items = items
+recorded false items = []
+
+pub less_room : (n room : ℕ) → n + 1 ≤ room → n ≤ room
+less_room n room h = omega arith
+
+-- the item of a page of a size, where the call was accepted
+abbrev pub page_items : {E : Type 0} → (size : ℕ) → Result ℕ E → List FlushItem
+page_items size (Ok page) = Page page size ∷ []
+page_items size (Err why) = []
+
+abbrev pub unmapped_items : {E : Type 0} → (size : ℕ) → Result (ℕ × ℕ) E → List FlushItem
+unmapped_items size (Ok unmapped) = Page unmapped.1 size ∷ []
+unmapped_items size (Err why) = []
+
+-- a change to a table entry: all pages
+abbrev pub all_items : {X E : Type 0} → Result X E → List FlushItem
+all_items (Ok done) = All ∷ []
+all_items (Err why) = []
+
+-- the items of a call on a page of a size that has this reply
+abbrev pub size_items : {S : Type 0} → (size : ℕ) → SizeReply S → List FlushItem
+size_items size (Map mapped) = page_items size mapped
+size_items size (Unmap unmapped) = unmapped_items size unmapped
+size_items size (Update updated) = page_items size updated
+size_items size (TableFlags done) = all_items done
+size_items size (Frame frame) = []
+
+-- the same, none where the call isn't allowed
+abbrev pub items_where : {S : Type 0} → (size : ℕ) → Option (SizeReply S) → List FlushItem
+items_where size None = []
+items_where size (Some answer) = size_items size answer
+
+-- the items of a call that has this reply
+abbrev pub items_of : Reply → List FlushItem
+items_of (reply.Of4KiB answer) = size_items 0x1000 answer
+items_of (reply.Of2MiB answer) = size_items 0x20_0000 answer
+items_of (reply.Of1GiB answer) = size_items 0x4000_0000 answer
+items_of (reply.Translate result) = []
+items_of (reply.Address address) = []
+items_of reply.NotAllowed = []
+
+-- the items of calls that have these replies, one after another
+abbrev pub items_told : List Reply → List FlushItem
+items_told [] = []
+items_told (answer ∷ answers) = items_of answer ++ items_told answers
+
+-- what an item covers: the positions of the page of its size that starts there, or all
+abbrev pub item_of : FlushItem → flush.Item
+item_of (Page start size) = flush.OnePage (path_at 4 (cond (size == 0x1000) 1 (cond (size == 0x20_0000) 2 3)) start)
+item_of All = flush.Everything
+
+abbrev pub NoneCovers : List FlushItem → (position : ℕ) → Type 0
+NoneCovers items p = AllByRecursion (λ item. flush.covers 4 (item_of item) p ≡ false) items
+
+-- The walks that a cache may still hold after calls that have these replies: where the processor arrives, from a position outside the recursive
+-- index, in words that mean the state after the first k calls, and no item of a later call covers the position, there it arrives in words that mean
+-- the last state too, at the same address, with no right lost.
+abbrev pub FlushesSuffice : Layout → (put : List ℕ → ℕ → List ℕ) → State → List Call → List Reply → Words → Type 0
+FlushesSuffice l put start calls replies U =
+    (k : ℕ) (V : Words) (p : ℕ) → let then = state_after (machine_of l put) start (calls_of l.levels (take k calls)) in
+    IsValidFor l.levels l.window V l.root then.paths → begins_with l.window (page_path l.levels p) ≡ false → NoneCovers (items_told (drop k replies)) p
+    → Keeps (page_walk l.levels V l.root p) (page_walk l.levels U l.root p)

@@ -1,0 +1,133 @@
+//! What becomes of the tokens of calls: they are ignored, or flushed into a recorder.
+ghost use Rattle.std.specs.Prelude.{◌≡◌, ◌+◌, ◌++◌, [], ◌∷◌, ℕ, Bool, List};
+ghost use Rattle.x86_64_tables.specs.declared.mapper.recorder.FlushItem.{FlushItem as Item};
+ghost use Rattle.x86_64_tables.specs.MapperAnswers.{flags_refusal};
+ghost use Rattle.x86_64.specs.Flushes.{recorded, page_items, unmapped_items, all_items};
+
+use x86_64_page::frame::PhysFrame;
+use x86_64_page::page::{Page, PageSize};
+use x86_64_tables::mapper::{
+    FlagUpdateError, FlushItem, FlushRecorder, MapperFlush, MapperFlushAll, UnmapError,
+};
+
+/// Takes the tokens of calls that were accepted.
+pub trait Tokens {
+    // whether each is recorded
+    ghost records: { Bool };
+
+    // the items that were recorded so far
+    ghost items: { Self → List Item };
+
+    // whether so many more can be taken
+    ghost has_room: { Self → ℕ → Type 0 };
+
+    ghost fewer: { (tokens : Self) (n : ℕ) → has_room tokens (n + 1) → has_room tokens n };
+
+    /// Takes the token of a page.
+    fn page<S: PageSize>(&mut self, flush: MapperFlush<S>)
+        requires { Self.has_room self.old 1 }
+        ensures items { Self.items self.new ≡ Self.items self.old ++ recorded Self.records (FlushItem.Page flush S.SIZE ∷ []) }
+        ensures room { (n : ℕ) → Self.has_room self.old (n + 1) → Self.has_room self.new n };
+
+    /// Takes the token of all pages.
+    fn all(&mut self, flush: MapperFlushAll)
+        requires { Self.has_room self.old 1 }
+        ensures items { Self.items self.new ≡ Self.items self.old ++ recorded Self.records (FlushItem.All ∷ []) }
+        ensures room { (n : ℕ) → Self.has_room self.old (n + 1) → Self.has_room self.new n };
+}
+
+/// Ignores each token.
+#[derive(Drop)]
+pub struct Ignored;
+
+impl Tokens for Ignored {
+    ghost use Rattle.std.specs.Prelude.{false, ⊤};
+
+    ghost records = { false };
+
+    ghost items = { λ _. [] };
+
+    ghost has_room = { λ _ _. ⊤ };
+
+    fn page<S: PageSize>(&mut self, flush: MapperFlush<S>) {
+        flush.ignore();
+    }
+
+    fn all(&mut self, flush: MapperFlushAll) {
+        flush.ignore();
+    }
+
+    ghost fewer = { λ tokens n room. tt };
+}
+
+/// Flushes each token. Where there is room no memory is asked for, so no token comes back.
+impl Tokens for FlushRecorder {
+    ghost use Rattle.std.specs.Prelude.{true, ◌≤◌};
+    ghost use Rattle.x86_64.specs.Flushes.{less_room};
+
+    ghost records = { true };
+
+    ghost items = { λ recorder. recorder.items };
+
+    ghost has_room = { λ recorder n. n ≤ recorder.room };
+
+    fn page<S: PageSize>(&mut self, flush: MapperFlush<S>) {
+        if let Err(flush) = flush.flush(self) {
+            flush.ignore();
+        }
+    }
+
+    fn all(&mut self, flush: MapperFlushAll) {
+        if let Err(flush) = flush.flush_all(self) {
+            flush.ignore();
+        }
+    }
+
+    ghost fewer = { λ recorder n room. less_room n recorder.room room };
+}
+
+/// Hands on the token of a call that was accepted, and gives its page.
+pub fn take<S: PageSize, E, K: Tokens>(
+    tokens: &mut K,
+    flushed: Result<MapperFlush<S>, E>,
+) -> Result<Page<S>, E>
+    requires { K.has_room tokens.old 1 }
+    ensures result { result ≡ flushed }
+    ensures items { K.items tokens.new ≡ K.items tokens.old ++ recorded K.records (page_items S.SIZE result) }
+    ensures room { (n : ℕ) → K.has_room tokens.old (n + 1) → K.has_room tokens.new n }
+{
+    let flush = flushed?;
+    let page = flush.page();
+    tokens.page(flush);
+    Ok(page)
+}
+
+/// Hands on the token of an unmap that was accepted, and gives its page beside the frame.
+pub fn take_unmapped<S: PageSize, K: Tokens>(
+    tokens: &mut K,
+    unmapped: Result<(PhysFrame<S>, MapperFlush<S>), UnmapError>,
+) -> Result<(PhysFrame<S>, Page<S>), UnmapError>
+    requires { K.has_room tokens.old 1 }
+    ensures result { result ≡ unmapped }
+    ensures items { K.items tokens.new ≡ K.items tokens.old ++ recorded K.records (unmapped_items S.SIZE result) }
+    ensures room { (n : ℕ) → K.has_room tokens.old (n + 1) → K.has_room tokens.new n }
+{
+    let (frame, flush) = unmapped?;
+    let page = flush.page();
+    tokens.page(flush);
+    Ok((frame, page))
+}
+
+/// Hands on the token of a change to a table entry that was accepted.
+pub fn take_all<K: Tokens>(
+    tokens: &mut K,
+    flushed: Result<MapperFlushAll, FlagUpdateError>,
+) -> Result<(), FlagUpdateError>
+    requires { K.has_room tokens.old 1 }
+    ensures result { flags_refusal result ≡ flags_refusal flushed }
+    ensures items { K.items tokens.new ≡ K.items tokens.old ++ recorded K.records (all_items result) }
+    ensures room { (n : ℕ) → K.has_room tokens.old (n + 1) → K.has_room tokens.new n }
+{
+    tokens.all(flushed?);
+    Ok(())
+}
