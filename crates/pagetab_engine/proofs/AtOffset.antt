@@ -1,5 +1,5 @@
 -- What a call of the mapper at an offset leaves of the program's hierarchy.
-use Rattle.std.proofs.Common.{◌≡◌, ◌∙◌, ℕ, List, Result, sym, ap}
+use Rattle.std.proofs.Common.{◌≡◌, ◌∙◌, ℕ, List, Some, Result, sym, ap}
 use Rattle.std.specs.Result.{IfOk}
 use Rattle.std.proofs.lemmas.Result.{IfOk-weaker}
 use Rattle.x86_64_model.specs.Layout.{Layout}
@@ -24,7 +24,7 @@ pub answered_alike : (offset : ℕ) (before : Memory) (free : List ℕ) (call : 
     → IsAnswered (layout_at offset) before free call after rest reply → IsAnswered layout before free call after rest reply
 answered_alike offset before free call after rest reply first last answered =
     ap (λ (state : State). runs.call_step machine state call) (sym (same_state offset 0x1000 before free first)) ∙ answered
-    ∙ ap (λ (state : State). (state, reply)) (same_state offset 0x1000 after rest last)
+    ∙ ap (λ (state : State). (state, Some reply)) (same_state offset 0x1000 after rest last)
 
 -- the free frames fit at the offset
 pub at_offset : (offset : ℕ) (m : Memory) (limit : ℕ) (free : List ℕ) → OffsetFits m offset → runs.FitsPool layout m (serves_below limit) free → runs.FitsPool (layout_at offset) m (serves_below limit) free

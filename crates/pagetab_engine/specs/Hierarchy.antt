@@ -1,5 +1,5 @@
 -- The hierarchy that the program reads, and the machine that it is.
-use Rattle.std.specs.Prelude.{◌≡◌, ◌↔◌, ◌∷◌, ℕ, ⊤, List}
+use Rattle.std.specs.Prelude.{◌≡◌, ◌↔◌, ◌∷◌, ℕ, ⊤, List, Some}
 use Rattle.x86_64_model.specs.Layout.{Layout}
 use Rattle.x86_64_model.specs.Machine.{Machine, State}
 use Rattle.x86_64_model.specs.MapperCalls.{Owns, KeepsOthers}
@@ -28,7 +28,7 @@ machine = machine_by layout
 -- the reply to a call, and the state that it leaves, are the machine's
 abbrev pub IsAnswered : (by : Layout) → (before : Memory) → (free : List ℕ) → Call → (after : Memory) → (rest : List ℕ) → Reply → Type 0
 IsAnswered by before free call after rest reply =
-    runs.call_step (machine_by by) (runs.state_of by before free) call ≡ (runs.state_of by after rest, reply)
+    runs.call_step (machine_by by) (runs.state_of by before free) call ≡ (runs.state_of by after rest, Some reply)
 
 -- what the words mean, and the free frames
 abbrev pub state_of : Hierarchy → State

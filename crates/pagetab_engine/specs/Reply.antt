@@ -1,5 +1,5 @@
 -- What answers a command, and what it leaves.
-use Rattle.std.specs.Prelude.{◌≡◌, option_map}
+use Rattle.std.specs.Prelude.{◌≡◌, Some, option_map}
 use Rattle.x86_64_model.specs.Layout.{words}
 use Rattle.x86_64_model.specs.Machine.{State}
 use Rattle.x86_64_model.specs.PageWalk.{page_walk}
@@ -15,7 +15,7 @@ use Rattle.pagetab_engine.specs.declared.reply.Reply.TheVariants as reply
 
 -- the reply to a call is the machine's, and that to another command says what the definitions say of the hierarchy
 abbrev pub IsReply : Hierarchy → Command → Reply → Type 0
-IsReply hierarchy (command.Call call) (reply.Answered answer) = answer ≡ (call_step machine (state_of hierarchy) call).1
+IsReply hierarchy (command.Call call) (reply.Answered answer) = Some answer ≡ (call_step machine (state_of hierarchy) call).1
 IsReply hierarchy (command.Walk addr) (reply.Arrival walked) = option_map walked_of walked ≡ page_walk 4 (words layout hierarchy.memory) 0x1000 addr
 IsReply hierarchy (command.Show slot) (reply.Word word) = word ≡ word_in hierarchy.memory slot.place slot.index
 IsReply hierarchy command.Pool (reply.Pool frames) = frames.items ≡ hierarchy.pool.frames

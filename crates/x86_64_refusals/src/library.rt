@@ -5,14 +5,15 @@ ghost use Rattle.x86_64_mappers.specs.Layouts.{direct};
 ghost use Rattle.x86_64.specs.Runs.{FitsPool};
 
 use crate::hoard::answer_at_last;
-use std::alloc::AllocError;
+use std::alloc::{AllocError, Global};
+use std::process::Abort;
 use std::test::Fail;
 use x86_64::structures::paging::{MappedPageTable, PageTableFlags};
 use x86_64::{
-    Call, FramePlace, FramePool, IdentityMapping, PhysMemory, Reply, SizeCall, SizeReply,
-    is_valid_hierarchy, pool_fits,
+    Call, FlushItem, FlushRecorder, FramePlace, FramePool, IdentityMapping, PhysMemory, Reply,
+    SizeCall, SizeReply, VirtAddr, is_valid_hierarchy, pool_fits,
 };
-use x86_64_tests::images::{ROOT, frame_at, page_at, pool_of, run_on};
+use x86_64_tests::images::{ROOT, frame_at, page_at, pool_of, run_flushed_on, run_on};
 
 /// The addresses of the frames that are free at first.
 const FREE: [u64; 3] = [0x2000, 0x3000, 0x4000];
@@ -64,19 +65,83 @@ fn is_untouched(memory: &PhysMemory, pool: &FramePool, replies: &[Reply]) -> boo
     is_empty && is_free && pool.len() == 3 && replies == [EARLIER].as_slice()
 }
 
+/// How many calls a list has, so many that room for as many replies or items takes a block of its own.
+const CALL_COUNT: usize = 4096;
+
+/// Makes a call that maps a page, which is done the first time alone.
+fn map_of_a_page() -> Call {
+    Call::Of4KiB(SizeCall::MapTo {
+        page: page_at(0x1000),
+        frame: frame_at(0x5000),
+        flags: PageTableFlags::PRESENT,
+    })
+}
+
+/// Answers a list whose flushes are recorded once there is room, where so many replies and so many items have room from the start,
+/// and compares that nothing changed before.
+fn record_at_last(
+    rt: &impl Abort,
+    alloc: Global,
+    reply_room: usize,
+    item_room: usize,
+) -> Result<(), Fail> {
+    let root = frame_at(ROOT);
+    let mut memory = PhysMemory::new(alloc, 5)?;
+    let mut pool = pool_of(alloc, 5, &FREE)?;
+    let calls = vec![in alloc; map_of_a_page(); CALL_COUNT]?;
+    let mut replies = vec![in alloc; EARLIER]?;
+    replies.reserve(reply_room)?;
+    let mut recorder = FlushRecorder::new(alloc);
+    recorder.reserve(item_room)?;
+    let mut is_kept = true;
+    assert!(rt; pool_fits(alloc, &memory, &IdentityMapping, root, &pool)?);
+    answer_at_last(
+        rt,
+        alloc,
+        ||
+            requires { FitsPool (direct identity_places root) memory (serves_below pool.limit) pool.frames }
+            ensures { FitsPool (direct identity_places root) memory.exit (serves_below pool.exit.limit) pool.exit.frames }
+        {
+            let answer = run_flushed_on(
+                &mut memory,
+                root,
+                &mut pool,
+                &calls,
+                &mut replies,
+                &mut recorder,
+            );
+            if answer.is_err() {
+                is_kept = is_kept
+                    && is_untouched(&memory, &pool, &replies)
+                    && recorder.items().is_empty();
+            }
+            answer
+        },
+    )?;
+    assert!(rt; is_kept);
+    assert_eq!(rt; replies.len(), CALL_COUNT + 1);
+    let item = FlushItem::Page {
+        start: VirtAddr::new(0x1000),
+        size: 4096,
+    };
+    assert_eq!(rt; recorder.items(), [item].as_slice());
+    Ok(())
+}
+
+#[test]
+fn recorded_lists_change_nothing_until_there_is_room(rt: HostRuntime) -> Result<(), Fail> {
+    record_at_last(&rt, rt.alloc(), 0, 0)?;
+    record_at_last(&rt, rt.alloc(), CALL_COUNT, 0)?;
+    record_at_last(&rt, rt.alloc(), 0, CALL_COUNT)
+}
+
 #[test]
 fn lists_change_nothing_until_there_is_room(rt: HostRuntime) -> Result<(), Fail> {
     let alloc = rt.alloc();
     let root = frame_at(ROOT);
     let mut memory = PhysMemory::new(alloc, 5)?;
     let mut pool = pool_of(alloc, 5, &FREE)?;
-    let page = page_at(0x1000);
-    let call = Call::Of4KiB(SizeCall::MapTo {
-        page,
-        frame: frame_at(0x5000),
-        flags: PageTableFlags::PRESENT,
-    });
-    let calls = vec![in alloc; call; 4096]?;
+    let calls = vec![in alloc; map_of_a_page(); CALL_COUNT]?;
     let mut replies = vec![in alloc; EARLIER]?;
     let mut is_kept = true;
     assert!(rt; pool_fits(alloc, &memory, &IdentityMapping, root, &pool)?);
@@ -95,10 +160,10 @@ fn lists_change_nothing_until_there_is_room(rt: HostRuntime) -> Result<(), Fail>
         },
     )?;
     assert!(rt; is_kept);
-    assert_eq!(rt; replies.len(), 4097);
+    assert_eq!(rt; replies.len(), CALL_COUNT + 1);
     assert_eq!(rt;
         replies.get(1),
-        Some(&Reply::Of4KiB(SizeReply::Map(Ok(page))))
+        Some(&Reply::Of4KiB(SizeReply::Map(Ok(page_at(0x1000)))))
     );
     assert_eq!(rt; pool.len(), 0);
     Ok(())

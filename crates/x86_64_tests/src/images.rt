@@ -14,7 +14,8 @@ use x86_64::structures::paging::{
     Size4KiB,
 };
 use x86_64::{
-    Call, FramePlace, FramePool, IdentityMapping, PhysAddr, PhysMemory, Reply, VirtAddr, run,
+    Call, FlushRecorder, FramePlace, FramePool, IdentityMapping, PhysAddr, PhysMemory, Reply,
+    VirtAddr, run, run_flushed,
 };
 use x86_64_mappers::laws::offset_has_the_tables_of_the_identity;
 
@@ -127,4 +128,20 @@ pub fn run_at_offset(
     offset_has_the_tables_of_the_identity(memory, phys_offset);
     let mut mapper = OffsetPageTable::new(memory, root, phys_offset);
     run(&mut mapper, pool, calls, replies)
+}
+
+/// Answers calls by a mapper over the identity mapping, as [`run_on`] does, and records their flushes.
+pub fn run_flushed_on(
+    memory: &mut PhysMemory,
+    root: PhysFrame<Size4KiB>,
+    pool: &mut FramePool,
+    calls: &[Call],
+    replies: &mut Vec<Reply>,
+    recorder: &mut FlushRecorder,
+) -> Result<(), AllocError>
+    requires { FitsPool (direct identity_places root) memory.old (serves_below pool.old.limit) pool.old.frames }
+    ensures { FitsPool (direct identity_places root) memory.new (serves_below pool.new.limit) pool.new.frames }
+{
+    let mut mapper = MappedPageTable::new(memory, root, IdentityMapping);
+    run_flushed(&mut mapper, pool, calls, replies, recorder)
 }

@@ -4,6 +4,8 @@
 
 #[cfg(test)]
 mod agreement;
+#[cfg(test)]
+mod counting;
 pub mod images;
 #[cfg(test)]
 mod program;

@@ -1,10 +1,13 @@
 //! Calls on an empty root, as tables: the replies, and every word and free frame that they leave.
 mod flags;
+mod flushes;
+mod layers;
 mod mappings;
 mod maps;
 mod pools;
 mod single;
 mod tokens;
+mod walks;
 
 use crate::images::{
     ROOT, WORD_COUNT, fill, flags_of, frame_at, page_at, pool_of, run_at_offset, run_on, run_over,
@@ -232,13 +235,9 @@ fn begin(alloc: Global, free: &[u64]) -> Result<(PhysMemory, FramePool), Fail> {
 fn check(rt: &impl Abort, alloc: Global, rows: &[Row<'_>]) -> Result<(), Fail> {
     for (number, row) in rows.iter().enumerate() {
         for by in [By::Identity, By::Reference, By::Offset] {
-            check_row(
-                rt,
-                alloc,
-                row,
-                by,
-                &format!(in alloc; "row {number}, {by:?}")?,
-            )?;
+            let title = format!(in alloc; "row {number}, {by:?}")?;
+            let (mut memory, pool) = answer_row(rt, alloc, row, by, &title)?;
+            check_fits(rt, alloc, &mut memory, &pool, &title)?;
         }
     }
     Ok(())
@@ -268,14 +267,15 @@ fn answer(
     Ok(())
 }
 
-/// Answers a row's calls by `run`, the first in a list of its own, after an earlier reply, and compares what comes of them.
-fn check_row(
+/// Answers a row's calls by `run`, the first in a list of its own, after an earlier reply, compares what comes of them, and gives
+/// the memory and the pool.
+fn answer_row(
     rt: &impl Abort,
     alloc: Global,
     row: &Row<'_>,
     by: By,
     title: &str,
-) -> Result<(), Fail> {
+) -> Result<(PhysMemory, FramePool), Fail> {
     let (mut memory, mut pool) = begin(alloc, row.free)?;
     let mut calls = Vec::new(alloc);
     let mut wanted = vec![in alloc; Reply::Address(None)]?;
@@ -296,12 +296,23 @@ fn check_row(
     )?;
     assert_eq!(rt; replies, wanted, "{title}");
     compare(rt, &memory, &pool, row, title)?;
+    Ok((memory, pool))
+}
+
+/// Tests that the hierarchy is valid and the pool fits it again.
+fn check_fits(
+    rt: &impl Abort,
+    alloc: Global,
+    memory: &mut PhysMemory,
+    pool: &FramePool,
+    title: &str,
+) -> Result<(), Fail> {
     let root = frame_at(ROOT);
     assert!(rt;
-        pool_fits(alloc, &memory, &IdentityMapping, root, &pool)?,
+        pool_fits(alloc, memory, &IdentityMapping, root, pool)?,
         "{title}"
     );
-    let mapper = MappedPageTable::new(&mut memory, root, IdentityMapping);
+    let mapper = MappedPageTable::new(memory, root, IdentityMapping);
     assert!(rt; mapper.is_valid(alloc)?, "{title}");
     Ok(())
 }

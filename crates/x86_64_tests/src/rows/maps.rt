@@ -76,45 +76,6 @@ fn larger_pages_want_fewer_tables(rt: HostRuntime) -> Result<(), Fail> {
 }
 
 #[test]
-fn parents_get_flags_of_their_own(rt: HostRuntime) -> Result<(), Fail> {
-    let with_parent_flags = SizeCall::MapToWithTableFlags {
-        page: page_at(0x1000),
-        frame: frame_at(0x5000),
-        flags: flags_of(0x3),
-        parent_flags: flags_of(0x1),
-    };
-    let rows = [
-        Row {
-            free: &FREE,
-            calls: &[small(with_parent_flags, mapped(0x1000))],
-            words: &[
-                (0x1000, 0, 0x2001),
-                (0x2000, 0, 0x3001),
-                (0x3000, 0, 0x4001),
-                (0x4000, 1, 0x5003),
-            ],
-            full: &[],
-            left: &[],
-        },
-        // The flags of a later map are added to the parents.
-        Row {
-            free: &FREE,
-            calls: &[first(), small(map(0x2000, 0x6000, 0x5), mapped(0x2000))],
-            words: &[
-                (0x1000, 0, 0x2007),
-                (0x2000, 0, 0x3007),
-                (0x3000, 0, 0x4007),
-                (0x4000, 1, 0x5003),
-                (0x4000, 2, 0x6005),
-            ],
-            full: &[],
-            left: &[],
-        },
-    ];
-    check(&rt, rt.alloc(), &rows)
-}
-
-#[test]
 fn identity_maps_name_the_page_at_the_frame(rt: HostRuntime) -> Result<(), Fail> {
     let rows = [
         Row {
@@ -175,25 +136,6 @@ fn refused_maps_leave_what_they_did(rt: HostRuntime) -> Result<(), Fail> {
         },
     ];
     check(&rt, rt.alloc(), &rows)
-}
-
-#[test]
-fn maps_below_a_large_page_are_refused(rt: HostRuntime) -> Result<(), Fail> {
-    // Its entry gets the parent flags before it refuses.
-    let row = Row {
-        free: &FREE,
-        calls: &[
-            first_large(),
-            small(
-                map(0x20_1000, 0x9000, 0x3),
-                SizeReply::Map(Err(MapToError::ParentEntryHugePage)),
-            ),
-        ],
-        words: &[WORDS[0], WORDS[1], (0x3000, 1, 0x40_0083)],
-        full: &[0x4000],
-        left: &[0x4000],
-    };
-    check(&rt, rt.alloc(), &[row])
 }
 
 #[test]
