@@ -141,7 +141,13 @@ fn lists_change_nothing_until_there_is_room(rt: HostRuntime) -> Result<(), Fail>
     let root = frame_at(ROOT);
     let mut memory = PhysMemory::new(alloc, 5)?;
     let mut pool = pool_of(alloc, 5, &FREE)?;
-    let calls = vec![in alloc; map_of_a_page(); CALL_COUNT]?;
+    let page = page_at(0x1000);
+    let call = Call::Of4KiB(SizeCall::MapTo {
+        page,
+        frame: frame_at(0x5000),
+        flags: PageTableFlags::PRESENT,
+    });
+    let calls = vec![in alloc; call; CALL_COUNT]?;
     let mut replies = vec![in alloc; EARLIER]?;
     let mut is_kept = true;
     assert!(rt; pool_fits(alloc, &memory, &IdentityMapping, root, &pool)?);
@@ -163,7 +169,7 @@ fn lists_change_nothing_until_there_is_room(rt: HostRuntime) -> Result<(), Fail>
     assert_eq!(rt; replies.len(), CALL_COUNT + 1);
     assert_eq!(rt;
         replies.get(1),
-        Some(&Reply::Of4KiB(SizeReply::Map(Ok(page_at(0x1000)))))
+        Some(&Reply::Of4KiB(SizeReply::Map(Ok(page))))
     );
     assert_eq!(rt; pool.len(), 0);
     Ok(())
