@@ -1,9 +1,1 @@
-pub mod PlainLists
-pub mod PlainPositions
-pub mod PlainParents
-pub mod PlainTranslations
-pub mod PlainChanges
-pub mod PlainMaps
-pub mod PlainAllowed
-pub mod PlainCleaning
-pub mod PlainAddresses
+pub mod Lemmas

@@ -37,7 +37,7 @@ abbrev pub set_flags_allowed : (L : ℕ) (E : List ℕ → ℕ) → PathMap → 
 set_flags_allowed L E paths level page given = cond (nat_lt 3 level) (not (huge given))
     (refuses (set_flags L E paths level page given).answer || both_or_none (huge given) (huge (E (front_at L level page))))
 
-unfoldable pub allowed : (L : ℕ) → Option Window → PathMap → Call → Bool
+abbrev pub allowed : (L : ℕ) → Option Window → PathMap → Call → Bool
 allowed L window paths (MapTo q frame given) = map_allowed L window paths q given (parent_part given)
 allowed L window paths (MapToWithTableFlags q frame given parent_flags) = map_allowed L window paths q given parent_flags
 allowed L window paths (IdentityMap level frame given) = nat_lt frame (lower_half L) && map_allowed L window paths (path_at L level frame) given (parent_part given)

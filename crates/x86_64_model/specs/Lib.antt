@@ -26,9 +26,8 @@ pub mod Layout
 pub mod Tables
 pub mod Marks
 pub mod MapperCalls
+pub mod Owned
 pub mod Conserved
 pub mod Arrivals
 pub mod WalkDown
-pub mod Plain
 pub mod Laws
-pub mod Lemmas

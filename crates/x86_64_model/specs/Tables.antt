@@ -6,7 +6,6 @@ use Rattle.x86_64_model.specs.Entry.{huge, address, names_table}
 use Rattle.x86_64_model.specs.Path.{indices}
 use Rattle.x86_64_model.specs.Memory.{Words, word, set_word}
 use Rattle.x86_64_model.specs.Hierarchy.{read_at}
-use Rattle.x86_64_model.specs.Window.{Window}
 use Rattle.x86_64_model.specs.Lists.{In, EachOnce}
 
 -- the table in a frame and all below it, through n levels, a table before those below it
@@ -18,10 +17,6 @@ tables_from (suc n) T f = f ∷ flat_map (λ i. cond (names_table (word T f i)) 
 abbrev pub without_word : (r : Option ℕ) → (root : ℕ) → Words → Words
 without_word None root T = T
 without_word (Some r) root T = set_word T root r 0
-
--- a recursive index, with the word of the root that stands at it
-abbrev pub recursive_window : Words → (root r : ℕ) → Window
-recursive_window T root r = record { index = r; self_entry = word T root r }
 
 -- through n levels of tables below a frame's, only words of levels three and two are huge
 pub record NoneHuge (n : ℕ) (T : Words) (f : ℕ) : Type 0 where

@@ -1,5 +1,4 @@
-// What page tables mean: definitions in `specs/`, the laws that pin them, and a plain slow program that computes them.
+// What page tables mean: definitions in `specs/`, and the laws that pin them.
 #![tactic(auto)]
 
 pub mod laws;
-pub mod plain;

@@ -21,28 +21,42 @@ abbrev pub WalkedDown : Type 0
 WalkedDown = (L : ℕ) (T : Words) (root : ℕ) (M : PathMap) → Holds L T root M → (supply : List ℕ) (more added : ℕ) (q : List ℕ) (e frame : ℕ)
     → walk_down more added q e frame M supply (parents q) ≡ map_rule M supply more added (parents q) q e frame
 
+-- ---- walks after a map
+
+-- the words T hold the hierarchy before a map call, and U what its rule makes of it
+pub record IsMapOf (L : ℕ) (window : Option Window) (T U : Words) (root : ℕ) (M : PathMap) (supply : List ℕ) (more added : ℕ) (q : List ℕ) (frame given : ℕ) : Type 0 where
+  pub before : IsValidFor L window T root M
+  pub after : IsValidFor L window U root (map_call L M supply more added q frame given).paths
+
 -- whatever a map call answers, where the walk arrived it still arrives, with no right lost and none gained that the parent flags lack
 abbrev pub MapKeepsWalks : Type 0
 MapKeepsWalks = (L : ℕ) (window : Option Window) (T U : Words) (root : ℕ) (M : PathMap) (supply : List ℕ) (more added : ℕ) (q : List ℕ) (frame given : ℕ)
-    → IsParentFlags more → IsValidFor L window T root M → IsValidFor L window U root (map_call L M supply more added q frame given).paths
+    → IsParentFlags more → IsMapOf L window T U root M supply more added q frame given
     → (p : ℕ) → Arrives more (page_walk L T root p) (page_walk L U root p)
 
--- after an accepted `map_to` with PRESENT the walk of each position of the page arrives at the frame's start plus the offset, with just the rights that were asked for
+-- a `map_to` with PRESENT of a page outside the window, from a supply of frames, was accepted
+pub record IsAccepted (L level : ℕ) (window : Option Window) (T U : Words) (root : ℕ) (M : PathMap) (supply : List ℕ) (added : ℕ) (q : List ℕ) (frame given : ℕ) : Type 0 where
+  pub asks : Asks L level q frame given
+  pub adds : IsParentFlags added
+  pub outside : begins_with window q ≡ false
+  pub frames : AllByRecursion IsFrame supply
+  pub words : IsMapOf L window T U root M supply (parent_part given) added q frame given
+  pub answer : (map_call L M supply (parent_part given) added q frame given).answer ≡ Done frame
+
+-- then the walk of each position of the page arrives at the frame's start plus the offset, with just the rights that were asked for
 abbrev pub MapArrives : Type 0
 MapArrives = (L level : ℕ) (window : Option Window) (T U : Words) (root : ℕ) (M : PathMap) (supply : List ℕ) (added : ℕ) (q : List ℕ) (frame given : ℕ)
-    → Asks L level q frame given → IsParentFlags added → begins_with window q ≡ false → AllByRecursion IsFrame supply → IsValidFor L window T root M
-    → IsValidFor L window U root (map_call L M supply (parent_part given) added q frame given).paths
-    → (map_call L M supply (parent_part given) added q frame given).answer ≡ Done frame
-    → (p : ℕ) → take (length q) (page_path L p) ≡ q
+    → IsAccepted L level window T U root M supply added q frame given → (p : ℕ) → take (length q) (page_path L p) ≡ q
     → page_walk L U root p ≡ Some (record { address = frame + p % span level; write = writable given; user = user given })
 
 -- the same by addresses: of the page that starts at a multiple of its size, each offset
 abbrev pub MapArrivesInPage : Type 0
 MapArrivesInPage = (L level : ℕ) (window : Option Window) (T U : Words) (root : ℕ) (M : PathMap) (supply : List ℕ) (added n frame given : ℕ)
-    → let page = n * span level in let q = path_at L level page in let after = map_call L M supply (parent_part given) added q frame given in
-    Asks L level q frame given → IsParentFlags added → begins_with window q ≡ false → AllByRecursion IsFrame supply
-    → IsValidFor L window T root M → IsValidFor L window U root after.paths → after.answer ≡ Done frame
-    → (offset : ℕ) → offset < span level → page_walk L U root (page + offset) ≡ Some (record { address = frame + offset; write = writable given; user = user given })
+    → let page = n * span level in IsAccepted L level window T U root M supply added (path_at L level page) frame given
+    → (offset : ℕ) → offset < span level
+    → page_walk L U root (page + offset) ≡ Some (record { address = frame + offset; write = writable given; user = user given })
+
+-- ---- frames
 
 -- a map call conserves frames
 abbrev pub MapConserves : Type 0

@@ -7,13 +7,13 @@ pub fn clean_ups_conserve_frames()
 {}
 
 /// A clean up changes no answer of `translate` outside the window.
-#[tactic(auto, using(crate::specs::Lemmas::Machines::Laws::clean_up_keeps_answers))]
+#[tactic(auto, using(crate::proofs::Lemmas::Machines::Laws::clean_up_keeps_answers))]
 pub fn clean_ups_keep_answers()
     ensures { CleanUpKeepsAnswers }
 {}
 
 /// A clean up done twice is done once.
-#[tactic(auto, using(crate::specs::Lemmas::Machines::Laws::clean_ups_once))]
+#[tactic(auto, using(crate::proofs::Lemmas::Machines::Laws::clean_ups_once))]
 pub fn clean_ups_twice_are_once()
     ensures { CleanUpsOnce }
 {}

@@ -7,7 +7,7 @@ pub fn at_most_one_path_map()
 {}
 
 /// Where words hold a path map, it is the map of the words.
-#[tactic(auto, using(crate::specs::Lemmas::Hierarchies::Exists::held_is_paths_of))]
+#[tactic(auto, using(crate::proofs::Lemmas::Hierarchies::Exists::held_is_paths_of))]
 pub fn held_map_is_that_of_the_words()
     ensures { HeldIsPathsOf }
 {}

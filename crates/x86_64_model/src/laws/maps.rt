@@ -7,19 +7,19 @@ pub fn walk_down_is_the_rule()
 {}
 
 /// After any map call a walk that arrived still arrives at the same address, with no right lost and none gained that the parent flags lack.
-#[tactic(auto, using(crate::specs::Lemmas::Maps::Calls::map_call_keeps_walks))]
+#[tactic(auto, using(crate::proofs::Lemmas::Maps::Calls::map_call_keeps_walks))]
 pub fn maps_keep_walks()
     ensures { MapKeepsWalks }
 {}
 
 /// After an accepted `map_to` with PRESENT the walk arrives in all of the page, with just the rights that were asked for.
-#[tactic(auto, using(crate::specs::Lemmas::Maps::Arrives::map_to_arrives))]
+#[tactic(auto, using(crate::proofs::Lemmas::Maps::Arrives::map_to_arrives))]
 pub fn accepted_maps_arrive()
     ensures { MapArrives }
 {}
 
 /// The same by addresses.
-#[tactic(auto, using(crate::specs::Lemmas::Paths::Pages::map_to_arrives_in_page))]
+#[tactic(auto, using(crate::proofs::Lemmas::Paths::Pages::map_to_arrives_in_page))]
 pub fn accepted_maps_arrive_in_the_page()
     ensures { MapArrivesInPage }
 {}

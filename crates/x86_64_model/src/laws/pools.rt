@@ -2,7 +2,7 @@
 ghost use Rattle.x86_64_model.specs.Laws.Pools.{RearrangingGives};
 
 /// A pool that rearranges takes frames back as the machine asks.
-#[tactic(auto, using(crate::specs::Lemmas::Machines::Giving::giving_from))]
+#[tactic(auto, using(crate::proofs::Lemmas::Machines::Giving::giving_from))]
 pub fn rearranging_pools_give()
     ensures { RearrangingGives }
 {}

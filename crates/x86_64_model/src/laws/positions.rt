@@ -3,25 +3,25 @@ ghost use Rattle.x86_64_model.specs.Laws.Positions.{PositionsAreAddresses, Spans
 ghost use Rattle.x86_64_model.specs.Laws.Ranges.{ExclusiveHas, InclusiveHas};
 
 /// Each position is that of exactly one canonical address, in the same order, with four levels and with five.
-#[tactic(auto, using(crate::specs::Lemmas::Paths::Addresses::positions_are_addresses))]
+#[tactic(auto, using(crate::proofs::Lemmas::Paths::Addresses::positions_are_addresses))]
 pub fn positions_are_canonical_addresses()
     ensures { PositionsAreAddresses }
 {}
 
 /// The positions whose first indices are a path's are an interval, of as many as its entry spans.
-#[tactic(auto, using(crate::specs::Lemmas::Paths::Spans::spans_are_intervals))]
+#[tactic(auto, using(crate::proofs::Lemmas::Paths::Spans::spans_are_intervals))]
 pub fn spans_of_paths_are_intervals()
     ensures { SpansAreIntervals }
 {}
 
 /// The list of an exclusive range has each start below its end, and nothing else.
-#[tactic(auto, using(crate::specs::Lemmas::Paths::Ranges::exclusive_has))]
+#[tactic(auto, using(crate::proofs::Lemmas::Paths::Ranges::exclusive_has))]
 pub fn exclusive_ranges_end_before()
     ensures { ExclusiveHas }
 {}
 
 /// The list of an inclusive range has its end too.
-#[tactic(auto, using(crate::specs::Lemmas::Paths::Ranges::inclusive_has))]
+#[tactic(auto, using(crate::proofs::Lemmas::Paths::Ranges::inclusive_has))]
 pub fn inclusive_ranges_end_with_the_end()
     ensures { InclusiveHas }
 {}

@@ -7,7 +7,7 @@ pub fn steps_keep_the_pool_fitting()
 {}
 
 /// After one step valid words hold the path map, and the pool fits them.
-#[tactic(auto, using(crate::specs::Lemmas::Machines::Laws::step_is_held))]
+#[tactic(auto, using(crate::proofs::Lemmas::Machines::Laws::step_is_held))]
 pub fn steps_are_held_by_words()
     ensures { StepIsHeld }
 {}
@@ -34,7 +34,7 @@ pub fn calls_spare_other_pages()
 {}
 
 /// After any list of calls there are valid words that mean the state, and other frames are as before.
-#[tactic(auto, using(crate::specs::Lemmas::Machines::Laws::run_is_held))]
+#[tactic(auto, using(crate::proofs::Lemmas::Machines::Laws::run_is_held))]
 pub fn runs_are_held_by_words()
     ensures { RunIsHeld }
 {}

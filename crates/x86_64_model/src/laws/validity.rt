@@ -17,19 +17,19 @@ pub fn sound_tables_and_pools_fit()
 {}
 
 /// The tables of a memory have spots of their own.
-#[tactic(auto, using(crate::specs::Lemmas::Tables::Keyed::memories_have_spots))]
+#[tactic(auto, using(crate::proofs::Lemmas::Tables::Keyed::memories_have_spots))]
 pub fn tables_have_spots_of_their_own()
     ensures { MemoriesHaveSpots }
 {}
 
 /// From clear marks, the tables and the pool can all be marked exactly where they are sound.
-#[tactic(auto, using(crate::specs::Lemmas::Tables::Checked::marks_tell))]
+#[tactic(auto, using(crate::proofs::Lemmas::Tables::Checked::marks_tell))]
 pub fn marks_tell_sound_tables()
     ensures { MarksTell }
 {}
 
 /// What a frame mapping shows of a memory are frames alone.
-#[tactic(auto, using(crate::specs::Lemmas::Hierarchies::Memories::mappings_show_frames))]
+#[tactic(auto, using(crate::proofs::Lemmas::Hierarchies::Memories::mappings_show_frames))]
 pub fn mappings_show_frames_alone()
     ensures { MappingsShowFrames }
 {}

@@ -1,4 +1,4 @@
-use Rattle.x86_64_model.specs.Lemmas.Hierarchies.Held.{one_held}
+use Rattle.x86_64_model.proofs.Lemmas.Hierarchies.Held.{one_held}
 use Rattle.x86_64_model.proofs.laws.hierarchies.at_most_one_path_map.Goals as goal
 
 pub returns : goal.returns

@@ -1,4 +1,4 @@
-use Rattle.x86_64_model.specs.Lemmas.Hierarchies.Exists.{holds_paths_of}
+use Rattle.x86_64_model.proofs.Lemmas.Hierarchies.Exists.{holds_paths_of}
 use Rattle.x86_64_model.proofs.laws.hierarchies.map_of_the_words_is_held.Goals as goal
 
 pub returns : goal.returns

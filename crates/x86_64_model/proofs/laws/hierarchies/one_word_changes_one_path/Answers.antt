@@ -1,4 +1,4 @@
-use Rattle.x86_64_model.specs.Lemmas.Hierarchies.Held.{valid_after}
+use Rattle.x86_64_model.proofs.Lemmas.Hierarchies.Held.{valid_after}
 use Rattle.x86_64_model.proofs.laws.hierarchies.one_word_changes_one_path.Goals as goal
 
 pub returns : goal.returns

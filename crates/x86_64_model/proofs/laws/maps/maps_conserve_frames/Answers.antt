@@ -1,4 +1,4 @@
-use Rattle.x86_64_model.specs.Lemmas.Maps.Calls.{map_call_conserves}
+use Rattle.x86_64_model.proofs.Lemmas.Maps.Calls.{map_call_conserves}
 use Rattle.x86_64_model.proofs.laws.maps.maps_conserve_frames.Goals as goal
 
 pub returns : goal.returns

@@ -1,4 +1,4 @@
-use Rattle.x86_64_model.specs.Lemmas.Machines.Laws.{map_takes_few}
+use Rattle.x86_64_model.proofs.Lemmas.Machines.Laws.{map_takes_few}
 use Rattle.x86_64_model.proofs.laws.maps.maps_take_few_frames.Goals as goal
 
 pub returns : goal.returns

@@ -1,0 +1,17 @@
+pub mod Alike
+pub mod AlikeEntries
+pub mod AlikeMaps
+pub mod AlikeRules
+pub mod Changes
+pub mod Effects
+pub mod Fitting
+pub mod Flushes
+pub mod Giving
+pub mod Laws
+pub mod Owners
+pub mod Refused
+pub mod RunWalks
+pub mod Spares
+pub mod States
+pub mod Witness
+pub mod Writes

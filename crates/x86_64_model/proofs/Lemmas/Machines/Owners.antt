@@ -1,0 +1,160 @@
+-- What the calls of a mapper ask for and leave, from what the rules say, and of one call from another.
+use Rattle.std.proofs.Common.{◌≡◌, ◌+◌, not, bit_or, ◌<◌, ◌≤◌, ◌%◌, ℕ, Bool, true, false, cond, List, Option, Some, None, nat_le, refl, sym, ap, ap₂, ◌∙◌, subst, ltb-true}
+use Rattle.std.proofs.lemmas.Bool.{and_parts}
+use Rattle.std.proofs.lemmas.Option.{same_Some}
+use Rattle.x86_64_model.specs.Allowed.{refuses}
+use Rattle.x86_64_model.specs.Arrivals.{Arrives}
+use Rattle.x86_64_model.specs.Call.{Call, Reply, MapTo, MapToWithTableFlags, IdentityMap, Unmap, UpdateFlags, SetFlags, NotAllowed, Answered, Position, Address, Cleaned}
+use Rattle.x86_64_model.specs.Entry.{IsParentFlags, present, used, address}
+use Rattle.x86_64_model.specs.Layout.{paths as paths_in, walk as walk_in}
+use Rattle.x86_64_model.proofs.Lemmas.Maps.Mapped.{arrives_in_page}
+use Rattle.x86_64_model.specs.Machine.{State, do_call, after_map, after_change}
+use Rattle.x86_64_model.specs.MapRule.{map_call, parent_part, leaf_entry}
+use Rattle.x86_64_model.specs.MapperCalls.{IsReady, IsMapped, IsChanged, after_unmap, after_update, after_set_flags}
+use Rattle.x86_64_model.specs.Memory.{Memory}
+use Rattle.x86_64_model.specs.Owned.{Hierarchy, MayMap, Does, DoesMap, ArrivesIn, machine_of, state_of, named, paths, read_entry}
+use Rattle.x86_64_model.specs.PageRules.{AfterChange, refused_or, update_refusal, update_flags, set_flags}
+use Rattle.x86_64_model.specs.Path.{level_of, front_at, path_at}
+use Rattle.x86_64_model.specs.PathMap.{PathMap, put}
+use Rattle.x86_64_model.specs.Position.{span, lower_half}
+use Rattle.x86_64_model.specs.Refusal.{Refusal, PageNotMapped, ParentEntryHugePage, Answer, Done, Refused, first_stop, refused_if, refusal_of, answer_unless}
+
+-- ---- maps
+
+module _ {Lent : Type 0} (h : Hierarchy Lent) (supply : List ℕ) where
+  -- a `map_to` is a map with the parent flags that it gives
+  pub may_map_to : (q : List ℕ) (frame given : ℕ) → MayMap h supply (MapTo q frame given) → MayMap h supply (MapToWithTableFlags q frame given (parent_part given))
+  may_map_to q frame given may = record { fits = may.fits; allowed = may.allowed }
+
+  -- an `identity_map` is a `map_to` of the page at the frame's address
+  pub may_map_identity : (level frame given : ℕ) → MayMap h supply (IdentityMap level frame given) → MayMap h supply (MapTo (path_at h.layout.levels level frame) frame given)
+  may_map_identity level frame given may = record { fits = may.fits; allowed = (and_parts _ _ may.allowed).1 }
+
+  pub identity_low : (level frame given : ℕ) → MayMap h supply (IdentityMap level frame given) → frame < lower_half h.layout.levels
+  identity_low level frame given may = ltb-true frame (lower_half h.layout.levels) (and_parts _ _ may.allowed).0
+
+  module _ (answer : Answer) (after : Hierarchy Lent) (rest : List ℕ) where
+    pub does_map_to : (q : List ℕ) (frame given : ℕ) → DoesMap h supply (MapToWithTableFlags q frame given (parent_part given)) answer after rest → DoesMap h supply (MapTo q frame given) answer after rest
+    unfolding do_call
+    does_map_to q frame given does = record { outcome = does.outcome; fits = does.fits; others = does.others; walks = does.walks; layout = does.layout; lent = does.lent }
+
+    pub does_map_identity : (level frame given : ℕ) → DoesMap h supply (MapTo (path_at h.layout.levels level frame) frame given) answer after rest → DoesMap h supply (IdentityMap level frame given) answer after rest
+    unfolding do_call
+    does_map_identity level frame given does = record { outcome = does.outcome; fits = does.fits; others = does.others; walks = does.walks; layout = does.layout; lent = does.lent }
+
+  -- by the map rule
+  pub does_map : (q : List ℕ) (frame given more : ℕ) (answer : Answer) (n : Memory) (rest : List ℕ) → IsMapped h.layout h.memory supply q frame given more answer n rest
+      → DoesMap h supply (MapToWithTableFlags q frame given more) answer (record h { memory = n }) rest
+  unfolding do_call
+  does_map q frame given more answer n rest mapped = record {
+    outcome = λ put. ap after_map mapped.outcome;
+    fits = mapped.ready;
+    others = mapped.others;
+    walks = λ m is p. subst (λ m. Arrives m (walk_in h.layout h.memory p) (walk_in h.layout n p)) (same_Some more m is) (mapped.walks p);
+    layout = refl;
+    lent = refl;
+  }
+
+  abbrev answer_in : Answer → Reply → Answer
+  answer_in other (Answered answer) = answer
+  answer_in other NotAllowed = other
+  answer_in other (Position translated) = other
+  answer_in other (Address to) = other
+  answer_in other Cleaned = other
+
+  pub is_mapped : (q : List ℕ) (frame given more : ℕ) (answer : Answer) (after : Hierarchy Lent) (rest : List ℕ) → DoesMap h supply (MapToWithTableFlags q frame given more) answer after rest
+      → IsMapped h.layout h.memory supply q frame given more answer after.memory rest
+  unfolding do_call
+  is_mapped q frame given more answer after rest does = record {
+    outcome = subst (λ l. map_call h.layout.levels (paths_in h.layout h.memory) supply more h.layout.added_flags q frame given ≡ record { paths = paths_in l after.memory; supply = rest; answer = answer }) does.layout
+        (ap (λ (x : State × Reply). record { paths = x.0.paths; supply = x.0.pool; answer = answer_in answer x.1 }) (does.outcome (λ held f. held)));
+    ready = subst (λ l. IsReady l after.memory rest) does.layout does.fits;
+    others = does.others;
+    walks = λ p. subst (λ l. Arrives more (walk_in h.layout h.memory p) (walk_in l after.memory p)) does.layout (does.walks more refl p);
+  }
+
+  -- where the processor arrives after a `map_to` with PRESENT
+  pub map_arrives : (level start frame given : ℕ) → 1 ≤ level → level ≤ 3 → level ≤ h.layout.levels → start % span level ≡ 0 → address frame ≡ frame → frame % span level ≡ 0
+      → IsParentFlags h.layout.added_flags → (after : Hierarchy Lent) (rest : List ℕ) → MayMap h supply (MapTo (path_at h.layout.levels level start) frame given)
+      → DoesMap h supply (MapToWithTableFlags (path_at h.layout.levels level start) frame given (parent_part given)) (Done frame) after rest → present given ≡ true → ArrivesIn after (span level) start frame given
+  map_arrives level start frame given low high levels multiple is_frame aligned adds after rest may does is_present =
+      let mapped = is_mapped (path_at h.layout.levels level start) frame given (parent_part given) (Done frame) after rest does in
+      let arrives = arrives_in_page h.layout level start frame given low high levels multiple is_frame aligned adds h.memory supply after.memory rest may.fits may.allowed mapped is_present in
+      λ offset within. ap (λ l. walk_in l after.memory (start + offset)) does.layout ∙ arrives offset within
+
+-- ---- changes of one entry
+
+-- the answer of a rule that is done with one frame alone, if at all, from why it refuses
+answer_told : (a : Answer) (frame : ℕ) (why : Option Refusal) → (refusal_of a ≡ None → a ≡ Done frame) → why ≡ refusal_of a → answer_unless why (Done frame) ≡ a
+answer_told (Done f) frame None done is = sym (done refl)
+answer_told (Done f) frame (Some v) done is = cc
+answer_told (Refused w) frame None done is = cc
+answer_told (Refused w) frame (Some v) done is = let same : v ≡ w = cc in ap Refused same
+
+abbrev IsDoneWith : (frame : ℕ) → AfterChange → Type 0
+IsDoneWith frame after = refusal_of after.answer ≡ None → after.answer ≡ Done frame
+
+done_or_refused : (frame : ℕ) (M : PathMap) (o : Option Refusal) (next : AfterChange) → IsDoneWith frame next → IsDoneWith frame (refused_or M o next)
+done_or_refused frame M None next done = done
+done_or_refused frame M (Some why) next done = λ none. cc
+
+done_or_low : (frame : ℕ) (low : Bool) (first next : AfterChange) → IsDoneWith frame first → IsDoneWith frame next → IsDoneWith frame (cond low first next)
+done_or_low frame true first next a b = a
+done_or_low frame false first next a b = b
+
+module _ (L : ℕ) (E : List ℕ → ℕ) (M : PathMap) where
+  update_done : (q : List ℕ) (given : ℕ) → IsDoneWith (address (E q)) (update_flags L E M q given)
+  unfolding update_flags
+  update_done q given =
+      let e = E q in
+      let last : AfterChange = record { paths = put M q (leaf_entry L q (address e) given); answer = Done (address e) } in
+      done_or_refused (address e) M (first_stop E q) (refused_or M (update_refusal L q e) last) (done_or_refused (address e) M (update_refusal L q e) last (λ none. refl))
+
+  set_flags_done : (level : ℕ) (page : List ℕ) (given : ℕ) → IsDoneWith (address (E (front_at L level page))) (set_flags L E M level page given)
+  unfolding set_flags
+  set_flags_done level page given =
+      let q = front_at L level page in
+      let e = E q in
+      let unused = refused_if (not (used e)) PageNotMapped None in
+      let last : AfterChange = record { paths = put M q (bit_or (address e) given); answer = Done (address e) } in
+      done_or_low (address e) (nat_le level (level_of L page)) (record { paths = M; answer = Refused ParentEntryHugePage }) (refused_or M (first_stop E q) (refused_or M unused last)) (λ none. cc)
+      (done_or_refused (address e) M (first_stop E q) (refused_or M unused last) (done_or_refused (address e) M unused last (λ none. refl)))
+
+module _ {Lent : Type 0} (h : Hierarchy Lent) where
+  changed : (call : Call) (after : AfterChange) → ((put : List ℕ → ℕ → List ℕ) (pool : List ℕ) → do_call (machine_of h.layout put) (state_of h pool) call ≡ after_change pool after)
+      → (answer : Answer) (n : Memory) → answer ≡ after.answer → IsChanged h.layout h.memory after n → (refuses answer ≡ true → n ≡ h.memory) → Does h call answer (record h { memory = n })
+  changed call after rule answer n is does still = record {
+    outcome = λ pool put. rule put pool ∙ ap₂ (λ M a. (record { paths = M; pool = pool }, Answered a)) does.meant (sym is);
+    valid = does.valid;
+    fits = does.ready;
+    others = does.others;
+    refused = still;
+    layout = refl;
+    lent = refl;
+  }
+
+  pub does_unmap : (q : List ℕ) (answer : Answer) (n : Memory) → answer ≡ (after_unmap h.layout h.memory q).answer → IsChanged h.layout h.memory (after_unmap h.layout h.memory q) n
+      → (refuses answer ≡ true → n ≡ h.memory) → Does h (Unmap q) answer (record h { memory = n })
+  unfolding do_call
+  does_unmap q = changed (Unmap q) (after_unmap h.layout h.memory q) (λ put pool. refl)
+
+  -- from why a change of flags is refused, if it is
+  pub does_update : (q : List ℕ) (given : ℕ) (why : Option Refusal) (n : Memory) → why ≡ refusal_of (after_update h.layout h.memory q given).answer
+      → IsChanged h.layout h.memory (after_update h.layout h.memory q given) n → (refuses (answer_unless why (Done (named h (UpdateFlags q given)))) ≡ true → n ≡ h.memory)
+      → Does h (UpdateFlags q given) (answer_unless why (Done (named h (UpdateFlags q given)))) (record h { memory = n })
+  unfolding do_call
+  does_update q given why n is =
+      let frame = named h (UpdateFlags q given) in
+      let after = after_update h.layout h.memory q given in
+      changed (UpdateFlags q given) after (λ put pool. refl) (answer_unless why (Done frame)) n
+      (answer_told after.answer frame why (update_done h.layout.levels (read_entry h) (paths h) q given) is)
+
+  pub does_set_flags : (level : ℕ) (q : List ℕ) (given : ℕ) (why : Option Refusal) (n : Memory) → why ≡ refusal_of (after_set_flags h.layout h.memory level q given).answer
+      → IsChanged h.layout h.memory (after_set_flags h.layout h.memory level q given) n → (refuses (answer_unless why (Done (named h (SetFlags level q given)))) ≡ true → n ≡ h.memory)
+      → Does h (SetFlags level q given) (answer_unless why (Done (named h (SetFlags level q given)))) (record h { memory = n })
+  unfolding do_call
+  does_set_flags level q given why n is =
+      let frame = named h (SetFlags level q given) in
+      let after = after_set_flags h.layout h.memory level q given in
+      changed (SetFlags level q given) after (λ put pool. refl) (answer_unless why (Done frame)) n
+      (answer_told after.answer frame why (set_flags_done h.layout.levels (read_entry h) (paths h) level q given) is)

@@ -1,0 +1,9 @@
+pub mod Lists
+pub mod PositionPaths
+pub mod Parents
+pub mod TranslationLevels
+pub mod EntryCalls
+pub mod MapCases
+pub mod Allowed
+pub mod CleanUps
+pub mod Addresses

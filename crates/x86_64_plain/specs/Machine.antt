@@ -1,0 +1,29 @@
+-- The machine and the states that those of the plain program are.
+use Rattle.std.specs.Prelude.{ℕ, ◌+◌, ◌^◌, ◌<◌, List, ◌∷◌}
+use Rattle.x86_64_model.specs.Translation.{Translated, NotMapped, Mapped}
+use Rattle.x86_64_model.specs.CleanUp.{AfterCleanUp}
+use Rattle.x86_64_model.specs.Pool.{given_back}
+use Rattle.x86_64_model.specs.Call.{Reply, Cleaned}
+use Rattle.x86_64_model.specs.Machine.{Machine, State}
+use Rattle.x86_64_plain.specs.Windows.{window_of}
+use Rattle.x86_64_plain.specs.declared.machine.PlainMachine.{PlainMachine}
+use Rattle.x86_64_plain.specs.declared.machine.PlainState.{PlainState}
+
+-- a frame that comes back is put in front
+abbrev pub put_in_front : List ℕ → ℕ → List ℕ
+put_in_front held frame = frame ∷ held
+
+abbrev pub machine_of : PlainMachine → Machine
+machine_of m = record { levels = m.levels; window = window_of m.window; added_flags = m.added_flags; give = put_in_front }
+
+abbrev pub state_of : PlainState → State
+state_of s = record { paths = s.paths; pool = s.pool.items }
+
+-- the state and the reply after a clean up
+abbrev pub after_clean_up : (pool : List ℕ) → AfterCleanUp → State × Reply
+after_clean_up pool a = (record { paths = a.paths; pool = given_back put_in_front pool a.back }, Cleaned)
+
+-- the sum of the frame and the offset fits a word
+abbrev pub CanAdd : Translated → Type 0
+CanAdd NotMapped = Unit {0}
+CanAdd (Mapped size frame offset given) = frame + offset < 2 ^ 64

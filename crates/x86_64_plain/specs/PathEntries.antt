@@ -1,0 +1,22 @@
+-- The path map of a list of paths and entries.
+use Rattle.std.specs.Prelude.{ℕ, List, map, filter, find, not, Option, option_map}
+use Rattle.std.specs.Str.{bytes_eq}
+use Rattle.std.specs.FinMap.{from_entries}
+use Rattle.x86_64_model.specs.PathMap.{PathMap}
+use Rattle.x86_64_plain.specs.declared.entries.PathEntry.{PathEntry}
+
+-- each path with its entry
+abbrev pub pairs : List PathEntry → List (List ℕ × ℕ)
+pairs items = map (λ item. (item.path.items, item.word)) items
+
+-- at a path that stands twice, the first entry counts
+abbrev pub paths_of_items : List PathEntry → PathMap
+paths_of_items items = from_entries (pairs items)
+
+-- the first word that stands at a path
+abbrev pub found : List PathEntry → List ℕ → Option ℕ
+found items q = option_map (λ item. item.word) (find (λ item. bytes_eq item.path.items q) items)
+
+-- the items at other paths
+abbrev pub without : List PathEntry → List ℕ → List PathEntry
+without items q = filter (λ item. not (bytes_eq item.path.items q)) items

@@ -1,0 +1,215 @@
+//! The calls on one entry.
+ghost use Rattle.std.specs.Prelude.{◌≡◌, ◌≤◌, ◌%◌, ◌==◌, IfOk, None, not, take};
+ghost use Rattle.x86_64_model.specs.Entry.{used, address as address_of};
+ghost use Rattle.x86_64_model.specs.Path.{span_size as span_size_of, front_at as front_at_of};
+ghost use Rattle.x86_64_model.specs.PathMap.{put};
+ghost use Rattle.x86_64_model.specs.Window.{entry_at as entry_at_of};
+ghost use Rattle.x86_64_model.specs.MapRule.{leaf_entry as leaf_entry_of};
+ghost use Rattle.x86_64_model.specs.Refusal.{Done, PageNotMapped, answer_unless, refused_if};
+ghost use Rattle.x86_64_model.specs.PageRules.{refused_or, unmap_refusal as unmap_refusal_of, update_refusal as update_refusal_of, translate_refusal as translate_refusal_of, unmap as unmap_of, update_flags as update_flags_of, translate_page as translate_page_of, set_flags as set_flags_of};
+ghost use Rattle.x86_64_plain.specs.Windows.{window_of};
+ghost use Rattle.x86_64_plain.specs.Calls.{refusals_of, answer_of};
+
+use crate::calls::{Answer, Refusal};
+use crate::entries::PathEntries;
+use crate::positions::{is_small, level_of, span_size};
+use crate::windows::{PlainWindow, entry_at, first_stop};
+use crate::words::{HUGE_PAGE, address, is_huge, is_present, is_used};
+use std::alloc::AllocError;
+
+/// Gives the entry of a mapped page: the frame and the flags, with HUGE_PAGE for 2MiB and 1GiB.
+pub fn leaf_entry(levels: usize, page: &[u64], frame: u64, flags: u64) -> u64
+    ensures { result ≡ leaf_entry_of levels page.now frame flags }
+{
+    if is_small(levels, page) {
+        frame | flags
+    } else {
+        frame | (flags | HUGE_PAGE)
+    }
+}
+
+/// Refuses, or sets the entry at a path.
+fn change(
+    paths: &mut PathEntries,
+    refusal: Option<Refusal>,
+    path: &[u64],
+    word: u64,
+    frame: u64,
+) -> Result<Answer, AllocError>
+    ensures { IfOk result (λ answer. record { paths = paths.new; answer = answer_of answer } ≡ refused_or paths.old (refusals_of refusal) (record { paths = put paths.old path.now word; answer = Done frame })) }
+{
+    match refusal {
+        Some(why) => Ok(Answer::Refused(why)),
+        None => {
+            paths.put(path, word)?;
+            Ok(Answer::Done(frame))
+        }
+    }
+}
+
+/// Refuses, or names a frame.
+fn answer(refusal: Option<Refusal>, frame: u64) -> Answer
+    ensures { answer_of result ≡ answer_unless (refusals_of refusal) (Done frame) }
+{
+    match refusal {
+        Some(why) => Answer::Refused(why),
+        None => Answer::Done(frame),
+    }
+}
+
+/// Tells whether the address in a word is a multiple of the size of a page.
+fn is_aligned(levels: usize, page: &[u64], word: u64) -> bool
+    requires { levels ≤ 5 }
+    ensures { result ≡ (address_of word % span_size_of levels page.now == 0) }
+{
+    address(word) % span_size(levels, page) == 0
+}
+
+/// Refuses to unmap a page by its own entry.
+fn unmap_refusal(levels: usize, page: &[u64], word: u64) -> Option<Refusal>
+    requires { levels ≤ 5 }
+    ensures { refusals_of result ≡ unmap_refusal_of levels page.now word }
+{
+    if !is_present(word) {
+        return Some(Refusal::PageNotMapped);
+    }
+    if is_huge(word) == is_small(levels, page) {
+        return Some(Refusal::ParentEntryHugePage);
+    }
+    if !is_small(levels, page) && !is_aligned(levels, page, word) {
+        return Some(Refusal::InvalidFrameAddress(address(word)));
+    }
+    None
+}
+
+/// Unmaps a page. Its entry has to be present, huge exactly for 2MiB and 1GiB, with an address that is a multiple of the page's size.
+/// Fails only where memory is refused, and then says nothing of the entries.
+pub fn unmap(
+    levels: usize,
+    window: Option<PlainWindow>,
+    paths: &mut PathEntries,
+    page: &[u64],
+) -> Result<Answer, AllocError>
+    requires { levels ≤ 5 }
+    ensures { IfOk result (λ answer. record { paths = paths.new; answer = answer_of answer } ≡ unmap_of levels (entry_at_of (window_of window) paths.old) paths.old page.now) }
+{
+    let word = entry_at(window, paths, page);
+    let refusal = first_stop(window, paths, page).or(unmap_refusal(levels, page, word));
+    change(paths, refusal, page, 0, address(word))
+}
+
+/// Refuses to change a page's flags by its own entry.
+fn update_refusal(levels: usize, page: &[u64], word: u64) -> Option<Refusal>
+    ensures { refusals_of result ≡ update_refusal_of levels page.now word }
+{
+    if !is_used(word) || !is_small(levels, page) && !is_huge(word) {
+        Some(Refusal::PageNotMapped)
+    } else {
+        None
+    }
+}
+
+/// Sets the flags of a page. Its entry has to be used, and huge for 2MiB and 1GiB.
+/// Fails only where memory is refused, and then says nothing of the entries.
+pub fn update_flags(
+    levels: usize,
+    window: Option<PlainWindow>,
+    paths: &mut PathEntries,
+    page: &[u64],
+    flags: u64,
+) -> Result<Answer, AllocError>
+    ensures { IfOk result (λ answer. record { paths = paths.new; answer = answer_of answer } ≡ update_flags_of levels (entry_at_of (window_of window) paths.old) paths.old page.now flags) }
+{
+    let word = entry_at(window, paths, page);
+    let frame = address(word);
+    let refusal = first_stop(window, paths, page).or(update_refusal(levels, page, word));
+    change(
+        paths,
+        refusal,
+        page,
+        leaf_entry(levels, page, frame, flags),
+        frame,
+    )
+}
+
+/// Refuses to name a page's frame by its own entry.
+fn translate_refusal(levels: usize, page: &[u64], word: u64) -> Option<Refusal>
+    requires { levels ≤ 5 }
+    ensures { refusals_of result ≡ translate_refusal_of levels page.now word }
+{
+    if !is_used(word) {
+        return Some(Refusal::PageNotMapped);
+    }
+    if !is_small(levels, page) && (!is_huge(word) || !is_aligned(levels, page, word)) {
+        return Some(Refusal::InvalidFrameAddress(address(word)));
+    }
+    None
+}
+
+/// Names the frame of a page. Its entry has to be used, and for 2MiB and 1GiB huge with an address that is a multiple of the page's size.
+pub fn translate_page(
+    levels: usize,
+    window: Option<PlainWindow>,
+    paths: &PathEntries,
+    page: &[u64],
+) -> Answer
+    requires { levels ≤ 5 }
+    ensures { answer_of result ≡ translate_page_of levels (entry_at_of (window_of window) paths.now) page.now }
+{
+    let word = entry_at(window, paths, page);
+    let refusal = first_stop(window, paths, page).or(translate_refusal(levels, page, word));
+    answer(refusal, address(word))
+}
+
+/// Gives the front of a path of so many indices, or all of it.
+pub fn front(path: &[u64], length: usize) -> &[u64]
+    ensures { result.now ≡ take length path.now }
+{
+    if length < path.len() {
+        &path[..length]
+    } else {
+        path
+    }
+}
+
+/// Gives the front of a path that names the entry of a level.
+pub fn front_at(levels: usize, level: usize, path: &[u64]) -> &[u64]
+    requires { levels ≤ 5 }
+    ensures { result.now ≡ front_at_of levels level path.now }
+{
+    front(path, (levels + 1).saturating_sub(level))
+}
+
+/// Refuses to change an absent entry.
+fn unused_refusal(word: u64) -> Option<Refusal>
+    ensures { refusals_of result ≡ refused_if (not (used word)) PageNotMapped None }
+{
+    if is_used(word) {
+        None
+    } else {
+        Some(Refusal::PageNotMapped)
+    }
+}
+
+/// Sets the flags of the entry of a level on a page's path. The level has to be above the page's own, and the entry has to be used.
+/// Fails only where memory is refused, and then says nothing of the entries.
+pub fn set_flags(
+    levels: usize,
+    window: Option<PlainWindow>,
+    paths: &mut PathEntries,
+    level: usize,
+    page: &[u64],
+    flags: u64,
+) -> Result<Answer, AllocError>
+    requires { levels ≤ 5 }
+    ensures { IfOk result (λ answer. record { paths = paths.new; answer = answer_of answer } ≡ set_flags_of levels (entry_at_of (window_of window) paths.old) paths.old level page.now flags) }
+{
+    if level <= level_of(levels, page) {
+        return Ok(Answer::Refused(Refusal::ParentEntryHugePage));
+    }
+    let path = front_at(levels, level, page);
+    let word = entry_at(window, paths, path);
+    let frame = address(word);
+    let refusal = first_stop(window, paths, path).or(unused_refusal(word));
+    change(paths, refusal, path, frame | flags, frame)
+}

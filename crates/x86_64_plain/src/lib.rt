@@ -1,0 +1,22 @@
+//! The plain slow program: the machine's step, computed over lists of paths and entries, for tests that compare faster bodies with
+//! it.
+#![tactic(auto)]
+
+pub mod allowing;
+pub mod calls;
+pub mod changes;
+pub mod cleaning;
+pub mod entries;
+pub mod machine;
+pub mod maps;
+pub mod positions;
+#[cfg(test)]
+mod tests;
+pub mod translations;
+pub mod windows;
+pub mod words;
+
+pub use calls::{Answer, PlainCall, PlainReply, Refusal, Translated};
+pub use entries::PathEntries;
+pub use machine::{PlainMachine, PlainState};
+pub use windows::PlainWindow;

@@ -1,0 +1,257 @@
+//! The machine's step.
+ghost use Rattle.std.specs.Prelude.{◌≡◌, ◌≤◌, OnOk, IfOk};
+ghost use Rattle.x86_64_model.specs.Path.{path_at as path_at_of};
+ghost use Rattle.x86_64_model.specs.Window.{entry_at};
+ghost use Rattle.x86_64_model.specs.Call.{Answered, Address};
+ghost use Rattle.x86_64_model.specs.Pool.{given_back};
+ghost use Rattle.x86_64_model.specs.MapRule.{map_call as map_call_of, parent_part as parent_part_of};
+ghost use Rattle.x86_64_model.specs.PageRules.{unmap as unmap_of, update_flags as update_flags_of, set_flags as set_flags_of, translate_page as translate_page_of};
+ghost use Rattle.x86_64_model.specs.Translation.{translate as translate_of, address_of as address_of_translated};
+ghost use Rattle.x86_64_model.specs.CleanUp.{clean_up as clean_up_of};
+ghost use Rattle.x86_64_model.specs.Machine.{after_map, after_change, do_call as do_call_of, step as step_of};
+ghost use Rattle.x86_64_plain.specs.Windows.{window_of};
+ghost use Rattle.x86_64_plain.specs.Calls.{call_of, reply_of, translated_of};
+ghost use Rattle.x86_64_plain.specs.Machine.{CanAdd, after_clean_up, machine_of, state_of, put_in_front};
+
+use crate::allowing::{is_allowed, parent_part};
+use crate::calls::{PlainCall, PlainReply, Translated};
+use crate::changes::{set_flags, translate_page, unmap, update_flags};
+use crate::cleaning::clean_up;
+use crate::entries::PathEntries;
+use crate::maps::map_call;
+use crate::positions::path_at;
+use crate::translations::translate;
+use crate::windows::PlainWindow;
+use std::alloc::{AllocError, Global};
+
+/// What no call changes: the number of levels, the recursive index where there is one, and the flags that a new table entry gets beside the parent flags.
+/// A frame that comes back is put in front of the pool.
+#[derive(Clone, Copy, Debug, PartialEq, Eq)]
+pub struct PlainMachine {
+    pub levels: usize,
+    pub window: Option<PlainWindow>,
+    pub added_flags: u64,
+}
+
+/// The entries by their paths, and the pool of free frames.
+#[derive(Drop)]
+pub struct PlainState {
+    pub paths: PathEntries,
+    pub pool: Vec<u64>,
+}
+
+/// Gives the address that a position leads to: the frame's start plus the offset.
+fn address_of(translated: Translated) -> Option<u64>
+    requires { CanAdd (translated_of translated) }
+    ensures { result ≡ address_of_translated (translated_of translated) }
+{
+    match translated {
+        Translated::NotMapped => None,
+        Translated::Mapped { frame, offset, .. } => Some(frame + offset),
+    }
+}
+
+/// Puts frames in front of a pool, one after the other.
+fn give_back(pool: &mut Vec<u64>, frames: &[u64]) -> Result<(), AllocError>
+    ensures { OnOk result (pool.new.items ≡ given_back put_in_front pool.old.items frames.now) }
+{
+    match frames {
+        [] => Ok(()),
+        [frame, others @ ..] => {
+            pool.insert(0, *frame)?;
+            give_back(pool, others)
+        }
+    }
+}
+
+impl PlainMachine {
+    /// Says where a position leads.
+    fn translate(
+        &self,
+        alloc: Global,
+        paths: &PathEntries,
+        position: u64,
+    ) -> Result<Translated, AllocError>
+        requires { self.now.levels ≤ 5 }
+        ensures meaning { IfOk result (λ t. translated_of t ≡ translate_of self.now.levels (entry_at (window_of self.now.window) paths.now) position) }
+        ensures can_add { IfOk result (λ t. CanAdd (translated_of t)) }
+    {
+        translate(alloc, self.window, paths, self.levels, position)
+    }
+
+    /// Maps a page.
+    fn map(
+        &self,
+        state: &mut PlainState,
+        page: &[u64],
+        frame: u64,
+        flags: u64,
+        parent_flags: u64,
+    ) -> Result<PlainReply, AllocError>
+        ensures { IfOk result (λ reply. (state_of state.new, reply_of reply) ≡ after_map (map_call_of self.now.levels state.old.paths state.old.pool.items parent_flags self.now.added_flags page.now frame flags)) }
+    {
+        let answer = map_call(
+            self.levels,
+            &mut state.paths,
+            &mut state.pool,
+            parent_flags,
+            self.added_flags,
+            page,
+            frame,
+            flags,
+        )?;
+        Ok(PlainReply::Answered(answer))
+    }
+
+    /// Makes the page of a level at the frame's own address, and maps it.
+    fn map_identity(
+        &self,
+        state: &mut PlainState,
+        level: usize,
+        frame: u64,
+        flags: u64,
+    ) -> Result<PlainReply, AllocError>
+        requires { self.now.levels ≤ 5 }
+        ensures { IfOk result (λ reply. (state_of state.new, reply_of reply) ≡ after_map (map_call_of self.now.levels state.old.paths state.old.pool.items (parent_part_of flags) self.now.added_flags (path_at_of self.now.levels level frame) frame flags)) }
+    {
+        let alloc = *state.pool.allocator();
+        let page = path_at(alloc, self.levels, level, frame)?;
+        self.map(state, &page, frame, flags, parent_part(flags))
+    }
+
+    /// Unmaps a page.
+    fn unmap(&self, state: &mut PlainState, page: &[u64]) -> Result<PlainReply, AllocError>
+        requires { self.now.levels ≤ 5 }
+        ensures { IfOk result (λ reply. (state_of state.new, reply_of reply) ≡ after_change state.old.pool.items (unmap_of self.now.levels (entry_at (window_of self.now.window) state.old.paths) state.old.paths page.now)) }
+    {
+        let answer = unmap(self.levels, self.window, &mut state.paths, page)?;
+        Ok(PlainReply::Answered(answer))
+    }
+
+    /// Sets the flags of a page.
+    fn update_flags(
+        &self,
+        state: &mut PlainState,
+        page: &[u64],
+        flags: u64,
+    ) -> Result<PlainReply, AllocError>
+        ensures { IfOk result (λ reply. (state_of state.new, reply_of reply) ≡ after_change state.old.pool.items (update_flags_of self.now.levels (entry_at (window_of self.now.window) state.old.paths) state.old.paths page.now flags)) }
+    {
+        let answer = update_flags(self.levels, self.window, &mut state.paths, page, flags)?;
+        Ok(PlainReply::Answered(answer))
+    }
+
+    /// Sets the flags of the entry of a level on a page's path.
+    fn set_flags(
+        &self,
+        state: &mut PlainState,
+        level: usize,
+        page: &[u64],
+        flags: u64,
+    ) -> Result<PlainReply, AllocError>
+        requires { self.now.levels ≤ 5 }
+        ensures { IfOk result (λ reply. (state_of state.new, reply_of reply) ≡ after_change state.old.pool.items (set_flags_of self.now.levels (entry_at (window_of self.now.window) state.old.paths) state.old.paths level page.now flags)) }
+    {
+        let answer = set_flags(
+            self.levels,
+            self.window,
+            &mut state.paths,
+            level,
+            page,
+            flags,
+        )?;
+        Ok(PlainReply::Answered(answer))
+    }
+
+    /// Says which frame the entry of a page names, or why none.
+    fn translate_page(&self, paths: &PathEntries, page: &[u64]) -> PlainReply
+        requires { self.now.levels ≤ 5 }
+        ensures { reply_of result ≡ Answered (translate_page_of self.now.levels (entry_at (window_of self.now.window) paths.now) page.now) }
+    {
+        PlainReply::Answered(translate_page(self.levels, self.window, paths, page))
+    }
+
+    /// Says which address a position leads to.
+    fn translate_address(
+        &self,
+        alloc: Global,
+        paths: &PathEntries,
+        position: u64,
+    ) -> Result<PlainReply, AllocError>
+        requires { self.now.levels ≤ 5 }
+        ensures { IfOk result (λ reply. reply_of reply ≡ Address (address_of_translated (translate_of self.now.levels (entry_at (window_of self.now.window) paths.now) position))) }
+    {
+        let translated = self.translate(alloc, paths, position)?;
+        Ok(PlainReply::Address(address_of(translated)))
+    }
+
+    /// Gives back the empty tables of the positions from low to high.
+    fn clean_up(
+        &self,
+        state: &mut PlainState,
+        low: u64,
+        high: u64,
+    ) -> Result<PlainReply, AllocError>
+        requires { self.now.levels ≤ 5 }
+        ensures { IfOk result (λ reply. (state_of state.new, reply_of reply) ≡ after_clean_up state.old.pool.items (clean_up_of self.now.levels state.old.paths low high)) }
+    {
+        let alloc = *state.pool.allocator();
+        let back = clean_up(alloc, self.levels, &mut state.paths, low, high)?;
+        give_back(&mut state.pool, &back)?;
+        Ok(PlainReply::Cleaned)
+    }
+
+    /// Does an allowed call.
+    #[tactic(auto, unfolding(x86_64_model::specs::Machine::do_call))]
+    fn do_call(&self, state: &mut PlainState, call: &PlainCall) -> Result<PlainReply, AllocError>
+        requires { self.now.levels ≤ 5 }
+        ensures { IfOk result (λ reply. (state_of state.new, reply_of reply) ≡ do_call_of (machine_of self.now) (state_of state.old) (call_of call.now)) }
+    {
+        match call {
+            PlainCall::MapTo { page, frame, flags } => {
+                self.map(state, page, *frame, *flags, parent_part(*flags))
+            }
+            PlainCall::MapToWithTableFlags {
+                page,
+                frame,
+                flags,
+                parent_flags,
+            } => self.map(state, page, *frame, *flags, *parent_flags),
+            PlainCall::IdentityMap {
+                level,
+                frame,
+                flags,
+            } => self.map_identity(state, *level, *frame, *flags),
+            PlainCall::Unmap { page } => self.unmap(state, page),
+            PlainCall::UpdateFlags { page, flags } => self.update_flags(state, page, *flags),
+            PlainCall::SetFlags { level, page, flags } => {
+                self.set_flags(state, *level, page, *flags)
+            }
+            PlainCall::TranslatePage { page } => Ok(self.translate_page(&state.paths, page)),
+            PlainCall::Translate { position } => {
+                let alloc = *state.pool.allocator();
+                let translated = self.translate(alloc, &state.paths, *position)?;
+                Ok(PlainReply::Position(translated))
+            }
+            PlainCall::TranslateAddress { position } => {
+                let alloc = *state.pool.allocator();
+                self.translate_address(alloc, &state.paths, *position)
+            }
+            PlainCall::CleanUp { low, high } => self.clean_up(state, *low, *high),
+        }
+    }
+
+    /// Makes one call. A call that isn't allowed is answered so and changes nothing.
+    /// Fails only where memory is refused, and then says nothing of the state.
+    pub fn step(&self, state: &mut PlainState, call: &PlainCall) -> Result<PlainReply, AllocError>
+        requires { self.now.levels ≤ 5 }
+        ensures { IfOk result (λ reply. (state_of state.new, reply_of reply) ≡ step_of (machine_of self.now) (state_of state.old) (call_of call.now)) }
+    {
+        let alloc = *state.pool.allocator();
+        if is_allowed(alloc, self.levels, self.window, &state.paths, call)? {
+            self.do_call(state, call)
+        } else {
+            Ok(PlainReply::NotAllowed)
+        }
+    }
+}

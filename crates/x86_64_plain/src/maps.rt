@@ -1,0 +1,130 @@
+//! The calls that map a page.
+ghost use Rattle.std.specs.Prelude.{◌≡◌, ◌&&◌, OnOk, IfOk, filter, drop};
+ghost use Rattle.std.specs.List.{list_any};
+ghost use Rattle.x86_64_model.specs.Entry.{used as is_used_of, huge};
+ghost use Rattle.x86_64_model.specs.Path.{parents};
+ghost use Rattle.x86_64_model.specs.PathMap.{entry};
+ghost use Rattle.x86_64_model.specs.MapRule.{with_flags, with_tables, map_call as map_call_of};
+ghost use Rattle.x86_64_plain.specs.Calls.{answer_of};
+ghost use Rattle.x86_64_plain.specs.Fronts.{fronts, is_wanted};
+
+use crate::calls::{Answer, Refusal};
+use crate::changes::{front, leaf_entry};
+use crate::entries::PathEntries;
+use crate::words::{is_used, is_used_and_huge};
+use std::alloc::{AllocError, Global};
+
+/// Gives the lengths of the parents of a path at which there is a used entry, or at which there is none.
+fn parents_where(
+    alloc: Global,
+    paths: &PathEntries,
+    path: &[u64],
+    used: bool,
+) -> Result<Vec<usize>, AllocError>
+    ensures { IfOk result (λ lengths. fronts path.now lengths.items ≡ filter (is_wanted paths.now used) (parents path.now)) }
+{
+    let mut lengths = Vec::new(alloc);
+    for length in 1..path.len() {
+        if is_used(paths.entry(&path[..length])) == used {
+            lengths.push(length)?;
+        }
+    }
+    Ok(lengths)
+}
+
+/// Tells whether a parent of a path is used and huge.
+fn has_huge_parent(paths: &PathEntries, path: &[u64]) -> bool
+    ensures { result ≡ list_any (λ p. is_used_of (entry paths.now p) && huge (entry paths.now p)) (parents path.now) }
+{
+    for length in 1..path.len() {
+        if is_used_and_huge(paths.entry(&path[..length])) {
+            return true;
+        }
+    }
+    false
+}
+
+/// Adds flags to the entries at the fronts of a path of these lengths.
+fn add_flags(
+    paths: &mut PathEntries,
+    flags: u64,
+    path: &[u64],
+    lengths: &[usize],
+) -> Result<(), AllocError>
+    ensures { OnOk result (paths.new ≡ with_flags paths.old flags (fronts path.now lengths.now)) }
+{
+    match lengths {
+        [] => Ok(()),
+        [length, others @ ..] => {
+            let parent = front(path, *length);
+            let word = paths.entry(parent);
+            paths.put(parent, word | flags)?;
+            add_flags(paths, flags, path, others)
+        }
+    }
+}
+
+/// Makes new tables at the fronts of a path of these lengths, in the frames in order, as far as there are frames.
+fn make_tables(
+    paths: &mut PathEntries,
+    flags: u64,
+    path: &[u64],
+    lengths: &[usize],
+    frames: &[u64],
+) -> Result<(), AllocError>
+    ensures { OnOk result (paths.new ≡ with_tables paths.old flags (fronts path.now lengths.now) frames.now) }
+{
+    match lengths {
+        [] => Ok(()),
+        [length, other_lengths @ ..] => match frames {
+            [] => Ok(()),
+            [frame, other_frames @ ..] => {
+                paths.put(front(path, *length), frame | flags)?;
+                make_tables(paths, flags, path, other_lengths, other_frames)
+            }
+        },
+    }
+}
+
+/// Takes the first so many frames out of a pool, as far as there are frames.
+fn take_frames(pool: &mut Vec<u64>, count: usize)
+    ensures { pool.new.items ≡ drop count pool.old.items }
+{
+    let _ = pool.drain(..count.min(pool.len()));
+}
+
+/// Maps a page to a frame, with these flags for the page's parents, and the added flags for new ones.
+/// Fails only where memory is refused, and then says nothing of the entries and the pool.
+pub fn map_call(
+    levels: usize,
+    paths: &mut PathEntries,
+    pool: &mut Vec<u64>,
+    parent_flags: u64,
+    added_flags: u64,
+    page: &[u64],
+    frame: u64,
+    flags: u64,
+) -> Result<Answer, AllocError>
+    ensures { IfOk result (λ answer. record { paths = paths.new; supply = pool.new.items; answer = answer_of answer } ≡ map_call_of levels paths.old pool.old.items parent_flags added_flags page.now frame flags) }
+{
+    let alloc = *pool.allocator();
+    let used = parents_where(alloc, paths, page, true)?;
+    let missing = parents_where(alloc, paths, page, false)?;
+    let is_stopped = has_huge_parent(paths, page);
+    let is_mapped = is_used(paths.entry(page));
+    add_flags(paths, parent_flags, page, &used)?;
+    if is_stopped {
+        return Ok(Answer::Refused(Refusal::ParentEntryHugePage));
+    }
+    make_tables(paths, parent_flags | added_flags, page, &missing, pool)?;
+    let is_short = pool.len() < missing.len();
+    take_frames(pool, missing.len());
+    if is_short {
+        return Ok(Answer::Refused(Refusal::FrameAllocationFailed));
+    }
+    if is_mapped {
+        return Ok(Answer::Refused(Refusal::PageAlreadyMapped(frame)));
+    }
+    paths.put(page, leaf_entry(levels, page, frame, flags))?;
+    Ok(Answer::Done(frame))
+}

@@ -1,0 +1,100 @@
+//! Where positions lead.
+ghost use Rattle.std.specs.Prelude.{◌≡◌, ◌≤◌, ◌%◌, ◌++◌, ◌∷◌, OnOk, IfOk, []};
+ghost use Rattle.x86_64_model.specs.Window.{entry_at as entry_at_of};
+ghost use Rattle.x86_64_model.specs.PageWalk.{page_start as page_start_of};
+ghost use Rattle.x86_64_model.specs.Position.{span as span_of, index as index_of};
+ghost use Rattle.x86_64_model.specs.Translation.{Mapped, translate_on as translate_on_of, translate as translate_of};
+ghost use Rattle.x86_64_plain.specs.Windows.{window_of};
+ghost use Rattle.x86_64_plain.specs.Calls.{translated_of};
+
+use crate::calls::Translated;
+use crate::entries::PathEntries;
+use crate::positions::{index, span};
+use crate::windows::{PlainWindow, entry_at};
+use crate::words::{address, flags, is_huge, is_present, is_used};
+use std::alloc::{AllocError, Global};
+
+/// Gives a huge entry's address, rounded down to the size of its level's page.
+fn page_start(level: usize, word: u64) -> u64
+    requires { level ≤ 6 }
+    ensures { result ≡ page_start_of level word }
+{
+    address(word) / span(level) * span(level)
+}
+
+/// Says that an entry of a level maps a position to an offset in the frame.
+fn mapped(level: usize, position: u64, frame: u64, flags: u64) -> Translated
+    requires { level ≤ 6 }
+    ensures { translated_of result ≡ Mapped (span_of level) frame (position % span_of level) flags }
+{
+    let size = span(level);
+    let offset = position % size;
+    Translated::Mapped {
+        size,
+        frame,
+        offset,
+        flags,
+    }
+}
+
+/// Goes on along a path by the index of a level at a position, and gives the entry there.
+fn next_entry(
+    window: Option<PlainWindow>,
+    paths: &PathEntries,
+    position: u64,
+    level: usize,
+    path: &mut Vec<u64>,
+) -> Result<u64, AllocError>
+    requires { level ≤ 6 }
+    ensures path { OnOk result (path.new.items ≡ path.old.items ++ index_of level position ∷ []) }
+    ensures word { IfOk result (λ word. word ≡ entry_at_of (window_of window) paths.now (path.old.items ++ index_of level position ∷ [])) }
+{
+    path.push(index(level, position))?;
+    Ok(entry_at(window, paths, path))
+}
+
+/// Says what the entries say of a position from a level on, where the path leads to that level's table.
+fn translate_on(
+    window: Option<PlainWindow>,
+    paths: &PathEntries,
+    position: u64,
+    level: usize,
+    path: &mut Vec<u64>,
+) -> Result<Translated, AllocError>
+    requires { level ≤ 5 }
+    ensures { IfOk result (λ t. translated_of t ≡ translate_on_of (entry_at_of (window_of window) paths.now) position level path.old.items) }
+{
+    if level == 0 {
+        return Ok(Translated::NotMapped);
+    }
+    let word = next_entry(window, paths, position, level, path)?;
+    if level == 1 {
+        if is_used(word) {
+            return Ok(mapped(1, position, address(word), flags(word)));
+        }
+        return Ok(Translated::NotMapped);
+    }
+    if !is_present(word) {
+        return Ok(Translated::NotMapped);
+    }
+    if level <= 3 && is_huge(word) {
+        return Ok(mapped(level, position, page_start(level, word), flags(word)));
+    }
+    translate_on(window, paths, position, level - 1, path)
+}
+
+/// Says where a position leads.
+#[tactic(auto, unfolding(x86_64_model::specs::Translation::translate))]
+pub fn translate(
+    alloc: Global,
+    window: Option<PlainWindow>,
+    paths: &PathEntries,
+    levels: usize,
+    position: u64,
+) -> Result<Translated, AllocError>
+    requires { levels ≤ 5 }
+    ensures { IfOk result (λ t. translated_of t ≡ translate_of levels (entry_at_of (window_of window) paths.now) position) }
+{
+    let mut path = Vec::new(alloc);
+    translate_on(window, paths, position, levels, &mut path)
+}
