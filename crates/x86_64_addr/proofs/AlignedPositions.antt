@@ -6,7 +6,7 @@ use Rattle.std.proofs.Math.Nat.{add-mul-mod_self_right, mod-eq_of_lt, mod-le, mu
 use Rattle.std.proofs.Math.Pow.{mod-mod-pow}
 use Rattle.std.specs.Int.{is_power_of_two, next_multiple_of}
 use Rattle.x86_64_model.specs.Position.{raw, lower_half}
-use Rattle.x86_64_addr.specs.PowersOfTwo.{power}
+use Rattle.x86_64_addr.proofs.PowersOfTwo.{power}
 use Rattle.x86_64_addr.proofs.Alignments.{greatest, least}
 
 -- what stands between the two halves, in all positions

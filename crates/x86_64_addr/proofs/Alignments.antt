@@ -6,7 +6,7 @@ use Rattle.std.proofs.Math.Nat.{mul-mod_left, mod_self, mod-eq_of_lt, add-mul, o
 use Rattle.std.specs.Int.{is_power_of_two, next_multiple_of}
 use Rattle.std.specs.Int.RustNames.{bit_and}
 use Rattle.x86_64_model.specs.Alignment.{IsGreatestMultiple, IsLeastMultiple}
-use Rattle.x86_64_addr.specs.PowersOfTwo.{power}
+use Rattle.x86_64_addr.proofs.PowersOfTwo.{power}
 
 -- the bits below a power of two are the remainder by it
 pub masked : (n a : ℕ) → IsTrue (is_power_of_two a) → bit_and n (a - 1) ≡ n % a

@@ -1,2 +1,3 @@
 mod Alignments
 mod AlignedPositions
+pub mod PowersOfTwo

@@ -1,5 +1,4 @@
 pub mod Levels
-pub mod PowersOfTwo
 pub use Rattle.x86_64_model.specs.Position
 pub use Rattle.x86_64_model.specs.Successor
 pub use Rattle.x86_64_model.specs.Alignment

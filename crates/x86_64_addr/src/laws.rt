@@ -48,6 +48,7 @@ pub fn offsets_are_ordered_by_number(left: PageOffset, right: PageOffset)
 pub fn levels_are_ordered_by_number(left: PageTableLevel, right: PageTableLevel)
     ensures equality { ⟦<PageTableLevel as PartialEq>⟧.eq left right ≡ (level_number left == level_number right) }
     ensures order { ⟦<PageTableLevel as Ord>⟧.cmp left right ≡ nat_cmp (level_number left) (level_number right) }
-    ensures partial_order { ⟦<PageTableLevel as PartialOrd>⟧.partial_cmp left right ≡ Some (nat_cmp (level_number left) (level_number right)) }
+    ensures partial_order { ⟦<PageTableLevel as PartialOrd>⟧.partial_cmp left right
+        ≡ Some (nat_cmp (level_number left) (level_number right)) }
     ensures hash { ⟦<PageTableLevel as Hash>⟧.hash_input left ≡ fed.isize (pos (level_number left)) }
 {}

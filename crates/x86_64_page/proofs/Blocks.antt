@@ -9,7 +9,8 @@ use Rattle.std.proofs.lemmas.Bool.{lt-ltb, ltb-true, ltb-false, le-leb, leb-true
 use Rattle.std.proofs.lemmas.Bool.Decides.{leb_tells}
 use Rattle.std.proofs.lemmas.List.{reverse-append, length-reverse}
 use Rattle.x86_64_page.specs.Blocks.{IsBlockSize, IsLimit, blocks_from, blocks, blocks_inclusive, Ends, front_taken, back_taken, front_taken_inclusive, back_taken_inclusive}
-use Rattle.x86_64_page.specs.TakenInTurn.{by_size, length-blocks_from}
+use Rattle.x86_64_page.proofs.InTurn.{by_size, length-blocks_from}
+use Rattle.x86_64_page.proofs.InTurnInclusive.{two_fit}
 
 -- the list from the back
 pub from-last : (size start count : ℕ) → blocks_from size start (suc count) ≡ blocks_from size start count ++ (start + count * size) ∷ []
@@ -158,10 +159,6 @@ least_none z s e n k o =
     let nothing : 0 * z ≡ 0 = omega arith in
     ap (λ l. min (n + 1) (length l) * z) (blocks-none z s e k o) ∙ (ap (λ m. m * z) (min-zero (n + 1)) ∙ nothing)
 
-pub front-some : (size start end n p : ℕ) → n < length (blocks size start end) → p ≡ start + n * size + size
-    → ◌≡◌ {A = Ends} (record { start = p; end = end }) (front_taken size (n + 1) (record { start = start; end = end }))
-front-some z s e n p l h = ap (λ p. record { start = p; end = e }) (rw (least_some z s e n l) (omega arith))
-
 pub front-all : (size start end n : ℕ) → IsBlockSize size → start % size ≡ 0 → end % size ≡ 0 → length (blocks size start end) ≤ n → start < end
     → ◌≡◌ {A = Ends} (record { start = end; end = end }) (front_taken size (n + 1) (record { start = start; end = end }))
 front-all z s e n k a b l o = ap (λ p. record { start = p; end = e }) (sym (least_all z s e n k a b l (omega arith)))
@@ -291,6 +288,35 @@ back_step z s e s' e' k a c o left =
     rest : ((nat_le z e ≡ true) × (z ≤ e)) ⊎ ((nat_le z e ≡ false) × (e < z)) → blocks z s e ≡ blocks_inclusive z s' e'
     rest (inl y) = let at = left.0 y.1 in ap₂ (blocks z) (sym at.0) (sym at.1)
     rest (inr n) = let at = left.1 n.1 in blocks-none z s e k (omega arith) ∙ sym (blocks-none z s' (e' + z) k (omega arith))
+
+pub front_step : (size limit start end start' end' : ℕ) → IsBlockSize size → IsLimit limit → start % size ≡ 0 → end % size ≡ 0 → end < limit → start ≤ end
+    → FrontLeft size limit end start start' end'
+    → (blocks_inclusive size start end ≡ start ∷ blocks_inclusive size start' end')
+    × (◌≡◌ {A = Ends} (record { start = start'; end = end' }) (front_taken_inclusive size limit 1 (record { start = start; end = end })))
+front_step z m s e s' e' k j a c o within left =
+    (more ∙ ap (λ l. s ∷ l) (rest (leb_tells m (s + z))), front_inclusive-some z m s e 0 s s' e' k j a c o (some_inclusive z s e k a c within) (omega arith) left)
+  where
+    more : blocks_inclusive z s e ≡ s ∷ blocks_from z (s + z) ((e - s) / z)
+    more =
+        let count = count_last z s (e + z) k a (next_aligned z e k c) (let p = positive z k in omega arith) in
+        let whole : e + z - z ≡ e = omega arith in
+        ap (blocks_from z s) (count.0 ∙ ap (λ p. suc ((p - s) / z)) whole)
+
+    rest : ((nat_le m (s + z) ≡ true) × (m ≤ s + z)) ⊎ ((nat_le m (s + z) ≡ false) × (s + z < m)) → blocks_from z (s + z) ((e - s) / z) ≡ blocks_inclusive z s' e'
+    rest (inl y) =
+        let at = left.1 y.1 in
+        let below = below_limit z m e k j c o in
+        let two = two_fit z m k j in
+        let past : m ≤ s + z = y.1 in
+        ap (blocks_from z (s + z)) (none_between z s e k (omega arith)) ∙ sym (blocks-none z s' (e' + z) k (rw (at.0, at.1) (omega arith)))
+    rest (inr n) =
+        let at = left.0 n.1 in
+        let same : e - s ≡ e + z - (s + z) = omega arith in
+        ap (λ d. blocks_from z (s + z) (d / z)) same ∙ ap₂ (blocks_inclusive z) (sym at.0) (sym at.1)
+
+-- a call that takes the first of a list leaves fewer
+pub goes_first : {S A : Type 0} (rest : S → List ℕ) (before after : S) (item : A) (place : ℕ) → rest before ≡ place ∷ rest after → MakesProgress (λ _. ⊤) (item_count rest) before (Some item) after
+goes_first rest s t x p e = record { on = λ _. (tt, tt, let h = ap length e in omega arith); keeps = tt; rests = λ _. tt }
 
 -- a call that takes the last of a list leaves fewer
 pub goes_last : {S A : Type 0} (rest : S → List ℕ) (before after : S) (item : A) (place : ℕ) → rest before ≡ rest after ++ place ∷ [] → MakesProgress (λ _. ⊤) (item_count rest) before (Some item) after

@@ -1,1 +1,8 @@
-pub mod Blocks
+mod Blocks
+mod Indices
+mod InTurn
+mod InTurnInclusive
+pub mod Multiples
+mod RangesListed
+mod StepsOfPages
+mod Sums

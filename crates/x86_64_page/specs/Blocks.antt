@@ -38,6 +38,10 @@ pub record Ends : Type 0 where
   pub start : ℕ
   pub end : ℕ
 
+-- those of a range whose first and last block start at these places
+abbrev pub ends : {B : Type 0} → (place : B → ℕ) → (start end : B) → Ends
+ends place start end = record { start = place start; end = place end }
+
 -- once n blocks were taken from the front, or all where there are fewer: the start is raised
 abbrev pub front_taken : (size n : ℕ) → Ends → Ends
 front_taken size n r = record { start = r.start + min n (length (blocks size r.start r.end)) * size; end = r.end }

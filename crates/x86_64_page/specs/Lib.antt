@@ -1,10 +1,7 @@
 pub mod Blocks
-pub mod Indices
-pub mod Multiples
 pub mod PageSteps
 pub mod Ranges
 pub mod Steps
-pub mod Sums
 pub mod TakenInTurn
 pub mod TakenInTurnInclusive
 pub use Rattle.x86_64_addr.specs.Levels

@@ -1,9 +1,6 @@
 -- The law of steps along the pages of a size.
-use Rattle.std.specs.Prelude.{◌≡◌, ℕ, ◌+◌, ◌-◌, ◌*◌, ◌/◌, ◌^◌, ◌<◌, ◌≤◌, cond, Some, None}
-use Rattle.std.proofs.Common.{◌∙◌, ap, arith, le-ltb}
-use Rattle.std.proofs.Math.Nat.{mul-div_cancel, add-mul}
+use Rattle.std.specs.Prelude.{◌≡◌, ℕ, ◌+◌, ◌*◌, ◌^◌, ◌<◌, Some}
 use Rattle.x86_64_model.specs.Successor.{forward, backward}
-use Rattle.x86_64_model.specs.Lemmas.Paths.Steps.{from_forward, steps_are_counted}
 use Rattle.x86_64_page.specs.Steps.{pages_between}
 
 -- steps by m pages and then by n are steps by m + n, steps back undo steps on and the other way round, and `steps_between` counts them
@@ -15,25 +12,3 @@ pub record ArePageSteps (size : ℕ) : Type 0 where
   pub undone : (start n end : ℕ) → forward (2 ^ 48) start (n * size) ≡ Some end → backward end (n * size) ≡ Some start
   pub redone : (start n end : ℕ) → start < 2 ^ 48 → backward start (n * size) ≡ Some end → forward (2 ^ 48) end (n * size) ≡ Some start
   pub counted : (start n end : ℕ) → forward (2 ^ 48) start (n * size) ≡ Some end → pages_between size start end ≡ (n, Some n)
-
-counted_at : (size start n end : ℕ) → start ≤ end → (end - start) / size ≡ n → pages_between size start end ≡ (n, Some n)
-counted_at size start n end up pages =
-    ap (λ b. cond b (0, None) ((end - start) / size, Some ((end - start) / size))) (le-ltb end start up) ∙ ap (λ n. (n, Some n)) pages
-
--- the pages from a start up to the one n pages on are n
-counted_in : (size start n end : ℕ) → 0 < size → start + n * size ≡ end → pages_between size start end ≡ (n, Some n)
-counted_in size start n end positive e =
-    let up : start ≤ end = omega arith in
-    let bytes : end - start ≡ n * size = omega arith in
-    counted_at size start n end up (ap (λ b. b / size) bytes ∙ mul-div_cancel n positive)
-
-pub page_steps_are_counted : (size : ℕ) → 0 < size → ArePageSteps size
-page_steps_are_counted size positive =
-    let steps = steps_are_counted (2 ^ 48) in
-    record {
-      compose = λ start m n middle end h g. rw (add-mul m n size) (steps.compose start (m * size) (n * size) middle end h g);
-      compose_back = λ start m n middle end h g. rw (add-mul m n size) (steps.compose_back start (m * size) (n * size) middle end h g);
-      undone = λ start n end h. steps.undone start (n * size) end h;
-      redone = λ start n end l h. steps.redone start (n * size) end l h;
-      counted = λ start n end h. counted_in size start n end positive (from_forward (2 ^ 48) start (n * size) end h).1;
-    }

@@ -64,7 +64,7 @@ impl<S: PageSize> PhysFrame<S> {
     }
 
     /// Gives the frame that contains an address: its start is the address rounded down to the size.
-    #[tactic(auto, using(crate::specs::Multiples::rounded_down))]
+    #[tactic(auto, using(crate::proofs::Multiples::rounded_down))]
     pub fn containing_address(address: PhysAddr) -> Self
         ensures { result ≡ address - address % S.SIZE }
     {

@@ -36,7 +36,7 @@ pub fn page_steps_are_counted<S: PageSize>()
 {}
 
 /// The blocks of a range, by which the contracts of its calls speak, are those of its definition.
-#[tactic(auto, using(crate::specs::Ranges::blocks_are_the_range, crate::specs::Ranges::inclusive_blocks_are_the_range))]
+#[tactic(auto, using(crate::proofs::RangesListed::blocks_are_the_range, crate::proofs::RangesListed::inclusive_blocks_are_the_range))]
 pub fn blocks_are_the_range()
     ensures exclusive { BlocksAreTheRange }
     ensures inclusive { InclusiveBlocksAreTheRange }

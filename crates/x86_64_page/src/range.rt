@@ -4,7 +4,7 @@
 ghost use Rattle.std.specs.Prelude.{◌≡◌, ℕ, ◌+◌, ◌*◌, ◌%◌, ◌<◌, ◌↔◌, IsTrue, IfSome, Some, option_map, [], length, slice_get, reverse};
 ghost use Rattle.std.specs.Iterator.{YieldsFirstBy, YieldsLastBy, item_count, UpTo, at_most};
 ghost use Rattle.std.specs.Iterator.SizeHint.{IsWithinCount};
-ghost use Rattle.x86_64_page.specs.Blocks.{IsBlockSize, IsLimit, blocks, Ends, front_taken, back_taken};
+ghost use Rattle.x86_64_page.specs.Blocks.{IsBlockSize, IsLimit, blocks, ends, front_taken, back_taken};
 
 use crate::frame::PhysFrame;
 use crate::page::{Page, PageSize};
@@ -89,15 +89,18 @@ impl<B: Block> BlockRange<B> {
 
     /// Gives how many bytes there are in the blocks.
     pub fn size(&self) -> u64
-        ensures { result ≡ length (blocks B.SIZE (B.place self.now.start) (B.place self.now.end)) * B.SIZE }
+        ensures { let start = B.place self.now.start in let end = B.place self.now.end in
+            result ≡ length (blocks B.SIZE start end) * B.SIZE }
     {
         self.end.place().saturating_sub(self.start.place())
     }
 
     /// Drops `n` blocks and takes one, in constant time. The range is left as `n + 1` calls of `next` leave it.
     pub fn nth(&mut self, n: usize) -> Option<B>
-        ensures item { option_map B.place result ≡ slice_get (blocks B.SIZE (B.place self.old.start) (B.place self.old.end)) n }
-        ensures ends { record { start = B.place self.new.start; end = B.place self.new.end } ≡ front_taken B.SIZE (n + 1) (record { start = B.place self.old.start; end = B.place self.old.end }) }
+        ensures item { let start = B.place self.old.start in let end = B.place self.old.end in
+            option_map B.place result ≡ slice_get (blocks B.SIZE start end) n }
+        ensures ends { ends B.place self.new.start self.new.end
+            ≡ front_taken B.SIZE (n + 1) (ends B.place self.old.start self.old.end) }
     {
         let start = self.start.place();
         let end = self.end.place();
@@ -115,8 +118,10 @@ impl<B: Block> BlockRange<B> {
     /// Drops `n` blocks from the back and takes one, in constant time. The range is left as `n + 1` calls of `next_back` leave
     /// it.
     pub fn nth_back(&mut self, n: usize) -> Option<B>
-        ensures item { option_map B.place result ≡ slice_get (reverse (blocks B.SIZE (B.place self.old.start) (B.place self.old.end))) n }
-        ensures ends { record { start = B.place self.new.start; end = B.place self.new.end } ≡ back_taken B.SIZE (n + 1) (record { start = B.place self.old.start; end = B.place self.old.end }) }
+        ensures item { let start = B.place self.old.start in let end = B.place self.old.end in
+            option_map B.place result ≡ slice_get (reverse (blocks B.SIZE start end)) n }
+        ensures ends { ends B.place self.new.start self.new.end
+            ≡ back_taken B.SIZE (n + 1) (ends B.place self.old.start self.old.end) }
     {
         let start = self.start.place();
         let end = self.end.place();
@@ -135,7 +140,7 @@ impl<B: Block> Iterator for BlockRange<B> {
     type Item = B;
 
     ghost next_gives = { λ r block s. YieldsFirstBy B.place (λ r. blocks B.SIZE (B.place r.start) (B.place r.end)) r block s
-        × ((record { start = B.place s.start; end = B.place s.end }) ≡ front_taken B.SIZE 1 (record { start = B.place r.start; end = B.place r.end })) };
+        × (ends B.place s.start s.end ≡ front_taken B.SIZE 1 (ends B.place r.start r.end)) };
 
     ghost remaining = { item_count (λ r. blocks B.SIZE (B.place r.start) (B.place r.end)) };
 
@@ -150,10 +155,14 @@ impl<B: Block> Iterator for BlockRange<B> {
     }
 
     fn size_hint(&self) -> (usize, Option<usize>)
-        ensures lower { IsWithinCount result.0 (at_most (length (blocks B.SIZE (B.place self.now.start) (B.place self.now.end)))) }
-        ensures ends { IfSome result.1 (UpTo (at_most (length (blocks B.SIZE (B.place self.now.start) (B.place self.now.end))))) }
-        ensures exact { result.0 ≡ length (blocks B.SIZE (B.place self.now.start) (B.place self.now.end)) }
-        ensures upper { result.1 ≡ Some (length (blocks B.SIZE (B.place self.now.start) (B.place self.now.end))) }
+        ensures lower { let start = B.place self.now.start in let end = B.place self.now.end in
+            IsWithinCount result.0 (at_most (length (blocks B.SIZE start end))) }
+        ensures ends { let start = B.place self.now.start in let end = B.place self.now.end in
+            IfSome result.1 (UpTo (at_most (length (blocks B.SIZE start end)))) }
+        ensures exact { let start = B.place self.now.start in let end = B.place self.now.end in
+            result.0 ≡ length (blocks B.SIZE start end) }
+        ensures upper { let start = B.place self.now.start in let end = B.place self.now.end in
+            result.1 ≡ Some (length (blocks B.SIZE start end)) }
     {
         let len = self.len() as usize;
         (len, Some(len))
@@ -162,7 +171,7 @@ impl<B: Block> Iterator for BlockRange<B> {
 
 impl<B: Block> DoubleEndedIterator for BlockRange<B> {
     ghost next_back_gives = { λ r block s. YieldsLastBy B.place (λ r. blocks B.SIZE (B.place r.start) (B.place r.end)) r block s
-        × ((record { start = B.place s.start; end = B.place s.end }) ≡ back_taken B.SIZE 1 (record { start = B.place r.start; end = B.place r.end })) };
+        × (ends B.place s.start s.end ≡ back_taken B.SIZE 1 (ends B.place r.start r.end)) };
 
     fn next_back(&mut self) -> Option<B> {
         let end = self.end.place();

@@ -21,7 +21,7 @@ fn is_virt_aligned(raw: u64, align: u64) -> Option<bool> {
 }
 
 #[test]
-#[tactic(auto, using(crate::specs::PowersOfTwo::numeral_power))]
+#[tactic(auto, using(crate::proofs::PowersOfTwo::numeral_power))]
 fn numbers_are_aligned(rt: HostRuntime) {
     let rows = [
         (0, 1, Some(0)),
@@ -47,7 +47,7 @@ fn numbers_are_aligned(rt: HostRuntime) {
 }
 
 #[test]
-#[tactic(auto, using(crate::specs::PowersOfTwo::numeral_power))]
+#[tactic(auto, using(crate::proofs::PowersOfTwo::numeral_power))]
 fn virtual_addresses_are_aligned(rt: HostRuntime) {
     let high = VirtAddr::new_truncate(1 << 47);
     assert_eq!(rt; VirtAddr::new(0x7fff_ffff_ffff).align_up(2), high);
@@ -73,7 +73,7 @@ fn virtual_addresses_are_aligned(rt: HostRuntime) {
 }
 
 #[test]
-#[tactic(auto, using(crate::specs::PowersOfTwo::numeral_power))]
+#[tactic(auto, using(crate::proofs::PowersOfTwo::numeral_power))]
 fn physical_addresses_are_aligned(rt: HostRuntime) {
     let address = PhysAddr::new(0x1234);
     assert_eq!(rt; address.align_up(0x1000), PhysAddr::new(0x2000));

@@ -5,7 +5,7 @@
 ghost use Rattle.std.specs.Prelude.{◌≡◌, ℕ, ◌+◌, ◌-◌, ◌*◌, ◌<◌, ◌≤◌, ◌↔◌, IsTrue, IfSome, Some, option_map, [], length, slice_get, reverse};
 ghost use Rattle.std.specs.Iterator.{YieldsFirstBy, YieldsLastBy, item_count, UpTo, at_most};
 ghost use Rattle.std.specs.Iterator.SizeHint.{IsWithinCount};
-ghost use Rattle.x86_64_page.specs.Blocks.{blocks_inclusive, Ends, front_taken_inclusive, back_taken_inclusive};
+ghost use Rattle.x86_64_page.specs.Blocks.{blocks_inclusive, ends, front_taken_inclusive, back_taken_inclusive};
 
 use crate::range::{Block, write_range};
 use std::fmt::{Debug, Formatter, Result as FmtResult, Write};
@@ -22,29 +22,34 @@ pub struct BlockRangeInclusive<B: Block> {
 impl<B: Block> BlockRangeInclusive<B> {
     /// Tells whether there is no block in the range.
     pub fn is_empty(&self) -> bool
-        ensures { IsTrue result ↔ (blocks_inclusive B.SIZE (B.place self.now.start) (B.place self.now.end) ≡ []) }
+        ensures { let start = B.place self.now.start in let end = B.place self.now.end in
+            IsTrue result ↔ (blocks_inclusive B.SIZE start end ≡ []) }
     {
         self.start.place() > self.end.place()
     }
 
     /// Gives how many blocks there are.
     pub fn len(&self) -> u64
-        ensures { result ≡ length (blocks_inclusive B.SIZE (B.place self.now.start) (B.place self.now.end)) }
+        ensures { let start = B.place self.now.start in let end = B.place self.now.end in
+            result ≡ length (blocks_inclusive B.SIZE start end) }
     {
         self.size() / B::SIZE
     }
 
     /// Gives how many bytes there are in the blocks.
     pub fn size(&self) -> u64
-        ensures { result ≡ length (blocks_inclusive B.SIZE (B.place self.now.start) (B.place self.now.end)) * B.SIZE }
+        ensures { let start = B.place self.now.start in let end = B.place self.now.end in
+            result ≡ length (blocks_inclusive B.SIZE start end) * B.SIZE }
     {
         (self.end.place() + B::SIZE).saturating_sub(self.start.place())
     }
 
     /// Drops `n` blocks and takes one, in constant time. The range is left as `n + 1` calls of `next` leave it.
     pub fn nth(&mut self, n: usize) -> Option<B>
-        ensures item { option_map B.place result ≡ slice_get (blocks_inclusive B.SIZE (B.place self.old.start) (B.place self.old.end)) n }
-        ensures ends { record { start = B.place self.new.start; end = B.place self.new.end } ≡ front_taken_inclusive B.SIZE B.LIMIT (n + 1) (record { start = B.place self.old.start; end = B.place self.old.end }) }
+        ensures item { let start = B.place self.old.start in let end = B.place self.old.end in
+            option_map B.place result ≡ slice_get (blocks_inclusive B.SIZE start end) n }
+        ensures ends { ends B.place self.new.start self.new.end
+            ≡ front_taken_inclusive B.SIZE B.LIMIT (n + 1) (ends B.place self.old.start self.old.end) }
     {
         let start = self.start.place();
         let end = self.end.place();
@@ -62,8 +67,10 @@ impl<B: Block> BlockRangeInclusive<B> {
     /// Drops `n` blocks from the back and takes one, in constant time. The range is left as `n + 1` calls of `next_back` leave
     /// it.
     pub fn nth_back(&mut self, n: usize) -> Option<B>
-        ensures item { option_map B.place result ≡ slice_get (reverse (blocks_inclusive B.SIZE (B.place self.old.start) (B.place self.old.end))) n }
-        ensures ends { record { start = B.place self.new.start; end = B.place self.new.end } ≡ back_taken_inclusive B.SIZE (n + 1) (record { start = B.place self.old.start; end = B.place self.old.end }) }
+        ensures item { let start = B.place self.old.start in let end = B.place self.old.end in
+            option_map B.place result ≡ slice_get (reverse (blocks_inclusive B.SIZE start end)) n }
+        ensures ends { ends B.place self.new.start self.new.end
+            ≡ back_taken_inclusive B.SIZE (n + 1) (ends B.place self.old.start self.old.end) }
     {
         let start = self.start.place();
         let end = self.end.place();
@@ -80,8 +87,10 @@ impl<B: Block> BlockRangeInclusive<B> {
 
     /// Leaves the blocks after a block. Where it is the greatest, `end` is lowered, since no block comes after it.
     fn leave_at_front(&mut self, block: B)
-        ensures raised { B.place block + B.SIZE < B.LIMIT → (B.place self.new.start ≡ B.place block + B.SIZE) × (B.place self.new.end ≡ B.place self.old.end) }
-        ensures lowered { B.LIMIT ≤ B.place block + B.SIZE → (B.place self.new.start ≡ B.place block) × (B.place self.new.end ≡ B.place block - B.SIZE) }
+        ensures raised { B.place block + B.SIZE < B.LIMIT →
+            (B.place self.new.start ≡ B.place block + B.SIZE) × (B.place self.new.end ≡ B.place self.old.end) }
+        ensures lowered { B.LIMIT ≤ B.place block + B.SIZE →
+            (B.place self.new.start ≡ B.place block) × (B.place self.new.end ≡ B.place block - B.SIZE) }
     {
         let place = block.place();
         if place < B::LIMIT - B::SIZE {
@@ -94,8 +103,10 @@ impl<B: Block> BlockRangeInclusive<B> {
 
     /// Leaves the blocks before a block. Where it is the first, `start` is raised, since no block comes before it.
     fn leave_at_back(&mut self, block: B)
-        ensures lowered { B.SIZE ≤ B.place block → (B.place self.new.start ≡ B.place self.old.start) × (B.place self.new.end + B.SIZE ≡ B.place block) }
-        ensures raised { B.place block < B.SIZE → (B.place self.new.start ≡ B.SIZE) × (B.place self.new.end ≡ 0) × (B.place block ≡ 0) }
+        ensures lowered { B.SIZE ≤ B.place block →
+            (B.place self.new.start ≡ B.place self.old.start) × (B.place self.new.end + B.SIZE ≡ B.place block) }
+        ensures raised { B.place block < B.SIZE →
+            (B.place self.new.start ≡ B.SIZE) × (B.place self.new.end ≡ 0) × (B.place block ≡ 0) }
     {
         let start = block.place();
         if 0 < start {
@@ -111,7 +122,7 @@ impl<B: Block> Iterator for BlockRangeInclusive<B> {
     type Item = B;
 
     ghost next_gives = { λ r block s. YieldsFirstBy B.place (λ r. blocks_inclusive B.SIZE (B.place r.start) (B.place r.end)) r block s
-        × ((record { start = B.place s.start; end = B.place s.end }) ≡ front_taken_inclusive B.SIZE B.LIMIT 1 (record { start = B.place r.start; end = B.place r.end })) };
+        × (ends B.place s.start s.end ≡ front_taken_inclusive B.SIZE B.LIMIT 1 (ends B.place r.start r.end)) };
 
     ghost remaining = { item_count (λ r. blocks_inclusive B.SIZE (B.place r.start) (B.place r.end)) };
 
@@ -125,10 +136,14 @@ impl<B: Block> Iterator for BlockRangeInclusive<B> {
     }
 
     fn size_hint(&self) -> (usize, Option<usize>)
-        ensures lower { IsWithinCount result.0 (at_most (length (blocks_inclusive B.SIZE (B.place self.now.start) (B.place self.now.end)))) }
-        ensures ends { IfSome result.1 (UpTo (at_most (length (blocks_inclusive B.SIZE (B.place self.now.start) (B.place self.now.end))))) }
-        ensures exact { result.0 ≡ length (blocks_inclusive B.SIZE (B.place self.now.start) (B.place self.now.end)) }
-        ensures upper { result.1 ≡ Some (length (blocks_inclusive B.SIZE (B.place self.now.start) (B.place self.now.end))) }
+        ensures lower { let start = B.place self.now.start in let end = B.place self.now.end in
+            IsWithinCount result.0 (at_most (length (blocks_inclusive B.SIZE start end))) }
+        ensures ends { let start = B.place self.now.start in let end = B.place self.now.end in
+            IfSome result.1 (UpTo (at_most (length (blocks_inclusive B.SIZE start end)))) }
+        ensures exact { let start = B.place self.now.start in let end = B.place self.now.end in
+            result.0 ≡ length (blocks_inclusive B.SIZE start end) }
+        ensures upper { let start = B.place self.now.start in let end = B.place self.now.end in
+            result.1 ≡ Some (length (blocks_inclusive B.SIZE start end)) }
     {
         let len = self.len() as usize;
         (len, Some(len))
@@ -137,7 +152,7 @@ impl<B: Block> Iterator for BlockRangeInclusive<B> {
 
 impl<B: Block> DoubleEndedIterator for BlockRangeInclusive<B> {
     ghost next_back_gives = { λ r block s. YieldsLastBy B.place (λ r. blocks_inclusive B.SIZE (B.place r.start) (B.place r.end)) r block s
-        × ((record { start = B.place s.start; end = B.place s.end }) ≡ back_taken_inclusive B.SIZE 1 (record { start = B.place r.start; end = B.place r.end })) };
+        × (ends B.place s.start s.end ≡ back_taken_inclusive B.SIZE 1 (ends B.place r.start r.end)) };
 
     fn next_back(&mut self) -> Option<B> {
         if self.end.place() < self.start.place() {

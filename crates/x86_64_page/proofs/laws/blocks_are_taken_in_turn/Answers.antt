@@ -1,5 +1,5 @@
-use Rattle.x86_64_page.specs.TakenInTurn.{taken_in_turn}
-use Rattle.x86_64_page.specs.TakenInTurnInclusive.{taken_in_turn_inclusive}
+use Rattle.x86_64_page.proofs.InTurn.{taken_in_turn}
+use Rattle.x86_64_page.proofs.InTurnInclusive.{taken_in_turn_inclusive}
 use Rattle.x86_64_page.proofs.laws.blocks_are_taken_in_turn.Goals as goal
 
 pub returns-clause-exclusive : goal.returns-clause-exclusive

@@ -1,5 +1,5 @@
-use Rattle.x86_64_page.specs.Sums.{size_is_positive}
-use Rattle.x86_64_page.specs.PageSteps.{page_steps_are_counted}
+use Rattle.x86_64_page.proofs.Sums.{size_is_positive}
+use Rattle.x86_64_page.proofs.StepsOfPages.{page_steps_are_counted}
 use Rattle.x86_64_page.proofs.laws.page_steps_are_counted.Goals as goal
 
 pub returns : goal.returns

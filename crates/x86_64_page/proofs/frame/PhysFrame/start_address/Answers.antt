@@ -1,4 +1,4 @@
-use Rattle.x86_64_page.specs.Multiples.{multiple_of_4KiB}
+use Rattle.x86_64_page.proofs.Multiples.{multiple_of_4KiB}
 use Rattle.x86_64_page.proofs.frame.PhysFrame.start_address.Goals as goal
 
 pub returns-clause-aligned_to_4kib : goal.returns-clause-aligned_to_4kib

@@ -1,6 +1,6 @@
 use Rattle.std.proofs.Common.{arith}
 use Rattle.std.proofs.Math.Nat.{le-div_iff_mul-le}
-use Rattle.x86_64_page.specs.Sums.{size_is_positive}
+use Rattle.x86_64_page.proofs.Sums.{size_is_positive}
 use Rattle.x86_64_page.proofs.frame.PhysFrame.try_from_pfn.Goals as goal
 
 pub returns-else-pfn-SIZE-clause-below : goal.returns-else-pfn-SIZE-clause-below

@@ -1,4 +1,4 @@
-use Rattle.x86_64_page.specs.Sums.{backward_is_multiple}
+use Rattle.x86_64_page.proofs.Sums.{backward_is_multiple}
 use Rattle.x86_64_page.proofs.page.Page.backward_checked.Goals as goal
 
 pub from_start_address_unchecked-requires : goal.from_start_address_unchecked-requires

@@ -1,5 +1,5 @@
 use Rattle.std.proofs.Common.{◌∙◌, arith}
-use Rattle.x86_64_page.specs.Multiples.{rounded_position, rounded_down}
+use Rattle.x86_64_page.proofs.Multiples.{rounded_position, rounded_down}
 use Rattle.x86_64_page.proofs.page.Page.containing_address.Goals as goal
 
 pub returns : goal.returns

@@ -1,5 +1,5 @@
 use Rattle.std.proofs.Common.{◌∙◌, sym}
-use Rattle.x86_64_page.specs.Multiples.{rounded_position}
+use Rattle.x86_64_page.proofs.Multiples.{rounded_position}
 use Rattle.x86_64_page.proofs.page.Page.from_start_address.Goals as goal
 
 pub from_start_address_unchecked-requires : goal.from_start_address_unchecked-requires

@@ -1,4 +1,4 @@
-use Rattle.x86_64_page.specs.Sums.{difference_is_multiple}
+use Rattle.x86_64_page.proofs.Sums.{difference_is_multiple}
 use Rattle.x86_64_page.proofs.frame.operators.PhysFrameSubU64.sub.Goals as goal
 
 pub from_start_address_unchecked-requires : goal.from_start_address_unchecked-requires

@@ -2,7 +2,7 @@ use Rattle.std.specs.Prelude.{◌≡◌, ℕ, ◌+◌, ◌*◌, ◌<◌}
 use Rattle.std.proofs.Common.{◌∙◌, ap, arith}
 use Rattle.std.proofs.lemmas.Grind.{common_steps}
 use Rattle.x86_64_addr.specs.Position.{span, index}
-use Rattle.x86_64_page.specs.Indices.{start_has_indices}
+use Rattle.x86_64_page.proofs.Indices.{start_has_indices}
 use Rattle.x86_64_page.proofs.page.indices.Page+Size4KiB.from_page_table_indices.Goals as goal
 
 -- a number that an index became is below 512, and so is the index

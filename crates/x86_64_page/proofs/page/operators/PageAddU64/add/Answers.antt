@@ -1,4 +1,4 @@
-use Rattle.x86_64_page.specs.Sums.{sum_is_aligned}
+use Rattle.x86_64_page.proofs.Sums.{sum_is_aligned}
 use Rattle.x86_64_page.proofs.page.operators.PageAddU64.add.Goals as goal
 
 pub from_start_address_unchecked-requires : goal.from_start_address_unchecked-requires

@@ -5,7 +5,7 @@ use Rattle.std.proofs.Math.Nat.{add-mul-mod_self_right}
 use Rattle.std.proofs.lemmas.Nat.{pow_pos}
 use Rattle.x86_64_addr.specs.Position.{span, raw}
 use Rattle.x86_64_addr.specs.Successor.{forward, backward}
-use Rattle.x86_64_page.specs.Multiples.{same_remainder}
+use Rattle.x86_64_page.proofs.Multiples.{same_remainder}
 
 -- so many sizes above a multiple of the size is one
 pub sum_is_multiple : (number count size : ℕ) → number % size ≡ 0 → (number + count * size) % size ≡ 0
