@@ -4,8 +4,8 @@ use Rattle.std.specs.FinMap.{keys}
 use Rattle.x86_64_model.specs.Memory.{Memory, Places, IsMapping, Words, words_of}
 use Rattle.x86_64_model.specs.Tables.{tables_from, NoneHuge, SoundTables}
 use Rattle.x86_64_model.specs.Marks.{serves_below, spot_of, mark_all}
-use Rattle.x86_64_model.specs.Lemmas.Tables.Keyed.{spots_of}
-use Rattle.x86_64_model.specs.Lemmas.Tables.Checked.{still_there, was_there, refused_tables, accepted_pool}
+use Rattle.x86_64_model.proofs.Lemmas.Tables.Keyed.{spots_of}
+use Rattle.x86_64_model.proofs.Lemmas.Tables.Checked.{still_there, was_there, refused_tables, accepted_pool}
 use Rattle.x86_64_tables.specs.Images.{seen, mark_slot}
 
 module _ (memory : Memory) (places : Places) (mapping : IsMapping places) (root : ℕ) (recursive : Option ℕ) (limit levels : ℕ)

@@ -3,7 +3,7 @@ use Rattle.std.proofs.Common.{◌≡◌, ℕ, true, false, ◌==◌, bit_and, Ok
 use Rattle.x86_64_model.specs.Entry.{has, flags, address}
 use Rattle.x86_64_tables.specs.declared.page_table.entry.FrameError.TheVariants.{FrameNotPresent, HugeFrame}
 use Rattle.x86_64_tables.specs.PageTableEntry.{frame_of}
-use Rattle.x86_64_model.specs.Lemmas.Entries.Bits.{has_flags}
+use Rattle.x86_64_model.proofs.Lemmas.Entries.Bits.{has_flags}
 
 -- a test of a word's flags is the test of the word
 pub tested : (w f mask : ℕ) → f ≡ flags w → bit_and 0xfff0_0000_0000_0fff mask ≡ mask → has w mask ≡ (bit_and f mask == mask)

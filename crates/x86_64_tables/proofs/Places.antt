@@ -10,7 +10,7 @@ use Rattle.std.proofs.lemmas.Bool.Decides.{eqb_tells}
 use Rattle.std.proofs.lemmas.Option.{slice_get_past, slice_get-get_or}
 use Rattle.std.proofs.lemmas.List.{length-replicate, get_or-replicate}
 use borrow.Follows.Closed.{read_of}
-use Rattle.x86_64_model.specs.Lemmas.Hierarchies.Memories.{other_key}
+use Rattle.x86_64_model.proofs.Lemmas.Hierarchies.Memories.{other_key}
 use Rattle.x86_64_tables.specs.PageTable.{zero_words}
 use Rattle.x86_64_tables.specs.PhysMemory.{tables_from}
 

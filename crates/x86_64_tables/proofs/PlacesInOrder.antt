@@ -10,7 +10,7 @@ use Rattle.std.specs.Cmp.{nat_cmp_total}
 use Rattle.std.specs.FinMap.Entries.{below_all}
 use Rattle.std.specs.FinMap.{get, keys, find, is_sorted, from_sorted, entries-from_sorted, get-from_sorted, same_map, nat_cmp-IsAntisymmetric}
 use Rattle.x86_64_model.specs.Memory.{Memory}
-use Rattle.x86_64_model.specs.Lemmas.Hierarchies.Memories.{same_key, other_key}
+use Rattle.x86_64_model.proofs.Lemmas.Hierarchies.Memories.{same_key, other_key}
 use Rattle.x86_64_tables.specs.PhysMemory.{tables_from}
 use Rattle.x86_64_tables.proofs.Places.{get-tables}
 
@@ -67,9 +67,6 @@ module _ (ts : List (List ℕ)) where
 
   pub keys-tables : keys (tables_from 0 ts) ≡ range_with_len 0 (length ts)
   keys-tables = ap keys is_in_order ∙ keys-in_order
-
-  pub length_of_keys-tables : length (keys (tables_from 0 ts)) ≡ length ts
-  length_of_keys-tables = ap length keys-tables ∙ length-range_with_len 0 (length ts)
 
   key_at : (q k : ℕ) → k < length ts → (b : Bool) → eq_by_cmp nat_cmp q k ≡ b
       → eq_by_cmp nat_cmp q (get_or (range_with_len 0 (length ts)) k 0) ≡ b

@@ -5,7 +5,7 @@ use Rattle.x86_64_model.specs.Entry.{present, writable, user, huge, address}
 use Rattle.x86_64_model.specs.Memory.{Words}
 use Rattle.x86_64_model.specs.Position.{index, span}
 use Rattle.x86_64_model.specs.PageWalk.{page_start, Walked, arrives, read, walk_on}
-use Rattle.x86_64_model.specs.Lemmas.Entries.Words.{address_aligned, address_within}
+use Rattle.x86_64_model.proofs.Lemmas.Entries.Words.{address_aligned, address_within}
 use Rattle.x86_64_tables.specs.Walks.{arrival}
 
 -- what a word of level one says of the walk

@@ -6,8 +6,8 @@ use Rattle.x86_64_model.specs.Entry.{used, address, names_table}
 use Rattle.x86_64_model.specs.Memory.{Words, word, word_in, set_word}
 use Rattle.x86_64_model.specs.PageWalk.{read}
 use Rattle.x86_64_model.specs.Tables.{without_word}
-use Rattle.x86_64_model.specs.Lemmas.Hierarchies.Held.{word-set_frame, word-set_index}
-use Rattle.x86_64_model.specs.Lemmas.Hierarchies.Unset.{word_unset}
+use Rattle.x86_64_model.proofs.Lemmas.Hierarchies.Held.{word-set_frame, word-set_index}
+use Rattle.x86_64_model.proofs.Lemmas.Hierarchies.Unset.{word_unset}
 use Rattle.x86_64_tables.specs.Images.{below_word}
 
 -- a word that is read

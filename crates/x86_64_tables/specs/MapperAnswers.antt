@@ -1,7 +1,7 @@
 -- What the results of a mapper's calls say.
 use Rattle.std.specs.Prelude.{ℕ, Option, Some, None, Result, Ok, Err}
 use Rattle.x86_64_model.specs.Refusal as refusal
-use Rattle.x86_64_model.specs.Refusal.{Refusal, Answer, Done, Refused}
+use Rattle.x86_64_model.specs.Refusal.{Refusal, Answer, Done, Refused, answer_unless}
 use Rattle.x86_64_tables.specs.declared.mapper.MapToError.{MapToError}
 use Rattle.x86_64_tables.specs.declared.mapper.MapToError.TheVariants as map_to
 use Rattle.x86_64_tables.specs.declared.mapper.UnmapError.{UnmapError}
@@ -44,6 +44,10 @@ update_refusal update.ParentEntryHugePage = refusal.ParentEntryHugePage
 abbrev pub flags_refusal : {X : Type 0} → Result X FlagUpdateError → Option Refusal
 flags_refusal (Ok _) = None
 flags_refusal (Err why) = Some (update_refusal why)
+
+-- the answer of a change of flags, done with the frame that the entry names
+abbrev pub flags_answer : {X : Type 0} → (frame : ℕ) → Result X FlagUpdateError → Answer
+flags_answer frame result = answer_unless (flags_refusal result) (Done frame)
 
 abbrev pub translate_refusal : TranslateError → Refusal
 translate_refusal translate.PageNotMapped = refusal.PageNotMapped

@@ -1,9 +1,6 @@
 -- The flags of a page table entry.
-use Rattle.std.specs.Prelude.{◌≡◌, ◌↔◌, ℕ, ◌<◌, ◌^◌, List, [], ◌∷◌, codes, refl, bit_and}
-use Rattle.std.proofs.Common.{ap, sym, ◌∙◌}
+use Rattle.std.specs.Prelude.{◌≡◌, ℕ, ◌^◌, List, [], ◌∷◌, codes, refl}
 use Rattle.bitflags.specs.Sets.{known_bits, known_from}
-use Rattle.x86_64_model.specs.Entry.{address, flags}
-use Rattle.x86_64_model.specs.Lemmas.Entries.Words.{address-flags, flags-no_address}
 use Rattle.x86_64_tables.specs.declared.page_table.flags.PageTableFlags.{PageTableFlags}
 
 -- the flags as bits of a word
@@ -42,10 +39,3 @@ flag_table =
 pub known_bits-flag_table : known_bits flag_table ≡ 0xfff0_0000_0000_0fff
 unfolding known_from
 known_bits-flag_table = refl
-
--- a word is known flags alone, so that `from_bits` is `Some`, exactly where it has no address bits
-pub known_flags : (w : ℕ) → w < 2 ^ 64 → (bit_and w (known_bits flag_table) ≡ w) ↔ (address w ≡ 0)
-unfolding flags
-known_flags w below =
-    let same : bit_and w (known_bits flag_table) ≡ flags w = ap (bit_and w) known_bits-flag_table in
-    (λ known. ap address (sym known ∙ same) ∙ address-flags w, λ none. same ∙ flags-no_address w below none)

@@ -8,7 +8,7 @@ use Rattle.std.proofs.Common.{sym, ap, ◌∙◌, subst}
 use Rattle.std.proofs.lemmas.List.{length-map}
 use Rattle.std.proofs.lemmas.List.Folds.{Any-from_list_any, list_any_at}
 use Rattle.std.proofs.lemmas.Option.{slice_get_within, get_or_from_slice_get}
-use Rattle.x86_64_model.specs.Lemmas.Hierarchies.Memories.{same_key}
+use Rattle.x86_64_model.proofs.Lemmas.Hierarchies.Memories.{same_key}
 use Rattle.x86_64_model.specs.Memory.{Memory}
 
 -- the tables at the places from one on

@@ -3,7 +3,7 @@ use Rattle.std.specs.Prelude.{◌/◌, ◌-◌, ◌&&◌, ℕ, nat_le}
 use Rattle.std.proofs.Common.{arith}
 use Rattle.std.proofs.lemmas.Bool.{and_parts, leb-true}
 use Rattle.x86_64_model.specs.Entry.{is_frame}
-use Rattle.x86_64_model.specs.Lemmas.Entries.Bits.{same_frame}
+use Rattle.x86_64_model.proofs.Lemmas.Entries.Bits.{same_frame}
 use Rattle.x86_64_model.specs.Memory.{IsMapping, Places}
 
 -- each frame from the first number on, at the place of its number less the first

@@ -11,6 +11,7 @@ use std::hash::Hash;
 pub fn flags_are_ordered_by_bits(left: PageTableFlags, right: PageTableFlags)
     ensures equality { ⟦<PageTableFlags as PartialEq>⟧.eq left right ≡ (bits_of left == bits_of right) }
     ensures order { ⟦<PageTableFlags as Ord>⟧.cmp left right ≡ nat_cmp (bits_of left) (bits_of right) }
-    ensures partial_order { ⟦<PageTableFlags as PartialOrd>⟧.partial_cmp left right ≡ Some (nat_cmp (bits_of left) (bits_of right)) }
+    ensures partial_order { ⟦<PageTableFlags as PartialOrd>⟧.partial_cmp left right
+        ≡ Some (nat_cmp (bits_of left) (bits_of right)) }
     ensures hash { ⟦<PageTableFlags as Hash>⟧.hash_input left ≡ fed.u64 (bits_of left) }
 {}

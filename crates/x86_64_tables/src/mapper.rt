@@ -1,11 +1,10 @@
 //! What all mappers have in common: the tables that they own for a while, translations of addresses, and maps of pages.
-ghost use Rattle.std.specs.Prelude.{◌≡◌, ◌<◌, ◌^◌, true, not, Some, option_map, IfOk, OnErr, IsTrue};
+ghost use Rattle.std.specs.Prelude.{◌≡◌, ◌<◌, ℕ, true, Some, option_map, IfOk};
 ghost use Rattle.x86_64_model.specs.Entry.{IsParentFlags};
-ghost use Rattle.x86_64_model.specs.Memory.{Memory, IsMapping};
+ghost use Rattle.x86_64_model.specs.Memory.{IsMapping};
 ghost use Rattle.x86_64_model.specs.MapRule.{parent_part};
-ghost use Rattle.x86_64_model.specs.Layout.{Layout, Valid, words, read_entry};
-ghost use Rattle.x86_64_model.specs.PageWalk.{page_walk};
-ghost use Rattle.x86_64_model.specs.Translation.{translate as translated, address_of};
+ghost use Rattle.x86_64_model.specs.Owned.{Hierarchy, Valid, walk, translation};
+ghost use Rattle.x86_64_model.specs.Translation.{address_of};
 ghost use Rattle.x86_64_tables.specs.PageTableFlags.{bits_of};
 
 mod flush;
@@ -82,31 +81,31 @@ pub enum TranslateResult {
     InvalidFrameAddress(PhysAddr),
 }
 
-/// Owns tables of pages in a memory that was lent to it.
+/// Owns tables of pages, of any number of levels from four up, in a memory that was lent to it.
 ///
-/// Laws: there are four levels of tables; only frames are covered, and distinct covered frames have distinct places.
-pub trait PageTables {
-    /// The memory now.
-    ghost memory: { Self → Memory };
-
-    /// What no call changes: the number of levels, the root, and where frames lie in the memory.
-    ghost layout: { Self → Layout };
-
+/// Laws: only frames are covered, and distinct covered frames have distinct places.
+pub trait Tables {
     ghost Lent: { Type 0 };
 
-    /// Which memory was lent, and what finds frames in it.
-    ghost lent: { Self → Lent };
+    /// The hierarchy now: its layout, which no call changes, the memory, and which memory was lent and what finds frames in it.
+    ghost hierarchy: { Self → Hierarchy Lent };
 
     // The flags that a new table entry gets beside the parent flags are such that an entry above a page may have them.
-    ghost added_flags: { (tables : Self) → IsParentFlags (layout tables).added_flags };
+    ghost added_flags: { (tables : Self) → IsParentFlags (hierarchy tables).layout.added_flags };
 
     /// Gives the recursive index, where the root names itself.
     fn recursive_index(&self) -> Option<PageTableIndex>
-        ensures { result ≡ option_map (λ window. window.index) (layout self.now).window };
+        ensures { result ≡ option_map (λ window. window.index) (Self.hierarchy self.now).layout.window };
 
-    ghost four_levels: { (tables : Self) → (layout tables).levels ≡ 4 };
+    // There is a level above those of pages, which are the levels one to three.
+    ghost some_levels: { (tables : Self) → 3 < (hierarchy tables).layout.levels };
 
-    ghost is_mapping: { (tables : Self) → IsMapping (layout tables).places };
+    ghost is_mapping: { (tables : Self) → IsMapping (hierarchy tables).layout.places };
+}
+
+/// Owns tables of four levels.
+pub trait PageTables: Tables {
+    ghost four_levels: { (tables : Self) → (Self.Tables.hierarchy tables).layout.levels ≡ 4 };
 }
 
 /// Translates virtual addresses.
@@ -124,20 +123,18 @@ pub trait Translate: PageTables {
     ///
     /// Condition: the hierarchy is valid.
     fn translate(&self, addr: VirtAddr) -> TranslateResult
-        requires { Valid (Self.layout self.now) (Self.memory self.now) }
-        ensures answer { let layout = Self.layout self.now in let entry = read_entry layout (Self.memory self.now) in
-            translation_of result ≡ Some (translated layout.levels entry addr) }
-        ensures walk { let layout = Self.layout self.now in let tables = words layout (Self.memory self.now) in
-            reaches result ≡ option_map (λ walked. walked.address) (page_walk layout.levels tables layout.root addr) };
+        requires { Valid (Self.hierarchy self.now) }
+        ensures answer { translation_of result ≡ Some (translation (Self.hierarchy self.now) addr) }
+        ensures walk { let walked = walk (Self.hierarchy self.now) addr in
+            reaches result ≡ option_map (λ walked. walked.address) walked };
 
     /// Gives the physical address that an address is mapped to, `PRESENT` or not: the frame's start plus the offset. It is
     /// `None` where [`translate`](Self::translate) answers no mapping.
     ///
     /// Condition: the hierarchy is valid.
     final fn translate_addr(&self, addr: VirtAddr) -> Option<PhysAddr>
-        requires { Valid (Self.layout self.now) (Self.memory self.now) }
-        ensures { let layout = Self.layout self.now in let entry = read_entry layout (Self.memory self.now) in
-            result ≡ address_of (translated layout.levels entry addr) }
+        requires { Valid (Self.hierarchy self.now) }
+        ensures { result ≡ address_of (translation (Self.hierarchy self.now) addr) }
     {
         match self.translate(addr) {
             TranslateResult::Mapped { frame, offset, .. } => {
@@ -205,17 +202,11 @@ pub fn parent_flags(flags: PageTableFlags) -> PageTableFlags
 /// Maps and unmaps pages of a size, and changes the flags of the entries on their paths.
 ///
 /// The parents of a page are the entries on its path from the root down to the one above its own.
-pub trait Mapper<S: PageSize>: PathCalls {
-    ghost use Rattle.x86_64_model.specs.Allowed.{map_allowed as is_map_allowed};
-    ghost use Rattle.x86_64_model.specs.Layout.{paths};
-    ghost use Rattle.x86_64_model.specs.Allowed.{allowed as is_allowed};
-    ghost use Rattle.x86_64_model.specs.Call.{UpdateFlags, SetFlags};
-    ghost use Rattle.x86_64_model.specs.MapperCalls.{ArrivesIn, IsReady, IsMapped, IsChanged, after_unmap, after_update, after_set_flags, page_translation};
+pub trait Mapper<S: PageSize>: PathCalls + PageTables {
+    ghost use Rattle.x86_64_model.specs.Call.{MapTo, MapToWithTableFlags, IdentityMap, Unmap, UpdateFlags, SetFlags};
     ghost use Rattle.x86_64_model.specs.Entry.{present};
-    ghost use Rattle.x86_64_model.specs.Path.{path_at};
-    ghost use Rattle.x86_64_model.specs.Refusal.{refusal_of};
-    ghost use Rattle.x86_64_model.specs.Window.{begins_with};
-    ghost use Rattle.x86_64_tables.specs.MapperAnswers.{map_answer, unmap_answer, flags_refusal, translate_answer};
+    ghost use Rattle.x86_64_model.specs.Owned.{path_of, page_translation, allows, allows_map, May, MayMap, Does, DoesMap, ArrivesIn, named};
+    ghost use Rattle.x86_64_tables.specs.MapperAnswers.{map_answer, unmap_answer, flags_answer, translate_answer};
 
     /// Maps a page to a frame with these flags, and `HUGE_PAGE` for 2MiB and 1GiB.
     ///
@@ -243,14 +234,13 @@ pub trait Mapper<S: PageSize>: PathCalls {
         parent_flags: PageTableFlags,
         frame_allocator: &mut A,
     ) -> Result<MapperFlush<S>, MapToError<S>>
-        requires ready { IsReady (Self.layout self.old) (Self.memory self.old) (A.supply frame_allocator.old) }
-        requires allowed { let layout = Self.layout self.old in
-            IsTrue (is_map_allowed layout.levels layout.window (paths layout (Self.memory self.old)) (path_at layout.levels S.LEVEL page) (bits_of flags) (bits_of parent_flags)) }
-        ensures mapped { let layout = Self.layout self.old in
-            IsMapped layout (Self.memory self.old) (A.supply frame_allocator.old) (path_at layout.levels S.LEVEL page) frame (bits_of flags) (bits_of parent_flags) (map_answer frame result) (Self.memory self.new) (A.supply frame_allocator.new) }
+        requires { let h = Self.hierarchy self.old in
+            let call = MapToWithTableFlags (path_of h S.LEVEL page) frame (bits_of flags) (bits_of parent_flags) in
+            MayMap h (A.supply frame_allocator.old) call }
+        ensures does { let h = Self.hierarchy self.old in
+            let call = MapToWithTableFlags (path_of h S.LEVEL page) frame (bits_of flags) (bits_of parent_flags) in
+            DoesMap h (A.supply frame_allocator.old) call (map_answer frame result) (Self.hierarchy self.new) (A.supply frame_allocator.new) }
         ensures page { IfOk result (λ flush. flush ≡ page) }
-        ensures layout { Self.layout self.new ≡ Self.layout self.old }
-        ensures lent { Self.lent self.new ≡ Self.lent self.old }
         ensures serves { A.serves frame_allocator.new ≡ A.serves frame_allocator.old }
     {
         let indices = page_indices(page);
@@ -272,16 +262,15 @@ pub trait Mapper<S: PageSize>: PathCalls {
         flags: PageTableFlags,
         frame_allocator: &mut A,
     ) -> Result<MapperFlush<S>, MapToError<S>>
-        requires ready { IsReady (Self.layout self.old) (Self.memory self.old) (A.supply frame_allocator.old) }
-        requires allowed { let layout = Self.layout self.old in
-            IsTrue (is_map_allowed layout.levels layout.window (paths layout (Self.memory self.old)) (path_at layout.levels S.LEVEL page) (bits_of flags) (parent_part (bits_of flags))) }
-        ensures mapped { let layout = Self.layout self.old in
-            IsMapped layout (Self.memory self.old) (A.supply frame_allocator.old) (path_at layout.levels S.LEVEL page) frame (bits_of flags) (parent_part (bits_of flags)) (map_answer frame result) (Self.memory self.new) (A.supply frame_allocator.new) }
+        requires { let h = Self.hierarchy self.old in
+            let call = MapTo (path_of h S.LEVEL page) frame (bits_of flags) in
+            MayMap h (A.supply frame_allocator.old) call }
+        ensures does { let h = Self.hierarchy self.old in
+            let call = MapTo (path_of h S.LEVEL page) frame (bits_of flags) in
+            DoesMap h (A.supply frame_allocator.old) call (map_answer frame result) (Self.hierarchy self.new) (A.supply frame_allocator.new) }
         ensures page { IfOk result (λ flush. flush ≡ page) }
-        ensures arrives { let layout = Self.layout self.old in
-            IfOk result (λ _. present (bits_of flags) ≡ true → ArrivesIn layout (Self.memory self.new) S.SIZE page frame (bits_of flags)) }
-        ensures layout { Self.layout self.new ≡ Self.layout self.old }
-        ensures lent { Self.lent self.new ≡ Self.lent self.old }
+        ensures arrives { let h = Self.hierarchy self.new in
+            IfOk result (λ _. present (bits_of flags) ≡ true → ArrivesIn h S.SIZE page frame (bits_of flags)) }
         ensures serves { A.serves frame_allocator.new ≡ A.serves frame_allocator.old }
     {
         let parent_flags = parent_flags(flags);
@@ -297,17 +286,15 @@ pub trait Mapper<S: PageSize>: PathCalls {
         flags: PageTableFlags,
         frame_allocator: &mut A,
     ) -> Result<MapperFlush<S>, MapToError<S>>
-        requires low { frame < 2 ^ 47 }
-        requires ready { IsReady (Self.layout self.old) (Self.memory self.old) (A.supply frame_allocator.old) }
-        requires allowed { let layout = Self.layout self.old in
-            IsTrue (is_map_allowed layout.levels layout.window (paths layout (Self.memory self.old)) (path_at layout.levels S.LEVEL frame) (bits_of flags) (parent_part (bits_of flags))) }
-        ensures mapped { let layout = Self.layout self.old in
-            IsMapped layout (Self.memory self.old) (A.supply frame_allocator.old) (path_at layout.levels S.LEVEL frame) frame (bits_of flags) (parent_part (bits_of flags)) (map_answer frame result) (Self.memory self.new) (A.supply frame_allocator.new) }
+        requires { let h = Self.hierarchy self.old in
+            let call = IdentityMap S.LEVEL frame (bits_of flags) in
+            MayMap h (A.supply frame_allocator.old) call }
+        ensures does { let h = Self.hierarchy self.old in
+            let call = IdentityMap S.LEVEL frame (bits_of flags) in
+            DoesMap h (A.supply frame_allocator.old) call (map_answer frame result) (Self.hierarchy self.new) (A.supply frame_allocator.new) }
         ensures page { IfOk result (λ flush. flush ≡ frame) }
-        ensures arrives { let layout = Self.layout self.old in
-            IfOk result (λ _. present (bits_of flags) ≡ true → ArrivesIn layout (Self.memory self.new) S.SIZE frame frame (bits_of flags)) }
-        ensures layout { Self.layout self.new ≡ Self.layout self.old }
-        ensures lent { Self.lent self.new ≡ Self.lent self.old }
+        ensures arrives { let h = Self.hierarchy self.new in
+            IfOk result (λ _. present (bits_of flags) ≡ true → ArrivesIn h S.SIZE frame frame (bits_of flags)) }
         ensures serves { A.serves frame_allocator.new ≡ A.serves frame_allocator.old }
     {
         let page = Page::containing_address(VirtAddr::new(frame.start_address().as_u64()));
@@ -327,9 +314,9 @@ pub trait Mapper<S: PageSize>: PathCalls {
         flags: PageTableFlags,
         parent_flags: PageTableFlags,
     ) -> bool
-        requires { Valid (Self.layout self.now) (Self.memory self.now) }
-        ensures { let layout = Self.layout self.now in
-            result ≡ is_map_allowed layout.levels layout.window (paths layout (Self.memory self.now)) (path_at layout.levels S.LEVEL page) (bits_of flags) (bits_of parent_flags) }
+        requires { Valid (Self.hierarchy self.now) }
+        ensures { let h = Self.hierarchy self.now in
+            result ≡ allows_map h (path_of h S.LEVEL page) (bits_of flags) (bits_of parent_flags) }
     {
         let indices = page_indices(page);
         let path = &indices[..path_length::<S>()];
@@ -347,17 +334,11 @@ pub trait Mapper<S: PageSize>: PathCalls {
     /// `InvalidFrameAddress` where the entry of a 2MiB or 1GiB page names an address that isn't a multiple of the size.
     /// A refusal changes nothing.
     final fn unmap(&mut self, page: Page<S>) -> Result<(PhysFrame<S>, MapperFlush<S>), UnmapError>
-        requires valid { Valid (Self.layout self.old) (Self.memory self.old) }
-        requires outside { let layout = Self.layout self.old in
-            IsTrue (not (begins_with layout.window (path_at layout.levels S.LEVEL page))) }
-        ensures answer { let layout = Self.layout self.old in
-            unmap_answer result ≡ (after_unmap layout (Self.memory self.old) (path_at layout.levels S.LEVEL page)).answer }
-        ensures changed { let layout = Self.layout self.old in
-            IsChanged layout (Self.memory self.old) (after_unmap layout (Self.memory self.old) (path_at layout.levels S.LEVEL page)) (Self.memory self.new) }
-        ensures unchanged { OnErr result (Self.memory self.new ≡ Self.memory self.old) }
+        requires { let h = Self.hierarchy self.old in
+            May h (Unmap (path_of h S.LEVEL page)) }
+        ensures does { let h = Self.hierarchy self.old in
+            Does h (Unmap (path_of h S.LEVEL page)) (unmap_answer result) (Self.hierarchy self.new) }
         ensures page { IfOk result (λ unmapped. unmapped.1 ≡ page) }
-        ensures layout { Self.layout self.new ≡ Self.layout self.old }
-        ensures lent { Self.lent self.new ≡ Self.lent self.old }
     {
         let indices = page_indices(page);
         let path = &indices[..path_length::<S>()];
@@ -379,17 +360,12 @@ pub trait Mapper<S: PageSize>: PathCalls {
         page: Page<S>,
         flags: PageTableFlags,
     ) -> Result<MapperFlush<S>, FlagUpdateError>
-        requires valid { Valid (Self.layout self.old) (Self.memory self.old) }
-        requires allowed { let layout = Self.layout self.old in
-            IsTrue (is_allowed layout.levels layout.window (paths layout (Self.memory self.old)) (UpdateFlags (path_at layout.levels S.LEVEL page) (bits_of flags))) }
-        ensures refusal { let layout = Self.layout self.old in
-            flags_refusal result ≡ refusal_of (after_update layout (Self.memory self.old) (path_at layout.levels S.LEVEL page) (bits_of flags)).answer }
-        ensures changed { let layout = Self.layout self.old in
-            IsChanged layout (Self.memory self.old) (after_update layout (Self.memory self.old) (path_at layout.levels S.LEVEL page) (bits_of flags)) (Self.memory self.new) }
-        ensures unchanged { OnErr result (Self.memory self.new ≡ Self.memory self.old) }
+        requires { let h = Self.hierarchy self.old in
+            May h (UpdateFlags (path_of h S.LEVEL page) (bits_of flags)) }
+        ensures does { let h = Self.hierarchy self.old in
+            let call = UpdateFlags (path_of h S.LEVEL page) (bits_of flags) in
+            Does h call (flags_answer (named h call) result) (Self.hierarchy self.new) }
         ensures page { IfOk result (λ flush. flush ≡ page) }
-        ensures layout { Self.layout self.new ≡ Self.layout self.old }
-        ensures lent { Self.lent self.new ≡ Self.lent self.old }
     {
         let indices = page_indices(page);
         let path = &indices[..path_length::<S>()];
@@ -410,16 +386,11 @@ pub trait Mapper<S: PageSize>: PathCalls {
         page: Page<S>,
         flags: PageTableFlags,
     ) -> Result<MapperFlushAll, FlagUpdateError>
-        requires valid { Valid (Self.layout self.old) (Self.memory self.old) }
-        requires allowed { let layout = Self.layout self.old in
-            IsTrue (is_allowed layout.levels layout.window (paths layout (Self.memory self.old)) (SetFlags 4 (path_at layout.levels S.LEVEL page) (bits_of flags))) }
-        ensures refusal { let layout = Self.layout self.old in
-            flags_refusal result ≡ refusal_of (after_set_flags layout (Self.memory self.old) 4 (path_at layout.levels S.LEVEL page) (bits_of flags)).answer }
-        ensures changed { let layout = Self.layout self.old in
-            IsChanged layout (Self.memory self.old) (after_set_flags layout (Self.memory self.old) 4 (path_at layout.levels S.LEVEL page) (bits_of flags)) (Self.memory self.new) }
-        ensures unchanged { OnErr result (Self.memory self.new ≡ Self.memory self.old) }
-        ensures layout { Self.layout self.new ≡ Self.layout self.old }
-        ensures lent { Self.lent self.new ≡ Self.lent self.old }
+        requires { let h = Self.hierarchy self.old in
+            May h (SetFlags 4 (path_of h S.LEVEL page) (bits_of flags)) }
+        ensures { let h = Self.hierarchy self.old in
+            let call = SetFlags 4 (path_of h S.LEVEL page) (bits_of flags) in
+            Does h call (flags_answer (named h call) result) (Self.hierarchy self.new) }
     {
         let indices = page_indices(page);
         let path = &indices[..path_length::<S>()];
@@ -440,16 +411,11 @@ pub trait Mapper<S: PageSize>: PathCalls {
         page: Page<S>,
         flags: PageTableFlags,
     ) -> Result<MapperFlushAll, FlagUpdateError>
-        requires valid { Valid (Self.layout self.old) (Self.memory self.old) }
-        requires allowed { let layout = Self.layout self.old in
-            IsTrue (is_allowed layout.levels layout.window (paths layout (Self.memory self.old)) (SetFlags 3 (path_at layout.levels S.LEVEL page) (bits_of flags))) }
-        ensures refusal { let layout = Self.layout self.old in
-            flags_refusal result ≡ refusal_of (after_set_flags layout (Self.memory self.old) 3 (path_at layout.levels S.LEVEL page) (bits_of flags)).answer }
-        ensures changed { let layout = Self.layout self.old in
-            IsChanged layout (Self.memory self.old) (after_set_flags layout (Self.memory self.old) 3 (path_at layout.levels S.LEVEL page) (bits_of flags)) (Self.memory self.new) }
-        ensures unchanged { OnErr result (Self.memory self.new ≡ Self.memory self.old) }
-        ensures layout { Self.layout self.new ≡ Self.layout self.old }
-        ensures lent { Self.lent self.new ≡ Self.lent self.old }
+        requires { let h = Self.hierarchy self.old in
+            May h (SetFlags 3 (path_of h S.LEVEL page) (bits_of flags)) }
+        ensures { let h = Self.hierarchy self.old in
+            let call = SetFlags 3 (path_of h S.LEVEL page) (bits_of flags) in
+            Does h call (flags_answer (named h call) result) (Self.hierarchy self.new) }
     {
         let indices = page_indices(page);
         let path = &indices[..path_length::<S>()];
@@ -470,16 +436,11 @@ pub trait Mapper<S: PageSize>: PathCalls {
         page: Page<S>,
         flags: PageTableFlags,
     ) -> Result<MapperFlushAll, FlagUpdateError>
-        requires valid { Valid (Self.layout self.old) (Self.memory self.old) }
-        requires allowed { let layout = Self.layout self.old in
-            IsTrue (is_allowed layout.levels layout.window (paths layout (Self.memory self.old)) (SetFlags 2 (path_at layout.levels S.LEVEL page) (bits_of flags))) }
-        ensures refusal { let layout = Self.layout self.old in
-            flags_refusal result ≡ refusal_of (after_set_flags layout (Self.memory self.old) 2 (path_at layout.levels S.LEVEL page) (bits_of flags)).answer }
-        ensures changed { let layout = Self.layout self.old in
-            IsChanged layout (Self.memory self.old) (after_set_flags layout (Self.memory self.old) 2 (path_at layout.levels S.LEVEL page) (bits_of flags)) (Self.memory self.new) }
-        ensures unchanged { OnErr result (Self.memory self.new ≡ Self.memory self.old) }
-        ensures layout { Self.layout self.new ≡ Self.layout self.old }
-        ensures lent { Self.lent self.new ≡ Self.lent self.old }
+        requires { let h = Self.hierarchy self.old in
+            May h (SetFlags 2 (path_of h S.LEVEL page) (bits_of flags)) }
+        ensures { let h = Self.hierarchy self.old in
+            let call = SetFlags 2 (path_of h S.LEVEL page) (bits_of flags) in
+            Does h call (flags_answer (named h call) result) (Self.hierarchy self.new) }
     {
         let indices = page_indices(page);
         let path = &indices[..path_length::<S>()];
@@ -493,9 +454,9 @@ pub trait Mapper<S: PageSize>: PathCalls {
     ///
     /// Condition: the hierarchy is valid.
     final fn p3_flags_allowed(&self, page: Page<S>, flags: PageTableFlags) -> bool
-        requires { Valid (Self.layout self.now) (Self.memory self.now) }
-        ensures { let layout = Self.layout self.now in
-            result ≡ is_allowed layout.levels layout.window (paths layout (Self.memory self.now)) (SetFlags 3 (path_at layout.levels S.LEVEL page) (bits_of flags)) }
+        requires { Valid (Self.hierarchy self.now) }
+        ensures { let h = Self.hierarchy self.now in
+            result ≡ allows h (SetFlags 3 (path_of h S.LEVEL page) (bits_of flags)) }
     {
         let indices = page_indices(page);
         let path = &indices[..path_length::<S>()];
@@ -508,9 +469,9 @@ pub trait Mapper<S: PageSize>: PathCalls {
     ///
     /// Condition: the hierarchy is valid.
     final fn p2_flags_allowed(&self, page: Page<S>, flags: PageTableFlags) -> bool
-        requires { Valid (Self.layout self.now) (Self.memory self.now) }
-        ensures { let layout = Self.layout self.now in
-            result ≡ is_allowed layout.levels layout.window (paths layout (Self.memory self.now)) (SetFlags 2 (path_at layout.levels S.LEVEL page) (bits_of flags)) }
+        requires { Valid (Self.hierarchy self.now) }
+        ensures { let h = Self.hierarchy self.now in
+            result ≡ allows h (SetFlags 2 (path_of h S.LEVEL page) (bits_of flags)) }
     {
         let indices = page_indices(page);
         let path = &indices[..path_length::<S>()];
@@ -527,9 +488,9 @@ pub trait Mapper<S: PageSize>: PathCalls {
     /// the page's own entry is unused; else `InvalidFrameAddress` where the entry of a 2MiB or 1GiB page names a table, or an
     /// address that isn't a multiple of the size.
     final fn translate_page(&self, page: Page<S>) -> Result<PhysFrame<S>, TranslateError>
-        requires { Valid (Self.layout self.now) (Self.memory self.now) }
-        ensures { let layout = Self.layout self.now in
-            translate_answer result ≡ page_translation layout (Self.memory self.now) (path_at layout.levels S.LEVEL page) }
+        requires { Valid (Self.hierarchy self.now) }
+        ensures { let h = Self.hierarchy self.now in
+            translate_answer result ≡ page_translation h (path_of h S.LEVEL page) }
     {
         let indices = page_indices(page);
         let path = &indices[..path_length::<S>()];

@@ -178,7 +178,7 @@ impl<P: PageTableFrameMapping> PageTableFrameMapping for &P {
 pub struct IdentityMapping;
 
 impl PageTableFrameMapping for IdentityMapping {
-    ghost use Rattle.x86_64_model.specs.Lemmas.Hierarchies.Memories.{identity_is_mapping};
+    ghost use Rattle.x86_64_model.proofs.Lemmas.Hierarchies.Memories.{identity_is_mapping};
 
     ghost places = { λ _. identity_places };
 

@@ -1,9 +1,9 @@
 //! The calls of a mapper along paths, on which those on pages stand.
-ghost use Rattle.std.specs.Prelude.{◌≡◌, ◌+◌, ◌≤◌, not, length, OnErr, IsTrue};
-ghost use Rattle.x86_64_model.specs.Layout.{Valid};
+ghost use Rattle.std.specs.Prelude.{◌≡◌, ◌+◌, ◌≤◌, ℕ, length};
+ghost use Rattle.x86_64_model.specs.Owned.{Valid};
 ghost use Rattle.x86_64_tables.specs.PageTableFlags.{bits_of};
 
-use super::{FlagUpdateError, MapToError, PageTables, TranslateError, UnmapError};
+use super::{FlagUpdateError, MapToError, Tables, TranslateError, UnmapError};
 use crate::frame_alloc::FrameAllocator;
 use crate::page_table::PageTableFlags;
 use x86_64_addr::index::PageTableIndex;
@@ -16,15 +16,10 @@ use x86_64_page::page::{PageSize, Size4KiB};
 /// pages. Who uses one calls [`Mapper`](super::Mapper), where a page stands in place of its path.
 ///
 /// A path has an index for each level of the hierarchy, from the highest down to that of the page's entry.
-pub trait PathCalls: PageTables {
-    ghost use Rattle.x86_64_model.specs.Allowed.{map_allowed as is_map_allowed};
-    ghost use Rattle.x86_64_model.specs.Layout.{paths};
-    ghost use Rattle.x86_64_model.specs.Allowed.{allowed as is_allowed};
-    ghost use Rattle.x86_64_model.specs.Call.{UpdateFlags, SetFlags};
-    ghost use Rattle.x86_64_model.specs.MapperCalls.{IsReady, IsMapped, IsChanged, after_unmap, after_update, after_set_flags, page_translation};
-    ghost use Rattle.x86_64_model.specs.Refusal.{refusal_of};
-    ghost use Rattle.x86_64_model.specs.Window.{begins_with};
-    ghost use Rattle.x86_64_tables.specs.MapperAnswers.{map_answer, frame_answer, flags_refusal, translate_answer};
+pub trait PathCalls: Tables {
+    ghost use Rattle.x86_64_model.specs.Call.{MapToWithTableFlags, Unmap, UpdateFlags, SetFlags};
+    ghost use Rattle.x86_64_model.specs.Owned.{page_translation, allows, allows_map, May, MayMap, Does, DoesMap, named};
+    ghost use Rattle.x86_64_tables.specs.MapperAnswers.{map_answer, frame_answer, flags_answer, translate_answer};
 
     /// Maps the page of a path to a frame, as
     /// [`map_to_with_table_flags`](super::Mapper::map_to_with_table_flags) does.
@@ -43,14 +38,12 @@ pub trait PathCalls: PageTables {
         parent_flags: PageTableFlags,
         frame_allocator: &mut A,
     ) -> Result<(), MapToError<S>>
-        requires ready { IsReady (Self.layout self.old) (Self.memory self.old) (A.supply frame_allocator.old) }
-        requires levels { length path.now + S.LEVEL ≡ (Self.layout self.old).levels + 1 }
-        requires allowed { let layout = Self.layout self.old in
-            IsTrue (is_map_allowed layout.levels layout.window (paths layout (Self.memory self.old)) path.now (bits_of flags) (bits_of parent_flags)) }
-        ensures mapped { let layout = Self.layout self.old in
-            IsMapped layout (Self.memory self.old) (A.supply frame_allocator.old) path.now frame (bits_of flags) (bits_of parent_flags) (map_answer frame result) (Self.memory self.new) (A.supply frame_allocator.new) }
-        ensures layout { Self.layout self.new ≡ Self.layout self.old }
-        ensures lent { Self.lent self.new ≡ Self.lent self.old }
+        requires levels { length path.now + S.LEVEL ≡ (Self.hierarchy self.old).layout.levels + 1 }
+        requires may { let call = MapToWithTableFlags path.now frame (bits_of flags) (bits_of parent_flags) in
+            MayMap (Self.hierarchy self.old) (A.supply frame_allocator.old) call }
+        ensures does { let h = Self.hierarchy self.old in
+            let call = MapToWithTableFlags path.now frame (bits_of flags) (bits_of parent_flags) in
+            DoesMap h (A.supply frame_allocator.old) call (map_answer frame result) (Self.hierarchy self.new) (A.supply frame_allocator.new) }
         ensures serves { A.serves frame_allocator.new ≡ A.serves frame_allocator.old };
 
     /// Tells whether the page of a path may be mapped with these flags and parent flags, as
@@ -63,10 +56,10 @@ pub trait PathCalls: PageTables {
         flags: PageTableFlags,
         parent_flags: PageTableFlags,
     ) -> bool
-        requires valid { Valid (Self.layout self.now) (Self.memory self.now) }
-        requires levels { length path.now + S.LEVEL ≡ (Self.layout self.now).levels + 1 }
-        ensures { let layout = Self.layout self.now in
-            result ≡ is_map_allowed layout.levels layout.window (paths layout (Self.memory self.now)) path.now (bits_of flags) (bits_of parent_flags) };
+        requires levels { length path.now + S.LEVEL ≡ (Self.hierarchy self.now).layout.levels + 1 }
+        requires valid { Valid (Self.hierarchy self.now) }
+        ensures { let h = Self.hierarchy self.now in
+            result ≡ allows_map h path.now (bits_of flags) (bits_of parent_flags) };
 
     /// Unmaps the page of a path, and gives the frame that it was mapped to, as [`unmap`](super::Mapper::unmap) does.
     ///
@@ -79,15 +72,10 @@ pub trait PathCalls: PageTables {
         &mut self,
         path: &[PageTableIndex],
     ) -> Result<PhysFrame<S>, UnmapError>
-        requires valid { Valid (Self.layout self.old) (Self.memory self.old) }
-        requires levels { length path.now + S.LEVEL ≡ (Self.layout self.old).levels + 1 }
-        requires outside { IsTrue (not (begins_with (Self.layout self.old).window path.now)) }
-        ensures answer { frame_answer result ≡ (after_unmap (Self.layout self.old) (Self.memory self.old) path.now).answer }
-        ensures changed { let layout = Self.layout self.old in
-            IsChanged layout (Self.memory self.old) (after_unmap layout (Self.memory self.old) path.now) (Self.memory self.new) }
-        ensures unchanged { OnErr result (Self.memory self.new ≡ Self.memory self.old) }
-        ensures layout { Self.layout self.new ≡ Self.layout self.old }
-        ensures lent { Self.lent self.new ≡ Self.lent self.old };
+        requires levels { length path.now + S.LEVEL ≡ (Self.hierarchy self.old).layout.levels + 1 }
+        requires may { May (Self.hierarchy self.old) (Unmap path.now) }
+        ensures { let h = Self.hierarchy self.old in
+            Does h (Unmap path.now) (frame_answer result) (Self.hierarchy self.new) };
 
     /// Sets the flags of the own entry of the page of a path, as [`update_flags`](super::Mapper::update_flags) does.
     ///
@@ -102,17 +90,10 @@ pub trait PathCalls: PageTables {
         path: &[PageTableIndex],
         flags: PageTableFlags,
     ) -> Result<(), FlagUpdateError>
-        requires valid { Valid (Self.layout self.old) (Self.memory self.old) }
-        requires levels { length path.now + S.LEVEL ≡ (Self.layout self.old).levels + 1 }
-        requires allowed { let layout = Self.layout self.old in
-            IsTrue (is_allowed layout.levels layout.window (paths layout (Self.memory self.old)) (UpdateFlags path.now (bits_of flags))) }
-        ensures refusal { let layout = Self.layout self.old in
-            flags_refusal result ≡ refusal_of (after_update layout (Self.memory self.old) path.now (bits_of flags)).answer }
-        ensures changed { let layout = Self.layout self.old in
-            IsChanged layout (Self.memory self.old) (after_update layout (Self.memory self.old) path.now (bits_of flags)) (Self.memory self.new) }
-        ensures unchanged { OnErr result (Self.memory self.new ≡ Self.memory self.old) }
-        ensures layout { Self.layout self.new ≡ Self.layout self.old }
-        ensures lent { Self.lent self.new ≡ Self.lent self.old };
+        requires levels { length path.now + S.LEVEL ≡ (Self.hierarchy self.old).layout.levels + 1 }
+        requires may { May (Self.hierarchy self.old) (UpdateFlags path.now (bits_of flags)) }
+        ensures { let h = Self.hierarchy self.old in let call = UpdateFlags path.now (bits_of flags) in
+            Does h call (flags_answer (named h call) result) (Self.hierarchy self.new) };
 
     /// Sets the flags of the entry of a level on the path of a page, as
     /// [`set_flags_p4_entry`](super::Mapper::set_flags_p4_entry) does for level four.
@@ -132,19 +113,12 @@ pub trait PathCalls: PageTables {
         level: u64,
         flags: PageTableFlags,
     ) -> Result<(), FlagUpdateError>
-        requires valid { Valid (Self.layout self.old) (Self.memory self.old) }
-        requires levels { length path.now + S.LEVEL ≡ (Self.layout self.old).levels + 1 }
+        requires levels { length path.now + S.LEVEL ≡ (Self.hierarchy self.old).layout.levels + 1 }
         requires low { 2 ≤ level }
-        requires high { level ≤ (Self.layout self.old).levels }
-        requires allowed { let layout = Self.layout self.old in
-            IsTrue (is_allowed layout.levels layout.window (paths layout (Self.memory self.old)) (SetFlags level path.now (bits_of flags))) }
-        ensures refusal { let layout = Self.layout self.old in
-            flags_refusal result ≡ refusal_of (after_set_flags layout (Self.memory self.old) level path.now (bits_of flags)).answer }
-        ensures changed { let layout = Self.layout self.old in
-            IsChanged layout (Self.memory self.old) (after_set_flags layout (Self.memory self.old) level path.now (bits_of flags)) (Self.memory self.new) }
-        ensures unchanged { OnErr result (Self.memory self.new ≡ Self.memory self.old) }
-        ensures layout { Self.layout self.new ≡ Self.layout self.old }
-        ensures lent { Self.lent self.new ≡ Self.lent self.old };
+        requires high { level ≤ (Self.hierarchy self.old).layout.levels }
+        requires may { May (Self.hierarchy self.old) (SetFlags level path.now (bits_of flags)) }
+        ensures { let h = Self.hierarchy self.old in let call = SetFlags level path.now (bits_of flags) in
+            Does h call (flags_answer (named h call) result) (Self.hierarchy self.new) };
 
     /// Tells whether the flags of the entry of level three or two on the path of a page may be set to these, as
     /// [`p3_flags_allowed`](super::Mapper::p3_flags_allowed) does for level three.
@@ -156,12 +130,11 @@ pub trait PathCalls: PageTables {
         level: u64,
         flags: PageTableFlags,
     ) -> bool
-        requires valid { Valid (Self.layout self.now) (Self.memory self.now) }
-        requires levels { length path.now + S.LEVEL ≡ (Self.layout self.now).levels + 1 }
+        requires levels { length path.now + S.LEVEL ≡ (Self.hierarchy self.now).layout.levels + 1 }
         requires low { 2 ≤ level }
         requires high { level ≤ 3 }
-        ensures { let layout = Self.layout self.now in
-            result ≡ is_allowed layout.levels layout.window (paths layout (Self.memory self.now)) (SetFlags level path.now (bits_of flags)) };
+        requires valid { Valid (Self.hierarchy self.now) }
+        ensures { result ≡ allows (Self.hierarchy self.now) (SetFlags level path.now (bits_of flags)) };
 
     /// Gives the frame that the own entry of the page of a path names, `PRESENT` or not, as
     /// [`translate_page`](super::Mapper::translate_page) does.
@@ -175,8 +148,7 @@ pub trait PathCalls: PageTables {
         &self,
         path: &[PageTableIndex],
     ) -> Result<PhysFrame<S>, TranslateError>
-        requires valid { Valid (Self.layout self.now) (Self.memory self.now) }
-        requires levels { length path.now + S.LEVEL ≡ (Self.layout self.now).levels + 1 }
-        ensures { let layout = Self.layout self.now in
-            translate_answer result ≡ page_translation layout (Self.memory self.now) path.now };
+        requires levels { length path.now + S.LEVEL ≡ (Self.hierarchy self.now).layout.levels + 1 }
+        requires valid { Valid (Self.hierarchy self.now) }
+        ensures { translate_answer result ≡ page_translation (Self.hierarchy self.now) path.now };
 }

@@ -99,7 +99,8 @@ impl<'a, P: PageTableFrameMapping> Image<'a, P> {
         levels: u8,
         pool: Option<&FramePool>,
     ) -> Result<bool, AllocError>
-        ensures { let words = seen self.now.memory.now (P.places self.now.mapping.now) self.now.root self.now.recursive in
+        ensures { let image = self.now in let places = P.places image.mapping.now in
+            let words = seen image.memory.now places image.root image.recursive in
             IfOk result (λ b. IsTrue b ↔ SoundTables levels words self.now.root (serves_below self.now.limit) (free_in (option_copied pool.entry))) }
     {
         let mut marks = vec![in alloc; false; self.memory.len()]?;
@@ -110,7 +111,8 @@ impl<'a, P: PageTableFrameMapping> Image<'a, P> {
     fn is_sound_by(&self, levels: u8, pool: Option<&FramePool>, marks: &mut [bool]) -> bool
         requires length { length marks.old ≡ length (keys self.now.memory.now) }
         requires clear { (k : ℕ) → k < length (keys self.now.memory.now) → slice_index_or marks.old k true ≡ false }
-        ensures { let words = seen self.now.memory.now (P.places self.now.mapping.now) self.now.root self.now.recursive in
+        ensures { let image = self.now in let places = P.places image.mapping.now in
+            let words = seen image.memory.now places image.root image.recursive in
             IsTrue result ↔ SoundTables levels words self.now.root (serves_below self.now.limit) (free_in (option_copied pool.entry)) }
     {
         if !self.mark_tables(marks, self.root, levels) {
@@ -128,8 +130,9 @@ impl<'a, P: PageTableFrameMapping> Image<'a, P> {
     /// Marks the table in a frame and those below it, through so many levels, if each may be met and was not before.
     fn mark_tables(&self, marks: &mut [bool], frame: PhysFrame<Size4KiB>, levels: u8) -> bool
         requires { length marks.old ≡ length (keys self.now.memory.now) }
-        ensures { let words = seen self.now.memory.now (P.places self.now.mapping.now) self.now.root self.now.recursive in
-            let slot = mark_slot self.now.memory.now (P.places self.now.mapping.now) self.now.root self.now.limit in
+        ensures { let image = self.now in let places = P.places image.mapping.now in
+            let words = seen image.memory.now places image.root image.recursive in
+            let slot = mark_slot image.memory.now places image.root image.limit in
             cond result (Some marks.new) None ≡ mark_all slot marks.old (tables_from levels words frame) }
     {
         if !self.mark(marks, frame) {
@@ -150,7 +153,8 @@ impl<'a, P: PageTableFrameMapping> Image<'a, P> {
     /// Marks each frame of a pool, if each may be met and was not before.
     fn mark_pool(&self, marks: &mut [bool], pool: &FramePool) -> bool
         requires { length marks.old ≡ length (keys self.now.memory.now) }
-        ensures { let slot = mark_slot self.now.memory.now (P.places self.now.mapping.now) self.now.root self.now.limit in
+        ensures { let image = self.now in let places = P.places image.mapping.now in
+            let slot = mark_slot image.memory.now places image.root image.limit in
             cond result (Some marks.new) None ≡ mark_all slot marks.old pool.now.frames }
     {
         for n in 0..pool.len() {
@@ -165,7 +169,8 @@ impl<'a, P: PageTableFrameMapping> Image<'a, P> {
 
     /// Tells whether no word above level three has `HUGE_PAGE`, from the table in a frame through so many levels.
     fn none_huge(&self, frame: PhysFrame<Size4KiB>, levels: u8) -> bool
-        ensures { let words = seen self.now.memory.now (P.places self.now.mapping.now) self.now.root self.now.recursive in
+        ensures { let image = self.now in let places = P.places image.mapping.now in
+            let words = seen image.memory.now places image.root image.recursive in
             IsTrue result ↔ NoneHuge levels words frame }
     {
         if 2 < levels {
@@ -187,7 +192,8 @@ impl<'a, P: PageTableFrameMapping> Image<'a, P> {
     #[tactic(auto, unfolding(x86_64_model::specs::Marks::mark_one))]
     fn mark(&self, marks: &mut [bool], frame: PhysFrame<Size4KiB>) -> bool
         requires { length marks.old ≡ length (keys self.now.memory.now) }
-        ensures { let slot = mark_slot self.now.memory.now (P.places self.now.mapping.now) self.now.root self.now.limit in
+        ensures { let image = self.now in let places = P.places image.mapping.now in
+            let slot = mark_slot image.memory.now places image.root image.limit in
             cond result (Some marks.new) None ≡ mark_one slot marks.old frame }
     {
         match self.slot(frame) {
@@ -206,7 +212,8 @@ impl<'a, P: PageTableFrameMapping> Image<'a, P> {
     /// Gives the index of a frame's mark, if the frame may be met.
     #[tactic(auto, unfolding(x86_64_model::specs::Marks::spot_of))]
     fn slot(&self, frame: PhysFrame<Size4KiB>) -> Option<usize>
-        ensures value { result ≡ mark_slot self.now.memory.now (P.places self.now.mapping.now) self.now.root self.now.limit frame }
+        ensures value { let image = self.now in let places = P.places image.mapping.now in
+            result ≡ mark_slot image.memory.now places image.root image.limit frame }
         ensures within { (k : ℕ) → result ≡ Some k → k < length (keys self.now.memory.now) }
     {
         let number = frame.start_address().as_u64() / Size4KiB::SIZE;
@@ -221,7 +228,8 @@ impl<'a, P: PageTableFrameMapping> Image<'a, P> {
     /// Tells whether the word at an index of the table in a frame has `HUGE_PAGE`.
     fn is_huge(&self, frame: PhysFrame<Size4KiB>, index: usize) -> bool
         requires { index < 512 }
-        ensures { let words = seen self.now.memory.now (P.places self.now.mapping.now) self.now.root self.now.recursive in
+        ensures { let image = self.now in let places = P.places image.mapping.now in
+            let words = seen image.memory.now places image.root image.recursive in
             result ≡ huge (word words frame index) }
     {
         match self.entry(frame, index) {
@@ -233,7 +241,8 @@ impl<'a, P: PageTableFrameMapping> Image<'a, P> {
     /// Gives the frame of the table that the word at an index of the table in a frame names.
     fn table_below(&self, frame: PhysFrame<Size4KiB>, index: usize) -> Option<PhysFrame<Size4KiB>>
         requires { index < 512 }
-        ensures { let words = seen self.now.memory.now (P.places self.now.mapping.now) self.now.root self.now.recursive in
+        ensures { let image = self.now in let places = P.places image.mapping.now in
+            let words = seen image.memory.now places image.root image.recursive in
             result ≡ below_word (word words frame index) }
     {
         match self.entry(frame, index) {
@@ -245,7 +254,8 @@ impl<'a, P: PageTableFrameMapping> Image<'a, P> {
     /// Reads the entry at an index of the table in a frame, if there is one and it is not the recursive one.
     fn entry(&self, frame: PhysFrame<Size4KiB>, index: usize) -> Option<&'a PageTableEntry>
         requires { index < 512 }
-        ensures { let words = seen self.now.memory.now (P.places self.now.mapping.now) self.now.root self.now.recursive in
+        ensures { let image = self.now in let places = P.places image.mapping.now in
+            let words = seen image.memory.now places image.root image.recursive in
             unwrap_or (option_copied result) 0 ≡ word words frame index }
     {
         match self.recursive {

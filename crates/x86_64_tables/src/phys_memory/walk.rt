@@ -39,7 +39,8 @@ pub fn page_walk<P: PageTableFrameMapping>(
     root: PhysFrame<Size4KiB>,
     addr: VirtAddr,
 ) -> Option<Walked>
-    ensures { option_map walked_of result ≡ page_walk_of 4 (words_of memory.now (P.places mapping.now)) root addr }
+    ensures { let tables = words_of memory.now (P.places mapping.now) in
+        option_map walked_of result ≡ page_walk_of 4 tables root addr }
 {
     let rights = Rights {
         write: true,
@@ -154,7 +155,7 @@ fn span_of(level: u64) -> u64
 }
 
 /// Gives the index of a level at a position.
-#[tactic(auto, using(x86_64_model::specs::Lemmas::Entries::Bits::low_nine), unfolding(x86_64_model::specs::Position::index))]
+#[tactic(auto, using(x86_64_model::proofs::Lemmas::Entries::Bits::low_nine), unfolding(x86_64_model::specs::Position::index))]
 fn index_of(position: u64, level: u64) -> usize
     requires low { 1 ≤ level }
     requires high { level ≤ 5 }

@@ -1,7 +1,7 @@
 use Rattle.std.proofs.Common.{sym}
 use Rattle.std.proofs.lemmas.Bool.{eq-eqb}
 use Rattle.x86_64_model.specs.Entry.{address}
-use Rattle.x86_64_model.specs.Lemmas.Entries.Words.{address-multiple}
+use Rattle.x86_64_model.proofs.Lemmas.Entries.Words.{address-multiple}
 use Rattle.x86_64_tables.proofs.phys_memory.IdentityMappingPageTableFrameMapping.covers.Goals as goal
 
 pub returns : goal.returns

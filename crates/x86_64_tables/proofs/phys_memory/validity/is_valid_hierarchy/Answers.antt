@@ -4,7 +4,7 @@ use Rattle.x86_64_model.specs.Memory.{words_of}
 use Rattle.x86_64_model.specs.Hierarchy.{IsValid, paths_of}
 use Rattle.x86_64_model.specs.Tables.{SoundTables}
 use Rattle.x86_64_model.specs.Marks.{serves_below}
-use Rattle.x86_64_model.specs.Lemmas.Tables.Meant.{valid_means}
+use Rattle.x86_64_model.proofs.Lemmas.Tables.Meant.{valid_means}
 use Rattle.x86_64_tables.proofs.phys_memory.validity.is_valid_hierarchy.Goals as goal
 
 pub returns : goal.returns

@@ -1,4 +1,4 @@
-use Rattle.x86_64_model.specs.Lemmas.Entries.Words.{address_aligned}
+use Rattle.x86_64_model.proofs.Lemmas.Entries.Words.{address_aligned}
 use Rattle.x86_64_tables.proofs.phys_memory.validity.named_table.Goals as goal
 
 pub from_start_address_unchecked-requires : goal.from_start_address_unchecked-requires

@@ -5,8 +5,8 @@ use Rattle.x86_64_model.specs.Hierarchy.{paths_of}
 use Rattle.x86_64_model.specs.Pool.{Fits}
 use Rattle.x86_64_model.specs.Tables.{SoundTables}
 use Rattle.x86_64_model.specs.Marks.{serves_below}
-use Rattle.x86_64_model.specs.Lemmas.Hierarchies.Memories.{mappings_show_frames}
-use Rattle.x86_64_model.specs.Lemmas.Tables.Meant.{fits_means}
+use Rattle.x86_64_model.proofs.Lemmas.Hierarchies.Memories.{mappings_show_frames}
+use Rattle.x86_64_model.proofs.Lemmas.Tables.Meant.{fits_means}
 use Rattle.x86_64_tables.proofs.phys_memory.validity.pool_fits.Goals as goal
 
 pub returns : goal.returns

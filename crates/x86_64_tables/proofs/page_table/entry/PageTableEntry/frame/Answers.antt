@@ -1,5 +1,5 @@
 use Rattle.std.proofs.Common.{sym, ap, ◌∙◌, Ok}
-use Rattle.x86_64_model.specs.Lemmas.Entries.Words.{address_aligned}
+use Rattle.x86_64_model.proofs.Lemmas.Entries.Words.{address_aligned}
 use Rattle.x86_64_tables.proofs.PageTableEntries.{not_present, present_huge, present_small}
 use Rattle.x86_64_tables.proofs.page_table.entry.PageTableEntry.frame.Goals as goal
 

@@ -1,6 +1,6 @@
 use Rattle.std.proofs.Common.{◌/◌, ◌&&◌, nat_le, sym, ap, ◌∙◌, eq-eqb}
 use Rattle.x86_64_model.specs.Entry.{address}
-use Rattle.x86_64_model.specs.Lemmas.Entries.Words.{address-multiple}
+use Rattle.x86_64_model.proofs.Lemmas.Entries.Words.{address-multiple}
 use Rattle.x86_64_tables.proofs.phys_memory.shift_mapping.ShiftMappingPageTableFrameMapping.covers.Goals as goal
 
 pub returns : goal.returns

@@ -1,7 +1,7 @@
 use Rattle.std.proofs.Common.{sym, refl, ◌∙◌, ap, ◌-◌, ◌+◌, Some, None, arith}
 use Rattle.x86_64_model.specs.Memory.{word}
 use Rattle.x86_64_model.specs.Marks.{mark_all}
-use Rattle.x86_64_model.specs.Lemmas.Tables.MarkSteps.{rest, rest_named, rest_other, rest_done, tables_begin, tables_none, tables_one}
+use Rattle.x86_64_model.proofs.Lemmas.Tables.MarkSteps.{rest, rest_named, rest_other, rest_done, tables_begin, tables_none, tables_one}
 use Rattle.x86_64_tables.specs.Images.{seen, mark_slot}
 use Rattle.x86_64_tables.proofs.WordsSeen.{is_named, named_at, is_not_named}
 use Rattle.x86_64_tables.proofs.phys_memory.validity.Image.+mark_tables.Goals as goal

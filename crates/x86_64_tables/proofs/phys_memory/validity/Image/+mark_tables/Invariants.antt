@@ -1,6 +1,6 @@
 use Rattle.std.proofs.Common.{◌≡◌, ◌-◌}
 use Rattle.x86_64_model.specs.Marks.{mark_all}
-use Rattle.x86_64_model.specs.Lemmas.Tables.MarkSteps.{rest}
+use Rattle.x86_64_model.proofs.Lemmas.Tables.MarkSteps.{rest}
 use Rattle.x86_64_tables.specs.Images.{seen, mark_slot}
 use Rattle.x86_64_tables.proofs.phys_memory.validity.Image.+mark_tables.Given as goal
 

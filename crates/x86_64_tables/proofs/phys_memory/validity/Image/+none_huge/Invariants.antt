@@ -1,6 +1,6 @@
 use Rattle.std.proofs.Common.{◌<◌, ◌-◌, ℕ}
 use Rattle.x86_64_model.specs.Memory.{word}
-use Rattle.x86_64_model.specs.Lemmas.Tables.Huge.{NotHuge}
+use Rattle.x86_64_model.proofs.Lemmas.Tables.Huge.{NotHuge}
 use Rattle.x86_64_tables.specs.Images.{seen}
 use Rattle.x86_64_tables.proofs.phys_memory.validity.Image.+none_huge.Given as goal
 

@@ -1,5 +1,5 @@
 use Rattle.std.proofs.Common.{◌∙◌, sym}
-use Rattle.x86_64_model.specs.Lemmas.Tables.Checked.{all_clear}
+use Rattle.x86_64_model.proofs.Lemmas.Tables.Checked.{all_clear}
 use Rattle.x86_64_tables.specs.PhysMemory.{length_keys}
 use Rattle.x86_64_tables.proofs.phys_memory.validity.Image.is_sound.Goals as goal
 

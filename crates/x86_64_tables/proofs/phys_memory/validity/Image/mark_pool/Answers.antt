@@ -2,7 +2,7 @@ use Rattle.std.proofs.Common.{◌+◌, sym, ◌∙◌, ap, drop, Some, None}
 use Rattle.std.proofs.lemmas.List.{drop_all}
 use Rattle.std.proofs.lemmas.Option.{slice_get-get_or, get_or_from_slice_get}
 use Rattle.x86_64_model.specs.Marks.{mark_one, mark_all}
-use Rattle.x86_64_model.specs.Lemmas.Tables.MarkSteps.{pool_more}
+use Rattle.x86_64_model.proofs.Lemmas.Tables.MarkSteps.{pool_more}
 use Rattle.x86_64_tables.specs.Images.{mark_slot}
 use Rattle.x86_64_tables.proofs.phys_memory.validity.Image.mark_pool.Goals as goal
 use Rattle.x86_64_tables.proofs.phys_memory.validity.Image.mark_pool.Goals.{in-Some+else-not-mark, in_default}
