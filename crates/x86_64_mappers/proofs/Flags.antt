@@ -1,7 +1,7 @@
 -- Tests of flags.
 use Rattle.std.proofs.Common.{◌≡◌, ℕ, ◌==◌, Bool, bit_and, sym, ap, ◌∙◌}
 use Rattle.x86_64_model.specs.Entry.{has, flags}
-use Rattle.x86_64_model.specs.Lemmas.Entries.Bits.{has_flags}
+use Rattle.x86_64_model.proofs.Lemmas.Entries.Bits.{has_flags}
 
 -- an entry has what was found among its flags
 pub tested : (e f mask : ℕ) (result : Bool) → f ≡ flags e → bit_and 0xfff0_0000_0000_0fff mask ≡ mask → result ≡ (bit_and f mask == mask) → has e mask ≡ result

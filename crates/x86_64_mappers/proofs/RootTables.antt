@@ -1,10 +1,10 @@
 -- The root's table of a mapper, and a mapper whose root table was lent.
-use Rattle.std.proofs.Common.{◌≡◌, ℕ, Bool, true, false, cond, List, [], None, IsSome, refl, ap, subst}
+use Rattle.std.proofs.Common.{◌≡◌, ℕ, List, [], refl, ap, subst}
 use Rattle.std.proofs.Props.{props}
-use Rattle.std.specs.FinMap.{get, insert}
+use Rattle.std.specs.FinMap.{insert}
 use Rattle.x86_64_model.specs.Layout.{Valid}
 use Rattle.x86_64_model.specs.Memory.{Memory, Places}
-use Rattle.x86_64_mappers.specs.Layouts.{direct, root_table, HasRoot}
+use Rattle.x86_64_mappers.specs.Layouts.{direct, HasRoot}
 
 -- what is made of a place and of the root's being there depends on the place alone
 pub alike : {X : Type 0} (places : Places) (root : ℕ) (memory : Memory) (table : List ℕ)
@@ -14,14 +14,6 @@ alike places root memory table make a b e =
     let There : ℕ → Type 0 = λ place. HasRoot (direct places root) (insert memory place table) in
     let prop : (h k : There a) → h ≡ k = hlevel props in
     subst (λ b. (h : There a) (k : There b) → make a h ≡ make b k) e (λ h k. ap (make a) (prop h k))
-
--- the root's table is the one at its place
-pub at_its_place : (places : Places) (root : ℕ) (memory : Memory) → HasRoot (direct places root) memory → root_table (direct places root) memory ≡ get memory (places.place root)
-at_its_place places root memory = by (places.covers root)
-  where
-    by : (c : Bool) → IsSome (cond c (get memory (places.place root)) None) → cond c (get memory (places.place root)) None ≡ get memory (places.place root)
-    by true h = refl
-    by false h = cc
 
 -- a valid hierarchy has it
 pub valid_root : (places : Places) (root : ℕ) (memory : Memory) → Valid (direct places root) memory → HasRoot (direct places root) memory

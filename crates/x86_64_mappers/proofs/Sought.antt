@@ -1,13 +1,21 @@
 -- The way down to the entry that maps an address, one level at a time.
-use Rattle.std.proofs.Common.{zero, suc, ◌≡◌, ◌<◌, ◌≤◌, ◌+◌, ◌-◌, ◌%◌, ℕ, ◌&&◌, Bool, true, false, not, cond, List, [], ◌∷◌, ◌++◌, length, nat_le, IsSome, Ok, Err, refl, sym, ap, ap₂, ◌∙◌, arith}
+use Rattle.std.proofs.Common.{zero, suc, ◌≡◌, ◌<◌, ◌≤◌, ◌+◌, ◌-◌, ◌%◌, ℕ, ◌&&◌, Bool, true, false, not, cond, List, [], ◌∷◌, ◌++◌, length, take, get_or, nat_le, IsSome, Ok, Err, refl, sym, ap, ap₂, ◌∙◌, subst, add-one, arith}
+use Rattle.std.proofs.Math.Seq.{take-suc}
+use Rattle.std.proofs.lemmas.List.{get_or_read}
 use Rattle.std.proofs.lemmas.Bool.{le-leb, leb-false, leb-true}
 use Rattle.x86_64_model.specs.Entry.{used, present, huge, address, flags, names_table}
-use Rattle.x86_64_model.specs.Lemmas.Entries.Words.{address_aligned}
-use Rattle.x86_64_model.specs.Lemmas.Walks.Walked.{Reads, one_more, names}
-use Rattle.x86_64_model.specs.Memory.{Words, word}
+use Rattle.x86_64_model.specs.Layout.{Layout, Valid, words, paths, read_entry}
+use Rattle.x86_64_model.proofs.Lemmas.Entries.Words.{address_aligned}
+use Rattle.x86_64_model.proofs.Lemmas.Walks.Agrees.{reads}
+use Rattle.x86_64_model.proofs.Lemmas.Walks.Walked.{Reads, one_more, names}
+use Rattle.x86_64_model.specs.Memory.{Memory, Words, word}
 use Rattle.x86_64_model.specs.PageWalk.{page_start}
-use Rattle.x86_64_model.specs.Position.{index, span}
+use Rattle.x86_64_model.specs.Position.{index, span, page_path}
+use Rattle.x86_64_model.specs.Refusal.{PageNotMapped, ParentEntryHugePage}
 use Rattle.x86_64_model.specs.Translation.{Translated, NotMapped, Mapped, translate_on, translate}
+use Rattle.x86_64_mappers.specs.Finds.{NamesTable}
+use Rattle.x86_64_mappers.specs.Reached.{IsReached, here_first, reached_next}
+use Rattle.x86_64_mappers.specs.Stops.{table_below}
 use Rattle.x86_64_tables.specs.PageTableEntry.{frame_of}
 use Rattle.x86_64_tables.specs.declared.page_table.entry.FrameError.TheVariants.{FrameNotPresent, HugeFrame}
 
@@ -54,11 +62,6 @@ large e is = by (present e) (huge e) is
     by true true is = (refl, refl)
     by true false is = absurd (let e = is in cc)
 
-pub record NamesTable (e table : ℕ) : Type 0 where
-  pub is_present : present e ≡ true
-  pub not_huge : huge e ≡ false
-  pub address : table ≡ address e
-
 pub next_table : (e table : ℕ) → Ok table ≡ frame_of e → NamesTable e table
 next_table e table is = by (present e) (huge e) refl refl is
   where
@@ -66,6 +69,10 @@ next_table e table is = by (present e) (huge e) refl refl is
     by false g eh eg is = absurd (let e = is in cc)
     by true true eh eg is = absurd (let e = is in cc)
     by true false eh eg is = record { is_present = eh; not_huge = eg; address = (let e : table ≡ address e = cc in e) }
+
+-- it is the table below, for the way down the parents of a page
+below : (e table : ℕ) → NamesTable e table → Ok table ≡ table_below e
+below e table n = sym ((λ i. cond (not (n.is_present i)) (Err PageNotMapped) (cond (n.not_huge i) (Err ParentEntryHugePage) (Ok (address e)))) ∙ ap Ok (sym n.address))
 
 -- ---- one level
 
@@ -157,3 +164,43 @@ module _ {L : ℕ} {T : Words} {root : ℕ} {E : List ℕ → ℕ} {p level fram
     found_small some =
         told_last ∙ ap (λ u. cond u (Mapped (span 1) (address e) (p % span 1) (flags e)) NotMapped) some
         ∙ ap (λ start. Mapped (span 1) start (p % span 1) (flags e)) (let e : address e ≡ page_start 1 e = omega (arith, address_aligned e) in e)
+
+-- ---- the way down by the indices of an address
+
+-- so many of them are done
+pub record IsSoughtAt (l : Layout) (m : Memory) (indices : List ℕ) (p k frame : ℕ) : Type 0 where
+  pub way : Sought l.levels (words l m) l.root (read_entry l m) p (l.levels - k) frame
+  pub reached : IsReached l m (take k indices) frame
+
+pub sought_first : (l : Layout) (m : Memory) (indices : List ℕ) (p : ℕ) → Valid l m → IsSoughtAt l m indices p 0 l.root
+sought_first l m indices p valid = let reads = reads l.levels (words l m) l.root (paths l m) l.window valid in record {
+  way = subst (λ n. Sought l.levels (words l m) l.root (read_entry l m) p n l.root) (let e : l.levels ≡ l.levels - 0 = omega arith in e) (starts l.levels (words l m) l.root (read_entry l m) p reads);
+  reached = (here_first l m indices valid).reached;
+}
+
+-- the index at a place is that of a level
+pub index_at : (L p k : ℕ) → k < L → get_or (page_path L p) k 0 ≡ index (L - k) p
+unfolding page_path
+index_at zero p k within = absurd (omega arith)
+index_at (suc n) p zero within = ap (λ level. index level p) (let e : suc n ≡ suc n - 0 = omega arith in e)
+index_at (suc n) p (suc k) within = index_at n p k (omega arith) ∙ ap (λ level. index level p) (let e : n - k ≡ suc n - suc k = omega arith in e)
+
+module _ (l : Layout) (m : Memory) (indices : List ℕ) (p : ℕ) (long : length indices ≡ l.levels) (is : indices ≡ page_path l.levels p) (k : ℕ) (within : k < l.levels) where
+  inside : k < length indices
+  inside = subst (λ n. k < n) (sym long) within
+
+  -- the index there, as it was read
+  pub index_read : (i : ℕ) → i ≡ get_or indices k i → i ≡ index (l.levels - k) p
+  index_read i read = get_or_read indices k i inside read 0
+      ∙ ap (λ q. get_or q k 0) is ∙ index_at l.levels p k within
+
+  pub sought_next : (frame : ℕ) → IsSoughtAt l m indices p k frame → k + 1 < l.levels → (i : ℕ) → i ≡ get_or indices k i → i < 512
+      → (e : ℕ) → e ≡ word (words l m) frame i → (table : ℕ) → Ok table ≡ frame_of e → IsSoughtAt l m indices p (k + 1) table
+  sought_next frame here more i read small e value table names =
+      let level : l.levels - (k + 1) ≡ l.levels - k - 1 = omega (arith, more) in
+      let item : i ≡ get_or indices k 0 = index_read i read ∙ sym (ap (λ q. get_or q k 0) is ∙ index_at l.levels p k within) in
+      let way = found_table here.way e (omega (arith, more)) (value ∙ ap (word (words l m) frame) (index_read i read)) table names in record {
+        way = subst (λ n. Sought l.levels (words l m) l.root (read_entry l m) p n table) (sym level) way;
+        reached = subst (λ t. IsReached l m t table) (sym (ap (λ j. take j indices) (add-one k) ∙ take-suc indices k 0 inside ∙ ap (λ j. take k indices ++ j ∷ []) (sym item)))
+            (reached_next l m (take k indices) frame i table here.reached small (below e table (next_table e table names) ∙ ap table_below value) way.there);
+      }

@@ -1,7 +1,7 @@
 -- A translation leads where the page walk does.
 use Rattle.std.proofs.Common.{◌≡◌, ℕ, Some, option_map, option_and_then, sym, ap, ◌∙◌}
 use Rattle.x86_64_model.specs.Layout.{Layout, Valid, words, paths, read_entry}
-use Rattle.x86_64_model.specs.Lemmas.Walks.Agrees.{translate_agrees}
+use Rattle.x86_64_model.proofs.Lemmas.Walks.Agrees.{translate_agrees}
 use Rattle.x86_64_model.specs.Memory.{Memory}
 use Rattle.x86_64_model.specs.PageWalk.{page_walk}
 use Rattle.x86_64_model.specs.Translation.{translate, present_to}

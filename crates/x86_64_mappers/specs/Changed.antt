@@ -1,11 +1,11 @@
--- What a walker's writes are to the words of tables.
+-- What writes to one table are to the words of tables.
 use Rattle.std.proofs.Common.{◌≡◌, ◌≢◌, ⊎_elim, ℕ, Bool, true, false, cond, nat_lt, Option, Some, None, IsSome, refl, sym, ap, ◌∙◌, subst, arith, eq-eqb, ne_eqb, ◌==◌, ◌<◌, lt-ltb, get_or, set}
 use Rattle.std.proofs.lemmas.Bool.{cases_eq}
 use Rattle.std.proofs.lemmas.List.{set-get_or}
 use Rattle.std.specs.FinMap.{get, insert}
 use Rattle.x86_64_model.specs.Layout.{Layout, words}
-use Rattle.x86_64_model.specs.Lemmas.Hierarchies.Held.{is_some-set}
-use Rattle.x86_64_model.specs.Lemmas.Hierarchies.Memories.{outside_set, words_of-insert}
+use Rattle.x86_64_model.proofs.Lemmas.Hierarchies.Held.{is_some-set}
+use Rattle.x86_64_model.proofs.Lemmas.Hierarchies.Memories.{outside_set, words_of-insert}
 use Rattle.x86_64_model.specs.Memory.{Memory, Places, Distinct, words_of, word, word_in, set_word}
 use Rattle.x86_64_model.specs.Window.{SelfEntry, outside_window}
 use Rattle.x86_64_tables.specs.PageTable.{zero_words, get_or-zero_words}

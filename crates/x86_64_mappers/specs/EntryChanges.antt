@@ -2,11 +2,11 @@
 use Rattle.std.proofs.Common.{◌≡◌, ◌<◌, ℕ, true, List, [], ◌∷◌, ◌++◌, Some, sym, ap, ◌∙◌, subst}
 use Rattle.std.proofs.lemmas.List.{same_from_push}
 use Rattle.x86_64_model.specs.Layout.{Layout, words, paths, Valid}
-use Rattle.x86_64_model.specs.Lemmas.Hierarchies.Exists.{held_is_paths_of}
-use Rattle.x86_64_model.specs.Lemmas.Machines.Changes.{IsChange}
-use Rattle.x86_64_model.specs.Lemmas.Machines.Fitting.{sound_of_fits, fits_of_sound}
-use Rattle.x86_64_model.specs.Lemmas.Machines.States.{sound_change}
-use Rattle.x86_64_model.specs.Lemmas.Machines.Writes.{Written, change_written}
+use Rattle.x86_64_model.proofs.Lemmas.Hierarchies.Exists.{held_is_paths_of}
+use Rattle.x86_64_model.proofs.Lemmas.Machines.Changes.{IsChange}
+use Rattle.x86_64_model.proofs.Lemmas.Machines.Fitting.{sound_of_fits, fits_of_sound}
+use Rattle.x86_64_model.proofs.Lemmas.Machines.States.{sound_change}
+use Rattle.x86_64_model.proofs.Lemmas.Machines.Writes.{Written, change_written}
 use Rattle.x86_64_model.specs.MapperCalls.{IsReady, KeepsOthers}
 use Rattle.x86_64_model.specs.Memory.{Memory, Distinct, set_word}
 use Rattle.x86_64_model.specs.PathMap.{PathMap, put, table_at}

@@ -8,24 +8,24 @@ use Rattle.x86_64_model.specs.Memory.{Memory, word}
 use Rattle.x86_64_model.specs.Path.{parents}
 use Rattle.x86_64_model.specs.PathMap.{table_of}
 use Rattle.x86_64_model.specs.Refusal.{Refusal, ParentEntryHugePage, PageNotMapped, first_stop}
-use Rattle.x86_64_model.specs.Lemmas.Hierarchies.Changes.{map_again}
-use Rattle.x86_64_model.specs.Lemmas.Walks.Agrees.{reads}
-use Rattle.x86_64_model.specs.Lemmas.Walks.Walked.{names}
+use Rattle.x86_64_model.proofs.Lemmas.Hierarchies.Changes.{map_again}
+use Rattle.x86_64_model.proofs.Lemmas.Walks.Agrees.{reads}
+use Rattle.x86_64_model.proofs.Lemmas.Walks.Walked.{names}
 use Rattle.x86_64_mappers.specs.Stops.{table_below, stop_or, table_read, stop_from, LeadsTo, IsOnWay, IsFound}
 
 -- ---- the first stop, at the next parent
 
-module _ (E : List ℕ → ℕ) (pre : List ℕ) (i : ℕ) where
-  next_parents : (left : List ℕ) (x : ℕ) → map (λ y. pre ++ y) (parents ((i ∷ left) ++ x ∷ [])) ≡ (pre ++ i ∷ []) ∷ map (λ y. (pre ++ i ∷ []) ++ y) (parents (left ++ x ∷ []))
-  next_parents [] x = refl
-  next_parents (j ∷ left) x = ap (λ ys. (pre ++ i ∷ []) ∷ ys) (sym (map_again pre i (parents (j ∷ left ++ x ∷ []))))
+pub next_parents : (pre : List ℕ) (i : ℕ) (left : List ℕ) (x : ℕ) → map (λ y. pre ++ y) (parents ((i ∷ left) ++ x ∷ [])) ≡ (pre ++ i ∷ []) ∷ map (λ y. (pre ++ i ∷ []) ++ y) (parents (left ++ x ∷ []))
+next_parents pre i [] x = refl
+next_parents pre i (j ∷ left) x = ap (λ ys. (pre ++ i ∷ []) ∷ ys) (sym (map_again pre i (parents (j ∷ left ++ x ∷ []))))
 
+module _ (E : List ℕ → ℕ) (pre : List ℕ) (i : ℕ) where
   abbrev e : ℕ
   e = E (pre ++ i ∷ [])
 
   -- its entry stops the way, or the stop is below
   next_stop : (left : List ℕ) (x : ℕ) → stop_from E pre ((i ∷ left) ++ x ∷ []) ≡ stop_or (table_below e) (stop_from E (pre ++ i ∷ []) (left ++ x ∷ []))
-  next_stop left x = ap (λ ps. option_map (λ p. cond (present (E p)) ParentEntryHugePage PageNotMapped) (find (λ p. not (present (E p) && not (huge (E p)))) ps)) (next_parents left x)
+  next_stop left x = ap (λ ps. option_map (λ p. cond (present (E p)) ParentEntryHugePage PageNotMapped) (find (λ p. not (present (E p) && not (huge (E p)))) ps)) (next_parents pre i left x)
       ∙ found (not (present e && not (huge e))) ∙ by (present e) (huge e)
     where
       rest : Option Refusal
@@ -52,7 +52,7 @@ pub record NamesTable (e frame : ℕ) : Type 0 where
   pub not_huge : huge e ≡ false
   pub address : frame ≡ address e
 
-names_below : (e frame : ℕ) → Ok frame ≡ table_below e → NamesTable e frame
+pub names_below : (e frame : ℕ) → Ok frame ≡ table_below e → NamesTable e frame
 names_below e frame is = by (present e) (huge e) refl refl is
   where
     by : (p h : Bool) → present e ≡ p → huge e ≡ h → Ok frame ≡ cond (not p) (Err PageNotMapped) (cond h (Err ParentEntryHugePage) (Ok (address e))) → NamesTable e frame

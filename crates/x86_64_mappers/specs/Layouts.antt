@@ -1,23 +1,32 @@
 -- The layouts of mappers.
-use Rattle.std.specs.Prelude.{ℕ, List, Option, None, IsSome}
-use Rattle.std.proofs.Common.{refl}
+use Rattle.std.specs.Prelude.{◌<◌, ℕ, List, Option, None, IsSome}
+use Rattle.std.proofs.Common.{refl, lit≤}
 use Rattle.x86_64_model.specs.Entry.{IsParentFlags, address}
 use Rattle.x86_64_model.specs.Layout.{Layout, words}
 use Rattle.x86_64_model.specs.Memory.{Memory, Places}
+use Rattle.x86_64_model.specs.Owned.{Hierarchy}
 
 -- four levels of tables from a root, without a recursive index: a new table entry gets the parent flags alone
 abbrev pub direct : Places → (root : ℕ) → Layout
 direct places root = record { levels = 4; places = places; root = root; window = None; added_flags = 0 }
+
+-- such a hierarchy in a memory, and which memory was lent, and what finds frames in it
+abbrev pub owned : {Lent : Type 0} → Places → (root : ℕ) → Memory → Lent → Hierarchy Lent
+owned places root memory lent = record { layout = direct places root; memory = memory; lent = lent }
 
 -- no flags are flags that an entry above a page may have
 pub no_flags : IsParentFlags 0
 unfolding address
 no_flags = record { no_address = refl; not_huge = refl }
 
+-- four is a level above those of pages
+pub above_three : 3 < 4
+above_three = lit≤ tt
+
 -- the table in the root's frame
-abbrev pub root_table : Layout → Memory → Option (List ℕ)
-root_table layout memory = words layout memory layout.root
+abbrev pub root_table : {Lent : Type 0} → Hierarchy Lent → Option (List ℕ)
+root_table h = words h.layout h.memory h.layout.root
 
 -- the root's frame is covered and in the memory
 abbrev pub HasRoot : Layout → Memory → Type 0
-HasRoot layout memory = IsSome (root_table layout memory)
+HasRoot layout memory = IsSome (words layout memory layout.root)

@@ -1,10 +1,9 @@
 -- What a mapper is once a table that it lent comes back.
-use Rattle.std.specs.Prelude.{◌≡◌, ℕ, Bool, true, false, cond, List, [], Option, Some, None, IsSome}
+use Rattle.std.specs.Prelude.{ℕ, Bool, true, false, cond, List, [], Option, Some, None, IsSome}
 use Rattle.std.specs.Borrow.{Lends, MutBor, Fml, RattleType}
-use Rattle.std.specs.Cmp.{nat_cmp_total, tied_itself}
+use Rattle.std.specs.Cmp.{nat_cmp_total}
 use Rattle.std.specs.FinMap.{get, insert, get-insert}
-use Rattle.std.specs.Ordering.{is_eq}
-use Rattle.std.proofs.Common.{refl, sym, ap, ◌∙◌, subst}
+use Rattle.std.proofs.Common.{refl, sym, subst}
 use mir.Syntax.{named}
 use Rattle.x86_64_model.specs.Memory.{Memory, Places}
 use Rattle.x86_64_tables.specs.contracts.page_table.table.PageTable.{the_row as table_row}
@@ -16,31 +15,30 @@ use Rattle.x86_64_mappers.specs.contracts.mapped_page_table.MappedPageTable.{the
 use Rattle.x86_64_mappers.specs.contracts.offset_page_table.OffsetPageTable.{the_row as offset_mapper_row}
 use Rattle.x86_64_mappers.specs.Offsets.{offset_places}
 
--- the root stays in the memory
-pub root_stays : (places : Places) (root : ℕ) (memory : Memory) (table : List ℕ) → HasRoot (direct places root) memory
-    → HasRoot (direct places root) (insert memory (places.place root) table)
-root_stays places root memory table = by (places.covers root)
+-- the root stays in the memory when a table is put at a place
+pub root_stays : (places : Places) (root : ℕ) (memory : Memory) (place : ℕ) (table : List ℕ) → HasRoot (direct places root) memory → HasRoot (direct places root) (insert memory place table)
+root_stays places root memory place table = by (places.covers root)
   where
-    there : get (insert memory (places.place root) table) (places.place root) ≡ Some table
-    there = get-insert nat_cmp_total memory (places.place root) table (places.place root)
-        ∙ ap (λ b. cond b (Some table) (get memory (places.place root))) (ap is_eq (tied_itself nat_cmp_total (places.place root)))
+    at : (same : Bool) → IsSome (get memory (places.place root)) → IsSome (cond same (Some table) (get memory (places.place root)))
+    at true there = refl
+    at false there = there
 
-    by : (c : Bool) → IsSome (cond c (get memory (places.place root)) None) → IsSome (cond c (get (insert memory (places.place root) table) (places.place root)) None)
-    by true h = let S : Option (List ℕ) → Type 0 = IsSome in subst S (sym there) refl
-    by false h = h
+    by : (c : Bool) → IsSome (cond c (get memory (places.place root)) None) → IsSome (cond c (get (insert memory place table) (places.place root)) None)
+    by true there = let S : Option (List ℕ) → Type 0 = IsSome in subst S (sym (get-insert nat_cmp_total memory place table (places.place root))) (at _ there)
+    by false there = there
 
 -- the mapper ends with the last table behind r in the root's frame
 abbrev pub LendsRootTable : (P : RattleType) (G : Ghosts P.Denot) → MutBor (MappedPageTable P.Denot G) → MutBor (List ℕ) → Fml
 LendsRootTable P G s r = Lends (mapper_row (record { mir = named 1; lft = [] }) P G) table_row s r
     (λ table. record s.now {
-      memory = record s.now.memory { now = insert s.now.memory.now ((G.places s.now.walker.mapping).place s.now.root) table };
-      has_root = root_stays (G.places s.now.walker.mapping) s.now.root s.now.memory.now table s.now.has_root;
+      memory = record s.now.memory { now = insert s.now.memory.now ((G.places s.now.mapping).place s.now.root) table };
+      has_root = root_stays (G.places s.now.mapping) s.now.root s.now.memory.now ((G.places s.now.mapping).place s.now.root) table s.now.has_root;
     })
 
 -- the same of a mapper at an offset
 abbrev pub LendsOffsetRootTable : MutBor OffsetPageTable → MutBor (List ℕ) → Fml
 LendsOffsetRootTable s r = Lends (offset_mapper_row (record { mir = named 1; lft = [] })) table_row s r
     (λ table. record s.now {
-      memory = record s.now.memory { now = insert s.now.memory.now ((offset_places s.now.walker.mapping.offset).place s.now.root) table };
-      has_root = root_stays (offset_places s.now.walker.mapping.offset) s.now.root s.now.memory.now table s.now.has_root;
+      memory = record s.now.memory { now = insert s.now.memory.now ((offset_places s.now.mapping.offset).place s.now.root) table };
+      has_root = root_stays (offset_places s.now.mapping.offset) s.now.root s.now.memory.now ((offset_places s.now.mapping.offset).place s.now.root) table s.now.has_root;
     })

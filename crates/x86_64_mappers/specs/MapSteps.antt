@@ -1,11 +1,11 @@
 -- How a map goes down its path: what a memory and a supply have become, and what is left to do.
-use Rattle.std.specs.Prelude.{◌≡◌, ◌<◌, ℕ, false, List, [], ◌∷◌, ◌++◌, map, Some, None, Result, Ok, Err}
-use Rattle.x86_64_model.specs.Entry.{huge}
+use Rattle.std.specs.Prelude.{◌≡◌, ◌⊎◌, ◌<◌, ℕ, true, false, List, [], ◌∷◌, ◌++◌, map, Some, None, Result, Ok, Err}
+use Rattle.x86_64_model.specs.Entry.{present, huge}
 use Rattle.x86_64_model.specs.Layout.{Layout, paths}
 use Rattle.x86_64_model.specs.MapRule.{AfterMap, map_rule}
 use Rattle.x86_64_model.specs.Memory.{Memory}
 use Rattle.x86_64_model.specs.Path.{parents, level_of}
-use Rattle.x86_64_model.specs.PathMap.{PathMap, table_of, table_at}
+use Rattle.x86_64_model.specs.PathMap.{PathMap, entry, put, table_of, table_at}
 use Rattle.x86_64_model.specs.Refusal.{Refusal, Answer, Refused}
 use Rattle.x86_64_mappers.specs.Goes.{Goes}
 
@@ -13,10 +13,19 @@ use Rattle.x86_64_mappers.specs.Goes.{Goes}
 abbrev pub mapped_from : PathMap → (supply : List ℕ) → (more added : ℕ) → (pre r : List ℕ) → (e frame : ℕ) → AfterMap
 mapped_from M s more added pre r e frame = map_rule M s more added (map (λ x. pre ++ x) (parents r)) (pre ++ r) e frame
 
+-- The entry at the path p, which wasn't huge, came to be one that names a table: present where it was, or where the parent flags have
+-- PRESENT.
+pub record Opens (M : PathMap) (more : ℕ) (p : List ℕ) (N : PathMap) : Type 0 where
+  pub word : ℕ
+  pub is : put M p word ≡ N
+  pub was_plain : huge (entry M p) ≡ false
+  pub is_present : (present more ≡ true) ⊎ (present (entry M p) ≡ true) → present word ≡ true
+
 -- one step down from the table at pre reached the table g
 pub record Reached (l : Layout) (m : Memory) (s : List ℕ) (more : ℕ) (pre : List ℕ) (i : ℕ) (n : Memory) (rest : List ℕ) (g : ℕ) : Type 0 where
   pub goes : Goes l m s n rest
   pub leads : table_at l.levels l.root (paths l n) (pre ++ i ∷ []) ≡ Some g
+  pub opens : Opens (paths l m) more (pre ++ i ∷ []) (paths l n)
   pub outcome : (j : ℕ) (r : List ℕ) (e frame : ℕ)
       → mapped_from (paths l m) s more l.added_flags pre (i ∷ j ∷ r) e frame ≡ mapped_from (paths l n) rest more l.added_flags (pre ++ i ∷ []) (j ∷ r) e frame
 

@@ -7,8 +7,8 @@ use Rattle.std.proofs.lemmas.Bool.{and_parts}
 use Rattle.x86_64_model.specs.Entry.{is_frame}
 use Rattle.x86_64_model.specs.Hierarchy.{paths_of}
 use Rattle.x86_64_model.specs.Layout.{Valid, paths}
-use Rattle.x86_64_model.specs.Lemmas.Entries.Bits.{same_frame}
-use Rattle.x86_64_model.specs.Lemmas.Entries.Words.{address_aligned}
+use Rattle.x86_64_model.proofs.Lemmas.Entries.Bits.{same_frame}
+use Rattle.x86_64_model.proofs.Lemmas.Entries.Words.{address_aligned}
 use Rattle.x86_64_model.specs.Memory.{IsMapping, Memory, Places, Words, identity_places, words_of}
 use Rattle.x86_64_model.specs.Pool.{Fits}
 use Rattle.x86_64_model.specs.Position.{raw, lower_half, IsCanonical}

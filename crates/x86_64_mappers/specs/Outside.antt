@@ -2,10 +2,10 @@
 use Rattle.std.proofs.Common.{◌≡◌, ◌<◌, ℕ, suc, true, false, ◌==◌, List, [], ◌∷◌, ◌++◌, length, take, drop, get_or, Option, Some, refl, sym, ap, ◌∙◌, eq-eqb}
 use Rattle.std.proofs.lemmas.List.{take-append-drop}
 use Rattle.std.proofs.Math.Seq.{drop-cons}
-use Rattle.x86_64_model.specs.Lemmas.Lists.All.{all_mapped}
-use Rattle.x86_64_model.specs.Lemmas.Machines.AlikeEntries.{LikeAt, like_same}
-use Rattle.x86_64_model.specs.Lemmas.Machines.AlikeRules.{same_stop}
-use Rattle.x86_64_model.specs.Lemmas.Maps.Arrives.{parents_outside}
+use Rattle.x86_64_model.proofs.Lemmas.Lists.All.{all_mapped}
+use Rattle.x86_64_model.proofs.Lemmas.Machines.AlikeEntries.{LikeAt, like_same}
+use Rattle.x86_64_model.proofs.Lemmas.Machines.AlikeRules.{same_stop}
+use Rattle.x86_64_model.proofs.Lemmas.Maps.Arrives.{parents_outside}
 use Rattle.x86_64_model.specs.Memory.{Memory}
 use Rattle.x86_64_model.specs.Layout.{Layout, paths, Valid}
 use Rattle.x86_64_model.specs.Path.{parents}

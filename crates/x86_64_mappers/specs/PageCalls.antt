@@ -1,20 +1,23 @@
 -- The calls on the entry of a page: their rules, by what the entry says to a page of its level.
-use Rattle.std.proofs.Common.{◌≡◌, ◌<◌, ◌≤◌, ◌+◌, ◌-◌, ◌%◌, ℕ, Bool, true, false, ◌==◌, ◌&&◌, ◌||◌, not, cond, List, [], ◌∷◌, ◌++◌, length, take, get_or, Option, None, Result, Ok, Err, bit_or, refl, sym, ap, ap₂, ◌∙◌, arith, eq-eqb, eqb-true}
+use Rattle.std.proofs.Common.{◌≡◌, ◌<◌, ◌≤◌, ◌+◌, ◌-◌, ◌%◌, ℕ, Bool, true, false, ◌==◌, ◌&&◌, ◌||◌, not, cond, List, [], ◌∷◌, ◌++◌, length, take, get_or, Option, None, Result, Ok, Err, bit_or, refl, sym, ap, ap₂, ◌∙◌, subst, arith, eq-eqb, eqb-true}
+use Rattle.std.proofs.lemmas.Bool.{and_parts, not-true}
+use Rattle.x86_64_model.specs.Allowed.{allowed}
+use Rattle.x86_64_model.specs.Call.{Unmap, UpdateFlags}
 use Rattle.x86_64_model.specs.Entry.{present, used, huge, address}
 use Rattle.x86_64_model.specs.Layout.{Layout, paths, read_entry, words}
-use Rattle.x86_64_model.specs.Lemmas.Entries.Bits.{used_present}
-use Rattle.x86_64_model.specs.Lemmas.Entries.Words.{address_aligned}
-use Rattle.x86_64_model.specs.Lemmas.Hierarchies.Changes.{unused_no_table}
-use Rattle.x86_64_model.specs.Lemmas.Machines.Changes.{IsChange, at_front, leaf_none}
-use Rattle.x86_64_model.specs.Lemmas.Maps.Leaves.{none_at_leaf}
+use Rattle.x86_64_model.proofs.Lemmas.Entries.Bits.{used_present}
+use Rattle.x86_64_model.proofs.Lemmas.Entries.Words.{address_aligned}
+use Rattle.x86_64_model.proofs.Lemmas.Hierarchies.Changes.{unused_no_table}
+use Rattle.x86_64_model.proofs.Lemmas.Machines.Changes.{IsChange, at_front, leaf_none}
+use Rattle.x86_64_model.proofs.Lemmas.Maps.Leaves.{none_at_leaf}
 use Rattle.x86_64_model.specs.MapperCalls.{after_unmap, after_update, page_translation}
 use Rattle.x86_64_model.specs.Memory.{Memory, word}
 use Rattle.x86_64_model.specs.PageRules.{unmap, update_flags, translate_page, refused_or}
 use Rattle.x86_64_model.specs.PathMap.{PathMap, entry, put, table_of}
 use Rattle.x86_64_model.specs.Position.{span}
 use Rattle.x86_64_model.specs.Refusal.{Refusal, PageNotMapped, ParentEntryHugePage, InvalidFrameAddress, Done, Refused, first_stop, refused_if, answer_unless}
-use Rattle.x86_64_model.specs.Window.{begins_with}
-use Rattle.x86_64_mappers.specs.EntryCalls.{after_entry}
+use Rattle.x86_64_model.specs.Window.{Window, begins_with}
+use Rattle.x86_64_mappers.specs.EntryCalls.{after_entry, word_said}
 use Rattle.x86_64_mappers.specs.LeafFrames.{leaf_by, leaf_frame, names_frame, maps_page, named_by, named_frame}
 use Rattle.x86_64_mappers.specs.Pages.{small_page, path_parted}
 use Rattle.x86_64_mappers.specs.Results.{answer_of}
@@ -41,6 +44,13 @@ updates level given e maps = ap (λ b. cond b (Ok (page_word level (address e) g
 
 pub updates_none : (level given e : ℕ) → maps_page level e ≡ false → update_says level given e ≡ Err PageNotMapped
 updates_none level given e maps = ap (λ b. cond b (Ok (page_word level (address e) given, address e)) (Err PageNotMapped)) maps
+
+-- a page that may be unmapped is outside the window, and so is one whose flags may be updated
+pub unmap_outside : (L : ℕ) (window : Option Window) (M : PathMap) (q : List ℕ) → allowed L window M (Unmap q) ≡ true → begins_with window q ≡ false
+unmap_outside L window M q may = not-true _ may
+
+pub update_outside : (L : ℕ) (window : Option Window) (M : PathMap) (q : List ℕ) (given : ℕ) → allowed L window M (UpdateFlags q given) ≡ true → begins_with window q ≡ false
+update_outside L window M q given may = not-true _ (and_parts _ _ may).1
 
 module _ (l : Layout) (m : Memory) (level : ℕ) (q : List ℕ) (at_level : length q + level ≡ l.levels + 1) where
   abbrev M : PathMap
@@ -153,3 +163,21 @@ module _ (l : Layout) (m : Memory) (level : ℕ) (q : List ℕ) (at_level : leng
         by_huge true true h f t = absurd (let f = f in cc)
         by_huge true false h f t = t
         by_huge false s h f t = absurd (let t = t in cc)
+
+    -- the same by what the entry says
+    pub unmap_changes : (w frame : ℕ) → unmap_says level e ≡ Ok (w, frame) → IsChange l.levels l.window M q w
+    unmap_changes w frame = by (leaf_frame level e) refl
+      where
+        by : (r : Result ℕ Refusal) → leaf_frame level e ≡ r → unused_after r ≡ Ok (w, frame) → IsChange l.levels l.window M q w
+        by (Ok f) is said = let z : 0 ≡ w = ap (word_said w) said in subst (IsChange l.levels l.window M q) z (unmap_change f (sym is))
+        by (Err why) is said = absurd (let t = said in cc)
+
+    pub update_changes : (given w frame : ℕ) → update_says level given e ≡ Ok (w, frame) → IsChange l.levels l.window M q w
+    update_changes given w frame = by (maps_page level e) refl
+      where
+        says : Bool → Result (ℕ × ℕ) Refusal
+        says maps = cond maps (Ok (page_word level (address e) given, address e)) (Err PageNotMapped)
+
+        by : (b : Bool) → maps_page level e ≡ b → says b ≡ Ok (w, frame) → IsChange l.levels l.window M q w
+        by true maps said = subst (IsChange l.levels l.window M q) (ap (word_said w) said) (update_change given maps)
+        by false maps said = absurd (let t = said in cc)

@@ -4,7 +4,7 @@ use Rattle.std.proofs.Common.{refl, sym, ◌∙◌, arith, eqb-true, eq-eqb, ne_
 use Rattle.std.proofs.lemmas.List.{take_all}
 use Rattle.std.proofs.Math.Seq.{take-suc}
 use Rattle.x86_64_model.specs.Path.{path_at, is_small}
-use Rattle.x86_64_model.specs.Lemmas.Paths.Pages.{length_taken}
+use Rattle.x86_64_model.proofs.Lemmas.Paths.Pages.{length_taken}
 
 -- the indices of a page's parents, and its last one
 pub path_parted : (q : List ℕ) (n : ℕ) → length q ≡ n + 1 → take n q ++ get_or q n 0 ∷ [] ≡ q

@@ -1,14 +1,14 @@
--- The results of a walker's steps, with refusals in place of the errors.
+-- The results of a mapper's steps, with refusals in place of the errors.
 use Rattle.std.specs.Prelude.{ℕ, Result, Ok, Err}
 use Rattle.x86_64_model.specs.Refusal as refusal
 use Rattle.x86_64_model.specs.Refusal.{Refusal, Answer, Done, Refused}
 use Rattle.x86_64_tables.specs.MapperAnswers.{unmap_refusal, translate_refusal}
 use Rattle.x86_64_tables.specs.declared.mapper.UnmapError.{UnmapError}
 use Rattle.x86_64_tables.specs.declared.mapper.TranslateError.{TranslateError}
-use Rattle.x86_64_mappers.specs.declared.walker.find.PageTableWalkError.{PageTableWalkError}
-use Rattle.x86_64_mappers.specs.declared.walker.find.PageTableWalkError.TheVariants as walk
-use Rattle.x86_64_mappers.specs.declared.walker.map.PageTableCreateError.{PageTableCreateError}
-use Rattle.x86_64_mappers.specs.declared.walker.map.PageTableCreateError.TheVariants.{MappedToHugePage, FrameAllocationFailed}
+use Rattle.x86_64_mappers.specs.declared.access.find.PageTableWalkError.{PageTableWalkError}
+use Rattle.x86_64_mappers.specs.declared.access.find.PageTableWalkError.TheVariants as walk
+use Rattle.x86_64_mappers.specs.declared.access.map.PageTableCreateError.{PageTableCreateError}
+use Rattle.x86_64_mappers.specs.declared.access.map.PageTableCreateError.TheVariants.{MappedToHugePage, FrameAllocationFailed}
 
 abbrev pub create_refusal : PageTableCreateError → Refusal
 create_refusal MappedToHugePage = refusal.ParentEntryHugePage

@@ -5,8 +5,8 @@ use Rattle.x86_64_model.specs.Allowed.{allowed, both_or_none}
 use Rattle.x86_64_model.specs.Call.{SetFlags}
 use Rattle.x86_64_model.specs.Entry.{used, huge, address, names_table, no_address}
 use Rattle.x86_64_model.specs.Layout.{Layout, words, paths, read_entry, Valid}
-use Rattle.x86_64_model.specs.Lemmas.Machines.Changes.{IsChange, at_front, begins_take, set_huge, set_same_table}
-use Rattle.x86_64_model.specs.Lemmas.Walks.Agrees.{named}
+use Rattle.x86_64_model.proofs.Lemmas.Machines.Changes.{IsChange, at_front, begins_take, set_huge, set_same_table}
+use Rattle.x86_64_model.proofs.Lemmas.Walks.Agrees.{named}
 use Rattle.x86_64_model.specs.MapperCalls.{after_set_flags}
 use Rattle.x86_64_model.specs.Memory.{Memory, Distinct, word}
 use Rattle.x86_64_model.specs.PageRules.{AfterChange, refused_or, set_flags}
@@ -14,7 +14,7 @@ use Rattle.x86_64_model.specs.Path.{front_at}
 use Rattle.x86_64_model.specs.PathMap.{PathMap, entry, put}
 use Rattle.x86_64_model.specs.Refusal.{Refusal, PageNotMapped, ParentEntryHugePage, Done, Refused, first_stop, refused_if}
 use Rattle.x86_64_model.specs.Window.{begins_with}
-use Rattle.x86_64_mappers.specs.EntryCalls.{Ends, after_entry, unchanged_ends, stopped, refused, changed, word_is}
+use Rattle.x86_64_mappers.specs.EntryCalls.{Ends, after_entry, word_said, answer_said, unchanged_ends, stopped, ended}
 use Rattle.x86_64_mappers.specs.Stops.{IsFound}
 use Rattle.x86_64_mappers.specs.TableFlags.{keeps_huge, front_length, never_stopped, own_level, table_flags_rule}
 use Rattle.x86_64_mappers.specs.Writes.{IsSet}
@@ -103,20 +103,17 @@ module _ (l : Layout) (m : Memory) (valid : Valid l m) (level : ℕ) (page : Lis
           pub flags_stopped : (why : Refusal) → IsFound l m (take n q) (Err why) → Ends l m after (Refused why) m
           flags_stopped = stopped l m valid q n size (flags_say given) after rule
 
-          -- the entry e at the last index i
-          module _ (g : ℕ) (found : IsFound l m (take n q) (Ok g)) (i e : ℕ) (index : i ≡ get_or q n 0) (is : e ≡ word (words l m) g i) where
-            same_entry : e ≡ word (words l m) g (get_or q n 0)
-            same_entry = is ∙ ap (word (words l m) g) index
+          pub flags_changes : (g : ℕ) → IsFound l m (take n q) (Ok g) → (w frame : ℕ) → flags_say given (E q) ≡ Ok (w, frame) → IsChange l.levels l.window M q w
+          flags_changes g found w frame = by (used (E q)) refl
+            where
+              says : Bool → Result (ℕ × ℕ) Refusal
+              says is_used = cond is_used (Ok (bit_or (address (E q)) given, address (E q))) (Err PageNotMapped)
 
-            says : (u : Bool) → used e ≡ u → flags_say given (word (words l m) g (get_or q n 0)) ≡ cond u (Ok (bit_or (address e) given, address e)) (Err PageNotMapped)
-            says u known = ap (flags_say given) (sym same_entry) ∙ ap (λ u. cond u (Ok (bit_or (address e) given, address e)) (Err PageNotMapped)) known
+              by : (u : Bool) → used (E q) ≡ u → says u ≡ Ok (w, frame) → IsChange l.levels l.window M q w
+              by true some said = subst (IsChange l.levels l.window M q) (ap (word_said w) said) (flags_change (never_stopped l m q n given size g found) some)
+              by false none said = absurd (let t = said in cc)
 
-            pub flags_of_unused : used e ≡ false → Ends l m after (Refused PageNotMapped) m
-            flags_of_unused none = refused l m valid q n size (flags_say given) after rule g found PageNotMapped (says false none)
-
-            pub flags_set : Distinct l.places → used e ≡ true → (o : Memory) → IsSet l.places m g i (bit_or (address e) given) o → Ends l m after (Done (address e)) o
-            flags_set apart some o set =
-                let read = word_is l m valid q n size (flags_say given) after rule g found ∙ sym same_entry in
-                changed l m valid q n size (flags_say given) after rule g found apart (omega (arith, low, high)) (bit_or (address e) given) (address e) (says true some)
-                (subst (λ e. IsChange l.levels l.window M q (bit_or (address e) given)) read (flags_change (never_stopped l m q n given size g found) (ap used read ∙ some)))
-                o (subst (λ i. IsSet l.places m g i (bit_or (address e) given) o) index set)
+          -- the entry was asked
+          pub flags_ended : Distinct l.places → (g : ℕ) → IsFound l m (take n q) (Ok g) → get_or q n 0 < 512
+              → (o : Memory) → let e = word (words l m) g (get_or q n 0) in IsSet l.places m g (get_or q n 0) (word_said e (flags_say given e)) o → Ends l m after (answer_said (flags_say given e)) o
+          flags_ended apart g found inside = ended l m valid q n size (flags_say given) after rule g found apart (omega (arith, low, high)) inside (flags_changes g found)

@@ -72,7 +72,6 @@ module _ (L : ℕ) (window : Option Window) (M : PathMap) (level : ℕ) (page : 
   -- the flags of the entry of a level on the path of a page whose own entry is of another level
   pub table_flags_rule : allowed L window M (SetFlags level page given)
       ≡ (no_address given && not (begins_with window page) && cond (nat_lt 3 level) (not (huge given)) (nat_le level own || keeps_huge E q given))
-  unfolding allowed
   table_flags_rule = ap (λ b. no_address given && not (begins_with window page) && cond (nat_lt 3 level) (not (huge given)) b) refused_or_kept
 
   pub low_flags_rule : level ≤ 3 → allowed L window M (SetFlags level page given) ≡ (no_address given && not (begins_with window page) && (nat_le level own || keeps_huge E q given))

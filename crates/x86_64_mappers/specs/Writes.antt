@@ -1,5 +1,5 @@
--- What a walker's steps do to a memory, one table at a time. m is the memory before, n the memory after.
-use Rattle.std.specs.Prelude.{◌≡◌, ◌⊎◌, ℕ, true, false, List, [], ◌∷◌, length, set, Some, IsSome, unwrap_or, bit_or, Result, Ok, Err}
+-- What a mapper's steps do to a memory, one table at a time. m is the memory before, n the memory after.
+use Rattle.std.specs.Prelude.{◌≡◌, ◌⊎◌, ℕ, true, false, List, [], ◌∷◌, length, set, Some, IsSome, bit_or, Result, Ok, Err}
 use Rattle.std.specs.FinMap.{insert}
 use Rattle.x86_64_model.specs.Entry.{used, huge, address}
 use Rattle.x86_64_model.specs.Memory.{Memory, Places, words_of, word}
@@ -13,10 +13,6 @@ word_in_frame places m f i = word (words_of m places) f i
 -- the frame is covered and in the memory
 abbrev pub IsThere : Places → Memory → (frame : ℕ) → Type 0
 IsThere places m f = IsSome (words_of m places f)
-
--- the memory with word i of the frame's table set
-abbrev pub with_word : Places → Memory → (f i w : ℕ) → Memory
-with_word places m f i w = insert m (places.place f) (set (unwrap_or (words_of m places f) []) i w)
 
 -- word i of the frame's table was set
 pub record IsSet (places : Places) (m : Memory) (f i w : ℕ) (n : Memory) : Type 0 where

@@ -1,9 +1,9 @@
 //! Mappers: they read and change the page tables of a physical memory that was lent to them.
 #![tactic(auto)]
 
+mod access;
 pub mod laws;
 pub mod mapped_page_table;
 pub mod offset_page_table;
 #[cfg(test)]
 mod tests;
-mod walker;

@@ -1,9 +1,11 @@
 //! The mapper that finds tables by a frame mapping.
 ghost use Rattle.std.specs.Prelude.{◌≡◌, ◌↔◌, Some, IfOk, IsTrue};
-ghost use Rattle.x86_64_model.specs.Layout.{Valid};
+ghost use Rattle.x86_64_model.specs.Layout.{Valid as ValidIn};
+ghost use Rattle.x86_64_model.specs.Owned.{Valid};
 ghost use Rattle.x86_64_mappers.specs.Layouts.{direct, root_table, HasRoot};
 
-use crate::walker::Walker;
+use crate::access::{TableAccess, change, condition, map, translate};
+use bitflags::Flags;
 use std::alloc::{AllocError, Global};
 use x86_64_addr::addr::VirtAddr;
 use x86_64_addr::index::PageTableIndex;
@@ -11,7 +13,7 @@ use x86_64_page::frame::PhysFrame;
 use x86_64_page::page::{PageSize, Size4KiB};
 use x86_64_tables::frame_alloc::FrameAllocator;
 use x86_64_tables::mapper::{
-    FlagUpdateError, MapToError, Mapper, PageTables, PathCalls, Translate, TranslateError,
+    FlagUpdateError, MapToError, Mapper, PageTables, PathCalls, Tables, Translate, TranslateError,
     TranslateResult, UnmapError,
 };
 use x86_64_tables::page_table::{PageTable, PageTableFlags};
@@ -23,18 +25,18 @@ use x86_64_tables::phys_memory::{PageTableFrameMapping, PhysMemory, is_valid_hie
 pub struct MappedPageTable<'a, P: PageTableFrameMapping> {
     memory: &'a mut PhysMemory,
     root: PhysFrame<Size4KiB>,
-    walker: Walker<P>,
-    ghost has_root: { HasRoot (direct (P.places walker.mapping) root) memory.now },
+    mapping: P,
+    ghost has_root: { HasRoot (direct (P.places mapping) root) memory.now },
 }
 
 impl<'a, P: PageTableFrameMapping + Drop> Drop for MappedPageTable<'a, P> {
     fn drop(self)
-        ensures { self.exit.0.now ≡ ⟦<Self as PageTables>⟧.memory self.entry }
+        ensures { self.exit.0.now ≡ (⟦<Self as Tables>⟧.hierarchy self.entry).memory }
     {
         let MappedPageTable {
             memory: _,
             root: _,
-            walker: _,
+            mapping: _,
         } = self;
     }
 }
@@ -48,33 +50,32 @@ impl<'a, P: PageTableFrameMapping> MappedPageTable<'a, P> {
     /// Condition: the hierarchy is valid. Test that by
     /// [`is_valid_hierarchy`](x86_64_tables::phys_memory::is_valid_hierarchy) with the same mapping.
     pub fn new(memory: &'a mut PhysMemory, root: PhysFrame<Size4KiB>, mapping: P) -> Self
-        requires { Valid (direct (P.places mapping) root) memory.old }
-        ensures lent { ⟦<Self as PageTables>⟧.lent result ≡ (memory.entry.ghost_name, mapping) }
-        ensures memory { ⟦<Self as PageTables>⟧.memory result ≡ memory.old }
-        ensures layout { ⟦<Self as PageTables>⟧.layout result ≡ direct (P.places mapping) root }
+        requires { ValidIn (direct (P.places mapping) root) memory.old }
+        ensures lent { (⟦<Self as Tables>⟧.hierarchy result).lent ≡ (memory.entry.ghost_name, mapping) }
+        ensures memory { (⟦<Self as Tables>⟧.hierarchy result).memory ≡ memory.old }
+        ensures layout { (⟦<Self as Tables>⟧.hierarchy result).layout ≡ direct (P.places mapping) root }
     {
-        let walker = Walker::new(mapping);
         MappedPageTable {
             memory,
             root,
-            walker,
+            mapping,
         }
     }
 
     /// Gives the table of level four, in the root's frame.
     pub fn level_4_table(&self) -> &PageTable
-        ensures { root_table (⟦<Self as PageTables>⟧.layout self.now) (⟦<Self as PageTables>⟧.memory self.now) ≡ Some result.now }
+        ensures { root_table (⟦<Self as Tables>⟧.hierarchy self.now) ≡ Some result.now }
     {
-        self.walker.table(self.memory, self.root)
+        self.table(&[], self.root)
     }
 
     /// Lends the table of level four to be changed.
     pub fn level_4_table_mut(&mut self) -> &mut PageTable
         ensures* lends { sem 𝓛 (LendsRootTable P.row ⟦<P as PageTableFrameMapping>⟧ self.entry result) }
-        ensures value { root_table (⟦<Self as PageTables>⟧.layout self.old) (⟦<Self as PageTables>⟧.memory self.old) ≡ Some result.now }
+        ensures value { root_table (⟦<Self as Tables>⟧.hierarchy self.old) ≡ Some result.now }
     {
-        let place = self.walker.mapping().frame_to_pointer(self.root);
-        self.memory.table_mut(place).unwrap()
+        let root = self.root;
+        self.table_mut(&[], root)
     }
 
     /// Tells whether the hierarchy is valid now.
@@ -83,32 +84,28 @@ impl<'a, P: PageTableFrameMapping> MappedPageTable<'a, P> {
     ///
     /// `AllocError` where memory is refused.
     pub fn is_valid(&self, alloc: Global) -> Result<bool, AllocError>
-        ensures { IfOk result (λ valid. IsTrue valid ↔ Valid (⟦<Self as PageTables>⟧.layout self.now) (⟦<Self as PageTables>⟧.memory self.now)) }
+        ensures { IfOk result (λ valid. IsTrue valid ↔ Valid (⟦<Self as Tables>⟧.hierarchy self.now)) }
     {
-        is_valid_hierarchy(alloc, self.memory, self.walker.mapping(), self.root)
+        is_valid_hierarchy(alloc, self.memory, &self.mapping, self.root)
     }
 
     /// Gives the frame mapping that the mapper was made with.
     pub fn page_table_frame_mapping(&self) -> &P
-        ensures mapping { result.now ≡ (⟦<Self as PageTables>⟧.lent self.now).1 }
-        ensures places { P.places result.now ≡ (⟦<Self as PageTables>⟧.layout self.now).places }
+        ensures mapping { result.now ≡ (⟦<Self as Tables>⟧.hierarchy self.now).lent.1 }
+        ensures places { P.places result.now ≡ (⟦<Self as Tables>⟧.hierarchy self.now).layout.places }
     {
-        self.walker.mapping()
+        &self.mapping
     }
 }
 
-impl<'a, P: PageTableFrameMapping> PageTables for MappedPageTable<'a, P> {
+impl<'a, P: PageTableFrameMapping> Tables for MappedPageTable<'a, P> {
     ghost use Rattle.std.specs.Borrow.{GName};
-    ghost use Rattle.x86_64_mappers.specs.Layouts.{no_flags};
-    ghost use Rattle.std.proofs.Common.{refl};
-
-    ghost memory = { λ mapper. mapper.memory.now };
-
-    ghost layout = { λ mapper. direct (P.places mapper.walker.mapping) mapper.root };
+    ghost use Rattle.x86_64_mappers.specs.Layouts.{owned, no_flags, above_three};
 
     ghost Lent = { GName × P };
 
-    ghost lent = { λ mapper. (mapper.memory.ghost_name, mapper.walker.mapping) };
+    ghost hierarchy = { λ mapper. let lent : GName × P = (mapper.memory.ghost_name, mapper.mapping) in
+        owned (P.places mapper.mapping) mapper.root mapper.memory.now lent };
 
     ghost added_flags = { λ _. no_flags };
 
@@ -116,14 +113,60 @@ impl<'a, P: PageTableFrameMapping> PageTables for MappedPageTable<'a, P> {
         None
     }
 
-    ghost four_levels = { λ _. refl };
+    ghost some_levels = { λ _. above_three };
 
-    ghost is_mapping = { λ mapper. P.is_mapping mapper.walker.mapping };
+    ghost is_mapping = { λ mapper. P.is_mapping mapper.mapping };
+}
+
+impl<'a, P: PageTableFrameMapping> PageTables for MappedPageTable<'a, P> {
+    ghost use Rattle.std.proofs.Common.{refl};
+
+    ghost four_levels = { λ _. refl };
+}
+
+impl<'a, P: PageTableFrameMapping> TableAccess for MappedPageTable<'a, P> {
+    ghost use Rattle.std.specs.FinMap.{insert};
+    ghost use Rattle.std.proofs.Common.{refl};
+    ghost use Rattle.x86_64_mappers.specs.Lending.{root_stays};
+
+    ghost with_table = { λ mapper frame table. let place = (P.places mapper.mapping).place frame in record mapper {
+      memory = record mapper.memory { now = insert mapper.memory.now place table };
+      has_root = root_stays (P.places mapper.mapping) mapper.root mapper.memory.now place table mapper.has_root;
+    } };
+
+    fn root(&self) -> PhysFrame<Size4KiB> {
+        self.root
+    }
+
+    fn new_table_flags(&self) -> PageTableFlags {
+        PageTableFlags::empty()
+    }
+
+    fn table(&self, _path: &[PageTableIndex], frame: PhysFrame<Size4KiB>) -> &PageTable {
+        self.memory
+            .table(self.mapping.frame_to_pointer(frame))
+            .unwrap()
+    }
+
+    fn table_mut(
+        &mut self,
+        _path: &[PageTableIndex],
+        frame: PhysFrame<Size4KiB>,
+    ) -> &mut PageTable {
+        let place = self.mapping.frame_to_pointer(frame);
+        self.memory.table_mut(place).unwrap()
+    }
+
+    ghost puts = { λ mapper frame table. refl };
+
+    ghost keeps_layout = { λ mapper frame table. refl };
+
+    ghost keeps_lent = { λ mapper frame table. refl };
 }
 
 impl<'a, P: PageTableFrameMapping> Translate for MappedPageTable<'a, P> {
     fn translate(&self, addr: VirtAddr) -> TranslateResult {
-        self.walker.translate(self.memory, self.root, addr)
+        translate::translate(self, addr)
     }
 }
 
@@ -136,15 +179,7 @@ impl<'a, P: PageTableFrameMapping> PathCalls for MappedPageTable<'a, P> {
         parent_flags: PageTableFlags,
         frame_allocator: &mut A,
     ) -> Result<(), MapToError<S>> {
-        self.walker.map_path(
-            self.memory,
-            self.root,
-            path,
-            frame,
-            flags,
-            parent_flags,
-            frame_allocator,
-        )
+        map::map_path(self, path, frame, flags, parent_flags, frame_allocator)
     }
 
     fn path_allowed<S: PageSize>(
@@ -153,15 +188,14 @@ impl<'a, P: PageTableFrameMapping> PathCalls for MappedPageTable<'a, P> {
         flags: PageTableFlags,
         parent_flags: PageTableFlags,
     ) -> bool {
-        self.walker
-            .path_allowed::<S>(self.memory, self.root, path, flags, parent_flags)
+        condition::path_allowed::<S, _>(self, path, flags, parent_flags)
     }
 
     fn unmap_path<S: PageSize>(
         &mut self,
         path: &[PageTableIndex],
     ) -> Result<PhysFrame<S>, UnmapError> {
-        self.walker.unmap_path(self.memory, self.root, path)
+        change::unmap_path(self, path)
     }
 
     fn update_path<S: PageSize>(
@@ -169,8 +203,7 @@ impl<'a, P: PageTableFrameMapping> PathCalls for MappedPageTable<'a, P> {
         path: &[PageTableIndex],
         flags: PageTableFlags,
     ) -> Result<(), FlagUpdateError> {
-        self.walker
-            .update_path::<S>(self.memory, self.root, path, flags)
+        change::update_path::<S, _>(self, path, flags)
     }
 
     fn set_table_flags<S: PageSize>(
@@ -179,8 +212,7 @@ impl<'a, P: PageTableFrameMapping> PathCalls for MappedPageTable<'a, P> {
         level: u64,
         flags: PageTableFlags,
     ) -> Result<(), FlagUpdateError> {
-        self.walker
-            .set_table_flags::<S>(self.memory, self.root, path, level, flags)
+        change::set_table_flags::<S, _>(self, path, level, flags)
     }
 
     fn table_flags_allowed<S: PageSize>(
@@ -189,15 +221,14 @@ impl<'a, P: PageTableFrameMapping> PathCalls for MappedPageTable<'a, P> {
         level: u64,
         flags: PageTableFlags,
     ) -> bool {
-        self.walker
-            .table_flags_allowed::<S>(self.memory, self.root, path, level, flags)
+        condition::table_flags_allowed::<S, _>(self, path, level, flags)
     }
 
     fn translate_path<S: PageSize>(
         &self,
         path: &[PageTableIndex],
     ) -> Result<PhysFrame<S>, TranslateError> {
-        self.walker.translate_path(self.memory, self.root, path)
+        translate::translate_path(self, path)
     }
 }
 

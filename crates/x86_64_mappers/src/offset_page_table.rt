@@ -1,13 +1,15 @@
 //! The mapper that finds tables where the whole memory stands in the virtual address space, at an offset.
 ghost use Rattle.std.specs.Prelude.{◌≡◌, ◌↔◌, Some, IsTrue};
-ghost use Rattle.x86_64_model.specs.Layout.{Valid};
+ghost use Rattle.x86_64_model.specs.Layout.{Valid as ValidIn};
+ghost use Rattle.x86_64_model.specs.Owned.{Valid};
 ghost use Rattle.x86_64_model.specs.Memory.{identity_places};
 ghost use Rattle.x86_64_mappers.specs.Layouts.{direct, root_table, HasRoot};
 ghost use Rattle.x86_64_mappers.specs.Offsets.{offset_places, OffsetFits};
 
 mod phys_offset;
 
-use crate::walker::Walker;
+use crate::access::{TableAccess, change, condition, map, translate};
+use bitflags::Flags;
 use phys_offset::{PhysOffset, reaches_place};
 use x86_64_addr::addr::VirtAddr;
 use x86_64_addr::index::PageTableIndex;
@@ -15,7 +17,7 @@ use x86_64_page::frame::PhysFrame;
 use x86_64_page::page::{PageSize, Size4KiB};
 use x86_64_tables::frame_alloc::FrameAllocator;
 use x86_64_tables::mapper::{
-    FlagUpdateError, MapToError, Mapper, PageTables, PathCalls, Translate, TranslateError,
+    FlagUpdateError, MapToError, Mapper, PageTables, PathCalls, Tables, Translate, TranslateError,
     TranslateResult, UnmapError,
 };
 use x86_64_tables::page_table::{PageTable, PageTableFlags};
@@ -28,18 +30,18 @@ use x86_64_tables::phys_memory::{PageTableFrameMapping, PhysMemory};
 pub struct OffsetPageTable<'a> {
     memory: &'a mut PhysMemory,
     root: PhysFrame<Size4KiB>,
-    walker: Walker<PhysOffset>,
-    ghost has_root: { HasRoot (direct (offset_places walker.mapping.offset) root) memory.now },
+    mapping: PhysOffset,
+    ghost has_root: { HasRoot (direct (offset_places mapping.offset) root) memory.now },
 }
 
 impl<'a> Drop for OffsetPageTable<'a> {
     fn drop(self)
-        ensures { self.exit.0.now ≡ ⟦<Self as PageTables>⟧.memory self.entry }
+        ensures { self.exit.0.now ≡ (⟦<Self as Tables>⟧.hierarchy self.entry).memory }
     {
         let OffsetPageTable {
             memory: _,
             root: _,
-            walker: _,
+            mapping: _,
         } = self;
     }
 }
@@ -54,18 +56,18 @@ impl<'a> OffsetPageTable<'a> {
     /// Test that by [`is_valid_hierarchy`](x86_64_tables::phys_memory::is_valid_hierarchy) with
     /// [`IdentityMapping`](x86_64_tables::phys_memory::IdentityMapping) and by [`offset_fits`](Self::offset_fits).
     pub fn new(memory: &'a mut PhysMemory, root: PhysFrame<Size4KiB>, phys_offset: VirtAddr) -> Self
-        requires valid { Valid (direct identity_places root) memory.old }
+        requires valid { ValidIn (direct identity_places root) memory.old }
         requires fits { OffsetFits memory.old phys_offset }
-        ensures lent { ⟦<Self as PageTables>⟧.lent result ≡ (memory.entry.ghost_name, phys_offset) }
-        ensures memory { ⟦<Self as PageTables>⟧.memory result ≡ memory.old }
-        ensures layout { ⟦<Self as PageTables>⟧.layout result ≡ direct (offset_places phys_offset) root }
-        ensures valid { Valid (⟦<Self as PageTables>⟧.layout result) (⟦<Self as PageTables>⟧.memory result) }
+        ensures lent { (⟦<Self as Tables>⟧.hierarchy result).lent ≡ (memory.entry.ghost_name, phys_offset) }
+        ensures memory { (⟦<Self as Tables>⟧.hierarchy result).memory ≡ memory.old }
+        ensures layout { (⟦<Self as Tables>⟧.hierarchy result).layout ≡ direct (offset_places phys_offset) root }
+        ensures valid { Valid (⟦<Self as Tables>⟧.hierarchy result) }
     {
-        let walker = Walker::new(PhysOffset::new(phys_offset));
+        let mapping = PhysOffset::new(phys_offset);
         OffsetPageTable {
             memory,
             root,
-            walker,
+            mapping,
         }
     }
 
@@ -86,43 +88,39 @@ impl<'a> OffsetPageTable<'a> {
 
     /// Gives the table of level four, in the root's frame.
     pub fn level_4_table(&self) -> &PageTable
-        ensures { root_table (⟦<Self as PageTables>⟧.layout self.now) (⟦<Self as PageTables>⟧.memory self.now) ≡ Some result.now }
+        ensures { root_table (⟦<Self as Tables>⟧.hierarchy self.now) ≡ Some result.now }
     {
-        self.walker.table(self.memory, self.root)
+        self.table(&[], self.root)
     }
 
     /// Lends the table of level four to be changed.
     pub fn level_4_table_mut(&mut self) -> &mut PageTable
         ensures* lends { sem 𝓛 (LendsOffsetRootTable self.entry result) }
-        ensures value { root_table (⟦<Self as PageTables>⟧.layout self.old) (⟦<Self as PageTables>⟧.memory self.old) ≡ Some result.now }
+        ensures value { root_table (⟦<Self as Tables>⟧.hierarchy self.old) ≡ Some result.now }
     {
-        let place = self.walker.mapping().frame_to_pointer(self.root);
-        self.memory.table_mut(place).unwrap()
+        let root = self.root;
+        self.table_mut(&[], root)
     }
 
     /// Gives the offset that the mapper was made with.
     pub fn phys_offset(&self) -> VirtAddr
-        ensures offset { result ≡ (⟦<Self as PageTables>⟧.lent self.now).1 }
-        ensures places { (⟦<Self as PageTables>⟧.layout self.now).places ≡ offset_places result }
+        ensures offset { result ≡ (⟦<Self as Tables>⟧.hierarchy self.now).lent.1 }
+        ensures places { (⟦<Self as Tables>⟧.hierarchy self.now).layout.places ≡ offset_places result }
     {
-        self.walker.mapping().offset()
+        self.mapping.offset()
     }
 }
 
-impl<'a> PageTables for OffsetPageTable<'a> {
-    ghost use Rattle.std.specs.Prelude.{ℕ};
+impl<'a> Tables for OffsetPageTable<'a> {
     ghost use Rattle.std.specs.Borrow.{GName};
-    ghost use Rattle.x86_64_mappers.specs.Layouts.{no_flags};
+    ghost use Rattle.std.specs.Prelude.{ℕ};
+    ghost use Rattle.x86_64_mappers.specs.Layouts.{owned, no_flags, above_three};
     ghost use Rattle.x86_64_mappers.specs.Offsets.{offset_is_mapping};
-    ghost use Rattle.std.proofs.Common.{refl};
-
-    ghost memory = { λ mapper. mapper.memory.now };
-
-    ghost layout = { λ mapper. direct (offset_places mapper.walker.mapping.offset) mapper.root };
 
     ghost Lent = { GName × ℕ };
 
-    ghost lent = { λ mapper. (mapper.memory.ghost_name, mapper.walker.mapping.offset) };
+    ghost hierarchy = { λ mapper. let lent : GName × ℕ = (mapper.memory.ghost_name, mapper.mapping.offset) in
+        owned (offset_places mapper.mapping.offset) mapper.root mapper.memory.now lent };
 
     ghost added_flags = { λ _. no_flags };
 
@@ -130,14 +128,60 @@ impl<'a> PageTables for OffsetPageTable<'a> {
         None
     }
 
-    ghost four_levels = { λ _. refl };
+    ghost some_levels = { λ _. above_three };
 
-    ghost is_mapping = { λ mapper. offset_is_mapping mapper.walker.mapping.offset };
+    ghost is_mapping = { λ mapper. offset_is_mapping mapper.mapping.offset };
+}
+
+impl<'a> PageTables for OffsetPageTable<'a> {
+    ghost use Rattle.std.proofs.Common.{refl};
+
+    ghost four_levels = { λ _. refl };
+}
+
+impl<'a> TableAccess for OffsetPageTable<'a> {
+    ghost use Rattle.std.specs.FinMap.{insert};
+    ghost use Rattle.std.proofs.Common.{refl};
+    ghost use Rattle.x86_64_mappers.specs.Lending.{root_stays};
+
+    ghost with_table = { λ mapper frame table. let place = (offset_places mapper.mapping.offset).place frame in record mapper {
+      memory = record mapper.memory { now = insert mapper.memory.now place table };
+      has_root = root_stays (offset_places mapper.mapping.offset) mapper.root mapper.memory.now place table mapper.has_root;
+    } };
+
+    fn root(&self) -> PhysFrame<Size4KiB> {
+        self.root
+    }
+
+    fn new_table_flags(&self) -> PageTableFlags {
+        PageTableFlags::empty()
+    }
+
+    fn table(&self, _path: &[PageTableIndex], frame: PhysFrame<Size4KiB>) -> &PageTable {
+        self.memory
+            .table(self.mapping.frame_to_pointer(frame))
+            .unwrap()
+    }
+
+    fn table_mut(
+        &mut self,
+        _path: &[PageTableIndex],
+        frame: PhysFrame<Size4KiB>,
+    ) -> &mut PageTable {
+        let place = self.mapping.frame_to_pointer(frame);
+        self.memory.table_mut(place).unwrap()
+    }
+
+    ghost puts = { λ mapper frame table. refl };
+
+    ghost keeps_layout = { λ mapper frame table. refl };
+
+    ghost keeps_lent = { λ mapper frame table. refl };
 }
 
 impl<'a> Translate for OffsetPageTable<'a> {
     fn translate(&self, addr: VirtAddr) -> TranslateResult {
-        self.walker.translate(self.memory, self.root, addr)
+        translate::translate(self, addr)
     }
 }
 
@@ -150,15 +194,7 @@ impl<'a> PathCalls for OffsetPageTable<'a> {
         parent_flags: PageTableFlags,
         frame_allocator: &mut A,
     ) -> Result<(), MapToError<S>> {
-        self.walker.map_path(
-            self.memory,
-            self.root,
-            path,
-            frame,
-            flags,
-            parent_flags,
-            frame_allocator,
-        )
+        map::map_path(self, path, frame, flags, parent_flags, frame_allocator)
     }
 
     fn path_allowed<S: PageSize>(
@@ -167,15 +203,14 @@ impl<'a> PathCalls for OffsetPageTable<'a> {
         flags: PageTableFlags,
         parent_flags: PageTableFlags,
     ) -> bool {
-        self.walker
-            .path_allowed::<S>(self.memory, self.root, path, flags, parent_flags)
+        condition::path_allowed::<S, _>(self, path, flags, parent_flags)
     }
 
     fn unmap_path<S: PageSize>(
         &mut self,
         path: &[PageTableIndex],
     ) -> Result<PhysFrame<S>, UnmapError> {
-        self.walker.unmap_path(self.memory, self.root, path)
+        change::unmap_path(self, path)
     }
 
     fn update_path<S: PageSize>(
@@ -183,8 +218,7 @@ impl<'a> PathCalls for OffsetPageTable<'a> {
         path: &[PageTableIndex],
         flags: PageTableFlags,
     ) -> Result<(), FlagUpdateError> {
-        self.walker
-            .update_path::<S>(self.memory, self.root, path, flags)
+        change::update_path::<S, _>(self, path, flags)
     }
 
     fn set_table_flags<S: PageSize>(
@@ -193,8 +227,7 @@ impl<'a> PathCalls for OffsetPageTable<'a> {
         level: u64,
         flags: PageTableFlags,
     ) -> Result<(), FlagUpdateError> {
-        self.walker
-            .set_table_flags::<S>(self.memory, self.root, path, level, flags)
+        change::set_table_flags::<S, _>(self, path, level, flags)
     }
 
     fn table_flags_allowed<S: PageSize>(
@@ -203,15 +236,14 @@ impl<'a> PathCalls for OffsetPageTable<'a> {
         level: u64,
         flags: PageTableFlags,
     ) -> bool {
-        self.walker
-            .table_flags_allowed::<S>(self.memory, self.root, path, level, flags)
+        condition::table_flags_allowed::<S, _>(self, path, level, flags)
     }
 
     fn translate_path<S: PageSize>(
         &self,
         path: &[PageTableIndex],
     ) -> Result<PhysFrame<S>, TranslateError> {
-        self.walker.translate_path(self.memory, self.root, path)
+        translate::translate_path(self, path)
     }
 }
 

@@ -20,7 +20,7 @@ use x86_64_addr::addr::{PhysAddr, VirtAddr};
 use x86_64_addr::index::PageTableIndex;
 use x86_64_page::frame::PhysFrame;
 use x86_64_page::page::{Size1GiB, Size2MiB, Size4KiB};
-use x86_64_tables::mapper::{MappedFrame, PageTables, Translate, TranslateResult};
+use x86_64_tables::mapper::{MappedFrame, Tables, Translate, TranslateResult};
 use x86_64_tables::page_table::{PageTableEntry, PageTableFlags};
 use x86_64_tables::phys_memory::{
     FramePlace, IdentityMapping, PageTableFrameMapping, PhysMemory, is_valid_hierarchy, page_walk,
@@ -37,7 +37,7 @@ fn look_up(memory: &mut PhysMemory, root: PhysFrame<Size4KiB>, addr: VirtAddr) -
 
 /// Gives the physical address by any mapper.
 fn address_by<M: Translate>(mapper: &M, addr: VirtAddr) -> Option<PhysAddr>
-    requires { Valid (M.layout mapper.now) (M.memory mapper.now) }
+    requires { Valid (M.hierarchy mapper.now).layout (M.hierarchy mapper.now).memory }
 {
     mapper.translate_addr(addr)
 }

@@ -33,7 +33,7 @@ const WORDS: [(u64, u16, u64); 8] = [
 
 /// Gives the frame of the page at an address, by any mapper.
 fn frame_by<S: PageSize, M: Mapper<S>>(mapper: &M, address: u64) -> Result<u64, TranslateError>
-    requires { Valid (M.layout mapper.now) (M.memory mapper.now) }
+    requires { Valid (M.hierarchy mapper.now).layout (M.hierarchy mapper.now).memory }
 {
     let frame = mapper.translate_page(page(address))?;
     Ok(frame.start_address().as_u64())
@@ -83,7 +83,6 @@ fn pages_have_their_frames(rt: HostRuntime) -> Result<(), Fail> {
 }
 
 /// Sets the flags of the page at an address, by a mapper that is dropped then.
-#[tactic(auto, unfolding(x86_64_model::specs::Allowed::allowed))]
 fn update<S: PageSize>(
     rt: &impl Abort,
     memory: &mut PhysMemory,
@@ -216,7 +215,7 @@ fn flags_of_tables_are_changed(rt: HostRuntime) -> Result<(), Fail> {
 }
 
 /// Makes the entry of level four on the path of the page at an address writable alone, by a mapper that is dropped then.
-#[tactic(auto, unfolding(x86_64_model::specs::Allowed::allowed, x86_64_model::specs::Entry::has, x86_64_model::specs::Entry::address))]
+#[tactic(auto, unfolding(x86_64_model::specs::Entry::has, x86_64_model::specs::Entry::address))]
 fn set_fourth(
     memory: &mut PhysMemory,
     root: PhysFrame<Size4KiB>,

@@ -24,7 +24,7 @@ fn map_by<S: PageSize, M: Mapper<S>>(
     flags: [u64; 2],
     pool: &mut FramePool,
 ) -> Result<(), MapToError<S>>
-    requires { IsReady (M.layout mapper.old) (M.memory mapper.old) pool.old.frames }
+    requires { IsReady (M.hierarchy mapper.old).layout (M.hierarchy mapper.old).memory pool.old.frames }
 {
     let [flags, parent_flags] = flags.map(PageTableFlags::from_bits_retain);
     assert!(rt; mapper.map_allowed(page, flags, parent_flags));
@@ -34,7 +34,7 @@ fn map_by<S: PageSize, M: Mapper<S>>(
 }
 
 /// Maps the page of a size at an address to the frame at another, in a memory with the root in frame 0x1000.
-#[tactic(auto, using(x86_64_model::specs::Lemmas::Machines::Fitting::ready_of_fits))]
+#[tactic(auto, using(x86_64_model::proofs::Lemmas::Machines::Fitting::ready_of_fits))]
 fn map<S: PageSize>(
     rt: &impl Abort,
     alloc: Global,

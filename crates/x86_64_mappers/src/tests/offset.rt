@@ -4,7 +4,7 @@ use crate::offset_page_table::OffsetPageTable;
 use std::test::Fail;
 use x86_64_addr::addr::VirtAddr;
 use x86_64_page::page::{Page, Size4KiB};
-use x86_64_tables::mapper::{MappedFrame, Mapper, PageTables, Translate, TranslateResult};
+use x86_64_tables::mapper::{MappedFrame, Mapper, Tables, Translate, TranslateResult};
 use x86_64_tables::phys_memory::{IdentityMapping, PhysMemory, is_valid_hierarchy};
 
 #[test]

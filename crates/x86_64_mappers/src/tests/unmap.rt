@@ -1,14 +1,10 @@
 //! Unmaps of pages, and conditions of maps.
-ghost use Rattle.std.specs.Prelude.{◌≡◌, IsTrue, not};
-ghost use Rattle.x86_64_model.specs.Allowed.{map_allowed};
-ghost use Rattle.x86_64_model.specs.Layout.{Valid, paths};
-ghost use Rattle.x86_64_model.specs.MapperCalls.{IsChanged, after_unmap};
+ghost use Rattle.x86_64_model.specs.Call.{Unmap};
+ghost use Rattle.x86_64_model.specs.Layout.{Valid as ValidIn};
 ghost use Rattle.x86_64_model.specs.Memory.{identity_places};
-ghost use Rattle.x86_64_model.specs.Path.{path_at};
-ghost use Rattle.x86_64_model.specs.Window.{begins_with};
+ghost use Rattle.x86_64_model.specs.Owned.{Valid, May, Does, path_of};
 ghost use Rattle.x86_64_mappers.specs.Layouts.{direct};
 ghost use Rattle.x86_64_tables.specs.MapperAnswers.{frame_answer};
-ghost use Rattle.x86_64_tables.specs.PageTableFlags.{bits_of};
 
 use super::{image, small, word_of};
 use crate::mapped_page_table::MappedPageTable;
@@ -28,30 +24,23 @@ fn unmap_by<S: PageSize, M: Mapper<S>>(
     mapper: &mut M,
     page: Page<S>,
 ) -> Result<PhysFrame<S>, UnmapError>
-    requires valid { Valid (M.layout mapper.old) (M.memory mapper.old) }
-    requires outside { let layout = M.layout mapper.old in
-        IsTrue (not (begins_with layout.window (path_at layout.levels S.LEVEL page))) }
-    ensures answer { let layout = M.layout mapper.old in
-        frame_answer result ≡ (after_unmap layout (M.memory mapper.old) (path_at layout.levels S.LEVEL page)).answer }
-    ensures changed { let layout = M.layout mapper.old in
-        IsChanged layout (M.memory mapper.old) (after_unmap layout (M.memory mapper.old) (path_at layout.levels S.LEVEL page)) (M.memory mapper.new) }
-    ensures lent { M.lent mapper.new ≡ M.lent mapper.old }
+    requires { May (M.hierarchy mapper.old) (Unmap (path_of (M.hierarchy mapper.old) S.LEVEL page)) }
+    ensures { let h = M.hierarchy mapper.old in
+        Does h (Unmap (path_of h S.LEVEL page)) (frame_answer result) (M.hierarchy mapper.new) }
 {
     let (frame, flush) = mapper.unmap(page)?;
     flush.ignore();
     Ok(frame)
 }
 
-/// Unmaps a page by a mapper that is dropped then. The owner knows what the memory holds then.
+/// Unmaps a page by a mapper that is dropped then. The owner knows that the memory is valid again.
 fn unmap<S: PageSize>(
     memory: &mut PhysMemory,
     root: PhysFrame<Size4KiB>,
     page: Page<S>,
 ) -> Result<PhysFrame<S>, UnmapError>
-    requires { Valid (direct identity_places root) memory.old }
-    ensures answer { frame_answer result ≡ (after_unmap (direct identity_places root) memory.old (path_at 4 S.LEVEL page)).answer }
-    ensures changed { let layout = direct identity_places root in
-        IsChanged layout memory.old (after_unmap layout memory.old (path_at 4 S.LEVEL page)) memory.new }
+    requires { ValidIn (direct identity_places root) memory.old }
+    ensures { ValidIn (direct identity_places root) memory.new }
 {
     let mut mapper = MappedPageTable::new(memory, root, IdentityMapping);
     unmap_by(&mut mapper, page)
@@ -149,7 +138,7 @@ fn huge_pages_are_unmapped(rt: HostRuntime) -> Result<(), Fail> {
 
 /// Tells whether a page may be mapped, by any mapper.
 fn allowed_by<S: PageSize, M: Mapper<S>>(mapper: &M, page: Page<S>, flags: [u64; 2]) -> bool
-    requires { Valid (M.layout mapper.now) (M.memory mapper.now) }
+    requires { Valid (M.hierarchy mapper.now) }
 {
     let [flags, parent_flags] = flags.map(PageTableFlags::from_bits_retain);
     mapper.map_allowed(page, flags, parent_flags)

@@ -5,9 +5,9 @@ use Rattle.x86_64_mappers.proofs.offset_page_table.OffsetPageTable.new.Goals as 
 pub invariant_of-result : goal.invariant_of-result
 invariant_of-result c =
     let valid = (offset_valid c.args.memory.now c.args.phys_offset c.requires.fits c.args.root).0 c.requires.valid in
-    record { has_root = rw (c.new-walker.ensures, c.new.ensures) (valid_root _ _ _ valid) }
+    record { has_root = rw c.new-mapping.ensures (valid_root _ _ _ valid) }
 
 pub returns-clause-valid : goal.returns-clause-valid
 returns-clause-valid c =
     let valid = (offset_valid c.args.memory.now c.args.phys_offset c.requires.fits c.args.root).0 c.requires.valid in
-    rw (c.new-walker.ensures, c.new.ensures) valid
+    rw c.new-mapping.ensures valid

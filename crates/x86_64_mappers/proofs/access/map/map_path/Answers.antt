@@ -1,0 +1,67 @@
+use Rattle.std.proofs.Common.{◌≡◌, ◌∙◌, ◌-◌, true, length, get_or, sym, subst}
+use Rattle.std.proofs.lemmas.Result.{err_from_is_err_and}
+use Rattle.x86_64_model.specs.Allowed.{parents_present}
+use Rattle.x86_64_model.specs.Layout.{paths}
+use Rattle.x86_64_model.proofs.Lemmas.Machines.Effects.{map_may}
+use Rattle.x86_64_mappers.proofs.PageMaps.{page_stopped, page_mapped}
+use Rattle.x86_64_mappers.specs.Pages.{path_parted}
+use Rattle.x86_64_mappers.specs.Results.{create_refusal}
+use Rattle.x86_64_tables.specs.MapperAnswers.{map_answer}
+use Rattle.x86_64_mappers.proofs.OpenWays.{will_be_present}
+use Rattle.x86_64_mappers.proofs.MapEnds.{ends_map, map_is_allowed, outside_front}
+use Rattle.x86_64_mappers.proofs.Paths.{has_last_index, last_item, some_index_of, page_below_root}
+use Rattle.x86_64_mappers.proofs.access.map.map_path.Goals as goal
+
+pub create_tables-requires-clause-flags : goal.create_tables-requires-clause-flags
+create_tables-requires-clause-flags g c =
+    let l = (g.M.Tables.hierarchy c.args.mapper.now).layout in
+    (map_may l.levels l.window (paths l (g.M.Tables.hierarchy c.args.mapper.now).memory) c.args.path.now c.args.flags.0 c.args.parent_flags.0 (map_is_allowed (g.M.Tables.hierarchy c.args.mapper.now) (g.A.FrameAllocator.supply c.args.frame_allocator.now) c.args.path.now c.args.frame c.args.flags.0 c.args.parent_flags.0 c.requires.may)).marks
+
+pub create_tables-requires-clause-outside : goal.create_tables-requires-clause-outside
+create_tables-requires-clause-outside g c =
+    let h = g.M.Tables.hierarchy c.args.mapper.now in
+    let q = c.args.path.now in
+    let may = map_is_allowed h (g.A.FrameAllocator.supply c.args.frame_allocator.now) q c.args.frame c.args.flags.0 c.args.parent_flags.0 c.requires.may in
+    outside_front h.layout.window (length q - 1) q (map_may h.layout.levels h.layout.window (paths h.layout h.memory) q c.args.flags.0 c.args.parent_flags.0 may).outside
+
+pub create_tables-requires-clause-present : goal.create_tables-requires-clause-present
+create_tables-requires-clause-present g c =
+    let s = c.args.mapper.now in
+    let l = (g.M.Tables.hierarchy s).layout in
+    let M = paths l (g.M.Tables.hierarchy s).memory in
+    let q = c.args.path.now in
+    let more = c.args.parent_flags.0 in
+    let size = has_last_index q (some_index_of l.levels q g.S.PageSize.LEVEL c.requires.levels (page_below_root l.levels g.S.PageSize.LEVEL (g.met.M.Tables.some_levels s) g.S.PageSize.high)) in
+    will_be_present M more _ (get_or q (length q - 1) 0) (subst (λ q. parents_present M more q ≡ true) (sym (path_parted q (length q - 1) size))
+    (map_may l.levels l.window M q c.args.flags.0 more (map_is_allowed (g.M.Tables.hierarchy c.args.mapper.now) (g.A.FrameAllocator.supply c.args.frame_allocator.now) c.args.path.now c.args.frame c.args.flags.0 c.args.parent_flags.0 c.requires.may)).parents)
+
+pub returns-in_err-table-clause-does : goal.returns-in_err-table-clause-does
+returns-in_err-table-clause-does g c =
+    let s = c.args.mapper.now in
+    let l = (g.M.Tables.hierarchy s).layout in
+    let m = (g.M.Tables.hierarchy s).memory in
+    let q = c.args.path.now in
+    let more = c.args.parent_flags.0 in
+    let size = has_last_index q (some_index_of l.levels q g.S.PageSize.LEVEL c.requires.levels (page_below_root l.levels g.S.PageSize.LEVEL (g.met.M.Tables.some_levels s) g.S.PageSize.high)) in
+    let may = map_may l.levels l.window (paths l m) q c.args.flags.0 more (map_is_allowed (g.M.Tables.hierarchy c.args.mapper.now) (g.A.FrameAllocator.supply c.args.frame_allocator.now) c.args.path.now c.args.frame c.args.flags.0 c.args.parent_flags.0 c.requires.may) in
+    let e = err_from_is_err_and c.from_residual.result c.from_residual.ensures.1 in
+    rw (e.1, e.2) (ends_map (g.M.Tables.hierarchy s) (g.A.FrameAllocator.supply c.args.frame_allocator.now) q c.args.frame c.args.flags.0 more (g.M.Tables.hierarchy c.create_tables.new.mapper) c.create_tables.ensures.layout c.create_tables.ensures.lent _ _
+    (page_stopped l (g.met.M.Tables.is_mapping s).distinct m (g.A.FrameAllocator.supply c.args.frame_allocator.now) g.S.PageSize.LEVEL q (length q - 1) size c.requires.levels
+    c.args.frame c.args.flags.0 more c.requires.may.fits may.marks (create_refusal c.in_err-table.field-0.0) (g.M.Tables.hierarchy c.create_tables.new.mapper).memory _ c.in_err-table.ensures.down))
+
+pub returns-clause-does : goal.returns-clause-does
+returns-clause-does g c =
+    let s = c.args.mapper.now in
+    let l = (g.M.Tables.hierarchy s).layout in
+    let m = (g.M.Tables.hierarchy s).memory in
+    let q = c.args.path.now in
+    let i = c.index-path-last.result in
+    let more = c.args.parent_flags.0 in
+    let size = has_last_index q (some_index_of l.levels q g.S.PageSize.LEVEL c.requires.levels (page_below_root l.levels g.S.PageSize.LEVEL (g.met.M.Tables.some_levels s) g.S.PageSize.high)) in
+    let may = map_may l.levels l.window (paths l m) q c.args.flags.0 more (map_is_allowed (g.M.Tables.hierarchy c.args.mapper.now) (g.A.FrameAllocator.supply c.args.frame_allocator.now) c.args.path.now c.args.frame c.args.flags.0 c.args.parent_flags.0 c.requires.may) in
+    ends_map (g.M.Tables.hierarchy s) (g.A.FrameAllocator.supply c.args.frame_allocator.now) q c.args.frame c.args.flags.0 more (g.M.Tables.hierarchy c.set_leaf.new.mapper)
+    (c.set_leaf.ensures.layout ∙ c.create_tables.ensures.layout) (c.set_leaf.ensures.lent ∙ c.create_tables.ensures.lent) _ _
+    (page_mapped l (g.met.M.Tables.is_mapping s).distinct m (g.A.FrameAllocator.supply c.args.frame_allocator.now) g.S.PageSize.LEVEL q (length q - 1) size c.requires.levels
+    c.args.frame c.args.flags.0 more c.requires.may.fits may.marks g.S.PageSize.low g.S.PageSize.high may.outside (g.M.Tables.hierarchy c.create_tables.new.mapper).memory _ c.in_ok-table.table c.in_ok-table.ensures.down
+    i (last_item q i size c.index-path-last.is) c.set_leaf.ensures.index
+    (map_answer c.args.frame c.set_leaf.result) (g.M.Tables.hierarchy c.set_leaf.new.mapper).memory (rw c.create_tables.ensures.layout at c.set_leaf.ensures.set))

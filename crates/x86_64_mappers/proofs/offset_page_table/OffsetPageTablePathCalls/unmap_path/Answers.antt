@@ -1,5 +1,0 @@
-use Rattle.x86_64_mappers.proofs.RootTables.{valid_root}
-use Rattle.x86_64_mappers.proofs.offset_page_table.OffsetPageTablePathCalls.unmap_path.Goals as goal
-
-pub invariant_of-self : goal.invariant_of-self
-invariant_of-self g c = record { has_root = valid_root _ _ _ c.unmap_path.ensures.changed.valid }

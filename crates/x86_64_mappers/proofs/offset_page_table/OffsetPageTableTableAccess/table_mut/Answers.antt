@@ -1,0 +1,32 @@
+use Rattle.std.proofs.Common.{refl, sym, ap, ◌∙◌, ◌≡◌}
+use Rattle.std.specs.FinMap.{get, insert}
+use Rattle.std.specs.Option.{option_copied_mut}
+use Rattle.x86_64_mappers.specs.Lending.{root_stays}
+use Rattle.x86_64_mappers.specs.Offsets.{offset_places}
+use Rattle.x86_64_mappers.specs.Stored.{covered, there_is}
+use Rattle.x86_64_mappers.proofs.RootTables.{alike}
+use Rattle.x86_64_mappers.proofs.offset_page_table.OffsetPageTableTableAccess.table_mut.Goals as goal
+
+pub invariant_of-self-lent : goal.invariant_of-self-lent
+invariant_of-self-lent c table =
+    let mapper = c.args.self.now in
+    (root_stays (offset_places mapper.mapping.offset) mapper.root mapper.memory.now c.frame_to_pointer-place.result table mapper.has_root, tt)
+
+pub returns : goal.returns
+returns c =
+    let mapper = c.args.self.now in
+    let m = mapper.memory.now in
+    let places = offset_places mapper.mapping.offset in
+    let frame = c.args.frame in
+    let at : c.frame_to_pointer-place.result ≡ places.place frame = c.frame_to_pointer-place.ensures in (
+      (
+        refl,
+        λ table. alike places mapper.root m table
+            (λ place there. record mapper { memory = record mapper.memory { now = insert m place table }; has_root = there })
+            _ _ at _ _,
+      ),
+      record {
+        writes_back = tt;
+        value = there_is m places frame (covered m places frame c.requires.reached.there) ∙ ap (get m) (sym at) ∙ sym c.table_mut.ensures.value ∙ ap option_copied_mut c.unwrap.ensures;
+      },
+    )

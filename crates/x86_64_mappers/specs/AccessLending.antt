@@ -1,0 +1,19 @@
+-- What a mapper is once a table or an entry that it lent comes back.
+use Rattle.std.specs.Prelude.{ℕ, List, [], unwrap_or}
+use Rattle.std.specs.Borrow.{Lends, MutBor, Fml, RattleType}
+use Rattle.x86_64_model.specs.Layout.{Layout, words}
+use Rattle.x86_64_model.specs.Memory.{Memory}
+use Rattle.x86_64_tables.specs.contracts.page_table.entry.PageTableEntry.{the_row as entry_row}
+use Rattle.x86_64_tables.specs.contracts.page_table.table.PageTable.{the_row as table_row}
+
+-- the table in a frame
+abbrev pub table_in : Layout → Memory → (frame : ℕ) → List ℕ
+table_in l m f = unwrap_or (words l m f) []
+
+-- a mapper of a type ends as F makes it of the last table behind r
+abbrev pub LendsTableBy : (mapper : RattleType) → MutBor mapper.Denot → (r : MutBor (List ℕ)) → (F : List ℕ → mapper.Denot) → Fml
+LendsTableBy mapper s r F = Lends mapper table_row s r F
+
+-- a mapper of a type ends as F makes it of the last word behind r
+abbrev pub LendsEntryBy : (mapper : RattleType) → MutBor mapper.Denot → (r : MutBor ℕ) → (F : ℕ → mapper.Denot) → Fml
+LendsEntryBy mapper s r F = Lends mapper entry_row s r F

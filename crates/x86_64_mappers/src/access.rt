@@ -1,0 +1,91 @@
+//! Tables by the paths that lead to them: what all mappers have in common.
+ghost use Rattle.std.specs.Prelude.{◌≡◌, ◌<◌, ℕ, List, length, slice_set, Some};
+ghost use Rattle.std.specs.Borrow.{sem};
+ghost use Rattle.std.specs.FinMap.{insert};
+ghost use Rattle.x86_64_model.specs.Layout.{words};
+ghost use Rattle.x86_64_model.specs.Memory.{word};
+ghost use Rattle.x86_64_mappers.specs.AccessLending.{LendsTableBy, LendsEntryBy, table_in};
+ghost use Rattle.x86_64_mappers.specs.Reached.{IsReached};
+ghost use Rattle.x86_64_mappers.specs.Writes.{IsSet};
+ghost use Rattle.x86_64_tables.specs.PageTableFlags.{bits_of};
+
+pub mod change;
+pub mod condition;
+pub mod find;
+pub mod leaf;
+pub mod map;
+pub mod translate;
+
+use x86_64_addr::index::PageTableIndex;
+use x86_64_page::frame::PhysFrame;
+use x86_64_page::page::Size4KiB;
+use x86_64_tables::mapper::Tables;
+use x86_64_tables::page_table::{PageTable, PageTableEntry, PageTableFlags};
+
+/// Reaches the tables of a hierarchy, each by the path that leads to it or by its frame, whichever the mapper needs.
+///
+/// A path has an index for each level from the root's down; the path of no index leads to the root's table.
+pub trait TableAccess: Tables {
+    /// The mapper with another table in a frame.
+    ghost with_table: { Self → ℕ → List ℕ → Self };
+
+    /// Gives the root's frame.
+    fn root(&self) -> PhysFrame<Size4KiB>
+        ensures { result ≡ (Self.hierarchy self.now).layout.root };
+
+    /// Gives the flags that the entry of a new table gets beside the parent flags.
+    fn new_table_flags(&self) -> PageTableFlags
+        ensures { bits_of result ≡ (Self.hierarchy self.now).layout.added_flags };
+
+    /// Gives the table to which a path leads, in the frame.
+    fn table(&self, path: &[PageTableIndex], frame: PhysFrame<Size4KiB>) -> &PageTable
+        requires reached { IsReached (Self.hierarchy self.now).layout (Self.hierarchy self.now).memory path.now frame }
+        requires short { length path.now < (Self.hierarchy self.now).layout.levels }
+        ensures { words (Self.hierarchy self.now).layout (Self.hierarchy self.now).memory frame ≡ Some result.now };
+
+    /// Lends the table to which a path leads, in the frame.
+    fn table_mut(&mut self, path: &[PageTableIndex], frame: PhysFrame<Size4KiB>) -> &mut PageTable
+        requires reached { IsReached (Self.hierarchy self.old).layout (Self.hierarchy self.old).memory path.now frame }
+        requires short { length path.now < (Self.hierarchy self.old).layout.levels }
+        ensures* writes_back { sem 𝓛 (LendsTableBy Self.row self.entry result (Self.with_table self.old frame)) }
+        ensures value { words (Self.hierarchy self.old).layout (Self.hierarchy self.old).memory frame ≡ Some result.now };
+
+    ghost puts: { (s : Self) (f : ℕ) (t : List ℕ) → (Self.Tables.hierarchy (with_table s f t)).memory ≡ insert (Self.Tables.hierarchy s).memory ((Self.Tables.hierarchy s).layout.places.place f) t };
+
+    ghost keeps_layout: { (s : Self) (f : ℕ) (t : List ℕ) → (Self.Tables.hierarchy (with_table s f t)).layout ≡ (Self.Tables.hierarchy s).layout };
+
+    ghost keeps_lent: { (s : Self) (f : ℕ) (t : List ℕ) → (Self.Tables.hierarchy (with_table s f t)).lent ≡ (Self.Tables.hierarchy s).lent };
+}
+
+/// Gives the entry at an index of the table to which a path leads.
+fn entry<'m, M: TableAccess>(
+    mapper: &'m M,
+    path: &[PageTableIndex],
+    frame: PhysFrame<Size4KiB>,
+    index: PageTableIndex,
+) -> &'m PageTableEntry
+    requires reached { IsReached (M.hierarchy mapper.now).layout (M.hierarchy mapper.now).memory path.now frame }
+    requires short { length path.now < (M.hierarchy mapper.now).layout.levels }
+    ensures value { result.now ≡ word (words (M.hierarchy mapper.now).layout (M.hierarchy mapper.now).memory) frame index }
+    ensures index { index < 512 }
+{
+    &mapper.table(path, frame)[usize::from(index)]
+}
+
+/// Lends the entry at an index of the table to which a path leads.
+fn entry_mut<'m, M: TableAccess>(
+    mapper: &'m mut M,
+    path: &[PageTableIndex],
+    frame: PhysFrame<Size4KiB>,
+    index: PageTableIndex,
+) -> &'m mut PageTableEntry
+    requires reached { IsReached (M.hierarchy mapper.old).layout (M.hierarchy mapper.old).memory path.now frame }
+    requires short { length path.now < (M.hierarchy mapper.old).layout.levels }
+    ensures* writes_back { sem 𝓛 (LendsEntryBy M.row mapper.entry result (λ w. M.with_table mapper.old frame (slice_set (table_in (M.hierarchy mapper.old).layout (M.hierarchy mapper.old).memory frame) index w))) }
+    ensures value { result.now ≡ word (words (M.hierarchy mapper.old).layout (M.hierarchy mapper.old).memory) frame index }
+    ensures set { let places = (M.hierarchy mapper.old).layout.places in let table = table_in (M.hierarchy mapper.old).layout (M.hierarchy mapper.old).memory frame in
+        (w : ℕ) → IsSet places (M.hierarchy mapper.old).memory frame index w (M.hierarchy (M.with_table mapper.old frame (slice_set table index w))).memory }
+    ensures index { index < 512 }
+{
+    &mut mapper.table_mut(path, frame)[usize::from(index)]
+}

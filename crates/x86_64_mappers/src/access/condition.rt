@@ -1,0 +1,110 @@
+//! The conditions of calls, as tests.
+ghost use Rattle.std.specs.Prelude.{◌≡◌, ◌<◌, ◌≤◌, ◌+◌, ◌==◌, ℕ, false, [], ◌∷◌, ◌++◌, length};
+ghost use Rattle.x86_64_model.specs.Call.{SetFlags};
+ghost use Rattle.x86_64_model.specs.Owned.{Valid, allows, allows_map, paths, read_entry};
+ghost use Rattle.x86_64_model.specs.Window.{begins_with};
+ghost use Rattle.x86_64_mappers.specs.MapConditions.{flags_allowed, are_present, meets_none_absent};
+ghost use Rattle.x86_64_mappers.specs.Results.{walk_result};
+ghost use Rattle.x86_64_mappers.specs.TableFlags.{keeps_huge};
+ghost use Rattle.x86_64_tables.specs.PageTableFlags.{bits_of};
+
+use super::find::{PageTableWalkError, find_table, path_to_level};
+use super::{TableAccess, entry};
+use bitflags::Flags;
+use x86_64_addr::index::PageTableIndex;
+use x86_64_page::frame::PhysFrame;
+use x86_64_page::page::{PageSize, Size4KiB};
+use x86_64_tables::page_table::PageTableFlags;
+
+/// Tells whether the page of a path may be mapped with these flags and parent flags.
+pub fn path_allowed<S: PageSize, M: TableAccess>(
+    mapper: &M,
+    path: &[PageTableIndex],
+    flags: PageTableFlags,
+    parent_flags: PageTableFlags,
+) -> bool
+    requires levels { length path.now + S.LEVEL ≡ (M.hierarchy mapper.now).layout.levels + 1 }
+    requires valid { Valid (M.hierarchy mapper.now) }
+    ensures { let h = M.hierarchy mapper.now in
+        result ≡ allows_map h path.now (bits_of flags) (bits_of parent_flags) }
+{
+    (flags_allowed::<S>(flags, parent_flags) & !is_in_window(mapper, path))
+        && (parent_flags.contains(PageTableFlags::PRESENT)
+            || are_present(mapper, &path[..path.len() - 1]))
+}
+
+/// Tells whether the flags of the entry of level three or two on the path of a page may be set to these.
+pub fn table_flags_allowed<S: PageSize, M: TableAccess>(
+    mapper: &M,
+    path: &[PageTableIndex],
+    level: u64,
+    flags: PageTableFlags,
+) -> bool
+    requires levels { length path.now + S.LEVEL ≡ (M.hierarchy mapper.now).layout.levels + 1 }
+    requires low { 2 ≤ level }
+    requires high { level ≤ 3 }
+    requires valid { Valid (M.hierarchy mapper.now) }
+    ensures { result ≡ allows (M.hierarchy mapper.now) (SetFlags level path.now (bits_of flags)) }
+{
+    (!flags.has_address_bits() & !is_in_window(mapper, path))
+        && (level <= S::LEVEL || keeps_huge(mapper, path_to_level::<S>(path, level), flags))
+}
+
+/// Tells whether a path begins with the recursive index.
+fn is_in_window<M: TableAccess>(mapper: &M, path: &[PageTableIndex]) -> bool
+    requires { 0 < length path.now }
+    ensures { result ≡ begins_with (M.hierarchy mapper.now).layout.window path.now }
+{
+    match mapper.recursive_index() {
+        Some(index) => path[0] == index,
+        None => false,
+    }
+}
+
+/// Tells whether the parents of a page have `PRESENT`, down to and with the first that also has `HUGE_PAGE`.
+fn are_present<M: TableAccess>(mapper: &M, parents: &[PageTableIndex]) -> bool
+    requires valid { Valid (M.hierarchy mapper.now) }
+    requires short { length parents.now < (M.hierarchy mapper.now).layout.levels }
+    ensures { let h = M.hierarchy mapper.now in (last : ℕ) →
+        begins_with h.layout.window (parents.now ++ last ∷ []) ≡ false
+        → result ≡ are_present (paths h) (parents.now ++ last ∷ []) }
+{
+    meets_none_absent(find_table(mapper, parents))
+}
+
+/// Tells whether a way down the parents of a page met none that lacks `PRESENT`.
+pub fn meets_none_absent(found: Result<PhysFrame<Size4KiB>, PageTableWalkError>) -> bool
+    ensures { result ≡ meets_none_absent (walk_result found) }
+{
+    !matches!(found, Err(PageTableWalkError::NotMapped))
+}
+
+/// Tells whether a page of a size may be mapped with these flags and parent flags, wherever it is: neither has address
+/// bits, and `HUGE_PAGE` is not in the parent flags, nor in the flags of a 4KiB page.
+pub fn flags_allowed<S: PageSize>(flags: PageTableFlags, parent_flags: PageTableFlags) -> bool
+    ensures { result ≡ flags_allowed (S.LEVEL == 1) (bits_of flags) (bits_of parent_flags) }
+{
+    !flags.has_address_bits()
+        & !parent_flags.has_address_bits()
+        & !parent_flags.contains(PageTableFlags::HUGE_PAGE)
+        & ((S::LEVEL != 1) | !flags.contains(PageTableFlags::HUGE_PAGE))
+}
+
+/// Tells whether the entry at a path has `HUGE_PAGE` exactly if the flags have it, where the way to it is there and it is
+/// used; else it tells so.
+fn keeps_huge<M: TableAccess>(mapper: &M, path: &[PageTableIndex], flags: PageTableFlags) -> bool
+    requires valid { Valid (M.hierarchy mapper.now) }
+    requires some { 0 < length path.now }
+    requires levels { length path.now ≤ (M.hierarchy mapper.now).layout.levels }
+    ensures { result ≡ keeps_huge (read_entry (M.hierarchy mapper.now)) path.now (bits_of flags) }
+{
+    let last = path.len() - 1;
+    let parents = &path[..last];
+    let Ok(table) = find_table(mapper, parents) else {
+        return true;
+    };
+    let entry = entry(mapper, parents, table, path[last]);
+    entry.is_unused()
+        || entry.flags().contains(PageTableFlags::HUGE_PAGE)
+            == flags.contains(PageTableFlags::HUGE_PAGE)
+}

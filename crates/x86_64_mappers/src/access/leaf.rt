@@ -1,0 +1,74 @@
+//! What the entries of pages say.
+ghost use Rattle.std.specs.Prelude.{◌≡◌, ◌==◌, cond, bit_or};
+ghost use Rattle.x86_64_mappers.specs.LeafFrames.{leaf_frame, maps_page, named_frame};
+ghost use Rattle.x86_64_mappers.specs.Results.{translate_result, unmap_result};
+ghost use Rattle.x86_64_tables.specs.PageTableFlags.{bits_of};
+
+use bitflags::Flags;
+use x86_64_page::frame::PhysFrame;
+use x86_64_page::page::{AddressNotAligned, PageSize};
+use x86_64_tables::mapper::{TranslateError, UnmapError};
+use x86_64_tables::page_table::{PageTableEntry, PageTableFlags};
+
+/// Gives the frame that the entry of a page of a size names.
+///
+/// # Errors
+///
+/// Without `PRESENT` it is `PageNotMapped`; with `HUGE_PAGE` for 4KiB, or without it for 2MiB and 1GiB, it is
+/// `ParentEntryHugePage`; where the address isn't a multiple of the size it is `InvalidFrameAddress`.
+pub fn leaf_frame<S: PageSize>(entry: &PageTableEntry) -> Result<PhysFrame<S>, UnmapError>
+    ensures { unmap_result result ≡ leaf_frame S.LEVEL entry.now }
+{
+    let flags = entry.flags();
+    if !flags.contains(PageTableFlags::PRESENT) {
+        return Err(UnmapError::PageNotMapped);
+    }
+    if flags.contains(PageTableFlags::HUGE_PAGE) != (S::LEVEL > 1) {
+        return Err(UnmapError::ParentEntryHugePage);
+    }
+    let address = entry.addr();
+    match PhysFrame::from_start_address(address) {
+        Ok(frame) => Ok(frame),
+        Err(AddressNotAligned) => Err(UnmapError::InvalidFrameAddress(address)),
+    }
+}
+
+/// Tells whether an entry maps a page of a size: it is used, and has `HUGE_PAGE` for 2MiB and 1GiB.
+pub fn maps_page<S: PageSize>(entry: &PageTableEntry) -> bool
+    ensures { result ≡ maps_page S.LEVEL entry.now }
+{
+    !entry.is_unused() && (S::LEVEL == 1 || entry.flags().contains(PageTableFlags::HUGE_PAGE))
+}
+
+/// Gives the frame that the entry of a page of a size names, `PRESENT` or not.
+///
+/// # Errors
+///
+/// An unused entry is `PageNotMapped`; for 2MiB and 1GiB one without `HUGE_PAGE`, or with an address that isn't a multiple of
+/// the size, is `InvalidFrameAddress`.
+pub fn named_frame<S: PageSize>(entry: &PageTableEntry) -> Result<PhysFrame<S>, TranslateError>
+    ensures { translate_result result ≡ named_frame S.LEVEL entry.now }
+{
+    if entry.is_unused() {
+        return Err(TranslateError::PageNotMapped);
+    }
+    let address = entry.addr();
+    if !maps_page::<S>(entry) {
+        return Err(TranslateError::InvalidFrameAddress(address));
+    }
+    match PhysFrame::from_start_address(address) {
+        Ok(frame) => Ok(frame),
+        Err(AddressNotAligned) => Err(TranslateError::InvalidFrameAddress(address)),
+    }
+}
+
+/// Gives the flags of the entry of a page of a size: those asked for, and `HUGE_PAGE` for 2MiB and 1GiB.
+pub fn leaf_flags<S: PageSize>(flags: PageTableFlags) -> PageTableFlags
+    ensures { bits_of result ≡ cond (S.LEVEL == 1) (bits_of flags) (bit_or (bits_of flags) 0x80) }
+{
+    if S::LEVEL == 1 {
+        flags
+    } else {
+        flags.union(PageTableFlags::HUGE_PAGE)
+    }
+}

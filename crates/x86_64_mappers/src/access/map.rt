@@ -1,0 +1,229 @@
+//! Maps of pages.
+ghost use Rattle.std.specs.Prelude.{◌≡◌, ◌<◌, ◌≤◌, ◌+◌, ◌==◌, false, cond, length, get_or, bit_or, IsTrue, IfOk, Ok, Err};
+ghost use Rattle.x86_64_model.specs.Call.{MapToWithTableFlags};
+ghost use Rattle.x86_64_model.specs.Entry.{address, huge, IsParentFlags};
+ghost use Rattle.x86_64_model.specs.Layout.{paths};
+ghost use Rattle.x86_64_model.specs.MapperCalls.{IsReady};
+ghost use Rattle.x86_64_model.specs.Owned.{MayMap, DoesMap};
+ghost use Rattle.x86_64_model.specs.Refusal.{ParentEntryHugePage};
+ghost use Rattle.x86_64_model.specs.Window.{begins_with};
+ghost use Rattle.x86_64_mappers.specs.Linked.{MayLink, IsClearedFirst};
+ghost use Rattle.x86_64_mappers.specs.MapSteps.{IsDown};
+ghost use Rattle.x86_64_mappers.specs.OpenWay.{WillBePresent, IsOpenWay};
+ghost use Rattle.x86_64_mappers.specs.Reached.{IsReached};
+ghost use Rattle.x86_64_mappers.specs.Results.{create_refusal, create_result};
+ghost use Rattle.x86_64_mappers.specs.Writes.{IsMade, IsLeafSet};
+ghost use Rattle.x86_64_tables.specs.MapperAnswers.{map_answer};
+ghost use Rattle.x86_64_tables.specs.PageTableFlags.{bits_of};
+
+use super::leaf::leaf_flags;
+use super::{TableAccess, entry_mut};
+use bitflags::Flags;
+use x86_64_addr::index::PageTableIndex;
+use x86_64_page::frame::PhysFrame;
+use x86_64_page::page::{PageSize, Size4KiB};
+use x86_64_tables::frame_alloc::FrameAllocator;
+use x86_64_tables::mapper::MapToError;
+use x86_64_tables::page_table::{PageTableEntry, PageTableFlags};
+
+/// Says why a table on the way to a page is not there.
+#[derive(Clone, Copy, Debug, PartialEq)]
+pub enum PageTableCreateError {
+    /// A parent of the page maps a larger page.
+    MappedToHugePage,
+    /// The table was missing, and there was no frame for it.
+    FrameAllocationFailed,
+}
+
+impl<S: PageSize> From<PageTableCreateError> for MapToError<S> {
+    ghost use Rattle.x86_64_tables.specs.MapperAnswers.{map_refusal};
+
+    ghost from_gives = { λ error gives. map_refusal gives ≡ create_refusal error };
+
+    fn from(error: PageTableCreateError) -> MapToError<S> {
+        match error {
+            PageTableCreateError::MappedToHugePage => MapToError::ParentEntryHugePage,
+            PageTableCreateError::FrameAllocationFailed => MapToError::FrameAllocationFailed,
+        }
+    }
+}
+
+/// Makes the entry at index `k` of the parents, which is in a table, name a frame, and clears the table there.
+///
+/// The table is cleared last: a mapper that has no other way to it reaches it through its entry.
+// Most parents have their tables, so this stays out of the way down.
+#[inline(never)]
+fn link_table<M: TableAccess>(
+    mapper: &mut M,
+    parents: &[PageTableIndex],
+    k: usize,
+    table: PhysFrame<Size4KiB>,
+    frame: PhysFrame<Size4KiB>,
+    flags: PageTableFlags,
+)
+    requires within { k < length parents.now }
+    requires short { length parents.now < (M.hierarchy mapper.old).layout.levels }
+    requires may { let layout = (M.hierarchy mapper.old).layout in
+        MayLink layout (M.hierarchy mapper.old).memory parents.now k table frame (bits_of flags) }
+    ensures linked { let word = bit_or frame (bits_of flags) in
+        IsClearedFirst (M.hierarchy mapper.old).layout.places (M.hierarchy mapper.old).memory table (get_or parents.now k 0) word frame (M.hierarchy mapper.new).memory }
+    ensures layout { (M.hierarchy mapper.new).layout ≡ (M.hierarchy mapper.old).layout }
+    ensures lent { (M.hierarchy mapper.new).lent ≡ (M.hierarchy mapper.old).lent }
+{
+    entry_mut(mapper, &parents[..k], table, parents[k]).set_frame(frame, flags);
+    mapper.table_mut(&parents[..k + 1], frame).zero();
+}
+
+/// Adds the parent flags to the used entry of a parent, and gives the frame of the table that it names.
+///
+/// # Errors
+///
+/// With `HUGE_PAGE` it is `MappedToHugePage`, and has the flags too.
+fn mark_parent(
+    entry: &mut PageTableEntry,
+    parent_flags: PageTableFlags,
+) -> Result<PhysFrame<Size4KiB>, PageTableCreateError>
+    ensures marked { entry.new ≡ bit_or entry.old (bits_of parent_flags) }
+    ensures names { let entry = entry.old in
+        create_result result ≡ cond (huge entry) (Err ParentEntryHugePage) (Ok (address entry)) }
+{
+    let flags = entry.flags();
+    let next = PhysFrame::from_start_address_unchecked(entry.addr());
+    entry.set_flags(flags.union(parent_flags));
+    if flags.contains(PageTableFlags::HUGE_PAGE) {
+        Err(PageTableCreateError::MappedToHugePage)
+    } else {
+        Ok(next)
+    }
+}
+
+/// Gives the frame of the table that the entry at index `k` of the parents names, which is in a table. A used entry gets the
+/// parent flags, and an unused one comes to name a new table.
+///
+/// # Errors
+///
+/// A used entry with `HUGE_PAGE` is `MappedToHugePage`, and an unused one where the allocator has no frame is
+/// `FrameAllocationFailed`.
+fn create_next_table<M: TableAccess, A: FrameAllocator<Size4KiB>>(
+    mapper: &mut M,
+    parents: &[PageTableIndex],
+    k: usize,
+    table: PhysFrame<Size4KiB>,
+    parent_flags: PageTableFlags,
+    frame_allocator: &mut A,
+) -> Result<PhysFrame<Size4KiB>, PageTableCreateError>
+    requires ready { IsReady (M.hierarchy mapper.old).layout (M.hierarchy mapper.old).memory (A.supply frame_allocator.old) }
+    requires within { k < length parents.now }
+    requires short { length parents.now < (M.hierarchy mapper.old).layout.levels }
+    requires outside { begins_with (M.hierarchy mapper.old).layout.window parents.now ≡ false }
+    requires flags { IsParentFlags (bits_of parent_flags) }
+    requires way { let layout = (M.hierarchy mapper.old).layout in
+        IsOpenWay layout (M.hierarchy mapper.old).memory (bits_of parent_flags) parents.now k table }
+    ensures made { let layout = (M.hierarchy mapper.old).layout in let index = get_or parents.now k 0 in
+        IsMade layout.places (bits_of parent_flags) layout.added_flags (M.hierarchy mapper.old).memory (A.supply frame_allocator.old) table index (create_result result) (M.hierarchy mapper.new).memory (A.supply frame_allocator.new) }
+    ensures index { get_or parents.now k 0 < 512 }
+    ensures layout { (M.hierarchy mapper.new).layout ≡ (M.hierarchy mapper.old).layout }
+    ensures lent { (M.hierarchy mapper.new).lent ≡ (M.hierarchy mapper.old).lent }
+    ensures serves { A.serves frame_allocator.new ≡ A.serves frame_allocator.old }
+{
+    let entry = entry_mut(mapper, &parents[..k], table, parents[k]);
+    if !entry.is_unused() {
+        return mark_parent(entry, parent_flags);
+    }
+    let Some(frame) = frame_allocator.allocate_frame() else {
+        return Err(PageTableCreateError::FrameAllocationFailed);
+    };
+    let flags = parent_flags.union(mapper.new_table_flags());
+    link_table(mapper, parents, k, table, frame, flags);
+    Ok(frame)
+}
+
+/// Gives the frame of the table below the parents of a page, from the root down, where missing tables are made and used
+/// parents get the parent flags.
+///
+/// # Errors
+///
+/// Those of the first step that refuses: [`create_next_table`].
+fn create_tables<M: TableAccess, A: FrameAllocator<Size4KiB>>(
+    mapper: &mut M,
+    parents: &[PageTableIndex],
+    parent_flags: PageTableFlags,
+    frame_allocator: &mut A,
+) -> Result<PhysFrame<Size4KiB>, PageTableCreateError>
+    requires ready { IsReady (M.hierarchy mapper.old).layout (M.hierarchy mapper.old).memory (A.supply frame_allocator.old) }
+    requires short { length parents.now < (M.hierarchy mapper.old).layout.levels }
+    requires outside { begins_with (M.hierarchy mapper.old).layout.window parents.now ≡ false }
+    requires flags { IsParentFlags (bits_of parent_flags) }
+    requires present { let layout = (M.hierarchy mapper.old).layout in
+        WillBePresent (paths layout (M.hierarchy mapper.old).memory) (bits_of parent_flags) parents.now }
+    ensures down { let layout = (M.hierarchy mapper.old).layout in
+        IsDown layout (M.hierarchy mapper.old).memory (A.supply frame_allocator.old) (bits_of parent_flags) parents.now (create_result result) (M.hierarchy mapper.new).memory (A.supply frame_allocator.new) }
+    ensures reached { let layout = (M.hierarchy mapper.old).layout in
+        IfOk result (λ frame. IsReached layout (M.hierarchy mapper.new).memory parents.now frame) }
+    ensures layout { (M.hierarchy mapper.new).layout ≡ (M.hierarchy mapper.old).layout }
+    ensures lent { (M.hierarchy mapper.new).lent ≡ (M.hierarchy mapper.old).lent }
+    ensures serves { A.serves frame_allocator.new ≡ A.serves frame_allocator.old }
+{
+    let mut table = mapper.root();
+    for k in 0..parents.len() {
+        table = create_next_table(mapper, parents, k, table, parent_flags, frame_allocator)?;
+    }
+    Ok(table)
+}
+
+/// Makes the unused entry at an index of the table below the parents of a page that of the page, which is mapped to a frame.
+/// An entry above level one gets `HUGE_PAGE` too.
+///
+/// # Errors
+///
+/// `PageAlreadyMapped` with the frame where the entry is used.
+fn set_leaf<S: PageSize, M: TableAccess>(
+    mapper: &mut M,
+    parents: &[PageTableIndex],
+    table: PhysFrame<Size4KiB>,
+    index: PageTableIndex,
+    frame: PhysFrame<S>,
+    flags: PageTableFlags,
+) -> Result<(), MapToError<S>>
+    requires reached { IsReached (M.hierarchy mapper.old).layout (M.hierarchy mapper.old).memory parents.now table }
+    requires short { length parents.now < (M.hierarchy mapper.old).layout.levels }
+    ensures set { let given = cond (S.LEVEL == 1) (bits_of flags) (bit_or (bits_of flags) 0x80) in
+        IsLeafSet (M.hierarchy mapper.old).layout.places (M.hierarchy mapper.old).memory table index (bit_or frame given) frame (map_answer frame result) (M.hierarchy mapper.new).memory }
+    ensures index { index < 512 }
+    ensures layout { (M.hierarchy mapper.new).layout ≡ (M.hierarchy mapper.old).layout }
+    ensures lent { (M.hierarchy mapper.new).lent ≡ (M.hierarchy mapper.old).lent }
+{
+    let entry = entry_mut(mapper, parents, table, index);
+    if !entry.is_unused() {
+        return Err(MapToError::PageAlreadyMapped(frame));
+    }
+    entry.set_addr(frame.start_address(), leaf_flags::<S>(flags));
+    Ok(())
+}
+
+/// Maps the page with a path to a frame. The path has an index for each level from the root's down to that of the page's entry.
+///
+/// # Errors
+///
+/// Those of [`create_tables`], and else those of [`set_leaf`].
+pub fn map_path<S: PageSize, M: TableAccess, A: FrameAllocator<Size4KiB>>(
+    mapper: &mut M,
+    path: &[PageTableIndex],
+    frame: PhysFrame<S>,
+    flags: PageTableFlags,
+    parent_flags: PageTableFlags,
+    frame_allocator: &mut A,
+) -> Result<(), MapToError<S>>
+    requires levels { length path.now + S.LEVEL ≡ (M.hierarchy mapper.old).layout.levels + 1 }
+    requires may { let call = MapToWithTableFlags path.now frame (bits_of flags) (bits_of parent_flags) in
+        MayMap (M.hierarchy mapper.old) (A.supply frame_allocator.old) call }
+    ensures does { let h = M.hierarchy mapper.old in
+        let call = MapToWithTableFlags path.now frame (bits_of flags) (bits_of parent_flags) in
+        DoesMap h (A.supply frame_allocator.old) call (map_answer frame result) (M.hierarchy mapper.new) (A.supply frame_allocator.new) }
+    ensures serves { A.serves frame_allocator.new ≡ A.serves frame_allocator.old }
+{
+    let last = path.len() - 1;
+    let parents = &path[..last];
+    let table = create_tables(mapper, parents, parent_flags, frame_allocator)?;
+    set_leaf(mapper, parents, table, path[last], frame, flags)
+}
