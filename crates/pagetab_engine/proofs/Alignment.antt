@@ -1,7 +1,7 @@
 -- Addresses that are multiples of a size.
 use Rattle.std.proofs.Common.{◌≡◌, ℕ, ◌%◌, ◌^◌, ◌≤◌, arith, subst}
 use Rattle.x86_64_addr.specs.Position.{span, raw}
-use Rattle.x86_64_page.specs.Multiples.{rounded_position}
+use Rattle.x86_64_page.proofs.Multiples.{rounded_position}
 
 -- a canonical address and its position leave the same remainder by a size
 pub same_remainder : (start position size level : ℕ) → 1 ≤ level → level ≤ 3 → size ≡ span level → position ≡ start % 2 ^ 48 → raw 4 position ≡ start → start % size ≡ position % size

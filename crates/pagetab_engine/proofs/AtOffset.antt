@@ -8,8 +8,8 @@ use Rattle.x86_64_model.specs.Marks.{serves_below}
 use Rattle.x86_64_model.specs.Memory.{Memory}
 use Rattle.x86_64_mappers.specs.Layouts.{direct}
 use Rattle.x86_64_mappers.specs.Offsets.{OffsetFits, offset_places, offset_fits}
-use Rattle.x86_64.specs.Moved.{moved}
-use Rattle.x86_64.specs.Offsets.{same_state, still_reached, same_kept}
+use Rattle.x86_64.proofs.Moved.{moved}
+use Rattle.x86_64.proofs.Offsets.{same_state, still_reached, same_kept}
 use Rattle.x86_64.specs.Runs as runs
 use Rattle.x86_64.specs.declared.calls.Call.{Call}
 use Rattle.x86_64.specs.declared.calls.Reply.{Reply}

@@ -1,6 +1,7 @@
 -- How lines write statements: a name, SIZE where they are about a page of a size, and numbers.
 use Rattle.std.specs.Prelude.{◌<◌, ◌*◌, ℕ, ⊤, List, [], ◌∷◌, Option, Some, None}
 use Rattle.x86_64_addr.specs.Position.{raw, IsCanonical}
+use Rattle.pagetab_engine.specs.Fields.{Says}
 use Rattle.pagetab_engine.specs.PageCalls.{IsPageCall, bytes_of, call_name, call_size, call_numbers}
 use Rattle.pagetab_engine.specs.Starts.{IsTableStart}
 use Rattle.pagetab_engine.specs.declared.fields.Name.{Name}
@@ -50,3 +51,10 @@ statement_numbers (Command (command.Call call)) = call_numbers call
 statement_numbers (Command (command.Walk addr)) = raw 4 addr ∷ []
 statement_numbers (Command (command.Show slot)) = (slot.place * 4096) ∷ slot.index ∷ []
 statement_numbers (Command command.Pool) = []
+
+-- a line says a statement, and it is one about a memory of so many places
+abbrev pub SaysStatement : (line : List ℕ) → Statement → Type 0
+SaysStatement line statement = Says line (statement_name statement) (statement_size statement) (statement_numbers statement)
+
+abbrev pub IsAccepted : (places : ℕ) → Statement → Type 0
+IsAccepted places statement = IsStatement places (statement_name statement) (statement_size statement) (statement_numbers statement)

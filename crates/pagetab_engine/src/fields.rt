@@ -113,9 +113,13 @@ pub struct Fields {
 impl Fields {
     /// Reads a line. Answers `None` exactly where it has no name, a field that is no number, or more numbers than any statement.
     pub fn parse(line: &str) -> Option<Fields>
-        ensures says { IfSome result (λ fields. Says line.now fields.name fields.size (take fields.count fields.numbers)) }
-        ensures only { IfSome result (λ fields. (name : Name) (size : Option Size) (numbers : List ℕ) → Says line.now name size numbers → (name ≡ fields.name) × (size ≡ fields.size) × (numbers ≡ take fields.count fields.numbers)) }
-        ensures none { IfNone result ((name : Name) (size : Option Size) (numbers : List ℕ) → length numbers ≤ 4 → ¬ (Says line.now name size numbers)) }
+        ensures says { IfSome result (λ fields.
+            Says line.now fields.name fields.size (take fields.count fields.numbers)) }
+        ensures only { IfSome result (λ fields. (name : Name) (size : Option Size) (numbers : List ℕ) →
+            Says line.now name size numbers →
+            (name ≡ fields.name) × (size ≡ fields.size) × (numbers ≡ take fields.count fields.numbers)) }
+        ensures none { IfNone result ((name : Name) (size : Option Size) (numbers : List ℕ) →
+            length numbers ≤ 4 → ¬ (Says line.now name size numbers)) }
     {
         let mut rest = Rest { text: line };
         let name = Name::parse(rest.next_field()?)?;
@@ -147,7 +151,8 @@ struct Rest<'a> {
 impl<'a> Rest<'a> {
     /// Gives the next field, or `None` where only spaces are left.
     fn next_field(&mut self) -> Option<&'a str>
-        ensures { MatchOption result (fields_of self.old.text.now ≡ []) (λ field. fields_of self.old.text.now ≡ field.now ∷ fields_of self.new.text.now) }
+        ensures { let fields = fields_of self.old.text.now in
+            MatchOption result (fields ≡ []) (λ field. fields ≡ field.now ∷ fields_of self.new.text.now) }
     {
         let text = self.text.trim_start_matches(' ');
         self.text = "";
@@ -164,7 +169,8 @@ impl<'a> Rest<'a> {
     /// Reads SIZE, and leaves the next field where it is none.
     fn next_size(&mut self) -> Option<Size>
         ensures read { fields_of self.old.text.now ≡ size_texts result ++ fields_of self.new.text.now }
-        ensures none { IfNone result ((size : Size) (rest : List (List ℕ)) → fields_of self.old.text.now ≢ size_text size ∷ rest) }
+        ensures none { IfNone result ((size : Size) (rest : List (List ℕ)) →
+            fields_of self.old.text.now ≢ size_text size ∷ rest) }
     {
         let mut ahead = Rest { text: self.text };
         let size = Size::parse(ahead.next_field()?)?;
@@ -175,8 +181,10 @@ impl<'a> Rest<'a> {
     /// Reads all fields that are left as numbers, and gives how many they are.
     fn read_numbers(&mut self, numbers: &mut [u64; MOST_NUMBERS]) -> Option<usize>
         ensures few { IfSome result (λ count. count ≤ 4) }
-        ensures read { IfSome result (λ count. AreNumbers (fields_of self.old.text.now) (take count numbers.new)) }
-        ensures none { IfNone result ((others : List ℕ) → length others ≤ 4 → ¬ (AreNumbers (fields_of self.old.text.now) others)) }
+        ensures read { IfSome result (λ count.
+            AreNumbers (fields_of self.old.text.now) (take count numbers.new)) }
+        ensures none { IfNone result ((others : List ℕ) →
+            length others ≤ 4 → ¬ (AreNumbers (fields_of self.old.text.now) others)) }
     {
         for (count, number) in numbers.iter_mut().enumerate() {
             match self.next_field() {

@@ -6,7 +6,8 @@ ghost use Rattle.x86_64_model.specs.PageWalk.{page_walk as walk_of};
 ghost use Rattle.x86_64_tables.specs.PageTable.{zero_words};
 ghost use Rattle.x86_64_tables.specs.Walks.{walked_of};
 ghost use Rattle.x86_64_model.specs.Marks.{serves_below};
-ghost use Rattle.x86_64.specs.Runs.{call_step, FitsPool, Keeps as KeepsPool};
+ghost use Rattle.x86_64_model.specs.Owned.{PoolFits};
+ghost use Rattle.x86_64.specs.Runs.{call_step, FitsPool, Keeps as KeepsPool, Kept};
 ghost use Rattle.x86_64_mappers.specs.Offsets.{OffsetFits};
 ghost use Rattle.pagetab_engine.specs.Hierarchy.{layout, machine, state_of, IsAnswered, IsReached, IsHierarchy, Keeps};
 ghost use Rattle.pagetab_engine.specs.Image.{IsLoadable, IsRefusedFor, memory_after, free_after};
@@ -16,7 +17,7 @@ use crate::arguments::{Arguments, Mode};
 use crate::slot::Slot;
 use crate::statement::ImageLine;
 use std::alloc::{AllocError, Global};
-use x86_64::structures::paging::mapper::{MapperAllSizes, PageTables};
+use x86_64::structures::paging::mapper::{MapperAllSizes, Tables};
 use x86_64::structures::paging::{
     MappedPageTable, OffsetPageTable, PhysFrame, Size4KiB, Translate,
 };
@@ -172,13 +173,14 @@ fn answer_by<M: MapperAllSizes + Translate>(
     pool: &mut FramePool,
     call: Call,
 ) -> Result<Reply, AllocError>
-    requires { FitsPool (M.layout mapper.old) (M.memory mapper.old) (serves_below pool.old.limit) pool.old.frames }
-    ensures answered { IfOk result (IsAnswered (M.layout mapper.old) (M.memory mapper.old) pool.old.frames call (M.memory mapper.new) pool.new.frames) }
-    ensures unchanged { OnErr result ((M.memory mapper.new ≡ M.memory mapper.old) × (pool.new ≡ pool.old)) }
-    ensures keeps { KeepsPool (M.layout mapper.old) (serves_below pool.old.limit) (M.memory mapper.old) pool.old.frames (M.memory mapper.new) pool.new.frames }
+    requires { PoolFits (M.hierarchy mapper.old) (serves_below pool.old.limit) pool.old.frames }
+    ensures answered { let h = M.hierarchy mapper.old in
+        IfOk result (IsAnswered h.layout h.memory pool.old.frames call (M.hierarchy mapper.new).memory pool.new.frames) }
+    ensures unchanged { OnErr result (
+        ((M.hierarchy mapper.new).memory ≡ (M.hierarchy mapper.old).memory) × (pool.new ≡ pool.old)) }
+    ensures keeps { let h = M.hierarchy mapper.old in
+        Kept h (serves_below pool.old.limit) pool.old.frames (M.hierarchy mapper.new) pool.new.frames }
     ensures serves { serves_below pool.new.limit ≡ serves_below pool.old.limit }
-    ensures lent { M.lent mapper.new ≡ M.lent mapper.old }
-    ensures layout { M.layout mapper.new ≡ M.layout mapper.old }
 {
     let calls = [call];
     let mut replies = Vec::with_capacity(alloc, 1)?;

@@ -1,7 +1,7 @@
 //! The lines of the input.
 ghost use Rattle.std.specs.Prelude.{◌≡◌, ◌≤◌, IfOk, IfErr, IfSome};
 ghost use Rattle.pagetab_engine.specs.Line.{FitsLine, IsReadFault};
-ghost use Rattle.pagetab_engine.specs.Statements.{IsStatement, statement_name, statement_size, statement_numbers};
+ghost use Rattle.pagetab_engine.specs.Statements.{IsAccepted};
 ghost use Rattle.pagetab_engine.specs.declared.ending.Fault.TheVariants.{BadLine};
 
 use crate::ending::Fault;
@@ -58,7 +58,7 @@ impl<R: Read> Lines<'_, R> {
     ///
     /// `Fault::BadLine` where the line can't be read, and `Fault::InputOutput` where the reader fails.
     pub fn next_statement(&mut self, places: u64) -> Result<Option<Statement>, Fault>
-        ensures accepted { IfOk result (λ next. IfSome next (λ statement. IsStatement places (statement_name statement) (statement_size statement) (statement_numbers statement))) }
+        ensures accepted { IfOk result (λ next. IfSome next (λ statement. IsAccepted places statement)) }
         ensures fault { IfErr result (IsReadFault self.new.number) }
     {
         let mut line = [0; LONGEST];

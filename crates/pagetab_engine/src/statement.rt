@@ -1,7 +1,7 @@
 //! What lines say.
 ghost use Rattle.std.specs.Prelude.{◌≡◌, ◌↔◌, ℕ, Option, List, Some, None, IsSome, IfSome, IfNone};
 ghost use Rattle.pagetab_engine.specs.Fields.{Says};
-ghost use Rattle.pagetab_engine.specs.Statements.{IsPlain, IsStatement, statement_name, statement_size, statement_numbers};
+ghost use Rattle.pagetab_engine.specs.Statements.{IsPlain, IsStatement, IsAccepted, SaysStatement, statement_name, statement_size, statement_numbers};
 
 use crate::fields::{Fields, Name, Size};
 use crate::page_call::parse_call;
@@ -43,9 +43,10 @@ pub enum Statement {
 impl Statement {
     /// Reads a line without its line feed, about a memory with so many places. Answers `None` exactly where it says no statement.
     pub fn parse(line: &[u8], places: u64) -> Option<Statement>
-        ensures says { IfSome result (λ statement. Says line.now (statement_name statement) (statement_size statement) (statement_numbers statement)) }
-        ensures accepted { IfSome result (λ statement. IsStatement places (statement_name statement) (statement_size statement) (statement_numbers statement)) }
-        ensures none { IfNone result ((name : Name) (size : Option Size) (numbers : List ℕ) → Says line.now name size numbers → ¬ (IsStatement places name size numbers)) }
+        ensures says { IfSome result (λ statement. SaysStatement line.now statement) }
+        ensures accepted { IfSome result (λ statement. IsAccepted places statement) }
+        ensures none { IfNone result ((name : Name) (size : Option Size) (numbers : List ℕ) →
+            Says line.now name size numbers → ¬ (IsStatement places name size numbers)) }
     {
         let fields = Fields::parse(str::from_utf8(line).ok()?)?;
         Self::from_fields(fields.name, fields.size, fields.numbers(), places)

@@ -3,7 +3,6 @@ use Rattle.std.proofs.Common.{◌≡◌, ℕ, List, Option, Some, option_map, re
 use Rattle.x86_64_model.specs.Memory.{Memory}
 use Rattle.x86_64_model.specs.Layout.{Layout, read_entry}
 use Rattle.x86_64_model.specs.Translation.{Translated, translate, address_of}
-use Rattle.x86_64_model.specs.Allowed.{allowed}
 use Rattle.x86_64_model.specs.Machine.{do_call}
 use Rattle.x86_64_tables.specs.Translations.{translation_of}
 use Rattle.x86_64_tables.specs.declared.mapper.MappedFrame.TheVariants.{Size4KiB, Size2MiB, Size1GiB}
@@ -28,10 +27,10 @@ translation_back (InvalidFrameAddress address) t e = cc
 module _ (l : Layout) (put : List ℕ → ℕ → List ℕ) (m : Memory) (pool : List ℕ) (c : Call) (addr : ℕ) where
   pub translate_served : c ≡ call.Translate addr → (r : TranslateResult) → translation_of r ≡ Some (translate l.levels (read_entry l m) addr)
       → call_step (machine_of l put) (state_of l m pool) c ≡ (state_of l m pool, Some (reply.Translate r))
-  unfolding allowed do_call
+  unfolding do_call
   translate_served is r e = ap (call_step (machine_of l put) (state_of l m pool)) is ∙ ap (λ o. (state_of l m pool, option_map reply.Translate o)) (sym (translation_back r _ e))
 
   pub address_served : c ≡ call.TranslateAddr addr → (a : Option ℕ) → a ≡ address_of (translate l.levels (read_entry l m) addr)
       → call_step (machine_of l put) (state_of l m pool) c ≡ (state_of l m pool, Some (reply.Address a))
-  unfolding allowed do_call
+  unfolding do_call
   address_served is a e = ap (call_step (machine_of l put) (state_of l m pool)) is ∙ ap (λ a. (state_of l m pool, Some (reply.Address a))) (sym e)

@@ -12,8 +12,8 @@ use Rattle.x86_64_model.specs.Pool.{IsGiving}
 use Rattle.x86_64_model.specs.Refusal.{Refusal, Done, Refused}
 use Rattle.x86_64_model.specs.Window.{IsValidFor}
 use Rattle.x86_64_model.specs.Laws.Steps.{AllCalls, NoneCovers as NoItemCovers}
-use Rattle.x86_64_model.specs.Lemmas.Machines.Effects.{page_at_level}
-use Rattle.x86_64_model.specs.Lemmas.Machines.Flushes.{flushes_suffice}
+use Rattle.x86_64_model.proofs.Lemmas.Machines.Effects.{page_at_level}
+use Rattle.x86_64_model.proofs.Lemmas.Machines.Flushes.{flushes_suffice}
 use Rattle.x86_64_tables.specs.declared.mapper.recorder.FlushItem.{FlushItem}
 use Rattle.x86_64_tables.specs.declared.mapper.recorder.FlushItem.TheVariants.{Page}
 use Rattle.x86_64.specs.declared.calls.SizeCall.{SizeCall}
@@ -26,7 +26,8 @@ use Rattle.x86_64.specs.declared.calls.Reply.{Reply}
 use Rattle.x86_64.specs.declared.calls.Reply.TheVariants as reply
 use Rattle.x86_64.specs.Calls.{size_call as size_call_of, call_of, calls_of}
 use Rattle.x86_64_tables.specs.declared.mapper.TranslateResult.{TranslateResult}
-use Rattle.x86_64.specs.Flushes.{size_items, items_where, items_of, items_told, item_of, NoneCovers, FlushesSuffice}
+use Rattle.x86_64.specs.Flushes.{size_items, items_of, items_told, item_of, NoneCovers, FlushesSuffice}
+use Rattle.x86_64.specs.Private.{items_where}
 use Rattle.x86_64.specs.Replies.{map_error, unmap_error, update_error, translate_error, sized, size_answer, translate_result, reply_of}
 use Rattle.x86_64.specs.Runs.{machine_of, state_of, FitsPool, call_step, replies_to}
 

@@ -7,9 +7,9 @@ use Rattle.x86_64_model.specs.Pool.{IsGiving}
 use Rattle.x86_64_model.specs.MapperCalls.{IsReady, Owns, KeepsOthers}
 use Rattle.x86_64_model.specs.Call.{Call, IsCall}
 use Rattle.x86_64_model.specs.Machine.{State, step}
-use Rattle.x86_64_model.specs.Lemmas.Maps.Frames.{Conserves}
-use Rattle.x86_64_model.specs.Lemmas.Machines.States.{IsSound, step_sound, step_conserves}
-use Rattle.x86_64_model.specs.Lemmas.Machines.Fitting.{sound_of_fits, fits_of_sound}
+use Rattle.x86_64_model.proofs.Lemmas.Maps.Frames.{Conserves}
+use Rattle.x86_64_model.proofs.Lemmas.Machines.States.{IsSound, step_sound, step_conserves}
+use Rattle.x86_64_model.proofs.Lemmas.Machines.Fitting.{sound_of_fits, fits_of_sound}
 use Rattle.x86_64.specs.Runs.{machine_of, state_of, FitsPool, Keeps}
 
 pub keeps_nothing : (l : Layout) (serves : ℕ → Bool) (m : Memory) (pool : List ℕ) → FitsPool l m serves pool → Keeps l serves m pool m pool

@@ -5,3 +5,5 @@ pub mod PageSteps
 pub mod Rounds
 pub mod Flushed
 pub mod Telling
+pub mod Moved
+pub mod Offsets

@@ -1,21 +1,21 @@
 -- What a mapper's call on a page leaves and answers is the machine's step.
 use Rattle.std.proofs.Common.{◌≡◌, ◌≤◌, ℕ, Bool, true, cond, List, Some, option_map, Result, Ok, Err, inr, refl, ap, sym, ◌∙◌, subst, arith}
-use Rattle.std.specs.Result.{IfOk, OnErr}
+use Rattle.std.proofs.lemmas.Option.{same_Some}
+use Rattle.std.specs.Result.{IfOk}
 use Rattle.x86_64_model.specs.Entry.{IsParentFlags}
 use Rattle.x86_64_model.specs.Memory.{Memory}
 use Rattle.x86_64_model.specs.Layout.{Layout, paths}
 use Rattle.x86_64_model.specs.Path.{IsPage, path_at}
-use Rattle.x86_64_model.specs.MapRule.{map_call, parent_part}
-use Rattle.x86_64_model.specs.PageRules.{AfterChange}
-use Rattle.x86_64_model.specs.Refusal.{Answer, Done, Refused, refusal_of}
+use Rattle.x86_64_model.specs.Refusal.{Answer}
 use Rattle.x86_64_model.specs.Pool.{IsGiving}
-use Rattle.x86_64_model.specs.Allowed.{allowed}
+use Rattle.x86_64_model.specs.Allowed.{allowed, refuses}
 use Rattle.x86_64_model.specs.Call as machine
 use Rattle.x86_64_model.specs.Call.{IsCall}
-use Rattle.x86_64_model.specs.Machine.{State, do_call, step, after_map, after_change}
-use Rattle.x86_64_model.specs.MapperCalls.{IsReady, IsMapped, IsChanged, Owns, KeepsOthers, after_unmap, after_update, after_set_flags, page_translation}
-use Rattle.x86_64_model.specs.Lemmas.Machines.Effects.{page_at_level}
-use Rattle.x86_64_tables.specs.MapperAnswers.{map_answer, map_refusal, unmap_answer, unmap_refusal, flags_refusal, update_refusal, translate_answer, translate_refusal}
+use Rattle.x86_64_model.specs.Machine.{State, do_call, step}
+use Rattle.x86_64_model.specs.MapperCalls.{IsReady, Owns, KeepsOthers}
+use Rattle.x86_64_model.specs.Owned.{Hierarchy, Steps, Does, DoesMap, page_translation}
+use Rattle.x86_64_model.proofs.Lemmas.Machines.Effects.{page_at_level}
+use Rattle.x86_64_tables.specs.MapperAnswers.{map_answer, map_refusal, unmap_answer, unmap_refusal, flags_refusal, flags_answer, update_refusal, translate_answer, translate_refusal}
 use Rattle.x86_64_tables.specs.PageTableFlags.{bits_of}
 use Rattle.x86_64_tables.specs.declared.page_table.flags.PageTableFlags.{PageTableFlags}
 use Rattle.x86_64_tables.specs.declared.mapper.MapToError.{MapToError}
@@ -32,8 +32,9 @@ use Rattle.x86_64.specs.declared.calls.SizeReply.{SizeReply}
 use Rattle.x86_64.specs.declared.calls.SizeReply.TheVariants as reply
 use Rattle.x86_64.specs.Calls.{size_call}
 use Rattle.x86_64.specs.Replies.{map_error, unmap_error, update_error, translate_error, result_of, size_reply, size_answer, is_refused, size_changes_nothing}
-use Rattle.x86_64.specs.Runs.{machine_of, state_of, FitsPool, Keeps, size_step}
-use Rattle.x86_64_model.specs.Lemmas.Machines.Fitting.{ready_of_fits}
+use Rattle.x86_64.specs.Runs.{machine_of, state_of, FitsPool, Keeps}
+use Rattle.x86_64.specs.Private.{size_step}
+use Rattle.x86_64_model.proofs.Lemmas.Machines.Fitting.{ready_of_fits}
 use Rattle.x86_64.proofs.Keeping.{keeps_step}
 
 -- ---- results that answers are
@@ -65,11 +66,17 @@ unmap_result : (page : ℕ) (r : Result (ℕ × ℕ) UnmapError) → IfOk r (λ 
 unmap_result page (Ok unmapped) same = ap (λ p. Some (Ok (unmapped.0, p))) (sym same)
 unmap_result page (Err why) same = ap (option_map Err) (unmap_error_back why)
 
-flags_result : {X : Type 0} (done : X) (r : Result X FlagUpdateError) → IfOk r (λ x. x ≡ done) → (a : Answer) → flags_refusal r ≡ refusal_of a → result_of (λ f. done) update_error a ≡ Some r
-flags_result done (Ok x) same (Done f) e = ap (λ p. Some (Ok p)) (sym same)
-flags_result done (Ok x) same (Refused w) e = cc
-flags_result done (Err why) same (Done f) e = cc
-flags_result done (Err why) same (Refused w) e = let is : update_refusal why ≡ w = cc in ap (λ w. option_map Err (update_error w)) (sym is) ∙ ap (option_map Err) (update_error_back why)
+same_error : (v w : FlagUpdateError) → flags_refusal {X = Unit} (Err v) ≡ flags_refusal {X = Unit} (Err w) → v ≡ w
+same_error v w is =
+    let same : update_refusal v ≡ update_refusal w = cc in
+    same_Some v w (sym (update_error_back v) ∙ ap update_error same ∙ update_error_back w)
+
+flags_result : {X Y : Type 0} (done : X) (frame : ℕ) (told : Result X FlagUpdateError) → IfOk told (λ x. x ≡ done) → (r : Result Y FlagUpdateError) → flags_refusal told ≡ flags_refusal r
+    → result_of (λ f. done) update_error (flags_answer frame r) ≡ Some told
+flags_result done frame (Ok x) same (Ok y) tells = ap (λ p. Some (Ok p)) (sym same)
+flags_result done frame (Ok x) same (Err w) tells = cc
+flags_result done frame (Err why) same (Ok y) tells = cc
+flags_result done frame (Err why) same (Err w) tells = let is : why ≡ w = same_error why w tells in ap (λ w. option_map Err (update_error (update_refusal w))) (sym is) ∙ ap (option_map Err) (update_error_back why)
 
 any_unit : (r : Result Unit FlagUpdateError) → IfOk r (λ x. x ≡ tt)
 any_unit (Ok x) = refl
@@ -79,15 +86,15 @@ translate_result : (r : Result ℕ TranslateError) → result_of (λ f. f) trans
 translate_result (Ok frame) = refl
 translate_result (Err why) = ap (option_map Err) (translate_error_back why)
 
--- what holds of a refusal holds where the reply tells of one
-refused_alike : {X E P : Type 0} (told r : Result X E) → told ≡ r → OnErr r P → is_refused told ≡ true → P
-refused_alike told (Ok x) tells holds refused = cc
-refused_alike told (Err why) tells holds refused = holds
+-- a reply that tells of a refusal is one to an answer that refuses
+unmap_refuses : (told r : Result (ℕ × ℕ) UnmapError) → told ≡ r → is_refused told ≡ true → refuses (unmap_answer r) ≡ true
+unmap_refuses told (Ok x) tells refused = cc
+unmap_refuses told (Err why) tells refused = refl
 
-flags_refused_alike : {X P : Type 0} (told : Result Unit FlagUpdateError) (r : Result X FlagUpdateError) → flags_refusal told ≡ flags_refusal r → OnErr r P → is_refused told ≡ true → P
-flags_refused_alike (Ok done) r tells holds refused = cc
-flags_refused_alike (Err why) (Ok x) tells holds refused = cc
-flags_refused_alike (Err why) (Err same) tells holds refused = holds
+flags_refuse : {X Y : Type 0} (frame : ℕ) (told : Result X FlagUpdateError) (r : Result Y FlagUpdateError) → flags_refusal told ≡ flags_refusal r → is_refused told ≡ true → refuses (flags_answer frame r) ≡ true
+flags_refuse frame (Ok done) r tells refused = cc
+flags_refuse frame (Err why) (Ok x) tells refused = cc
+flags_refuse frame (Err why) (Err same) tells refused = refl
 
 -- ---- steps
 
@@ -113,93 +120,99 @@ is_page {l = l} {level = level} start page = let four = start.four in page_at_le
 abbrev pub IsServed : (S : Type 0) (l : Layout) (put : List ℕ → ℕ → List ℕ) (serves : ℕ → Bool) (m : Memory) (pool : List ℕ) (level : ℕ) (call : SizeCall S) (n : Memory) (rest : List ℕ) (answer : SizeReply S) → Type 0
 IsServed S l put serves m pool level call n rest answer = allowed l.levels l.window (paths l m) (size_call l.levels level call) ≡ true → Serves S l put serves m pool level call n rest answer
 
-module _ {S : Type 0} {l : Layout} {put : List ℕ → ℕ → List ℕ} {serves : ℕ → Bool} {m : Memory} {pool : List ℕ} {level : ℕ} (start : Start l put serves m pool level) where
-  abbrev Is : (call : SizeCall S) (n : Memory) (rest : List ℕ) (answer : SizeReply S) → Type 0
-  Is = IsServed S l put serves m pool level
+-- the outcome of a call, in the layout that no call changes
+stepped : {Lent : Type 0} (h : Hierarchy Lent) (put : List ℕ → ℕ → List ℕ) (pool : List ℕ) (on : machine.Call) (answer : Answer) (after : Hierarchy Lent) (rest : List ℕ) → after.layout ≡ h.layout
+    → Steps h pool on answer after rest → do_call (machine_of h.layout put) (state_of h.layout h.memory pool) on ≡ (state_of h.layout after.memory rest, machine.Answered answer)
+stepped h put pool on answer after rest same steps =
+    subst (λ l. do_call (machine_of h.layout put) (state_of h.layout h.memory pool) on ≡ (state_of l after.memory rest, machine.Answered answer)) same (steps put)
 
-  answered : (call : SizeCall S) → IsCall l.levels (size_call l.levels level call) → (n : Memory) (rest : List ℕ) (answer : Answer)
-      → do_call (machine_of l put) (state_of l m pool) (size_call l.levels level call) ≡ (state_of l n rest, machine.Answered answer)
-      → IsReady l n rest → KeepsOthers l.places (Owns l m pool) m n → (told : SizeReply S) → size_reply call answer ≡ Some told → (size_changes_nothing told ≡ true → n ≡ m) → Is call n rest told
+module _ {Lent S : Type 0} (h : Hierarchy Lent) {put : List ℕ → ℕ → List ℕ} {serves : ℕ → Bool} {pool : List ℕ} {level : ℕ} (start : Start h.layout put serves h.memory pool level) where
+  abbrev Is : (call : SizeCall S) (n : Memory) (rest : List ℕ) (answer : SizeReply S) → Type 0
+  Is = IsServed S h.layout put serves h.memory pool level
+
+  answered : (call : SizeCall S) → IsCall h.layout.levels (size_call h.layout.levels level call) → (n : Memory) (rest : List ℕ) (answer : Answer)
+      → do_call (machine_of h.layout put) (state_of h.layout h.memory pool) (size_call h.layout.levels level call) ≡ (state_of h.layout n rest, machine.Answered answer)
+      → IsReady h.layout n rest → KeepsOthers h.layout.places (Owns h.layout h.memory pool) h.memory n → (told : SizeReply S) → size_reply call answer ≡ Some told → (size_changes_nothing told ≡ true → n ≡ h.memory)
+      → Is call n rest told
   answered call is n rest answer does ready others told tells still may =
-      let on = size_call l.levels level call in
-      let one : step (machine_of l put) (state_of l m pool) on ≡ (state_of l n rest, machine.Answered answer) = ap (λ b. cond b (do_call (machine_of l put) (state_of l m pool) on) (state_of l m pool, machine.NotAllowed)) may ∙ does in
+      let before = state_of h.layout h.memory pool in
+      let on = size_call h.layout.levels level call in
+      let one : step (machine_of h.layout put) before on ≡ (state_of h.layout n rest, machine.Answered answer) = ap (λ b. cond b (do_call (machine_of h.layout put) before on) (before, machine.NotAllowed)) may ∙ does in
       record {
-        step = ap (λ (x : State × machine.Reply). (x.0, size_answer call x.1)) one ∙ ap (λ a. (state_of l n rest, option_map Some a)) tells;
+        step = ap (λ (x : State × machine.Reply). (x.0, size_answer call x.1)) one ∙ ap (λ a. (state_of h.layout n rest, option_map Some a)) tells;
         still = still;
-        keeps = keeps_step l start.adds put start.gives serves m pool start.fits on is n rest (sym (ap (λ (x : State × machine.Reply). x.0) one)) ready others;
+        keeps = keeps_step h.layout start.adds put start.gives serves h.memory pool start.fits on is n rest (sym (ap (λ (x : State × machine.Reply). x.0) one)) ready others;
       }
 
   -- ---- maps
 
-  map_served : (call : SizeCall S) → IsCall l.levels (size_call l.levels level call) → (path : List ℕ) (page frame given parent_flags : ℕ)
-      → do_call (machine_of l put) (state_of l m pool) (size_call l.levels level call) ≡ after_map (map_call l.levels (paths l m) pool parent_flags l.added_flags path frame given)
+  map_served : (call : SizeCall S) → IsCall h.layout.levels (size_call h.layout.levels level call) → (page frame : ℕ)
       → ((answer : Answer) → size_reply call answer ≡ option_map reply.Map (result_of (λ f. page) map_error answer))
-      → (r : Result ℕ (MapToError S)) (n : Memory) (rest : List ℕ) → IsMapped l m pool path frame given parent_flags (map_answer frame r) n rest → IfOk r (λ flush. flush ≡ page)
-      → (told : Result ℕ (MapToError S)) → told ≡ r → Is call n rest (reply.Map told)
-  map_served call is path page frame given parent_flags does replies r n rest mapped same told tells =
-      answered call is n rest (map_answer frame r) (does ∙ ap after_map mapped.outcome) mapped.ready (λ k none. mapped.others k (λ f uses. none f uses.0))
+      → (r : Result ℕ (MapToError S)) (after : Hierarchy Lent) (rest : List ℕ) → DoesMap h pool (size_call h.layout.levels level call) (map_answer frame r) after rest → IfOk r (λ flush. flush ≡ page)
+      → (told : Result ℕ (MapToError S)) → told ≡ r → Is call after.memory rest (reply.Map told)
+  map_served call is page frame replies r after rest does same told tells =
+      answered call is after.memory rest (map_answer frame r) (stepped h put pool (size_call h.layout.levels level call) (map_answer frame r) after rest does.layout does.outcome)
+      (subst (λ l. IsReady l after.memory rest) does.layout does.fits) (λ k none. does.others k (λ f uses. none f uses.0))
       (reply.Map told) (replies _ ∙ ap (option_map reply.Map) (map_result S page frame r same ∙ ap Some (sym tells))) (λ unchanged. cc)
 
-  pub map_to_served : (page frame : ℕ) (flags : PageTableFlags) (r : Result ℕ (MapToError S)) (n : Memory) (rest : List ℕ)
-      → IsMapped l m pool (path_at l.levels level page) frame (bits_of flags) (parent_part (bits_of flags)) (map_answer frame r) n rest → IfOk r (λ flush. flush ≡ page)
-      → (told : Result ℕ (MapToError S)) → told ≡ r → Is (MapTo page frame flags) n rest (reply.Map told)
-  unfolding do_call
-  map_to_served page frame flags = map_served (MapTo page frame flags) (is_page start page) (path_at l.levels level page) page frame (bits_of flags) (parent_part (bits_of flags)) refl (λ a. refl)
+  pub map_to_served : (page frame : ℕ) (flags : PageTableFlags) (r : Result ℕ (MapToError S)) (after : Hierarchy Lent) (rest : List ℕ)
+      → DoesMap h pool (size_call {S = S} h.layout.levels level (MapTo page frame flags)) (map_answer frame r) after rest → IfOk r (λ flush. flush ≡ page)
+      → (told : Result ℕ (MapToError S)) → told ≡ r → Is (MapTo page frame flags) after.memory rest (reply.Map told)
+  map_to_served page frame flags = map_served (MapTo page frame flags) (is_page start page) page frame (λ a. refl)
 
-  pub map_with_flags_served : (page frame : ℕ) (flags parent_flags : PageTableFlags) (r : Result ℕ (MapToError S)) (n : Memory) (rest : List ℕ)
-      → IsMapped l m pool (path_at l.levels level page) frame (bits_of flags) (bits_of parent_flags) (map_answer frame r) n rest → IfOk r (λ flush. flush ≡ page)
-      → (told : Result ℕ (MapToError S)) → told ≡ r → Is (MapToWithTableFlags page frame flags parent_flags) n rest (reply.Map told)
-  unfolding do_call
-  map_with_flags_served page frame flags parent_flags = map_served (MapToWithTableFlags page frame flags parent_flags) (is_page start page) (path_at l.levels level page) page frame (bits_of flags) (bits_of parent_flags) refl (λ a. refl)
+  pub map_with_flags_served : (page frame : ℕ) (flags parent_flags : PageTableFlags) (r : Result ℕ (MapToError S)) (after : Hierarchy Lent) (rest : List ℕ)
+      → DoesMap h pool (size_call {S = S} h.layout.levels level (MapToWithTableFlags page frame flags parent_flags)) (map_answer frame r) after rest → IfOk r (λ flush. flush ≡ page)
+      → (told : Result ℕ (MapToError S)) → told ≡ r → Is (MapToWithTableFlags page frame flags parent_flags) after.memory rest (reply.Map told)
+  map_with_flags_served page frame flags parent_flags = map_served (MapToWithTableFlags page frame flags parent_flags) (is_page start page) page frame (λ a. refl)
 
-  pub identity_map_served : (frame : ℕ) (flags : PageTableFlags) (r : Result ℕ (MapToError S)) (n : Memory) (rest : List ℕ)
-      → IsMapped l m pool (path_at l.levels level frame) frame (bits_of flags) (parent_part (bits_of flags)) (map_answer frame r) n rest → IfOk r (λ flush. flush ≡ frame)
-      → (told : Result ℕ (MapToError S)) → told ≡ r → Is (IdentityMap frame flags) n rest (reply.Map told)
-  unfolding do_call
-  identity_map_served frame flags = let four = start.four in
-      map_served (IdentityMap frame flags) (start.low, start.high, omega (arith, start.high)) (path_at l.levels level frame) frame frame (bits_of flags) (parent_part (bits_of flags)) refl (λ a. refl)
+  pub identity_map_served : (frame : ℕ) (flags : PageTableFlags) (r : Result ℕ (MapToError S)) (after : Hierarchy Lent) (rest : List ℕ)
+      → DoesMap h pool (size_call {S = S} h.layout.levels level (IdentityMap frame flags)) (map_answer frame r) after rest → IfOk r (λ flush. flush ≡ frame)
+      → (told : Result ℕ (MapToError S)) → told ≡ r → Is (IdentityMap frame flags) after.memory rest (reply.Map told)
+  identity_map_served frame flags = let four = start.four in map_served (IdentityMap frame flags) (start.low, start.high, omega (arith, start.high)) frame frame (λ a. refl)
 
   -- ---- changes of one entry
 
-  change_served : (call : SizeCall S) → IsCall l.levels (size_call l.levels level call) → (after : AfterChange)
-      → do_call (machine_of l put) (state_of l m pool) (size_call l.levels level call) ≡ after_change pool after
-      → (n : Memory) → IsChanged l m after n → (told : SizeReply S) → size_reply call after.answer ≡ Some told → (size_changes_nothing told ≡ true → n ≡ m) → Is call n pool told
-  change_served call is after does n changed told tells still =
-      answered call is n pool after.answer (does ∙ ap (λ p. (record { paths = p; pool = pool }, machine.Answered after.answer)) changed.meant)
-      (changed.ready pool (ready_of_fits l m serves pool start.fits)) (λ k none. changed.others k (λ f table. none f (inr table))) told tells still
+  change_served : (call : SizeCall S) → IsCall h.layout.levels (size_call h.layout.levels level call) → (answer : Answer) (after : Hierarchy Lent) → Does h (size_call h.layout.levels level call) answer after
+      → (told : SizeReply S) → size_reply call answer ≡ Some told → (size_changes_nothing told ≡ true → refuses answer ≡ true) → Is call after.memory pool told
+  change_served call is answer after does told tells still =
+      answered call is after.memory pool answer (stepped h put pool (size_call h.layout.levels level call) answer after pool does.layout (does.outcome pool))
+      (subst (λ l. IsReady l after.memory pool) does.layout (does.fits pool (ready_of_fits h.layout h.memory serves pool start.fits))) (λ k none. does.others k (λ f table. none f (inr table)))
+      told tells (λ unchanged. does.refused (still unchanged))
 
-  pub unmap_served : (page : ℕ) (r : Result (ℕ × ℕ) UnmapError) (n : Memory) → unmap_answer r ≡ (after_unmap l m (path_at l.levels level page)).answer
-      → IsChanged l m (after_unmap l m (path_at l.levels level page)) n → IfOk r (λ unmapped. unmapped.1 ≡ page) → OnErr r (n ≡ m)
-      → (told : Result (ℕ × ℕ) UnmapError) → told ≡ r → Is (Unmap page) n pool (reply.Unmap told)
-  unfolding do_call
-  unmap_served page r n answers changed same unchanged told tells = change_served (Unmap page) (is_page start page) (after_unmap l m (path_at l.levels level page)) refl n changed (reply.Unmap told)
-      (ap (λ a. option_map reply.Unmap (result_of (λ f. (f, page)) unmap_error a)) (sym answers) ∙ ap (option_map reply.Unmap) (unmap_result page r same ∙ ap Some (sym tells)))
-      (refused_alike told r tells unchanged)
+  pub unmap_served : (page : ℕ) (r : Result (ℕ × ℕ) UnmapError) (after : Hierarchy Lent) → Does h (size_call {S = S} h.layout.levels level (Unmap page)) (unmap_answer r) after → IfOk r (λ unmapped. unmapped.1 ≡ page)
+      → (told : Result (ℕ × ℕ) UnmapError) → told ≡ r → Is (Unmap page) after.memory pool (reply.Unmap told)
+  unmap_served page r after does same told tells = change_served (Unmap page) (is_page start page) (unmap_answer r) after does (reply.Unmap told)
+      (ap (option_map reply.Unmap) (unmap_result page r same ∙ ap Some (sym tells))) (unmap_refuses told r tells)
 
-  pub update_served : (page : ℕ) (flags : PageTableFlags) (r : Result ℕ FlagUpdateError) (n : Memory) → flags_refusal r ≡ refusal_of (after_update l m (path_at l.levels level page) (bits_of flags)).answer
-      → IsChanged l m (after_update l m (path_at l.levels level page) (bits_of flags)) n → IfOk r (λ flush. flush ≡ page) → OnErr r (n ≡ m)
-      → (told : Result ℕ FlagUpdateError) → told ≡ r → Is (UpdateFlags page flags) n pool (reply.Update told)
-  unfolding do_call
-  update_served page flags r n refuses changed same unchanged told tells =
-      let after = after_update l m (path_at l.levels level page) (bits_of flags) in
-      change_served (UpdateFlags page flags) (is_page start page) after refl n changed (reply.Update told)
-      (ap (option_map reply.Update) (flags_result page r same after.answer refuses ∙ ap Some (sym tells))) (refused_alike told r tells unchanged)
+  pub update_served : (page : ℕ) (flags : PageTableFlags) (frame : ℕ) (r : Result ℕ FlagUpdateError) (after : Hierarchy Lent)
+      → Does h (size_call {S = S} h.layout.levels level (UpdateFlags page flags)) (flags_answer frame r) after → IfOk r (λ flush. flush ≡ page)
+      → (told : Result ℕ FlagUpdateError) → told ≡ r → Is (UpdateFlags page flags) after.memory pool (reply.Update told)
+  update_served page flags frame r after does same told tells = change_served (UpdateFlags page flags) (is_page start page) (flags_answer frame r) after does (reply.Update told)
+      (ap (option_map reply.Update) (flags_result page frame r same r refl ∙ ap Some (sym tells))) (flags_refuse frame told r (ap flags_refusal tells))
 
   -- on the entry of another level
-  pub set_flags_served : (call : SizeCall S) (at page : ℕ) (flags : PageTableFlags) → size_call l.levels level call ≡ machine.SetFlags at (path_at l.levels level page) (bits_of flags) → 2 ≤ at → at ≤ 4
+  pub set_flags_served : (call : SizeCall S) (at page : ℕ) (flags : PageTableFlags) → size_call h.layout.levels level call ≡ machine.SetFlags at (path_at h.layout.levels level page) (bits_of flags) → 2 ≤ at → at ≤ 4
       → ((answer : Answer) → size_reply call answer ≡ option_map reply.TableFlags (result_of (λ f. tt) update_error answer))
-      → {X : Type 0} (r : Result X FlagUpdateError) (n : Memory) → flags_refusal r ≡ refusal_of (after_set_flags l m at (path_at l.levels level page) (bits_of flags)).answer
-      → IsChanged l m (after_set_flags l m at (path_at l.levels level page) (bits_of flags)) n → OnErr r (n ≡ m)
-      → (told : Result Unit FlagUpdateError) → flags_refusal told ≡ flags_refusal r → Is call n pool (reply.TableFlags told)
-  unfolding do_call
-  set_flags_served call at page flags is above below replies r n refuses changed unchanged told tells =
-      let after = after_set_flags l m at (path_at l.levels level page) (bits_of flags) in
-      change_served call (subst (IsCall l.levels) (sym is) (above, subst (λ L. at ≤ L) (sym start.four) below, is_page start page)) after (ap (do_call (machine_of l put) (state_of l m pool)) is) n changed (reply.TableFlags told)
-      (replies after.answer ∙ ap (option_map reply.TableFlags) (flags_result tt told (any_unit told) after.answer (tells ∙ refuses))) (flags_refused_alike told r tells unchanged)
+      → {X : Type 0} (frame : ℕ) (r : Result X FlagUpdateError) (after : Hierarchy Lent) → Does h (size_call h.layout.levels level call) (flags_answer frame r) after
+      → (told : Result Unit FlagUpdateError) → flags_refusal told ≡ flags_refusal r → Is call after.memory pool (reply.TableFlags told)
+  set_flags_served call at page flags is above below replies frame r after does told tells =
+      change_served call (subst (IsCall h.layout.levels) (sym is) (above, subst (λ L. at ≤ L) (sym start.four) below, is_page start page)) (flags_answer frame r) after does (reply.TableFlags told)
+      (replies _ ∙ ap (option_map reply.TableFlags) (flags_result tt frame told (any_unit told) r tells)) (flags_refuse frame told r tells)
 
   -- ---- translations
 
-  pub translate_served : (page : ℕ) (r : Result ℕ TranslateError) → translate_answer r ≡ page_translation l m (path_at l.levels level page) → Is (TranslatePage page) m pool (reply.Frame r)
+  pub translate_served : (page : ℕ) (r : Result ℕ TranslateError) → translate_answer r ≡ page_translation h (path_at h.layout.levels level page) → Is (TranslatePage page) h.memory pool (reply.Frame r)
   unfolding do_call
-  translate_served page r answers = answered (TranslatePage page) (is_page start page) m pool (page_translation l m (path_at l.levels level page)) refl
-      (ready_of_fits l m serves pool start.fits) (λ k none. refl) (reply.Frame r) (ap (λ a. option_map reply.Frame (result_of (λ f. f) translate_error a)) (sym answers) ∙ ap (option_map reply.Frame) (translate_result r)) (λ unchanged. refl)
+  translate_served page r answers = answered (TranslatePage page) (is_page start page) h.memory pool (page_translation h (path_at h.layout.levels level page)) refl
+      (ready_of_fits h.layout h.memory serves pool start.fits) (λ k none. refl) (reply.Frame r) (ap (λ a. option_map reply.Frame (result_of (λ f. f) translate_error a)) (sym answers) ∙ ap (option_map reply.Frame) (translate_result r)) (λ unchanged. refl)
+
+-- ---- the layout and what was lent stay
+
+abbrev pub IsKept : {Lent : Type 0} → (h after : Hierarchy Lent) → Type 0
+IsKept h after = (after.layout ≡ h.layout) × (after.lent ≡ h.lent)
+
+pub map_kept : {Lent : Type 0} (h : Hierarchy Lent) {supply : List ℕ} {call : machine.Call} {answer : Answer} {after : Hierarchy Lent} {rest : List ℕ} → DoesMap h supply call answer after rest → IsKept h after
+map_kept h does = (does.layout, does.lent)
+
+pub change_kept : {Lent : Type 0} (h : Hierarchy Lent) {call : machine.Call} {answer : Answer} {after : Hierarchy Lent} → Does h call answer after → IsKept h after
+change_kept h does = (does.layout, does.lent)

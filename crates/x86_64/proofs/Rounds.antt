@@ -6,13 +6,15 @@ use Rattle.std.specs.List.{AllByRecursion}
 use Rattle.x86_64_model.specs.Memory.{Memory}
 use Rattle.x86_64_model.specs.Layout.{Layout}
 use Rattle.x86_64_model.specs.Machine.{Machine, State, state_after}
+use Rattle.x86_64_model.specs.Owned.{Hierarchy}
 use Rattle.x86_64_tables.specs.declared.mapper.recorder.FlushItem.{FlushItem}
-use Rattle.x86_64.specs.Flushes.{recorded, items_of, items_told}
+use Rattle.x86_64.specs.Flushes.{items_of, items_told}
+use Rattle.x86_64.specs.Private.{recorded}
 use Rattle.x86_64.specs.declared.calls.Call.{Call}
 use Rattle.x86_64.specs.declared.calls.Reply.{Reply}
 use Rattle.x86_64.specs.Calls.{calls_of}
 use Rattle.x86_64.specs.Replies.{changes_nothing}
-use Rattle.x86_64.specs.Runs.{machine_of, state_of, Keeps, call_step, replies_to, appended, UnchangedIfRefused}
+use Rattle.x86_64.specs.Runs.{machine_of, state_of, Keeps, Kept, call_step, replies_to, appended, UnchangedIfRefused}
 use Rattle.x86_64.proofs.Keeping.{keeps_then}
 
 left : (calls : List Call) (i : ℕ) (call : Call) → i < length calls → call ≡ get_or calls i call → drop i calls ≡ call ∷ drop (i + 1) calls
@@ -71,6 +73,9 @@ replies_long m s (call ∷ calls) = ap suc (replies_long m (call_step m s call).
 pub told_last : (m : Machine) (s : State) (calls : List Call) (i : ℕ) → length calls ≤ i → (items : List Reply) (all : List (Option Reply)) → map Some items ++ replies_to m s (drop i calls) ≡ all → map Some items ≡ all
 told_last m s calls i past items all told = sym (append-nil (map Some items)) ∙ ap (λ cs. map Some items ++ replies_to m s cs) (sym (drop_all i calls past)) ∙ told
 
+pub rest_last : (m : Machine) (s : State) (calls : List Call) (i : ℕ) → length calls ≤ i → (all : State) → state_after m s (calls_of m.levels (drop i calls)) ≡ all → s ≡ all
+rest_last m s calls i past all rest = ap (λ cs. state_after m s (calls_of m.levels cs)) (sym (drop_all i calls past)) ∙ rest
+
 -- one for each call
 pub one_each : (m : Machine) (s : State) (calls : List Call) (before after : List Reply) → map Some after ≡ map Some before ++ replies_to m s calls → length after ≡ length before + length calls
 one_each m s calls before after told =
@@ -88,10 +93,17 @@ room_for_one has_room fewer (suc k) room =
     let same : suc k + 1 ≡ k + 1 + 1 = omega arith in
     room_for_one has_room fewer k (fewer (k + 1) (subst has_room same room))
 
--- the same layout and the same frames served
-module _ (k l : Layout) (same : l ≡ k) (put : List ℕ → ℕ → List ℕ) (served serves : ℕ → Bool) (same_served : serves ≡ served) (n o : Memory) (rest last : List ℕ) where
+-- ---- in the same layout, with the same frames served
+
+module _ (k l : Layout) (same : l ≡ k) (put : List ℕ → ℕ → List ℕ) (n o : Memory) (rest last : List ℕ) where
   pub step_at : (call : Call) (r : Reply) → call_step (machine_of l put) (state_of l n rest) call ≡ (state_of l o last, Some r) → call_step (machine_of k put) (state_of k n rest) call ≡ (state_of k o last, Some r)
   step_at call r = subst (λ l. call_step (machine_of l put) (state_of l n rest) call ≡ (state_of l o last, Some r)) same
 
-  pub keeps_next : (m : Memory) (pool : List ℕ) → Keeps k served m pool n rest → Keeps l serves n rest o last → Keeps k served m pool o last
-  keeps_next m pool one next = keeps_then k served m n o pool rest last one (subst (λ serves. Keeps k serves n rest o last) same_served (subst (λ l. Keeps l serves n rest o last) same next))
+pub kept_then : {Lent : Type 0} (h now after : Hierarchy Lent) (served serves : ℕ → Bool) → serves ≡ served → (pool rest last : List ℕ) → Kept h served pool now rest → Kept now serves rest after last
+    → Kept h served pool after last
+kept_then h now after served serves same pool rest last one next = record {
+  keeps = keeps_then h.layout served h.memory now.memory after.memory pool rest last one.keeps
+      (subst (λ serves. Keeps h.layout serves now.memory rest after.memory last) same (subst (λ l. Keeps l serves now.memory rest after.memory last) one.layout next.keeps));
+  layout = next.layout ∙ one.layout;
+  lent = next.lent ∙ one.lent;
+}

@@ -1,10 +1,10 @@
 -- What is recorded of calls: an item for the token of each that was accepted, in order, and no other.
-use Rattle.std.specs.Prelude.{◌≡◌, ◌≤◌, ◌+◌, ◌==◌, ℕ, Bool, true, false, cond, take, drop, List, [], ◌∷◌, ◌++◌, Result, Ok, Err, Option, Some, None}
+use Rattle.std.specs.Prelude.{◌≡◌, ◌==◌, ℕ, false, cond, take, drop, List, [], ◌∷◌, ◌++◌, Result, Ok, Err}
 use Rattle.std.specs.List.{AllByRecursion}
-use Rattle.std.proofs.Common.{arith}
 use Rattle.x86_64_model.specs.Arrivals.{Keeps}
 use Rattle.x86_64_model.specs.Flush as flush
-use Rattle.x86_64_model.specs.Layout.{Layout}
+use Rattle.x86_64_model.specs.Layout.{Layout, words}
+use Rattle.x86_64_model.specs.Owned.{Hierarchy}
 use Rattle.x86_64_model.specs.Machine.{State, state_after}
 use Rattle.x86_64_model.specs.Memory.{Words}
 use Rattle.x86_64_model.specs.PageWalk.{page_walk}
@@ -14,20 +14,12 @@ use Rattle.x86_64_model.specs.Window.{begins_with, IsValidFor}
 use Rattle.x86_64_tables.specs.declared.mapper.recorder.FlushItem.{FlushItem}
 use Rattle.x86_64_tables.specs.declared.mapper.recorder.FlushItem.TheVariants.{Page, All}
 use Rattle.x86_64.specs.Calls.{calls_of}
-use Rattle.x86_64.specs.Runs.{machine_of}
+use Rattle.x86_64.specs.Runs.{machine_of, state_of}
 use Rattle.x86_64.specs.declared.calls.Call.{Call}
 use Rattle.x86_64.specs.declared.calls.SizeReply.{SizeReply}
 use Rattle.x86_64.specs.declared.calls.SizeReply.TheVariants.{Map, Unmap, Update, TableFlags, Frame}
 use Rattle.x86_64.specs.declared.calls.Reply.{Reply}
 use Rattle.x86_64.specs.declared.calls.Reply.TheVariants as reply
-
--- these items where they are recorded
-abbrev pub recorded : Bool → List FlushItem → List FlushItem
-recorded true items = items
-recorded false items = []
-
-pub less_room : (n room : ℕ) → n + 1 ≤ room → n ≤ room
-less_room n room h = omega arith
 
 -- the item of a page of a size, where the call was accepted
 abbrev pub page_items : {E : Type 0} → (size : ℕ) → Result ℕ E → List FlushItem
@@ -50,11 +42,6 @@ size_items size (Unmap unmapped) = unmapped_items size unmapped
 size_items size (Update updated) = page_items size updated
 size_items size (TableFlags done) = all_items done
 size_items size (Frame frame) = []
-
--- the same, none where the call isn't allowed
-abbrev pub items_where : {S : Type 0} → (size : ℕ) → Option (SizeReply S) → List FlushItem
-items_where size None = []
-items_where size (Some answer) = size_items size answer
 
 -- the items of a call that has this reply
 abbrev pub items_of : Reply → List FlushItem
@@ -86,3 +73,8 @@ FlushesSuffice l put start calls replies U =
     (k : ℕ) (V : Words) (p : ℕ) → let then = state_after (machine_of l put) start (calls_of l.levels (take k calls)) in
     IsValidFor l.levels l.window V l.root then.paths → begins_with l.window (page_path l.levels p) ≡ false → NoneCovers (items_told (drop k replies)) p
     → Keeps (page_walk l.levels V l.root p) (page_walk l.levels U l.root p)
+
+-- What is recorded of calls: after the items of before one for each accepted call, and these suffice.
+pub record Flushed {Lent : Type 0} (put : List ℕ → ℕ → List ℕ) (h : Hierarchy Lent) (pool : List ℕ) (calls : List Call) (told : List Reply) (before now : List FlushItem) (after : Hierarchy Lent) : Type 0 where
+  pub items : now ≡ before ++ items_told told
+  pub suffice : FlushesSuffice h.layout put (state_of h.layout h.memory pool) calls told (words h.layout after.memory)

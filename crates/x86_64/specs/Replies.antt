@@ -112,11 +112,6 @@ size_changes_nothing (Update updated) = is_refused updated
 size_changes_nothing (TableFlags done) = is_refused done
 size_changes_nothing (Frame frame) = true
 
--- the same, also where a call isn't allowed
-abbrev pub changes_nothing_where : {S : Type 0} → Option (SizeReply S) → Bool
-changes_nothing_where None = true
-changes_nothing_where (Some answer) = size_changes_nothing answer
-
 abbrev pub changes_nothing : Reply → Bool
 changes_nothing (reply.Of4KiB answer) = size_changes_nothing answer
 changes_nothing (reply.Of2MiB answer) = size_changes_nothing answer

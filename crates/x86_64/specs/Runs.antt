@@ -1,33 +1,25 @@
 -- What a list of calls makes of a mapper and a frame store: they are a machine and its state.
-use Rattle.std.specs.Prelude.{◌≡◌, ◌↔◌, ℕ, Bool, true, List, [], ◌∷◌, length, drop, Option}
+use Rattle.std.specs.Prelude.{◌≡◌, ◌↔◌, ℕ, Bool, true, List, [], ◌∷◌, ◌++◌, ◌+◌, length, map, drop, Option, Some}
 use Rattle.std.specs.List.{AllByRecursion}
 use Rattle.x86_64_model.specs.Memory.{Memory}
 use Rattle.x86_64_model.specs.Layout.{Layout, words, paths}
 use Rattle.x86_64_model.specs.Pool.{Fits}
 use Rattle.x86_64_model.specs.MapperCalls.{Owns, KeepsOthers}
-use Rattle.x86_64_model.specs.Machine.{Machine, State, step}
+use Rattle.x86_64_model.specs.Machine.{Machine, State, step, state_after}
+pub use Rattle.x86_64_model.specs.Owned.{machine_of}
+use Rattle.x86_64_model.specs.Owned.{Hierarchy}
 use Rattle.x86_64.specs.declared.calls.Call.{Call}
 use Rattle.x86_64.specs.declared.calls.Reply.{Reply}
-use Rattle.x86_64.specs.declared.calls.SizeCall.{SizeCall}
-use Rattle.x86_64.specs.declared.calls.SizeReply.{SizeReply}
-use Rattle.x86_64.specs.Calls.{size_call, call_of}
-use Rattle.x86_64.specs.Replies.{size_answer, reply_of, changes_nothing}
+use Rattle.x86_64.specs.Calls.{call_of, calls_of}
+use Rattle.x86_64.specs.Replies.{reply_of, changes_nothing}
 
--- the machine of a mapper with this layout, and of a store that puts a frame back so
-abbrev pub machine_of : Layout → (put : List ℕ → ℕ → List ℕ) → Machine
-machine_of layout put = record { levels = layout.levels; window = layout.window; added_flags = layout.added_flags; give = put }
-
--- its state: what the memory's words mean, and the free frames
+-- the state of a mapper's machine: what the memory's words mean, and the free frames
 abbrev pub state_of : Layout → Memory → (pool : List ℕ) → State
 state_of layout memory pool = record { paths = paths layout memory; pool = pool }
 
 -- the hierarchy is valid now, and the pool fits it
 abbrev pub FitsPool : Layout → Memory → (serves : ℕ → Bool) → (pool : List ℕ) → Type 0
 FitsPool layout memory serves pool = Fits layout.levels layout.window (words layout memory) layout.root (paths layout memory) serves pool
-
--- the state after a call on a page that an entry of the level maps, and the reply, with none for a call that isn't allowed
-abbrev pub size_step : {S : Type 0} → Machine → (level : ℕ) → State → SizeCall S → State × Option (Option (SizeReply S))
-size_step machine level state call = let after = step machine state (size_call machine.levels level call) in (after.0, size_answer call after.1)
 
 -- the state after a call, and the reply
 abbrev pub call_step : Machine → State → Call → State × Option Reply
@@ -52,3 +44,17 @@ pub record Keeps (layout : Layout) (serves : ℕ → Bool) (m : Memory) (pool : 
   pub fits : FitsPool layout n serves rest
   pub conserved : (frame : ℕ) → Owns layout m pool frame ↔ Owns layout n rest frame
   pub others : KeepsOthers layout.places (Owns layout m pool) m n
+
+-- from a hierarchy and a pool to those after calls: what is kept, in the same layout of the same memory
+pub record Kept {Lent : Type 0} (h : Hierarchy Lent) (serves : ℕ → Bool) (pool : List ℕ) (after : Hierarchy Lent) (rest : List ℕ) : Type 0 where
+  pub keeps : Keeps h.layout serves h.memory pool after.memory rest
+  pub layout : after.layout ≡ h.layout
+  pub lent : after.lent ≡ h.lent
+
+-- A list of calls was answered: by the replies of the machine, one each, after those of before, and its state is the machine's. Where every reply
+-- says that nothing changed, no word did.
+pub record Ran {Lent : Type 0} (put : List ℕ → ℕ → List ℕ) (h : Hierarchy Lent) (pool : List ℕ) (calls : List Call) (before now : List Reply) (after : Hierarchy Lent) (rest : List ℕ) : Type 0 where
+  pub replies : map Some now ≡ map Some before ++ replies_to (machine_of h.layout put) (state_of h.layout h.memory pool) calls
+  pub one_each : length now ≡ length before + length calls
+  pub refused : UnchangedIfRefused (appended before now) h.memory after.memory
+  pub state : state_of h.layout after.memory rest ≡ state_after (machine_of h.layout put) (state_of h.layout h.memory pool) (calls_of h.layout.levels calls)

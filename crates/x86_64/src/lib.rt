@@ -17,7 +17,7 @@ pub use x86_64_addr::addr;
 pub use x86_64_addr::addr::{PhysAddr, VirtAddr};
 pub use x86_64_page::range::Block;
 pub use x86_64_tables::frame_alloc::{FrameKeeper, FramePool, FrameStore, PoolRefusal};
-pub use x86_64_tables::mapper::{FlushItem, FlushRecorder, PageTables, parent_flags};
+pub use x86_64_tables::mapper::{FlushItem, FlushRecorder, PageTables, Tables, parent_flags};
 pub use x86_64_tables::phys_memory::{
     FramePlace, IdentityMapping, PhysMemory, ShiftMapping, Walked, is_valid_hierarchy, page_walk,
     pool_fits,

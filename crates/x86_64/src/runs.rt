@@ -1,19 +1,15 @@
 //! Lists of calls of a mapper.
-ghost use Rattle.std.specs.Prelude.{◌≡◌, ◌+◌, ◌<◌, ◌≤◌, ◌++◌, ◌↔◌, ◌&&◌, ℕ, true, not, length, map, Some, OnOk, OnErr, vec_len};
+ghost use Rattle.std.specs.Prelude.{◌≡◌, ◌+◌, ◌<◌, ◌≤◌, ◌++◌, ◌&&◌, ℕ, true, not, length, Some, OnOk, OnErr, vec_len};
 ghost use Rattle.std.specs.Vec.{vec_capacity};
-ghost use Rattle.x86_64_model.specs.Allowed.{allowed};
 ghost use Rattle.x86_64_model.specs.Entry.{huge, no_address};
-ghost use Rattle.x86_64_model.specs.Layout.{Layout, Valid, paths};
-ghost use Rattle.x86_64_model.specs.Machine.{State, state_after};
-ghost use Rattle.x86_64_model.specs.MapperCalls.{Owns, KeepsOthers};
-ghost use Rattle.x86_64_model.specs.Path.{path_at};
+ghost use Rattle.x86_64_model.specs.Owned.{Valid, PoolFits, allows, path_of};
 ghost use Rattle.x86_64_model.specs.Window.{begins_with};
-ghost use Rattle.x86_64_tables.specs.MapperAnswers.{flags_refusal};
 ghost use Rattle.x86_64_tables.specs.PageTableFlags.{bits_of};
-ghost use Rattle.x86_64.specs.Calls.{size_call, calls_of};
-ghost use Rattle.x86_64.specs.Flushes.{recorded, items_where, items_of, items_told};
-ghost use Rattle.x86_64.specs.Replies.{changes_nothing_where, changes_nothing};
-ghost use Rattle.x86_64.specs.Runs.{machine_of, state_of, FitsPool, Keeps, size_step, call_step, replies_to, appended, UnchangedIfRefused};
+ghost use Rattle.x86_64.specs.Calls.{size_call};
+ghost use Rattle.x86_64.specs.Flushes.{items_of, items_told};
+ghost use Rattle.x86_64.specs.Replies.{changes_nothing};
+ghost use Rattle.x86_64.specs.Runs.{machine_of, state_of, Kept, Ran, call_step, appended};
+ghost use Rattle.x86_64.specs.Private.{recorded, items_where, changes_nothing_where, size_step};
 
 mod flushed;
 mod tokens;
@@ -25,7 +21,7 @@ use std::alloc::AllocError;
 use tokens::{Ignored, Tokens, take, take_all, take_unmapped};
 use x86_64_page::page::{Page, PageSize, Size1GiB, Size2MiB, Size4KiB};
 use x86_64_tables::frame_alloc::FrameStore;
-use x86_64_tables::mapper::{Mapper, MapperAllSizes, PageTables, Translate, parent_flags};
+use x86_64_tables::mapper::{Mapper, MapperAllSizes, Tables, Translate, parent_flags};
 use x86_64_tables::page_table::PageTableFlags;
 
 /// Answers calls in order, and appends a reply for each.
@@ -46,23 +42,15 @@ pub fn run<M: MapperAllSizes + Translate, F: FrameStore>(
     calls: &[Call],
     replies: &mut Vec<Reply>,
 ) -> Result<(), AllocError>
-    requires { FitsPool (M.layout mapper.old) (M.memory mapper.old) (F.serves frames.old) (F.supply frames.old) }
-    ensures replies { let layout = M.layout mapper.old in let start = state_of layout (M.memory mapper.old) (F.supply frames.old) in
-        OnOk result (map Some replies.new.items ≡ map Some replies.old.items ++ replies_to (machine_of layout F.put) start calls.now) }
-    ensures one_each { OnOk result (length replies.new.items ≡ length replies.old.items + length calls.now) }
-    ensures refused { let told = appended replies.old.items replies.new.items in
-        OnOk result (UnchangedIfRefused told (M.memory mapper.old) (M.memory mapper.new)) }
-    ensures state { let layout = M.layout mapper.old in let start = state_of layout (M.memory mapper.old) (F.supply frames.old) in
-        OnOk result (state_of layout (M.memory mapper.new) (F.supply frames.new) ≡ state_after (machine_of layout F.put) start (calls_of layout.levels calls.now)) }
-    ensures unchanged { OnErr result ((replies.new.items ≡ replies.old.items) × (vec_capacity replies.new ≡ vec_capacity replies.old) × (mapper.new ≡ mapper.old) × (frames.new ≡ frames.old)) }
+    requires { PoolFits (M.hierarchy mapper.old) (F.serves frames.old) (F.supply frames.old) }
+    ensures ran { let h = M.hierarchy mapper.old in
+        OnOk result (Ran F.put h (F.supply frames.old) calls.now replies.old.items replies.new.items (M.hierarchy mapper.new) (F.supply frames.new)) }
+    ensures unchanged { OnErr result (
+        (replies.new.items ≡ replies.old.items) × (vec_capacity replies.new ≡ vec_capacity replies.old)
+        × (mapper.new ≡ mapper.old) × (frames.new ≡ frames.old)) }
     ensures needs_room { OnErr result (vec_capacity replies.old < vec_len replies.old + length calls.now) }
-    ensures fits { FitsPool (M.layout mapper.new) (M.memory mapper.new) (F.serves frames.new) (F.supply frames.new) }
-    ensures conserved { let layout = M.layout mapper.old in
-        (f : ℕ) → Owns layout (M.memory mapper.old) (F.supply frames.old) f ↔ Owns layout (M.memory mapper.new) (F.supply frames.new) f }
-    ensures others { let layout = M.layout mapper.old in
-        KeepsOthers layout.places (Owns layout (M.memory mapper.old) (F.supply frames.old)) (M.memory mapper.old) (M.memory mapper.new) }
-    ensures layout { M.layout mapper.new ≡ M.layout mapper.old }
-    ensures lent { M.lent mapper.new ≡ M.lent mapper.old }
+    ensures keeps { let h = M.hierarchy mapper.old in
+        Kept h (F.serves frames.old) (F.supply frames.old) (M.hierarchy mapper.new) (F.supply frames.new) }
     ensures serves { F.serves frames.new ≡ F.serves frames.old }
 {
     replies.reserve(calls.len())?;
@@ -78,21 +66,15 @@ fn serve_all<M: MapperAllSizes + Translate, F: FrameStore, K: Tokens>(
     replies: &mut Vec<Reply>,
     tokens: &mut K,
 )
-    requires fits { FitsPool (M.layout mapper.old) (M.memory mapper.old) (F.serves frames.old) (F.supply frames.old) }
+    requires fits { PoolFits (M.hierarchy mapper.old) (F.serves frames.old) (F.supply frames.old) }
     requires reserved { vec_len replies.old + length calls.now ≤ vec_capacity replies.old }
     requires room { K.has_room tokens.old (length calls.now) }
-    ensures replies { let layout = M.layout mapper.old in let start = state_of layout (M.memory mapper.old) (F.supply frames.old) in
-        map Some replies.new.items ≡ map Some replies.old.items ++ replies_to (machine_of layout F.put) start calls.now }
-    ensures one_each { length replies.new.items ≡ length replies.old.items + length calls.now }
-    ensures refused { let told = appended replies.old.items replies.new.items in
-        UnchangedIfRefused told (M.memory mapper.old) (M.memory mapper.new) }
+    ensures ran { let h = M.hierarchy mapper.old in
+        Ran F.put h (F.supply frames.old) calls.now replies.old.items replies.new.items (M.hierarchy mapper.new) (F.supply frames.new) }
     ensures items { let told = appended replies.old.items replies.new.items in
         K.items tokens.new ≡ K.items tokens.old ++ recorded K.records (items_told told) }
-    ensures state { let layout = M.layout mapper.old in let start = state_of layout (M.memory mapper.old) (F.supply frames.old) in
-        state_of layout (M.memory mapper.new) (F.supply frames.new) ≡ state_after (machine_of layout F.put) start (calls_of layout.levels calls.now) }
-    ensures keeps { Keeps (M.layout mapper.old) (F.serves frames.old) (M.memory mapper.old) (F.supply frames.old) (M.memory mapper.new) (F.supply frames.new) }
-    ensures layout { M.layout mapper.new ≡ M.layout mapper.old }
-    ensures lent { M.lent mapper.new ≡ M.lent mapper.old }
+    ensures keeps { let h = M.hierarchy mapper.old in
+        Kept h (F.serves frames.old) (F.supply frames.old) (M.hierarchy mapper.new) (F.supply frames.new) }
     ensures serves { F.serves frames.new ≡ F.serves frames.old }
 {
     for call in calls {
@@ -107,14 +89,15 @@ fn serve<M: MapperAllSizes + Translate, F: FrameStore, K: Tokens>(
     call: Call,
     tokens: &mut K,
 ) -> Reply
-    requires fits { FitsPool (M.layout mapper.old) (M.memory mapper.old) (F.serves frames.old) (F.supply frames.old) }
+    requires fits { PoolFits (M.hierarchy mapper.old) (F.serves frames.old) (F.supply frames.old) }
     requires room { K.has_room tokens.old 1 }
-    ensures step { let layout = M.layout mapper.old in let start = state_of layout (M.memory mapper.old) (F.supply frames.old) in
-        call_step (machine_of layout F.put) start call ≡ (state_of layout (M.memory mapper.new) (F.supply frames.new), Some result) }
-    ensures still { changes_nothing result ≡ true → M.memory mapper.new ≡ M.memory mapper.old }
-    ensures keeps { Keeps (M.layout mapper.old) (F.serves frames.old) (M.memory mapper.old) (F.supply frames.old) (M.memory mapper.new) (F.supply frames.new) }
-    ensures layout { M.layout mapper.new ≡ M.layout mapper.old }
-    ensures lent { M.lent mapper.new ≡ M.lent mapper.old }
+    ensures step { let layout = (M.hierarchy mapper.old).layout in
+        let start = state_of layout (M.hierarchy mapper.old).memory (F.supply frames.old) in
+        call_step (machine_of layout F.put) start call ≡ (state_of layout (M.hierarchy mapper.new).memory (F.supply frames.new), Some result) }
+    ensures still { let memory = (M.hierarchy mapper.old).memory in
+        changes_nothing result ≡ true → (M.hierarchy mapper.new).memory ≡ memory }
+    ensures keeps { let h = M.hierarchy mapper.old in
+        Kept h (F.serves frames.old) (F.supply frames.old) (M.hierarchy mapper.new) (F.supply frames.new) }
     ensures serves { F.serves frames.new ≡ F.serves frames.old }
     ensures items { K.items tokens.new ≡ K.items tokens.old ++ recorded K.records (items_of result) }
     ensures room { (n : ℕ) → K.has_room tokens.old (n + 1) → K.has_room tokens.new n }
@@ -138,23 +121,24 @@ fn serve<M: MapperAllSizes + Translate, F: FrameStore, K: Tokens>(
 }
 
 /// Answers a call on a page, or gives `None` where it is not allowed.
-#[tactic(auto, unfolding(x86_64_model::specs::Allowed::allowed))]
 fn serve_page<S: PageSize, M: Mapper<S>, F: FrameStore, K: Tokens>(
     mapper: &mut M,
     frames: &mut F,
     call: SizeCall<S>,
     tokens: &mut K,
 ) -> Option<SizeReply<S>>
-    requires fits { FitsPool (M.layout mapper.old) (M.memory mapper.old) (F.serves frames.old) (F.supply frames.old) }
+    requires fits { PoolFits (M.hierarchy mapper.old) (F.serves frames.old) (F.supply frames.old) }
     requires room { K.has_room tokens.old 1 }
-    ensures step { let layout = M.layout mapper.old in let start = state_of layout (M.memory mapper.old) (F.supply frames.old) in
-        size_step (machine_of layout F.put) S.LEVEL start call ≡ (state_of layout (M.memory mapper.new) (F.supply frames.new), Some result) }
-    ensures still { changes_nothing_where result ≡ true → M.memory mapper.new ≡ M.memory mapper.old }
-    ensures keeps { Keeps (M.layout mapper.old) (F.serves frames.old) (M.memory mapper.old) (F.supply frames.old) (M.memory mapper.new) (F.supply frames.new) }
-    ensures layout { M.layout mapper.new ≡ M.layout mapper.old }
-    ensures lent { M.lent mapper.new ≡ M.lent mapper.old }
+    ensures step { let layout = (M.hierarchy mapper.old).layout in
+        let start = state_of layout (M.hierarchy mapper.old).memory (F.supply frames.old) in
+        size_step (machine_of layout F.put) S.LEVEL start call ≡ (state_of layout (M.hierarchy mapper.new).memory (F.supply frames.new), Some result) }
+    ensures still { let memory = (M.hierarchy mapper.old).memory in
+        changes_nothing_where result ≡ true → (M.hierarchy mapper.new).memory ≡ memory }
+    ensures keeps { let h = M.hierarchy mapper.old in
+        Kept h (F.serves frames.old) (F.supply frames.old) (M.hierarchy mapper.new) (F.supply frames.new) }
     ensures serves { F.serves frames.new ≡ F.serves frames.old }
-    ensures items { K.items tokens.new ≡ K.items tokens.old ++ recorded K.records (items_where S.SIZE result) }
+    ensures items { K.items tokens.new ≡ K.items tokens.old
+        ++ recorded K.records (items_where S.SIZE result) }
     ensures room { (n : ℕ) → K.has_room tokens.old (n + 1) → K.has_room tokens.new n }
 {
     if !is_allowed(mapper, &call) {
@@ -194,11 +178,10 @@ fn serve_page<S: PageSize, M: Mapper<S>, F: FrameStore, K: Tokens>(
 }
 
 /// Tells whether the condition of a call on a page holds.
-#[tactic(auto, unfolding(x86_64_model::specs::Allowed::allowed))]
 fn is_allowed<S: PageSize, M: Mapper<S>>(mapper: &M, call: &SizeCall<S>) -> bool
-    requires { Valid (M.layout mapper.now) (M.memory mapper.now) }
-    ensures { let layout = M.layout mapper.now in
-        result ≡ allowed layout.levels layout.window (paths layout (M.memory mapper.now)) (size_call layout.levels S.LEVEL call.now) }
+    requires { Valid (M.hierarchy mapper.now) }
+    ensures { let h = M.hierarchy mapper.now in
+        result ≡ allows h (size_call h.layout.levels S.LEVEL call.now) }
 {
     match call {
         SizeCall::MapTo { page, flags, .. } => {
@@ -237,8 +220,8 @@ fn fit_p4_entry(flags: PageTableFlags) -> bool
 
 /// Tells whether a page lies outside the recursive index.
 fn is_outside<S: PageSize, M: Mapper<S>>(mapper: &M, page: Page<S>) -> bool
-    ensures { let layout = M.layout mapper.now in
-        result ≡ not (begins_with layout.window (path_at layout.levels S.LEVEL page)) }
+    ensures { let h = M.hierarchy mapper.now in
+        result ≡ not (begins_with h.layout.window (path_of h S.LEVEL page)) }
 {
     match mapper.recursive_index() {
         Some(index) => page.p4_index() != index,

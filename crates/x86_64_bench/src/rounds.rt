@@ -1,7 +1,6 @@
 //! One round: a new hierarchy in which all pages are mapped, translated and unmapped.
 ghost use Rattle.std.specs.Prelude.{◌≡◌, None};
-ghost use Rattle.x86_64_model.specs.Layout.{Valid};
-ghost use Rattle.x86_64_model.specs.MapperCalls.{IsReady};
+ghost use Rattle.x86_64_model.specs.Owned.{Valid, SupplyFits};
 
 use crate::workload::Workload;
 use bitflags::Flags;
@@ -21,10 +20,10 @@ fn map_all<S: PageSize, M: Mapper<S>, A: FrameAllocator<Size4KiB>>(
     allocator: &mut A,
     workload: Workload,
 ) -> u64
-    requires ready { IsReady (M.layout mapper.old) (M.memory mapper.old) (A.supply allocator.old) }
-    requires no_window { (M.layout mapper.old).window ≡ None }
-    ensures ready { IsReady (M.layout mapper.new) (M.memory mapper.new) (A.supply allocator.new) }
-    ensures layout { M.layout mapper.new ≡ M.layout mapper.old }
+    requires ready { SupplyFits (M.hierarchy mapper.old) (A.supply allocator.old) }
+    requires no_window { (M.hierarchy mapper.old).layout.window ≡ None }
+    ensures ready { SupplyFits (M.hierarchy mapper.new) (A.supply allocator.new) }
+    ensures layout { (M.hierarchy mapper.new).layout ≡ (M.hierarchy mapper.old).layout }
 {
     let flags = PageTableFlags::PRESENT.union(PageTableFlags::WRITABLE);
     let mut mapped = 0_u64;
@@ -42,10 +41,10 @@ fn map_all<S: PageSize, M: Mapper<S>, A: FrameAllocator<Size4KiB>>(
 
 /// Unmaps all pages, and gives how many were unmapped.
 fn unmap_all<S: PageSize, M: Mapper<S>>(mapper: &mut M, workload: Workload) -> u64
-    requires valid { Valid (M.layout mapper.old) (M.memory mapper.old) }
-    requires no_window { (M.layout mapper.old).window ≡ None }
-    ensures valid { Valid (M.layout mapper.new) (M.memory mapper.new) }
-    ensures layout { M.layout mapper.new ≡ M.layout mapper.old }
+    requires valid { Valid (M.hierarchy mapper.old) }
+    requires no_window { (M.hierarchy mapper.old).layout.window ≡ None }
+    ensures valid { Valid (M.hierarchy mapper.new) }
+    ensures layout { (M.hierarchy mapper.new).layout ≡ (M.hierarchy mapper.old).layout }
 {
     let mut unmapped = 0_u64;
     for k in 0..workload.pages {
@@ -62,7 +61,7 @@ fn unmap_all<S: PageSize, M: Mapper<S>>(mapper: &mut M, workload: Workload) -> u
 
 /// Translates all pages in an order ten times, and gives how often one is mapped to its frame.
 fn translate_all<S: PageSize, T: Translate>(mapper: &T, workload: Workload, order: &[u32]) -> u64
-    requires { Valid (T.layout mapper.now) (T.memory mapper.now) }
+    requires { Valid (T.hierarchy mapper.now) }
 {
     let mut found = 0_u64;
     for _ in 0..TRANSLATIONS {
@@ -73,7 +72,7 @@ fn translate_all<S: PageSize, T: Translate>(mapper: &T, workload: Workload, orde
 
 /// Translates all pages in an order, and gives how many are mapped to their frames.
 fn translate_once<S: PageSize, T: Translate>(mapper: &T, workload: Workload, order: &[u32]) -> u64
-    requires { Valid (T.layout mapper.now) (T.memory mapper.now) }
+    requires { Valid (T.hierarchy mapper.now) }
 {
     let mut found = 0_u64;
     for k in order {

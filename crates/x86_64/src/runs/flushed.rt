@@ -1,18 +1,15 @@
 //! Lists of calls whose flushes are recorded.
-ghost use Rattle.std.specs.Prelude.{◌≡◌, ◌+◌, ◌<◌, ◌⊎◌, ◌++◌, ◌↔◌, ℕ, length, map, Some, OnOk, OnErr, vec_len};
+ghost use Rattle.std.specs.Prelude.{◌≡◌, ◌+◌, ◌<◌, ◌⊎◌, length, OnOk, OnErr, vec_len};
 ghost use Rattle.std.specs.Vec.{vec_capacity};
-ghost use Rattle.x86_64_model.specs.Layout.{words};
-ghost use Rattle.x86_64_model.specs.Machine.{state_after};
-ghost use Rattle.x86_64_model.specs.MapperCalls.{Owns, KeepsOthers};
-ghost use Rattle.x86_64.specs.Calls.{calls_of};
-ghost use Rattle.x86_64.specs.Flushes.{items_told, FlushesSuffice};
-ghost use Rattle.x86_64.specs.Runs.{machine_of, state_of, FitsPool, replies_to, appended, UnchangedIfRefused};
+ghost use Rattle.x86_64_model.specs.Owned.{PoolFits};
+ghost use Rattle.x86_64.specs.Flushes.{Flushed};
+ghost use Rattle.x86_64.specs.Runs.{Kept, Ran, appended};
 
 use super::serve_all;
 use crate::calls::{Call, Reply};
 use std::alloc::AllocError;
 use x86_64_tables::frame_alloc::FrameStore;
-use x86_64_tables::mapper::{FlushRecorder, MapperAllSizes, PageTables, Translate};
+use x86_64_tables::mapper::{FlushRecorder, MapperAllSizes, Tables, Translate};
 
 /// Answers calls in order as [`run`](super::run) does, and flushes the token of each accepted call into a recorder, in order.
 ///
@@ -30,28 +27,18 @@ pub fn run_flushed<M: MapperAllSizes + Translate, F: FrameStore>(
     replies: &mut Vec<Reply>,
     recorder: &mut FlushRecorder,
 ) -> Result<(), AllocError>
-    requires { FitsPool (M.layout mapper.old) (M.memory mapper.old) (F.serves frames.old) (F.supply frames.old) }
-    ensures replies { let layout = M.layout mapper.old in let start = state_of layout (M.memory mapper.old) (F.supply frames.old) in
-        OnOk result (map Some replies.new.items ≡ map Some replies.old.items ++ replies_to (machine_of layout F.put) start calls.now) }
-    ensures one_each { OnOk result (length replies.new.items ≡ length replies.old.items + length calls.now) }
-    ensures refused { let told = appended replies.old.items replies.new.items in
-        OnOk result (UnchangedIfRefused told (M.memory mapper.old) (M.memory mapper.new)) }
-    ensures items { let told = appended replies.old.items replies.new.items in
-        OnOk result (recorder.new.items ≡ recorder.old.items ++ items_told told) }
-    ensures state { let layout = M.layout mapper.old in let start = state_of layout (M.memory mapper.old) (F.supply frames.old) in
-        OnOk result (state_of layout (M.memory mapper.new) (F.supply frames.new) ≡ state_after (machine_of layout F.put) start (calls_of layout.levels calls.now)) }
-    ensures flushes { let layout = M.layout mapper.old in let start = state_of layout (M.memory mapper.old) (F.supply frames.old) in
+    requires { PoolFits (M.hierarchy mapper.old) (F.serves frames.old) (F.supply frames.old) }
+    ensures ran { let h = M.hierarchy mapper.old in
+        OnOk result (Ran F.put h (F.supply frames.old) calls.now replies.old.items replies.new.items (M.hierarchy mapper.new) (F.supply frames.new)) }
+    ensures flushed { let h = M.hierarchy mapper.old in
         let told = appended replies.old.items replies.new.items in
-        OnOk result (FlushesSuffice layout F.put start calls.now told (words layout (M.memory mapper.new))) }
-    ensures unchanged { OnErr result ((replies.new.items ≡ replies.old.items) × (recorder.new ≡ recorder.old) × (mapper.new ≡ mapper.old) × (frames.new ≡ frames.old)) }
-    ensures needs_room { OnErr result ((vec_capacity replies.old < vec_len replies.old + length calls.now) ⊎ (recorder.old.room < length calls.now)) }
-    ensures fits { FitsPool (M.layout mapper.new) (M.memory mapper.new) (F.serves frames.new) (F.supply frames.new) }
-    ensures conserved { let layout = M.layout mapper.old in
-        (f : ℕ) → Owns layout (M.memory mapper.old) (F.supply frames.old) f ↔ Owns layout (M.memory mapper.new) (F.supply frames.new) f }
-    ensures others { let layout = M.layout mapper.old in
-        KeepsOthers layout.places (Owns layout (M.memory mapper.old) (F.supply frames.old)) (M.memory mapper.old) (M.memory mapper.new) }
-    ensures layout { M.layout mapper.new ≡ M.layout mapper.old }
-    ensures lent { M.lent mapper.new ≡ M.lent mapper.old }
+        OnOk result (Flushed F.put h (F.supply frames.old) calls.now told recorder.old.items recorder.new.items (M.hierarchy mapper.new)) }
+    ensures unchanged { OnErr result (
+        (replies.new.items ≡ replies.old.items) × (recorder.new ≡ recorder.old) × (mapper.new ≡ mapper.old) × (frames.new ≡ frames.old)) }
+    ensures needs_room { OnErr result (
+        (vec_capacity replies.old < vec_len replies.old + length calls.now) ⊎ (recorder.old.room < length calls.now)) }
+    ensures keeps { let h = M.hierarchy mapper.old in
+        Kept h (F.serves frames.old) (F.supply frames.old) (M.hierarchy mapper.new) (F.supply frames.new) }
     ensures serves { F.serves frames.new ≡ F.serves frames.old }
 {
     replies.reserve(calls.len())?;

@@ -2,7 +2,8 @@
 ghost use Rattle.std.specs.Prelude.{◌≡◌, ◌+◌, ◌++◌, [], ◌∷◌, ℕ, Bool, List};
 ghost use Rattle.x86_64_tables.specs.declared.mapper.recorder.FlushItem.{FlushItem as Item};
 ghost use Rattle.x86_64_tables.specs.MapperAnswers.{flags_refusal};
-ghost use Rattle.x86_64.specs.Flushes.{recorded, page_items, unmapped_items, all_items};
+ghost use Rattle.x86_64.specs.Flushes.{page_items, unmapped_items, all_items};
+ghost use Rattle.x86_64.specs.Private.{recorded};
 
 use x86_64_page::frame::PhysFrame;
 use x86_64_page::page::{Page, PageSize};
@@ -26,13 +27,15 @@ pub trait Tokens {
     /// Takes the token of a page.
     fn page<S: PageSize>(&mut self, flush: MapperFlush<S>)
         requires { Self.has_room self.old 1 }
-        ensures items { Self.items self.new ≡ Self.items self.old ++ recorded Self.records (FlushItem.Page flush S.SIZE ∷ []) }
+        ensures items { Self.items self.new ≡ Self.items self.old
+            ++ recorded Self.records (FlushItem.Page flush S.SIZE ∷ []) }
         ensures room { (n : ℕ) → Self.has_room self.old (n + 1) → Self.has_room self.new n };
 
     /// Takes the token of all pages.
     fn all(&mut self, flush: MapperFlushAll)
         requires { Self.has_room self.old 1 }
-        ensures items { Self.items self.new ≡ Self.items self.old ++ recorded Self.records (FlushItem.All ∷ []) }
+        ensures items { Self.items self.new ≡ Self.items self.old
+            ++ recorded Self.records (FlushItem.All ∷ []) }
         ensures room { (n : ℕ) → Self.has_room self.old (n + 1) → Self.has_room self.new n };
 }
 
@@ -63,7 +66,7 @@ impl Tokens for Ignored {
 /// Flushes each token. Where there is room no memory is asked for, so no token comes back.
 impl Tokens for FlushRecorder {
     ghost use Rattle.std.specs.Prelude.{true, ◌≤◌};
-    ghost use Rattle.x86_64.specs.Flushes.{less_room};
+    ghost use Rattle.x86_64.specs.Private.{less_room};
 
     ghost records = { true };
 
@@ -93,7 +96,8 @@ pub fn take<S: PageSize, E, K: Tokens>(
 ) -> Result<Page<S>, E>
     requires { K.has_room tokens.old 1 }
     ensures result { result ≡ flushed }
-    ensures items { K.items tokens.new ≡ K.items tokens.old ++ recorded K.records (page_items S.SIZE result) }
+    ensures items { K.items tokens.new ≡ K.items tokens.old
+        ++ recorded K.records (page_items S.SIZE result) }
     ensures room { (n : ℕ) → K.has_room tokens.old (n + 1) → K.has_room tokens.new n }
 {
     let flush = flushed?;
@@ -109,7 +113,8 @@ pub fn take_unmapped<S: PageSize, K: Tokens>(
 ) -> Result<(PhysFrame<S>, Page<S>), UnmapError>
     requires { K.has_room tokens.old 1 }
     ensures result { result ≡ unmapped }
-    ensures items { K.items tokens.new ≡ K.items tokens.old ++ recorded K.records (unmapped_items S.SIZE result) }
+    ensures items { K.items tokens.new ≡ K.items tokens.old
+        ++ recorded K.records (unmapped_items S.SIZE result) }
     ensures room { (n : ℕ) → K.has_room tokens.old (n + 1) → K.has_room tokens.new n }
 {
     let (frame, flush) = unmapped?;

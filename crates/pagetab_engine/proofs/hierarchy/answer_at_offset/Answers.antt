@@ -4,7 +4,7 @@ use Rattle.x86_64_model.specs.Marks.{serves_below}
 use Rattle.x86_64_model.specs.Memory.{Memory}
 use Rattle.x86_64_mappers.specs.Layouts.{direct}
 use Rattle.x86_64_mappers.specs.Offsets.{offset_places}
-use Rattle.x86_64.specs.Moved.{moved}
+use Rattle.x86_64.proofs.Moved.{moved}
 use Rattle.x86_64.specs.Runs.{FitsPool}
 use Rattle.pagetab_engine.proofs.AtOffset.{layout_at, at_offset, reached_after, kept_after, answered_after}
 use Rattle.pagetab_engine.proofs.hierarchy.answer_at_offset.Goals as goal
@@ -20,16 +20,16 @@ pub returns-clause-offset : goal.returns-clause-offset
 returns-clause-offset c =
     let is = c.new-mapper.ensures.layout ∙ ap (λ (root : ℕ). direct (offset_places c.args.phys_offset) root) c.root.ensures in
     reached_after c.args.phys_offset c.args.pool.now.limit c.args.memory.now c.args.pool.now.frames c.answer_by.new.pool.frames c.requires.offset c.requires.pool _ _ _ _
-    (search rules) is c.new-mapper.ensures.memory c.answer_by.ensures.keeps
+    (search rules) is c.new-mapper.ensures.memory c.answer_by.ensures.keeps.keeps
 
 pub returns-clause-keeps : goal.returns-clause-keeps
 returns-clause-keeps c =
     let is = c.new-mapper.ensures.layout ∙ ap (λ (root : ℕ). direct (offset_places c.args.phys_offset) root) c.root.ensures in
     kept_after c.args.phys_offset c.args.pool.now.limit c.args.memory.now c.args.pool.now.frames c.answer_by.new.pool.frames c.requires.offset c.requires.pool _ _ _ _
-    (search rules) is c.new-mapper.ensures.memory c.answer_by.ensures.keeps
+    (search rules) is c.new-mapper.ensures.memory c.answer_by.ensures.keeps.keeps
 
 pub returns-clause-answered : goal.returns-clause-answered
 returns-clause-answered c =
     let is = c.new-mapper.ensures.layout ∙ ap (λ (root : ℕ). direct (offset_places c.args.phys_offset) root) c.root.ensures in
     answered_after c.args.phys_offset c.args.pool.now.limit c.args.memory.now c.args.pool.now.frames c.answer_by.new.pool.frames c.requires.offset c.requires.pool c.args.call c.answer_by.result _ _ _ _
-    (search rules) is c.new-mapper.ensures.memory c.answer_by.ensures.keeps c.answer_by.ensures.answered
+    (search rules) is c.new-mapper.ensures.memory c.answer_by.ensures.keeps.keeps c.answer_by.ensures.answered

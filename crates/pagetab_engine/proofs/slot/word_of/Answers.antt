@@ -1,5 +1,5 @@
 use Rattle.std.proofs.Common.{bit_or, ap₂, ◌∙◌}
-use Rattle.x86_64_model.specs.Lemmas.Entries.Bits.{whole}
+use Rattle.x86_64_model.proofs.Lemmas.Entries.Bits.{whole}
 use Rattle.pagetab_engine.proofs.slot.word_of.Goals as goal
 
 pub returns : goal.returns

@@ -2,25 +2,24 @@ use Rattle.std.proofs.Common.{◌≡◌, ◌+◌, ◌-◌, ◌≤◌, ◌++◌, 
 use Rattle.std.specs.Vec.{vec_capacity}
 use Rattle.x86_64_model.specs.Machine.{Machine, State, state_after}
 use Rattle.x86_64.specs.Calls.{calls_of}
-use Rattle.x86_64.specs.Flushes.{recorded, items_told}
-use Rattle.x86_64.specs.Runs.{machine_of, state_of, Keeps, replies_to, appended, UnchangedIfRefused}
+use Rattle.x86_64.specs.Flushes.{items_told}
+use Rattle.x86_64.specs.Private.{recorded}
+use Rattle.x86_64.specs.Runs.{machine_of, state_of, Kept, replies_to, appended, UnchangedIfRefused}
 use Rattle.x86_64.proofs.runs.serve_all.Given as goal
 
 abbrev pub invariant-loop-call : goal.invariant-loop-call
 invariant-loop-call g l =
-    let layout = g.M.PageTables.layout l.fn.mapper in
+    let layout = (g.M.Tables.hierarchy l.fn.mapper).layout in
     let machine : Machine = machine_of layout g.F.FrameDeallocator.put in
-    let start : State = state_of layout (g.M.PageTables.memory l.fn.mapper) (g.F.FrameAllocator.supply l.fn.frames) in
-    let now : State = state_of layout (g.M.PageTables.memory l.mapper) (g.F.FrameAllocator.supply l.frames) in
+    let start : State = state_of layout (g.M.Tables.hierarchy l.fn.mapper).memory (g.F.FrameAllocator.supply l.fn.frames) in
+    let now : State = state_of layout (g.M.Tables.hierarchy l.mapper).memory (g.F.FrameAllocator.supply l.frames) in
     record {
       told : map Some l.replies.items ++ replies_to machine now (drop l.call-index l.calls) ≡ map Some l.fn.replies.items ++ replies_to machine start l.calls;
       longer : length l.fn.replies.items ≤ length l.replies.items;
-      still : UnchangedIfRefused (appended l.fn.replies.items l.replies.items) (g.M.PageTables.memory l.fn.mapper) (g.M.PageTables.memory l.mapper);
+      still : UnchangedIfRefused (appended l.fn.replies.items l.replies.items) (g.M.Tables.hierarchy l.fn.mapper).memory (g.M.Tables.hierarchy l.mapper).memory;
       rest : state_after machine now (calls_of layout.levels (drop l.call-index l.calls)) ≡ state_after machine start (calls_of layout.levels l.calls);
       room : vec_len l.replies + (length l.calls - l.call-index) ≤ vec_capacity l.replies;
-      keeps : Keeps layout (g.F.FrameKeeper.serves l.fn.frames) (g.M.PageTables.memory l.fn.mapper) (g.F.FrameAllocator.supply l.fn.frames) (g.M.PageTables.memory l.mapper) (g.F.FrameAllocator.supply l.frames);
-      layout : g.M.PageTables.layout l.mapper ≡ layout;
-      lent : g.M.PageTables.lent l.mapper ≡ g.M.PageTables.lent l.fn.mapper;
+      keeps : Kept (g.M.Tables.hierarchy l.fn.mapper) (g.F.FrameKeeper.serves l.fn.frames) (g.F.FrameAllocator.supply l.fn.frames) (g.M.Tables.hierarchy l.mapper) (g.F.FrameAllocator.supply l.frames);
       items : g.K.Tokens.items l.tokens ≡ g.K.Tokens.items l.fn.tokens ++ recorded g.K.Tokens.records (items_told (appended l.fn.replies.items l.replies.items));
       tokens : g.K.Tokens.has_room l.tokens (length l.calls - l.call-index);
       serves : g.F.FrameKeeper.serves l.frames ≡ g.F.FrameKeeper.serves l.fn.frames;

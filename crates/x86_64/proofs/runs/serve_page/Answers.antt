@@ -1,18 +1,18 @@
 use Rattle.std.proofs.Common.{refl, sym, ◌∙◌, lit≤}
-use Rattle.x86_64_model.specs.Lemmas.Machines.Giving.{giving_from}
+use Rattle.x86_64_model.proofs.Lemmas.Machines.Giving.{giving_from}
 use Rattle.x86_64.specs.declared.calls.SizeCall.TheVariants.{SetFlagsP4, SetFlagsP3, SetFlagsP2}
-use Rattle.x86_64.proofs.PageSteps.{Start, IsServed, map_to_served, map_with_flags_served, identity_map_served, unmap_served, update_served, set_flags_served, translate_served}
+use Rattle.x86_64.proofs.PageSteps.{Start, IsServed, map_to_served, map_with_flags_served, identity_map_served, unmap_served, update_served, set_flags_served, translate_served, IsKept, map_kept, change_kept}
 use Rattle.x86_64.proofs.runs.serve_page.Given.{Over}
 use Rattle.x86_64.proofs.runs.serve_page.Goals as goal
 use Rattle.x86_64.proofs.runs.serve_page.Goals.{in-MapTo, in-MapToWithTableFlags, in-IdentityMap, in-Unmap, in-UpdateFlags, in-SetFlagsP4, in-SetFlagsP3, in-SetFlagsP2, in-TranslatePage}
 
-is_served : (g : Over) (c : goal.Joined-call g) → IsServed _ (g.M.PageTables.layout c.args.mapper.now) g.F.FrameDeallocator.put (g.F.FrameKeeper.serves c.args.frames.now) (g.M.PageTables.memory c.args.mapper.now)
-    (g.F.FrameAllocator.supply c.args.frames.now) g.S.PageSize.LEVEL c.args.call (g.M.PageTables.memory c.match-call.mapper) (g.F.FrameAllocator.supply c.match-call.frames) c.match-call.result
+is_served : (g : Over) (c : goal.Joined-call g) → IsServed _ (g.M.Tables.hierarchy c.args.mapper.now).layout g.F.FrameDeallocator.put (g.F.FrameKeeper.serves c.args.frames.now) (g.M.Tables.hierarchy c.args.mapper.now).memory
+    (g.F.FrameAllocator.supply c.args.frames.now) g.S.PageSize.LEVEL c.args.call (g.M.Tables.hierarchy c.match-call.mapper).memory (g.F.FrameAllocator.supply c.match-call.frames) c.match-call.result
 is_served g c =
     let mapper = c.args.mapper.now in
-    let start : Start (g.M.PageTables.layout mapper) g.F.FrameDeallocator.put (g.F.FrameKeeper.serves c.args.frames.now) (g.M.PageTables.memory mapper) (g.F.FrameAllocator.supply c.args.frames.now) g.S.PageSize.LEVEL = record {
+    let start : Start (g.M.Tables.hierarchy mapper).layout g.F.FrameDeallocator.put (g.F.FrameKeeper.serves c.args.frames.now) (g.M.Tables.hierarchy mapper).memory (g.F.FrameAllocator.supply c.args.frames.now) g.S.PageSize.LEVEL = record {
       four = g.met.M.PageTables.four_levels mapper;
-      adds = g.M.PageTables.added_flags mapper;
+      adds = g.M.Tables.added_flags mapper;
       gives = giving_from _ g.met.F.FrameDeallocator.put_rearranges;
       fits = c.requires.fits;
       low = g.S.PageSize.low;
@@ -20,34 +20,51 @@ is_served g c =
     } in
     elim c.match-call.branch [
       | in-MapTo w ↦ rw (w.in-MapTo.is, w.mapper-is, w.frames-is, w.result-is)
-          (map_to_served start w.in-MapTo.page w.in-MapTo.frame w.in-MapTo.flags w.map_to.result _ _ w.map_to.ensures.mapped w.map_to.ensures.page w.take.result w.take.ensures.result)
+          (map_to_served (g.M.Tables.hierarchy mapper) start w.in-MapTo.page w.in-MapTo.frame w.in-MapTo.flags w.map_to.result _ _ w.map_to.ensures.does w.map_to.ensures.page w.take.result w.take.ensures.result)
       | in-MapToWithTableFlags w ↦ rw (w.in-MapToWithTableFlags.is, w.mapper-is, w.frames-is, w.result-is)
-          (map_with_flags_served start w.in-MapToWithTableFlags.page w.in-MapToWithTableFlags.frame w.in-MapToWithTableFlags.flags w.in-MapToWithTableFlags.parent_flags w.map_to_with_table_flags-mapped.result _ _
-          w.map_to_with_table_flags-mapped.ensures.mapped w.map_to_with_table_flags-mapped.ensures.page w.take-in-MapToWithTableFlags.result w.take-in-MapToWithTableFlags.ensures.result)
+          (map_with_flags_served (g.M.Tables.hierarchy mapper) start w.in-MapToWithTableFlags.page w.in-MapToWithTableFlags.frame w.in-MapToWithTableFlags.flags w.in-MapToWithTableFlags.parent_flags w.map_to_with_table_flags-mapped.result _ _
+          w.map_to_with_table_flags-mapped.ensures.does w.map_to_with_table_flags-mapped.ensures.page w.take-in-MapToWithTableFlags.result w.take-in-MapToWithTableFlags.ensures.result)
       | in-IdentityMap w ↦ rw (w.in-IdentityMap.is, w.mapper-is, w.frames-is, w.result-is)
-          (identity_map_served start w.in-IdentityMap.frame w.in-IdentityMap.flags w.identity_map.result _ _ w.identity_map.ensures.mapped w.identity_map.ensures.page w.take-in-IdentityMap.result w.take-in-IdentityMap.ensures.result)
+          (identity_map_served (g.M.Tables.hierarchy mapper) start w.in-IdentityMap.frame w.in-IdentityMap.flags w.identity_map.result _ _ w.identity_map.ensures.does w.identity_map.ensures.page w.take-in-IdentityMap.result w.take-in-IdentityMap.ensures.result)
       | in-Unmap w ↦ rw (w.in-Unmap.is, w.mapper-is, w.frames-is, w.result-is)
-          (unmap_served start w.in-Unmap.page w.unmap.result _ w.unmap.ensures.answer w.unmap.ensures.changed w.unmap.ensures.page w.unmap.ensures.unchanged w.take_unmapped.result w.take_unmapped.ensures.result)
+          (unmap_served (g.M.Tables.hierarchy mapper) start w.in-Unmap.page w.unmap.result _ w.unmap.ensures.does w.unmap.ensures.page w.take_unmapped.result w.take_unmapped.ensures.result)
       | in-UpdateFlags w ↦ rw (w.in-UpdateFlags.is, w.mapper-is, w.frames-is, w.result-is)
-          (update_served start w.in-UpdateFlags.page w.in-UpdateFlags.flags w.update_flags.result _ w.update_flags.ensures.refusal w.update_flags.ensures.changed w.update_flags.ensures.page w.update_flags.ensures.unchanged w.take-in-UpdateFlags.result w.take-in-UpdateFlags.ensures.result)
+          (update_served (g.M.Tables.hierarchy mapper) start w.in-UpdateFlags.page w.in-UpdateFlags.flags _ w.update_flags.result _ w.update_flags.ensures.does w.update_flags.ensures.page w.take-in-UpdateFlags.result w.take-in-UpdateFlags.ensures.result)
       | in-SetFlagsP4 w ↦ rw (w.in-SetFlagsP4.is, w.mapper-is, w.frames-is, w.result-is)
-          (set_flags_served start (SetFlagsP4 w.in-SetFlagsP4.page w.in-SetFlagsP4.flags) 4 w.in-SetFlagsP4.page w.in-SetFlagsP4.flags refl (lit≤ tt) (lit≤ tt) (λ a. refl)
-          w.set_flags_p4_entry.result _ w.set_flags_p4_entry.ensures.refusal w.set_flags_p4_entry.ensures.changed w.set_flags_p4_entry.ensures.unchanged w.take_all.result w.take_all.ensures.result)
+          (set_flags_served (g.M.Tables.hierarchy mapper) start (SetFlagsP4 w.in-SetFlagsP4.page w.in-SetFlagsP4.flags) 4 w.in-SetFlagsP4.page w.in-SetFlagsP4.flags refl (lit≤ tt) (lit≤ tt) (λ a. refl)
+          _ w.set_flags_p4_entry.result _ w.set_flags_p4_entry.ensures w.take_all.result w.take_all.ensures.result)
       | in-SetFlagsP3 w ↦ rw (w.in-SetFlagsP3.is, w.mapper-is, w.frames-is, w.result-is)
-          (set_flags_served start (SetFlagsP3 w.in-SetFlagsP3.page w.in-SetFlagsP3.flags) 3 w.in-SetFlagsP3.page w.in-SetFlagsP3.flags refl (lit≤ tt) (lit≤ tt) (λ a. refl)
-          w.set_flags_p3_entry.result _ w.set_flags_p3_entry.ensures.refusal w.set_flags_p3_entry.ensures.changed w.set_flags_p3_entry.ensures.unchanged w.take_all-in-SetFlagsP3.result w.take_all-in-SetFlagsP3.ensures.result)
+          (set_flags_served (g.M.Tables.hierarchy mapper) start (SetFlagsP3 w.in-SetFlagsP3.page w.in-SetFlagsP3.flags) 3 w.in-SetFlagsP3.page w.in-SetFlagsP3.flags refl (lit≤ tt) (lit≤ tt) (λ a. refl)
+          _ w.set_flags_p3_entry.result _ w.set_flags_p3_entry.ensures w.take_all-in-SetFlagsP3.result w.take_all-in-SetFlagsP3.ensures.result)
       | in-SetFlagsP2 w ↦ rw (w.in-SetFlagsP2.is, w.mapper-is, w.frames-is, w.result-is)
-          (set_flags_served start (SetFlagsP2 w.in-SetFlagsP2.page w.in-SetFlagsP2.flags) 2 w.in-SetFlagsP2.page w.in-SetFlagsP2.flags refl (lit≤ tt) (lit≤ tt) (λ a. refl)
-          w.set_flags_p2_entry.result _ w.set_flags_p2_entry.ensures.refusal w.set_flags_p2_entry.ensures.changed w.set_flags_p2_entry.ensures.unchanged w.take_all-in-SetFlagsP2.result w.take_all-in-SetFlagsP2.ensures.result)
+          (set_flags_served (g.M.Tables.hierarchy mapper) start (SetFlagsP2 w.in-SetFlagsP2.page w.in-SetFlagsP2.flags) 2 w.in-SetFlagsP2.page w.in-SetFlagsP2.flags refl (lit≤ tt) (lit≤ tt) (λ a. refl)
+          _ w.set_flags_p2_entry.result _ w.set_flags_p2_entry.ensures w.take_all-in-SetFlagsP2.result w.take_all-in-SetFlagsP2.ensures.result)
       | in-TranslatePage w ↦ rw (w.in-TranslatePage.is, w.mapper-is, w.frames-is, w.result-is)
-          (translate_served start w.in-TranslatePage.page w.translate_page.result w.translate_page.ensures)
+          (translate_served (g.M.Tables.hierarchy mapper) start w.in-TranslatePage.page w.translate_page.result w.translate_page.ensures)
     ]
 
 pub returns-clause-step : goal.returns-clause-step
 returns-clause-step g c = (is_served g c (sym c.is_allowed.ensures ∙ c.if-not-is_allowed.false)).step
 
+kept : (g : Over) (c : goal.Joined-call g) → IsKept (g.M.Tables.hierarchy c.args.mapper.now) (g.M.Tables.hierarchy c.match-call.mapper)
+kept g c =
+    let h = g.M.Tables.hierarchy c.args.mapper.now in
+    elim c.match-call.branch [
+      | in-MapTo w ↦ rw w.mapper-is (map_kept h w.map_to.ensures.does)
+      | in-MapToWithTableFlags w ↦ rw w.mapper-is (map_kept h w.map_to_with_table_flags-mapped.ensures.does)
+      | in-IdentityMap w ↦ rw w.mapper-is (map_kept h w.identity_map.ensures.does)
+      | in-Unmap w ↦ rw w.mapper-is (change_kept h w.unmap.ensures.does)
+      | in-UpdateFlags w ↦ rw w.mapper-is (change_kept h w.update_flags.ensures.does)
+      | in-SetFlagsP4 w ↦ rw w.mapper-is (change_kept h w.set_flags_p4_entry.ensures)
+      | in-SetFlagsP3 w ↦ rw w.mapper-is (change_kept h w.set_flags_p3_entry.ensures)
+      | in-SetFlagsP2 w ↦ rw w.mapper-is (change_kept h w.set_flags_p2_entry.ensures)
+      | in-TranslatePage w ↦ rw w.mapper-is (refl, refl)
+    ]
+
 pub returns-clause-keeps : goal.returns-clause-keeps
-returns-clause-keeps g c = (is_served g c (sym c.is_allowed.ensures ∙ c.if-not-is_allowed.false)).keeps
+returns-clause-keeps g c =
+    let same = kept g c in
+    record { keeps = (is_served g c (sym c.is_allowed.ensures ∙ c.if-not-is_allowed.false)).keeps; layout = same.0; lent = same.1 }
 
 pub returns-clause-still : goal.returns-clause-still
 returns-clause-still g c = (is_served g c (sym c.is_allowed.ensures ∙ c.if-not-is_allowed.false)).still

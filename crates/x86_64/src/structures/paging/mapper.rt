@@ -3,6 +3,6 @@ pub use x86_64_mappers::mapped_page_table::MappedPageTable;
 pub use x86_64_mappers::offset_page_table::OffsetPageTable;
 pub use x86_64_tables::mapper::{
     FlagUpdateError, MapToError, MappedFrame, Mapper, MapperAllSizes, MapperFlush, MapperFlushAll,
-    PageTables, PathCalls, Translate, TranslateError, TranslateResult, UnmapError,
+    PageTables, PathCalls, Tables, Translate, TranslateError, TranslateResult, UnmapError,
 };
 pub use x86_64_tables::phys_memory::PageTableFrameMapping;

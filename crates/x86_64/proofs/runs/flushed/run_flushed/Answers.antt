@@ -1,12 +1,17 @@
 use Rattle.std.proofs.Common.{rules}
-use Rattle.x86_64_model.specs.Lemmas.Machines.Giving.{giving_from}
+use Rattle.x86_64_model.proofs.Lemmas.Machines.Giving.{giving_from}
 use Rattle.x86_64.proofs.Flushed.{flushed}
 use Rattle.x86_64.proofs.Rounds.{appended_told}
 use Rattle.x86_64.proofs.runs.flushed.run_flushed.Goals as goal
 
-pub returns-clause-flushes : goal.returns-clause-flushes
-returns-clause-flushes g c =
+pub returns-clause-flushed : goal.returns-clause-flushed
+returns-clause-flushed g c =
     let mapper = c.args.mapper.now in
-    flushed (g.M.PageTables.layout mapper) (g.met.M.PageTables.four_levels mapper) (g.M.PageTables.added_flags mapper) g.F.FrameDeallocator.put (giving_from _ g.met.F.FrameDeallocator.put_rearranges)
-    (g.F.FrameKeeper.serves c.args.frames.now) (g.M.PageTables.memory mapper) (g.F.FrameAllocator.supply c.args.frames.now) c.requires c.args.calls.now _ (g.F.FrameAllocator.supply c.serve_all.new.frames)
-    c.serve_all.ensures.keeps.fits.valid c.serve_all.ensures.state _ (appended_told c.args.replies.now.items c.serve_all.new.replies.items _ (search rules))
+    let h = g.M.Tables.hierarchy mapper in
+    let ran = c.serve_all.ensures.ran in
+    record {
+      items = search rules;
+      suffice = flushed h.layout (g.met.M.PageTables.four_levels mapper) (g.M.Tables.added_flags mapper) g.F.FrameDeallocator.put (giving_from _ g.met.F.FrameDeallocator.put_rearranges)
+          (g.F.FrameKeeper.serves c.args.frames.now) h.memory (g.F.FrameAllocator.supply c.args.frames.now) c.requires c.args.calls.now _ (g.F.FrameAllocator.supply c.serve_all.new.frames)
+          c.serve_all.ensures.keeps.keeps.fits.valid ran.state _ (appended_told c.args.replies.now.items c.serve_all.new.replies.items _ (search rules));
+    }

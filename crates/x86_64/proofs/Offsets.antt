@@ -6,8 +6,8 @@ use Rattle.std.proofs.lemmas.Bool.{and_parts}
 use Rattle.x86_64_model.specs.Entry.{is_frame}
 use Rattle.x86_64_model.specs.Hierarchy.{paths_of}
 use Rattle.x86_64_model.specs.Layout.{words, paths}
-use Rattle.x86_64_model.specs.Lemmas.Entries.Words.{address_aligned}
-use Rattle.x86_64_model.specs.Lemmas.Machines.Fitting.{own_there}
+use Rattle.x86_64_model.proofs.Lemmas.Entries.Words.{address_aligned}
+use Rattle.x86_64_model.proofs.Lemmas.Machines.Fitting.{own_there}
 use Rattle.x86_64_model.specs.MapperCalls.{Owns}
 use Rattle.x86_64_model.specs.Memory.{Memory, identity_places}
 use Rattle.x86_64_model.specs.PathMap.{PathMap}

@@ -1,0 +1,32 @@
+-- For private contracts: words of calls on pages, and of what becomes of their tokens.
+use Rattle.std.specs.Prelude.{◌≤◌, ◌+◌, ℕ, Bool, true, false, List, [], Option, Some, None}
+use Rattle.std.proofs.Common.{arith}
+use Rattle.x86_64_model.specs.Machine.{Machine, State, step}
+use Rattle.x86_64_tables.specs.declared.mapper.recorder.FlushItem.{FlushItem}
+use Rattle.x86_64.specs.Calls.{size_call}
+use Rattle.x86_64.specs.Flushes.{size_items}
+use Rattle.x86_64.specs.Replies.{size_answer, size_changes_nothing}
+use Rattle.x86_64.specs.declared.calls.SizeCall.{SizeCall}
+use Rattle.x86_64.specs.declared.calls.SizeReply.{SizeReply}
+
+-- these items where they are recorded
+abbrev pub recorded : Bool → List FlushItem → List FlushItem
+recorded true items = items
+recorded false items = []
+
+pub less_room : (n room : ℕ) → n + 1 ≤ room → n ≤ room
+less_room n room h = omega arith
+
+-- the items of a reply to a call on a page of a size, none where the call isn't allowed
+abbrev pub items_where : {S : Type 0} → (size : ℕ) → Option (SizeReply S) → List FlushItem
+items_where size None = []
+items_where size (Some answer) = size_items size answer
+
+-- whether a reply to a call on a page says that nothing changed, as one does that isn't allowed
+abbrev pub changes_nothing_where : {S : Type 0} → Option (SizeReply S) → Bool
+changes_nothing_where None = true
+changes_nothing_where (Some answer) = size_changes_nothing answer
+
+-- the state after a call on a page that an entry of the level maps, and the reply, with none for a call that isn't allowed
+abbrev pub size_step : {S : Type 0} → Machine → (level : ℕ) → State → SizeCall S → State × Option (Option (SizeReply S))
+size_step machine level state call = let after = step machine state (size_call machine.levels level call) in (after.0, size_answer call after.1)
