@@ -6,19 +6,18 @@
 //! and no other.
 mod chooser;
 mod outcomes;
-mod replies;
 
 use crate::images::{ROOT, WORD_COUNT, fill, frame_at, pool_of, run_on, set_word, word_at};
+use crate::replies::wanted_of;
 use crate::rows::compare_pool;
 use chooser::Chooser;
 use outcomes::{ACTIONS, Action, OUTCOMES, Outcome, outcome_of, possible_outcomes};
-use replies::reply_to;
 use std::alloc::{AllocError, Global};
 use std::process::Abort;
 use std::test::Fail;
 use x86_64::{FramePool, IdentityMapping, PhysMemory, pool_fits};
-use x86_64_model::plain::words::{address, is_huge, is_used};
-use x86_64_model::plain::{PathEntries, PlainMachine, PlainState};
+use x86_64_plain::words::{address, is_huge, is_used};
+use x86_64_plain::{PathEntries, PlainMachine, PlainState};
 
 /// How many places the memory has.
 const PLACES: u64 = 16;
@@ -168,15 +167,15 @@ impl Twins {
         for _ in 0..CALLS {
             let choice = chooser.choice(alloc)?;
             let reply = MACHINE.step(&mut self.plain, &choice.plain)?;
-            let reply = reply_to(choice.call, reply).ok_or("a reply that fits no such call")?;
-            let (level, outcome) = outcome_of(reply);
+            let answer = wanted_of(choice.turn, reply).ok_or("a reply that fits no such call")?;
+            let (level, outcome) = outcome_of(answer.reply);
             met.push(Met {
                 action: choice.action,
                 level: level.max(choice.level),
                 outcome,
             })?;
-            calls.push(choice.call)?;
-            wanted.push(reply)?;
+            calls.push(answer.call)?;
+            wanted.push(answer.reply)?;
         }
         assert!(rt; pool_fits(alloc, &self.memory, &IdentityMapping, root, &self.pool)?);
         let mut replies = Vec::new(alloc);

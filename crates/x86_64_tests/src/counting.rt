@@ -8,7 +8,7 @@ use x86_64::structures::paging::{
     FrameAllocator, Mapper, PageSize, PageTableFlags, PageTableIndex, PhysFrame, Size4KiB,
     Translate,
 };
-use x86_64::{PageTables, VirtAddr};
+use x86_64::{PageTables, Tables, VirtAddr};
 
 /// A mapper that hands each call on to another one, and counts those that write.
 #[derive(Drop)]
@@ -38,14 +38,10 @@ impl<M: Drop> Counting<M> {
     }
 }
 
-impl<M: PageTables + Drop> PageTables for Counting<M> {
-    ghost memory = { λ counting. M.memory counting.mapper };
-
-    ghost layout = { λ counting. M.layout counting.mapper };
-
+impl<M: Tables + Drop> Tables for Counting<M> {
     ghost Lent = { M.Lent };
 
-    ghost lent = { λ counting. M.lent counting.mapper };
+    ghost hierarchy = { λ counting. M.hierarchy counting.mapper };
 
     ghost added_flags = { λ counting. M.added_flags counting.mapper };
 
@@ -53,9 +49,13 @@ impl<M: PageTables + Drop> PageTables for Counting<M> {
         self.mapper.recursive_index()
     }
 
-    ghost four_levels = { λ counting. M.four_levels counting.mapper };
+    ghost some_levels = { λ counting. M.some_levels counting.mapper };
 
     ghost is_mapping = { λ counting. M.is_mapping counting.mapper };
+}
+
+impl<M: PageTables + Drop> PageTables for Counting<M> {
+    ghost four_levels = { λ counting. M.four_levels counting.mapper };
 }
 
 impl<M: Translate + Drop> Translate for Counting<M> {
@@ -131,4 +131,4 @@ impl<M: PathCalls + Drop> PathCalls for Counting<M> {
     }
 }
 
-impl<M: PathCalls + Drop, S: PageSize> Mapper<S> for Counting<M> {}
+impl<M: PathCalls + PageTables + Drop, S: PageSize> Mapper<S> for Counting<M> {}

@@ -10,5 +10,9 @@ pub mod images;
 #[cfg(test)]
 mod program;
 #[cfg(test)]
+mod replies;
+#[cfg(test)]
 mod rows;
 pub mod streams;
+#[cfg(test)]
+mod turns;

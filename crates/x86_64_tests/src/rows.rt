@@ -10,23 +10,24 @@ mod tokens;
 mod walks;
 
 use crate::images::{
-    ROOT, WORD_COUNT, fill, flags_of, frame_at, page_at, pool_of, run_at_offset, run_on, run_over,
-    word_at,
+    ROOT, WORD_COUNT, fill, frame_at, pool_of, run_at_offset, run_on, run_over, word_at,
 };
+use crate::replies::wanted_of;
+use crate::turns::PageTurn::MapTo;
+use crate::turns::Turn;
+use crate::turns::Turn::{Large, Small};
 use std::alloc::Global;
 use std::process::Abort;
 use std::test::Fail;
-use x86_64::structures::paging::mapper::{MappedFrame, TranslateResult};
-use x86_64::structures::paging::{
-    MappedPageTable, OffsetPageTable, PageSize, Size1GiB, Size2MiB, Size4KiB,
-};
-use x86_64::{
-    Call, FramePool, IdentityMapping, PhysAddr, PhysMemory, Reply, SizeCall, SizeReply, VirtAddr,
-    pool_fits,
-};
+use x86_64::structures::paging::{MappedPageTable, OffsetPageTable};
+use x86_64::{Call, FramePool, IdentityMapping, PhysMemory, Reply, VirtAddr, pool_fits};
+use x86_64_plain::{Answer, PlainReply};
 
 /// How many places the memory has.
 const PLACES: u32 = 8;
+
+/// A call, and the reply to it.
+type Exchange = (Turn, PlainReply);
 
 /// Calls on an empty root, where the free frames are full of ones, and what comes of them.
 #[derive(Drop)]
@@ -34,9 +35,9 @@ struct Row<'a> {
     /// The free frames at first.
     free: &'a [u64],
     /// The calls, each with its reply.
-    calls: &'a [(Call, Reply)],
-    /// The words that aren't 0 afterwards, each after its frame and its index.
-    words: &'a [(u64, u16, u64)],
+    calls: &'a [Exchange],
+    /// The words that aren't 0 afterwards.
+    words: &'a [Word],
     /// The frames that are full of ones afterwards.
     full: &'a [u64],
     /// The free frames afterwards.
@@ -60,111 +61,42 @@ const OFFSET: u64 = 0xffff_8000_0000_0000;
 /// Three free frames, enough for the tables above one page.
 const FREE: [u64; 3] = [0x2000, 0x3000, 0x4000];
 
-/// The words that map the page 0x1000 of 4KiB to the frame 0x5000, with `PRESENT` and `WRITABLE`.
-const WORDS: [(u64, u16, u64); 4] = [
-    (0x1000, 0, 0x2003),
-    (0x2000, 0, 0x3003),
-    (0x3000, 0, 0x4003),
-    (0x4000, 1, 0x5003),
-];
+/// A word, after its frame and its index.
+type Word = (u64, u16, u64);
 
-/// The words that map the page 0x200000 of 2MiB to the frame 0x400000, with `PRESENT`.
-const LARGE_WORDS: [(u64, u16, u64); 3] = [
-    (0x1000, 0, 0x2001),
-    (0x2000, 0, 0x3001),
-    (0x3000, 1, 0x40_0081),
-];
+/// The word of each level that maps the page 0x1000 of 4KiB to the frame 0x5000, with `PRESENT` and `WRITABLE`.
+const LEVEL_4: Word = (0x1000, 0, 0x2003);
 
-/// Makes a call on a 4KiB page and the reply to it.
-fn small(call: SizeCall<Size4KiB>, reply: SizeReply<Size4KiB>) -> (Call, Reply) {
-    (Call::Of4KiB(call), Reply::Of4KiB(reply))
-}
+const LEVEL_3: Word = (0x2000, 0, 0x3003);
 
-/// Makes a call on a 2MiB page and the reply to it.
-fn large(call: SizeCall<Size2MiB>, reply: SizeReply<Size2MiB>) -> (Call, Reply) {
-    (Call::Of2MiB(call), Reply::Of2MiB(reply))
-}
+const LEVEL_2: Word = (0x3000, 0, 0x4003);
 
-/// Makes a call on a 1GiB page and the reply to it.
-fn giant(call: SizeCall<Size1GiB>, reply: SizeReply<Size1GiB>) -> (Call, Reply) {
-    (Call::Of1GiB(call), Reply::Of1GiB(reply))
-}
+const LEVEL_1: Word = (0x4000, 1, 0x5003);
 
-/// Makes a call on a 4KiB page that isn't allowed.
-fn forbidden(call: SizeCall<Size4KiB>) -> (Call, Reply) {
-    (Call::Of4KiB(call), Reply::NotAllowed)
-}
+/// All of these words.
+const WORDS: [Word; 4] = [LEVEL_4, LEVEL_3, LEVEL_2, LEVEL_1];
 
-/// Asks where an address is mapped, where it isn't.
-fn nowhere(addr: u64) -> (Call, Reply) {
-    (
-        Call::Translate(VirtAddr::new_truncate(addr)),
-        Reply::Translate(TranslateResult::NotMapped),
-    )
-}
+/// The word of each level that maps the page 0x200000 of 2MiB to the frame 0x400000, with `PRESENT`.
+const LARGE_LEVEL_4: Word = (0x1000, 0, 0x2001);
 
-/// Asks where an address is mapped, in a 4KiB page.
-fn somewhere(addr: u64, frame: u64, flags: u64) -> (Call, Reply) {
-    (
-        Call::Translate(VirtAddr::new_truncate(addr)),
-        Reply::Translate(TranslateResult::Mapped {
-            frame: MappedFrame::Size4KiB(frame_at(frame)),
-            offset: addr % 0x1000,
-            flags: flags_of(flags),
-        }),
-    )
-}
+const LARGE_LEVEL_3: Word = (0x2000, 0, 0x3001);
 
-/// Asks for the physical address that an address is mapped to.
-fn address(addr: u64, answer: u64) -> (Call, Reply) {
-    (
-        Call::TranslateAddr(VirtAddr::new_truncate(addr)),
-        Reply::Address(Some(PhysAddr::new_truncate(answer))),
-    )
-}
+const LARGE_LEVEL_2: Word = (0x3000, 1, 0x40_0081);
 
-/// Makes the call that maps a page to a frame.
-fn map<S: PageSize>(page: u64, frame: u64, flags: u64) -> SizeCall<S> {
-    SizeCall::MapTo {
-        page: page_at(page),
-        frame: frame_at(frame),
-        flags: flags_of(flags),
-    }
-}
-
-/// Makes the call that unmaps a page.
-fn unmap<S: PageSize>(page: u64) -> SizeCall<S> {
-    let page = page_at(page);
-    SizeCall::Unmap { page }
-}
-
-/// Makes the call that sets the flags of a page's entry.
-fn update<S: PageSize>(page: u64, flags: u64) -> SizeCall<S> {
-    SizeCall::UpdateFlags {
-        page: page_at(page),
-        flags: flags_of(flags),
-    }
-}
-
-/// Makes the reply to a map that was done.
-fn mapped<S: PageSize>(page: u64) -> SizeReply<S> {
-    SizeReply::Map(Ok(page_at(page)))
-}
-
-/// Makes the reply to an unmap that was done.
-fn unmapped<S: PageSize>(frame: u64, page: u64) -> SizeReply<S> {
-    SizeReply::Unmap(Ok((frame_at(frame), page_at(page))))
-}
+/// All of these words.
+const LARGE_WORDS: [Word; 3] = [LARGE_LEVEL_4, LARGE_LEVEL_3, LARGE_LEVEL_2];
 
 /// Maps the page 0x1000 of 4KiB to the frame 0x5000.
-fn first() -> (Call, Reply) {
-    small(map(0x1000, 0x5000, 0x3), mapped(0x1000))
-}
+const FIRST: Exchange = (
+    Small(MapTo(0x1000, 0x5000, 0x3)),
+    PlainReply::Answered(Answer::Done(0x5000)),
+);
 
 /// Maps the page 0x200000 of 2MiB to the frame 0x400000.
-fn first_large() -> (Call, Reply) {
-    large(map(0x20_0000, 0x40_0000, 0x1), mapped(0x20_0000))
-}
+const FIRST_LARGE: Exchange = (
+    Large(MapTo(0x20_0000, 0x40_0000, 0x1)),
+    PlainReply::Answered(Answer::Done(0x40_0000)),
+);
 
 /// Gives the word that a row wants at an index of a frame.
 fn wanted_word(row: &Row<'_>, frame: u64, index: u16) -> u64 {
@@ -231,6 +163,20 @@ fn begin(alloc: Global, free: &[u64]) -> Result<(PhysMemory, FramePool), Fail> {
     Ok((memory, pool))
 }
 
+/// Adds the calls of a row to a list, and the replies that it wants to another one.
+fn add_exchanges(
+    row: &Row<'_>,
+    calls: &mut Vec<Call>,
+    replies: &mut Vec<Reply>,
+) -> Result<(), Fail> {
+    for (turn, reply) in row.calls {
+        let wanted = wanted_of(*turn, *reply).ok_or("a reply that fits no such call")?;
+        calls.push(wanted.call)?;
+        replies.push(wanted.reply)?;
+    }
+    Ok(())
+}
+
 /// Answers the calls of rows by each of the mappers, and compares what comes of them.
 fn check(rt: &impl Abort, alloc: Global, rows: &[Row<'_>]) -> Result<(), Fail> {
     for (number, row) in rows.iter().enumerate() {
@@ -279,10 +225,7 @@ fn answer_row(
     let (mut memory, mut pool) = begin(alloc, row.free)?;
     let mut calls = Vec::new(alloc);
     let mut wanted = vec![in alloc; Reply::Address(None)]?;
-    for (call, reply) in row.calls {
-        calls.push(*call)?;
-        wanted.push(*reply)?;
-    }
+    add_exchanges(row, &mut calls, &mut wanted)?;
     let mut replies = vec![in alloc; Reply::Address(None)]?;
     let (first, others) = calls.split_at(calls.len().min(1));
     answer(rt, alloc, by, (&mut memory, &mut pool), first, &mut replies)?;

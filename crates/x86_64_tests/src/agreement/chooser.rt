@@ -2,11 +2,11 @@
 ghost use Rattle.std.specs.Prelude.{◌≤◌, length};
 
 use super::outcomes::{ACTIONS, Action, PageAction};
-use crate::images::{flags_of, frame_at, page_at};
+use crate::images::frame_at;
+use crate::turns::{PageTurn, Turn};
 use std::alloc::{AllocError, Global};
-use x86_64::structures::paging::{PageSize, PhysFrame};
-use x86_64::{Call, SizeCall, VirtAddr};
-use x86_64_model::plain::PlainCall;
+use x86_64::structures::paging::{PageSize, PhysFrame, Size1GiB, Size2MiB, Size4KiB};
+use x86_64_plain::PlainCall;
 
 /// The indices that calls choose from, level four first.
 const INDICES: [&[u64]; 4] = [
@@ -52,7 +52,7 @@ pub struct Choice {
     /// The level of the page's entry, 0 for a call on no page.
     pub level: u64,
     /// The call for `run`, which has the page as its position.
-    pub call: Call,
+    pub turn: Turn,
     /// The call for the plain program, which has the page as its indices.
     pub plain: PlainCall,
 }
@@ -112,20 +112,19 @@ impl Chooser {
     pub fn choice(&mut self, alloc: Global) -> Result<Choice, AllocError> {
         let subject = self.subject(alloc)?;
         let position = subject.position;
-        let addr = VirtAddr::new_truncate(position);
         let action = self.choose(&ACTIONS);
         Ok(match action {
             Action::OnPage(action) => self.page_choice(action, subject),
             Action::Translate => Choice {
                 action,
                 level: 0,
-                call: Call::Translate(addr),
+                turn: Turn::Translate(position),
                 plain: PlainCall::Translate { position },
             },
             Action::TranslateAddr => Choice {
                 action,
                 level: 0,
-                call: Call::TranslateAddr(addr),
+                turn: Turn::TranslateAddr(position),
                 plain: PlainCall::TranslateAddress { position },
             },
         })
@@ -134,55 +133,38 @@ impl Chooser {
     /// Chooses the size of a call on a page.
     fn page_choice(&mut self, action: PageAction, subject: Subject) -> Choice {
         let level = self.choose(&[1, 1, 2, 3]);
-        let (call, plain) = match level {
-            1 => {
-                let (call, plain) = size_call(action, subject);
-                (Call::Of4KiB(call), plain)
-            }
-            2 => {
-                let (call, plain) = size_call(action, subject);
-                (Call::Of2MiB(call), plain)
-            }
-            _ => {
-                let (call, plain) = size_call(action, subject);
-                (Call::Of1GiB(call), plain)
-            }
+        let turn = page_turn(action, &subject);
+        let (turn, plain) = match level {
+            1 => (Turn::Small(turn), plain_call::<Size4KiB>(action, subject)),
+            2 => (Turn::Large(turn), plain_call::<Size2MiB>(action, subject)),
+            _ => (Turn::Giant(turn), plain_call::<Size1GiB>(action, subject)),
         };
         Choice {
             action: Action::OnPage(action),
             level,
-            call,
+            turn,
             plain,
         }
     }
 }
 
-/// Makes a call on a page of a size, for `run` and for the plain program.
-fn size_call<S: PageSize>(action: PageAction, subject: Subject) -> (SizeCall<S>, PlainCall) {
-    let call = run_call(action, &subject);
-    (call, plain_call::<S>(action, subject))
-}
-
-/// Makes the call for `run`.
-fn run_call<S: PageSize>(action: PageAction, subject: &Subject) -> SizeCall<S> {
-    let page = page_at(subject.position);
-    let frame = frame_at(subject.frame);
-    let flags = flags_of(subject.flags);
+/// Makes the call for `run`, in numbers.
+fn page_turn(action: PageAction, subject: &Subject) -> PageTurn {
+    let page = subject.position;
+    let frame = subject.frame;
+    let flags = subject.flags;
     match action {
-        PageAction::MapTo => SizeCall::MapTo { page, frame, flags },
-        PageAction::MapToWithTableFlags => SizeCall::MapToWithTableFlags {
-            page,
-            frame,
-            flags,
-            parent_flags: flags_of(subject.parent_flags),
-        },
-        PageAction::IdentityMap => SizeCall::IdentityMap { frame, flags },
-        PageAction::Unmap => SizeCall::Unmap { page },
-        PageAction::UpdateFlags => SizeCall::UpdateFlags { page, flags },
-        PageAction::SetFlagsP4 => SizeCall::SetFlagsP4 { page, flags },
-        PageAction::SetFlagsP3 => SizeCall::SetFlagsP3 { page, flags },
-        PageAction::SetFlagsP2 => SizeCall::SetFlagsP2 { page, flags },
-        PageAction::TranslatePage => SizeCall::TranslatePage { page },
+        PageAction::MapTo => PageTurn::MapTo(page, frame, flags),
+        PageAction::MapToWithTableFlags => {
+            PageTurn::MapToWithTableFlags(page, frame, flags, subject.parent_flags)
+        }
+        PageAction::IdentityMap => PageTurn::IdentityMap(frame, flags),
+        PageAction::Unmap => PageTurn::Unmap(page),
+        PageAction::UpdateFlags => PageTurn::UpdateFlags(page, flags),
+        PageAction::SetFlagsP4 => PageTurn::SetFlagsP4(page, flags),
+        PageAction::SetFlagsP3 => PageTurn::SetFlagsP3(page, flags),
+        PageAction::SetFlagsP2 => PageTurn::SetFlagsP2(page, flags),
+        PageAction::TranslatePage => PageTurn::TranslatePage(page),
     }
 }
 

@@ -158,25 +158,27 @@ fn bad_lines_end_the_run(rt: HostRuntime) -> Result<(), Fail> {
     assert_bad(&rt, rt.alloc(), &CHANGES)
 }
 
+/// Images and lines, the number of the bad line, and the replies before it.
+const COUNTED: [(&str, &[u8], u64, &str); 8] = [
+    ("", b"\n  \nfoo\n", 3, ""),
+    ("", b"show 0 0\nword 0x1000 0 0\nshow 0 0\n", 2, "0x0\n"),
+    ("", b"pool\nfree 0x2000\npool\n", 2, "pool\n"),
+    ("", b"free 0x2000\nfree 0x3000\nfree 0x2000\n", 3, ""),
+    ("", b"show 0 0\nshow 0 \xff\n", 2, "0x0\n"),
+    (
+        FIRST,
+        b"walk 0x1abc\nwalk\nwalk 0x1abc\n",
+        6,
+        "0x5abc write=1 user=0\n",
+    ),
+    // A line that can't be read comes before the test of the image.
+    (INVALID, b"foo\n", 3, ""),
+    (INVALID, b"free 0x0\n", 3, ""),
+];
+
 #[test]
 fn bad_lines_are_counted(rt: HostRuntime) -> Result<(), Fail> {
-    let rows: [(&str, &[u8], u64, &str); 8] = [
-        ("", b"\n  \nfoo\n", 3, ""),
-        ("", b"show 0 0\nword 0x1000 0 0\nshow 0 0\n", 2, "0x0\n"),
-        ("", b"pool\nfree 0x2000\npool\n", 2, "pool\n"),
-        ("", b"free 0x2000\nfree 0x3000\nfree 0x2000\n", 3, ""),
-        ("", b"show 0 0\nshow 0 \xff\n", 2, "0x0\n"),
-        (
-            FIRST,
-            b"walk 0x1abc\nwalk\nwalk 0x1abc\n",
-            6,
-            "0x5abc write=1 user=0\n",
-        ),
-        // A line that can't be read comes before the test of the image.
-        (INVALID, b"foo\n", 3, ""),
-        (INVALID, b"free 0x0\n", 3, ""),
-    ];
-    for (image, lines, number, replies) in rows {
+    for (image, lines, number, replies) in COUNTED {
         let outcome = run_on(rt.alloc(), image, lines)?;
         assert_eq!(rt;
             outcome.ending,

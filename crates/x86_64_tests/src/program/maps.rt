@@ -2,206 +2,219 @@
 use super::{FIRST, LARGE, POOL, assert_replies};
 use std::test::Fail;
 
+const FIRST_PAGE: [(&str, &str); 14] = [
+    ("pool", "pool 0x2000 0x3000 0x4000"),
+    ("map 4KiB 0x1000 0x5000 0x3", "ok"),
+    ("show 0x1000 0", "0x2003"),
+    ("show 0x2000 0", "0x3003"),
+    ("show 0x2000 1", "0x0"),
+    ("show 0x3000 0", "0x4003"),
+    ("show 0x3000 511", "0x0"),
+    ("show 0x4000 0", "0x0"),
+    ("show 0x4000 1", "0x5003"),
+    ("pool", "pool"),
+    ("addr 0x1abc", "0x5abc"),
+    ("translate 0x1abc", "mapped 4KiB 0x5000 0xabc 0x3"),
+    ("walk 0x1abc", "0x5abc write=1 user=0"),
+    ("addr 0x2abc", "none"),
+];
+
+const LAST_PAGE: [(&str, &str); 4] = [
+    ("map 4KiB 0xfffffffffffff000 0x6000 1", "ok"),
+    ("show 0x1000 511", "0x2001"),
+    ("show 0x4000 511", "0x6001"),
+    ("addr 0xffffffffffffffff", "0x6fff"),
+];
+
 #[test]
 fn pages_are_mapped(rt: HostRuntime) -> Result<(), Fail> {
     // The words that the free frames hold are cleared.
     let image = "free 0x2000\nfree 0x3000\nword 0x2000 1 0xffffffffffffffff\n\
         word 0x3000 511 0xffffffffffffffff\nword 0x4000 0 0xffffffffffffffff\nfree 0x4000\n";
-    let first = [
-        ("pool", "pool 0x2000 0x3000 0x4000"),
-        ("map 4KiB 0x1000 0x5000 0x3", "ok"),
-        ("show 0x1000 0", "0x2003"),
-        ("show 0x2000 0", "0x3003"),
-        ("show 0x2000 1", "0x0"),
-        ("show 0x3000 0", "0x4003"),
-        ("show 0x3000 511", "0x0"),
-        ("show 0x4000 0", "0x0"),
-        ("show 0x4000 1", "0x5003"),
-        ("pool", "pool"),
-        ("addr 0x1abc", "0x5abc"),
-        ("translate 0x1abc", "mapped 4KiB 0x5000 0xabc 0x3"),
-        ("walk 0x1abc", "0x5abc write=1 user=0"),
-        ("addr 0x2abc", "none"),
-    ];
-    assert_replies(&rt, rt.alloc(), image, &first)?;
+    assert_replies(&rt, rt.alloc(), image, &FIRST_PAGE)?;
     // The upper half of the addresses, and flags in decimal.
-    let last = [
-        ("map 4KiB 0xfffffffffffff000 0x6000 1", "ok"),
-        ("show 0x1000 511", "0x2001"),
-        ("show 0x4000 511", "0x6001"),
-        ("addr 0xffffffffffffffff", "0x6fff"),
-    ];
-    assert_replies(&rt, rt.alloc(), POOL, &last)
+    assert_replies(&rt, rt.alloc(), POOL, &LAST_PAGE)
 }
+
+const LATER_MAPS: [(&str, &str); 16] = [
+    ("map 4KiB 0x1000 0x5000 0x3", "ok"),
+    ("map 4KiB 0x2000 0x0 0x0", "ok"),
+    ("show 0x4000 2", "0x0"),
+    ("translate 0x2000", "not mapped"),
+    ("addr 0x2000", "none"),
+    ("map 4KiB 0x2000 0x6000 0x5", "ok"),
+    ("show 0x1000 0", "0x2007"),
+    ("show 0x2000 0", "0x3007"),
+    ("show 0x3000 0", "0x4007"),
+    ("show 0x4000 1", "0x5003"),
+    ("show 0x4000 2", "0x6005"),
+    ("walk 0x2000", "0x6000 write=0 user=1"),
+    ("walk 0x1abc", "0x5abc write=1 user=0"),
+    ("map 4KiB 0x3000 0xffffffffff000 0x8000000000000005", "ok"),
+    ("show 0x4000 3", "0x800ffffffffff005"),
+    ("addr 0x3fff", "0xfffffffffffff"),
+];
 
 #[test]
 fn later_maps_add_flags_to_parents(rt: HostRuntime) -> Result<(), Fail> {
     // Frame 0 without flags leaves the page's entry unused.
-    let exchanges = [
-        ("map 4KiB 0x1000 0x5000 0x3", "ok"),
-        ("map 4KiB 0x2000 0x0 0x0", "ok"),
-        ("show 0x4000 2", "0x0"),
-        ("translate 0x2000", "not mapped"),
-        ("addr 0x2000", "none"),
-        ("map 4KiB 0x2000 0x6000 0x5", "ok"),
-        ("show 0x1000 0", "0x2007"),
-        ("show 0x2000 0", "0x3007"),
-        ("show 0x3000 0", "0x4007"),
-        ("show 0x4000 1", "0x5003"),
-        ("show 0x4000 2", "0x6005"),
-        ("walk 0x2000", "0x6000 write=0 user=1"),
-        ("walk 0x1abc", "0x5abc write=1 user=0"),
-        ("map 4KiB 0x3000 0xffffffffff000 0x8000000000000005", "ok"),
-        ("show 0x4000 3", "0x800ffffffffff005"),
-        ("addr 0x3fff", "0xfffffffffffff"),
-    ];
-    assert_replies(&rt, rt.alloc(), POOL, &exchanges)
+    assert_replies(&rt, rt.alloc(), POOL, &LATER_MAPS)
 }
+
+const PARENT_FLAGS: [(&str, &str); 11] = [
+    ("map-with 4KiB 0x1000 0x5000 0x3 0x1", "ok"),
+    ("show 0x1000 0", "0x2001"),
+    ("show 0x2000 0", "0x3001"),
+    ("show 0x3000 0", "0x4001"),
+    ("show 0x4000 1", "0x5003"),
+    ("walk 0x1abc", "0x5abc write=0 user=0"),
+    ("map-with 4KiB 0x2000 0x6000 0x1 0x81", "not allowed"),
+    ("map-with 4KiB 0x2000 0x6000 0x1 0x1001", "not allowed"),
+    ("map-with 2MiB 0x200000 0x400000 0x1 0x0", "ok"),
+    ("show 0x3000 1", "0x400081"),
+    (
+        "map-with 1GiB 0x8000000000 0x80000000 0x1 0x1",
+        "frame allocation failed",
+    ),
+];
 
 #[test]
 fn parents_get_flags_of_their_own(rt: HostRuntime) -> Result<(), Fail> {
-    let exchanges = [
-        ("map-with 4KiB 0x1000 0x5000 0x3 0x1", "ok"),
-        ("show 0x1000 0", "0x2001"),
-        ("show 0x2000 0", "0x3001"),
-        ("show 0x3000 0", "0x4001"),
-        ("show 0x4000 1", "0x5003"),
-        ("walk 0x1abc", "0x5abc write=0 user=0"),
-        ("map-with 4KiB 0x2000 0x6000 0x1 0x81", "not allowed"),
-        ("map-with 4KiB 0x2000 0x6000 0x1 0x1001", "not allowed"),
-        ("map-with 2MiB 0x200000 0x400000 0x1 0x0", "ok"),
-        ("show 0x3000 1", "0x400081"),
-        (
-            "map-with 1GiB 0x8000000000 0x80000000 0x1 0x1",
-            "frame allocation failed",
-        ),
-    ];
-    assert_replies(&rt, rt.alloc(), POOL, &exchanges)
+    assert_replies(&rt, rt.alloc(), POOL, &PARENT_FLAGS)
 }
+
+const LARGE_PAGES: [(&str, &str); 16] = [
+    ("map 2MiB 0x200000 0x400000 0x1", "ok"),
+    ("show 0x1000 0", "0x2001"),
+    ("show 0x2000 0", "0x3001"),
+    ("show 0x3000 1", "0x400081"),
+    ("pool", "pool 0x4000"),
+    ("addr 0x234567", "0x434567"),
+    ("walk 0x234567", "0x434567 write=0 user=0"),
+    ("map 4KiB 0x201000 0x9000 0x3", "parent entry huge page"),
+    ("show 0x1000 0", "0x2003"),
+    ("show 0x2000 0", "0x3003"),
+    ("show 0x3000 1", "0x400083"),
+    ("pool", "pool 0x4000"),
+    ("walk 0x234567", "0x434567 write=1 user=0"),
+    ("unmap 2MiB 0x200000", "0x400000"),
+    ("show 0x3000 1", "0x0"),
+    ("unmap 2MiB 0x200000", "page not mapped"),
+];
+
+const GIANT_PAGES: [(&str, &str); 8] = [
+    ("map 1GiB 0x40000000 0x80000000 0x3", "ok"),
+    ("show 0x2000 1", "0x80000083"),
+    ("pool", "pool 0x3000 0x4000"),
+    ("addr 0x40123456", "0x80123456"),
+    ("map 1GiB 0x40000000 0x0 0x1", "page already mapped 0x0"),
+    ("map 2MiB 0x40000000 0x0 0x1", "parent entry huge page"),
+    ("unmap 1GiB 0x40000000", "0x80000000"),
+    ("addr 0x40123456", "none"),
+];
 
 #[test]
 fn larger_pages_are_mapped(rt: HostRuntime) -> Result<(), Fail> {
-    let large = [
-        ("map 2MiB 0x200000 0x400000 0x1", "ok"),
-        ("show 0x1000 0", "0x2001"),
-        ("show 0x2000 0", "0x3001"),
-        ("show 0x3000 1", "0x400081"),
-        ("pool", "pool 0x4000"),
-        ("addr 0x234567", "0x434567"),
-        ("walk 0x234567", "0x434567 write=0 user=0"),
-        ("map 4KiB 0x201000 0x9000 0x3", "parent entry huge page"),
-        ("show 0x1000 0", "0x2003"),
-        ("show 0x2000 0", "0x3003"),
-        ("show 0x3000 1", "0x400083"),
-        ("pool", "pool 0x4000"),
-        ("walk 0x234567", "0x434567 write=1 user=0"),
-        ("unmap 2MiB 0x200000", "0x400000"),
-        ("show 0x3000 1", "0x0"),
-        ("unmap 2MiB 0x200000", "page not mapped"),
-    ];
-    assert_replies(&rt, rt.alloc(), POOL, &large)?;
-    let giant = [
-        ("map 1GiB 0x40000000 0x80000000 0x3", "ok"),
-        ("show 0x2000 1", "0x80000083"),
-        ("pool", "pool 0x3000 0x4000"),
-        ("addr 0x40123456", "0x80123456"),
-        ("map 1GiB 0x40000000 0x0 0x1", "page already mapped 0x0"),
-        ("map 2MiB 0x40000000 0x0 0x1", "parent entry huge page"),
-        ("unmap 1GiB 0x40000000", "0x80000000"),
-        ("addr 0x40123456", "none"),
-    ];
-    assert_replies(&rt, rt.alloc(), POOL, &giant)
+    assert_replies(&rt, rt.alloc(), POOL, &LARGE_PAGES)?;
+    assert_replies(&rt, rt.alloc(), POOL, &GIANT_PAGES)
 }
+
+const IDENTITY_MAPS: [(&str, &str); 11] = [
+    ("identity 4KiB 0x800000000000 0x1", "not allowed"),
+    ("identity 4KiB 0x5000 0x3", "ok"),
+    ("show 0x4000 5", "0x5003"),
+    ("addr 0x5abc", "0x5abc"),
+    ("identity 4KiB 0x5000 0x3", "page already mapped 0x5000"),
+    ("identity 2MiB 0x600000 0x1", "ok"),
+    ("show 0x3000 3", "0x600081"),
+    ("identity 1GiB 0x40000000 0x1", "ok"),
+    ("show 0x2000 1", "0x40000081"),
+    ("pool", "pool"),
+    (
+        "identity 1GiB 0x7fffc0000000 0x1",
+        "frame allocation failed",
+    ),
+];
 
 #[test]
 fn identity_maps_name_the_page_at_the_frame(rt: HostRuntime) -> Result<(), Fail> {
-    let exchanges = [
-        ("identity 4KiB 0x800000000000 0x1", "not allowed"),
-        ("identity 4KiB 0x5000 0x3", "ok"),
-        ("show 0x4000 5", "0x5003"),
-        ("addr 0x5abc", "0x5abc"),
-        ("identity 4KiB 0x5000 0x3", "page already mapped 0x5000"),
-        ("identity 2MiB 0x600000 0x1", "ok"),
-        ("show 0x3000 3", "0x600081"),
-        ("identity 1GiB 0x40000000 0x1", "ok"),
-        ("show 0x2000 1", "0x40000081"),
-        ("pool", "pool"),
-        (
-            "identity 1GiB 0x7fffc0000000 0x1",
-            "frame allocation failed",
-        ),
-    ];
-    assert_replies(&rt, rt.alloc(), POOL, &exchanges)
+    assert_replies(&rt, rt.alloc(), POOL, &IDENTITY_MAPS)
 }
+
+const MAPPED_ALREADY: [(&str, &str); 6] = [
+    ("map 4KiB 0x1000 0x5000 0x3", "ok"),
+    ("map 4KiB 0x1000 0x9000 0x1", "page already mapped 0x9000"),
+    ("show 0x1000 0", "0x2003"),
+    ("show 0x2000 0", "0x3003"),
+    ("show 0x3000 0", "0x4003"),
+    ("show 0x4000 1", "0x5003"),
+];
+
+const TOO_FEW_FRAMES: [(&str, &str); 6] = [
+    ("map 4KiB 0x1000 0x5000 0x3", "frame allocation failed"),
+    ("show 0x1000 0", "0x2003"),
+    ("show 0x2000 0", "0x3003"),
+    ("show 0x3000 0", "0x0"),
+    ("show 0x3000 5", "0x0"),
+    ("pool", "pool"),
+];
+
+const NOT_ALLOWED: [(&str, &str); 5] = [
+    ("map 4KiB 0x1000 0x5000 0x0", "not allowed"),
+    ("map 4KiB 0x1000 0x5000 0x81", "not allowed"),
+    ("map 4KiB 0x1000 0x5000 0x1001", "not allowed"),
+    ("show 0x1000 0", "0x0"),
+    ("pool", "pool 0x2000 0x3000 0x4000"),
+];
 
 #[test]
 fn maps_are_refused(rt: HostRuntime) -> Result<(), Fail> {
-    let mapped = [
-        ("map 4KiB 0x1000 0x5000 0x3", "ok"),
-        ("map 4KiB 0x1000 0x9000 0x1", "page already mapped 0x9000"),
-        ("show 0x1000 0", "0x2003"),
-        ("show 0x2000 0", "0x3003"),
-        ("show 0x3000 0", "0x4003"),
-        ("show 0x4000 1", "0x5003"),
-    ];
-    assert_replies(&rt, rt.alloc(), POOL, &mapped)?;
+    assert_replies(&rt, rt.alloc(), POOL, &MAPPED_ALREADY)?;
     let few = "free 0x2000\nfree 0x3000\nword 0x3000 5 0xffffffffffffffff\n";
-    let too_few_frames = [
-        ("map 4KiB 0x1000 0x5000 0x3", "frame allocation failed"),
-        ("show 0x1000 0", "0x2003"),
-        ("show 0x2000 0", "0x3003"),
-        ("show 0x3000 0", "0x0"),
-        ("show 0x3000 5", "0x0"),
-        ("pool", "pool"),
-    ];
-    assert_replies(&rt, rt.alloc(), few, &too_few_frames)?;
+    assert_replies(&rt, rt.alloc(), few, &TOO_FEW_FRAMES)?;
     // No parent would have PRESENT, HUGE_PAGE in a 4KiB page's flags, address bits in flags.
-    let not_allowed = [
-        ("map 4KiB 0x1000 0x5000 0x0", "not allowed"),
-        ("map 4KiB 0x1000 0x5000 0x81", "not allowed"),
-        ("map 4KiB 0x1000 0x5000 0x1001", "not allowed"),
-        ("show 0x1000 0", "0x0"),
-        ("pool", "pool 0x2000 0x3000 0x4000"),
-    ];
-    assert_replies(&rt, rt.alloc(), POOL, &not_allowed)
+    assert_replies(&rt, rt.alloc(), POOL, &NOT_ALLOWED)
 }
+
+const UNMAPS: [(&str, &str); 13] = [
+    ("map 4KiB 0x1000 0x5000 0x3", "ok"),
+    ("unmap 4KiB 0x2000", "page not mapped"),
+    ("unmap 4KiB 0x40000000", "page not mapped"),
+    ("unmap 4KiB 0x1000", "0x5000"),
+    ("unmap 4KiB 0x1000", "page not mapped"),
+    ("addr 0x1000", "none"),
+    ("show 0x1000 0", "0x2003"),
+    ("show 0x2000 0", "0x3003"),
+    ("show 0x3000 0", "0x4003"),
+    ("show 0x4000 1", "0x0"),
+    ("pool", "pool"),
+    ("map 4KiB 0x1000 0x9000 0x1", "ok"),
+    ("addr 0x1abc", "0x9abc"),
+];
+
+const UNMAPS_BELOW_A_LARGE_PAGE: [(&str, &str); 2] = [
+    ("unmap 4KiB 0x201000", "parent entry huge page"),
+    ("show 0x3000 1", "0x400081"),
+];
 
 #[test]
 fn pages_are_unmapped(rt: HostRuntime) -> Result<(), Fail> {
-    let mapped = [
-        ("map 4KiB 0x1000 0x5000 0x3", "ok"),
-        ("unmap 4KiB 0x2000", "page not mapped"),
-        ("unmap 4KiB 0x40000000", "page not mapped"),
-        ("unmap 4KiB 0x1000", "0x5000"),
-        ("unmap 4KiB 0x1000", "page not mapped"),
-        ("addr 0x1000", "none"),
-        ("show 0x1000 0", "0x2003"),
-        ("show 0x2000 0", "0x3003"),
-        ("show 0x3000 0", "0x4003"),
-        ("show 0x4000 1", "0x0"),
-        ("pool", "pool"),
-        ("map 4KiB 0x1000 0x9000 0x1", "ok"),
-        ("addr 0x1abc", "0x9abc"),
-    ];
-    assert_replies(&rt, rt.alloc(), POOL, &mapped)?;
-    let below_a_large_page = [
-        ("unmap 4KiB 0x201000", "parent entry huge page"),
-        ("show 0x3000 1", "0x400081"),
-    ];
-    assert_replies(&rt, rt.alloc(), LARGE, &below_a_large_page)
+    assert_replies(&rt, rt.alloc(), POOL, &UNMAPS)?;
+    assert_replies(&rt, rt.alloc(), LARGE, &UNMAPS_BELOW_A_LARGE_PAGE)
 }
+
+const LARGER_PAGES_AT_TABLES: [(&str, &str); 8] = [
+    ("unmap 2MiB 0x0", "parent entry huge page"),
+    ("translate-page 2MiB 0x0", "invalid frame address 0x4000"),
+    ("update 2MiB 0x0 0x1", "page not mapped"),
+    ("map 2MiB 0x0 0x400000 0x1", "page already mapped 0x400000"),
+    ("show 0x1000 0", "0x2003"),
+    ("show 0x2000 0", "0x3003"),
+    ("show 0x3000 0", "0x4003"),
+    ("show 0x4000 1", "0x5003"),
+];
 
 #[test]
 fn tables_are_no_larger_pages(rt: HostRuntime) -> Result<(), Fail> {
-    let exchanges = [
-        ("unmap 2MiB 0x0", "parent entry huge page"),
-        ("translate-page 2MiB 0x0", "invalid frame address 0x4000"),
-        ("update 2MiB 0x0 0x1", "page not mapped"),
-        ("map 2MiB 0x0 0x400000 0x1", "page already mapped 0x400000"),
-        ("show 0x1000 0", "0x2003"),
-        ("show 0x2000 0", "0x3003"),
-        ("show 0x3000 0", "0x4003"),
-        ("show 0x4000 1", "0x5003"),
-    ];
-    assert_replies(&rt, rt.alloc(), FIRST, &exchanges)
+    assert_replies(&rt, rt.alloc(), FIRST, &LARGER_PAGES_AT_TABLES)
 }

@@ -2,85 +2,92 @@
 use super::{FIRST, INVALID, LARGE, assert_replies};
 use std::test::Fail;
 
+/// Images, with commands and their replies.
+const IMAGES: [(&str, &[(&str, &str)]); 4] = [
+    (
+        FIRST,
+        &[
+            ("translate 0x1abc", "mapped 4KiB 0x5000 0xabc 0x3"),
+            ("walk 0x1abc", "0x5abc write=1 user=0"),
+            ("translate 0x2000", "not mapped"),
+        ],
+    ),
+    (
+        LARGE,
+        &[
+            ("translate 0x234567", "mapped 2MiB 0x400000 0x34567 0x81"),
+            ("walk 0x234567", "0x434567 write=0 user=0"),
+        ],
+    ),
+    (FIRST, &[]),
+    ("", &[("show 0x1000 0", "0x0")]),
+];
+
 #[test]
 fn images_are_read(rt: HostRuntime) -> Result<(), Fail> {
-    let rows: [(&str, &[(&str, &str)]); 4] = [
-        (
-            FIRST,
-            &[
-                ("translate 0x1abc", "mapped 4KiB 0x5000 0xabc 0x3"),
-                ("walk 0x1abc", "0x5abc write=1 user=0"),
-                ("translate 0x2000", "not mapped"),
-            ],
-        ),
-        (
-            LARGE,
-            &[
-                ("translate 0x234567", "mapped 2MiB 0x400000 0x34567 0x81"),
-                ("walk 0x234567", "0x434567 write=0 user=0"),
-            ],
-        ),
-        (FIRST, &[]),
-        ("", &[("show 0x1000 0", "0x0")]),
-    ];
-    for (image, exchanges) in rows {
+    for (image, exchanges) in IMAGES {
         assert_replies(&rt, rt.alloc(), image, exchanges)?;
     }
     Ok(())
 }
+
+/// The root's last word names the table in frame 0x2000, which maps the last 1GiB of addresses.
+const LAST: &str = "word 0x1000 511 0x2007\nword 0x2000 511 0x8000000000000087\n";
+
+/// Images, with commands and their replies.
+const LEVEL_3_WORDS: [(&str, &[(&str, &str)]); 3] = [
+    (
+        "word 0x1000 0 0x2003\nword 0x2000 1 0x80000083\n",
+        &[(
+            "translate 0x40123456",
+            "mapped 1GiB 0x80000000 0x123456 0x83",
+        )],
+    ),
+    (
+        "word 0x1000 0 0x2003\nword 0x2000 0 0x3080\n",
+        &[("translate 0x0", "not mapped"), ("walk 0x0", "none")],
+    ),
+    (
+        LAST,
+        &[
+            (
+                "translate 0xffffffffffffffff",
+                "mapped 1GiB 0x0 0x3fffffff 0x8000000000000087",
+            ),
+            ("walk 0xffffffffffffffff", "0x3fffffff write=1 user=1"),
+        ],
+    ),
+];
 
 #[test]
 fn words_of_level_three_are_read(rt: HostRuntime) -> Result<(), Fail> {
-    // The root's last word names the table in frame 0x2000, which maps the last 1GiB of addresses.
-    let last = "word 0x1000 511 0x2007\nword 0x2000 511 0x8000000000000087\n";
-    let rows: [(&str, &[(&str, &str)]); 3] = [
-        (
-            "word 0x1000 0 0x2003\nword 0x2000 1 0x80000083\n",
-            &[(
-                "translate 0x40123456",
-                "mapped 1GiB 0x80000000 0x123456 0x83",
-            )],
-        ),
-        (
-            "word 0x1000 0 0x2003\nword 0x2000 0 0x3080\n",
-            &[("translate 0x0", "not mapped"), ("walk 0x0", "none")],
-        ),
-        (
-            last,
-            &[
-                (
-                    "translate 0xffffffffffffffff",
-                    "mapped 1GiB 0x0 0x3fffffff 0x8000000000000087",
-                ),
-                ("walk 0xffffffffffffffff", "0x3fffffff write=1 user=1"),
-            ],
-        ),
-    ];
-    for (image, exchanges) in rows {
+    for (image, exchanges) in LEVEL_3_WORDS {
         assert_replies(&rt, rt.alloc(), image, exchanges)?;
     }
     Ok(())
 }
 
+/// Images, with commands and their replies.
+const FORMS: [(&str, &[(&str, &str)]); 3] = [
+    // A later word takes the place of an earlier one.
+    (INVALID, &[("word 0x1000 1 0\nshow 0x1000 0", "0x2003")]),
+    // Numbers may be decimal, have leading zeros and digits of either case, and spaces may surround fields.
+    (
+        "  word   28672 00511   0x00ABCdef \n\n   \n",
+        &[
+            (" show 0x7000 0x1fF  \n", "0xabcdef"),
+            ("show 28672 510\n  ", "0x0"),
+        ],
+    ),
+    (
+        "word 0x7000 0 18446744073709551615\n",
+        &[("show 0x7000 0", "0xffffffffffffffff"), ("show 0 0", "0x0")],
+    ),
+];
+
 #[test]
 fn numbers_and_fields_have_many_forms(rt: HostRuntime) -> Result<(), Fail> {
-    let rows: [(&str, &[(&str, &str)]); 3] = [
-        // A later word takes the place of an earlier one.
-        (INVALID, &[("word 0x1000 1 0\nshow 0x1000 0", "0x2003")]),
-        // Numbers may be decimal, have leading zeros and digits of either case, and spaces may surround fields.
-        (
-            "  word   28672 00511   0x00ABCdef \n\n   \n",
-            &[
-                (" show 0x7000 0x1fF  \n", "0xabcdef"),
-                ("show 28672 510\n  ", "0x0"),
-            ],
-        ),
-        (
-            "word 0x7000 0 18446744073709551615\n",
-            &[("show 0x7000 0", "0xffffffffffffffff"), ("show 0 0", "0x0")],
-        ),
-    ];
-    for (image, exchanges) in rows {
+    for (image, exchanges) in FORMS {
         assert_replies(&rt, rt.alloc(), image, exchanges)?;
     }
     Ok(())

@@ -1,11 +1,18 @@
 //! Lists of calls whose flushes are recorded.
-use super::{FREE, Row, begin, compare, first, first_large, large, small, unmap, unmapped, update};
-use crate::images::{ROOT, flags_of, frame_at, page_at, run_flushed_on};
+use super::{
+    FIRST, FIRST_LARGE, FREE, LARGE_LEVEL_3, LARGE_LEVEL_4, LEVEL_2, LEVEL_3, LEVEL_4, Row,
+    add_exchanges, begin, compare,
+};
+use crate::images::{ROOT, frame_at, run_flushed_on};
+use crate::turns::PageTurn::{SetFlagsP4, Unmap, UpdateFlags};
+use crate::turns::Turn::{Large, Small};
 use std::alloc::Global;
 use std::process::Abort;
 use std::test::Fail;
-use x86_64::structures::paging::mapper::UnmapError;
-use x86_64::{FlushItem, FlushRecorder, IdentityMapping, SizeCall, SizeReply, pool_fits};
+use x86_64::{FlushItem, FlushRecorder, IdentityMapping, pool_fits};
+use x86_64_plain::Answer::{Done, Refused};
+use x86_64_plain::PlainReply::Answered;
+use x86_64_plain::Refusal::PageNotMapped;
 
 /// What is flushed: a page, by its start and its size, or all pages.
 type Flushed = Option<(u64, u64)>;
@@ -30,10 +37,7 @@ fn check_flushes(
     let root = frame_at(ROOT);
     let mut calls = Vec::new(alloc);
     let mut wanted = Vec::new(alloc);
-    for (call, reply) in row.calls {
-        calls.push(*call)?;
-        wanted.push(*reply)?;
-    }
+    add_exchanges(row, &mut calls, &mut wanted)?;
     let mut replies = Vec::new(alloc);
     let mut recorder = FlushRecorder::new(alloc);
     recorder.reserve(room)?;
@@ -55,54 +59,42 @@ fn check_flushes(
     compare(rt, &memory, &pool, row, "recorded")
 }
 
+const LARGE_PAGE: Row<'static> = Row {
+    free: &FREE,
+    calls: &[
+        FIRST_LARGE,
+        (
+            Large(UpdateFlags(0x20_0000, 0x1)),
+            Answered(Done(0x40_0000)),
+        ),
+        (Small(SetFlagsP4(0x0, 0x1)), Answered(Done(0x2000))),
+        (Large(Unmap(0x20_0000)), Answered(Done(0x40_0000))),
+        (Small(Unmap(0x1000)), Answered(Refused(PageNotMapped))),
+        (Large(Unmap(0x20_0000)), Answered(Refused(PageNotMapped))),
+    ],
+    words: &[LARGE_LEVEL_4, LARGE_LEVEL_3],
+    full: &[0x4000],
+    left: &[0x4000],
+};
+
 #[test]
 fn accepted_calls_are_recorded_and_no_others(rt: HostRuntime) -> Result<(), Fail> {
-    let flags = SizeCall::SetFlagsP4 {
-        page: page_at(0),
-        flags: flags_of(0x1),
-    };
-    let row = Row {
-        free: &FREE,
-        calls: &[
-            first_large(),
-            large(
-                update(0x20_0000, 0x1),
-                SizeReply::Update(Ok(page_at(0x20_0000))),
-            ),
-            small(flags, SizeReply::TableFlags(Ok(()))),
-            large(unmap(0x20_0000), unmapped(0x40_0000, 0x20_0000)),
-            small(
-                unmap(0x1000),
-                SizeReply::Unmap(Err(UnmapError::PageNotMapped)),
-            ),
-            large(
-                unmap(0x20_0000),
-                SizeReply::Unmap(Err(UnmapError::PageNotMapped)),
-            ),
-        ],
-        words: &[(0x1000, 0, 0x2001), (0x2000, 0, 0x3001)],
-        full: &[0x4000],
-        left: &[0x4000],
-    };
     let page = Some((0x20_0000, 0x20_0000));
     let flushed = [page, page, None, page];
-    check_flushes(&rt, rt.alloc(), &row, &flushed, 0)?;
-    check_flushes(&rt, rt.alloc(), &row, &flushed, 64)
+    check_flushes(&rt, rt.alloc(), &LARGE_PAGE, &flushed, 0)?;
+    check_flushes(&rt, rt.alloc(), &LARGE_PAGE, &flushed, 64)
 }
+
+const SMALL_PAGE: Row<'static> = Row {
+    free: &FREE,
+    calls: &[FIRST, (Small(Unmap(0x1000)), Answered(Done(0x5000)))],
+    words: &[LEVEL_4, LEVEL_3, LEVEL_2],
+    full: &[],
+    left: &[],
+};
 
 #[test]
 fn pages_of_4kib_are_recorded_with_their_size(rt: HostRuntime) -> Result<(), Fail> {
-    let row = Row {
-        free: &FREE,
-        calls: &[first(), small(unmap(0x1000), unmapped(0x5000, 0x1000))],
-        words: &[
-            (0x1000, 0, 0x2003),
-            (0x2000, 0, 0x3003),
-            (0x3000, 0, 0x4003),
-        ],
-        full: &[],
-        left: &[],
-    };
     let page = Some((0x1000, 0x1000));
-    check_flushes(&rt, rt.alloc(), &row, &[page, page], 0)
+    check_flushes(&rt, rt.alloc(), &SMALL_PAGE, &[page, page], 0)
 }

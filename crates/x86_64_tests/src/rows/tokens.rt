@@ -10,7 +10,7 @@ use x86_64::structures::paging::{MappedPageTable, Mapper, Page, PageTableFlags, 
 use x86_64::{FlushItem, FlushRecorder, IdentityMapping, VirtAddr, pool_fits};
 
 /// Maps the page 0x1000 of 4KiB on an empty root, sets the flags of level four above it, and flushes both tokens.
-#[tactic(auto, unfolding(x86_64_model::specs::Allowed::allowed, x86_64_model::specs::Entry::address, x86_64_model::specs::Entry::has))]
+#[tactic(auto, unfolding(x86_64_model::specs::Entry::address, x86_64_model::specs::Entry::has))]
 fn flush_tokens(rt: &impl Abort, alloc: Global, recorder: &mut FlushRecorder) -> Result<(), Fail> {
     let page: Page<Size4KiB> = page_at(0x1000);
     let flags = PageTableFlags::PRESENT.union(PageTableFlags::WRITABLE);

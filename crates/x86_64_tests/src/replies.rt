@@ -1,11 +1,12 @@
 //! Replies of the plain program as those of `run`.
 use crate::images::{flags_of, frame_at, page_at};
+use crate::turns::{PageTurn, Turn, call_of};
 use x86_64::structures::paging::mapper::{
     FlagUpdateError, MapToError, MappedFrame, TranslateError, TranslateResult, UnmapError,
 };
 use x86_64::structures::paging::{Page, PageSize, PhysFrame};
-use x86_64::{Call, PhysAddr, Reply, SizeCall, SizeReply};
-use x86_64_model::plain::{Answer, PlainReply, Refusal, Translated};
+use x86_64::{Call, PhysAddr, Reply, SizeReply};
+use x86_64_plain::{Answer, PlainReply, Refusal, Translated};
 
 /// Gives what the plain program's answer to a map is as an answer of `run`.
 fn map_result<S: PageSize>(
@@ -96,43 +97,57 @@ fn translate_result(translated: Translated) -> TranslateResult {
 }
 
 /// The same of a call on a page.
-fn size_reply<S: PageSize>(call: SizeCall<S>, answer: Answer) -> Option<SizeReply<S>> {
-    Some(match call {
-        SizeCall::MapTo { page, .. } | SizeCall::MapToWithTableFlags { page, .. } => {
-            SizeReply::Map(map_result(page, answer)?)
+fn size_reply<S: PageSize>(turn: PageTurn, answer: Answer) -> Option<SizeReply<S>> {
+    Some(match turn {
+        PageTurn::MapTo(page, ..)
+        | PageTurn::MapToWithTableFlags(page, ..)
+        | PageTurn::IdentityMap(page, _) => SizeReply::Map(map_result(page_at(page), answer)?),
+        PageTurn::Unmap(page) => SizeReply::Unmap(unmap_result(page_at(page), answer)?),
+        PageTurn::UpdateFlags(page, _) => {
+            SizeReply::Update(flags_result(answer)?.map(|()| page_at(page)))
         }
-        SizeCall::IdentityMap { frame, .. } => {
-            let page = page_at(frame.start_address().as_u64());
-            SizeReply::Map(map_result(page, answer)?)
+        PageTurn::SetFlagsP4(..) | PageTurn::SetFlagsP3(..) | PageTurn::SetFlagsP2(..) => {
+            SizeReply::TableFlags(flags_result(answer)?)
         }
-        SizeCall::Unmap { page } => SizeReply::Unmap(unmap_result(page, answer)?),
-        SizeCall::UpdateFlags { page, .. } => {
-            SizeReply::Update(flags_result(answer)?.map(|()| page))
-        }
-        SizeCall::SetFlagsP4 { .. } | SizeCall::SetFlagsP3 { .. } | SizeCall::SetFlagsP2 { .. } =>
-            SizeReply::TableFlags(flags_result(answer)?),
-        SizeCall::TranslatePage { .. } => SizeReply::Frame(frame_result(answer)?),
+        PageTurn::TranslatePage(_) => SizeReply::Frame(frame_result(answer)?),
     })
 }
 
-/// Gives the reply of `run` to a call that the plain program replies to so, or `None` where its reply fits no such call.
-pub fn reply_to(call: Call, plain: PlainReply) -> Option<Reply> {
-    match plain {
-        PlainReply::NotAllowed => Some(Reply::NotAllowed),
-        PlainReply::Answered(answer) => match call {
-            Call::Of4KiB(call) => Some(Reply::Of4KiB(size_reply(call, answer)?)),
-            Call::Of2MiB(call) => Some(Reply::Of2MiB(size_reply(call, answer)?)),
-            Call::Of1GiB(call) => Some(Reply::Of1GiB(size_reply(call, answer)?)),
-            Call::Translate(_) | Call::TranslateAddr(_) => None,
-        },
-        PlainReply::Position(translated) => match call {
-            Call::Translate(_) => Some(Reply::Translate(translate_result(translated))),
-            _ => None,
-        },
-        PlainReply::Address(address) => match call {
-            Call::TranslateAddr(_) => Some(Reply::Address(address.map(PhysAddr::new_truncate))),
-            _ => None,
-        },
-        PlainReply::Cleaned => None,
+/// A call for `run`, and the reply that is wanted to it.
+#[derive(Clone, Copy)]
+pub struct Wanted {
+    pub call: Call,
+    pub reply: Reply,
+}
+
+/// Gives a call for `run` that the plain program replies to so, and what that reply is, or `None` where it fits no such call.
+pub fn wanted_of(turn: Turn, plain: PlainReply) -> Option<Wanted> {
+    let reply = reply_to(turn, plain)?;
+    Some(Wanted {
+        call: call_of(turn),
+        reply,
+    })
+}
+
+/// Gives the reply of `run` to a call that the plain program replies to so.
+fn reply_to(turn: Turn, plain: PlainReply) -> Option<Reply> {
+    match (plain, turn) {
+        (PlainReply::NotAllowed, _) => Some(Reply::NotAllowed),
+        (PlainReply::Answered(answer), Turn::Small(turn)) => {
+            Some(Reply::Of4KiB(size_reply(turn, answer)?))
+        }
+        (PlainReply::Answered(answer), Turn::Large(turn)) => {
+            Some(Reply::Of2MiB(size_reply(turn, answer)?))
+        }
+        (PlainReply::Answered(answer), Turn::Giant(turn)) => {
+            Some(Reply::Of1GiB(size_reply(turn, answer)?))
+        }
+        (PlainReply::Position(translated), Turn::Translate(_)) => {
+            Some(Reply::Translate(translate_result(translated)))
+        }
+        (PlainReply::Address(address), Turn::TranslateAddr(_)) => {
+            Some(Reply::Address(address.map(PhysAddr::new_truncate)))
+        }
+        _ => None,
     }
 }
