@@ -1,7 +1,8 @@
 -- Calls on a hierarchy and their replies. A page is its path, a frame its address; sizes and set-flags calls are named by levels.
-use Rattle.std.specs.Prelude.{ℕ, ◌≤◌, List, Option}
+use Rattle.std.specs.Prelude.{ℕ, ◌≤◌, List, Option, Some, None}
 use Rattle.x86_64_model.specs.Path.{IsPage}
 use Rattle.x86_64_model.specs.Refusal.{Answer}
+use Rattle.x86_64_model.specs.MapRule.{parent_part}
 use Rattle.x86_64_model.specs.Translation.{Translated}
 
 pub data Call : Type 0 where
@@ -38,3 +39,10 @@ IsCall L (TranslatePage q) = IsPage L q
 IsCall L (Translate p) = Unit {0}
 IsCall L (TranslateAddress p) = Unit {0}
 IsCall L (CleanUp low high) = Unit {0}
+
+-- the flags that a call that maps a page gives its parents
+abbrev pub parent_flags_of : Call → Option ℕ
+parent_flags_of (MapTo q frame given) = Some (parent_part given)
+parent_flags_of (MapToWithTableFlags q frame given parent_flags) = Some parent_flags
+parent_flags_of (IdentityMap level frame given) = Some (parent_part given)
+parent_flags_of call = None

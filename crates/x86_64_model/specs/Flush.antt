@@ -41,4 +41,4 @@ items_of L (CleanUp low high) reply = []
 -- the items of a list of calls
 abbrev pub all_items : Machine → State → List Call → List Item
 all_items m s [] = []
-all_items m s (call ∷ calls) = items_of m.levels call (step m s call).1 ++ all_items m (step m s call).0 calls
+all_items m s (call ∷ calls) = items_of m.levels call (step m s call).reply ++ all_items m (step m s call).state calls

@@ -1,5 +1,5 @@
 -- The machine: what each call makes of a path map and a pool of free frames, and what a list of calls makes of them.
-use Rattle.std.specs.Prelude.{ℕ, cond, List, [], ◌∷◌, Option}
+use Rattle.std.specs.Prelude.{ℕ, if◌then◌else◌, List, [], ◌∷◌, Option}
 use Rattle.x86_64_model.specs.Entry.{IsParentFlags}
 use Rattle.x86_64_model.specs.Path.{path_at}
 use Rattle.x86_64_model.specs.PathMap.{PathMap}
@@ -7,7 +7,7 @@ use Rattle.x86_64_model.specs.Window.{Window, entry_at}
 use Rattle.x86_64_model.specs.Translation.{translate, address_of}
 use Rattle.x86_64_model.specs.MapRule.{AfterMap, map_call, parent_part}
 use Rattle.x86_64_model.specs.PageRules.{AfterChange, unmap, update_flags, translate_page, set_flags}
-use Rattle.x86_64_model.specs.CleanUp.{clean_up}
+use Rattle.x86_64_model.specs.CleanUp.{AfterCleanUp, clean_up}
 use Rattle.x86_64_model.specs.Pool.{IsGiving, given_back}
 use Rattle.x86_64_model.specs.Call.{Call, MapTo, MapToWithTableFlags, IdentityMap, Unmap, UpdateFlags, SetFlags, TranslatePage, Translate, TranslateAddress, CleanUp, Reply, NotAllowed, Answered, Position, Address, Cleaned}
 use Rattle.x86_64_model.specs.Allowed.{allowed}
@@ -28,34 +28,49 @@ pub record State : Type 0 where
   pub paths : PathMap
   pub pool : List ℕ
 
-abbrev pub after_map : AfterMap → State × Reply
-after_map a = (record { paths = a.paths; pool = a.supply }, Answered a.answer)
+-- what a call leaves: the state after it, and the reply to it
+pub record AfterCall : Type 0 where
+  pub state : State
+  pub reply : Reply
 
-abbrev pub after_change : (pool : List ℕ) → AfterChange → State × Reply
-after_change pool a = (record { paths = a.paths; pool = pool }, Answered a.answer)
+-- a call that changes nothing
+abbrev pub only_reply : State → Reply → AfterCall
+only_reply s reply = record { state = s; reply = reply }
+
+-- a map, by what its rule leaves
+abbrev pub after_map : AfterMap → AfterCall
+after_map a = record { state = record { paths = a.paths; pool = a.supply }; reply = Answered a.answer }
+
+-- a change of one entry, by what its rule leaves; the pool stays
+abbrev pub after_change : (pool : List ℕ) → AfterChange → AfterCall
+after_change pool a = record { state = record { paths = a.paths; pool = pool }; reply = Answered a.answer }
+
+-- a clean up: the frames of the tables that are gone go back to the pool
+abbrev pub after_clean_up : (give : List ℕ → ℕ → List ℕ) → (pool : List ℕ) → AfterCleanUp → AfterCall
+after_clean_up give pool a = record { state = record { paths = a.paths; pool = given_back give pool a.back }; reply = Cleaned }
 
 -- an allowed call
-unfoldable pub do_call : Machine → State → Call → State × Reply
+unfoldable pub do_call : Machine → State → Call → AfterCall
 do_call m s (MapTo q frame given) = after_map (map_call m.levels s.paths s.pool (parent_part given) m.added_flags q frame given)
 do_call m s (MapToWithTableFlags q frame given parent_flags) = after_map (map_call m.levels s.paths s.pool parent_flags m.added_flags q frame given)
 do_call m s (IdentityMap level frame given) = after_map (map_call m.levels s.paths s.pool (parent_part given) m.added_flags (path_at m.levels level frame) frame given)
 do_call m s (Unmap q) = after_change s.pool (unmap m.levels (entry_at m.window s.paths) s.paths q)
 do_call m s (UpdateFlags q given) = after_change s.pool (update_flags m.levels (entry_at m.window s.paths) s.paths q given)
 do_call m s (SetFlags level q given) = after_change s.pool (set_flags m.levels (entry_at m.window s.paths) s.paths level q given)
-do_call m s (TranslatePage q) = (s, Answered (translate_page m.levels (entry_at m.window s.paths) q))
-do_call m s (Translate p) = (s, Position (translate m.levels (entry_at m.window s.paths) p))
-do_call m s (TranslateAddress p) = (s, Address (address_of (translate m.levels (entry_at m.window s.paths) p)))
-do_call m s (CleanUp low high) = let a = clean_up m.levels s.paths low high in (record { paths = a.paths; pool = given_back m.give s.pool a.back }, Cleaned)
+do_call m s (TranslatePage q) = only_reply s (Answered (translate_page m.levels (entry_at m.window s.paths) q))
+do_call m s (Translate p) = only_reply s (Position (translate m.levels (entry_at m.window s.paths) p))
+do_call m s (TranslateAddress p) = only_reply s (Address (address_of (translate m.levels (entry_at m.window s.paths) p)))
+do_call m s (CleanUp low high) = after_clean_up m.give s.pool (clean_up m.levels s.paths low high)
 
--- one call
-abbrev pub step : Machine → State → Call → State × Reply
-step m s call = cond (allowed m.levels m.window s.paths call) (do_call m s call) (s, NotAllowed)
+-- one call: where it isn't allowed it is answered so, and changes nothing
+abbrev pub step : Machine → State → Call → AfterCall
+step m s call = if allowed m.levels m.window s.paths call then do_call m s call else only_reply s NotAllowed
 
 -- a list of calls: one reply for each, and the state at the end
 abbrev pub replies_of : Machine → State → List Call → List Reply
 replies_of m s [] = []
-replies_of m s (call ∷ calls) = (step m s call).1 ∷ replies_of m (step m s call).0 calls
+replies_of m s (call ∷ calls) = (step m s call).reply ∷ replies_of m (step m s call).state calls
 
 abbrev pub state_after : Machine → State → List Call → State
 state_after m s [] = s
-state_after m s (call ∷ calls) = state_after m (step m s call).0 calls
+state_after m s (call ∷ calls) = state_after m (step m s call).state calls

@@ -1,20 +1,20 @@
 -- What the calls of a mapper ask for and leave, over one record: the hierarchy that the mapper owns for a while.
-use Rattle.std.specs.Prelude.{◌≡◌, ◌<◌, ◌+◌, ℕ, Bool, true, List, Some, Option}
+use Rattle.std.specs.Prelude.{◌≡◌, ◌<◌, ◌+◌, ℕ, Bool, true, List, ◌∷◌, Some, Option}
 use Rattle.x86_64_model.specs.Allowed.{allowed, map_allowed, refuses}
 use Rattle.x86_64_model.specs.Arrivals.{Arrives}
-use Rattle.x86_64_model.specs.Call.{Call, UpdateFlags, SetFlags, Answered}
+use Rattle.x86_64_model.specs.Call.{Call, UpdateFlags, SetFlags, CleanUp, Answered, Cleaned, parent_flags_of}
+use Rattle.x86_64_model.specs.CleanUp.{clean_up}
 use Rattle.x86_64_model.specs.Entry.{writable, user, address}
 use Rattle.x86_64_model.specs.Layout.{Layout, words as words_in, paths as paths_in, read_entry as read_entry_in, walk as walk_in, Valid as ValidIn}
-use Rattle.x86_64_model.specs.Laws.Steps.{parent_flags_of}
 use Rattle.x86_64_model.specs.Lists.{In}
 use Rattle.x86_64_model.specs.Machine.{Machine, State, do_call}
 use Rattle.x86_64_model.specs.MapperCalls.{KeepsOthers as KeepOthers}
-use Rattle.x86_64_model.specs.Memory.{Memory, Words}
+use Rattle.x86_64_model.specs.Memory.{Memory, Words, word}
 use Rattle.x86_64_model.specs.PageRules.{translate_page}
 use Rattle.x86_64_model.specs.PageWalk.{Walked}
 use Rattle.x86_64_model.specs.Path.{front_at, path_at}
-use Rattle.x86_64_model.specs.PathMap.{PathMap}
-use Rattle.x86_64_model.specs.Pool.{IsOwn, IsTable, Fits}
+use Rattle.x86_64_model.specs.PathMap.{PathMap, table_at}
+use Rattle.x86_64_model.specs.Pool.{IsOwn, IsTable, Fits, IsGiving, given_back}
 use Rattle.x86_64_model.specs.Refusal.{Answer}
 use Rattle.x86_64_model.specs.Translation.{Translated, translate}
 
@@ -107,7 +107,7 @@ state_of h pool = record { paths = paths h; pool = pool }
 -- An allowed call makes of this hierarchy and pool those, and has this answer: so does the machine, whose pool puts frames back as it will.
 abbrev pub Steps : {Lent : Type 0} → (h : Hierarchy Lent) → (pool : List ℕ) → Call → Answer → (after : Hierarchy Lent) → (rest : List ℕ) → Type 0
 Steps h pool call answer after rest =
-    (put : List ℕ → ℕ → List ℕ) → do_call (machine_of h.layout put) (state_of h pool) call ≡ (state_of after rest, Answered answer)
+    (put : List ℕ → ℕ → List ℕ) → do_call (machine_of h.layout put) (state_of h pool) call ≡ record { state = state_of after rest; reply = Answered answer }
 
 -- A call that takes no frames: its outcome is the machine's, the hierarchy is valid again and a supply that fitted it still does, no word
 -- changed but in the root and the tables, and none where the call was refused.
@@ -141,3 +141,27 @@ named h call = 0
 abbrev pub ArrivesIn : {Lent : Type 0} → Hierarchy Lent → (size page frame flags : ℕ) → Type 0
 ArrivesIn h size page frame given =
     (offset : ℕ) → offset < size → walk h (page + offset) ≡ Some (record { address = frame + offset; write = writable given; user = user given })
+
+-- ---- clean ups
+
+-- the frames that a clean up of the positions from low to high gives back, in order
+abbrev pub back : {Lent : Type 0} → Hierarchy Lent → (low high : ℕ) → List ℕ
+back h low high = (clean_up h.layout.levels (paths h) low high).back
+
+-- a clean up may be made: the hierarchy is valid, and the frame of each table but the root is served and not held
+pub record MayCleanUp {Lent : Type 0} (h : Hierarchy Lent) (serves : ℕ → Bool) (held : List ℕ) : Type 0 where
+  pub valid : Valid h
+  pub serves_tables : (i : ℕ) (q : List ℕ) (f : ℕ) → table_at h.layout.levels h.layout.root (paths h) (i ∷ q) ≡ Some f → serves f ≡ true
+  pub none_held : (i : ℕ) (q : List ℕ) (f : ℕ) → table_at h.layout.levels h.layout.root (paths h) (i ∷ q) ≡ Some f → In held f → ⊥
+
+-- A clean up, where the frames that are held take one that comes back as put says: its outcome is the machine's, the hierarchy is valid again,
+-- and a supply that fitted it and got the frames that came back still does. These have words 0 alone, and no word changed but in the root and
+-- the tables.
+pub record CleansUp {Lent : Type 0} (h : Hierarchy Lent) (put : List ℕ → ℕ → List ℕ) (held : List ℕ) (low high : ℕ) (after : Hierarchy Lent) (rest : List ℕ) : Type 0 where
+  pub outcome : do_call (machine_of h.layout put) (state_of h held) (CleanUp low high) ≡ record { state = state_of after rest; reply = Cleaned }
+  pub valid : Valid after
+  pub fits : (give : List ℕ → ℕ → List ℕ) → IsGiving give → (supply : List ℕ) → SupplyFits h supply → SupplyFits after (given_back give supply (back h low high))
+  pub empty : (f : ℕ) → In (back h low high) f → (i : ℕ) → word (words after) f i ≡ 0
+  pub others : KeepsOthers (IsTable h.layout.levels h.layout.root (paths h)) h after
+  pub layout : after.layout ≡ h.layout
+  pub lent : after.lent ≡ h.lent

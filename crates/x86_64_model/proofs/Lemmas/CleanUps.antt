@@ -1,7 +1,16 @@
 pub mod Answers
 pub mod Arrivals
+pub mod Befores
+pub mod Below
+pub mod Children
 pub mod Frames
 pub mod Keys
+pub mod Meets
+pub mod Parts
 pub mod Removed
+pub mod Skipped
+pub mod Tables
 pub mod Trees
 pub mod Twice
+pub mod Visits
+pub mod Writes

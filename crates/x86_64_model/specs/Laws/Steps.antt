@@ -10,11 +10,10 @@ use Rattle.x86_64_model.specs.Window.{begins_with, entry_at, IsValidFor}
 use Rattle.x86_64_model.specs.PageWalk.{page_walk}
 use Rattle.x86_64_model.specs.Translation.{translate}
 use Rattle.x86_64_model.specs.Pool.{IsOwn, Fits}
-use Rattle.x86_64_model.specs.Call.{Call, MapTo, MapToWithTableFlags, IdentityMap, IsCall, Answered}
+use Rattle.x86_64_model.specs.Call.{Call, MapTo, IdentityMap, IsCall, Answered, parent_flags_of}
 use Rattle.x86_64_model.specs.Machine.{Machine, IsMachine, State, step, state_after}
 use Rattle.x86_64_model.specs.Flush.{Item, OnePage, covers, items_of, all_items}
 use Rattle.x86_64_model.specs.Arrivals.{Keeps, Arrives, Asks}
-use Rattle.x86_64_model.specs.MapRule.{parent_part}
 use Rattle.x86_64_model.specs.Refusal.{Done}
 
 -- the words are a valid hierarchy that means the state, and the pool fits it
@@ -27,14 +26,14 @@ AllCalls L calls = AllByRecursion (IsCall L) calls
 -- one step keeps the state fitting, whatever valid words mean it afterwards, if they have the frames that were there
 abbrev pub StepKeepsFit : Type 0
 StepKeepsFit = (m : Machine) → IsMachine m → (T U : Words) (root : ℕ) (serves : ℕ → Bool) (s : State) (call : Call) → IsCall m.levels call
-    → FitsState m T root serves s → IsValidFor m.levels m.window U root (step m s call).0.paths → ((f : ℕ) → IsSome (T f) → IsSome (U f))
-    → FitsState m U root serves (step m s call).0
+    → FitsState m T root serves s → IsValidFor m.levels m.window U root (step m s call).state.paths → ((f : ℕ) → IsSome (T f) → IsSome (U f))
+    → FitsState m U root serves (step m s call).state
 
 -- and there are such words, with all frames as before that were neither free nor a table's
 abbrev pub StepIsHeld : Type 0
 StepIsHeld = (m : Machine) → IsMachine m → (T : Words) (root : ℕ) (serves : ℕ → Bool) (s : State) (call : Call) → IsCall m.levels call
     → FitsState m T root serves s
-    → (U : Words) × FitsState m U root serves (step m s call).0 × ((f : ℕ) → (IsOwn m.levels root s.paths s.pool f → ⊥) → U f ≡ T f)
+    → (U : Words) × FitsState m U root serves (step m s call).state × ((f : ℕ) → (IsOwn m.levels root s.paths s.pool f → ⊥) → U f ≡ T f)
 
 -- free and table frames are one set before and after any list of calls
 abbrev pub RunConserves : Type 0
@@ -70,13 +69,6 @@ FlushesSuffice = (m : Machine) → IsMachine m → (T V U : Words) (root : ℕ) 
 
 -- ---- maps
 
--- the flags that a call that maps a page gives its parents
-abbrev pub parent_flags_of : Call → Option ℕ
-parent_flags_of (MapTo q frame given) = Some (parent_part given)
-parent_flags_of (MapToWithTableFlags q frame given parent_flags) = Some parent_flags
-parent_flags_of (IdentityMap level frame given) = Some (parent_part given)
-parent_flags_of call = None
-
 -- the page, the frame and the flags of a `map_to` or an `identity_map`
 abbrev pub asked_of : (L : ℕ) → Call → Option (List ℕ × (ℕ × ℕ))
 asked_of L (MapTo q frame given) = Some (q, (frame, given))
@@ -96,7 +88,7 @@ abbrev pub RunMapsArrive : Type 0
 RunMapsArrive = (m : Machine) → IsMachine m → (T U : Words) (root : ℕ) (serves : ℕ → Bool) (s : State) (calls : List Call) → AllCalls m.levels calls
     → FitsState m T root serves s
     → (k level frame given : ℕ) (q : List ℕ) (call : Call) → slice_get calls k ≡ Some call → asked_of m.levels call ≡ Some (q, (frame, given)) → Asks m.levels level q frame given
-    → (step m (state_after m s (take k calls)) call).1 ≡ Answered (Done frame) → IsValidFor m.levels m.window U root (state_after m s (take (k + 1) calls)).paths
+    → (step m (state_after m s (take k calls)) call).reply ≡ Answered (Done frame) → IsValidFor m.levels m.window U root (state_after m s (take (k + 1) calls)).paths
     → (p : ℕ) → take (length q) (page_path m.levels p) ≡ q
     → page_walk m.levels U root p ≡ Some (record { address = frame + p % span level; write = writable given; user = user given })
 
@@ -110,6 +102,6 @@ UsedPresent M ps = AllByRecursion (λ r. used (entry M r) ≡ true → present (
 abbrev pub CallsSpareOthers : Type 0
 CallsSpareOthers = (m : Machine) → IsMachine m → (T : Words) (root : ℕ) (serves : ℕ → Bool) (s : State) (call : Call) → IsCall m.levels call
     → FitsState m T root serves s
-    → (q : List ℕ) → items_of m.levels call (step m s call).1 ≡ OnePage q ∷ [] → UsedPresent s.paths (parents q)
+    → (q : List ℕ) → items_of m.levels call (step m s call).reply ≡ OnePage q ∷ [] → UsedPresent s.paths (parents q)
     → (p : ℕ) → begins q (page_path m.levels p) ≡ false → begins_with m.window (page_path m.levels p) ≡ false
-    → translate m.levels (entry_at m.window (step m s call).0.paths) p ≡ translate m.levels (entry_at m.window s.paths) p
+    → translate m.levels (entry_at m.window (step m s call).state.paths) p ≡ translate m.levels (entry_at m.window s.paths) p

@@ -1,5 +1,5 @@
 -- Worked examples of the definitions, with the root in frame 0x1000, and with four levels unless it is said otherwise.
-use Rattle.std.specs.Prelude.{◌≡◌, ℕ, ◌==◌, nat_lt, true, false, cond, List, [], ◌∷◌, replicate, Option, Some, None}
+use Rattle.std.specs.Prelude.{◌≡◌, ℕ, ◌==◌, nat_lt, true, false, if◌then◌else◌, List, [], ◌∷◌, replicate, Option, Some, None}
 use Rattle.std.specs.FinMap.{empty, insert}
 use Rattle.std.specs.Ordering.{nat_cmp}
 use Rattle.x86_64_model.specs.PathMap.{PathMap, put}
@@ -60,7 +60,7 @@ MapBelowHuge = map_call 4 large_mapped (0x4000 ∷ []) 3 0 (0 ∷ 0 ∷ 1 ∷ 1 
 -- ---- an image in which two words of the root name one table
 
 unfoldable pub shared_table_image : Words
-shared_table_image = λ f. cond (f == 0x1000) (Some (0x2003 ∷ 0x2002 ∷ replicate 510 0)) (cond (nat_lt f 0x8000) (Some (replicate 512 0)) None)
+shared_table_image = λ f. if f == 0x1000 then Some (0x2003 ∷ 0x2002 ∷ replicate 510 0) else (if nat_lt f 0x8000 then Some (replicate 512 0) else None)
 
 -- no path map makes it valid
 abbrev pub SharedTableIsInvalid : Type 0

@@ -1,31 +1,18 @@
 -- What a clean up removes.
-use Rattle.std.proofs.Common.{◌≡◌, ℕ, ◌||◌, Bool, true, false, not, cond, List, [], ◌∷◌, ◌++◌, map, refl, sym, ap, ap₂, ◌∙◌, subst, append_assoc, eq-eqb, eqb-true, ◌<◌, length, ltb-true}
+use Rattle.std.proofs.Common.{◌≡◌, ℕ, ◌||◌, Bool, true, false, not, cond, List, [], ◌∷◌, ◌++◌, map, refl, sym, ap, ◌∙◌, subst, append_assoc, ◌<◌, length, ltb-true, lt-ltb}
 use Rattle.std.proofs.lemmas.List.{map-append}
 use Rattle.std.specs.List.{list_all}
-use Rattle.std.proofs.lemmas.Bool.{and_parts, and_from, not-true}
+use Rattle.std.proofs.lemmas.Bool.{and_parts, and_from, not-true, not_from_false}
 use Rattle.x86_64_model.specs.Entry.{used, present, huge}
 use Rattle.x86_64_model.specs.PathMap.{PathMap, entry, HasUsedAlone, table_of}
 use Rattle.x86_64_model.specs.Path.{parents, is_below}
-use Rattle.x86_64_model.specs.CleanUp.{is_removed, in_range, clean_up}
+use Rattle.x86_64_model.specs.CleanUp.{is_removed, in_range, meets, clean_up}
 use Rattle.x86_64_model.proofs.Lemmas.Entries.Bits.{unused_zero}
+use Rattle.x86_64_model.proofs.Lemmas.Paths.Begins.{below_goes_on, goes_on_from_below}
 use Rattle.x86_64_model.proofs.Lemmas.Hierarchies.Held.{table_at_last}
 use Rattle.x86_64_model.proofs.Lemmas.Hierarchies.Changes.{zero_not_used, unused_no_table}
 use Rattle.x86_64_model.proofs.Lemmas.Hierarchies.Trees.{IsTree, tree_below}
 use Rattle.x86_64_model.proofs.Lemmas.CleanUps.Keys.{at_used, from_used, entry-cleaned}
-
--- ---- paths below others
-
-pub below_goes_on : (q : List ℕ) (j : ℕ) (s : List ℕ) → is_below q (q ++ j ∷ s) ≡ true
-below_goes_on [] j s = refl
-below_goes_on (i ∷ q) j s = and_from _ _ (eq-eqb i i refl) (below_goes_on q j s)
-
-pub goes_on_from_below : (q p : List ℕ) → is_below q p ≡ true → (j : ℕ) × (s : List ℕ) × (p ≡ q ++ j ∷ s)
-goes_on_from_below [] [] h = cc
-goes_on_from_below [] (j ∷ p) h = (j, p, refl)
-goes_on_from_below (i ∷ q) [] h = cc
-goes_on_from_below (i ∷ q) (j ∷ p) h =
-    let parts = and_parts _ _ h in let more = goes_on_from_below q p parts.1 in
-    (more.0, more.1, ap₂ (λ k r. k ∷ r) (sym (eqb-true i j parts.0)) more.2)
 
 pub list_all-append : {X : Type 0} (P : X → Bool) (xs ys : List X) → list_all P xs ≡ true → list_all P ys ≡ true → list_all P (xs ++ ys) ≡ true
 list_all-append P [] ys h g = g
@@ -46,6 +33,9 @@ in_range_parts L M low high q h =
     let table = and_parts _ _ (and_parts _ _ h).0 in
     let first = and_parts _ _ table.0 in
     (ltb-true (length q) L first.0, first.1, not-true (huge (entry M q)) table.1)
+
+pub in_range_from : (L : ℕ) (M : PathMap) (low high : ℕ) (q : List ℕ) → length q < L → present (entry M q) ≡ true → huge (entry M q) ≡ false → meets L low high q ≡ true → in_range L M low high q ≡ true
+in_range_from L M low high q l p h m = and_from _ _ (and_from _ _ (and_from _ _ (lt-ltb (length q) L l) p) (not_from_false _ h)) m
 
 pub implied : (a b : Bool) → (not a || b) ≡ true → a ≡ true → b ≡ true
 implied true b h e = h

@@ -1,17 +1,16 @@
 -- A clean up leaves a hierarchy, and gives each frame back once.
-use Rattle.std.proofs.Common.{◌-◌, ◌≡◌, ◌≢◌, ◌↔◌, inl, inr, ⊎_elim, ℕ, zero, suc, Bool, true, false, not, cond, List, [], ◌∷◌, ◌++◌, filter, map, Some, None, Option, refl, sym, ap, ◌∙◌, subst, append_assoc}
+use Rattle.std.proofs.Common.{◌-◌, ◌≡◌, ◌↔◌, inl, inr, ⊎_elim, ℕ, zero, suc, true, false, cond, List, [], ◌∷◌, ◌++◌, filter, map, Some, None, refl, sym, ap, ◌∙◌, subst, append_assoc}
 use Rattle.std.proofs.lemmas.List.{append_cancel_left}
-use Rattle.std.specs.FinMap.{get, get-retain_keys}
 use Rattle.x86_64_model.specs.Entry.{huge, address}
 use Rattle.x86_64_model.specs.PathMap.{PathMap, entry, HasUsedAlone, table_of, table_at}
 use Rattle.x86_64_model.specs.Path.{paths_below, indices}
 use Rattle.x86_64_model.specs.CleanUp.{is_removed, clean_up}
 use Rattle.x86_64_model.specs.Lists.{In, EachOnce}
 use Rattle.x86_64_model.specs.Pool.{IsGiving, given_back}
-use Rattle.x86_64_model.proofs.Lemmas.Paths.Puts.{path_exact, append_longer}
+use Rattle.x86_64_model.proofs.Lemmas.Paths.Puts.{append_longer}
 use Rattle.x86_64_model.proofs.Lemmas.Hierarchies.Changes.{zero_not_huge}
 use Rattle.x86_64_model.proofs.Lemmas.CleanUps.Removed.{removed_gives, empty_if_removed}
-use Rattle.x86_64_model.proofs.Lemmas.CleanUps.Keys.{entry-cleaned}
+use Rattle.x86_64_model.proofs.Lemmas.CleanUps.Keys.{entry-cleaned, used_alone-retained}
 use Rattle.x86_64_model.proofs.Lemmas.CleanUps.Answers.{stays}
 use Rattle.x86_64_model.proofs.Lemmas.CleanUps.Frames.{clean_same_set, root_stays, removed_leads, clean_table, clean_before}
 use Rattle.x86_64_model.proofs.Lemmas.Lists.Members.{in_left, in_right, in_append, from_flat_map, from_map, passes}
@@ -24,7 +23,7 @@ use Rattle.x86_64_model.proofs.Lemmas.Hierarchies.Trees.{IsTree, IsHierarchy, so
 one_index : (q : List ℕ) (i j : ℕ) (s t : List ℕ) → q ++ i ∷ s ≡ q ++ j ∷ t → i ≡ j
 one_index q i j s t e = let rest : i ∷ s ≡ j ∷ t = append_cancel_left q (i ∷ s) (j ∷ t) e in cc
 
-goes_below : (n : ℕ) (q p : List ℕ) → In (paths_below n q) p → (i : ℕ) × (s : List ℕ) × (p ≡ q ++ i ∷ s)
+pub goes_below : (n : ℕ) (q p : List ℕ) → In (paths_below n q) p → (i : ℕ) × (s : List ℕ) × (p ≡ q ++ i ∷ s)
 unfolding paths_below
 goes_below zero q p h = absurd h
 goes_below (suc n) q p h = let at = from_flat_map (λ i. paths_below n (q ++ i ∷ []) ++ (q ++ i ∷ []) ∷ []) indices p h in
@@ -48,6 +47,10 @@ once_paths (suc n) q = once_flat_map (λ i. paths_below n (q ++ i ∷ []) ++ (q 
 
 -- ---- frames that were given back
 
+pub given_append : (give : List ℕ → ℕ → List ℕ) (held fs gs : List ℕ) → given_back give held (fs ++ gs) ≡ given_back give (given_back give held fs) gs
+given_append give held [] gs = refl
+given_append give held (f ∷ fs) gs = given_append give (give held f) fs gs
+
 module _ (give : List ℕ → ℕ → List ℕ) (gives : IsGiving give) where
   pub given_frames : (held fs : List ℕ) (g : ℕ) → In (given_back give held fs) g ↔ In (fs ++ held) g
   given_frames held [] g = (λ h. h, λ h. h)
@@ -69,11 +72,7 @@ module _ (L root : ℕ) (M : PathMap) (h : IsTree L root M) (low high : ℕ) whe
 
   alone_left : HasUsedAlone (clean_up L M low high).paths
   unfolding clean_up
-  alone_left q e = by (is_removed L M low high q) (get M q) (h.used_alone q) (sym (get-retain_keys M (λ q. not (is_removed L M low high q)) q (λ x e. ap (λ x. not (is_removed L M low high x)) (sym (path_exact q x e)))) ∙ e)
-    where
-      by : (b : Bool) (o : Option ℕ) → o ≢ Some 0 → cond (not b) o None ≡ Some 0 → ⊥
-      by true o n e = some_not_none 0 (sym e)
-      by false o n e = n e
+  alone_left = used_alone-retained M (is_removed L M low high) h.used_alone
 
   below_left : (q : List ℕ) (i : ℕ) → table_at L root (clean_up L M low high).paths q ≡ None → entry (clean_up L M low high).paths (q ++ i ∷ []) ≡ 0
   below_left [] i t = absurd (some_not_none root t)

@@ -1,20 +1,18 @@
 -- A clean up done twice is done once.
-use Rattle.std.proofs.Common.{◌-◌, ◌≡◌, ℕ, ◌&&◌, true, false, not, cond, List, [], ◌∷◌, length, map, nat_lt, refl, sym, ap, ◌∙◌}
+use Rattle.std.proofs.Common.{◌≡◌, ℕ, ◌&&◌, true, false, not, List, [], ◌∷◌, length, nat_lt, refl, sym, ap, ◌∙◌}
 use Rattle.std.proofs.lemmas.Bool.{and_parts, and_from}
 use Rattle.std.specs.List.{list_all}
-use Rattle.x86_64_model.specs.Entry.{used, present, huge, address}
+use Rattle.x86_64_model.specs.Entry.{used, present, huge}
 use Rattle.x86_64_model.specs.PathMap.{PathMap, entry}
-use Rattle.x86_64_model.specs.Path.{parents, paths_below}
+use Rattle.x86_64_model.specs.Path.{parents}
 use Rattle.x86_64_model.specs.CleanUp.{in_range, meets, is_removed, clean_up}
 use Rattle.x86_64_model.proofs.Lemmas.Entries.Bits.{used_present}
-use Rattle.x86_64_model.proofs.Lemmas.Paths.Puts.{same_paths}
 use Rattle.x86_64_model.proofs.Lemmas.Hierarchies.Changes.{zero_not_used}
 use Rattle.x86_64_model.proofs.Lemmas.CleanUps.Removed.{Removed, removed_gives, removed_from, in_range_parts}
-use Rattle.x86_64_model.proofs.Lemmas.CleanUps.Keys.{entry-cleaned}
+use Rattle.x86_64_model.proofs.Lemmas.CleanUps.Keys.{nothing_removed}
 use Rattle.x86_64_model.proofs.Lemmas.CleanUps.Answers.{gone, stays}
 use Rattle.x86_64_model.proofs.Lemmas.CleanUps.Trees.{clean_tree}
 use Rattle.x86_64_model.proofs.Lemmas.Hierarchies.Trees.{IsTree}
-use Rattle.x86_64_model.proofs.Lemmas.Lists.All.{every, filter_none}
 
 module _ (L root : ℕ) (M : PathMap) (tree : IsTree L root M) (low high : ℕ) where
   abbrev N : PathMap
@@ -53,10 +51,5 @@ module _ (L root : ℕ) (M : PathMap) (tree : IsTree L root M) (low high : ℕ) 
     | false ↦ λ h. refl
   ] refl
 
-  pub same_again : (clean_up L N low high).paths ≡ N
-  same_again = same_paths _ _ (clean_tree L root N (clean_tree L root M tree low high) low high).used_alone (clean_tree L root M tree low high).used_alone
-      (λ q. entry-cleaned L N low high q ∙ ap (λ b. cond b 0 (entry N q)) (none_removed q))
-
-  pub none_again : (clean_up L N low high).back ≡ []
-  unfolding clean_up
-  none_again = ap (map (λ q. address (entry (clean_up L M low high).paths q))) (filter_none (is_removed L (clean_up L M low high).paths low high) (paths_below (L - 1) []) (every _ none_removed (paths_below (L - 1) [])))
+  pub once : clean_up L N low high ≡ record { paths = N; back = [] }
+  once = nothing_removed L N (clean_tree L root M tree low high).used_alone low high none_removed

@@ -51,9 +51,9 @@ module _ (L : ℕ) (T : Words) (root : ℕ) (M : PathMap) (holds : Holds L T roo
   }
 
   -- and the entry of a table whose words are all 0, as a clean up leaves it, may become unused
-  pub may_be_removed : (p : List ℕ) (i g : ℕ) → table_at L root M (p ++ i ∷ []) ≡ Some g → ((j : ℕ) → word T g j ≡ 0) → MayBecome L T root M p i 0
-  may_be_removed p i g old empty = record {
-    below = λ j. holds.entries (p ++ i ∷ []) j ∙ ap (λ t. entry_in T t j) old ∙ empty j ∙ sym (ap (λ t. entry_in T t j) (unused_no_table L (p ++ i ∷ [])));
+  pub may_be_removed : (p : List ℕ) (i : ℕ) → ((j : ℕ) → entry M ((p ++ i ∷ []) ++ j ∷ []) ≡ 0) → MayBecome L T root M p i 0
+  may_be_removed p i empty = record {
+    below = λ j. empty j ∙ sym (ap (λ t. entry_in T t j) (unused_no_table L (p ++ i ∷ [])));
     fresh = λ f q h. absurd (let t : None ≡ Some f = sym (unused_no_table L (p ++ i ∷ [])) ∙ h in cc);
     in_memory = λ f h. absurd (let t : None ≡ Some f = sym (unused_no_table L (p ++ i ∷ [])) ∙ h in cc);
     not_zero = λ h. let t : None ≡ Some 0 = sym (unused_no_table L (p ++ i ∷ [])) ∙ h in cc;

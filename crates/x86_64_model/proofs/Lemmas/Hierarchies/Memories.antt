@@ -59,6 +59,14 @@ pub outside_set : (window : Option Window) (root : ℕ) (T : Words) (f i w : ℕ
 outside_set None root T f i w apart = refl
 outside_set (Some v) root T f i w apart = set_word_comm T f i w root v.index 0 (apart v refl)
 
+-- a frame that has words is covered
+pub covered : (memory : Memory) (places : Places) (f : ℕ) → IsSome (words_of memory places f) → places.covers f ≡ true
+covered memory places f h = by (places.covers f) (get memory (places.place f)) h
+  where
+    by : (b : Bool) (o : Option (List ℕ)) → IsSome (cond b o None) → b ≡ true
+    by true o h = refl
+    by false o h = cc
+
 pub identity_distinct : Distinct identity_places
 identity_distinct f g a b e = same_frame f g a b e
 

@@ -8,6 +8,7 @@ use Rattle.x86_64_model.specs.PathMap.{PathMap, entry, HasUsedAlone, table_of, t
 use Rattle.x86_64_model.specs.Path.{level_of, parents, AllBelow}
 use Rattle.x86_64_model.specs.Hierarchy.{entry_in, Holds, IsValid}
 use Rattle.x86_64_model.proofs.Lemmas.Entries.Bits.{unused_zero}
+use Rattle.x86_64_model.proofs.Lemmas.Paths.Begins.{all_below_more}
 use Rattle.x86_64_model.proofs.Lemmas.Paths.Puts.{by_last}
 use Rattle.x86_64_model.proofs.Lemmas.Hierarchies.Held.{word_past}
 use Rattle.x86_64_model.proofs.Lemmas.Hierarchies.Changes.{unused_no_table, zero_not_used, none_below, descends_from}
@@ -103,12 +104,8 @@ module _ (L root : ℕ) (M : PathMap) (tree : IsTree L root M) where
   ] refl
 
   pub indices_below : (q : List ℕ) → used (entry M q) ≡ true → AllBelow q
-  indices_below = by_last (λ q. used (entry M q) ≡ true → AllBelow q) (λ u. tt) (λ q i ih u. push q i (front q i ih u) (used_last q i u).0)
+  indices_below = by_last (λ q. used (entry M q) ≡ true → AllBelow q) (λ u. tt) (λ q i ih u. all_below_more q i (front q i ih u) (used_last q i u).0)
     where
-      push : (q : List ℕ) (i : ℕ) → AllBelow q → i < 512 → AllBelow (q ++ i ∷ [])
-      push [] i a l = (l, tt)
-      push (j ∷ q) i a l = (a.0, push q i a.1 l)
-
       front : (q : List ℕ) (i : ℕ) → (used (entry M q) ≡ true → AllBelow q) → used (entry M (q ++ i ∷ [])) ≡ true → AllBelow q
       front [] i ih u = tt
       front (j ∷ q) i ih u = ih (used_before (j ∷ q) i u j q refl)

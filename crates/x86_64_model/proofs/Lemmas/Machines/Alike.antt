@@ -11,8 +11,8 @@ use Rattle.x86_64_model.specs.Translation.{translate, address_of}
 use Rattle.x86_64_model.specs.MapRule.{map_call, parent_part}
 use Rattle.x86_64_model.specs.PageRules.{AfterChange}
 use Rattle.x86_64_model.specs.Pool.{IsGiving, given_back}
-use Rattle.x86_64_model.specs.Call.{IsCall, Call, MapTo, MapToWithTableFlags, IdentityMap, Unmap, UpdateFlags, SetFlags, TranslatePage, Translate, TranslateAddress, CleanUp, Reply, NotAllowed, Answered, Position, Address}
-use Rattle.x86_64_model.specs.Machine.{State, do_call, step, replies_of, state_after}
+use Rattle.x86_64_model.specs.Call.{IsCall, Call, MapTo, MapToWithTableFlags, IdentityMap, Unmap, UpdateFlags, SetFlags, TranslatePage, Translate, TranslateAddress, CleanUp, NotAllowed, Answered, Position, Address}
+use Rattle.x86_64_model.specs.Machine.{State, AfterCall, only_reply, do_call, step, replies_of, state_after}
 use Rattle.x86_64_model.specs.Allowed.{none_absent, map_allowed, refuses, both_or_none, allowed}
 use Rattle.x86_64_model.specs.Alike.{Alike, names_index}
 use Rattle.x86_64_model.proofs.Lemmas.Maps.Frames.{IsFrame}
@@ -41,10 +41,10 @@ none_among M N (p ∷ ps) a = by _ _ _ _ (λ i. not (a.0.same_present i) || a.0.
     by true c x y cb h g = ap (λ c. none_absent N (cond c (Some p) x)) cb ∙ h
     by false c x y cb h g = ap (λ c. none_absent N (cond c (Some p) x)) cb ∙ g
 
-pub record AlikeResults (L : ℕ) (x y : State × Reply) : Type 0 where
-  pub paths : Alike L x.0.paths y.0.paths
-  pub pools : x.0.pool ≡ y.0.pool
-  pub replies : x.1 ≡ y.1
+pub record AlikeResults (L : ℕ) (x y : AfterCall) : Type 0 where
+  pub paths : Alike L x.state.paths y.state.paths
+  pub pools : x.state.pool ≡ y.state.pool
+  pub replies : x.reply ≡ y.reply
 
 module _ (L : ℕ) (v w : Option Window) (M N : PathMap) (alike : Alike L M N) where
   pub read_alike : (q : List ℕ) → 1 ≤ length q → begins_with v q ≡ false → begins_with w q ≡ false → ReadAlike (entry_at v M) (entry_at w N) q
@@ -115,10 +115,10 @@ module _ (L : ℕ) (v w : Option Window) (M N : PathMap) (alike : Alike L M N) w
 
     pub step_pair : (call : Call) → IsCall L call → names_index L v call ≡ false → names_index L w call ≡ false
         → AlikeResults L (step (machine L v added give) (record { paths = M; pool = pool }) call) (step (machine L w added' give) (record { paths = N; pool = pool }) call)
-    step_pair call is a b = subst (λ x. AlikeResults L (step (machine L v added give) (record { paths = M; pool = pool }) call) (cond x (do_call (machine L w added' give) (record { paths = N; pool = pool }) call) (record { paths = N; pool = pool }, NotAllowed)))
+    step_pair call is a b = subst (λ x. AlikeResults L (step (machine L v added give) (record { paths = M; pool = pool }) call) (cond x (do_call (machine L w added' give) (record { paths = N; pool = pool }) call) (only_reply (record { paths = N; pool = pool }) NotAllowed)))
         (sym (allowed_same call is a b))
-        (elim (allowed L v M call) as (λ x. allowed L v M call ≡ x → AlikeResults L (cond x (do_call (machine L v added give) (record { paths = M; pool = pool }) call) (record { paths = M; pool = pool }, NotAllowed))
-        (cond x (do_call (machine L w added' give) (record { paths = N; pool = pool }) call) (record { paths = N; pool = pool }, NotAllowed))) [
+        (elim (allowed L v M call) as (λ x. allowed L v M call ≡ x → AlikeResults L (cond x (do_call (machine L v added give) (record { paths = M; pool = pool }) call) (only_reply (record { paths = M; pool = pool }) NotAllowed))
+        (cond x (do_call (machine L w added' give) (record { paths = N; pool = pool }) call) (only_reply (record { paths = N; pool = pool }) NotAllowed))) [
           | true ↦ λ h. do_pair call is a b h
           | false ↦ λ h. record { paths = alike; pools = refl; replies = refl }
         ] refl)
@@ -133,6 +133,6 @@ run_pair L v w added added' ia ib give gives root root' serves serves' [] is a b
 run_pair L v w added added' ia ib give gives root root' serves serves' (call ∷ calls) is a b s t x y alike pools =
     let one : AlikeResults L (step (machine L v added give) s call) (step (machine L w added' give) t call) = subst (λ pool. AlikeResults L (step (machine L v added give) s call) (step (machine L w added' give) (record { paths = t.paths; pool = pool }) call)) pools
     (step_pair L v w s.paths t.paths alike added added' ia ib give root root' x.hierarchy.tree y.hierarchy.tree s.pool (all_in s.pool x.frames) call is.0 a.0 b.0) in
-    let rest = run_pair L v w added added' ia ib give gives root root' serves serves' calls is.1 a.1 b.1 (step (machine L v added give) s call).0 (step (machine L w added' give) t call).0
+    let rest = run_pair L v w added added' ia ib give gives root root' serves serves' calls is.1 a.1 b.1 (step (machine L v added give) s call).state (step (machine L w added' give) t call).state
     (step_sound L v root serves s x added ia.adds give gives call is.0) (step_sound L w root' serves' t y added' ib.adds give gives call is.0) one.paths one.pools in
     record { paths = rest.paths; pools = rest.pools; replies = ap₂ (λ r rs. r ∷ rs) one.replies rest.replies }

@@ -11,7 +11,7 @@ use Rattle.x86_64_model.specs.MapRule.{map_call, parent_part}
 use Rattle.x86_64_model.specs.CleanUp.{clean_up}
 use Rattle.x86_64_model.specs.Path.{AllBelow, front_at, IsPage, path_at, begins}
 use Rattle.x86_64_model.specs.Call.{IsCall, Call, MapTo, MapToWithTableFlags, IdentityMap, Unmap, UpdateFlags, SetFlags, TranslatePage, Translate, TranslateAddress, CleanUp, NotAllowed}
-use Rattle.x86_64_model.specs.Machine.{Machine, State, after_map, after_change, do_call, step}
+use Rattle.x86_64_model.specs.Machine.{Machine, State, AfterCall, only_reply, after_map, after_change, do_call, step}
 use Rattle.x86_64_model.specs.Allowed.{parents_present, map_allowed, allowed}
 use Rattle.x86_64_model.specs.Pool.{given_back}
 use Rattle.x86_64_model.specs.Flush.{Item, OnePage, Everything, covers, if_done, items_of}
@@ -52,6 +52,13 @@ page_at_level L level p a b c =
     let long : length (path_at L level p) ≡ L + 1 - level = length_taken p (L + 1 - level) L (omega arith) in
     record { nonempty = omega arith; at_least = omega arith; at_most = omega arith; below = below_taken p (L + 1 - level) L }
 
+-- what holds of an allowed call, and of the reply that a call isn't allowed, holds of a step
+pub step_cases : (m : Machine) (s : State) (call : Call) (P : AfterCall → Type 0) → (allowed m.levels m.window s.paths call ≡ true → P (do_call m s call)) → P (only_reply s NotAllowed) → P (step m s call)
+step_cases m s call P done otherwise = elim (allowed m.levels m.window s.paths call) as (λ b. allowed m.levels m.window s.paths call ≡ b → P (cond b (do_call m s call) (only_reply s NotAllowed))) [
+  | true ↦ done
+  | false ↦ λ h. otherwise
+] refl
+
 -- a machine by its parts
 abbrev pub machine : (L : ℕ) → Option Window → (added : ℕ) → (List ℕ → ℕ → List ℕ) → Machine
 machine L window added give = record { levels = L; window = window; added_flags = added; give = give }
@@ -71,28 +78,25 @@ no_items L (CleanUp low high) = refl
 -- what holds of the state after a step, and of what is recorded of it
 module _ (L : ℕ) (window : Option Window) (added : ℕ) (give : List ℕ → ℕ → List ℕ) (root : ℕ) (s : State) (hierarchy : IsHierarchy L root s.paths) (P : State → List Item → Type 0)
     (nothing : P s [])
-    (maps : (q : List ℕ) (frame given more : ℕ) (items : List Item) → IsPage L q → MapMay window s.paths q given more → P (after_map (map_call L s.paths s.pool more added q frame given)).0 items)
+    (maps : (q : List ℕ) (frame given more : ℕ) (items : List Item) → IsPage L q → MapMay window s.paths q given more → P (after_map (map_call L s.paths s.pool more added q frame given)).state items)
     (changes : (q : List ℕ) (w : ℕ) (item : Item) → IsChange L window s.paths q w → ((p : ℕ) → covers L item p ≡ false → begins q (page_path L p) ≡ false) → P (record { paths = put s.paths q w; pool = s.pool }) (item ∷ []))
     (cleans : (low high : ℕ) → P (record { paths = (clean_up L s.paths low high).paths; pool = given_back give s.pool (clean_up L s.paths low high).back }) []) where
-  pub done_ind : (call : Call) → IsCall L call → allowed L window s.paths call ≡ true → P (do_call (machine L window added give) s call).0 (items_of L call (do_call (machine L window added give) s call).1)
+  pub done_ind : (call : Call) → IsCall L call → allowed L window s.paths call ≡ true → P (do_call (machine L window added give) s call).state (items_of L call (do_call (machine L window added give) s call).reply)
   unfolding do_call
   done_ind (MapTo q frame given) is h = maps q frame given (parent_part given) _ is (map_may L window s.paths q given _ h)
   done_ind (MapToWithTableFlags q frame given more) is h = maps q frame given more _ is (map_may L window s.paths q given _ h)
   done_ind (IdentityMap level frame given) is h = maps (path_at L level frame) frame given (parent_part given) _ (page_at_level L level frame is.0 is.1 is.2) (map_may L window s.paths (path_at L level frame) given _ (and_parts _ _ h).1)
-  done_ind (Unmap q) is h = unmap_change L window s.paths q is (not-true _ h) (λ c. P (after_change s.pool c).0 (if_done (after_change s.pool c).1 (OnePage q)))
+  done_ind (Unmap q) is h = unmap_change L window s.paths q is (not-true _ h) (λ c. P (after_change s.pool c).state (if_done (after_change s.pool c).reply (OnePage q)))
       (λ why. nothing) (λ c. changes q 0 (OnePage q) c (λ p o. o))
-  done_ind (UpdateFlags q given) is h = update_change L window s.paths q is (not-true _ (and_parts _ _ h).1) given (λ c. P (after_change s.pool c).0 (if_done (after_change s.pool c).1 (OnePage q)))
+  done_ind (UpdateFlags q given) is h = update_change L window s.paths q is (not-true _ (and_parts _ _ h).1) given (λ c. P (after_change s.pool c).state (if_done (after_change s.pool c).reply (OnePage q)))
       (λ why. nothing) (λ c. changes q _ (OnePage q) c (λ p o. o))
   done_ind (SetFlags level q given) is h = let a = and_parts _ _ h in let b = and_parts _ _ a.0 in
-      set_flags_change L window root s.paths hierarchy level q given is.0 is.1 is.2 (not-true _ b.1) b.0 a.1 (λ c. P (after_change s.pool c).0 (if_done (after_change s.pool c).1 Everything))
+      set_flags_change L window root s.paths hierarchy level q given is.0 is.1 is.2 (not-true _ b.1) b.0 a.1 (λ c. P (after_change s.pool c).state (if_done (after_change s.pool c).reply Everything))
       (λ why. nothing) (λ c. changes (front_at L level q) _ Everything c (λ p o. cc))
   done_ind (TranslatePage q) is h = nothing
   done_ind (Translate p) is h = nothing
   done_ind (TranslateAddress p) is h = nothing
   done_ind (CleanUp low high) is h = cleans low high
 
-  pub step_ind : (call : Call) → IsCall L call → P (step (machine L window added give) s call).0 (items_of L call (step (machine L window added give) s call).1)
-  step_ind call is = elim (allowed L window s.paths call) as (λ b. allowed L window s.paths call ≡ b → P (cond b (do_call (machine L window added give) s call) (s, NotAllowed)).0 (items_of L call (cond b (do_call (machine L window added give) s call) (s, NotAllowed)).1)) [
-    | true ↦ λ h. done_ind call is h
-    | false ↦ λ h. subst (P s) (sym (no_items L call)) nothing
-  ] refl
+  pub step_ind : (call : Call) → IsCall L call → P (step (machine L window added give) s call).state (items_of L call (step (machine L window added give) s call).reply)
+  step_ind call is = step_cases (machine L window added give) s call (λ after. P after.state (items_of L call after.reply)) (done_ind call is) (subst (P s) (sym (no_items L call)) nothing)

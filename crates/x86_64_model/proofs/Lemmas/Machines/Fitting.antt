@@ -5,6 +5,7 @@ use Rattle.x86_64_model.specs.Entry.{IsParentFlags, address}
 use Rattle.x86_64_model.specs.Layout.{Layout, words, paths}
 use Rattle.x86_64_model.specs.MapperCalls.{IsReady}
 use Rattle.x86_64_model.specs.Memory.{Memory, Words}
+use Rattle.x86_64_model.specs.Owned.{Hierarchy, PoolFits, MayCleanUp}
 use Rattle.x86_64_model.specs.PathMap.{table_at}
 use Rattle.x86_64_model.specs.Window.{Window, outside_window, IsValidFor}
 use Rattle.x86_64_model.specs.Hierarchy.{IsValid}
@@ -32,6 +33,14 @@ ready_of_fits l m serves pool fits = record {
   no_table = fits.no_table;
   serves_pool = λ f i. refl;
   serves_tables = λ i q f t. refl;
+}
+
+-- and as a clean up wants them
+pub may_clean_up : {Lent : Type 0} (h : Hierarchy Lent) (serves : ℕ → Bool) (pool : List ℕ) → PoolFits h serves pool → MayCleanUp h serves pool
+may_clean_up h serves pool fits = record {
+  valid = fits.valid;
+  serves_tables = fits.serves_tables;
+  none_held = λ i q f table held. fits.no_table f held (i ∷ q, table);
 }
 
 -- what valid words and a pool that fits say of the state
@@ -81,8 +90,8 @@ own_there L window T root serves s fits f (inr t) = by window fits.valid
 -- one step keeps the state fit: whatever valid words hold the path map afterwards, if they have the frames that were there
 pub step_fits : (L : ℕ) (window : Option Window) (T U : Words) (root : ℕ) (serves : ℕ → Bool) (added : ℕ) → IsParentFlags added → (give : List ℕ → ℕ → List ℕ) → IsGiving give
     → (s : State) (call : Call) → IsCall L call → Fits L window T root s.paths serves s.pool
-    → IsValidFor L window U root (step (machine L window added give) s call).0.paths → ((f : ℕ) → IsSome (T f) → IsSome (U f))
-    → Fits L window U root (step (machine L window added give) s call).0.paths serves (step (machine L window added give) s call).0.pool
+    → IsValidFor L window U root (step (machine L window added give) s call).state.paths → ((f : ℕ) → IsSome (T f) → IsSome (U f))
+    → Fits L window U root (step (machine L window added give) s call).state.paths serves (step (machine L window added give) s call).state.pool
 step_fits L window T U root serves added adds give gives s call is fits valid kept =
     let sound = sound_of_fits L window T root serves s fits in
     fits_of_sound L window U root serves _ (step_sound L window root serves s sound added adds give gives call is) valid

@@ -57,8 +57,8 @@ module _ (L : ℕ) (window : Option Window) (root : ℕ) (serves : ℕ → Bool)
   change_keeps q w h = walked_same L p (entry (put s.paths q w)) (entry s.paths) (put_same L p s.paths q w h) L [] true true refl
 
   -- one step: where no item that it records covers the position
-  pub step_keeps : (added : ℕ) (give : List ℕ → ℕ → List ℕ) (call : Call) → IsCall L call → NoneCovers L (items_of L call (step (machine L window added give) s call).1) p
-      → Keeps (walked (entry s.paths) p L [] true true) (walked (entry (step (machine L window added give) s call).0.paths) p L [] true true)
+  pub step_keeps : (added : ℕ) (give : List ℕ → ℕ → List ℕ) (call : Call) → IsCall L call → NoneCovers L (items_of L call (step (machine L window added give) s call).reply) p
+      → Keeps (walked (entry s.paths) p L [] true true) (walked (entry (step (machine L window added give) s call).state.paths) p L [] true true)
   step_keeps added give call is = step_ind L window added give root s sound.hierarchy (λ t items. NoneCovers L items p → Keeps (walked (entry s.paths) p L [] true true) (walked (entry t.paths) p L [] true true))
       (λ n. keeps_same _ _ refl)
       (λ q frame given more items page may n. map_keeps more added q frame given may)
@@ -88,7 +88,7 @@ pub state_split : (L : ℕ) (window : Option Window) (added : ℕ) (give : List 
     → state_after (machine L window added give) (state_after (machine L window added give) s (take k calls)) (drop k calls) ≡ state_after (machine L window added give) s calls
 state_split L window added give zero calls s = refl
 state_split L window added give (suc k) [] s = refl
-state_split L window added give (suc k) (call ∷ calls) s = state_split L window added give k calls (step (machine L window added give) s call).0
+state_split L window added give (suc k) (call ∷ calls) s = state_split L window added give k calls (step (machine L window added give) s call).state
 
 -- Where the walk arrives in words that hold the state after the first k calls, and no item of a later call covers the position, which is outside the window:
 -- there it arrives at the end too, at the same address and with no right lost.

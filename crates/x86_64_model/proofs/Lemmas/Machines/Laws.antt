@@ -1,5 +1,5 @@
 -- The machine's laws.
-use Rattle.std.proofs.Common.{◌≡◌, ℕ, Bool, true, false, cond, List, [], ◌∷◌, Option, refl, sym, ap, ◌∙◌, subst}
+use Rattle.std.proofs.Common.{◌≡◌, ℕ, Bool, true, false, List, [], ◌∷◌, Option, refl, sym, ap, ◌∙◌, subst}
 use Rattle.std.proofs.lemmas.Bool.{and_parts, not-true}
 use Rattle.x86_64_model.specs.PathMap.{PathMap}
 use Rattle.x86_64_model.specs.Path.{parents, IsPage, path_at, begins}
@@ -10,7 +10,7 @@ use Rattle.x86_64_model.specs.Refusal.{Answer, Done, Refused}
 use Rattle.x86_64_model.specs.MapRule.{map_call, parent_part}
 use Rattle.x86_64_model.specs.PageRules.{unmap, update_flags, set_flags}
 use Rattle.x86_64_model.specs.Pool.{Fits}
-use Rattle.x86_64_model.specs.Call.{IsCall, Call, MapTo, MapToWithTableFlags, IdentityMap, Unmap, UpdateFlags, SetFlags, TranslatePage, Translate, TranslateAddress, CleanUp, NotAllowed, Answered}
+use Rattle.x86_64_model.specs.Call.{IsCall, Call, MapTo, MapToWithTableFlags, IdentityMap, Unmap, UpdateFlags, SetFlags, TranslatePage, Translate, TranslateAddress, CleanUp, Answered}
 use Rattle.x86_64_model.specs.Machine.{Machine, State, do_call, step, state_after, replies_of}
 use Rattle.x86_64_model.specs.Allowed.{allowed}
 use Rattle.x86_64_model.specs.Flush.{OnePage, Everything, if_done, items_of}
@@ -19,7 +19,7 @@ use Rattle.x86_64_model.specs.Laws.CleanUps.{CleanUpConserves, CleanUpKeepsAnswe
 use Rattle.x86_64_model.specs.Laws.Maps.{RefusedMaps, MapTakesFew, WalkedDown}
 use Rattle.x86_64_model.specs.Laws.Pairs.{NoneNames, AlikeRuns, PairsReplyAlike}
 use Rattle.x86_64_model.proofs.Lemmas.Hierarchies.Trees.{tree_of_holds}
-use Rattle.x86_64_model.proofs.Lemmas.Machines.Effects.{machine, MapMay, map_may, page_at_level}
+use Rattle.x86_64_model.proofs.Lemmas.Machines.Effects.{machine, MapMay, map_may, page_at_level, step_cases}
 use Rattle.x86_64_model.proofs.Lemmas.Machines.States.{IsSound, all_in, step_conserves}
 use Rattle.x86_64_model.proofs.Lemmas.Machines.Fitting.{sound_of_fits, step_fits, run_conserves, run_fits}
 use Rattle.x86_64_model.proofs.Lemmas.Machines.Witness.{step_witness}
@@ -31,7 +31,7 @@ use Rattle.x86_64_model.proofs.Lemmas.CleanUps.Answers.{translate_cleaned_outsid
 use Rattle.x86_64_model.proofs.Lemmas.Maps.Takes.{map_takes}
 use Rattle.x86_64_model.proofs.Lemmas.Maps.Down.{walked_down}
 use Rattle.x86_64_model.proofs.Lemmas.Maps.Trees.{page_descends}
-use Rattle.x86_64_model.proofs.Lemmas.CleanUps.Twice.{same_again, none_again}
+use Rattle.x86_64_model.proofs.Lemmas.CleanUps.Twice.{once}
 use Rattle.x86_64_model.proofs.Lemmas.Machines.Alike.{run_pair}
 use Rattle.x86_64_model.specs.Entry.{IsParentFlags}
 
@@ -48,7 +48,7 @@ pub run_is_held : RunIsHeld
 run_is_held m is T root serves s [] c fits = (T, fits, λ f n. refl)
 run_is_held m is T root serves s (call ∷ calls) c fits =
     let one = step_is_held m is T root serves s call c.0 fits in
-    let rest = run_is_held m is one.0 root serves (step m s call).0 calls c.1 one.1 in
+    let rest = run_is_held m is one.0 root serves (step m s call).state calls c.1 one.1 in
     let same = (step_conserves m.levels m.window root serves s (sound_of_fits m.levels m.window T root serves s fits) m.added_flags is.adds m.give is.gives call c.0).same_set in
     (rest.0, rest.1, λ f n. rest.2 f (λ own. n ((same f).1 own)) ∙ one.2 f n)
 
@@ -65,7 +65,7 @@ pub clean_up_keeps_answers : CleanUpKeepsAnswers
 clean_up_keeps_answers L window T root M valid low high p out = translate_cleaned_outside L root M (tree_of_holds L _ root M valid.valid.holds) low high window p out
 
 pub clean_ups_once : CleanUpsOnce
-clean_ups_once L window T root M valid low high = let tree = tree_of_holds L _ root M valid.valid.holds in λ i. record { paths = same_again L root M tree low high i; back = none_again L root M tree low high i }
+clean_ups_once L window T root M valid low high = once L root M (tree_of_holds L _ root M valid.valid.holds) low high
 
 pub refused_maps : RefusedMaps
 refused_maps L window T root M supply more added q frame given valid marks why refused = refused_map L root M supply more added q frame given (tree_of_holds L _ root M valid.valid.holds) marks why refused
@@ -110,7 +110,7 @@ module _ (L : ℕ) (window : Option Window) (root : ℕ) (serves : ℕ → Bool)
   maps_spare r frame given more page may h = let d = done_item _ r q h in
       map_elsewhere L window root s.paths s.pool more added r frame given sound.hierarchy (all_in s.pool sound.frames) page may.marks adds (subst (λ q. UsedPresent s.paths (parents q)) (sym d.1) before) d.0 p (ap (λ r. begins r (page_path L p)) d.1 ∙ off) out
 
-  done_spares : (call : Call) → IsCall L call → allowed L window s.paths call ≡ true → items_of L call (do_call (machine L window added give) s call).1 ≡ OnePage q ∷ [] → Spared (do_call (machine L window added give) s call).0.paths
+  done_spares : (call : Call) → IsCall L call → allowed L window s.paths call ≡ true → items_of L call (do_call (machine L window added give) s call).reply ≡ OnePage q ∷ [] → Spared (do_call (machine L window added give) s call).state.paths
   unfolding do_call
   done_spares (MapTo r frame given) is h e = maps_spare r frame given (parent_part given) is (map_may L window s.paths r given _ h) e
   done_spares (MapToWithTableFlags r frame given more) is h e = maps_spare r frame given more is (map_may L window s.paths r given more h) e
@@ -123,11 +123,8 @@ module _ (L : ℕ) (window : Option Window) (root : ℕ) (serves : ℕ → Bool)
   done_spares (TranslateAddress t) is h e = refl
   done_spares (CleanUp low high) is h e = absurd (none_recorded q e)
 
-  step_spares : (call : Call) → IsCall L call → items_of L call (step (machine L window added give) s call).1 ≡ OnePage q ∷ [] → Spared (step (machine L window added give) s call).0.paths
-  step_spares call is = elim (allowed L window s.paths call) as (λ b. allowed L window s.paths call ≡ b → items_of L call (cond b (do_call (machine L window added give) s call) (s, NotAllowed)).1 ≡ OnePage q ∷ [] → Spared (cond b (do_call (machine L window added give) s call) (s, NotAllowed)).0.paths) [
-    | true ↦ λ h e. done_spares call is h e
-    | false ↦ λ h e. refl
-  ] refl
+  step_spares : (call : Call) → IsCall L call → items_of L call (step (machine L window added give) s call).reply ≡ OnePage q ∷ [] → Spared (step (machine L window added give) s call).state.paths
+  step_spares call is = step_cases (machine L window added give) s call (λ after. items_of L call after.reply ≡ OnePage q ∷ [] → Spared after.state.paths) (done_spares call is) (λ e. refl)
 
 pub calls_spare_others : CallsSpareOthers
 calls_spare_others m is T root serves s call c fits q items before p off out =

@@ -1,6 +1,5 @@
 -- What the calls of a mapper ask for and leave, from what the rules say, and of one call from another.
-use Rattle.std.proofs.Common.{◌≡◌, ◌+◌, not, bit_or, ◌<◌, ◌≤◌, ◌%◌, ℕ, Bool, true, false, cond, List, Option, Some, None, nat_le, refl, sym, ap, ap₂, ◌∙◌, subst, ltb-true}
-use Rattle.std.proofs.lemmas.Bool.{and_parts}
+use Rattle.std.proofs.Common.{◌≡◌, ◌+◌, not, bit_or, ◌≤◌, ◌%◌, ℕ, Bool, true, false, cond, List, Option, Some, None, nat_le, refl, sym, ap, ap₂, ◌∙◌, subst}
 use Rattle.std.proofs.lemmas.Option.{same_Some}
 use Rattle.x86_64_model.specs.Allowed.{refuses}
 use Rattle.x86_64_model.specs.Arrivals.{Arrives}
@@ -8,7 +7,7 @@ use Rattle.x86_64_model.specs.Call.{Call, Reply, MapTo, MapToWithTableFlags, Ide
 use Rattle.x86_64_model.specs.Entry.{IsParentFlags, present, used, address}
 use Rattle.x86_64_model.specs.Layout.{paths as paths_in, walk as walk_in}
 use Rattle.x86_64_model.proofs.Lemmas.Maps.Mapped.{arrives_in_page}
-use Rattle.x86_64_model.specs.Machine.{State, do_call, after_map, after_change}
+use Rattle.x86_64_model.specs.Machine.{AfterCall, do_call, after_map, after_change}
 use Rattle.x86_64_model.specs.MapRule.{map_call, parent_part, leaf_entry}
 use Rattle.x86_64_model.specs.MapperCalls.{IsReady, IsMapped, IsChanged, after_unmap, after_update, after_set_flags}
 use Rattle.x86_64_model.specs.Memory.{Memory}
@@ -16,7 +15,7 @@ use Rattle.x86_64_model.specs.Owned.{Hierarchy, MayMap, Does, DoesMap, ArrivesIn
 use Rattle.x86_64_model.specs.PageRules.{AfterChange, refused_or, update_refusal, update_flags, set_flags}
 use Rattle.x86_64_model.specs.Path.{level_of, front_at, path_at}
 use Rattle.x86_64_model.specs.PathMap.{PathMap, put}
-use Rattle.x86_64_model.specs.Position.{span, lower_half}
+use Rattle.x86_64_model.specs.Position.{span}
 use Rattle.x86_64_model.specs.Refusal.{Refusal, PageNotMapped, ParentEntryHugePage, Answer, Done, Refused, first_stop, refused_if, refusal_of, answer_unless}
 
 -- ---- maps
@@ -26,18 +25,12 @@ module _ {Lent : Type 0} (h : Hierarchy Lent) (supply : List ℕ) where
   pub may_map_to : (q : List ℕ) (frame given : ℕ) → MayMap h supply (MapTo q frame given) → MayMap h supply (MapToWithTableFlags q frame given (parent_part given))
   may_map_to q frame given may = record { fits = may.fits; allowed = may.allowed }
 
-  -- an `identity_map` is a `map_to` of the page at the frame's address
-  pub may_map_identity : (level frame given : ℕ) → MayMap h supply (IdentityMap level frame given) → MayMap h supply (MapTo (path_at h.layout.levels level frame) frame given)
-  may_map_identity level frame given may = record { fits = may.fits; allowed = (and_parts _ _ may.allowed).1 }
-
-  pub identity_low : (level frame given : ℕ) → MayMap h supply (IdentityMap level frame given) → frame < lower_half h.layout.levels
-  identity_low level frame given may = ltb-true frame (lower_half h.layout.levels) (and_parts _ _ may.allowed).0
-
   module _ (answer : Answer) (after : Hierarchy Lent) (rest : List ℕ) where
     pub does_map_to : (q : List ℕ) (frame given : ℕ) → DoesMap h supply (MapToWithTableFlags q frame given (parent_part given)) answer after rest → DoesMap h supply (MapTo q frame given) answer after rest
     unfolding do_call
     does_map_to q frame given does = record { outcome = does.outcome; fits = does.fits; others = does.others; walks = does.walks; layout = does.layout; lent = does.lent }
 
+    -- an `identity_map` does what a `map_to` of the page at the frame's address does
     pub does_map_identity : (level frame given : ℕ) → DoesMap h supply (MapTo (path_at h.layout.levels level frame) frame given) answer after rest → DoesMap h supply (IdentityMap level frame given) answer after rest
     unfolding do_call
     does_map_identity level frame given does = record { outcome = does.outcome; fits = does.fits; others = does.others; walks = does.walks; layout = does.layout; lent = does.lent }
@@ -67,7 +60,7 @@ module _ {Lent : Type 0} (h : Hierarchy Lent) (supply : List ℕ) where
   unfolding do_call
   is_mapped q frame given more answer after rest does = record {
     outcome = subst (λ l. map_call h.layout.levels (paths_in h.layout h.memory) supply more h.layout.added_flags q frame given ≡ record { paths = paths_in l after.memory; supply = rest; answer = answer }) does.layout
-        (ap (λ (x : State × Reply). record { paths = x.0.paths; supply = x.0.pool; answer = answer_in answer x.1 }) (does.outcome (λ held f. held)));
+        (ap (λ (x : AfterCall). record { paths = x.state.paths; supply = x.state.pool; answer = answer_in answer x.reply }) (does.outcome (λ held f. held)));
     ready = subst (λ l. IsReady l after.memory rest) does.layout does.fits;
     others = does.others;
     walks = λ p. subst (λ l. Arrives more (walk_in h.layout h.memory p) (walk_in l after.memory p)) does.layout (does.walks more refl p);
@@ -124,7 +117,7 @@ module _ {Lent : Type 0} (h : Hierarchy Lent) where
   changed : (call : Call) (after : AfterChange) → ((put : List ℕ → ℕ → List ℕ) (pool : List ℕ) → do_call (machine_of h.layout put) (state_of h pool) call ≡ after_change pool after)
       → (answer : Answer) (n : Memory) → answer ≡ after.answer → IsChanged h.layout h.memory after n → (refuses answer ≡ true → n ≡ h.memory) → Does h call answer (record h { memory = n })
   changed call after rule answer n is does still = record {
-    outcome = λ pool put. rule put pool ∙ ap₂ (λ M a. (record { paths = M; pool = pool }, Answered a)) does.meant (sym is);
+    outcome = λ pool put. rule put pool ∙ ap₂ (λ M a. after_change pool (record { paths = M; answer = a })) does.meant (sym is);
     valid = does.valid;
     fits = does.ready;
     others = does.others;

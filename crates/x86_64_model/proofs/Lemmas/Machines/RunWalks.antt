@@ -1,11 +1,11 @@
 -- Where the processor arrives after a call of a list that maps a page.
-use Rattle.std.proofs.Common.{zero, suc, ◌≡◌, ◌+◌, ◌%◌, ℕ, true, false, cond, List, [], ◌∷◌, length, take, Option, Some, inl, refl, sym, ap, ◌∙◌, subst, arith, eqb-true}
+use Rattle.std.proofs.Common.{zero, suc, ◌≡◌, ◌+◌, ◌%◌, ℕ, true, List, [], ◌∷◌, length, take, Option, Some, inl, refl, sym, ap, ◌∙◌, subst, arith, eqb-true}
 use Rattle.std.proofs.lemmas.Bool.{and_parts}
 use Rattle.std.proofs.lemmas.Option.{same_Some}
 use Rattle.std.specs.List.{AllByRecursion, slice_get}
 use Rattle.x86_64_model.specs.Allowed.{map_allowed, allowed}
 use Rattle.x86_64_model.specs.Arrivals.{Arrives, Asks}
-use Rattle.x86_64_model.specs.Call.{Call, MapTo, MapToWithTableFlags, IdentityMap, Unmap, UpdateFlags, SetFlags, TranslatePage, Translate, TranslateAddress, CleanUp, NotAllowed, Answered}
+use Rattle.x86_64_model.specs.Call.{Call, MapTo, MapToWithTableFlags, IdentityMap, Unmap, UpdateFlags, SetFlags, TranslatePage, Translate, TranslateAddress, CleanUp, Answered, parent_flags_of}
 use Rattle.x86_64_model.specs.Entry.{writable, user, address}
 use Rattle.x86_64_model.specs.Conserved.{IsFrame}
 use Rattle.x86_64_model.specs.Lists.{In}
@@ -18,8 +18,8 @@ use Rattle.x86_64_model.specs.PathMap.{PathMap}
 use Rattle.x86_64_model.specs.Position.{span, page_path}
 use Rattle.x86_64_model.specs.Refusal.{Answer, Done}
 use Rattle.x86_64_model.specs.Window.{IsValidFor}
-use Rattle.x86_64_model.specs.Laws.Steps.{RunMapsKeepWalks, RunMapsArrive, parent_flags_of, asked_of}
-use Rattle.x86_64_model.proofs.Lemmas.Machines.Effects.{map_may}
+use Rattle.x86_64_model.specs.Laws.Steps.{RunMapsKeepWalks, RunMapsArrive, asked_of}
+use Rattle.x86_64_model.proofs.Lemmas.Machines.Effects.{map_may, step_cases}
 use Rattle.x86_64_model.proofs.Lemmas.Machines.Flushes.{take_all}
 use Rattle.x86_64_model.proofs.Lemmas.Machines.Laws.{run_is_held}
 use Rattle.x86_64_model.proofs.Lemmas.Machines.States.{all_in}
@@ -44,16 +44,16 @@ arrives_same more x y same w is = (
 )
 
 -- the state after one call more
-pub next_state : (m : Machine) (s : State) (calls : List Call) (k : ℕ) (call : Call) → slice_get calls k ≡ Some call → state_after m s (take (suc k) calls) ≡ (step m (state_after m s (take k calls)) call).0
+pub next_state : (m : Machine) (s : State) (calls : List Call) (k : ℕ) (call : Call) → slice_get calls k ≡ Some call → state_after m s (take (suc k) calls) ≡ (step m (state_after m s (take k calls)) call).state
 next_state m s [] k call is = cc
-next_state m s (first ∷ calls) zero call is = let same : first ≡ call = cc in ap (λ c. (step m s c).0) same
-next_state m s (first ∷ calls) (suc k) call is = next_state m (step m s first).0 calls k call is
+next_state m s (first ∷ calls) zero call is = let same : first ≡ call = cc in ap (λ c. (step m s c).state) same
+next_state m s (first ∷ calls) (suc k) call is = next_state m (step m s first).state calls k call is
 
 module _ (m : Machine) (s : State) (V U : Words) (root more : ℕ) where
   abbrev Kept : (M : PathMap) → Type 0
   Kept M = IsValidFor m.levels m.window V root s.paths → IsValidFor m.levels m.window U root M → (p : ℕ) → Arrives more (page_walk m.levels V root p) (page_walk m.levels U root p)
 
-  done_keeps : (call : Call) → allowed m.levels m.window s.paths call ≡ true → parent_flags_of call ≡ Some more → Kept (do_call m s call).0.paths
+  done_keeps : (call : Call) → allowed m.levels m.window s.paths call ≡ true → parent_flags_of call ≡ Some more → Kept (do_call m s call).state.paths
   unfolding do_call
   done_keeps (MapTo q frame given) h is =
       let same : parent_part given ≡ more = cc in
@@ -76,11 +76,8 @@ module _ (m : Machine) (s : State) (V U : Words) (root more : ℕ) where
   done_keeps (TranslateAddress t) h is = cc
   done_keeps (CleanUp low high) h is = cc
 
-  pub step_keeps_walks : (call : Call) → parent_flags_of call ≡ Some more → Kept (step m s call).0.paths
-  step_keeps_walks call is = elim (allowed m.levels m.window s.paths call) as (λ b. allowed m.levels m.window s.paths call ≡ b → Kept (cond b (do_call m s call) (s, NotAllowed)).0.paths) [
-    | true ↦ λ h. done_keeps call h is
-    | false ↦ λ h before after p. arrives_same more _ _ (same_walks m V U root s.paths before after p)
-  ] refl
+  pub step_keeps_walks : (call : Call) → parent_flags_of call ≡ Some more → Kept (step m s call).state.paths
+  step_keeps_walks call is = step_cases m s call (λ after. Kept after.state.paths) (λ h. done_keeps call h is) (λ before after p. arrives_same more _ _ (same_walks m V U root s.paths before after p))
 
 pub run_maps_keep_walks : RunMapsKeepWalks
 run_maps_keep_walks m V U root s calls k more call there is before after =
@@ -116,8 +113,8 @@ module _ (m : Machine) (is : IsMachine m) (s : State) (V U : Words) (root level 
       → IsValidFor m.levels m.window U root (map_call m.levels s.paths s.pool (parent_part t.1.1) m.added_flags t.0 t.1.0 t.1.1).paths → Arrived)
       (sym same) map_arrives
 
-  done_arrives : (call : Call) → allowed m.levels m.window s.paths call ≡ true → asked_of m.levels call ≡ Some (q, (frame, given)) → (do_call m s call).1 ≡ Answered (Done frame)
-      → IsValidFor m.levels m.window V root s.paths → IsValidFor m.levels m.window U root (do_call m s call).0.paths → Arrived
+  done_arrives : (call : Call) → allowed m.levels m.window s.paths call ≡ true → asked_of m.levels call ≡ Some (q, (frame, given)) → (do_call m s call).reply ≡ Answered (Done frame)
+      → IsValidFor m.levels m.window V root s.paths → IsValidFor m.levels m.window U root (do_call m s call).state.paths → Arrived
   unfolding do_call
   done_arrives (MapTo r f g) h asked accepted = asked_arrives (r, (f, g)) (same_Some _ _ asked) h (answered accepted)
   done_arrives (IdentityMap n f g) h asked accepted = asked_arrives (path_at m.levels n f, (f, g)) (same_Some _ _ asked) (and_parts _ _ h).1 (answered accepted)
@@ -130,13 +127,10 @@ module _ (m : Machine) (is : IsMachine m) (s : State) (V U : Words) (root level 
   done_arrives (TranslateAddress t) h asked accepted = cc
   done_arrives (CleanUp low high) h asked accepted = cc
 
-  pub step_arrives : (call : Call) → asked_of m.levels call ≡ Some (q, (frame, given)) → (step m s call).1 ≡ Answered (Done frame)
-      → IsValidFor m.levels m.window V root s.paths → IsValidFor m.levels m.window U root (step m s call).0.paths → Arrived
-  step_arrives call asked = elim (allowed m.levels m.window s.paths call) as (λ b. allowed m.levels m.window s.paths call ≡ b → (cond b (do_call m s call) (s, NotAllowed)).1 ≡ Answered (Done frame)
-      → IsValidFor m.levels m.window V root s.paths → IsValidFor m.levels m.window U root (cond b (do_call m s call) (s, NotAllowed)).0.paths → Arrived) [
-        | true ↦ λ h. done_arrives call h asked
-        | false ↦ λ h accepted. cc
-      ] refl
+  pub step_arrives : (call : Call) → asked_of m.levels call ≡ Some (q, (frame, given)) → (step m s call).reply ≡ Answered (Done frame)
+      → IsValidFor m.levels m.window V root s.paths → IsValidFor m.levels m.window U root (step m s call).state.paths → Arrived
+  step_arrives call asked = step_cases m s call (λ after. after.reply ≡ Answered (Done frame) → IsValidFor m.levels m.window V root s.paths → IsValidFor m.levels m.window U root after.state.paths → Arrived)
+      (λ h. done_arrives call h asked) (λ accepted. cc)
 
 pub run_maps_arrive : RunMapsArrive
 run_maps_arrive m is T U root serves s calls all fits k level frame given q call there asked asks accepted after p within =

@@ -109,13 +109,13 @@ module _ (L : ℕ) (window : Option Window) (root : ℕ) (serves : ℕ → Bool)
       by (Some w) a = entry-cleaned L s.paths low high (w.index ∷ []) ∙ elim (is_removed L s.paths low high (w.index ∷ [])) as (λ b. cond b 0 (entry s.paths (w.index ∷ [])) ≡ 0) [ true ↦ refl | false ↦ a ]
 
   -- one step
-  pub step_sound : (added : ℕ) → IsParentFlags added → (give : List ℕ → ℕ → List ℕ) → IsGiving give → (call : Call) → IsCall L call → IsSound L window root serves (step (machine L window added give) s call).0
+  pub step_sound : (added : ℕ) → IsParentFlags added → (give : List ℕ → ℕ → List ℕ) → IsGiving give → (call : Call) → IsCall L call → IsSound L window root serves (step (machine L window added give) s call).state
   step_sound added adds give gives call is = step_ind L window added give root s sound.hierarchy (λ t items. IsSound L window root serves t)
       sound (λ q frame given more items page may. sound_map more added adds q frame given page may) (λ q w item c covered. sound_change q w c) (λ low high. sound_clean give gives low high) call is
 
   -- frees and tables' frames stay one set, each once
   pub step_conserves : (added : ℕ) → IsParentFlags added → (give : List ℕ → ℕ → List ℕ) → IsGiving give → (call : Call) → IsCall L call
-      → Conserves L root s.paths s.pool (step (machine L window added give) s call).0.paths (step (machine L window added give) s call).0.pool
+      → Conserves L root s.paths s.pool (step (machine L window added give) s call).state.paths (step (machine L window added give) s call).state.pool
   step_conserves added adds give gives call is = step_ind L window added give root s sound.hierarchy (λ t items. Conserves L root s.paths s.pool t.paths t.pool)
       (conserves_nothing L root s.paths s.pool)
       (λ q frame given more items page may. map_conserved L root more added may.marks adds q frame given page s.paths s.pool sound.hierarchy (all_in s.pool sound.frames))

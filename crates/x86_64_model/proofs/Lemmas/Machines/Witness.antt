@@ -136,15 +136,15 @@ good_self L (Some w) T root M N h own valid = (
 -- after one step there are valid words that hold the path map and that the pool fits, and frames that were neither free nor tables are as before
 pub step_witness : (L : ℕ) (window : Option Window) (T : Words) (root : ℕ) (serves : ℕ → Bool) (added : ℕ) → IsParentFlags added → (give : List ℕ → ℕ → List ℕ) → IsGiving give
     → (s : State) (call : Call) → IsCall L call → Fits L window T root s.paths serves s.pool
-    → (U : Words) × Fits L window U root (step (machine L window added give) s call).0.paths serves (step (machine L window added give) s call).0.pool × ((f : ℕ) → (IsOwn L root s.paths s.pool f → ⊥) → U f ≡ T f)
+    → (U : Words) × Fits L window U root (step (machine L window added give) s call).state.paths serves (step (machine L window added give) s call).state.pool × ((f : ℕ) → (IsOwn L root s.paths s.pool f → ⊥) → U f ≡ T f)
 step_witness L window T root serves added adds give gives s call is fits =
     let sound = sound_of_fits L window T root serves s fits in
     let after = step_sound L window root serves s sound added adds give gives call is in
     let same = step_conserves L window root serves s sound added adds give gives call is in
-    let N = (step (machine L window added give) s call).0.paths in
+    let N = (step (machine L window added give) s call).state.paths in
     let U = with_self L root N T after.hierarchy after.one_each.own_frames window in (
       U,
-      fits_of_sound L window U root serves (step (machine L window added give) s call).0 after (witness L root N T after.hierarchy after.one_each.own_frames window after.aside (good_self L window T root s.paths N after.hierarchy after.one_each.own_frames fits.valid))
+      fits_of_sound L window U root serves (step (machine L window added give) s call).state after (witness L root N T after.hierarchy after.one_each.own_frames window after.aside (good_self L window T root s.paths N after.hierarchy after.one_each.own_frames fits.valid))
           (λ f i. subst IsSome (sym (witness_else L root N T after.hierarchy after.one_each.own_frames window f (after.one_each.no_table f i))) (own_there L window T root serves s fits f ((same.same_set f).1 (inl i)))),
       λ f n. witness_else L root N T after.hierarchy after.one_each.own_frames window f (λ t. n ((same.same_set f).1 (inr t))),
     )

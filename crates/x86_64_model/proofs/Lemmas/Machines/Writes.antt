@@ -1,12 +1,13 @@
 -- Which word of which frame a call on one entry changes.
-use Rattle.std.proofs.Common.{◌≡◌, ◌≢◌, ◌⊎◌, inl, inr, ⊎_elim, ◌<◌, ◌≤◌, ℕ, ◌==◌, eq-eqb, true, false, cond, List, [], ◌∷◌, ◌++◌, length, get_or, bit_or, Some, None, Option, nat_lt, refl, sym, ap, ◌∙◌, subst}
+use Rattle.std.proofs.Common.{◌≡◌, ◌≢◌, ◌⊎◌, inl, inr, ⊎_elim, ◌<◌, ◌≤◌, ℕ, ◌==◌, eq-eqb, true, false, cond, List, [], ◌∷◌, ◌++◌, length, get_or, bit_or, Some, None, Option, nat_lt, refl, sym, ap, ◌∙◌, subst, ap₂}
 use Rattle.std.proofs.lemmas.Bool.{cases_lt, cases_eq}
 use Rattle.std.proofs.lemmas.List.{get_or_past}
-use Rattle.x86_64_model.specs.Entry.{used, huge, address, no_address}
+use Rattle.x86_64_model.specs.Entry.{used, address, no_address}
 use Rattle.x86_64_model.specs.Memory.{Words, word, word_in, set_word}
 use Rattle.x86_64_model.specs.PathMap.{PathMap, entry, put, table_of, table_at}
 use Rattle.x86_64_model.specs.Hierarchy.{entry_in, Holds, IsValid}
-use Rattle.x86_64_model.specs.Window.{entry_at, Window, IsValidFor, begins_with}
+use Rattle.x86_64_model.specs.Window.{entry_at, Window, IsValidFor, SelfEntry, begins_with, outside_window}
+use Rattle.x86_64_model.specs.Laws.Hierarchies.{MayBecome}
 use Rattle.x86_64_model.specs.Refusal.{Refusal, Refused, Done}
 use Rattle.x86_64_model.specs.PageRules.{AfterChange, unmap, update_flags, set_flags}
 use Rattle.x86_64_model.specs.MapRule.{leaf_entry}
@@ -46,6 +47,52 @@ within_words T f i words is u = ⊎_elim (λ l. l) (λ l. absurd (let t : false 
     past : length words ≤ i → cond (nat_lt i 512) (word_in (T f) i) 0 ≡ 0
     past l = ap (λ o. cond (nat_lt i 512) (word_in o i) 0) is ∙ elim (nat_lt i 512) as (λ b. cond b (get_or words i 0) 0 ≡ 0) [ true ↦ get_or_past words i 0 l | false ↦ refl ]
 
+-- ---- a word outside the window, whose entry may become another one
+
+module _ (window : Option Window) (T : Words) (root f i w : ℕ) (apart : (v : Window) → window ≡ Some v → f ≡ root → i ≢ v.index) where
+  -- the path map sees the word as it is
+  word_outside : word (outside_window window root T) f i ≡ word T f i
+  word_outside = by window apart
+    where
+      by : (o : Option Window) → ((v : Window) → o ≡ Some v → f ≡ root → i ≢ v.index) → word (outside_window o root T) f i ≡ word T f i
+      by None n = refl
+      by (Some v) n = ⊎_elim (λ r. word-set_index T root v.index 0 f i (n v refl r)) (λ r. word-set_frame T root v.index 0 f i r) (cases_eq f root)
+
+  -- and the self-entry stays
+  self_after : SelfEntry T root window → SelfEntry (set_word T f i w) root window
+  self_after = by window apart
+    where
+      by : (o : Option Window) → ((v : Window) → o ≡ Some v → f ≡ root → i ≢ v.index) → SelfEntry T root o → SelfEntry (set_word T f i w) root o
+      by None n self = tt
+      by (Some v) n self =
+          let same : word (set_word T f i w) root v.index ≡ word T root v.index = ⊎_elim (λ r. word-set_index T f i w root v.index (λ e. n v refl r (sym e))) (λ r. word-set_frame T f i w root v.index (λ e. r (sym e))) (cases_eq f root) in
+          record { is_word = self.is_word ∙ sym same; is_present = self.is_present; not_huge = self.not_huge; names_root = self.names_root }
+
+module _ (L : ℕ) (window : Option Window) (T : Words) (root : ℕ) (M : PathMap) (valid : IsValidFor L window T root M) (p : List ℕ) (i f : ℕ)
+    (leads : table_at L root M p ≡ Some f) (small : i < 512) (out : begins_with window (p ++ i ∷ []) ≡ false) where
+  -- outside the window the word is not the self-entry
+  not_self : (v : Window) → window ≡ Some v → f ≡ root → i ≢ v.index
+  not_self v is at same =
+      let top : p ≡ [] = valid.valid.own_frames p [] root (leads ∙ ap Some at) refl in
+      let t : (i == v.index) ≡ false = sym (ap₂ (λ w p. begins_with w (p ++ i ∷ [])) is top) ∙ out in
+      let u : (i == v.index) ≡ true = eq-eqb i v.index same in cc
+
+  -- it is the entry at its path
+  pub word_is_entry : word T f i ≡ entry M (p ++ i ∷ [])
+  word_is_entry = sym (word_outside window T root f i 0 not_self) ∙ sym (valid.valid.holds.entries p i ∙ ap (λ t. entry_in (outside_window window root T) t i) leads)
+
+  pub set_written : (w : ℕ) → used (entry M (p ++ i ∷ [])) ≡ true → MayBecome L (outside_window window root T) root M p i w → IsValidFor L window (set_word T f i w) root (put M (p ++ i ∷ []) w)
+  set_written w u may =
+      let U = outside_window window root T in
+      let there = some_is (U f) (valid.valid.holds.in_memory p f leads) in
+      let within = within_words U f i there.0 there.1 (ap used (word_outside window T root f i w not_self ∙ word_is_entry) ∙ u) in
+      record {
+        valid = subst (λ V. IsValid L V root (put M (p ++ i ∷ []) w)) (sym (outside_set window root T f i w not_self)) (valid_after L U root M p i w f there.0 valid.valid leads there.1 within small may);
+        self = self_after window T root f i w not_self valid.self;
+      }
+
+-- ---- what a call on one entry writes
+
 -- one word of one frame changes, and the words hold the path map with the entry changed
 pub record Written (L : ℕ) (window : Option Window) (T : Words) (root : ℕ) (M : PathMap) (q : List ℕ) (w : ℕ) : Type 0 where
   pub frame : ℕ
@@ -54,47 +101,22 @@ pub record Written (L : ℕ) (window : Option Window) (T : Words) (root : ℕ) (
   pub before : word T frame index ≡ entry M q
   pub after : IsValidFor L window (set_word T frame index w) root (put M q w)
 
-module _ (L : ℕ) (T : Words) (root : ℕ) (M : PathMap) (q : List ℕ) (w : ℕ) where
-  -- in words that hold the map as it is
-  changed : IsValid L T root M → used (entry M q) ≡ true → table_of L q w ≡ table_of L q (entry M q) → (3 < level_of L q → huge w ≡ false)
-      → (f i : ℕ) → IsWord L root M q f i → word T f i ≡ entry M q → IsValid L (set_word T f i w) root (put M q w)
-  changed valid u same low f i place before =
-      let there = some_is (T f) (valid.holds.in_memory place.above f place.leads) in
-      let e = place.path in
-      subst (λ r. IsValid L (set_word T f i w) root (put M r w)) (sym e)
-      (valid_after L T root M place.above i w f there.0 valid place.leads there.1 (within_words T f i there.0 there.1 (ap used before ∙ u)) place.small
-      (may_be_marked L T root M valid place.above i w (subst (λ r. table_of L r w ≡ table_of L r (entry M r)) e same ∙ sym (table_at_last L root M place.above i))
-      (λ up. low (subst (λ r. 3 < level_of L r) (sym e) up))))
-
--- what a call on one entry writes
 pub change_written : (L : ℕ) (window : Option Window) (T : Words) (root : ℕ) (M : PathMap) (q : List ℕ) (w : ℕ) → IsValidFor L window T root M → IsChange L window M q w → Written L window T root M q w
-change_written L None T root M q w valid c =
-    let at = word_of_used L T root M valid.valid.holds q c.is_used in
-    record { frame = at.0; index = at.1; place = at.2; before = at.3; after = record { valid = changed L T root M q w valid.valid c.is_used c.same_table c.low at.0 at.1 at.2 at.3; self = tt } }
-change_written L (Some v) T root M q w valid c =
-    let at = word_of_used L (set_word T root v.index 0) root M valid.valid.holds q c.is_used in
-    let apart : at.0 ≡ root → at.1 ≢ v.index = λ f i. not_self q at.0 at.1 at.2 f i c.outside in
-    let old : word (set_word T root v.index 0) at.0 at.1 ≡ word T at.0 at.1 = ⊎_elim (λ f. word-set_index T root v.index 0 at.0 at.1 (apart f)) (λ n. word-set_frame T root v.index 0 at.0 at.1 n) (cases_eq at.0 root) in
-    let new : IsValid L (set_word (set_word T root v.index 0) at.0 at.1 w) root (put M q w) = changed L (set_word T root v.index 0) root M q w valid.valid c.is_used c.same_table c.low at.0 at.1 at.2 at.3 in
-    let self_word : word (set_word T at.0 at.1 w) root v.index ≡ word T root v.index = ⊎_elim (λ f. word-set_index T at.0 at.1 w root v.index (λ i. apart f (sym i))) (λ n. word-set_frame T at.0 at.1 w root v.index (λ r. n (sym r))) (cases_eq at.0 root) in
+change_written L window T root M q w valid c =
+    let at = word_of_used L (outside_window window root T) root M valid.valid.holds q c.is_used in
+    let place : IsWord L root M q at.0 at.1 = at.2 in
+    let p = place.above in let i = at.1 in let e = place.path in
+    let out : begins_with window (p ++ i ∷ []) ≡ false = ap (begins_with window) (sym e) ∙ c.outside in
+    let may : MayBecome L (outside_window window root T) root M p i w = may_be_marked L (outside_window window root T) root M valid.valid p i w
+    (subst (λ r. table_of L r w ≡ table_of L r (entry M r)) e c.same_table ∙ sym (table_at_last L root M p i)) (λ up. c.low (subst (λ r. 3 < level_of L r) (sym e) up)) in
     record {
       frame = at.0;
-      index = at.1;
-      place = at.2;
-      before = sym old ∙ at.3;
-      after = record {
-        valid = subst (λ U. IsValid L U root (put M q w)) (sym (outside_set (Some v) root T at.0 at.1 w (λ x is f. let same : v ≡ x = cc in subst (λ y. at.1 ≢ y.index) same (apart f)))) new;
-        self = record { is_word = valid.self.is_word ∙ sym self_word; is_present = valid.self.is_present; not_huge = valid.self.not_huge; names_root = valid.self.names_root };
-      };
+      index = i;
+      place = place;
+      before = word_is_entry L window T root M valid p i at.0 place.leads place.small out ∙ ap (entry M) (sym e);
+      after = subst (λ r. IsValidFor L window (set_word T at.0 i w) root (put M r w)) (sym e)
+          (set_written L window T root M valid p i at.0 place.leads place.small out w (ap (λ r. used (entry M r)) (sym e) ∙ c.is_used) may);
     }
-  where
-    -- outside the window the word is not the self-entry
-    not_self : (q : List ℕ) (f i : ℕ) → IsWord L root M q f i → f ≡ root → i ≡ v.index → begins_with (Some v) q ≡ false → ⊥
-    not_self q f i place is at out =
-        let top : place.above ≡ [] = valid.valid.own_frames place.above [] root (place.leads ∙ ap Some is) refl in
-        let e : q ≡ i ∷ [] = place.path ∙ ap (λ p. p ++ i ∷ []) top in
-        let t : (i == v.index) ≡ false = sym (ap (begins_with (Some v)) e) ∙ out in
-        let u : (i == v.index) ≡ true = eq-eqb i v.index at in cc
 
 -- ---- the calls on one entry: a refusal changes nothing, an accepted call one word
 

@@ -18,7 +18,7 @@ index-number : (m p : ℕ) → index (suc m) p ≡ number m p % 512
 unfolding index
 index-number m p = ap (λ n. p / 2 ^ (12 + 9 * n) % 512) (let e : suc m - 1 ≡ m = omega arith in e)
 
-abbrev digits : (a : ℕ) → List ℕ → ℕ
+abbrev pub digits : (a : ℕ) → List ℕ → ℕ
 digits a q = fold (λ n i. n * 512 + i) a q
 
 abbrev Numbered : (q : List ℕ) (m a p : ℕ) → Type 0
