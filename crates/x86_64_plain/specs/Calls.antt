@@ -1,5 +1,8 @@
 -- The calls, replies and refusals that those of the plain program are.
-use Rattle.std.specs.Prelude.{Option, Some, None}
+use Rattle.std.specs.Prelude.{ℕ, List, Option, Some, None}
+use Rattle.x86_64_model.specs.PathMap.{PathMap}
+use Rattle.x86_64_model.specs.PageRules.{AfterChange}
+use Rattle.x86_64_model.specs.MapRule.{AfterMap}
 use Rattle.x86_64_model.specs.Refusal as refusal
 use Rattle.x86_64_model.specs.Translation as translation
 use Rattle.x86_64_model.specs.Call as call
@@ -28,6 +31,14 @@ refusals_of (Some why) = Some (refusal_of why)
 abbrev pub answer_of : Answer → refusal.Answer
 answer_of (Done frame) = refusal.Done frame
 answer_of (Refused why) = refusal.Refused (refusal_of why)
+
+-- the path map and the answer after a call on one entry
+abbrev pub changed : PathMap → Answer → AfterChange
+changed paths answer = record { paths = paths; answer = answer_of answer }
+
+-- the path map, the free frames and the answer after a map
+abbrev pub mapped : PathMap → (supply : List ℕ) → Answer → AfterMap
+mapped paths supply answer = record { paths = paths; supply = supply; answer = answer_of answer }
 
 abbrev pub translated_of : Translated → translation.Translated
 translated_of NotMapped = translation.NotMapped

@@ -1,5 +1,5 @@
 -- Front parts of a path by their lengths.
-use Rattle.std.specs.Prelude.{ℕ, List, map, take, find, Bool, cond, not, ◌||◌}
+use Rattle.std.specs.Prelude.{ℕ, List, map, take, find, Bool, cond, not, ◌&&◌, ◌||◌}
 use Rattle.x86_64_model.specs.Entry.{used, present, huge}
 use Rattle.x86_64_model.specs.Allowed.{none_absent}
 use Rattle.x86_64_model.specs.PathMap.{PathMap, entry}
@@ -11,6 +11,10 @@ fronts q lengths = map (λ n. take n q) lengths
 -- whether there is a used entry, or whether there is none
 abbrev pub is_wanted : PathMap → (wanted : Bool) → List ℕ → Bool
 is_wanted paths wanted p = cond wanted (used (entry paths p)) (not (used (entry paths p)))
+
+-- whether there is a used and huge entry
+abbrev pub has_huge_page : PathMap → List ℕ → Bool
+has_huge_page paths p = used (entry paths p) && huge (entry paths p)
 
 -- whether the first of the paths that is absent or huge is present, or there is none
 abbrev pub first_present : PathMap → List (List ℕ) → Bool

@@ -1,11 +1,11 @@
 -- The machine and the states that those of the plain program are.
 use Rattle.std.specs.Prelude.{ℕ, ◌+◌, ◌^◌, ◌<◌, List, ◌∷◌}
 use Rattle.x86_64_model.specs.Translation.{Translated, NotMapped, Mapped}
-use Rattle.x86_64_model.specs.CleanUp.{AfterCleanUp}
-use Rattle.x86_64_model.specs.Pool.{given_back}
-use Rattle.x86_64_model.specs.Call.{Reply, Cleaned}
-use Rattle.x86_64_model.specs.Machine.{Machine, State}
+use Rattle.x86_64_model.specs.Call.{Call}
+use Rattle.x86_64_model.specs.Machine.{Machine, State, AfterCall, do_call}
 use Rattle.x86_64_plain.specs.Windows.{window_of}
+use Rattle.x86_64_plain.specs.Calls.{reply_of}
+use Rattle.x86_64_plain.specs.declared.calls.PlainReply.{PlainReply}
 use Rattle.x86_64_plain.specs.declared.machine.PlainMachine.{PlainMachine}
 use Rattle.x86_64_plain.specs.declared.machine.PlainState.{PlainState}
 
@@ -19,9 +19,13 @@ machine_of m = record { levels = m.levels; window = window_of m.window; added_fl
 abbrev pub state_of : PlainState → State
 state_of s = record { paths = s.paths; pool = s.pool.items }
 
--- the state and the reply after a clean up
-abbrev pub after_clean_up : (pool : List ℕ) → AfterCleanUp → State × Reply
-after_clean_up pool a = (record { paths = a.paths; pool = given_back put_in_front pool a.back }, Cleaned)
+-- the state after a call, and the reply
+abbrev pub outcome : PlainState → PlainReply → AfterCall
+outcome state reply = record { state = state_of state; reply = reply_of reply }
+
+-- what comes of a call that is allowed
+abbrev pub allowed_outcome : PlainMachine → PlainState → Call → AfterCall
+allowed_outcome m state call = do_call (machine_of m) (state_of state) call
 
 -- the sum of the frame and the offset fits a word
 abbrev pub CanAdd : Translated → Type 0

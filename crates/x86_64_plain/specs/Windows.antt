@@ -1,6 +1,7 @@
--- The recursive index that a window of the plain program is.
-use Rattle.std.specs.Prelude.{Option, Some, None}
-use Rattle.x86_64_model.specs.Window.{Window}
+-- The recursive index that a window of the plain program is, and the entries that are read through it.
+use Rattle.std.specs.Prelude.{ℕ, List, Option, Some, None}
+use Rattle.x86_64_model.specs.PathMap.{PathMap}
+use Rattle.x86_64_model.specs.Window.{Window, entry_at}
 use Rattle.x86_64_plain.specs.declared.windows.PlainWindow.{PlainWindow}
 
 abbrev pub the_window : PlainWindow → Window
@@ -9,3 +10,7 @@ the_window w = record { index = w.index; self_entry = w.self_entry }
 abbrev pub window_of : Option PlainWindow → Option Window
 window_of None = None
 window_of (Some w) = Some (the_window w)
+
+-- the entry that is read at each path
+abbrev pub entry_read : Option PlainWindow → PathMap → List ℕ → ℕ
+entry_read window paths = entry_at (window_of window) paths

@@ -2,12 +2,11 @@
 ghost use Rattle.std.specs.Prelude.{◌≡◌, ◌≤◌, ℕ, IfOk};
 ghost use Rattle.x86_64_model.specs.Path.{parents};
 ghost use Rattle.x86_64_model.specs.Call.{IdentityMap, SetFlags};
-ghost use Rattle.x86_64_model.specs.Window.{entry_at as entry_at_of};
 ghost use Rattle.x86_64_model.specs.PageRules.{set_flags};
 ghost use Rattle.x86_64_model.specs.MapRule.{parent_part as parent_part_of};
 ghost use Rattle.x86_64_model.specs.Allowed.{allowed as allowed_of, refuses, both_or_none as both_or_none_of, parents_present as parents_present_of, map_allowed as map_allowed_of, set_flags_allowed as set_flags_allowed_of};
 ghost use Rattle.x86_64_plain.specs.Fronts.{first_present};
-ghost use Rattle.x86_64_plain.specs.Windows.{window_of};
+ghost use Rattle.x86_64_plain.specs.Windows.{window_of, entry_read};
 ghost use Rattle.x86_64_plain.specs.Calls.{call_of};
 
 use crate::calls::PlainCall;
@@ -75,7 +74,8 @@ fn map_to_allowed(
     page: &[u64],
     flags: u64,
 ) -> bool
-    ensures { result ≡ map_allowed_of levels (window_of window) paths.now page.now flags (parent_part_of flags) }
+    ensures { let parent_flags = parent_part_of flags in
+        result ≡ map_allowed_of levels (window_of window) paths.now page.now flags parent_flags }
 {
     map_allowed(levels, window, paths, page, flags, parent_part(flags))
 }
@@ -91,7 +91,8 @@ fn is_identity_map_allowed(
     flags: u64,
 ) -> Result<bool, AllocError>
     requires { levels ≤ 5 }
-    ensures { IfOk result (λ b. b ≡ allowed_of levels (window_of window) paths.now (IdentityMap level frame flags)) }
+    ensures { let call = IdentityMap level frame flags in
+        IfOk result (λ b. b ≡ allowed_of levels (window_of window) paths.now call) }
 {
     let page = path_at(alloc, levels, level, frame)?;
     Ok((frame < lower_half(levels)) & map_to_allowed(levels, window, paths, &page, flags))
@@ -106,7 +107,8 @@ fn set_flags_refuses(
     page: &[u64],
 ) -> bool
     requires { levels ≤ 5 }
-    ensures { (given : ℕ) → result ≡ refuses (set_flags levels (entry_at_of (window_of window) paths.now) paths.now level page.now given).answer }
+    ensures { let read = entry_read window paths.now in
+        (given : ℕ) → result ≡ refuses (set_flags levels read paths.now level page.now given).answer }
 {
     let path = front_at(levels, level, page);
     (level <= level_of(levels, page))
@@ -131,7 +133,8 @@ fn set_flags_allowed(
     flags: u64,
 ) -> bool
     requires { levels ≤ 5 }
-    ensures { result ≡ set_flags_allowed_of levels (entry_at_of (window_of window) paths.now) paths.now level page.now flags }
+    ensures { let read = entry_read window paths.now in
+        result ≡ set_flags_allowed_of levels read paths.now level page.now flags }
 {
     if level > 3 {
         return !is_huge(flags);

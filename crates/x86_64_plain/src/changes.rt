@@ -3,12 +3,11 @@ ghost use Rattle.std.specs.Prelude.{◌≡◌, ◌≤◌, ◌%◌, ◌==◌, IfO
 ghost use Rattle.x86_64_model.specs.Entry.{used, address as address_of};
 ghost use Rattle.x86_64_model.specs.Path.{span_size as span_size_of, front_at as front_at_of};
 ghost use Rattle.x86_64_model.specs.PathMap.{put};
-ghost use Rattle.x86_64_model.specs.Window.{entry_at as entry_at_of};
 ghost use Rattle.x86_64_model.specs.MapRule.{leaf_entry as leaf_entry_of};
 ghost use Rattle.x86_64_model.specs.Refusal.{Done, PageNotMapped, answer_unless, refused_if};
-ghost use Rattle.x86_64_model.specs.PageRules.{refused_or, unmap_refusal as unmap_refusal_of, update_refusal as update_refusal_of, translate_refusal as translate_refusal_of, unmap as unmap_of, update_flags as update_flags_of, translate_page as translate_page_of, set_flags as set_flags_of};
-ghost use Rattle.x86_64_plain.specs.Windows.{window_of};
-ghost use Rattle.x86_64_plain.specs.Calls.{refusals_of, answer_of};
+ghost use Rattle.x86_64_model.specs.PageRules.{AfterChange, refused_or, unmap_refusal as unmap_refusal_of, update_refusal as update_refusal_of, translate_refusal as translate_refusal_of, unmap as unmap_of, update_flags as update_flags_of, translate_page as translate_page_of, set_flags as set_flags_of};
+ghost use Rattle.x86_64_plain.specs.Windows.{entry_read};
+ghost use Rattle.x86_64_plain.specs.Calls.{refusals_of, answer_of, changed};
 
 use crate::calls::{Answer, Refusal};
 use crate::entries::PathEntries;
@@ -36,7 +35,8 @@ fn change(
     word: u64,
     frame: u64,
 ) -> Result<Answer, AllocError>
-    ensures { IfOk result (λ answer. record { paths = paths.new; answer = answer_of answer } ≡ refused_or paths.old (refusals_of refusal) (record { paths = put paths.old path.now word; answer = Done frame })) }
+    ensures { let next : AfterChange = record { paths = put paths.old path.now word; answer = Done frame } in
+        IfOk result (λ answer. changed paths.new answer ≡ refused_or paths.old (refusals_of refusal) next) }
 {
     match refusal {
         Some(why) => Ok(Answer::Refused(why)),
@@ -82,7 +82,8 @@ fn unmap_refusal(levels: usize, page: &[u64], word: u64) -> Option<Refusal>
     None
 }
 
-/// Unmaps a page. Its entry has to be present, huge exactly for 2MiB and 1GiB, with an address that is a multiple of the page's size.
+/// Unmaps a page. Its entry has to be present, huge exactly for 2MiB and 1GiB, with an address that is a
+/// multiple of the page's size.
 /// Fails only where memory is refused, and then says nothing of the entries.
 pub fn unmap(
     levels: usize,
@@ -91,7 +92,8 @@ pub fn unmap(
     page: &[u64],
 ) -> Result<Answer, AllocError>
     requires { levels ≤ 5 }
-    ensures { IfOk result (λ answer. record { paths = paths.new; answer = answer_of answer } ≡ unmap_of levels (entry_at_of (window_of window) paths.old) paths.old page.now) }
+    ensures { let after = unmap_of levels (entry_read window paths.old) paths.old page.now in
+        IfOk result (λ answer. changed paths.new answer ≡ after) }
 {
     let word = entry_at(window, paths, page);
     let refusal = first_stop(window, paths, page).or(unmap_refusal(levels, page, word));
@@ -118,7 +120,8 @@ pub fn update_flags(
     page: &[u64],
     flags: u64,
 ) -> Result<Answer, AllocError>
-    ensures { IfOk result (λ answer. record { paths = paths.new; answer = answer_of answer } ≡ update_flags_of levels (entry_at_of (window_of window) paths.old) paths.old page.now flags) }
+    ensures { let after = update_flags_of levels (entry_read window paths.old) paths.old page.now flags in
+        IfOk result (λ answer. changed paths.new answer ≡ after) }
 {
     let word = entry_at(window, paths, page);
     let frame = address(word);
@@ -146,7 +149,8 @@ fn translate_refusal(levels: usize, page: &[u64], word: u64) -> Option<Refusal>
     None
 }
 
-/// Names the frame of a page. Its entry has to be used, and for 2MiB and 1GiB huge with an address that is a multiple of the page's size.
+/// Names the frame of a page. Its entry has to be used, and for 2MiB and 1GiB huge with an address that is a
+/// multiple of the page's size.
 pub fn translate_page(
     levels: usize,
     window: Option<PlainWindow>,
@@ -154,7 +158,7 @@ pub fn translate_page(
     page: &[u64],
 ) -> Answer
     requires { levels ≤ 5 }
-    ensures { answer_of result ≡ translate_page_of levels (entry_at_of (window_of window) paths.now) page.now }
+    ensures { answer_of result ≡ translate_page_of levels (entry_read window paths.now) page.now }
 {
     let word = entry_at(window, paths, page);
     let refusal = first_stop(window, paths, page).or(translate_refusal(levels, page, word));
@@ -191,7 +195,8 @@ fn unused_refusal(word: u64) -> Option<Refusal>
     }
 }
 
-/// Sets the flags of the entry of a level on a page's path. The level has to be above the page's own, and the entry has to be used.
+/// Sets the flags of the entry of a level on a page's path. The level has to be above the page's own, and the
+/// entry has to be used.
 /// Fails only where memory is refused, and then says nothing of the entries.
 pub fn set_flags(
     levels: usize,
@@ -202,7 +207,8 @@ pub fn set_flags(
     flags: u64,
 ) -> Result<Answer, AllocError>
     requires { levels ≤ 5 }
-    ensures { IfOk result (λ answer. record { paths = paths.new; answer = answer_of answer } ≡ set_flags_of levels (entry_at_of (window_of window) paths.old) paths.old level page.now flags) }
+    ensures { let after = set_flags_of levels (entry_read window paths.old) paths.old level page.now flags in
+        IfOk result (λ answer. changed paths.new answer ≡ after) }
 {
     if level <= level_of(levels, page) {
         return Ok(Answer::Refused(Refusal::ParentEntryHugePage));

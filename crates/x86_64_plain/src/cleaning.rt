@@ -1,10 +1,10 @@
 //! Clean up: which empty tables go back, and in which order.
-ghost use Rattle.std.specs.Prelude.{◌≡◌, ◌≤◌, ◌||◌, ◌+◌, ◌*◌, ◌^◌, ◌++◌, ◌∷◌, [], OnOk, IfOk, MatchOption, fold, not, filter};
+ghost use Rattle.std.specs.Prelude.{◌≡◌, ◌≤◌, ◌+◌, ◌*◌, ◌++◌, ◌∷◌, [], OnOk, IfOk, fold, not, filter};
 ghost use Rattle.std.specs.List.{list_all};
 ghost use Rattle.std.specs.FinMap.{keys, retain_keys};
 ghost use Rattle.x86_64_model.specs.Path.{parents, paths_below, is_below as is_below_of, span_start as span_start_of};
 ghost use Rattle.x86_64_plain.specs.PathEntries.{pairs};
-ghost use Rattle.x86_64_plain.specs.Cleaning.{frames, stays};
+ghost use Rattle.x86_64_plain.specs.Cleaning.{FitsOrNone, in_range_if_below, frames, stays, cleaned};
 ghost use Rattle.x86_64_model.specs.CleanUp.{meets as meets_of, in_range as in_range_of, is_removed as is_removed_of, clean_up as clean_up_of};
 
 use crate::entries::{PathEntries, PathEntry};
@@ -12,10 +12,11 @@ use crate::positions::span_size;
 use crate::words::{address, is_huge, is_present};
 use std::alloc::{AllocError, Global};
 
-/// Gives the number that the indices of a path write in base 512 behind the digits so far, if it is below 2^64.
+/// Gives the number that the indices of a path write in base 512 behind the digits so far, if it is below
+/// 2^64.
 #[tactic(auto, using(crate::proofs::CleanUps::number_past_product, crate::proofs::CleanUps::number_past_sum))]
 fn number(so_far: u64, path: &[u64]) -> Option<u64>
-    ensures { MatchOption result (2 ^ 64 ≤ fold (λ n i. n * 512 + i) so_far path.now) (λ n. n ≡ fold (λ n i. n * 512 + i) so_far path.now) }
+    ensures { FitsOrNone result (fold (λ n i. n * 512 + i) so_far path.now) }
 {
     match path {
         [] => Some(so_far),
@@ -32,7 +33,7 @@ fn number(so_far: u64, path: &[u64]) -> Option<u64>
 /// Gives the first position of a path's span, if it is below 2^64.
 fn span_start(levels: usize, path: &[u64]) -> Option<u64>
     requires { levels ≤ 5 }
-    ensures { MatchOption result (2 ^ 64 ≤ span_start_of levels path.now) (λ n. n ≡ span_start_of levels path.now) }
+    ensures { FitsOrNone result (span_start_of levels path.now) }
 {
     match number(0, path) {
         None => None,
@@ -98,7 +99,8 @@ fn items_in_range(
     items: &[PathEntry],
 ) -> bool
     requires { levels ≤ 5 }
-    ensures { result ≡ list_all (λ item. not (is_below_of path.now item.path.items) || in_range_of levels paths.now low high item.path.items) items.now }
+    ensures { let holds = in_range_if_below levels paths.now low high path.now in
+        result ≡ list_all (λ item. holds item.path.items) items.now }
 {
     items.iter().all(|item| !is_below(path, &item.path)
         | in_range(levels, paths, low, high, &item.path))
@@ -107,12 +109,13 @@ fn items_in_range(
 /// Tells whether each used entry below a path is a present table entry whose span meets the range.
 fn all_below_in_range(levels: usize, paths: &PathEntries, low: u64, high: u64, path: &[u64]) -> bool
     requires { levels ≤ 5 }
-    ensures { result ≡ list_all (λ p. not (is_below_of path.now p) || in_range_of levels paths.now low high p) (keys paths.now) }
+    ensures { result ≡ list_all (in_range_if_below levels paths.now low high path.now) (keys paths.now) }
 {
     items_in_range(levels, paths, low, high, path, &paths.items)
 }
 
-/// Tells whether a path and all its parents are present table entries whose spans meet the range, and so is every used entry below it.
+/// Tells whether a path and all its parents are present table entries whose spans meet the range, and so is
+/// every used entry below it.
 #[tactic(auto, unfolding(x86_64_model::specs::CleanUp::is_removed))]
 pub fn is_removed(levels: usize, paths: &PathEntries, low: u64, high: u64, path: &[u64]) -> bool
     requires { levels ≤ 5 }
@@ -142,7 +145,8 @@ fn add_frame(
     back: &mut Vec<u64>,
 ) -> Result<(), AllocError>
     requires { levels ≤ 5 }
-    ensures { OnOk result (back.new.items ≡ back.old.items ++ frames levels paths.now low high (path.now ∷ [])) }
+    ensures { let added = frames levels paths.now low high (path.now ∷ []) in
+        OnOk result (back.new.items ≡ back.old.items ++ added) }
 {
     if is_removed(levels, paths, low, high, path) {
         back.push(address(paths.entry(path)))?;
@@ -150,7 +154,8 @@ fn add_frame(
     Ok(())
 }
 
-/// Adds the frames of the removed tables of up to so many more indices below a path. Below a path that isn't in the range nothing is removed.
+/// Adds the frames of the removed tables of up to so many more indices below a path. Below a path that isn't
+/// in the range nothing is removed.
 fn add_frames(
     alloc: Global,
     levels: usize,
@@ -162,7 +167,8 @@ fn add_frames(
     back: &mut Vec<u64>,
 ) -> Result<(), AllocError>
     requires { levels ≤ 5 }
-    ensures { OnOk result (back.new.items ≡ back.old.items ++ frames levels paths.now low high (paths_below depth path.now)) }
+    ensures { let added = frames levels paths.now low high (paths_below depth path.now) in
+        OnOk result (back.new.items ≡ back.old.items ++ added) }
 {
     if depth == 0 {
         return Ok(());
@@ -188,7 +194,8 @@ fn add_left(
     left: &mut Vec<PathEntry>,
 ) -> Result<(), AllocError>
     requires { levels ≤ 5 }
-    ensures { OnOk result (pairs left.new.items ≡ pairs left.old.items ++ pairs (filter (stays levels paths.now low high) (item.now ∷ []))) }
+    ensures { let added = filter (stays levels paths.now low high) (item.now ∷ []) in
+        OnOk result (pairs left.new.items ≡ pairs left.old.items ++ pairs added) }
 {
     if !is_removed(levels, paths, low, high, &item.path) {
         let path = Vec::from_slice(alloc, &item.path)?;
@@ -209,7 +216,8 @@ fn left_entries(
     high: u64,
 ) -> Result<PathEntries, AllocError>
     requires { levels ≤ 5 }
-    ensures { IfOk result (λ left. left ≡ retain_keys paths.now (λ q. not (is_removed_of levels paths.now low high q))) }
+    ensures { let removed = is_removed_of levels paths.now low high in
+        IfOk result (λ left. left ≡ retain_keys paths.now (λ q. not (removed q))) }
 {
     let mut left = Vec::new(alloc);
     for item in &paths.items {
@@ -218,7 +226,8 @@ fn left_entries(
     Ok(PathEntries { items: left })
 }
 
-/// Makes the removed paths absent, and gives the frames of their tables: a path before its front parts, else in order of the first index that differs.
+/// Makes the removed paths absent, and gives the frames of their tables: a path before its front parts, else
+/// in order of the first index that differs.
 /// Fails only where memory is refused, and then says nothing of the entries.
 #[tactic(auto, unfolding(x86_64_model::specs::CleanUp::clean_up))]
 pub fn clean_up(
@@ -229,7 +238,7 @@ pub fn clean_up(
     high: u64,
 ) -> Result<Vec<u64>, AllocError>
     requires { levels ≤ 5 }
-    ensures { IfOk result (λ back. record { paths = paths.new; back = back.items } ≡ clean_up_of levels paths.old low high) }
+    ensures { IfOk result (λ back. cleaned paths.new back.items ≡ clean_up_of levels paths.old low high) }
 {
     let mut back = Vec::new(alloc);
     let depth = levels.saturating_sub(1);

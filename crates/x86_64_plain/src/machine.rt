@@ -1,17 +1,13 @@
 //! The machine's step.
 ghost use Rattle.std.specs.Prelude.{◌≡◌, ◌≤◌, OnOk, IfOk};
-ghost use Rattle.x86_64_model.specs.Path.{path_at as path_at_of};
-ghost use Rattle.x86_64_model.specs.Window.{entry_at};
-ghost use Rattle.x86_64_model.specs.Call.{Answered, Address};
+ghost use Rattle.x86_64_model.specs.Call.{MapToWithTableFlags, IdentityMap, Unmap, UpdateFlags, SetFlags, CleanUp, Answered, Address};
 ghost use Rattle.x86_64_model.specs.Pool.{given_back};
-ghost use Rattle.x86_64_model.specs.MapRule.{map_call as map_call_of, parent_part as parent_part_of};
-ghost use Rattle.x86_64_model.specs.PageRules.{unmap as unmap_of, update_flags as update_flags_of, set_flags as set_flags_of, translate_page as translate_page_of};
+ghost use Rattle.x86_64_model.specs.PageRules.{translate_page as translate_page_of};
 ghost use Rattle.x86_64_model.specs.Translation.{translate as translate_of, address_of as address_of_translated};
-ghost use Rattle.x86_64_model.specs.CleanUp.{clean_up as clean_up_of};
-ghost use Rattle.x86_64_model.specs.Machine.{after_map, after_change, do_call as do_call_of, step as step_of};
-ghost use Rattle.x86_64_plain.specs.Windows.{window_of};
+ghost use Rattle.x86_64_model.specs.Machine.{step as step_of};
+ghost use Rattle.x86_64_plain.specs.Windows.{entry_read};
 ghost use Rattle.x86_64_plain.specs.Calls.{call_of, reply_of, translated_of};
-ghost use Rattle.x86_64_plain.specs.Machine.{CanAdd, after_clean_up, machine_of, state_of, put_in_front};
+ghost use Rattle.x86_64_plain.specs.Machine.{CanAdd, machine_of, state_of, put_in_front, outcome, allowed_outcome};
 
 use crate::allowing::{is_allowed, parent_part};
 use crate::calls::{PlainCall, PlainReply, Translated};
@@ -24,7 +20,8 @@ use crate::translations::translate;
 use crate::windows::PlainWindow;
 use std::alloc::{AllocError, Global};
 
-/// What no call changes: the number of levels, the recursive index where there is one, and the flags that a new table entry gets beside the parent flags.
+/// What no call changes: the number of levels, the recursive index where there is one, and the flags that a
+/// new table entry gets beside the parent flags.
 /// A frame that comes back is put in front of the pool.
 #[derive(Clone, Copy, Debug, PartialEq, Eq)]
 pub struct PlainMachine {
@@ -73,13 +70,15 @@ impl PlainMachine {
         position: u64,
     ) -> Result<Translated, AllocError>
         requires { self.now.levels ≤ 5 }
-        ensures meaning { IfOk result (λ t. translated_of t ≡ translate_of self.now.levels (entry_at (window_of self.now.window) paths.now) position) }
+        ensures meaning { let read = entry_read self.now.window paths.now in
+            IfOk result (λ t. translated_of t ≡ translate_of self.now.levels read position) }
         ensures can_add { IfOk result (λ t. CanAdd (translated_of t)) }
     {
         translate(alloc, self.window, paths, self.levels, position)
     }
 
     /// Maps a page.
+    #[tactic(auto, unfolding(x86_64_model::specs::Machine::do_call))]
     fn map(
         &self,
         state: &mut PlainState,
@@ -88,7 +87,8 @@ impl PlainMachine {
         flags: u64,
         parent_flags: u64,
     ) -> Result<PlainReply, AllocError>
-        ensures { IfOk result (λ reply. (state_of state.new, reply_of reply) ≡ after_map (map_call_of self.now.levels state.old.paths state.old.pool.items parent_flags self.now.added_flags page.now frame flags)) }
+        ensures { let call = MapToWithTableFlags page.now frame flags parent_flags in
+            IfOk result (λ reply. outcome state.new reply ≡ allowed_outcome self.now state.old call) }
     {
         let answer = map_call(
             self.levels,
@@ -104,6 +104,7 @@ impl PlainMachine {
     }
 
     /// Makes the page of a level at the frame's own address, and maps it.
+    #[tactic(auto, unfolding(x86_64_model::specs::Machine::do_call))]
     fn map_identity(
         &self,
         state: &mut PlainState,
@@ -112,7 +113,8 @@ impl PlainMachine {
         flags: u64,
     ) -> Result<PlainReply, AllocError>
         requires { self.now.levels ≤ 5 }
-        ensures { IfOk result (λ reply. (state_of state.new, reply_of reply) ≡ after_map (map_call_of self.now.levels state.old.paths state.old.pool.items (parent_part_of flags) self.now.added_flags (path_at_of self.now.levels level frame) frame flags)) }
+        ensures { let call = IdentityMap level frame flags in
+            IfOk result (λ reply. outcome state.new reply ≡ allowed_outcome self.now state.old call) }
     {
         let alloc = *state.pool.allocator();
         let page = path_at(alloc, self.levels, level, frame)?;
@@ -120,28 +122,33 @@ impl PlainMachine {
     }
 
     /// Unmaps a page.
+    #[tactic(auto, unfolding(x86_64_model::specs::Machine::do_call))]
     fn unmap(&self, state: &mut PlainState, page: &[u64]) -> Result<PlainReply, AllocError>
         requires { self.now.levels ≤ 5 }
-        ensures { IfOk result (λ reply. (state_of state.new, reply_of reply) ≡ after_change state.old.pool.items (unmap_of self.now.levels (entry_at (window_of self.now.window) state.old.paths) state.old.paths page.now)) }
+        ensures { let call = Unmap page.now in
+            IfOk result (λ reply. outcome state.new reply ≡ allowed_outcome self.now state.old call) }
     {
         let answer = unmap(self.levels, self.window, &mut state.paths, page)?;
         Ok(PlainReply::Answered(answer))
     }
 
     /// Sets the flags of a page.
+    #[tactic(auto, unfolding(x86_64_model::specs::Machine::do_call))]
     fn update_flags(
         &self,
         state: &mut PlainState,
         page: &[u64],
         flags: u64,
     ) -> Result<PlainReply, AllocError>
-        ensures { IfOk result (λ reply. (state_of state.new, reply_of reply) ≡ after_change state.old.pool.items (update_flags_of self.now.levels (entry_at (window_of self.now.window) state.old.paths) state.old.paths page.now flags)) }
+        ensures { let call = UpdateFlags page.now flags in
+            IfOk result (λ reply. outcome state.new reply ≡ allowed_outcome self.now state.old call) }
     {
         let answer = update_flags(self.levels, self.window, &mut state.paths, page, flags)?;
         Ok(PlainReply::Answered(answer))
     }
 
     /// Sets the flags of the entry of a level on a page's path.
+    #[tactic(auto, unfolding(x86_64_model::specs::Machine::do_call))]
     fn set_flags(
         &self,
         state: &mut PlainState,
@@ -150,7 +157,8 @@ impl PlainMachine {
         flags: u64,
     ) -> Result<PlainReply, AllocError>
         requires { self.now.levels ≤ 5 }
-        ensures { IfOk result (λ reply. (state_of state.new, reply_of reply) ≡ after_change state.old.pool.items (set_flags_of self.now.levels (entry_at (window_of self.now.window) state.old.paths) state.old.paths level page.now flags)) }
+        ensures { let call = SetFlags level page.now flags in
+            IfOk result (λ reply. outcome state.new reply ≡ allowed_outcome self.now state.old call) }
     {
         let answer = set_flags(
             self.levels,
@@ -166,7 +174,8 @@ impl PlainMachine {
     /// Says which frame the entry of a page names, or why none.
     fn translate_page(&self, paths: &PathEntries, page: &[u64]) -> PlainReply
         requires { self.now.levels ≤ 5 }
-        ensures { reply_of result ≡ Answered (translate_page_of self.now.levels (entry_at (window_of self.now.window) paths.now) page.now) }
+        ensures { let read = entry_read self.now.window paths.now in
+            reply_of result ≡ Answered (translate_page_of self.now.levels read page.now) }
     {
         PlainReply::Answered(translate_page(self.levels, self.window, paths, page))
     }
@@ -179,13 +188,16 @@ impl PlainMachine {
         position: u64,
     ) -> Result<PlainReply, AllocError>
         requires { self.now.levels ≤ 5 }
-        ensures { IfOk result (λ reply. reply_of reply ≡ Address (address_of_translated (translate_of self.now.levels (entry_at (window_of self.now.window) paths.now) position))) }
+        ensures { let read = entry_read self.now.window paths.now in
+            let address = address_of_translated (translate_of self.now.levels read position) in
+            IfOk result (λ reply. reply_of reply ≡ Address address) }
     {
         let translated = self.translate(alloc, paths, position)?;
         Ok(PlainReply::Address(address_of(translated)))
     }
 
     /// Gives back the empty tables of the positions from low to high.
+    #[tactic(auto, unfolding(x86_64_model::specs::Machine::do_call))]
     fn clean_up(
         &self,
         state: &mut PlainState,
@@ -193,7 +205,8 @@ impl PlainMachine {
         high: u64,
     ) -> Result<PlainReply, AllocError>
         requires { self.now.levels ≤ 5 }
-        ensures { IfOk result (λ reply. (state_of state.new, reply_of reply) ≡ after_clean_up state.old.pool.items (clean_up_of self.now.levels state.old.paths low high)) }
+        ensures { let call = CleanUp low high in
+            IfOk result (λ reply. outcome state.new reply ≡ allowed_outcome self.now state.old call) }
     {
         let alloc = *state.pool.allocator();
         let back = clean_up(alloc, self.levels, &mut state.paths, low, high)?;
@@ -205,7 +218,8 @@ impl PlainMachine {
     #[tactic(auto, unfolding(x86_64_model::specs::Machine::do_call))]
     fn do_call(&self, state: &mut PlainState, call: &PlainCall) -> Result<PlainReply, AllocError>
         requires { self.now.levels ≤ 5 }
-        ensures { IfOk result (λ reply. (state_of state.new, reply_of reply) ≡ do_call_of (machine_of self.now) (state_of state.old) (call_of call.now)) }
+        ensures { let outcome_of = allowed_outcome self.now state.old in
+            IfOk result (λ reply. outcome state.new reply ≡ outcome_of (call_of call.now)) }
     {
         match call {
             PlainCall::MapTo { page, frame, flags } => {
@@ -245,7 +259,8 @@ impl PlainMachine {
     /// Fails only where memory is refused, and then says nothing of the state.
     pub fn step(&self, state: &mut PlainState, call: &PlainCall) -> Result<PlainReply, AllocError>
         requires { self.now.levels ≤ 5 }
-        ensures { IfOk result (λ reply. (state_of state.new, reply_of reply) ≡ step_of (machine_of self.now) (state_of state.old) (call_of call.now)) }
+        ensures { let expected = step_of (machine_of self.now) (state_of state.old) (call_of call.now) in
+            IfOk result (λ reply. outcome state.new reply ≡ expected) }
     {
         let alloc = *state.pool.allocator();
         if is_allowed(alloc, self.levels, self.window, &state.paths, call)? {

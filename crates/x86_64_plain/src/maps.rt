@@ -1,12 +1,10 @@
 //! The calls that map a page.
-ghost use Rattle.std.specs.Prelude.{◌≡◌, ◌&&◌, OnOk, IfOk, filter, drop};
+ghost use Rattle.std.specs.Prelude.{◌≡◌, OnOk, IfOk, filter, drop};
 ghost use Rattle.std.specs.List.{list_any};
-ghost use Rattle.x86_64_model.specs.Entry.{used as is_used_of, huge};
 ghost use Rattle.x86_64_model.specs.Path.{parents};
-ghost use Rattle.x86_64_model.specs.PathMap.{entry};
 ghost use Rattle.x86_64_model.specs.MapRule.{with_flags, with_tables, map_call as map_call_of};
-ghost use Rattle.x86_64_plain.specs.Calls.{answer_of};
-ghost use Rattle.x86_64_plain.specs.Fronts.{fronts, is_wanted};
+ghost use Rattle.x86_64_plain.specs.Calls.{mapped};
+ghost use Rattle.x86_64_plain.specs.Fronts.{fronts, is_wanted, has_huge_page};
 
 use crate::calls::{Answer, Refusal};
 use crate::changes::{front, leaf_entry};
@@ -21,7 +19,8 @@ fn parents_where(
     path: &[u64],
     used: bool,
 ) -> Result<Vec<usize>, AllocError>
-    ensures { IfOk result (λ lengths. fronts path.now lengths.items ≡ filter (is_wanted paths.now used) (parents path.now)) }
+    ensures { let found = filter (is_wanted paths.now used) (parents path.now) in
+        IfOk result (λ lengths. fronts path.now lengths.items ≡ found) }
 {
     let mut lengths = Vec::new(alloc);
     for length in 1..path.len() {
@@ -34,7 +33,7 @@ fn parents_where(
 
 /// Tells whether a parent of a path is used and huge.
 fn has_huge_parent(paths: &PathEntries, path: &[u64]) -> bool
-    ensures { result ≡ list_any (λ p. is_used_of (entry paths.now p) && huge (entry paths.now p)) (parents path.now) }
+    ensures { result ≡ list_any (has_huge_page paths.now) (parents path.now) }
 {
     for length in 1..path.len() {
         if is_used_and_huge(paths.entry(&path[..length])) {
@@ -64,7 +63,8 @@ fn add_flags(
     }
 }
 
-/// Makes new tables at the fronts of a path of these lengths, in the frames in order, as far as there are frames.
+/// Makes new tables at the fronts of a path of these lengths, in the frames in order, as far as there are
+/// frames.
 fn make_tables(
     paths: &mut PathEntries,
     flags: u64,
@@ -105,7 +105,8 @@ pub fn map_call(
     frame: u64,
     flags: u64,
 ) -> Result<Answer, AllocError>
-    ensures { IfOk result (λ answer. record { paths = paths.new; supply = pool.new.items; answer = answer_of answer } ≡ map_call_of levels paths.old pool.old.items parent_flags added_flags page.now frame flags) }
+    ensures { let before = map_call_of levels paths.old pool.old.items parent_flags added_flags in
+        IfOk result (λ answer. mapped paths.new pool.new.items answer ≡ before page.now frame flags) }
 {
     let alloc = *pool.allocator();
     let used = parents_where(alloc, paths, page, true)?;

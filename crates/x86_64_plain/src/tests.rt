@@ -36,7 +36,7 @@ fn state_of(alloc: Global, pool: &[u64]) -> Result<PlainState, AllocError> {
 }
 
 /// A call of a table's row, with a page by the indices of its path.
-#[derive(Clone, Copy, Debug)]
+#[derive(Clone, Copy)]
 enum Turn<'a> {
     MapTo(&'a [u64], u64, u64),
     MapToWithTableFlags(&'a [u64], u64, u64, u64),
@@ -144,9 +144,13 @@ fn check_rows(
 ) -> Result<(), Fail>
     requires { machine.now.levels ≤ 5 }
 {
-    for (turn, reply) in rows {
+    for (number, (turn, reply)) in rows.iter().enumerate() {
         let call = call_of(alloc, *turn)?;
-        assert_eq!(rt; machine.step(state, &call)?, *reply, "{name}: {turn:?}");
+        assert_eq!(rt;
+            machine.step(state, &call)?,
+            *reply,
+            "{name}: call {number}"
+        );
     }
     Ok(())
 }
@@ -176,11 +180,14 @@ fn many_calls(rt: HostRuntime) -> Result<(), Fail> {
     for turn in 0..12u64 {
         let frame = 0x100_0000 + turn * 0x1000;
         let page = [turn % 4, turn % 3, turn % 2, turn];
-        let call = call_of(alloc, Turn::MapTo(&page, frame, 3))?;
-        let mapped = PlainReply::Answered(Answer::Done(frame));
-        assert_eq!(rt; FOUR_LEVELS.step(&mut state, &call)?, mapped);
-        let call = PlainCall::CleanUp { low: 0, high: LAST };
-        assert_eq!(rt; FOUR_LEVELS.step(&mut state, &call)?, PlainReply::Cleaned);
+        let rows = [
+            (
+                Turn::MapTo(&page, frame, 3),
+                PlainReply::Answered(Answer::Done(frame)),
+            ),
+            (Turn::CleanUp(0, LAST), PlainReply::Cleaned),
+        ];
+        check_rows(&rt, alloc, &FOUR_LEVELS, &mut state, "many calls", &rows)?;
     }
     assert_eq!(rt; state.pool.len(), 39 - 4 - 12 - 12);
     Ok(())

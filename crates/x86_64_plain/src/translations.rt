@@ -1,10 +1,9 @@
 //! Where positions lead.
 ghost use Rattle.std.specs.Prelude.{◌≡◌, ◌≤◌, ◌%◌, ◌++◌, ◌∷◌, OnOk, IfOk, []};
-ghost use Rattle.x86_64_model.specs.Window.{entry_at as entry_at_of};
 ghost use Rattle.x86_64_model.specs.PageWalk.{page_start as page_start_of};
 ghost use Rattle.x86_64_model.specs.Position.{span as span_of, index as index_of};
 ghost use Rattle.x86_64_model.specs.Translation.{Mapped, translate_on as translate_on_of, translate as translate_of};
-ghost use Rattle.x86_64_plain.specs.Windows.{window_of};
+ghost use Rattle.x86_64_plain.specs.Windows.{entry_read};
 ghost use Rattle.x86_64_plain.specs.Calls.{translated_of};
 
 use crate::calls::Translated;
@@ -47,7 +46,8 @@ fn next_entry(
 ) -> Result<u64, AllocError>
     requires { level ≤ 6 }
     ensures path { OnOk result (path.new.items ≡ path.old.items ++ index_of level position ∷ []) }
-    ensures word { IfOk result (λ word. word ≡ entry_at_of (window_of window) paths.now (path.old.items ++ index_of level position ∷ [])) }
+    ensures word { let longer = path.old.items ++ index_of level position ∷ [] in
+        IfOk result (λ word. word ≡ entry_read window paths.now longer) }
 {
     path.push(index(level, position))?;
     Ok(entry_at(window, paths, path))
@@ -62,7 +62,8 @@ fn translate_on(
     path: &mut Vec<u64>,
 ) -> Result<Translated, AllocError>
     requires { level ≤ 5 }
-    ensures { IfOk result (λ t. translated_of t ≡ translate_on_of (entry_at_of (window_of window) paths.now) position level path.old.items) }
+    ensures { let read = entry_read window paths.now in
+        IfOk result (λ t. translated_of t ≡ translate_on_of read position level path.old.items) }
 {
     if level == 0 {
         return Ok(Translated::NotMapped);
@@ -93,7 +94,8 @@ pub fn translate(
     position: u64,
 ) -> Result<Translated, AllocError>
     requires { levels ≤ 5 }
-    ensures { IfOk result (λ t. translated_of t ≡ translate_of levels (entry_at_of (window_of window) paths.now) position) }
+    ensures { let read = entry_read window paths.now in
+        IfOk result (λ t. translated_of t ≡ translate_of levels read position) }
 {
     let mut path = Vec::new(alloc);
     translate_on(window, paths, position, levels, &mut path)

@@ -1,8 +1,8 @@
 //! The recursive index, and the entries that are read through it.
 ghost use Rattle.std.specs.Prelude.{◌≡◌};
-ghost use Rattle.x86_64_model.specs.Window.{begins_with as begins_with_of, windowed as windowed_of, entry_at as entry_at_of};
+ghost use Rattle.x86_64_model.specs.Window.{begins_with as begins_with_of, windowed as windowed_of};
 ghost use Rattle.x86_64_model.specs.Refusal.{first_stop as first_stop_of};
-ghost use Rattle.x86_64_plain.specs.Windows.{window_of, the_window};
+ghost use Rattle.x86_64_plain.specs.Windows.{window_of, the_window, entry_read};
 ghost use Rattle.x86_64_plain.specs.Calls.{refusals_of};
 
 use crate::calls::Refusal;
@@ -41,7 +41,7 @@ fn windowed(window: PlainWindow, paths: &PathEntries, path: &[u64]) -> u64
 /// Gives the entry that is read at a path, through the window where there is one.
 #[tactic(auto, unfolding(x86_64_model::specs::Window::entry_at))]
 pub fn entry_at(window: Option<PlainWindow>, paths: &PathEntries, path: &[u64]) -> u64
-    ensures { result ≡ entry_at_of (window_of window) paths.now path.now }
+    ensures { result ≡ entry_read window paths.now path.now }
 {
     match window {
         None => paths.entry(path),
@@ -52,7 +52,7 @@ pub fn entry_at(window: Option<PlainWindow>, paths: &PathEntries, path: &[u64]) 
 /// Gives the refusal by the shortest parent of a path that isn't a present table entry.
 #[tactic(auto, using(crate::proofs::Parents::stop_absent, crate::proofs::Parents::stop_huge, crate::proofs::Parents::stop_end))]
 pub fn first_stop(window: Option<PlainWindow>, paths: &PathEntries, path: &[u64]) -> Option<Refusal>
-    ensures { refusals_of result ≡ first_stop_of (entry_at_of (window_of window) paths.now) path.now }
+    ensures { refusals_of result ≡ first_stop_of (entry_read window paths.now) path.now }
 {
     for length in 1..path.len() {
         let word = entry_at(window, paths, &path[..length]);
