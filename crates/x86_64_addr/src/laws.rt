@@ -32,7 +32,8 @@ pub fn physical_addresses_are_ordered_by_number(left: PhysAddr, right: PhysAddr)
 pub fn indices_are_ordered_by_number(left: PageTableIndex, right: PageTableIndex)
     ensures equality { ⟦<PageTableIndex as PartialEq>⟧.eq left right ≡ (left == right) }
     ensures order { ⟦<PageTableIndex as Ord>⟧.cmp left right ≡ nat_cmp left right }
-    ensures partial_order { ⟦<PageTableIndex as PartialOrd>⟧.partial_cmp left right ≡ Some (nat_cmp left right) }
+    ensures partial_order { ⟦<PageTableIndex as PartialOrd>⟧.partial_cmp left right
+        ≡ Some (nat_cmp left right) }
     ensures hash { ⟦<PageTableIndex as Hash>⟧.hash_input left ≡ fed.u16 left }
 {}
 
@@ -46,8 +47,10 @@ pub fn offsets_are_ordered_by_number(left: PageOffset, right: PageOffset)
 
 /// Levels are equal, ordered and hashed as their numbers are.
 pub fn levels_are_ordered_by_number(left: PageTableLevel, right: PageTableLevel)
-    ensures equality { ⟦<PageTableLevel as PartialEq>⟧.eq left right ≡ (level_number left == level_number right) }
-    ensures order { ⟦<PageTableLevel as Ord>⟧.cmp left right ≡ nat_cmp (level_number left) (level_number right) }
+    ensures equality { ⟦<PageTableLevel as PartialEq>⟧.eq left right
+        ≡ (level_number left == level_number right) }
+    ensures order { ⟦<PageTableLevel as Ord>⟧.cmp left right
+        ≡ nat_cmp (level_number left) (level_number right) }
     ensures partial_order { ⟦<PageTableLevel as PartialOrd>⟧.partial_cmp left right
         ≡ Some (nat_cmp (level_number left) (level_number right)) }
     ensures hash { ⟦<PageTableLevel as Hash>⟧.hash_input left ≡ fed.isize (pos (level_number left)) }

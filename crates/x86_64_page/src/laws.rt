@@ -26,7 +26,8 @@ pub fn pages_are_ordered_by_position<S: PageSize + Hash>(left: Page<S>, right: P
 pub fn frames_are_ordered_by_address<S: PageSize + Hash>(left: PhysFrame<S>, right: PhysFrame<S>)
     ensures equality { ⟦<PhysFrame<S> as PartialEq>⟧.eq left right ≡ (left == right) }
     ensures order { ⟦<PhysFrame<S> as Ord>⟧.cmp left right ≡ nat_cmp left right }
-    ensures partial_order { ⟦<PhysFrame<S> as PartialOrd>⟧.partial_cmp left right ≡ Some (nat_cmp left right) }
+    ensures partial_order { ⟦<PhysFrame<S> as PartialOrd>⟧.partial_cmp left right
+        ≡ Some (nat_cmp left right) }
     ensures hash { ⟦<PhysFrame<S> as Hash>⟧.hash_input left ≡ fed.u64 left }
 {}
 

@@ -139,7 +139,8 @@ impl<B: Block> BlockRange<B> {
 impl<B: Block> Iterator for BlockRange<B> {
     type Item = B;
 
-    ghost next_gives = { λ r block s. YieldsFirstBy B.place (λ r. blocks B.SIZE (B.place r.start) (B.place r.end)) r block s
+    ghost next_gives = { λ r block s.
+        YieldsFirstBy B.place (λ r. blocks B.SIZE (B.place r.start) (B.place r.end)) r block s
         × (ends B.place s.start s.end ≡ front_taken B.SIZE 1 (ends B.place r.start r.end)) };
 
     ghost remaining = { item_count (λ r. blocks B.SIZE (B.place r.start) (B.place r.end)) };
@@ -170,7 +171,8 @@ impl<B: Block> Iterator for BlockRange<B> {
 }
 
 impl<B: Block> DoubleEndedIterator for BlockRange<B> {
-    ghost next_back_gives = { λ r block s. YieldsLastBy B.place (λ r. blocks B.SIZE (B.place r.start) (B.place r.end)) r block s
+    ghost next_back_gives = { λ r block s.
+        YieldsLastBy B.place (λ r. blocks B.SIZE (B.place r.start) (B.place r.end)) r block s
         × (ends B.place s.start s.end ≡ back_taken B.SIZE 1 (ends B.place r.start r.end)) };
 
     fn next_back(&mut self) -> Option<B> {

@@ -46,7 +46,8 @@ impl Sub<u64> for VirtAddr {
 }
 
 impl SubAssign<u64> for VirtAddr {
-    ghost can_sub_assign = { λ address count. (count ≤ raw 4 address) × IsCanonical 4 (raw 4 address - count) };
+    ghost can_sub_assign = { λ address count. (count ≤ raw 4 address)
+        × IsCanonical 4 (raw 4 address - count) };
 
     ghost sub_assign_gives = { λ address count rest. raw 4 rest ≡ raw 4 address - count };
 

@@ -3,20 +3,15 @@ use crate::addr::{PhysAddr, VirtAddr};
 use crate::index::{PageOffset, PageTableIndex, PageTableLevel};
 use std::cmp::Ordering;
 use std::fmt::Debug;
-use std::hash::{DefaultHasher, Hash, Hasher};
+use std::hash::{BuildHasher, BuildHasherDefault, DefaultHasher, Hash};
 use std::process::Abort;
-
-fn hash_of<T: Hash>(value: &T) -> u64 {
-    let mut hasher = DefaultHasher::new();
-    value.hash(&mut hasher);
-    hasher.finish()
-}
 
 /// Compares a value with its copy and with a greater one.
 fn check_derives<T: Debug + Copy + Ord + Hash>(rt: &impl Abort, low: T, high: T) {
     let copy = low;
     assert_eq!(rt; copy, low);
-    assert_eq!(rt; hash_of(&copy), hash_of(&low), "of {low:?}");
+    let hasher = BuildHasherDefault::<DefaultHasher>::default();
+    assert_eq!(rt; hasher.hash_one(copy), hasher.hash_one(low), "of {low:?}");
     assert_eq!(rt; low.cmp(&high), Ordering::Less, "{low:?} and {high:?}");
     assert_eq!(rt; high.partial_cmp(&low), Some(Ordering::Greater));
     assert!(rt; low != high);

@@ -14,7 +14,8 @@ impl Page<Size4KiB> {
         p2_index: PageTableIndex,
         p1_index: PageTableIndex,
     ) -> Self
-        ensures start { result ≡ p4_index * span 4 + p3_index * span 3 + p2_index * span 2 + p1_index * span 1 }
+        ensures start { result
+            ≡ p4_index * span 4 + p3_index * span 3 + p2_index * span 2 + p1_index * span 1 }
         ensures level_four { index 4 result ≡ p4_index }
         ensures level_three { index 3 result ≡ p3_index }
         ensures level_two { index 2 result ≡ p2_index }

@@ -9,7 +9,8 @@ use std::ops::{Add, AddAssign, Sub, SubAssign};
 impl<S: PageSize> Add<u64> for Page<S> {
     type Output = Page<S>;
 
-    ghost can_add = { λ page count. (count * S.SIZE < 2 ^ 64) × IsCanonical 4 (raw 4 page + count * S.SIZE) };
+    ghost can_add = { λ page count. (count * S.SIZE < 2 ^ 64)
+        × IsCanonical 4 (raw 4 page + count * S.SIZE) };
 
     ghost add_gives = { λ page count sum. raw 4 sum ≡ raw 4 page + count * S.SIZE };
 
@@ -21,7 +22,8 @@ impl<S: PageSize> Add<u64> for Page<S> {
 }
 
 impl<S: PageSize> AddAssign<u64> for Page<S> {
-    ghost can_add_assign = { λ page count. (count * S.SIZE < 2 ^ 64) × IsCanonical 4 (raw 4 page + count * S.SIZE) };
+    ghost can_add_assign = { λ page count. (count * S.SIZE < 2 ^ 64)
+        × IsCanonical 4 (raw 4 page + count * S.SIZE) };
 
     ghost add_assign_gives = { λ page count sum. raw 4 sum ≡ raw 4 page + count * S.SIZE };
 
@@ -34,7 +36,8 @@ impl<S: PageSize> AddAssign<u64> for Page<S> {
 impl<S: PageSize> Sub<u64> for Page<S> {
     type Output = Page<S>;
 
-    ghost can_sub = { λ page count. (count * S.SIZE ≤ raw 4 page) × IsCanonical 4 (raw 4 page - count * S.SIZE) };
+    ghost can_sub = { λ page count. (count * S.SIZE ≤ raw 4 page)
+        × IsCanonical 4 (raw 4 page - count * S.SIZE) };
 
     ghost sub_gives = { λ page count difference. raw 4 difference ≡ raw 4 page - count * S.SIZE };
 
@@ -46,7 +49,8 @@ impl<S: PageSize> Sub<u64> for Page<S> {
 }
 
 impl<S: PageSize> SubAssign<u64> for Page<S> {
-    ghost can_sub_assign = { λ page count. (count * S.SIZE ≤ raw 4 page) × IsCanonical 4 (raw 4 page - count * S.SIZE) };
+    ghost can_sub_assign = { λ page count. (count * S.SIZE ≤ raw 4 page)
+        × IsCanonical 4 (raw 4 page - count * S.SIZE) };
 
     ghost sub_assign_gives = { λ page count difference. raw 4 difference ≡ raw 4 page - count * S.SIZE };
 

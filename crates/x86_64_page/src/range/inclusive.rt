@@ -88,7 +88,8 @@ impl<B: Block> BlockRangeInclusive<B> {
     /// Leaves the blocks after a block. Where it is the greatest, `end` is lowered, since no block comes after it.
     fn leave_at_front(&mut self, block: B)
         ensures raised { B.place block + B.SIZE < B.LIMIT →
-            (B.place self.new.start ≡ B.place block + B.SIZE) × (B.place self.new.end ≡ B.place self.old.end) }
+            (B.place self.new.start ≡ B.place block + B.SIZE)
+            × (B.place self.new.end ≡ B.place self.old.end) }
         ensures lowered { B.LIMIT ≤ B.place block + B.SIZE →
             (B.place self.new.start ≡ B.place block) × (B.place self.new.end ≡ B.place block - B.SIZE) }
     {
@@ -104,7 +105,8 @@ impl<B: Block> BlockRangeInclusive<B> {
     /// Leaves the blocks before a block. Where it is the first, `start` is raised, since no block comes before it.
     fn leave_at_back(&mut self, block: B)
         ensures lowered { B.SIZE ≤ B.place block →
-            (B.place self.new.start ≡ B.place self.old.start) × (B.place self.new.end + B.SIZE ≡ B.place block) }
+            (B.place self.new.start ≡ B.place self.old.start)
+            × (B.place self.new.end + B.SIZE ≡ B.place block) }
         ensures raised { B.place block < B.SIZE →
             (B.place self.new.start ≡ B.SIZE) × (B.place self.new.end ≡ 0) × (B.place block ≡ 0) }
     {
@@ -121,8 +123,9 @@ impl<B: Block> BlockRangeInclusive<B> {
 impl<B: Block> Iterator for BlockRangeInclusive<B> {
     type Item = B;
 
-    ghost next_gives = { λ r block s. YieldsFirstBy B.place (λ r. blocks_inclusive B.SIZE (B.place r.start) (B.place r.end)) r block s
-        × (ends B.place s.start s.end ≡ front_taken_inclusive B.SIZE B.LIMIT 1 (ends B.place r.start r.end)) };
+    ghost next_gives = { λ r block s. let left = ends B.place s.start s.end in
+        YieldsFirstBy B.place (λ r. blocks_inclusive B.SIZE (B.place r.start) (B.place r.end)) r block s
+        × (left ≡ front_taken_inclusive B.SIZE B.LIMIT 1 (ends B.place r.start r.end)) };
 
     ghost remaining = { item_count (λ r. blocks_inclusive B.SIZE (B.place r.start) (B.place r.end)) };
 
@@ -151,7 +154,8 @@ impl<B: Block> Iterator for BlockRangeInclusive<B> {
 }
 
 impl<B: Block> DoubleEndedIterator for BlockRangeInclusive<B> {
-    ghost next_back_gives = { λ r block s. YieldsLastBy B.place (λ r. blocks_inclusive B.SIZE (B.place r.start) (B.place r.end)) r block s
+    ghost next_back_gives = { λ r block s.
+        YieldsLastBy B.place (λ r. blocks_inclusive B.SIZE (B.place r.start) (B.place r.end)) r block s
         × (ends B.place s.start s.end ≡ back_taken_inclusive B.SIZE 1 (ends B.place r.start r.end)) };
 
     fn next_back(&mut self) -> Option<B> {

@@ -3,7 +3,7 @@ use crate::frame::{PhysFrame, PhysFrameRange, PhysFrameRangeInclusive};
 use crate::laws::blocks_are_taken_in_turn;
 use crate::page::{Page, PageRange, PageRangeInclusive, PageSize, Size1GiB, Size2MiB, Size4KiB};
 use std::fmt::Debug;
-use std::hash::{DefaultHasher, Hash, Hasher};
+use std::hash::{BuildHasher, BuildHasherDefault, DefaultHasher, Hash};
 use std::process::Abort;
 use x86_64_addr::addr::{PhysAddr, VirtAddr};
 
@@ -232,17 +232,16 @@ fn ranges_have_texts(rt: HostRuntime) {
     );
 }
 
-fn hash_of<T: Hash>(value: &T) -> u64 {
-    let mut hasher = DefaultHasher::new();
-    value.hash(&mut hasher);
-    hasher.finish()
-}
-
 /// Compares a range with its copy and with another one.
 fn check_derives<T: Debug + Copy + Eq + Hash>(rt: &impl Abort, range: T, other: T) {
     let copy = range;
     assert_eq!(rt; copy, range);
-    assert_eq!(rt; hash_of(&copy), hash_of(&range), "of {range:?}");
+    let hasher = BuildHasherDefault::<DefaultHasher>::default();
+    assert_eq!(rt;
+        hasher.hash_one(copy),
+        hasher.hash_one(range),
+        "of {range:?}"
+    );
     assert!(rt; range != other, "{range:?} and {other:?}");
 }
 
