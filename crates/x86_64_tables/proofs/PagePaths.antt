@@ -1,7 +1,41 @@
--- The path of a page, as the first of its four indices.
-use Rattle.std.proofs.Common.{◌≡◌, ◌-◌, ℕ, List, take, refl}
-use Rattle.x86_64_model.specs.Path.{path_at}
-use Rattle.x86_64_model.specs.Position.{page_path}
+-- The path of a page, as the first of its four indices, and where it starts.
+use Rattle.std.proofs.Common.{◌≡◌, ◌↔◌, ◌+◌, ◌-◌, ◌*◌, ◌%◌, ◌<◌, ◌≤◌, ℕ, true, List, fold, length, take, refl, ap, ap₂, ◌∙◌, subst, arith, lit≤, ◌^◌}
+use Rattle.std.proofs.lemmas.List.{take_all}
+use Rattle.x86_64_model.proofs.Lemmas.Paths.Begins.{begins_itself}
+use Rattle.x86_64_model.proofs.Lemmas.Machines.Effects.{below_taken}
+use Rattle.x86_64_model.proofs.Lemmas.Machines.Spares.{length_path}
+use Rattle.x86_64_model.proofs.Lemmas.Paths.Spans.{spans_are_intervals}
+use Rattle.x86_64_model.specs.Path.{AllBelow, begins, path_at, span_size, span_start}
+use Rattle.x86_64_model.specs.Position.{page_path, position_count, span}
 
 pub taken : (levels level page n : ℕ) (indices : List ℕ) → levels ≡ 4 → n ≡ 5 - level → indices ≡ page_path 4 page → take n indices ≡ path_at levels level page
 taken levels level page n indices four length is = rw (four, length, is) refl
+
+-- ---- the first position of a 4KiB page's path
+
+pub start_of_path : (L p : ℕ) → 1 ≤ L → p < position_count L → p % 4096 ≡ 0 → span_start L (page_path L p) ≡ p
+start_of_path L p some inside multiple = at_multiple (fold (λ n i. n * 512 + i) 0 q) (span_size L q) size (spans.0 (begins_itself q))
+  where
+    q : List ℕ
+    q = page_path L p
+
+    long : length q ≡ L
+    long = length_path L p
+
+    below : AllBelow q
+    below = subst AllBelow (take_all L q (omega (arith, long))) (below_taken p L L)
+
+    size : span_size L q ≡ 4096
+    size = ap span (let e : L + 1 - length q ≡ 1 = omega (arith, long) in e)
+
+    spans : begins q (page_path L p) ≡ true ↔ (span_start L q ≤ p) × (p < span_start L q + span_size L q)
+    spans = spans_are_intervals L q p (omega (arith, long)) (omega (arith, long)) below inside
+
+    at_multiple : (n size : ℕ) → size ≡ 4096 → (n * size ≤ p) × (p < n * size + size) → n * size ≡ p
+    at_multiple n size is h =
+        let low : n * 4096 ≤ p = rw is at h.0 in
+        let high : p < n * 4096 + 4096 = rw is at h.1 in
+        ap (λ s. n * s) is ∙ (let e : n * 4096 ≡ p = omega (arith, multiple) in e)
+
+pub page_start : (levels page : ℕ) (indices : List ℕ) → levels ≡ 4 → indices ≡ page_path 4 page → page < 2 ^ 48 → page % 4096 ≡ 0 → span_start levels indices ≡ page
+page_start levels page indices four is inside multiple = ap₂ span_start four is ∙ start_of_path 4 page (lit≤ tt) inside multiple

@@ -7,9 +7,10 @@ use Rattle.std.specs.Option.{ghost_name_of, option_copied, option_copied_mut}
 use Rattle.std.proofs.lemmas.Cmp.{nat_cmp_total}
 use Rattle.std.proofs.lemmas.Bool.{false≢true, cases_lt, eq-eqb}
 use Rattle.std.proofs.lemmas.Bool.Decides.{eqb_tells}
-use Rattle.std.proofs.lemmas.Option.{slice_get_past, slice_get-get_or}
+use Rattle.std.proofs.lemmas.Option.{slice_get_past, slice_get_read, slice_get-get_or}
 use Rattle.std.proofs.lemmas.List.{length-replicate, get_or-replicate}
 use borrow.Follows.Closed.{read_of}
+use Rattle.x86_64_model.specs.Memory.{Memory}
 use Rattle.x86_64_model.proofs.Lemmas.Hierarchies.Memories.{other_key}
 use Rattle.x86_64_tables.specs.PageTable.{zero_words}
 use Rattle.x86_64_tables.specs.PhysMemory.{tables_from}
@@ -77,6 +78,18 @@ tables-set ts i w h =
     get-tables (slice_set ts i w) q
     ∙ get-set ts i q w h
     ∙ sym (get-insert nat_cmp_total (tables_from 0 ts) i w q ∙ ap (cond (eq_by_cmp nat_cmp q i) (Some w)) (get-tables ts q)))
+
+-- a place that a memory has is below the number of its tables
+pub place_within : (ts : List (List ℕ)) (m : Memory) (i : ℕ) → tables_from 0 ts ≡ m → IsSome (get m i) → i < length ts
+place_within ts m i is there = elim (cases_lt i (length ts)) [
+  | inl below ↦ below
+  | inr past ↦ absurd (false≢true (ap is_some (sym (get-tables ts i ∙ slice_get_past ts i past) ∙ ap (λ m. get m i) is) ∙ there))
+]
+
+-- the element that indexing gives is the table at the place
+pub table_at : (ts : List (List ℕ)) (m : Memory) (i : ℕ) (table : List ℕ) → tables_from 0 ts ≡ m
+    → i < length ts → table ≡ get_or ts i table → get m i ≡ Some table
+table_at ts m i table is below at = ap (λ m. get m i) (sym is) ∙ get-tables ts i ∙ slice_get_read ts (length ts) i table refl below at
 
 -- two accounts of what is lent agree where a part is lent
 pub lends_alike : {D E T : Type 0} (r : Option (MutBor T)) {F G : E → D} {v u : D}

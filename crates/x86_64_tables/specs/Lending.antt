@@ -14,3 +14,7 @@ LendsWord table index r = Lends table_row entry_row table r (slice_set table.now
 -- the memory ends with the last table behind r at the place, and as it was where it lacks the place
 abbrev pub LendsTable : MutBor Memory → (place : ℕ) → Option (MutBor (List ℕ)) → Fml
 LendsTable memory place r = LendsIf memory_row table_row memory r (insert memory.now place) memory.now
+
+-- the memory ends with the last table behind r at the place, which it has
+abbrev pub LendsTableAt : MutBor Memory → (place : ℕ) → MutBor (List ℕ) → Fml
+LendsTableAt memory place r = Lends memory_row table_row memory r (insert memory.now place)

@@ -29,7 +29,8 @@ pub trait FrameAllocator<S: PageSize>: FrameKeeper<S> {
         ensures rest { supply self.new ≡ drop 1 (supply self.old) }
         ensures serves { Self.serves self.new ≡ Self.serves self.old };
 
-    ghost supply_is_served: { (allocator : Self) (frame : ℕ) → In (supply allocator) frame → Self.serves allocator frame ≡ true };
+    ghost supply_is_served: { (allocator : Self) (frame : ℕ) → In (supply allocator) frame
+        → Self.serves allocator frame ≡ true };
 }
 
 /// Takes frames back, seen as the list of those that it holds.
@@ -51,7 +52,8 @@ pub trait FrameDeallocator<S: PageSize>: FrameKeeper<S> {
         ensures held { held self.new ≡ put (held self.old) frame }
         ensures serves { Self.serves self.new ≡ Self.serves self.old };
 
-    ghost held_is_served: { (deallocator : Self) (frame : ℕ) → In (held deallocator) frame → Self.serves deallocator frame ≡ true };
+    ghost held_is_served: { (deallocator : Self) (frame : ℕ) → In (held deallocator) frame
+        → Self.serves deallocator frame ≡ true };
 
     ghost put_rearranges: { (held : List ℕ) (frame : ℕ) → IsPermutation (frame ∷ held) (put held frame) };
 }

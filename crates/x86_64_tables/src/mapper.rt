@@ -1,5 +1,5 @@
 //! What all mappers have in common: the tables that they own for a while, translations of addresses, and maps of pages.
-ghost use Rattle.std.specs.Prelude.{◌≡◌, ◌<◌, ℕ, true, Some, option_map, IfOk};
+ghost use Rattle.std.specs.Prelude.{◌≡◌, ◌<◌, ◌≤◌, ◌^◌, ℕ, true, Some, option_map, IfOk};
 ghost use Rattle.x86_64_model.specs.Entry.{IsParentFlags};
 ghost use Rattle.x86_64_model.specs.Memory.{IsMapping};
 ghost use Rattle.x86_64_model.specs.MapRule.{parent_part};
@@ -7,6 +7,7 @@ ghost use Rattle.x86_64_model.specs.Owned.{Hierarchy, Valid, walk, translation};
 ghost use Rattle.x86_64_model.specs.Translation.{address_of};
 ghost use Rattle.x86_64_tables.specs.PageTableFlags.{bits_of};
 
+mod clean_up;
 mod flush;
 mod path;
 mod path_calls;
@@ -17,6 +18,7 @@ mod tests;
 use crate::frame_alloc::FrameAllocator;
 use crate::page_table::PageTableFlags;
 use bitflags::Flags;
+pub use clean_up::CleanUp;
 pub use flush::{MapperFlush, MapperFlushAll};
 use path::{page_indices, path_length};
 pub use path_calls::PathCalls;
@@ -81,7 +83,7 @@ pub enum TranslateResult {
     InvalidFrameAddress(PhysAddr),
 }
 
-/// Owns tables of pages, of any number of levels from four up, in a memory that was lent to it.
+/// Owns tables of pages, of four or five levels, in a memory that was lent to it.
 ///
 /// Laws: only frames are covered, and distinct covered frames have distinct places.
 pub trait Tables {
@@ -99,6 +101,9 @@ pub trait Tables {
 
     // There is a level above those of pages, which are the levels one to three.
     ghost some_levels: { (tables : Self) → 3 < (hierarchy tables).layout.levels };
+
+    // Processors know no more. So a path has room in five places.
+    ghost most_levels: { (tables : Self) → (hierarchy tables).layout.levels ≤ 5 };
 
     ghost is_mapping: { (tables : Self) → IsMapping (hierarchy tables).layout.places };
 }
@@ -234,12 +239,13 @@ pub trait Mapper<S: PageSize>: PathCalls + PageTables {
         parent_flags: PageTableFlags,
         frame_allocator: &mut A,
     ) -> Result<MapperFlush<S>, MapToError<S>>
-        requires { let h = Self.hierarchy self.old in
-            let call = MapToWithTableFlags (path_of h S.LEVEL page) frame (bits_of flags) (bits_of parent_flags) in
+        requires { let h = Self.hierarchy self.old in let path = path_of h S.LEVEL page in
+            let call = MapToWithTableFlags path frame (bits_of flags) (bits_of parent_flags) in
             MayMap h (A.supply frame_allocator.old) call }
-        ensures does { let h = Self.hierarchy self.old in
-            let call = MapToWithTableFlags (path_of h S.LEVEL page) frame (bits_of flags) (bits_of parent_flags) in
-            DoesMap h (A.supply frame_allocator.old) call (map_answer frame result) (Self.hierarchy self.new) (A.supply frame_allocator.new) }
+        ensures does { let h = Self.hierarchy self.old in let path = path_of h S.LEVEL page in
+            let call = MapToWithTableFlags path frame (bits_of flags) (bits_of parent_flags) in
+            let supply = A.supply frame_allocator.old in let rest = A.supply frame_allocator.new in
+            DoesMap h supply call (map_answer frame result) (Self.hierarchy self.new) rest }
         ensures page { IfOk result (λ flush. flush ≡ page) }
         ensures serves { A.serves frame_allocator.new ≡ A.serves frame_allocator.old }
     {
@@ -267,10 +273,11 @@ pub trait Mapper<S: PageSize>: PathCalls + PageTables {
             MayMap h (A.supply frame_allocator.old) call }
         ensures does { let h = Self.hierarchy self.old in
             let call = MapTo (path_of h S.LEVEL page) frame (bits_of flags) in
-            DoesMap h (A.supply frame_allocator.old) call (map_answer frame result) (Self.hierarchy self.new) (A.supply frame_allocator.new) }
+            let supply = A.supply frame_allocator.old in let rest = A.supply frame_allocator.new in
+            DoesMap h supply call (map_answer frame result) (Self.hierarchy self.new) rest }
         ensures page { IfOk result (λ flush. flush ≡ page) }
-        ensures arrives { let h = Self.hierarchy self.new in
-            IfOk result (λ _. present (bits_of flags) ≡ true → ArrivesIn h S.SIZE page frame (bits_of flags)) }
+        ensures arrives { let h = Self.hierarchy self.new in let given = bits_of flags in
+            IfOk result (λ _. present given ≡ true → ArrivesIn h S.SIZE page frame given) }
         ensures serves { A.serves frame_allocator.new ≡ A.serves frame_allocator.old }
     {
         let parent_flags = parent_flags(flags);
@@ -286,15 +293,17 @@ pub trait Mapper<S: PageSize>: PathCalls + PageTables {
         flags: PageTableFlags,
         frame_allocator: &mut A,
     ) -> Result<MapperFlush<S>, MapToError<S>>
-        requires { let h = Self.hierarchy self.old in
-            let call = IdentityMap S.LEVEL frame (bits_of flags) in
+        requires low { frame < 2 ^ 47 }
+        requires may { let h = Self.hierarchy self.old in
+            let call = MapTo (path_of h S.LEVEL frame) frame (bits_of flags) in
             MayMap h (A.supply frame_allocator.old) call }
         ensures does { let h = Self.hierarchy self.old in
             let call = IdentityMap S.LEVEL frame (bits_of flags) in
-            DoesMap h (A.supply frame_allocator.old) call (map_answer frame result) (Self.hierarchy self.new) (A.supply frame_allocator.new) }
+            let supply = A.supply frame_allocator.old in let rest = A.supply frame_allocator.new in
+            DoesMap h supply call (map_answer frame result) (Self.hierarchy self.new) rest }
         ensures page { IfOk result (λ flush. flush ≡ frame) }
-        ensures arrives { let h = Self.hierarchy self.new in
-            IfOk result (λ _. present (bits_of flags) ≡ true → ArrivesIn h S.SIZE frame frame (bits_of flags)) }
+        ensures arrives { let h = Self.hierarchy self.new in let given = bits_of flags in
+            IfOk result (λ _. present given ≡ true → ArrivesIn h S.SIZE frame frame given) }
         ensures serves { A.serves frame_allocator.new ≡ A.serves frame_allocator.old }
     {
         let page = Page::containing_address(VirtAddr::new(frame.start_address().as_u64()));

@@ -1,5 +1,5 @@
 //! Physical memory that consists of page tables, and where frames lie in it.
-ghost use Rattle.std.specs.Prelude.{◌≡◌, ◌==◌, ◌/◌, ℕ, true, IfOk, nat_lt, if◌then◌else◌};
+ghost use Rattle.std.specs.Prelude.{◌≡◌, ◌==◌, ◌/◌, ℕ, true, Some, IsSome, IfOk, nat_lt, if◌then◌else◌};
 ghost use Rattle.std.specs.Option.{option_copied, option_copied_mut};
 ghost use Rattle.std.specs.Borrow.{sem};
 ghost use Rattle.std.specs.FinMap as map;
@@ -7,7 +7,7 @@ ghost use Rattle.std.specs.List.{position, slice_get};
 ghost use Rattle.std.specs.Ordering.{nat_cmp, eq_by_cmp};
 ghost use Rattle.x86_64_model.specs.Memory.{Places, IsMapping, identity_places};
 ghost use Rattle.x86_64_tables.specs.PageTable.{zero_words};
-ghost use Rattle.x86_64_tables.specs.Lending.{LendsTable};
+ghost use Rattle.x86_64_tables.specs.Lending.{LendsTable, LendsTableAt};
 
 mod shift_mapping;
 #[cfg(test)]
@@ -19,6 +19,7 @@ use crate::page_table::PageTable;
 pub use shift_mapping::ShiftMapping;
 use std::alloc::{AllocError, Global};
 use std::marker::Model;
+use std::ops::{Index, IndexMut};
 pub use validity::{is_valid_hierarchy, pool_fits};
 pub use walk::{Walked, page_walk};
 use x86_64_page::frame::PhysFrame;
@@ -55,6 +56,8 @@ impl FramePlace {
 }
 
 /// Holds page tables, seen as a finite map from the numbers of places to tables. The places never change.
+///
+/// A table is reached by its place, as in `memory[place]`. Condition: the memory has the place.
 #[derive(Drop)]
 pub struct PhysMemory {
     tables: Vec<PageTable>,
@@ -136,6 +139,29 @@ impl PhysMemory {
         } else {
             None
         }
+    }
+}
+
+impl Index<FramePlace> for PhysMemory {
+    type Output = PageTable;
+
+    ghost can_index = { λ memory place. IsSome (map.get memory place) };
+
+    ghost index_gives = { λ memory place table. map.get memory place ≡ Some table };
+
+    fn index(&self, place: FramePlace) -> &PageTable {
+        &self.tables[place.number() as usize]
+    }
+}
+
+impl IndexMut<FramePlace> for PhysMemory {
+    fn index_mut(&mut self, place: FramePlace) -> &mut PageTable
+        requires { IsSome (map.get self.old place) }
+        ensures* writes_back { sem 𝓛 (LendsTableAt self.entry place result) }
+        ensures value { map.get self.old place ≡ Some result.now }
+    {
+        let number = place.number() as usize;
+        &mut self.tables[number]
     }
 }
 

@@ -1,4 +1,6 @@
-//! Tests of parent flags, tokens and memory.
+//! Tests of parent flags, tokens and memory, and the frames of all tests.
+ghost use Rattle.std.specs.Prelude.{◌≡◌, ◌-◌, ◌%◌, ◌^◌};
+
 use crate::mapper::{MapperFlush, MapperFlushAll, parent_flags};
 use crate::page_table::PageTableFlags;
 use crate::phys_memory::{FramePlace, IdentityMapping, PageTableFrameMapping, PhysMemory};
@@ -7,6 +9,13 @@ use std::test::Fail;
 use x86_64_addr::addr::{PhysAddr, VirtAddr};
 use x86_64_page::frame::PhysFrame;
 use x86_64_page::page::{Page, Size2MiB, Size4KiB};
+
+/// Gives the 4KiB frame that contains an address, of which the low 52 bits count.
+pub(crate) fn frame_at(address: u64) -> PhysFrame<Size4KiB>
+    ensures { let low = address % 2 ^ 52 in result ≡ low - low % 4096 }
+{
+    PhysFrame::containing_address(PhysAddr::new_truncate(address))
+}
 
 #[test]
 fn flags_have_parts(rt: HostRuntime) -> Result<(), Fail> {
@@ -44,7 +53,7 @@ fn memory_has_tables_at_places(rt: HostRuntime) -> Result<(), Fail> {
         let table = memory.table(FramePlace::new(number)).ok_or("a place")?;
         assert!(rt; table.is_empty(), "at {number}");
     }
-    let frame = PhysFrame::<Size4KiB>::containing_address(PhysAddr::new(0x7000));
+    let frame = frame_at(0x7000);
     assert!(rt; IdentityMapping.covers(frame));
     let place = IdentityMapping.frame_to_pointer(frame);
     assert_eq!(rt; place.number(), 7);
@@ -61,5 +70,16 @@ fn memory_has_tables_at_places(rt: HostRuntime) -> Result<(), Fail> {
     assert_eq!(rt; table[3].addr(), PhysAddr::new(0x1000));
     assert_eq!(rt; table[3].flags(), PageTableFlags::PRESENT);
     assert_eq!(rt; PhysMemory::new(rt.alloc(), 0)?.len(), 0);
+    Ok(())
+}
+
+#[test]
+fn memory_is_indexed_by_places(rt: HostRuntime) -> Result<(), Fail> {
+    let mut memory = PhysMemory::new(rt.alloc(), 8)?;
+    let place = FramePlace::new(7);
+    assert!(rt; memory[place].is_empty());
+    memory[place][3].set_addr(PhysAddr::new(0x1000), PageTableFlags::PRESENT);
+    let table = memory.table(place).ok_or("the last place")?;
+    assert_eq!(rt; table[3].addr(), PhysAddr::new(0x1000));
     Ok(())
 }

@@ -43,9 +43,11 @@ impl Model for FramePool {
 
     ghost Value = { FreeFrames };
 
-    ghost view = { λ pool. record { frames = pool.frames.items; limit = vec_len pool.is_free; served = pool.served } };
+    ghost view = { λ pool.
+        record { frames = pool.frames.items; limit = vec_len pool.is_free; served = pool.served } };
 
-    ghost invariant = { λ pool. IsMarked pool.frames.items pool.is_free.items × (vec_len pool.is_free ≤ deque_capacity pool.frames) };
+    ghost invariant = { λ pool. IsMarked pool.frames.items pool.is_free.items
+        × (vec_len pool.is_free ≤ deque_capacity pool.frames) };
 }
 
 impl FramePool {
@@ -73,7 +75,8 @@ impl FramePool {
     /// `AlreadyFree` where the frame is free. A refusal changes nothing.
     pub fn try_add(&mut self, frame: PhysFrame<Size4KiB>) -> Result<(), PoolRefusal>
         ensures zero { (result ≡ Err PoolRefusal.Zero) ↔ (frame ≡ 0) }
-        ensures out_of_range { (result ≡ Err PoolRefusal.OutOfRange) ↔ ((frame ≢ 0) × (self.old.limit ≤ frame / 4096)) }
+        ensures out_of_range { (result ≡ Err PoolRefusal.OutOfRange)
+            ↔ ((frame ≢ 0) × (self.old.limit ≤ frame / 4096)) }
         ensures already_free { (result ≡ Err PoolRefusal.AlreadyFree) ↔ In self.old.frames frame }
         ensures added { OnOk result (self.new.frames ≡ self.old.frames ++ frame ∷ []) }
         ensures refused { OnErr result (self.new ≡ self.old) }

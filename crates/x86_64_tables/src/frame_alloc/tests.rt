@@ -1,10 +1,10 @@
 //! Tests of pools, and of frames that any store hands out and takes back.
-ghost use Rattle.std.specs.Prelude.{◌≡◌, ◌-◌, ◌%◌, ◌^◌, ◌<◌, drop, slice_get, IfSome};
+ghost use Rattle.std.specs.Prelude.{◌≡◌, drop, slice_get, IfSome};
 ghost use Rattle.x86_64_model.specs.Lists.{EachOnce};
 
 use super::{FrameAllocator, FrameDeallocator, FramePool, FrameStore, PoolRefusal};
+use crate::tests::frame_at;
 use std::test::Fail;
-use x86_64_addr::addr::PhysAddr;
 use x86_64_page::frame::PhysFrame;
 use x86_64_page::page::Size4KiB;
 
@@ -81,14 +81,6 @@ fn pools_are_equal_as_lists(rt: HostRuntime) -> Result<(), Fail> {
     assert_eq!(rt; other.try_add(frame_at(0x3000)), Ok(()));
     assert!(rt; one != other);
     Ok(())
-}
-
-/// Gives the 4KiB frame that contains an address.
-fn frame_at(address: u64) -> PhysFrame<Size4KiB>
-    requires { address < 2 ^ 52 }
-    ensures { result ≡ address - address % 4096 }
-{
-    PhysFrame::containing_address(PhysAddr::new(address))
 }
 
 /// Takes the first frame of a store and puts it back.

@@ -47,7 +47,8 @@ impl<S: PageSize> MapperFlush<S> {
     ///
     /// The token itself where memory is refused. Then the recorder stays as it is.
     pub fn flush(self, recorder: &mut FlushRecorder) -> Result<(), Self>
-        ensures items { OnOk result (recorder.new.items ≡ recorder.old.items ++ FlushItem.Page self S.SIZE ∷ []) }
+        ensures items { OnOk result (recorder.new.items
+            ≡ recorder.old.items ++ FlushItem.Page self S.SIZE ∷ []) }
         ensures room { OnOk result (recorder.new.room ≡ recorder.old.room - 1) }
         ensures succeeds { 0 < recorder.old.room → IsOk result }
         ensures token { IfErr result (λ token. token ≡ self) }

@@ -4,7 +4,7 @@ ghost use Rattle.x86_64_model.specs.Owned.{Valid};
 ghost use Rattle.x86_64_tables.specs.PageTableFlags.{bits_of};
 
 use super::{FlagUpdateError, MapToError, Tables, TranslateError, UnmapError};
-use crate::frame_alloc::FrameAllocator;
+use crate::frame_alloc::{FrameAllocator, FrameDeallocator};
 use crate::page_table::PageTableFlags;
 use x86_64_addr::index::PageTableIndex;
 use x86_64_page::frame::PhysFrame;
@@ -18,7 +18,8 @@ use x86_64_page::page::{PageSize, Size4KiB};
 /// A path has an index for each level of the hierarchy, from the highest down to that of the page's entry.
 pub trait PathCalls: Tables {
     ghost use Rattle.x86_64_model.specs.Call.{MapToWithTableFlags, Unmap, UpdateFlags, SetFlags};
-    ghost use Rattle.x86_64_model.specs.Owned.{page_translation, allows, allows_map, May, MayMap, Does, DoesMap, named};
+    ghost use Rattle.x86_64_model.specs.Owned.{page_translation, allows, allows_map, May, MayMap, MayCleanUp, Does, DoesMap, CleansUp, named};
+    ghost use Rattle.x86_64_model.specs.Path.{span_start};
     ghost use Rattle.x86_64_tables.specs.MapperAnswers.{map_answer, frame_answer, flags_answer, translate_answer};
 
     /// Maps the page of a path to a frame, as
@@ -43,7 +44,8 @@ pub trait PathCalls: Tables {
             MayMap (Self.hierarchy self.old) (A.supply frame_allocator.old) call }
         ensures does { let h = Self.hierarchy self.old in
             let call = MapToWithTableFlags path.now frame (bits_of flags) (bits_of parent_flags) in
-            DoesMap h (A.supply frame_allocator.old) call (map_answer frame result) (Self.hierarchy self.new) (A.supply frame_allocator.new) }
+            let supply = A.supply frame_allocator.old in let rest = A.supply frame_allocator.new in
+            DoesMap h supply call (map_answer frame result) (Self.hierarchy self.new) rest }
         ensures serves { A.serves frame_allocator.new ≡ A.serves frame_allocator.old };
 
     /// Tells whether the page of a path may be mapped with these flags and parent flags, as
@@ -151,4 +153,24 @@ pub trait PathCalls: Tables {
         requires levels { length path.now + S.LEVEL ≡ (Self.hierarchy self.now).layout.levels + 1 }
         requires valid { Valid (Self.hierarchy self.now) }
         ensures { translate_answer result ≡ page_translation (Self.hierarchy self.now) path.now };
+
+    /// Takes away the empty tables on the way to the 4KiB pages from one path to another, as
+    /// [`clean_up_addr_range`](super::CleanUp::clean_up_addr_range) does, and gives their frames back.
+    ///
+    /// Conditions: the hierarchy is valid, and the deallocator serves the frame of each table but the root and doesn't hold it.
+    fn clean_up_paths<D: FrameDeallocator<Size4KiB>>(
+        &mut self,
+        first: &[PageTableIndex],
+        last: &[PageTableIndex],
+        frame_deallocator: &mut D,
+    )
+        requires first { length first.now ≡ (Self.hierarchy self.old).layout.levels }
+        requires last { length last.now ≡ (Self.hierarchy self.old).layout.levels }
+        requires may { let serves = D.serves frame_deallocator.old in
+            MayCleanUp (Self.hierarchy self.old) serves (D.held frame_deallocator.old) }
+        ensures cleans { let h = Self.hierarchy self.old in let low = span_start h.layout.levels first.now in
+            let high = span_start h.layout.levels last.now + 0xfff in let after = Self.hierarchy self.new in
+            let held = D.held frame_deallocator.old in
+            CleansUp h D.put held low high after (D.held frame_deallocator.new) }
+        ensures serves { D.serves frame_deallocator.new ≡ D.serves frame_deallocator.old };
 }

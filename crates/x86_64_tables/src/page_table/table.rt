@@ -41,6 +41,9 @@ impl PageTable {
     }
 
     /// Makes all entries unused.
+    // Few maps of pages clear a table, so this stays out of the way of the others.
+    #[cold]
+    #[inline(never)]
     pub fn zero(&mut self)
         ensures { self.new ≡ zero_words }
     {
@@ -70,7 +73,8 @@ impl PageTable {
     /// Tells whether all entries are unused.
     #[tactic(auto, unfolding(x86_64_model::specs::Entry::used))]
     pub fn is_empty(&self) -> bool
-        ensures { IsTrue result ↔ All (λ word. word ≡ 0) self.now }
+        ensures empty { IsTrue result ↔ All (λ word. word ≡ 0) self.now }
+        ensures size { length self.now ≡ 512 }
     {
         self.entries.iter().all(|entry| entry.is_unused())
     }

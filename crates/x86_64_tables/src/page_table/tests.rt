@@ -1,12 +1,11 @@
 //! Tests of flags, entries and tables.
 use super::{FrameError, PageTable, PageTableEntry, PageTableFlags};
+use crate::tests::frame_at;
 use bitflags::Flags;
 use std::alloc::{AllocError, Global};
 use std::test::Fail;
 use x86_64_addr::addr::PhysAddr;
 use x86_64_addr::index::PageTableIndex;
-use x86_64_page::frame::PhysFrame;
-use x86_64_page::page::Size4KiB;
 
 #[test]
 fn flags_have_places(rt: HostRuntime) {
@@ -184,11 +183,6 @@ fn entries_are_words(rt: HostRuntime) {
         assert_eq!(rt; entry.frame(), Err(FrameNotPresent));
         assert_eq!(rt; entry.is_unused(), start == 0);
     }
-}
-
-/// Gives the 4KiB frame at an address.
-fn frame_at(start: u64) -> PhysFrame<Size4KiB> {
-    PhysFrame::containing_address(PhysAddr::new_truncate(start))
 }
 
 #[tactic(auto, unfolding(x86_64_model::specs::Entry::has))]

@@ -4,22 +4,16 @@ use super::{
 };
 use crate::frame_alloc::FramePool;
 use crate::page_table::PageTableFlags;
+use crate::tests::frame_at;
 use bitflags::Flags;
 use std::alloc::Global;
 use std::process::Abort;
 use std::test::Fail;
 use x86_64_addr::addr::{PhysAddr, VirtAddr};
 use x86_64_addr::index::PageTableIndex;
-use x86_64_page::frame::PhysFrame;
-use x86_64_page::page::Size4KiB;
 
 /// The bits of a word that are flags.
 const FLAGS_MASK: u64 = 0xfff0_0000_0000_0fff;
-
-/// Gives the frame with a start address.
-fn frame_at(start: u64) -> PhysFrame<Size4KiB> {
-    PhysFrame::containing_address(PhysAddr::new_truncate(start))
-}
 
 /// Sets the word at an index of the table in a frame.
 fn set_word(memory: &mut PhysMemory, frame: u64, index: u16, word: u64) -> Result<(), Fail> {

@@ -1,5 +1,5 @@
 //! The tests of a hierarchy: whether the words below a root are one, and whether a pool fits it.
-ghost use Rattle.std.specs.Prelude.{◌≡◌, ◌<◌, ◌↔◌, ℕ, cond, length, IfOk, IsTrue, Some, None, false, true, slice_index_or, unwrap_or};
+ghost use Rattle.std.specs.Prelude.{◌≡◌, ◌<◌, ◌↔◌, ℕ, if◌then◌else◌, length, IfOk, IsTrue, Some, None, false, true, slice_index_or, unwrap_or};
 ghost use Rattle.std.specs.FinMap.{keys};
 ghost use Rattle.std.specs.Option.{option_copied};
 ghost use Rattle.x86_64_model.specs.Entry.{huge};
@@ -66,7 +66,8 @@ pub fn pool_fits<P: PageTableFrameMapping>(
     pool: &FramePool,
 ) -> Result<bool, AllocError>
     ensures { let words = words_of memory.now (P.places mapping.now) in
-        IfOk result (λ b. IsTrue b ↔ Fits 4 None words root (paths_of 4 words root) (serves_below pool.now.limit) pool.now.frames) }
+        let serves = serves_below pool.now.limit in
+        IfOk result (λ b. IsTrue b ↔ Fits 4 None words root (paths_of 4 words root) serves pool.now.frames) }
 {
     let image = Image {
         memory,
@@ -101,7 +102,8 @@ impl<'a, P: PageTableFrameMapping> Image<'a, P> {
     ) -> Result<bool, AllocError>
         ensures { let image = self.now in let places = P.places image.mapping.now in
             let words = seen image.memory.now places image.root image.recursive in
-            IfOk result (λ b. IsTrue b ↔ SoundTables levels words self.now.root (serves_below self.now.limit) (free_in (option_copied pool.entry))) }
+            let serves = serves_below image.limit in let free = free_in (option_copied pool.entry) in
+            IfOk result (λ b. IsTrue b ↔ SoundTables levels words image.root serves free) }
     {
         let mut marks = vec![in alloc; false; self.memory.len()]?;
         Ok(self.is_sound_by(levels, pool, &mut marks))
@@ -110,10 +112,12 @@ impl<'a, P: PageTableFrameMapping> Image<'a, P> {
     /// Tells the same by marks, one for each place, which are all clear at first.
     fn is_sound_by(&self, levels: u8, pool: Option<&FramePool>, marks: &mut [bool]) -> bool
         requires length { length marks.old ≡ length (keys self.now.memory.now) }
-        requires clear { (k : ℕ) → k < length (keys self.now.memory.now) → slice_index_or marks.old k true ≡ false }
+        requires clear { (k : ℕ) → k < length (keys self.now.memory.now)
+            → slice_index_or marks.old k true ≡ false }
         ensures { let image = self.now in let places = P.places image.mapping.now in
             let words = seen image.memory.now places image.root image.recursive in
-            IsTrue result ↔ SoundTables levels words self.now.root (serves_below self.now.limit) (free_in (option_copied pool.entry)) }
+            let serves = serves_below image.limit in let free = free_in (option_copied pool.entry) in
+            IsTrue result ↔ SoundTables levels words image.root serves free }
     {
         if !self.mark_tables(marks, self.root, levels) {
             return false;
@@ -133,7 +137,7 @@ impl<'a, P: PageTableFrameMapping> Image<'a, P> {
         ensures { let image = self.now in let places = P.places image.mapping.now in
             let words = seen image.memory.now places image.root image.recursive in
             let slot = mark_slot image.memory.now places image.root image.limit in
-            cond result (Some marks.new) None ≡ mark_all slot marks.old (tables_from levels words frame) }
+            (if result then Some marks.new else None) ≡ mark_all slot marks.old (tables_from levels words frame) }
     {
         if !self.mark(marks, frame) {
             return false;
@@ -155,7 +159,7 @@ impl<'a, P: PageTableFrameMapping> Image<'a, P> {
         requires { length marks.old ≡ length (keys self.now.memory.now) }
         ensures { let image = self.now in let places = P.places image.mapping.now in
             let slot = mark_slot image.memory.now places image.root image.limit in
-            cond result (Some marks.new) None ≡ mark_all slot marks.old pool.now.frames }
+            (if result then Some marks.new else None) ≡ mark_all slot marks.old pool.now.frames }
     {
         for n in 0..pool.len() {
             if let Some(frame) = pool.frame_at(n) {
@@ -194,7 +198,7 @@ impl<'a, P: PageTableFrameMapping> Image<'a, P> {
         requires { length marks.old ≡ length (keys self.now.memory.now) }
         ensures { let image = self.now in let places = P.places image.mapping.now in
             let slot = mark_slot image.memory.now places image.root image.limit in
-            cond result (Some marks.new) None ≡ mark_one slot marks.old frame }
+            (if result then Some marks.new else None) ≡ mark_one slot marks.old frame }
     {
         match self.slot(frame) {
             Some(place) => {

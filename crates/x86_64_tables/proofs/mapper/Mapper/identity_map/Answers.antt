@@ -1,14 +1,11 @@
-use Rattle.std.proofs.Common.{◌≡◌, ◌<◌, ◌^◌, ◌-◌, ◌%◌, ℕ, List, inl, ap, ◌∙◌, subst, sym, arith}
-use Rattle.x86_64_model.specs.Call.{MapTo, IdentityMap}
-use Rattle.x86_64_model.proofs.Lemmas.Machines.Owners.{may_map_identity, identity_low, does_map_identity}
-use Rattle.x86_64_model.specs.Owned.{Hierarchy, MayMap, DoesMap, path_of}
-use Rattle.x86_64_model.specs.Position.{IsCanonical, lower_half}
+use Rattle.std.proofs.Common.{◌≡◌, ◌<◌, ◌^◌, ◌-◌, ◌%◌, ℕ, inl, ap, ◌∙◌, subst, sym, arith}
+use Rattle.x86_64_model.specs.Call.{MapTo}
+use Rattle.x86_64_model.proofs.Lemmas.Machines.Owners.{does_map_identity}
+use Rattle.x86_64_model.specs.Owned.{MayMap, DoesMap, path_of}
+use Rattle.x86_64_model.specs.Position.{IsCanonical}
 use Rattle.x86_64_tables.specs.MapperAnswers.{map_answer}
 use Rattle.x86_64_tables.specs.PageTableFlags.{bits_of}
 use Rattle.x86_64_tables.proofs.mapper.Mapper.identity_map.Goals as goal
-
-below : {Lent : Type 0} (h : Hierarchy Lent) (supply : List ℕ) (level frame given : ℕ) → h.layout.levels ≡ 4 → MayMap h supply (IdentityMap level frame given) → frame < 2 ^ 47
-below h supply level frame given four may = subst (λ L. frame < lower_half L) four (identity_low h supply level frame given may)
 
 -- the page that contains a position below 2^47 that is a multiple of the size starts there
 starts_there : (frame size value position page : ℕ) → frame < 2 ^ 47 → frame % size ≡ 0 → value ≡ frame → position ≡ value % 2 ^ 48 → page ≡ position - position % size → page ≡ frame
@@ -18,28 +15,20 @@ starts_there frame size value position page low aligned same at page_is =
     omega (arith, page_at, aligned)
 
 pub new-requires : goal.new-requires
-new-requires g c =
-    let mapper = c.args.self.now in
-    let low = below (g.Self.Tables.hierarchy mapper) (g.A.FrameAllocator.supply c.args.frame_allocator.now) g.S.PageSize.LEVEL c.args.frame (bits_of c.args.flags) (g.met.Self.PageTables.four_levels mapper) c.requires in
-    subst (IsCanonical 4) (sym (c.as_u64.ensures.value ∙ c.start_address.ensures.value)) (inl low)
+new-requires g c = subst (IsCanonical 4) (sym (c.as_u64.ensures.value ∙ c.start_address.ensures.value)) (inl c.requires.low)
 
 pub map_to-requires : goal.map_to-requires
 map_to-requires g c =
-    let mapper = c.args.self.now in
-    let h = g.Self.Tables.hierarchy mapper in
+    let h = g.Self.Tables.hierarchy c.args.self.now in
     let supply = g.A.FrameAllocator.supply c.args.frame_allocator.now in
-    let low = below h supply g.S.PageSize.LEVEL c.args.frame (bits_of c.args.flags) (g.met.Self.PageTables.four_levels mapper) c.requires in
-    let page = starts_there c.args.frame g.S.PageSize.SIZE _ _ _ low c.start_address.ensures.aligned (c.as_u64.ensures.value ∙ c.start_address.ensures.value) c.new.ensures.position c.containing_address-page.ensures in
-    subst (λ p. MayMap h supply (MapTo (path_of h g.S.PageSize.LEVEL p) c.args.frame (bits_of c.args.flags))) (sym page)
-    (may_map_identity h supply g.S.PageSize.LEVEL c.args.frame (bits_of c.args.flags) c.requires)
+    let page = starts_there c.args.frame g.S.PageSize.SIZE _ _ _ c.requires.low c.start_address.ensures.aligned (c.as_u64.ensures.value ∙ c.start_address.ensures.value) c.new.ensures.position c.containing_address-page.ensures in
+    subst (λ p. MayMap h supply (MapTo (path_of h g.S.PageSize.LEVEL p) c.args.frame (bits_of c.args.flags))) (sym page) c.requires.may
 
 pub returns-clause-does : goal.returns-clause-does
 returns-clause-does g c =
-    let mapper = c.args.self.now in
-    let h = g.Self.Tables.hierarchy mapper in
+    let h = g.Self.Tables.hierarchy c.args.self.now in
     let supply = g.A.FrameAllocator.supply c.args.frame_allocator.now in
-    let low = below h supply g.S.PageSize.LEVEL c.args.frame (bits_of c.args.flags) (g.met.Self.PageTables.four_levels mapper) c.requires in
-    let page = starts_there c.args.frame g.S.PageSize.SIZE _ _ _ low c.start_address.ensures.aligned (c.as_u64.ensures.value ∙ c.start_address.ensures.value) c.new.ensures.position c.containing_address-page.ensures in
+    let page = starts_there c.args.frame g.S.PageSize.SIZE _ _ _ c.requires.low c.start_address.ensures.aligned (c.as_u64.ensures.value ∙ c.start_address.ensures.value) c.new.ensures.position c.containing_address-page.ensures in
     let after = g.Self.Tables.hierarchy c.map_to.new.self in
     let rest = g.A.FrameAllocator.supply c.map_to.new.frame_allocator in
     let answer = map_answer c.args.frame c.map_to.result in
