@@ -9,12 +9,13 @@ use Rattle.x86_64_model.specs.Memory.{Memory, Distinct}
 use Rattle.x86_64_model.specs.Path.{parents}
 use Rattle.x86_64_model.specs.Refusal.{Refusal, Answer, Refused}
 use Rattle.x86_64_model.specs.Window.{begins_with}
-use Rattle.x86_64_mappers.specs.Goes.{goes_then}
-use Rattle.x86_64_mappers.specs.MapSteps.{mapped_from, Reached, Stopped, IsStep, IsAt, IsDown, IsPathMapped, IsLeaf}
-use Rattle.x86_64_mappers.specs.Outside.{beside_on, beside_at}
-use Rattle.x86_64_mappers.specs.Seen.{Beside}
-use Rattle.x86_64_mappers.proofs.Steps.{step, leaf}
+use Rattle.x86_64_mappers.specs.MapSteps.{mapped_from, IsAt, IsDown}
+use Rattle.x86_64_mappers.specs.Linked.{Beside}
 use Rattle.x86_64_mappers.specs.Writes.{IsMade, IsLeafSet}
+use Rattle.x86_64_mappers.proofs.Goes.{goes_then}
+use Rattle.x86_64_mappers.proofs.StepOutcomes.{Reached, Stopped, IsStep, IsPathMapped, IsLeaf}
+use Rattle.x86_64_mappers.proofs.Outside.{beside_on, beside_at}
+use Rattle.x86_64_mappers.proofs.Steps.{step, leaf}
 
 module _ (l : Layout) (m : Memory) (s : List ℕ) (more : ℕ) (path : List ℕ) where
   module _ (done left : List ℕ) (i : ℕ) (n : Memory) (rest : List ℕ) (f : ℕ) (here : IsAt l m s more path done (i ∷ left) n rest f) (o : Memory) (fs : List ℕ) where

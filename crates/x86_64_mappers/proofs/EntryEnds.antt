@@ -6,7 +6,7 @@ use Rattle.x86_64_model.specs.Call.{Unmap, UpdateFlags, SetFlags}
 use Rattle.x86_64_model.specs.MapperCalls.{after_unmap, after_update, after_set_flags}
 use Rattle.x86_64_model.specs.Owned.{Hierarchy, Does, named}
 use Rattle.x86_64_model.specs.Refusal.{Refusal, Answer, Done, Refused, refusal_of, answer_unless}
-use Rattle.x86_64_mappers.specs.EntryCalls.{Ends, IfRefused}
+use Rattle.x86_64_mappers.proofs.EntryRules.{Ends, IfRefused}
 
 -- what keeps layout and loan is the same but for the memory
 pub with_memory : {Lent : Type 0} (h after : Hierarchy Lent) → after.layout ≡ h.layout → after.lent ≡ h.lent → record h { memory = after.memory } ≡ after

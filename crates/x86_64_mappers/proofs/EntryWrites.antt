@@ -3,8 +3,8 @@ use Rattle.std.proofs.Common.{◌≡◌, ◌<◌, ◌==◌, ℕ, false, List, []
 use Rattle.x86_64_model.specs.Entry.{IsParentFlags, huge, has, flags}
 use Rattle.x86_64_model.proofs.Lemmas.Entries.Bits.{huge_flags}
 use Rattle.x86_64_model.specs.Memory.{Memory, Places, Distinct}
-use Rattle.x86_64_mappers.specs.Changed.{set_same}
 use Rattle.x86_64_mappers.specs.Writes.{IsSet, word_in_frame}
+use Rattle.x86_64_mappers.proofs.Changed.{set_same}
 
 module _ (places : Places) (m : Memory) (f i e : ℕ) (is : e ≡ word_in_frame places m f i) (n : Memory) where
   -- a word that was left as it is

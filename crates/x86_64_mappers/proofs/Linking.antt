@@ -12,12 +12,12 @@ use Rattle.x86_64_model.proofs.Lemmas.Walks.Walked.{read_there}
 use Rattle.x86_64_model.specs.Memory.{Memory, Places, Distinct, Words, word}
 use Rattle.x86_64_model.specs.PageWalk.{read}
 use Rattle.x86_64_tables.specs.PageTable.{zero_words}
-use Rattle.x86_64_mappers.specs.Changed.{not_none, set_is, set_keeps, self_set, cleared_other}
-use Rattle.x86_64_mappers.specs.Reached.{IsReached, leads_last}
-use Rattle.x86_64_mappers.specs.Seen.{Beside}
-use Rattle.x86_64_mappers.specs.Stored.{get-put, get-put_same, covered}
+use Rattle.x86_64_mappers.specs.Reached.{IsReached}
+use Rattle.x86_64_mappers.specs.Linked.{Beside, IsClearedFirst, MayLink, NotOnWay}
 use Rattle.x86_64_mappers.specs.Writes.{IsThere, IsSet, IsCleared, IsTaken, word_in_frame}
-use Rattle.x86_64_mappers.specs.Linked.{IsClearedFirst, MayLink, NotOnWay}
+use Rattle.x86_64_mappers.proofs.Changed.{not_none, set_is, set_keeps, self_set, cleared_other}
+use Rattle.x86_64_mappers.proofs.ReachedSteps.{leads_last}
+use Rattle.x86_64_mappers.proofs.Stored.{get-put, get-put_same, covered}
 
 -- ---- the two writes in either order
 

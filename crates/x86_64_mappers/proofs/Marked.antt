@@ -16,11 +16,12 @@ use Rattle.x86_64_model.specs.Memory.{Memory, Distinct, word, set_word}
 use Rattle.x86_64_model.specs.Path.{parents}
 use Rattle.x86_64_model.specs.PathMap.{PathMap, entry, put, table_of, table_at}
 use Rattle.x86_64_model.specs.Refusal.{Refused, ParentEntryHugePage}
-use Rattle.x86_64_mappers.specs.Changed.{set_others, set_keeps, seen_set, self_set}
-use Rattle.x86_64_mappers.specs.Goes.{Goes}
-use Rattle.x86_64_mappers.specs.MapSteps.{mapped_from, Reached, Stopped}
-use Rattle.x86_64_mappers.specs.Seen.{seen, Beside, seen_word, seen_table}
+use Rattle.x86_64_mappers.specs.MapSteps.{Goes, mapped_from}
+use Rattle.x86_64_mappers.specs.Linked.{Beside}
 use Rattle.x86_64_mappers.specs.Writes.{IsMarked}
+use Rattle.x86_64_mappers.proofs.Changed.{set_others, set_keeps, seen_set, self_set}
+use Rattle.x86_64_mappers.proofs.StepOutcomes.{Reached, Stopped}
+use Rattle.x86_64_mappers.proofs.Seen.{seen, seen_word, seen_table}
 use Rattle.x86_64_mappers.proofs.Written.{entry_is, goes_to, own_place, same_tables_last}
 
 -- what is left of the rule at the next parent

@@ -20,13 +20,15 @@ use Rattle.x86_64_model.specs.PathMap.{PathMap, entry, put, table_of, table_at}
 use Rattle.x86_64_model.specs.Refusal.{FrameAllocationFailed}
 use Rattle.x86_64_model.specs.Window.{SelfEntry}
 use Rattle.x86_64_tables.specs.PageTable.{zero_words}
-use Rattle.x86_64_mappers.specs.Changed.{not_none, set_others, set_keeps, seen_set, self_set, cleared_other, cleared_here, cleared_other_word, cleared_words, cleared_keeps}
-use Rattle.x86_64_mappers.specs.Goes.{goes_nothing}
-use Rattle.x86_64_mappers.specs.MapSteps.{mapped_from, Reached, Stopped}
-use Rattle.x86_64_mappers.proofs.Marked.{rest_same, descends}
-use Rattle.x86_64_mappers.specs.Seen.{seen, Beside, seen_word, seen_table, seen_some, seen_same, self_kept}
-use Rattle.x86_64_mappers.specs.Stored.{get-put}
+use Rattle.x86_64_mappers.specs.MapSteps.{mapped_from}
+use Rattle.x86_64_mappers.specs.Linked.{Beside}
 use Rattle.x86_64_mappers.specs.Writes.{IsSet, IsCleared}
+use Rattle.x86_64_mappers.proofs.Changed.{not_none, set_others, set_keeps, seen_set, self_set, cleared_other, cleared_here, cleared_other_word, cleared_words, cleared_keeps}
+use Rattle.x86_64_mappers.proofs.Goes.{goes_nothing}
+use Rattle.x86_64_mappers.proofs.StepOutcomes.{Reached, Stopped}
+use Rattle.x86_64_mappers.proofs.Marked.{rest_same, descends}
+use Rattle.x86_64_mappers.proofs.Seen.{seen, seen_word, seen_table, seen_some, seen_same, self_kept}
+use Rattle.x86_64_mappers.proofs.Stored.{get-put}
 use Rattle.x86_64_mappers.proofs.Written.{entry_is, unused_leads, goes_to, own_place}
 
 taken_last : (L root : ℕ) (M : PathMap) (f : ℕ) (fs : List ℕ) (p : List ℕ) (i e : ℕ) → table_of L (p ++ i ∷ []) e ≡ Some f → table_at L root M (p ++ i ∷ []) ≡ None → Conserves L root M (f ∷ fs) (put M (p ++ i ∷ []) e) fs

@@ -23,13 +23,14 @@ use Rattle.x86_64_model.specs.Memory.{Memory, Distinct, word}
 use Rattle.x86_64_model.specs.Path.{parents}
 use Rattle.x86_64_model.specs.PathMap.{PathMap, entry, table_of, table_at}
 use Rattle.x86_64_model.specs.Window.{begins_with}
-use Rattle.x86_64_mappers.specs.Finds.{next_parents}
 use Rattle.x86_64_mappers.specs.Linked.{MayLink, NotOnWay}
-use Rattle.x86_64_mappers.specs.MapSteps.{Opens}
 use Rattle.x86_64_mappers.specs.OpenWay.{WillBePresent, IsOpenWay}
-use Rattle.x86_64_mappers.specs.Outside.{beside_at}
-use Rattle.x86_64_mappers.specs.Reached.{IsReached, leads_last}
-use Rattle.x86_64_mappers.specs.Seen.{seen, seen_word, there_seen}
+use Rattle.x86_64_mappers.specs.Reached.{IsReached}
+use Rattle.x86_64_mappers.proofs.Finds.{next_parents}
+use Rattle.x86_64_mappers.proofs.StepOutcomes.{Opens}
+use Rattle.x86_64_mappers.proofs.Outside.{beside_at}
+use Rattle.x86_64_mappers.proofs.ReachedSteps.{leads_last}
+use Rattle.x86_64_mappers.proofs.Seen.{seen, seen_word, there_seen}
 use Rattle.x86_64_mappers.proofs.Written.{entry_is}
 
 -- ---- the tables on the way

@@ -9,10 +9,11 @@ use Rattle.x86_64_model.specs.MapperCalls.{IsReady, IsMapped}
 use Rattle.x86_64_model.specs.Memory.{Memory, Distinct}
 use Rattle.x86_64_model.specs.Refusal.{Refusal, Answer, Refused}
 use Rattle.x86_64_model.specs.Window.{begins_with}
-use Rattle.x86_64_mappers.proofs.Down.{path_mapped, path_refused}
-use Rattle.x86_64_mappers.specs.MapSteps.{IsDown, IsPathMapped, IsLeaf}
-use Rattle.x86_64_mappers.specs.Pages.{path_parted, small_page}
+use Rattle.x86_64_mappers.specs.MapSteps.{IsDown}
 use Rattle.x86_64_mappers.specs.Writes.{IsLeafSet}
+use Rattle.x86_64_mappers.proofs.Down.{path_mapped, path_refused}
+use Rattle.x86_64_mappers.proofs.StepOutcomes.{IsPathMapped, IsLeaf}
+use Rattle.x86_64_mappers.proofs.Pages.{path_parted, small_page}
 
 -- the entry of a page may stand at its path
 pub page_leaf : (L : ℕ) (q : List ℕ) → L ≤ length q + 2 → (frame given : ℕ) → IsLeaf L q (leaf_entry L q frame given)

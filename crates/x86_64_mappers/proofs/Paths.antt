@@ -1,6 +1,8 @@
 -- Paths, in slices of indices.
-use Rattle.std.proofs.Common.{◌≡◌, ◌<◌, ◌≤◌, ◌+◌, ◌-◌, ℕ, List, length, get_or, arith}
+use Rattle.std.proofs.Common.{◌≡◌, ◌<◌, ◌≤◌, ◌+◌, ◌-◌, ◌==◌, ◌&&◌, ℕ, Bool, List, [], ◌∷◌, length, get_or, refl, ap₂, arith}
 use Rattle.std.proofs.lemmas.List.{get_or_read}
+use Rattle.std.specs.List.{starts_with}
+use Rattle.x86_64_model.specs.Path.{begins}
 
 -- a path has a last index
 pub has_last_index : (q : List ℕ) → 0 < length q → length q ≡ length q - 1 + 1
@@ -19,3 +21,9 @@ page_below_root L level some high = omega (arith, some, high)
 
 pub positive_levels : (L : ℕ) → 3 < L → 0 < L
 positive_levels L some = omega (arith, some)
+
+-- whether a slice starts with a path
+pub begins_from : (E : ℕ → ℕ → Bool) → ((i j : ℕ) → E i j ≡ (i == j)) → (q p : List ℕ) → starts_with E p q ≡ begins q p
+begins_from E same [] p = refl
+begins_from E same (i ∷ q) [] = refl
+begins_from E same (i ∷ q) (j ∷ p) = ap₂ (λ a b. a && b) (same i j) (begins_from E same q p)

@@ -13,11 +13,12 @@ use Rattle.x86_64_model.specs.PageWalk.{page_start}
 use Rattle.x86_64_model.specs.Position.{index, span, page_path}
 use Rattle.x86_64_model.specs.Refusal.{PageNotMapped, ParentEntryHugePage}
 use Rattle.x86_64_model.specs.Translation.{Translated, NotMapped, Mapped, translate_on, translate}
-use Rattle.x86_64_mappers.specs.Finds.{NamesTable}
-use Rattle.x86_64_mappers.specs.Reached.{IsReached, here_first, reached_next}
-use Rattle.x86_64_mappers.specs.Stops.{table_below}
 use Rattle.x86_64_tables.specs.PageTableEntry.{frame_of}
 use Rattle.x86_64_tables.specs.declared.page_table.entry.FrameError.TheVariants.{FrameNotPresent, HugeFrame}
+use Rattle.x86_64_mappers.specs.Reached.{IsReached}
+use Rattle.x86_64_mappers.specs.Stops.{table_below}
+use Rattle.x86_64_mappers.proofs.Finds.{NamesTable}
+use Rattle.x86_64_mappers.proofs.ReachedSteps.{here_first, reached_next}
 
 -- what an entry of level two or more says, where rest is what those below it say
 abbrev says : (p level e : ℕ) → (rest : Translated) → Translated

@@ -7,12 +7,13 @@ use Rattle.x86_64_model.specs.MapperCalls.{IsReady}
 use Rattle.x86_64_model.specs.Memory.{Memory, Distinct, word}
 use Rattle.x86_64_model.specs.PathMap.{PathMap, put, table_at}
 use Rattle.x86_64_model.specs.Refusal.{Refusal, PageNotMapped, ParentEntryHugePage, InvalidFrameAddress, PageAlreadyMapped, FrameAllocationFailed, Answer, Done, Refused}
-use Rattle.x86_64_mappers.specs.Goes.{Goes, goes_nothing}
-use Rattle.x86_64_mappers.specs.MapSteps.{mapped_from, Reached, Stopped, IsStep, IsLeaf}
+use Rattle.x86_64_mappers.specs.MapSteps.{Goes, mapped_from}
+use Rattle.x86_64_mappers.specs.Linked.{Beside}
+use Rattle.x86_64_mappers.specs.Writes.{IsMade, IsLeafSet}
+use Rattle.x86_64_mappers.proofs.Goes.{goes_nothing}
+use Rattle.x86_64_mappers.proofs.StepOutcomes.{Reached, Stopped, IsStep, IsLeaf}
 use Rattle.x86_64_mappers.proofs.Marked.{reached_used, stopped_huge}
 use Rattle.x86_64_mappers.proofs.NewTables.{reached_new, stopped_empty}
-use Rattle.x86_64_mappers.specs.Seen.{Beside}
-use Rattle.x86_64_mappers.specs.Writes.{IsMade, IsLeafSet}
 use Rattle.x86_64_mappers.proofs.Written.{entry_is, unused_leads, written}
 
 module _ (l : Layout) (apart : Distinct l.places) (m : Memory) (pre : List ℕ) (i f : ℕ) (leads : table_at l.levels l.root (paths l m) pre ≡ Some f) (small : i < 512) (beside : Beside l.window l.root f i) (more : ℕ) where

@@ -16,10 +16,11 @@ use Rattle.x86_64_model.specs.Path.{level_of}
 use Rattle.x86_64_model.specs.PathMap.{PathMap, entry, put, table_of, table_at}
 use Rattle.x86_64_model.specs.Pool.{IsTable, IsOwn}
 use Rattle.x86_64_model.specs.Window.{SelfEntry}
-use Rattle.x86_64_mappers.specs.Changed.{set_others, set_keeps, seen_set, self_set}
-use Rattle.x86_64_mappers.specs.Goes.{Goes}
-use Rattle.x86_64_mappers.specs.Seen.{seen, Beside, seen_word, seen_table}
+use Rattle.x86_64_mappers.specs.MapSteps.{Goes}
+use Rattle.x86_64_mappers.specs.Linked.{Beside}
 use Rattle.x86_64_mappers.specs.Writes.{IsSet}
+use Rattle.x86_64_mappers.proofs.Changed.{set_others, set_keeps, seen_set, self_set}
+use Rattle.x86_64_mappers.proofs.Seen.{seen, seen_word, seen_table}
 
 -- a write at a path's end that leaves the table that it leads to
 pub same_tables_last : (L root : ℕ) (M : PathMap) (p : List ℕ) (i e : ℕ) → table_of L (p ++ i ∷ []) e ≡ table_at L root M (p ++ i ∷ []) → (q : List ℕ) → table_at L root (put M (p ++ i ∷ []) e) q ≡ table_at L root M q

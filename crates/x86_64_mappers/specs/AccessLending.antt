@@ -1,14 +1,20 @@
 -- What a mapper is once a table or an entry that it lent comes back.
 use Rattle.std.specs.Prelude.{ℕ, List, [], unwrap_or}
 use Rattle.std.specs.Borrow.{Lends, MutBor, Fml, RattleType}
+use Rattle.std.specs.FinMap.{insert}
 use Rattle.x86_64_model.specs.Layout.{Layout, words}
 use Rattle.x86_64_model.specs.Memory.{Memory}
+use Rattle.x86_64_model.specs.Owned.{Hierarchy}
 use Rattle.x86_64_tables.specs.contracts.page_table.entry.PageTableEntry.{the_row as entry_row}
 use Rattle.x86_64_tables.specs.contracts.page_table.table.PageTable.{the_row as table_row}
 
 -- the table in a frame
 abbrev pub table_in : Layout → Memory → (frame : ℕ) → List ℕ
 table_in l m f = unwrap_or (words l m f) []
+
+-- the memory with another table in a frame
+abbrev pub put_table : {Lent : Type 0} → Hierarchy Lent → (frame : ℕ) → List ℕ → Memory
+put_table h f table = insert h.memory (h.layout.places.place f) table
 
 -- a mapper of a type ends as F makes it of the last table behind r
 abbrev pub LendsTableBy : (mapper : RattleType) → MutBor mapper.Denot → (r : MutBor (List ℕ)) → (F : List ℕ → mapper.Denot) → Fml

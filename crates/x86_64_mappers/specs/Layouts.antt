@@ -1,7 +1,5 @@
 -- The layouts of mappers.
-use Rattle.std.specs.Prelude.{◌<◌, ℕ, List, Option, None, IsSome}
-use Rattle.std.proofs.Common.{refl, lit≤}
-use Rattle.x86_64_model.specs.Entry.{IsParentFlags, address}
+use Rattle.std.specs.Prelude.{ℕ, List, Option, None, IsSome}
 use Rattle.x86_64_model.specs.Layout.{Layout, words}
 use Rattle.x86_64_model.specs.Memory.{Memory, Places}
 use Rattle.x86_64_model.specs.Owned.{Hierarchy}
@@ -13,15 +11,6 @@ direct places root = record { levels = 4; places = places; root = root; window =
 -- such a hierarchy in a memory, and which memory was lent, and what finds frames in it
 abbrev pub owned : {Lent : Type 0} → Places → (root : ℕ) → Memory → Lent → Hierarchy Lent
 owned places root memory lent = record { layout = direct places root; memory = memory; lent = lent }
-
--- no flags are flags that an entry above a page may have
-pub no_flags : IsParentFlags 0
-unfolding address
-no_flags = record { no_address = refl; not_huge = refl }
-
--- four is a level above those of pages
-pub above_three : 3 < 4
-above_three = lit≤ tt
 
 -- the table in the root's frame
 abbrev pub root_table : {Lent : Type 0} → Hierarchy Lent → Option (List ℕ)

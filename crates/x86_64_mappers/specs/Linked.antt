@@ -1,12 +1,16 @@
 -- A new table that is linked before it is cleared, so that it can be cleared through the entry that names it.
-use Rattle.std.specs.Prelude.{◌≡◌, ◌≢◌, ℕ, true, List, ◌∷◌, ◌++◌, take, get_or, Some}
+use Rattle.std.specs.Prelude.{◌≡◌, ◌≢◌, ℕ, true, List, ◌∷◌, ◌++◌, take, get_or, Option, Some}
 use Rattle.x86_64_model.specs.Arrivals.{leads}
 use Rattle.x86_64_model.specs.Entry.{IsParentFlags, present}
 use Rattle.x86_64_model.specs.Layout.{Layout, words}
 use Rattle.x86_64_model.specs.Memory.{Memory, Places, Words}
+use Rattle.x86_64_model.specs.Window.{Window}
 use Rattle.x86_64_mappers.specs.Reached.{IsReached}
-use Rattle.x86_64_mappers.specs.Seen.{Beside}
 use Rattle.x86_64_mappers.specs.Writes.{IsThere, IsSet, IsCleared}
+
+-- word i of the frame f isn't the root's at the recursive index
+abbrev pub Beside : Option Window → (root f i : ℕ) → Type 0
+Beside window root f i = (v : Window) → window ≡ Some v → f ≡ root → i ≢ v.index
 
 -- no frame that the words lead to before the path's end is this one
 abbrev pub NotOnWay : Words → (root : ℕ) → (path : List ℕ) → (f : ℕ) → Type 0

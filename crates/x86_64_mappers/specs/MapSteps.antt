@@ -1,43 +1,24 @@
 -- How a map goes down its path: what a memory and a supply have become, and what is left to do.
-use Rattle.std.specs.Prelude.{◌≡◌, ◌⊎◌, ◌<◌, ℕ, true, false, List, [], ◌∷◌, ◌++◌, map, Some, None, Result, Ok, Err}
-use Rattle.x86_64_model.specs.Entry.{present, huge}
+use Rattle.std.specs.Prelude.{◌≡◌, ℕ, List, [], ◌∷◌, ◌++◌, map, Some, Result, Ok, Err}
 use Rattle.x86_64_model.specs.Layout.{Layout, paths}
-use Rattle.x86_64_model.specs.MapRule.{AfterMap, map_rule}
+use Rattle.x86_64_model.specs.Lists.{In}
+use Rattle.x86_64_model.specs.MapperCalls.{IsReady, Owns, Uses, KeepsOthers}
 use Rattle.x86_64_model.specs.Memory.{Memory}
-use Rattle.x86_64_model.specs.Path.{parents, level_of}
-use Rattle.x86_64_model.specs.PathMap.{PathMap, entry, put, table_of, table_at}
-use Rattle.x86_64_model.specs.Refusal.{Refusal, Answer, Refused}
-use Rattle.x86_64_mappers.specs.Goes.{Goes}
+use Rattle.x86_64_model.specs.MapRule.{AfterMap, map_rule}
+use Rattle.x86_64_model.specs.Path.{parents}
+use Rattle.x86_64_model.specs.PathMap.{PathMap, table_at}
+use Rattle.x86_64_model.specs.Refusal.{Refusal, Refused}
+
+-- no frame is owned that wasn't, and other frames keep their words
+pub record Goes (l : Layout) (m : Memory) (s : List ℕ) (n : Memory) (rest : List ℕ) : Type 0 where
+  pub ready : IsReady l n rest
+  pub own : (f : ℕ) → Owns l n rest f → Owns l m s f
+  pub within : (f : ℕ) → In rest f → In s f
+  pub others : KeepsOthers l.places (Uses l m s rest) m n
 
 -- what a map does from the table at the path pre, where r is left of the page's path
 abbrev pub mapped_from : PathMap → (supply : List ℕ) → (more added : ℕ) → (pre r : List ℕ) → (e frame : ℕ) → AfterMap
 mapped_from M s more added pre r e frame = map_rule M s more added (map (λ x. pre ++ x) (parents r)) (pre ++ r) e frame
-
--- The entry at the path p, which wasn't huge, came to be one that names a table: present where it was, or where the parent flags have
--- PRESENT.
-pub record Opens (M : PathMap) (more : ℕ) (p : List ℕ) (N : PathMap) : Type 0 where
-  pub word : ℕ
-  pub is : put M p word ≡ N
-  pub was_plain : huge (entry M p) ≡ false
-  pub is_present : (present more ≡ true) ⊎ (present (entry M p) ≡ true) → present word ≡ true
-
--- one step down from the table at pre reached the table g
-pub record Reached (l : Layout) (m : Memory) (s : List ℕ) (more : ℕ) (pre : List ℕ) (i : ℕ) (n : Memory) (rest : List ℕ) (g : ℕ) : Type 0 where
-  pub goes : Goes l m s n rest
-  pub leads : table_at l.levels l.root (paths l n) (pre ++ i ∷ []) ≡ Some g
-  pub opens : Opens (paths l m) more (pre ++ i ∷ []) (paths l n)
-  pub outcome : (j : ℕ) (r : List ℕ) (e frame : ℕ)
-      → mapped_from (paths l m) s more l.added_flags pre (i ∷ j ∷ r) e frame ≡ mapped_from (paths l n) rest more l.added_flags (pre ++ i ∷ []) (j ∷ r) e frame
-
--- or was refused
-pub record Stopped (l : Layout) (m : Memory) (s : List ℕ) (more : ℕ) (pre : List ℕ) (i : ℕ) (n : Memory) (rest : List ℕ) (why : Refusal) : Type 0 where
-  pub goes : Goes l m s n rest
-  pub outcome : (j : ℕ) (r : List ℕ) (e frame : ℕ)
-      → mapped_from (paths l m) s more l.added_flags pre (i ∷ j ∷ r) e frame ≡ record { paths = paths l n; supply = rest; answer = Refused why }
-
-abbrev pub IsStep : Layout → Memory → (supply : List ℕ) → (more : ℕ) → (pre : List ℕ) → (i : ℕ) → Result ℕ Refusal → Memory → (rest : List ℕ) → Type 0
-IsStep l m s more pre i (Ok g) n rest = Reached l m s more pre i n rest g
-IsStep l m s more pre i (Err why) n rest = Stopped l m s more pre i n rest why
 
 -- the way down the parents: `done` are the indices so far, which led to the table g, and `left` those to come
 pub record IsAt (l : Layout) (m : Memory) (s : List ℕ) (more : ℕ) (path done left : List ℕ) (n : Memory) (rest : List ℕ) (g : ℕ) : Type 0 where
@@ -46,6 +27,7 @@ pub record IsAt (l : Layout) (m : Memory) (s : List ℕ) (more : ℕ) (path done
   pub outcome : (last e frame : ℕ)
       → mapped_from (paths l m) s more l.added_flags [] (path ++ last ∷ []) e frame ≡ mapped_from (paths l n) rest more l.added_flags done (left ++ last ∷ []) e frame
 
+-- the way down was refused, wherever the last index leads
 pub record IsRefused (l : Layout) (m : Memory) (s : List ℕ) (more : ℕ) (path : List ℕ) (n : Memory) (rest : List ℕ) (why : Refusal) : Type 0 where
   pub goes : Goes l m s n rest
   pub outcome : (last e frame : ℕ)
@@ -55,13 +37,3 @@ pub record IsRefused (l : Layout) (m : Memory) (s : List ℕ) (more : ℕ) (path
 abbrev pub IsDown : Layout → Memory → (supply : List ℕ) → (more : ℕ) → (path : List ℕ) → Result ℕ Refusal → Memory → (rest : List ℕ) → Type 0
 IsDown l m s more path (Ok g) n rest = IsAt l m s more path path [] n rest g
 IsDown l m s more path (Err why) n rest = IsRefused l m s more path n rest why
-
--- the path q was mapped to the entry e, which names the frame, or a refusal
-pub record IsPathMapped (l : Layout) (m : Memory) (s : List ℕ) (more : ℕ) (q : List ℕ) (e frame : ℕ) (answer : Answer) (n : Memory) (rest : List ℕ) : Type 0 where
-  pub goes : Goes l m s n rest
-  pub outcome : map_rule (paths l m) s more l.added_flags (parents q) q e frame ≡ record { paths = paths l n; supply = rest; answer = answer }
-
--- a word that may be the entry of a page at a path
-pub record IsLeaf (L : ℕ) (q : List ℕ) (e : ℕ) : Type 0 where
-  pub no_table : table_of L q e ≡ None
-  pub none_huge : 3 < level_of L q → huge e ≡ false

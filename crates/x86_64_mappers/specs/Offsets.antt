@@ -1,19 +1,9 @@
 -- Frames that are found at an offset: the whole memory stands in the virtual address space, from an address on.
-use Rattle.std.specs.Prelude.{◌≡◌, ◌↔◌, IsTrue, ℕ, Bool, true, false, cond, List, Option, Some, None, IsSome, ◌+◌, ◌-◌, ◌*◌, ◌/◌, ◌^◌, ◌&&◌, ◌||◌, nat_lt, nat_le}
-use Rattle.std.specs.Cmp.{both_ways}
+use Rattle.std.specs.Prelude.{◌+◌, ◌-◌, ◌*◌, ◌/◌, ◌^◌, ◌&&◌, ◌||◌, ℕ, Bool, IsSome, nat_lt, nat_le}
 use Rattle.std.specs.FinMap.{get}
-use Rattle.std.proofs.Common.{arith, refl, sym, ap, ap₂, ◌∙◌, subst, inl, inr, eqb-true, lt-ltb, le-leb, ltb-true, leb-true}
-use Rattle.std.proofs.lemmas.Bool.{and_parts}
 use Rattle.x86_64_model.specs.Entry.{is_frame}
-use Rattle.x86_64_model.specs.Hierarchy.{paths_of}
-use Rattle.x86_64_model.specs.Layout.{Valid, paths}
-use Rattle.x86_64_model.proofs.Lemmas.Entries.Bits.{same_frame}
-use Rattle.x86_64_model.proofs.Lemmas.Entries.Words.{address_aligned}
-use Rattle.x86_64_model.specs.Memory.{IsMapping, Memory, Places, Words, identity_places, words_of}
-use Rattle.x86_64_model.specs.Pool.{Fits}
+use Rattle.x86_64_model.specs.Memory.{Memory, Places}
 use Rattle.x86_64_model.specs.Position.{raw, lower_half, IsCanonical}
-use Rattle.x86_64_model.specs.Window.{IsValidFor, outside_window}
-use Rattle.x86_64_mappers.specs.Layouts.{direct}
 
 -- whether the sum of the offset and of a frame's address is canonical, and so below 2^64
 unfoldable pub is_reached : (offset frame : ℕ) → Bool
@@ -28,77 +18,3 @@ offset_places offset = record { covers = λ f. is_frame f && is_reached offset f
 -- each place of the memory is reached
 abbrev pub OffsetFits : Memory → (offset : ℕ) → Type 0
 OffsetFits memory offset = (place : ℕ) → IsSome (get memory place) → IsCanonical 4 (raw 4 offset + place * 4096)
-
-pub reached_from_canonical : (offset frame : ℕ) → IsCanonical 4 (raw 4 offset + frame) → is_reached offset frame ≡ true
-unfolding is_reached
-reached_from_canonical offset frame (inl low) =
-    ap (λ b. b || (nat_le (2 ^ 64 - lower_half 4) (raw 4 offset + frame) && nat_lt (raw 4 offset + frame) (2 ^ 64))) (lt-ltb (raw 4 offset + frame) (lower_half 4) low)
-reached_from_canonical offset frame (inr high) =
-    let sum = raw 4 offset + frame in
-    ap₂ (λ a b. nat_lt sum (lower_half 4) || (a && b)) (le-leb (2 ^ 64 - lower_half 4) sum high.0) (lt-ltb sum (2 ^ 64) high.1)
-    ∙ either (nat_lt sum (lower_half 4))
-  where
-    either : (b : Bool) → (b || true) ≡ true
-    either true = refl
-    either false = refl
-
-pub canonical_from_reached : (offset frame : ℕ) → is_reached offset frame ≡ true → IsCanonical 4 (raw 4 offset + frame)
-unfolding is_reached
-canonical_from_reached offset frame = by (nat_lt (raw 4 offset + frame) (lower_half 4)) refl
-  where
-    sum : ℕ
-    sum = raw 4 offset + frame
-
-    by : (b : Bool) → nat_lt sum (lower_half 4) ≡ b → (b || (nat_le (2 ^ 64 - lower_half 4) sum && nat_lt sum (2 ^ 64))) ≡ true → IsCanonical 4 sum
-    by true low h = inl (ltb-true sum (lower_half 4) low)
-    by false low h =
-        let p = and_parts (nat_le (2 ^ 64 - lower_half 4) sum) (nat_lt sum (2 ^ 64)) h in
-        inr (leb-true (2 ^ 64 - lower_half 4) sum p.0, ltb-true sum (2 ^ 64) p.1)
-
--- a test of that is whether the frame is reached
-pub reached_alike : (test : Bool) (offset frame : ℕ) → IsTrue test ↔ IsCanonical 4 (raw 4 offset + frame) → test ≡ is_reached offset frame
-reached_alike test offset frame is =
-    both_ways test (is_reached offset frame) (λ h. reached_from_canonical offset frame (is.0 h)) (λ h. is.1 (canonical_from_reached offset frame h))
-
-pub offset_is_mapping : (offset : ℕ) → IsMapping (offset_places offset)
-offset_is_mapping offset = record {
-  frames = λ f h. (and_parts (is_frame f) (is_reached offset f) h).0;
-  distinct = λ f g a b e. same_frame f g (and_parts (is_frame f) (is_reached offset f) a).0 (and_parts (is_frame g) (is_reached offset g) b).0 e;
-}
-
--- a memory that is reached has the same tables in the same frames at the offset as by the identity mapping
-pub offset_words : (memory : Memory) (offset : ℕ) → OffsetFits memory offset → words_of memory (offset_places offset) ≡ words_of memory identity_places
-offset_words memory offset fits = λ n f. at f n
-  where
-    same : (b : Bool) (o : Option (List ℕ)) → cond b o o ≡ o
-    same true o = refl
-    same false o = refl
-
-    here : (f : ℕ) (o : Option (List ℕ)) → get memory (f / 4096) ≡ o → is_frame f ≡ true → cond (is_reached offset f) o None ≡ o
-    here f None is frame = same (is_reached offset f) None
-    here f (Some table) is frame =
-        let number : f / 4096 * 4096 ≡ f = omega (arith, address_aligned f, eqb-true _ f frame) in
-        let there : IsSome (get memory (f / 4096)) = subst IsSome (sym is) refl in
-        ap (λ b. cond b (Some table) None) (reached_from_canonical offset f (subst (λ n. IsCanonical 4 (raw 4 offset + n)) number (fits (f / 4096) there)))
-
-    by : (f : ℕ) (b : Bool) → is_frame f ≡ b → cond (b && is_reached offset f) (get memory (f / 4096)) None ≡ cond b (get memory (f / 4096)) None
-    by f true frame = here f (get memory (f / 4096)) refl frame
-    by f false frame = refl
-
-    at : (f : ℕ) → words_of memory (offset_places offset) f ≡ words_of memory identity_places f
-    at f = by f (is_frame f) refl
-
--- what is so of the tables by the one is so by the other
-alike : (memory : Memory) (offset : ℕ) → OffsetFits memory offset → (P : Words → Type 0) → P (words_of memory identity_places) ↔ P (words_of memory (offset_places offset))
-alike memory offset fits P = let same = offset_words memory offset fits in (subst P (sym same), subst P same)
-
--- a hierarchy is valid by both alike
-pub offset_valid : (memory : Memory) (offset : ℕ) → OffsetFits memory offset
-    → (root : ℕ) → Valid (direct identity_places root) memory ↔ Valid (direct (offset_places offset) root) memory
-offset_valid memory offset fits root = alike memory offset fits (λ words. IsValidFor 4 None words root (paths_of 4 (outside_window None root words) root))
-
--- and a pool fits it alike
-pub offset_fits : (memory : Memory) (offset : ℕ) → OffsetFits memory offset → (root : ℕ) (serves : ℕ → Bool) (pool : List ℕ)
-    → Fits 4 None (words_of memory identity_places) root (paths (direct identity_places root) memory) serves pool
-    ↔ Fits 4 None (words_of memory (offset_places offset)) root (paths (direct (offset_places offset) root) memory) serves pool
-offset_fits memory offset fits root serves pool = alike memory offset fits (λ words. Fits 4 None words root (paths_of 4 (outside_window None root words) root) serves pool)

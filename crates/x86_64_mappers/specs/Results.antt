@@ -1,15 +1,16 @@
 -- The results of a mapper's steps, with refusals in place of the errors.
-use Rattle.std.specs.Prelude.{ℕ, Result, Ok, Err}
+use Rattle.std.specs.Prelude.{Result, Ok, Err}
+use Rattle.x86_64_model.specs.Refusal.{Refusal}
 use Rattle.x86_64_model.specs.Refusal as refusal
-use Rattle.x86_64_model.specs.Refusal.{Refusal, Answer, Done, Refused}
 use Rattle.x86_64_tables.specs.MapperAnswers.{unmap_refusal, translate_refusal}
 use Rattle.x86_64_tables.specs.declared.mapper.UnmapError.{UnmapError}
 use Rattle.x86_64_tables.specs.declared.mapper.TranslateError.{TranslateError}
 use Rattle.x86_64_mappers.specs.declared.access.find.PageTableWalkError.{PageTableWalkError}
-use Rattle.x86_64_mappers.specs.declared.access.find.PageTableWalkError.TheVariants as walk
 use Rattle.x86_64_mappers.specs.declared.access.map.PageTableCreateError.{PageTableCreateError}
 use Rattle.x86_64_mappers.specs.declared.access.map.PageTableCreateError.TheVariants.{MappedToHugePage, FrameAllocationFailed}
+use Rattle.x86_64_mappers.specs.declared.access.find.PageTableWalkError.TheVariants as walk
 
+-- the refusal that the error of a step of a map is
 abbrev pub create_refusal : PageTableCreateError → Refusal
 create_refusal MappedToHugePage = refusal.ParentEntryHugePage
 create_refusal FrameAllocationFailed = refusal.FrameAllocationFailed
@@ -19,6 +20,7 @@ abbrev pub create_result : {X : Type 0} → Result X PageTableCreateError → Re
 create_result (Ok x) = Ok x
 create_result (Err why) = Err (create_refusal why)
 
+-- the refusal that the error of a step down is
 abbrev pub walk_refusal : PageTableWalkError → Refusal
 walk_refusal walk.NotMapped = refusal.PageNotMapped
 walk_refusal walk.MappedToHugePage = refusal.ParentEntryHugePage
@@ -37,8 +39,3 @@ translate_result (Err why) = Err (translate_refusal why)
 abbrev pub unmap_result : {X : Type 0} → Result X UnmapError → Result X Refusal
 unmap_result (Ok x) = Ok x
 unmap_result (Err why) = Err (unmap_refusal why)
-
--- the answer of a call
-abbrev pub answer_of : Result ℕ Refusal → Answer
-answer_of (Ok frame) = Done frame
-answer_of (Err why) = Refused why

@@ -1,9 +1,8 @@
 -- The way down the parents of a page, where no table is made: to the table that their path leads to, or to the first stop.
-use Rattle.std.specs.Prelude.{◌≡◌, ℕ, ◌&&◌, not, cond, List, [], ◌∷◌, ◌++◌, map, find, Option, Some, None, IsSome, option_map, Result, Ok, Err}
+use Rattle.std.specs.Prelude.{◌≡◌, ℕ, not, cond, List, [], ◌∷◌, ◌++◌, Option, Some, None, IsSome, Result, Ok, Err}
 use Rattle.x86_64_model.specs.Entry.{present, huge, address}
 use Rattle.x86_64_model.specs.Layout.{Layout, words, read_entry}
 use Rattle.x86_64_model.specs.Memory.{Memory, word}
-use Rattle.x86_64_model.specs.Path.{parents}
 use Rattle.x86_64_model.specs.PathMap.{table_of}
 use Rattle.x86_64_model.specs.Refusal.{Refusal, ParentEntryHugePage, PageNotMapped, first_stop}
 
@@ -11,31 +10,16 @@ use Rattle.x86_64_model.specs.Refusal.{Refusal, ParentEntryHugePage, PageNotMapp
 abbrev pub table_below : (entry : ℕ) → Result ℕ Refusal
 table_below e = cond (not (present e)) (Err PageNotMapped) (cond (huge e) (Err ParentEntryHugePage) (Ok (address e)))
 
--- the stop at an entry that names no table below, else the next one
-abbrev pub stop_or : Result ℕ Refusal → (next : Option Refusal) → Option Refusal
-stop_or (Ok frame) next = next
-stop_or (Err why) next = Some why
-
 -- the frame of the table that a path leads to, where E is the entry at a path: the root for the path of no index
 abbrev pub table_read : (L root : ℕ) (E : List ℕ → ℕ) → List ℕ → Option ℕ
 table_read L root E [] = Some root
 table_read L root E (i ∷ q) = table_of L (i ∷ q) (E (i ∷ q))
-
--- the first stop below the path pre, where r is left of the page's path
-abbrev pub stop_from : (E : List ℕ → ℕ) → (pre r : List ℕ) → Option Refusal
-stop_from E pre r = option_map (λ p. cond (present (E p)) ParentEntryHugePage PageNotMapped)
-    (find (λ p. not (present (E p) && not (huge (E p)))) (map (λ x. pre ++ x) (parents r)))
 
 -- a path leads to the table in a frame, in whose words its entries are read
 pub record LeadsTo (l : Layout) (m : Memory) (path : List ℕ) (frame : ℕ) : Type 0 where
   pub table : table_read l.levels l.root (read_entry l m) path ≡ Some frame
   pub there : IsSome (words l m frame)
   pub entries : (i : ℕ) → read_entry l m (path ++ i ∷ []) ≡ word (words l m) frame i
-
--- the way so far: done are the indices up to the table in a frame, and left those to come
-pub record IsOnWay (l : Layout) (m : Memory) (path done left : List ℕ) (frame : ℕ) : Type 0 where
-  pub leads : LeadsTo l m done frame
-  pub stop : (last : ℕ) → stop_from (read_entry l m) [] (path ++ last ∷ []) ≡ stop_from (read_entry l m) done (left ++ last ∷ [])
 
 -- nothing stops a page with these parents
 abbrev pub NeverStops : Layout → Memory → (path : List ℕ) → Type 0

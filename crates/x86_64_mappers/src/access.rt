@@ -1,15 +1,14 @@
 //! Tables by the paths that lead to them: what all mappers have in common.
 ghost use Rattle.std.specs.Prelude.{◌≡◌, ◌<◌, ℕ, List, length, slice_set, Some};
 ghost use Rattle.std.specs.Borrow.{sem};
-ghost use Rattle.std.specs.FinMap.{insert};
-ghost use Rattle.x86_64_model.specs.Layout.{words};
 ghost use Rattle.x86_64_model.specs.Memory.{word};
-ghost use Rattle.x86_64_mappers.specs.AccessLending.{LendsTableBy, LendsEntryBy, table_in};
-ghost use Rattle.x86_64_mappers.specs.Reached.{IsReached};
-ghost use Rattle.x86_64_mappers.specs.Writes.{IsSet};
+ghost use Rattle.x86_64_model.specs.Owned.{words};
+ghost use Rattle.x86_64_mappers.specs.AccessLending.{LendsTableBy, LendsEntryBy, table_in, put_table};
+ghost use Rattle.x86_64_mappers.specs.OwnedSteps.{Reaches, SetsWord};
 ghost use Rattle.x86_64_tables.specs.PageTableFlags.{bits_of};
 
 pub mod change;
+pub mod clean_up;
 pub mod condition;
 pub mod find;
 pub mod leaf;
@@ -39,22 +38,25 @@ pub trait TableAccess: Tables {
 
     /// Gives the table to which a path leads, in the frame.
     fn table(&self, path: &[PageTableIndex], frame: PhysFrame<Size4KiB>) -> &PageTable
-        requires reached { IsReached (Self.hierarchy self.now).layout (Self.hierarchy self.now).memory path.now frame }
+        requires reached { Reaches (Self.hierarchy self.now) path.now frame }
         requires short { length path.now < (Self.hierarchy self.now).layout.levels }
-        ensures { words (Self.hierarchy self.now).layout (Self.hierarchy self.now).memory frame ≡ Some result.now };
+        ensures { words (Self.hierarchy self.now) frame ≡ Some result.now };
 
     /// Lends the table to which a path leads, in the frame.
     fn table_mut(&mut self, path: &[PageTableIndex], frame: PhysFrame<Size4KiB>) -> &mut PageTable
-        requires reached { IsReached (Self.hierarchy self.old).layout (Self.hierarchy self.old).memory path.now frame }
+        requires reached { Reaches (Self.hierarchy self.old) path.now frame }
         requires short { length path.now < (Self.hierarchy self.old).layout.levels }
-        ensures* writes_back { sem 𝓛 (LendsTableBy Self.row self.entry result (Self.with_table self.old frame)) }
-        ensures value { words (Self.hierarchy self.old).layout (Self.hierarchy self.old).memory frame ≡ Some result.now };
+        ensures* lends { sem 𝓛 (LendsTableBy Self.row self.entry result (Self.with_table self.old frame)) }
+        ensures value { words (Self.hierarchy self.old) frame ≡ Some result.now };
 
-    ghost puts: { (s : Self) (f : ℕ) (t : List ℕ) → (Self.Tables.hierarchy (with_table s f t)).memory ≡ insert (Self.Tables.hierarchy s).memory ((Self.Tables.hierarchy s).layout.places.place f) t };
+    ghost puts: { (s : Self) (f : ℕ) (t : List ℕ) →
+        (Self.Tables.hierarchy (with_table s f t)).memory ≡ put_table (Self.Tables.hierarchy s) f t };
 
-    ghost keeps_layout: { (s : Self) (f : ℕ) (t : List ℕ) → (Self.Tables.hierarchy (with_table s f t)).layout ≡ (Self.Tables.hierarchy s).layout };
+    ghost keeps_layout: { (s : Self) (f : ℕ) (t : List ℕ) →
+        (Self.Tables.hierarchy (with_table s f t)).layout ≡ (Self.Tables.hierarchy s).layout };
 
-    ghost keeps_lent: { (s : Self) (f : ℕ) (t : List ℕ) → (Self.Tables.hierarchy (with_table s f t)).lent ≡ (Self.Tables.hierarchy s).lent };
+    ghost keeps_lent: { (s : Self) (f : ℕ) (t : List ℕ) →
+        (Self.Tables.hierarchy (with_table s f t)).lent ≡ (Self.Tables.hierarchy s).lent };
 }
 
 /// Gives the entry at an index of the table to which a path leads.
@@ -64,9 +66,9 @@ fn entry<'m, M: TableAccess>(
     frame: PhysFrame<Size4KiB>,
     index: PageTableIndex,
 ) -> &'m PageTableEntry
-    requires reached { IsReached (M.hierarchy mapper.now).layout (M.hierarchy mapper.now).memory path.now frame }
+    requires reached { Reaches (M.hierarchy mapper.now) path.now frame }
     requires short { length path.now < (M.hierarchy mapper.now).layout.levels }
-    ensures value { result.now ≡ word (words (M.hierarchy mapper.now).layout (M.hierarchy mapper.now).memory) frame index }
+    ensures value { result.now ≡ word (words (M.hierarchy mapper.now)) frame index }
     ensures index { index < 512 }
 {
     &mapper.table(path, frame)[usize::from(index)]
@@ -79,12 +81,15 @@ fn entry_mut<'m, M: TableAccess>(
     frame: PhysFrame<Size4KiB>,
     index: PageTableIndex,
 ) -> &'m mut PageTableEntry
-    requires reached { IsReached (M.hierarchy mapper.old).layout (M.hierarchy mapper.old).memory path.now frame }
+    requires reached { Reaches (M.hierarchy mapper.old) path.now frame }
     requires short { length path.now < (M.hierarchy mapper.old).layout.levels }
-    ensures* writes_back { sem 𝓛 (LendsEntryBy M.row mapper.entry result (λ w. M.with_table mapper.old frame (slice_set (table_in (M.hierarchy mapper.old).layout (M.hierarchy mapper.old).memory frame) index w))) }
-    ensures value { result.now ≡ word (words (M.hierarchy mapper.old).layout (M.hierarchy mapper.old).memory) frame index }
-    ensures set { let places = (M.hierarchy mapper.old).layout.places in let table = table_in (M.hierarchy mapper.old).layout (M.hierarchy mapper.old).memory frame in
-        (w : ℕ) → IsSet places (M.hierarchy mapper.old).memory frame index w (M.hierarchy (M.with_table mapper.old frame (slice_set table index w))).memory }
+    ensures* lends { let h = M.hierarchy mapper.old in let table = table_in h.layout h.memory frame in
+        sem 𝓛 (LendsEntryBy M.row mapper.entry result
+        (λ w. M.with_table mapper.old frame (slice_set table index w))) }
+    ensures value { result.now ≡ word (words (M.hierarchy mapper.old)) frame index }
+    ensures set { let h = M.hierarchy mapper.old in let table = table_in h.layout h.memory frame in
+        let with_word = λ (w : ℕ). M.with_table mapper.old frame (slice_set table index w) in
+        (w : ℕ) → SetsWord h frame index w (M.hierarchy (with_word w)) }
     ensures index { index < 512 }
 {
     &mut mapper.table_mut(path, frame)[usize::from(index)]

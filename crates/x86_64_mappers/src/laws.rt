@@ -11,12 +11,15 @@ use x86_64_tables::phys_memory::PhysMemory;
 
 /// In a memory that an offset fits, each frame has the table at the offset that it has by the identity mapping: the same
 /// hierarchies are valid, and the same pools fit them.
-#[tactic(auto, using(crate::specs::Offsets::offset_words))]
+#[tactic(auto, using(crate::proofs::OffsetTables::offset_words))]
 pub fn offset_has_the_tables_of_the_identity(memory: &PhysMemory, phys_offset: VirtAddr)
     requires { OffsetFits memory.now phys_offset }
     ensures tables { words_of memory.now (offset_places phys_offset) ≡ words_of memory.now identity_places }
-    ensures valid { (root : ℕ) → Valid (direct identity_places root) memory.now ↔ Valid (direct (offset_places phys_offset) root) memory.now }
+    ensures valid { let identity = direct identity_places in
+        let offset = direct (offset_places phys_offset) in
+        (root : ℕ) → Valid (identity root) memory.now ↔ Valid (offset root) memory.now }
     ensures fits { let identity = direct identity_places in let offset = direct (offset_places phys_offset) in
-        (root : ℕ) (serves : ℕ → Bool) (pool : List ℕ) → Fits 4 None (words (identity root) memory.now) root (paths (identity root) memory.now) serves pool
+        (root : ℕ) (serves : ℕ → Bool) (pool : List ℕ) →
+        Fits 4 None (words (identity root) memory.now) root (paths (identity root) memory.now) serves pool
         ↔ Fits 4 None (words (offset root) memory.now) root (paths (offset root) memory.now) serves pool }
 {}

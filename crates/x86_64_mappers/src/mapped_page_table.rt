@@ -4,17 +4,17 @@ ghost use Rattle.x86_64_model.specs.Layout.{Valid as ValidIn};
 ghost use Rattle.x86_64_model.specs.Owned.{Valid};
 ghost use Rattle.x86_64_mappers.specs.Layouts.{direct, root_table, HasRoot};
 
-use crate::access::{TableAccess, change, condition, map, translate};
+use crate::access::{TableAccess, change, clean_up, condition, map, translate};
 use bitflags::Flags;
 use std::alloc::{AllocError, Global};
 use x86_64_addr::addr::VirtAddr;
 use x86_64_addr::index::PageTableIndex;
 use x86_64_page::frame::PhysFrame;
 use x86_64_page::page::{PageSize, Size4KiB};
-use x86_64_tables::frame_alloc::FrameAllocator;
+use x86_64_tables::frame_alloc::{FrameAllocator, FrameDeallocator};
 use x86_64_tables::mapper::{
-    FlagUpdateError, MapToError, Mapper, PageTables, PathCalls, Tables, Translate, TranslateError,
-    TranslateResult, UnmapError,
+    CleanUp, FlagUpdateError, MapToError, Mapper, PageTables, PathCalls, Tables, Translate,
+    TranslateError, TranslateResult, UnmapError,
 };
 use x86_64_tables::page_table::{PageTable, PageTableFlags};
 use x86_64_tables::phys_memory::{PageTableFrameMapping, PhysMemory, is_valid_hierarchy};
@@ -100,7 +100,9 @@ impl<'a, P: PageTableFrameMapping> MappedPageTable<'a, P> {
 
 impl<'a, P: PageTableFrameMapping> Tables for MappedPageTable<'a, P> {
     ghost use Rattle.std.specs.Borrow.{GName};
-    ghost use Rattle.x86_64_mappers.specs.Layouts.{owned, no_flags, above_three};
+    ghost use Rattle.std.proofs.Common.{lit≤};
+    ghost use Rattle.x86_64_mappers.specs.ImplLaws.{no_flags};
+    ghost use Rattle.x86_64_mappers.specs.Layouts.{owned};
 
     ghost Lent = { GName × P };
 
@@ -113,7 +115,9 @@ impl<'a, P: PageTableFrameMapping> Tables for MappedPageTable<'a, P> {
         None
     }
 
-    ghost some_levels = { λ _. above_three };
+    ghost some_levels = { λ _. lit≤ tt };
+
+    ghost most_levels = { λ _. lit≤ tt };
 
     ghost is_mapping = { λ mapper. P.is_mapping mapper.mapping };
 }
@@ -129,10 +133,11 @@ impl<'a, P: PageTableFrameMapping> TableAccess for MappedPageTable<'a, P> {
     ghost use Rattle.std.proofs.Common.{refl};
     ghost use Rattle.x86_64_mappers.specs.Lending.{root_stays};
 
-    ghost with_table = { λ mapper frame table. let place = (P.places mapper.mapping).place frame in record mapper {
-      memory = record mapper.memory { now = insert mapper.memory.now place table };
-      has_root = root_stays (P.places mapper.mapping) mapper.root mapper.memory.now place table mapper.has_root;
-    } };
+    ghost with_table = { λ mapper frame table. let places = P.places mapper.mapping in
+        let place = places.place frame in record mapper {
+          memory = record mapper.memory { now = insert mapper.memory.now place table };
+          has_root = root_stays places mapper.root mapper.memory.now place table mapper.has_root;
+        } };
 
     fn root(&self) -> PhysFrame<Size4KiB> {
         self.root
@@ -143,9 +148,7 @@ impl<'a, P: PageTableFrameMapping> TableAccess for MappedPageTable<'a, P> {
     }
 
     fn table(&self, _path: &[PageTableIndex], frame: PhysFrame<Size4KiB>) -> &PageTable {
-        self.memory
-            .table(self.mapping.frame_to_pointer(frame))
-            .unwrap()
+        &self.memory[self.mapping.frame_to_pointer(frame)]
     }
 
     fn table_mut(
@@ -154,7 +157,7 @@ impl<'a, P: PageTableFrameMapping> TableAccess for MappedPageTable<'a, P> {
         frame: PhysFrame<Size4KiB>,
     ) -> &mut PageTable {
         let place = self.mapping.frame_to_pointer(frame);
-        self.memory.table_mut(place).unwrap()
+        &mut self.memory[place]
     }
 
     ghost puts = { λ mapper frame table. refl };
@@ -230,6 +233,17 @@ impl<'a, P: PageTableFrameMapping> PathCalls for MappedPageTable<'a, P> {
     ) -> Result<PhysFrame<S>, TranslateError> {
         translate::translate_path(self, path)
     }
+
+    fn clean_up_paths<D: FrameDeallocator<Size4KiB>>(
+        &mut self,
+        first: &[PageTableIndex],
+        last: &[PageTableIndex],
+        frame_deallocator: &mut D,
+    ) {
+        clean_up::clean_up_paths(self, first, last, frame_deallocator)
+    }
 }
 
 impl<'a, P: PageTableFrameMapping, S: PageSize> Mapper<S> for MappedPageTable<'a, P> {}
+
+impl<'a, P: PageTableFrameMapping> CleanUp for MappedPageTable<'a, P> {}

@@ -8,17 +8,17 @@ ghost use Rattle.x86_64_mappers.specs.Offsets.{offset_places, OffsetFits};
 
 mod phys_offset;
 
-use crate::access::{TableAccess, change, condition, map, translate};
+use crate::access::{TableAccess, change, clean_up, condition, map, translate};
 use bitflags::Flags;
 use phys_offset::{PhysOffset, reaches_place};
 use x86_64_addr::addr::VirtAddr;
 use x86_64_addr::index::PageTableIndex;
 use x86_64_page::frame::PhysFrame;
 use x86_64_page::page::{PageSize, Size4KiB};
-use x86_64_tables::frame_alloc::FrameAllocator;
+use x86_64_tables::frame_alloc::{FrameAllocator, FrameDeallocator};
 use x86_64_tables::mapper::{
-    FlagUpdateError, MapToError, Mapper, PageTables, PathCalls, Tables, Translate, TranslateError,
-    TranslateResult, UnmapError,
+    CleanUp, FlagUpdateError, MapToError, Mapper, PageTables, PathCalls, Tables, Translate,
+    TranslateError, TranslateResult, UnmapError,
 };
 use x86_64_tables::page_table::{PageTable, PageTableFlags};
 use x86_64_tables::phys_memory::{PageTableFrameMapping, PhysMemory};
@@ -60,7 +60,8 @@ impl<'a> OffsetPageTable<'a> {
         requires fits { OffsetFits memory.old phys_offset }
         ensures lent { (⟦<Self as Tables>⟧.hierarchy result).lent ≡ (memory.entry.ghost_name, phys_offset) }
         ensures memory { (⟦<Self as Tables>⟧.hierarchy result).memory ≡ memory.old }
-        ensures layout { (⟦<Self as Tables>⟧.hierarchy result).layout ≡ direct (offset_places phys_offset) root }
+        ensures layout { let places = offset_places phys_offset in
+            (⟦<Self as Tables>⟧.hierarchy result).layout ≡ direct places root }
         ensures valid { Valid (⟦<Self as Tables>⟧.hierarchy result) }
     {
         let mapping = PhysOffset::new(phys_offset);
@@ -114,8 +115,9 @@ impl<'a> OffsetPageTable<'a> {
 impl<'a> Tables for OffsetPageTable<'a> {
     ghost use Rattle.std.specs.Borrow.{GName};
     ghost use Rattle.std.specs.Prelude.{ℕ};
-    ghost use Rattle.x86_64_mappers.specs.Layouts.{owned, no_flags, above_three};
-    ghost use Rattle.x86_64_mappers.specs.Offsets.{offset_is_mapping};
+    ghost use Rattle.std.proofs.Common.{lit≤};
+    ghost use Rattle.x86_64_mappers.specs.ImplLaws.{no_flags, offset_is_mapping};
+    ghost use Rattle.x86_64_mappers.specs.Layouts.{owned};
 
     ghost Lent = { GName × ℕ };
 
@@ -128,7 +130,9 @@ impl<'a> Tables for OffsetPageTable<'a> {
         None
     }
 
-    ghost some_levels = { λ _. above_three };
+    ghost some_levels = { λ _. lit≤ tt };
+
+    ghost most_levels = { λ _. lit≤ tt };
 
     ghost is_mapping = { λ mapper. offset_is_mapping mapper.mapping.offset };
 }
@@ -144,10 +148,11 @@ impl<'a> TableAccess for OffsetPageTable<'a> {
     ghost use Rattle.std.proofs.Common.{refl};
     ghost use Rattle.x86_64_mappers.specs.Lending.{root_stays};
 
-    ghost with_table = { λ mapper frame table. let place = (offset_places mapper.mapping.offset).place frame in record mapper {
-      memory = record mapper.memory { now = insert mapper.memory.now place table };
-      has_root = root_stays (offset_places mapper.mapping.offset) mapper.root mapper.memory.now place table mapper.has_root;
-    } };
+    ghost with_table = { λ mapper frame table. let places = offset_places mapper.mapping.offset in
+        let place = places.place frame in record mapper {
+          memory = record mapper.memory { now = insert mapper.memory.now place table };
+          has_root = root_stays places mapper.root mapper.memory.now place table mapper.has_root;
+        } };
 
     fn root(&self) -> PhysFrame<Size4KiB> {
         self.root
@@ -158,9 +163,7 @@ impl<'a> TableAccess for OffsetPageTable<'a> {
     }
 
     fn table(&self, _path: &[PageTableIndex], frame: PhysFrame<Size4KiB>) -> &PageTable {
-        self.memory
-            .table(self.mapping.frame_to_pointer(frame))
-            .unwrap()
+        &self.memory[self.mapping.frame_to_pointer(frame)]
     }
 
     fn table_mut(
@@ -169,7 +172,7 @@ impl<'a> TableAccess for OffsetPageTable<'a> {
         frame: PhysFrame<Size4KiB>,
     ) -> &mut PageTable {
         let place = self.mapping.frame_to_pointer(frame);
-        self.memory.table_mut(place).unwrap()
+        &mut self.memory[place]
     }
 
     ghost puts = { λ mapper frame table. refl };
@@ -245,6 +248,17 @@ impl<'a> PathCalls for OffsetPageTable<'a> {
     ) -> Result<PhysFrame<S>, TranslateError> {
         translate::translate_path(self, path)
     }
+
+    fn clean_up_paths<D: FrameDeallocator<Size4KiB>>(
+        &mut self,
+        first: &[PageTableIndex],
+        last: &[PageTableIndex],
+        frame_deallocator: &mut D,
+    ) {
+        clean_up::clean_up_paths(self, first, last, frame_deallocator)
+    }
 }
 
 impl<'a, S: PageSize> Mapper<S> for OffsetPageTable<'a> {}
+
+impl<'a> CleanUp for OffsetPageTable<'a> {}

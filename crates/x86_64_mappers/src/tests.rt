@@ -6,6 +6,7 @@ ghost use Rattle.x86_64_model.specs.Layout.{Valid};
 ghost use Rattle.x86_64_model.specs.Memory.{identity_places};
 ghost use Rattle.x86_64_mappers.specs.Layouts.{direct};
 
+mod clean_up;
 mod flags;
 mod map;
 mod offset;
@@ -44,7 +45,12 @@ fn address_by<M: Translate>(mapper: &M, addr: VirtAddr) -> Option<PhysAddr>
 
 /// Makes a memory of 8 places with these words: each has the number of its frame, its index and its value.
 fn image(alloc: Global, words: &[(u64, u16, u64)]) -> Result<PhysMemory, Fail> {
-    let mut memory = PhysMemory::new(alloc, 8)?;
+    image_of(alloc, 8, words)
+}
+
+/// Makes a memory of so many places with these words.
+fn image_of(alloc: Global, places: u64, words: &[(u64, u16, u64)]) -> Result<PhysMemory, Fail> {
+    let mut memory = PhysMemory::new(alloc, places)?;
     for (place, index, word) in words {
         let table = memory.table_mut(FramePlace::new(*place)).ok_or("a place")?;
         let frame = small(*word);

@@ -7,7 +7,7 @@ ghost use Rattle.x86_64_model.specs.Refusal.{refusal_of};
 ghost use Rattle.x86_64_mappers.specs.EntryCalls.{IsChangedAt, answer_said, word_said};
 ghost use Rattle.x86_64_mappers.specs.PageCalls.{unmap_says, update_says};
 ghost use Rattle.x86_64_mappers.specs.Results.{walk_result};
-ghost use Rattle.x86_64_mappers.specs.TableFlagCalls.{flags_say};
+ghost use Rattle.x86_64_mappers.specs.TableFlags.{flags_say};
 ghost use Rattle.x86_64_tables.specs.MapperAnswers.{frame_answer, flags_answer, flags_refusal};
 ghost use Rattle.x86_64_tables.specs.PageTableFlags.{bits_of};
 
@@ -129,7 +129,8 @@ fn update_entry<S: PageSize>(
     entry: &mut PageTableEntry,
     flags: PageTableFlags,
 ) -> Result<(), FlagUpdateError>
-    ensures refusal { flags_refusal result ≡ refusal_of (answer_said (update_says S.LEVEL (bits_of flags) entry.old)) }
+    ensures refusal { let says = update_says S.LEVEL (bits_of flags) entry.old in
+        flags_refusal result ≡ refusal_of (answer_said says) }
     ensures word { entry.new ≡ word_said entry.old (update_says S.LEVEL (bits_of flags) entry.old) }
 {
     if !maps_page::<S>(entry) {

@@ -73,7 +73,7 @@ fn are_present<M: TableAccess>(mapper: &M, parents: &[PageTableIndex]) -> bool
 }
 
 /// Tells whether a way down the parents of a page met none that lacks `PRESENT`.
-pub fn meets_none_absent(found: Result<PhysFrame<Size4KiB>, PageTableWalkError>) -> bool
+fn meets_none_absent(found: Result<PhysFrame<Size4KiB>, PageTableWalkError>) -> bool
     ensures { result ≡ meets_none_absent (walk_result found) }
 {
     !matches!(found, Err(PageTableWalkError::NotMapped))
@@ -81,7 +81,7 @@ pub fn meets_none_absent(found: Result<PhysFrame<Size4KiB>, PageTableWalkError>)
 
 /// Tells whether a page of a size may be mapped with these flags and parent flags, wherever it is: neither has address
 /// bits, and `HUGE_PAGE` is not in the parent flags, nor in the flags of a 4KiB page.
-pub fn flags_allowed<S: PageSize>(flags: PageTableFlags, parent_flags: PageTableFlags) -> bool
+fn flags_allowed<S: PageSize>(flags: PageTableFlags, parent_flags: PageTableFlags) -> bool
     ensures { result ≡ flags_allowed (S.LEVEL == 1) (bits_of flags) (bits_of parent_flags) }
 {
     !flags.has_address_bits()

@@ -1,10 +1,10 @@
 //! Ways down to tables that are there.
 ghost use Rattle.std.specs.Prelude.{◌≡◌, ◌<◌, ◌+◌, ◌-◌, length, take, IfOk};
-ghost use Rattle.x86_64_model.specs.Layout.{Valid, words};
 ghost use Rattle.x86_64_model.specs.Memory.{word};
-ghost use Rattle.x86_64_mappers.specs.Reached.{IsReached};
+ghost use Rattle.x86_64_model.specs.Owned.{Valid, words};
+ghost use Rattle.x86_64_mappers.specs.OwnedSteps.{Reaches, Finds};
 ghost use Rattle.x86_64_mappers.specs.Results.{walk_refusal, walk_result};
-ghost use Rattle.x86_64_mappers.specs.Stops.{table_below, IsFound};
+ghost use Rattle.x86_64_mappers.specs.Stops.{table_below};
 ghost use Rattle.x86_64_tables.specs.MapperAnswers.{unmap_refusal, update_refusal, translate_refusal};
 
 use super::{TableAccess, entry};
@@ -61,15 +61,15 @@ impl From<PageTableWalkError> for TranslateError {
 /// # Errors
 ///
 /// Without `PRESENT` it is `NotMapped`, else with `HUGE_PAGE` it is `MappedToHugePage`.
-fn next_table<M: TableAccess>(
+pub fn next_table<M: TableAccess>(
     mapper: &M,
     path: &[PageTableIndex],
     table: PhysFrame<Size4KiB>,
     index: PageTableIndex,
 ) -> Result<PhysFrame<Size4KiB>, PageTableWalkError>
-    requires reached { IsReached (M.hierarchy mapper.now).layout (M.hierarchy mapper.now).memory path.now table }
+    requires reached { Reaches (M.hierarchy mapper.now) path.now table }
     requires short { length path.now < (M.hierarchy mapper.now).layout.levels }
-    ensures below { walk_result result ≡ table_below (word (words (M.hierarchy mapper.now).layout (M.hierarchy mapper.now).memory) table index) }
+    ensures below { walk_result result ≡ table_below (word (words (M.hierarchy mapper.now)) table index) }
     ensures index { index < 512 }
 {
     match entry(mapper, path, table, index).frame() {
@@ -88,10 +88,10 @@ pub fn find_table<M: TableAccess>(
     mapper: &M,
     parents: &[PageTableIndex],
 ) -> Result<PhysFrame<Size4KiB>, PageTableWalkError>
-    requires valid { Valid (M.hierarchy mapper.now).layout (M.hierarchy mapper.now).memory }
+    requires valid { Valid (M.hierarchy mapper.now) }
     requires short { length parents.now < (M.hierarchy mapper.now).layout.levels }
-    ensures found { IsFound (M.hierarchy mapper.now).layout (M.hierarchy mapper.now).memory parents.now (walk_result result) }
-    ensures reached { IfOk result (λ table. IsReached (M.hierarchy mapper.now).layout (M.hierarchy mapper.now).memory parents.now table) }
+    ensures found { Finds (M.hierarchy mapper.now) parents.now (walk_result result) }
+    ensures reached { IfOk result (λ table. Reaches (M.hierarchy mapper.now) parents.now table) }
 {
     let mut table = mapper.root();
     for k in 0..parents.len() {

@@ -1,5 +1,5 @@
 //! What the entries of pages say.
-ghost use Rattle.std.specs.Prelude.{◌≡◌, ◌==◌, cond, bit_or};
+ghost use Rattle.std.specs.Prelude.{◌≡◌, ◌==◌, if◌then◌else◌, bit_or};
 ghost use Rattle.x86_64_mappers.specs.LeafFrames.{leaf_frame, maps_page, named_frame};
 ghost use Rattle.x86_64_mappers.specs.Results.{translate_result, unmap_result};
 ghost use Rattle.x86_64_tables.specs.PageTableFlags.{bits_of};
@@ -64,7 +64,7 @@ pub fn named_frame<S: PageSize>(entry: &PageTableEntry) -> Result<PhysFrame<S>, 
 
 /// Gives the flags of the entry of a page of a size: those asked for, and `HUGE_PAGE` for 2MiB and 1GiB.
 pub fn leaf_flags<S: PageSize>(flags: PageTableFlags) -> PageTableFlags
-    ensures { bits_of result ≡ cond (S.LEVEL == 1) (bits_of flags) (bit_or (bits_of flags) 0x80) }
+    ensures { bits_of result ≡ (if S.LEVEL == 1 then bits_of flags else bit_or (bits_of flags) 0x80) }
 {
     if S::LEVEL == 1 {
         flags

@@ -1,18 +1,15 @@
 //! Maps of pages.
-ghost use Rattle.std.specs.Prelude.{◌≡◌, ◌<◌, ◌≤◌, ◌+◌, ◌==◌, false, cond, length, get_or, bit_or, IsTrue, IfOk, Ok, Err};
+ghost use Rattle.std.specs.Prelude.{◌≡◌, ◌<◌, ◌≤◌, ◌+◌, false, if◌then◌else◌, length, get_or, bit_or, IsTrue, IfOk, Ok, Err};
 ghost use Rattle.x86_64_model.specs.Call.{MapToWithTableFlags};
 ghost use Rattle.x86_64_model.specs.Entry.{address, huge, IsParentFlags};
-ghost use Rattle.x86_64_model.specs.Layout.{paths};
-ghost use Rattle.x86_64_model.specs.MapperCalls.{IsReady};
-ghost use Rattle.x86_64_model.specs.Owned.{MayMap, DoesMap};
+ghost use Rattle.x86_64_model.specs.Owned.{SupplyFits, MayMap, DoesMap, paths};
 ghost use Rattle.x86_64_model.specs.Refusal.{ParentEntryHugePage};
 ghost use Rattle.x86_64_model.specs.Window.{begins_with};
-ghost use Rattle.x86_64_mappers.specs.Linked.{MayLink, IsClearedFirst};
-ghost use Rattle.x86_64_mappers.specs.MapSteps.{IsDown};
+ghost use Rattle.x86_64_mappers.specs.Linked.{MayLink};
 ghost use Rattle.x86_64_mappers.specs.OpenWay.{WillBePresent, IsOpenWay};
-ghost use Rattle.x86_64_mappers.specs.Reached.{IsReached};
+ghost use Rattle.x86_64_mappers.specs.OwnedSteps.{Reaches, LinksTable, MakesTable, MakesTables, SetsLeaf};
+ghost use Rattle.x86_64_mappers.specs.PageCalls.{page_word};
 ghost use Rattle.x86_64_mappers.specs.Results.{create_refusal, create_result};
-ghost use Rattle.x86_64_mappers.specs.Writes.{IsMade, IsLeafSet};
 ghost use Rattle.x86_64_tables.specs.MapperAnswers.{map_answer};
 ghost use Rattle.x86_64_tables.specs.PageTableFlags.{bits_of};
 
@@ -51,8 +48,6 @@ impl<S: PageSize> From<PageTableCreateError> for MapToError<S> {
 /// Makes the entry at index `k` of the parents, which is in a table, name a frame, and clears the table there.
 ///
 /// The table is cleared last: a mapper that has no other way to it reaches it through its entry.
-// Most parents have their tables, so this stays out of the way down.
-#[inline(never)]
 fn link_table<M: TableAccess>(
     mapper: &mut M,
     parents: &[PageTableIndex],
@@ -63,10 +58,10 @@ fn link_table<M: TableAccess>(
 )
     requires within { k < length parents.now }
     requires short { length parents.now < (M.hierarchy mapper.old).layout.levels }
-    requires may { let layout = (M.hierarchy mapper.old).layout in
-        MayLink layout (M.hierarchy mapper.old).memory parents.now k table frame (bits_of flags) }
-    ensures linked { let word = bit_or frame (bits_of flags) in
-        IsClearedFirst (M.hierarchy mapper.old).layout.places (M.hierarchy mapper.old).memory table (get_or parents.now k 0) word frame (M.hierarchy mapper.new).memory }
+    requires may { let h = M.hierarchy mapper.old in
+        MayLink h.layout h.memory parents.now k table frame (bits_of flags) }
+    ensures linked { let index = get_or parents.now k 0 in let word = bit_or frame (bits_of flags) in
+        LinksTable (M.hierarchy mapper.old) table index word frame (M.hierarchy mapper.new) }
     ensures layout { (M.hierarchy mapper.new).layout ≡ (M.hierarchy mapper.old).layout }
     ensures lent { (M.hierarchy mapper.new).lent ≡ (M.hierarchy mapper.old).lent }
 {
@@ -85,7 +80,7 @@ fn mark_parent(
 ) -> Result<PhysFrame<Size4KiB>, PageTableCreateError>
     ensures marked { entry.new ≡ bit_or entry.old (bits_of parent_flags) }
     ensures names { let entry = entry.old in
-        create_result result ≡ cond (huge entry) (Err ParentEntryHugePage) (Ok (address entry)) }
+        create_result result ≡ (if huge entry then Err ParentEntryHugePage else Ok (address entry)) }
 {
     let flags = entry.flags();
     let next = PhysFrame::from_start_address_unchecked(entry.addr());
@@ -112,15 +107,17 @@ fn create_next_table<M: TableAccess, A: FrameAllocator<Size4KiB>>(
     parent_flags: PageTableFlags,
     frame_allocator: &mut A,
 ) -> Result<PhysFrame<Size4KiB>, PageTableCreateError>
-    requires ready { IsReady (M.hierarchy mapper.old).layout (M.hierarchy mapper.old).memory (A.supply frame_allocator.old) }
+    requires ready { SupplyFits (M.hierarchy mapper.old) (A.supply frame_allocator.old) }
     requires within { k < length parents.now }
     requires short { length parents.now < (M.hierarchy mapper.old).layout.levels }
     requires outside { begins_with (M.hierarchy mapper.old).layout.window parents.now ≡ false }
     requires flags { IsParentFlags (bits_of parent_flags) }
-    requires way { let layout = (M.hierarchy mapper.old).layout in
-        IsOpenWay layout (M.hierarchy mapper.old).memory (bits_of parent_flags) parents.now k table }
-    ensures made { let layout = (M.hierarchy mapper.old).layout in let index = get_or parents.now k 0 in
-        IsMade layout.places (bits_of parent_flags) layout.added_flags (M.hierarchy mapper.old).memory (A.supply frame_allocator.old) table index (create_result result) (M.hierarchy mapper.new).memory (A.supply frame_allocator.new) }
+    requires way { let h = M.hierarchy mapper.old in
+        IsOpenWay h.layout h.memory (bits_of parent_flags) parents.now k table }
+    ensures made { let h = M.hierarchy mapper.old in let made = create_result result in
+        let supply = A.supply frame_allocator.old in let rest = A.supply frame_allocator.new in
+        let index = get_or parents.now k 0 in
+        MakesTable h supply (bits_of parent_flags) table index made (M.hierarchy mapper.new) rest }
     ensures index { get_or parents.now k 0 < 512 }
     ensures layout { (M.hierarchy mapper.new).layout ≡ (M.hierarchy mapper.old).layout }
     ensures lent { (M.hierarchy mapper.new).lent ≡ (M.hierarchy mapper.old).lent }
@@ -150,16 +147,15 @@ fn create_tables<M: TableAccess, A: FrameAllocator<Size4KiB>>(
     parent_flags: PageTableFlags,
     frame_allocator: &mut A,
 ) -> Result<PhysFrame<Size4KiB>, PageTableCreateError>
-    requires ready { IsReady (M.hierarchy mapper.old).layout (M.hierarchy mapper.old).memory (A.supply frame_allocator.old) }
+    requires ready { SupplyFits (M.hierarchy mapper.old) (A.supply frame_allocator.old) }
     requires short { length parents.now < (M.hierarchy mapper.old).layout.levels }
     requires outside { begins_with (M.hierarchy mapper.old).layout.window parents.now ≡ false }
     requires flags { IsParentFlags (bits_of parent_flags) }
-    requires present { let layout = (M.hierarchy mapper.old).layout in
-        WillBePresent (paths layout (M.hierarchy mapper.old).memory) (bits_of parent_flags) parents.now }
-    ensures down { let layout = (M.hierarchy mapper.old).layout in
-        IsDown layout (M.hierarchy mapper.old).memory (A.supply frame_allocator.old) (bits_of parent_flags) parents.now (create_result result) (M.hierarchy mapper.new).memory (A.supply frame_allocator.new) }
-    ensures reached { let layout = (M.hierarchy mapper.old).layout in
-        IfOk result (λ frame. IsReached layout (M.hierarchy mapper.new).memory parents.now frame) }
+    requires present { WillBePresent (paths (M.hierarchy mapper.old)) (bits_of parent_flags) parents.now }
+    ensures down { let h = M.hierarchy mapper.old in let made = create_result result in
+        let supply = A.supply frame_allocator.old in let rest = A.supply frame_allocator.new in
+        MakesTables h supply (bits_of parent_flags) parents.now made (M.hierarchy mapper.new) rest }
+    ensures reached { IfOk result (λ frame. Reaches (M.hierarchy mapper.new) parents.now frame) }
     ensures layout { (M.hierarchy mapper.new).layout ≡ (M.hierarchy mapper.old).layout }
     ensures lent { (M.hierarchy mapper.new).lent ≡ (M.hierarchy mapper.old).lent }
     ensures serves { A.serves frame_allocator.new ≡ A.serves frame_allocator.old }
@@ -185,10 +181,10 @@ fn set_leaf<S: PageSize, M: TableAccess>(
     frame: PhysFrame<S>,
     flags: PageTableFlags,
 ) -> Result<(), MapToError<S>>
-    requires reached { IsReached (M.hierarchy mapper.old).layout (M.hierarchy mapper.old).memory parents.now table }
+    requires reached { Reaches (M.hierarchy mapper.old) parents.now table }
     requires short { length parents.now < (M.hierarchy mapper.old).layout.levels }
-    ensures set { let given = cond (S.LEVEL == 1) (bits_of flags) (bit_or (bits_of flags) 0x80) in
-        IsLeafSet (M.hierarchy mapper.old).layout.places (M.hierarchy mapper.old).memory table index (bit_or frame given) frame (map_answer frame result) (M.hierarchy mapper.new).memory }
+    ensures set { let h = M.hierarchy mapper.old in let word = page_word S.LEVEL frame (bits_of flags) in
+        SetsLeaf h table index word frame (map_answer frame result) (M.hierarchy mapper.new) }
     ensures index { index < 512 }
     ensures layout { (M.hierarchy mapper.new).layout ≡ (M.hierarchy mapper.old).layout }
     ensures lent { (M.hierarchy mapper.new).lent ≡ (M.hierarchy mapper.old).lent }
@@ -219,7 +215,8 @@ pub fn map_path<S: PageSize, M: TableAccess, A: FrameAllocator<Size4KiB>>(
         MayMap (M.hierarchy mapper.old) (A.supply frame_allocator.old) call }
     ensures does { let h = M.hierarchy mapper.old in
         let call = MapToWithTableFlags path.now frame (bits_of flags) (bits_of parent_flags) in
-        DoesMap h (A.supply frame_allocator.old) call (map_answer frame result) (M.hierarchy mapper.new) (A.supply frame_allocator.new) }
+        let supply = A.supply frame_allocator.old in let rest = A.supply frame_allocator.new in
+        DoesMap h supply call (map_answer frame result) (M.hierarchy mapper.new) rest }
     ensures serves { A.serves frame_allocator.new ≡ A.serves frame_allocator.old }
 {
     let last = path.len() - 1;

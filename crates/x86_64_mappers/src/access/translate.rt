@@ -41,7 +41,8 @@ pub fn translate_path<S: PageSize, M: TableAccess>(
 pub fn translate<M: TableAccess + PageTables>(mapper: &M, addr: VirtAddr) -> TranslateResult
     requires { Valid (M.hierarchy mapper.now) }
     ensures answer { translation_of result ≡ Some (translation (M.hierarchy mapper.now) addr) }
-    ensures walk { reaches result ≡ option_map (λ walked. walked.address) (walk (M.hierarchy mapper.now) addr) }
+    ensures walk { let arrival = walk (M.hierarchy mapper.now) addr in
+        reaches result ≡ option_map (λ walked. walked.address) arrival }
 {
     translate_along(mapper, &address_indices(addr), addr)
 }
@@ -91,7 +92,8 @@ fn translate_along<M: TableAccess>(
 fn leaf_translation(level: usize, entry: &PageTableEntry, addr: VirtAddr) -> TranslateResult
     requires low { 1 ≤ level }
     requires high { level ≤ 3 }
-    ensures { translation_of result ≡ Some (Mapped (span level) (page_start level entry.now) (addr % span level) (flags entry.now)) }
+    ensures { let start = page_start level entry.now in let offset = addr % span level in
+        translation_of result ≡ Some (Mapped (span level) start offset (flags entry.now)) }
 {
     let frame = mapped_frame(level, entry);
     TranslateResult::Mapped {

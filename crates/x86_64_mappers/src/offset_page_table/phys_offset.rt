@@ -31,7 +31,7 @@ impl PhysOffset {
 }
 
 impl PageTableFrameMapping for PhysOffset {
-    ghost use Rattle.x86_64_mappers.specs.Offsets.{offset_is_mapping};
+    ghost use Rattle.x86_64_mappers.specs.ImplLaws.{offset_is_mapping};
 
     ghost places = { λ mapping. offset_places mapping.offset };
 

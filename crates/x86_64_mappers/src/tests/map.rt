@@ -8,6 +8,7 @@ use std::alloc::Global;
 use std::process::Abort;
 use std::test::Fail;
 use x86_64_addr::addr::{PhysAddr, VirtAddr};
+use x86_64_addr::index::PageTableIndex;
 use x86_64_page::frame::PhysFrame;
 use x86_64_page::page::{Page, PageSize, Size1GiB, Size2MiB, Size4KiB};
 use x86_64_tables::frame_alloc::FramePool;
@@ -16,7 +17,7 @@ use x86_64_tables::page_table::PageTableFlags;
 use x86_64_tables::phys_memory::{FramePlace, IdentityMapping, PhysMemory, pool_fits};
 
 /// Maps a page by any mapper, with flags and parent flags.
-fn map_by<S: PageSize, M: Mapper<S>>(
+pub fn map_by<S: PageSize, M: Mapper<S>>(
     rt: &impl Abort,
     mapper: &mut M,
     page: Page<S>,
@@ -53,7 +54,7 @@ fn map<S: PageSize>(
 }
 
 /// Makes a pool of these frames, below the number 8.
-fn pool_of(alloc: Global, frames: &[u64]) -> Result<FramePool, Fail> {
+pub fn pool_of(alloc: Global, frames: &[u64]) -> Result<FramePool, Fail> {
     let mut pool = FramePool::new(alloc, 8)?;
     for frame in frames {
         pool.try_add(small(*frame)).map_err(|_| "a frame")?;
@@ -61,30 +62,19 @@ fn pool_of(alloc: Global, frames: &[u64]) -> Result<FramePool, Fail> {
     Ok(pool)
 }
 
-/// Sets the words of the tables at these places to ones.
-fn fill(memory: &mut PhysMemory, places: &[u64]) -> Result<(), Fail> {
-    let flags = PageTableFlags::from_bits_truncate(u64::MAX);
-    for place in places {
-        let table = memory.table_mut(FramePlace::new(*place)).ok_or("a place")?;
-        for index in 0..512usize {
-            table[index].set_addr(small(u64::MAX).start_address(), flags);
-        }
-    }
-    Ok(())
-}
-
-/// Compares the words of the tables at the places 1 to 4: each is 0 but for these.
-fn check_words(
+/// Compares the words of the tables at the places from 1 on: each is 0 but for these.
+pub fn check_words(
     rt: &impl Abort,
     memory: &PhysMemory,
-    words: &[(u64, usize, u64)],
+    words: &[(u64, u16, u64)],
 ) -> Result<(), Fail> {
-    for place in 1..5 {
+    for place in 1..memory.len() as u64 {
         let table = memory.table(FramePlace::new(place)).ok_or("a place")?;
         for index in 0..512 {
-            let is_it = |word: &&(u64, usize, u64)| word.0 == place && word.1 == index;
+            let is_it = |word: &&(u64, u16, u64)| word.0 == place && word.1 == index;
             let expected = words.iter().find(is_it).map_or(0, |word| word.2);
-            assert_eq!(rt; word_of(&table[index]), expected, "{place} {index}");
+            let entry = &table[PageTableIndex::new(index)];
+            assert_eq!(rt; word_of(entry), expected, "{place} {index}");
         }
     }
     Ok(())
@@ -92,8 +82,14 @@ fn check_words(
 
 #[test]
 fn tables_are_made_and_cleared(rt: HostRuntime) -> Result<(), Fail> {
-    let mut memory = image(rt.alloc(), &[])?;
-    fill(&mut memory, &[2, 3, 4])?;
+    let left = [
+        (2, 0, 0x5003),
+        (2, 511, 0x7002),
+        (3, 5, u64::MAX),
+        (4, 1, 0x81),
+        (4, 2, 0x6003),
+    ];
+    let mut memory = image(rt.alloc(), &left)?;
     let mut pool = pool_of(rt.alloc(), &[0x2000, 0x3000, 0x4000])?;
     let mapped = map::<Size4KiB>(
         &rt,

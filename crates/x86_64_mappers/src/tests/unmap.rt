@@ -3,7 +3,7 @@ ghost use Rattle.x86_64_model.specs.Call.{Unmap};
 ghost use Rattle.x86_64_model.specs.Layout.{Valid as ValidIn};
 ghost use Rattle.x86_64_model.specs.Memory.{identity_places};
 ghost use Rattle.x86_64_model.specs.Owned.{Valid, May, Does, path_of};
-ghost use Rattle.x86_64_mappers.specs.Layouts.{direct};
+ghost use Rattle.x86_64_mappers.specs.Layouts.{direct, owned};
 ghost use Rattle.x86_64_tables.specs.MapperAnswers.{frame_answer};
 
 use super::{image, small, word_of};
@@ -33,14 +33,15 @@ fn unmap_by<S: PageSize, M: Mapper<S>>(
     Ok(frame)
 }
 
-/// Unmaps a page by a mapper that is dropped then. The owner knows that the memory is valid again.
+/// Unmaps a page by a mapper that is dropped then. The owner knows what the call did to the memory.
 fn unmap<S: PageSize>(
     memory: &mut PhysMemory,
     root: PhysFrame<Size4KiB>,
     page: Page<S>,
 ) -> Result<PhysFrame<S>, UnmapError>
     requires { ValidIn (direct identity_places root) memory.old }
-    ensures { ValidIn (direct identity_places root) memory.new }
+    ensures { let h = owned identity_places root memory.old (tt {0}) in
+        Does h (Unmap (path_of h S.LEVEL page)) (frame_answer result) (record h { memory = memory.new }) }
 {
     let mut mapper = MappedPageTable::new(memory, root, IdentityMapping);
     unmap_by(&mut mapper, page)

@@ -16,7 +16,7 @@ returns g c =
     let index = c.from.ensures.0 in (
       (refl, λ w. λ i. g.M.TableAccess.with_table s c.args.frame (slice_set (is i) (index i) w)),
       record {
-        writes_back = tt;
+        lends = tt;
         value = c.index_mut.ensures.value ∙ ap (slice_index table) index ∙ entry_is_word (words l m) c.args.frame c.args.index table c.table_mut.ensures.value (rw index at c.from.ensures.1);
         set = λ w. record {
           table = table;

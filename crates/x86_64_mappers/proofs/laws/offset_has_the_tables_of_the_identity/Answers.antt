@@ -1,4 +1,4 @@
-use Rattle.x86_64_mappers.specs.Offsets.{offset_valid, offset_fits}
+use Rattle.x86_64_mappers.proofs.OffsetTables.{offset_valid, offset_fits}
 use Rattle.x86_64_mappers.proofs.laws.offset_has_the_tables_of_the_identity.Goals as goal
 
 pub returns-clause-valid : goal.returns-clause-valid

@@ -7,11 +7,13 @@ use Rattle.x86_64_model.specs.Path.{front_at}
 use Rattle.x86_64_model.specs.Refusal.{Refused, ParentEntryHugePage, refusal_of}
 use Rattle.x86_64_tables.specs.MapperAnswers.{flags_refusal}
 use Rattle.x86_64_tables.specs.PageTableFlags.{bits_of}
-use Rattle.x86_64_mappers.specs.EntryCalls.{Ends, word_said, answer_said}
+use Rattle.x86_64_mappers.proofs.EntryRules.{Ends}
+use Rattle.x86_64_mappers.specs.EntryCalls.{word_said, answer_said}
 use Rattle.x86_64_mappers.specs.Results.{walk_refusal}
 use Rattle.x86_64_mappers.specs.Stops.{IsFound}
-use Rattle.x86_64_mappers.specs.TableFlags.{front_length}
-use Rattle.x86_64_mappers.specs.TableFlagCalls.{flags_say, flags_too_low, flags_stopped, flags_ended}
+use Rattle.x86_64_mappers.proofs.TableFlagConditions.{front_length}
+use Rattle.x86_64_mappers.proofs.TableFlagRules.{flags_too_low, flags_stopped, flags_ended}
+use Rattle.x86_64_mappers.specs.TableFlags.{flags_say}
 use Rattle.x86_64_mappers.specs.Writes.{IsSet}
 use Rattle.x86_64_mappers.proofs.Paths.{has_last_index}
 use Rattle.x86_64_mappers.proofs.EntryEnds.{ends_set_flags}

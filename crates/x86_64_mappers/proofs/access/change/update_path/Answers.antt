@@ -5,8 +5,10 @@ use Rattle.x86_64_model.specs.MapperCalls.{after_update}
 use Rattle.x86_64_model.specs.Memory.{word}
 use Rattle.x86_64_model.specs.Refusal.{Refused, refusal_of}
 use Rattle.x86_64_tables.specs.MapperAnswers.{flags_refusal}
-use Rattle.x86_64_mappers.specs.EntryCalls.{Ends, stopped, ended, word_said, answer_said}
-use Rattle.x86_64_mappers.specs.PageCalls.{update_says, update_rule, update_changes, update_outside}
+use Rattle.x86_64_mappers.proofs.EntryRules.{Ends, stopped, ended}
+use Rattle.x86_64_mappers.specs.EntryCalls.{word_said, answer_said}
+use Rattle.x86_64_mappers.proofs.PageCallRules.{update_rule, update_changes, update_outside}
+use Rattle.x86_64_mappers.specs.PageCalls.{update_says}
 use Rattle.x86_64_mappers.specs.Results.{walk_refusal}
 use Rattle.x86_64_mappers.specs.Writes.{IsSet}
 use Rattle.x86_64_mappers.proofs.Paths.{has_last_index, some_index_of, page_below_root, positive_levels}

@@ -6,7 +6,7 @@ use Rattle.x86_64_model.specs.Layout.{words}
 use Rattle.x86_64_model.specs.Memory.{word}
 use Rattle.x86_64_tables.specs.PageTableFlags.{bits_of}
 use Rattle.x86_64_mappers.specs.Results.{walk_refusal}
-use Rattle.x86_64_mappers.specs.TableFlags.{stopped_keeps, found_keeps}
+use Rattle.x86_64_mappers.proofs.TableFlagConditions.{stopped_keeps, found_keeps}
 use Rattle.x86_64_mappers.proofs.Flags.{tested}
 use Rattle.x86_64_mappers.proofs.Paths.{has_last_index, last_item}
 use Rattle.x86_64_mappers.proofs.access.condition.keeps_huge.Goals as goal

@@ -6,7 +6,7 @@ use Rattle.x86_64_model.specs.Layout.{paths}
 use Rattle.x86_64_model.specs.Window.{begins_with}
 use Rattle.x86_64_tables.specs.PageTableFlags.{bits_of}
 use Rattle.x86_64_mappers.specs.MapConditions.{flags_allowed, are_present}
-use Rattle.x86_64_mappers.specs.Pages.{path_parted, small_page}
+use Rattle.x86_64_mappers.proofs.Pages.{path_parted, small_page}
 use Rattle.x86_64_mappers.proofs.Paths.{has_last_index, some_index_of, page_below_root}
 use Rattle.x86_64_mappers.proofs.access.condition.path_allowed.Goals as goal
 

@@ -49,5 +49,5 @@ loop-k-preserved g c =
 pub returns-clause-reached : goal.returns-clause-reached
 returns-clause-reached g c =
     let inv = c.loop-k.invariant in
-    open_end (g.M.Tables.hierarchy c.args.mapper.now).layout (g.M.Tables.hierarchy c.loop-k.mapper).memory inv.down.goes.ready.valid c.args.parent_flags.0 c.args.parents.now c.requires.outside
-    c.loop-k.k inv.done c.loop-k-test.false c.loop-k.table inv.way
+    rw inv.layout (open_end (g.M.Tables.hierarchy c.args.mapper.now).layout (g.M.Tables.hierarchy c.loop-k.mapper).memory inv.down.goes.ready.valid c.args.parent_flags.0 c.args.parents.now c.requires.outside
+    c.loop-k.k inv.done c.loop-k-test.false c.loop-k.table inv.way)

@@ -4,7 +4,7 @@ use Rattle.x86_64_model.specs.Allowed.{parents_present}
 use Rattle.x86_64_model.specs.Layout.{paths}
 use Rattle.x86_64_model.proofs.Lemmas.Machines.Effects.{map_may}
 use Rattle.x86_64_mappers.proofs.PageMaps.{page_stopped, page_mapped}
-use Rattle.x86_64_mappers.specs.Pages.{path_parted}
+use Rattle.x86_64_mappers.proofs.Pages.{path_parted}
 use Rattle.x86_64_mappers.specs.Results.{create_refusal}
 use Rattle.x86_64_tables.specs.MapperAnswers.{map_answer}
 use Rattle.x86_64_mappers.proofs.OpenWays.{will_be_present}

@@ -5,8 +5,9 @@ use Rattle.x86_64_model.specs.Memory.{word}
 use Rattle.x86_64_tables.specs.MapperAnswers.{translate_answer}
 use Rattle.x86_64_tables.specs.declared.mapper.TranslateError.{TranslateError}
 use Rattle.x86_64_mappers.specs.LeafFrames.{named_frame}
-use Rattle.x86_64_mappers.specs.PageCalls.{translate_stopped, translate_told}
-use Rattle.x86_64_mappers.specs.Results.{walk_refusal, answer_of, translate_result}
+use Rattle.x86_64_mappers.proofs.PageCallRules.{translate_stopped, translate_told}
+use Rattle.x86_64_mappers.proofs.PageCallRules.{answer_of}
+use Rattle.x86_64_mappers.specs.Results.{walk_refusal, translate_result}
 use Rattle.x86_64_mappers.proofs.Paths.{has_last_index, last_item, some_index_of, page_below_root}
 use Rattle.x86_64_mappers.proofs.access.translate.translate_path.Goals as goal
 

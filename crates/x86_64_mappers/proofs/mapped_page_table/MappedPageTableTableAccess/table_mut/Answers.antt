@@ -1,8 +1,7 @@
 use Rattle.std.proofs.Common.{refl, sym, ap, ◌∙◌, ◌≡◌}
 use Rattle.std.specs.FinMap.{get, insert}
-use Rattle.std.specs.Option.{option_copied_mut}
 use Rattle.x86_64_mappers.specs.Lending.{root_stays}
-use Rattle.x86_64_mappers.specs.Stored.{covered, there_is}
+use Rattle.x86_64_mappers.proofs.Stored.{covered, there_is}
 use Rattle.x86_64_mappers.proofs.RootTables.{alike}
 use Rattle.x86_64_mappers.proofs.mapped_page_table.MappedPageTableTableAccess.table_mut.Goals as goal
 
@@ -25,7 +24,7 @@ returns g c =
             _ _ at _ _,
       ),
       record {
-        writes_back = tt;
-        value = there_is m places frame (covered m places frame c.requires.reached.there) ∙ ap (get m) (sym at) ∙ sym c.table_mut.ensures.value ∙ ap option_copied_mut c.unwrap.ensures;
+        lends = tt;
+        value = there_is m places frame (covered m places frame c.requires.reached.there) ∙ ap (get m) (sym at) ∙ c.index_mut.ensures.value;
       },
     )

@@ -1,4 +1,4 @@
-use Rattle.x86_64_mappers.specs.Offsets.{offset_valid}
+use Rattle.x86_64_mappers.proofs.OffsetTables.{offset_valid}
 use Rattle.x86_64_mappers.proofs.RootTables.{valid_root}
 use Rattle.x86_64_mappers.proofs.offset_page_table.OffsetPageTable.new.Goals as goal
 

@@ -1,7 +1,8 @@
 use Rattle.std.proofs.Common.{◌≡◌, ◌&&◌, sym, ap, ◌∙◌, eq-eqb}
 use Rattle.x86_64_model.specs.Entry.{address}
 use Rattle.x86_64_model.proofs.Lemmas.Entries.Words.{address-multiple}
-use Rattle.x86_64_mappers.specs.Offsets.{is_reached, reached_alike}
+use Rattle.x86_64_mappers.proofs.OffsetTables.{reached_alike}
+use Rattle.x86_64_mappers.specs.Offsets.{is_reached}
 use Rattle.x86_64_mappers.proofs.offset_page_table.phys_offset.PhysOffsetPageTableFrameMapping.covers.Goals as goal
 
 pub returns : goal.returns

@@ -1,7 +1,8 @@
 use Rattle.std.proofs.Common.{◌≡◌, ◌∙◌}
 use Rattle.std.proofs.lemmas.Bool.{and_parts}
 use Rattle.x86_64_model.specs.Entry.{is_frame}
-use Rattle.x86_64_mappers.specs.Offsets.{is_reached, canonical_from_reached}
+use Rattle.x86_64_mappers.proofs.OffsetTables.{canonical_from_reached}
+use Rattle.x86_64_mappers.specs.Offsets.{is_reached}
 use Rattle.x86_64_mappers.proofs.offset_page_table.phys_offset.PhysOffsetPageTableFrameMapping.frame_to_pointer.Goals as goal
 
 pub add-address-requires : goal.add-address-requires

@@ -14,14 +14,12 @@ use Rattle.x86_64_model.specs.Path.{front_at}
 use Rattle.x86_64_model.specs.PathMap.{PathMap, entry, put}
 use Rattle.x86_64_model.specs.Refusal.{Refusal, PageNotMapped, ParentEntryHugePage, Done, Refused, first_stop, refused_if}
 use Rattle.x86_64_model.specs.Window.{begins_with}
-use Rattle.x86_64_mappers.specs.EntryCalls.{Ends, after_entry, word_said, answer_said, unchanged_ends, stopped, ended}
+use Rattle.x86_64_mappers.specs.EntryCalls.{word_said, answer_said}
 use Rattle.x86_64_mappers.specs.Stops.{IsFound}
-use Rattle.x86_64_mappers.specs.TableFlags.{keeps_huge, front_length, never_stopped, own_level, table_flags_rule}
+use Rattle.x86_64_mappers.specs.TableFlags.{keeps_huge, flags_say}
 use Rattle.x86_64_mappers.specs.Writes.{IsSet}
-
--- a used entry keeps its address and gets the flags
-abbrev pub flags_say : (flags entry : ℕ) → Result (ℕ × ℕ) Refusal
-flags_say given e = cond (used e) (Ok (bit_or (address e) given, address e)) (Err PageNotMapped)
+use Rattle.x86_64_mappers.proofs.EntryRules.{Ends, after_entry, unchanged_ends, stopped, ended}
+use Rattle.x86_64_mappers.proofs.TableFlagConditions.{front_length, never_stopped, own_level, table_flags_rule}
 
 equal : (a b : Bool) → both_or_none a b ≡ true → a ≡ b
 equal true b is = sym is

@@ -1,18 +1,13 @@
 -- The paths of pages: their indices, and how many there are.
-use Rattle.std.specs.Prelude.{◌≡◌, ◌≤◌, ◌+◌, ◌-◌, ◌==◌, ℕ, suc, Bool, true, false, List, [], ◌∷◌, ◌++◌, length, take, get_or}
+use Rattle.std.specs.Prelude.{◌≡◌, ◌+◌, ◌==◌, ℕ, suc, Bool, true, false, List, [], ◌∷◌, ◌++◌, length, take, get_or}
 use Rattle.std.proofs.Common.{refl, sym, ◌∙◌, arith, eqb-true, eq-eqb, ne_eqb}
 use Rattle.std.proofs.lemmas.List.{take_all}
 use Rattle.std.proofs.Math.Seq.{take-suc}
-use Rattle.x86_64_model.specs.Path.{path_at, is_small}
-use Rattle.x86_64_model.proofs.Lemmas.Paths.Pages.{length_taken}
+use Rattle.x86_64_model.specs.Path.{is_small}
 
 -- the indices of a page's parents, and its last one
 pub path_parted : (q : List ℕ) (n : ℕ) → length q ≡ n + 1 → take n q ++ get_or q n 0 ∷ [] ≡ q
 path_parted q n long = sym (take-suc q n 0 (omega (arith, long))) ∙ take_all (suc n) q (omega (arith, long))
-
--- how many indices the path of a page has whose entry is of a level
-pub path_length : (L level p : ℕ) → 1 ≤ level → level ≤ L → length (path_at L level p) + level ≡ L + 1
-path_length L level p low high = omega (arith, length_taken p (L + 1 - level) L (omega arith))
 
 -- a page whose entry is of a level is small exactly where that is level one
 pub small_page : (L level : ℕ) (q : List ℕ) → length q + level ≡ L + 1 → is_small L q ≡ (level == 1)

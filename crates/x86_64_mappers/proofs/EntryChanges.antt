@@ -12,8 +12,8 @@ use Rattle.x86_64_model.specs.Memory.{Memory, Distinct, set_word}
 use Rattle.x86_64_model.specs.PathMap.{PathMap, put, table_at}
 use Rattle.x86_64_model.specs.Pool.{IsTable, Fits}
 use Rattle.x86_64_model.specs.Window.{IsValidFor, outside_window}
-use Rattle.x86_64_mappers.specs.Changed.{set_is, set_others, set_keeps}
 use Rattle.x86_64_mappers.specs.Writes.{IsSet}
+use Rattle.x86_64_mappers.proofs.Changed.{set_is, set_others, set_keeps}
 
 -- the hierarchy is valid with this entry in place of the old one, a supply that fitted it still does, and no word changed but in its tables
 pub record IsEntryChanged (l : Layout) (m : Memory) (q : List ℕ) (w : ℕ) (n : Memory) : Type 0 where

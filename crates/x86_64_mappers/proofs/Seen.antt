@@ -1,18 +1,15 @@
 -- What the path map sees of words: all but the root's word at the recursive index, where there is one.
-use Rattle.std.proofs.Common.{◌≡◌, ◌≢◌, ⊎_elim, ℕ, ◌==◌, Bool, true, false, cond, List, length, set, Option, Some, None, IsSome, option_map, refl, sym, ap, ◌∙◌}
+use Rattle.std.proofs.Common.{◌≡◌, ⊎_elim, ℕ, ◌==◌, Bool, true, false, cond, List, length, set, Option, Some, None, IsSome, option_map, refl, sym, ap, ◌∙◌}
 use Rattle.std.proofs.lemmas.Bool.{cases_eq}
 use Rattle.std.proofs.lemmas.List.{length-set}
 use Rattle.x86_64_model.specs.Layout.{Layout, words}
 use Rattle.x86_64_model.proofs.Lemmas.Hierarchies.Held.{word-set_frame, word-set_index, is_some-set}
 use Rattle.x86_64_model.specs.Memory.{Memory, Words, word, set_word}
 use Rattle.x86_64_model.specs.Window.{Window, outside_window, SelfEntry}
+use Rattle.x86_64_mappers.specs.Linked.{Beside}
 
 abbrev pub seen : Layout → Memory → Words
 seen l m = outside_window l.window l.root (words l m)
-
--- word i of the frame f isn't the root's at the recursive index
-abbrev pub Beside : Option Window → (root f i : ℕ) → Type 0
-Beside window root f i = (v : Window) → window ≡ Some v → f ≡ root → i ≢ v.index
 
 pub seen_word : (window : Option Window) (root : ℕ) (T : Words) (f i : ℕ) → Beside window root f i → word (outside_window window root T) f i ≡ word T f i
 seen_word None root T f i b = refl

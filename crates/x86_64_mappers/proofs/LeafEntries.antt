@@ -1,12 +1,29 @@
--- The frame of a page's entry, by the tests that code makes.
-use Rattle.std.proofs.Common.{◌≡◌, ◌≢◌, ◌≤◌, ◌%◌, ℕ, Bool, true, false, ◌==◌, not, nat_lt, Ok, Err, refl, sym, ap, ◌∙◌, arith, eq-eqb, ne_eqb, ltb-true}
+-- The entries of pages: what holds of one that names a frame, and the tests that code makes of an entry.
+use Rattle.std.proofs.Common.{◌≡◌, ◌%◌, ℕ, Bool, true, false, ◌==◌, not, Ok, Err, refl, sym, ◌∙◌, ◌≢◌, ◌≤◌, nat_lt, ap, arith, eq-eqb, ne_eqb, ltb-true}
 use Rattle.std.proofs.lemmas.Bool.{ltb-false}
 use Rattle.std.proofs.Math.Bool.{beq}
 use Rattle.x86_64_model.specs.Entry.{present, huge, address}
-use Rattle.x86_64_model.proofs.Lemmas.Entries.Words.{address_aligned}
 use Rattle.x86_64_model.specs.Position.{span}
 use Rattle.x86_64_model.specs.Refusal.{PageNotMapped, ParentEntryHugePage, InvalidFrameAddress}
+use Rattle.x86_64_model.proofs.Lemmas.Entries.Words.{address_aligned}
 use Rattle.x86_64_mappers.specs.LeafFrames.{leaf_by, leaf_frame}
+
+-- an entry that maps a page of a level to a frame
+pub record NamesFrame (level e frame : ℕ) : Type 0 where
+  pub is_present : present e ≡ true
+  pub is_huge : (level == 1) ≡ false → huge e ≡ true
+  pub names : frame ≡ address e
+
+pub names_frame : (level e frame : ℕ) → Ok frame ≡ leaf_frame level e → NamesFrame level e frame
+names_frame level e frame is = by (present e) (level == 1) (huge e) (address e % span level == 0) refl refl refl is
+  where
+    by : (p s h a : Bool) → present e ≡ p → (level == 1) ≡ s → huge e ≡ h → Ok frame ≡ leaf_by p s h a (address e) → NamesFrame level e frame
+    by false s h a x y z is = absurd (let t = is in cc)
+    by true true true a x y z is = absurd (let t = is in cc)
+    by true true false a x y z is = record { is_present = x; is_huge = λ t. absurd (let u : true ≡ false = sym y ∙ t in cc); names = (let t : frame ≡ address e = cc in t) }
+    by true false false a x y z is = absurd (let t = is in cc)
+    by true false true true x y z is = record { is_present = x; is_huge = λ t. z; names = (let t : frame ≡ address e = cc in t) }
+    by true false true false x y z is = absurd (let t = is in cc)
 
 module _ (level e : ℕ) (low : 1 ≤ level) where
   small_or_large : (large : Bool) → nat_lt 1 level ≡ large → (level == 1) ≡ not large

@@ -12,7 +12,7 @@ use Rattle.x86_64_model.specs.Path.{parents}
 use Rattle.x86_64_model.specs.PathMap.{PathMap, entry, table_at}
 use Rattle.x86_64_model.specs.Refusal.{first_stop}
 use Rattle.x86_64_model.specs.Window.{Window, entry_at, begins_with}
-use Rattle.x86_64_mappers.specs.Seen.{Beside}
+use Rattle.x86_64_mappers.specs.Linked.{Beside}
 
 -- what a path outside the index leads to is beside the self-entry
 pub beside_on : (l : Layout) (m : Memory) → Valid l m → (done : List ℕ) (i : ℕ) (left : List ℕ) → begins_with l.window (done ++ i ∷ left) ≡ false → (f : ℕ) → table_at l.levels l.root (paths l m) done ≡ Some f → Beside l.window l.root f i

@@ -1,17 +1,10 @@
--- From a memory and a supply to later ones: all is ready again, and no word changed but in frames that were used.
+-- Steps of a map one after the other.
 use Rattle.std.specs.Prelude.{ℕ, List}
 use Rattle.std.proofs.Common.{refl, ◌∙◌}
 use Rattle.x86_64_model.specs.Layout.{Layout}
-use Rattle.x86_64_model.specs.Lists.{In}
-use Rattle.x86_64_model.specs.MapperCalls.{IsReady, Owns, Uses, KeepsOthers}
+use Rattle.x86_64_model.specs.MapperCalls.{IsReady}
 use Rattle.x86_64_model.specs.Memory.{Memory}
-
--- no frame is owned that wasn't, and other frames keep their words
-pub record Goes (l : Layout) (m : Memory) (s : List ℕ) (n : Memory) (rest : List ℕ) : Type 0 where
-  pub ready : IsReady l n rest
-  pub own : (f : ℕ) → Owns l n rest f → Owns l m s f
-  pub within : (f : ℕ) → In rest f → In s f
-  pub others : KeepsOthers l.places (Uses l m s rest) m n
+use Rattle.x86_64_mappers.specs.MapSteps.{Goes}
 
 pub goes_nothing : (l : Layout) (m : Memory) (s : List ℕ) → IsReady l m s → Goes l m s m s
 goes_nothing l m s ready = record { ready = ready; own = λ f h. h; within = λ f h. h; others = λ k h. refl }

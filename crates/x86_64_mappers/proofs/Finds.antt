@@ -2,6 +2,7 @@
 use Rattle.std.proofs.Common.{Option, ◌≡◌, ◌<◌, ◌≤◌, ◌+◌, ℕ, suc, Bool, true, false, ◌&&◌, not, cond, List, [], ◌∷◌, ◌++◌, length, take, drop, get_or, map, find, Some, None, option_map, IsSome, Ok, Err, refl, sym, ap, ap₂, ◌∙◌, subst, subst₂, arith, add-one, lt-ltb}
 use Rattle.std.proofs.lemmas.List.{length-append, length-take, map-id, take_all, drop_all}
 use Rattle.std.proofs.Math.Seq.{take-suc, drop-cons}
+use Rattle.std.specs.Prelude.{Result}
 use Rattle.x86_64_model.specs.Entry.{present, huge, address, names_table}
 use Rattle.x86_64_model.specs.Layout.{Layout, words, paths, read_entry, Valid}
 use Rattle.x86_64_model.specs.Memory.{Memory, word}
@@ -11,7 +12,22 @@ use Rattle.x86_64_model.specs.Refusal.{Refusal, ParentEntryHugePage, PageNotMapp
 use Rattle.x86_64_model.proofs.Lemmas.Hierarchies.Changes.{map_again}
 use Rattle.x86_64_model.proofs.Lemmas.Walks.Agrees.{reads}
 use Rattle.x86_64_model.proofs.Lemmas.Walks.Walked.{names}
-use Rattle.x86_64_mappers.specs.Stops.{table_below, stop_or, table_read, stop_from, LeadsTo, IsOnWay, IsFound}
+use Rattle.x86_64_mappers.specs.Stops.{table_below, table_read, LeadsTo, IsFound}
+
+-- the stop at an entry that names no table below, else the next one
+abbrev pub stop_or : Result ℕ Refusal → (next : Option Refusal) → Option Refusal
+stop_or (Ok frame) next = next
+stop_or (Err why) next = Some why
+
+-- the first stop below the path pre, where r is left of the page's path
+abbrev pub stop_from : (E : List ℕ → ℕ) → (pre r : List ℕ) → Option Refusal
+stop_from E pre r = option_map (λ p. cond (present (E p)) ParentEntryHugePage PageNotMapped)
+    (find (λ p. not (present (E p) && not (huge (E p)))) (map (λ x. pre ++ x) (parents r)))
+
+-- the way so far: done are the indices up to the table in a frame, and left those to come
+pub record IsOnWay (l : Layout) (m : Memory) (path done left : List ℕ) (frame : ℕ) : Type 0 where
+  pub leads : LeadsTo l m done frame
+  pub stop : (last : ℕ) → stop_from (read_entry l m) [] (path ++ last ∷ []) ≡ stop_from (read_entry l m) done (left ++ last ∷ [])
 
 -- ---- the first stop, at the next parent
 

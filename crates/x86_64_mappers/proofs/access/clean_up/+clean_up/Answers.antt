@@ -1,0 +1,311 @@
+use Rattle.std.proofs.Common.{◌≡◌, ◌<◌, ◌+◌, ◌-◌, ◌*◌, ◌++◌, ◌∷◌, [], true, false, length, take, ◌∙◌, refl, sym, ap, subst, subst₂, arith, slice_set}
+use Rattle.x86_64_model.proofs.Lemmas.Machines.Giving.{giving_from}
+use Rattle.x86_64_model.proofs.Lemmas.Walks.Walked.{one_more}
+use Rattle.x86_64_model.specs.CleanUp.{meets}
+use Rattle.x86_64_model.specs.Layout.{Layout, words}
+use Rattle.x86_64_model.specs.Owned.{MayCleanUp, paths}
+use Rattle.x86_64_model.specs.Path.{span_start}
+use Rattle.x86_64_mappers.proofs.EntriesInRange.{next_visited, refused_out, recursive_out}
+use Rattle.x86_64_mappers.proofs.Cleaned.{may_still, may_give}
+use Rattle.x86_64_mappers.proofs.EntryCleaned.{below_cleaned, entry_stays, entry_kept, entry_gone}
+use Rattle.x86_64_mappers.proofs.EntryEnds.{with_memory}
+use Rattle.x86_64_mappers.proofs.Paths.{positive_levels}
+use Rattle.x86_64_mappers.proofs.TableCleaned.{met_between, out_before, out_after, before_first, before_last, before_next, level_one}
+use Rattle.x86_64_mappers.proofs.Words.{empty_words, words_empty}
+use Rattle.x86_64_mappers.proofs.Visited.{visited_reached, still_before}
+use Rattle.x86_64_mappers.specs.AccessLending.{table_in}
+use Rattle.x86_64_mappers.specs.CleaningUp.{span_end, IsPageRange, IsVisited, IsCleanedAt}
+use Rattle.x86_64_mappers.specs.Reached.{IsReached}
+use Rattle.x86_64_mappers.specs.Results.{walk_refusal}
+use Rattle.x86_64_mappers.specs.Writes.{IsSet}
+use Rattle.x86_64_mappers.proofs.access.clean_up.+clean_up.Goals as goal
+
+-- ---- an entry
+
+pub clean_up_entry-returns-then-is_recursive-clause-cleaned : goal.clean_up_entry-returns-then-is_recursive-clause-cleaned
+clean_up_entry-returns-then-is_recursive-clause-cleaned g t c =
+    let h = g.M.Tables.hierarchy c.args.mapper.now in
+    let low = span_start h.layout.levels c.args.range.now.first.now in
+    let high = span_end h.layout.levels c.args.range.now.last.now in
+    let q = c.args.path.now in
+    let valid = c.requires.may.valid in
+    entry_stays h.layout g.D.FrameDeallocator.put h.memory valid (g.D.FrameDeallocator.held c.args.frame_deallocator.now) low high (q ++ c.args.index ∷ [])
+    (recursive_out h.layout h.memory valid low high q c.args.index c.requires.visited.outside (sym c.is_recursive.ensures ∙ c.if-is_recursive.true))
+
+pub clean_up_entry-next_table-requires-clause-reached : goal.clean_up_entry-next_table-requires-clause-reached
+clean_up_entry-next_table-requires-clause-reached g t c =
+    let h = g.M.Tables.hierarchy c.args.mapper.now in
+    let low = span_start h.layout.levels c.args.range.now.first.now in
+    let high = span_end h.layout.levels c.args.range.now.last.now in
+    visited_reached h.layout h.memory low high c.args.path.now c.args.table c.requires.visited c.requires.may.valid
+
+pub clean_up_entry-returns-in_default-clause-cleaned : goal.clean_up_entry-returns-in_default-clause-cleaned
+clean_up_entry-returns-in_default-clause-cleaned g t c =
+    let h = g.M.Tables.hierarchy c.args.mapper.now in
+    let low = span_start h.layout.levels c.args.range.now.first.now in
+    let high = span_end h.layout.levels c.args.range.now.last.now in
+    let q = c.args.path.now in
+    let valid = c.requires.may.valid in
+    entry_stays h.layout g.D.FrameDeallocator.put h.memory valid (g.D.FrameDeallocator.held c.args.frame_deallocator.now) low high (q ++ c.args.index ∷ [])
+    (refused_out h.layout h.memory valid low high q c.args.table c.requires.visited c.args.index c.next_table.ensures.index (sym c.is_recursive.ensures ∙ c.if-is_recursive.false)
+    (walk_refusal c.in_default.field-0) c.in_default.ensures.below)
+
+pub clean_up_entry-clean_up_table-requires : goal.clean_up_entry-clean_up_table-requires
+clean_up_entry-clean_up_table-requires g t c κs within =
+    let h = g.M.Tables.hierarchy c.args.mapper.now in
+    let first = c.args.range.now.first.now in
+    let low = span_start h.layout.levels first in
+    let high = span_end h.layout.levels c.args.range.now.last.now in
+    let q = c.args.path.now in
+    let i = c.args.index in
+    let below = c.in-Ok.below in
+    let is = c.child_indices-indices.ensures in
+    let long = ap length is ∙ one_more q i in
+    let next = next_visited h.layout h.memory c.requires.may.valid low high q c.args.table c.requires.visited i c.next_table.ensures.index (sym c.is_recursive.ensures ∙ c.if-is_recursive.false)
+    c.requires.short c.requires.meets below c.in-Ok.ensures.below in (
+      (let d : 2 * (length first - length q) ≡ t = c.decreases in
+          let m : 2 * (length first - length (take (length q + 1) c.child_indices-indices.result)) + 1 < t = omega (arith, d, long, c.requires.short, c.requires.range.first_long) in m),
+      (
+        within.0,
+        (
+          within.1,
+          (
+            omega (arith, long, c.requires.short),
+            (c.requires.may, (c.requires.range, subst (λ p. IsVisited h.layout h.memory low high p below) (sym is) next.visited)),
+          ),
+        ),
+      ),
+    )
+
+pub clean_up_entry-table-requires-clause-reached : goal.clean_up_entry-table-requires-clause-reached
+clean_up_entry-table-requires-clause-reached g t c =
+    let h = g.M.Tables.hierarchy c.args.mapper.now in
+    let low = span_start h.layout.levels c.args.range.now.first.now in
+    let high = span_end h.layout.levels c.args.range.now.last.now in
+    let q = c.args.path.now in
+    let i = c.args.index in
+    let f = c.args.table in
+    let below = c.in-Ok.below in
+    let held = g.D.FrameDeallocator.held c.args.frame_deallocator.now in
+    let after = g.M.Tables.hierarchy c.clean_up_table.new.mapper in
+    let n = after.memory in
+    let rest = g.D.FrameDeallocator.held c.clean_up_table.new.frame_deallocator in
+    let done = c.clean_up_table.ensures in
+    let next = next_visited h.layout h.memory c.requires.may.valid low high q f c.requires.visited i c.next_table.ensures.index (sym c.is_recursive.ensures ∙ c.if-is_recursive.false)
+    c.requires.short c.requires.meets below c.in-Ok.ensures.below in
+    let b = below_cleaned h.layout g.D.FrameDeallocator.put h.memory held low high q f i below c.requires.visited next n rest _ c.child_indices-indices.ensures done.cleaned in
+    subst₂ (λ l p. IsReached l n p below) (sym done.layout) (sym c.child_indices-indices.ensures) (visited_reached h.layout n low high (q ++ i ∷ []) below b.there b.cleaned.valid)
+
+pub clean_up_entry-entry_mut-requires-clause-reached : goal.clean_up_entry-entry_mut-requires-clause-reached
+clean_up_entry-entry_mut-requires-clause-reached g t c =
+    let h = g.M.Tables.hierarchy c.args.mapper.now in
+    let low = span_start h.layout.levels c.args.range.now.first.now in
+    let high = span_end h.layout.levels c.args.range.now.last.now in
+    let q = c.args.path.now in
+    let i = c.args.index in
+    let f = c.args.table in
+    let below = c.in-Ok.below in
+    let held = g.D.FrameDeallocator.held c.args.frame_deallocator.now in
+    let after = g.M.Tables.hierarchy c.clean_up_table.new.mapper in
+    let n = after.memory in
+    let rest = g.D.FrameDeallocator.held c.clean_up_table.new.frame_deallocator in
+    let done = c.clean_up_table.ensures in
+    let next = next_visited h.layout h.memory c.requires.may.valid low high q f c.requires.visited i c.next_table.ensures.index (sym c.is_recursive.ensures ∙ c.if-is_recursive.false)
+    c.requires.short c.requires.meets below c.in-Ok.ensures.below in
+    let b = below_cleaned h.layout g.D.FrameDeallocator.put h.memory held low high q f i below c.requires.visited next n rest _ c.child_indices-indices.ensures done.cleaned in
+    subst (λ l. IsReached l n q f) (sym done.layout) (visited_reached h.layout n low high q f b.here b.cleaned.valid)
+
+pub clean_up_entry-deallocate_frame-requires-clause-served : goal.clean_up_entry-deallocate_frame-requires-clause-served
+clean_up_entry-deallocate_frame-requires-clause-served g t c =
+    let h = g.M.Tables.hierarchy c.args.mapper.now in
+    let low = span_start h.layout.levels c.args.range.now.first.now in
+    let high = span_end h.layout.levels c.args.range.now.last.now in
+    let q = c.args.path.now in
+    let i = c.args.index in
+    let f = c.args.table in
+    let below = c.in-Ok.below in
+    let held = g.D.FrameDeallocator.held c.args.frame_deallocator.now in
+    let after = g.M.Tables.hierarchy c.clean_up_table.new.mapper in
+    let n = after.memory in
+    let rest = g.D.FrameDeallocator.held c.clean_up_table.new.frame_deallocator in
+    let done = c.clean_up_table.ensures in
+    let next = next_visited h.layout h.memory c.requires.may.valid low high q f c.requires.visited i c.next_table.ensures.index (sym c.is_recursive.ensures ∙ c.if-is_recursive.false)
+    c.requires.short c.requires.meets below c.in-Ok.ensures.below in
+    let b = below_cleaned h.layout g.D.FrameDeallocator.put h.memory held low high q f i below c.requires.visited next n rest _ c.child_indices-indices.ensures done.cleaned in
+    let may = may_still h g.D.FrameDeallocator.put (giving_from g.D.FrameDeallocator.put g.met.D.FrameDeallocator.put_rearranges) (g.D.FrameKeeper.serves c.args.frame_deallocator.now) held c.requires.may _ _ n rest b.cleaned in
+    let gives = may_give (record h { memory = n }) (g.D.FrameKeeper.serves c.args.frame_deallocator.now) rest may q i below b.there.leads in
+    ap (λ serves. serves below) done.serves ∙ gives.0
+
+pub clean_up_entry-deallocate_frame-requires-clause-not_held : goal.clean_up_entry-deallocate_frame-requires-clause-not_held
+clean_up_entry-deallocate_frame-requires-clause-not_held g t c =
+    let h = g.M.Tables.hierarchy c.args.mapper.now in
+    let low = span_start h.layout.levels c.args.range.now.first.now in
+    let high = span_end h.layout.levels c.args.range.now.last.now in
+    let q = c.args.path.now in
+    let i = c.args.index in
+    let f = c.args.table in
+    let below = c.in-Ok.below in
+    let held = g.D.FrameDeallocator.held c.args.frame_deallocator.now in
+    let after = g.M.Tables.hierarchy c.clean_up_table.new.mapper in
+    let n = after.memory in
+    let rest = g.D.FrameDeallocator.held c.clean_up_table.new.frame_deallocator in
+    let done = c.clean_up_table.ensures in
+    let next = next_visited h.layout h.memory c.requires.may.valid low high q f c.requires.visited i c.next_table.ensures.index (sym c.is_recursive.ensures ∙ c.if-is_recursive.false)
+    c.requires.short c.requires.meets below c.in-Ok.ensures.below in
+    let b = below_cleaned h.layout g.D.FrameDeallocator.put h.memory held low high q f i below c.requires.visited next n rest _ c.child_indices-indices.ensures done.cleaned in
+    let may = may_still h g.D.FrameDeallocator.put (giving_from g.D.FrameDeallocator.put g.met.D.FrameDeallocator.put_rearranges) (g.D.FrameKeeper.serves c.args.frame_deallocator.now) held c.requires.may _ _ n rest b.cleaned in
+    let gives = may_give (record h { memory = n }) (g.D.FrameKeeper.serves c.args.frame_deallocator.now) rest may q i below b.there.leads in
+    gives.1
+
+pub clean_up_entry-returns-then-is_empty-clause-cleaned : goal.clean_up_entry-returns-then-is_empty-clause-cleaned
+clean_up_entry-returns-then-is_empty-clause-cleaned g t c =
+    let h = g.M.Tables.hierarchy c.args.mapper.now in
+    let low = span_start h.layout.levels c.args.range.now.first.now in
+    let high = span_end h.layout.levels c.args.range.now.last.now in
+    let q = c.args.path.now in
+    let i = c.args.index in
+    let f = c.args.table in
+    let below = c.in-Ok.below in
+    let held = g.D.FrameDeallocator.held c.args.frame_deallocator.now in
+    let after = g.M.Tables.hierarchy c.clean_up_table.new.mapper in
+    let n = after.memory in
+    let rest = g.D.FrameDeallocator.held c.clean_up_table.new.frame_deallocator in
+    let done = c.clean_up_table.ensures in
+    let next = next_visited h.layout h.memory c.requires.may.valid low high q f c.requires.visited i c.next_table.ensures.index (sym c.is_recursive.ensures ∙ c.if-is_recursive.false)
+    c.requires.short c.requires.meets below c.in-Ok.ensures.below in
+    let b = below_cleaned h.layout g.D.FrameDeallocator.put h.memory held low high q f i below c.requires.visited next n rest _ c.child_indices-indices.ensures done.cleaned in
+    let mapper = c.args.mapper.now in
+    let o = (g.M.Tables.hierarchy (g.M.TableAccess.with_table c.clean_up_table.new.mapper f (slice_set (table_in after.layout n f) i c.set_unused.new.self))).memory in
+    let there = ap (λ l. words l n below) (sym done.layout) ∙ c.table.ensures in
+    let set = subst₂ (λ (l : Layout) w. IsSet l.places n f i w o) done.layout c.set_unused.ensures (c.entry_mut.ensures.set c.set_unused.new.self) in
+    entry_gone h.layout g.D.FrameDeallocator.put h.memory c.requires.may.valid held low high q f i below n rest b
+    (g.met.M.Tables.is_mapping mapper).distinct (positive_levels h.layout.levels (g.met.M.Tables.some_levels mapper)) c.next_table.ensures.index
+    (empty_words (words h.layout n) below c.table.result.now there c.is_empty.ensures.size (c.is_empty.ensures.empty.0 c.if-is_empty.true)) o set _ c.deallocate_frame.ensures.held
+
+pub clean_up_entry-returns-else-is_empty-clause-cleaned : goal.clean_up_entry-returns-else-is_empty-clause-cleaned
+clean_up_entry-returns-else-is_empty-clause-cleaned g t c =
+    let h = g.M.Tables.hierarchy c.args.mapper.now in
+    let low = span_start h.layout.levels c.args.range.now.first.now in
+    let high = span_end h.layout.levels c.args.range.now.last.now in
+    let q = c.args.path.now in
+    let i = c.args.index in
+    let f = c.args.table in
+    let below = c.in-Ok.below in
+    let held = g.D.FrameDeallocator.held c.args.frame_deallocator.now in
+    let after = g.M.Tables.hierarchy c.clean_up_table.new.mapper in
+    let n = after.memory in
+    let rest = g.D.FrameDeallocator.held c.clean_up_table.new.frame_deallocator in
+    let done = c.clean_up_table.ensures in
+    let next = next_visited h.layout h.memory c.requires.may.valid low high q f c.requires.visited i c.next_table.ensures.index (sym c.is_recursive.ensures ∙ c.if-is_recursive.false)
+    c.requires.short c.requires.meets below c.in-Ok.ensures.below in
+    let b = below_cleaned h.layout g.D.FrameDeallocator.put h.memory held low high q f i below c.requires.visited next n rest _ c.child_indices-indices.ensures done.cleaned in
+    let there = ap (λ l. words l n below) (sym done.layout) ∙ c.table.ensures in
+    entry_kept h.layout g.D.FrameDeallocator.put h.memory c.requires.may.valid held low high q f i below n rest b
+    (λ all. let t : false ≡ true = sym c.if-is_empty.false ∙ c.is_empty.ensures.empty.1 (words_empty (words h.layout n) below c.table.result.now there c.is_empty.ensures.size all) in cc)
+
+-- ---- a table
+
+pub clean_up_table-loop-index-init : goal.clean_up_table-loop-index-init
+clean_up_table-loop-index-init g t c =
+    let h = g.M.Tables.hierarchy c.args.mapper.now in
+    let low = span_start h.layout.levels c.args.range.now.first.now in
+    let high = span_end h.layout.levels c.args.range.now.last.now in
+    let q = c.args.path.now in
+    record {
+      cleaned = before_first h.layout g.D.FrameDeallocator.put h.memory c.requires.may.valid (g.D.FrameDeallocator.held c.args.frame_deallocator.now) low high q c.index_in_table-first.result
+          (λ k less. out_before h.layout.levels (paths h) c.args.range.now.first.now c.args.range.now.last.now c.requires.range q c.requires.short c.requires.visited.below c.requires.visited.visits k
+          (omega (arith, less, c.index_in_table-first.ensures.small)) (subst (λ n. k < n) c.index_in_table-first.ensures.index less));
+      in_table = omega (arith, c.index_in_table-first.ensures.small);
+      layout = refl;
+      lent = refl;
+      serves = refl;
+    }
+
+pub clean_up_table-clean_up_entry-requires : goal.clean_up_table-clean_up_entry-requires
+clean_up_table-clean_up_entry-requires g t c κs within =
+    let mapper = c.args.mapper.now in
+    let h = g.M.Tables.hierarchy mapper in
+    let first = c.args.range.now.first.now in
+    let last = c.args.range.now.last.now in
+    let low = span_start h.layout.levels first in
+    let high = span_end h.layout.levels last in
+    let q = c.args.path.now in
+    let i = c.loop-index.index in
+    let f = c.args.table in
+    let held = g.D.FrameDeallocator.held c.args.frame_deallocator.now in
+    let now = g.M.Tables.hierarchy c.loop-index.mapper in
+    let rest = g.D.FrameDeallocator.held c.loop-index.frame_deallocator in
+    let inv = c.loop-index.invariant in
+    let may = may_still h g.D.FrameDeallocator.put (giving_from g.D.FrameDeallocator.put g.met.D.FrameDeallocator.put_rearranges) (g.D.FrameKeeper.serves c.args.frame_deallocator.now) held c.requires.may _ _ now.memory rest inv.cleaned in
+    let is = with_memory h now inv.layout inv.lent in
+    let v = c.requires.visited in
+    let met = met_between h.layout.levels (paths h) first last c.requires.range q c.requires.short v.below v.visits i (omega (arith, c.loop-index-test.true, c.index_in_table-last.ensures.small))
+    (omega (arith, c.loop-index.auto.index, c.index_in_table-first.ensures.index)) (omega (arith, c.loop-index-test.true, c.index_in_table-last.ensures.index)) in (
+      let d : 2 * (length first - length q) + 1 ≡ t = c.decreases in let m : 2 * (length first - length q) < t = omega (arith, d) in m,
+      (
+        within.0,
+        (
+          within.1,
+          (
+            subst (λ (l : Layout). length q + 1 < l.levels) (sym inv.layout) (omega (arith, c.if-path-range.true, c.requires.range.first_long)),
+            (
+              subst₂ (λ h serves. MayCleanUp h serves rest) is (sym inv.serves) may,
+              (
+                subst (λ (l : Layout). IsPageRange l.levels first last) (sym inv.layout) c.requires.range,
+                (
+                  subst (λ l. IsVisited l now.memory (span_start l.levels first) (span_end l.levels last) q f) (sym inv.layout) (still_before h.layout h.memory low high q f v i now.memory inv.cleaned.meant),
+                  subst₂ (λ (l : Layout) j. meets l.levels (span_start l.levels first) (span_end l.levels last) (q ++ j ∷ []) ≡ true) (sym inv.layout) (sym c.new-index.ensures) met,
+                ),
+              ),
+            ),
+          ),
+        ),
+      ),
+    )
+
+pub clean_up_table-loop-index-preserved : goal.clean_up_table-loop-index-preserved
+clean_up_table-loop-index-preserved g t c =
+    let mapper = c.args.mapper.now in
+    let h = g.M.Tables.hierarchy mapper in
+    let first = c.args.range.now.first.now in
+    let last = c.args.range.now.last.now in
+    let low = span_start h.layout.levels first in
+    let high = span_end h.layout.levels last in
+    let q = c.args.path.now in
+    let i = c.loop-index.index in
+    let held = g.D.FrameDeallocator.held c.args.frame_deallocator.now in
+    let n = (g.M.Tables.hierarchy c.loop-index.mapper).memory in
+    let rest = g.D.FrameDeallocator.held c.loop-index.frame_deallocator in
+    let done = c.clean_up_entry in
+    let o = (g.M.Tables.hierarchy done.new.mapper).memory in
+    let left = g.D.FrameDeallocator.held done.new.frame_deallocator in
+    let inv = c.loop-index.invariant in
+    let at = subst₂ (λ (l : Layout) j. IsCleanedAt l g.D.FrameDeallocator.put n rest (span_start l.levels first) (span_end l.levels last) (q ++ j ∷ []) o left) inv.layout c.new-index.ensures done.ensures.cleaned in
+    record {
+      cleaned = before_next h.layout g.D.FrameDeallocator.put h.memory c.requires.may.valid held low high q c.requires.visited.visits i (g.met.M.Tables.is_mapping mapper).distinct n rest inv.cleaned o left at;
+      in_table = omega (arith, c.loop-index-test.true, c.index_in_table-last.ensures.small);
+      layout = done.ensures.layout ∙ inv.layout;
+      lent = done.ensures.lent ∙ inv.lent;
+      serves = done.ensures.serves ∙ inv.serves;
+    }
+
+pub clean_up_table-returns-after-loop-index-clause-cleaned : goal.clean_up_table-returns-after-loop-index-clause-cleaned
+clean_up_table-returns-after-loop-index-clause-cleaned g t c =
+    let h = g.M.Tables.hierarchy c.args.mapper.now in
+    let low = span_start h.layout.levels c.args.range.now.first.now in
+    let high = span_end h.layout.levels c.args.range.now.last.now in
+    let q = c.args.path.now in
+    let i = c.loop-index.index in
+    let v = c.requires.visited in
+    before_last h.layout g.D.FrameDeallocator.put h.memory c.requires.may.valid (g.D.FrameDeallocator.held c.args.frame_deallocator.now) low high q i c.loop-index.invariant.in_table
+    (λ k from to. out_after h.layout.levels (paths h) c.args.range.now.first.now c.args.range.now.last.now c.requires.range q c.requires.short v.below v.visits k to (omega (arith, from, c.loop-index-test.false, c.index_in_table-last.ensures.index)))
+    (g.M.Tables.hierarchy c.loop-index.mapper).memory (g.D.FrameDeallocator.held c.loop-index.frame_deallocator) c.loop-index.invariant.cleaned
+
+pub clean_up_table-returns-else-path-range-clause-cleaned : goal.clean_up_table-returns-else-path-range-clause-cleaned
+clean_up_table-returns-else-path-range-clause-cleaned g t c =
+    let h = g.M.Tables.hierarchy c.args.mapper.now in
+    let low = span_start h.layout.levels c.args.range.now.first.now in
+    let high = span_end h.layout.levels c.args.range.now.last.now in
+    let q = c.args.path.now in
+    level_one h.layout g.D.FrameDeallocator.put h.memory c.requires.may.valid (g.D.FrameDeallocator.held c.args.frame_deallocator.now) low high q
+    (omega (arith, c.if-path-range.false, c.requires.range.first_long))

@@ -1,0 +1,67 @@
+-- How a clean up goes down the tables: where it has come to, and what it has left so far.
+use Rattle.std.specs.Prelude.{◌≡◌, ◌≢◌, ◌⊎◌, ◌≤◌, ◌+◌, ℕ, true, false, List, [], ◌∷◌, ◌++◌, length, Some, IsSome}
+use Rattle.x86_64_model.proofs.Lemmas.CleanUps.Below.{cleaned_below, back_below, Visits}
+use Rattle.x86_64_model.specs.CleanUp.{in_range}
+use Rattle.x86_64_model.specs.Entry.{address}
+use Rattle.x86_64_model.specs.Layout.{Layout, words, paths, Valid}
+use Rattle.x86_64_model.specs.Lists.{In}
+use Rattle.x86_64_model.specs.MapperCalls.{KeepsOthers}
+use Rattle.x86_64_model.specs.Memory.{Memory, word}
+use Rattle.x86_64_model.specs.Path.{AllBelow, span_start}
+use Rattle.x86_64_model.specs.PathMap.{PathMap, entry, put, table_at}
+use Rattle.x86_64_model.specs.Pool.{IsTable, given_back}
+use Rattle.x86_64_model.specs.Window.{begins_with}
+
+-- ---- the range
+
+-- the position of the last byte of the 4KiB page with a path
+abbrev pub span_end : (L : ℕ) → List ℕ → ℕ
+span_end L q = span_start L q + 0xfff
+
+-- the paths of the first and of the last page of a range that isn't empty
+pub record IsPageRange (L : ℕ) (first last : List ℕ) : Type 0 where
+  pub first_long : length first ≡ L
+  pub last_long : length last ≡ L
+  pub first_below : AllBelow first
+  pub last_below : AllBelow last
+  pub in_order : span_start L first ≤ span_end L last
+
+-- ---- where it has come to
+
+-- The path, outside the recursive index, leads to the table in the frame, and each entry on it is a present table entry whose span meets the
+-- positions from low to high.
+pub record IsVisited (l : Layout) (m : Memory) (low high : ℕ) (path : List ℕ) (frame : ℕ) : Type 0 where
+  pub leads : table_at l.levels l.root (paths l m) path ≡ Some frame
+  pub visits : Visits l.levels (paths l m) low high path
+  pub below : AllBelow path
+  pub outside : begins_with l.window path ≡ false
+
+-- ---- what it leaves
+
+-- From the memory m and the frames held to the memory n and the frames rest: the words mean the path map N, whose tables were tables before,
+-- and these frames came back. They were tables, aren't any more, and have words 0 alone. No word changed but in the root and the tables.
+pub record IsCleaned (l : Layout) (put : List ℕ → ℕ → List ℕ) (m : Memory) (held : List ℕ) (N : PathMap) (back : List ℕ) (n : Memory) (rest : List ℕ) : Type 0 where
+  pub meant : paths l n ≡ N
+  pub valid : Valid l n
+  pub given : rest ≡ given_back put held back
+  pub left : (q : List ℕ) (f : ℕ) → table_at l.levels l.root (paths l n) q ≡ Some f → table_at l.levels l.root (paths l m) q ≡ Some f
+  pub were : (f : ℕ) → In back f → IsTable l.levels l.root (paths l m) f
+  pub gone : (f : ℕ) → In back f → IsTable l.levels l.root (paths l n) f → ⊥
+  pub empty : (f : ℕ) → In back f → (i : ℕ) → word (words l n) f i ≡ 0
+  pub there : (f : ℕ) → IsSome (words l m f) → IsSome (words l n f)
+  pub others : KeepsOthers l.places (IsTable l.levels l.root (paths l m)) m n
+
+-- What becomes of a path map, and which frames come back, where the entry at the path r was cleaned up. An entry that isn't in range stays.
+-- Of one that is, the tables below go first. Then it stays if it still has a used entry, and else it goes and its own frame comes back.
+abbrev pub IsEntryCleaned : (L : ℕ) → PathMap → (low high : ℕ) → (r : List ℕ) → (N : PathMap) → (back : List ℕ) → Type 0
+IsEntryCleaned L M low high r N back =
+    ((in_range L M low high r ≡ false) × (N ≡ M) × (back ≡ []))
+    ⊎ ((in_range L M low high r ≡ true) × ((j : ℕ) × (entry (cleaned_below L M low high r) (r ++ j ∷ []) ≢ 0)) × (N ≡ cleaned_below L M low high r) × (back ≡ back_below L M low high r))
+    ⊎ ((in_range L M low high r ≡ true) × ((j : ℕ) → entry (cleaned_below L M low high r) (r ++ j ∷ []) ≡ 0) × (N ≡ put (cleaned_below L M low high r) r 0) × (back ≡ back_below L M low high r ++ address (entry M r) ∷ []))
+
+-- a memory and the frames held, once the entry at the path r was cleaned up
+pub record IsCleanedAt (l : Layout) (put : List ℕ → ℕ → List ℕ) (m : Memory) (held : List ℕ) (low high : ℕ) (r : List ℕ) (n : Memory) (rest : List ℕ) : Type 0 where
+  pub N : PathMap
+  pub back : List ℕ
+  pub rule : IsEntryCleaned l.levels (paths l m) low high r N back
+  pub cleaned : IsCleaned l put m held N back n rest

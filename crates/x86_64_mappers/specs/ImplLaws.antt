@@ -1,0 +1,20 @@
+-- Proofs of laws that impls of mappers give. A `ghost use` names no file of proofs/.
+use Rattle.std.proofs.Common.{refl}
+use Rattle.std.proofs.lemmas.Bool.{and_parts}
+use Rattle.std.specs.Prelude.{ℕ}
+use Rattle.x86_64_model.specs.Entry.{IsParentFlags, address, is_frame}
+use Rattle.x86_64_model.proofs.Lemmas.Entries.Bits.{same_frame}
+use Rattle.x86_64_model.specs.Memory.{IsMapping}
+use Rattle.x86_64_mappers.specs.Offsets.{is_reached, offset_places}
+
+-- no flags are flags that an entry above a page may have
+pub no_flags : IsParentFlags 0
+unfolding address
+no_flags = record { no_address = refl; not_huge = refl }
+
+-- places at an offset are those of a frame mapping
+pub offset_is_mapping : (offset : ℕ) → IsMapping (offset_places offset)
+offset_is_mapping offset = record {
+  frames = λ f h. (and_parts (is_frame f) (is_reached offset f) h).0;
+  distinct = λ f g a b e. same_frame f g (and_parts (is_frame f) (is_reached offset f) a).0 (and_parts (is_frame g) (is_reached offset g) b).0 e;
+}

@@ -1,0 +1,185 @@
+//! Clean up: tables that are empty are taken away, those below a table first.
+ghost use Rattle.std.specs.Prelude.{◌≡◌, ◌<◌, ◌≤◌, ◌+◌, ◌*◌, ◌++◌, ◌∷◌, [], true, false, cond, length, take, get_or};
+ghost use Rattle.x86_64_model.proofs.Lemmas.CleanUps.Below.{cleaned_below, back_below};
+ghost use Rattle.x86_64_model.specs.CleanUp.{meets};
+ghost use Rattle.x86_64_model.specs.Owned.{MayCleanUp, CleansUp, paths};
+ghost use Rattle.x86_64_model.specs.Path.{AllBelow, begins, span_start};
+ghost use Rattle.x86_64_model.specs.Window.{begins_with};
+ghost use Rattle.x86_64_mappers.specs.CleaningUp.{span_end, IsPageRange, IsVisited, IsCleaned, IsCleanedAt};
+
+use super::find::next_table;
+use super::{TableAccess, entry_mut};
+use x86_64_addr::index::PageTableIndex;
+use x86_64_page::frame::PhysFrame;
+use x86_64_page::page::Size4KiB;
+use x86_64_tables::frame_alloc::FrameDeallocator;
+
+/// How many indices the longest path has: one for each level of tables that a processor knows.
+const MOST_LEVELS: usize = 5;
+
+/// Holds the paths of the first and of the last page of a range, which have an index for each level of tables.
+#[derive(Drop)]
+struct PathRange<'a> {
+    first: &'a [PageTableIndex],
+    last: &'a [PageTableIndex],
+}
+
+/// Takes away the empty tables on the way to the pages from one path to another, and gives their frames back.
+pub fn clean_up_paths<M: TableAccess, D: FrameDeallocator<Size4KiB>>(
+    mapper: &mut M,
+    first: &[PageTableIndex],
+    last: &[PageTableIndex],
+    frame_deallocator: &mut D,
+)
+    requires first { length first.now ≡ (M.hierarchy mapper.old).layout.levels }
+    requires last { length last.now ≡ (M.hierarchy mapper.old).layout.levels }
+    requires may { let serves = D.serves frame_deallocator.old in
+        MayCleanUp (M.hierarchy mapper.old) serves (D.held frame_deallocator.old) }
+    ensures cleans { let h = M.hierarchy mapper.old in let low = span_start h.layout.levels first.now in
+        let high = span_start h.layout.levels last.now + 0xfff in let after = M.hierarchy mapper.new in
+        let held = D.held frame_deallocator.old in
+        CleansUp h D.put held low high after (D.held frame_deallocator.new) }
+    ensures serves { D.serves frame_deallocator.new ≡ D.serves frame_deallocator.old }
+{
+    if page_number(last) < page_number(first) {
+        return;
+    }
+    let root = mapper.root();
+    clean_up_table(
+        mapper,
+        &PathRange { first, last },
+        &[],
+        root,
+        frame_deallocator,
+    );
+}
+
+/// Takes away the empty tables below the table to which a path leads.
+#[cycle(clean_up)]
+fn clean_up_table<M: TableAccess, D: FrameDeallocator<Size4KiB>>(
+    mapper: &mut M,
+    range: &PathRange,
+    path: &[PageTableIndex],
+    table: PhysFrame<Size4KiB>,
+    frame_deallocator: &mut D,
+)
+    requires short { length path.now < (M.hierarchy mapper.old).layout.levels }
+    requires may { let serves = D.serves frame_deallocator.old in
+        MayCleanUp (M.hierarchy mapper.old) serves (D.held frame_deallocator.old) }
+    requires range { let L = (M.hierarchy mapper.old).layout.levels in
+        IsPageRange L range.now.first.now range.now.last.now }
+    requires visited { let h = M.hierarchy mapper.old in let L = h.layout.levels in
+        let low = span_start L range.now.first.now in let high = span_end L range.now.last.now in
+        IsVisited h.layout h.memory low high path.now table }
+    ensures cleaned { let h = M.hierarchy mapper.old in let L = h.layout.levels in
+        let low = span_start L range.now.first.now in let high = span_end L range.now.last.now in
+        let N = cleaned_below L (paths h) low high path.now in
+        let back = back_below L (paths h) low high path.now in
+        let held = D.held frame_deallocator.old in let n = (M.hierarchy mapper.new).memory in
+        IsCleaned h.layout D.put h.memory held N back n (D.held frame_deallocator.new) }
+    ensures layout { (M.hierarchy mapper.new).layout ≡ (M.hierarchy mapper.old).layout }
+    ensures lent { (M.hierarchy mapper.new).lent ≡ (M.hierarchy mapper.old).lent }
+    ensures serves { D.serves frame_deallocator.new ≡ D.serves frame_deallocator.old }
+{
+    if path.len() + 1 < range.first.len() {
+        let first = index_in_table(range.first, path, 0);
+        let last = index_in_table(range.last, path, 511);
+        for index in first..last + 1 {
+            let index = PageTableIndex::new(index);
+            clean_up_entry(mapper, range, path, table, index, frame_deallocator);
+        }
+    }
+}
+
+/// Takes away the empty tables below the one that the entry at an index of the table to which a path leads names, and then that
+/// one too if it is empty.
+///
+/// An entry that isn't present, one that maps a page, and one through which the root names itself, stay.
+#[cycle(clean_up)]
+fn clean_up_entry<M: TableAccess, D: FrameDeallocator<Size4KiB>>(
+    mapper: &mut M,
+    range: &PathRange,
+    path: &[PageTableIndex],
+    table: PhysFrame<Size4KiB>,
+    index: PageTableIndex,
+    frame_deallocator: &mut D,
+)
+    requires short { length path.now + 1 < (M.hierarchy mapper.old).layout.levels }
+    requires may { let serves = D.serves frame_deallocator.old in
+        MayCleanUp (M.hierarchy mapper.old) serves (D.held frame_deallocator.old) }
+    requires range { let L = (M.hierarchy mapper.old).layout.levels in
+        IsPageRange L range.now.first.now range.now.last.now }
+    requires visited { let h = M.hierarchy mapper.old in let L = h.layout.levels in
+        let low = span_start L range.now.first.now in let high = span_end L range.now.last.now in
+        IsVisited h.layout h.memory low high path.now table }
+    requires meets { let L = (M.hierarchy mapper.old).layout.levels in
+        let low = span_start L range.now.first.now in let high = span_end L range.now.last.now in
+        meets L low high (path.now ++ index ∷ []) ≡ true }
+    ensures cleaned { let h = M.hierarchy mapper.old in let L = h.layout.levels in
+        let low = span_start L range.now.first.now in let high = span_end L range.now.last.now in
+        let held = D.held frame_deallocator.old in let n = (M.hierarchy mapper.new).memory in
+        let rest = D.held frame_deallocator.new in
+        IsCleanedAt h.layout D.put h.memory held low high (path.now ++ index ∷ []) n rest }
+    ensures layout { (M.hierarchy mapper.new).layout ≡ (M.hierarchy mapper.old).layout }
+    ensures lent { (M.hierarchy mapper.new).lent ≡ (M.hierarchy mapper.old).lent }
+    ensures serves { D.serves frame_deallocator.new ≡ D.serves frame_deallocator.old }
+{
+    if is_recursive(mapper, path, index) {
+        return;
+    }
+    let Ok(below) = next_table(mapper, path, table, index) else {
+        return;
+    };
+    let indices = child_indices(path, index);
+    let child = &indices[..path.len() + 1];
+    clean_up_table(mapper, range, child, below, frame_deallocator);
+    if mapper.table(child, below).is_empty() {
+        entry_mut(mapper, path, table, index).set_unused();
+        frame_deallocator.deallocate_frame(below);
+    }
+}
+
+/// Gives the number of the 4KiB page with a path: how many pages start before it.
+fn page_number(path: &[PageTableIndex]) -> u64
+    requires { length path.now ≤ 5 }
+    ensures start { result * 0x1000 ≡ span_start (length path.now) path.now }
+    ensures below { AllBelow path.now }
+{
+    let mut number = 0;
+    for index in path {
+        number = number * 512 + u64::from(*index);
+    }
+    number
+}
+
+/// Gives the index at which the path of a page goes on from the table to which a path leads, or another one where it doesn't lead
+/// there.
+fn index_in_table(page: &[PageTableIndex], path: &[PageTableIndex], other: u16) -> u16
+    requires { length path.now < length page.now }
+    ensures index { result ≡ cond (begins path.now page.now) (get_or page.now (length path.now) 0) other }
+    ensures small { other < 512 → result < 512 }
+{
+    if page.starts_with(path) {
+        u16::from(page[path.len()])
+    } else {
+        other
+    }
+}
+
+/// Tells whether the root names itself at an index of the table to which a path leads.
+fn is_recursive<M: TableAccess>(mapper: &M, path: &[PageTableIndex], index: PageTableIndex) -> bool
+    requires { begins_with (M.hierarchy mapper.now).layout.window path.now ≡ false }
+    ensures { result ≡ begins_with (M.hierarchy mapper.now).layout.window (path.now ++ index ∷ []) }
+{
+    path.is_empty() && mapper.recursive_index() == Some(index)
+}
+
+/// Gives the indices of a path and one more, in the first places.
+fn child_indices(path: &[PageTableIndex], index: PageTableIndex) -> [PageTableIndex; MOST_LEVELS]
+    requires { length path.now < 5 }
+    ensures { take (length path.now + 1) result ≡ path.now ++ index ∷ [] }
+{
+    let mut indices = [index; MOST_LEVELS];
+    indices[..path.len()].copy_from_slice(path);
+    indices
+}
