@@ -26,11 +26,11 @@ translation_back (InvalidFrameAddress address) t e = cc
 
 module _ (l : Layout) (put : List ℕ → ℕ → List ℕ) (m : Memory) (pool : List ℕ) (c : Call) (addr : ℕ) where
   pub translate_served : c ≡ call.Translate addr → (r : TranslateResult) → translation_of r ≡ Some (translate l.levels (read_entry l m) addr)
-      → call_step (machine_of l put) (state_of l m pool) c ≡ (state_of l m pool, Some (reply.Translate r))
+      → call_step (machine_of l put) (state_of l m pool) c ≡ record { state = state_of l m pool; reply = Some (reply.Translate r) }
   unfolding do_call
-  translate_served is r e = ap (call_step (machine_of l put) (state_of l m pool)) is ∙ ap (λ o. (state_of l m pool, option_map reply.Translate o)) (sym (translation_back r _ e))
+  translate_served is r e = ap (call_step (machine_of l put) (state_of l m pool)) is ∙ ap (λ o. record { state = state_of l m pool; reply = option_map reply.Translate o }) (sym (translation_back r _ e))
 
   pub address_served : c ≡ call.TranslateAddr addr → (a : Option ℕ) → a ≡ address_of (translate l.levels (read_entry l m) addr)
-      → call_step (machine_of l put) (state_of l m pool) c ≡ (state_of l m pool, Some (reply.Address a))
+      → call_step (machine_of l put) (state_of l m pool) c ≡ record { state = state_of l m pool; reply = Some (reply.Address a) }
   unfolding do_call
-  address_served is a e = ap (call_step (machine_of l put) (state_of l m pool)) is ∙ ap (λ a. (state_of l m pool, Some (reply.Address a))) (sym e)
+  address_served is a e = ap (call_step (machine_of l put) (state_of l m pool)) is ∙ ap (λ a. record { state = state_of l m pool; reply = Some (reply.Address a) }) (sym e)

@@ -120,8 +120,8 @@ all_items_are m four s [] [] is = refl
 all_items_are m four s [] (x ∷ told) is = cc
 all_items_are m four s (call ∷ calls) [] is = cc
 all_items_are m four s (call ∷ calls) (x ∷ told) is =
-    let r = (step m s (call_of m.levels call)).1 in
-    let t = (step m s (call_of m.levels call)).0 in
+    let r = (step m s (call_of m.levels call)).reply in
+    let t = (step m s (call_of m.levels call)).state in
     let first : Some x ≡ reply_of call r = cc in
     let next : map Some told ≡ replies_to m t calls = cc in
     map-append item_of (items_of x) (items_told told)
@@ -135,8 +135,8 @@ late_told m s (suc k) [] [] is = refl
 late_told m s (suc k) [] (x ∷ told) is = cc
 late_told m s (suc k) (call ∷ calls) [] is = cc
 late_told m s (suc k) (call ∷ calls) (x ∷ told) is =
-    let next : map Some told ≡ replies_to m (call_step m s call).0 calls = cc in
-    late_told m (call_step m s call).0 k calls told next
+    let next : map Some told ≡ replies_to m (call_step m s call).state calls = cc in
+    late_told m (call_step m s call).state k calls told next
 
 covers_none : (items : List FlushItem) (p : ℕ) → NoneCovers items p → NoItemCovers 4 (map item_of items) p
 covers_none [] p none = tt

@@ -24,7 +24,7 @@ keeps_then l serves m n o pool rest last one next = record {
 
 -- a step of the machine, where the words mean the state after it and are as a mapper leaves them
 pub keeps_step : (l : Layout) → IsParentFlags l.added_flags → (put : List ℕ → ℕ → List ℕ) → IsGiving put → (serves : ℕ → Bool) (m : Memory) (pool : List ℕ) → FitsPool l m serves pool
-    → (call : Call) → IsCall l.levels call → (n : Memory) (rest : List ℕ) → state_of l n rest ≡ (step (machine_of l put) (state_of l m pool) call).0
+    → (call : Call) → IsCall l.levels call → (n : Memory) (rest : List ℕ) → state_of l n rest ≡ (step (machine_of l put) (state_of l m pool) call).state
     → IsReady l n rest → KeepsOthers l.places (Owns l m pool) m n → Keeps l serves m pool n rest
 keeps_step l adds put gives serves m pool fits call is n rest means ready others =
     let sound = sound_of_fits l.levels l.window (words l m) l.root serves (state_of l m pool) fits in

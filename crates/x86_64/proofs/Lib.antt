@@ -7,3 +7,4 @@ pub mod Flushed
 pub mod Telling
 pub mod Moved
 pub mod Offsets
+pub mod Beside

@@ -15,7 +15,8 @@ use Rattle.x86_64_model.specs.Pool.{IsOwn}
 use Rattle.x86_64_model.specs.Position.{IsCanonical, raw}
 use Rattle.x86_64_model.specs.Window.{outside_window}
 use Rattle.x86_64_mappers.specs.Layouts.{direct}
-use Rattle.x86_64_mappers.specs.Offsets.{OffsetFits, is_reached, offset_places, canonical_from_reached, offset_words, offset_fits}
+use Rattle.x86_64_mappers.proofs.OffsetTables.{canonical_from_reached, offset_words, offset_fits}
+use Rattle.x86_64_mappers.specs.Offsets.{OffsetFits, is_reached, offset_places}
 use Rattle.x86_64.specs.Runs.{FitsPool, Keeps, state_of}
 
 -- a frame that has a table is covered

@@ -11,7 +11,7 @@ use Rattle.x86_64_model.specs.Pool.{IsGiving}
 use Rattle.x86_64_model.specs.Allowed.{allowed, refuses}
 use Rattle.x86_64_model.specs.Call as machine
 use Rattle.x86_64_model.specs.Call.{IsCall}
-use Rattle.x86_64_model.specs.Machine.{State, do_call, step}
+use Rattle.x86_64_model.specs.Machine.{AfterCall, only_reply, do_call, step}
 use Rattle.x86_64_model.specs.MapperCalls.{IsReady, Owns, KeepsOthers}
 use Rattle.x86_64_model.specs.Owned.{Hierarchy, Steps, Does, DoesMap, page_translation}
 use Rattle.x86_64_model.proofs.Lemmas.Machines.Effects.{page_at_level}
@@ -109,7 +109,7 @@ pub record Start (l : Layout) (put : List ℕ → ℕ → List ℕ) (serves : �
 
 -- the call's step in the machine, what it keeps, and that a reply that says so leaves all as it was
 pub record Serves (S : Type 0) (l : Layout) (put : List ℕ → ℕ → List ℕ) (serves : ℕ → Bool) (m : Memory) (pool : List ℕ) (level : ℕ) (call : SizeCall S) (n : Memory) (rest : List ℕ) (answer : SizeReply S) : Type 0 where
-  pub step : size_step (machine_of l put) level (state_of l m pool) call ≡ (state_of l n rest, Some (Some answer))
+  pub step : size_step (machine_of l put) level (state_of l m pool) call ≡ record { state = state_of l n rest; reply = Some (Some answer) }
   pub keeps : Keeps l serves m pool n rest
   pub still : size_changes_nothing answer ≡ true → n ≡ m
 
@@ -122,26 +122,26 @@ IsServed S l put serves m pool level call n rest answer = allowed l.levels l.win
 
 -- the outcome of a call, in the layout that no call changes
 stepped : {Lent : Type 0} (h : Hierarchy Lent) (put : List ℕ → ℕ → List ℕ) (pool : List ℕ) (on : machine.Call) (answer : Answer) (after : Hierarchy Lent) (rest : List ℕ) → after.layout ≡ h.layout
-    → Steps h pool on answer after rest → do_call (machine_of h.layout put) (state_of h.layout h.memory pool) on ≡ (state_of h.layout after.memory rest, machine.Answered answer)
+    → Steps h pool on answer after rest → do_call (machine_of h.layout put) (state_of h.layout h.memory pool) on ≡ record { state = state_of h.layout after.memory rest; reply = machine.Answered answer }
 stepped h put pool on answer after rest same steps =
-    subst (λ l. do_call (machine_of h.layout put) (state_of h.layout h.memory pool) on ≡ (state_of l after.memory rest, machine.Answered answer)) same (steps put)
+    subst (λ l. do_call (machine_of h.layout put) (state_of h.layout h.memory pool) on ≡ record { state = state_of l after.memory rest; reply = machine.Answered answer }) same (steps put)
 
 module _ {Lent S : Type 0} (h : Hierarchy Lent) {put : List ℕ → ℕ → List ℕ} {serves : ℕ → Bool} {pool : List ℕ} {level : ℕ} (start : Start h.layout put serves h.memory pool level) where
   abbrev Is : (call : SizeCall S) (n : Memory) (rest : List ℕ) (answer : SizeReply S) → Type 0
   Is = IsServed S h.layout put serves h.memory pool level
 
   answered : (call : SizeCall S) → IsCall h.layout.levels (size_call h.layout.levels level call) → (n : Memory) (rest : List ℕ) (answer : Answer)
-      → do_call (machine_of h.layout put) (state_of h.layout h.memory pool) (size_call h.layout.levels level call) ≡ (state_of h.layout n rest, machine.Answered answer)
+      → do_call (machine_of h.layout put) (state_of h.layout h.memory pool) (size_call h.layout.levels level call) ≡ record { state = state_of h.layout n rest; reply = machine.Answered answer }
       → IsReady h.layout n rest → KeepsOthers h.layout.places (Owns h.layout h.memory pool) h.memory n → (told : SizeReply S) → size_reply call answer ≡ Some told → (size_changes_nothing told ≡ true → n ≡ h.memory)
       → Is call n rest told
   answered call is n rest answer does ready others told tells still may =
       let before = state_of h.layout h.memory pool in
       let on = size_call h.layout.levels level call in
-      let one : step (machine_of h.layout put) before on ≡ (state_of h.layout n rest, machine.Answered answer) = ap (λ b. cond b (do_call (machine_of h.layout put) before on) (before, machine.NotAllowed)) may ∙ does in
+      let one : step (machine_of h.layout put) before on ≡ record { state = state_of h.layout n rest; reply = machine.Answered answer } = ap (λ b. cond b (do_call (machine_of h.layout put) before on) (only_reply before machine.NotAllowed)) may ∙ does in
       record {
-        step = ap (λ (x : State × machine.Reply). (x.0, size_answer call x.1)) one ∙ ap (λ a. (state_of h.layout n rest, option_map Some a)) tells;
+        step = ap (λ (x : AfterCall). record { state = x.state; reply = size_answer call x.reply }) one ∙ ap (λ a. record { state = state_of h.layout n rest; reply = option_map Some a }) tells;
         still = still;
-        keeps = keeps_step h.layout start.adds put start.gives serves h.memory pool start.fits on is n rest (sym (ap (λ (x : State × machine.Reply). x.0) one)) ready others;
+        keeps = keeps_step h.layout start.adds put start.gives serves h.memory pool start.fits on is n rest (sym (ap (λ (x : AfterCall). x.state) one)) ready others;
       }
 
   -- ---- maps

@@ -14,7 +14,7 @@ use Rattle.x86_64.specs.declared.calls.Call.{Call}
 use Rattle.x86_64.specs.declared.calls.Reply.{Reply}
 use Rattle.x86_64.specs.Calls.{calls_of}
 use Rattle.x86_64.specs.Replies.{changes_nothing}
-use Rattle.x86_64.specs.Runs.{machine_of, state_of, Keeps, Kept, call_step, replies_to, appended, UnchangedIfRefused}
+use Rattle.x86_64.specs.Runs.{machine_of, state_of, Keeps, Kept, AfterStep, call_step, replies_to, appended, UnchangedIfRefused}
 use Rattle.x86_64.proofs.Keeping.{keeps_then}
 
 left : (calls : List Call) (i : ℕ) (call : Call) → i < length calls → call ≡ get_or calls i call → drop i calls ≡ call ∷ drop (i + 1) calls
@@ -24,15 +24,15 @@ recorded_both : (b : Bool) (xs ys : List FlushItem) → recorded b (xs ++ ys) �
 recorded_both true xs ys = refl
 recorded_both false xs ys = refl
 
-module _ (m : Machine) (s t : State) (r : Reply) (calls : List Call) (i : ℕ) (call : Call) (here : i < length calls) (item : call ≡ get_or calls i call) (one : call_step m s call ≡ (t, Some r)) where
+module _ (m : Machine) (s t : State) (r : Reply) (calls : List Call) (i : ℕ) (call : Call) (here : i < length calls) (item : call ≡ get_or calls i call) (one : call_step m s call ≡ record { state = t; reply = Some r }) where
   pub told_next : (items more : List Reply) (all : List (Option Reply)) → more ≡ items ++ r ∷ [] → map Some items ++ replies_to m s (drop i calls) ≡ all → map Some more ++ replies_to m t (drop (i + 1) calls) ≡ all
   told_next items more all e before =
       let rest = drop (i + 1) calls in
       ap (λ xs. map Some xs ++ replies_to m t rest) e ∙ ap (λ xs. xs ++ replies_to m t rest) (map-append Some items (r ∷ [])) ∙ append_assoc (map Some items) (Some r ∷ []) (replies_to m t rest)
-      ∙ ap (λ (x : State × Option Reply). map Some items ++ x.1 ∷ replies_to m x.0 rest) (sym one) ∙ ap (λ cs. map Some items ++ replies_to m s cs) (sym (left calls i call here item)) ∙ before
+      ∙ ap (λ (x : AfterStep Reply). map Some items ++ x.reply ∷ replies_to m x.state rest) (sym one) ∙ ap (λ cs. map Some items ++ replies_to m s cs) (sym (left calls i call here item)) ∙ before
 
   pub rest_next : (all : State) → state_after m s (calls_of m.levels (drop i calls)) ≡ all → state_after m t (calls_of m.levels (drop (i + 1) calls)) ≡ all
-  rest_next all before = ap (λ (x : State × Option Reply). state_after m x.0 (calls_of m.levels (drop (i + 1) calls))) (sym one) ∙ ap (λ cs. state_after m s (calls_of m.levels cs)) (sym (left calls i call here item)) ∙ before
+  rest_next all before = ap (λ (x : AfterStep Reply). state_after m x.state (calls_of m.levels (drop (i + 1) calls))) (sym one) ∙ ap (λ cs. state_after m s (calls_of m.levels cs)) (sym (left calls i call here item)) ∙ before
 
 -- ---- the replies that were appended
 
@@ -67,7 +67,7 @@ module _ (before items more : List Reply) (r : Reply) (longer : length before �
 
 replies_long : (m : Machine) (s : State) (calls : List Call) → length (replies_to m s calls) ≡ length calls
 replies_long m s [] = refl
-replies_long m s (call ∷ calls) = ap suc (replies_long m (call_step m s call).0 calls)
+replies_long m s (call ∷ calls) = ap suc (replies_long m (call_step m s call).state calls)
 
 -- where no call is left
 pub told_last : (m : Machine) (s : State) (calls : List Call) (i : ℕ) → length calls ≤ i → (items : List Reply) (all : List (Option Reply)) → map Some items ++ replies_to m s (drop i calls) ≡ all → map Some items ≡ all
@@ -96,8 +96,8 @@ room_for_one has_room fewer (suc k) room =
 -- ---- in the same layout, with the same frames served
 
 module _ (k l : Layout) (same : l ≡ k) (put : List ℕ → ℕ → List ℕ) (n o : Memory) (rest last : List ℕ) where
-  pub step_at : (call : Call) (r : Reply) → call_step (machine_of l put) (state_of l n rest) call ≡ (state_of l o last, Some r) → call_step (machine_of k put) (state_of k n rest) call ≡ (state_of k o last, Some r)
-  step_at call r = subst (λ l. call_step (machine_of l put) (state_of l n rest) call ≡ (state_of l o last, Some r)) same
+  pub step_at : (call : Call) (r : Reply) → call_step (machine_of l put) (state_of l n rest) call ≡ record { state = state_of l o last; reply = Some r } → call_step (machine_of k put) (state_of k n rest) call ≡ record { state = state_of k o last; reply = Some r }
+  step_at call r = subst (λ l. call_step (machine_of l put) (state_of l n rest) call ≡ record { state = state_of l o last; reply = Some r }) same
 
 pub kept_then : {Lent : Type 0} (h now after : Hierarchy Lent) (served serves : ℕ → Bool) → serves ≡ served → (pool rest last : List ℕ) → Kept h served pool now rest → Kept now serves rest after last
     → Kept h served pool after last

@@ -6,6 +6,7 @@ use Rattle.x86_64_tables.specs.declared.mapper.recorder.FlushItem.{FlushItem}
 use Rattle.x86_64.specs.Calls.{size_call}
 use Rattle.x86_64.specs.Flushes.{size_items}
 use Rattle.x86_64.specs.Replies.{size_answer, size_changes_nothing}
+use Rattle.x86_64.specs.Runs.{AfterStep}
 use Rattle.x86_64.specs.declared.calls.SizeCall.{SizeCall}
 use Rattle.x86_64.specs.declared.calls.SizeReply.{SizeReply}
 
@@ -27,6 +28,8 @@ abbrev pub changes_nothing_where : {S : Type 0} → Option (SizeReply S) → Boo
 changes_nothing_where None = true
 changes_nothing_where (Some answer) = size_changes_nothing answer
 
--- the state after a call on a page that an entry of the level maps, and the reply, with none for a call that isn't allowed
-abbrev pub size_step : {S : Type 0} → Machine → (level : ℕ) → State → SizeCall S → State × Option (Option (SizeReply S))
-size_step machine level state call = let after = step machine state (size_call machine.levels level call) in (after.0, size_answer call after.1)
+-- the machine's step by a call on a page that an entry of the level maps, and the reply, with none for a call that isn't allowed
+abbrev pub size_step : {S : Type 0} → Machine → (level : ℕ) → State → SizeCall S → AfterStep (Option (SizeReply S))
+size_step machine level state call =
+    let after = step machine state (size_call machine.levels level call) in
+    record { state = after.state; reply = size_answer call after.reply }

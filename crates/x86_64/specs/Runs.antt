@@ -21,14 +21,21 @@ state_of layout memory pool = record { paths = paths layout memory; pool = pool 
 abbrev pub FitsPool : Layout → Memory → (serves : ℕ → Bool) → (pool : List ℕ) → Type 0
 FitsPool layout memory serves pool = Fits layout.levels layout.window (words layout memory) layout.root (paths layout memory) serves pool
 
--- the state after a call, and the reply
-abbrev pub call_step : Machine → State → Call → State × Option Reply
-call_step machine state call = let after = step machine state (call_of machine.levels call) in (after.0, reply_of call after.1)
+-- what a call leaves: the machine's state, and the reply, none where the call never gets such a reply of the machine
+pub record AfterStep (R : Type 0) : Type 0 where
+  pub state : State
+  pub reply : Option R
+
+-- the machine's step by a call
+abbrev pub call_step : Machine → State → Call → AfterStep Reply
+call_step machine state call =
+    let after = step machine state (call_of machine.levels call) in
+    record { state = after.state; reply = reply_of call after.reply }
 
 -- a reply to each call, from a state on
 abbrev pub replies_to : Machine → State → List Call → List (Option Reply)
 replies_to machine state [] = []
-replies_to machine state (call ∷ calls) = let after = call_step machine state call in after.1 ∷ replies_to machine after.0 calls
+replies_to machine state (call ∷ calls) = let after = call_step machine state call in after.reply ∷ replies_to machine after.state calls
 
 -- the replies that were appended
 abbrev pub appended : (before after : List Reply) → List Reply

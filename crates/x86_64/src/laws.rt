@@ -1,7 +1,15 @@
 //! Laws of calls and replies, as public functions with empty bodies.
+ghost use Rattle.x86_64.specs.SecondHierarchies.{SecondHierarchiesStay};
 ghost use Rattle.x86_64.specs.ToldReplies.{RepliesTell};
 
 /// A reply tells all of the machine's reply to its call, but which frame a map or a change of flags is done with.
 pub fn replies_lose_nothing()
     ensures { RepliesTell }
+{}
+
+/// A second hierarchy of the memory and mapping of a first one, whose root and tables are none of the frames of the first one
+/// and its pool, stays valid with its path map over every list of calls of the first one, and a pool that fitted both still
+/// fits it: what [`run`](crate::run) keeps (`keeps`) is enough.
+pub fn second_hierarchies_stay()
+    ensures { SecondHierarchiesStay }
 {}

@@ -43,8 +43,9 @@ pub fn run<M: MapperAllSizes + Translate, F: FrameStore>(
     replies: &mut Vec<Reply>,
 ) -> Result<(), AllocError>
     requires { PoolFits (M.hierarchy mapper.old) (F.serves frames.old) (F.supply frames.old) }
-    ensures ran { let h = M.hierarchy mapper.old in
-        OnOk result (Ran F.put h (F.supply frames.old) calls.now replies.old.items replies.new.items (M.hierarchy mapper.new) (F.supply frames.new)) }
+    ensures ran { let h = M.hierarchy mapper.old in let after = M.hierarchy mapper.new in
+        let pool = F.supply frames.old in let rest = F.supply frames.new in
+        OnOk result (Ran F.put h pool calls.now replies.old.items replies.new.items after rest) }
     ensures unchanged { OnErr result (
         (replies.new.items ≡ replies.old.items) × (vec_capacity replies.new ≡ vec_capacity replies.old)
         × (mapper.new ≡ mapper.old) × (frames.new ≡ frames.old)) }
@@ -69,8 +70,9 @@ fn serve_all<M: MapperAllSizes + Translate, F: FrameStore, K: Tokens>(
     requires fits { PoolFits (M.hierarchy mapper.old) (F.serves frames.old) (F.supply frames.old) }
     requires reserved { vec_len replies.old + length calls.now ≤ vec_capacity replies.old }
     requires room { K.has_room tokens.old (length calls.now) }
-    ensures ran { let h = M.hierarchy mapper.old in
-        Ran F.put h (F.supply frames.old) calls.now replies.old.items replies.new.items (M.hierarchy mapper.new) (F.supply frames.new) }
+    ensures ran { let h = M.hierarchy mapper.old in let after = M.hierarchy mapper.new in
+        let pool = F.supply frames.old in let rest = F.supply frames.new in
+        Ran F.put h pool calls.now replies.old.items replies.new.items after rest }
     ensures items { let told = appended replies.old.items replies.new.items in
         K.items tokens.new ≡ K.items tokens.old ++ recorded K.records (items_told told) }
     ensures keeps { let h = M.hierarchy mapper.old in
@@ -93,7 +95,8 @@ fn serve<M: MapperAllSizes + Translate, F: FrameStore, K: Tokens>(
     requires room { K.has_room tokens.old 1 }
     ensures step { let layout = (M.hierarchy mapper.old).layout in
         let start = state_of layout (M.hierarchy mapper.old).memory (F.supply frames.old) in
-        call_step (machine_of layout F.put) start call ≡ (state_of layout (M.hierarchy mapper.new).memory (F.supply frames.new), Some result) }
+        let after = state_of layout (M.hierarchy mapper.new).memory (F.supply frames.new) in
+        call_step (machine_of layout F.put) start call ≡ record { state = after; reply = Some result } }
     ensures still { let memory = (M.hierarchy mapper.old).memory in
         changes_nothing result ≡ true → (M.hierarchy mapper.new).memory ≡ memory }
     ensures keeps { let h = M.hierarchy mapper.old in
@@ -131,7 +134,8 @@ fn serve_page<S: PageSize, M: Mapper<S>, F: FrameStore, K: Tokens>(
     requires room { K.has_room tokens.old 1 }
     ensures step { let layout = (M.hierarchy mapper.old).layout in
         let start = state_of layout (M.hierarchy mapper.old).memory (F.supply frames.old) in
-        size_step (machine_of layout F.put) S.LEVEL start call ≡ (state_of layout (M.hierarchy mapper.new).memory (F.supply frames.new), Some result) }
+        let after = state_of layout (M.hierarchy mapper.new).memory (F.supply frames.new) in
+        size_step (machine_of layout F.put) S.LEVEL start call ≡ record { state = after; reply = Some result } }
     ensures still { let memory = (M.hierarchy mapper.old).memory in
         changes_nothing_where result ≡ true → (M.hierarchy mapper.new).memory ≡ memory }
     ensures keeps { let h = M.hierarchy mapper.old in

@@ -29,17 +29,27 @@ fn run_in<P: PageTableFrameMapping + Drop, F: FrameStore>(
     calls: &[Call],
     replies: &mut Vec<Reply>,
 ) -> Result<(), AllocError>
-    requires { FitsPool (direct (P.places mapping) root) memory.old (F.serves frames.old) (F.supply frames.old) }
+    requires { let layout = direct (P.places mapping) root in
+        FitsPool layout memory.old (F.serves frames.old) (F.supply frames.old) }
     ensures replies { let layout = direct (P.places mapping) root in
-        OnOk result (map Some replies.new.items ≡ map Some replies.old.items ++ replies_to (machine_of layout F.put) (state_of layout memory.old (F.supply frames.old)) calls.now) }
-    ensures refused { OnOk result (UnchangedIfRefused (appended replies.old.items replies.new.items) memory.old memory.new) }
+        let start = state_of layout memory.old (F.supply frames.old) in
+        let told = replies_to (machine_of layout F.put) start calls.now in
+        OnOk result (map Some replies.new.items ≡ map Some replies.old.items ++ told) }
+    ensures refused { let told = appended replies.old.items replies.new.items in
+        OnOk result (UnchangedIfRefused told memory.old memory.new) }
     ensures state { let layout = direct (P.places mapping) root in
-        OnOk result (state_of layout memory.new (F.supply frames.new) ≡ state_after (machine_of layout F.put) (state_of layout memory.old (F.supply frames.old)) (calls_of 4 calls.now)) }
-    ensures unchanged { OnErr result ((replies.new.items ≡ replies.old.items) × (memory.new ≡ memory.old) × (frames.new ≡ frames.old)) }
-    ensures fits { FitsPool (direct (P.places mapping) root) memory.new (F.serves frames.new) (F.supply frames.new) }
-    ensures conserved { let layout = direct (P.places mapping) root in
-        (f : ℕ) → Owns layout memory.old (F.supply frames.old) f ↔ Owns layout memory.new (F.supply frames.new) f }
-    ensures others { KeepsOthers (P.places mapping) (Owns (direct (P.places mapping) root) memory.old (F.supply frames.old)) memory.old memory.new }
+        let start = state_of layout memory.old (F.supply frames.old) in
+        let after = state_of layout memory.new (F.supply frames.new) in
+        OnOk result (after ≡ state_after (machine_of layout F.put) start (calls_of 4 calls.now)) }
+    ensures unchanged { OnErr result ((replies.new.items ≡ replies.old.items)
+        × (memory.new ≡ memory.old) × (frames.new ≡ frames.old)) }
+    ensures fits { let layout = direct (P.places mapping) root in
+        FitsPool layout memory.new (F.serves frames.new) (F.supply frames.new) }
+    ensures conserved { let layout = direct (P.places mapping) root in (f : ℕ) →
+        Owns layout memory.old (F.supply frames.old) f ↔ Owns layout memory.new (F.supply frames.new) f }
+    ensures others { let places = P.places mapping in
+        let owned = Owns (direct places root) memory.old (F.supply frames.old) in
+        KeepsOthers places owned memory.old memory.new }
 {
     let mut mapper = MappedPageTable::new(memory, root, mapping);
     run(&mut mapper, frames, calls, replies)

@@ -28,15 +28,18 @@ pub fn run_flushed<M: MapperAllSizes + Translate, F: FrameStore>(
     recorder: &mut FlushRecorder,
 ) -> Result<(), AllocError>
     requires { PoolFits (M.hierarchy mapper.old) (F.serves frames.old) (F.supply frames.old) }
-    ensures ran { let h = M.hierarchy mapper.old in
-        OnOk result (Ran F.put h (F.supply frames.old) calls.now replies.old.items replies.new.items (M.hierarchy mapper.new) (F.supply frames.new)) }
-    ensures flushed { let h = M.hierarchy mapper.old in
-        let told = appended replies.old.items replies.new.items in
-        OnOk result (Flushed F.put h (F.supply frames.old) calls.now told recorder.old.items recorder.new.items (M.hierarchy mapper.new)) }
+    ensures ran { let h = M.hierarchy mapper.old in let after = M.hierarchy mapper.new in
+        let pool = F.supply frames.old in let rest = F.supply frames.new in
+        OnOk result (Ran F.put h pool calls.now replies.old.items replies.new.items after rest) }
+    ensures flushed { let h = M.hierarchy mapper.old in let after = M.hierarchy mapper.new in
+        let pool = F.supply frames.old in let told = appended replies.old.items replies.new.items in
+        OnOk result (Flushed F.put h pool calls.now told recorder.old.items recorder.new.items after) }
     ensures unchanged { OnErr result (
-        (replies.new.items ≡ replies.old.items) × (recorder.new ≡ recorder.old) × (mapper.new ≡ mapper.old) × (frames.new ≡ frames.old)) }
+        (replies.new.items ≡ replies.old.items) × (recorder.new ≡ recorder.old)
+        × (mapper.new ≡ mapper.old) × (frames.new ≡ frames.old)) }
     ensures needs_room { OnErr result (
-        (vec_capacity replies.old < vec_len replies.old + length calls.now) ⊎ (recorder.old.room < length calls.now)) }
+        (vec_capacity replies.old < vec_len replies.old + length calls.now)
+        ⊎ (recorder.old.room < length calls.now)) }
     ensures keeps { let h = M.hierarchy mapper.old in
         Kept h (F.serves frames.old) (F.supply frames.old) (M.hierarchy mapper.new) (F.supply frames.new) }
     ensures serves { F.serves frames.new ≡ F.serves frames.old }

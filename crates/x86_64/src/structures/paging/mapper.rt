@@ -2,7 +2,8 @@
 pub use x86_64_mappers::mapped_page_table::MappedPageTable;
 pub use x86_64_mappers::offset_page_table::OffsetPageTable;
 pub use x86_64_tables::mapper::{
-    FlagUpdateError, MapToError, MappedFrame, Mapper, MapperAllSizes, MapperFlush, MapperFlushAll,
-    PageTables, PathCalls, Tables, Translate, TranslateError, TranslateResult, UnmapError,
+    CleanUp, FlagUpdateError, MapToError, MappedFrame, Mapper, MapperAllSizes, MapperFlush,
+    MapperFlushAll, PageTables, PathCalls, Tables, Translate, TranslateError, TranslateResult,
+    UnmapError,
 };
 pub use x86_64_tables::phys_memory::PageTableFrameMapping;
