@@ -7,7 +7,8 @@ use Rattle.x86_64_model.specs.Machine.{State}
 use Rattle.x86_64_model.specs.Marks.{serves_below}
 use Rattle.x86_64_model.specs.Memory.{Memory}
 use Rattle.x86_64_mappers.specs.Layouts.{direct}
-use Rattle.x86_64_mappers.specs.Offsets.{OffsetFits, offset_places, offset_fits}
+use Rattle.x86_64_mappers.proofs.OffsetTables.{offset_fits}
+use Rattle.x86_64_mappers.specs.Offsets.{OffsetFits, offset_places}
 use Rattle.x86_64.proofs.Moved.{moved}
 use Rattle.x86_64.proofs.Offsets.{same_state, still_reached, same_kept}
 use Rattle.x86_64.specs.Runs as runs
@@ -24,7 +25,7 @@ pub answered_alike : (offset : ℕ) (before : Memory) (free : List ℕ) (call : 
     → IsAnswered (layout_at offset) before free call after rest reply → IsAnswered layout before free call after rest reply
 answered_alike offset before free call after rest reply first last answered =
     ap (λ (state : State). runs.call_step machine state call) (sym (same_state offset 0x1000 before free first)) ∙ answered
-    ∙ ap (λ (state : State). (state, Some reply)) (same_state offset 0x1000 after rest last)
+    ∙ ap (λ (state : State). record { state = state; reply = Some reply }) (same_state offset 0x1000 after rest last)
 
 -- the free frames fit at the offset
 pub at_offset : (offset : ℕ) (m : Memory) (limit : ℕ) (free : List ℕ) → OffsetFits m offset → runs.FitsPool layout m (serves_below limit) free → runs.FitsPool (layout_at offset) m (serves_below limit) free

@@ -28,7 +28,7 @@ machine = machine_by layout
 -- the reply to a call, and the state that it leaves, are the machine's
 abbrev pub IsAnswered : (by : Layout) → (before : Memory) → (free : List ℕ) → Call → (after : Memory) → (rest : List ℕ) → Reply → Type 0
 IsAnswered by before free call after rest reply =
-    runs.call_step (machine_by by) (runs.state_of by before free) call ≡ (runs.state_of by after rest, Some reply)
+    runs.call_step (machine_by by) (runs.state_of by before free) call ≡ record { state = runs.state_of by after rest; reply = Some reply }
 
 -- what the words mean, and the free frames
 abbrev pub state_of : Hierarchy → State

@@ -15,7 +15,7 @@ use Rattle.pagetab_engine.specs.declared.reply.Reply.TheVariants as reply
 
 -- the reply to a call is the machine's, and that to another command says what the definitions say of the hierarchy
 abbrev pub IsReply : Hierarchy → Command → Reply → Type 0
-IsReply hierarchy (command.Call call) (reply.Answered answer) = Some answer ≡ (call_step machine (state_of hierarchy) call).1
+IsReply hierarchy (command.Call call) (reply.Answered answer) = Some answer ≡ (call_step machine (state_of hierarchy) call).reply
 IsReply hierarchy (command.Walk addr) (reply.Arrival walked) = option_map walked_of walked ≡ page_walk 4 (words layout hierarchy.memory) 0x1000 addr
 IsReply hierarchy (command.Show slot) (reply.Word word) = word ≡ word_in hierarchy.memory slot.place slot.index
 IsReply hierarchy command.Pool (reply.Pool frames) = frames.items ≡ hierarchy.pool.frames
@@ -23,5 +23,5 @@ IsReply hierarchy asked told = ⊥
 
 -- the state after a command: the machine's after a call, and the same after another
 abbrev pub state_after : Hierarchy → Command → State
-state_after hierarchy (command.Call call) = (call_step machine (state_of hierarchy) call).0
+state_after hierarchy (command.Call call) = (call_step machine (state_of hierarchy) call).state
 state_after hierarchy asked = state_of hierarchy

@@ -115,8 +115,8 @@ impl Hierarchy {
     /// `AllocError` where memory is refused; then nothing changes.
     pub fn answer_call(&mut self, alloc: Global, call: Call) -> Result<Reply, AllocError>
         requires { IsHierarchy self.old }
-        ensures reply { IfOk result (λ reply. Some reply ≡ (call_step machine (state_of self.old) call).1) }
-        ensures state { OnOk result (state_of self.new ≡ (call_step machine (state_of self.old) call).0) }
+        ensures reply { IfOk result (λ reply. Some reply ≡ (call_step machine (state_of self.old) call).reply) }
+        ensures state { OnOk result (state_of self.new ≡ (call_step machine (state_of self.old) call).state) }
         ensures unchanged { OnErr result (self.new ≡ self.old) }
         ensures keeps { Keeps self.old self.new }
     {
