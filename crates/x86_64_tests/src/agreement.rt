@@ -1,21 +1,21 @@
 //! Lists of calls that a fixed rule makes, answered by `run` and by the plain slow program side by side.
 //!
-//! After each list these are compared: each reply of `run` with the plain program's; every word of the root and of each
-//! table with the plain state's entry at its path; the free frames, in order; and the words of these and of the frames that
-//! are neither tables nor free, with what they were. At the end each outcome that a call of a kind and a size can have was met,
-//! and no other.
+//! After each list these are compared: each reply of `run` with the plain program's; every word of the root
+//! and of each table with the plain state's entry at its path; the free frames, in order; and the words of
+//! these and of the frames that are neither tables nor free, with what they were. At the end each outcome
+//! that a call of a kind and a size can have was met, and no other.
 mod chooser;
 mod outcomes;
 
-use crate::images::{ROOT, WORD_COUNT, fill, frame_at, pool_of, run_on, set_word, word_at};
-use crate::replies::wanted_of;
-use crate::rows::compare_pool;
+use crate::images::{ROOT, WORD_COUNT, fill, set_word};
+use crate::replies::{Wanted, wanted_of};
+use crate::rows::{By, answer, begin_in, compare_pool, compare_word};
 use chooser::Chooser;
 use outcomes::{ACTIONS, Action, OUTCOMES, Outcome, outcome_of, possible_outcomes};
 use std::alloc::{AllocError, Global};
 use std::process::Abort;
 use std::test::Fail;
-use x86_64::{FramePool, IdentityMapping, PhysMemory, pool_fits};
+use x86_64::{Call, FramePool, PhysMemory, Reply};
 use x86_64_plain::words::{address, is_huge, is_used};
 use x86_64_plain::{PathEntries, PlainMachine, PlainState};
 
@@ -35,9 +35,9 @@ const MACHINE: PlainMachine = PlainMachine {
     added_flags: 0,
 };
 
-/// The entries at first, each with its path and the frame of the table that it stands in. Pages of each size are mapped; a
-/// table, a page and an entry that maps a page of 1GiB lack `PRESENT`; and two entries with `HUGE_PAGE` name an address that
-/// isn't a multiple of their size.
+/// The entries at first, each with its path and the frame of the table that it stands in. Pages of each size
+/// are mapped; a table, a page and an entry that maps a page of 1GiB lack `PRESENT`; and two entries with
+/// `HUGE_PAGE` name an address that isn't a multiple of their size.
 const ENTRIES: [(&[u64], u64, u64); 12] = [
     (&[3], 0x1000, 0xb003),
     (&[3, 0], 0xb000, 0x4000_0083),
@@ -62,7 +62,8 @@ const STRANGER: u64 = 0x9000;
 /// The other frames that are neither tables nor free. Their words are 0.
 const EMPTY: [u64; 3] = [0x0, 0x5000, 0xf000];
 
-/// Says that an outcome came of a call, with the level of the page's entry or of the one that a translation ends at.
+/// Says that an outcome came of a call, with the level of the page's entry or of the one that a translation
+/// ends at.
 #[derive(Clone, Copy, Debug, PartialEq)]
 struct Met {
     action: Action,
@@ -84,27 +85,14 @@ impl Twins {
     /// Makes them of the entries at first and so many free frames, which are full of ones, as the stranger is.
     fn new(alloc: Global, count: usize) -> Result<Twins, Fail> {
         let (free, others) = FREE.split_at(count.min(FREE.len()));
-        let mut empty = Vec::from_slice(alloc, &EMPTY)?;
-        empty.extend_from_slice(others)?;
-        let mut memory = PhysMemory::new(alloc, PLACES)?;
-        let mut paths = PathEntries::new(alloc);
-        for (path, frame, word) in ENTRIES {
-            let index = (path.last().copied().unwrap_or(0) & 0x1ff) as u16;
-            set_word(&mut memory, frame, index, word)?;
-            paths.put(path, word)?;
-        }
+        let (mut memory, pool) = begin_in(alloc, PLACES, free)?;
         fill(&mut memory, STRANGER)?;
-        for frame in free {
-            fill(&mut memory, *frame)?;
-        }
+        let paths = put_entries(alloc, &mut memory)?;
         Ok(Twins {
             memory,
-            pool: pool_of(alloc, PLACES, free)?,
-            plain: PlainState {
-                paths,
-                pool: Vec::from_slice(alloc, free)?,
-            },
-            empty,
+            pool,
+            plain: plain_state(alloc, paths, free)?,
+            empty: empty_frames(alloc, others)?,
         })
     }
 
@@ -118,11 +106,7 @@ impl Twins {
             };
             for index in 0..WORD_COUNT {
                 path.push(u64::from(index))?;
-                let word = self.plain.paths.entry(&path);
-                assert_eq!(rt; word_at(&self.memory, frame, index)?, word, "at {path:?}");
-                if path.len() < MACHINE.levels && is_used(word) && !is_huge(word) {
-                    tables.push((Vec::from_slice(alloc, &path)?, address(word)))?;
-                }
+                self.compare_entry(rt, alloc, &path, (frame, index), &mut tables)?;
                 path.pop();
             }
         }
@@ -130,27 +114,60 @@ impl Twins {
         Ok(())
     }
 
-    /// Compares the states.
-    fn compare(&self, rt: &impl Abort, alloc: Global) -> Result<(), Fail> {
-        self.compare_tables(rt, alloc)?;
-        compare_pool(rt, &self.pool, &self.plain.pool, "of the plain state");
-        for frame in &self.empty {
-            self.compare_frame(rt, *frame, 0)?;
-        }
-        self.compare_frame(rt, STRANGER, u64::MAX)?;
-        for frame in &self.plain.pool {
-            self.compare_frame(rt, *frame, u64::MAX)?;
+    /// Compares the word at an index of the table in a frame with the plain entry at its path. Adds the table that
+    /// it names.
+    fn compare_entry(
+        &self,
+        rt: &impl Abort,
+        alloc: Global,
+        path: &[u64],
+        (frame, index): (u64, u16),
+        tables: &mut Vec<(Vec<u64>, u64)>,
+    ) -> Result<(), Fail> {
+        let word = self.plain.paths.entry(path);
+        compare_word(rt, &self.memory, (frame, index, word), "plain entries")?;
+        if path.len() < MACHINE.levels && is_used(word) && !is_huge(word) {
+            tables.push((Vec::from_slice(alloc, path)?, address(word)))?;
         }
         Ok(())
     }
 
-    /// Compares each word of a frame with one.
-    fn compare_frame(&self, rt: &impl Abort, frame: u64, word: u64) -> Result<(), Fail> {
-        for index in 0..WORD_COUNT {
-            let found = word_at(&self.memory, frame, index)?;
-            assert_eq!(rt; found, word, "{index} of {frame:#x}");
+    /// Compares the states.
+    fn compare(&self, rt: &impl Abort, alloc: Global) -> Result<(), Fail> {
+        self.compare_tables(rt, alloc)?;
+        compare_pool(rt, &self.pool, &self.plain.pool, "of the plain state");
+        self.compare_frames(rt, &self.empty, 0)?;
+        self.compare_frames(rt, &[STRANGER], u64::MAX)?;
+        self.compare_frames(rt, &self.plain.pool, u64::MAX)
+    }
+
+    /// Compares each word of frames with one.
+    fn compare_frames(&self, rt: &impl Abort, frames: &[u64], word: u64) -> Result<(), Fail> {
+        for frame in frames {
+            for index in 0..WORD_COUNT {
+                compare_word(rt, &self.memory, (*frame, index, word), "no table")?;
+            }
         }
         Ok(())
+    }
+
+    /// Chooses a call, answers it plainly, and keeps what comes of it.
+    fn step(
+        &mut self,
+        alloc: Global,
+        chooser: &mut Chooser,
+        met: &mut Vec<Met>,
+    ) -> Result<Wanted, Fail> {
+        let choice = chooser.choice(alloc)?;
+        let reply = MACHINE.step(&mut self.plain, &choice.plain)?;
+        let wanted = wanted_of(choice.turn, reply).ok_or("a reply that fits no such call")?;
+        let (level, outcome) = outcome_of(wanted.reply);
+        met.push(Met {
+            action: choice.action,
+            level: level.max(choice.level),
+            outcome,
+        })?;
+        Ok(wanted)
     }
 
     /// Answers a list of calls both ways, and compares the replies and the states. Keeps what comes of each call.
@@ -161,28 +178,57 @@ impl Twins {
         chooser: &mut Chooser,
         met: &mut Vec<Met>,
     ) -> Result<(), Fail> {
-        let root = frame_at(ROOT);
         let mut calls = Vec::new(alloc);
         let mut wanted = Vec::new(alloc);
         for _ in 0..CALLS {
-            let choice = chooser.choice(alloc)?;
-            let reply = MACHINE.step(&mut self.plain, &choice.plain)?;
-            let answer = wanted_of(choice.turn, reply).ok_or("a reply that fits no such call")?;
-            let (level, outcome) = outcome_of(answer.reply);
-            met.push(Met {
-                action: choice.action,
-                level: level.max(choice.level),
-                outcome,
-            })?;
-            calls.push(answer.call)?;
-            wanted.push(answer.reply)?;
+            let step = self.step(alloc, chooser, met)?;
+            calls.push(step.call)?;
+            wanted.push(step.reply)?;
         }
-        assert!(rt; pool_fits(alloc, &self.memory, &IdentityMapping, root, &self.pool)?);
-        let mut replies = Vec::new(alloc);
-        run_on(&mut self.memory, root, &mut self.pool, &calls, &mut replies)?;
-        assert_eq!(rt; replies, wanted, "to {calls:?}");
+        self.compare_replies(rt, alloc, &calls, &wanted)?;
         self.compare(rt, alloc)
     }
+
+    /// Answers calls by `run`, and compares the replies.
+    fn compare_replies(
+        &mut self,
+        rt: &impl Abort,
+        alloc: Global,
+        calls: &[Call],
+        wanted: &[Reply],
+    ) -> Result<(), Fail> {
+        let mut replies = Vec::new(alloc);
+        let image = (&mut self.memory, &mut self.pool);
+        answer(rt, alloc, By::Identity, image, calls, &mut replies)?;
+        assert_eq!(rt; replies.as_slice(), wanted, "to {calls:?}");
+        Ok(())
+    }
+}
+
+/// Puts the entries at first into a memory, and gives them as a path map.
+fn put_entries(alloc: Global, memory: &mut PhysMemory) -> Result<PathEntries, Fail> {
+    let mut paths = PathEntries::new(alloc);
+    for (path, frame, word) in ENTRIES {
+        let index = (path.last().copied().unwrap_or(0) & 0x1ff) as u16;
+        set_word(memory, frame, index, word)?;
+        paths.put(path, word)?;
+    }
+    Ok(paths)
+}
+
+/// Makes a plain state.
+fn plain_state(alloc: Global, paths: PathEntries, free: &[u64]) -> Result<PlainState, AllocError> {
+    Ok(PlainState {
+        paths,
+        pool: Vec::from_slice(alloc, free)?,
+    })
+}
+
+/// Gives the frames whose words are 0, with those that aren't free though they may be.
+fn empty_frames(alloc: Global, others: &[u64]) -> Result<Vec<u64>, AllocError> {
+    let mut empty = Vec::from_slice(alloc, &EMPTY)?;
+    empty.extend_from_slice(others)?;
+    Ok(empty)
 }
 
 /// Gives what was met though it isn't possible, and what is possible and wasn't met.
@@ -205,16 +251,28 @@ fn unexpected(alloc: Global, met: &[Met]) -> Result<Vec<Met>, AllocError> {
     Ok(unexpected)
 }
 
+/// Answers lists of calls on a hierarchy with so many free frames both ways, and compares.
+fn check_lists(
+    rt: &impl Abort,
+    alloc: Global,
+    count: usize,
+    chooser: &mut Chooser,
+    met: &mut Vec<Met>,
+) -> Result<(), Fail> {
+    let mut twins = Twins::new(alloc, count)?;
+    twins.compare(rt, alloc)?;
+    for _ in 0..LISTS {
+        twins.answer(rt, alloc, chooser, met)?;
+    }
+    Ok(())
+}
+
 #[test]
 fn run_agrees_with_the_plain_program(rt: HostRuntime) -> Result<(), Fail> {
     let mut chooser = Chooser::new(1);
     let mut met = Vec::new(rt.alloc());
     for count in 0..=FREE.len() {
-        let mut twins = Twins::new(rt.alloc(), count)?;
-        twins.compare(&rt, rt.alloc())?;
-        for _ in 0..LISTS {
-            twins.answer(&rt, rt.alloc(), &mut chooser, &mut met)?;
-        }
+        check_lists(&rt, rt.alloc(), count, &mut chooser, &mut met)?;
     }
     let unexpected = unexpected(rt.alloc(), &met)?;
     assert!(rt; unexpected.is_empty(), "{unexpected:?}");

@@ -2,11 +2,11 @@
 ghost use Rattle.std.specs.Prelude.{◌≡◌};
 
 use x86_64::structures::paging::mapper::{
-    FlagUpdateError, MapToError, PathCalls, TranslateError, TranslateResult, UnmapError,
+    CleanUp, FlagUpdateError, MapToError, PathCalls, TranslateError, TranslateResult, UnmapError,
 };
 use x86_64::structures::paging::{
-    FrameAllocator, Mapper, PageSize, PageTableFlags, PageTableIndex, PhysFrame, Size4KiB,
-    Translate,
+    FrameAllocator, FrameDeallocator, Mapper, PageSize, PageTableFlags, PageTableIndex, PhysFrame,
+    Size4KiB, Translate,
 };
 use x86_64::{PageTables, Tables, VirtAddr};
 
@@ -50,6 +50,8 @@ impl<M: Tables + Drop> Tables for Counting<M> {
     }
 
     ghost some_levels = { λ counting. M.some_levels counting.mapper };
+
+    ghost most_levels = { λ counting. M.most_levels counting.mapper };
 
     ghost is_mapping = { λ counting. M.is_mapping counting.mapper };
 }
@@ -129,6 +131,18 @@ impl<M: PathCalls + Drop> PathCalls for Counting<M> {
     ) -> Result<PhysFrame<S>, TranslateError> {
         self.mapper.translate_path(path)
     }
+
+    fn clean_up_paths<D: FrameDeallocator<Size4KiB>>(
+        &mut self,
+        first: &[PageTableIndex],
+        last: &[PageTableIndex],
+        frame_deallocator: &mut D,
+    ) {
+        self.count_call();
+        self.mapper.clean_up_paths(first, last, frame_deallocator);
+    }
 }
+
+impl<M: PathCalls + PageTables + Drop> CleanUp for Counting<M> {}
 
 impl<M: PathCalls + PageTables + Drop, S: PageSize> Mapper<S> for Counting<M> {}

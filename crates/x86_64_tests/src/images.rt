@@ -1,4 +1,5 @@
 //! Memories and pools that tests begin with, runs on them, and what they hold then.
+ghost use Rattle.std.specs.Prelude.{OnOk};
 ghost use Rattle.x86_64_model.specs.Marks.{serves_below};
 ghost use Rattle.x86_64_model.specs.Memory.{identity_places};
 ghost use Rattle.x86_64_mappers.specs.Layouts.{direct};
@@ -7,6 +8,7 @@ ghost use Rattle.x86_64.specs.Runs.{FitsPool};
 
 use bitflags::Flags;
 use std::alloc::{AllocError, Global};
+use std::process::Abort;
 use std::test::Fail;
 use x86_64::structures::paging::mapper::PageTableFrameMapping;
 use x86_64::structures::paging::{
@@ -15,7 +17,7 @@ use x86_64::structures::paging::{
 };
 use x86_64::{
     Call, FlushRecorder, FramePlace, FramePool, IdentityMapping, PhysAddr, PhysMemory, Reply,
-    VirtAddr, run, run_flushed,
+    VirtAddr, pool_fits, run, run_flushed,
 };
 use x86_64_mappers::laws::offset_has_the_tables_of_the_identity;
 
@@ -81,8 +83,24 @@ pub fn pool_of(alloc: Global, limit: u64, frames: &[u64]) -> Result<FramePool, F
     Ok(pool)
 }
 
-/// Answers calls by a mapper over a frame mapping. The mapper is dropped then, and the owner of the memory and of the pool knows
-/// that they fit again.
+/// Asserts that a hierarchy is valid and a pool fits it.
+pub fn assert_fits<P: PageTableFrameMapping>(
+    rt: &impl Abort,
+    alloc: Global,
+    memory: &PhysMemory,
+    mapping: &P,
+    root: PhysFrame<Size4KiB>,
+    pool: &FramePool,
+) -> Result<(), AllocError>
+    ensures { let layout = direct (P.places mapping.now) root in
+        OnOk result (FitsPool layout memory.now (serves_below pool.now.limit) pool.now.frames) }
+{
+    assert!(rt; pool_fits(alloc, memory, mapping, root, pool)?);
+    Ok(())
+}
+
+/// Answers calls by a mapper over a frame mapping. The mapper is dropped then, and the owner of the memory
+/// and of the pool knows that they fit again.
 pub fn run_over<P: PageTableFrameMapping + Drop>(
     memory: &mut PhysMemory,
     root: PhysFrame<Size4KiB>,
@@ -91,8 +109,10 @@ pub fn run_over<P: PageTableFrameMapping + Drop>(
     calls: &[Call],
     replies: &mut Vec<Reply>,
 ) -> Result<(), AllocError>
-    requires { FitsPool (direct (P.places mapping) root) memory.old (serves_below pool.old.limit) pool.old.frames }
-    ensures { FitsPool (direct (P.places mapping) root) memory.new (serves_below pool.new.limit) pool.new.frames }
+    requires { let layout = direct (P.places mapping) root in
+        FitsPool layout memory.old (serves_below pool.old.limit) pool.old.frames }
+    ensures { let layout = direct (P.places mapping) root in
+        FitsPool layout memory.new (serves_below pool.new.limit) pool.new.frames }
 {
     let mut mapper = MappedPageTable::new(memory, root, mapping);
     run(&mut mapper, pool, calls, replies)
@@ -106,8 +126,10 @@ pub fn run_on(
     calls: &[Call],
     replies: &mut Vec<Reply>,
 ) -> Result<(), AllocError>
-    requires { FitsPool (direct identity_places root) memory.old (serves_below pool.old.limit) pool.old.frames }
-    ensures { FitsPool (direct identity_places root) memory.new (serves_below pool.new.limit) pool.new.frames }
+    requires { let layout = direct identity_places root in
+        FitsPool layout memory.old (serves_below pool.old.limit) pool.old.frames }
+    ensures { let layout = direct identity_places root in
+        FitsPool layout memory.new (serves_below pool.new.limit) pool.new.frames }
 {
     run_over(memory, root, IdentityMapping, pool, calls, replies)
 }
@@ -121,9 +143,11 @@ pub fn run_at_offset(
     calls: &[Call],
     replies: &mut Vec<Reply>,
 ) -> Result<(), AllocError>
-    requires pool { FitsPool (direct identity_places root) memory.old (serves_below pool.old.limit) pool.old.frames }
+    requires pool { let layout = direct identity_places root in
+        FitsPool layout memory.old (serves_below pool.old.limit) pool.old.frames }
     requires offset { OffsetFits memory.old phys_offset }
-    ensures { FitsPool (direct (offset_places phys_offset) root) memory.new (serves_below pool.new.limit) pool.new.frames }
+    ensures { let layout = direct (offset_places phys_offset) root in
+        FitsPool layout memory.new (serves_below pool.new.limit) pool.new.frames }
 {
     offset_has_the_tables_of_the_identity(memory, phys_offset);
     let mut mapper = OffsetPageTable::new(memory, root, phys_offset);
@@ -139,8 +163,10 @@ pub fn run_flushed_on(
     replies: &mut Vec<Reply>,
     recorder: &mut FlushRecorder,
 ) -> Result<(), AllocError>
-    requires { FitsPool (direct identity_places root) memory.old (serves_below pool.old.limit) pool.old.frames }
-    ensures { FitsPool (direct identity_places root) memory.new (serves_below pool.new.limit) pool.new.frames }
+    requires { let layout = direct identity_places root in
+        FitsPool layout memory.old (serves_below pool.old.limit) pool.old.frames }
+    ensures { let layout = direct identity_places root in
+        FitsPool layout memory.new (serves_below pool.new.limit) pool.new.frames }
 {
     let mut mapper = MappedPageTable::new(memory, root, IdentityMapping);
     run_flushed(&mut mapper, pool, calls, replies, recorder)

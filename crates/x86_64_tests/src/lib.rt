@@ -1,5 +1,5 @@
-//! Tests that cross crates, from outside, as tables where they can be. What tests begin with is public, for the crate of
-//! refused memory.
+//! Tests that cross crates, from outside, as tables where they can be. What tests begin with is public, for
+//! the crate of refused memory.
 #![tactic(auto)]
 
 #[cfg(test)]

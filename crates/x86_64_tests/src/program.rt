@@ -21,21 +21,22 @@ struct Outcome {
     writes: u64,
 }
 
-/// Runs the engine on arguments that a space parts. The read and the write of these numbers fail, where they aren't 0.
+/// Runs the engine on arguments that a space parts, and on an image and lines after it. The read and the write
+/// of these numbers fail, where they aren't 0.
 fn run_failing(
     alloc: Global,
     arguments: &str,
-    input: &[u8],
+    image: &str,
+    lines: &[u8],
     failing_read: u64,
     failing_write: u64,
 ) -> Result<Outcome, AllocError> {
-    let mut words = Vec::new(alloc);
-    for word in arguments.split_whitespace() {
-        words.push(String::from_str(alloc, word)?)?;
-    }
-    let mut source = Source::new(input, failing_read);
+    let words = words_of(alloc, arguments)?;
+    let mut input = Vec::from_slice(alloc, image.as_bytes())?;
+    input.extend_from_slice(lines)?;
+    let mut source = Source::new(&input, failing_read);
     let mut sink = Sink::new(Vec::new(alloc), failing_write);
-    let ending = run(alloc, words.as_slice(), &mut source, &mut sink);
+    let ending = run(alloc, &words, &mut source, &mut sink);
     Ok(Outcome {
         ending,
         written: sink.bytes,
@@ -44,25 +45,43 @@ fn run_failing(
     })
 }
 
+/// Gives the words of a text.
+fn words_of(alloc: Global, text: &str) -> Result<Vec<String>, AllocError> {
+    let mut words = Vec::new(alloc);
+    for word in text.split_whitespace() {
+        words.push(String::from_str(alloc, word)?)?;
+    }
+    Ok(words)
+}
+
+/// Asserts how a run ended and what it wrote.
+fn assert_outcome(rt: &impl Abort, outcome: &Outcome, ending: Ending, written: &str, title: &str) {
+    assert_eq!(rt; outcome.ending, ending, "{title}");
+    assert_eq!(rt;
+        str::from_utf8(outcome.written.as_slice()),
+        Ok(written),
+        "{title}"
+    );
+}
+
 /// Arguments for a memory of 8 places, one for each way to find tables there.
 const MODES: [&str; 2] = ["direct 8", "offset 8 0xffff800000000000"];
 
-/// Runs the engine on arguments, and on an image and lines after it.
-fn run_in(
+/// Runs the engine on arguments, and on an image and lines after it, and asserts how the run ends and what it
+/// writes.
+fn assert_run(
+    rt: &impl Abort,
     alloc: Global,
     arguments: &str,
-    image: &str,
-    lines: &[u8],
-) -> Result<Outcome, AllocError> {
-    let mut input = Vec::new(alloc);
-    input.extend_from_slice(image.as_bytes())?;
-    input.extend_from_slice(lines)?;
-    run_failing(alloc, arguments, input.as_slice(), 0, 0)
-}
-
-/// Runs the engine on an image and lines after it, for a memory of 8 places.
-fn run_on(alloc: Global, image: &str, lines: &[u8]) -> Result<Outcome, AllocError> {
-    run_in(alloc, "direct 8", image, lines)
+    (image, lines): (&str, &[u8]),
+    ending: Ending,
+    written: &str,
+) -> Result<(), Fail> {
+    let outcome = run_failing(alloc, arguments, image, lines, 0, 0)?;
+    let text = str::from_utf8(lines);
+    let title = format!(in alloc; "{arguments}: {image}{text:?}")?;
+    assert_outcome(rt, &outcome, ending, written, &title);
+    Ok(())
 }
 
 /// The words of four tables, which map the page 0x1000 of 4KiB to the frame 0x5000.
@@ -78,7 +97,14 @@ const INVALID: &str = "word 0x1000 0 0x2003\nword 0x1000 1 0x2003\n";
 /// Three free frames, below an empty root.
 const POOL: &str = "free 0x2000\nfree 0x3000\nfree 0x4000\n";
 
-/// Asserts the replies to commands on an image, each beside its command. They are the same however tables are found.
+/// Adds a line to a text.
+fn push_line(text: &mut String, line: &str) -> Result<(), AllocError> {
+    text.push_str(line)?;
+    text.push('\n')
+}
+
+/// Asserts the replies to commands on an image, each beside its command. They are the same however tables are
+/// found.
 fn assert_replies(
     rt: &impl Abort,
     alloc: Global,
@@ -88,19 +114,12 @@ fn assert_replies(
     let mut lines = String::new(alloc);
     let mut replies = String::new(alloc);
     for (line, reply) in exchanges {
-        lines.push_str(line)?;
-        lines.push('\n')?;
-        replies.push_str(reply)?;
-        replies.push('\n')?;
+        push_line(&mut lines, line)?;
+        push_line(&mut replies, reply)?;
     }
     for arguments in MODES {
-        let outcome = run_in(alloc, arguments, image, lines.as_bytes())?;
-        assert_eq!(rt; outcome.ending, Ending::Done, "{arguments}: {image}{lines}");
-        assert_eq!(rt;
-            str::from_utf8(outcome.written.as_slice()),
-            Ok(replies.as_str()),
-            "{arguments}: {image}{lines}"
-        );
+        let input = (image, lines.as_bytes());
+        assert_run(rt, alloc, arguments, input, Ending::Done, &replies)?;
     }
     Ok(())
 }

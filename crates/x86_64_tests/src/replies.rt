@@ -120,7 +120,8 @@ pub struct Wanted {
     pub reply: Reply,
 }
 
-/// Gives a call for `run` that the plain program replies to so, and what that reply is, or `None` where it fits no such call.
+/// Gives a call for `run` that the plain program replies to so, and what that reply is, or `None` where it
+/// fits no such call.
 pub fn wanted_of(turn: Turn, plain: PlainReply) -> Option<Wanted> {
     let reply = reply_to(turn, plain)?;
     Some(Wanted {

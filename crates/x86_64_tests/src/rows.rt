@@ -10,7 +10,8 @@ mod tokens;
 mod walks;
 
 use crate::images::{
-    ROOT, WORD_COUNT, fill, frame_at, pool_of, run_at_offset, run_on, run_over, word_at,
+    ROOT, WORD_COUNT, assert_fits, fill, frame_at, pool_of, run_at_offset, run_on, run_over,
+    word_at,
 };
 use crate::replies::wanted_of;
 use crate::turns::PageTurn::MapTo;
@@ -19,6 +20,7 @@ use crate::turns::Turn::{Large, Small};
 use std::alloc::Global;
 use std::process::Abort;
 use std::test::Fail;
+use walks::{Walk, compare_walks};
 use x86_64::structures::paging::{MappedPageTable, OffsetPageTable};
 use x86_64::{Call, FramePool, IdentityMapping, PhysMemory, Reply, VirtAddr, pool_fits};
 use x86_64_plain::{Answer, PlainReply};
@@ -46,7 +48,7 @@ struct Row<'a> {
 
 /// The mappers that answer the calls.
 #[derive(Clone, Copy, Debug)]
-enum By {
+pub enum By {
     /// The one over the identity mapping.
     Identity,
     /// The one over a reference to the identity mapping.
@@ -62,9 +64,10 @@ const OFFSET: u64 = 0xffff_8000_0000_0000;
 const FREE: [u64; 3] = [0x2000, 0x3000, 0x4000];
 
 /// A word, after its frame and its index.
-type Word = (u64, u16, u64);
+pub type Word = (u64, u16, u64);
 
-/// The word of each level that maps the page 0x1000 of 4KiB to the frame 0x5000, with `PRESENT` and `WRITABLE`.
+/// The word of each level that maps the page 0x1000 of 4KiB to the frame 0x5000, with `PRESENT` and
+/// `WRITABLE`.
 const LEVEL_4: Word = (0x1000, 0, 0x2003);
 
 const LEVEL_3: Word = (0x2000, 0, 0x3003);
@@ -121,6 +124,18 @@ pub fn compare_pool(rt: &impl Abort, pool: &FramePool, frames: &[u64], title: &s
     }
 }
 
+/// Compares a word of a memory with one.
+pub fn compare_word(
+    rt: &impl Abort,
+    memory: &PhysMemory,
+    (frame, index, wanted): Word,
+    title: &str,
+) -> Result<(), Fail> {
+    let word = word_at(memory, frame, index)?;
+    assert_eq!(rt; word, wanted, "{title}: word {index} of {frame:#x}");
+    Ok(())
+}
+
 /// Compares every word of a memory of so many places with what a row wants.
 fn compare_words(
     rt: &impl Abort,
@@ -132,9 +147,8 @@ fn compare_words(
     for place in 0..places {
         let frame = u64::from(place) * 0x1000;
         for index in 0..WORD_COUNT {
-            let word = word_at(memory, frame, index)?;
             let wanted = wanted_word(row, frame, index);
-            assert_eq!(rt; word, wanted, "{title}: word {index} of {frame:#x}");
+            compare_word(rt, memory, (frame, index, wanted), title)?;
         }
     }
     Ok(())
@@ -153,14 +167,19 @@ fn compare(
     Ok(())
 }
 
-/// Makes an empty root and free frames that are full of ones.
-fn begin(alloc: Global, free: &[u64]) -> Result<(PhysMemory, FramePool), Fail> {
-    let mut memory = PhysMemory::new(alloc, u64::from(PLACES))?;
+/// Makes an empty root in a memory of so many places, and free frames that are full of ones.
+pub fn begin_in(alloc: Global, places: u64, free: &[u64]) -> Result<(PhysMemory, FramePool), Fail> {
+    let mut memory = PhysMemory::new(alloc, places)?;
     for frame in free {
         fill(&mut memory, *frame)?;
     }
-    let pool = pool_of(alloc, u64::from(PLACES), free)?;
+    let pool = pool_of(alloc, places, free)?;
     Ok((memory, pool))
+}
+
+/// Does so in a memory of as many places as rows have.
+fn begin(alloc: Global, free: &[u64]) -> Result<(PhysMemory, FramePool), Fail> {
+    begin_in(alloc, u64::from(PLACES), free)
 }
 
 /// Adds the calls of a row to a list, and the replies that it wants to another one.
@@ -180,27 +199,39 @@ fn add_exchanges(
 /// Answers the calls of rows by each of the mappers, and compares what comes of them.
 fn check(rt: &impl Abort, alloc: Global, rows: &[Row<'_>]) -> Result<(), Fail> {
     for (number, row) in rows.iter().enumerate() {
-        for by in [By::Identity, By::Reference, By::Offset] {
-            let title = format!(in alloc; "row {number}, {by:?}")?;
-            let (mut memory, pool) = answer_row(rt, alloc, row, by, &title)?;
-            check_fits(rt, alloc, &mut memory, &pool, &title)?;
-        }
+        check_row(rt, alloc, number, row, &[])?;
+    }
+    Ok(())
+}
+
+/// Answers the calls of a row by each of the mappers, and compares what comes of them and where walks arrive.
+fn check_row(
+    rt: &impl Abort,
+    alloc: Global,
+    number: usize,
+    row: &Row<'_>,
+    walks: &[Walk],
+) -> Result<(), Fail> {
+    for by in [By::Identity, By::Reference, By::Offset] {
+        let title = format!(in alloc; "row {number}, {by:?}")?;
+        let (mut memory, pool) = answer_row(rt, alloc, row, by, &title)?;
+        compare_walks(rt, &memory, walks, &title);
+        check_fits(rt, alloc, &mut memory, &pool, &title)?;
     }
     Ok(())
 }
 
 /// Answers calls by a mapper, where the image and the pool fit.
-fn answer(
+pub fn answer(
     rt: &impl Abort,
     alloc: Global,
     by: By,
-    image: (&mut PhysMemory, &mut FramePool),
+    (memory, pool): (&mut PhysMemory, &mut FramePool),
     calls: &[Call],
     replies: &mut Vec<Reply>,
 ) -> Result<(), Fail> {
-    let (memory, pool) = image;
     let root = frame_at(ROOT);
-    assert!(rt; pool_fits(alloc, memory, &IdentityMapping, root, pool)?);
+    assert_fits(rt, alloc, memory, &IdentityMapping, root, pool)?;
     match by {
         By::Identity => run_on(memory, root, pool, calls, replies)?,
         By::Reference => run_over(memory, root, &IdentityMapping, pool, calls, replies)?,
@@ -213,8 +244,36 @@ fn answer(
     Ok(())
 }
 
-/// Answers a row's calls by `run`, the first in a list of its own, after an earlier reply, compares what comes of them, and gives
-/// the memory and the pool.
+/// Answers a row's calls by `run`, the first in a list of its own, after an earlier reply, and compares the
+/// replies.
+fn answer_exchanges(
+    rt: &impl Abort,
+    alloc: Global,
+    row: &Row<'_>,
+    by: By,
+    (memory, pool): (&mut PhysMemory, &mut FramePool),
+    title: &str,
+) -> Result<(), Fail> {
+    let mut calls = Vec::new(alloc);
+    let mut wanted = vec![in alloc; Reply::Address(None)]?;
+    add_exchanges(row, &mut calls, &mut wanted)?;
+    let mut replies = vec![in alloc; Reply::Address(None)]?;
+    let (first, others) = calls.split_at(calls.len().min(1));
+    for list in [first, others] {
+        answer(
+            rt,
+            alloc,
+            by,
+            (&mut *memory, &mut *pool),
+            list,
+            &mut replies,
+        )?;
+    }
+    assert_eq!(rt; replies, wanted, "{title}");
+    Ok(())
+}
+
+/// Answers a row's calls, compares what comes of them, and gives the memory and the pool.
 fn answer_row(
     rt: &impl Abort,
     alloc: Global,
@@ -223,21 +282,7 @@ fn answer_row(
     title: &str,
 ) -> Result<(PhysMemory, FramePool), Fail> {
     let (mut memory, mut pool) = begin(alloc, row.free)?;
-    let mut calls = Vec::new(alloc);
-    let mut wanted = vec![in alloc; Reply::Address(None)]?;
-    add_exchanges(row, &mut calls, &mut wanted)?;
-    let mut replies = vec![in alloc; Reply::Address(None)]?;
-    let (first, others) = calls.split_at(calls.len().min(1));
-    answer(rt, alloc, by, (&mut memory, &mut pool), first, &mut replies)?;
-    answer(
-        rt,
-        alloc,
-        by,
-        (&mut memory, &mut pool),
-        others,
-        &mut replies,
-    )?;
-    assert_eq!(rt; replies, wanted, "{title}");
+    answer_exchanges(rt, alloc, row, by, (&mut memory, &mut pool), title)?;
     compare(rt, &memory, &pool, row, title)?;
     Ok((memory, pool))
 }

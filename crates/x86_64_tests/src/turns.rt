@@ -3,7 +3,8 @@ use crate::images::{flags_of, frame_at, page_at};
 use x86_64::structures::paging::PageSize;
 use x86_64::{Call, SizeCall, VirtAddr};
 
-/// A call on a page: the page or the frame, then the frame where a page comes first, the flags and the parent flags.
+/// A call on a page: the page or the frame, then the frame where a page comes first, the flags and the parent
+/// flags.
 #[derive(Clone, Copy)]
 pub enum PageTurn {
     MapTo(u64, u64, u64),

@@ -27,8 +27,8 @@ const FRAMES: [u64; 7] = [
     0x000f_ffff_ffff_f000,
 ];
 
-/// The flags that calls choose from. Some have an address bit or `HUGE_PAGE` or lack `PRESENT`, so that some calls aren't
-/// allowed.
+/// The flags that calls choose from. Some have an address bit or `HUGE_PAGE` or lack `PRESENT`, so that some
+/// calls aren't allowed.
 const FLAGS: [u64; 12] = [
     0x1,
     0x1,

@@ -67,8 +67,8 @@ pub const OUTCOMES: [Outcome; 7] = [
     NoFrame,
 ];
 
-/// Gives all that can come of a call on a page whose entry is of a level, or of another call that ends at an entry of a
-/// level, 0 where it ends at none.
+/// Gives all that can come of a call on a page whose entry is of a level, or of another call that ends at an
+/// entry of a level, 0 where it ends at none.
 ///
 /// No entry of level four has `HUGE_PAGE`, so no page of 1GiB lies below one that has it.
 pub fn possible_outcomes(action: Action, level: u64) -> &'static [Outcome] {

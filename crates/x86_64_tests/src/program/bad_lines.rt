@@ -1,5 +1,5 @@
 //! Lines that can't be read.
-use super::{FIRST, INVALID, run_on};
+use super::{FIRST, INVALID, assert_run};
 use pagetab_engine::ending::{Ending, Fault};
 use std::alloc::Global;
 use std::process::Abort;
@@ -138,13 +138,8 @@ const CHANGES: [&str; 25] = [
 /// Asserts that each line is bad as the first one, and that nothing is written.
 fn assert_bad(rt: &impl Abort, alloc: Global, lines: &[&str]) -> Result<(), Fail> {
     for line in lines {
-        let outcome = run_on(alloc, "", line.as_bytes())?;
-        assert_eq!(rt;
-            outcome.ending,
-            Ending::Stopped(Fault::BadLine(1)),
-            "{line}"
-        );
-        assert!(rt; outcome.written.is_empty(), "{line}");
+        let bad = Ending::Stopped(Fault::BadLine(1));
+        assert_run(rt, alloc, "direct 8", ("", line.as_bytes()), bad, "")?;
     }
     Ok(())
 }
@@ -179,17 +174,8 @@ const COUNTED: [(&str, &[u8], u64, &str); 8] = [
 #[test]
 fn bad_lines_are_counted(rt: HostRuntime) -> Result<(), Fail> {
     for (image, lines, number, replies) in COUNTED {
-        let outcome = run_on(rt.alloc(), image, lines)?;
-        assert_eq!(rt;
-            outcome.ending,
-            Ending::Stopped(Fault::BadLine(number)),
-            "{image}{lines:?}"
-        );
-        assert_eq!(rt;
-            outcome.written.as_slice(),
-            replies.as_bytes(),
-            "{image}{lines:?}"
-        );
+        let bad = Ending::Stopped(Fault::BadLine(number));
+        assert_run(&rt, rt.alloc(), "direct 8", (image, lines), bad, replies)?;
     }
     Ok(())
 }

@@ -1,6 +1,8 @@
 //! How runs end.
-use super::{FIRST, INVALID, run_failing, run_on};
+use super::{FIRST, INVALID, Outcome, assert_outcome, assert_run, run_failing};
 use pagetab_engine::ending::{Ending, Fault};
+use std::alloc::{AllocError, Global};
+use std::process::Abort;
 use std::test::Fail;
 
 const USAGE: &str = "usage: pagetab direct N | offset N OFF | recursive N R | pair N R";
@@ -11,28 +13,34 @@ const BAD: Ending = Ending::Stopped(Fault::BadLine(1));
 /// The end of a run with other arguments.
 const USED_WRONGLY: Ending = Ending::Stopped(Fault::Usage);
 
-/// What a line begins with, how many spaces follow, what it ends with, and how the run ends.
-const LENGTHS: [(&str, u32, &str, Ending); 8] = [
-    ("", 256, "", Ending::Done),
-    ("", 256, "\n", Ending::Done),
-    ("", 257, "", BAD),
-    ("", 257, "\n", BAD),
-    ("", 600, "\n", BAD),
-    ("show 0 0", 248, "\n", Ending::Done),
-    ("show 0 0", 248, "", Ending::Done),
-    ("show 0 0", 249, "\n", BAD),
+/// What a line begins with, how many spaces follow, what it ends with, and how the run ends and what it writes.
+const LENGTHS: [(&str, u32, &str, Ending, &str); 8] = [
+    ("", 256, "", Ending::Done, ""),
+    ("", 256, "\n", Ending::Done, ""),
+    ("", 257, "", BAD, ""),
+    ("", 257, "\n", BAD, ""),
+    ("", 600, "\n", BAD, ""),
+    ("show 0 0", 248, "\n", Ending::Done, "0x0\n"),
+    ("show 0 0", 248, "", Ending::Done, "0x0\n"),
+    ("show 0 0", 249, "\n", BAD, ""),
 ];
+
+/// Gives a line with so many spaces between its front and its end.
+fn spaced(alloc: Global, front: &str, spaces: u32, end: &str) -> Result<String, AllocError> {
+    let mut line = String::from_str(alloc, front)?;
+    for _ in 0..spaces {
+        line.push(' ')?;
+    }
+    line.push_str(end)?;
+    Ok(line)
+}
 
 #[test]
 fn lines_have_at_most_256_bytes(rt: HostRuntime) -> Result<(), Fail> {
-    for (front, spaces, end, ending) in LENGTHS {
-        let mut line = String::from_str(rt.alloc(), front)?;
-        for _ in 0..spaces {
-            line.push(' ')?;
-        }
-        line.push_str(end)?;
-        let outcome = run_on(rt.alloc(), "", line.as_bytes())?;
-        assert_eq!(rt; outcome.ending, ending, "{front} and {spaces} spaces");
+    for (front, spaces, end, ending, written) in LENGTHS {
+        let line = spaced(rt.alloc(), front, spaces, end)?;
+        let input = ("", line.as_bytes());
+        assert_run(&rt, rt.alloc(), "direct 8", input, ending, written)?;
     }
     Ok(())
 }
@@ -54,13 +62,9 @@ const IMAGES: [&str; 8] = [
 fn invalid_images_are_refused(rt: HostRuntime) -> Result<(), Fail> {
     for image in IMAGES {
         for lines in ["", "show 0 0\n", "\n walk 0\nfoo\n"] {
-            let outcome = run_on(rt.alloc(), image, lines.as_bytes())?;
-            assert_eq!(rt;
-                outcome.ending,
-                Ending::Stopped(Fault::InvalidHierarchy),
-                "{image}{lines}"
-            );
-            assert!(rt; outcome.written.is_empty(), "{image}{lines}");
+            let input = (image, lines.as_bytes());
+            let invalid = Ending::Stopped(Fault::InvalidHierarchy);
+            assert_run(&rt, rt.alloc(), "direct 8", input, invalid, "")?;
         }
     }
     Ok(())
@@ -103,16 +107,21 @@ const ARGUMENTS: [(&str, Ending); 30] = [
 #[test]
 fn arguments_are_a_mode_and_its_numbers(rt: HostRuntime) -> Result<(), Fail> {
     for (arguments, ending) in ARGUMENTS {
-        let outcome = run_failing(rt.alloc(), arguments, b"show 0x1000 0\n", 0, 0)?;
-        assert_eq!(rt; outcome.ending, ending, "{arguments}");
-        assert_eq!(rt;
-            outcome.written.is_empty(),
-            ending == USED_WRONGLY,
-            "{arguments}"
-        );
+        let written = if ending == USED_WRONGLY { "" } else { "0x0\n" };
+        let input = ("", b"show 0x1000 0\n".as_slice());
+        assert_run(&rt, rt.alloc(), arguments, input, ending, written)?;
     }
     Ok(())
 }
+
+/// Lines after the image of the words of the page 0x1000.
+const LINES: &[u8] = b"free 0x6000
+free 0x7000
+translate 0x1abc
+map 4KiB 0x2000 0x9000 0x1
+walk 0x1abc
+pool
+";
 
 /// The replies, after none.
 const REPLIES: [&str; 5] = [
@@ -123,35 +132,44 @@ const REPLIES: [&str; 5] = [
     "pool 0x6000 0x7000\n",
 ];
 
+/// The end of a run whose read or write failed.
+const FAILED: Ending = Ending::Stopped(Fault::InputOutput);
+
+/// Runs the engine on these lines. The read and the write of these numbers fail, where they aren't 0.
+fn run_lines(alloc: Global, read: u64, write: u64) -> Result<Outcome, AllocError> {
+    run_failing(alloc, "direct 8", FIRST, LINES, read, write)
+}
+
+/// Asserts that a failed read ends the run, which has written a front part of the replies by then.
+fn assert_failed_read(rt: &impl Abort, outcome: &Outcome, read: u64, whole: &[u8]) {
+    assert_eq!(rt; outcome.ending, FAILED, "read {read}");
+    assert_eq!(rt; outcome.reads, read);
+    assert!(rt;
+        whole.starts_with(outcome.written.as_slice()),
+        "read {read}"
+    );
+}
+
 #[test]
-fn failed_reads_and_writes_end_the_run(rt: HostRuntime) -> Result<(), Fail> {
-    let mut input = Vec::new(rt.alloc());
-    input.extend_from_slice(b"free 0x6000\nfree 0x7000\n")?;
-    input.extend_from_slice(FIRST.as_bytes())?;
-    input.extend_from_slice(b"translate 0x1abc\nmap 4KiB 0x2000 0x9000 0x1\nwalk 0x1abc\npool\n")?;
-    let failed = Ending::Stopped(Fault::InputOutput);
-    let whole = run_failing(rt.alloc(), "direct 8", input.as_slice(), 0, 0)?;
+fn failed_reads_end_the_run(rt: HostRuntime) -> Result<(), Fail> {
+    let whole = run_lines(rt.alloc(), 0, 0)?;
     assert_eq!(rt; whole.ending, Ending::Done);
-    assert_eq!(rt; whole.writes, 4);
     for read in 1..=whole.reads {
-        let outcome = run_failing(rt.alloc(), "direct 8", input.as_slice(), read, 0)?;
-        assert_eq!(rt; outcome.ending, failed, "read {read}");
-        assert_eq!(rt; outcome.reads, read);
-        assert!(rt;
-            whole.written.starts_with(outcome.written.as_slice()),
-            "read {read}"
-        );
+        let outcome = run_lines(rt.alloc(), read, 0)?;
+        assert_failed_read(&rt, &outcome, read, &whole.written);
     }
+    Ok(())
+}
+
+#[test]
+fn failed_writes_end_the_run(rt: HostRuntime) -> Result<(), Fail> {
+    let whole = run_lines(rt.alloc(), 0, 0)?;
+    assert_eq!(rt; whole.writes, 4);
     let mut earlier = String::new(rt.alloc());
     for (write, reply) in (1..).zip(REPLIES).take(4) {
         earlier.push_str(reply)?;
-        let outcome = run_failing(rt.alloc(), "direct 8", input.as_slice(), 0, write)?;
-        assert_eq!(rt; outcome.ending, failed, "write {write}");
-        assert_eq!(rt;
-            outcome.written.as_slice(),
-            earlier.as_bytes(),
-            "write {write}"
-        );
+        let outcome = run_lines(rt.alloc(), 0, write)?;
+        assert_outcome(&rt, &outcome, FAILED, &earlier, "a failed write");
     }
     Ok(())
 }

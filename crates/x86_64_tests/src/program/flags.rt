@@ -2,8 +2,8 @@
 use super::{FIRST, LARGE, assert_replies};
 use std::test::Fail;
 
-/// The words of three tables, in which the entry of the page 0x200000 of 2MiB names an address that isn't a multiple of its
-/// size.
+/// The words of three tables, in which the entry of the page 0x200000 of 2MiB names an address that isn't a
+/// multiple of its size.
 const ASKEW: &str = "word 0x1000 0 0x2001\nword 0x2000 0 0x3001\nword 0x3000 1 0x401081\n";
 
 const WITHOUT_PRESENT: [(&str, &str); 9] = [

@@ -3,19 +3,19 @@ use super::{
     FIRST, FIRST_LARGE, FREE, LARGE_LEVEL_3, LARGE_LEVEL_4, LEVEL_2, LEVEL_3, LEVEL_4, Row,
     add_exchanges, begin, compare,
 };
-use crate::images::{ROOT, frame_at, run_flushed_on};
+use crate::images::{ROOT, assert_fits, frame_at, run_flushed_on};
 use crate::turns::PageTurn::{SetFlagsP4, Unmap, UpdateFlags};
 use crate::turns::Turn::{Large, Small};
 use std::alloc::Global;
 use std::process::Abort;
 use std::test::Fail;
-use x86_64::{FlushItem, FlushRecorder, IdentityMapping, pool_fits};
+use x86_64::{FlushItem, FlushRecorder, FramePool, IdentityMapping, PhysMemory};
 use x86_64_plain::Answer::{Done, Refused};
 use x86_64_plain::PlainReply::Answered;
 use x86_64_plain::Refusal::PageNotMapped;
 
 /// What is flushed: a page, by its start and its size, or all pages.
-type Flushed = Option<(u64, u64)>;
+pub type Flushed = Option<(u64, u64)>;
 
 /// Gives what an item says is flushed.
 fn flushed_by(item: &FlushItem) -> Flushed {
@@ -25,7 +25,36 @@ fn flushed_by(item: &FlushItem) -> Flushed {
     }
 }
 
-/// Answers the calls of a row where so many items have room, and compares what comes of them and what is recorded.
+/// Compares what is recorded.
+pub fn compare_flushes(rt: &impl Abort, recorder: &FlushRecorder, flushed: &[Flushed]) {
+    let items = recorder.items();
+    assert_eq!(rt; items.len(), flushed.len());
+    for (n, wanted) in flushed.iter().enumerate() {
+        assert_eq!(rt; items.get(n).map(flushed_by), Some(*wanted), "item {n}");
+    }
+}
+
+/// Answers the calls of a row, records their flushes, and compares the replies.
+fn answer_flushed(
+    rt: &impl Abort,
+    alloc: Global,
+    row: &Row<'_>,
+    (memory, pool): (&mut PhysMemory, &mut FramePool),
+    recorder: &mut FlushRecorder,
+) -> Result<(), Fail> {
+    let mut calls = Vec::new(alloc);
+    let mut wanted = Vec::new(alloc);
+    add_exchanges(row, &mut calls, &mut wanted)?;
+    let mut replies = Vec::new(alloc);
+    let root = frame_at(ROOT);
+    assert_fits(rt, alloc, memory, &IdentityMapping, root, pool)?;
+    run_flushed_on(memory, root, pool, &calls, &mut replies, recorder)?;
+    assert_eq!(rt; replies, wanted);
+    Ok(())
+}
+
+/// Answers the calls of a row where so many items have room, and compares what comes of them and what is
+/// recorded.
 fn check_flushes(
     rt: &impl Abort,
     alloc: Global,
@@ -34,28 +63,10 @@ fn check_flushes(
     room: usize,
 ) -> Result<(), Fail> {
     let (mut memory, mut pool) = begin(alloc, row.free)?;
-    let root = frame_at(ROOT);
-    let mut calls = Vec::new(alloc);
-    let mut wanted = Vec::new(alloc);
-    add_exchanges(row, &mut calls, &mut wanted)?;
-    let mut replies = Vec::new(alloc);
     let mut recorder = FlushRecorder::new(alloc);
     recorder.reserve(room)?;
-    assert!(rt; pool_fits(alloc, &memory, &IdentityMapping, root, &pool)?);
-    run_flushed_on(
-        &mut memory,
-        root,
-        &mut pool,
-        &calls,
-        &mut replies,
-        &mut recorder,
-    )?;
-    assert_eq!(rt; replies, wanted);
-    let items = recorder.items();
-    assert_eq!(rt; items.len(), flushed.len());
-    for (n, wanted) in flushed.iter().enumerate() {
-        assert_eq!(rt; items.get(n).map(flushed_by), Some(*wanted), "item {n}");
-    }
+    answer_flushed(rt, alloc, row, (&mut memory, &mut pool), &mut recorder)?;
+    compare_flushes(rt, &recorder, flushed);
     compare(rt, &memory, &pool, row, "recorded")
 }
 

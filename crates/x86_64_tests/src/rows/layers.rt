@@ -1,12 +1,19 @@
 //! Lists of calls by a mapper that stands on another one.
+ghost use Rattle.x86_64_model.specs.Marks.{serves_below};
+ghost use Rattle.x86_64_model.specs.Memory.{identity_places};
+ghost use Rattle.x86_64_mappers.specs.Layouts.{direct};
+ghost use Rattle.x86_64.specs.Runs.{FitsPool};
+
 use super::{FIRST, FREE, LEVEL_2, LEVEL_3, LEVEL_4, Row, add_exchanges, begin, compare};
 use crate::counting::Counting;
-use crate::images::{ROOT, frame_at};
+use crate::images::{ROOT, assert_fits, frame_at};
 use crate::turns::PageTurn::{Unmap, UpdateFlags};
 use crate::turns::Turn::{Small, Translate};
+use std::alloc::{AllocError, Global};
+use std::process::Abort;
 use std::test::Fail;
-use x86_64::structures::paging::MappedPageTable;
-use x86_64::{IdentityMapping, pool_fits, run};
+use x86_64::structures::paging::{MappedPageTable, PhysFrame, Size4KiB};
+use x86_64::{Call, FramePool, IdentityMapping, PhysMemory, Reply, run};
 use x86_64_plain::Answer::Done;
 use x86_64_plain::PlainReply::{Answered, Position};
 use x86_64_plain::Translated::Mapped;
@@ -33,20 +40,43 @@ const ROW: Row<'static> = Row {
     left: &[],
 };
 
-#[test]
-fn layers_over_mappers_run_lists(rt: HostRuntime) -> Result<(), Fail> {
-    let alloc = rt.alloc();
-    let (mut memory, mut pool) = begin(alloc, ROW.free)?;
-    let root = frame_at(ROOT);
+/// Answers calls by a mapper that counts those that write, and gives their number.
+fn run_counted(
+    memory: &mut PhysMemory,
+    root: PhysFrame<Size4KiB>,
+    pool: &mut FramePool,
+    calls: &[Call],
+    replies: &mut Vec<Reply>,
+) -> Result<u64, AllocError>
+    requires { let layout = direct identity_places root in
+        FitsPool layout memory.old (serves_below pool.old.limit) pool.old.frames }
+{
+    let mut mapper = Counting::new(MappedPageTable::new(memory, root, IdentityMapping));
+    run(&mut mapper, pool, calls, replies)?;
+    Ok(mapper.count())
+}
+
+/// Answers the calls, and compares the replies and the number of those that write.
+fn answer_counted(
+    rt: &impl Abort,
+    alloc: Global,
+    (memory, pool): (&mut PhysMemory, &mut FramePool),
+) -> Result<(), Fail> {
     let mut calls = Vec::new(alloc);
     let mut wanted = Vec::new(alloc);
     add_exchanges(&ROW, &mut calls, &mut wanted)?;
     let mut replies = Vec::new(alloc);
-    assert!(rt; pool_fits(alloc, &memory, &IdentityMapping, root, &pool)?);
-    let mut mapper = Counting::new(MappedPageTable::new(&mut memory, root, IdentityMapping));
-    run(&mut mapper, &mut pool, &calls, &mut replies)?;
+    let root = frame_at(ROOT);
+    assert_fits(rt, alloc, memory, &IdentityMapping, root, pool)?;
+    let count = run_counted(memory, root, pool, &calls, &mut replies)?;
     assert_eq!(rt; replies, wanted);
-    assert_eq!(rt; mapper.count(), 3);
-    drop(mapper);
+    assert_eq!(rt; count, 3);
+    Ok(())
+}
+
+#[test]
+fn layers_over_mappers_run_lists(rt: HostRuntime) -> Result<(), Fail> {
+    let (mut memory, mut pool) = begin(rt.alloc(), ROW.free)?;
+    answer_counted(&rt, rt.alloc(), (&mut memory, &mut pool))?;
     compare(&rt, &memory, &pool, &ROW, "counted")
 }

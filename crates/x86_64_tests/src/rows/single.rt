@@ -1,19 +1,21 @@
 //! Calls of a mapper itself.
-ghost use Rattle.std.specs.Prelude.{◌≡◌, None};
+ghost use Rattle.std.specs.Prelude.{◌≡◌, ◌<◌, ◌^◌, None};
 ghost use Rattle.x86_64_model.specs.Owned.{Valid, SupplyFits};
 
 use super::{FREE, LARGE_LEVEL_3, LARGE_LEVEL_4, Row, begin, compare};
-use crate::images::{ROOT, flags_of, frame_at, page_at};
+use crate::images::{ROOT, assert_fits, flags_of, frame_at, page_at};
+use std::fmt::Debug;
 use std::process::Abort;
 use std::test::Fail;
 use x86_64::structures::paging::mapper::{
-    FlagUpdateError, MapToError, MapperFlush, MapperFlushAll, TranslateError, UnmapError,
+    FlagUpdateError, MapToError, MapperAllSizes, MapperFlush, MapperFlushAll, TranslateError,
+    UnmapError,
 };
 use x86_64::structures::paging::{
     FrameAllocator, MappedPageTable, Mapper, Page, PageSize, PageTableFlags, PhysFrame, Size2MiB,
     Size4KiB,
 };
-use x86_64::{IdentityMapping, PhysAddr, VirtAddr, pool_fits};
+use x86_64::{IdentityMapping, PhysAddr, VirtAddr};
 
 /// Spends a token, and gives its page.
 fn page_of<S: PageSize>(flush: MapperFlush<S>) -> Page<S> {
@@ -27,38 +29,118 @@ fn done(flush: MapperFlushAll) {
     flush.ignore();
 }
 
-/// Maps a page where that is allowed.
-fn map<S: PageSize, M: Mapper<S>, A: FrameAllocator<Size4KiB>>(
+/// Compares an answer with the one that is wanted.
+fn compare_answer<T: PartialEq + Debug + Drop>(rt: &impl Abort, answer: T, wanted: T, title: &str) {
+    assert_eq!(rt; answer, wanted, "{title}");
+}
+
+/// Maps a page with flags, the second for its parents, where that is allowed, and compares the answer.
+fn map<S: PageSize + Debug, M: Mapper<S>, A: FrameAllocator<Size4KiB>>(
     rt: &impl Abort,
     mapper: &mut M,
     page: Page<S>,
     frame: PhysFrame<S>,
     flags: (PageTableFlags, PageTableFlags),
     allocator: &mut A,
-) -> Result<Page<S>, MapToError<S>>
+)
     requires { SupplyFits (M.hierarchy mapper.old) (A.supply allocator.old) }
     ensures ready { SupplyFits (M.hierarchy mapper.new) (A.supply allocator.new) }
     ensures layout { (M.hierarchy mapper.new).layout ≡ (M.hierarchy mapper.old).layout }
 {
     assert!(rt; mapper.map_allowed(page, flags.0, flags.1));
-    mapper
-        .map_to_with_table_flags(page, frame, flags.0, flags.1, allocator)
-        .map(page_of)
+    let answer = mapper.map_to_with_table_flags(page, frame, flags.0, flags.1, allocator);
+    compare_answer(rt, answer.map(page_of), Ok(page), "map");
 }
 
-/// Unmaps a page.
-fn unmap<S: PageSize, M: Mapper<S>>(
+/// Maps a page that is mapped already, with the flags that ask for the parent flags.
+fn map_again<S: PageSize + Debug, M: Mapper<S>, A: FrameAllocator<Size4KiB>>(
+    rt: &impl Abort,
     mapper: &mut M,
     page: Page<S>,
-) -> Result<(PhysFrame<S>, Page<S>), UnmapError>
+    frame: PhysFrame<S>,
+    allocator: &mut A,
+)
+    requires { SupplyFits (M.hierarchy mapper.old) (A.supply allocator.old) }
+    ensures valid { Valid (M.hierarchy mapper.new) }
+    ensures layout { (M.hierarchy mapper.new).layout ≡ (M.hierarchy mapper.old).layout }
+{
+    let flags = PageTableFlags::PRESENT;
+    assert!(rt; mapper.map_allowed(page, flags, flags));
+    let answer = mapper.map_to(page, frame, flags, allocator);
+    let error = MapToError::PageAlreadyMapped(frame);
+    compare_answer(rt, answer.map(page_of), Err(error), "map again");
+}
+
+/// Maps the page at a frame's own address, where that is allowed, and compares the answer.
+fn map_identity<S: PageSize + Debug, M: Mapper<S>, A: FrameAllocator<Size4KiB>>(
+    rt: &impl Abort,
+    mapper: &mut M,
+    page: Page<S>,
+    frame: PhysFrame<S>,
+    allocator: &mut A,
+)
+    requires fits { SupplyFits (M.hierarchy mapper.old) (A.supply allocator.old) }
+    requires same { page ≡ frame }
+    requires low { frame < 2 ^ 47 }
+    ensures valid { Valid (M.hierarchy mapper.new) }
+    ensures layout { (M.hierarchy mapper.new).layout ≡ (M.hierarchy mapper.old).layout }
+{
+    let flags = PageTableFlags::PRESENT;
+    assert!(rt; mapper.map_allowed(page, flags, flags));
+    let answer = mapper.identity_map(frame, flags, allocator);
+    compare_answer(
+        rt,
+        answer.map(page_of),
+        Ok(page),
+        "map a frame at its own address",
+    );
+}
+
+/// Unmaps a page, and compares the answer.
+fn unmap<S: PageSize, M: Mapper<S>>(
+    rt: &impl Abort,
+    mapper: &mut M,
+    page: Page<S>,
+    wanted: Result<(PhysFrame<S>, Page<S>), UnmapError>,
+)
     requires valid { Valid (M.hierarchy mapper.old) }
     requires no_window { (M.hierarchy mapper.old).layout.window ≡ None }
     ensures valid { Valid (M.hierarchy mapper.new) }
     ensures layout { (M.hierarchy mapper.new).layout ≡ (M.hierarchy mapper.old).layout }
 {
-    mapper
+    let answer = mapper
         .unmap(page)
-        .map(|(frame, flush)| (frame, page_of(flush)))
+        .map(|(frame, flush)| (frame, page_of(flush)));
+    compare_answer(rt, answer, wanted, "unmap");
+}
+
+/// Sets `WRITABLE` alone on a page's entry, and compares the answer.
+#[tactic(auto, unfolding(x86_64_model::specs::Entry::address))]
+fn make_writable<S: PageSize, M: Mapper<S>>(
+    rt: &impl Abort,
+    mapper: &mut M,
+    page: Page<S>,
+    wanted: Result<Page<S>, FlagUpdateError>,
+)
+    requires valid { Valid (M.hierarchy mapper.old) }
+    requires no_window { (M.hierarchy mapper.old).layout.window ≡ None }
+    ensures valid { Valid (M.hierarchy mapper.new) }
+    ensures layout { (M.hierarchy mapper.new).layout ≡ (M.hierarchy mapper.old).layout }
+{
+    let answer = mapper.update_flags(page, PageTableFlags::WRITABLE);
+    compare_answer(rt, answer.map(page_of), wanted, "update the flags");
+}
+
+/// Sets `PRESENT` alone on the entry of level four above a page.
+#[tactic(auto, unfolding(x86_64_model::specs::Entry::address, x86_64_model::specs::Entry::has))]
+fn set_level_4<S: PageSize, M: Mapper<S>>(rt: &impl Abort, mapper: &mut M, page: Page<S>)
+    requires valid { Valid (M.hierarchy mapper.old) }
+    requires no_window { (M.hierarchy mapper.old).layout.window ≡ None }
+    ensures valid { Valid (M.hierarchy mapper.new) }
+    ensures layout { (M.hierarchy mapper.new).layout ≡ (M.hierarchy mapper.old).layout }
+{
+    let answer = mapper.set_flags_p4_entry(page, PageTableFlags::PRESENT);
+    compare_answer(rt, answer.map(done), Ok(()), "set flags of level four");
 }
 
 /// Sets the flags of the entry of level three above a page, where that is allowed.
@@ -67,28 +149,31 @@ fn set_level_3<S: PageSize, M: Mapper<S>>(
     mapper: &mut M,
     page: Page<S>,
     flags: PageTableFlags,
-) -> Result<(), FlagUpdateError>
+)
     requires { Valid (M.hierarchy mapper.old) }
     ensures valid { Valid (M.hierarchy mapper.new) }
     ensures layout { (M.hierarchy mapper.new).layout ≡ (M.hierarchy mapper.old).layout }
 {
     assert!(rt; mapper.p3_flags_allowed(page, flags));
-    mapper.set_flags_p3_entry(page, flags).map(done)
+    let answer = mapper.set_flags_p3_entry(page, flags);
+    compare_answer(rt, answer.map(done), Ok(()), "set flags of level three");
 }
 
-/// Sets the flags of the entry of level two above a page, where that is allowed.
+/// Sets the flags of the entry of level two above a page, where that is allowed, and compares the answer.
 fn set_level_2<S: PageSize, M: Mapper<S>>(
     rt: &impl Abort,
     mapper: &mut M,
     page: Page<S>,
     flags: PageTableFlags,
-) -> Result<(), FlagUpdateError>
+    wanted: Result<(), FlagUpdateError>,
+)
     requires { Valid (M.hierarchy mapper.old) }
     ensures valid { Valid (M.hierarchy mapper.new) }
     ensures layout { (M.hierarchy mapper.new).layout ≡ (M.hierarchy mapper.old).layout }
 {
     assert!(rt; mapper.p2_flags_allowed(page, flags));
-    mapper.set_flags_p2_entry(page, flags).map(done)
+    let answer = mapper.set_flags_p2_entry(page, flags);
+    compare_answer(rt, answer.map(done), wanted, "set flags of level two");
 }
 
 /// What is left of a map and an unmap of the page 0x1000.
@@ -104,32 +189,32 @@ const UNMAPPED: Row<'static> = Row {
     left: &[],
 };
 
+/// Maps the page 0x1000 of 4KiB, maps it again, and unmaps it twice.
+fn map_and_unmap<M: Mapper<Size4KiB>, A: FrameAllocator<Size4KiB>>(
+    rt: &impl Abort,
+    mapper: &mut M,
+    allocator: &mut A,
+)
+    requires fits { SupplyFits (M.hierarchy mapper.old) (A.supply allocator.old) }
+    requires no_window { (M.hierarchy mapper.old).layout.window ≡ None }
+{
+    let page = page_at(0x1000);
+    let frame = frame_at(0x5000);
+    let flags = (flags_of(0x3), PageTableFlags::PRESENT);
+    assert!(rt; !mapper.map_allowed(page, flags.0, flags_of(0x81)));
+    map(rt, mapper, page, frame, flags, allocator);
+    map_again(rt, mapper, page, frame_at(0x9000), allocator);
+    unmap(rt, mapper, page, Ok((frame, page)));
+    unmap(rt, mapper, page, Err(UnmapError::PageNotMapped));
+}
+
 #[test]
 fn mappers_map_and_unmap(rt: HostRuntime) -> Result<(), Fail> {
-    let page: Page<Size4KiB> = page_at(0x1000);
-    let frames = (frame_at(0x5000), frame_at(0x9000));
-    let present = PageTableFlags::PRESENT;
-    let writable = flags_of(0x3);
     let (mut memory, mut pool) = begin(rt.alloc(), &FREE)?;
     let root = frame_at(ROOT);
-    assert!(rt; pool_fits(rt.alloc(), &memory, &IdentityMapping, root, &pool)?);
+    assert_fits(&rt, rt.alloc(), &memory, &IdentityMapping, root, &pool)?;
     let mut mapper = MappedPageTable::new(&mut memory, root, IdentityMapping);
-    assert!(rt; !mapper.map_allowed(page, writable, flags_of(0x81)));
-    let answer = map(
-        &rt,
-        &mut mapper,
-        page,
-        frames.0,
-        (writable, present),
-        &mut pool,
-    );
-    assert_eq!(rt; answer, Ok(page));
-    assert!(rt; mapper.map_allowed(page, present, present));
-    let answer = mapper.map_to(page, frames.1, present, &mut pool);
-    let error = MapToError::PageAlreadyMapped(frames.1);
-    assert_eq!(rt; answer.map(page_of), Err(error));
-    assert_eq!(rt; unmap(&mut mapper, page), Ok((frames.0, page)));
-    assert_eq!(rt; unmap(&mut mapper, page), Err(UnmapError::PageNotMapped));
+    map_and_unmap(&rt, &mut mapper, &mut pool);
     drop(mapper);
     compare(&rt, &memory, &pool, &UNMAPPED, "by the mapper")
 }
@@ -143,27 +228,44 @@ const PAGE_FLAGS: Row<'static> = Row {
     left: &[0x4000],
 };
 
-#[test]
-#[tactic(auto, unfolding(x86_64_model::specs::Entry::address))]
-fn mappers_set_flags_of_pages(rt: HostRuntime) -> Result<(), Fail> {
+/// Asks a mapper for the frame of a page, and compares the answer.
+fn translate<S: PageSize, M: Mapper<S>>(
+    rt: &impl Abort,
+    mapper: &M,
+    page: Page<S>,
+    wanted: Result<PhysFrame<S>, TranslateError>,
+)
+    requires { Valid (M.hierarchy mapper.now) }
+{
+    compare_answer(rt, mapper.translate_page(page), wanted, "translate");
+}
+
+/// Maps the page 0x600000 of 2MiB, and sets its flags. The 4KiB page at its start isn't mapped.
+fn set_page_flags<M: MapperAllSizes, A: FrameAllocator<Size4KiB>>(
+    rt: &impl Abort,
+    mapper: &mut M,
+    allocator: &mut A,
+)
+    requires fits { SupplyFits (M.hierarchy mapper.old) (A.supply allocator.old) }
+    requires no_window { (M.hierarchy mapper.old).layout.window ≡ None }
+{
     let page: Page<Size2MiB> = Page::from_start_address_unchecked(VirtAddr::new(0x60_0000));
     let frame = PhysFrame::from_start_address_unchecked(PhysAddr::new(0x60_0000));
     let below: Page<Size4KiB> = page_at(0x60_0000);
-    let present = PageTableFlags::PRESENT;
+    map_identity(rt, mapper, page, frame, allocator);
+    translate(rt, mapper, page, Ok(frame));
+    translate(rt, mapper, below, Err(TranslateError::ParentEntryHugePage));
+    make_writable(rt, mapper, page, Ok(page));
+    make_writable(rt, mapper, below, Err(FlagUpdateError::PageNotMapped));
+}
+
+#[test]
+fn mappers_set_flags_of_pages(rt: HostRuntime) -> Result<(), Fail> {
     let (mut memory, mut pool) = begin(rt.alloc(), &FREE)?;
     let root = frame_at(ROOT);
-    assert!(rt; pool_fits(rt.alloc(), &memory, &IdentityMapping, root, &pool)?);
+    assert_fits(&rt, rt.alloc(), &memory, &IdentityMapping, root, &pool)?;
     let mut mapper = MappedPageTable::new(&mut memory, root, IdentityMapping);
-    let flags = (present, present);
-    let answer = map(&rt, &mut mapper, page, frame, flags, &mut pool);
-    assert_eq!(rt; answer, Ok(page));
-    assert_eq!(rt; mapper.translate_page(page), Ok(frame));
-    let error = TranslateError::ParentEntryHugePage;
-    assert_eq!(rt; mapper.translate_page(below), Err(error));
-    let answer = mapper.update_flags(page, PageTableFlags::WRITABLE);
-    assert_eq!(rt; answer.map(page_of), Ok(page));
-    let answer = mapper.update_flags(below, PageTableFlags::PRESENT);
-    assert_eq!(rt; answer.map(page_of), Err(FlagUpdateError::PageNotMapped));
+    set_page_flags(&rt, &mut mapper, &mut pool);
     drop(mapper);
     compare(&rt, &memory, &pool, &PAGE_FLAGS, "by the mapper")
 }
@@ -182,33 +284,48 @@ const TABLE_FLAGS: Row<'static> = Row {
     left: &[],
 };
 
-#[test]
-#[tactic(auto, unfolding(x86_64_model::specs::Entry::address, x86_64_model::specs::Entry::has))]
-fn mappers_set_flags_of_tables(rt: HostRuntime) -> Result<(), Fail> {
+/// Maps the page 0x1000 of 4KiB, and sets the flags of the entries above it. A page of 2MiB has no entry above
+/// it in level two.
+fn set_table_flags<M: MapperAllSizes, A: FrameAllocator<Size4KiB>>(
+    rt: &impl Abort,
+    mapper: &mut M,
+    allocator: &mut A,
+)
+    requires fits { SupplyFits (M.hierarchy mapper.old) (A.supply allocator.old) }
+    requires no_window { (M.hierarchy mapper.old).layout.window ≡ None }
+{
     let page: Page<Size4KiB> = page_at(0x1000);
     let large: Page<Size2MiB> = page_at(0x0);
-    let (level_3, level_2) = (flags_of(0x5), flags_of(0x9));
-    let refused = Err(FlagUpdateError::ParentEntryHugePage);
-    let (mut memory, mut pool) = begin(rt.alloc(), &FREE)?;
-    let root = frame_at(ROOT);
-    assert!(rt; pool_fits(rt.alloc(), &memory, &IdentityMapping, root, &pool)?);
-    let mut mapper = MappedPageTable::new(&mut memory, root, IdentityMapping);
     let flags = flags_of(0x3);
-    let answer = map(
-        &rt,
-        &mut mapper,
+    let level_2 = flags_of(0x9);
+    map(
+        rt,
+        mapper,
         page,
         frame_at(0x5000),
         (flags, flags),
-        &mut pool,
+        allocator,
     );
-    assert_eq!(rt; answer, Ok(page));
-    let answer = mapper.set_flags_p4_entry(page, PageTableFlags::PRESENT);
-    assert_eq!(rt; answer.map(done), Ok(()));
+    set_level_4(rt, mapper, page);
     assert!(rt; !mapper.p2_flags_allowed(page, flags_of(0x81)));
-    assert_eq!(rt; set_level_2(&rt, &mut mapper, page, level_2), Ok(()));
-    assert_eq!(rt; set_level_2(&rt, &mut mapper, large, level_2), refused);
-    assert_eq!(rt; set_level_3(&rt, &mut mapper, page, level_3), Ok(()));
+    set_level_2(rt, mapper, page, level_2, Ok(()));
+    set_level_2(
+        rt,
+        mapper,
+        large,
+        level_2,
+        Err(FlagUpdateError::ParentEntryHugePage),
+    );
+    set_level_3(rt, mapper, page, flags_of(0x5));
+}
+
+#[test]
+fn mappers_set_flags_of_tables(rt: HostRuntime) -> Result<(), Fail> {
+    let (mut memory, mut pool) = begin(rt.alloc(), &FREE)?;
+    let root = frame_at(ROOT);
+    assert_fits(&rt, rt.alloc(), &memory, &IdentityMapping, root, &pool)?;
+    let mut mapper = MappedPageTable::new(&mut memory, root, IdentityMapping);
+    set_table_flags(&rt, &mut mapper, &mut pool);
     drop(mapper);
     compare(&rt, &memory, &pool, &TABLE_FLAGS, "by the mapper")
 }

@@ -1,29 +1,52 @@
 //! Tokens of a mapper, flushed.
+ghost use Rattle.std.specs.Prelude.{◌≡◌, None};
+ghost use Rattle.x86_64_model.specs.Owned.{Valid, SupplyFits};
+
+use super::flushes::compare_flushes;
 use super::{FREE, begin};
-use crate::images::{ROOT, frame_at, page_at};
+use crate::images::{ROOT, assert_fits, frame_at, page_at};
 use bitflags::Flags;
 use std::alloc::Global;
 use std::process::Abort;
 use std::test::Fail;
 use x86_64::structures::paging::mapper::{MapperFlush, MapperFlushAll};
-use x86_64::structures::paging::{MappedPageTable, Mapper, Page, PageTableFlags, Size4KiB};
-use x86_64::{FlushItem, FlushRecorder, IdentityMapping, VirtAddr, pool_fits};
+use x86_64::structures::paging::{
+    FrameAllocator, MappedPageTable, Mapper, PageTableFlags, Size4KiB,
+};
+use x86_64::{FlushRecorder, IdentityMapping};
 
-/// Maps the page 0x1000 of 4KiB on an empty root, sets the flags of level four above it, and flushes both tokens.
-#[tactic(auto, unfolding(x86_64_model::specs::Entry::address, x86_64_model::specs::Entry::has))]
-fn flush_tokens(rt: &impl Abort, alloc: Global, recorder: &mut FlushRecorder) -> Result<(), Fail> {
-    let page: Page<Size4KiB> = page_at(0x1000);
+/// Maps the page 0x1000 of 4KiB, and flushes the token.
+fn flush_map<M: Mapper<Size4KiB>, A: FrameAllocator<Size4KiB>>(
+    rt: &impl Abort,
+    mapper: &mut M,
+    allocator: &mut A,
+    recorder: &mut FlushRecorder,
+) -> Result<(), Fail>
+    requires { SupplyFits (M.hierarchy mapper.old) (A.supply allocator.old) }
+    ensures valid { Valid (M.hierarchy mapper.new) }
+    ensures layout { (M.hierarchy mapper.new).layout ≡ (M.hierarchy mapper.old).layout }
+{
+    let page = page_at(0x1000);
     let flags = PageTableFlags::PRESENT.union(PageTableFlags::WRITABLE);
-    let (mut memory, mut pool) = begin(alloc, &FREE)?;
-    let root = frame_at(ROOT);
-    assert!(rt; pool_fits(alloc, &memory, &IdentityMapping, root, &pool)?);
-    let mut mapper = MappedPageTable::new(&mut memory, root, IdentityMapping);
     assert!(rt; mapper.map_allowed(page, flags, flags));
-    let answer = mapper.map_to(page, frame_at(0x5000), flags, &mut pool);
+    let answer = mapper.map_to(page, frame_at(0x5000), flags, allocator);
     let flush = answer.map_err(|_| "the map is refused")?;
     let flushed = flush.flush(recorder).map_err(MapperFlush::ignore);
     assert_eq!(rt; flushed, Ok(()));
-    let answer = mapper.set_flags_p4_entry(page, PageTableFlags::WRITABLE);
+    Ok(())
+}
+
+/// Sets the flags of level four above the page, and flushes the token.
+#[tactic(auto, unfolding(x86_64_model::specs::Entry::address, x86_64_model::specs::Entry::has))]
+fn flush_table_flags<M: Mapper<Size4KiB>>(
+    rt: &impl Abort,
+    mapper: &mut M,
+    recorder: &mut FlushRecorder,
+) -> Result<(), Fail>
+    requires valid { Valid (M.hierarchy mapper.old) }
+    requires no_window { (M.hierarchy mapper.old).layout.window ≡ None }
+{
+    let answer = mapper.set_flags_p4_entry(page_at(0x1000), PageTableFlags::WRITABLE);
     let flush_all = answer.map_err(|_| "the flags are refused")?;
     let flushed = flush_all
         .flush_all(recorder)
@@ -32,19 +55,27 @@ fn flush_tokens(rt: &impl Abort, alloc: Global, recorder: &mut FlushRecorder) ->
     Ok(())
 }
 
+/// Flushes both tokens of a mapper over an empty root.
+fn flush_tokens(rt: &impl Abort, alloc: Global, recorder: &mut FlushRecorder) -> Result<(), Fail> {
+    let (mut memory, mut pool) = begin(alloc, &FREE)?;
+    let root = frame_at(ROOT);
+    assert_fits(rt, alloc, &memory, &IdentityMapping, root, &pool)?;
+    let mut mapper = MappedPageTable::new(&mut memory, root, IdentityMapping);
+    flush_map(rt, &mut mapper, &mut pool, recorder)?;
+    flush_table_flags(rt, &mut mapper, recorder)
+}
+
+/// Flushes both tokens where so many items have room, and compares what is recorded.
+fn check_tokens(rt: &impl Abort, alloc: Global, room: usize) -> Result<(), Fail> {
+    let mut recorder = FlushRecorder::new(alloc);
+    recorder.reserve(room)?;
+    flush_tokens(rt, alloc, &mut recorder)?;
+    compare_flushes(rt, &recorder, &[Some((0x1000, 0x1000)), None]);
+    Ok(())
+}
+
 #[test]
 fn tokens_of_mappers_are_flushed(rt: HostRuntime) -> Result<(), Fail> {
-    let page = FlushItem::Page {
-        start: VirtAddr::new(0x1000),
-        size: 4096,
-    };
-    let items = [page, FlushItem::All];
-    let mut reserved = FlushRecorder::new(rt.alloc());
-    assert_eq!(rt; reserved.reserve(2), Ok(()));
-    flush_tokens(&rt, rt.alloc(), &mut reserved)?;
-    assert_eq!(rt; reserved.items(), items.as_slice(), "reserved");
-    let mut recorder = FlushRecorder::new(rt.alloc());
-    flush_tokens(&rt, rt.alloc(), &mut recorder)?;
-    assert_eq!(rt; recorder.items(), items.as_slice(), "not reserved");
-    Ok(())
+    check_tokens(&rt, rt.alloc(), 2)?;
+    check_tokens(&rt, rt.alloc(), 0)
 }

@@ -1,7 +1,7 @@
 //! Where a page walk arrives after calls, and with which rights.
 use super::{
-    By, FIRST, FIRST_LARGE, FREE, LARGE_LEVEL_3, LARGE_LEVEL_4, LARGE_WORDS, LEVEL_2, LEVEL_3,
-    LEVEL_4, Row, answer_row, check_fits,
+    FIRST, FIRST_LARGE, FREE, LARGE_LEVEL_3, LARGE_LEVEL_4, LARGE_WORDS, LEVEL_2, LEVEL_3, LEVEL_4,
+    Row, check_row,
 };
 use crate::images::{ROOT, frame_at};
 use crate::turns::PageTurn::{MapTo, MapToWithTableFlags, UpdateFlags};
@@ -14,11 +14,12 @@ use x86_64_plain::Answer::{Done, Refused};
 use x86_64_plain::PlainReply::Answered;
 use x86_64_plain::Refusal::ParentEntryHugePage;
 
-/// An address, and where the walk from it arrives, if it does: the address, and whether it may be written and used by a user.
-type Walk = (u64, Option<(u64, bool, bool)>);
+/// An address, and where the walk from it arrives, if it does: the address, and whether it may be written and
+/// used by a user.
+pub type Walk = (u64, Option<(u64, bool, bool)>);
 
 /// Compares where walks arrive.
-fn compare_walks(rt: &impl Abort, memory: &PhysMemory, walks: &[Walk], title: &str) {
+pub fn compare_walks(rt: &impl Abort, memory: &PhysMemory, walks: &[Walk], title: &str) {
     for (from, to) in walks {
         let addr = VirtAddr::new_truncate(*from);
         let wanted = to.map(|(address, write, user)| Walked {
@@ -31,15 +32,11 @@ fn compare_walks(rt: &impl Abort, memory: &PhysMemory, walks: &[Walk], title: &s
     }
 }
 
-/// Answers the calls of rows by each of the mappers, and compares what comes of them and where the walks beside them arrive.
+/// Answers the calls of rows by each of the mappers, and compares what comes of them and where the walks beside
+/// them arrive.
 fn check_walks(rt: &impl Abort, alloc: Global, rows: &[(Row<'_>, &[Walk])]) -> Result<(), Fail> {
     for (number, (row, walks)) in rows.iter().enumerate() {
-        for by in [By::Identity, By::Reference, By::Offset] {
-            let title = format!(in alloc; "row {number}, {by:?}")?;
-            let (mut memory, pool) = answer_row(rt, alloc, row, by, &title)?;
-            compare_walks(rt, &memory, walks, &title);
-            check_fits(rt, alloc, &mut memory, &pool, &title)?;
-        }
+        check_row(rt, alloc, number, row, walks)?;
     }
     Ok(())
 }
