@@ -2,13 +2,14 @@
 use Rattle.std.proofs.Common.{◌≡◌, ◌≢◌, ◌<◌, ◌==◌, ℕ, Bool, true, false, cond, List, get_or, Some, None, Option, option_map, refl, sym, ap, ap₂, ◌∙◌, ⊎_elim, lt-ltb, eqb-true, eq-eqb, ◌&&◌}
 use Rattle.std.proofs.lemmas.Bool.{cases_eq}
 use Rattle.std.specs.Prelude.{unwrap_or}
-use Rattle.x86_64_model.specs.Entry.{used, address, names_table}
+use Rattle.x86_64_model.specs.Entry.{has, used, address, names_table}
 use Rattle.x86_64_model.specs.Memory.{Words, word, word_in, set_word}
 use Rattle.x86_64_model.specs.PageWalk.{read}
 use Rattle.x86_64_model.specs.Tables.{without_word}
 use Rattle.x86_64_model.proofs.Lemmas.Hierarchies.Held.{word-set_frame, word-set_index}
 use Rattle.x86_64_model.proofs.Lemmas.Hierarchies.Unset.{word_unset}
 use Rattle.x86_64_tables.specs.Images.{below_word}
+use Rattle.x86_64_tables.specs.SelfEntries.{names_frame}
 
 -- a word that is read
 pub word-read : (T : Words) (f i : ℕ) → i < 512 → unwrap_or (read T f i) 0 ≡ word T f i
@@ -57,6 +58,11 @@ is_not_named w = by (names_table w)
     by : (b : Bool) → None ≡ cond b (Some (address w)) None → b ≡ false
     by true h = absurd (let t : None ≡ Some (address w) = h in cc)
     by false h = refl
+
+-- the word 0 names no frame as present
+pub zero_names_no_frame : (f : ℕ) → false ≡ names_frame 0 f
+unfolding has
+zero_names_no_frame f = refl
 
 -- ---- tests of equality
 

@@ -5,6 +5,8 @@ pub mod PhysMemory
 pub mod Lending
 pub mod Walks
 pub mod Images
+pub mod SelfEntries
+pub mod ActiveMemory
 pub mod Translations
 pub mod MapperAnswers
 pub mod FramePool

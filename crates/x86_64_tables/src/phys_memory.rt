@@ -9,6 +9,7 @@ ghost use Rattle.x86_64_model.specs.Memory.{Places, IsMapping, identity_places};
 ghost use Rattle.x86_64_tables.specs.PageTable.{zero_words};
 ghost use Rattle.x86_64_tables.specs.Lending.{LendsTable, LendsTableAt};
 
+mod active;
 mod shift_mapping;
 #[cfg(test)]
 mod tests;
@@ -16,11 +17,12 @@ mod validity;
 mod walk;
 
 use crate::page_table::PageTable;
+pub use active::ActiveMemory;
 pub use shift_mapping::ShiftMapping;
 use std::alloc::{AllocError, Global};
 use std::marker::Model;
 use std::ops::{Index, IndexMut};
-pub use validity::{is_valid_hierarchy, pool_fits};
+pub use validity::{is_valid_hierarchy, is_valid_recursive, pool_fits, pool_fits_recursive};
 pub use walk::{Walked, page_walk};
 use x86_64_page::frame::PhysFrame;
 use x86_64_page::page::{PageSize, Size4KiB};

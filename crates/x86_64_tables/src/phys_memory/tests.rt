@@ -1,4 +1,6 @@
 //! Tests of walks, of hierarchies and of pools that fit them, over memories that are given as words.
+mod recursive;
+
 use super::{
     FramePlace, IdentityMapping, PhysMemory, Walked, is_valid_hierarchy, page_walk, pool_fits,
 };

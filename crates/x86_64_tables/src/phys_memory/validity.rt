@@ -3,18 +3,21 @@ ghost use Rattle.std.specs.Prelude.{◌≡◌, ◌<◌, ◌↔◌, ℕ, if◌the
 ghost use Rattle.std.specs.FinMap.{keys};
 ghost use Rattle.std.specs.Option.{option_copied};
 ghost use Rattle.x86_64_model.specs.Entry.{huge};
-ghost use Rattle.x86_64_model.specs.Memory.{word, words_of};
+ghost use Rattle.x86_64_model.specs.Memory.{identity_places, word, words_of};
 ghost use Rattle.x86_64_model.specs.Hierarchy.{IsValid, paths_of};
+ghost use Rattle.x86_64_model.specs.Window.{outside_window, IsValidFor};
 ghost use Rattle.x86_64_model.specs.Pool.{Fits};
 ghost use Rattle.x86_64_model.specs.Tables.{tables_from, NoneHuge, SoundTables};
 ghost use Rattle.x86_64_model.specs.Marks.{serves_below, mark_one, mark_all};
-ghost use Rattle.x86_64_tables.specs.Images.{seen, free_in, mark_slot, below_word};
+ghost use Rattle.x86_64_tables.specs.Images.{seen, free_in, mark_slot, below_word, IsSound};
+ghost use Rattle.x86_64_tables.specs.SelfEntries.{has_self_entry, names_frame, window_at};
 
 use super::walk::{entry_at, has_flag};
-use super::{PageTableFrameMapping, PhysMemory};
+use super::{IdentityMapping, PageTableFrameMapping, PhysMemory};
 use crate::frame_alloc::FramePool;
 use crate::page_table::{PageTableEntry, PageTableFlags};
 use std::alloc::{AllocError, Global};
+use x86_64_addr::index::PageTableIndex;
 use x86_64_page::frame::PhysFrame;
 use x86_64_page::page::{PageSize, Size4KiB};
 
@@ -44,6 +47,37 @@ pub fn is_valid_hierarchy<P: PageTableFrameMapping>(
         mapping,
         root,
         recursive: None,
+        limit: FRAME_COUNT,
+    };
+    image.is_sound(alloc, 3, None)
+}
+
+/// Tells whether the words below the root are a valid hierarchy of four levels for a recursive index, where each frame
+/// lies at the place of its number.
+///
+/// In one the root's word at the index has `PRESENT`, lacks `HUGE_PAGE` and names the root, and with that word read as
+/// 0 the hierarchy is one of `is_valid_hierarchy`. The test ends for any words, and takes memory for a mark for each
+/// place alone.
+///
+/// # Errors
+///
+/// `AllocError` where memory is refused.
+pub fn is_valid_recursive(
+    alloc: Global,
+    memory: &PhysMemory,
+    root: PhysFrame<Size4KiB>,
+    index: PageTableIndex,
+) -> Result<bool, AllocError>
+    ensures { let words = words_of memory.now identity_places in
+        let window = Some (window_at words root index) in
+        let paths = paths_of 4 (outside_window window root words) root in
+        IfOk result (λ b. IsTrue b ↔ IsValidFor 4 window words root paths) }
+{
+    let image = Image {
+        memory,
+        mapping: &IdentityMapping,
+        root,
+        recursive: Some(index),
         limit: FRAME_COUNT,
     };
     image.is_sound(alloc, 3, None)
@@ -79,6 +113,37 @@ pub fn pool_fits<P: PageTableFrameMapping>(
     image.is_sound(alloc, 3, Some(pool))
 }
 
+/// Tells whether the words below the root are a valid hierarchy of four levels for a recursive index, and a pool fits
+/// it, where each frame lies at the place of its number.
+///
+/// The hierarchies are those of `is_valid_recursive`. A pool fits one as `pool_fits` says of the hierarchy without the
+/// word at the index. The test ends for any words and any pool, and takes memory for a mark for each place alone.
+///
+/// # Errors
+///
+/// `AllocError` where memory is refused.
+pub fn pool_fits_recursive(
+    alloc: Global,
+    memory: &PhysMemory,
+    root: PhysFrame<Size4KiB>,
+    index: PageTableIndex,
+    pool: &FramePool,
+) -> Result<bool, AllocError>
+    ensures { let words = words_of memory.now identity_places in
+        let window = Some (window_at words root index) in let serves = serves_below pool.now.limit in
+        let paths = paths_of 4 (outside_window window root words) root in
+        IfOk result (λ b. IsTrue b ↔ Fits 4 window words root paths serves pool.now.frames) }
+{
+    let image = Image {
+        memory,
+        mapping: &IdentityMapping,
+        root,
+        recursive: Some(index),
+        limit: pool.limit(),
+    };
+    image.is_sound(alloc, 3, Some(pool))
+}
+
 /// Holds a hierarchy to be tested: its root in a memory, past the root's word at the recursive index where there is
 /// one. The frames of its tables, but for the root, and those of a pool have numbers from 1 to `limit` - 1.
 #[derive(Drop)]
@@ -86,13 +151,14 @@ struct Image<'a, P> {
     memory: &'a PhysMemory,
     mapping: &'a P,
     root: PhysFrame<Size4KiB>,
-    recursive: Option<usize>,
+    recursive: Option<PageTableIndex>,
     limit: u64,
 }
 
 impl<'a, P: PageTableFrameMapping> Image<'a, P> {
     /// Tells whether each table, through so many levels below the root, and each frame of the pool, where there is one,
-    /// is met once, in the memory and at a number that tables may have, and no word above level three has `HUGE_PAGE`.
+    /// is met once, in the memory and at a number that tables may have, and no word above level three has `HUGE_PAGE`;
+    /// and whether the root's word at the recursive index, where there is one, names the root.
     #[tactic(auto, using(crate::specs::PhysMemory::length_keys))]
     fn is_sound(
         &self,
@@ -100,16 +166,21 @@ impl<'a, P: PageTableFrameMapping> Image<'a, P> {
         levels: u8,
         pool: Option<&FramePool>,
     ) -> Result<bool, AllocError>
-        ensures { let image = self.now in let places = P.places image.mapping.now in
-            let words = seen image.memory.now places image.root image.recursive in
+        ensures { let image = self.now in
+            let words = words_of image.memory.now (P.places image.mapping.now) in
             let serves = serves_below image.limit in let free = free_in (option_copied pool.entry) in
-            IfOk result (λ b. IsTrue b ↔ SoundTables levels words image.root serves free) }
+            IfOk result (λ b. IsTrue b ↔ IsSound levels words image.root image.recursive serves free) }
     {
+        if let Some(index) = self.recursive {
+            if !has_self_entry(self.memory, self.mapping, self.root, index) {
+                return Ok(false);
+            }
+        }
         let mut marks = vec![in alloc; false; self.memory.len()]?;
         Ok(self.is_sound_by(levels, pool, &mut marks))
     }
 
-    /// Tells the same by marks, one for each place, which are all clear at first.
+    /// Tells the first of these by marks, one for each place, which are all clear at first.
     fn is_sound_by(&self, levels: u8, pool: Option<&FramePool>, marks: &mut [bool]) -> bool
         requires length { length marks.old ≡ length (keys self.now.memory.now) }
         requires clear { (k : ℕ) → k < length (keys self.now.memory.now)
@@ -263,10 +334,32 @@ impl<'a, P: PageTableFrameMapping> Image<'a, P> {
             unwrap_or (option_copied result) 0 ≡ word words frame index }
     {
         match self.recursive {
-            Some(recursive) if frame == self.root && index == recursive => None,
+            Some(recursive) if frame == self.root && index == usize::from(recursive) => None,
             _ => entry_at(self.memory, self.mapping, frame, index),
         }
     }
+}
+
+/// Tells whether the word at an index of the table in the root's frame, if there is one, gives the root as `frame`.
+pub(super) fn has_self_entry<P: PageTableFrameMapping>(
+    memory: &PhysMemory,
+    mapping: &P,
+    root: PhysFrame<Size4KiB>,
+    index: PageTableIndex,
+) -> bool
+    ensures { result ≡ has_self_entry (words_of memory.now (P.places mapping.now)) root index }
+{
+    match entry_at(memory, mapping, root, usize::from(index)) {
+        Some(entry) => names_frame(entry, root),
+        None => false,
+    }
+}
+
+/// Tells whether an entry gives a frame as `frame`.
+fn names_frame(entry: &PageTableEntry, frame: PhysFrame<Size4KiB>) -> bool
+    ensures { result ≡ names_frame entry.now frame }
+{
+    entry.frame() == Ok(frame)
 }
 
 /// Gives the frame of the table that an entry above level one names: a used entry without `HUGE_PAGE`.

@@ -3,10 +3,10 @@ use Rattle.std.proofs.lemmas.Result.{IfOk-weaker}
 use Rattle.x86_64_model.specs.Memory.{words_of}
 use Rattle.x86_64_model.specs.Hierarchy.{paths_of}
 use Rattle.x86_64_model.specs.Pool.{Fits}
-use Rattle.x86_64_model.specs.Tables.{SoundTables}
 use Rattle.x86_64_model.specs.Marks.{serves_below}
 use Rattle.x86_64_model.proofs.Lemmas.Hierarchies.Memories.{mappings_show_frames}
 use Rattle.x86_64_model.proofs.Lemmas.Tables.Meant.{fits_means}
+use Rattle.x86_64_tables.specs.Images.{IsSound}
 use Rattle.x86_64_tables.proofs.phys_memory.validity.pool_fits.Goals as goal
 
 pub returns : goal.returns
@@ -18,6 +18,6 @@ returns g c =
     let frames = mappings_show_frames c.args.memory.now places (g.met.P.PageTableFrameMapping.is_mapping c.args.mapping.now) in
     let means = fits_means 3 None words root pool.limit pool.frames frames tt in
     IfOk-weaker c.is_sound.result
-    (λ b. IsTrue b ↔ SoundTables 3 words root (serves_below pool.limit) pool.frames)
+    (λ b. IsTrue b ↔ IsSound 3 words root None (serves_below pool.limit) pool.frames)
     (λ b. IsTrue b ↔ Fits 4 None words root (paths_of 4 words root) (serves_below pool.limit) pool.frames)
-    (λ b is. (λ t. means.0 (is.0 t), λ v. is.1 (means.1 v))) (rw c.limit.ensures at c.is_sound.ensures)
+    (λ b is. (λ t. means.0 (is.0 t).tables, λ v. is.1 (record { self = tt; tables = means.1 v }))) (rw c.limit.ensures at c.is_sound.ensures)

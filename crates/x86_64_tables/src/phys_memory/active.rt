@@ -1,0 +1,99 @@
+//! A memory whose tables are reached at virtual addresses alone.
+ghost use Rattle.std.specs.Prelude.{◌≡◌, ◌/◌, true};
+ghost use Rattle.std.specs.Borrow.{sem};
+ghost use Rattle.std.specs.Option.{option_copied, option_copied_mut};
+ghost use Rattle.x86_64_model.specs.Entry.{is_frame};
+ghost use Rattle.x86_64_tables.specs.ActiveMemory.{lent, memory_of, words_in, cr3_of, walked_frame, walked_table, LendsWalked, LendsFrame};
+ghost use Rattle.x86_64_tables.specs.SelfEntries.{has_self_entry};
+
+use super::validity::has_self_entry;
+use super::{FramePlace, IdentityMapping, PhysMemory, page_walk};
+use crate::page_table::PageTable;
+use x86_64_addr::addr::{PhysAddr, VirtAddr};
+use x86_64_addr::index::PageTableIndex;
+use x86_64_page::frame::PhysFrame;
+use x86_64_page::page::{PageSize, Size4KiB};
+
+/// Holds a memory that was lent to it, and the frame in the register CR3, from which the processor walks.
+///
+/// A table is reached at a virtual address alone: where the walk of the address arrives through the tables as they are
+/// at that moment. No call reaches one by its frame, and none gives the memory back, which ends with the words that it
+/// had last. Intel SDM vol. 3A, "Linear-Address Translation with 4-Level Paging and 5-Level Paging".
+#[derive(Drop)]
+pub struct ActiveMemory<'a> {
+    memory: &'a mut PhysMemory,
+    cr3: u64,
+}
+
+impl<'a> ActiveMemory<'a> {
+    /// Makes a memory active, with a frame in CR3. No word changes.
+    pub fn new(memory: &'a mut PhysMemory, cr3: PhysFrame<Size4KiB>) -> ActiveMemory<'a>
+        ensures lent { lent result ≡ memory.entry.ghost_name }
+        ensures memory { memory_of result ≡ memory.old }
+        ensures cr3 { cr3_of result ≡ cr3 }
+    {
+        let cr3 = cr3.start_address().as_u64();
+        ActiveMemory { memory, cr3 }
+    }
+
+    /// Gives the frame in CR3.
+    pub fn cr3(&self) -> PhysFrame<Size4KiB>
+        ensures { result ≡ cr3_of self.now }
+    {
+        PhysFrame::containing_address(PhysAddr::new_truncate(self.cr3))
+    }
+
+    /// Tells whether the table in CR3's frame is in the memory, and its word at an index gives that frame as
+    /// [`frame`](crate::page_table::PageTableEntry::frame): it has `PRESENT`, lacks `HUGE_PAGE` and names it.
+    pub fn self_entry(&self, index: PageTableIndex) -> bool
+        ensures { result ≡ has_self_entry (words_in self.now) (cr3_of self.now) index }
+    {
+        has_self_entry(self.memory, &IdentityMapping, self.cr3(), index)
+    }
+
+    /// Gives the table at an address, or `None` where the walk of the address from CR3 arrives nowhere, not at a
+    /// multiple of 4096, or at no table in the memory. It may arrive inside a huge page.
+    pub fn table(&self, addr: VirtAddr) -> Option<&PageTable>
+        ensures { option_copied result ≡ walked_table (words_in self.now) (cr3_of self.now) addr }
+    {
+        let frame = self.arrive(addr)?;
+        self.memory.table(place_of(frame))
+    }
+
+    /// Lends the table at an address to be changed, or gives `None` where [`table`](ActiveMemory::table) does. All
+    /// other tables stay. What is written may change where later walks arrive.
+    pub fn table_mut(&mut self, addr: VirtAddr) -> Option<&mut PageTable>
+        ensures* writes_back { sem 𝓛 (LendsWalked self.entry addr result) }
+        ensures value { option_copied_mut result ≡ walked_table (words_in self.old) (cr3_of self.old) addr }
+    {
+        match self.arrive(addr) {
+            Some(frame) => self.table_in(frame),
+            None => None,
+        }
+    }
+
+    /// Gives the frame that starts where the walk of an address arrives.
+    fn arrive(&self, addr: VirtAddr) -> Option<PhysFrame<Size4KiB>>
+        ensures { result ≡ walked_frame (words_in self.now) (cr3_of self.now) addr }
+    {
+        let walked = page_walk(self.memory, &IdentityMapping, self.cr3(), addr)?;
+        PhysFrame::from_start_address(walked.address).ok()
+    }
+
+    /// Lends the table in a frame.
+    fn table_in(&mut self, frame: PhysFrame<Size4KiB>) -> Option<&mut PageTable>
+        ensures* writes_back { sem 𝓛 (LendsFrame self.entry frame result) }
+        ensures value { option_copied_mut result ≡ words_in self.old frame }
+    {
+        let place = place_of(frame);
+        self.memory.table_mut(place)
+    }
+}
+
+/// Gives the place of a frame, which is that of its number.
+fn place_of(frame: PhysFrame<Size4KiB>) -> FramePlace
+    ensures place { result ≡ frame / 4096 }
+    ensures frame { is_frame frame ≡ true }
+{
+    FramePlace::new(frame.start_address().as_u64() / Size4KiB::SIZE)
+}
