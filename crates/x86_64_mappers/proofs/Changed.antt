@@ -5,14 +5,14 @@ use Rattle.std.proofs.lemmas.List.{set-get_or}
 use Rattle.std.specs.FinMap.{get, insert}
 use Rattle.x86_64_model.specs.Layout.{Layout, words}
 use Rattle.x86_64_model.proofs.Lemmas.Hierarchies.Held.{is_some-set}
-use Rattle.x86_64_model.proofs.Lemmas.Hierarchies.Memories.{outside_set, words_of-insert}
+use Rattle.x86_64_model.proofs.Lemmas.Hierarchies.Memories.{outside_set, words_of-insert, covered}
 use Rattle.x86_64_model.specs.Memory.{Memory, Places, Distinct, words_of, word, word_in, set_word}
 use Rattle.x86_64_model.specs.Window.{SelfEntry, outside_window}
 use Rattle.x86_64_tables.specs.PageTable.{zero_words, get_or-zero_words}
 use Rattle.x86_64_mappers.specs.Linked.{Beside}
 use Rattle.x86_64_mappers.specs.Writes.{IsSet, IsCleared}
 use Rattle.x86_64_mappers.proofs.Seen.{seen, self-set_word}
-use Rattle.x86_64_mappers.proofs.Stored.{words_of-put, get-put, put_back, covered, there_is}
+use Rattle.x86_64_mappers.proofs.Stored.{words_of-put, get-put, put_back, there_is}
 
 pub not_none : {X : Type 0} (o : Option X) (x : X) → o ≡ Some x → IsSome o
 not_none None x e = cc

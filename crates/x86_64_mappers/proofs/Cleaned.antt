@@ -18,7 +18,7 @@ use Rattle.x86_64_model.specs.Window.{Window, IsValidFor, begins_with}
 use Rattle.x86_64_mappers.proofs.Changed.{set_is, set_others, set_keeps}
 use Rattle.x86_64_mappers.specs.CleaningUp.{IsCleaned}
 use Rattle.x86_64_mappers.proofs.Seen.{seen, there_seen}
-use Rattle.x86_64_mappers.proofs.Stored.{covered}
+use Rattle.x86_64_model.proofs.Lemmas.Hierarchies.Memories.{covered}
 use Rattle.x86_64_mappers.specs.Writes.{IsSet}
 
 word_same : (T U : Words) (f i : ℕ) → U f ≡ T f → word U f i ≡ word T f i

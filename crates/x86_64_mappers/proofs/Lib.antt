@@ -36,5 +36,6 @@ pub mod TableFlagConditions
 pub mod TableFlagRules
 pub mod Translations
 pub mod Visited
+pub mod Windows
 pub mod Words
 pub mod Written

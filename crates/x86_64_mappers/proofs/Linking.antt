@@ -17,7 +17,8 @@ use Rattle.x86_64_mappers.specs.Linked.{Beside, IsClearedFirst, MayLink, NotOnWa
 use Rattle.x86_64_mappers.specs.Writes.{IsThere, IsSet, IsCleared, IsTaken, word_in_frame}
 use Rattle.x86_64_mappers.proofs.Changed.{not_none, set_is, set_keeps, self_set, cleared_other}
 use Rattle.x86_64_mappers.proofs.ReachedSteps.{leads_last}
-use Rattle.x86_64_mappers.proofs.Stored.{get-put, get-put_same, covered}
+use Rattle.x86_64_model.proofs.Lemmas.Hierarchies.Memories.{covered}
+use Rattle.x86_64_mappers.proofs.Stored.{get-put, get-put_same}
 
 -- ---- the two writes in either order
 

@@ -16,6 +16,7 @@ pub mod Reached
 pub mod Results
 pub mod Stops
 pub mod TableFlags
+pub mod Windows
 pub mod Writes
 pub use Rattle.x86_64_model.specs.Layout
 pub use Rattle.x86_64_model.specs.Memory

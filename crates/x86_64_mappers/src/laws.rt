@@ -5,6 +5,7 @@ ghost use Rattle.x86_64_model.specs.Memory.{identity_places, words_of};
 ghost use Rattle.x86_64_model.specs.Pool.{Fits};
 ghost use Rattle.x86_64_mappers.specs.Layouts.{direct};
 ghost use Rattle.x86_64_mappers.specs.Offsets.{offset_places, OffsetFits};
+ghost use Rattle.x86_64_mappers.specs.Windows.{WindowsShowTables};
 
 use x86_64_addr::addr::VirtAddr;
 use x86_64_tables::phys_memory::PhysMemory;
@@ -22,4 +23,11 @@ pub fn offset_has_the_tables_of_the_identity(memory: &PhysMemory, phys_offset: V
         (root : ℕ) (serves : ℕ → Bool) (pool : List ℕ) →
         Fits 4 None (words (identity root) memory.now) root (paths (identity root) memory.now) serves pool
         ↔ Fits 4 None (words (offset root) memory.now) root (paths (offset root) memory.now) serves pool }
+{}
+
+/// Where an entry of the root names the root itself, the walk of a window arrives at the table that it is for, whatever all
+/// other words hold.
+#[tactic(auto, using(crate::proofs::Windows::windows_show_tables))]
+pub fn windows_show_their_tables()
+    ensures { WindowsShowTables }
 {}

@@ -5,5 +5,6 @@ mod access;
 pub mod laws;
 pub mod mapped_page_table;
 pub mod offset_page_table;
+pub mod recursive_page_table;
 #[cfg(test)]
 mod tests;

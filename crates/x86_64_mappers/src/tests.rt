@@ -11,6 +11,7 @@ mod flags;
 mod map;
 mod offset;
 mod unmap;
+mod windows;
 
 use crate::mapped_page_table::MappedPageTable;
 use bitflags::Flags;

@@ -9,7 +9,7 @@ use Rattle.x86_64_mappers.specs.Linked.{IsClearedFirst}
 use Rattle.x86_64_mappers.proofs.Linking.{cleared_first, linked_reached}
 use Rattle.x86_64_mappers.specs.Reached.{IsReached}
 use Rattle.x86_64_mappers.specs.Linked.{Beside}
-use Rattle.x86_64_mappers.proofs.Stored.{covered}
+use Rattle.x86_64_model.proofs.Lemmas.Hierarchies.Memories.{covered}
 use Rattle.x86_64_mappers.specs.Writes.{IsSet}
 use Rattle.x86_64_mappers.proofs.EntryWrites.{parents_not_huge}
 use Rattle.x86_64_mappers.proofs.access.map.link_table.Goals as goal

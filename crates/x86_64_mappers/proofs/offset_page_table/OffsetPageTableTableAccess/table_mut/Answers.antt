@@ -2,7 +2,8 @@ use Rattle.std.proofs.Common.{refl, sym, ap, ◌∙◌, ◌≡◌}
 use Rattle.std.specs.FinMap.{get, insert}
 use Rattle.x86_64_mappers.specs.Lending.{root_stays}
 use Rattle.x86_64_mappers.specs.Offsets.{offset_places}
-use Rattle.x86_64_mappers.proofs.Stored.{covered, there_is}
+use Rattle.x86_64_model.proofs.Lemmas.Hierarchies.Memories.{covered}
+use Rattle.x86_64_mappers.proofs.Stored.{there_is}
 use Rattle.x86_64_mappers.proofs.RootTables.{alike}
 use Rattle.x86_64_mappers.proofs.offset_page_table.OffsetPageTableTableAccess.table_mut.Goals as goal
 

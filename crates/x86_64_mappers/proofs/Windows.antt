@@ -1,0 +1,89 @@
+-- Windows: their indices, and where their walks arrive.
+use Rattle.std.proofs.Common.{◌≡◌, ◌<◌, ◌+◌, ◌*◌, ◌%◌, ◌==◌, ◌&&◌, ℕ, Bool, true, false, not, cond, List, [], ◌∷◌, ◌++◌, replicate, Option, Some, None, IsSome, option_and_then, refl, sym, ap, ◌∙◌, arith, lit<, eqb-true, eq-eqb, ltb-true, nat_lt}
+use Rattle.std.proofs.lemmas.Option.{same_Some}
+use Rattle.x86_64_model.specs.Arrivals.{leads}
+use Rattle.x86_64_model.specs.Entry.{has, present, huge, address}
+use Rattle.x86_64_model.specs.Memory.{Words, word, word_in}
+use Rattle.x86_64_model.specs.PageWalk.{read}
+use Rattle.x86_64_model.specs.Path.{path_at}
+use Rattle.x86_64_model.specs.Position.{index, page_path, span}
+use Rattle.x86_64_model.specs.Window.{IsSelfEntry}
+use Rattle.x86_64_model.proofs.Lemmas.Entries.Words.{address_aligned}
+use Rattle.x86_64_model.proofs.Lemmas.Walks.Windows.{windows_reach}
+use Rattle.x86_64_tables.specs.ActiveMemory.{frame_at}
+use Rattle.x86_64_tables.specs.SelfEntries.{has_self_entry, window_at}
+use Rattle.x86_64_mappers.specs.Windows.{WindowsShowTables}
+
+-- ---- the root's entry for itself
+
+-- where the test answers true, it is there
+self_entry_found : (T : Words) (root r : ℕ) → has_self_entry T root r ≡ true → IsSelfEntry T root (window_at T root r)
+self_entry_found T root r found =
+    let w = word T root r in
+    let parts = by (present w) (huge w) (address w == root) found in
+    record { is_word = refl; is_present = parts.0; not_huge = parts.1; names_root = eqb-true (address w) root parts.2 }
+  where
+    by : (p h n : Bool) → (p && not h && n) ≡ true → (p ≡ true) × (h ≡ false) × (n ≡ true)
+    by true false true t = (refl, refl, refl)
+    by true false false t = absurd (let f : false ≡ true = t in cc)
+    by true true n t = absurd (let f : false ≡ true = t in cc)
+    by false h n t = absurd (let f : false ≡ true = t in cc)
+
+-- a word that is present is one of a table that is there
+present_there : (T : Words) (f i : ℕ) → present (word T f i) ≡ true → (i < 512) × IsSome (T f)
+unfolding word has
+present_there T f i = by (nat_lt i 512) (T f) refl
+  where
+    by : (b : Bool) (o : Option (List ℕ)) → nat_lt i 512 ≡ b → present (cond b (word_in o i) 0) ≡ true → (i < 512) × IsSome o
+    by true (Some words) small h = (ltb-true i 512 small, refl)
+    by true None small h = absurd (let t : false ≡ true = h in cc)
+    by false o small h = absurd (let t : false ≡ true = h in cc)
+
+-- ---- where walks arrive
+
+-- a frame that words lead to starts at a multiple of 4096, as the first one does
+leads_aligned : (T : Words) (q : List ℕ) (f g : ℕ) → f % 4096 ≡ 0 → leads T f q ≡ Some g → g % 4096 ≡ 0
+leads_aligned T [] f g aligned way = ap (λ f. f % 4096) (sym (same_Some f g way)) ∙ aligned
+leads_aligned T (i ∷ q) f g aligned way = by (λ e. leads_aligned T q (address e) g (address_aligned e)) (read T f i) way
+  where
+    Rest : Type 0
+    Rest = (e : ℕ) → leads T (address e) q ≡ Some g → g % 4096 ≡ 0
+
+    on : Rest → (e : ℕ) (b : Bool) → cond b (leads T (address e) q) None ≡ Some g → g % 4096 ≡ 0
+    on more e true w = more e w
+    on more e false w = absurd (let t : None ≡ Some g = w in cc)
+
+    by : Rest → (o : Option ℕ) → option_and_then (λ e. cond (present e && not (huge e)) (leads T (address e) q) None) o ≡ Some g → g % 4096 ≡ 0
+    by more None w = absurd (let t : None ≡ Some g = w in cc)
+    by more (Some e) w = on more e (present e && not (huge e)) w
+
+arrived : (to f : ℕ) → to ≡ f → f % 4096 ≡ 0 → cond (to % 4096 == 0) (Some to) None ≡ Some f
+arrived to f same aligned = ap (λ to. cond (to % 4096 == 0) (Some to) None) same ∙ ap (λ b. cond b (Some f) None) (eq-eqb (f % 4096) 0 aligned)
+
+pub windows_show_tables : WindowsShowTables
+windows_show_tables r times path p aligned is T root frame found way =
+    let self = self_entry_found T root r found in
+    let there = present_there T root r self.is_present in
+    let walk = windows_reach 4 (lit< tt) T root (window_at T root r) there.0 there.1 self times path frame way p is in
+    let root_aligned = ap (λ f. f % 4096) (sym self.names_root) ∙ address_aligned (word T root r) in
+    ap (option_and_then frame_at) walk.2
+    ∙ arrived (frame + p % span 1) frame (ap (λ o. frame + o) aligned ∙ omega arith) (leads_aligned T path root frame root_aligned way)
+
+-- ---- the three windows
+
+-- a page with four indices starts at a multiple of 4096
+pub page_aligned : (a b c d p : ℕ) → p ≡ a * span 4 + b * span 3 + c * span 2 + d * span 1 → p % 4096 ≡ 0
+page_aligned a b c d p start = omega (arith, start)
+
+module _ (r page p : ℕ) (four : index 4 p ≡ r) where
+  pub p3_path : index 3 p ≡ r → index 2 p ≡ r → index 1 p ≡ index 4 page → page_path 4 p ≡ replicate 3 r ++ path_at 4 4 page
+  unfolding page_path
+  p3_path three two one = λ i. four i ∷ three i ∷ two i ∷ one i ∷ []
+
+  pub p2_path : index 3 p ≡ r → index 2 p ≡ index 4 page → index 1 p ≡ index 3 page → page_path 4 p ≡ replicate 2 r ++ path_at 4 3 page
+  unfolding page_path
+  p2_path three two one = λ i. four i ∷ three i ∷ two i ∷ one i ∷ []
+
+  pub p1_path : index 3 p ≡ index 4 page → index 2 p ≡ index 3 page → index 1 p ≡ index 2 page → page_path 4 p ≡ replicate 1 r ++ path_at 4 2 page
+  unfolding page_path
+  p1_path three two one = λ i. four i ∷ three i ∷ two i ∷ one i ∷ []

@@ -1,0 +1,15 @@
+use Rattle.std.proofs.Common.{◌∙◌}
+use Rattle.x86_64_model.specs.Path.{path_at}
+use Rattle.x86_64_mappers.proofs.Windows.{page_aligned, p2_path, windows_show_tables}
+use Rattle.x86_64_mappers.proofs.recursive_page_table.windows.p2_window.Goals as goal
+
+pub returns-clause-path : goal.returns-clause-path
+returns-clause-path g c =
+    let made = c.from_page_table_indices.ensures in
+    p2_path c.args.index c.args.page c.from_page_table_indices.result made.level_four made.level_three (made.level_two ∙ c.p4_index.ensures) (made.level_one ∙ c.p3_index.ensures)
+
+pub returns-clause-table : goal.returns-clause-table
+returns-clause-table g c =
+    let page = c.from_page_table_indices.result in
+    let aligned = page_aligned c.args.index c.args.index c.p4_index.result c.p3_index.result page c.from_page_table_indices.ensures.start in
+    windows_show_tables c.args.index 2 (path_at 4 3 c.args.page) page aligned (returns-clause-path g c)
