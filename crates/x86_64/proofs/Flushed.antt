@@ -21,7 +21,7 @@ use Rattle.x86_64.specs.declared.calls.SizeCall.TheVariants as size_call
 use Rattle.x86_64.specs.declared.calls.SizeReply.{SizeReply}
 use Rattle.x86_64.specs.declared.calls.SizeReply.TheVariants as size_reply
 use Rattle.x86_64.specs.declared.calls.Call.{Call}
-use Rattle.x86_64.specs.declared.calls.Call.TheVariants.{Of4KiB, Of2MiB, Of1GiB, Translate, TranslateAddr}
+use Rattle.x86_64.specs.declared.calls.Call.TheVariants.{Of4KiB, Of2MiB, Of1GiB, Translate, TranslateAddr, CleanUp, CleanUpRange}
 use Rattle.x86_64.specs.declared.calls.Reply.{Reply}
 use Rattle.x86_64.specs.declared.calls.Reply.TheVariants as reply
 use Rattle.x86_64.specs.Calls.{size_call as size_call_of, call_of, calls_of}
@@ -112,6 +112,16 @@ items_are (TranslateAddr addr) (machine.Answered a) = refl
 items_are (TranslateAddr addr) (machine.Position t) = refl
 items_are (TranslateAddr addr) (machine.Address a) = refl
 items_are (TranslateAddr addr) machine.Cleaned = refl
+items_are CleanUp machine.NotAllowed = refl
+items_are CleanUp (machine.Answered a) = refl
+items_are CleanUp (machine.Position t) = refl
+items_are CleanUp (machine.Address a) = refl
+items_are CleanUp machine.Cleaned = refl
+items_are (CleanUpRange range) machine.NotAllowed = refl
+items_are (CleanUpRange range) (machine.Answered a) = refl
+items_are (CleanUpRange range) (machine.Position t) = refl
+items_are (CleanUpRange range) (machine.Address a) = refl
+items_are (CleanUpRange range) machine.Cleaned = refl
 
 -- ---- of a list
 
@@ -161,6 +171,8 @@ is_call (Of2MiB call) = size_is_call 2 (lit≤ tt) (lit≤ tt) call
 is_call (Of1GiB call) = size_is_call 3 (lit≤ tt) (lit≤ tt) call
 is_call (Translate addr) = tt
 is_call (TranslateAddr addr) = tt
+is_call CleanUp = tt
+is_call (CleanUpRange range) = tt
 
 are_calls : (calls : List Call) → AllCalls 4 (calls_of 4 calls)
 are_calls [] = tt

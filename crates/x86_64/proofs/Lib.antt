@@ -8,3 +8,4 @@ pub mod Telling
 pub mod Moved
 pub mod Offsets
 pub mod Beside
+pub mod CleanUpSteps

@@ -17,7 +17,7 @@ use Rattle.x86_64_tables.specs.declared.mapper.TranslateResult.TheVariants.{Mapp
 use Rattle.x86_64.specs.declared.calls.SizeCall.{SizeCall}
 use Rattle.x86_64.specs.declared.calls.SizeCall.TheVariants as size_call
 use Rattle.x86_64.specs.declared.calls.Call.{Call}
-use Rattle.x86_64.specs.declared.calls.Call.TheVariants.{Of4KiB, Of2MiB, Of1GiB, Translate, TranslateAddr}
+use Rattle.x86_64.specs.declared.calls.Call.TheVariants.{Of4KiB, Of2MiB, Of1GiB, Translate, TranslateAddr, CleanUp, CleanUpRange}
 use Rattle.x86_64.specs.declared.calls.SizeReply.{SizeReply}
 use Rattle.x86_64.specs.declared.calls.SizeReply.TheVariants.{Map, Unmap, Update, TableFlags, Frame}
 use Rattle.x86_64.specs.declared.calls.Reply.{Reply}
@@ -145,6 +145,7 @@ back (reply.Of2MiB answer) = size_back answer
 back (reply.Of1GiB answer) = size_back answer
 back (reply.Translate result) = machine.Position (result_back result)
 back (reply.Address address) = machine.Address address
+back reply.Cleaned = machine.Cleaned
 back reply.NotAllowed = machine.NotAllowed
 
 sized_back : {S : Type 0} (wrap : SizeReply S → Reply) → ((answer : SizeReply S) → back (wrap answer) ≡ size_back answer) → (r : machine.Reply) (found : Option (Option (SizeReply S)))
@@ -183,6 +184,16 @@ is_back (TranslateAddr addr) machine.NotAllowed x e = cc
 is_back (TranslateAddr addr) (machine.Answered a) x e = cc
 is_back (TranslateAddr addr) (machine.Position t) x e = cc
 is_back (TranslateAddr addr) machine.Cleaned x e = cc
+is_back CleanUp machine.Cleaned x e = ap back (same_Some _ _ e)
+is_back CleanUp machine.NotAllowed x e = cc
+is_back CleanUp (machine.Answered a) x e = cc
+is_back CleanUp (machine.Position t) x e = cc
+is_back CleanUp (machine.Address a) x e = cc
+is_back (CleanUpRange range) machine.Cleaned x e = ap back (same_Some _ _ e)
+is_back (CleanUpRange range) machine.NotAllowed x e = cc
+is_back (CleanUpRange range) (machine.Answered a) x e = cc
+is_back (CleanUpRange range) (machine.Position t) x e = cc
+is_back (CleanUpRange range) (machine.Address a) x e = cc
 
 pub replies_tell : RepliesTell
 replies_tell call r s x first second = is_back call r x first ∙ sym (is_back call s x second)

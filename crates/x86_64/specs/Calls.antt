@@ -1,5 +1,5 @@
 -- The calls of the machine that the calls of a list are, and which index of level four they name.
-use Rattle.std.specs.Prelude.{ℕ, ◌^◌, ◌==◌, ◌&&◌, nat_lt, Bool, cond, List, map, Option, Some, None}
+use Rattle.std.specs.Prelude.{ℕ, false, ◌+◌, ◌^◌, ◌==◌, ◌&&◌, nat_lt, Bool, cond, List, map, Option, Some, None}
 use Rattle.x86_64_model.specs.Position.{index}
 use Rattle.x86_64_model.specs.Path.{path_at}
 use Rattle.x86_64_model.specs.Call as machine
@@ -7,7 +7,7 @@ use Rattle.x86_64_tables.specs.PageTableFlags.{bits_of}
 use Rattle.x86_64.specs.declared.calls.SizeCall.{SizeCall}
 use Rattle.x86_64.specs.declared.calls.SizeCall.TheVariants.{MapTo, MapToWithTableFlags, IdentityMap, Unmap, UpdateFlags, SetFlagsP4, SetFlagsP3, SetFlagsP2, TranslatePage}
 use Rattle.x86_64.specs.declared.calls.Call.{Call}
-use Rattle.x86_64.specs.declared.calls.Call.TheVariants.{Of4KiB, Of2MiB, Of1GiB, Translate, TranslateAddr}
+use Rattle.x86_64.specs.declared.calls.Call.TheVariants.{Of4KiB, Of2MiB, Of1GiB, Translate, TranslateAddr, CleanUp, CleanUpRange}
 
 -- the call on a page that an entry of a level maps, where there are L levels
 abbrev pub size_call : {S : Type 0} → (L level : ℕ) → SizeCall S → machine.Call
@@ -27,6 +27,8 @@ call_of L (Of2MiB call) = size_call L 2 call
 call_of L (Of1GiB call) = size_call L 3 call
 call_of L (Translate addr) = machine.Translate addr
 call_of L (TranslateAddr addr) = machine.TranslateAddress addr
+call_of L CleanUp = machine.CleanUp 0 0xffff_ffff_ffff
+call_of L (CleanUpRange range) = machine.CleanUp range.start (range.end + 0xfff)
 
 abbrev pub calls_of : (L : ℕ) → List Call → List machine.Call
 calls_of L calls = map (call_of L) calls
@@ -48,10 +50,12 @@ size_names (SetFlagsP3 page flags) i = index 4 page == i
 size_names (SetFlagsP2 page flags) i = index 4 page == i
 size_names (TranslatePage page) i = index 4 page == i
 
--- whether the call's page or address has this index of level four
+-- whether the call's page or address has this index of level four, which a clean up has not
 abbrev pub names : Call → (i : ℕ) → Bool
 names (Of4KiB call) i = size_names call i
 names (Of2MiB call) i = size_names call i
 names (Of1GiB call) i = size_names call i
 names (Translate addr) i = index 4 addr == i
 names (TranslateAddr addr) i = index 4 addr == i
+names CleanUp i = false
+names (CleanUpRange range) i = false

@@ -50,6 +50,7 @@ items_of (reply.Of2MiB answer) = size_items 0x20_0000 answer
 items_of (reply.Of1GiB answer) = size_items 0x4000_0000 answer
 items_of (reply.Translate result) = []
 items_of (reply.Address address) = []
+items_of reply.Cleaned = []
 items_of reply.NotAllowed = []
 
 -- the items of calls that have these replies, one after another

@@ -19,7 +19,7 @@ use Rattle.x86_64_tables.specs.declared.mapper.TranslateResult.TheVariants.{Mapp
 use Rattle.x86_64.specs.declared.calls.SizeCall.{SizeCall}
 use Rattle.x86_64.specs.declared.calls.SizeCall.TheVariants as size_call
 use Rattle.x86_64.specs.declared.calls.Call.{Call}
-use Rattle.x86_64.specs.declared.calls.Call.TheVariants.{Of4KiB, Of2MiB, Of1GiB, Translate, TranslateAddr}
+use Rattle.x86_64.specs.declared.calls.Call.TheVariants.{Of4KiB, Of2MiB, Of1GiB, Translate, TranslateAddr, CleanUp, CleanUpRange}
 use Rattle.x86_64.specs.declared.calls.SizeReply.{SizeReply}
 use Rattle.x86_64.specs.declared.calls.SizeReply.TheVariants.{Map, Unmap, Update, TableFlags, Frame}
 use Rattle.x86_64.specs.declared.calls.Reply.{Reply}
@@ -97,6 +97,10 @@ reply_of (Translate addr) (machine.Position translated) = option_map reply.Trans
 reply_of (Translate addr) answer = None
 reply_of (TranslateAddr addr) (machine.Address address) = Some (reply.Address address)
 reply_of (TranslateAddr addr) answer = None
+reply_of CleanUp machine.Cleaned = Some reply.Cleaned
+reply_of CleanUp answer = None
+reply_of (CleanUpRange range) machine.Cleaned = Some reply.Cleaned
+reply_of (CleanUpRange range) answer = None
 
 -- ---- replies of calls that change nothing
 
@@ -118,4 +122,5 @@ changes_nothing (reply.Of2MiB answer) = size_changes_nothing answer
 changes_nothing (reply.Of1GiB answer) = size_changes_nothing answer
 changes_nothing (reply.Translate result) = true
 changes_nothing (reply.Address address) = true
+changes_nothing reply.Cleaned = false
 changes_nothing reply.NotAllowed = true

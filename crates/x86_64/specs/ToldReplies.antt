@@ -5,7 +5,7 @@ use Rattle.x86_64_model.specs.Refusal.{Done, Refused}
 use Rattle.x86_64.specs.declared.calls.SizeCall.{SizeCall}
 use Rattle.x86_64.specs.declared.calls.SizeCall.TheVariants.{MapTo, MapToWithTableFlags, IdentityMap, Unmap, UpdateFlags, SetFlagsP4, SetFlagsP3, SetFlagsP2, TranslatePage}
 use Rattle.x86_64.specs.declared.calls.Call.{Call}
-use Rattle.x86_64.specs.declared.calls.Call.TheVariants.{Of4KiB, Of2MiB, Of1GiB, Translate, TranslateAddr}
+use Rattle.x86_64.specs.declared.calls.Call.TheVariants.{Of4KiB, Of2MiB, Of1GiB, Translate, TranslateAddr, CleanUp, CleanUpRange}
 use Rattle.x86_64.specs.declared.calls.Reply.{Reply}
 use Rattle.x86_64.specs.Replies.{reply_of}
 
@@ -36,6 +36,8 @@ told (Of2MiB call) r = size_told call r
 told (Of1GiB call) r = size_told call r
 told (Translate addr) r = r
 told (TranslateAddr addr) r = r
+told CleanUp r = r
+told (CleanUpRange range) r = r
 
 -- two of the machine's replies to a call that are told by one reply are told alike
 abbrev pub RepliesTell : Type 0

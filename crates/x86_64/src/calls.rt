@@ -5,7 +5,7 @@ ghost use Rattle.x86_64.specs.Calls.{identity_page};
 use x86_64_addr::addr::{PhysAddr, VirtAddr};
 use x86_64_addr::index::PageTableIndex;
 use x86_64_page::frame::PhysFrame;
-use x86_64_page::page::{Page, PageSize, Size1GiB, Size2MiB, Size4KiB};
+use x86_64_page::page::{Page, PageRangeInclusive, PageSize, Size1GiB, Size2MiB, Size4KiB};
 use x86_64_tables::mapper::{
     FlagUpdateError, MapToError, TranslateError, TranslateResult, UnmapError,
 };
@@ -137,13 +137,18 @@ pub enum Call {
     /// Give the physical address that the address is mapped to, as
     /// [`translate_addr`](crate::structures::paging::Translate::translate_addr) does.
     TranslateAddr(VirtAddr),
+    /// Take away all empty tables, as [`clean_up`](crate::structures::paging::mapper::CleanUp::clean_up) does.
+    CleanUp,
+    /// Take away the empty tables of a range of pages, as
+    /// [`clean_up_addr_range`](crate::structures::paging::mapper::CleanUp::clean_up_addr_range) does.
+    CleanUpRange(PageRangeInclusive<Size4KiB>),
 }
 
 impl Call {
     ghost use Rattle.x86_64.specs.Calls.{names};
 
     /// Tells whether the call's page or address has this index of level four. An identity map's page has it where there is
-    /// one, so where the frame starts below 2^47.
+    /// one, so where the frame starts below 2^47. A clean up names no index, since it never goes through a recursive one.
     pub fn names(&self, index: PageTableIndex) -> bool
         ensures { result ≡ names self.now index }
     {
@@ -152,6 +157,7 @@ impl Call {
             Call::Of2MiB(call) => call.names(index),
             Call::Of1GiB(call) => call.names(index),
             Call::Translate(addr) | Call::TranslateAddr(addr) => addr.p4_index() == index,
+            Call::CleanUp | Call::CleanUpRange(_) => false,
         }
     }
 }
@@ -184,6 +190,8 @@ pub enum Reply {
     Translate(TranslateResult),
     /// The physical address that the address is mapped to, if it is.
     Address(Option<PhysAddr>),
+    /// The empty tables are gone, and their frames went back.
+    Cleaned,
     /// The condition of the call did not hold. Nothing changed.
     NotAllowed,
 }

@@ -15,10 +15,11 @@ pub use calls::{Call, Reply, SizeCall, SizeReply};
 pub use runs::{run, run_flushed};
 pub use x86_64_addr::addr;
 pub use x86_64_addr::addr::{PhysAddr, VirtAddr};
+pub use x86_64_mappers::recursive_page_table::{p1_window, p2_window, p3_window};
 pub use x86_64_page::range::Block;
 pub use x86_64_tables::frame_alloc::{FrameKeeper, FramePool, FrameStore, PoolRefusal};
 pub use x86_64_tables::mapper::{FlushItem, FlushRecorder, PageTables, Tables, parent_flags};
 pub use x86_64_tables::phys_memory::{
-    FramePlace, IdentityMapping, PhysMemory, ShiftMapping, Walked, is_valid_hierarchy, page_walk,
-    pool_fits,
+    ActiveMemory, FramePlace, IdentityMapping, PhysMemory, ShiftMapping, Walked,
+    is_valid_hierarchy, is_valid_recursive, page_walk, pool_fits, pool_fits_recursive,
 };

@@ -21,7 +21,7 @@ use std::alloc::AllocError;
 use tokens::{Ignored, Tokens, take, take_all, take_unmapped};
 use x86_64_page::page::{Page, PageSize, Size1GiB, Size2MiB, Size4KiB};
 use x86_64_tables::frame_alloc::FrameStore;
-use x86_64_tables::mapper::{Mapper, MapperAllSizes, Tables, Translate, parent_flags};
+use x86_64_tables::mapper::{CleanUp, Mapper, MapperAllSizes, Tables, Translate, parent_flags};
 use x86_64_tables::page_table::PageTableFlags;
 
 /// Answers calls in order, and appends a reply for each.
@@ -36,7 +36,7 @@ use x86_64_tables::page_table::PageTableFlags;
 /// # Errors
 ///
 /// `AllocError` where the room for the replies is refused; then nothing changes.
-pub fn run<M: MapperAllSizes + Translate, F: FrameStore>(
+pub fn run<M: MapperAllSizes + Translate + CleanUp, F: FrameStore>(
     mapper: &mut M,
     frames: &mut F,
     calls: &[Call],
@@ -60,7 +60,7 @@ pub fn run<M: MapperAllSizes + Translate, F: FrameStore>(
 }
 
 /// Answers calls in order, for which there is room.
-fn serve_all<M: MapperAllSizes + Translate, F: FrameStore, K: Tokens>(
+fn serve_all<M: MapperAllSizes + Translate + CleanUp, F: FrameStore, K: Tokens>(
     mapper: &mut M,
     frames: &mut F,
     calls: &[Call],
@@ -85,7 +85,7 @@ fn serve_all<M: MapperAllSizes + Translate, F: FrameStore, K: Tokens>(
 }
 
 /// Answers a call.
-fn serve<M: MapperAllSizes + Translate, F: FrameStore, K: Tokens>(
+fn serve<M: MapperAllSizes + Translate + CleanUp, F: FrameStore, K: Tokens>(
     mapper: &mut M,
     frames: &mut F,
     call: Call,
@@ -120,6 +120,14 @@ fn serve<M: MapperAllSizes + Translate, F: FrameStore, K: Tokens>(
         }
         Call::Translate(addr) => Reply::Translate(mapper.translate(addr)),
         Call::TranslateAddr(addr) => Reply::Address(mapper.translate_addr(addr)),
+        Call::CleanUp => {
+            mapper.clean_up(frames);
+            Reply::Cleaned
+        }
+        Call::CleanUpRange(range) => {
+            mapper.clean_up_addr_range(range, frames);
+            Reply::Cleaned
+        }
     }
 }
 

@@ -9,7 +9,7 @@ use super::serve_all;
 use crate::calls::{Call, Reply};
 use std::alloc::AllocError;
 use x86_64_tables::frame_alloc::FrameStore;
-use x86_64_tables::mapper::{FlushRecorder, MapperAllSizes, Tables, Translate};
+use x86_64_tables::mapper::{CleanUp, FlushRecorder, MapperAllSizes, Tables, Translate};
 
 /// Answers calls in order as [`run`](super::run) does, and flushes the token of each accepted call into a recorder, in order.
 ///
@@ -20,7 +20,7 @@ use x86_64_tables::mapper::{FlushRecorder, MapperAllSizes, Tables, Translate};
 /// # Errors
 ///
 /// `AllocError` where the room for the replies or for the items is refused; then nothing changes.
-pub fn run_flushed<M: MapperAllSizes + Translate, F: FrameStore>(
+pub fn run_flushed<M: MapperAllSizes + Translate + CleanUp, F: FrameStore>(
     mapper: &mut M,
     frames: &mut F,
     calls: &[Call],

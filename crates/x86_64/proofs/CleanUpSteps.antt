@@ -1,0 +1,39 @@
+-- What a clean up leaves is the machine's step.
+use Rattle.std.proofs.Common.{◌≡◌, ℕ, Bool, List, inr, sym, ap, ◌∙◌, subst}
+use Rattle.x86_64_model.specs.Call as machine
+use Rattle.x86_64_model.specs.Entry.{IsParentFlags}
+use Rattle.x86_64_model.specs.Machine.{AfterCall, do_call, step}
+use Rattle.x86_64_model.specs.MapperCalls.{IsReady}
+use Rattle.x86_64_model.specs.Owned.{Hierarchy, PoolFits, MayCleanUp, CleansUp, back}
+use Rattle.x86_64_model.specs.Pool.{IsGiving, given_back}
+use Rattle.x86_64_model.proofs.Lemmas.Machines.Fitting.{ready_of_fits, may_clean_up}
+use Rattle.x86_64.specs.Runs.{machine_of, state_of, Kept}
+use Rattle.x86_64.proofs.Keeping.{keeps_step}
+
+-- a hierarchy and the pool that fits it, which is what a frame store holds
+module _ {Lent : Type 0} (h : Hierarchy Lent) (serves : ℕ → Bool) (pool held : List ℕ) (same : pool ≡ held) (fits : PoolFits h serves pool) where
+  pub held_may_clean_up : MayCleanUp h serves held
+  held_may_clean_up = subst (MayCleanUp h serves) same (may_clean_up h serves pool fits)
+
+  module _ (put : List ℕ → ℕ → List ℕ) (low high : ℕ) (after : Hierarchy Lent) (rest left : List ℕ) (last : rest ≡ left) (cleans : CleansUp h put held low high after left) where
+    one : step (machine_of h.layout put) (state_of h.layout h.memory pool) (machine.CleanUp low high) ≡ record { state = state_of h.layout after.memory rest; reply = machine.Cleaned }
+    one = ap (λ fs. do_call (machine_of h.layout put) (state_of h.layout h.memory fs) (machine.CleanUp low high)) same ∙ cleans.outcome
+        ∙ ap (λ fs. record { state = state_of after.layout after.memory fs; reply = machine.Cleaned }) (sym last) ∙ ap (λ l. record { state = state_of l after.memory rest; reply = machine.Cleaned }) cleans.layout
+
+    -- the frames that are held then are those that were, with those that came back
+    all_back : left ≡ given_back put held (back h low high)
+    unfolding do_call
+    all_back = sym (ap (λ (x : AfterCall). x.state.pool) cleans.outcome)
+
+    pub kept_cleaned : IsParentFlags h.layout.added_flags → IsGiving put → Kept h serves pool after rest
+    kept_cleaned adds gives =
+        let ready : IsReady h.layout after.memory held_now = subst (λ l. IsReady l after.memory held_now) cleans.layout (cleans.fits put gives pool (ready_of_fits h.layout h.memory serves pool fits)) in
+        record {
+          keeps = keeps_step h.layout adds put gives serves h.memory pool fits (machine.CleanUp low high) tt after.memory rest (sym (ap (λ (x : AfterCall). x.state) one))
+              (subst (IsReady h.layout after.memory) (ap (λ fs. given_back put fs (back h low high)) same ∙ sym all_back ∙ sym last) ready) (λ k none. cleans.others k (λ f table. none f (inr table)));
+          layout = cleans.layout;
+          lent = cleans.lent;
+        }
+      where
+        held_now : List ℕ
+        held_now = given_back put pool (back h low high)
