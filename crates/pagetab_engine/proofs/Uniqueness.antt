@@ -16,7 +16,7 @@ name_among [] text = name.Word
 name_among (first ∷ names) text = cond (bytes_eq (name_text first) text) first (name_among names text)
 
 abbrev name_of : (text : List ℕ) → Name
-name_of = name_among (name.Word ∷ name.Free ∷ name.Translate ∷ name.Addr ∷ name.Walk ∷ name.Show ∷ name.Pool ∷ name.Map ∷ name.MapWith ∷ name.Identity ∷ name.Unmap ∷ name.Update ∷ name.P4 ∷ name.P3 ∷ name.P2 ∷ name.TranslatePage ∷ [])
+name_of = name_among (name.Word ∷ name.Free ∷ name.Translate ∷ name.Addr ∷ name.Walk ∷ name.Show ∷ name.Pool ∷ name.Map ∷ name.MapWith ∷ name.Identity ∷ name.Unmap ∷ name.Update ∷ name.P4 ∷ name.P3 ∷ name.P2 ∷ name.TranslatePage ∷ name.CleanUp ∷ name.CleanUpRange ∷ [])
 
 name_read : (name : Name) → name_of (name_text name) ≡ name
 name_read name.Word = refl

@@ -3,7 +3,7 @@ use Rattle.std.specs.Prelude.{◌≡◌, ◌==◌, ℕ, ⊤, Bool, true, false, 
 use Rattle.std.specs.List.{slice_split}
 use Rattle.pagetab_engine.specs.Number.{IsNumber, number_of}
 use Rattle.pagetab_engine.specs.declared.fields.Name.{Name}
-use Rattle.pagetab_engine.specs.declared.fields.Name.TheVariants.{Word, Free, Translate, Addr, Walk, Show, Pool, Map, MapWith, Identity, Unmap, Update, P4, P3, P2, TranslatePage}
+use Rattle.pagetab_engine.specs.declared.fields.Name.TheVariants.{Word, Free, Translate, Addr, Walk, Show, Pool, Map, MapWith, Identity, Unmap, Update, P4, P3, P2, TranslatePage, CleanUp, CleanUpRange}
 use Rattle.pagetab_engine.specs.declared.fields.Size.{Size}
 use Rattle.pagetab_engine.specs.declared.fields.Size.TheVariants.{Size4KiB, Size2MiB, Size1GiB}
 
@@ -35,6 +35,8 @@ name_text P4 = codes "p4"
 name_text P3 = codes "p3"
 name_text P2 = codes "p2"
 name_text TranslatePage = codes "translate-page"
+name_text CleanUp = codes "cleanup"
+name_text CleanUpRange = codes "cleanup-range"
 
 abbrev pub size_text : Size → List ℕ
 size_text Size4KiB = codes "4KiB"

@@ -1,11 +1,11 @@
--- How lines write calls on pages of a size: a name and numbers.
+-- How lines write calls: a name, a size where they are on a page of a size, and numbers.
 use Rattle.std.specs.Prelude.{ℕ, List, [], ◌∷◌, Option, Some, None}
 use Rattle.x86_64_addr.specs.Position.{raw}
 use Rattle.x86_64_tables.specs.PageTableFlags.{bits_of}
 use Rattle.x86_64.specs.declared.calls.SizeCall.{SizeCall}
 use Rattle.x86_64.specs.declared.calls.SizeCall.TheVariants as call
 use Rattle.x86_64.specs.declared.calls.Call.{Call}
-use Rattle.x86_64.specs.declared.calls.Call.TheVariants.{Of4KiB, Of2MiB, Of1GiB, Translate, TranslateAddr}
+use Rattle.x86_64.specs.declared.calls.Call.TheVariants.{Of4KiB, Of2MiB, Of1GiB, Translate, TranslateAddr, CleanUp, CleanUpRange}
 use Rattle.pagetab_engine.specs.Starts.{IsPageStart, IsFrameStart}
 use Rattle.pagetab_engine.specs.declared.fields.Name.{Name}
 use Rattle.pagetab_engine.specs.declared.fields.Name.TheVariants as name
@@ -61,6 +61,8 @@ call_name (Of2MiB call) = size_call_name call
 call_name (Of1GiB call) = size_call_name call
 call_name (Translate addr) = name.Translate
 call_name (TranslateAddr addr) = name.Addr
+call_name CleanUp = name.CleanUp
+call_name (CleanUpRange range) = name.CleanUpRange
 
 abbrev pub call_size : Call → Option Size
 call_size (Of4KiB call) = Some Size4KiB
@@ -68,6 +70,8 @@ call_size (Of2MiB call) = Some Size2MiB
 call_size (Of1GiB call) = Some Size1GiB
 call_size (Translate addr) = None
 call_size (TranslateAddr addr) = None
+call_size CleanUp = None
+call_size (CleanUpRange range) = None
 
 abbrev pub call_numbers : Call → List ℕ
 call_numbers (Of4KiB call) = size_call_numbers call
@@ -75,3 +79,5 @@ call_numbers (Of2MiB call) = size_call_numbers call
 call_numbers (Of1GiB call) = size_call_numbers call
 call_numbers (Translate addr) = raw 4 addr ∷ []
 call_numbers (TranslateAddr addr) = raw 4 addr ∷ []
+call_numbers CleanUp = []
+call_numbers (CleanUpRange range) = raw 4 range.start ∷ raw 4 range.end ∷ []

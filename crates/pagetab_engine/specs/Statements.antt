@@ -3,7 +3,7 @@ use Rattle.std.specs.Prelude.{◌<◌, ◌*◌, ℕ, ⊤, List, [], ◌∷◌, O
 use Rattle.x86_64_addr.specs.Position.{raw, IsCanonical}
 use Rattle.pagetab_engine.specs.Fields.{Says}
 use Rattle.pagetab_engine.specs.PageCalls.{IsPageCall, bytes_of, call_name, call_size, call_numbers}
-use Rattle.pagetab_engine.specs.Starts.{IsTableStart}
+use Rattle.pagetab_engine.specs.Starts.{IsPageStart, IsTableStart}
 use Rattle.pagetab_engine.specs.declared.fields.Name.{Name}
 use Rattle.pagetab_engine.specs.declared.fields.Name.TheVariants as name
 use Rattle.pagetab_engine.specs.declared.fields.Size.{Size}
@@ -21,6 +21,8 @@ IsPlain places name.Addr (addr ∷ []) = IsCanonical 4 addr
 IsPlain places name.Walk (addr ∷ []) = IsCanonical 4 addr
 IsPlain places name.Show (frame ∷ index ∷ []) = IsTableStart places frame × (index < 512)
 IsPlain places name.Pool [] = ⊤
+IsPlain places name.CleanUp [] = ⊤
+IsPlain places name.CleanUpRange (first ∷ last ∷ []) = IsPageStart 4096 first × IsPageStart 4096 last
 IsPlain places other numbers = ⊥
 
 -- whether these fields are a statement

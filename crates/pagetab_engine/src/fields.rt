@@ -42,6 +42,10 @@ pub enum Name {
     P2,
     /// `translate-page`.
     TranslatePage,
+    /// `cleanup`.
+    CleanUp,
+    /// `cleanup-range`.
+    CleanUpRange,
 }
 
 impl Name {
@@ -67,6 +71,8 @@ impl Name {
             b"p3" => Name::P3,
             b"p2" => Name::P2,
             b"translate-page" => Name::TranslatePage,
+            b"cleanup" => Name::CleanUp,
+            b"cleanup-range" => Name::CleanUpRange,
             _ => return None,
         })
     }

@@ -17,7 +17,7 @@ use crate::arguments::{Arguments, Mode};
 use crate::slot::Slot;
 use crate::statement::ImageLine;
 use std::alloc::{AllocError, Global};
-use x86_64::structures::paging::mapper::{MapperAllSizes, Tables};
+use x86_64::structures::paging::mapper::{CleanUp, MapperAllSizes, Tables};
 use x86_64::structures::paging::{
     MappedPageTable, OffsetPageTable, PhysFrame, Size4KiB, Translate,
 };
@@ -167,7 +167,7 @@ fn root() -> PhysFrame<Size4KiB>
 /// # Errors
 ///
 /// `AllocError` where memory is refused; then nothing changes.
-fn answer_by<M: MapperAllSizes + Translate>(
+fn answer_by<M: MapperAllSizes + Translate + CleanUp>(
     alloc: Global,
     mapper: &mut M,
     pool: &mut FramePool,

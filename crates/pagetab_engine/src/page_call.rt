@@ -71,6 +71,8 @@ fn parse_size_call<S: PageSize>(name: Name, numbers: &[u64]) -> Option<SizeCall<
         (Name::TranslatePage, [page]) => Some(SizeCall::TranslatePage {
             page: page_at(*page)?,
         }),
+        (Name::Word | Name::Free | Name::Translate | Name::Addr | Name::Walk, _)
+        | (Name::Show | Name::Pool | Name::CleanUp | Name::CleanUpRange, _) => None,
         _ => None,
     }
 }
@@ -78,7 +80,7 @@ fn parse_size_call<S: PageSize>(name: Name, numbers: &[u64]) -> Option<SizeCall<
 /// Gives the page that starts at an address.
 ///
 /// Answers `None` exactly where the address isn't canonical or isn't a multiple of the size.
-fn page_at<S: PageSize>(start: u64) -> Option<Page<S>>
+pub fn page_at<S: PageSize>(start: u64) -> Option<Page<S>>
     ensures fits { IsSome result ↔ IsPageStart S.SIZE start }
     ensures start { IfSome result (λ page. raw 4 page ≡ start) }
 {

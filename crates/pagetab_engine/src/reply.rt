@@ -59,6 +59,7 @@ fn write_answer<W: Write>(f: &mut Formatter<W>, answer: &CallReply) -> FmtResult
         CallReply::Translate(translation) => write_translation(f, translation),
         CallReply::Address(Some(address)) => write_address(f, *address),
         CallReply::Address(None) => f.write_str("none"),
+        CallReply::Cleaned => f.write_str("ok"),
         CallReply::NotAllowed => f.write_str("not allowed"),
     }
 }

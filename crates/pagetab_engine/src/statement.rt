@@ -4,15 +4,16 @@ ghost use Rattle.pagetab_engine.specs.Fields.{Says};
 ghost use Rattle.pagetab_engine.specs.Statements.{IsPlain, IsStatement, IsAccepted, SaysStatement, statement_name, statement_size, statement_numbers};
 
 use crate::fields::{Fields, Name, Size};
-use crate::page_call::parse_call;
+use crate::page_call::{page_at, parse_call};
 use crate::slot::{Slot, frame_at, slot_at};
-use x86_64::structures::paging::{PhysFrame, Size4KiB};
+use x86_64::structures::paging::{Page, PhysFrame, Size4KiB};
 use x86_64::{Call, VirtAddr};
 
 /// Asks something of the hierarchy.
 #[derive(Clone, Copy, Debug, PartialEq)]
 pub enum Command {
-    /// `translate ADDR`, `addr ADDR`, or a command on a page of a size: a call of the mapper.
+    /// `translate ADDR`, `addr ADDR`, `cleanup`, `cleanup-range FIRST LAST`, or a command on a page of a size: a call of the
+    /// mapper.
     Call(Call),
     /// `walk ADDR`: where the processor arrives.
     Walk(VirtAddr),
@@ -96,6 +97,11 @@ impl Statement {
             (Name::Addr, [addr]) => {
                 let addr = VirtAddr::try_new(*addr).ok()?;
                 Some(Statement::Command(Command::Call(Call::TranslateAddr(addr))))
+            }
+            (Name::CleanUp, []) => Some(Statement::Command(Command::Call(Call::CleanUp))),
+            (Name::CleanUpRange, [first, last]) => {
+                let range = Page::range_inclusive(page_at(*first)?, page_at(*last)?);
+                Some(Statement::Command(Command::Call(Call::CleanUpRange(range))))
             }
             (Name::Walk, [addr]) => {
                 let addr = VirtAddr::try_new(*addr).ok()?;
