@@ -1,4 +1,5 @@
-//! Measures maps, translations and unmaps of 4KiB or 2MiB pages by the mapper that finds tables by their frames.
+//! Measures maps, translations and unmaps of 4KiB or 2MiB pages, and the clean up of the tables that the unmaps left, by the
+//! mapper that finds tables by their frames.
 //!
 //! Without arguments it does a small fixed run, and prints how often each operation was done. With `M contiguous` or
 //! `M scattered`, and a size of pages that is 4KiB where none is given, it does M pages in seven rounds, and prints the time of
@@ -82,6 +83,7 @@ fn run_rounds<S: PageSize>(rt: &HostRuntime, workload: Workload) -> io::Result<E
     let mut maps = Vec::with_capacity(rt.alloc(), ROUNDS)?;
     let mut translations = Vec::with_capacity(rt.alloc(), ROUNDS)?;
     let mut unmaps = Vec::with_capacity(rt.alloc(), ROUNDS)?;
+    let mut clean_ups = Vec::with_capacity(rt.alloc(), ROUNDS)?;
     for _ in 0..ROUNDS {
         let Some(round) = measure::<S>(rt.alloc(), rt, workload)? else {
             return Ok(ExitCode::from(2));
@@ -89,9 +91,11 @@ fn run_rounds<S: PageSize>(rt: &HostRuntime, workload: Workload) -> io::Result<E
         maps.push(round.map)?;
         translations.push(round.translate)?;
         unmaps.push(round.unmap)?;
+        clean_ups.push(round.clean_up)?;
     }
     report_times(rt.alloc(), rt, "map", maps.as_slice())?;
     report_times(rt.alloc(), rt, "translate", translations.as_slice())?;
     report_times(rt.alloc(), rt, "unmap", unmaps.as_slice())?;
+    report_times(rt.alloc(), rt, "clean up", clean_ups.as_slice())?;
     Ok(ExitCode::from(0))
 }

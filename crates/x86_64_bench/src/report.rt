@@ -10,11 +10,13 @@ pub fn report_counts(out: &impl Print, size: &str, round: &Round) -> io::Result<
         map,
         translate,
         unmap,
+        clean_up,
         tables,
     } = round;
     println!(out; "{size} map {}", map.count)?;
     println!(out; "{size} translate {}", translate.count)?;
     println!(out; "{size} unmap {}", unmap.count)?;
+    println!(out; "{size} clean up {}", clean_up.count)?;
     println!(out; "{size} tables {tables}")
 }
 

@@ -1,4 +1,4 @@
-//! One round: a new hierarchy in which all pages are mapped, translated and unmapped.
+//! One round: a new hierarchy in which all pages are mapped, translated and unmapped, and which is cleaned up.
 ghost use Rattle.std.specs.Prelude.{◌≡◌, None};
 ghost use Rattle.x86_64_model.specs.Owned.{Valid, SupplyFits};
 
@@ -7,7 +7,7 @@ use bitflags::Flags;
 use std::alloc::{AllocError, Global};
 use std::io;
 use std::time::{Clock, Duration, Instant};
-use x86_64::structures::paging::mapper::{MappedPageTable, Mapper, Translate};
+use x86_64::structures::paging::mapper::{CleanUp, MappedPageTable, Mapper, Translate};
 use x86_64::structures::paging::{FrameAllocator, PageSize, PageTableFlags, PhysFrame, Size4KiB};
 use x86_64::{FramePool, IdentityMapping, PhysAddr, PhysMemory, pool_fits};
 
@@ -103,18 +103,20 @@ pub struct Round {
     pub translate: Part,
     /// The unmaps of all pages.
     pub unmap: Part,
+    /// The clean up of the tables that the unmaps left, counted by the frames that came back.
+    pub clean_up: Part,
     /// How many frames the new tables took.
     pub tables: usize,
 }
 
-/// Maps, translates and unmaps all pages of a workload, which are of a size, in a new hierarchy. Gives `None` where that is no
-/// valid one.
+/// Maps, translates and unmaps all pages of a workload, which are of a size, in a new hierarchy, and cleans it up. Gives `None`
+/// where it is no valid one.
 pub fn measure<S: PageSize>(
     alloc: Global,
     clock: &impl Clock,
     workload: Workload,
 ) -> io::Result<Option<Round>> {
-    let root = frame_numbered(1);
+    let root = root();
     let mut memory = PhysMemory::new(alloc, workload.places())?;
     let mut pool = new_pool(alloc, workload.places())?;
     if !pool_fits(alloc, &memory, &IdentityMapping, root, &pool)? {
@@ -142,12 +144,40 @@ pub fn measure<S: PageSize>(
         count,
         time: start.elapsed(clock)?,
     };
-    Ok(Some(Round {
+    drop(mapper);
+    let clean_up = measure_clean_up(alloc, clock, &mut memory, &mut pool)?;
+    Ok(clean_up.map(|clean_up| Round {
         map,
         translate,
         unmap,
+        clean_up,
         tables,
     }))
+}
+
+/// Cleans up the hierarchy in a memory. Gives `None` where it is no valid one.
+fn measure_clean_up(
+    alloc: Global,
+    clock: &impl Clock,
+    memory: &mut PhysMemory,
+    pool: &mut FramePool,
+) -> io::Result<Option<Part>> {
+    let root = root();
+    if !pool_fits(alloc, memory, &IdentityMapping, root, pool)? {
+        return Ok(None);
+    }
+    let free = pool.len();
+    let mut mapper = MappedPageTable::new(memory, root, IdentityMapping);
+    let start = Instant::now(clock)?;
+    mapper.clean_up(pool);
+    let time = start.elapsed(clock)?;
+    let count = pool.len().saturating_sub(free) as u64;
+    Ok(Some(Part { count, time }))
+}
+
+/// Gives the root's frame.
+fn root() -> PhysFrame<Size4KiB> {
+    frame_numbered(1)
 }
 
 /// Gives the 4KiB frame with a number modulo 2^40.
