@@ -1,9 +1,10 @@
 //! Lists of calls that a fixed rule makes, answered by `run` and by the plain slow program side by side.
 //!
 //! After each list these are compared: each reply of `run` with the plain program's; every word of the root
-//! and of each table with the plain state's entry at its path; the free frames, in order; and the words of
-//! these and of the frames that are neither tables nor free, with what they were. At the end each outcome
-//! that a call of a kind and a size can have was met, and no other.
+//! and of each table with the plain state's entry at its path; the free frames, in order; the words of these,
+//! which are 0 where a clean up gave the frame back, and else what they were; and the words of the frames that
+//! are neither tables nor free, with what they were. At the end each outcome that a call of a kind and a size
+//! can have was met, and no other.
 mod chooser;
 mod outcomes;
 
@@ -77,7 +78,10 @@ struct Twins {
     memory: PhysMemory,
     pool: FramePool,
     plain: PlainState,
-    /// The frames whose words are 0 and stay so.
+    /// How many of the free frames, the last ones, were never handed out. Their words are full of ones; those of
+    /// the others, which clean ups gave back, are 0.
+    untouched: usize,
+    /// The frames that are neither tables nor free and whose words are 0.
     empty: Vec<u64>,
 }
 
@@ -92,6 +96,7 @@ impl Twins {
             memory,
             pool,
             plain: plain_state(alloc, paths, free)?,
+            untouched: free.len(),
             empty: empty_frames(alloc, others)?,
         })
     }
@@ -138,7 +143,15 @@ impl Twins {
         compare_pool(rt, &self.pool, &self.plain.pool, "of the plain state");
         self.compare_frames(rt, &self.empty, 0)?;
         self.compare_frames(rt, &[STRANGER], u64::MAX)?;
-        self.compare_frames(rt, &self.plain.pool, u64::MAX)
+        self.compare_free_frames(rt)
+    }
+
+    /// Compares the words of the free frames.
+    fn compare_free_frames(&self, rt: &impl Abort) -> Result<(), Fail> {
+        let free = &self.plain.pool;
+        let (returned, untouched) = free.split_at(free.len().saturating_sub(self.untouched));
+        self.compare_frames(rt, returned, 0)?;
+        self.compare_frames(rt, untouched, u64::MAX)
     }
 
     /// Compares each word of frames with one.
@@ -159,9 +172,12 @@ impl Twins {
         met: &mut Vec<Met>,
     ) -> Result<Wanted, Fail> {
         let choice = chooser.choice(alloc)?;
+        let free = self.plain.pool.len();
         let reply = MACHINE.step(&mut self.plain, &choice.plain)?;
+        let gave_back = free < self.plain.pool.len();
+        self.untouched = self.untouched.min(self.plain.pool.len());
         let wanted = wanted_of(choice.turn, reply).ok_or("a reply that fits no such call")?;
-        let (level, outcome) = outcome_of(wanted.reply);
+        let (level, outcome) = outcome_of(wanted.reply, gave_back);
         met.push(Met {
             action: choice.action,
             level: level.max(choice.level),

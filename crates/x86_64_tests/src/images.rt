@@ -1,5 +1,4 @@
 //! Memories and pools that tests begin with, runs on them, and what they hold then.
-ghost use Rattle.std.specs.Prelude.{OnOk};
 ghost use Rattle.x86_64_model.specs.Marks.{serves_below};
 ghost use Rattle.x86_64_model.specs.Memory.{identity_places};
 ghost use Rattle.x86_64_mappers.specs.Layouts.{direct};
@@ -8,7 +7,6 @@ ghost use Rattle.x86_64.specs.Runs.{FitsPool};
 
 use bitflags::Flags;
 use std::alloc::{AllocError, Global};
-use std::process::Abort;
 use std::test::Fail;
 use x86_64::structures::paging::mapper::PageTableFrameMapping;
 use x86_64::structures::paging::{
@@ -17,7 +15,7 @@ use x86_64::structures::paging::{
 };
 use x86_64::{
     Call, FlushRecorder, FramePlace, FramePool, IdentityMapping, PhysAddr, PhysMemory, Reply,
-    VirtAddr, pool_fits, run, run_flushed,
+    VirtAddr, run, run_flushed,
 };
 use x86_64_mappers::laws::offset_has_the_tables_of_the_identity;
 
@@ -81,22 +79,6 @@ pub fn pool_of(alloc: Global, limit: u64, frames: &[u64]) -> Result<FramePool, F
             .or(Err("the pool refuses a frame"))?;
     }
     Ok(pool)
-}
-
-/// Asserts that a hierarchy is valid and a pool fits it.
-pub fn assert_fits<P: PageTableFrameMapping>(
-    rt: &impl Abort,
-    alloc: Global,
-    memory: &PhysMemory,
-    mapping: &P,
-    root: PhysFrame<Size4KiB>,
-    pool: &FramePool,
-) -> Result<(), AllocError>
-    ensures { let layout = direct (P.places mapping.now) root in
-        OnOk result (FitsPool layout memory.now (serves_below pool.now.limit) pool.now.frames) }
-{
-    assert!(rt; pool_fits(alloc, memory, mapping, root, pool)?);
-    Ok(())
 }
 
 /// Answers calls by a mapper over a frame mapping. The mapper is dropped then, and the owner of the memory

@@ -1,5 +1,6 @@
 //! Runs of the program `pagetab`, over readers and writers in memory: its rows, line by line.
 mod bad_lines;
+mod clean_ups;
 mod endings;
 mod flags;
 mod maps;

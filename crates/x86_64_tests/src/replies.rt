@@ -149,6 +149,7 @@ fn reply_to(turn: Turn, plain: PlainReply) -> Option<Reply> {
         (PlainReply::Address(address), Turn::TranslateAddr(_)) => {
             Some(Reply::Address(address.map(PhysAddr::new_truncate)))
         }
+        (PlainReply::Cleaned, Turn::CleanUp | Turn::CleanUpRange(..)) => Some(Reply::Cleaned),
         _ => None,
     }
 }

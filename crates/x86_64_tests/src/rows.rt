@@ -1,6 +1,13 @@
 //! Calls on an empty root, as tables: the replies, and every word and free frame that they leave.
+ghost use Rattle.std.specs.Prelude.{OnOk};
+ghost use Rattle.x86_64_model.specs.Marks.{serves_below};
+ghost use Rattle.x86_64_mappers.specs.Layouts.{direct};
+ghost use Rattle.x86_64.specs.Runs.{FitsPool};
+
+mod clean_ups;
 mod flags;
 mod flushes;
+mod hierarchies;
 mod layers;
 mod mappings;
 mod maps;
@@ -10,18 +17,18 @@ mod tokens;
 mod walks;
 
 use crate::images::{
-    ROOT, WORD_COUNT, assert_fits, fill, frame_at, pool_of, run_at_offset, run_on, run_over,
-    word_at,
+    ROOT, WORD_COUNT, fill, frame_at, pool_of, run_at_offset, run_on, run_over, word_at,
 };
 use crate::replies::wanted_of;
 use crate::turns::PageTurn::MapTo;
 use crate::turns::Turn;
 use crate::turns::Turn::{Large, Small};
-use std::alloc::Global;
+use std::alloc::{AllocError, Global};
 use std::process::Abort;
 use std::test::Fail;
 use walks::{Walk, compare_walks};
-use x86_64::structures::paging::{MappedPageTable, OffsetPageTable};
+use x86_64::structures::paging::mapper::PageTableFrameMapping;
+use x86_64::structures::paging::{MappedPageTable, OffsetPageTable, PhysFrame, Size4KiB};
 use x86_64::{Call, FramePool, IdentityMapping, PhysMemory, Reply, VirtAddr, pool_fits};
 use x86_64_plain::{Answer, PlainReply};
 
@@ -182,6 +189,22 @@ fn begin(alloc: Global, free: &[u64]) -> Result<(PhysMemory, FramePool), Fail> {
     begin_in(alloc, u64::from(PLACES), free)
 }
 
+/// Asserts that a hierarchy is valid and a pool fits it.
+fn assert_fits<P: PageTableFrameMapping>(
+    rt: &impl Abort,
+    alloc: Global,
+    memory: &PhysMemory,
+    mapping: &P,
+    root: PhysFrame<Size4KiB>,
+    pool: &FramePool,
+) -> Result<(), AllocError>
+    ensures { let layout = direct (P.places mapping.now) root in
+        OnOk result (FitsPool layout memory.now (serves_below pool.now.limit) pool.now.frames) }
+{
+    assert!(rt; pool_fits(alloc, memory, mapping, root, pool)?);
+    Ok(())
+}
+
 /// Adds the calls of a row to a list, and the replies that it wants to another one.
 fn add_exchanges(
     row: &Row<'_>,
@@ -241,6 +264,27 @@ pub fn answer(
             run_at_offset(memory, root, offset, pool, calls, replies)?;
         }
     }
+    Ok(())
+}
+
+/// Answers a row's calls by the mapper of a root over a frame mapping, where the image and the pool fit, and
+/// compares the replies.
+fn answer_over<P: PageTableFrameMapping + Drop>(
+    rt: &impl Abort,
+    alloc: Global,
+    row: &Row<'_>,
+    (root, mapping): (u64, P),
+    (memory, pool): (&mut PhysMemory, &mut FramePool),
+    title: &str,
+) -> Result<(), Fail> {
+    let mut calls = Vec::new(alloc);
+    let mut wanted = Vec::new(alloc);
+    add_exchanges(row, &mut calls, &mut wanted)?;
+    let mut replies = Vec::new(alloc);
+    let root = frame_at(root);
+    assert_fits(rt, alloc, memory, &mapping, root, pool)?;
+    run_over(memory, root, mapping, pool, &calls, &mut replies)?;
+    assert_eq!(rt; replies, wanted, "{title}");
     Ok(())
 }
 

@@ -1,6 +1,6 @@
 //! Calls in numbers, so that tables of them are constants.
 use crate::images::{flags_of, frame_at, page_at};
-use x86_64::structures::paging::PageSize;
+use x86_64::structures::paging::{Page, PageSize};
 use x86_64::{Call, SizeCall, VirtAddr};
 
 /// A call on a page: the page or the frame, then the frame where a page comes first, the flags and the parent
@@ -18,7 +18,8 @@ pub enum PageTurn {
     TranslatePage(u64),
 }
 
-/// A call, on a page of 4KiB, 2MiB or 1GiB or on an address.
+/// A call: on a page of 4KiB, 2MiB or 1GiB, on an address, or a clean up, of all pages or from a first page to a
+/// last one.
 #[derive(Clone, Copy)]
 pub enum Turn {
     Small(PageTurn),
@@ -26,6 +27,8 @@ pub enum Turn {
     Giant(PageTurn),
     Translate(u64),
     TranslateAddr(u64),
+    CleanUp,
+    CleanUpRange(u64, u64),
 }
 
 /// Makes the call for `run`.
@@ -36,6 +39,10 @@ pub fn call_of(turn: Turn) -> Call {
         Turn::Giant(turn) => Call::Of1GiB(size_call(turn)),
         Turn::Translate(addr) => Call::Translate(VirtAddr::new_truncate(addr)),
         Turn::TranslateAddr(addr) => Call::TranslateAddr(VirtAddr::new_truncate(addr)),
+        Turn::CleanUp => Call::CleanUp,
+        Turn::CleanUpRange(first, last) => {
+            Call::CleanUpRange(Page::range_inclusive(page_at(first), page_at(last)))
+        }
     }
 }
 

@@ -7,6 +7,7 @@ use crate::turns::{PageTurn, Turn};
 use std::alloc::{AllocError, Global};
 use x86_64::structures::paging::{PageSize, PhysFrame, Size1GiB, Size2MiB, Size4KiB};
 use x86_64_plain::PlainCall;
+use x86_64_plain::positions::page_path;
 
 /// The indices that calls choose from, level four first.
 const INDICES: [&[u64]; 4] = [
@@ -44,6 +45,17 @@ const FLAGS: [u64; 12] = [
     0x8000_0000_0000_0001,
 ];
 
+/// What a third of the calls choose from, so that tables become empty and go back.
+const EMPTYING: [Action; 4] = [
+    Action::OnPage(PageAction::Unmap),
+    Action::OnPage(PageAction::Unmap),
+    Action::OnPage(PageAction::Unmap),
+    Action::CleanUpRange,
+];
+
+/// The last position.
+const LAST: u64 = 0xffff_ffff_ffff;
+
 /// A call, for `run` and for the plain program.
 #[derive(Drop)]
 pub struct Choice {
@@ -51,9 +63,9 @@ pub struct Choice {
     pub action: Action,
     /// The level of the page's entry, 0 for a call on no page.
     pub level: u64,
-    /// The call for `run`, which has the page as its position.
+    /// The call for `run`, which has pages as their positions.
     pub turn: Turn,
-    /// The call for the plain program, which has the page as its indices.
+    /// The call for the plain program, which has a page as its indices.
     pub plain: PlainCall,
 }
 
@@ -90,29 +102,41 @@ impl Chooser {
         items[(self.state >> 33) as usize % items.len()]
     }
 
-    /// Chooses indices, level four first, and what else a call needs.
-    fn subject(&mut self, alloc: Global) -> Result<Subject, AllocError> {
-        let mut path = Vec::new(alloc);
+    /// Chooses indices, level four first, and gives the position of the page that has them.
+    fn position(&mut self) -> u64 {
         let mut position = 0;
         for indices in INDICES {
-            let index = self.choose(indices);
-            path.push(index)?;
-            position = position << 9 | index;
+            position = position << 9 | self.choose(indices);
         }
+        position << 12
+    }
+
+    /// Chooses a page, and what else a call needs.
+    fn subject(&mut self, alloc: Global) -> Result<Subject, AllocError> {
+        let position = self.position();
         Ok(Subject {
-            position: position << 12,
-            path,
+            position,
+            path: page_path(alloc, 4, position)?,
             frame: self.choose(&FRAMES),
             flags: self.choose(&FLAGS),
             parent_flags: self.choose(&FLAGS),
         })
     }
 
+    /// Chooses what a call does.
+    fn action(&mut self) -> Action {
+        if self.choose(&[true, false, false]) {
+            self.choose(&EMPTYING)
+        } else {
+            self.choose(&ACTIONS)
+        }
+    }
+
     /// Chooses a call.
     pub fn choice(&mut self, alloc: Global) -> Result<Choice, AllocError> {
         let subject = self.subject(alloc)?;
         let position = subject.position;
-        let action = self.choose(&ACTIONS);
+        let action = self.action();
         Ok(match action {
             Action::OnPage(action) => self.page_choice(action, subject),
             Action::Translate => Choice {
@@ -127,7 +151,28 @@ impl Chooser {
                 turn: Turn::TranslateAddr(position),
                 plain: PlainCall::TranslateAddress { position },
             },
+            Action::CleanUp => Choice {
+                action,
+                level: 0,
+                turn: Turn::CleanUp,
+                plain: PlainCall::CleanUp { low: 0, high: LAST },
+            },
+            Action::CleanUpRange => self.clean_up_from(position),
         })
+    }
+
+    /// Chooses the last page of a clean up, which may lie below the first one.
+    fn clean_up_from(&mut self, first: u64) -> Choice {
+        let last = self.position();
+        Choice {
+            action: Action::CleanUpRange,
+            level: 0,
+            turn: Turn::CleanUpRange(first, last),
+            plain: PlainCall::CleanUp {
+                low: first,
+                high: last | 0xfff,
+            },
+        }
     }
 
     /// Chooses the size of a call on a page.

@@ -25,10 +25,12 @@ pub enum Action {
     OnPage(PageAction),
     Translate,
     TranslateAddr,
+    CleanUp,
+    CleanUpRange,
 }
 
 /// All that calls do.
-pub const ACTIONS: [Action; 11] = [
+pub const ACTIONS: [Action; 13] = [
     Action::OnPage(PageAction::MapTo),
     Action::OnPage(PageAction::MapToWithTableFlags),
     Action::OnPage(PageAction::IdentityMap),
@@ -40,6 +42,8 @@ pub const ACTIONS: [Action; 11] = [
     Action::OnPage(PageAction::TranslatePage),
     Action::Translate,
     Action::TranslateAddr,
+    Action::CleanUp,
+    Action::CleanUpRange,
 ];
 
 /// What comes of a call.
@@ -52,12 +56,15 @@ pub enum Outcome {
     InvalidFrame,
     AlreadyMapped,
     NoFrame,
+    NoEmptyTable,
 }
 
-use Outcome::{AlreadyMapped, Done, HugeParent, InvalidFrame, NoFrame, NotAllowed, NotMapped};
+use Outcome::{
+    AlreadyMapped, Done, HugeParent, InvalidFrame, NoEmptyTable, NoFrame, NotAllowed, NotMapped,
+};
 
 /// All that comes of calls.
-pub const OUTCOMES: [Outcome; 7] = [
+pub const OUTCOMES: [Outcome; 8] = [
     Done,
     NotAllowed,
     NotMapped,
@@ -65,6 +72,7 @@ pub const OUTCOMES: [Outcome; 7] = [
     InvalidFrame,
     AlreadyMapped,
     NoFrame,
+    NoEmptyTable,
 ];
 
 /// Gives all that can come of a call on a page whose entry is of a level, or of another call that ends at an
@@ -76,11 +84,11 @@ pub fn possible_outcomes(action: Action, level: u64) -> &'static [Outcome] {
         (Action::OnPage(action), 1) => small_outcomes(action),
         (Action::OnPage(action), 2) => large_outcomes(action),
         (Action::OnPage(action), 3) => giant_outcomes(action),
-        (Action::OnPage(_), _) => &[],
         (Action::Translate, 0) => &[NotMapped],
         (Action::Translate, 1 | 2 | 3) => &[Done],
         (Action::TranslateAddr, 0) => &[Done, NotMapped],
-        (Action::Translate | Action::TranslateAddr, _) => &[],
+        (Action::CleanUp | Action::CleanUpRange, 0) => &[Done, NoEmptyTable],
+        _ => &[],
     }
 }
 
@@ -126,8 +134,9 @@ fn giant_outcomes(action: PageAction) -> &'static [Outcome] {
     }
 }
 
-/// Gives what a reply says, with the level of the entry that a translation ends at.
-pub fn outcome_of(reply: Reply) -> (u64, Outcome) {
+/// Gives what a reply says, with the level of the entry that a translation ends at. A clean up is done where it
+/// gave tables back.
+pub fn outcome_of(reply: Reply, gave_back: bool) -> (u64, Outcome) {
     match reply {
         Reply::Of4KiB(reply) => (1, size_outcome(reply)),
         Reply::Of2MiB(reply) => (2, size_outcome(reply)),
@@ -141,6 +150,7 @@ pub fn outcome_of(reply: Reply) -> (u64, Outcome) {
         Reply::Translate(TranslateResult::InvalidFrameAddress(_)) => (0, InvalidFrame),
         Reply::Address(Some(_)) => (0, Done),
         Reply::Address(None) => (0, NotMapped),
+        Reply::Cleaned => (0, if gave_back { Done } else { NoEmptyTable }),
         Reply::NotAllowed => (0, NotAllowed),
     }
 }

@@ -6,7 +6,7 @@ use std::process::Abort;
 use std::test::Fail;
 
 /// Numbers, spaces and names that are none.
-const FORMS: [&str; 19] = [
+const FORMS: [&str; 18] = [
     "translate 18446744073709551616",
     "translate 0x10000000000000000",
     "translate 0X1",
@@ -24,7 +24,6 @@ const FORMS: [&str; 19] = [
     "translate\u{a0}1",
     "Translate 1",
     "4KiB 0x1000",
-    "cleanup",
     "# a comment",
 ];
 
@@ -135,6 +134,25 @@ const CHANGES: [&str; 25] = [
     "P4 4KiB 0x1000 0x1",
 ];
 
+/// Clean ups.
+const CLEAN_UPS: [&str; 15] = [
+    "cleanup 0x1000",
+    "cleanup 0x1000 0x2000",
+    "cleanup 4KiB",
+    "Cleanup",
+    "clean-up",
+    "cleanup-range",
+    "cleanup-range 0x1000",
+    "cleanup-range 0x1000 0x2000 0x3000",
+    "cleanup-range 0x1001 0x2000",
+    "cleanup-range 0x1000 0x2fff",
+    "cleanup-range 0x800000000000 0xffff800000000000",
+    "cleanup-range 0x1000 0x800000000000",
+    "cleanup-range 4KiB 0x1000 0x2000",
+    "cleanup-range 4KiB 0x1000",
+    "cleanup_range 0x1000 0x2000",
+];
+
 /// Asserts that each line is bad as the first one, and that nothing is written.
 fn assert_bad(rt: &impl Abort, alloc: Global, lines: &[&str]) -> Result<(), Fail> {
     for line in lines {
@@ -150,7 +168,8 @@ fn bad_lines_end_the_run(rt: HostRuntime) -> Result<(), Fail> {
     assert_bad(&rt, rt.alloc(), &IMAGES)?;
     assert_bad(&rt, rt.alloc(), &READS)?;
     assert_bad(&rt, rt.alloc(), &MAPS)?;
-    assert_bad(&rt, rt.alloc(), &CHANGES)
+    assert_bad(&rt, rt.alloc(), &CHANGES)?;
+    assert_bad(&rt, rt.alloc(), &CLEAN_UPS)
 }
 
 /// Images and lines, the number of the bad line, and the replies before it.

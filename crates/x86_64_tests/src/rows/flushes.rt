@@ -1,17 +1,17 @@
 //! Lists of calls whose flushes are recorded.
 use super::{
     FIRST, FIRST_LARGE, FREE, LARGE_LEVEL_3, LARGE_LEVEL_4, LEVEL_2, LEVEL_3, LEVEL_4, Row,
-    add_exchanges, begin, compare,
+    add_exchanges, assert_fits, begin, compare,
 };
-use crate::images::{ROOT, assert_fits, frame_at, run_flushed_on};
+use crate::images::{ROOT, frame_at, run_flushed_on};
 use crate::turns::PageTurn::{SetFlagsP4, Unmap, UpdateFlags};
-use crate::turns::Turn::{Large, Small};
+use crate::turns::Turn::{CleanUp, CleanUpRange, Large, Small};
 use std::alloc::Global;
 use std::process::Abort;
 use std::test::Fail;
 use x86_64::{FlushItem, FlushRecorder, FramePool, IdentityMapping, PhysMemory};
 use x86_64_plain::Answer::{Done, Refused};
-use x86_64_plain::PlainReply::Answered;
+use x86_64_plain::PlainReply::{Answered, Cleaned};
 use x86_64_plain::Refusal::PageNotMapped;
 
 /// What is flushed: a page, by its start and its size, or all pages.
@@ -108,4 +108,24 @@ const SMALL_PAGE: Row<'static> = Row {
 fn pages_of_4kib_are_recorded_with_their_size(rt: HostRuntime) -> Result<(), Fail> {
     let page = Some((0x1000, 0x1000));
     check_flushes(&rt, rt.alloc(), &SMALL_PAGE, &[page, page], 0)
+}
+
+const TABLES_GO_BACK: Row<'static> = Row {
+    free: &FREE,
+    calls: &[
+        FIRST,
+        (Small(Unmap(0x1000)), Answered(Done(0x5000))),
+        (CleanUpRange(0x20_0000, 0x1000), Cleaned),
+        (CleanUpRange(0x1000, 0x20_0000), Cleaned),
+        (CleanUp, Cleaned),
+    ],
+    words: &[],
+    full: &[],
+    left: &FREE,
+};
+
+#[test]
+fn clean_ups_are_not_recorded(rt: HostRuntime) -> Result<(), Fail> {
+    let page = Some((0x1000, 0x1000));
+    check_flushes(&rt, rt.alloc(), &TABLES_GO_BACK, &[page, page], 0)
 }

@@ -4,21 +4,21 @@ ghost use Rattle.x86_64_model.specs.Memory.{identity_places};
 ghost use Rattle.x86_64_mappers.specs.Layouts.{direct};
 ghost use Rattle.x86_64.specs.Runs.{FitsPool};
 
-use super::{FIRST, FREE, LEVEL_2, LEVEL_3, LEVEL_4, Row, add_exchanges, begin, compare};
+use super::{FIRST, FREE, Row, add_exchanges, assert_fits, begin, compare};
 use crate::counting::Counting;
-use crate::images::{ROOT, assert_fits, frame_at};
+use crate::images::{ROOT, frame_at};
 use crate::turns::PageTurn::{Unmap, UpdateFlags};
-use crate::turns::Turn::{Small, Translate};
+use crate::turns::Turn::{CleanUp, Small, Translate};
 use std::alloc::{AllocError, Global};
 use std::process::Abort;
 use std::test::Fail;
 use x86_64::structures::paging::{MappedPageTable, PhysFrame, Size4KiB};
 use x86_64::{Call, FramePool, IdentityMapping, PhysMemory, Reply, run};
 use x86_64_plain::Answer::Done;
-use x86_64_plain::PlainReply::{Answered, Position};
+use x86_64_plain::PlainReply::{Answered, Cleaned, Position};
 use x86_64_plain::Translated::Mapped;
 
-/// Calls of which three write.
+/// Calls of which four write.
 const ROW: Row<'static> = Row {
     free: &FREE,
     calls: &[
@@ -34,10 +34,11 @@ const ROW: Row<'static> = Row {
         ),
         (Small(UpdateFlags(0x1000, 0x1)), Answered(Done(0x5000))),
         (Small(Unmap(0x1000)), Answered(Done(0x5000))),
+        (CleanUp, Cleaned),
     ],
-    words: &[LEVEL_4, LEVEL_3, LEVEL_2],
+    words: &[],
     full: &[],
-    left: &[],
+    left: &FREE,
 };
 
 /// Answers calls by a mapper that counts those that write, and gives their number.
@@ -70,7 +71,7 @@ fn answer_counted(
     assert_fits(rt, alloc, memory, &IdentityMapping, root, pool)?;
     let count = run_counted(memory, root, pool, &calls, &mut replies)?;
     assert_eq!(rt; replies, wanted);
-    assert_eq!(rt; count, 3);
+    assert_eq!(rt; count, 4);
     Ok(())
 }
 

@@ -1,11 +1,9 @@
 //! Frames that lie elsewhere than at the places of their numbers.
-use super::{FIRST, Row, add_exchanges, compare_pool, compare_words};
-use crate::images::{assert_fits, frame_at, pool_of, run_over};
-use std::alloc::Global;
-use std::process::Abort;
+use super::{FIRST, Row, answer_over, compare_pool, compare_words};
+use crate::images::{frame_at, pool_of};
 use std::test::Fail;
 use x86_64::structures::paging::mapper::PageTableFrameMapping;
-use x86_64::{FramePool, PhysMemory, ShiftMapping};
+use x86_64::{PhysMemory, ShiftMapping};
 
 /// The first map where frame 0x100000 lies at place 0. The words stand after the addresses of their places.
 const ROW: Row<'static> = Row {
@@ -33,30 +31,19 @@ fn mappings_cover_frames_from_a_first_one_on(rt: HostRuntime) {
     assert_eq!(rt; mapping.frame_to_pointer(root).number(), 0);
 }
 
-/// Answers the calls, and compares the replies.
-fn answer_shifted(
-    rt: &impl Abort,
-    alloc: Global,
-    memory: &mut PhysMemory,
-    pool: &mut FramePool,
-) -> Result<(), Fail> {
-    let mut calls = Vec::new(alloc);
-    let mut wanted = Vec::new(alloc);
-    add_exchanges(&ROW, &mut calls, &mut wanted)?;
-    let mut replies = Vec::new(alloc);
-    let mapping = ShiftMapping::new(0x100);
-    let root = frame_at(ROOT);
-    assert_fits(rt, alloc, memory, &mapping, root, pool)?;
-    run_over(memory, root, mapping, pool, &calls, &mut replies)?;
-    assert_eq!(rt; replies, wanted);
-    Ok(())
-}
-
 #[test]
 fn frames_lie_from_a_first_one_on(rt: HostRuntime) -> Result<(), Fail> {
     let mut memory = PhysMemory::new(rt.alloc(), 4)?;
     let mut pool = pool_of(rt.alloc(), 0x104, ROW.free)?;
-    answer_shifted(&rt, rt.alloc(), &mut memory, &mut pool)?;
+    let mapping = ShiftMapping::new(0x100);
+    answer_over(
+        &rt,
+        rt.alloc(),
+        &ROW,
+        (ROOT, mapping),
+        (&mut memory, &mut pool),
+        "shifted",
+    )?;
     compare_words(&rt, &memory, 4, &ROW, "shifted")?;
     compare_pool(&rt, &pool, &[], "shifted");
     Ok(())

@@ -2,7 +2,7 @@
 use super::{PLACES, compare_pool};
 use crate::images::{frame_at, pool_of};
 use crate::turns::PageTurn::{IdentityMap, MapTo, Unmap, UpdateFlags};
-use crate::turns::Turn::{Giant, Large, Small, Translate, TranslateAddr};
+use crate::turns::Turn::{CleanUp, CleanUpRange, Giant, Large, Small, Translate, TranslateAddr};
 use crate::turns::{Turn, call_of};
 use std::process::Abort;
 use std::test::Fail;
@@ -66,7 +66,7 @@ fn pools_are_their_frames_in_order(rt: HostRuntime) -> Result<(), Fail> {
 }
 
 /// Calls, and the index of level four that each names, if it names one.
-const INDICES: [(Turn, Option<u16>); 7] = [
+const INDICES: [(Turn, Option<u16>); 9] = [
     (Small(MapTo(0xffff_8000_0000_0000, 0x5000, 0x1)), Some(256)),
     (Small(Unmap(0x7fff_ffff_f000)), Some(255)),
     (Large(UpdateFlags(0xffff_ff80_0000_0000, 0x1)), Some(511)),
@@ -74,6 +74,8 @@ const INDICES: [(Turn, Option<u16>); 7] = [
     (Small(IdentityMap(0x8000_0000_0000, 0x1)), None),
     (Translate(u64::MAX), Some(511)),
     (TranslateAddr(0x7f_ffff_ffff), Some(0)),
+    (CleanUp, None),
+    (CleanUpRange(0x1000, 0x2000), None),
 ];
 
 #[test]

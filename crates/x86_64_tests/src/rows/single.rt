@@ -2,8 +2,8 @@
 ghost use Rattle.std.specs.Prelude.{◌≡◌, ◌<◌, ◌^◌, None};
 ghost use Rattle.x86_64_model.specs.Owned.{Valid, SupplyFits};
 
-use super::{FREE, LARGE_LEVEL_3, LARGE_LEVEL_4, Row, begin, compare};
-use crate::images::{ROOT, assert_fits, flags_of, frame_at, page_at};
+use super::{FREE, LARGE_LEVEL_3, LARGE_LEVEL_4, Row, assert_fits, begin, compare};
+use crate::images::{ROOT, flags_of, frame_at, page_at};
 use std::fmt::Debug;
 use std::process::Abort;
 use std::test::Fail;

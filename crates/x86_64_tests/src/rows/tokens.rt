@@ -3,8 +3,8 @@ ghost use Rattle.std.specs.Prelude.{◌≡◌, None};
 ghost use Rattle.x86_64_model.specs.Owned.{Valid, SupplyFits};
 
 use super::flushes::compare_flushes;
-use super::{FREE, begin};
-use crate::images::{ROOT, assert_fits, frame_at, page_at};
+use super::{FREE, assert_fits, begin};
+use crate::images::{ROOT, frame_at, page_at};
 use bitflags::Flags;
 use std::alloc::Global;
 use std::process::Abort;

@@ -1,4 +1,4 @@
-use Rattle.std.proofs.Common.{rules, ◌≡◌}
+use Rattle.std.proofs.Common.{rules}
 use Rattle.x86_64_tests.proofs.rows.single.map_identity.Goals as goal
 
 -- the page is the one at the frame's address

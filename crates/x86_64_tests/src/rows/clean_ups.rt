@@ -1,0 +1,196 @@
+//! Clean ups.
+use super::{Exchange, FIRST, FREE, LEVEL_1, LEVEL_2, LEVEL_3, LEVEL_4, Row, WORDS, check};
+use crate::turns::PageTurn::{MapTo, SetFlagsP4, Unmap};
+use crate::turns::Turn::{CleanUp, CleanUpRange, Small, Translate, TranslateAddr};
+use std::test::Fail;
+use x86_64_plain::Answer::{Done, Refused};
+use x86_64_plain::PlainReply::{Address, Answered, Cleaned, Position};
+use x86_64_plain::Refusal::PageAlreadyMapped;
+use x86_64_plain::Translated::NotMapped;
+
+/// Unmaps the page 0x1000.
+const UNMAP: Exchange = (Small(Unmap(0x1000)), Answered(Done(0x5000)));
+
+/// Takes away all empty tables.
+const CLEAN_UP: Exchange = (CleanUp, Cleaned);
+
+const EMPTY_TABLES: [Row<'static>; 3] = [
+    Row {
+        free: &FREE,
+        calls: &[FIRST, UNMAP, CLEAN_UP],
+        words: &[],
+        full: &[],
+        left: &FREE,
+    },
+    // The second clean up finds none.
+    Row {
+        free: &FREE,
+        calls: &[FIRST, UNMAP, CLEAN_UP, CLEAN_UP],
+        words: &[],
+        full: &[],
+        left: &FREE,
+    },
+    // The page is mapped by the same tables again.
+    Row {
+        free: &FREE,
+        calls: &[FIRST, UNMAP, CLEAN_UP, FIRST],
+        words: &WORDS,
+        full: &[],
+        left: &[],
+    },
+];
+
+#[test]
+fn empty_tables_go_back_children_first(rt: HostRuntime) -> Result<(), Fail> {
+    check(&rt, rt.alloc(), &EMPTY_TABLES)
+}
+
+/// Takes `PRESENT` from the entry of level four above the page 0x1000.
+const HIDE: Exchange = (Small(SetFlagsP4(0x1000, 0x2)), Answered(Done(0x2000)));
+
+const USED_TABLES: [Row<'static>; 3] = [
+    Row {
+        free: &FREE,
+        calls: &[FIRST, CLEAN_UP],
+        words: &WORDS,
+        full: &[],
+        left: &[],
+    },
+    // Below an entry without PRESENT nothing goes back, though the page isn't mapped.
+    Row {
+        free: &FREE,
+        calls: &[
+            FIRST,
+            HIDE,
+            (Translate(0x1000), Position(NotMapped)),
+            CLEAN_UP,
+        ],
+        words: &[(0x1000, 0, 0x2002), LEVEL_3, LEVEL_2, LEVEL_1],
+        full: &[],
+        left: &[],
+    },
+    Row {
+        free: &FREE,
+        calls: &[
+            FIRST,
+            HIDE,
+            CLEAN_UP,
+            (
+                Small(MapTo(0x1000, 0x9000, 0x1)),
+                Answered(Refused(PageAlreadyMapped(0x9000))),
+            ),
+            (TranslateAddr(0x1abc), Address(Some(0x5abc))),
+        ],
+        words: &WORDS,
+        full: &[],
+        left: &[],
+    },
+];
+
+#[test]
+fn tables_of_used_entries_stay(rt: HostRuntime) -> Result<(), Fail> {
+    check(&rt, rt.alloc(), &USED_TABLES)
+}
+
+/// Maps the page 0x200000, whose table of level one alone is another than that of the page 0x1000.
+const SECOND: Exchange = (Small(MapTo(0x20_0000, 0x8000, 0x3)), Answered(Done(0x8000)));
+
+const RANGES: [Row<'static>; 3] = [
+    // A range without pages, and one in which the tables have no page.
+    Row {
+        free: &FREE,
+        calls: &[
+            FIRST,
+            UNMAP,
+            (CleanUpRange(0x2000, 0x1000), Cleaned),
+            (CleanUpRange(0x4000_0000, 0x4000_0000), Cleaned),
+        ],
+        words: &[LEVEL_4, LEVEL_3, LEVEL_2],
+        full: &[],
+        left: &[],
+    },
+    // Each table has a part of the range.
+    Row {
+        free: &FREE,
+        calls: &[FIRST, UNMAP, (CleanUpRange(0x2000, 0x2000), Cleaned)],
+        words: &[],
+        full: &[],
+        left: &FREE,
+    },
+    // The table of level two has a table outside the range.
+    Row {
+        free: &[0x2000, 0x3000, 0x4000, 0x6000, 0x7000],
+        calls: &[
+            FIRST,
+            SECOND,
+            UNMAP,
+            (Small(Unmap(0x20_0000)), Answered(Done(0x8000))),
+            (CleanUpRange(0x0, 0x1f_f000), Cleaned),
+        ],
+        words: &[LEVEL_4, LEVEL_3, (0x3000, 1, 0x6003)],
+        full: &[0x7000],
+        left: &[0x4000, 0x7000],
+    },
+];
+
+#[test]
+fn ranges_name_the_tables_that_go_back(rt: HostRuntime) -> Result<(), Fail> {
+    check(&rt, rt.alloc(), &RANGES)
+}
+
+/// The frames for the tables above two pages that have no table in common.
+const SIX_FREE: [u64; 6] = [0x2000, 0x3000, 0x4000, 0x5000, 0x6000, 0x7000];
+
+/// Maps the last page below the gap of the address space.
+const BELOW_THE_GAP: Exchange = (
+    Small(MapTo(0x7fff_ffff_f000, 0x8000, 0x1)),
+    Answered(Done(0x8000)),
+);
+
+/// Maps the first page above it.
+const ABOVE_THE_GAP: Exchange = (
+    Small(MapTo(0xffff_8000_0000_0000, 0x9000, 0x1)),
+    Answered(Done(0x9000)),
+);
+
+/// Unmaps the page above the gap.
+const UNMAP_ABOVE: Exchange = (Small(Unmap(0xffff_8000_0000_0000)), Answered(Done(0x9000)));
+
+/// Takes away the empty tables of both pages.
+const OVER_THE_GAP: Exchange = (
+    CleanUpRange(0x7fff_ffff_f000, 0xffff_8000_0000_0000),
+    Cleaned,
+);
+
+const PAGES_AT_THE_GAP: [Row<'static>; 2] = [
+    Row {
+        free: &SIX_FREE,
+        calls: &[
+            BELOW_THE_GAP,
+            ABOVE_THE_GAP,
+            (Small(Unmap(0x7fff_ffff_f000)), Answered(Done(0x8000))),
+            UNMAP_ABOVE,
+            OVER_THE_GAP,
+        ],
+        words: &[],
+        full: &[],
+        left: &[0x5000, 0x6000, 0x7000, 0x2000, 0x3000, 0x4000],
+    },
+    Row {
+        free: &SIX_FREE,
+        calls: &[BELOW_THE_GAP, ABOVE_THE_GAP, UNMAP_ABOVE, OVER_THE_GAP],
+        words: &[
+            (0x1000, 255, 0x2001),
+            (0x2000, 511, 0x3001),
+            (0x3000, 511, 0x4001),
+            (0x4000, 511, 0x8001),
+        ],
+        full: &[],
+        left: &[0x5000, 0x6000, 0x7000],
+    },
+];
+
+#[test]
+fn ranges_go_on_after_the_gap(rt: HostRuntime) -> Result<(), Fail> {
+    check(&rt, rt.alloc(), &PAGES_AT_THE_GAP)
+}
