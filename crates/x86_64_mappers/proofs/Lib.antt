@@ -1,3 +1,4 @@
+pub mod Lent
 pub mod Changed
 pub mod CleanUpEnds
 pub mod Cleaned

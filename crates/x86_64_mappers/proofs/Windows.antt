@@ -1,18 +1,20 @@
 -- Windows: their indices, and where their walks arrive.
-use Rattle.std.proofs.Common.{◌≡◌, ◌<◌, ◌+◌, ◌*◌, ◌%◌, ◌==◌, ◌&&◌, ℕ, Bool, true, false, not, cond, List, [], ◌∷◌, ◌++◌, replicate, Option, Some, None, IsSome, option_and_then, refl, sym, ap, ◌∙◌, arith, lit<, eqb-true, eq-eqb, ltb-true, nat_lt}
+use Rattle.std.proofs.Common.{◌≡◌, ◌<◌, ◌+◌, ◌*◌, ◌%◌, ◌==◌, ◌&&◌, ℕ, Bool, true, false, not, cond, List, [], ◌∷◌, ◌++◌, replicate, get_or, length, Option, Some, None, IsSome, option_and_then, refl, sym, ap, ap₂, ◌∙◌, arith, lit<, eqb-true, eq-eqb, ltb-true, nat_lt}
 use Rattle.std.proofs.lemmas.Option.{same_Some}
 use Rattle.x86_64_model.specs.Arrivals.{leads}
 use Rattle.x86_64_model.specs.Entry.{has, present, huge, address}
-use Rattle.x86_64_model.specs.Memory.{Words, word, word_in}
+use Rattle.x86_64_model.specs.Memory.{Memory, Words, word, word_in, words_of, identity_places}
 use Rattle.x86_64_model.specs.PageWalk.{read}
 use Rattle.x86_64_model.specs.Path.{path_at}
 use Rattle.x86_64_model.specs.Position.{index, page_path, span}
-use Rattle.x86_64_model.specs.Window.{IsSelfEntry}
+use Rattle.x86_64_model.specs.Window.{Window, IsSelfEntry}
 use Rattle.x86_64_model.proofs.Lemmas.Entries.Words.{address_aligned}
 use Rattle.x86_64_model.proofs.Lemmas.Walks.Windows.{windows_reach}
-use Rattle.x86_64_tables.specs.ActiveMemory.{frame_at}
+use Rattle.x86_64_tables.specs.ActiveMemory.{frame_at, walked_frame, walked_table}
 use Rattle.x86_64_tables.specs.SelfEntries.{has_self_entry, window_at}
-use Rattle.x86_64_mappers.specs.Windows.{WindowsShowTables}
+use Rattle.x86_64_mappers.specs.Reached.{IsReached}
+use Rattle.x86_64_mappers.specs.Recursive.{recursive}
+use Rattle.x86_64_mappers.specs.Windows.{ShowsTable, WindowsShowTables}
 
 -- ---- the root's entry for itself
 
@@ -87,3 +89,47 @@ module _ (r page p : ℕ) (four : index 4 p ≡ r) where
   pub p1_path : index 3 p ≡ index 4 page → index 2 p ≡ index 3 page → index 1 p ≡ index 2 page → page_path 4 p ≡ replicate 1 r ++ path_at 4 2 page
   unfolding page_path
   p1_path three two one = λ i. four i ∷ three i ∷ two i ∷ one i ∷ []
+
+-- ---- the window of a path
+
+module _ (r p : ℕ) (aligned : p % 4096 ≡ 0) (four : index 4 p ≡ r) where
+  pub shows_root : (path : List ℕ) → length path ≡ 0 → index 3 p ≡ r → index 2 p ≡ r → index 1 p ≡ r → ShowsTable r path p
+  unfolding page_path
+  shows_root [] l three two one = windows_show_tables r 4 [] p aligned (λ i. four i ∷ three i ∷ two i ∷ one i ∷ [])
+  shows_root (a ∷ q) l three two one = absurd (omega (arith, l))
+
+  pub shows_level_3 : (path : List ℕ) → length path ≡ 1 → index 3 p ≡ r → index 2 p ≡ r → index 1 p ≡ get_or path 0 0 → ShowsTable r path p
+  unfolding page_path
+  shows_level_3 [] l three two one = absurd (omega (arith, l))
+  shows_level_3 (a ∷ []) l three two one = windows_show_tables r 3 (a ∷ []) p aligned (λ i. four i ∷ three i ∷ two i ∷ one i ∷ [])
+  shows_level_3 (a ∷ b ∷ q) l three two one = absurd (omega (arith, l))
+
+  pub shows_level_2 : (path : List ℕ) → length path ≡ 2 → index 3 p ≡ r → index 2 p ≡ get_or path 0 0 → index 1 p ≡ get_or path 1 0 → ShowsTable r path p
+  unfolding page_path
+  shows_level_2 [] l three two one = absurd (omega (arith, l))
+  shows_level_2 (a ∷ []) l three two one = absurd (omega (arith, l))
+  shows_level_2 (a ∷ b ∷ []) l three two one = windows_show_tables r 2 (a ∷ b ∷ []) p aligned (λ i. four i ∷ three i ∷ two i ∷ one i ∷ [])
+  shows_level_2 (a ∷ b ∷ c ∷ q) l three two one = absurd (omega (arith, l))
+
+  pub shows_level_1 : (path : List ℕ) → length path ≡ 3 → index 3 p ≡ get_or path 0 0 → index 2 p ≡ get_or path 1 0 → index 1 p ≡ get_or path 2 0 → ShowsTable r path p
+  unfolding page_path
+  shows_level_1 [] l three two one = absurd (omega (arith, l))
+  shows_level_1 (a ∷ []) l three two one = absurd (omega (arith, l))
+  shows_level_1 (a ∷ b ∷ []) l three two one = absurd (omega (arith, l))
+  shows_level_1 (a ∷ b ∷ c ∷ []) l three two one = windows_show_tables r 1 (a ∷ b ∷ c ∷ []) p aligned (λ i. four i ∷ three i ∷ two i ∷ one i ∷ [])
+  shows_level_1 (a ∷ b ∷ c ∷ d ∷ q) l three two one = absurd (omega (arith, l))
+
+-- ---- tables through them
+
+-- where the root's entry for itself is there, the test answers true
+pub self_entry_tells : (T : Words) (root : ℕ) (w : Window) → IsSelfEntry T root w → has_self_entry T root w.index ≡ true
+self_entry_tells T root w self =
+    ap (λ e. present e && not (huge e) && (address e == root)) (sym self.is_word)
+    ∙ ap₂ (λ p h. p && not h && (address w.self_entry == root)) self.is_present self.not_huge ∙ eq-eqb (address w.self_entry) root self.names_root
+
+module _ (memory : Memory) (root : ℕ) (w : Window) (path : List ℕ) (f : ℕ) (reached : IsReached (recursive root w) memory path f) (p : ℕ) (shows : ShowsTable w.index path p) where
+  pub window_walks : walked_frame (words_of memory identity_places) root p ≡ Some f
+  window_walks = shows (words_of memory identity_places) root f (self_entry_tells (words_of memory identity_places) root w reached.self) reached.way
+
+  pub window_table : walked_table (words_of memory identity_places) root p ≡ words_of memory identity_places f
+  window_table = ap (option_and_then (words_of memory identity_places)) window_walks

@@ -1,6 +1,6 @@
 -- What a mapper is once a table or an entry that it lent comes back.
-use Rattle.std.specs.Prelude.{ℕ, List, [], unwrap_or}
-use Rattle.std.specs.Borrow.{Lends, MutBor, Fml, RattleType}
+use Rattle.std.specs.Prelude.{ℕ, List, [], Option, unwrap_or}
+use Rattle.std.specs.Borrow.{Lends, LendsIf, MutBor, Fml, RattleType}
 use Rattle.std.specs.FinMap.{insert}
 use Rattle.x86_64_model.specs.Layout.{Layout, words}
 use Rattle.x86_64_model.specs.Memory.{Memory}
@@ -23,3 +23,7 @@ LendsTableBy mapper s r F = Lends mapper table_row s r F
 -- a mapper of a type ends as F makes it of the last word behind r
 abbrev pub LendsEntryBy : (mapper : RattleType) → MutBor mapper.Denot → (r : MutBor ℕ) → (F : ℕ → mapper.Denot) → Fml
 LendsEntryBy mapper s r F = Lends mapper entry_row s r F
+
+-- what reaches tables ends as F makes it of the last table behind r, and as it was where nothing is lent
+abbrev pub LendsTableIfBy : (walked : RattleType) → MutBor walked.Denot → (r : Option (MutBor (List ℕ))) → (F : List ℕ → walked.Denot) → Fml
+LendsTableIfBy walked s r F = LendsIf walked table_row s r F s.now

@@ -4,13 +4,23 @@ use Rattle.std.proofs.lemmas.Bool.{and_parts}
 use Rattle.std.specs.Prelude.{ℕ}
 use Rattle.x86_64_model.specs.Entry.{IsParentFlags, address, is_frame}
 use Rattle.x86_64_model.proofs.Lemmas.Entries.Bits.{same_frame}
-use Rattle.x86_64_model.specs.Memory.{IsMapping}
+use Rattle.x86_64_model.proofs.Lemmas.Hierarchies.Memories.{identity_is_mapping}
+use Rattle.x86_64_model.specs.Memory.{IsMapping, identity_places}
 use Rattle.x86_64_mappers.specs.Offsets.{is_reached, offset_places}
 
 -- no flags are flags that an entry above a page may have
 pub no_flags : IsParentFlags 0
 unfolding address
 no_flags = record { no_address = refl; not_huge = refl }
+
+-- nor do PRESENT and WRITABLE
+pub present_writable : IsParentFlags 3
+unfolding address
+present_writable = record { no_address = refl; not_huge = refl }
+
+-- the places of numbers are those of a frame mapping
+pub numbers_are_mapping : IsMapping identity_places
+numbers_are_mapping = identity_is_mapping
 
 -- places at an offset are those of a frame mapping
 pub offset_is_mapping : (offset : ℕ) → IsMapping (offset_places offset)

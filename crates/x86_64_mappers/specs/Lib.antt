@@ -2,6 +2,7 @@ pub mod AccessLending
 pub mod CleaningUp
 pub mod EntryCalls
 pub mod ImplLaws
+pub mod InvalidPageTables
 pub mod Layouts
 pub mod LeafFrames
 pub mod Lending
@@ -13,6 +14,7 @@ pub mod OpenWay
 pub mod OwnedSteps
 pub mod PageCalls
 pub mod Reached
+pub mod Recursive
 pub mod Results
 pub mod Stops
 pub mod TableFlags

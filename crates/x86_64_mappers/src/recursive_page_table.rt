@@ -1,4 +1,335 @@
-//! Tables that are reached through the root's entry for itself.
+//! The mapper that reaches tables through the root's entry for itself, and the windows in which it finds them.
+ghost use Rattle.std.specs.Prelude.{◌≡◌, ◌<◌, length, Some, bit_or};
+ghost use Rattle.std.specs.Borrow.{sem, GName};
+ghost use Rattle.x86_64_model.specs.Layout.{Valid};
+ghost use Rattle.x86_64_model.specs.Memory.{word, words_of, identity_places};
+ghost use Rattle.x86_64_tables.specs.PageTableFlags.{bits_of};
+ghost use Rattle.x86_64_mappers.specs.InvalidPageTables.{refuses};
+ghost use Rattle.x86_64_mappers.specs.Layouts.{root_table};
+ghost use Rattle.x86_64_mappers.specs.Recursive.{recursive_now};
+ghost use Rattle.x86_64_mappers.specs.Windows.{ShowsTable};
+
+mod walked_tables;
 mod windows;
 
+use crate::access::{TableAccess, change, clean_up, condition, map, translate};
+use bitflags::Flags;
+use std::fmt::{Display, Formatter, Result as FmtResult, Write};
+pub use walked_tables::WalkedTables;
 pub use windows::{p1_window, p2_window, p3_window};
+use x86_64_addr::addr::VirtAddr;
+use x86_64_addr::index::{PageOffset, PageTableIndex};
+use x86_64_page::frame::PhysFrame;
+use x86_64_page::page::{Page, PageSize, Size4KiB};
+use x86_64_tables::frame_alloc::{FrameAllocator, FrameDeallocator};
+use x86_64_tables::mapper::{
+    CleanUp, FlagUpdateError, MapToError, Mapper, PageTables, PathCalls, Tables, Translate,
+    TranslateError, TranslateResult, UnmapError,
+};
+use x86_64_tables::page_table::{PageTable, PageTableFlags};
+use x86_64_tables::phys_memory::ActiveMemory;
+
+/// Says why no mapper was made.
+#[derive(Clone, Copy, Debug, PartialEq)]
+pub enum InvalidPageTable {
+    /// The address isn't one whose four indices are the same and whose offset in the page is 0.
+    NotRecursive,
+    /// The table isn't the one from which walks start, or its entry at the index doesn't name it.
+    NotActive,
+}
+
+impl Display for InvalidPageTable {
+    fn fmt<W: Write>(&self, f: &mut Formatter<W>) -> FmtResult {
+        f.write_str(match self {
+            InvalidPageTable::NotRecursive => "given page table address is not recursive",
+            InvalidPageTable::NotActive => "given page table is not active on the CPU",
+        })
+    }
+}
+
+/// Maps pages in a hierarchy of four levels of tables. It is handed no memory: each table is reached at its window, by a walk
+/// through the tables as they are at that moment, which goes through the root's entry for itself.
+///
+/// A new table's entry gets `PRESENT` and `WRITABLE` beside the parent flags, since the table is reached only once it is named.
+/// Of an address that begins with the recursive index, [`translate`](Translate::translate) and
+/// [`translate_page`](Mapper::translate_page) tell what the rest of its path says, as the processor does.
+#[derive(Drop)]
+pub struct Recursive<A> {
+    active: A,
+    index: PageTableIndex,
+    self_flags: PageTableFlags,
+}
+
+/// The mapper of an active memory.
+pub type RecursivePageTable<'a> = Recursive<ActiveMemory<'a>>;
+
+impl<'a> Recursive<ActiveMemory<'a>> {
+    ghost use Rattle.std.specs.Prelude.{None, IsOk, IfOk, IfErr};
+    ghost use Rattle.x86_64_model.specs.Position.{index};
+    ghost use Rattle.x86_64_tables.specs.ActiveMemory.{memory_of, cr3_of};
+    ghost use Rattle.x86_64_mappers.specs.Recursive.{active_in};
+
+    /// Makes a mapper of the hierarchy whose root is the table in a frame, which the walk of an address arrives at.
+    ///
+    /// Where it is refused no word changes; an owner of the memory that asks [`refusal`](Self::refusal) first knows so.
+    ///
+    /// Condition: unless [`refusal`](Self::refusal) tells why not, the hierarchy is valid for the index of the address, whose
+    /// four indices are one then.
+    ///
+    /// # Errors
+    ///
+    /// What [`refusal`](Self::refusal) tells.
+    pub fn new(
+        active: ActiveMemory<'a>,
+        table: PhysFrame<Size4KiB>,
+        virt: VirtAddr,
+    ) -> Result<Self, InvalidPageTable>
+        requires { let memory = memory_of active in let cr3 = cr3_of active in
+            refuses memory cr3 table virt ≡ None → Valid (recursive_now memory cr3 (index 4 virt)) memory }
+        ensures active { IfOk result (λ mapper. active_in mapper ≡ active.entry) }
+        ensures layout { let memory = memory_of active.entry in let cr3 = cr3_of active.entry in
+            let now = recursive_now memory cr3 (index 4 virt) in
+            IfOk result (λ mapper. (⟦<Self as Tables>⟧.hierarchy mapper).layout ≡ now) }
+        ensures made { refuses (memory_of active.entry) (cr3_of active.entry) table virt ≡ None → IsOk result }
+        ensures refused { let why_not = refuses (memory_of active.entry) (cr3_of active.entry) table virt in
+            IfErr result (λ why. why_not ≡ Some why) }
+    {
+        match Self::refusal(&active, table, virt) {
+            Some(why) => Err(why),
+            None => Ok(Self::new_unchecked(active, virt.p4_index())),
+        }
+    }
+}
+
+impl<A: WalkedTables> Recursive<A> {
+    ghost use Rattle.x86_64_mappers.specs.Recursive.{active_in, LendsRootWindow};
+
+    /// Tells why no mapper is made of a table at an address, if none is.
+    pub fn refusal(
+        active: &A,
+        table: PhysFrame<Size4KiB>,
+        virt: VirtAddr,
+    ) -> Option<InvalidPageTable>
+        ensures { result ≡ refuses (A.memory active.now) (A.root active.now) table virt }
+    {
+        let index = virt.p4_index();
+        if virt.p3_index() != index
+            || virt.p2_index() != index
+            || virt.p1_index() != index
+            || virt.page_offset() != PageOffset::new(0)
+        {
+            return Some(InvalidPageTable::NotRecursive);
+        }
+        if table != active.cr3() || !active.self_entry(index) {
+            return Some(InvalidPageTable::NotActive);
+        }
+        None
+    }
+
+    /// Makes a mapper of the hierarchy whose root stands in the frame at which walks start, with the recursive index.
+    ///
+    /// Condition: the hierarchy is valid for the index.
+    pub fn new_unchecked(active: A, index: PageTableIndex) -> Self
+        requires { let memory = A.memory active in Valid (recursive_now memory (A.root active) index) memory }
+        ensures active { active_in result ≡ active }
+        ensures layout { let now = recursive_now (A.memory active) (A.root active) index in
+            (⟦<Self as Tables>⟧.hierarchy result).layout ≡ now }
+    {
+        let self_flags = self_flags(&active, index);
+        Recursive {
+            active,
+            index,
+            self_flags,
+        }
+    }
+
+    /// Gives the table of level four, through its window.
+    ///
+    /// Condition: the hierarchy is valid.
+    pub fn level_4_table(&self) -> &PageTable
+        requires { let h = ⟦<Self as Tables>⟧.hierarchy self.now in Valid h.layout h.memory }
+        ensures { root_table (⟦<Self as Tables>⟧.hierarchy self.now) ≡ Some result.now }
+    {
+        self.table(&[], self.active.cr3())
+    }
+
+    /// Lends the table of level four to be changed, through its window.
+    ///
+    /// Condition: the hierarchy is valid.
+    pub fn level_4_table_mut(&mut self) -> &mut PageTable
+        requires { let h = ⟦<Self as Tables>⟧.hierarchy self.old in Valid h.layout h.memory }
+        ensures* lends { sem 𝓛 (LendsRootWindow A.row A.with_table self.entry (A.root self.old.active) result) }
+        ensures value { root_table (⟦<Self as Tables>⟧.hierarchy self.old) ≡ Some result.now }
+    {
+        let root = self.active.cr3();
+        self.table_mut(&[], root)
+    }
+}
+
+/// Gives the flags of the root's entry for itself.
+fn self_flags<A: WalkedTables>(active: &A, index: PageTableIndex) -> PageTableFlags
+    requires { let memory = A.memory active.now in Valid (recursive_now memory (A.root active.now) index) memory }
+    ensures { let words = words_of (A.memory active.now) identity_places in let root = A.root active.now in
+        bit_or root (bits_of result) ≡ word words root index }
+{
+    let table = active.table(window(index, &[])).unwrap();
+    table[usize::from(index)].flags()
+}
+
+impl<A: WalkedTables> Tables for Recursive<A> {
+    ghost use Rattle.std.proofs.Common.{lit≤};
+    ghost use Rattle.x86_64_mappers.specs.ImplLaws.{present_writable, numbers_are_mapping};
+    ghost use Rattle.x86_64_mappers.specs.Recursive.{owned_by, window_with};
+
+    ghost Lent = { GName };
+
+    ghost hierarchy = { λ mapper. let root = A.root mapper.active in
+        owned_by root (window_with root mapper.index (bits_of mapper.self_flags)) (A.memory mapper.active) (A.lent mapper.active) };
+
+    ghost added_flags = { λ _. present_writable };
+
+    fn recursive_index(&self) -> Option<PageTableIndex> {
+        Some(self.index)
+    }
+
+    ghost some_levels = { λ _. lit≤ tt };
+
+    ghost most_levels = { λ _. lit≤ tt };
+
+    ghost is_mapping = { λ _. numbers_are_mapping };
+}
+
+impl<A: WalkedTables> PageTables for Recursive<A> {
+    ghost use Rattle.std.proofs.Common.{refl};
+
+    ghost four_levels = { λ _. refl };
+}
+
+impl<A: WalkedTables> TableAccess for Recursive<A> {
+    ghost use Rattle.std.proofs.Common.{ap};
+    ghost use Rattle.x86_64_mappers.specs.Recursive.{recursive, window_with};
+
+    ghost with_table = { λ mapper frame table. record mapper { active = A.with_table mapper.active frame table } };
+
+    fn root(&self) -> PhysFrame<Size4KiB> {
+        self.active.cr3()
+    }
+
+    fn new_table_flags(&self) -> PageTableFlags {
+        PageTableFlags::PRESENT.union(PageTableFlags::WRITABLE)
+    }
+
+    fn table(&self, path: &[PageTableIndex], _frame: PhysFrame<Size4KiB>) -> &PageTable {
+        self.active.table(window(self.index, path)).unwrap()
+    }
+
+    fn table_mut(
+        &mut self,
+        path: &[PageTableIndex],
+        _frame: PhysFrame<Size4KiB>,
+    ) -> &mut PageTable {
+        let addr = window(self.index, path);
+        self.active.table_mut(addr).unwrap()
+    }
+
+    ghost puts = { λ mapper frame table. A.puts mapper.active frame table };
+
+    ghost keeps_layout = { λ mapper frame table.
+        ap (λ root. recursive root (window_with root mapper.index (bits_of mapper.self_flags))) (A.keeps_root mapper.active frame table) };
+
+    ghost keeps_lent = { λ mapper frame table. A.keeps_lent mapper.active frame table };
+}
+
+impl<A: WalkedTables> Translate for Recursive<A> {
+    fn translate(&self, addr: VirtAddr) -> TranslateResult {
+        translate::translate(self, addr)
+    }
+}
+
+impl<A: WalkedTables> PathCalls for Recursive<A> {
+    fn map_path<S: PageSize, F: FrameAllocator<Size4KiB>>(
+        &mut self,
+        path: &[PageTableIndex],
+        frame: PhysFrame<S>,
+        flags: PageTableFlags,
+        parent_flags: PageTableFlags,
+        frame_allocator: &mut F,
+    ) -> Result<(), MapToError<S>> {
+        map::map_path(self, path, frame, flags, parent_flags, frame_allocator)
+    }
+
+    fn path_allowed<S: PageSize>(
+        &self,
+        path: &[PageTableIndex],
+        flags: PageTableFlags,
+        parent_flags: PageTableFlags,
+    ) -> bool {
+        condition::path_allowed::<S, _>(self, path, flags, parent_flags)
+    }
+
+    fn unmap_path<S: PageSize>(
+        &mut self,
+        path: &[PageTableIndex],
+    ) -> Result<PhysFrame<S>, UnmapError> {
+        change::unmap_path(self, path)
+    }
+
+    fn update_path<S: PageSize>(
+        &mut self,
+        path: &[PageTableIndex],
+        flags: PageTableFlags,
+    ) -> Result<(), FlagUpdateError> {
+        change::update_path::<S, _>(self, path, flags)
+    }
+
+    fn set_table_flags<S: PageSize>(
+        &mut self,
+        path: &[PageTableIndex],
+        level: u64,
+        flags: PageTableFlags,
+    ) -> Result<(), FlagUpdateError> {
+        change::set_table_flags::<S, _>(self, path, level, flags)
+    }
+
+    fn table_flags_allowed<S: PageSize>(
+        &self,
+        path: &[PageTableIndex],
+        level: u64,
+        flags: PageTableFlags,
+    ) -> bool {
+        condition::table_flags_allowed::<S, _>(self, path, level, flags)
+    }
+
+    fn translate_path<S: PageSize>(
+        &self,
+        path: &[PageTableIndex],
+    ) -> Result<PhysFrame<S>, TranslateError> {
+        translate::translate_path(self, path)
+    }
+
+    fn clean_up_paths<D: FrameDeallocator<Size4KiB>>(
+        &mut self,
+        first: &[PageTableIndex],
+        last: &[PageTableIndex],
+        frame_deallocator: &mut D,
+    ) {
+        clean_up::clean_up_paths(self, first, last, frame_deallocator)
+    }
+}
+
+impl<A: WalkedTables, S: PageSize> Mapper<S> for Recursive<A> {}
+
+impl<A: WalkedTables> CleanUp for Recursive<A> {}
+
+/// Gives the address at which the table that a path leads to is reached.
+fn window(index: PageTableIndex, path: &[PageTableIndex]) -> VirtAddr
+    requires { length path.now < 4 }
+    ensures { ShowsTable index path.now result }
+{
+    match path.len() {
+        0 => Page::from_page_table_indices(index, index, index, index).start_address(),
+        1 => Page::from_page_table_indices(index, index, index, path[0]).start_address(),
+        2 => Page::from_page_table_indices(index, index, path[0], path[1]).start_address(),
+        _ => Page::from_page_table_indices(index, path[0], path[1], path[2]).start_address(),
+    }
+}

@@ -10,6 +10,7 @@ mod clean_up;
 mod flags;
 mod map;
 mod offset;
+mod recursive;
 mod unmap;
 mod windows;
 

@@ -24,7 +24,7 @@ const OFFSET: u64 = 0xffff_8000_0000_0000;
 const ONE_PAGE: [(u64, u16, u64); 3] = [(1, 0, 0x2003), (2, 0, 0x3003), (3, 0, 0x4003)];
 
 /// Those of the last page of the lower half of the address space and of the first one of the upper half, both unmapped.
-const BOTH_HALVES: [(u64, u16, u64); 6] = [
+pub const BOTH_HALVES: [(u64, u16, u64); 6] = [
     (1, 255, 0x2001),
     (2, 511, 0x3001),
     (3, 511, 0x4001),
@@ -34,7 +34,7 @@ const BOTH_HALVES: [(u64, u16, u64); 6] = [
 ];
 
 /// Cleans up by any mapper: the pages from the one at an address to the one at another, or all.
-fn clean_up_by<M: CleanUp>(mapper: &mut M, pool: &mut FramePool, range: Option<(u64, u64)>)
+pub fn clean_up_by<M: CleanUp>(mapper: &mut M, pool: &mut FramePool, range: Option<(u64, u64)>)
     requires { MayCleanUp (M.hierarchy mapper.old) (serves_below pool.old.limit) pool.old.frames }
 {
     match range {
@@ -79,7 +79,7 @@ fn clean_up_at_offset(
 }
 
 /// Compares the frames of a pool and the words of a memory with those that a clean up left.
-fn check_left(
+pub fn check_left(
     rt: &impl Abort,
     memory: &PhysMemory,
     pool: &FramePool,

@@ -1,0 +1,35 @@
+-- The layout of a recursive mapper, and what it holds.
+use Rattle.std.specs.Prelude.{ℕ, List, Some, bit_or}
+use Rattle.std.specs.Borrow.{Lends, MutBor, Fml, GName, RattleType}
+use Rattle.x86_64_model.specs.Layout.{Layout}
+use Rattle.x86_64_model.specs.Memory.{Memory, identity_places, words_of}
+use Rattle.x86_64_model.specs.Owned.{Hierarchy}
+use Rattle.x86_64_model.specs.Window.{Window}
+use Rattle.x86_64_tables.specs.SelfEntries.{window_at}
+use Rattle.x86_64_tables.specs.contracts.page_table.table.PageTable.{the_row as table_row}
+use Rattle.x86_64_mappers.specs.contracts.recursive_page_table.Recursive.{the_row as recursive_row}
+use Rattle.x86_64_mappers.specs.declared.recursive_page_table.Recursive.{Recursive}
+
+-- four levels of tables from a root with a window: a new table entry gets PRESENT and WRITABLE beside the parent flags
+abbrev pub recursive : (root : ℕ) → Window → Layout
+recursive root window = record { levels = 4; places = identity_places; root = root; window = Some window; added_flags = 3 }
+
+-- such a hierarchy in a memory, and which memory was lent
+abbrev pub owned_by : (root : ℕ) → Window → Memory → GName → Hierarchy GName
+owned_by root window memory lent = record { layout = recursive root window; memory = memory; lent = lent }
+
+-- the layout for a recursive index, with the word that the root has there now
+abbrev pub recursive_now : Memory → (root index : ℕ) → Layout
+recursive_now memory root r = recursive root (window_at (words_of memory identity_places) root r)
+
+-- the window of an index where the root's word names the root and has these flags
+abbrev pub window_with : (root index flags : ℕ) → Window
+window_with root r flags = record { index = r; self_entry = bit_or root flags }
+
+-- the memory that it was made of, as it is
+abbrev pub active_in : {A : Type 0} → Recursive A → A
+active_in mapper = mapper.active
+
+-- a mapper ends with the last table behind r in the root's frame
+abbrev pub LendsRootWindow : (A : RattleType) → (with : A.Denot → ℕ → List ℕ → A.Denot) → MutBor (Recursive A.Denot) → (root : ℕ) → MutBor (List ℕ) → Fml
+LendsRootWindow A with s root r = Lends (recursive_row A) table_row s r (λ table. record s.now { active = with s.now.active root table })

@@ -1,0 +1,95 @@
+//! Tables that are reached at virtual addresses.
+ghost use Rattle.std.specs.Prelude.{◌≡◌, ℕ, List, unwrap_or};
+ghost use Rattle.std.specs.Borrow.{sem, GName};
+ghost use Rattle.std.specs.FinMap.{insert};
+ghost use Rattle.std.specs.Option.{option_copied, option_copied_mut};
+ghost use Rattle.x86_64_model.specs.Memory.{Memory, words_of, identity_places};
+ghost use Rattle.x86_64_tables.specs.ActiveMemory.{walked_frame, walked_table};
+ghost use Rattle.x86_64_tables.specs.SelfEntries.{has_self_entry};
+ghost use Rattle.x86_64_mappers.specs.AccessLending.{LendsTableIfBy};
+
+use x86_64_addr::addr::VirtAddr;
+use x86_64_addr::index::PageTableIndex;
+use x86_64_page::frame::PhysFrame;
+use x86_64_page::page::Size4KiB;
+use x86_64_tables::page_table::PageTable;
+use x86_64_tables::phys_memory::ActiveMemory;
+
+/// Reaches tables at virtual addresses alone, by walks through the tables as they are at that moment.
+pub trait WalkedTables {
+    /// The memory as it is, in which each frame lies at the place of its number.
+    ghost memory: { Self → Memory };
+
+    /// The frame at which walks start.
+    ghost root: { Self → ℕ };
+
+    /// Which memory was lent.
+    ghost lent: { Self → GName };
+
+    /// The same with another table in a frame.
+    ghost with_table: { Self → ℕ → List ℕ → Self };
+
+    /// Gives the frame at which walks start.
+    fn cr3(&self) -> PhysFrame<Size4KiB>
+        ensures { result ≡ Self.root self.now };
+
+    /// Tells whether the root's word at an index has `PRESENT`, lacks `HUGE_PAGE` and names the root.
+    fn self_entry(&self, index: PageTableIndex) -> bool
+        ensures { let words = words_of (Self.memory self.now) identity_places in
+            result ≡ has_self_entry words (Self.root self.now) index };
+
+    /// Gives the table where the walk of an address arrives.
+    fn table(&self, addr: VirtAddr) -> Option<&PageTable>
+        ensures { let words = words_of (Self.memory self.now) identity_places in
+            option_copied result ≡ walked_table words (Self.root self.now) addr };
+
+    /// Lends the table where the walk of an address arrives.
+    fn table_mut(&mut self, addr: VirtAddr) -> Option<&mut PageTable>
+        ensures* lends { let words = words_of (Self.memory self.old) identity_places in
+            let frame = unwrap_or (walked_frame words (Self.root self.old) addr) 0 in
+            sem 𝓛 (LendsTableIfBy Self.row self.entry result (Self.with_table self.old frame)) }
+        ensures value { let words = words_of (Self.memory self.old) identity_places in
+            option_copied_mut result ≡ walked_table words (Self.root self.old) addr };
+
+    ghost puts: { (s : Self) (f : ℕ) (t : List ℕ) →
+        memory (with_table s f t) ≡ insert (memory s) (identity_places.place f) t };
+
+    ghost keeps_root: { (s : Self) (f : ℕ) (t : List ℕ) → root (with_table s f t) ≡ root s };
+
+    ghost keeps_lent: { (s : Self) (f : ℕ) (t : List ℕ) → lent (with_table s f t) ≡ lent s };
+}
+
+impl<'a> WalkedTables for ActiveMemory<'a> {
+    ghost use Rattle.std.proofs.Common.{refl};
+    ghost use Rattle.x86_64_tables.specs.ActiveMemory.{memory_of, cr3_of, lent as lent_of, with_table as active_with};
+
+    ghost memory = { memory_of };
+
+    ghost root = { cr3_of };
+
+    ghost lent = { lent_of };
+
+    ghost with_table = { active_with };
+
+    fn cr3(&self) -> PhysFrame<Size4KiB> {
+        ActiveMemory::cr3(self)
+    }
+
+    fn self_entry(&self, index: PageTableIndex) -> bool {
+        ActiveMemory::self_entry(self, index)
+    }
+
+    fn table(&self, addr: VirtAddr) -> Option<&PageTable> {
+        ActiveMemory::table(self, addr)
+    }
+
+    fn table_mut(&mut self, addr: VirtAddr) -> Option<&mut PageTable> {
+        ActiveMemory::table_mut(self, addr)
+    }
+
+    ghost puts = { λ s f t. refl };
+
+    ghost keeps_root = { λ s f t. refl };
+
+    ghost keeps_lent = { λ s f t. refl };
+}
