@@ -15,7 +15,7 @@ pub use calls::{Call, Reply, SizeCall, SizeReply};
 pub use runs::{run, run_flushed};
 pub use x86_64_addr::addr;
 pub use x86_64_addr::addr::{PhysAddr, VirtAddr};
-pub use x86_64_mappers::recursive_page_table::{p1_window, p2_window, p3_window};
+pub use x86_64_mappers::recursive_page_table::{WalkedTables, p1_window, p2_window, p3_window};
 pub use x86_64_page::range::Block;
 pub use x86_64_tables::frame_alloc::{FrameKeeper, FramePool, FrameStore, PoolRefusal};
 pub use x86_64_tables::mapper::{FlushItem, FlushRecorder, PageTables, Tables, parent_flags};

@@ -2,7 +2,7 @@
 pub mod mapper;
 pub mod page_table;
 
-pub use mapper::{MappedPageTable, Mapper, OffsetPageTable, Translate};
+pub use mapper::{MappedPageTable, Mapper, OffsetPageTable, RecursivePageTable, Translate};
 pub use page_table::{PageOffset, PageTable, PageTableFlags, PageTableIndex};
 pub use x86_64_page::frame::PhysFrame;
 pub use x86_64_page::page::{Page, PageSize, Size1GiB, Size2MiB, Size4KiB};
