@@ -1,5 +1,5 @@
 -- When no recursive mapper is made.
-use Rattle.std.specs.Prelude.{◌==◌, ◌&&◌, ◌%◌, ℕ, Bool, cond, Option, Some, None}
+use Rattle.std.specs.Prelude.{◌==◌, ◌&&◌, ◌%◌, ℕ, Bool, if◌then◌else◌, Option, Some, None}
 use Rattle.x86_64_model.specs.Memory.{Memory, identity_places, words_of}
 use Rattle.x86_64_model.specs.Position.{index}
 use Rattle.x86_64_tables.specs.SelfEntries.{has_self_entry}
@@ -16,4 +16,4 @@ is_active memory cr3 table r = (table == cr3) && has_self_entry (words_of memory
 
 -- why a table at a position is refused
 abbrev pub refuses : Memory → (cr3 table position : ℕ) → Option InvalidPageTable
-refuses memory cr3 table p = cond (is_root_window p) (cond (is_active memory cr3 table (index 4 p)) None (Some NotActive)) (Some NotRecursive)
+refuses memory cr3 table p = if is_root_window p then (if is_active memory cr3 table (index 4 p) then None else Some NotActive) else Some NotRecursive

@@ -71,7 +71,8 @@ impl<'a, P: PageTableFrameMapping> MappedPageTable<'a, P> {
 
     /// Lends the table of level four to be changed.
     pub fn level_4_table_mut(&mut self) -> &mut PageTable
-        ensures* lends { sem 𝓛 (LendsRootTable P.row ⟦<P as PageTableFrameMapping>⟧ self.entry result) }
+        ensures* lends { sem 𝓛 (
+            LendsRootTable P.row ⟦<P as PageTableFrameMapping>⟧ self.entry result) }
         ensures value { root_table (⟦<Self as Tables>⟧.hierarchy self.old) ≡ Some result.now }
     {
         let root = self.root;

@@ -58,7 +58,8 @@ impl<'a> OffsetPageTable<'a> {
     pub fn new(memory: &'a mut PhysMemory, root: PhysFrame<Size4KiB>, phys_offset: VirtAddr) -> Self
         requires valid { ValidIn (direct identity_places root) memory.old }
         requires fits { OffsetFits memory.old phys_offset }
-        ensures lent { (⟦<Self as Tables>⟧.hierarchy result).lent ≡ (memory.entry.ghost_name, phys_offset) }
+        ensures lent { let lent = (⟦<Self as Tables>⟧.hierarchy result).lent in
+            lent ≡ (memory.entry.ghost_name, phys_offset) }
         ensures memory { (⟦<Self as Tables>⟧.hierarchy result).memory ≡ memory.old }
         ensures layout { let places = offset_places phys_offset in
             (⟦<Self as Tables>⟧.hierarchy result).layout ≡ direct places root }

@@ -1,8 +1,9 @@
 //! The mapper that reaches tables through the root's entry for itself, and the windows in which it finds them.
 ghost use Rattle.std.specs.Prelude.{◌≡◌, ◌<◌, length, Some, bit_or};
 ghost use Rattle.std.specs.Borrow.{sem, GName};
-ghost use Rattle.x86_64_model.specs.Layout.{Valid};
+ghost use Rattle.x86_64_model.specs.Layout.{Valid as ValidIn};
 ghost use Rattle.x86_64_model.specs.Memory.{word, words_of, identity_places};
+ghost use Rattle.x86_64_model.specs.Owned.{Valid};
 ghost use Rattle.x86_64_tables.specs.PageTableFlags.{bits_of};
 ghost use Rattle.x86_64_mappers.specs.InvalidPageTables.{refuses};
 ghost use Rattle.x86_64_mappers.specs.Layouts.{root_table};
@@ -64,7 +65,7 @@ pub struct Recursive<A> {
 pub type RecursivePageTable<'a> = Recursive<ActiveMemory<'a>>;
 
 impl<'a> Recursive<ActiveMemory<'a>> {
-    ghost use Rattle.std.specs.Prelude.{None, IsOk, IfOk, IfErr};
+    ghost use Rattle.std.specs.Prelude.{◌↔◌, None, IsOk, IfOk, IfErr};
     ghost use Rattle.x86_64_model.specs.Position.{index};
     ghost use Rattle.x86_64_tables.specs.ActiveMemory.{memory_of, cr3_of};
     ghost use Rattle.x86_64_mappers.specs.Recursive.{active_in};
@@ -85,12 +86,14 @@ impl<'a> Recursive<ActiveMemory<'a>> {
         virt: VirtAddr,
     ) -> Result<Self, InvalidPageTable>
         requires { let memory = memory_of active in let cr3 = cr3_of active in
-            refuses memory cr3 table virt ≡ None → Valid (recursive_now memory cr3 (index 4 virt)) memory }
+            let now = recursive_now memory cr3 (index 4 virt) in
+            refuses memory cr3 table virt ≡ None → ValidIn now memory }
         ensures active { IfOk result (λ mapper. active_in mapper ≡ active.entry) }
         ensures layout { let memory = memory_of active.entry in let cr3 = cr3_of active.entry in
             let now = recursive_now memory cr3 (index 4 virt) in
             IfOk result (λ mapper. (⟦<Self as Tables>⟧.hierarchy mapper).layout ≡ now) }
-        ensures made { refuses (memory_of active.entry) (cr3_of active.entry) table virt ≡ None → IsOk result }
+        ensures made { let why_not = refuses (memory_of active.entry) (cr3_of active.entry) table virt in
+            IsOk result ↔ (why_not ≡ None) }
         ensures refused { let why_not = refuses (memory_of active.entry) (cr3_of active.entry) table virt in
             IfErr result (λ why. why_not ≡ Some why) }
     {
@@ -130,7 +133,7 @@ impl<A: WalkedTables> Recursive<A> {
     ///
     /// Condition: the hierarchy is valid for the index.
     pub fn new_unchecked(active: A, index: PageTableIndex) -> Self
-        requires { let memory = A.memory active in Valid (recursive_now memory (A.root active) index) memory }
+        requires { let memory = A.memory active in ValidIn (recursive_now memory (A.root active) index) memory }
         ensures active { active_in result ≡ active }
         ensures layout { let now = recursive_now (A.memory active) (A.root active) index in
             (⟦<Self as Tables>⟧.hierarchy result).layout ≡ now }
@@ -147,7 +150,7 @@ impl<A: WalkedTables> Recursive<A> {
     ///
     /// Condition: the hierarchy is valid.
     pub fn level_4_table(&self) -> &PageTable
-        requires { let h = ⟦<Self as Tables>⟧.hierarchy self.now in Valid h.layout h.memory }
+        requires { Valid (⟦<Self as Tables>⟧.hierarchy self.now) }
         ensures { root_table (⟦<Self as Tables>⟧.hierarchy self.now) ≡ Some result.now }
     {
         self.table(&[], self.active.cr3())
@@ -157,8 +160,9 @@ impl<A: WalkedTables> Recursive<A> {
     ///
     /// Condition: the hierarchy is valid.
     pub fn level_4_table_mut(&mut self) -> &mut PageTable
-        requires { let h = ⟦<Self as Tables>⟧.hierarchy self.old in Valid h.layout h.memory }
-        ensures* lends { sem 𝓛 (LendsRootWindow A.row A.with_table self.entry (A.root self.old.active) result) }
+        requires { Valid (⟦<Self as Tables>⟧.hierarchy self.old) }
+        ensures* lends { let root = A.root self.old.active in
+            sem 𝓛 (LendsRootWindow A.row A.with_table self.entry root result) }
         ensures value { root_table (⟦<Self as Tables>⟧.hierarchy self.old) ≡ Some result.now }
     {
         let root = self.active.cr3();
@@ -168,7 +172,8 @@ impl<A: WalkedTables> Recursive<A> {
 
 /// Gives the flags of the root's entry for itself.
 fn self_flags<A: WalkedTables>(active: &A, index: PageTableIndex) -> PageTableFlags
-    requires { let memory = A.memory active.now in Valid (recursive_now memory (A.root active.now) index) memory }
+    requires { let memory = A.memory active.now in
+        ValidIn (recursive_now memory (A.root active.now) index) memory }
     ensures { let words = words_of (A.memory active.now) identity_places in let root = A.root active.now in
         bit_or root (bits_of result) ≡ word words root index }
 {

@@ -146,7 +146,8 @@ fn update_entry<S: PageSize>(
 ///
 /// `PageNotMapped` where the entry is unused.
 fn set_entry_flags(entry: &mut PageTableEntry, flags: PageTableFlags) -> Result<(), FlagUpdateError>
-    ensures refusal { flags_refusal result ≡ refusal_of (answer_said (flags_say (bits_of flags) entry.old)) }
+    ensures refusal { let said = flags_say (bits_of flags) entry.old in
+        flags_refusal result ≡ refusal_of (answer_said said) }
     ensures word { entry.new ≡ word_said entry.old (flags_say (bits_of flags) entry.old) }
 {
     if entry.is_unused() {
