@@ -29,7 +29,8 @@ impl Arguments {
     /// Reads `direct N` or `offset N OFF`. Answers `None` exactly where the words are neither.
     pub fn parse(words: &[String]) -> Option<Arguments>
         ensures says { IfSome result (Says (map string_bytes words.now)) }
-        ensures none { IfNone result ((arguments : Arguments) → ¬ (Says (map string_bytes words.now) arguments)) }
+        ensures none { IfNone result ((arguments : Arguments) →
+            ¬ (Says (map string_bytes words.now) arguments)) }
     {
         match words {
             [mode, places] if mode.as_str() == "direct" => Some(Arguments {

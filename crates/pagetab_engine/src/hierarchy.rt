@@ -81,7 +81,8 @@ impl Hierarchy {
         ensures memory { OnOk result (self.new.memory ≡ memory_after self.old line) }
         ensures free { OnOk result (self.new.pool.frames ≡ free_after self.old line) }
         ensures why { IfErr result (IsRefusedFor self.old line) }
-        ensures refused { OnErr result ((self.new.memory ≡ self.old.memory) × (self.new.pool.frames ≡ self.old.pool.frames)) }
+        ensures refused { OnErr result (
+            (self.new.memory ≡ self.old.memory) × (self.new.pool.frames ≡ self.old.pool.frames)) }
         ensures limit { self.new.pool.limit ≡ self.old.pool.limit }
         ensures mode { self.new.mode ≡ self.old.mode }
     {
@@ -115,8 +116,10 @@ impl Hierarchy {
     /// `AllocError` where memory is refused; then nothing changes.
     pub fn answer_call(&mut self, alloc: Global, call: Call) -> Result<Reply, AllocError>
         requires { IsHierarchy self.old }
-        ensures reply { IfOk result (λ reply. Some reply ≡ (call_step machine (state_of self.old) call).reply) }
-        ensures state { OnOk result (state_of self.new ≡ (call_step machine (state_of self.old) call).state) }
+        ensures reply { IfOk result (λ reply.
+            Some reply ≡ (call_step machine (state_of self.old) call).reply) }
+        ensures state { OnOk result (
+            state_of self.new ≡ (call_step machine (state_of self.old) call).state) }
         ensures unchanged { OnErr result (self.new ≡ self.old) }
         ensures keeps { Keeps self.old self.new }
     {
@@ -202,9 +205,11 @@ fn answer_direct(
     call: Call,
 ) -> Result<Reply, AllocError>
     requires { FitsPool layout memory.old (serves_below pool.old.limit) pool.old.frames }
-    ensures answered { IfOk result (IsAnswered layout memory.old pool.old.frames call memory.new pool.new.frames) }
+    ensures answered { IfOk result (
+        IsAnswered layout memory.old pool.old.frames call memory.new pool.new.frames) }
     ensures unchanged { OnErr result ((memory.new ≡ memory.old) × (pool.new ≡ pool.old)) }
-    ensures keeps { KeepsPool layout (serves_below pool.old.limit) memory.old pool.old.frames memory.new pool.new.frames }
+    ensures keeps { let serves = serves_below pool.old.limit in
+        KeepsPool layout serves memory.old pool.old.frames memory.new pool.new.frames }
     ensures serves { serves_below pool.new.limit ≡ serves_below pool.old.limit }
 {
     let mut mapper = MappedPageTable::new(memory, root(), IdentityMapping);
@@ -227,9 +232,11 @@ fn answer_at_offset(
 ) -> Result<Reply, AllocError>
     requires pool { FitsPool layout memory.old (serves_below pool.old.limit) pool.old.frames }
     requires offset { OffsetFits memory.old phys_offset }
-    ensures answered { IfOk result (IsAnswered layout memory.old pool.old.frames call memory.new pool.new.frames) }
+    ensures answered { IfOk result (
+        IsAnswered layout memory.old pool.old.frames call memory.new pool.new.frames) }
     ensures unchanged { OnErr result ((memory.new ≡ memory.old) × (pool.new ≡ pool.old)) }
-    ensures keeps { KeepsPool layout (serves_below pool.old.limit) memory.old pool.old.frames memory.new pool.new.frames }
+    ensures keeps { let serves = serves_below pool.old.limit in
+        KeepsPool layout serves memory.old pool.old.frames memory.new pool.new.frames }
     ensures offset { OffsetFits memory.new phys_offset }
     ensures serves { serves_below pool.new.limit ≡ serves_below pool.old.limit }
 {
