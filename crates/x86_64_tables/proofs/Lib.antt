@@ -5,6 +5,7 @@ pub mod WalkSteps
 pub mod PlacesInOrder
 pub mod WordsSeen
 pub mod ImageMarks
+pub mod AlikeSteps
 pub mod Translations
 pub mod Pools
 pub mod PagePaths

@@ -1,12 +1,12 @@
 -- The walk by one level, for code that has the level as a number.
-use Rattle.std.proofs.Common.{zero, suc, ⊎_elim, ◌≡◌, ◌<◌, ◌≤◌, ◌+◌, ◌-◌, ◌%◌, ◌^◌, ℕ, ◌&&◌, Bool, true, false, cond, Some, None, Option, option_and_then, nat_le, refl, sym, ap, ◌∙◌, arith, le-leb}
+use Rattle.std.proofs.Common.{inl, inr, ◌⊎◌, zero, suc, ⊎_elim, ◌≡◌, ◌<◌, ◌≤◌, ◌+◌, ◌-◌, ◌%◌, ◌^◌, ℕ, ◌&&◌, Bool, true, false, cond, Some, None, Option, option_and_then, nat_le, refl, sym, ap, ◌∙◌, arith, le-leb}
 use Rattle.std.proofs.lemmas.Bool.{lt-leb, cases_lt}
 use Rattle.x86_64_model.specs.Entry.{present, writable, user, huge, address}
 use Rattle.x86_64_model.specs.Memory.{Words}
 use Rattle.x86_64_model.specs.Position.{index, span}
 use Rattle.x86_64_model.specs.PageWalk.{page_start, Walked, arrives, read, walk_on}
 use Rattle.x86_64_model.proofs.Lemmas.Entries.Words.{address_aligned, address_within}
-use Rattle.x86_64_tables.specs.Walks.{arrival}
+use Rattle.x86_64_tables.specs.Walks.{ends}
 
 -- what a word of level one says of the walk
 abbrev pub said_last : (p : ℕ) → (w u : Bool) → ℕ → Option Walked
@@ -63,9 +63,8 @@ module _ (T : Words) (p level : ℕ) (w u : Bool) (f e : ℕ) (is : Some e ≡ r
       ∙ one_says (omega (arith, l, less)))
       (cases_lt 1 level)
 
-  pub on_last : level ≡ 1 → present e ≡ true
-      → Some (arrival 1 p (w && writable e) (u && user e) e) ≡ walk_on T p level w u f
-  on_last l h = ap (λ a. arrives (a + p % span 1) (w && writable e) (u && user e)) (page_start_one e)
+  pub on_last : level ≡ 1 → present e ≡ true → ends level p (w && writable e) (u && user e) e ≡ walk_on T p level w u f
+  on_last l h = ap (λ n. ends n p (w && writable e) (u && user e) e) l ∙ ap (λ a. arrives (a + p % span 1) (w && writable e) (u && user e)) (page_start_one e)
       ∙ (sym (ap (λ b. cond b (arrives (address e + p % span 1) (w && writable e) (u && user e)) None) h) ∙ one_says l)
 
   module _ (l : 1 < level) (here : present e ≡ true) where
@@ -75,20 +74,17 @@ module _ (T : Words) (p level : ℕ) (w u : Bool) (f e : ℕ) (is : Some e ≡ r
     by_bit : (h : Bool) → huge e ≡ h → said_present T p level w u e h ≡ walk_on T p level w u f
     by_bit h g = sym (ap (said_present T p level w u e) g) ∙ to_entry
 
-    pub on_page : huge e ≡ true → level ≤ 3
-        → Some (arrival level p (w && writable e) (u && user e) e) ≡ walk_on T p level w u f
-    on_page g low =
-        sym (ap (λ b. cond b (arrives (page_start level e + p % span level) (w && writable e) (u && user e)) None) (le-leb level 3 low))
-        ∙ by_bit true g
-
-    pub on_high : huge e ≡ true → 3 < level → None ≡ walk_on T p level w u f
-    on_high g high =
-        sym (ap (λ b. cond b (arrives (page_start level e + p % span level) (w && writable e) (u && user e)) None) (lt-leb level 3 high))
-        ∙ by_bit true g
+    pub on_huge : huge e ≡ true → ends level p (w && writable e) (u && user e) e ≡ walk_on T p level w u f
+    on_huge g = by_bit true g
 
     pub on_table : huge e ≡ false
         → walk_on T p (level - 1) (w && writable e) (u && user e) (address e) ≡ walk_on T p level w u f
     on_table g = by_bit false g
+
+  -- a word that ends the walk: one of level one, or a huge one
+  pub on_end : 1 ≤ level → present e ≡ true → (level ≡ 1) ⊎ (huge e ≡ true) → ends level p (w && writable e) (u && user e) e ≡ walk_on T p level w u f
+  on_end low here (inl last) = on_last last here
+  on_end low here (inr large) = ⊎_elim (λ more. on_huge more here large) (λ less. on_last (omega (arith, low, less)) here) (cases_lt 1 level)
 
 -- a page below 2^52 ends below it
 pub arrives_within : (e p level : ℕ) → 1 ≤ level → level ≤ 3 → page_start level e + p % span level < 2 ^ 52
@@ -97,12 +93,3 @@ arrives_within e p (suc zero) low high = omega (arith, address_within e)
 arrives_within e p (suc (suc zero)) low high = omega (arith, address_within e)
 arrives_within e p (suc (suc (suc zero))) low high = omega (arith, address_within e)
 arrives_within e p (suc (suc (suc (suc n)))) low high = absurd (omega arith)
-
-pub span_below : (level : ℕ) → 1 ≤ level → level ≤ 3 → span level ≤ 2 ^ 30
-span_below zero l h = absurd (omega arith)
-span_below (suc zero) l h = omega arith
-span_below (suc (suc zero)) l h = omega arith
-span_below (suc (suc (suc zero))) l h = omega arith
-span_below (suc (suc (suc (suc n)))) l h = absurd (omega arith)
-
-pub ruleset levels = (on_none, on_absent, on_last, on_page, on_high, on_table)

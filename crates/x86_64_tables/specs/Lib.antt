@@ -6,6 +6,7 @@ pub mod Lending
 pub mod Walks
 pub mod Images
 pub mod SelfEntries
+pub mod PathsSeen
 pub mod ActiveMemory
 pub mod Translations
 pub mod MapperAnswers
@@ -15,6 +16,7 @@ pub mod FlushRecorder
 pub use Rattle.x86_64_model.specs.Entry
 pub use Rattle.x86_64_model.specs.Memory
 pub use Rattle.x86_64_model.specs.Hierarchy
+pub use Rattle.x86_64_model.specs.Alike
 pub use Rattle.x86_64_model.specs.Pool
 pub use Rattle.x86_64_model.specs.Marks
 pub use Rattle.x86_64_model.specs.PageWalk

@@ -1,6 +1,6 @@
 //! What all mappers have in common: the tables that they own for a while, translations of addresses, and maps of pages.
 ghost use Rattle.std.specs.Prelude.{◌≡◌, ◌<◌, ◌≤◌, ◌^◌, ℕ, true, Some, option_map, IfOk};
-ghost use Rattle.x86_64_model.specs.Entry.{IsParentFlags};
+ghost use Rattle.x86_64_model.specs.Laws.Pairs.{IsAdded};
 ghost use Rattle.x86_64_model.specs.Memory.{IsMapping};
 ghost use Rattle.x86_64_model.specs.MapRule.{parent_part};
 ghost use Rattle.x86_64_model.specs.Owned.{Hierarchy, Valid, walk, translation};
@@ -92,8 +92,8 @@ pub trait Tables {
     /// The hierarchy now: its layout, which no call changes, the memory, and which memory was lent and what finds frames in it.
     ghost hierarchy: { Self → Hierarchy Lent };
 
-    // The flags that a new table entry gets beside the parent flags are such that an entry above a page may have them.
-    ghost added_flags: { (tables : Self) → IsParentFlags (hierarchy tables).layout.added_flags };
+    // A new table entry gets beside the parent flags: no flag, or `PRESENT`, and `WRITABLE` or not.
+    ghost added_flags: { (tables : Self) → IsAdded (hierarchy tables).layout.added_flags };
 
     /// Gives the recursive index, where the root names itself.
     fn recursive_index(&self) -> Option<PageTableIndex>

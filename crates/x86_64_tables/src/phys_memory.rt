@@ -10,6 +10,8 @@ ghost use Rattle.x86_64_tables.specs.PageTable.{zero_words};
 ghost use Rattle.x86_64_tables.specs.Lending.{LendsTable, LendsTableAt};
 
 mod active;
+mod alike;
+mod image;
 mod shift_mapping;
 #[cfg(test)]
 mod tests;
@@ -18,6 +20,7 @@ mod walk;
 
 use crate::page_table::PageTable;
 pub use active::ActiveMemory;
+pub use alike::tables_alike;
 pub use shift_mapping::ShiftMapping;
 use std::alloc::{AllocError, Global};
 use std::marker::Model;

@@ -6,7 +6,7 @@ ghost use Rattle.x86_64_model.specs.Entry.{is_frame};
 ghost use Rattle.x86_64_tables.specs.ActiveMemory.{lent, memory_of, words_in, cr3_of, walked_frame, walked_table, LendsWalked, LendsFrame};
 ghost use Rattle.x86_64_tables.specs.SelfEntries.{has_self_entry};
 
-use super::validity::has_self_entry;
+use super::image::has_self_entry;
 use super::{FramePlace, IdentityMapping, PhysMemory, page_walk};
 use crate::page_table::PageTable;
 use x86_64_addr::addr::{PhysAddr, VirtAddr};

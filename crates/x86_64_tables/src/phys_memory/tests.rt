@@ -1,4 +1,5 @@
 //! Tests of walks, of hierarchies and of pools that fit them, over memories that are given as words.
+mod alike;
 mod recursive;
 
 use super::{

@@ -1,21 +1,19 @@
 //! The tests of a hierarchy: whether the words below a root are one, and whether a pool fits it.
-ghost use Rattle.std.specs.Prelude.{◌≡◌, ◌<◌, ◌↔◌, ℕ, if◌then◌else◌, length, IfOk, IsTrue, Some, None, false, true, slice_index_or, unwrap_or};
+ghost use Rattle.std.specs.Prelude.{◌≡◌, ◌<◌, ◌↔◌, ℕ, if◌then◌else◌, length, IfOk, IsTrue, Some, None, false, true, slice_index_or};
 ghost use Rattle.std.specs.FinMap.{keys};
 ghost use Rattle.std.specs.Option.{option_copied};
-ghost use Rattle.x86_64_model.specs.Entry.{huge};
-ghost use Rattle.x86_64_model.specs.Memory.{identity_places, word, words_of};
+ghost use Rattle.x86_64_model.specs.Memory.{identity_places, words_of};
 ghost use Rattle.x86_64_model.specs.Hierarchy.{IsValid, paths_of};
 ghost use Rattle.x86_64_model.specs.Window.{outside_window, IsValidFor};
 ghost use Rattle.x86_64_model.specs.Pool.{Fits};
-ghost use Rattle.x86_64_model.specs.Tables.{tables_from, NoneHuge, SoundTables};
+ghost use Rattle.x86_64_model.specs.Tables.{tables_from, SoundTables};
 ghost use Rattle.x86_64_model.specs.Marks.{serves_below, mark_one, mark_all};
-ghost use Rattle.x86_64_tables.specs.Images.{seen, free_in, mark_slot, below_word, IsSound};
-ghost use Rattle.x86_64_tables.specs.SelfEntries.{has_self_entry, names_frame, window_at};
+ghost use Rattle.x86_64_tables.specs.Images.{seen, free_in, mark_slot, IsSound};
+ghost use Rattle.x86_64_tables.specs.SelfEntries.{window_at};
 
-use super::walk::{entry_at, has_flag};
+use super::image::{Image, has_self_entry};
 use super::{IdentityMapping, PageTableFrameMapping, PhysMemory};
 use crate::frame_alloc::FramePool;
-use crate::page_table::{PageTableEntry, PageTableFlags};
 use std::alloc::{AllocError, Global};
 use x86_64_addr::index::PageTableIndex;
 use x86_64_page::frame::PhysFrame;
@@ -47,9 +45,12 @@ pub fn is_valid_hierarchy<P: PageTableFrameMapping>(
         mapping,
         root,
         recursive: None,
+    };
+    let survey = Survey {
+        image,
         limit: FRAME_COUNT,
     };
-    image.is_sound(alloc, 3, None)
+    survey.is_sound(alloc, 3, None)
 }
 
 /// Tells whether the words below the root are a valid hierarchy of four levels for a recursive index, where each frame
@@ -75,12 +76,15 @@ pub fn is_valid_recursive(
 {
     let image = Image {
         memory,
-        mapping: &IdentityMapping,
+        mapping: IdentityMapping,
         root,
         recursive: Some(index),
+    };
+    let survey = Survey {
+        image,
         limit: FRAME_COUNT,
     };
-    image.is_sound(alloc, 3, None)
+    survey.is_sound(alloc, 3, None)
 }
 
 /// Tells whether the words below the root are a valid hierarchy of four levels, and a pool fits it.
@@ -108,9 +112,12 @@ pub fn pool_fits<P: PageTableFrameMapping>(
         mapping,
         root,
         recursive: None,
+    };
+    let survey = Survey {
+        image,
         limit: pool.limit(),
     };
-    image.is_sound(alloc, 3, Some(pool))
+    survey.is_sound(alloc, 3, Some(pool))
 }
 
 /// Tells whether the words below the root are a valid hierarchy of four levels for a recursive index, and a pool fits
@@ -136,26 +143,26 @@ pub fn pool_fits_recursive(
 {
     let image = Image {
         memory,
-        mapping: &IdentityMapping,
+        mapping: IdentityMapping,
         root,
         recursive: Some(index),
+    };
+    let survey = Survey {
+        image,
         limit: pool.limit(),
     };
-    image.is_sound(alloc, 3, Some(pool))
+    survey.is_sound(alloc, 3, Some(pool))
 }
 
-/// Holds a hierarchy to be tested: its root in a memory, past the root's word at the recursive index where there is
-/// one. The frames of its tables, but for the root, and those of a pool have numbers from 1 to `limit` - 1.
+/// Holds a hierarchy to be tested. The frames of its tables, but for the root, and those of a pool have numbers from 1
+/// to `limit` - 1.
 #[derive(Drop)]
-struct Image<'a, P> {
-    memory: &'a PhysMemory,
-    mapping: &'a P,
-    root: PhysFrame<Size4KiB>,
-    recursive: Option<PageTableIndex>,
+struct Survey<'a, P> {
+    image: Image<'a, P>,
     limit: u64,
 }
 
-impl<'a, P: PageTableFrameMapping> Image<'a, P> {
+impl<'a, P: PageTableFrameMapping> Survey<'a, P> {
     /// Tells whether each table, through so many levels below the root, and each frame of the pool, where there is one,
     /// is met once, in the memory and at a number that tables may have, and no word above level three has `HUGE_PAGE`;
     /// and whether the root's word at the recursive index, where there is one, names the root.
@@ -166,34 +173,39 @@ impl<'a, P: PageTableFrameMapping> Image<'a, P> {
         levels: u8,
         pool: Option<&FramePool>,
     ) -> Result<bool, AllocError>
-        ensures { let image = self.now in
-            let words = words_of image.memory.now (P.places image.mapping.now) in
-            let serves = serves_below image.limit in let free = free_in (option_copied pool.entry) in
+        ensures { let image = self.now.image in
+            let words = words_of image.memory.now (P.places image.mapping) in
+            let serves = serves_below self.now.limit in let free = free_in (option_copied pool.entry) in
             IfOk result (λ b. IsTrue b ↔ IsSound levels words image.root image.recursive serves free) }
     {
-        if let Some(index) = self.recursive {
-            if !has_self_entry(self.memory, self.mapping, self.root, index) {
+        if let Some(index) = self.image.recursive {
+            if !has_self_entry(
+                self.image.memory,
+                &self.image.mapping,
+                self.image.root,
+                index,
+            ) {
                 return Ok(false);
             }
         }
-        let mut marks = vec![in alloc; false; self.memory.len()]?;
+        let mut marks = vec![in alloc; false; self.image.memory.len()]?;
         Ok(self.is_sound_by(levels, pool, &mut marks))
     }
 
     /// Tells the first of these by marks, one for each place, which are all clear at first.
     fn is_sound_by(&self, levels: u8, pool: Option<&FramePool>, marks: &mut [bool]) -> bool
-        requires length { length marks.old ≡ length (keys self.now.memory.now) }
-        requires clear { (k : ℕ) → k < length (keys self.now.memory.now)
+        requires length { length marks.old ≡ length (keys self.now.image.memory.now) }
+        requires clear { (k : ℕ) → k < length (keys self.now.image.memory.now)
             → slice_index_or marks.old k true ≡ false }
-        ensures { let image = self.now in let places = P.places image.mapping.now in
+        ensures { let image = self.now.image in let places = P.places image.mapping in
             let words = seen image.memory.now places image.root image.recursive in
-            let serves = serves_below image.limit in let free = free_in (option_copied pool.entry) in
+            let serves = serves_below self.now.limit in let free = free_in (option_copied pool.entry) in
             IsTrue result ↔ SoundTables levels words image.root serves free }
     {
-        if !self.mark_tables(marks, self.root, levels) {
+        if !self.mark_tables(marks, self.image.root, levels) {
             return false;
         }
-        if !self.none_huge(self.root, levels) {
+        if !self.image.none_huge(self.image.root, levels) {
             return false;
         }
         match pool {
@@ -204,10 +216,10 @@ impl<'a, P: PageTableFrameMapping> Image<'a, P> {
 
     /// Marks the table in a frame and those below it, through so many levels, if each may be met and was not before.
     fn mark_tables(&self, marks: &mut [bool], frame: PhysFrame<Size4KiB>, levels: u8) -> bool
-        requires { length marks.old ≡ length (keys self.now.memory.now) }
-        ensures { let image = self.now in let places = P.places image.mapping.now in
+        requires { length marks.old ≡ length (keys self.now.image.memory.now) }
+        ensures { let image = self.now.image in let places = P.places image.mapping in
             let words = seen image.memory.now places image.root image.recursive in
-            let slot = mark_slot image.memory.now places image.root image.limit in
+            let slot = mark_slot image.memory.now places image.root self.now.limit in
             (if result then Some marks.new else None) ≡ mark_all slot marks.old (tables_from levels words frame) }
     {
         if !self.mark(marks, frame) {
@@ -215,7 +227,7 @@ impl<'a, P: PageTableFrameMapping> Image<'a, P> {
         }
         if 0 < levels {
             for index in 0..512 {
-                if let Some(below) = self.table_below(frame, index) {
+                if let Some(below) = self.image.table_below(frame, index) {
                     if !self.mark_tables(marks, below, levels - 1) {
                         return false;
                     }
@@ -227,9 +239,9 @@ impl<'a, P: PageTableFrameMapping> Image<'a, P> {
 
     /// Marks each frame of a pool, if each may be met and was not before.
     fn mark_pool(&self, marks: &mut [bool], pool: &FramePool) -> bool
-        requires { length marks.old ≡ length (keys self.now.memory.now) }
-        ensures { let image = self.now in let places = P.places image.mapping.now in
-            let slot = mark_slot image.memory.now places image.root image.limit in
+        requires { length marks.old ≡ length (keys self.now.image.memory.now) }
+        ensures { let image = self.now.image in let places = P.places image.mapping in
+            let slot = mark_slot image.memory.now places image.root self.now.limit in
             (if result then Some marks.new else None) ≡ mark_all slot marks.old pool.now.frames }
     {
         for n in 0..pool.len() {
@@ -242,33 +254,12 @@ impl<'a, P: PageTableFrameMapping> Image<'a, P> {
         true
     }
 
-    /// Tells whether no word above level three has `HUGE_PAGE`, from the table in a frame through so many levels.
-    fn none_huge(&self, frame: PhysFrame<Size4KiB>, levels: u8) -> bool
-        ensures { let image = self.now in let places = P.places image.mapping.now in
-            let words = seen image.memory.now places image.root image.recursive in
-            IsTrue result ↔ NoneHuge levels words frame }
-    {
-        if 2 < levels {
-            for index in 0..512 {
-                if self.is_huge(frame, index) {
-                    return false;
-                }
-                if let Some(below) = self.table_below(frame, index) {
-                    if !self.none_huge(below, levels - 1) {
-                        return false;
-                    }
-                }
-            }
-        }
-        true
-    }
-
     /// Marks a frame, if it may be met and was not before.
     #[tactic(auto, unfolding(x86_64_model::specs::Marks::mark_one))]
     fn mark(&self, marks: &mut [bool], frame: PhysFrame<Size4KiB>) -> bool
-        requires { length marks.old ≡ length (keys self.now.memory.now) }
-        ensures { let image = self.now in let places = P.places image.mapping.now in
-            let slot = mark_slot image.memory.now places image.root image.limit in
+        requires { length marks.old ≡ length (keys self.now.image.memory.now) }
+        ensures { let image = self.now.image in let places = P.places image.mapping in
+            let slot = mark_slot image.memory.now places image.root self.now.limit in
             (if result then Some marks.new else None) ≡ mark_one slot marks.old frame }
     {
         match self.slot(frame) {
@@ -287,88 +278,19 @@ impl<'a, P: PageTableFrameMapping> Image<'a, P> {
     /// Gives the index of a frame's mark, if the frame may be met.
     #[tactic(auto, unfolding(x86_64_model::specs::Marks::spot_of))]
     fn slot(&self, frame: PhysFrame<Size4KiB>) -> Option<usize>
-        ensures value { let image = self.now in let places = P.places image.mapping.now in
-            result ≡ mark_slot image.memory.now places image.root image.limit frame }
-        ensures within { (k : ℕ) → result ≡ Some k → k < length (keys self.now.memory.now) }
+        ensures value { let image = self.now.image in let places = P.places image.mapping in
+            result ≡ mark_slot image.memory.now places image.root self.now.limit frame }
+        ensures within { (k : ℕ) → result ≡ Some k → k < length (keys self.now.image.memory.now) }
     {
         let number = frame.start_address().as_u64() / Size4KiB::SIZE;
-        if frame == self.root || (0 < number && number < self.limit) {
-            if self.mapping.covers(frame) {
-                return self.memory.index_of(self.mapping.frame_to_pointer(frame));
+        if frame == self.image.root || (0 < number && number < self.limit) {
+            if self.image.mapping.covers(frame) {
+                return self
+                    .image
+                    .memory
+                    .index_of(self.image.mapping.frame_to_pointer(frame));
             }
         }
         None
-    }
-
-    /// Tells whether the word at an index of the table in a frame has `HUGE_PAGE`.
-    fn is_huge(&self, frame: PhysFrame<Size4KiB>, index: usize) -> bool
-        requires { index < 512 }
-        ensures { let image = self.now in let places = P.places image.mapping.now in
-            let words = seen image.memory.now places image.root image.recursive in
-            result ≡ huge (word words frame index) }
-    {
-        match self.entry(frame, index) {
-            Some(entry) => has_flag(entry, PageTableFlags::HUGE_PAGE),
-            None => false,
-        }
-    }
-
-    /// Gives the frame of the table that the word at an index of the table in a frame names.
-    fn table_below(&self, frame: PhysFrame<Size4KiB>, index: usize) -> Option<PhysFrame<Size4KiB>>
-        requires { index < 512 }
-        ensures { let image = self.now in let places = P.places image.mapping.now in
-            let words = seen image.memory.now places image.root image.recursive in
-            result ≡ below_word (word words frame index) }
-    {
-        match self.entry(frame, index) {
-            Some(entry) => named_table(entry),
-            None => None,
-        }
-    }
-
-    /// Reads the entry at an index of the table in a frame, if there is one and it is not the recursive one.
-    fn entry(&self, frame: PhysFrame<Size4KiB>, index: usize) -> Option<&'a PageTableEntry>
-        requires { index < 512 }
-        ensures { let image = self.now in let places = P.places image.mapping.now in
-            let words = seen image.memory.now places image.root image.recursive in
-            unwrap_or (option_copied result) 0 ≡ word words frame index }
-    {
-        match self.recursive {
-            Some(recursive) if frame == self.root && index == usize::from(recursive) => None,
-            _ => entry_at(self.memory, self.mapping, frame, index),
-        }
-    }
-}
-
-/// Tells whether the word at an index of the table in the root's frame, if there is one, gives the root as `frame`.
-pub(super) fn has_self_entry<P: PageTableFrameMapping>(
-    memory: &PhysMemory,
-    mapping: &P,
-    root: PhysFrame<Size4KiB>,
-    index: PageTableIndex,
-) -> bool
-    ensures { result ≡ has_self_entry (words_of memory.now (P.places mapping.now)) root index }
-{
-    match entry_at(memory, mapping, root, usize::from(index)) {
-        Some(entry) => names_frame(entry, root),
-        None => false,
-    }
-}
-
-/// Tells whether an entry gives a frame as `frame`.
-fn names_frame(entry: &PageTableEntry, frame: PhysFrame<Size4KiB>) -> bool
-    ensures { result ≡ names_frame entry.now frame }
-{
-    entry.frame() == Ok(frame)
-}
-
-/// Gives the frame of the table that an entry above level one names: a used entry without `HUGE_PAGE`.
-fn named_table(entry: &PageTableEntry) -> Option<PhysFrame<Size4KiB>>
-    ensures { result ≡ below_word entry.now }
-{
-    if entry.is_unused() || has_flag(entry, PageTableFlags::HUGE_PAGE) {
-        None
-    } else {
-        Some(PhysFrame::from_start_address_unchecked(entry.addr()))
     }
 }

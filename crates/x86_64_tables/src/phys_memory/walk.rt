@@ -1,19 +1,19 @@
 //! The page walk: where the processor finds an address.
-ghost use Rattle.std.specs.Prelude.{◌≡◌, ◌<◌, ◌≤◌, ◌^◌, ◌&&◌, ◌+◌, ◌*◌, ◌/◌, ◌%◌, option_map, bit_and};
+ghost use Rattle.std.specs.Prelude.{◌≡◌, ◌<◌, ◌≤◌, ◌&&◌, true, option_map, bit_and};
 ghost use Rattle.std.specs.Option.{option_copied};
 ghost use Rattle.x86_64_model.specs.Entry.{has, writable, user};
 ghost use Rattle.x86_64_model.specs.Memory.{words_of};
 ghost use Rattle.x86_64_model.specs.Position.{index, span};
 ghost use Rattle.x86_64_model.specs.PageWalk.{read, walk_on, page_walk as page_walk_of};
 ghost use Rattle.x86_64_tables.specs.PageTableFlags.{bits_of};
-ghost use Rattle.x86_64_tables.specs.Walks.{walked_of, arrival};
+ghost use Rattle.x86_64_tables.specs.Walks.{walked_of, arrival, ends};
 
 use super::{PageTableFrameMapping, PhysMemory};
 use crate::page_table::{PageTableEntry, PageTableFlags};
 use bitflags::Flags;
 use x86_64_addr::addr::{PhysAddr, VirtAddr};
 use x86_64_page::frame::PhysFrame;
-use x86_64_page::page::Size4KiB;
+use x86_64_page::page::{PageSize, Size1GiB, Size2MiB, Size4KiB};
 
 /// Says where a page walk arrives, and what all the entries on its way allow.
 #[derive(Clone, Copy, Debug, PartialEq)]
@@ -42,11 +42,7 @@ pub fn page_walk<P: PageTableFrameMapping>(
     ensures { let tables = words_of memory.now (P.places mapping.now) in
         option_map walked_of result ≡ page_walk_of 4 tables root addr }
 {
-    let rights = Rights {
-        write: true,
-        user: true,
-    };
-    walk_down(memory, mapping, 4, root, position_of(addr), rights)
+    walk_from(memory, mapping, 4, root, position_of(addr))
 }
 
 /// Says what the entries on the way so far allow.
@@ -57,6 +53,12 @@ struct Rights {
 }
 
 impl Rights {
+    /// What is allowed before the first entry.
+    const ALL: Rights = Rights {
+        write: true,
+        user: true,
+    };
+
     /// Gives what is still allowed below an entry.
     fn below(self, entry: &PageTableEntry) -> Rights
         ensures write { result.write ≡ (self.write && writable entry.now) }
@@ -69,37 +71,33 @@ impl Rights {
     }
 }
 
-/// Walks on from the table of a level in a frame.
-#[tactic(auto, using(crate::proofs::WalkSteps::levels))]
-fn walk_down<P: PageTableFrameMapping>(
+/// Walks to a position from the root down through so many levels.
+fn walk_from<P: PageTableFrameMapping>(
     memory: &PhysMemory,
     mapping: &P,
-    level: u64,
-    frame: PhysFrame<Size4KiB>,
+    levels: u64,
+    root: PhysFrame<Size4KiB>,
     position: u64,
-    rights: Rights,
 ) -> Option<Walked>
-    requires low { 1 ≤ level }
-    requires high { level ≤ 5 }
-    ensures { option_map walked_of result
-        ≡ walk_on (words_of memory.now (P.places mapping.now)) position level rights.write rights.user frame }
+    requires { levels ≤ 5 }
+    ensures { let words = words_of memory.now (P.places mapping.now) in
+        option_map walked_of result ≡ walk_on words position levels true true root }
 {
-    let entry = entry_at(memory, mapping, frame, index_of(position, level))?;
-    if !has_flag(entry, PageTableFlags::PRESENT) {
-        return None;
+    let mut frame = root;
+    let mut rights = Rights::ALL;
+    for above in 0..levels {
+        let level = levels - above;
+        let entry = entry_at(memory, mapping, frame, index_of(position, level))?;
+        if !has_flag(entry, PageTableFlags::PRESENT) {
+            return None;
+        }
+        rights = rights.below(entry);
+        if level == 1 || has_flag(entry, PageTableFlags::HUGE_PAGE) {
+            return arrive_at(level, entry, position, rights);
+        }
+        frame = PhysFrame::from_start_address_unchecked(entry.addr());
     }
-    let rights = rights.below(entry);
-    if level == 1 {
-        return Some(arrive(entry, 1, position, rights));
-    }
-    if !has_flag(entry, PageTableFlags::HUGE_PAGE) {
-        let below = PhysFrame::from_start_address_unchecked(entry.addr());
-        return walk_down(memory, mapping, level - 1, below, position, rights);
-    }
-    if level > 3 {
-        return None;
-    }
-    Some(arrive(entry, level, position, rights))
+    None
 }
 
 /// Reads the entry at an index of the table in a frame, or gives `None` where the frame has no table in the memory.
@@ -127,31 +125,29 @@ pub(super) fn has_flag(entry: &PageTableEntry, flag: PageTableFlags) -> bool
     entry.flags().contains(flag)
 }
 
-/// Arrives in the page that an entry of a level maps.
-fn arrive(entry: &PageTableEntry, level: u64, position: u64, rights: Rights) -> Walked
-    requires low { 1 ≤ level }
-    requires high { level ≤ 3 }
-    ensures { walked_of result ≡ arrival level position rights.write rights.user entry.now }
+/// Arrives in the page that an entry of a level maps, or gives `None` where entries of the level map none.
+fn arrive_at(level: u64, entry: &PageTableEntry, position: u64, rights: Rights) -> Option<Walked>
+    requires { 1 ≤ level }
+    ensures { option_map walked_of result ≡ ends level position rights.write rights.user entry.now }
 {
-    let size = span_of(level);
-    let start = entry.addr().as_u64() / size * size;
-    Walked {
-        address: PhysAddr::new(start + position % size),
-        write: rights.write,
-        user: rights.user,
+    match level {
+        1 => Some(arrive::<Size4KiB>(entry, position, rights)),
+        2 => Some(arrive::<Size2MiB>(entry, position, rights)),
+        3 => Some(arrive::<Size1GiB>(entry, position, rights)),
+        _ => None,
     }
 }
 
-/// Gives how many positions an entry of a level spans.
-#[tactic(auto, using(crate::proofs::WalkSteps::span_below))]
-fn span_of(level: u64) -> u64
-    requires low { 1 ≤ level }
-    requires high { level ≤ 3 }
-    ensures value { result ≡ span level }
-    ensures below { result ≤ 2 ^ 30 }
-    ensures positive { 0 < result }
+/// Arrives in the page of a size that an entry maps.
+fn arrive<S: PageSize>(entry: &PageTableEntry, position: u64, rights: Rights) -> Walked
+    ensures { walked_of result ≡ arrival S.LEVEL position rights.write rights.user entry.now }
 {
-    1 << (12 + 9 * (level - 1))
+    let start = entry.addr().as_u64() / S::SIZE * S::SIZE;
+    Walked {
+        address: PhysAddr::new(start + position % S::SIZE),
+        write: rights.write,
+        user: rights.user,
+    }
 }
 
 /// Gives the index of a level at a position.

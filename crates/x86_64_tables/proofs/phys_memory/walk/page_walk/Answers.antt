@@ -7,4 +7,4 @@ pub returns : goal.returns
 unfolding page_walk
 returns g c =
     let words = words_of c.args.memory.now (g.P.PageTableFrameMapping.places c.args.mapping.now) in
-    c.walk_down.ensures ∙ ap (λ position. walk_on words position 4 true true c.args.root) c.position_of.ensures
+    c.walk_from.ensures ∙ ap (λ position. walk_on words position 4 true true c.args.root) c.position_of.ensures

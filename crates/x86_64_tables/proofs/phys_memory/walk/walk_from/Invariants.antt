@@ -1,0 +1,10 @@
+use Rattle.std.proofs.Common.{◌≡◌, ◌-◌, true}
+use Rattle.x86_64_model.specs.Memory.{words_of}
+use Rattle.x86_64_model.specs.PageWalk.{walk_on}
+use Rattle.x86_64_tables.proofs.phys_memory.walk.walk_from.Given as goal
+
+-- the walk on from here is the walk from the root
+abbrev pub invariant-loop-above : goal.invariant-loop-above
+invariant-loop-above g l =
+    let words = words_of l.memory (g.P.PageTableFrameMapping.places l.mapping) in
+    walk_on words l.position (l.levels - l.above) l.rights.write l.rights.user l.frame ≡ walk_on words l.position l.levels true true l.fn.root

@@ -1,0 +1,28 @@
+-- The path map that a test of two hierarchies sees of each.
+use Rattle.std.specs.Prelude.{◌≡◌, ◌⊎◌, ◌<◌, suc, ℕ, List, length, Bool, true, false, Option, is_some}
+use Rattle.x86_64_model.specs.Alike.{AlikeTables}
+use Rattle.x86_64_model.specs.Hierarchy.{read_at, paths_of}
+use Rattle.x86_64_model.specs.Memory.{Memory, Places, IsMapping, Words, identity_places, words_of}
+use Rattle.x86_64_model.specs.PathMap.{PathMap}
+use Rattle.x86_64_model.specs.Window.{outside_window}
+use Rattle.x86_64_model.proofs.Lemmas.Hierarchies.Memories.{identity_is_mapping}
+use Rattle.x86_64_tables.specs.SelfEntries.{window_in}
+
+-- where frames lie: each at the place of its number, or as they are placed
+abbrev pub places_for : (by_number : Bool) → Places → Places
+places_for false places = places
+places_for true places = identity_places
+
+pub is_mapping_for : (by_number : Bool) (places : Places) → IsMapping places → IsMapping (places_for by_number places)
+is_mapping_for false places mapping = mapping
+is_mapping_for true places mapping = identity_is_mapping
+
+-- the path map that the memory's words hold, without the root's word at the recursive index where there is one
+abbrev pub paths_seen : Memory → Places → (root : ℕ) → (recursive : Option ℕ) → PathMap
+paths_seen memory places root recursive =
+    let words = words_of memory (places_for (is_some recursive) places) in
+    paths_of 4 (outside_window (window_in words root recursive) root words) root
+
+-- from the tables in two frames, with n levels of tables below each, the entries at each path are alike
+pub record AlikeFrom (n : ℕ) (T : Words) (f : ℕ) (U : Words) (g : ℕ) : Type 0 where
+  pub at : (q : List ℕ) → (read_at (suc n) T f q ≡ read_at (suc n) U g q) ⊎ ((length q < suc n) × AlikeTables (read_at (suc n) T f q) (read_at (suc n) U g q))

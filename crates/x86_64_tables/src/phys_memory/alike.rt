@@ -1,0 +1,130 @@
+//! The test of two hierarchies: whether their path maps are alike.
+ghost use Rattle.std.specs.Prelude.{◌≡◌, ◌==◌, ◌↔◌, IsTrue};
+ghost use Rattle.x86_64_model.specs.Alike.{Alike, without_writable};
+ghost use Rattle.x86_64_tables.specs.Images.{seen};
+ghost use Rattle.x86_64_tables.specs.PathsSeen.{AlikeFrom, paths_seen, places_for};
+
+use super::image::Image;
+use super::{FramePlace, IdentityMapping, PageTableFrameMapping, PhysMemory};
+use x86_64_addr::index::PageTableIndex;
+use x86_64_page::frame::PhysFrame;
+use x86_64_page::page::Size4KiB;
+
+/// The bits of an entry but `WRITABLE`.
+const ALL_BUT_WRITABLE: u64 = 0xffff_ffff_ffff_fffd;
+
+/// Tells whether two hierarchies of four levels are alike: path maps that are equal but for `WRITABLE` of table entries.
+///
+/// Where an index is given, the hierarchy is one of `is_valid_recursive`: each frame lies at the place of its number,
+/// whatever the mapping beside it says, and the root's word at the index is read as 0. Where none is given, it is one of
+/// `is_valid_hierarchy`. Entries without `PRESENT` count as others do, and those that name no table are compared whole.
+/// The test ends for any words: a table that the memory lacks is read as one of unused entries. It takes no memory.
+pub fn tables_alike<P: PageTableFrameMapping, Q: PageTableFrameMapping>(
+    memory: &PhysMemory,
+    mapping: &P,
+    root: PhysFrame<Size4KiB>,
+    index: Option<PageTableIndex>,
+    other_memory: &PhysMemory,
+    other_mapping: &Q,
+    other_root: PhysFrame<Size4KiB>,
+    other_index: Option<PageTableIndex>,
+) -> bool
+    ensures { let paths = paths_seen memory.now (P.places mapping.now) root index in
+        let other_places = Q.places other_mapping.now in
+        let other_paths = paths_seen other_memory.now other_places other_root other_index in
+        IsTrue result ↔ Alike 4 paths other_paths }
+{
+    let mapping = MappingFor {
+        by_number: index.is_some(),
+        mapping,
+    };
+    let other_mapping = MappingFor {
+        by_number: other_index.is_some(),
+        mapping: other_mapping,
+    };
+    let one = Image {
+        memory,
+        mapping,
+        root,
+        recursive: index,
+    };
+    let other = Image {
+        memory: other_memory,
+        mapping: other_mapping,
+        root: other_root,
+        recursive: other_index,
+    };
+    alike_from(&one, root, &other, other_root, 3)
+}
+
+/// Tells whether the entries at each path from the tables in two frames, through so many levels below them, are alike.
+fn alike_from<P: PageTableFrameMapping, Q: PageTableFrameMapping>(
+    one: &Image<P>,
+    frame: PhysFrame<Size4KiB>,
+    other: &Image<Q>,
+    other_frame: PhysFrame<Size4KiB>,
+    levels: u8,
+) -> bool
+    ensures { let a = one.now in let b = other.now in
+        let words = seen a.memory.now (P.places a.mapping) a.root a.recursive in
+        let other_words = seen b.memory.now (Q.places b.mapping) b.root b.recursive in
+        IsTrue result ↔ AlikeFrom levels words frame other_words other_frame }
+{
+    for index in 0..512 {
+        let word = one.word(frame, index);
+        let other_word = other.word(other_frame, index);
+        let is_alike = match one.table_below(frame, index) {
+            Some(below) if 0 < levels => match other.table_below(other_frame, index) {
+                Some(other_below) => {
+                    equal_but_writable(word, other_word)
+                        && alike_from(one, below, other, other_below, levels - 1)
+                }
+                None => false,
+            },
+            _ => word == other_word,
+        };
+        if !is_alike {
+            return false;
+        }
+    }
+    true
+}
+
+/// Tells whether two words are equal but for `WRITABLE`.
+fn equal_but_writable(word: u64, other: u64) -> bool
+    ensures { result ≡ (without_writable word == without_writable other) }
+{
+    word & ALL_BUT_WRITABLE == other & ALL_BUT_WRITABLE
+}
+
+/// Maps the frames of a hierarchy: each to the place of its number, where it has a recursive index, else by a mapping.
+#[derive(Drop)]
+struct MappingFor<'a, P> {
+    by_number: bool,
+    mapping: &'a P,
+}
+
+impl<'a, P: PageTableFrameMapping> PageTableFrameMapping for MappingFor<'a, P> {
+    ghost use Rattle.x86_64_tables.specs.PathsSeen.{is_mapping_for};
+
+    ghost places = { λ given. places_for given.by_number (P.places given.mapping.now) };
+
+    fn frame_to_pointer(&self, frame: PhysFrame<Size4KiB>) -> FramePlace {
+        if self.by_number {
+            IdentityMapping.frame_to_pointer(frame)
+        } else {
+            self.mapping.frame_to_pointer(frame)
+        }
+    }
+
+    fn covers(&self, frame: PhysFrame<Size4KiB>) -> bool {
+        if self.by_number {
+            IdentityMapping.covers(frame)
+        } else {
+            self.mapping.covers(frame)
+        }
+    }
+
+    ghost is_mapping = { λ given.
+        is_mapping_for given.by_number (P.places given.mapping.now) (P.is_mapping given.mapping.now) };
+}
