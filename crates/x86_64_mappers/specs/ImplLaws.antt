@@ -1,22 +1,23 @@
 -- Proofs of laws that impls of mappers give. A `ghost use` names no file of proofs/.
-use Rattle.std.proofs.Common.{refl}
+use Rattle.std.proofs.Common.{inl, inr, refl}
 use Rattle.std.proofs.lemmas.Bool.{and_parts}
 use Rattle.std.specs.Prelude.{ℕ}
-use Rattle.x86_64_model.specs.Entry.{IsParentFlags, address, is_frame}
+use Rattle.x86_64_model.specs.Entry.{address, is_frame}
+use Rattle.x86_64_model.specs.Laws.Pairs.{IsAdded}
 use Rattle.x86_64_model.proofs.Lemmas.Entries.Bits.{same_frame}
 use Rattle.x86_64_model.proofs.Lemmas.Hierarchies.Memories.{identity_is_mapping}
 use Rattle.x86_64_model.specs.Memory.{IsMapping, identity_places}
 use Rattle.x86_64_mappers.specs.Offsets.{is_reached, offset_places}
 
--- no flags are flags that an entry above a page may have
-pub no_flags : IsParentFlags 0
+-- a mapper may add no flags to a new table entry
+pub no_flags : IsAdded 0
 unfolding address
-no_flags = record { no_address = refl; not_huge = refl }
+no_flags = record { adds = record { no_address = refl; not_huge = refl }; few = inl refl }
 
--- nor do PRESENT and WRITABLE
-pub present_writable : IsParentFlags 3
+-- or PRESENT and WRITABLE
+pub present_writable : IsAdded 3
 unfolding address
-present_writable = record { no_address = refl; not_huge = refl }
+present_writable = record { adds = record { no_address = refl; not_huge = refl }; few = inr refl }
 
 -- the places of numbers are those of a frame mapping
 pub numbers_are_mapping : IsMapping identity_places

@@ -48,7 +48,7 @@ link_table-requires-clause-may g c =
     let flags = c.union-flags.ensures tt ∙ ap (bit_or c.args.parent_flags.0) (c.new_table_flags.ensures ∙ ap (λ (l : Layout). l.added_flags) kept) in
     let first = supply_first _ _ f c.in-Some.ensures.first c.in-Some.ensures.rest in
     may_still l _ kept m _ unmoved q k c.args.table f c.union-flags.result.0 _ flags
-    (may_link l apart (g.M.Tables.added_flags s) m (g.A.FrameAllocator.supply c.args.frame_allocator.now) c.requires.ready q c.requires.outside c.requires.short
+    (may_link l apart (g.M.Tables.added_flags s).adds m (g.A.FrameAllocator.supply c.args.frame_allocator.now) c.requires.ready q c.requires.outside c.requires.short
     c.args.parent_flags.0 c.requires.flags k c.requires.within c.args.table c.requires.way (subst (λ i. i < 512) item entry.ensures.index)
     (ap (λ i. used (word (words l m) c.args.table i)) (sym item) ∙ ap used (sym entry.ensures.value) ∙ u) f (rw first (inl refl)))
 

@@ -15,7 +15,7 @@ returns-in_err-table-clause-down g c =
     let k = c.loop-k.k in
     let inv = c.loop-k.invariant in
     let e = err_from_is_err_and c.from_residual.result c.from_residual.ensures.1 in
-    rw (e.1, e.2) (stop l (g.met.M.Tables.is_mapping s).distinct (g.M.Tables.added_flags s) (g.M.Tables.hierarchy s).memory (g.A.FrameAllocator.supply c.args.frame_allocator.now) more q c.requires.outside c.requires.flags c.requires.short
+    rw (e.1, e.2) (stop l (g.met.M.Tables.is_mapping s).distinct (g.M.Tables.added_flags s).adds (g.M.Tables.hierarchy s).memory (g.A.FrameAllocator.supply c.args.frame_allocator.now) more q c.requires.outside c.requires.flags c.requires.short
     k c.loop-k-test.true n _ c.loop-k.table inv.down (get_or q k 0) refl c.create_next_table.ensures.index (g.M.Tables.hierarchy c.create_next_table.new.mapper).memory _
     (create_refusal c.in_err-table.field-0.0) (rw inv.layout at c.in_err-table.ensures.made))
 
@@ -26,7 +26,7 @@ loop-k-preserved g c =
     let m = (g.M.Tables.hierarchy s).memory in
     let supply = g.A.FrameAllocator.supply c.args.frame_allocator.now in
     let apart = (g.met.M.Tables.is_mapping s).distinct in
-    let adds = g.M.Tables.added_flags s in
+    let adds = (g.M.Tables.added_flags s).adds in
     let q = c.args.parents.now in
     let more = c.args.parent_flags.0 in
     let n = (g.M.Tables.hierarchy c.loop-k.mapper).memory in
