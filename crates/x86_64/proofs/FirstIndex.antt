@@ -9,7 +9,7 @@ abbrev is_index : (r : Option ℕ) → (i : ℕ) → Bool
 is_index None i = false
 is_index (Some r) i = i == r
 
-at_four : (window : Option Window) (level p : ℕ) → level ≤ 3 → begins_with window (path_at 4 level p) ≡ is_index (option_map (λ w. w.index) window) (index 4 p)
+pub at_four : (window : Option Window) (level p : ℕ) → level ≤ 3 → begins_with window (path_at 4 level p) ≡ is_index (option_map (λ w. w.index) window) (index 4 p)
 unfolding page_path
 at_four None level p low = refl
 at_four (Some w) zero p low = refl

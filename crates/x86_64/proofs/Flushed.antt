@@ -174,7 +174,7 @@ is_call (TranslateAddr addr) = tt
 is_call CleanUp = tt
 is_call (CleanUpRange range) = tt
 
-are_calls : (calls : List Call) → AllCalls 4 (calls_of 4 calls)
+pub are_calls : (calls : List Call) → AllCalls 4 (calls_of 4 calls)
 are_calls [] = tt
 are_calls (call ∷ calls) = (is_call call, are_calls calls)
 

@@ -9,3 +9,5 @@ pub mod Moved
 pub mod Offsets
 pub mod Beside
 pub mod CleanUpSteps
+pub mod Named
+pub mod Pairs

@@ -1,9 +1,11 @@
 pub mod Calls
 pub mod Replies
 pub mod Runs
+pub mod Pairs
 pub mod Flushes
 pub mod ToldReplies
 pub mod SecondHierarchies
 pub mod Private
 pub use Rattle.x86_64_model.specs.Machine
 pub use Rattle.x86_64_model.specs.MapperCalls
+pub use Rattle.x86_64_model.specs.Alike

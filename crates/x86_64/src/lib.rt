@@ -12,7 +12,7 @@ pub mod structures;
 mod tests;
 
 pub use calls::{Call, Reply, SizeCall, SizeReply};
-pub use runs::{run, run_flushed};
+pub use runs::{is_outside_window, run, run_flushed, run_pair};
 pub use x86_64_addr::addr;
 pub use x86_64_addr::addr::{PhysAddr, VirtAddr};
 pub use x86_64_mappers::recursive_page_table::{WalkedTables, p1_window, p2_window, p3_window};
@@ -22,4 +22,5 @@ pub use x86_64_tables::mapper::{FlushItem, FlushRecorder, PageTables, Tables, pa
 pub use x86_64_tables::phys_memory::{
     ActiveMemory, FramePlace, IdentityMapping, PhysMemory, ShiftMapping, Walked,
     is_valid_hierarchy, is_valid_recursive, page_walk, pool_fits, pool_fits_recursive,
+    tables_alike,
 };

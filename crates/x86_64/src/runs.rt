@@ -12,11 +12,13 @@ ghost use Rattle.x86_64.specs.Runs.{machine_of, state_of, Kept, Ran, call_step, 
 ghost use Rattle.x86_64.specs.Private.{recorded, items_where, changes_nothing_where, size_step};
 
 mod flushed;
+mod pair;
 mod tokens;
 
 use crate::calls::{Call, Reply, SizeCall, SizeReply, identity_page};
 use bitflags::Flags;
 pub use flushed::run_flushed;
+pub use pair::run_pair;
 use std::alloc::AllocError;
 use tokens::{Ignored, Tokens, take, take_all, take_unmapped};
 use x86_64_page::page::{Page, PageSize, Size1GiB, Size2MiB, Size4KiB};
@@ -209,12 +211,12 @@ fn is_allowed<S: PageSize, M: Mapper<S>>(mapper: &M, call: &SizeCall<S>) -> bool
             Some(page) => mapper.map_allowed(page, *flags, parent_flags(*flags)),
             None => false,
         },
-        SizeCall::Unmap { page } => is_outside(mapper, *page),
+        SizeCall::Unmap { page } => is_outside_window(mapper, *page),
         SizeCall::UpdateFlags { page, flags } => {
-            !flags.has_address_bits() && is_outside(mapper, *page)
+            !flags.has_address_bits() && is_outside_window(mapper, *page)
         }
         SizeCall::SetFlagsP4 { page, flags } => {
-            fit_p4_entry(*flags) && is_outside(mapper, *page)
+            fit_p4_entry(*flags) && is_outside_window(mapper, *page)
         }
         SizeCall::SetFlagsP3 { page, flags } => mapper.p3_flags_allowed(*page, *flags),
         SizeCall::SetFlagsP2 { page, flags } => mapper.p2_flags_allowed(*page, *flags),
@@ -230,8 +232,9 @@ fn fit_p4_entry(flags: PageTableFlags) -> bool
     !flags.has_address_bits() & !flags.contains(PageTableFlags::HUGE_PAGE)
 }
 
-/// Tells whether a page lies outside the recursive index.
-fn is_outside<S: PageSize, M: Mapper<S>>(mapper: &M, page: Page<S>) -> bool
+/// Tells whether a page lies outside the recursive index of a mapper: whether its index of level four is another, or there is
+/// none. It is what [`unmap`](Mapper::unmap) asks of a page, and a part of what the other calls that write ask.
+pub fn is_outside_window<S: PageSize, M: Mapper<S>>(mapper: &M, page: Page<S>) -> bool
     ensures { let h = M.hierarchy mapper.now in
         result ≡ not (begins_with h.layout.window (path_of h S.LEVEL page)) }
 {

@@ -6,6 +6,8 @@ ghost use Rattle.x86_64_mappers.specs.Layouts.{direct};
 ghost use Rattle.x86_64.specs.Calls.{calls_of};
 ghost use Rattle.x86_64.specs.Runs.{machine_of, state_of, FitsPool, replies_to, appended, UnchangedIfRefused};
 
+mod pair;
+
 use crate::structures::paging::mapper::{FlagUpdateError, PageTableFrameMapping};
 use crate::structures::paging::{
     MappedPageTable, Page, PageSize, PageTableFlags, PageTableIndex, PhysFrame, Size1GiB, Size2MiB,
@@ -75,7 +77,16 @@ fn both(page: Page<Size4KiB>) -> [Call; 2] {
     [Call::Of4KiB(map), Call::Of4KiB(SizeCall::Unmap { page })]
 }
 
-/// Answers calls in an empty hierarchy whose pool has the frames 0x2000, 0x3000 and 0x4000, and compares the replies.
+/// Makes a pool with the frames 0x2000, 0x3000 and 0x4000.
+fn pool_of_three(alloc: Global) -> Result<FramePool, Fail> {
+    let mut pool = FramePool::new(alloc, 8)?;
+    for address in [0x2000, 0x3000, 0x4000] {
+        pool.try_add(small(address)).or(Err("a frame"))?;
+    }
+    Ok(pool)
+}
+
+/// Answers calls in an empty hierarchy whose pool has three frames, and compares the replies.
 fn check_replies(
     rt: &impl Abort,
     alloc: Global,
@@ -83,10 +94,7 @@ fn check_replies(
     wanted: &[Reply],
 ) -> Result<(), Fail> {
     let mut memory = PhysMemory::new(alloc, 8)?;
-    let mut pool = FramePool::new(alloc, 8)?;
-    for address in [0x2000, 0x3000, 0x4000] {
-        pool.try_add(small(address)).or(Err("a frame"))?;
-    }
+    let mut pool = pool_of_three(alloc)?;
     let root = small(0x1000);
     assert!(rt; pool_fits(alloc, &memory, &IdentityMapping, root, &pool)?);
     let mut replies = Vec::new(alloc);

@@ -18,9 +18,9 @@ clean_up_addr_range-requires g c = held_may_clean_up (g.M.Tables.hierarchy c.arg
 pub returns-in-CleanUp-clause-keeps : goal.returns-in-CleanUp-clause-keeps
 returns-in-CleanUp-clause-keeps g c =
     kept_cleaned (g.M.Tables.hierarchy c.args.mapper.now) _ _ _ (g.met.F.FrameStore.one_list _) c.requires.fits _ _ _ _ _ _ (g.met.F.FrameStore.one_list _) c.clean_up.ensures.cleans
-    (g.M.Tables.added_flags c.args.mapper.now) (giving_from _ g.met.F.FrameDeallocator.put_rearranges)
+    (g.M.Tables.added_flags c.args.mapper.now).adds (giving_from _ g.met.F.FrameDeallocator.put_rearranges)
 
 pub returns-in-CleanUpRange-clause-keeps : goal.returns-in-CleanUpRange-clause-keeps
 returns-in-CleanUpRange-clause-keeps g c =
     kept_cleaned (g.M.Tables.hierarchy c.args.mapper.now) _ _ _ (g.met.F.FrameStore.one_list _) c.requires.fits _ _ _ _ _ _ (g.met.F.FrameStore.one_list _) c.clean_up_addr_range.ensures.cleans
-    (g.M.Tables.added_flags c.args.mapper.now) (giving_from _ g.met.F.FrameDeallocator.put_rearranges)
+    (g.M.Tables.added_flags c.args.mapper.now).adds (giving_from _ g.met.F.FrameDeallocator.put_rearranges)

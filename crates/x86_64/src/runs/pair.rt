@@ -1,0 +1,68 @@
+//! Lists of calls that two mappers answer alike.
+ghost use Rattle.std.specs.Prelude.{◌≡◌, ◌<◌, [], length, IfOk, OnErr};
+ghost use Rattle.x86_64_model.specs.Alike.{Alike};
+ghost use Rattle.x86_64_model.specs.Marks.{serves_below};
+ghost use Rattle.x86_64_model.specs.Owned.{PoolFits, paths};
+ghost use Rattle.x86_64.specs.Pairs.{NoneNames, put_first};
+ghost use Rattle.x86_64.specs.Runs.{Kept, Ran};
+
+use super::serve_all;
+use super::tokens::Ignored;
+use crate::calls::{Call, Reply};
+use std::alloc::{AllocError, Global};
+use x86_64_tables::frame_alloc::FramePool;
+use x86_64_tables::mapper::{CleanUp, MapperAllSizes, Tables, Translate};
+
+/// Answers calls in order by two mappers, and gives the one list that is the replies of both. Each mapper and its pool are
+/// left as [`run`](super::run) leaves them.
+///
+/// The path maps are alike: equal but for `WRITABLE` of table entries. So they are where one image is loaded twice, and one
+/// of the two lacks the entry at the other's recursive index. They are alike at the end too, and the pools equal.
+///
+/// Room for the replies is reserved before the first call. The tokens of the mappers are ignored, so no flush is recorded.
+///
+/// Conditions: those of [`run`](super::run) for both; the path maps are alike, and the pools equal; no call names a
+/// recursive index of either. Test the path maps by [`tables_alike`](crate::tables_alike), the pools by `==` and the calls by
+/// [`Call::names`].
+///
+/// # Errors
+///
+/// `AllocError` where the room for the replies is refused; then nothing changes. An empty list needs no room.
+pub fn run_pair<A: MapperAllSizes + Translate + CleanUp, B: MapperAllSizes + Translate + CleanUp>(
+    alloc: Global,
+    a: &mut A,
+    pool_a: &mut FramePool,
+    b: &mut B,
+    pool_b: &mut FramePool,
+    calls: &[Call],
+) -> Result<Vec<Reply>, AllocError>
+    requires fits { PoolFits (A.hierarchy a.old) (serves_below pool_a.old.limit) pool_a.old.frames }
+    requires other_fits { PoolFits (B.hierarchy b.old) (serves_below pool_b.old.limit) pool_b.old.frames }
+    requires alike { Alike 4 (paths (A.hierarchy a.old)) (paths (B.hierarchy b.old)) }
+    requires pools { pool_a.old.frames ≡ pool_b.old.frames }
+    requires unnamed { NoneNames (A.hierarchy a.old).layout.window calls.now }
+    requires other_unnamed { NoneNames (B.hierarchy b.old).layout.window calls.now }
+    ensures ran { let h = A.hierarchy a.old in let after = A.hierarchy a.new in
+        let pool = pool_a.old.frames in let rest = pool_a.new.frames in
+        IfOk result (λ replies. Ran put_first h pool calls.now [] replies.items after rest) }
+    ensures other_ran { let h = B.hierarchy b.old in let after = B.hierarchy b.new in
+        let pool = pool_b.old.frames in let rest = pool_b.new.frames in
+        IfOk result (λ replies. Ran put_first h pool calls.now [] replies.items after rest) }
+    ensures alike { Alike 4 (paths (A.hierarchy a.new)) (paths (B.hierarchy b.new)) }
+    ensures pools { pool_a.new.frames ≡ pool_b.new.frames }
+    ensures needs_room { OnErr result (0 < length calls.now) }
+    ensures unchanged { OnErr result (
+        (a.new ≡ a.old) × (pool_a.new ≡ pool_a.old) × (b.new ≡ b.old) × (pool_b.new ≡ pool_b.old)) }
+    ensures keeps { let serves = serves_below pool_a.old.limit in
+        Kept (A.hierarchy a.old) serves pool_a.old.frames (A.hierarchy a.new) pool_a.new.frames }
+    ensures other_keeps { let serves = serves_below pool_b.old.limit in
+        Kept (B.hierarchy b.old) serves pool_b.old.frames (B.hierarchy b.new) pool_b.new.frames }
+    ensures serves { serves_below pool_a.new.limit ≡ serves_below pool_a.old.limit }
+    ensures other_serves { serves_below pool_b.new.limit ≡ serves_below pool_b.old.limit }
+{
+    let mut replies = Vec::with_capacity(alloc, calls.len())?;
+    let mut same_replies = Vec::with_capacity(alloc, calls.len())?;
+    serve_all(a, pool_a, calls, &mut replies, &mut Ignored);
+    serve_all(b, pool_b, calls, &mut same_replies, &mut Ignored);
+    Ok(replies)
+}
