@@ -1,6 +1,8 @@
 pub mod Alignment
 pub mod AtOffset
 pub mod Characters
+pub mod Cleared
+pub mod Images
 pub mod Keeping
 pub mod Reading
 pub mod Saying

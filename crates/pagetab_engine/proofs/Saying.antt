@@ -3,7 +3,7 @@ use Rattle.std.proofs.Common.{◌≡◌, ◌≤◌, ◌<◌, ℕ, List, [], ◌�
 use Rattle.pagetab_engine.specs.Arguments.{Says, SaysMode}
 use Rattle.pagetab_engine.specs.declared.arguments.Arguments.{Arguments}
 use Rattle.pagetab_engine.specs.declared.arguments.Mode.{Mode}
-use Rattle.pagetab_engine.specs.declared.arguments.Mode.TheVariants.{Direct, Offset}
+use Rattle.pagetab_engine.specs.declared.arguments.Mode.TheVariants.{Direct, Offset, Recursive, Pair}
 
 -- two words that say something begin with `direct`
 pub pair_is_direct : (word places : List ℕ) (arguments : Arguments) → Says (word ∷ places ∷ []) arguments → word ≡ codes "direct"
@@ -12,14 +12,8 @@ pair_is_direct word places arguments says = by arguments.mode says.2
     by : (mode : Mode) → SaysMode word [] mode → word ≡ codes "direct"
     by Direct is = is
     by (Offset address) is = absurd is
-
--- three begin with `offset`
-pub triple_is_offset : (word places text : List ℕ) (arguments : Arguments) → Says (word ∷ places ∷ text ∷ []) arguments → word ≡ codes "offset"
-triple_is_offset word places text arguments says = by arguments.mode says.2
-  where
-    by : (mode : Mode) → SaysMode word (text ∷ []) mode → word ≡ codes "offset"
-    by Direct is = absurd is
-    by (Offset address) is = is.0
+    by (Recursive index) is = absurd is
+    by (Pair index) is = absurd is
 
 -- fewer say nothing
 pub few_say_nothing : (words : List (List ℕ)) (arguments : Arguments) → length words < 2 → Says words arguments → ⊥
@@ -38,3 +32,5 @@ many_say_nothing (word ∷ places ∷ text ∷ other ∷ more) arguments many sa
     by : (mode : Mode) → SaysMode word (text ∷ other ∷ more) mode → ⊥
     by Direct is = is
     by (Offset address) is = is
+    by (Recursive index) is = is
+    by (Pair index) is = is

@@ -1,58 +1,105 @@
--- The hierarchy that the program reads, and the machine that it is.
-use Rattle.std.specs.Prelude.{◌≡◌, ◌↔◌, ◌∷◌, ℕ, ⊤, List, Some}
-use Rattle.x86_64_model.specs.Layout.{Layout}
+-- The hierarchy that the program reads, in a pair two of one image, and the machine that it is.
+use Rattle.std.specs.Prelude.{◌≡◌, ◌↔◌, ℕ, ⊤, cond, List, Some}
+use Rattle.x86_64_model.specs.Alike.{Alike}
+use Rattle.x86_64_model.specs.Layout.{Layout, paths}
 use Rattle.x86_64_model.specs.Machine.{Machine, State}
 use Rattle.x86_64_model.specs.MapperCalls.{Owns, KeepsOthers}
 use Rattle.x86_64_model.specs.Marks.{serves_below}
 use Rattle.x86_64_model.specs.Memory.{Memory, identity_places}
-use Rattle.x86_64_mappers.specs.Layouts.{direct}
 use Rattle.x86_64_mappers.specs.Offsets.{OffsetFits}
 use Rattle.x86_64.specs.Runs as runs
 use Rattle.x86_64.specs.declared.calls.Call.{Call}
 use Rattle.x86_64.specs.declared.calls.Reply.{Reply}
+use Rattle.x86_64.specs.declared.calls.Reply.TheVariants.{NotAllowed}
+use Rattle.pagetab_engine.specs.Arguments.{is_named}
+use Rattle.pagetab_engine.specs.Calls.{machine_by}
+use Rattle.pagetab_engine.specs.Frames.{direct_layout, recursive_layout, FitsBy, without_self_entry}
 use Rattle.pagetab_engine.specs.declared.arguments.Mode.{Mode}
-use Rattle.pagetab_engine.specs.declared.arguments.Mode.TheVariants.{Direct, Offset}
+use Rattle.pagetab_engine.specs.declared.arguments.Mode.TheVariants.{Direct, Offset, Recursive, Pair}
+use Rattle.pagetab_engine.specs.declared.frames.Frames.{Frames}
 use Rattle.pagetab_engine.specs.declared.hierarchy.Hierarchy.{Hierarchy}
 
--- the root stands in the frame 0x1000, and each frame lies at the place of its number
-abbrev pub layout : Layout
-layout = direct identity_places 0x1000
+-- ---- the image
 
--- a frame that comes back is the first of the free frames
-abbrev pub machine_by : Layout → Machine
-machine_by layout = runs.machine_of layout (λ held frame. frame ∷ held)
+-- in a pair both mappers got the same image
+abbrev pub IsCopy : Mode → (frames copy : Frames) → Type 0
+IsCopy (Pair index) frames copy = (copy.memory ≡ frames.memory) × (copy.pool.frames ≡ frames.pool.frames) × (copy.pool.limit ≡ frames.pool.limit)
+IsCopy mode frames copy = ⊤
 
-abbrev pub machine : Machine
-machine = machine_by layout
+abbrev pub HasCopy : Hierarchy → Type 0
+HasCopy hierarchy = IsCopy hierarchy.mode hierarchy.frames hierarchy.twin
 
--- the reply to a call, and the state that it leaves, are the machine's
-abbrev pub IsAnswered : (by : Layout) → (before : Memory) → (free : List ℕ) → Call → (after : Memory) → (rest : List ℕ) → Reply → Type 0
-IsAnswered by before free call after rest reply =
-    runs.call_step (machine_by by) (runs.state_of by before free) call ≡ record { state = runs.state_of by after rest; reply = Some reply }
+-- the hierarchy is valid, and the free frames fit it; in a pair the recursive mapper's
+abbrev pub FitsIn : Mode → (frames copy : Frames) → Type 0
+FitsIn Direct frames copy = FitsBy direct_layout frames
+FitsIn (Offset offset) frames copy = FitsBy direct_layout frames
+FitsIn (Recursive index) frames copy = FitsBy (recursive_layout frames.memory index) frames
+FitsIn (Pair index) frames copy = FitsBy (recursive_layout copy.memory index) copy
+
+abbrev pub FitsImage : Hierarchy → Type 0
+FitsImage hierarchy = FitsIn hierarchy.mode hierarchy.frames hierarchy.twin
+
+-- the memory of the first commands: in a pair the other mapper's lacks the self-entry
+abbrev pub first_memory : Mode → Memory → Memory
+first_memory (Pair index) memory = without_self_entry index memory
+first_memory mode memory = memory
+
+-- ---- the commands
+
+abbrev pub layout : Mode → Memory → Layout
+layout Direct memory = direct_layout
+layout (Offset offset) memory = direct_layout
+layout (Recursive index) memory = recursive_layout memory index
+layout (Pair index) memory = direct_layout
+
+abbrev pub layout_of : Hierarchy → Layout
+layout_of hierarchy = layout hierarchy.mode hierarchy.frames.memory
+
+abbrev pub machine_of : Hierarchy → Machine
+machine_of hierarchy = machine_by (layout_of hierarchy)
 
 -- what the words mean, and the free frames
 abbrev pub state_of : Hierarchy → State
-state_of hierarchy = runs.state_of layout hierarchy.memory hierarchy.pool.frames
+state_of hierarchy = runs.state_of (layout_of hierarchy) hierarchy.frames.memory hierarchy.frames.pool.frames
+
+-- what a call leaves: what the machine's step does, but a call that names the recursive index of a pair is not allowed
+abbrev pub call_step : Hierarchy → Call → runs.AfterStep Reply
+call_step hierarchy call = cond (is_named hierarchy.mode call)
+    (record { state = state_of hierarchy; reply = Some NotAllowed })
+    (runs.call_step (machine_of hierarchy) (state_of hierarchy) call)
 
 -- the mapper reaches each place of the memory
 abbrev pub IsReached : Mode → Memory → Type 0
-IsReached Direct memory = ⊤
 IsReached (Offset offset) memory = OffsetFits memory offset
+IsReached mode memory = ⊤
 
--- the hierarchy is valid, the free frames fit it, and the mapper reaches each place
+-- The recursive mapper's hierarchy is valid for the index, its free frames fit it and are those of the other one, and the path maps are alike.
+pub record IsTwin (index : ℕ) (memory : Memory) (free : List ℕ) (twin : Frames) : Type 0 where
+  pub fits : FitsBy (recursive_layout twin.memory index) twin
+  pub alike : Alike 4 (paths direct_layout memory) (paths (recursive_layout twin.memory index) twin.memory)
+  pub same_free : free ≡ twin.pool.frames
+
+-- in a pair the two are alike
+abbrev pub HasTwin : Mode → (frames twin : Frames) → Type 0
+HasTwin (Pair index) frames twin = IsTwin index frames.memory frames.pool.frames twin
+HasTwin mode frames twin = ⊤
+
+-- the hierarchy is valid, the free frames fit it, and the mapper reaches each place; in a pair both are so, alike
 pub record IsHierarchy (hierarchy : Hierarchy) : Type 0 where
-  pub fits : runs.FitsPool layout hierarchy.memory (serves_below hierarchy.pool.limit) hierarchy.pool.frames
-  pub reached : IsReached hierarchy.mode hierarchy.memory
+  pub fits : FitsBy (layout_of hierarchy) hierarchy.frames
+  pub reached : IsReached hierarchy.mode hierarchy.frames.memory
+  pub twin : HasTwin hierarchy.mode hierarchy.frames hierarchy.twin
 
 -- the root, a table, or a free frame
 abbrev pub IsOwn : Hierarchy → (frame : ℕ) → Type 0
-IsOwn hierarchy frame = Owns layout hierarchy.memory hierarchy.pool.frames frame
+IsOwn hierarchy frame = Owns (layout_of hierarchy) hierarchy.frames.memory hierarchy.frames.pool.frames frame
 
--- the mode and the frames that the pool serves stay, the free frames fit the valid hierarchy again, these and the tables stay one set,
--- and no word changes but in them and the root
+-- the mode, the layout and the frames that the pool serves stay, the free frames fit the valid hierarchy again, these and the tables stay one
+-- set, and no word changes but in them and the root
 pub record Keeps (before after : Hierarchy) : Type 0 where
   pub mode : after.mode ≡ before.mode
-  pub serves : serves_below after.pool.limit ≡ serves_below before.pool.limit
+  pub layout : layout_of after ≡ layout_of before
+  pub serves : serves_below after.frames.pool.limit ≡ serves_below before.frames.pool.limit
   pub fits : IsHierarchy after
   pub conserved : (frame : ℕ) → IsOwn before frame ↔ IsOwn after frame
-  pub others : KeepsOthers identity_places (IsOwn before) before.memory after.memory
+  pub others : KeepsOthers identity_places (IsOwn before) before.frames.memory after.frames.memory

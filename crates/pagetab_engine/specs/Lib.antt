@@ -6,7 +6,8 @@ pub mod Fields
 pub mod PageCalls
 pub mod Slot
 pub mod Statements
+pub mod Frames
+pub mod Calls
 pub mod Hierarchy
-pub mod Image
 pub mod Reply
 pub mod Ending

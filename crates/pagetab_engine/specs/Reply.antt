@@ -1,11 +1,10 @@
 -- What answers a command, and what it leaves.
 use Rattle.std.specs.Prelude.{◌≡◌, Some, option_map}
-use Rattle.x86_64_model.specs.Layout.{words}
 use Rattle.x86_64_model.specs.Machine.{State}
+use Rattle.x86_64_model.specs.Memory.{words_of, identity_places}
 use Rattle.x86_64_model.specs.PageWalk.{page_walk}
 use Rattle.x86_64_tables.specs.Walks.{walked_of}
-use Rattle.x86_64.specs.Runs.{call_step}
-use Rattle.pagetab_engine.specs.Hierarchy.{layout, machine, state_of}
+use Rattle.pagetab_engine.specs.Hierarchy.{call_step, state_of}
 use Rattle.pagetab_engine.specs.Slot.{word_in}
 use Rattle.pagetab_engine.specs.declared.hierarchy.Hierarchy.{Hierarchy}
 use Rattle.pagetab_engine.specs.declared.statement.Command.{Command}
@@ -15,13 +14,13 @@ use Rattle.pagetab_engine.specs.declared.reply.Reply.TheVariants as reply
 
 -- the reply to a call is the machine's, and that to another command says what the definitions say of the hierarchy
 abbrev pub IsReply : Hierarchy → Command → Reply → Type 0
-IsReply hierarchy (command.Call call) (reply.Answered answer) = Some answer ≡ (call_step machine (state_of hierarchy) call).reply
-IsReply hierarchy (command.Walk addr) (reply.Arrival walked) = option_map walked_of walked ≡ page_walk 4 (words layout hierarchy.memory) 0x1000 addr
-IsReply hierarchy (command.Show slot) (reply.Word word) = word ≡ word_in hierarchy.memory slot.place slot.index
-IsReply hierarchy command.Pool (reply.Pool frames) = frames.items ≡ hierarchy.pool.frames
+IsReply hierarchy (command.Call call) (reply.Answered answer) = Some answer ≡ (call_step hierarchy call).reply
+IsReply hierarchy (command.Walk addr) (reply.Arrival walked) = option_map walked_of walked ≡ page_walk 4 (words_of hierarchy.frames.memory identity_places) 0x1000 addr
+IsReply hierarchy (command.Show slot) (reply.Word word) = word ≡ word_in hierarchy.frames.memory slot.place slot.index
+IsReply hierarchy command.Pool (reply.Pool frames) = frames.items ≡ hierarchy.frames.pool.frames
 IsReply hierarchy asked told = ⊥
 
 -- the state after a command: the machine's after a call, and the same after another
 abbrev pub state_after : Hierarchy → Command → State
-state_after hierarchy (command.Call call) = (call_step machine (state_of hierarchy) call).state
+state_after hierarchy (command.Call call) = (call_step hierarchy call).state
 state_after hierarchy asked = state_of hierarchy

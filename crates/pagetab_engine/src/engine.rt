@@ -1,6 +1,6 @@
 //! The run of the program.
 ghost use Rattle.std.specs.Prelude.{◌≡◌, IfOk, OnOk, OnErr};
-ghost use Rattle.pagetab_engine.specs.Hierarchy.{state_of, IsHierarchy, Keeps};
+ghost use Rattle.pagetab_engine.specs.Hierarchy.{state_of, HasCopy, IsHierarchy, Keeps};
 ghost use Rattle.pagetab_engine.specs.Reply.{IsReply, state_after};
 
 use crate::arguments::Arguments;
@@ -14,8 +14,16 @@ use std::io::{Read, Write};
 
 /// Runs the program on its arguments: reads an image and commands from `reader`, and writes a reply to each command.
 ///
-/// The arguments so far are `direct N`, for a memory of N places, and `offset N OFF`, where the memory stands in the virtual
-/// address space from the address OFF on. Each reply is a line, written by one `write_all`.
+/// The arguments are one of these, for a memory of N places:
+///
+/// - `direct N`: each frame lies at the place of its number.
+/// - `offset N OFF`: the memory stands in the virtual address space from the address OFF on.
+/// - `recursive N R`: tables are reached through the root's entry for itself at the index R.
+/// - `pair N R`: the mappers of `direct` and of `recursive` answer together, each in a memory of its own that has the image,
+///   the first one's without the root's word R. A call that names the index R is not allowed, also where it only reads;
+///   `walk`, `show` and `pool` look at the memory and the free frames of the first one.
+///
+/// Each reply is a line, written by one `write_all`.
 pub fn run<R: Read, W: Write>(
     alloc: Global,
     words: &[String],
@@ -45,7 +53,7 @@ fn serve<R: Read, W: Write>(
     }
     let mut lines = Lines::new(reader);
     let first = read_image(&mut lines, &mut hierarchy, places)?;
-    if !hierarchy.fits(alloc)? {
+    if !hierarchy.end_image(alloc)? {
         return Err(Fault::InvalidHierarchy);
     }
     answer_commands(alloc, &mut lines, &mut hierarchy, places, first, writer)
@@ -56,11 +64,14 @@ fn read_image<R: Read>(
     lines: &mut Lines<'_, R>,
     hierarchy: &mut Hierarchy,
     places: u64,
-) -> Result<Option<Command>, Fault> {
+) -> Result<Option<Command>, Fault>
+    requires { HasCopy hierarchy.old }
+    ensures { HasCopy hierarchy.new }
+{
     for _ in 0..u64::MAX {
         match lines.next_statement(places)? {
             Some(Statement::Image(line)) => {
-                if hierarchy.load(line).is_err() {
+                if hierarchy.load(&line).is_err() {
                     return Err(lines.fault());
                 }
             }
@@ -114,8 +125,8 @@ fn answer(alloc: Global, hierarchy: &mut Hierarchy, command: Command) -> Result<
 {
     Ok(match command {
         Command::Call(call) => Reply::Answered(hierarchy.answer_call(alloc, call)?),
-        Command::Walk(addr) => Reply::Arrival(hierarchy.walk(addr)),
-        Command::Show(slot) => Reply::Word(hierarchy.word(slot)),
-        Command::Pool => Reply::Pool(hierarchy.free_frames(alloc)?),
+        Command::Walk(addr) => Reply::Arrival(hierarchy.frames().walk(addr)),
+        Command::Show(slot) => Reply::Word(hierarchy.frames().word(slot)),
+        Command::Pool => Reply::Pool(hierarchy.frames().free_frames(alloc)?),
     })
 }

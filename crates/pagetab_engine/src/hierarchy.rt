@@ -1,37 +1,28 @@
-//! The hierarchy of the program: its root stands in the frame 0x1000, and each frame lies at the place of its number.
-ghost use Rattle.std.specs.Prelude.{◌≡◌, ◌↔◌, [], ℕ, if◌then◌else◌, IsOk, IfOk, IfErr, OnOk, OnErr, IsTrue, Some, None, nat_lt, option_map};
+//! The hierarchy of the program, or in a pair two of one image, and how calls are answered.
+ghost use Rattle.std.specs.Prelude.{◌≡◌, ◌↔◌, [], ℕ, if◌then◌else◌, IsOk, IfOk, IfErr, OnOk, OnErr, IsTrue, true, Some, None, nat_lt};
 ghost use Rattle.std.specs.FinMap as map;
-ghost use Rattle.x86_64_model.specs.Layout.{words};
-ghost use Rattle.x86_64_model.specs.PageWalk.{page_walk as walk_of};
 ghost use Rattle.x86_64_tables.specs.PageTable.{zero_words};
-ghost use Rattle.x86_64_tables.specs.Walks.{walked_of};
-ghost use Rattle.x86_64_model.specs.Marks.{serves_below};
-ghost use Rattle.x86_64_model.specs.Owned.{PoolFits};
-ghost use Rattle.x86_64.specs.Runs.{call_step, FitsPool, Keeps as KeepsPool, Kept};
-ghost use Rattle.x86_64_mappers.specs.Offsets.{OffsetFits};
-ghost use Rattle.pagetab_engine.specs.Hierarchy.{layout, machine, state_of, IsAnswered, IsReached, IsHierarchy, Keeps};
-ghost use Rattle.pagetab_engine.specs.Image.{IsLoadable, IsRefusedFor, memory_after, free_after};
-ghost use Rattle.pagetab_engine.specs.Slot.{word_in};
+ghost use Rattle.pagetab_engine.specs.Arguments.{is_named};
+ghost use Rattle.pagetab_engine.specs.Frames.{IsLoadable, IsRefusedFor, memory_after, free_after};
+ghost use Rattle.pagetab_engine.specs.Hierarchy.{state_of, call_step, first_memory, FitsImage, HasCopy, IsReached, IsHierarchy, Keeps};
 
 use crate::arguments::{Arguments, Mode};
-use crate::slot::Slot;
+use crate::calls::{answer_at_offset, answer_by_both, answer_direct, answer_recursively};
+use crate::frames::Frames;
 use crate::statement::ImageLine;
 use std::alloc::{AllocError, Global};
-use x86_64::structures::paging::mapper::{CleanUp, MapperAllSizes, Tables};
-use x86_64::structures::paging::{
-    MappedPageTable, OffsetPageTable, PhysFrame, Size4KiB, Translate,
-};
-use x86_64::{
-    Call, FramePool, IdentityMapping, PhysAddr, PhysMemory, PoolRefusal, Reply, VirtAddr, Walked,
-    page_walk, pool_fits, run,
-};
+use x86_64::structures::paging::OffsetPageTable;
+use x86_64::{Call, PoolRefusal, Reply};
 
-/// Holds page tables in a memory, how they are found there, and the frames that are free for new ones.
+/// Holds the frames of a hierarchy, and says by which mapper calls are answered.
+///
+/// In a pair calls are answered by two mappers, and the recursive one has frames of its own.
 #[derive(Drop)]
 pub struct Hierarchy {
     mode: Mode,
-    memory: PhysMemory,
-    pool: FramePool,
+    frames: Frames,
+    // The recursive mapper's in a pair, else a memory without places.
+    twin: Frames,
 }
 
 impl Hierarchy {
@@ -42,204 +33,140 @@ impl Hierarchy {
     /// `AllocError` where memory is refused.
     pub fn new(alloc: Global, arguments: Arguments) -> Result<Hierarchy, AllocError>
         ensures mode { IfOk result (λ hierarchy. hierarchy.mode ≡ arguments.mode) }
-        ensures memory { IfOk result (λ hierarchy.
-            (place : ℕ) → map.get hierarchy.memory place ≡ (if nat_lt place arguments.places then Some zero_words else None)) }
-        ensures pool { IfOk result (λ hierarchy. hierarchy.pool.frames ≡ []) }
-        ensures limit { IfOk result (λ hierarchy. hierarchy.pool.limit ≡ arguments.places) }
+        ensures memory { IfOk result (λ hierarchy. (place : ℕ) → map.get hierarchy.frames.memory place
+            ≡ (if nat_lt place arguments.places then Some zero_words else None)) }
+        ensures pool { IfOk result (λ hierarchy. hierarchy.frames.pool.frames ≡ []) }
+        ensures limit { IfOk result (λ hierarchy. hierarchy.frames.pool.limit ≡ arguments.places) }
+        ensures copy { IfOk result HasCopy }
     {
+        let copied_places = match arguments.mode {
+            Mode::Direct | Mode::Offset(_) | Mode::Recursive(_) => 0,
+            Mode::Pair(_) => arguments.places,
+        };
         Ok(Hierarchy {
             mode: arguments.mode,
-            memory: PhysMemory::new(alloc, arguments.places)?,
-            pool: FramePool::new(alloc, arguments.places)?,
+            frames: Frames::new(alloc, arguments.places)?,
+            twin: Frames::new(alloc, copied_places)?,
         })
+    }
+
+    /// Gives the frames. In a pair they are those of the mapper that finds each at the place of its number.
+    pub fn frames(&self) -> &Frames
+        ensures { result.now ≡ self.now.frames }
+    {
+        &self.frames
     }
 
     /// Tells whether the mapper reaches each place of the memory.
     pub fn is_reached(&self) -> bool
-        ensures { IsTrue result ↔ IsReached self.now.mode self.now.memory }
+        ensures { IsTrue result ↔ IsReached self.now.mode self.now.frames.memory }
     {
         match self.mode {
-            Mode::Direct => true,
-            Mode::Offset(offset) => OffsetPageTable::offset_fits(&self.memory, offset),
+            Mode::Direct | Mode::Recursive(_) | Mode::Pair(_) => true,
+            Mode::Offset(offset) => OffsetPageTable::offset_fits(&self.frames.memory, offset),
         }
     }
 
-    /// Gives the word in a slot, 0 where the memory lacks the table.
-    pub fn word(&self, slot: Slot) -> u64
-        ensures { result ≡ word_in self.now.memory slot.place slot.index }
-    {
-        slot.word(&self.memory)
-    }
-
-    /// Loads a line of the image: sets its word, or adds its frame at the back of the free ones.
+    /// Loads a line of the image: sets its word, or adds its frame at the back of the free ones. In a pair both mappers get it.
     ///
     /// # Errors
     ///
-    /// Those of [`FramePool::try_add`]; then nothing changes.
-    pub fn load(&mut self, line: ImageLine) -> Result<(), PoolRefusal>
-        ensures accepted { IsOk result ↔ IsLoadable self.old line }
-        ensures memory { OnOk result (self.new.memory ≡ memory_after self.old line) }
-        ensures free { OnOk result (self.new.pool.frames ≡ free_after self.old line) }
-        ensures why { IfErr result (IsRefusedFor self.old line) }
-        ensures refused { OnErr result (
-            (self.new.memory ≡ self.old.memory) × (self.new.pool.frames ≡ self.old.pool.frames)) }
-        ensures limit { self.new.pool.limit ≡ self.old.pool.limit }
+    /// Those of [`FramePool::try_add`](x86_64::FramePool::try_add); then nothing changes.
+    pub fn load(&mut self, line: &ImageLine) -> Result<(), PoolRefusal>
+        requires { HasCopy self.old }
+        ensures accepted { IsOk result ↔ IsLoadable self.old.frames line.now }
+        ensures memory { OnOk result (self.new.frames.memory ≡ memory_after self.old.frames line.now) }
+        ensures free { OnOk result (self.new.frames.pool.frames ≡ free_after self.old.frames line.now) }
+        ensures why { IfErr result (IsRefusedFor self.old.frames line.now) }
+        ensures refused { OnErr result (self.new ≡ self.old) }
+        ensures limit { self.new.frames.pool.limit ≡ self.old.frames.pool.limit }
         ensures mode { self.new.mode ≡ self.old.mode }
+        ensures copy { HasCopy self.new }
     {
-        match line {
-            ImageLine::Word { slot, value } => {
-                slot.set_word(&mut self.memory, value);
-                Ok(())
-            }
-            ImageLine::Free(frame) => self.pool.try_add(frame),
+        self.frames.load(line)?;
+        match self.mode {
+            Mode::Direct | Mode::Offset(_) | Mode::Recursive(_) => Ok(()),
+            Mode::Pair(_) => self.twin.load(line),
         }
     }
 
-    /// Tells whether the hierarchy is valid, its free frames fit it, and the mapper reaches each place.
+    /// Ends the image: tells whether the hierarchy is valid, its free frames fit it, and the mapper reaches each place. In a pair
+    /// the hierarchy is the recursive mapper's, and the root's word at the index becomes 0 for the other one.
     ///
     /// # Errors
     ///
     /// `AllocError` where memory is refused.
-    pub fn fits(&self, alloc: Global) -> Result<bool, AllocError>
-        ensures { IfOk result (λ fits. IsTrue fits ↔ IsHierarchy self.now) }
+    pub fn end_image(&mut self, alloc: Global) -> Result<bool, AllocError>
+        requires { HasCopy self.old }
+        ensures fits { IfOk result (λ fits. IsTrue fits ↔ IsHierarchy self.new) }
+        ensures tested { let mode = self.old.mode in
+            IfOk result (λ fits. IsTrue fits ↔ (FitsImage self.old × IsReached mode self.old.frames.memory)) }
+        ensures memory { OnOk result (
+            self.new.frames.memory ≡ first_memory self.old.mode self.old.frames.memory) }
+        ensures pool { self.new.frames.pool ≡ self.old.frames.pool }
+        ensures mode { self.new.mode ≡ self.old.mode }
+        ensures twin { self.new.twin ≡ self.old.twin }
     {
-        let fits = pool_fits(alloc, &self.memory, &IdentityMapping, root(), &self.pool)?;
-        Ok(fits && self.is_reached())
+        let fits = self.fits(alloc)? && self.is_reached();
+        self.clear_self_entry();
+        Ok(fits)
     }
 
-    /// Runs the list of one call, by the mapper of the mode, and gives the reply.
+    /// Sets the root's word at the recursive index of a pair to 0 for the mapper that isn't recursive.
+    fn clear_self_entry(&mut self)
+        ensures memory { self.new.frames.memory ≡ first_memory self.old.mode self.old.frames.memory }
+        ensures pool { self.new.frames.pool ≡ self.old.frames.pool }
+        ensures mode { self.new.mode ≡ self.old.mode }
+        ensures twin { self.new.twin ≡ self.old.twin }
+    {
+        let mode = self.mode;
+        match mode {
+            Mode::Direct | Mode::Offset(_) | Mode::Recursive(_) => {}
+            Mode::Pair(index) => self.frames.clear_self_entry(index),
+        }
+    }
+
+    /// Tells whether the hierarchy is valid, and its free frames fit it, as the image says both.
     ///
-    /// Condition: the hierarchy is valid, its free frames fit it, and the mapper reaches each place.
+    /// # Errors
+    ///
+    /// `AllocError` where memory is refused.
+    fn fits(&self, alloc: Global) -> Result<bool, AllocError>
+        ensures { IfOk result (λ fits. IsTrue fits ↔ FitsImage self.now) }
+    {
+        match self.mode {
+            Mode::Direct | Mode::Offset(_) => self.frames.fits(alloc),
+            Mode::Recursive(index) => self.frames.fits_recursive(alloc, index),
+            Mode::Pair(index) => self.twin.fits_recursive(alloc, index),
+        }
+    }
+
+    /// Runs the list of one call, by the mapper of the mode, and gives the reply. In a pair a call that names the recursive index
+    /// is not allowed, also where it only reads.
+    ///
+    /// Condition: the hierarchy is valid, its free frames fit it, and the mapper reaches each place; in a pair both are, alike.
     ///
     /// # Errors
     ///
     /// `AllocError` where memory is refused; then nothing changes.
     pub fn answer_call(&mut self, alloc: Global, call: Call) -> Result<Reply, AllocError>
         requires { IsHierarchy self.old }
-        ensures reply { IfOk result (λ reply.
-            Some reply ≡ (call_step machine (state_of self.old) call).reply) }
-        ensures state { OnOk result (
-            state_of self.new ≡ (call_step machine (state_of self.old) call).state) }
+        ensures reply { IfOk result (λ reply. Some reply ≡ (call_step self.old call).reply) }
+        ensures state { OnOk result (state_of self.new ≡ (call_step self.old call).state) }
+        ensures named { is_named self.old.mode call ≡ true → self.new ≡ self.old }
         ensures unchanged { OnErr result (self.new ≡ self.old) }
         ensures keeps { Keeps self.old self.new }
     {
-        let mode = self.mode;
-        let (memory, pool) = (&mut self.memory, &mut self.pool);
+        if self.mode.is_named(&call) {
+            return Ok(Reply::NotAllowed);
+        }
+        let (mode, twin) = (self.mode, &mut self.twin);
+        let (memory, pool) = (&mut self.frames.memory, &mut self.frames.pool);
         match mode {
             Mode::Direct => answer_direct(alloc, memory, pool, call),
             Mode::Offset(offset) => answer_at_offset(alloc, memory, offset, pool, call),
+            Mode::Recursive(index) => answer_recursively(alloc, memory, index, pool, call),
+            Mode::Pair(index) => answer_by_both(alloc, memory, pool, twin, index, call),
         }
     }
-
-    /// Walks to an address as the processor does, or gives `None` where the walk arrives nowhere.
-    pub fn walk(&self, addr: VirtAddr) -> Option<Walked>
-        ensures { option_map walked_of result ≡ walk_of 4 (words layout self.now.memory) 0x1000 addr }
-    {
-        page_walk(&self.memory, &IdentityMapping, root(), addr)
-    }
-
-    /// Gives the free frames, in order.
-    ///
-    /// # Errors
-    ///
-    /// `AllocError` where memory is refused.
-    pub fn free_frames(&self, alloc: Global) -> Result<Vec<PhysFrame<Size4KiB>>, AllocError>
-        ensures { IfOk result (λ frames. frames.items ≡ self.now.pool.frames) }
-    {
-        let mut frames = Vec::new(alloc);
-        for n in 0..self.pool.len() {
-            if let Some(frame) = self.pool.frame_at(n) {
-                frames.push(frame)?;
-            }
-        }
-        Ok(frames)
-    }
-}
-
-/// Gives the root's frame.
-fn root() -> PhysFrame<Size4KiB>
-    ensures { result ≡ 0x1000 }
-{
-    PhysFrame::containing_address(PhysAddr::new(0x1000))
-}
-
-/// Runs the list of one call by a mapper, and gives the reply.
-///
-/// Condition: the mapper's hierarchy is valid, and the pool fits it.
-///
-/// # Errors
-///
-/// `AllocError` where memory is refused; then nothing changes.
-fn answer_by<M: MapperAllSizes + Translate + CleanUp>(
-    alloc: Global,
-    mapper: &mut M,
-    pool: &mut FramePool,
-    call: Call,
-) -> Result<Reply, AllocError>
-    requires { PoolFits (M.hierarchy mapper.old) (serves_below pool.old.limit) pool.old.frames }
-    ensures answered { let h = M.hierarchy mapper.old in
-        IfOk result (IsAnswered h.layout h.memory pool.old.frames call (M.hierarchy mapper.new).memory pool.new.frames) }
-    ensures unchanged { OnErr result (
-        ((M.hierarchy mapper.new).memory ≡ (M.hierarchy mapper.old).memory) × (pool.new ≡ pool.old)) }
-    ensures keeps { let h = M.hierarchy mapper.old in
-        Kept h (serves_below pool.old.limit) pool.old.frames (M.hierarchy mapper.new) pool.new.frames }
-    ensures serves { serves_below pool.new.limit ≡ serves_below pool.old.limit }
-{
-    let calls = [call];
-    let mut replies = Vec::with_capacity(alloc, 1)?;
-    run(mapper, pool, &calls, &mut replies)?;
-    Ok(replies[0])
-}
-
-/// Runs the list of one call where each frame lies at the place of its number, and gives the reply.
-///
-/// Condition: the hierarchy is valid, and the pool fits it.
-///
-/// # Errors
-///
-/// `AllocError` where memory is refused; then nothing changes.
-fn answer_direct(
-    alloc: Global,
-    memory: &mut PhysMemory,
-    pool: &mut FramePool,
-    call: Call,
-) -> Result<Reply, AllocError>
-    requires { FitsPool layout memory.old (serves_below pool.old.limit) pool.old.frames }
-    ensures answered { IfOk result (
-        IsAnswered layout memory.old pool.old.frames call memory.new pool.new.frames) }
-    ensures unchanged { OnErr result ((memory.new ≡ memory.old) × (pool.new ≡ pool.old)) }
-    ensures keeps { let serves = serves_below pool.old.limit in
-        KeepsPool layout serves memory.old pool.old.frames memory.new pool.new.frames }
-    ensures serves { serves_below pool.new.limit ≡ serves_below pool.old.limit }
-{
-    let mut mapper = MappedPageTable::new(memory, root(), IdentityMapping);
-    answer_by(alloc, &mut mapper, pool, call)
-}
-
-/// Runs the list of one call where the memory stands at an offset, and gives the reply.
-///
-/// Conditions: the hierarchy is valid, the pool fits it, and the offset fits the memory.
-///
-/// # Errors
-///
-/// `AllocError` where memory is refused; then nothing changes.
-fn answer_at_offset(
-    alloc: Global,
-    memory: &mut PhysMemory,
-    phys_offset: VirtAddr,
-    pool: &mut FramePool,
-    call: Call,
-) -> Result<Reply, AllocError>
-    requires pool { FitsPool layout memory.old (serves_below pool.old.limit) pool.old.frames }
-    requires offset { OffsetFits memory.old phys_offset }
-    ensures answered { IfOk result (
-        IsAnswered layout memory.old pool.old.frames call memory.new pool.new.frames) }
-    ensures unchanged { OnErr result ((memory.new ≡ memory.old) × (pool.new ≡ pool.old)) }
-    ensures keeps { let serves = serves_below pool.old.limit in
-        KeepsPool layout serves memory.old pool.old.frames memory.new pool.new.frames }
-    ensures offset { OffsetFits memory.new phys_offset }
-    ensures serves { serves_below pool.new.limit ≡ serves_below pool.old.limit }
-{
-    let mut mapper = OffsetPageTable::new(memory, root(), phys_offset);
-    answer_by(alloc, &mut mapper, pool, call)
 }

@@ -2,9 +2,11 @@
 #![tactic(auto)]
 
 mod arguments;
+mod calls;
 pub mod ending;
 pub mod engine;
 mod fields;
+mod frames;
 mod hierarchy;
 mod lines;
 pub mod number;

@@ -17,19 +17,25 @@ pub struct Slot {
 
 impl Slot {
     /// Gives the slot at an index of the table in a frame, where each frame lies at the place of its number.
-    ///
-    /// Answers `None` exactly where `index` isn't below 512.
+    pub fn at(frame: PhysFrame<Size4KiB>, index: PageTableIndex) -> Slot
+        ensures place { result.place ≡ frame / 4096 }
+        ensures index { result.index ≡ index }
+    {
+        let number = frame.start_address().as_u64() / Size4KiB::SIZE;
+        Slot {
+            place: FramePlace::new(number),
+            index,
+        }
+    }
+
+    /// Does what [`at`](Self::at) does, where the index is a number. Answers `None` exactly where it isn't below 512.
     pub fn new(frame: PhysFrame<Size4KiB>, index: u64) -> Option<Slot>
         ensures fits { IsSome result ↔ (index < 512) }
         ensures place { IfSome result (λ slot. slot.place ≡ frame / 4096) }
         ensures index { IfSome result (λ slot. slot.index ≡ index) }
     {
         if index < 512 {
-            let number = frame.start_address().as_u64() / Size4KiB::SIZE;
-            Some(Slot {
-                place: FramePlace::new(number),
-                index: PageTableIndex::new(index as u16),
-            })
+            Some(Slot::at(frame, PageTableIndex::new(index as u16)))
         } else {
             None
         }

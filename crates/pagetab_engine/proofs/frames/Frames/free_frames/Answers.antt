@@ -2,8 +2,8 @@ use Rattle.std.proofs.Common.{◌≡◌, ◌+◌, ℕ, List, [], ◌∷◌, ◌+
 use Rattle.std.specs.List.{slice_get}
 use Rattle.std.proofs.Math.Seq.{take-suc}
 use Rattle.std.proofs.lemmas.Option.{get_or_from_slice_get, slice_get_within, slice_get-get_or}
-use Rattle.pagetab_engine.proofs.hierarchy.Hierarchy.free_frames.Goals as goal
-use Rattle.pagetab_engine.proofs.hierarchy.Hierarchy.free_frames.Goals.{in-Some+in_ok-push, in_default}
+use Rattle.pagetab_engine.proofs.frames.Frames.free_frames.Goals as goal
+use Rattle.pagetab_engine.proofs.frames.Frames.free_frames.Goals.{in-Some+in_ok-push, in_default}
 
 with_next : (xs : List ℕ) (n x : ℕ) → slice_get xs n ≡ Some x → take n xs ++ x ∷ [] ≡ take (n + 1) xs
 with_next xs n x next =

@@ -1,0 +1,60 @@
+-- What an image that fits makes of a hierarchy.
+use Rattle.std.proofs.Common.{◌≡◌, ◌↔◌, ◌∙◌, IsTrue, Bool, ℕ, List, [], Some, None, if◌then◌else◌, nat_lt, sym, ap, subst, subst₂}
+use Rattle.std.specs.Cmp.{nat_cmp_total}
+use Rattle.std.specs.FinMap.{get, same_map, nat_cmp-IsAntisymmetric}
+use Rattle.x86_64_model.specs.Alike.{Alike}
+use Rattle.x86_64_model.specs.Layout.{paths}
+use Rattle.x86_64_model.specs.Marks.{serves_below}
+use Rattle.x86_64_model.specs.Memory.{Memory}
+use Rattle.x86_64_tables.specs.PageTable.{zero_words}
+use Rattle.x86_64.specs.Runs.{FitsPool}
+use Rattle.pagetab_engine.specs.Frames.{direct_layout, recursive_layout, without_self_entry}
+use Rattle.pagetab_engine.specs.Hierarchy.{IsCopy, HasCopy, FitsIn, FitsImage, IsReached, IsHierarchy, first_memory}
+use Rattle.pagetab_engine.specs.declared.arguments.Mode.{Mode}
+use Rattle.pagetab_engine.specs.declared.arguments.Mode.TheVariants.{Direct, Offset, Recursive, Pair}
+use Rattle.pagetab_engine.specs.declared.frames.Frames.{Frames}
+use Rattle.pagetab_engine.specs.declared.hierarchy.Hierarchy.{Hierarchy}
+use Rattle.pagetab_engine.proofs.Cleared.{cleared_alike, cleared_fits}
+
+-- two memories of as many places that no line was loaded into have one image
+pub empty_copy : (index : ℕ) (frames copy : Frames) (places copied : ℕ) → copied ≡ places
+    → ((place : ℕ) → get frames.memory place ≡ (if nat_lt place places then Some zero_words else None)) → ((place : ℕ) → get copy.memory place ≡ (if nat_lt place copied then Some zero_words else None))
+    → frames.pool.frames ≡ [] → copy.pool.frames ≡ [] → frames.pool.limit ≡ places → copy.pool.limit ≡ copied → IsCopy (Pair index) frames copy
+empty_copy index frames copy places copied same words others free none limit other = (
+  same_map nat_cmp_total nat_cmp-IsAntisymmetric copy.memory frames.memory
+      (λ place. others place ∙ ap (λ places. if nat_lt place places then Some zero_words else None) same ∙ sym (words place)),
+  none ∙ sym free,
+  other ∙ same ∙ sym limit,
+)
+
+-- the hierarchy of the first commands
+abbrev pub first_hierarchy : Mode → (frames twin : Frames) → Hierarchy
+first_hierarchy mode frames twin = record { mode = mode; frames = record { memory = first_memory mode frames.memory; pool = frames.pool }; twin = twin }
+
+-- The image fits, and each place is reached, exactly if the hierarchy of the first commands is valid and fits, in a pair that with another alike.
+pub fits_at_end : (mode : Mode) (frames twin : Frames) → IsCopy mode frames twin → (FitsIn mode frames twin × IsReached mode frames.memory) ↔ IsHierarchy (first_hierarchy mode frames twin)
+fits_at_end Direct frames twin copied = (λ fits. record { fits = fits.0; reached = tt; twin = tt }, λ is. (is.fits, tt))
+fits_at_end (Offset offset) frames twin copied = (λ fits. record { fits = fits.0; reached = fits.1; twin = tt }, λ is. (is.fits, is.reached))
+fits_at_end (Recursive index) frames twin copied = (λ fits. record { fits = fits.0; reached = tt; twin = tt }, λ is. (is.fits, tt))
+fits_at_end (Pair index) frames twin copied = (
+  λ fits. record {
+    fits = subst₂ (λ (free : List ℕ) limit. FitsPool direct_layout (without_self_entry index frames.memory) (serves_below limit) free) copied.1 copied.2
+        (subst (λ (m : Memory). FitsPool direct_layout (without_self_entry index m) (serves_below twin.pool.limit) twin.pool.frames) copied.0
+        (cleared_fits twin.memory index (serves_below twin.pool.limit) twin.pool.frames fits.0));
+    reached = tt;
+    twin = record {
+      fits = fits.0;
+      alike = subst (λ (m : Memory). Alike 4 (paths direct_layout (without_self_entry index m)) (paths (recursive_layout twin.memory index) twin.memory)) copied.0 (cleared_alike twin.memory index);
+      same_free = sym copied.1;
+    };
+  },
+  λ is. (is.twin.fits, tt),
+)
+
+-- so the test of the image is that of the hierarchy after it
+pub ends : (before after : Hierarchy) → HasCopy before → after.frames.memory ≡ first_memory before.mode before.frames.memory → after.frames.pool ≡ before.frames.pool
+    → after.mode ≡ before.mode → after.twin ≡ before.twin → (fits : Bool) → IsTrue fits ↔ (FitsImage before × IsReached before.mode before.frames.memory) → IsTrue fits ↔ IsHierarchy after
+ends before after copied memory pool mode twin fits tested =
+    let same : after ≡ first_hierarchy before.mode before.frames before.twin = λ i. record { mode = mode i; frames = record { memory = memory i; pool = pool i }; twin = twin i } in
+    let both = fits_at_end before.mode before.frames before.twin copied in
+    (λ is. subst (λ (h : Hierarchy). IsHierarchy h) (sym same) (both.0 (tested.0 is)), λ is. tested.1 (both.1 (subst (λ (h : Hierarchy). IsHierarchy h) same is)))

@@ -1,0 +1,52 @@
+-- The frames of a hierarchy, and what the lines of an image make of them. The root stands in the frame 0x1000.
+use Rattle.std.specs.Prelude.{◌≡◌, ◌≢◌, ◌<◌, ◌≤◌, ◌/◌, ℕ, ⊤, List, [], ◌∷◌, ◌++◌}
+use Rattle.x86_64_model.specs.Layout.{Layout}
+use Rattle.x86_64_model.specs.Lists.{In}
+use Rattle.x86_64_model.specs.Marks.{serves_below}
+use Rattle.x86_64_model.specs.Memory.{Memory, identity_places}
+use Rattle.x86_64_tables.specs.declared.frame_alloc.pool.PoolRefusal.{PoolRefusal}
+use Rattle.x86_64_tables.specs.declared.frame_alloc.pool.PoolRefusal.TheVariants.{Zero, OutOfRange, AlreadyFree}
+use Rattle.x86_64_mappers.specs.Layouts.{direct}
+use Rattle.x86_64_mappers.specs.Recursive.{recursive_now}
+use Rattle.x86_64.specs.Runs.{FitsPool}
+use Rattle.pagetab_engine.specs.Slot.{stored}
+use Rattle.pagetab_engine.specs.declared.frames.Frames.{Frames}
+use Rattle.pagetab_engine.specs.declared.statement.ImageLine.{ImageLine}
+use Rattle.pagetab_engine.specs.declared.statement.ImageLine.TheVariants.{Word, Free}
+
+-- each frame lies at the place of its number
+abbrev pub direct_layout : Layout
+direct_layout = direct identity_places 0x1000
+
+-- the same with a recursive index, and the self-entry that is the root's word there now
+abbrev pub recursive_layout : Memory → (index : ℕ) → Layout
+recursive_layout memory index = recursive_now memory 0x1000 index
+
+-- the hierarchy is valid, and the free frames fit it
+abbrev pub FitsBy : Layout → Frames → Type 0
+FitsBy layout frames = FitsPool layout frames.memory (serves_below frames.pool.limit) frames.pool.frames
+
+-- the memory after the root's word at a recursive index was set to 0
+abbrev pub without_self_entry : (index : ℕ) → Memory → Memory
+without_self_entry index memory = stored memory 1 index 0
+
+-- a frame that is to be free is not frame 0, has a number below the limit, and is not free yet
+abbrev pub IsLoadable : Frames → ImageLine → Type 0
+IsLoadable frames (Word slot value) = ⊤
+IsLoadable frames (Free frame) = (frame ≢ 0) × (frame / 4096 < frames.pool.limit) × (In frames.pool.frames frame → ⊥)
+
+-- why a line is refused
+abbrev pub IsRefusedFor : Frames → ImageLine → PoolRefusal → Type 0
+IsRefusedFor frames (Word slot value) why = ⊥
+IsRefusedFor frames (Free frame) Zero = frame ≡ 0
+IsRefusedFor frames (Free frame) OutOfRange = frames.pool.limit ≤ frame / 4096
+IsRefusedFor frames (Free frame) AlreadyFree = In frames.pool.frames frame
+
+abbrev pub memory_after : Frames → ImageLine → Memory
+memory_after frames (Word slot value) = stored frames.memory slot.place slot.index value
+memory_after frames (Free frame) = frames.memory
+
+-- the free frames after a line
+abbrev pub free_after : Frames → ImageLine → List ℕ
+free_after frames (Word slot value) = frames.pool.frames
+free_after frames (Free frame) = frames.pool.frames ++ frame ∷ []

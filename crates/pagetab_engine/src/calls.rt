@@ -1,0 +1,175 @@
+//! Calls by the mappers, one at a time, and the replies to them.
+ghost use Rattle.std.specs.Prelude.{◌≡◌, false, IfOk, OnErr};
+ghost use Rattle.x86_64_model.specs.Marks.{serves_below};
+ghost use Rattle.x86_64_model.specs.Owned.{PoolFits};
+ghost use Rattle.x86_64_mappers.specs.Offsets.{OffsetFits};
+ghost use Rattle.x86_64.specs.Calls.{names};
+ghost use Rattle.x86_64.specs.Runs.{FitsPool, Keeps as KeepsPool, Kept};
+ghost use Rattle.pagetab_engine.specs.Calls.{IsAnswered};
+ghost use Rattle.pagetab_engine.specs.Frames.{direct_layout, recursive_layout};
+ghost use Rattle.pagetab_engine.specs.Hierarchy.{IsTwin};
+
+use crate::frames::{Frames, root};
+use std::alloc::{AllocError, Global};
+use x86_64::structures::paging::mapper::{CleanUp, MapperAllSizes, Tables};
+use x86_64::structures::paging::{
+    MappedPageTable, OffsetPageTable, PageTableIndex, RecursivePageTable, Translate,
+};
+use x86_64::{
+    ActiveMemory, Call, FramePool, IdentityMapping, PhysMemory, Reply, VirtAddr, run, run_pair,
+};
+
+/// Runs the list of one call by a mapper, and gives the reply.
+///
+/// Condition: the mapper's hierarchy is valid, and the pool fits it.
+///
+/// # Errors
+///
+/// `AllocError` where memory is refused; then nothing changes.
+fn answer_by<M: MapperAllSizes + Translate + CleanUp>(
+    alloc: Global,
+    mapper: &mut M,
+    pool: &mut FramePool,
+    call: Call,
+) -> Result<Reply, AllocError>
+    requires { PoolFits (M.hierarchy mapper.old) (serves_below pool.old.limit) pool.old.frames }
+    ensures answered { let h = M.hierarchy mapper.old in
+        let memory = (M.hierarchy mapper.new).memory in
+        IfOk result (IsAnswered h.layout h.memory pool.old.frames call memory pool.new.frames) }
+    ensures unchanged { OnErr result (
+        ((M.hierarchy mapper.new).memory ≡ (M.hierarchy mapper.old).memory) × (pool.new ≡ pool.old)) }
+    ensures keeps { let h = M.hierarchy mapper.old in
+        Kept h (serves_below pool.old.limit) pool.old.frames (M.hierarchy mapper.new) pool.new.frames }
+    ensures serves { serves_below pool.new.limit ≡ serves_below pool.old.limit }
+{
+    let calls = [call];
+    let mut replies = Vec::with_capacity(alloc, 1)?;
+    run(mapper, pool, &calls, &mut replies)?;
+    Ok(replies[0])
+}
+
+/// Runs the list of one call where each frame lies at the place of its number, and gives the reply.
+///
+/// Condition: the hierarchy is valid, and the pool fits it.
+///
+/// # Errors
+///
+/// `AllocError` where memory is refused; then nothing changes.
+pub fn answer_direct(
+    alloc: Global,
+    memory: &mut PhysMemory,
+    pool: &mut FramePool,
+    call: Call,
+) -> Result<Reply, AllocError>
+    requires { FitsPool direct_layout memory.old (serves_below pool.old.limit) pool.old.frames }
+    ensures answered { IfOk result (
+        IsAnswered direct_layout memory.old pool.old.frames call memory.new pool.new.frames) }
+    ensures unchanged { OnErr result ((memory.new ≡ memory.old) × (pool.new ≡ pool.old)) }
+    ensures keeps { let serves = serves_below pool.old.limit in
+        KeepsPool direct_layout serves memory.old pool.old.frames memory.new pool.new.frames }
+    ensures serves { serves_below pool.new.limit ≡ serves_below pool.old.limit }
+{
+    let mut mapper = MappedPageTable::new(memory, root(), IdentityMapping);
+    answer_by(alloc, &mut mapper, pool, call)
+}
+
+/// Runs the list of one call where the memory stands at an offset, and gives the reply.
+///
+/// Conditions: the hierarchy is valid, the pool fits it, and the offset fits the memory.
+///
+/// # Errors
+///
+/// `AllocError` where memory is refused; then nothing changes.
+pub fn answer_at_offset(
+    alloc: Global,
+    memory: &mut PhysMemory,
+    phys_offset: VirtAddr,
+    pool: &mut FramePool,
+    call: Call,
+) -> Result<Reply, AllocError>
+    requires pool { FitsPool direct_layout memory.old (serves_below pool.old.limit) pool.old.frames }
+    requires offset { OffsetFits memory.old phys_offset }
+    ensures answered { IfOk result (
+        IsAnswered direct_layout memory.old pool.old.frames call memory.new pool.new.frames) }
+    ensures unchanged { OnErr result ((memory.new ≡ memory.old) × (pool.new ≡ pool.old)) }
+    ensures keeps { let serves = serves_below pool.old.limit in
+        KeepsPool direct_layout serves memory.old pool.old.frames memory.new pool.new.frames }
+    ensures offset { OffsetFits memory.new phys_offset }
+    ensures serves { serves_below pool.new.limit ≡ serves_below pool.old.limit }
+{
+    let mut mapper = OffsetPageTable::new(memory, root(), phys_offset);
+    answer_by(alloc, &mut mapper, pool, call)
+}
+
+/// Runs the list of one call where tables are reached through the root's entry for itself at an index, and gives the reply.
+///
+/// Condition: the hierarchy is valid for the index, and the pool fits it.
+///
+/// # Errors
+///
+/// `AllocError` where memory is refused; then nothing changes.
+pub fn answer_recursively(
+    alloc: Global,
+    memory: &mut PhysMemory,
+    index: PageTableIndex,
+    pool: &mut FramePool,
+    call: Call,
+) -> Result<Reply, AllocError>
+    requires { let layout = recursive_layout memory.old index in
+        FitsPool layout memory.old (serves_below pool.old.limit) pool.old.frames }
+    ensures answered { let layout = recursive_layout memory.old index in IfOk result (
+        IsAnswered layout memory.old pool.old.frames call memory.new pool.new.frames) }
+    ensures unchanged { OnErr result ((memory.new ≡ memory.old) × (pool.new ≡ pool.old)) }
+    ensures keeps { let layout = recursive_layout memory.old index in
+        let serves = serves_below pool.old.limit in
+        KeepsPool layout serves memory.old pool.old.frames memory.new pool.new.frames }
+    ensures layout { recursive_layout memory.new index ≡ recursive_layout memory.old index }
+    ensures serves { serves_below pool.new.limit ≡ serves_below pool.old.limit }
+{
+    let active = ActiveMemory::new(memory, root());
+    let mut mapper = RecursivePageTable::new_unchecked(active, index);
+    answer_by(alloc, &mut mapper, pool, call)
+}
+
+/// Runs the list of one call where each frame lies at the place of its number, and in frames of their own through the root's entry
+/// for itself at an index, and gives the one reply.
+///
+/// Conditions: both hierarchies are valid, alike, and the pools fit them and are equal; the call doesn't name the index.
+///
+/// # Errors
+///
+/// `AllocError` where memory is refused; then nothing changes.
+pub fn answer_by_both(
+    alloc: Global,
+    memory: &mut PhysMemory,
+    pool: &mut FramePool,
+    twin: &mut Frames,
+    index: PageTableIndex,
+    call: Call,
+) -> Result<Reply, AllocError>
+    requires fits { FitsPool direct_layout memory.old (serves_below pool.old.limit) pool.old.frames }
+    requires twin { IsTwin index memory.old pool.old.frames twin.old }
+    requires unnamed { names call index ≡ false }
+    ensures answered { IfOk result (
+        IsAnswered direct_layout memory.old pool.old.frames call memory.new pool.new.frames) }
+    ensures unchanged { OnErr result (
+        (memory.new ≡ memory.old) × (pool.new ≡ pool.old) × (twin.new ≡ twin.old)) }
+    ensures keeps { let serves = serves_below pool.old.limit in
+        KeepsPool direct_layout serves memory.old pool.old.frames memory.new pool.new.frames }
+    ensures serves { serves_below pool.new.limit ≡ serves_below pool.old.limit }
+    ensures twin { IsTwin index memory.new pool.new.frames twin.new }
+{
+    let calls = [call];
+    let mut direct = MappedPageTable::new(memory, root(), IdentityMapping);
+    let active = ActiveMemory::new(&mut twin.memory, root());
+    let mut recursive = RecursivePageTable::new_unchecked(active, index);
+    let replies = run_pair(
+        alloc,
+        &mut direct,
+        pool,
+        &mut recursive,
+        &mut twin.pool,
+        &calls,
+    )?;
+    Ok(replies[0])
+}

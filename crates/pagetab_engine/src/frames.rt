@@ -1,0 +1,138 @@
+//! The frames of a hierarchy: the root stands in the frame 0x1000, and each frame lies at the place of its number.
+ghost use Rattle.std.specs.Prelude.{◌≡◌, ◌↔◌, [], ℕ, if◌then◌else◌, IsOk, IfOk, IfErr, OnOk, OnErr, IsTrue, Some, None, nat_lt, option_map};
+ghost use Rattle.std.specs.FinMap as map;
+ghost use Rattle.x86_64_model.specs.Memory.{words_of, identity_places};
+ghost use Rattle.x86_64_model.specs.PageWalk.{page_walk as walk_of};
+ghost use Rattle.x86_64_tables.specs.PageTable.{zero_words};
+ghost use Rattle.x86_64_tables.specs.Walks.{walked_of};
+ghost use Rattle.pagetab_engine.specs.Frames.{direct_layout, recursive_layout, FitsBy, IsLoadable, IsRefusedFor, memory_after, free_after, without_self_entry};
+ghost use Rattle.pagetab_engine.specs.Slot.{word_in};
+
+use crate::slot::Slot;
+use crate::statement::ImageLine;
+use std::alloc::{AllocError, Global};
+use x86_64::structures::paging::{PageTableIndex, PhysFrame, Size4KiB};
+use x86_64::{
+    FramePool, IdentityMapping, PhysAddr, PhysMemory, PoolRefusal, VirtAddr, Walked, page_walk,
+    pool_fits, pool_fits_recursive,
+};
+
+/// Holds page tables in a memory, and the frames that are free for new ones.
+#[derive(Drop)]
+pub struct Frames {
+    /// The tables.
+    pub memory: PhysMemory,
+    /// The free frames.
+    pub pool: FramePool,
+}
+
+impl Frames {
+    /// Makes a memory of so many places, where all words are 0, and none of whose frames is free.
+    ///
+    /// # Errors
+    ///
+    /// `AllocError` where memory is refused.
+    pub fn new(alloc: Global, places: u64) -> Result<Frames, AllocError>
+        ensures memory { IfOk result (λ frames. (place : ℕ) →
+            map.get frames.memory place ≡ (if nat_lt place places then Some zero_words else None)) }
+        ensures pool { IfOk result (λ frames. frames.pool.frames ≡ []) }
+        ensures limit { IfOk result (λ frames. frames.pool.limit ≡ places) }
+    {
+        Ok(Frames {
+            memory: PhysMemory::new(alloc, places)?,
+            pool: FramePool::new(alloc, places)?,
+        })
+    }
+
+    /// Loads a line of the image: sets its word, or adds its frame at the back of the free ones.
+    ///
+    /// # Errors
+    ///
+    /// Those of [`FramePool::try_add`]; then nothing changes.
+    pub fn load(&mut self, line: &ImageLine) -> Result<(), PoolRefusal>
+        ensures accepted { IsOk result ↔ IsLoadable self.old line.now }
+        ensures memory { OnOk result (self.new.memory ≡ memory_after self.old line.now) }
+        ensures free { OnOk result (self.new.pool.frames ≡ free_after self.old line.now) }
+        ensures why { IfErr result (IsRefusedFor self.old line.now) }
+        ensures refused { OnErr result (self.new ≡ self.old) }
+        ensures limit { self.new.pool.limit ≡ self.old.pool.limit }
+    {
+        match line {
+            ImageLine::Word { slot, value } => {
+                slot.set_word(&mut self.memory, *value);
+                Ok(())
+            }
+            ImageLine::Free(frame) => self.pool.try_add(*frame),
+        }
+    }
+
+    /// Sets the root's word at a recursive index to 0.
+    pub fn clear_self_entry(&mut self, index: PageTableIndex)
+        ensures memory { self.new.memory ≡ without_self_entry index self.old.memory }
+        ensures pool { self.new.pool ≡ self.old.pool }
+    {
+        Slot::at(root(), index).set_word(&mut self.memory, 0);
+    }
+
+    /// Tells whether the hierarchy is valid, and the free frames fit it.
+    ///
+    /// # Errors
+    ///
+    /// `AllocError` where memory is refused.
+    pub fn fits(&self, alloc: Global) -> Result<bool, AllocError>
+        ensures { IfOk result (λ fits. IsTrue fits ↔ FitsBy direct_layout self.now) }
+    {
+        pool_fits(alloc, &self.memory, &IdentityMapping, root(), &self.pool)
+    }
+
+    /// Tells whether the hierarchy is valid for a recursive index, and the free frames fit it.
+    ///
+    /// # Errors
+    ///
+    /// `AllocError` where memory is refused.
+    pub fn fits_recursive(&self, alloc: Global, index: PageTableIndex) -> Result<bool, AllocError>
+        ensures { IfOk result (λ fits.
+            IsTrue fits ↔ FitsBy (recursive_layout self.now.memory index) self.now) }
+    {
+        pool_fits_recursive(alloc, &self.memory, root(), index, &self.pool)
+    }
+
+    /// Gives the word in a slot, 0 where the memory lacks the table.
+    pub fn word(&self, slot: Slot) -> u64
+        ensures { result ≡ word_in self.now.memory slot.place slot.index }
+    {
+        slot.word(&self.memory)
+    }
+
+    /// Walks to an address as the processor does, or gives `None` where the walk arrives nowhere.
+    pub fn walk(&self, addr: VirtAddr) -> Option<Walked>
+        ensures { let words = words_of self.now.memory identity_places in
+            option_map walked_of result ≡ walk_of 4 words 0x1000 addr }
+    {
+        page_walk(&self.memory, &IdentityMapping, root(), addr)
+    }
+
+    /// Gives the free frames, in order.
+    ///
+    /// # Errors
+    ///
+    /// `AllocError` where memory is refused.
+    pub fn free_frames(&self, alloc: Global) -> Result<Vec<PhysFrame<Size4KiB>>, AllocError>
+        ensures { IfOk result (λ frames. frames.items ≡ self.now.pool.frames) }
+    {
+        let mut frames = Vec::new(alloc);
+        for n in 0..self.pool.len() {
+            if let Some(frame) = self.pool.frame_at(n) {
+                frames.push(frame)?;
+            }
+        }
+        Ok(frames)
+    }
+}
+
+/// Gives the root's frame.
+pub fn root() -> PhysFrame<Size4KiB>
+    ensures { result ≡ 0x1000 }
+{
+    PhysFrame::containing_address(PhysAddr::new(0x1000))
+}
