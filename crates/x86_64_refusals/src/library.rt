@@ -8,12 +8,13 @@ use crate::hoard::answer_at_last;
 use std::alloc::{AllocError, Global};
 use std::process::Abort;
 use std::test::Fail;
-use x86_64::structures::paging::{MappedPageTable, PageTableFlags};
+use x86_64::structures::paging::{MappedPageTable, PageTableFlags, PageTableIndex};
 use x86_64::{
     Call, FlushItem, FlushRecorder, FramePlace, FramePool, IdentityMapping, PhysMemory, Reply,
-    SizeCall, SizeReply, VirtAddr, is_valid_hierarchy, pool_fits,
+    SizeCall, SizeReply, VirtAddr, is_valid_hierarchy, is_valid_recursive, pool_fits,
+    pool_fits_recursive,
 };
-use x86_64_tests::images::{ROOT, frame_at, page_at, pool_of, run_flushed_on, run_on};
+use x86_64_tests::images::{ROOT, frame_at, page_at, pool_of, run_flushed_on, run_on, set_word};
 
 /// The addresses of the frames that are free at first.
 const FREE: [u64; 3] = [0x2000, 0x3000, 0x4000];
@@ -50,6 +51,24 @@ fn hierarchies_and_pools_are_tested_once_there_is_room(rt: HostRuntime) -> Resul
     assert!(rt; is_valid_hierarchy(alloc, &memory, &IdentityMapping, root)?);
     let mapper = MappedPageTable::new(&mut memory, root, IdentityMapping);
     assert!(rt; answer_at_last(&rt, alloc, || mapper.is_valid(alloc))?);
+    Ok(())
+}
+
+#[test]
+fn recursive_hierarchies_are_tested_once_there_is_room(rt: HostRuntime) -> Result<(), Fail> {
+    let alloc = rt.alloc();
+    let (root, index) = (frame_at(ROOT), PageTableIndex::new(510));
+    let mut memory = PhysMemory::new(alloc, 4096)?;
+    set_word(&mut memory, ROOT, 510, 0x1003)?;
+    let pool = pool_of(alloc, 4096, &FREE)?;
+    let is_valid = answer_at_last(&rt, alloc, || {
+        is_valid_recursive(alloc, &memory, root, index)
+    })?;
+    assert!(rt; is_valid);
+    let fits = answer_at_last(&rt, alloc, || {
+        pool_fits_recursive(alloc, &memory, root, index, &pool)
+    })?;
+    assert!(rt; fits);
     Ok(())
 }
 

@@ -1,24 +1,31 @@
-//! Lists of calls that a fixed rule makes, answered by `run` and by the plain slow program side by side.
+//! Lists of calls that a fixed rule makes, answered by `run` and by the plain slow program side by side, and such
+//! calls one at a time by the mapper itself, and lists by two mappers at once.
 //!
 //! After each list these are compared: each reply of `run` with the plain program's; every word of the root
-//! and of each table with the plain state's entry at its path; the free frames, in order; the words of these,
-//! which are 0 where a clean up gave the frame back, and else what they were; and the words of the frames that
-//! are neither tables nor free, with what they were. At the end each outcome that a call of a kind and a size
-//! can have was met, and no other.
+//! and of each table with the plain state's entry at its path, or with the root's entry for itself; the free
+//! frames, in order; the words of these, which are 0 where a clean up gave the frame back, and else what they
+//! were; and the words of the frames that are neither tables nor free, with what they were. At the end each
+//! outcome that a call of a kind and a size can have, inside the window of a recursive index or elsewhere, was
+//! met, and no other.
+ghost use Rattle.std.specs.Prelude.{◌≡◌};
+
+mod alone;
 mod chooser;
 mod outcomes;
+mod pairs;
 
 use crate::images::{ROOT, WORD_COUNT, fill, set_word};
 use crate::replies::{Wanted, wanted_of};
-use crate::rows::{By, answer, begin_in, compare_pool, compare_word};
-use chooser::Chooser;
+use crate::rows::{By, SELF_ENTRY, answer, begin_in, compare_pool, compare_word, put_self_entry};
+use alone::answer_alone;
+use chooser::{Choice, Chooser};
 use outcomes::{ACTIONS, Action, OUTCOMES, Outcome, outcome_of, possible_outcomes};
 use std::alloc::{AllocError, Global};
 use std::process::Abort;
 use std::test::Fail;
 use x86_64::{Call, FramePool, PhysMemory, Reply};
 use x86_64_plain::words::{address, is_huge, is_used};
-use x86_64_plain::{PathEntries, PlainMachine, PlainState};
+use x86_64_plain::{PathEntries, PlainMachine, PlainState, PlainWindow};
 
 /// How many places the memory has.
 const PLACES: u64 = 16;
@@ -29,12 +36,11 @@ const LISTS: usize = 20;
 /// How many calls a list has.
 const CALLS: usize = 20;
 
-/// The plain machine of the direct mapper.
-const MACHINE: PlainMachine = PlainMachine {
-    levels: 4,
-    window: None,
-    added_flags: 0,
-};
+/// How many calls the mapper itself answers then.
+const CALLS_ALONE: usize = 60;
+
+/// The recursive index, which calls choose among others.
+const RECURSIVE_INDEX: u16 = 1;
 
 /// The entries at first, each with its path and the frame of the table that it stands in. Pages of each size
 /// are mapped; a table, a page and an entry that maps a page of 1GiB lack `PRESENT`; and two entries with
@@ -69,12 +75,37 @@ const EMPTY: [u64; 3] = [0x0, 0x5000, 0xf000];
 struct Met {
     action: Action,
     level: u64,
+    /// Says whether the call names the recursive index.
+    in_window: bool,
     outcome: Outcome,
+}
+
+/// Gives the plain machine of a mapper.
+fn machine_of(by: By) -> PlainMachine
+    ensures { result.levels ≡ 4 }
+{
+    match by {
+        By::Identity | By::Reference | By::Offset => PlainMachine {
+            levels: 4,
+            window: None,
+            added_flags: 0x0,
+        },
+        By::Recursive(index) => PlainMachine {
+            levels: 4,
+            window: Some(PlainWindow {
+                index: u64::from(index),
+                self_entry: SELF_ENTRY,
+            }),
+            added_flags: 0x3,
+        },
+    }
 }
 
 /// Holds one hierarchy and its free frames twice: in a memory, and plainly.
 #[derive(Drop)]
 struct Twins {
+    /// The mapper of the memory.
+    by: By,
     memory: PhysMemory,
     pool: FramePool,
     plain: PlainState,
@@ -87,12 +118,14 @@ struct Twins {
 
 impl Twins {
     /// Makes them of the entries at first and so many free frames, which are full of ones, as the stranger is.
-    fn new(alloc: Global, count: usize) -> Result<Twins, Fail> {
+    fn new(alloc: Global, by: By, count: usize) -> Result<Twins, Fail> {
         let (free, others) = FREE.split_at(count.min(FREE.len()));
         let (mut memory, pool) = begin_in(alloc, PLACES, free)?;
+        put_self_entry(&mut memory, by)?;
         fill(&mut memory, STRANGER)?;
         let paths = put_entries(alloc, &mut memory)?;
         Ok(Twins {
+            by,
             memory,
             pool,
             plain: plain_state(alloc, paths, free)?,
@@ -129,12 +162,21 @@ impl Twins {
         (frame, index): (u64, u16),
         tables: &mut Vec<(Vec<u64>, u64)>,
     ) -> Result<(), Fail> {
-        let word = self.plain.paths.entry(path);
+        let entry = self.plain.paths.entry(path);
+        let word = self.self_entry(path).unwrap_or(entry);
         compare_word(rt, &self.memory, (frame, index, word), "plain entries")?;
-        if path.len() < MACHINE.levels && is_used(word) && !is_huge(word) {
-            tables.push((Vec::from_slice(alloc, path)?, address(word)))?;
+        if path.len() < 4 && is_used(entry) && !is_huge(entry) {
+            tables.push((Vec::from_slice(alloc, path)?, address(entry)))?;
         }
         Ok(())
+    }
+
+    /// Gives the root's entry for itself, if it stands at a path.
+    fn self_entry(&self, path: &[u64]) -> Option<u64> {
+        match (machine_of(self.by).window, path) {
+            (Some(window), [index]) if *index == window.index => Some(window.self_entry),
+            _ => None,
+        }
     }
 
     /// Compares the states.
@@ -164,26 +206,29 @@ impl Twins {
         Ok(())
     }
 
-    /// Chooses a call, answers it plainly, and keeps what comes of it.
-    fn step(
-        &mut self,
-        alloc: Global,
-        chooser: &mut Chooser,
-        met: &mut Vec<Met>,
-    ) -> Result<Wanted, Fail> {
-        let choice = chooser.choice(alloc)?;
+    /// Answers a call plainly, and gives what comes of it too.
+    fn step(&mut self, choice: &Choice) -> Result<(Wanted, Met), Fail> {
         let free = self.plain.pool.len();
-        let reply = MACHINE.step(&mut self.plain, &choice.plain)?;
+        let reply = machine_of(self.by).step(&mut self.plain, &choice.plain)?;
         let gave_back = free < self.plain.pool.len();
         self.untouched = self.untouched.min(self.plain.pool.len());
         let wanted = wanted_of(choice.turn, reply).ok_or("a reply that fits no such call")?;
         let (level, outcome) = outcome_of(wanted.reply, gave_back);
-        met.push(Met {
+        let met = Met {
             action: choice.action,
             level: level.max(choice.level),
+            in_window: self.names_the_window(wanted.call),
             outcome,
-        })?;
-        Ok(wanted)
+        };
+        Ok((wanted, met))
+    }
+
+    /// Tells whether a call names the recursive index.
+    fn names_the_window(&self, call: Call) -> bool {
+        match self.by.recursive_index() {
+            Some(index) => call.names(index),
+            None => false,
+        }
     }
 
     /// Answers a list of calls both ways, and compares the replies and the states. Keeps what comes of each call.
@@ -197,9 +242,10 @@ impl Twins {
         let mut calls = Vec::new(alloc);
         let mut wanted = Vec::new(alloc);
         for _ in 0..CALLS {
-            let step = self.step(alloc, chooser, met)?;
+            let (step, item) = self.step(&chooser.choice(alloc)?)?;
             calls.push(step.call)?;
             wanted.push(step.reply)?;
+            met.push(item)?;
         }
         self.compare_replies(rt, alloc, &calls, &wanted)?;
         self.compare(rt, alloc)
@@ -215,9 +261,28 @@ impl Twins {
     ) -> Result<(), Fail> {
         let mut replies = Vec::new(alloc);
         let image = (&mut self.memory, &mut self.pool);
-        answer(rt, alloc, By::Identity, image, calls, &mut replies)?;
+        answer(rt, alloc, self.by, image, calls, &mut replies)?;
         assert_eq!(rt; replies.as_slice(), wanted, "to {calls:?}");
         Ok(())
+    }
+
+    /// Answers a call by the mapper itself and plainly, and compares the replies and the states. Keeps what comes of
+    /// it. A call that the mapper itself isn't asked here, or that isn't allowed, is answered by `run`.
+    fn answer_alone(
+        &mut self,
+        rt: &impl Abort,
+        alloc: Global,
+        chooser: &mut Chooser,
+        met: &mut Vec<Met>,
+    ) -> Result<(), Fail> {
+        let (Wanted { call, reply }, item) = self.step(&chooser.choice(alloc)?)?;
+        met.push(item)?;
+        let image = (&mut self.memory, &mut self.pool);
+        match answer_alone(rt, alloc, self.by, image, call)? {
+            Some(answer) => assert_eq!(rt; answer, reply, "to {call:?}"),
+            None => self.compare_replies(rt, alloc, &[call], &[reply])?,
+        }
+        self.compare(rt, alloc)
     }
 }
 
@@ -247,18 +312,21 @@ fn empty_frames(alloc: Global, others: &[u64]) -> Result<Vec<u64>, AllocError> {
     Ok(empty)
 }
 
-/// Gives what was met though it isn't possible, and what is possible and wasn't met.
-fn unexpected(alloc: Global, met: &[Met]) -> Result<Vec<Met>, AllocError> {
+/// Gives what was met though it isn't possible, and what is possible and wasn't met, where calls name the window
+/// or don't.
+fn unexpected(alloc: Global, met: &[Met], in_window: bool) -> Result<Vec<Met>, AllocError> {
     let mut unexpected = Vec::new(alloc);
     for action in ACTIONS {
         for level in 0..=3 {
+            let possible = possible_outcomes(action, level, in_window);
             for outcome in OUTCOMES {
                 let item = Met {
                     action,
                     level,
+                    in_window,
                     outcome,
                 };
-                if met.contains(&item) != possible_outcomes(action, level).contains(&outcome) {
+                if met.contains(&item) != possible.contains(&outcome) {
                     unexpected.push(item)?;
                 }
             }
@@ -267,30 +335,46 @@ fn unexpected(alloc: Global, met: &[Met]) -> Result<Vec<Met>, AllocError> {
     Ok(unexpected)
 }
 
-/// Answers lists of calls on a hierarchy with so many free frames both ways, and compares.
+/// Answers lists of calls on a hierarchy with so many free frames both ways and then single calls, and compares.
 fn check_lists(
     rt: &impl Abort,
     alloc: Global,
-    count: usize,
+    (by, count): (By, usize),
     chooser: &mut Chooser,
     met: &mut Vec<Met>,
 ) -> Result<(), Fail> {
-    let mut twins = Twins::new(alloc, count)?;
+    let mut twins = Twins::new(alloc, by, count)?;
     twins.compare(rt, alloc)?;
     for _ in 0..LISTS {
         twins.answer(rt, alloc, chooser, met)?;
+    }
+    for _ in 0..CALLS_ALONE {
+        twins.answer_alone(rt, alloc, chooser, met)?;
+    }
+    Ok(())
+}
+
+/// Does so with each number of free frames, and compares what was met with what is possible.
+fn check_agreement(rt: &impl Abort, alloc: Global, by: By, places: &[bool]) -> Result<(), Fail> {
+    let mut chooser = Chooser::new(1);
+    let mut met = Vec::new(alloc);
+    for count in 0..=FREE.len() {
+        check_lists(rt, alloc, (by, count), &mut chooser, &mut met)?;
+    }
+    for in_window in places {
+        let unexpected = unexpected(alloc, &met, *in_window)?;
+        assert!(rt; unexpected.is_empty(), "{unexpected:?}");
     }
     Ok(())
 }
 
 #[test]
-fn run_agrees_with_the_plain_program(rt: HostRuntime) -> Result<(), Fail> {
-    let mut chooser = Chooser::new(1);
-    let mut met = Vec::new(rt.alloc());
-    for count in 0..=FREE.len() {
-        check_lists(&rt, rt.alloc(), count, &mut chooser, &mut met)?;
-    }
-    let unexpected = unexpected(rt.alloc(), &met)?;
-    assert!(rt; unexpected.is_empty(), "{unexpected:?}");
-    Ok(())
+fn the_direct_mapper_agrees_with_the_plain_program(rt: HostRuntime) -> Result<(), Fail> {
+    check_agreement(&rt, rt.alloc(), By::Identity, &[false])
+}
+
+#[test]
+fn the_recursive_mapper_agrees_with_the_plain_program(rt: HostRuntime) -> Result<(), Fail> {
+    let by = By::Recursive(RECURSIVE_INDEX);
+    check_agreement(&rt, rt.alloc(), by, &[false, true])
 }

@@ -1,8 +1,10 @@
 //! Memories and pools that tests begin with, runs on them, and what they hold then.
+ghost use Rattle.std.specs.Prelude.{◌≡◌};
 ghost use Rattle.x86_64_model.specs.Marks.{serves_below};
 ghost use Rattle.x86_64_model.specs.Memory.{identity_places};
 ghost use Rattle.x86_64_mappers.specs.Layouts.{direct};
 ghost use Rattle.x86_64_mappers.specs.Offsets.{offset_places, OffsetFits};
+ghost use Rattle.x86_64_mappers.specs.Recursive.{recursive_now};
 ghost use Rattle.x86_64.specs.Runs.{FitsPool};
 
 use bitflags::Flags;
@@ -11,11 +13,11 @@ use std::test::Fail;
 use x86_64::structures::paging::mapper::PageTableFrameMapping;
 use x86_64::structures::paging::{
     MappedPageTable, OffsetPageTable, Page, PageSize, PageTableFlags, PageTableIndex, PhysFrame,
-    Size4KiB,
+    RecursivePageTable, Size4KiB,
 };
 use x86_64::{
-    Call, FlushRecorder, FramePlace, FramePool, IdentityMapping, PhysAddr, PhysMemory, Reply,
-    VirtAddr, run, run_flushed,
+    ActiveMemory, Call, FlushRecorder, FramePlace, FramePool, IdentityMapping, PhysAddr,
+    PhysMemory, Reply, VirtAddr, run, run_flushed,
 };
 use x86_64_mappers::laws::offset_has_the_tables_of_the_identity;
 
@@ -133,6 +135,27 @@ pub fn run_at_offset(
 {
     offset_has_the_tables_of_the_identity(memory, phys_offset);
     let mut mapper = OffsetPageTable::new(memory, root, phys_offset);
+    run(&mut mapper, pool, calls, replies)
+}
+
+/// Answers calls by a mapper that reaches tables through the root's entry for itself, as [`run_over`] does. That
+/// entry stays.
+pub fn run_recursive_on(
+    memory: &mut PhysMemory,
+    root: PhysFrame<Size4KiB>,
+    index: PageTableIndex,
+    pool: &mut FramePool,
+    calls: &[Call],
+    replies: &mut Vec<Reply>,
+) -> Result<(), AllocError>
+    requires { let layout = recursive_now memory.old root index in
+        FitsPool layout memory.old (serves_below pool.old.limit) pool.old.frames }
+    ensures fits { let layout = recursive_now memory.new root index in
+        FitsPool layout memory.new (serves_below pool.new.limit) pool.new.frames }
+    ensures window { recursive_now memory.new root index ≡ recursive_now memory.old root index }
+{
+    let active = ActiveMemory::new(memory, root);
+    let mut mapper = RecursivePageTable::new_unchecked(active, index);
     run(&mut mapper, pool, calls, replies)
 }
 

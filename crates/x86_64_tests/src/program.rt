@@ -4,7 +4,9 @@ mod clean_ups;
 mod endings;
 mod flags;
 mod maps;
+mod pairs;
 mod reads;
+mod recursive;
 
 use crate::streams::{Sink, Source};
 use pagetab_engine::ending::Ending;
@@ -65,8 +67,17 @@ fn assert_outcome(rt: &impl Abort, outcome: &Outcome, ending: Ending, written: &
     );
 }
 
-/// Arguments for a memory of 8 places, one for each way to find tables there.
-const MODES: [&str; 2] = ["direct 8", "offset 8 0xffff800000000000"];
+/// The root's word for itself, at the index 510.
+const SELF_ENTRY: &str = "word 0x1000 510 0x1003\n";
+
+/// Arguments for a memory of 8 places, one for each way to find tables there, with the line that an image needs
+/// besides. The recursive mapper is the last one: it adds flags to the entries of new tables.
+const MODES: [(&str, &str); 4] = [
+    ("direct 8", ""),
+    ("offset 8 0xffff800000000000", ""),
+    ("pair 8 510", SELF_ENTRY),
+    ("recursive 8 510", SELF_ENTRY),
+];
 
 /// Runs the engine on arguments, and on an image and lines after it, and asserts how the run ends and what it
 /// writes.
@@ -112,14 +123,26 @@ fn assert_replies(
     image: &str,
     exchanges: &[(&str, &str)],
 ) -> Result<(), Fail> {
+    assert_replies_in(rt, alloc, &MODES, image, exchanges)
+}
+
+/// Asserts the replies to commands on an image, each beside its command, in some of the modes.
+fn assert_replies_in(
+    rt: &impl Abort,
+    alloc: Global,
+    modes: &[(&str, &str)],
+    image: &str,
+    exchanges: &[(&str, &str)],
+) -> Result<(), Fail> {
     let mut lines = String::new(alloc);
     let mut replies = String::new(alloc);
     for (line, reply) in exchanges {
         push_line(&mut lines, line)?;
         push_line(&mut replies, reply)?;
     }
-    for arguments in MODES {
-        let input = (image, lines.as_bytes());
+    for (arguments, first) in modes {
+        let whole = format!(in alloc; "{first}{image}")?;
+        let input = (whole.as_str(), lines.as_bytes());
         assert_run(rt, alloc, arguments, input, Ending::Done, &replies)?;
     }
     Ok(())

@@ -2,11 +2,19 @@
 use crate::images::{flags_of, frame_at, page_at};
 use crate::turns::{PageTurn, Turn, call_of};
 use x86_64::structures::paging::mapper::{
-    FlagUpdateError, MapToError, MappedFrame, TranslateError, TranslateResult, UnmapError,
+    FlagUpdateError, MapToError, MappedFrame, MapperFlush, TranslateError, TranslateResult,
+    UnmapError,
 };
 use x86_64::structures::paging::{Page, PageSize, PhysFrame};
 use x86_64::{Call, PhysAddr, Reply, SizeReply};
 use x86_64_plain::{Answer, PlainReply, Refusal, Translated};
+
+/// Spends a token, and gives its page.
+pub fn page_of<S: PageSize>(flush: MapperFlush<S>) -> Page<S> {
+    let page = flush.page();
+    flush.ignore();
+    page
+}
 
 /// Gives what the plain program's answer to a map is as an answer of `run`.
 fn map_result<S: PageSize>(
@@ -56,7 +64,7 @@ fn flags_result(answer: Answer) -> Option<Result<(), FlagUpdateError>> {
 }
 
 /// The same of the translation of a page.
-fn frame_result<S: PageSize>(answer: Answer) -> Option<Result<PhysFrame<S>, TranslateError>> {
+pub fn frame_result<S: PageSize>(answer: Answer) -> Option<Result<PhysFrame<S>, TranslateError>> {
     match answer {
         Answer::Done(frame) => Some(Ok(frame_at(frame))),
         Answer::Refused(Refusal::PageNotMapped) => Some(Err(TranslateError::PageNotMapped)),
@@ -72,7 +80,7 @@ fn frame_result<S: PageSize>(answer: Answer) -> Option<Result<PhysFrame<S>, Tran
 }
 
 /// The same of a translation.
-fn translate_result(translated: Translated) -> TranslateResult {
+pub fn translate_result(translated: Translated) -> TranslateResult {
     match translated {
         Translated::NotMapped => TranslateResult::NotMapped,
         Translated::Mapped {

@@ -2,6 +2,7 @@
 ghost use Rattle.std.specs.Prelude.{OnOk};
 ghost use Rattle.x86_64_model.specs.Marks.{serves_below};
 ghost use Rattle.x86_64_mappers.specs.Layouts.{direct};
+ghost use Rattle.x86_64_mappers.specs.Recursive.{recursive_now};
 ghost use Rattle.x86_64.specs.Runs.{FitsPool};
 
 mod clean_ups;
@@ -12,12 +13,15 @@ mod layers;
 mod mappings;
 mod maps;
 mod pools;
+mod recursive;
 mod single;
 mod tokens;
 mod walks;
+mod windows;
 
 use crate::images::{
-    ROOT, WORD_COUNT, fill, frame_at, pool_of, run_at_offset, run_on, run_over, word_at,
+    ROOT, WORD_COUNT, fill, frame_at, pool_of, run_at_offset, run_on, run_over, run_recursive_on,
+    set_word, word_at,
 };
 use crate::replies::wanted_of;
 use crate::turns::PageTurn::MapTo;
@@ -28,8 +32,13 @@ use std::process::Abort;
 use std::test::Fail;
 use walks::{Walk, compare_walks};
 use x86_64::structures::paging::mapper::PageTableFrameMapping;
-use x86_64::structures::paging::{MappedPageTable, OffsetPageTable, PhysFrame, Size4KiB};
-use x86_64::{Call, FramePool, IdentityMapping, PhysMemory, Reply, VirtAddr, pool_fits};
+use x86_64::structures::paging::{
+    MappedPageTable, OffsetPageTable, PageTableIndex, PhysFrame, Size4KiB,
+};
+use x86_64::{
+    Call, FramePool, IdentityMapping, PhysMemory, Reply, VirtAddr, pool_fits, pool_fits_recursive,
+};
+use x86_64_plain::words::address;
 use x86_64_plain::{Answer, PlainReply};
 
 /// How many places the memory has.
@@ -45,7 +54,7 @@ struct Row<'a> {
     free: &'a [u64],
     /// The calls, each with its reply.
     calls: &'a [Exchange],
-    /// The words that aren't 0 afterwards.
+    /// The words that aren't 0 afterwards. The recursive mapper leaves some more: see [`words_by`].
     words: &'a [Word],
     /// The frames that are full of ones afterwards.
     full: &'a [u64],
@@ -62,10 +71,37 @@ pub enum By {
     Reference,
     /// The one of a memory at an offset.
     Offset,
+    /// The one that reaches tables through the root's entry for itself at an index.
+    Recursive(u16),
 }
 
-/// The offset of that memory.
-const OFFSET: u64 = 0xffff_8000_0000_0000;
+impl By {
+    /// Gives the recursive index, if there is one.
+    pub fn recursive_index(self) -> Option<PageTableIndex> {
+        match self {
+            By::Identity | By::Reference | By::Offset => None,
+            By::Recursive(index) => Some(PageTableIndex::new_truncate(index)),
+        }
+    }
+}
+
+/// The recursive index of rows, which no page of a row has unless the row is one of the recursive mapper.
+const RECURSIVE_INDEX: u16 = 510;
+
+/// The recursive mapper of rows.
+const RECURSIVE: By = By::Recursive(RECURSIVE_INDEX);
+
+/// The other mappers.
+const DIRECT: [By; 3] = [By::Identity, By::Reference, By::Offset];
+
+/// All of them.
+const EACH: [By; 4] = [By::Identity, By::Reference, By::Offset, RECURSIVE];
+
+/// The root's entry for itself.
+pub const SELF_ENTRY: u64 = 0x1003;
+
+/// The offset of a memory.
+pub const OFFSET: u64 = 0xffff_8000_0000_0000;
 
 /// Three free frames, enough for the tables above one page.
 const FREE: [u64; 3] = [0x2000, 0x3000, 0x4000];
@@ -189,8 +225,15 @@ fn begin(alloc: Global, free: &[u64]) -> Result<(PhysMemory, FramePool), Fail> {
     begin_in(alloc, u64::from(PLACES), free)
 }
 
+/// Does so, and puts in the root's entry for itself where the mapper reaches tables through it.
+fn begin_by(alloc: Global, by: By, free: &[u64]) -> Result<(PhysMemory, FramePool), Fail> {
+    let (mut memory, pool) = begin(alloc, free)?;
+    put_self_entry(&mut memory, by)?;
+    Ok((memory, pool))
+}
+
 /// Asserts that a hierarchy is valid and a pool fits it.
-fn assert_fits<P: PageTableFrameMapping>(
+pub fn assert_fits<P: PageTableFrameMapping>(
     rt: &impl Abort,
     alloc: Global,
     memory: &PhysMemory,
@@ -203,6 +246,30 @@ fn assert_fits<P: PageTableFrameMapping>(
 {
     assert!(rt; pool_fits(alloc, memory, mapping, root, pool)?);
     Ok(())
+}
+
+/// Asserts that a hierarchy is valid for a recursive index and a pool fits it.
+pub fn assert_fits_recursive(
+    rt: &impl Abort,
+    alloc: Global,
+    memory: &PhysMemory,
+    root: PhysFrame<Size4KiB>,
+    index: PageTableIndex,
+    pool: &FramePool,
+) -> Result<(), AllocError>
+    ensures { let layout = recursive_now memory.now root index in
+        OnOk result (FitsPool layout memory.now (serves_below pool.now.limit) pool.now.frames) }
+{
+    assert!(rt; pool_fits_recursive(alloc, memory, root, index, pool)?);
+    Ok(())
+}
+
+/// Puts the root's entry for itself into a root, where the mapper reaches tables through it.
+pub fn put_self_entry(memory: &mut PhysMemory, by: By) -> Result<(), Fail> {
+    match by {
+        By::Identity | By::Reference | By::Offset => Ok(()),
+        By::Recursive(index) => set_word(memory, ROOT, index, SELF_ENTRY),
+    }
 }
 
 /// Adds the calls of a row to a list, and the replies that it wants to another one.
@@ -221,27 +288,69 @@ fn add_exchanges(
 
 /// Answers the calls of rows by each of the mappers, and compares what comes of them.
 fn check(rt: &impl Abort, alloc: Global, rows: &[Row<'_>]) -> Result<(), Fail> {
+    check_by(rt, alloc, rows, &EACH)
+}
+
+/// Answers the calls of rows by each of these mappers, and compares what comes of them.
+fn check_by(rt: &impl Abort, alloc: Global, rows: &[Row<'_>], mappers: &[By]) -> Result<(), Fail> {
     for (number, row) in rows.iter().enumerate() {
-        check_row(rt, alloc, number, row, &[])?;
+        check_row(rt, alloc, number, row, &[], mappers)?;
     }
     Ok(())
 }
 
-/// Answers the calls of a row by each of the mappers, and compares what comes of them and where walks arrive.
+/// Answers the calls of a row by each of these mappers, and compares what comes of them and where walks arrive.
 fn check_row(
     rt: &impl Abort,
     alloc: Global,
     number: usize,
     row: &Row<'_>,
     walks: &[Walk],
+    mappers: &[By],
 ) -> Result<(), Fail> {
-    for by in [By::Identity, By::Reference, By::Offset] {
+    for by in mappers {
         let title = format!(in alloc; "row {number}, {by:?}")?;
-        let (mut memory, pool) = answer_row(rt, alloc, row, by, &title)?;
+        let (mut memory, pool) = answer_row(rt, alloc, row, *by, &title)?;
         compare_walks(rt, &memory, walks, &title);
-        check_fits(rt, alloc, &mut memory, &pool, &title)?;
+        check_fits(rt, alloc, *by, (&mut memory, &pool), &title)?;
     }
     Ok(())
+}
+
+/// Gives the words that aren't 0 after a row's calls by a mapper. In a hierarchy with a recursive index the root
+/// has its entry for itself too, and the entries of new tables have `WRITABLE` whatever the parent flags are. No
+/// row that is compared so takes it from them.
+fn words_by(alloc: Global, row: &Row<'_>, by: By) -> Result<Vec<Word>, AllocError> {
+    let By::Recursive(self_index) = by else {
+        return Vec::from_slice(alloc, row.words);
+    };
+    let mut words = vec![in alloc; (ROOT, self_index, SELF_ENTRY)]?;
+    for (frame, index, word) in row.words {
+        let names_a_table = row.free.contains(&address(*word));
+        words.push((
+            *frame,
+            *index,
+            if names_a_table { *word | 0x2 } else { *word },
+        ))?;
+    }
+    Ok(words)
+}
+
+/// Compares every word of the memory and the free frames with what a row wants by a mapper.
+fn compare_by(
+    rt: &impl Abort,
+    alloc: Global,
+    by: By,
+    (memory, pool): (&PhysMemory, &FramePool),
+    row: &Row<'_>,
+    title: &str,
+) -> Result<(), Fail> {
+    let words = words_by(alloc, row, by)?;
+    let left = Row {
+        words: &words,
+        ..*row
+    };
+    compare(rt, memory, pool, &left, title)
 }
 
 /// Answers calls by a mapper, where the image and the pool fit.
@@ -254,14 +363,25 @@ pub fn answer(
     replies: &mut Vec<Reply>,
 ) -> Result<(), Fail> {
     let root = frame_at(ROOT);
-    assert_fits(rt, alloc, memory, &IdentityMapping, root, pool)?;
     match by {
-        By::Identity => run_on(memory, root, pool, calls, replies)?,
-        By::Reference => run_over(memory, root, &IdentityMapping, pool, calls, replies)?,
+        By::Identity => {
+            assert_fits(rt, alloc, memory, &IdentityMapping, root, pool)?;
+            run_on(memory, root, pool, calls, replies)?;
+        }
+        By::Reference => {
+            assert_fits(rt, alloc, memory, &IdentityMapping, root, pool)?;
+            run_over(memory, root, &IdentityMapping, pool, calls, replies)?;
+        }
         By::Offset => {
             let offset = VirtAddr::new_truncate(OFFSET);
+            assert_fits(rt, alloc, memory, &IdentityMapping, root, pool)?;
             assert!(rt; OffsetPageTable::offset_fits(memory, offset));
             run_at_offset(memory, root, offset, pool, calls, replies)?;
+        }
+        By::Recursive(index) => {
+            let index = PageTableIndex::new_truncate(index);
+            assert_fits_recursive(rt, alloc, memory, root, index, pool)?;
+            run_recursive_on(memory, root, index, pool, calls, replies)?;
         }
     }
     Ok(())
@@ -325,9 +445,9 @@ fn answer_row(
     by: By,
     title: &str,
 ) -> Result<(PhysMemory, FramePool), Fail> {
-    let (mut memory, mut pool) = begin(alloc, row.free)?;
+    let (mut memory, mut pool) = begin_by(alloc, by, row.free)?;
     answer_exchanges(rt, alloc, row, by, (&mut memory, &mut pool), title)?;
-    compare(rt, &memory, &pool, row, title)?;
+    compare_by(rt, alloc, by, (&memory, &pool), row, title)?;
     Ok((memory, pool))
 }
 
@@ -335,11 +455,19 @@ fn answer_row(
 fn check_fits(
     rt: &impl Abort,
     alloc: Global,
-    memory: &mut PhysMemory,
-    pool: &FramePool,
+    by: By,
+    (memory, pool): (&mut PhysMemory, &FramePool),
     title: &str,
 ) -> Result<(), Fail> {
     let root = frame_at(ROOT);
+    if let By::Recursive(index) = by {
+        let index = PageTableIndex::new_truncate(index);
+        assert!(rt;
+            pool_fits_recursive(alloc, memory, root, index, pool)?,
+            "{title}"
+        );
+        return Ok(());
+    }
     assert!(rt;
         pool_fits(alloc, memory, &IdentityMapping, root, pool)?,
         "{title}"

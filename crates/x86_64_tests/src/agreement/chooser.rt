@@ -9,20 +9,22 @@ use x86_64::structures::paging::{PageSize, PhysFrame, Size1GiB, Size2MiB, Size4K
 use x86_64_plain::PlainCall;
 use x86_64_plain::positions::page_path;
 
-/// The indices that calls choose from, level four first.
+/// The indices that calls choose from, level four first. Where 1 is the recursive index, the entries of a level
+/// are also read with the indices of a lower one.
 const INDICES: [&[u64]; 4] = [
-    &[0, 0, 3, 3, 256, 511],
-    &[0, 1, 1, 2],
-    &[0, 1, 1, 2],
-    &[0, 1, 511],
+    &[0, 1, 1, 3, 3, 3, 3, 256, 511],
+    &[0, 1, 1, 2, 3],
+    &[0, 1, 1, 2, 3],
+    &[0, 1, 3, 511],
 ];
 
 /// The addresses in the frames that calls choose from. The last two are too high for identity maps.
-const FRAMES: [u64; 7] = [
+const FRAMES: [u64; 8] = [
     0x0,
     0x5000,
     0x4020_1000,
     0x4020_1000,
+    0x80_4020_1000,
     0x180_8040_0000,
     0x8000_0000_0000,
     0x000f_ffff_ffff_f000,

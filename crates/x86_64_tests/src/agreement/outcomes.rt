@@ -76,11 +76,12 @@ pub const OUTCOMES: [Outcome; 8] = [
 ];
 
 /// Gives all that can come of a call on a page whose entry is of a level, or of another call that ends at an
-/// entry of a level, 0 where it ends at none.
+/// entry of a level, 0 where it ends at none, where the call names the recursive index or doesn't.
 ///
 /// No entry of level four has `HUGE_PAGE`, so no page of 1GiB lies below one that has it.
-pub fn possible_outcomes(action: Action, level: u64) -> &'static [Outcome] {
+pub fn possible_outcomes(action: Action, level: u64, in_window: bool) -> &'static [Outcome] {
     match (action, level) {
+        _ if in_window => window_outcomes(action, level),
         (Action::OnPage(action), 1) => small_outcomes(action),
         (Action::OnPage(action), 2) => large_outcomes(action),
         (Action::OnPage(action), 3) => giant_outcomes(action),
@@ -88,6 +89,21 @@ pub fn possible_outcomes(action: Action, level: u64) -> &'static [Outcome] {
         (Action::Translate, 1 | 2 | 3) => &[Done],
         (Action::TranslateAddr, 0) => &[Done, NotMapped],
         (Action::CleanUp | Action::CleanUpRange, 0) => &[Done, NoEmptyTable],
+        _ => &[],
+    }
+}
+
+/// Gives all that can come of a call that names the recursive index. It changes nothing, and an entry is read as
+/// one of a lower level; so none that is read as one of level three has `HUGE_PAGE`. Clean ups name no index.
+fn window_outcomes(action: Action, level: u64) -> &'static [Outcome] {
+    match (action, level) {
+        (Action::OnPage(PageAction::TranslatePage), 1) => &[Done, NotMapped, HugeParent],
+        (Action::OnPage(PageAction::TranslatePage), 2) => &[Done, NotMapped, InvalidFrame],
+        (Action::OnPage(PageAction::TranslatePage), 3) => &[NotMapped, InvalidFrame],
+        (Action::OnPage(_), 1 | 2 | 3) => &[NotAllowed],
+        (Action::Translate, 0) => &[NotMapped],
+        (Action::Translate, 1 | 2) => &[Done],
+        (Action::TranslateAddr, 0) => &[Done, NotMapped],
         _ => &[],
     }
 }

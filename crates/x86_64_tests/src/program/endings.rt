@@ -1,5 +1,5 @@
 //! How runs end.
-use super::{FIRST, INVALID, Outcome, assert_outcome, assert_run, run_failing};
+use super::{FIRST, INVALID, MODES, Outcome, SELF_ENTRY, assert_outcome, assert_run, run_failing};
 use pagetab_engine::ending::{Ending, Fault};
 use std::alloc::{AllocError, Global};
 use std::process::Abort;
@@ -58,20 +58,61 @@ const IMAGES: [&str; 8] = [
     "free 0x3000\nword 0x1000 0 0x2003\nword 0x2000 0 0x3002\n",
 ];
 
+/// Asserts that an image is refused, whatever lines come after it.
+fn assert_invalid(
+    rt: &impl Abort,
+    alloc: Global,
+    arguments: &str,
+    image: &str,
+) -> Result<(), Fail> {
+    for lines in ["", "show 0 0\n", "\n walk 0\nfoo\n"] {
+        let input = (image, lines.as_bytes());
+        let invalid = Ending::Stopped(Fault::InvalidHierarchy);
+        assert_run(rt, alloc, arguments, input, invalid, "")?;
+    }
+    Ok(())
+}
+
 #[test]
 fn invalid_images_are_refused(rt: HostRuntime) -> Result<(), Fail> {
     for image in IMAGES {
-        for lines in ["", "show 0 0\n", "\n walk 0\nfoo\n"] {
-            let input = (image, lines.as_bytes());
-            let invalid = Ending::Stopped(Fault::InvalidHierarchy);
-            assert_run(&rt, rt.alloc(), "direct 8", input, invalid, "")?;
+        for (arguments, first) in MODES {
+            let whole = format!(in rt.alloc(); "{first}{image}")?;
+            assert_invalid(&rt, rt.alloc(), arguments, whole.as_str())?;
         }
     }
     Ok(())
 }
 
+/// Images in which the root has no entry for itself at the index 510: no word, one at another index, one without
+/// PRESENT, one with HUGE_PAGE, and one of another frame.
+const NOT_RECURSIVE: [&str; 5] = [
+    "",
+    "word 0x1000 511 0x1003\n",
+    "word 0x1000 510 0x1002\n",
+    "word 0x1000 510 0x1083\n",
+    "word 0x1000 510 0x2003\n",
+];
+
+#[test]
+fn images_without_a_self_entry_are_refused(rt: HostRuntime) -> Result<(), Fail> {
+    for image in NOT_RECURSIVE {
+        assert_invalid(&rt, rt.alloc(), "recursive 8 510", image)?;
+        assert_invalid(&rt, rt.alloc(), "pair 8 510", image)?;
+    }
+    Ok(())
+}
+
+#[test]
+fn images_with_a_self_entry_alone_need_the_index(rt: HostRuntime) -> Result<(), Fail> {
+    for arguments in ["direct 8", "offset 8 0", "recursive 8 0", "pair 8 511"] {
+        assert_invalid(&rt, rt.alloc(), arguments, SELF_ENTRY)?;
+    }
+    Ok(())
+}
+
 /// Arguments, and how the run ends.
-const ARGUMENTS: [(&str, Ending); 30] = [
+const ARGUMENTS: [(&str, Ending); 36] = [
     ("direct 2", Ending::Done),
     ("direct 0x10", Ending::Done),
     ("direct 008", Ending::Done),
@@ -99,8 +140,14 @@ const ARGUMENTS: [(&str, Ending); 30] = [
     ("offset 8", USED_WRONGLY),
     ("offset 8 zero", USED_WRONGLY),
     ("offset 8 0 0", USED_WRONGLY),
-    ("recursive 8 510", USED_WRONGLY),
-    ("pair 8 510", USED_WRONGLY),
+    ("recursive 8", USED_WRONGLY),
+    ("recursive 8 512", USED_WRONGLY),
+    ("recursive 8 18446744073709552126", USED_WRONGLY),
+    ("recursive 1 0", USED_WRONGLY),
+    ("pair 8", USED_WRONGLY),
+    ("pair 8 x", USED_WRONGLY),
+    ("pair 8 510 1", USED_WRONGLY),
+    ("pair 65537 510", USED_WRONGLY),
     ("8", USED_WRONGLY),
 ];
 
@@ -110,6 +157,24 @@ fn arguments_are_a_mode_and_its_numbers(rt: HostRuntime) -> Result<(), Fail> {
         let written = if ending == USED_WRONGLY { "" } else { "0x0\n" };
         let input = ("", b"show 0x1000 0\n".as_slice());
         assert_run(&rt, rt.alloc(), arguments, input, ending, written)?;
+    }
+    Ok(())
+}
+
+/// Arguments with a recursive index, and the image that has an entry for the root there.
+const INDICES: [(&str, &str); 5] = [
+    ("recursive 2 0", "word 0x1000 0 0x1001\n"),
+    ("recursive 8 0x1fe", SELF_ENTRY),
+    ("recursive 65536 511", "word 0x1000 511 0x1003\n"),
+    ("pair 2 0", "word 0x1000 0 0x1001\n"),
+    ("pair 0x8 00510", SELF_ENTRY),
+];
+
+#[test]
+fn arguments_have_a_recursive_index(rt: HostRuntime) -> Result<(), Fail> {
+    for (arguments, image) in INDICES {
+        let input = (image, b"show 0x1000 1\n".as_slice());
+        assert_run(&rt, rt.alloc(), arguments, input, Ending::Done, "0x0\n")?;
     }
     Ok(())
 }

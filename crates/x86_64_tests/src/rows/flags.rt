@@ -101,18 +101,19 @@ fn tables_lose_flags_and_get_them_back(rt: HostRuntime) -> Result<(), Fail> {
     check(&rt, rt.alloc(), &HIDDEN_TABLES)
 }
 
+/// The lower levels come first, since below an entry without `PRESENT` there is none.
 const FLAGS_OF_EACH_LEVEL: [Row<'static>; 1] = [Row {
     free: &FREE,
     calls: &[
         FIRST,
-        (Small(SetFlagsP4(0x1000, 0x7)), Answered(Done(0x2000))),
-        (Small(SetFlagsP3(0x1000, 0x5)), Answered(Done(0x3000))),
-        (Small(SetFlagsP2(0x1000, 0x1)), Answered(Done(0x4000))),
+        (Small(SetFlagsP2(0x1000, 0xa)), Answered(Done(0x4000))),
+        (Small(SetFlagsP3(0x1000, 0x6)), Answered(Done(0x3000))),
+        (Small(SetFlagsP4(0x1000, 0x12)), Answered(Done(0x2000))),
     ],
     words: &[
-        (0x1000, 0, 0x2007),
-        (0x2000, 0, 0x3005),
-        (0x3000, 0, 0x4001),
+        (0x1000, 0, 0x2012),
+        (0x2000, 0, 0x3006),
+        (0x3000, 0, 0x400a),
         (0x4000, 1, 0x5003),
     ],
     full: &[],

@@ -1,28 +1,24 @@
 //! Calls of a mapper itself.
-ghost use Rattle.std.specs.Prelude.{◌≡◌, ◌<◌, ◌^◌, None};
+ghost use Rattle.std.specs.Prelude.{◌≡◌, ◌<◌, ◌^◌};
 ghost use Rattle.x86_64_model.specs.Owned.{Valid, SupplyFits};
 
-use super::{FREE, LARGE_LEVEL_3, LARGE_LEVEL_4, Row, assert_fits, begin, compare};
+use super::{
+    FREE, LARGE_LEVEL_3, LARGE_LEVEL_4, RECURSIVE, RECURSIVE_INDEX, Row, SELF_ENTRY, assert_fits,
+    assert_fits_recursive, begin, begin_by, compare, compare_by,
+};
 use crate::images::{ROOT, flags_of, frame_at, page_at};
+use crate::replies::page_of;
 use std::fmt::Debug;
 use std::process::Abort;
 use std::test::Fail;
 use x86_64::structures::paging::mapper::{
-    FlagUpdateError, MapToError, MapperAllSizes, MapperFlush, MapperFlushAll, TranslateError,
-    UnmapError,
+    FlagUpdateError, MapToError, MapperAllSizes, MapperFlushAll, TranslateError, UnmapError,
 };
 use x86_64::structures::paging::{
-    FrameAllocator, MappedPageTable, Mapper, Page, PageSize, PageTableFlags, PhysFrame, Size2MiB,
-    Size4KiB,
+    FrameAllocator, MappedPageTable, Mapper, Page, PageSize, PageTableFlags, PageTableIndex,
+    PhysFrame, RecursivePageTable, Size2MiB, Size4KiB,
 };
-use x86_64::{IdentityMapping, PhysAddr, VirtAddr};
-
-/// Spends a token, and gives its page.
-fn page_of<S: PageSize>(flush: MapperFlush<S>) -> Page<S> {
-    let page = flush.page();
-    flush.ignore();
-    page
-}
+use x86_64::{ActiveMemory, IdentityMapping, PhysAddr, VirtAddr, is_outside_window};
 
 /// Spends the token of a change to a table entry.
 fn done(flush: MapperFlushAll) {
@@ -103,11 +99,11 @@ fn unmap<S: PageSize, M: Mapper<S>>(
     page: Page<S>,
     wanted: Result<(PhysFrame<S>, Page<S>), UnmapError>,
 )
-    requires valid { Valid (M.hierarchy mapper.old) }
-    requires no_window { (M.hierarchy mapper.old).layout.window ≡ None }
+    requires { Valid (M.hierarchy mapper.old) }
     ensures valid { Valid (M.hierarchy mapper.new) }
     ensures layout { (M.hierarchy mapper.new).layout ≡ (M.hierarchy mapper.old).layout }
 {
+    assert!(rt; is_outside_window(mapper, page));
     let answer = mapper
         .unmap(page)
         .map(|(frame, flush)| (frame, page_of(flush)));
@@ -122,11 +118,11 @@ fn make_writable<S: PageSize, M: Mapper<S>>(
     page: Page<S>,
     wanted: Result<Page<S>, FlagUpdateError>,
 )
-    requires valid { Valid (M.hierarchy mapper.old) }
-    requires no_window { (M.hierarchy mapper.old).layout.window ≡ None }
+    requires { Valid (M.hierarchy mapper.old) }
     ensures valid { Valid (M.hierarchy mapper.new) }
     ensures layout { (M.hierarchy mapper.new).layout ≡ (M.hierarchy mapper.old).layout }
 {
+    assert!(rt; is_outside_window(mapper, page));
     let answer = mapper.update_flags(page, PageTableFlags::WRITABLE);
     compare_answer(rt, answer.map(page_of), wanted, "update the flags");
 }
@@ -134,11 +130,11 @@ fn make_writable<S: PageSize, M: Mapper<S>>(
 /// Sets `PRESENT` alone on the entry of level four above a page.
 #[tactic(auto, unfolding(x86_64_model::specs::Entry::address, x86_64_model::specs::Entry::has))]
 fn set_level_4<S: PageSize, M: Mapper<S>>(rt: &impl Abort, mapper: &mut M, page: Page<S>)
-    requires valid { Valid (M.hierarchy mapper.old) }
-    requires no_window { (M.hierarchy mapper.old).layout.window ≡ None }
+    requires { Valid (M.hierarchy mapper.old) }
     ensures valid { Valid (M.hierarchy mapper.new) }
     ensures layout { (M.hierarchy mapper.new).layout ≡ (M.hierarchy mapper.old).layout }
 {
+    assert!(rt; is_outside_window(mapper, page));
     let answer = mapper.set_flags_p4_entry(page, PageTableFlags::PRESENT);
     compare_answer(rt, answer.map(done), Ok(()), "set flags of level four");
 }
@@ -195,8 +191,7 @@ fn map_and_unmap<M: Mapper<Size4KiB>, A: FrameAllocator<Size4KiB>>(
     mapper: &mut M,
     allocator: &mut A,
 )
-    requires fits { SupplyFits (M.hierarchy mapper.old) (A.supply allocator.old) }
-    requires no_window { (M.hierarchy mapper.old).layout.window ≡ None }
+    requires { SupplyFits (M.hierarchy mapper.old) (A.supply allocator.old) }
 {
     let page = page_at(0x1000);
     let frame = frame_at(0x5000);
@@ -217,6 +212,25 @@ fn mappers_map_and_unmap(rt: HostRuntime) -> Result<(), Fail> {
     map_and_unmap(&rt, &mut mapper, &mut pool);
     drop(mapper);
     compare(&rt, &memory, &pool, &UNMAPPED, "by the mapper")
+}
+
+#[test]
+fn mappers_map_and_unmap_through_windows(rt: HostRuntime) -> Result<(), Fail> {
+    let (mut memory, mut pool) = begin_by(rt.alloc(), RECURSIVE, &FREE)?;
+    let (root, index) = (frame_at(ROOT), PageTableIndex::new(RECURSIVE_INDEX));
+    assert_fits_recursive(&rt, rt.alloc(), &memory, root, index, &pool)?;
+    let active = ActiveMemory::new(&mut memory, root);
+    let mut mapper = RecursivePageTable::new_unchecked(active, index);
+    map_and_unmap(&rt, &mut mapper, &mut pool);
+    drop(mapper);
+    compare_by(
+        &rt,
+        rt.alloc(),
+        RECURSIVE,
+        (&memory, &pool),
+        &UNMAPPED,
+        "by windows",
+    )
 }
 
 /// What is left of a map of the page 0x600000 of 2MiB whose flags were set.
@@ -246,8 +260,7 @@ fn set_page_flags<M: MapperAllSizes, A: FrameAllocator<Size4KiB>>(
     mapper: &mut M,
     allocator: &mut A,
 )
-    requires fits { SupplyFits (M.hierarchy mapper.old) (A.supply allocator.old) }
-    requires no_window { (M.hierarchy mapper.old).layout.window ≡ None }
+    requires { SupplyFits (M.hierarchy mapper.old) (A.supply allocator.old) }
 {
     let page: Page<Size2MiB> = Page::from_start_address_unchecked(VirtAddr::new(0x60_0000));
     let frame = PhysFrame::from_start_address_unchecked(PhysAddr::new(0x60_0000));
@@ -268,6 +281,25 @@ fn mappers_set_flags_of_pages(rt: HostRuntime) -> Result<(), Fail> {
     set_page_flags(&rt, &mut mapper, &mut pool);
     drop(mapper);
     compare(&rt, &memory, &pool, &PAGE_FLAGS, "by the mapper")
+}
+
+#[test]
+fn mappers_set_flags_of_pages_through_windows(rt: HostRuntime) -> Result<(), Fail> {
+    let (mut memory, mut pool) = begin_by(rt.alloc(), RECURSIVE, &FREE)?;
+    let (root, index) = (frame_at(ROOT), PageTableIndex::new(RECURSIVE_INDEX));
+    assert_fits_recursive(&rt, rt.alloc(), &memory, root, index, &pool)?;
+    let active = ActiveMemory::new(&mut memory, root);
+    let mut mapper = RecursivePageTable::new_unchecked(active, index);
+    set_page_flags(&rt, &mut mapper, &mut pool);
+    drop(mapper);
+    compare_by(
+        &rt,
+        rt.alloc(),
+        RECURSIVE,
+        (&memory, &pool),
+        &PAGE_FLAGS,
+        "by windows",
+    )
 }
 
 /// What is left of a map of the page 0x1000 where flags of its tables were set.
@@ -291,8 +323,7 @@ fn set_table_flags<M: MapperAllSizes, A: FrameAllocator<Size4KiB>>(
     mapper: &mut M,
     allocator: &mut A,
 )
-    requires fits { SupplyFits (M.hierarchy mapper.old) (A.supply allocator.old) }
-    requires no_window { (M.hierarchy mapper.old).layout.window ≡ None }
+    requires { SupplyFits (M.hierarchy mapper.old) (A.supply allocator.old) }
 {
     let page: Page<Size4KiB> = page_at(0x1000);
     let large: Page<Size2MiB> = page_at(0x0);
@@ -328,4 +359,22 @@ fn mappers_set_flags_of_tables(rt: HostRuntime) -> Result<(), Fail> {
     set_table_flags(&rt, &mut mapper, &mut pool);
     drop(mapper);
     compare(&rt, &memory, &pool, &TABLE_FLAGS, "by the mapper")
+}
+
+#[test]
+fn mappers_set_flags_of_tables_through_windows(rt: HostRuntime) -> Result<(), Fail> {
+    let (mut memory, mut pool) = begin_by(rt.alloc(), RECURSIVE, &FREE)?;
+    let (root, index) = (frame_at(ROOT), PageTableIndex::new(RECURSIVE_INDEX));
+    assert_fits_recursive(&rt, rt.alloc(), &memory, root, index, &pool)?;
+    let active = ActiveMemory::new(&mut memory, root);
+    let mut mapper = RecursivePageTable::new_unchecked(active, index);
+    set_table_flags(&rt, &mut mapper, &mut pool);
+    drop(mapper);
+    let mut words = vec![in rt.alloc(); (ROOT, RECURSIVE_INDEX, SELF_ENTRY)]?;
+    words.extend_from_slice(TABLE_FLAGS.words)?;
+    let left = Row {
+        words: &words,
+        ..TABLE_FLAGS
+    };
+    compare(&rt, &memory, &pool, &left, "by windows")
 }

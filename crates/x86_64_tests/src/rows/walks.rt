@@ -1,7 +1,7 @@
 //! Where a page walk arrives after calls, and with which rights.
 use super::{
-    FIRST, FIRST_LARGE, FREE, LARGE_LEVEL_3, LARGE_LEVEL_4, LARGE_WORDS, LEVEL_2, LEVEL_3, LEVEL_4,
-    Row, check_row,
+    By, DIRECT, EACH, FIRST, FIRST_LARGE, FREE, LARGE_LEVEL_3, LARGE_LEVEL_4, LARGE_WORDS, LEVEL_2,
+    LEVEL_3, LEVEL_4, RECURSIVE, Row, check_row,
 };
 use crate::images::{ROOT, frame_at};
 use crate::turns::PageTurn::{MapTo, MapToWithTableFlags, UpdateFlags};
@@ -32,11 +32,16 @@ pub fn compare_walks(rt: &impl Abort, memory: &PhysMemory, walks: &[Walk], title
     }
 }
 
-/// Answers the calls of rows by each of the mappers, and compares what comes of them and where the walks beside
+/// Answers the calls of rows by each of these mappers, and compares what comes of them and where the walks beside
 /// them arrive.
-fn check_walks(rt: &impl Abort, alloc: Global, rows: &[(Row<'_>, &[Walk])]) -> Result<(), Fail> {
+fn check_walks(
+    rt: &impl Abort,
+    alloc: Global,
+    rows: &[(Row<'_>, &[Walk])],
+    mappers: &[By],
+) -> Result<(), Fail> {
     for (number, (row, walks)) in rows.iter().enumerate() {
-        check_row(rt, alloc, number, row, walks)?;
+        check_row(rt, alloc, number, row, walks, mappers)?;
     }
     Ok(())
 }
@@ -68,7 +73,7 @@ const TWO_MAPS: [(Row<'static>, &[Walk]); 1] = [(
 
 #[test]
 fn accepted_maps_arrive_with_the_rights_asked_for(rt: HostRuntime) -> Result<(), Fail> {
-    check_walks(&rt, rt.alloc(), &TWO_MAPS)
+    check_walks(&rt, rt.alloc(), &TWO_MAPS, &EACH)
 }
 
 /// Before a refused map and after it.
@@ -107,31 +112,35 @@ const WIDER_RIGHTS: [(Row<'static>, &[Walk]); 2] = [
 
 #[test]
 fn refused_maps_widen_rights_of_walks_on_their_way(rt: HostRuntime) -> Result<(), Fail> {
-    check_walks(&rt, rt.alloc(), &WIDER_RIGHTS)
+    check_walks(&rt, rt.alloc(), &WIDER_RIGHTS, &EACH)
 }
 
-const PARENT_FLAGS: [(Row<'static>, &[Walk]); 1] = [(
-    Row {
-        free: &FREE,
-        calls: &[(
-            Small(MapToWithTableFlags(0x1000, 0x5000, 0x3, 0x1)),
-            Answered(Done(0x5000)),
-        )],
-        words: &[
-            (0x1000, 0, 0x2001),
-            (0x2000, 0, 0x3001),
-            (0x3000, 0, 0x4001),
-            (0x4000, 1, 0x5003),
-        ],
-        full: &[],
-        left: &[],
-    },
-    &[(0x1abc, Some((0x5abc, false, false)))],
-)];
+const PARENT_FLAGS: Row<'static> = Row {
+    free: &FREE,
+    calls: &[(
+        Small(MapToWithTableFlags(0x1000, 0x5000, 0x3, 0x1)),
+        Answered(Done(0x5000)),
+    )],
+    words: &[
+        (0x1000, 0, 0x2001),
+        (0x2000, 0, 0x3001),
+        (0x3000, 0, 0x4001),
+        (0x4000, 1, 0x5003),
+    ],
+    full: &[],
+    left: &[],
+};
 
 #[test]
 fn parent_flags_of_a_map_bound_its_rights(rt: HostRuntime) -> Result<(), Fail> {
-    check_walks(&rt, rt.alloc(), &PARENT_FLAGS)
+    let walks: [Walk; 1] = [(0x1abc, Some((0x5abc, false, false)))];
+    check_row(&rt, rt.alloc(), 0, &PARENT_FLAGS, &walks, &DIRECT)
+}
+
+#[test]
+fn new_tables_are_writable_through_windows(rt: HostRuntime) -> Result<(), Fail> {
+    let walks: [Walk; 1] = [(0x1abc, Some((0x5abc, true, false)))];
+    check_row(&rt, rt.alloc(), 0, &PARENT_FLAGS, &walks, &[RECURSIVE])
 }
 
 const PAGE_FLAGS: [(Row<'static>, &[Walk]); 3] = [
@@ -182,5 +191,5 @@ const PAGE_FLAGS: [(Row<'static>, &[Walk]); 3] = [
 
 #[test]
 fn walks_follow_the_flags_of_pages(rt: HostRuntime) -> Result<(), Fail> {
-    check_walks(&rt, rt.alloc(), &PAGE_FLAGS)
+    check_walks(&rt, rt.alloc(), &PAGE_FLAGS, &EACH)
 }

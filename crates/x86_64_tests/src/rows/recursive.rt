@@ -1,0 +1,220 @@
+//! Calls of the recursive mapper alone, on pages inside the window and outside.
+ghost use Rattle.x86_64_model.specs.Marks.{serves_below};
+ghost use Rattle.x86_64_mappers.specs.Recursive.{recursive_now};
+ghost use Rattle.x86_64.specs.Runs.{FitsPool};
+
+use super::{
+    Exchange, FIRST_LARGE, FREE, LEVEL_2, LEVEL_3, LEVEL_4, RECURSIVE, RECURSIVE_INDEX, Row, Word,
+    add_exchanges, assert_fits_recursive, begin_by, check_by, compare_by,
+};
+use crate::images::{ROOT, frame_at, run_recursive_on};
+use crate::turns::PageTurn::{
+    MapTo, MapToWithTableFlags, SetFlagsP2, SetFlagsP3, SetFlagsP4, TranslatePage, Unmap,
+    UpdateFlags,
+};
+use crate::turns::Turn::{CleanUp, CleanUpRange, Giant, Large, Small, Translate};
+use std::alloc::AllocError;
+use std::test::Fail;
+use x86_64::structures::paging::{PageTableIndex, PhysFrame, Size4KiB};
+use x86_64::{Call, FramePool, PhysMemory, Reply};
+use x86_64_plain::Answer::Done;
+use x86_64_plain::PlainReply::{Answered, Cleaned, NotAllowed, Position};
+use x86_64_plain::Translated::Mapped;
+
+/// Maps the page 0x1000 of 4KiB to the frame 0x5000, with `PRESENT` alone.
+const MAP: Exchange = (Small(MapTo(0x1000, 0x5000, 0x1)), Answered(Done(0x5000)));
+
+/// Unmaps it.
+const UNMAP: Exchange = (Small(Unmap(0x1000)), Answered(Done(0x5000)));
+
+/// The words that map it.
+const WORDS: [Word; 4] = [LEVEL_4, LEVEL_3, LEVEL_2, (0x4000, 1, 0x5001)];
+
+/// The page at which the table of level one above it is reached.
+const WINDOW: u64 = 0xffff_ff00_0000_0000;
+
+/// The page at which the root is reached.
+const ROOT_WINDOW: u64 = 0xffff_ff7f_bfdf_e000;
+
+/// Takes away all empty tables.
+const CLEAN_UP: Exchange = (CleanUp, Cleaned);
+
+const TABLES_ARE_PAGES: [Row<'static>; 2] = [
+    Row {
+        free: &FREE,
+        calls: &[
+            MAP,
+            (
+                Translate(WINDOW),
+                Position(Mapped {
+                    size: 0x1000,
+                    frame: 0x4000,
+                    offset: 0x0,
+                    flags: 0x3,
+                }),
+            ),
+            (
+                Translate(ROOT_WINDOW),
+                Position(Mapped {
+                    size: 0x1000,
+                    frame: 0x1000,
+                    offset: 0x0,
+                    flags: 0x3,
+                }),
+            ),
+            (Small(MapTo(WINDOW, 0x6000, 0x1)), NotAllowed),
+        ],
+        words: &WORDS,
+        full: &[],
+        left: &[],
+    },
+    // The entry of a 2MiB page is read as that of a 4KiB one.
+    Row {
+        free: &FREE,
+        calls: &[
+            FIRST_LARGE,
+            (
+                Translate(0xffff_ff00_0000_1000),
+                Position(Mapped {
+                    size: 0x1000,
+                    frame: 0x40_0000,
+                    offset: 0x0,
+                    flags: 0x81,
+                }),
+            ),
+            (
+                Small(TranslatePage(0xffff_ff00_0000_1000)),
+                Answered(Done(0x40_0000)),
+            ),
+        ],
+        words: &[LEVEL_4, LEVEL_3, (0x3000, 1, 0x40_0081)],
+        full: &[0x4000],
+        left: &[0x4000],
+    },
+];
+
+#[test]
+fn tables_are_pages_of_the_window(rt: HostRuntime) -> Result<(), Fail> {
+    check_by(&rt, rt.alloc(), &TABLES_ARE_PAGES, &[RECURSIVE])
+}
+
+const CLEAN_UPS: [Row<'static>; 4] = [
+    Row {
+        free: &FREE,
+        calls: &[MAP, UNMAP, CLEAN_UP],
+        words: &[],
+        full: &[],
+        left: &FREE,
+    },
+    Row {
+        free: &FREE,
+        calls: &[MAP, UNMAP, CLEAN_UP, CLEAN_UP],
+        words: &[],
+        full: &[],
+        left: &FREE,
+    },
+    // The range is the window: it has no table's part, though a table is empty.
+    Row {
+        free: &FREE,
+        calls: &[
+            MAP,
+            UNMAP,
+            (CleanUpRange(WINDOW, 0xffff_ff7f_ffff_f000), Cleaned),
+        ],
+        words: &[LEVEL_4, LEVEL_3, LEVEL_2],
+        full: &[],
+        left: &[],
+    },
+    // The range goes over the window, from a page below it to one above it.
+    Row {
+        free: &FREE,
+        calls: &[
+            MAP,
+            UNMAP,
+            (CleanUpRange(0x1000, 0xffff_ff80_0000_0000), Cleaned),
+        ],
+        words: &[],
+        full: &[],
+        left: &FREE,
+    },
+];
+
+#[test]
+fn clean_ups_leave_the_window(rt: HostRuntime) -> Result<(), Fail> {
+    check_by(&rt, rt.alloc(), &CLEAN_UPS, &[RECURSIVE])
+}
+
+/// Each call that writes, on pages of each size.
+const WRITES: [Row<'static>; 1] = [Row {
+    free: &FREE,
+    calls: &[
+        MAP,
+        (
+            Small(MapToWithTableFlags(ROOT_WINDOW, 0x6000, 0x1, 0x1)),
+            NotAllowed,
+        ),
+        (Large(MapTo(WINDOW, 0x20_0000, 0x1)), NotAllowed),
+        (Giant(MapTo(WINDOW, 0x4000_0000, 0x1)), NotAllowed),
+        (Small(Unmap(WINDOW)), NotAllowed),
+        (Large(Unmap(WINDOW)), NotAllowed),
+        (Giant(Unmap(WINDOW)), NotAllowed),
+        (Small(UpdateFlags(WINDOW, 0x1)), NotAllowed),
+        (Large(UpdateFlags(WINDOW, 0x1)), NotAllowed),
+        (Giant(UpdateFlags(WINDOW, 0x1)), NotAllowed),
+        (Small(SetFlagsP4(WINDOW, 0x1)), NotAllowed),
+        (Small(SetFlagsP3(WINDOW, 0x1)), NotAllowed),
+        (Small(SetFlagsP2(WINDOW, 0x1)), NotAllowed),
+        (Large(SetFlagsP2(WINDOW, 0x1)), NotAllowed),
+        (Giant(SetFlagsP3(WINDOW, 0x1)), NotAllowed),
+    ],
+    words: &WORDS,
+    full: &[],
+    left: &[],
+}];
+
+#[test]
+fn pages_of_the_window_are_not_changed(rt: HostRuntime) -> Result<(), Fail> {
+    check_by(&rt, rt.alloc(), &WRITES, &[RECURSIVE])
+}
+
+/// Answers two lists of calls, each by a mapper of its own. After the first list its owner knows of the memory what
+/// the second one wants.
+fn run_both(
+    memory: &mut PhysMemory,
+    root: PhysFrame<Size4KiB>,
+    index: PageTableIndex,
+    pool: &mut FramePool,
+    lists: (&[Call], &[Call]),
+    replies: &mut Vec<Reply>,
+) -> Result<(), AllocError>
+    requires { let layout = recursive_now memory.old root index in
+        FitsPool layout memory.old (serves_below pool.old.limit) pool.old.frames }
+    ensures { let layout = recursive_now memory.new root index in
+        FitsPool layout memory.new (serves_below pool.new.limit) pool.new.frames }
+{
+    run_recursive_on(memory, root, index, pool, lists.0, replies)?;
+    run_recursive_on(memory, root, index, pool, lists.1, replies)
+}
+
+#[test]
+fn lists_go_on_where_others_ended(rt: HostRuntime) -> Result<(), Fail> {
+    let [row, ..] = &CLEAN_UPS;
+    let (mut memory, mut pool) = begin_by(rt.alloc(), RECURSIVE, row.free)?;
+    let mut calls = Vec::new(rt.alloc());
+    let mut wanted = Vec::new(rt.alloc());
+    add_exchanges(row, &mut calls, &mut wanted)?;
+    let (root, index) = (frame_at(ROOT), PageTableIndex::new(RECURSIVE_INDEX));
+    assert_fits_recursive(&rt, rt.alloc(), &memory, root, index, &pool)?;
+    let mut replies = Vec::new(rt.alloc());
+    let lists = calls.split_at(calls.len().min(1));
+    run_both(&mut memory, root, index, &mut pool, lists, &mut replies)?;
+    assert_eq!(rt; replies, wanted);
+    compare_by(
+        &rt,
+        rt.alloc(),
+        RECURSIVE,
+        (&memory, &pool),
+        row,
+        "two lists",
+    )
+}
