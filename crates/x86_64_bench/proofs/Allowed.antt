@@ -1,16 +1,19 @@
--- A map with PRESENT and WRITABLE alone is always allowed where there is no recursive index.
-use Rattle.std.proofs.Common.{◌≡◌, ℕ, ◌||◌, ◌&&◌, Bool, true, false, None, List, refl}
+-- A map with PRESENT and WRITABLE alone is allowed wherever the page lies outside the window.
+use Rattle.std.proofs.Common.{◌≡◌, ℕ, ◌||◌, ◌&&◌, Bool, true, false, Option, List, refl}
 use Rattle.x86_64_model.specs.Allowed.{map_allowed}
 use Rattle.x86_64_model.specs.Entry.{address, has}
 use Rattle.x86_64_model.specs.MapRule.{parent_part}
 use Rattle.x86_64_model.specs.PathMap.{PathMap}
 use Rattle.x86_64_model.specs.Path.{is_small}
+use Rattle.x86_64_model.specs.Window.{Window, begins_with}
 use Rattle.std.specs.Prelude.{not}
 
-pub plain_map_allowed : (levels : ℕ) (paths : PathMap) (page : List ℕ) → map_allowed levels None paths page 3 (parent_part 3) ≡ true
+pub outside_map_allowed : (levels : ℕ) (window : Option Window) (paths : PathMap) (page : List ℕ) → not (begins_with window page) ≡ true → map_allowed levels window paths page 3 (parent_part 3) ≡ true
 unfolding address has
-plain_map_allowed levels paths page = by (is_small levels page)
+outside_map_allowed levels window paths page outside = by (is_small levels page) (not (begins_with window page)) outside
   where
-    by : (small : Bool) → ((not small || true) && true && true) ≡ true
-    by true = refl
-    by false = refl
+    by : (small out : Bool) → out ≡ true → ((not small || true) && true && out) ≡ true
+    by true true e = refl
+    by false true e = refl
+    by true false e = e
+    by false false e = e

@@ -1,1 +1,2 @@
 mod Allowed
+mod CleanUps

@@ -1,17 +1,17 @@
 //! Measures maps, translations and unmaps of 4KiB or 2MiB pages, and the clean up of the tables that the unmaps left, by the
-//! mapper that finds tables by their frames.
+//! mapper that finds tables by their frames and by the one that reaches them through the root's entry for itself.
 //!
 //! Without arguments it does a small fixed run, and prints how often each operation was done. With `M contiguous` or
-//! `M scattered`, and a size of pages that is 4KiB where none is given, it does M pages in seven rounds, and prints the time of
-//! each operation on standard error.
+//! `M scattered`, and a size of pages that is 4KiB where none is given, it does M pages in seven rounds by each mapper, and
+//! prints the time of each operation on standard error, with how many times as long it takes by the second mapper.
 #![tactic(auto)]
 
 mod report;
 mod rounds;
 mod workload;
 
-use crate::report::{report_counts, report_times};
-use crate::rounds::measure;
+use crate::report::{report_counts, report_ratio, report_times};
+use crate::rounds::{Access, Operation, Round, measure};
 use crate::workload::{Pattern, Workload};
 use std::process::ExitCode;
 use std::{env, io};
@@ -38,8 +38,8 @@ fn main(rt: HostRuntime) -> io::Result<ExitCode> {
         _ => (None, ""),
     };
     match (workload, size.as_bytes()) {
-        (Some(workload), b"4KiB") => run_rounds::<Size4KiB>(&rt, workload),
-        (Some(workload), b"2MiB") => run_rounds::<Size2MiB>(&rt, workload),
+        (Some(workload), b"4KiB") => compare::<Size4KiB>(&rt, workload),
+        (Some(workload), b"2MiB") => compare::<Size2MiB>(&rt, workload),
         _ => {
             eprintln!(rt; "usage: x86_64_bench [PAGES contiguous|scattered [4KiB|2MiB]]")?;
             Ok(ExitCode::from(5))
@@ -57,45 +57,58 @@ fn parse_workload(pages: &str, pattern: &str) -> Option<Workload> {
     Some(Workload::new(pages.parse().ok()?, pattern))
 }
 
-/// Does one round of a small workload with each size, and prints how often each operation was done.
+/// Does one round of a small workload with each size by each mapper, and prints how often each operation was done.
 fn run_once(rt: &HostRuntime) -> io::Result<ExitCode> {
-    let workload = Workload::new(SMALL.0, SMALL.1);
-    if count::<Size4KiB>(rt, workload)? && count::<Size2MiB>(rt, workload)? {
-        Ok(ExitCode::from(0))
-    } else {
-        Ok(ExitCode::from(2))
+    for access in Access::ALL {
+        if !count::<Size4KiB>(rt, access)? || !count::<Size2MiB>(rt, access)? {
+            return Ok(ExitCode::from(2));
+        }
     }
+    Ok(ExitCode::from(0))
 }
 
-/// Does one round with pages of a size, and prints how often each operation was done. Tells whether it could be done.
-fn count<S: PageSize>(rt: &HostRuntime, workload: Workload) -> io::Result<bool> {
-    match measure::<S>(rt.alloc(), rt, workload)? {
+/// Does one round of the small workload with pages of a size, and prints how often each operation was done. Tells whether it
+/// could be done.
+fn count<S: PageSize>(rt: &HostRuntime, access: Access) -> io::Result<bool> {
+    let workload = Workload::new(SMALL.0, SMALL.1);
+    match measure::<S>(rt.alloc(), rt, access, workload)? {
         Some(round) => {
-            report_counts(rt, S::DEBUG_STR, &round)?;
+            report_counts(rt, access, S::DEBUG_STR, &round)?;
             Ok(true)
         }
         None => Ok(false),
     }
 }
 
-/// Does all rounds with pages of a size, and prints the time of each operation.
-fn run_rounds<S: PageSize>(rt: &HostRuntime, workload: Workload) -> io::Result<ExitCode> {
-    let mut maps = Vec::with_capacity(rt.alloc(), ROUNDS)?;
-    let mut translations = Vec::with_capacity(rt.alloc(), ROUNDS)?;
-    let mut unmaps = Vec::with_capacity(rt.alloc(), ROUNDS)?;
-    let mut clean_ups = Vec::with_capacity(rt.alloc(), ROUNDS)?;
-    for _ in 0..ROUNDS {
-        let Some(round) = measure::<S>(rt.alloc(), rt, workload)? else {
-            return Ok(ExitCode::from(2));
-        };
-        maps.push(round.map)?;
-        translations.push(round.translate)?;
-        unmaps.push(round.unmap)?;
-        clean_ups.push(round.clean_up)?;
+/// Does all rounds with pages of a size by each mapper, and prints the time of each operation.
+fn compare<S: PageSize>(rt: &HostRuntime, workload: Workload) -> io::Result<ExitCode> {
+    let (Some(direct), Some(recursive)) = (
+        all_rounds::<S>(rt, Access::Direct, workload)?,
+        all_rounds::<S>(rt, Access::Recursive, workload)?,
+    ) else {
+        return Ok(ExitCode::from(2));
+    };
+    for operation in Operation::ALL {
+        let alloc = rt.alloc();
+        let one = report_times(alloc, rt, Access::Direct, operation, &direct)?;
+        let other = report_times(alloc, rt, Access::Recursive, operation, &recursive)?;
+        report_ratio(rt, operation, one, other)?;
     }
-    report_times(rt.alloc(), rt, "map", maps.as_slice())?;
-    report_times(rt.alloc(), rt, "translate", translations.as_slice())?;
-    report_times(rt.alloc(), rt, "unmap", unmaps.as_slice())?;
-    report_times(rt.alloc(), rt, "clean up", clean_ups.as_slice())?;
     Ok(ExitCode::from(0))
+}
+
+/// Does all rounds with pages of a size by a mapper.
+fn all_rounds<S: PageSize>(
+    rt: &HostRuntime,
+    access: Access,
+    workload: Workload,
+) -> io::Result<Option<Vec<Round>>> {
+    let mut rounds = Vec::with_capacity(rt.alloc(), ROUNDS)?;
+    for _ in 0..ROUNDS {
+        let Some(round) = measure::<S>(rt.alloc(), rt, access, workload)? else {
+            return Ok(None);
+        };
+        rounds.push(round)?;
+    }
+    Ok(Some(rounds))
 }

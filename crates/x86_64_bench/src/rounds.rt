@@ -1,18 +1,51 @@
 //! One round: a new hierarchy in which all pages are mapped, translated and unmapped, and which is cleaned up.
-ghost use Rattle.std.specs.Prelude.{◌≡◌, None};
-ghost use Rattle.x86_64_model.specs.Owned.{Valid, SupplyFits};
+ghost use Rattle.std.specs.Prelude.{◌≡◌};
+ghost use Rattle.x86_64_model.specs.Marks.{serves_below};
+ghost use Rattle.x86_64_model.specs.Owned.{Valid, SupplyFits, MayCleanUp};
 
 use crate::workload::Workload;
 use bitflags::Flags;
 use std::alloc::{AllocError, Global};
 use std::io;
 use std::time::{Clock, Duration, Instant};
-use x86_64::structures::paging::mapper::{CleanUp, MappedPageTable, Mapper, Translate};
-use x86_64::structures::paging::{FrameAllocator, PageSize, PageTableFlags, PhysFrame, Size4KiB};
-use x86_64::{FramePool, IdentityMapping, PhysAddr, PhysMemory, pool_fits};
+use x86_64::structures::paging::mapper::{
+    CleanUp, MappedPageTable, Mapper, RecursivePageTable, Translate,
+};
+use x86_64::structures::paging::{
+    FrameAllocator, PageSize, PageTableFlags, PageTableIndex, PhysFrame, Size4KiB,
+};
+use x86_64::{
+    ActiveMemory, FramePlace, FramePool, IdentityMapping, PhysAddr, PhysMemory, is_outside_window,
+    pool_fits, pool_fits_recursive,
+};
 
 /// How often all pages are translated in a round.
 const TRANSLATIONS: u64 = 10;
+
+/// The index of the root's entry for itself, which no page has.
+const RECURSIVE_INDEX: u16 = 511;
+
+/// Says by which mapper a round is done.
+#[derive(Clone, Copy, Debug, PartialEq)]
+pub enum Access {
+    /// By the one that reaches tables by their frames.
+    Direct,
+    /// By the one that reaches tables through the root's entry for itself.
+    Recursive,
+}
+
+impl Access {
+    /// Both, the one that is the measure first.
+    pub const ALL: [Access; 2] = [Access::Direct, Access::Recursive];
+
+    /// Gives the name.
+    pub fn name(self) -> &'static str {
+        match self {
+            Access::Direct => "direct",
+            Access::Recursive => "recursive",
+        }
+    }
+}
 
 /// Maps all pages, and gives how many were mapped.
 fn map_all<S: PageSize, M: Mapper<S>, A: FrameAllocator<Size4KiB>>(
@@ -20,20 +53,18 @@ fn map_all<S: PageSize, M: Mapper<S>, A: FrameAllocator<Size4KiB>>(
     allocator: &mut A,
     workload: Workload,
 ) -> u64
-    requires ready { SupplyFits (M.hierarchy mapper.old) (A.supply allocator.old) }
-    requires no_window { (M.hierarchy mapper.old).layout.window ≡ None }
-    ensures ready { SupplyFits (M.hierarchy mapper.new) (A.supply allocator.new) }
-    ensures layout { (M.hierarchy mapper.new).layout ≡ (M.hierarchy mapper.old).layout }
+    requires { SupplyFits (M.hierarchy mapper.old) (A.supply allocator.old) }
+    ensures { SupplyFits (M.hierarchy mapper.new) (A.supply allocator.new) }
 {
     let flags = PageTableFlags::PRESENT.union(PageTableFlags::WRITABLE);
     let mut mapped = 0_u64;
     for k in 0..workload.pages {
-        match mapper.map_to(workload.page(k), workload.frame(k), flags, allocator) {
-            Ok(flush) => {
+        let page = workload.page(k);
+        if is_outside_window(mapper, page) {
+            if let Ok(flush) = mapper.map_to(page, workload.frame(k), flags, allocator) {
                 flush.ignore();
                 mapped = mapped.saturating_add(1);
             }
-            Err(_) => {}
         }
     }
     mapped
@@ -41,19 +72,17 @@ fn map_all<S: PageSize, M: Mapper<S>, A: FrameAllocator<Size4KiB>>(
 
 /// Unmaps all pages, and gives how many were unmapped.
 fn unmap_all<S: PageSize, M: Mapper<S>>(mapper: &mut M, workload: Workload) -> u64
-    requires valid { Valid (M.hierarchy mapper.old) }
-    requires no_window { (M.hierarchy mapper.old).layout.window ≡ None }
-    ensures valid { Valid (M.hierarchy mapper.new) }
-    ensures layout { (M.hierarchy mapper.new).layout ≡ (M.hierarchy mapper.old).layout }
+    requires { Valid (M.hierarchy mapper.old) }
+    ensures { Valid (M.hierarchy mapper.new) }
 {
     let mut unmapped = 0_u64;
     for k in 0..workload.pages {
-        match mapper.unmap(workload.page(k)) {
-            Ok((_, flush)) => {
+        let page = workload.page(k);
+        if is_outside_window(mapper, page) {
+            if let Ok((_, flush)) = mapper.unmap(page) {
                 flush.ignore();
                 unmapped = unmapped.saturating_add(1);
             }
-            Err(_) => {}
         }
     }
     unmapped
@@ -85,6 +114,39 @@ fn translate_once<S: PageSize, T: Translate>(mapper: &T, workload: Workload, ord
     found
 }
 
+/// Names an operation that is measured.
+#[derive(Clone, Copy, Debug, PartialEq)]
+pub enum Operation {
+    /// The maps of all pages.
+    Map,
+    /// The translations of all pages to their frames.
+    Translate,
+    /// The unmaps of all pages.
+    Unmap,
+    /// The clean up of the tables that the unmaps left, counted by the frames that came back.
+    CleanUp,
+}
+
+impl Operation {
+    /// All, in the order in which a round does them.
+    pub const ALL: [Operation; 4] = [
+        Operation::Map,
+        Operation::Translate,
+        Operation::Unmap,
+        Operation::CleanUp,
+    ];
+
+    /// Gives the name.
+    pub fn name(self) -> &'static str {
+        match self {
+            Operation::Map => "map",
+            Operation::Translate => "translate",
+            Operation::Unmap => "unmap",
+            Operation::CleanUp => "clean up",
+        }
+    }
+}
+
 /// Says how often an operation was done, and how long all of these took.
 #[derive(Clone, Copy, Debug)]
 pub struct Part {
@@ -97,82 +159,167 @@ pub struct Part {
 /// Says what a round did.
 #[derive(Clone, Copy, Debug)]
 pub struct Round {
-    /// The maps of all pages.
-    pub map: Part,
-    /// The translations of all pages to their frames.
-    pub translate: Part,
-    /// The unmaps of all pages.
-    pub unmap: Part,
-    /// The clean up of the tables that the unmaps left, counted by the frames that came back.
-    pub clean_up: Part,
+    calls: Calls,
+    clean_up: Part,
     /// How many frames the new tables took.
     pub tables: usize,
 }
 
-/// Maps, translates and unmaps all pages of a workload, which are of a size, in a new hierarchy, and cleans it up. Gives `None`
-/// where it is no valid one.
-pub fn measure<S: PageSize>(
-    alloc: Global,
-    clock: &impl Clock,
-    workload: Workload,
-) -> io::Result<Option<Round>> {
-    let root = root();
-    let mut memory = PhysMemory::new(alloc, workload.places())?;
-    let mut pool = new_pool(alloc, workload.places())?;
-    if !pool_fits(alloc, &memory, &IdentityMapping, root, &pool)? {
-        return Ok(None);
+impl Round {
+    /// Gives what an operation did.
+    pub fn part(&self, operation: Operation) -> Part {
+        match operation {
+            Operation::Map => self.calls.map,
+            Operation::Translate => self.calls.translate,
+            Operation::Unmap => self.calls.unmap,
+            Operation::CleanUp => self.clean_up,
+        }
     }
-    let order = workload.shuffled(alloc)?;
-    let free = pool.len();
-    let mut mapper = MappedPageTable::new(&mut memory, root, IdentityMapping);
+}
+
+/// Says what the calls on pages did.
+#[derive(Clone, Copy, Debug)]
+struct Calls {
+    map: Part,
+    translate: Part,
+    unmap: Part,
+}
+
+/// Maps, translates and unmaps all pages of a workload, which are of a size, by a mapper.
+fn measure_calls<S: PageSize, M: Mapper<S> + Translate>(
+    clock: &impl Clock,
+    mapper: &mut M,
+    pool: &mut FramePool,
+    workload: Workload,
+    order: &[u32],
+) -> io::Result<Calls>
+    requires { SupplyFits (M.hierarchy mapper.old) pool.old.frames }
+{
     let start = Instant::now(clock)?;
-    let count = map_all::<S, _, _>(&mut mapper, &mut pool, workload);
+    let count = map_all::<S, _, _>(mapper, pool, workload);
     let map = Part {
         count,
         time: start.elapsed(clock)?,
     };
-    let tables = free.saturating_sub(pool.len());
     let start = Instant::now(clock)?;
-    let count = translate_all::<S, _>(&mapper, workload, order.as_slice());
+    let count = translate_all::<S, _>(mapper, workload, order);
     let translate = Part {
         count,
         time: start.elapsed(clock)?,
     };
     let start = Instant::now(clock)?;
-    let count = unmap_all::<S, _>(&mut mapper, workload);
+    let count = unmap_all::<S, _>(mapper, workload);
     let unmap = Part {
         count,
         time: start.elapsed(clock)?,
     };
-    drop(mapper);
-    let clean_up = measure_clean_up(alloc, clock, &mut memory, &mut pool)?;
-    Ok(clean_up.map(|clean_up| Round {
+    Ok(Calls {
         map,
         translate,
         unmap,
-        clean_up,
-        tables,
-    }))
+    })
 }
 
-/// Cleans up the hierarchy in a memory. Gives `None` where it is no valid one.
-fn measure_clean_up(
+/// Cleans up by a mapper.
+fn measure_clean_up<M: CleanUp>(
+    clock: &impl Clock,
+    mapper: &mut M,
+    pool: &mut FramePool,
+) -> io::Result<Part>
+    requires { MayCleanUp (M.hierarchy mapper.old) (serves_below pool.old.limit) pool.old.frames }
+{
+    let free = pool.len();
+    let start = Instant::now(clock)?;
+    mapper.clean_up(pool);
+    let time = start.elapsed(clock)?;
+    let count = pool.len().saturating_sub(free) as u64;
+    Ok(Part { count, time })
+}
+
+/// Does a round with pages of a size by a mapper, in a new hierarchy. Gives `None` where it is no valid one.
+pub fn measure<S: PageSize>(
+    alloc: Global,
+    clock: &impl Clock,
+    access: Access,
+    workload: Workload,
+) -> io::Result<Option<Round>> {
+    let mut memory = PhysMemory::new(alloc, workload.places())?;
+    let mut pool = new_pool(alloc, workload.places())?;
+    let order = workload.shuffled(alloc)?;
+    let (memory, pool) = (&mut memory, &mut pool);
+    match access {
+        Access::Direct => measure_direct::<S>(alloc, clock, memory, pool, workload, &order),
+        Access::Recursive => measure_recursive::<S>(alloc, clock, memory, pool, workload, &order),
+    }
+}
+
+/// Does a round by the mapper that reaches tables by their frames.
+fn measure_direct<S: PageSize>(
     alloc: Global,
     clock: &impl Clock,
     memory: &mut PhysMemory,
     pool: &mut FramePool,
-) -> io::Result<Option<Part>> {
+    workload: Workload,
+    order: &[u32],
+) -> io::Result<Option<Round>> {
     let root = root();
     if !pool_fits(alloc, memory, &IdentityMapping, root, pool)? {
         return Ok(None);
     }
     let free = pool.len();
     let mut mapper = MappedPageTable::new(memory, root, IdentityMapping);
-    let start = Instant::now(clock)?;
-    mapper.clean_up(pool);
-    let time = start.elapsed(clock)?;
-    let count = pool.len().saturating_sub(free) as u64;
-    Ok(Some(Part { count, time }))
+    let calls = measure_calls::<S, _>(clock, &mut mapper, pool, workload, order)?;
+    drop(mapper);
+    let tables = free.saturating_sub(pool.len());
+    if !pool_fits(alloc, memory, &IdentityMapping, root, pool)? {
+        return Ok(None);
+    }
+    let mut mapper = MappedPageTable::new(memory, root, IdentityMapping);
+    let clean_up = measure_clean_up(clock, &mut mapper, pool)?;
+    Ok(Some(Round {
+        calls,
+        clean_up,
+        tables,
+    }))
+}
+
+/// Does a round by the mapper that reaches tables through the root's entry for itself, which is made first.
+fn measure_recursive<S: PageSize>(
+    alloc: Global,
+    clock: &impl Clock,
+    memory: &mut PhysMemory,
+    pool: &mut FramePool,
+    workload: Workload,
+    order: &[u32],
+) -> io::Result<Option<Round>> {
+    let (root, index) = (root(), PageTableIndex::new(RECURSIVE_INDEX));
+    write_self_entry(memory, index);
+    if !pool_fits_recursive(alloc, memory, root, index, pool)? {
+        return Ok(None);
+    }
+    let free = pool.len();
+    let mut mapper = RecursivePageTable::new_unchecked(ActiveMemory::new(memory, root), index);
+    let calls = measure_calls::<S, _>(clock, &mut mapper, pool, workload, order)?;
+    drop(mapper);
+    let tables = free.saturating_sub(pool.len());
+    if !pool_fits_recursive(alloc, memory, root, index, pool)? {
+        return Ok(None);
+    }
+    let mut mapper = RecursivePageTable::new_unchecked(ActiveMemory::new(memory, root), index);
+    let clean_up = measure_clean_up(clock, &mut mapper, pool)?;
+    Ok(Some(Round {
+        calls,
+        clean_up,
+        tables,
+    }))
+}
+
+/// Makes the root's entry at an index name the root.
+fn write_self_entry(memory: &mut PhysMemory, index: PageTableIndex) {
+    if let Some(table) = memory.table_mut(FramePlace::new(1)) {
+        let flags = PageTableFlags::PRESENT.union(PageTableFlags::WRITABLE);
+        table[index].set_addr(root().start_address(), flags);
+    }
 }
 
 /// Gives the root's frame.
