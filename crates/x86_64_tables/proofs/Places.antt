@@ -1,53 +1,45 @@
 -- The tables of a memory by their places.
-use Rattle.std.proofs.Common.{◌≡◌, ◌≢◌, inl, inr, ℕ, zero, suc, ◌+◌, ◌<◌, List, [], ◌∷◌, length, Bool, true, false, cond, if◌then◌else◌, Option, Some, None, IsSome, IfSome, is_some, slice_get, slice_set, get_or, replicate, nat_lt, Bor, MutBor, refl, sym, ap, ◌∙◌, arith}
+use Rattle.std.proofs.Common.{◌≡◌, ◌≢◌, inl, inr, ℕ, zero, suc, ◌+◌, ◌<◌, ◌≤◌, ◌==◌, ◌&&◌, ◌||◌, ◌++◌, List, [], ◌∷◌, length, Bool, true, false, not, cond, if◌then◌else◌, Option, Some, None, IsSome, IfSome, is_some, slice_get, slice_set, get_or, nat_lt, nat_le, Bor, MutBor, refl, sym, ap, ◌∙◌, arith, lt-ltb, le-ltb}
+use Rattle.std.specs.Prelude.{unwrap_or}
 use Rattle.std.specs.Ordering.{nat_cmp, eq_by_cmp}
-use Rattle.std.specs.Cmp.{unsigned_tied}
-use Rattle.std.specs.FinMap.{get, insert, len, get-empty, get-insert, len-insert, len-empty, same_map, nat_cmp-IsAntisymmetric}
+use Rattle.std.specs.Cmp.{unsigned_tied, Equal-is}
+use Rattle.std.specs.FinMap.{get, insert, get-empty, get-insert, same_map, nat_cmp-IsAntisymmetric}
+use Rattle.std.specs.List.{position, position_or_len, list_any, range_with_len}
 use Rattle.std.specs.Option.{ghost_name_of, option_copied, option_copied_mut}
 use Rattle.std.proofs.lemmas.Cmp.{nat_cmp_total}
 use Rattle.std.proofs.lemmas.Bool.{false≢true, cases_lt, eq-eqb}
 use Rattle.std.proofs.lemmas.Bool.Decides.{eqb_tells}
 use Rattle.std.proofs.lemmas.Option.{slice_get_past, slice_get_read, slice_get-get_or}
-use Rattle.std.proofs.lemmas.List.{length-replicate, get_or-replicate}
+use Rattle.std.proofs.lemmas.List.{length-set}
+use Rattle.std.proofs.lemmas.List.Sums.{passes_at_first}
+use Rattle.std.proofs.lemmas.List.FromFn.{length-range_with_len, get_or-range_with_len}
+use Rattle.std.specs.List.Sorted.{IsStrictlyIncreasing}
 use borrow.Follows.Closed.{read_of}
 use Rattle.x86_64_model.specs.Memory.{Memory}
 use Rattle.x86_64_model.proofs.Lemmas.Hierarchies.Memories.{other_key}
 use Rattle.x86_64_tables.specs.PageTable.{zero_words}
-use Rattle.x86_64_tables.specs.PhysMemory.{tables_from}
+use Rattle.x86_64_tables.specs.PhysMemory.{tables_at, zero_tables_at}
 
 same_place : (x y : ℕ) → x ≡ y → eq_by_cmp nat_cmp x y ≡ true
 same_place x y e = unsigned_tied x y ∙ eq-eqb x y e
 
-get-tables_before : (ts : List (List ℕ)) (p q : ℕ) → q < p → get (tables_from p ts) q ≡ None
-get-tables_before [] p q h = get-empty nat_cmp q
-get-tables_before (t ∷ ts) p q h =
-    let rest = tables_from (p + 1) ts in
-    get-insert nat_cmp_total rest p t q
-    ∙ ap (λ b. cond b (Some t) (get rest q)) (other_key q p (λ e. omega arith))
-    ∙ get-tables_before ts (p + 1) q (omega arith)
+-- how many places come before one, or the number of places where it is none of them
+abbrev pub rank : List ℕ → (place : ℕ) → ℕ
+rank ps q = position_or_len (eq_by_cmp nat_cmp q) ps
 
-get-tables_at : (ts : List (List ℕ)) (p k q : ℕ) → q ≡ p + k → get (tables_from p ts) q ≡ slice_get ts k
-get-tables_at [] p k q e = get-empty nat_cmp q
-get-tables_at (t ∷ ts) p zero q e =
-    let rest = tables_from (p + 1) ts in
-    get-insert nat_cmp_total rest p t q
-    ∙ ap (λ b. cond b (Some t) (get rest q)) (same_place q p (omega arith))
-get-tables_at (t ∷ ts) p (suc k) q e =
-    let rest = tables_from (p + 1) ts in
-    get-insert nat_cmp_total rest p t q
-    ∙ ap (λ b. cond b (Some t) (get rest q)) (other_key q p (λ f. omega arith))
-    ∙ get-tables_at ts (p + 1) k q (omega arith)
+chosen : (b : Bool) (t : List ℕ) (ts : List (List ℕ)) (n : ℕ) {o : Option (List ℕ)} → o ≡ slice_get ts n
+    → cond b (Some t) o ≡ slice_get (t ∷ ts) (cond (not b) (1 + n) 0)
+chosen true t ts n e = refl
+chosen false t ts n e = let s : suc n ≡ 1 + n = omega arith in e ∙ ap (slice_get (t ∷ ts)) s
 
-pub get-tables : (ts : List (List ℕ)) (q : ℕ) → get (tables_from 0 ts) q ≡ slice_get ts q
-get-tables ts q = get-tables_at ts 0 q q (omega arith)
-
-pub len-tables : (ts : List (List ℕ)) (p : ℕ) → len (tables_from p ts) ≡ length ts
-len-tables [] p = len-empty nat_cmp (List ℕ)
-len-tables (t ∷ ts) p =
-    let rest = tables_from (p + 1) ts in
-    len-insert nat_cmp_total rest p t
-    ∙ ap (λ o. cond (is_some o) (len rest) (len rest + 1)) (get-tables_before ts (p + 1) p (omega arith))
-    ∙ (let e = len-tables ts (p + 1) in omega arith)
+get-tables : (ps : List ℕ) (ts : List (List ℕ)) (q : ℕ) → length ts ≡ length ps
+    → get (tables_at ps ts) q ≡ slice_get ts (rank ps q)
+get-tables [] [] q e = get-empty nat_cmp q
+get-tables [] (t ∷ ts) q e = absurd (omega (arith, e))
+get-tables (p ∷ ps) [] q e = absurd (omega (arith, e))
+get-tables (p ∷ ps) (t ∷ ts) q e =
+    get-insert nat_cmp_total (tables_at ps ts) p t q
+    ∙ chosen (eq_by_cmp nat_cmp q p) t ts (rank ps q) (get-tables ps ts q (omega (arith, e)))
 
 get_set_same : (ts : List (List ℕ)) (i : ℕ) (w : List ℕ) → i < length ts → slice_get (slice_set ts i w) i ≡ Some w
 get_set_same [] i w h = absurd (omega arith)
@@ -61,35 +53,73 @@ get_set_other (t ∷ ts) zero (suc q) w n = refl
 get_set_other (t ∷ ts) (suc i) zero w n = refl
 get_set_other (t ∷ ts) (suc i) (suc q) w n = get_set_other ts i q w (λ e. n (ap suc e))
 
-get-set : (ts : List (List ℕ)) (i q : ℕ) (w : List ℕ) → i < length ts
-    → slice_get (slice_set ts i w) q ≡ cond (eq_by_cmp nat_cmp q i) (Some w) (slice_get ts q)
-get-set ts i q w h =
-    let chosen : Bool → Option (List ℕ) = λ b. cond b (Some w) (slice_get ts q) in
-    elim (eqb_tells q i) [
-      | inl p ↦ ap (slice_get (slice_set ts i w)) p.1 ∙ (get_set_same ts i w h ∙ sym (ap chosen (same_place q i p.1)))
-      | inr p ↦ get_set_other ts i q w p.1 ∙ sym (ap chosen (other_key q i p.1))
+-- the place of a rank
+at_rank : (ps : List ℕ) (q : ℕ) → rank ps q < length ps → q ≡ get_or ps (rank ps q) 0
+at_rank ps q h = nat_cmp-IsAntisymmetric q _ ((Equal-is _).0 (passes_at_first (eq_by_cmp nat_cmp q) ps 0 h))
+
+-- places of one rank are one place
+same_rank : (ps : List ℕ) (q r : ℕ) → rank ps q < length ps → rank ps r ≡ rank ps q → r ≡ q
+same_rank ps q r h e =
+    let l : rank ps r < length ps = omega (arith, e, h) in
+    at_rank ps r l ∙ ap (λ k. get_or ps k 0) e ∙ sym (at_rank ps q h)
+
+get-set : (ps : List ℕ) (ts : List (List ℕ)) (q r : ℕ) (w : List ℕ) → length ts ≡ length ps → rank ps q < length ps
+    → slice_get (slice_set ts (rank ps q) w) (rank ps r) ≡ cond (eq_by_cmp nat_cmp r q) (Some w) (slice_get ts (rank ps r))
+get-set ps ts q r w n h =
+    let found : Bool → Option (List ℕ) = λ b. cond b (Some w) (slice_get ts (rank ps r)) in
+    elim (eqb_tells r q) [
+      | inl p ↦ ap (λ x. slice_get (slice_set ts (rank ps q) w) (rank ps x)) p.1
+          ∙ (get_set_same ts (rank ps q) w (omega (arith, n, h)) ∙ sym (ap found (same_place r q p.1)))
+      | inr p ↦ get_set_other ts (rank ps q) (rank ps r) w (λ e. p.1 (same_rank ps q r h e)) ∙ sym (ap found (other_key r q p.1))
     ]
 
--- a table that is changed is inserted at its place
-pub tables-set : (ts : List (List ℕ)) (i : ℕ) (w : List ℕ) → i < length ts
-    → tables_from 0 (slice_set ts i w) ≡ insert (tables_from 0 ts) i w
-tables-set ts i w h =
-    same_map nat_cmp_total nat_cmp-IsAntisymmetric _ _ (λ q.
-    get-tables (slice_set ts i w) q
-    ∙ get-set ts i q w h
-    ∙ sym (get-insert nat_cmp_total (tables_from 0 ts) i w q ∙ ap (cond (eq_by_cmp nat_cmp q i) (Some w)) (get-tables ts q)))
+tables-set : (ps : List ℕ) (ts : List (List ℕ)) (q : ℕ) (w : List ℕ) → length ts ≡ length ps → rank ps q < length ps
+    → tables_at ps (slice_set ts (rank ps q) w) ≡ insert (tables_at ps ts) q w
+tables-set ps ts q w n h =
+    same_map nat_cmp_total nat_cmp-IsAntisymmetric _ _ (λ r.
+    get-tables ps (slice_set ts (rank ps q) w) r (length-set ts (rank ps q) w ∙ n)
+    ∙ get-set ps ts q r w n h
+    ∙ sym (get-insert nat_cmp_total (tables_at ps ts) q w r ∙ ap (cond (eq_by_cmp nat_cmp r q) (Some w)) (get-tables ps ts r n)))
 
--- a place that a memory has is below the number of its tables
-pub place_within : (ts : List (List ℕ)) (m : Memory) (i : ℕ) → tables_from 0 ts ≡ m → IsSome (get m i) → i < length ts
-place_within ts m i is there = elim (cases_lt i (length ts)) [
-  | inl below ↦ below
-  | inr past ↦ absurd (false≢true (ap is_some (sym (get-tables ts i ∙ slice_get_past ts i past) ∙ ap (λ m. get m i) is) ∙ there))
+-- the rank of a place that is found, and of one that isn't
+has_rank : (ps : List ℕ) (q i : ℕ) → position (eq_by_cmp nat_cmp q) ps ≡ Some i → (rank ps q < length ps) × (rank ps q ≡ i)
+has_rank ps q i e = elim (cases_lt (rank ps q) (length ps)) [
+  | inl below ↦ (below, ap (λ o. unwrap_or o 0) (ap (λ b. cond b (Some (rank ps q)) None) (sym (lt-ltb _ _ below)) ∙ e))
+  | inr past ↦ absurd (false≢true (ap is_some (ap (λ b. cond b (Some (rank ps q)) None) (sym (le-ltb _ _ past)) ∙ e)))
 ]
 
--- the element that indexing gives is the table at the place
-pub table_at : (ts : List (List ℕ)) (m : Memory) (i : ℕ) (table : List ℕ) → tables_from 0 ts ≡ m
-    → i < length ts → table ≡ get_or ts i table → get m i ≡ Some table
-table_at ts m i table is below at = ap (λ m. get m i) (sym is) ∙ get-tables ts i ∙ slice_get_read ts (length ts) i table refl below at
+no_rank : (ps : List ℕ) (q : ℕ) → position (eq_by_cmp nat_cmp q) ps ≡ None → length ps ≤ rank ps q
+no_rank ps q e = elim (cases_lt (rank ps q) (length ps)) [
+  | inl below ↦ absurd (false≢true (sym (ap is_some (ap (λ b. cond b (Some (rank ps q)) None) (sym (lt-ltb _ _ below)) ∙ e))))
+  | inr past ↦ past
+]
+
+module _ (ps : List ℕ) (ts : List (List ℕ)) (m : Memory) (same : length ts ≡ length ps) (is : tables_at ps ts ≡ m) (q : ℕ) where
+  pub there : (i : ℕ) → position (eq_by_cmp nat_cmp q) ps ≡ Some i → slice_get ts i ≡ get m q
+  there i e = sym (ap (λ m. get m q) (sym is) ∙ get-tables ps ts q same ∙ ap (slice_get ts) (has_rank ps q i e).1)
+
+  pub gone : position (eq_by_cmp nat_cmp q) ps ≡ None → None ≡ get m q
+  gone e =
+      let past = no_rank ps q e in
+      sym (ap (λ m. get m q) (sym is) ∙ get-tables ps ts q same ∙ slice_get_past ts (rank ps q) (omega (arith, past, same)))
+
+  pub within : (i : ℕ) → position (eq_by_cmp nat_cmp q) ps ≡ Some i → i < length ts
+  within i e = let found = has_rank ps q i e in omega (arith, found.0, found.1, same)
+
+  -- the element that indexing gives is the table at the place
+  pub read : (i : ℕ) (table : List ℕ) → position (eq_by_cmp nat_cmp q) ps ≡ Some i → table ≡ get_or ts i table → get m q ≡ Some table
+  read i table e at = sym (there i e) ∙ slice_get_read ts (length ts) i table refl (within i e) at
+
+  -- a table that is changed is inserted at its place
+  pub changed : (i : ℕ) (w : List ℕ) → position (eq_by_cmp nat_cmp q) ps ≡ Some i → tables_at ps (slice_set ts i w) ≡ insert m q w
+  changed i w e =
+      let found = has_rank ps q i e in
+      ap (λ i. tables_at ps (slice_set ts i w)) (sym found.1) ∙ tables-set ps ts q w same found.0 ∙ ap (λ m. insert m q w) is
+
+  -- a place that the memory has is found
+  pub found_there : IsSome (get m q) → (r : Option ℕ) → r ≡ position (eq_by_cmp nat_cmp q) ps → IsSome r
+  found_there has None e = absurd (false≢true (ap is_some (gone (sym e)) ∙ has))
+  found_there has (Some i) e = refl
 
 -- two accounts of what is lent agree where a part is lent
 pub lends_alike : {D E T : Type 0} (r : Option (MutBor T)) {F G : E → D} {v u : D}
@@ -111,13 +141,46 @@ lent_is_element None ts i there lent value =
     sym (slice_get_past ts i (elim (cases_lt i (length ts)) [ inl below ↦ absurd (false≢true (lent below)) | inr past ↦ past ]))
 lent_is_element (Some x) ts i there lent value = ap Some value ∙ sym (slice_get-get_or ts i x.now (there refl))
 
--- a memory of n tables of words 0
-pub get-zero_tables : (n place : ℕ)
-    → get (tables_from 0 (replicate n zero_words)) place ≡ (if nat_lt place n then Some zero_words else None)
-get-zero_tables n place = get-tables (replicate n zero_words) place ∙ by (nat_lt place n) refl
+-- a memory where all words are 0
+pub get-zero_tables : (ps : List ℕ) (q : ℕ)
+    → get (zero_tables_at ps) q ≡ (if list_any (λ p. q == p) ps then Some zero_words else None)
+get-zero_tables [] q = get-empty nat_cmp q
+get-zero_tables (p ∷ ps) q =
+    get-insert nat_cmp_total (zero_tables_at ps) p zero_words q
+    ∙ ap (λ b. cond b (Some zero_words) (get (zero_tables_at ps) q)) (unsigned_tied q p)
+    ∙ either (q == p) (list_any (λ p. q == p) ps) (get-zero_tables ps q)
   where
-    by : (b : Bool) → nat_lt place n ≡ b → slice_get (replicate n zero_words) place ≡ (if b then Some zero_words else None)
-    by true h =
-        slice_get-get_or (replicate n zero_words) place zero_words (rw length-replicate (grind (arith, h)))
-        ∙ ap Some (get_or-replicate n place zero_words zero_words (grind (arith, h)))
-    by false h = slice_get_past (replicate n zero_words) place (rw length-replicate (grind (arith, h)))
+    either : (b c : Bool) {o : Option (List ℕ)} → o ≡ (if c then Some zero_words else None)
+        → cond b (Some zero_words) o ≡ (if b || c then Some zero_words else None)
+    either true c e = refl
+    either false c e = e
+
+any_of_range : (k n q : ℕ) → list_any (λ p. q == p) (range_with_len k n) ≡ nat_le k q && nat_lt q (k + n)
+any_of_range k zero q = grind (arith)
+any_of_range k (suc n) q = ap (λ b. (q == k) || b) (any_of_range (k + 1) n q) ∙ grind (arith)
+
+range_more : (k n : ℕ) → range_with_len k (suc n) ≡ range_with_len k n ++ (k + n) ∷ []
+range_more k zero = let e : k ≡ k + 0 = omega arith in ap (λ j. j ∷ []) e
+range_more k (suc n) =
+    let e : (k + 1) + n ≡ k + suc n = omega arith in
+    ap (λ xs. k ∷ xs) (range_more (k + 1) n ∙ ap (λ j. range_with_len (k + 1) n ++ j ∷ []) e)
+
+pub range-push : (n : ℕ) → range_with_len 0 n ++ n ∷ [] ≡ range_with_len 0 (n + 1)
+range-push n =
+    let e : 0 + n ≡ n = omega arith in
+    let more : suc n ≡ n + 1 = omega arith in
+    sym (ap (range_with_len 0) (sym more) ∙ range_more 0 n ∙ ap (λ j. range_with_len 0 n ++ j ∷ []) e)
+
+pub range_rises : (n : ℕ) → IsStrictlyIncreasing (range_with_len 0 n)
+range_rises n k h =
+    let long = length-range_with_len 0 n in
+    let low = get_or-range_with_len 0 n k 0 (omega (arith, long, h)) in
+    let high = get_or-range_with_len 0 n (k + 1) 0 (omega (arith, long, h)) in
+    omega (arith, low, high)
+
+-- a memory of the places 0 to n - 1
+pub get-zero_range : (n q : ℕ) → get (zero_tables_at (range_with_len 0 n)) q ≡ (if nat_lt q n then Some zero_words else None)
+get-zero_range n q = get-zero_tables (range_with_len 0 n) q ∙ ap (λ b. if b then Some zero_words else None) (any_of_range 0 n q ∙ from_zero)
+  where
+    from_zero : nat_le 0 q && nat_lt q (0 + n) ≡ nat_lt q n
+    from_zero = grind (arith)

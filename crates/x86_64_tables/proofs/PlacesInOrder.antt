@@ -1,109 +1,118 @@
--- The places of a memory, in their order.
-use Rattle.std.proofs.Common.{◌≡◌, ◌<◌, ◌≤◌, ◌+◌, ◌==◌, ◌&&◌, nat_lt, ℕ, zero, suc, Bool, true, false, cond, List, [], ◌∷◌, length, get_or, map, Some, None, Less, Equal, Greater, refl, sym, ap, ap₂, ◌∙◌, arith, lt-ltb, le-ltb}
-use Rattle.std.proofs.lemmas.List.FromFn.{length-range_with_len, get_or-range_with_len}
+-- The places of a memory, in their order, and where a search finds one.
+use Rattle.std.proofs.Common.{◌≡◌, ◌≢◌, ◌<◌, ◌≤◌, ◌+◌, ◌-◌, ◌%◌, ◌^◌, ◌&&◌, nat_lt, ℕ, Bool, true, false, cond, List, [], ◌∷◌, length, get_or, map, Some, None, Result, Ok, Err, ◌⊎◌, inl, inr, Less, refl, sym, ap, ap₂, ◌∙◌, arith, lt-ltb, le-ltb}
+use Rattle.std.proofs.lemmas.Bool.{cases_lt}
+use Rattle.std.proofs.lemmas.List.Kept.{AllPairs-from_increasing}
+use Rattle.std.proofs.lemmas.List.Sorted.{searched}
 use Rattle.std.proofs.lemmas.List.Sums.{position_or_len_is}
-use Rattle.std.proofs.lemmas.Option.{slice_get-get_or, slice_get_past}
+use Rattle.std.proofs.lemmas.Map.Keys.{sorted_from_strictly_increasing}
 use Rattle.std.specs.Prelude.{T}
-use Rattle.std.specs.List.{position, position_or_len, range_with_len, slice_get}
+use Rattle.std.specs.Result.{result_ok}
+use Rattle.std.specs.List.{position, AllByRecursion}
+use Rattle.std.specs.List.Sorted.{IsStrictlyIncreasing, IsStrictlySortedBy, IsBinarySearchResult}
 use Rattle.std.specs.Ordering.{nat_cmp, eq_by_cmp, is_lt}
 use Rattle.std.specs.Cmp.{nat_cmp_total}
 use Rattle.std.specs.FinMap.Entries.{below_all}
-use Rattle.std.specs.FinMap.{get, keys, find, is_sorted, from_sorted, entries-from_sorted, get-from_sorted, same_map, nat_cmp-IsAntisymmetric}
-use Rattle.x86_64_model.specs.Memory.{Memory}
+use Rattle.std.specs.FinMap.{get, keys, find, is_sorted, from_sorted, entries-from_sorted, get-empty, get-from_sorted, get-insert, same_map, nat_cmp-IsAntisymmetric}
 use Rattle.x86_64_model.proofs.Lemmas.Hierarchies.Memories.{same_key, other_key}
-use Rattle.x86_64_tables.specs.PhysMemory.{tables_from}
-use Rattle.x86_64_tables.proofs.Places.{get-tables}
+use Rattle.x86_64_tables.specs.PhysMemory.{tables_at}
+use Rattle.x86_64_tables.specs.SortedPlaces.{HasRun}
+use Rattle.x86_64_tables.proofs.Places.{rank}
 
--- the tables with their places, from a place on
-abbrev numbered : ℕ → List (List ℕ) → List (ℕ × List ℕ)
-numbered k [] = []
-numbered k (t ∷ ts) = (k, t) ∷ numbered (k + 1) ts
+-- the tables with their places
+abbrev pairs : List ℕ → List (List ℕ) → List (ℕ × List ℕ)
+pairs [] ts = []
+pairs (p ∷ ps) [] = []
+pairs (p ∷ ps) (t ∷ ts) = (p, t) ∷ pairs ps ts
 
-keys_numbered : (k : ℕ) (ts : List (List ℕ)) → map (λ e. e.0) (numbered k ts) ≡ range_with_len k (length ts)
-keys_numbered k [] = refl
-keys_numbered k (t ∷ ts) = ap (λ xs. k ∷ xs) (keys_numbered (k + 1) ts)
+keys_pairs : (ps : List ℕ) (ts : List (List ℕ)) → length ts ≡ length ps → map (λ e. e.0) (pairs ps ts) ≡ ps
+keys_pairs [] ts e = refl
+keys_pairs (p ∷ ps) [] e = absurd (omega (arith, e))
+keys_pairs (p ∷ ps) (t ∷ ts) e = ap (λ xs. p ∷ xs) (keys_pairs ps ts (omega (arith, e)))
 
-below : (j k : ℕ) (ts : List (List ℕ)) → j < k → below_all nat_cmp j (numbered k ts) ≡ true
-below j k [] h = refl
-below j k (t ∷ ts) h =
-    ap₂ (λ a b. is_lt (cond a Less (cond (j == k) Equal Greater)) && b) (lt-ltb j k h) (below j (k + 1) ts (omega arith))
+below : (p : ℕ) (ps : List ℕ) (ts : List (List ℕ)) → AllByRecursion (λ y. nat_cmp p y ≡ Less) ps
+    → below_all nat_cmp p (pairs ps ts) ≡ true
+below p [] ts h = refl
+below p (q ∷ ps) [] h = refl
+below p (q ∷ ps) (t ∷ ts) h = ap₂ (λ a b. is_lt a && b) h.0 (below p ps ts h.1)
 
-rises : (k : ℕ) (ts : List (List ℕ)) → is_sorted nat_cmp (numbered k ts) ≡ true
-rises k [] = refl
-rises k (t ∷ ts) = ap₂ (λ a b. a && b) (below k (k + 1) ts (omega arith)) (rises (k + 1) ts)
+rises : (ps : List ℕ) (ts : List (List ℕ)) → IsStrictlySortedBy nat_cmp ps → is_sorted nat_cmp (pairs ps ts) ≡ true
+unfolding IsStrictlySortedBy
+rises [] ts h = refl
+rises (p ∷ ps) [] h = refl
+rises (p ∷ ps) (t ∷ ts) h = ap₂ (λ a b. a && b) (below p ps ts h.0) (rises ps ts h.1)
 
 holds : (b : Bool) → b ≡ true → T b
 holds true e = tt
 holds false e = cc
 
-find_numbered : (k q : ℕ) (ts : List (List ℕ)) → find nat_cmp (k + q) (numbered k ts) ≡ slice_get ts q
-find_numbered k q [] = refl
-find_numbered k zero (t ∷ ts) =
-    let e : k + 0 ≡ k = omega arith in
-    ap (λ b. cond b (Some t) (find nat_cmp (k + 0) (numbered (k + 1) ts))) (ap (λ j. eq_by_cmp nat_cmp j k) e ∙ same_key k)
-find_numbered k (suc q) (t ∷ ts) =
-    let e : k + suc q ≡ (k + 1) + q = omega arith in
-    ap (λ b. cond b (Some t) (find nat_cmp (k + suc q) (numbered (k + 1) ts))) (other_key (k + suc q) k (λ e. omega arith))
-    ∙ ap (λ j. find nat_cmp j (numbered (k + 1) ts)) e ∙ find_numbered (k + 1) q ts
+find_pairs : (ps : List ℕ) (ts : List (List ℕ)) (q : ℕ) → get (tables_at ps ts) q ≡ find nat_cmp q (pairs ps ts)
+find_pairs [] ts q = get-empty nat_cmp q
+find_pairs (p ∷ ps) [] q = get-empty nat_cmp q
+find_pairs (p ∷ ps) (t ∷ ts) q =
+    get-insert nat_cmp_total (tables_at ps ts) p t q ∙ ap (cond (eq_by_cmp nat_cmp q p) (Some t)) (find_pairs ps ts q)
 
-module _ (ts : List (List ℕ)) where
-  in_order : Memory
-  in_order = from_sorted (numbered 0 ts)
+module _ (ps : List ℕ) (ts : List (List ℕ)) (up : IsStrictlyIncreasing ps) where
+  in_order : T (is_sorted nat_cmp (pairs ps ts))
+  in_order = holds _ (rises ps ts (sorted_from_strictly_increasing ps up))
 
-  get-in_order : (q : ℕ) → get in_order q ≡ slice_get ts q
-  unfolding in_order
-  get-in_order q =
-      let e : q ≡ 0 + q = omega arith in
-      get-from_sorted nat_cmp (numbered 0 ts) q (holds _ (rises 0 ts))
-      ∙ ap (λ j. find nat_cmp j (numbered 0 ts)) e ∙ find_numbered 0 q ts
+  is_in_order : tables_at ps ts ≡ from_sorted {R = nat_cmp} (pairs ps ts)
+  is_in_order =
+      same_map nat_cmp_total nat_cmp-IsAntisymmetric _ _ (λ q. find_pairs ps ts q ∙ sym (get-from_sorted nat_cmp (pairs ps ts) q in_order))
 
-  is_in_order : tables_from 0 ts ≡ in_order
-  is_in_order = same_map nat_cmp_total nat_cmp-IsAntisymmetric _ _ (λ q. get-tables ts q ∙ sym (get-in_order q))
+  -- the places are the keys, in their order
+  pub keys-tables : length ts ≡ length ps → keys (tables_at ps ts) ≡ ps
+  keys-tables n =
+      ap keys is_in_order ∙ ap (λ es. map (λ e. e.0) es) (entries-from_sorted nat_cmp (pairs ps ts) in_order) ∙ keys_pairs ps ts n
 
-  keys-in_order : keys in_order ≡ range_with_len 0 (length ts)
-  unfolding in_order
-  keys-in_order =
-      ap (λ es. map (λ e. e.0) es) (entries-from_sorted nat_cmp (numbered 0 ts) (holds _ (rises 0 ts))) ∙ keys_numbered 0 ts
+module _ (ps : List ℕ) (q : ℕ) where
+  -- a place that stands at an index is found there
+  pub position_there : IsStrictlyIncreasing ps → (i : ℕ) → i < length ps → get_or ps i 0 ≡ q
+      → Some i ≡ position (eq_by_cmp nat_cmp q) ps
+  position_there up i l is =
+      let pairwise = AllPairs-from_increasing ps up in
+      let first : rank ps q ≡ i = position_or_len_is (eq_by_cmp nat_cmp q) ps i 0 (omega (arith, l))
+      (λ k h. other_key q (get_or ps k 0) (λ e. let less = pairwise k i 0 h l in omega (arith, less, is, e)))
+      (λ h. ap (eq_by_cmp nat_cmp q) is ∙ same_key q) in
+      sym (ap (λ n. cond (nat_lt n (length ps)) (Some n) None) first ∙ ap (λ b. cond b (Some i) None) (lt-ltb i (length ps) l))
 
-  pub keys-tables : keys (tables_from 0 ts) ≡ range_with_len 0 (length ts)
-  keys-tables = ap keys is_in_order ∙ keys-in_order
+  -- a place that stands at no index isn't found
+  pub position_gone : ((k : ℕ) → k < length ps → get_or ps k 0 ≢ q) → None ≡ position (eq_by_cmp nat_cmp q) ps
+  position_gone apart =
+      let n = length ps in
+      let none : rank ps q ≡ n = position_or_len_is (eq_by_cmp nat_cmp q) ps n 0 (omega arith)
+      (λ k h. other_key q (get_or ps k 0) (λ e. apart k h (sym e))) (λ h. absurd (omega (arith, h))) in
+      sym (ap (λ k. cond (nat_lt k n) (Some k) None) none ∙ ap (λ b. cond b (Some n) None) (le-ltb n n (omega arith)))
 
-  key_at : (q k : ℕ) → k < length ts → (b : Bool) → eq_by_cmp nat_cmp q k ≡ b
-      → eq_by_cmp nat_cmp q (get_or (range_with_len 0 (length ts)) k 0) ≡ b
-  key_at q k l b e =
-      let s : 0 + k ≡ k = omega arith in
-      ap (eq_by_cmp nat_cmp q) (get_or-range_with_len 0 (length ts) k 0 l ∙ s) ∙ e
+ordered : (ps : List ℕ) → IsStrictlyIncreasing ps → (i j : ℕ) → i ≤ j → j < length ps → get_or ps i 0 ≤ get_or ps j 0
+ordered ps up i j h l = elim (cases_lt i j) [
+  | inl less ↦ (let low = AllPairs-from_increasing ps up i j 0 less l in omega (arith, low))
+  | inr same ↦ (let e : i ≡ j = omega (arith, h, same) in let f = ap (λ k. get_or ps k 0) e in omega (arith, f))
+]
 
-  within : (q : ℕ) → q < length ts → position_or_len (eq_by_cmp nat_cmp q) (range_with_len 0 (length ts)) ≡ q
-  within q l =
-      let n = length-range_with_len 0 (length ts) in
-      position_or_len_is (eq_by_cmp nat_cmp q) (range_with_len 0 (length ts)) q 0 (omega (arith, n))
-      (λ k h. key_at q k (omega arith) false (other_key q k (λ e. omega arith))) (λ h. key_at q q l true (same_key q))
+-- what halving finds is where the place stands
+pub position_searched : (ps : List ℕ) (q : ℕ) (r : Result ℕ ℕ) → IsStrictlyIncreasing ps
+    → IsBinarySearchResult (λ y. nat_cmp y q) ps r → result_ok r ≡ position (eq_by_cmp nat_cmp q) ps
+position_searched ps q (Ok i) up found =
+    let there = searched ps q (Ok i) found (ordered ps up) in
+    position_there ps q up i there.0 there.1
+position_searched ps q (Err i) up found =
+    let split = searched ps q (Err i) found (ordered ps up) in
+    position_gone ps q (λ k l e. elim (cases_lt k i) [
+      | inl before ↦ (let less = split.1 k before in omega (arith, less, e))
+      | inr after ↦ (let more = split.2 k after l in omega (arith, more, e))
+    ])
 
-  past : (q : ℕ) → length ts ≤ q → position_or_len (eq_by_cmp nat_cmp q) (range_with_len 0 (length ts)) ≡ length ts
-  past q l =
-      let n = length-range_with_len 0 (length ts) in
-      position_or_len_is (eq_by_cmp nat_cmp q) (range_with_len 0 (length ts)) (length ts) 0 (omega (arith, n))
-      (λ k h. key_at q k h false (other_key q k (λ e. omega arith))) (λ h. absurd (omega (arith, n)))
-
-  pub position_there : (q : ℕ) → q < length ts → Some q ≡ position (eq_by_cmp nat_cmp q) (keys (tables_from 0 ts))
-  position_there q l = sym (ap (position (eq_by_cmp nat_cmp q)) keys-tables
-      ∙ ap₂ (λ p n. cond (nat_lt p n) (Some p) None) (within q l) (length-range_with_len 0 (length ts))
-      ∙ ap (λ b. cond b (Some q) None) (lt-ltb q (length ts) l))
-
-  pub position_gone : (q : ℕ) → length ts ≤ q → None ≡ position (eq_by_cmp nat_cmp q) (keys (tables_from 0 ts))
-  position_gone q l = sym (ap (position (eq_by_cmp nat_cmp q)) keys-tables
-      ∙ ap₂ (λ p n. cond (nat_lt p n) (Some p) None) (past q l) (length-range_with_len 0 (length ts))
-      ∙ ap (λ b. cond b (Some (length ts)) None) (le-ltb (length ts) (length ts) (omega arith)))
-
-  pub place_there : (q : ℕ) → q < length ts → Some q ≡ slice_get (keys (tables_from 0 ts)) q
-  place_there q l =
-      let n = length-range_with_len 0 (length ts) in
-      let s : 0 + q ≡ q = omega arith in
-      sym (ap (λ ks. slice_get ks q) keys-tables ∙ slice_get-get_or (range_with_len 0 (length ts)) q 0 (omega (arith, n, l))
-      ∙ ap Some (get_or-range_with_len 0 (length ts) q 0 l ∙ s))
-
-  pub place_gone : (q : ℕ) → length ts ≤ q → None ≡ slice_get (keys (tables_from 0 ts)) q
-  place_gone q l =
-      let n = length-range_with_len 0 (length ts) in
-      sym (ap (λ ks. slice_get ks q) keys-tables ∙ slice_get_past (range_with_len 0 (length ts)) q (omega (arith, n, l)))
+-- a place in the run stands where its distance from the first says
+pub position_in_run : (ps : List ℕ) (first run q : ℕ) → IsStrictlyIncreasing ps → HasRun ps first run → q < 2 ^ 64
+    → (q + (2 ^ 64 - first)) % 2 ^ 64 < run → Some ((q + (2 ^ 64 - first)) % 2 ^ 64) ≡ position (eq_by_cmp nat_cmp q) ps
+position_in_run ps first run q up has small near =
+    let d = (q + (2 ^ 64 - first)) % 2 ^ 64 in
+    let fits = has.fits in
+    let within = has.within in
+    let there = has.follow d near in
+    let is : first + d ≡ q = wrapped (cases_lt q first) in
+    position_there ps q up d (omega (arith, within, near)) (there ∙ is)
+  where
+    wrapped : (q < first) ⊎ (first ≤ q) → first + (q + (2 ^ 64 - first)) % 2 ^ 64 ≡ q
+    wrapped (inl less) = absurd (omega (arith, less, small, near, has.fits))
+    wrapped (inr more) = omega (arith, more, small, has.fits)

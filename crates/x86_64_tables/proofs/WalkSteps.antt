@@ -1,6 +1,6 @@
 -- The walk by one level, for code that has the level as a number.
-use Rattle.std.proofs.Common.{inl, inr, ◌⊎◌, zero, suc, ⊎_elim, ◌≡◌, ◌<◌, ◌≤◌, ◌+◌, ◌-◌, ◌%◌, ◌^◌, ℕ, ◌&&◌, Bool, true, false, cond, Some, None, Option, option_and_then, nat_le, refl, sym, ap, ◌∙◌, arith, le-leb}
-use Rattle.std.proofs.lemmas.Bool.{lt-leb, cases_lt}
+use Rattle.std.proofs.Common.{inl, inr, ◌⊎◌, zero, suc, ⊎_elim, ◌≡◌, ◌<◌, ◌≤◌, ◌+◌, ◌-◌, ◌%◌, ◌^◌, ℕ, ◌&&◌, Bool, true, false, cond, Some, None, Option, option_and_then, nat_le, refl, sym, ap, ◌∙◌, arith}
+use Rattle.std.proofs.lemmas.Bool.{cases_lt}
 use Rattle.x86_64_model.specs.Entry.{present, writable, user, huge, address}
 use Rattle.x86_64_model.specs.Memory.{Words}
 use Rattle.x86_64_model.specs.Position.{index, span}

@@ -1,6 +1,7 @@
 pub mod PageTableFlags
 pub mod PageTableEntry
 pub mod PageTable
+pub mod SortedPlaces
 pub mod PhysMemory
 pub mod Lending
 pub mod Walks

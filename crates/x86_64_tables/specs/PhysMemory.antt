@@ -1,5 +1,5 @@
 -- A memory as a map from places to tables.
-use Rattle.std.specs.Prelude.{◌≡◌, ℕ, ◌+◌, List, [], ◌∷◌, Some, IsSome, length}
+use Rattle.std.specs.Prelude.{◌≡◌, ℕ, List, [], ◌∷◌, Some, IsSome, length, replicate}
 use Rattle.std.specs.Cmp.{Equal-is}
 use Rattle.std.specs.FinMap.{empty, insert, get, keys, len, entries, len-entries, contains_key-keys, nat_cmp-IsAntisymmetric}
 use Rattle.std.specs.List.{All, slice_get}
@@ -10,11 +10,17 @@ use Rattle.std.proofs.lemmas.List.Folds.{Any-from_list_any, list_any_at}
 use Rattle.std.proofs.lemmas.Option.{slice_get_within, get_or_from_slice_get}
 use Rattle.x86_64_model.proofs.Lemmas.Hierarchies.Memories.{same_key}
 use Rattle.x86_64_model.specs.Memory.{Memory}
+use Rattle.x86_64_tables.specs.PageTable.{zero_words}
 
--- the tables at the places from one on
-abbrev pub tables_from : (place : ℕ) → List (List ℕ) → Memory
-tables_from place [] = empty
-tables_from place (table ∷ tables) = insert (tables_from (place + 1) tables) place table
+-- the tables at places, one at each
+abbrev pub tables_at : (places : List ℕ) → List (List ℕ) → Memory
+tables_at [] tables = empty
+tables_at (place ∷ places) [] = empty
+tables_at (place ∷ places) (table ∷ tables) = insert (tables_at places tables) place table
+
+-- a memory with places, where all words are 0
+abbrev pub zero_tables_at : (places : List ℕ) → Memory
+zero_tables_at places = tables_at places (replicate (length places) zero_words)
 
 pub length_keys : (memory : Memory) → length (keys memory) ≡ len memory
 length_keys memory = length-map (entries memory) (λ e. e.0) ∙ sym (len-entries memory)

@@ -1,17 +1,20 @@
 //! Physical memory that consists of page tables, and where frames lie in it.
-ghost use Rattle.std.specs.Prelude.{◌≡◌, ◌==◌, ◌/◌, ℕ, true, Some, IsSome, IfOk, nat_lt, if◌then◌else◌};
+ghost use Rattle.std.specs.Prelude.{◌≡◌, ◌==◌, ◌/◌, ◌↔◌, ℕ, true, Some, IsSome, IfOk, OnOk, Err, nat_lt, if◌then◌else◌};
 ghost use Rattle.std.specs.Option.{option_copied, option_copied_mut};
 ghost use Rattle.std.specs.Borrow.{sem};
 ghost use Rattle.std.specs.FinMap as map;
-ghost use Rattle.std.specs.List.{position, slice_get};
+ghost use Rattle.std.specs.List.{list_any, position, slice_get};
+ghost use Rattle.std.specs.List.Sorted.{IsStrictlyIncreasing};
 ghost use Rattle.std.specs.Ordering.{nat_cmp, eq_by_cmp};
 ghost use Rattle.x86_64_model.specs.Memory.{Places, IsMapping, identity_places};
 ghost use Rattle.x86_64_tables.specs.PageTable.{zero_words};
+ghost use Rattle.x86_64_tables.specs.PhysMemory.{zero_tables_at};
 ghost use Rattle.x86_64_tables.specs.Lending.{LendsTable, LendsTableAt};
 
 mod active;
 mod alike;
 mod image;
+mod places;
 mod shift_mapping;
 #[cfg(test)]
 mod tests;
@@ -21,6 +24,7 @@ mod walk;
 use crate::page_table::PageTable;
 pub use active::ActiveMemory;
 pub use alike::tables_alike;
+use places::{SortedPlaces, is_increasing};
 pub use shift_mapping::ShiftMapping;
 use std::alloc::{AllocError, Global};
 use std::marker::Model;
@@ -60,26 +64,51 @@ impl FramePlace {
     }
 }
 
+/// Says why no memory is made with places.
+#[derive(Clone, Copy, Debug, PartialEq)]
+pub enum PlacesRefusal {
+    /// A number isn't below the next.
+    NotIncreasing,
+    /// Memory is refused.
+    Alloc(AllocError),
+}
+
+impl From<AllocError> for PlacesRefusal {
+    ghost use Rattle.x86_64_tables.specs.declared.phys_memory.PlacesRefusal.TheVariants.{Alloc};
+
+    ghost from_gives = { λ error refusal. refusal ≡ Alloc error };
+
+    fn from(error: AllocError) -> PlacesRefusal {
+        PlacesRefusal::Alloc(error)
+    }
+}
+
 /// Holds page tables, seen as a finite map from the numbers of places to tables. The places never change.
 ///
-/// A table is reached by its place, as in `memory[place]`. Condition: the memory has the place.
+/// A table is reached by its place, as in `memory[place]`. Condition: the memory has the place. A place is found by halving,
+/// or at once where the memory has all places between the first and it.
 #[derive(Drop)]
 pub struct PhysMemory {
+    places: SortedPlaces,
     tables: Vec<PageTable>,
 }
 
 impl Model for PhysMemory {
-    ghost use Rattle.std.specs.Prelude.{List, ℕ};
+    ghost use Rattle.std.specs.Prelude.{◌≡◌, List, ℕ, length};
     ghost use Rattle.std.specs.Ordering.{nat_cmp};
     ghost use Rattle.std.specs.FinMap as map;
     ghost use Rattle.std.specs.Coded.{coded_ℕ, coded_list};
-    ghost use Rattle.x86_64_tables.specs.PhysMemory.{tables_from};
+    ghost use Rattle.std.specs.List.Sorted.{IsStrictlyIncreasing};
+    ghost use Rattle.x86_64_tables.specs.PhysMemory.{tables_at};
 
     ghost Value = { map.FinMap nat_cmp (List ℕ) };
 
     ghost coded = { map.code coded_ℕ (coded_list coded_ℕ) };
 
-    ghost view = { λ memory. tables_from 0 memory.tables.items };
+    ghost view = { λ memory. tables_at memory.places memory.tables.items };
+
+    ghost invariant = { λ memory. (length memory.tables.items ≡ length memory.places)
+        × IsStrictlyIncreasing memory.places };
 }
 
 impl PhysMemory {
@@ -92,11 +121,31 @@ impl PhysMemory {
         ensures { IfOk result (λ memory.
             (place : ℕ) → map.get memory place ≡ (if nat_lt place n then Some zero_words else None)) }
     {
-        let mut tables = Vec::with_capacity(alloc, n as usize)?;
-        for _ in 0..n {
-            tables.push_reserved(PageTable::new());
+        let mut numbers = Vec::with_capacity(alloc, n as usize)?;
+        for number in 0..n {
+            numbers.push_reserved(number);
         }
-        Ok(PhysMemory { tables })
+        zero_memory(alloc, numbers)
+    }
+
+    /// Makes a memory with places, given by their numbers, where all words are 0.
+    ///
+    /// # Errors
+    ///
+    /// `NotIncreasing` where a number isn't below the next, else `Alloc` where memory is refused.
+    pub fn with_places(alloc: Global, places: &[u64]) -> Result<PhysMemory, PlacesRefusal>
+        ensures made { IfOk result (λ memory. (place : ℕ) → map.get memory place
+            ≡ (if list_any (λ number. place == number) places.now then Some zero_words else None)) }
+        ensures increasing { OnOk result (IsStrictlyIncreasing places.now) }
+        ensures not_increasing { (result ≡ Err PlacesRefusal.NotIncreasing)
+            ↔ (¬ IsStrictlyIncreasing places.now) }
+    {
+        if !is_increasing(places) {
+            return Err(PlacesRefusal::NotIncreasing);
+        }
+        let mut numbers = Vec::new(alloc);
+        numbers.extend_from_slice(places)?;
+        Ok(zero_memory(alloc, numbers)?)
     }
 
     /// Gives the number of places.
@@ -110,19 +159,16 @@ impl PhysMemory {
     pub fn place_at(&self, n: usize) -> Option<FramePlace>
         ensures { result ≡ slice_get (map.keys self.now) n }
     {
-        let tables = &self.tables;
-        if n < tables.len() {
-            Some(FramePlace::new(n as u64))
-        } else {
-            None
-        }
+        let number = self.places.number_at(n)?;
+        Some(FramePlace::new(number))
     }
 
     /// Gives the table at a place, or `None` where the memory lacks the place.
     pub fn table(&self, place: FramePlace) -> Option<&PageTable>
         ensures { option_copied result ≡ map.get self.now place }
     {
-        self.tables.get(place.number() as usize)
+        let index = self.places.index_of(place.number())?;
+        self.tables.get(index)
     }
 
     /// Lends the table at a place to be changed, or gives `None` where the memory lacks the place.
@@ -130,21 +176,30 @@ impl PhysMemory {
         ensures* writes_back { sem 𝓛 (LendsTable self.entry place result) }
         ensures value { option_copied_mut result ≡ map.get self.old place }
     {
-        self.tables.get_mut(place.number() as usize)
+        let index = self.places.index_of(place.number())?;
+        self.tables.get_mut(index)
     }
 
     /// Gives how many places come before a place, or `None` where the memory lacks it.
     fn index_of(&self, place: FramePlace) -> Option<usize>
         ensures { result ≡ position (eq_by_cmp nat_cmp place) (map.keys self.now) }
     {
-        let number = place.number() as usize;
-        let tables = &self.tables;
-        if number < tables.len() {
-            Some(number)
-        } else {
-            None
-        }
+        self.places.index_of(place.number())
     }
+}
+
+/// Makes a memory with places, given by their numbers, where all words are 0.
+fn zero_memory(alloc: Global, numbers: Vec<u64>) -> Result<PhysMemory, AllocError>
+    requires { IsStrictlyIncreasing numbers.items }
+    ensures { IfOk result (λ memory. memory ≡ zero_tables_at numbers.items) }
+{
+    let n = numbers.len();
+    let mut tables = Vec::with_capacity(alloc, n)?;
+    for _ in 0..n {
+        tables.push_reserved(PageTable::new());
+    }
+    let places = SortedPlaces::new(numbers);
+    Ok(PhysMemory { places, tables })
 }
 
 impl Index<FramePlace> for PhysMemory {
@@ -155,7 +210,8 @@ impl Index<FramePlace> for PhysMemory {
     ghost index_gives = { λ memory place table. map.get memory place ≡ Some table };
 
     fn index(&self, place: FramePlace) -> &PageTable {
-        &self.tables[place.number() as usize]
+        let index = self.places.index_there(place.number());
+        &self.tables[index]
     }
 }
 
@@ -165,8 +221,8 @@ impl IndexMut<FramePlace> for PhysMemory {
         ensures* writes_back { sem 𝓛 (LendsTableAt self.entry place result) }
         ensures value { map.get self.old place ≡ Some result.now }
     {
-        let number = place.number() as usize;
-        &mut self.tables[number]
+        let index = self.places.index_there(place.number());
+        &mut self.tables[index]
     }
 }
 

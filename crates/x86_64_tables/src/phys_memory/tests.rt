@@ -1,5 +1,6 @@
 //! Tests of walks, of hierarchies and of pools that fit them, over memories that are given as words.
 mod alike;
+mod places;
 mod recursive;
 
 use super::{

@@ -1,18 +1,19 @@
-use Rattle.std.proofs.Common.{◌≡◌, ◌∙◌, ap, length, Some}
+use Rattle.std.proofs.Common.{◌∙◌, ap, sym, Some}
 use Rattle.std.specs.FinMap as map
 use Rattle.std.specs.List.{slice_get}
-use Rattle.x86_64_tables.proofs.PlacesInOrder.{place_there, place_gone}
+use Rattle.x86_64_tables.proofs.PlacesInOrder.{keys-tables}
 use Rattle.x86_64_tables.proofs.phys_memory.PhysMemory.place_at.Goals as goal
 
-pub returns-then-n-len : goal.returns-then-n-len
-returns-then-n-len c =
-    let tables = c.self.inside.tables.items in
-    let size : c.len.result ≡ length tables = c.len.ensures ∙ c.self.inside.tables.ok.0 in
-    ap Some c.new.ensures ∙ place_there tables c.args.n (rw size at c.if-n-len.true)
+pub returns-in_err-number : goal.returns-in_err-number
+returns-in_err-number c =
+    let inside = c.self.inside in
+    c.from_residual.ensures ∙ sym c.in_err-number.was ∙ c.number_at.ensures
+    ∙ ap (λ ps. slice_get ps c.args.n) (sym (keys-tables inside.places inside.tables.items c.self.invariant.1 c.self.invariant.0))
     ∙ ap (λ m. slice_get (map.keys m) c.args.n) c.self.view_is
 
-pub returns-else-n-len : goal.returns-else-n-len
-returns-else-n-len c =
-    let tables = c.self.inside.tables.items in
-    let size : c.len.result ≡ length tables = c.len.ensures ∙ c.self.inside.tables.ok.0 in
-    place_gone tables c.args.n (rw size at c.if-n-len.false) ∙ ap (λ m. slice_get (map.keys m) c.args.n) c.self.view_is
+pub returns : goal.returns
+returns c =
+    let inside = c.self.inside in
+    ap Some c.new.ensures ∙ sym c.in_ok-number.was ∙ c.number_at.ensures
+    ∙ ap (λ ps. slice_get ps c.args.n) (sym (keys-tables inside.places inside.tables.items c.self.invariant.1 c.self.invariant.0))
+    ∙ ap (λ m. slice_get (map.keys m) c.args.n) c.self.view_is

@@ -1,9 +1,9 @@
-use Rattle.std.proofs.Common.{rules, ap₂, ◌⊎◌, ◌≡◌, ◌<◌, ◌≤◌, ◌-◌, ◌+◌, ◌∙◌, ℕ, true, false, None, Some, Option, option_map, inl, inr, sym, ap, arith}
+use Rattle.std.proofs.Common.{rules, ap₂, ◌⊎◌, ◌≡◌, ◌<◌, ◌-◌, ◌+◌, ◌∙◌, true, false, None, Some, option_map, inl, inr, ap, arith}
 use Rattle.x86_64_model.proofs.Lemmas.Entries.Words.{address_aligned}
-use Rattle.x86_64_model.specs.Entry.{address, huge, present}
-use Rattle.x86_64_model.specs.Memory.{Words, words_of}
+use Rattle.x86_64_model.specs.Entry.{huge, present}
+use Rattle.x86_64_model.specs.Memory.{words_of}
 use Rattle.x86_64_model.specs.Position.{index}
-use Rattle.x86_64_model.specs.PageWalk.{Walked, read, walk_on}
+use Rattle.x86_64_model.specs.PageWalk.{read, walk_on}
 use Rattle.x86_64_tables.specs.Walks.{walked_of, ends}
 use Rattle.x86_64_tables.proofs.WalkSteps.{on_none, on_absent, on_end, on_table}
 use Rattle.x86_64_tables.proofs.phys_memory.walk.walk_from.Goals as goal

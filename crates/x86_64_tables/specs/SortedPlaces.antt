@@ -1,0 +1,8 @@
+-- Places in the order of their numbers, and those at their front that have no gap between them.
+use Rattle.std.specs.Prelude.{◌≡◌, ℕ, ◌+◌, ◌^◌, ◌<◌, ◌≤◌, List, length, slice_index}
+
+-- the first `run` places are the numbers from `first` on
+pub record HasRun (places : List ℕ) (first run : ℕ) : Type 0 where
+  pub within : run ≤ length places
+  pub follow : (i : ℕ) → i < run → slice_index places i ≡ first + i
+  pub fits : first + run ≤ 2 ^ 64

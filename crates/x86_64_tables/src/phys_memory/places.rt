@@ -1,0 +1,125 @@
+//! Places in the order of their numbers, found by halving.
+ghost use Rattle.std.specs.Prelude.{◌≡◌, ◌↔◌, true, Some, IsSome, IfSome, slice_get, slice_index};
+ghost use Rattle.std.specs.List.{position};
+ghost use Rattle.std.specs.List.Sorted.{IsStrictlyIncreasing};
+ghost use Rattle.std.specs.Ordering.{nat_cmp, eq_by_cmp};
+ghost use Rattle.x86_64_tables.specs.SortedPlaces.{HasRun};
+
+use std::marker::Model;
+
+/// Holds the numbers of places, each below the next, seen as their list.
+///
+/// The first `run` of them follow one another without a gap from `first` on, so that each of these stands as many places
+/// from the front as its number is from `first`.
+#[derive(Drop)]
+pub(super) struct SortedPlaces {
+    numbers: Vec<u64>,
+    first: u64,
+    run: u64,
+}
+
+impl Model for SortedPlaces {
+    ghost use Rattle.std.specs.Prelude.{List, ℕ};
+    ghost use Rattle.std.specs.List.Sorted.{IsStrictlyIncreasing};
+    ghost use Rattle.x86_64_tables.specs.SortedPlaces.{HasRun};
+
+    ghost Value = { List ℕ };
+
+    ghost view = { λ places. places.numbers.items };
+
+    ghost invariant = { λ places. IsStrictlyIncreasing places.numbers.items
+        × HasRun places.numbers.items places.first places.run };
+}
+
+impl SortedPlaces {
+    /// Takes the numbers of the places.
+    pub(super) fn new(numbers: Vec<u64>) -> SortedPlaces
+        requires { IsStrictlyIncreasing numbers.items }
+        ensures { result ≡ numbers.items }
+    {
+        let run = run_of(&numbers);
+        let first = if run == 0 { 0 } else { numbers[0] };
+        SortedPlaces {
+            numbers,
+            first,
+            run,
+        }
+    }
+
+    /// Gives the `n`-th place, counted from 0, or `None` where there are no more than `n`.
+    pub(super) fn number_at(&self, n: usize) -> Option<u64>
+        ensures { result ≡ slice_get self.now n }
+    {
+        self.numbers.get(n).copied()
+    }
+
+    /// Gives how many places come before a place, or `None` where there is no place of this number.
+    ///
+    /// The first look is where the place would be if there were no gaps.
+    pub(super) fn index_of(&self, number: u64) -> Option<usize>
+        ensures { result ≡ position (eq_by_cmp nat_cmp number) self.now }
+    {
+        match self.index_in_run(number) {
+            Some(index) => Some(index),
+            None => self.search(number),
+        }
+    }
+
+    /// Gives how many places come before one that is there.
+    pub(super) fn index_there(&self, number: u64) -> usize
+        requires { IsSome (position (eq_by_cmp nat_cmp number) self.now) }
+        ensures { Some result ≡ position (eq_by_cmp nat_cmp number) self.now }
+    {
+        match self.index_in_run(number) {
+            Some(index) => index,
+            None => self.search(number).unwrap(),
+        }
+    }
+
+    /// Gives the same for a place among those at the front, which have no gap between them, else `None`.
+    fn index_in_run(&self, number: u64) -> Option<usize>
+        ensures { IfSome result (λ index. Some index ≡ position (eq_by_cmp nat_cmp number) self.now) }
+    {
+        let distance = number.wrapping_sub(self.first);
+        if distance < self.run {
+            Some(distance as usize)
+        } else {
+            None
+        }
+    }
+
+    /// Gives how many places come before a place by halving, or `None`. It is a function of its own, so that callers hold the
+    /// first look alone.
+    #[cold]
+    #[inline(never)]
+    fn search(&self, number: u64) -> Option<usize>
+        ensures { result ≡ position (eq_by_cmp nat_cmp number) self.now }
+    {
+        self.numbers.binary_search(&number).ok()
+    }
+}
+
+/// Tells whether each number is below the next.
+pub(super) fn is_increasing(numbers: &[u64]) -> bool
+    ensures { (result ≡ true) ↔ IsStrictlyIncreasing numbers.now }
+{
+    for i in 1..numbers.len() {
+        if numbers[i] <= numbers[i - 1] {
+            return false;
+        }
+    }
+    true
+}
+
+/// Counts the numbers at the front that have no gap between them.
+fn run_of(numbers: &[u64]) -> u64
+    requires { IsStrictlyIncreasing numbers.now }
+    ensures { HasRun numbers.now (slice_index numbers.now 0) result }
+{
+    for i in 1..numbers.len() {
+        if numbers[i] - numbers[i - 1] != 1 {
+            return i as u64;
+        }
+    }
+    numbers.len() as u64
+}
