@@ -20,7 +20,7 @@ pub use x86_64_page::range::Block;
 pub use x86_64_tables::frame_alloc::{FrameKeeper, FramePool, FrameStore, PoolRefusal};
 pub use x86_64_tables::mapper::{FlushItem, FlushRecorder, PageTables, Tables, parent_flags};
 pub use x86_64_tables::phys_memory::{
-    ActiveMemory, FramePlace, IdentityMapping, PhysMemory, ShiftMapping, Walked,
+    ActiveMemory, FramePlace, IdentityMapping, PhysMemory, PlacesRefusal, ShiftMapping, Walked,
     is_valid_hierarchy, is_valid_recursive, page_walk, pool_fits, pool_fits_recursive,
     tables_alike,
 };
