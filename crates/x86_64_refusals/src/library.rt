@@ -28,6 +28,10 @@ fn memories_and_pools_are_made_once_there_is_room(rt: HostRuntime) -> Result<(),
     assert_eq!(rt; PhysMemory::new(alloc, u64::MAX).err(), Some(AllocError));
     let memory = answer_at_last(&rt, alloc, || PhysMemory::new(alloc, 16))?;
     assert_eq!(rt; memory.len(), 16);
+    let sparse = answer_at_last(&rt, alloc, || {
+        PhysMemory::with_places(alloc, &[1, 2, 0x8_0000, 0x8_0001]).or(Err(AllocError))
+    })?;
+    assert_eq!(rt; sparse.len(), 4);
     assert_eq!(rt; FramePool::new(alloc, u64::MAX).err(), Some(AllocError));
     let mut pool = answer_at_last(&rt, alloc, || FramePool::new(alloc, 4096))?;
     assert_eq!(rt; pool.try_add(frame_at(0xfff_000)), Ok(()));

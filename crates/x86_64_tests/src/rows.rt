@@ -15,6 +15,7 @@ mod maps;
 mod pools;
 mod recursive;
 mod single;
+mod sparse;
 mod tokens;
 mod walks;
 mod windows;
