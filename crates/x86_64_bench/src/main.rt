@@ -1,9 +1,10 @@
 //! Measures maps, translations and unmaps of 4KiB or 2MiB pages, and the clean up of the tables that the unmaps left, by the
-//! mapper that finds tables by their frames and by the one that reaches them through the root's entry for itself.
+//! mapper that finds tables by their frames, also in a memory that lacks every second place, and by the one that reaches them
+//! through the root's entry for itself.
 //!
 //! Without arguments it does a small fixed run, and prints how often each operation was done. With `M contiguous` or
 //! `M scattered`, and a size of pages that is 4KiB where none is given, it does M pages in seven rounds by each mapper, and
-//! prints the time of each operation on standard error, with how many times as long it takes by the second mapper.
+//! prints the time of each operation on standard error, with how many times as long as by the first one it takes.
 #![tactic(auto)]
 
 mod report;
@@ -82,19 +83,31 @@ fn count<S: PageSize>(rt: &HostRuntime, access: Access) -> io::Result<bool> {
 
 /// Does all rounds with pages of a size by each mapper, and prints the time of each operation.
 fn compare<S: PageSize>(rt: &HostRuntime, workload: Workload) -> io::Result<ExitCode> {
-    let (Some(direct), Some(recursive)) = (
-        all_rounds::<S>(rt, Access::Direct, workload)?,
-        all_rounds::<S>(rt, Access::Recursive, workload)?,
-    ) else {
+    let Some(direct) = all_rounds::<S>(rt, Access::Direct, workload)? else {
         return Ok(ExitCode::from(2));
     };
-    for operation in Operation::ALL {
-        let alloc = rt.alloc();
-        let one = report_times(alloc, rt, Access::Direct, operation, &direct)?;
-        let other = report_times(alloc, rt, Access::Recursive, operation, &recursive)?;
-        report_ratio(rt, operation, one, other)?;
+    for access in [Access::Sparse, Access::Recursive] {
+        let Some(rounds) = all_rounds::<S>(rt, access, workload)? else {
+            return Ok(ExitCode::from(2));
+        };
+        for operation in Operation::ALL {
+            report_both(rt, operation, &direct, access, &rounds)?;
+        }
     }
     Ok(ExitCode::from(0))
+}
+
+/// Prints the time of an operation by the direct mapper and by another, and how many times as long it takes by this one.
+fn report_both(
+    rt: &HostRuntime,
+    operation: Operation,
+    direct: &[Round],
+    access: Access,
+    rounds: &[Round],
+) -> io::Result<()> {
+    let measure = report_times(rt.alloc(), rt, Access::Direct, operation, direct)?;
+    let time = report_times(rt.alloc(), rt, access, operation, rounds)?;
+    report_ratio(rt, access, operation, measure, time)
 }
 
 /// Does all rounds with pages of a size by a mapper.

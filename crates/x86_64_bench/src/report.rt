@@ -39,19 +39,17 @@ pub fn report_times(
     Ok(median)
 }
 
-/// Prints how many times as long as by the direct mapper an operation takes by the recursive one, by the medians in tenths of a
-/// nanosecond.
+/// Prints how many times as long as by the direct mapper an operation takes by another, by the medians in tenths of a nanosecond.
 pub fn report_ratio(
     out: &impl Eprint,
+    access: Access,
     operation: Operation,
     direct: u64,
-    recursive: u64,
+    time: u64,
 ) -> io::Result<()> {
-    let ratio = Tenths(recursive.saturating_mul(10) / direct.max(1));
-    eprintln!(out;
-        "{}: recursive takes {ratio} times as long as direct",
-        operation.name()
-    )
+    let ratio = Tenths(time.saturating_mul(10) / direct.max(1));
+    let (access, name) = (access.name(), operation.name());
+    eprintln!(out; "{name}: {access} takes {ratio} times as long as direct")
 }
 
 /// Gives the time of an operation in each round, in tenths of a nanosecond, the least first.

@@ -30,18 +30,31 @@ const RECURSIVE_INDEX: u16 = 511;
 pub enum Access {
     /// By the one that reaches tables by their frames.
     Direct,
+    /// By the same, in a memory that lacks every second place.
+    Sparse,
     /// By the one that reaches tables through the root's entry for itself.
     Recursive,
 }
 
 impl Access {
-    /// Both, the one that is the measure first.
-    pub const ALL: [Access; 2] = [Access::Direct, Access::Recursive];
+    /// All, the one that is the measure first.
+    pub const ALL: [Access; 3] = [Access::Direct, Access::Sparse, Access::Recursive];
+
+    /// Gives the numbers of so many places, from 1 on: all, or every second one.
+    fn places(self, alloc: Global, count: u64) -> Result<Vec<u64>, AllocError> {
+        let step = if self == Access::Sparse { 2 } else { 1 };
+        let mut places = Vec::new(alloc);
+        for k in 0..count {
+            places.push(k.wrapping_mul(step).wrapping_add(1))?;
+        }
+        Ok(places)
+    }
 
     /// Gives the name.
     pub fn name(self) -> &'static str {
         match self {
             Access::Direct => "direct",
+            Access::Sparse => "sparse",
             Access::Recursive => "recursive",
         }
     }
@@ -243,12 +256,17 @@ pub fn measure<S: PageSize>(
     access: Access,
     workload: Workload,
 ) -> io::Result<Option<Round>> {
-    let mut memory = PhysMemory::new(alloc, workload.places())?;
-    let mut pool = new_pool(alloc, workload.places())?;
+    let places = access.places(alloc, workload.places())?;
+    let Ok(mut memory) = PhysMemory::with_places(alloc, &places) else {
+        return Ok(None);
+    };
+    let mut pool = new_pool(alloc, &places)?;
     let order = workload.shuffled(alloc)?;
     let (memory, pool) = (&mut memory, &mut pool);
     match access {
-        Access::Direct => measure_direct::<S>(alloc, clock, memory, pool, workload, &order),
+        Access::Direct | Access::Sparse => {
+            measure_direct::<S>(alloc, clock, memory, pool, workload, &order)
+        }
         Access::Recursive => measure_recursive::<S>(alloc, clock, memory, pool, workload, &order),
     }
 }
@@ -332,12 +350,13 @@ fn frame_numbered(number: u64) -> PhysFrame<Size4KiB> {
     PhysFrame::containing_address(PhysAddr::new_truncate(number.wrapping_mul(4096)))
 }
 
-/// Makes a pool of the frames with numbers from 2 to `limit` - 1.
-fn new_pool(alloc: Global, limit: u64) -> Result<FramePool, AllocError> {
+/// Makes a pool of the frames at all places but the first.
+fn new_pool(alloc: Global, places: &[u64]) -> Result<FramePool, AllocError> {
+    let limit = places.last().copied().unwrap_or(0).saturating_add(1);
     let mut pool = FramePool::new(alloc, limit)?;
-    for number in 2..limit {
+    for number in places.iter().skip(1) {
         // None of these frames is refused: each is in range, and is added once.
-        let _added = pool.try_add(frame_numbered(number));
+        let _added = pool.try_add(frame_numbered(*number));
     }
     Ok(pool)
 }
