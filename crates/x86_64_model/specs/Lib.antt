@@ -29,5 +29,6 @@ pub mod MapperCalls
 pub mod Owned
 pub mod Conserved
 pub mod Arrivals
+pub mod Standing
 pub mod WalkDown
 pub mod Laws

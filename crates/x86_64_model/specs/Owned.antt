@@ -16,6 +16,7 @@ use Rattle.x86_64_model.specs.Path.{front_at, path_at}
 use Rattle.x86_64_model.specs.PathMap.{PathMap, table_at}
 use Rattle.x86_64_model.specs.Pool.{IsOwn, IsTable, Fits, IsGiving, given_back}
 use Rattle.x86_64_model.specs.Refusal.{Answer}
+use Rattle.x86_64_model.specs.Standing.{StandsAt}
 use Rattle.x86_64_model.specs.Translation.{Translated, translate}
 
 -- what no call changes, the memory now, and which memory was lent and what finds frames in it
@@ -141,6 +142,10 @@ named h call = 0
 abbrev pub ArrivesIn : {Lent : Type 0} → Hierarchy Lent → (size page frame flags : ℕ) → Type 0
 ArrivesIn h size page frame given =
     (offset : ℕ) → offset < size → walk h (page + offset) ≡ Some (record { address = frame + offset; write = writable given; user = user given })
+
+-- a page of a level stands: it is mapped to the frame as a `map_to` with these flags maps it
+abbrev pub Stands : {Lent : Type 0} → Hierarchy Lent → (level page frame flags : ℕ) → Type 0
+Stands h level page frame given = StandsAt h.layout.levels level (paths h) (path_of h level page) frame given
 
 -- ---- clean ups
 

@@ -6,6 +6,7 @@ pub mod maps;
 pub mod pairs;
 pub mod pools;
 pub mod positions;
+pub mod standing;
 pub mod steps;
 pub mod successors;
 pub mod validity;

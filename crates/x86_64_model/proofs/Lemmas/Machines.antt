@@ -12,6 +12,7 @@ pub mod Owners
 pub mod Refused
 pub mod RunWalks
 pub mod Spares
+pub mod Standing
 pub mod States
 pub mod Witness
 pub mod Writes

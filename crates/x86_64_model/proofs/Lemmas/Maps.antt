@@ -8,5 +8,6 @@ pub mod Leaves
 pub mod Mapped
 pub mod PageCalls
 pub mod Rights
+pub mod Standing
 pub mod Takes
 pub mod Trees

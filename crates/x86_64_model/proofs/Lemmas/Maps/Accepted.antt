@@ -2,9 +2,10 @@
 use Rattle.std.proofs.Common.{◌≡◌, ◌≢◌, ℕ, ◌&&◌, Bool, true, false, not, cond, List, [], ◌∷◌, bit_or, refl, sym, ap, ap₂, ◌∙◌, subst}
 use Rattle.std.specs.List.{AllByRecursion}
 use Rattle.std.proofs.lemmas.Nat.{or_comm}
-use Rattle.x86_64_model.specs.Entry.{IsParentFlags, has, used, huge, names_table}
+use Rattle.x86_64_model.specs.Entry.{IsParentFlags, has, used, huge}
 use Rattle.x86_64_model.specs.PathMap.{PathMap, entry, put}
 use Rattle.x86_64_model.specs.MapRule.{AfterMap, map_rule}
+pub use Rattle.x86_64_model.specs.Standing.{IsParent}
 use Rattle.x86_64_model.specs.Refusal.{Done, Refused, ParentEntryHugePage, PageAlreadyMapped, FrameAllocationFailed}
 use Rattle.x86_64_model.proofs.Lemmas.Entries.Bits.{has_or}
 use Rattle.x86_64_model.proofs.Lemmas.Paths.Puts.{entry-put_same, entry-put_other}
@@ -51,11 +52,6 @@ module _ (more added : ℕ) (q : List ℕ) (e frame : ℕ) where
       (λ M s p ps d u h m ih a. ih a.1 ∙ entry-put_other M p _ r a.0)
       (λ M p ps u a. refl)
       (λ M f fs p ps d u m ih a. ih a.1 ∙ entry-put_other M p _ r a.0)
-
--- the parent's entry names a table, and has each of the parent flags
-pub record IsParent (more e : ℕ) : Type 0 where
-  pub is_table : names_table e ≡ true
-  pub has_flags : (flag : ℕ) → has more flag ≡ true → has e flag ≡ true
 
 turned : (p : List ℕ) (ps : List (List ℕ)) → AllByRecursion (λ r. r ≢ p) ps → AllByRecursion (λ r. p ≢ r) ps
 turned p [] h = tt

@@ -42,6 +42,31 @@ parents_outside window N i (j ∷ c) h = (
   each_parent (λ r. entry_at window N r ≡ entry N r) (i ∷ []) (λ k s. entry_outside window N i (k ∷ s) (first_alone window i (j ∷ c) (k ∷ s) h)) (j ∷ c),
 )
 
+-- where parents that have the parent flags lead to the entry of a page, the walk arrives in the page with just the rights that were asked for
+module _ (L level : ℕ) (window : Option Window) (U : Words) (root : ℕ) (N : PathMap) (more added : ℕ) (q : List ℕ) (frame given : ℕ) (asks : Asks L level more added q frame given) where
+  above : Above (leaf_entry L q frame given) (writable more) (user more)
+  above = (λ h. asks.grants_write (sym (writable_by L level more added q frame given asks (is_small L q)) ∙ h), λ h. asks.grants_user (sym (user_by L level more added q frame given asks (is_small L q)) ∙ h))
+
+  pub parents_lead : begins_with window q ≡ false → IsValidFor L window U root N → entry N q ≡ leaf_entry L q frame given → AllByRecursion (λ p. IsParent more (entry N p)) (parents q)
+      → (p : ℕ) → take (length q) (page_path L p) ≡ q → page_walk L U root p ≡ Some (record { address = frame + p % span level; write = writable given; user = user given })
+  parents_lead outside valid is below p front =
+      page_walk_is L U root (entry_at window N) (reads L U root N window valid) p
+      ∙ by L q front outside asks.page.nonempty asks.page.at_level is below
+      ∙ ap₂ (λ w u. Some (record { address = frame + p % span level; write = w; user = u })) (writable_by L level more added q frame given asks (is_small L q)) (user_by L level more added q frame given asks (is_small L q))
+    where
+      by : (n : ℕ) (r : List ℕ) → take (length r) (page_path n p) ≡ r → begins_with window r ≡ false → 1 ≤ length r → length r + level ≡ n + 1
+          → entry N r ≡ leaf_entry L q frame given → AllByRecursion (λ p. IsParent more (entry N p)) (parents r)
+          → walked (entry_at window N) p n [] true true ≡ arrived (frame + p % span level) (leaf_entry L q frame given)
+      by n [] f o l s is ps = absurd (omega (arith, l))
+      by zero (i ∷ c) f o l s is ps = absurd (omega (arith, s, asks.page.low))
+      by (suc n) (i ∷ c) f o l s is ps =
+          walked_to more p (leaf_entry L q frame given) frame (entry_at window N) asks.parents_present above (length c) n level [] true true (omega (arith, s)) asks.page.low (λ h. refl, λ h. refl)
+          (subst (AllByRecursion (λ r. IsParent more (entry_at window N r))) (sym (map-id _) ∙ ap (λ r. map (λ s. s) (parents r)) (sym f))
+          (all_both (λ r. IsParent more (entry N r)) (λ r. entry_at window N r ≡ entry N r) (λ r. IsParent more (entry_at window N r))
+          (λ r parent same. subst (IsParent more) (sym same) parent) (parents (i ∷ c)) ps (parents_outside window N i c o)))
+          (ap (entry_at window N) f ∙ entry_outside window N i c o ∙ is)
+          (leaf_is L level more added q frame given asks (is_small L q) refl)
+
 module _ (L level : ℕ) (window : Option Window) (T U : Words) (root : ℕ) (M : PathMap) (supply : List ℕ) (more added : ℕ) (q : List ℕ) (frame given : ℕ) where
   abbrev pub after : AfterMap
   after = map_call L M supply more added q frame given
@@ -49,30 +74,10 @@ module _ (L level : ℕ) (window : Option Window) (T U : Words) (root : ℕ) (M 
   pub map_arrives : Asks L level more added q frame given → begins_with window q ≡ false → AllByRecursion IsFrame supply
       → IsValidFor L window T root M → IsValidFor L window U root after.paths → after.answer ≡ Done frame
       → (p : ℕ) → take (length q) (page_path L p) ≡ q → page_walk L U root p ≡ Some (record { address = frame + p % span level; write = writable given; user = user given })
-  map_arrives asks outside frames before valid accepted p front =
-      page_walk_is L U root (entry_at window after.paths) (reads L U root after.paths window valid) p
-      ∙ by L q front outside asks.page.nonempty asks.page.at_level made.0 made.1
-      ∙ ap₂ (λ w u. Some (record { address = frame + p % span level; write = w; user = u })) (writable_by L level more added q frame given asks (is_small L q)) (user_by L level more added q frame given asks (is_small L q))
-    where
-      made : (entry after.paths q ≡ leaf_entry L q frame given) × AllByRecursion (λ p. IsParent more (entry after.paths p)) (parents q)
-      made = map_makes more added q (leaf_entry L q frame given) frame asks.parent_flags asks.added_flags M supply (parents q)
-          (page_descends L root M (tree_of_holds L (outside_window window root T) root M before.valid.holds) q) frames accepted
-
-      above : Above (leaf_entry L q frame given) (writable more) (user more)
-      above = (λ h. asks.grants_write (sym (writable_by L level more added q frame given asks (is_small L q)) ∙ h), λ h. asks.grants_user (sym (user_by L level more added q frame given asks (is_small L q)) ∙ h))
-
-      by : (n : ℕ) (r : List ℕ) → take (length r) (page_path n p) ≡ r → begins_with window r ≡ false → 1 ≤ length r → length r + level ≡ n + 1
-          → entry after.paths r ≡ leaf_entry L q frame given → AllByRecursion (λ p. IsParent more (entry after.paths p)) (parents r)
-          → walked (entry_at window after.paths) p n [] true true ≡ arrived (frame + p % span level) (leaf_entry L q frame given)
-      by n [] f o l s is ps = absurd (omega (arith, l))
-      by zero (i ∷ c) f o l s is ps = absurd (omega (arith, s, asks.page.low))
-      by (suc n) (i ∷ c) f o l s is ps =
-          walked_to more p (leaf_entry L q frame given) frame (entry_at window after.paths) asks.parents_present above (length c) n level [] true true (omega (arith, s)) asks.page.low (λ h. refl, λ h. refl)
-          (subst (AllByRecursion (λ r. IsParent more (entry_at window after.paths r))) (sym (map-id _) ∙ ap (λ r. map (λ s. s) (parents r)) (sym f))
-          (all_both (λ r. IsParent more (entry after.paths r)) (λ r. entry_at window after.paths r ≡ entry after.paths r) (λ r. IsParent more (entry_at window after.paths r))
-          (λ r parent same. subst (IsParent more) (sym same) parent) (parents (i ∷ c)) ps (parents_outside window after.paths i c o)))
-          (ap (entry_at window after.paths) f ∙ entry_outside window after.paths i c o ∙ is)
-          (leaf_is L level more added q frame given asks (is_small L q) refl)
+  map_arrives asks outside frames before valid accepted =
+      let made = map_makes more added q (leaf_entry L q frame given) frame asks.parent_flags asks.added_flags M supply (parents q)
+      (page_descends L root M (tree_of_holds L (outside_window window root T) root M before.valid.holds) q) frames accepted in
+      parents_lead L level window U root after.paths more added q frame given asks outside valid made.0 made.1
 
 -- ---- `map_to`: the parent flags are those of PRESENT, WRITABLE, USER_ACCESSIBLE that are given
 

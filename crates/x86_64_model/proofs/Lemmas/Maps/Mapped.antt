@@ -41,7 +41,7 @@ pub walks_after : (l : Layout) (m : Memory) (supply : List ℕ) (page : List ℕ
 walks_after l m supply page frame given more answer n rest marks before outcome after =
     map_call_keeps_walks l.levels l.window (words l m) (words l n) l.root (paths l m) supply more l.added_flags page frame given marks (map_of l m supply page frame given more answer n rest before outcome after)
 
-supply_frames : (l : Layout) (m : Memory) (supply : List ℕ) → IsReady l m supply → AllByRecursion IsFrame supply
+pub supply_frames : (l : Layout) (m : Memory) (supply : List ℕ) → IsReady l m supply → AllByRecursion IsFrame supply
 supply_frames l m supply ready = all_in supply (λ f i. record { aligned = eqb-true (address f) f (ready.are_frames f i); not_zero = λ z. ready.not_zero (subst (In supply) z i) })
 
 -- where a page at a multiple of its size was mapped with PRESENT, the processor arrives in all of it, with just the rights that were asked for
@@ -61,7 +61,7 @@ at_multiple l level k frame given m supply n rest adds ready asks outside mapped
     })
 
 -- what a call asks for that maps a page at a multiple of its size
-asks_for : (L level start frame given : ℕ) → 1 ≤ level → level ≤ 3 → level ≤ L → present given ≡ true → address given ≡ 0 → address frame ≡ frame → frame % span level ≡ 0
+pub asks_for : (L level start frame given : ℕ) → 1 ≤ level → level ≤ 3 → level ≤ L → present given ≡ true → address given ≡ 0 → address frame ≡ frame → frame % span level ≡ 0
     → Asks L level (path_at L level start) frame given
 asks_for L level start frame given low high levels is_present no_address is_frame aligned =
     let long : length (path_at L level start) ≡ L + 1 - level = length_taken start (L + 1 - level) L (omega (arith, low)) in

@@ -1,7 +1,7 @@
 -- The addresses of a page have one path.
-use Rattle.std.proofs.Common.{zero, suc, ◌≡◌, ◌<◌, ◌≤◌, ◌+◌, ◌-◌, ◌*◌, ◌/◌, ◌%◌, ◌^◌, ℕ, ◌∷◌, length, take, Some, refl, sym, ap, ap₂, ◌∙◌, arith, pow_pos}
+use Rattle.std.proofs.Common.{zero, suc, ◌≡◌, ◌<◌, ◌≤◌, ◌+◌, ◌-◌, ◌*◌, ◌/◌, ◌%◌, ◌^◌, ℕ, ◌∷◌, length, take, Some, refl, sym, ap, ap₂, ◌∙◌, subst, arith, pow_pos}
 use Rattle.std.proofs.lemmas.Nat.{pow-add, div-mul-add}
-use Rattle.std.proofs.Math.Nat.{div-div-eq-div-mul, mul-add-mod_self_right, mul-div_left, mod-eq_of_lt}
+use Rattle.std.proofs.Math.Nat.{div-add-mod, div-div-eq-div-mul, mul_comm, mul-add-mod_self_right, mul-div_left, mod-eq_of_lt}
 use Rattle.x86_64_model.specs.Entry.{writable, user}
 use Rattle.x86_64_model.specs.Position.{index, span, page_path}
 use Rattle.x86_64_model.specs.Path.{path_at}
@@ -34,11 +34,23 @@ front_same level zero m n o low fits l = refl
 front_same level (suc k) zero n o low fits l = refl
 front_same level (suc k) (suc m) n o low fits l = ap₂ (λ i r. i ∷ r) (index_same level (suc m) n o low (omega arith) l) (front_same level k m n o low (omega arith) l)
 
+-- the path of each of a page's positions begins with the page's own path
+pub front_in_page : (L level n o : ℕ) → 1 ≤ level → level ≤ L → o < span level
+    → take (length (path_at L level (n * span level))) (page_path L (n * span level + o)) ≡ path_at L level (n * span level)
+front_in_page L level n o low levels within =
+    let long : length (path_at L level (n * span level)) ≡ L + 1 - level = length_taken (n * span level) (L + 1 - level) L (omega (arith, low)) in
+    ap (λ k. take k (page_path L (n * span level + o))) long ∙ front_same level (L + 1 - level) L n o low (omega (arith, levels)) within
+
 pub map_to_arrives_in_page : MapArrivesInPage
 map_to_arrives_in_page L level window T U root M supply added n frame given is offset within =
     map_to_arrives L level window T U root M supply added (path_at L level (n * span level)) frame given is (n * span level + offset)
-    (ap (λ k. take k (page_path L (n * span level + offset))) long ∙ front_same level (L + 1 - level) L n offset is.asks.low (omega (arith, is.asks.at_level)) within)
+    (front_in_page L level n offset is.asks.low (let long = is.asks.at_level in let some = is.asks.nonempty in omega (arith, long, some)) within)
     ∙ ap (λ o. Some (record { address = frame + o; write = writable given; user = user given })) (mul-add-mod_self_right n (span level) offset ∙ mod-eq_of_lt within)
-  where
-    long : length (path_at L level (n * span level)) ≡ L + 1 - level
-    long = length_taken (n * span level) (L + 1 - level) L (omega (arith, is.asks.low))
+
+-- the same of a page that starts at a multiple of its size
+pub front_of_page : (L level page o : ℕ) → 1 ≤ level → level ≤ L → page % span level ≡ 0 → o < span level
+    → (take (length (path_at L level page)) (page_path L (page + o)) ≡ path_at L level page) × ((page + o) % span level ≡ o)
+front_of_page L level page o low levels multiple within =
+    let number : page / span level * span level ≡ page = mul_comm (page / span level) (span level) ∙ (let all = div-add-mod page (span level) in omega (arith, all, multiple)) in
+    subst (λ page. (take (length (path_at L level page)) (page_path L (page + o)) ≡ path_at L level page) × ((page + o) % span level ≡ o)) number
+    (front_in_page L level (page / span level) o low levels within, mul-add-mod_self_right (page / span level) (span level) o ∙ mod-eq_of_lt within)
