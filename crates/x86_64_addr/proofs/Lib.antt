@@ -1,3 +1,5 @@
 mod Alignments
 mod AlignedPositions
+mod Halves
+mod Indices
 pub mod PowersOfTwo

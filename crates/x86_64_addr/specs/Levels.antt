@@ -1,5 +1,5 @@
 -- The levels of page tables as numbers.
-use Rattle.std.specs.Prelude.{ℕ}
+use Rattle.std.specs.Prelude.{◌≡◌, ◌⊎◌, ℕ}
 use Rattle.x86_64_addr.specs.declared.index.PageTableLevel.{PageTableLevel}
 use Rattle.x86_64_addr.specs.declared.index.PageTableLevel.TheVariants.{One, Two, Three, Four}
 
@@ -9,3 +9,7 @@ level_number One = 1
 level_number Two = 2
 level_number Three = 3
 level_number Four = 4
+
+-- tables have four levels, or five
+abbrev pub IsLevelCount : (levels : ℕ) → Type 0
+IsLevelCount levels = (levels ≡ 4) ⊎ (levels ≡ 5)

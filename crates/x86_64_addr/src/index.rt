@@ -1,11 +1,15 @@
 //! Indices of page tables, offsets in pages, and levels of page tables.
 //!
 //! Intel SDM vol. 3A, "4-Level Paging and 5-Level Paging"; AMD APM vol. 2, "Long-Mode Page Translation".
-ghost use Rattle.std.specs.Prelude.{◌≡◌, ℕ, ◌+◌, ◌-◌, ◌*◌, ◌%◌, ◌^◌, ◌<◌, ◌↔◌, IsSome, IfSome};
+ghost use Rattle.std.specs.Prelude.{◌≡◌, ℕ, ◌+◌, ◌-◌, ◌*◌, ◌%◌, ◌^◌, ◌<◌, ◌≤◌, ◌↔◌, IsSome, IfSome};
 ghost use Rattle.x86_64_addr.specs.Levels.{level_number};
 ghost use Rattle.x86_64_model.specs.Successor.{forward, backward, steps_between};
 
 use std::marker::Model;
+
+mod level57;
+
+pub use level57::PageTableLevel57;
 
 /// An index of an entry in a page table, a number below 512.
 #[derive(Debug, Clone, Copy, PartialEq, Eq, PartialOrd, Ord, Hash)]
@@ -238,12 +242,7 @@ impl PageTableLevel {
     pub fn table_address_space_alignment(self) -> u64
         ensures { result ≡ 2 ^ (12 + 9 * level_number self) }
     {
-        match self {
-            PageTableLevel::One => 1 << 21,
-            PageTableLevel::Two => 1 << 30,
-            PageTableLevel::Three => 1 << 39,
-            PageTableLevel::Four => 1 << 48,
-        }
+        table_span(self.number())
     }
 
     /// Gives the alignment of the addresses that an entry of this level describes, which is also how many bytes it describes.
@@ -252,6 +251,21 @@ impl PageTableLevel {
     pub fn entry_address_space_alignment(self) -> u64
         ensures { result ≡ 2 ^ (12 + 9 * (level_number self - 1)) }
     {
-        self.table_address_space_alignment() / 512
+        table_span(self.number() - 1)
     }
+    /// Gives the number, from one to four.
+    pub(crate) fn number(self) -> u64
+        ensures value { result ≡ level_number self }
+        ensures one_to_four { (1 ≤ result) × (result ≤ 4) }
+    {
+        self as u64
+    }
+}
+
+/// Gives how many bytes a table of a level describes, which must be five at most; of level zero, how many a page does.
+fn table_span(level: u64) -> u64
+    requires { level ≤ 5 }
+    ensures { result ≡ 2 ^ (12 + 9 * level) }
+{
+    1 << (12 + 9 * level)
 }

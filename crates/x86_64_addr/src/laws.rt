@@ -6,10 +6,11 @@ ghost use Rattle.std.specs.Prelude.{◌≡◌, ◌==◌, Some, pos};
 ghost use Rattle.std.specs.Ordering.{nat_cmp};
 ghost use Rattle.std.specs.Hash as fed;
 ghost use Rattle.x86_64_addr.specs.Levels.{level_number};
+ghost use Rattle.x86_64_addr.specs.Levels57.{level_number_57};
 ghost use Rattle.x86_64_model.specs.Position.{raw};
 
-use crate::addr::{PhysAddr, VirtAddr};
-use crate::index::{PageOffset, PageTableIndex, PageTableLevel};
+use crate::addr::{PhysAddr, VirtAddr, VirtAddr57};
+use crate::index::{PageOffset, PageTableIndex, PageTableLevel, PageTableLevel57};
 use std::hash::Hash;
 
 /// Virtual addresses are equal and ordered as their positions are, and hashed by their raw values.
@@ -54,4 +55,23 @@ pub fn levels_are_ordered_by_number(left: PageTableLevel, right: PageTableLevel)
     ensures partial_order { ⟦<PageTableLevel as PartialOrd>⟧.partial_cmp left right
         ≡ Some (nat_cmp (level_number left) (level_number right)) }
     ensures hash { ⟦<PageTableLevel as Hash>⟧.hash_input left ≡ fed.isize (pos (level_number left)) }
+{}
+
+/// Virtual addresses of 57 bits are equal and ordered as their positions are, and hashed by their raw values.
+pub fn virtual_addresses_57_are_ordered_by_position(left: VirtAddr57, right: VirtAddr57)
+    ensures equality { ⟦<VirtAddr57 as PartialEq>⟧.eq left right ≡ (left == right) }
+    ensures order { ⟦<VirtAddr57 as Ord>⟧.cmp left right ≡ nat_cmp left right }
+    ensures partial_order { ⟦<VirtAddr57 as PartialOrd>⟧.partial_cmp left right ≡ Some (nat_cmp left right) }
+    ensures hash { ⟦<VirtAddr57 as Hash>⟧.hash_input left ≡ fed.u64 (raw 5 left) }
+{}
+
+/// Levels where there are five are equal, ordered and hashed as their numbers are.
+pub fn levels_57_are_ordered_by_number(left: PageTableLevel57, right: PageTableLevel57)
+    ensures equality { ⟦<PageTableLevel57 as PartialEq>⟧.eq left right
+        ≡ (level_number_57 left == level_number_57 right) }
+    ensures order { ⟦<PageTableLevel57 as Ord>⟧.cmp left right
+        ≡ nat_cmp (level_number_57 left) (level_number_57 right) }
+    ensures partial_order { ⟦<PageTableLevel57 as PartialOrd>⟧.partial_cmp left right
+        ≡ Some (nat_cmp (level_number_57 left) (level_number_57 right)) }
+    ensures hash { ⟦<PageTableLevel57 as Hash>⟧.hash_input left ≡ fed.isize (pos (level_number_57 left)) }
 {}

@@ -7,6 +7,7 @@ use crate::index::{PageOffset, PageTableIndex, PageTableLevel};
 
 mod align;
 mod derives;
+mod five_levels;
 mod levels;
 mod operators;
 mod steps;

@@ -4,7 +4,7 @@ ghost use Rattle.std.specs.Int.{is_power_of_two, next_multiple_of};
 ghost use Rattle.x86_64_model.specs.Position.{raw};
 ghost use Rattle.x86_64_model.specs.Alignment.{IsGreatestMultiple, IsLeastMultiple};
 
-use crate::addr::{PhysAddr, VirtAddr};
+use crate::addr::{PhysAddr, VirtAddr, positions};
 
 /// Gives the greatest multiple of `align` that isn't above `addr`.
 ///
@@ -40,7 +40,7 @@ pub fn align_up(addr: u64, align: u64) -> u64
 ///
 /// `align` must be a power of two.
 #[tactic(auto, using(crate::proofs::Alignments::masked, crate::proofs::Alignments::positive, crate::proofs::Alignments::remainder_below))]
-fn remainder(addr: u64, align: u64) -> u64
+pub(super) fn remainder(addr: u64, align: u64) -> u64
     requires { IsTrue (is_power_of_two align) }
     ensures value { result ≡ addr % align }
     ensures below { addr % align < align }
@@ -59,7 +59,7 @@ impl VirtAddr {
         ensures value { result ≡ next_multiple_of (raw 4 self) align % 2 ^ 48 }
         ensures position { result ≡ next_multiple_of self align % 2 ^ 48 }
     {
-        VirtAddr::new_truncate(align_up(self.as_u64(), align))
+        positions::aligned_up(self, align)
     }
 
     /// Gives the address at the position of the raw value aligned down by [`align_down`], which is the position aligned down.
@@ -70,7 +70,7 @@ impl VirtAddr {
         ensures value { result ≡ (raw 4 self - raw 4 self % align) % 2 ^ 48 }
         ensures position { result ≡ self - self % align }
     {
-        VirtAddr::new_truncate(align_down(self.as_u64(), align))
+        positions::aligned_down(self, align)
     }
 
     /// Tells whether the position is a multiple of `align`. From 2^48 on that is the address 0 alone.
@@ -80,7 +80,7 @@ impl VirtAddr {
         requires { IsTrue (is_power_of_two align) }
         ensures { IsTrue result ↔ (self % align ≡ 0) }
     {
-        remainder(self.position(), align) == 0
+        positions::is_aligned(self, align)
     }
 }
 

@@ -3,6 +3,7 @@ ghost use Rattle.std.specs.Prelude.{◌≡◌, ℕ, ◌%◌, ◌^◌, ◌<◌, �
 ghost use Rattle.x86_64_model.specs.Position.{raw, IsCanonical, index};
 ghost use Rattle.x86_64_addr.specs.Levels.{level_number};
 
+use crate::addr::positions::{self, CanonicalAddress};
 use crate::index::{PageOffset, PageTableIndex, PageTableLevel};
 use std::fmt::{Debug, Formatter, Result as FmtResult, Write};
 use std::marker::Model;
@@ -27,6 +28,31 @@ impl Model for VirtAddr {
     ghost inverse = { λ p. record { 0 = raw 4 p } };
 
     ghost inverse_ok = { λ a h. ap (λ n. record { 0 = n }) h };
+}
+
+impl CanonicalAddress for VirtAddr {
+    ghost use Rattle.std.proofs.Common.{inl, refl};
+    ghost use Rattle.std.specs.Prelude.{◌^◌};
+
+    ghost LEVELS = { 4 };
+
+    ghost POSITION_COUNT = { 0x1_0000_0000_0000 };
+
+    ghost position = { λ address. address };
+
+    const POSITION_COUNT: u64 = 0x1_0000_0000_0000;
+
+    fn of_raw(value: u64) -> Self {
+        VirtAddr(value)
+    }
+
+    fn to_raw(self) -> u64 {
+        self.0
+    }
+
+    ghost known_levels = { inl refl };
+
+    ghost known_count = { refl };
 }
 
 /// A value was not a canonical virtual address: bits 48 to 63 were not copies of bit 47.
@@ -61,24 +87,14 @@ impl VirtAddr {
         ensures value { IfOk result (λ a. raw 4 a ≡ addr) }
         ensures error { IfErr result (λ e. e.0 ≡ addr) }
     {
-        let address = Self::new_truncate(addr);
-        if address.as_u64() == addr {
-            Ok(address)
-        } else {
-            Err(VirtAddrNotValid(addr))
-        }
+        positions::canonical(addr).ok_or(VirtAddrNotValid(addr))
     }
 
     /// Makes the address whose position is a value modulo 2^48: bit 47 is copied to the bits above it.
     pub fn new_truncate(addr: u64) -> VirtAddr
         ensures { result ≡ addr % 2 ^ 48 }
     {
-        let position = addr & 0x0000_ffff_ffff_ffff;
-        if position < 0x0000_8000_0000_0000 {
-            VirtAddr(position)
-        } else {
-            VirtAddr(position | 0xffff_0000_0000_0000)
-        }
+        positions::truncated(addr)
     }
 
     /// Makes an address of its raw value, which must be canonical, as [`new`](Self::new) does.
@@ -116,51 +132,42 @@ impl VirtAddr {
     pub fn page_offset(self) -> PageOffset
         ensures { result ≡ self % 4096 }
     {
-        PageOffset::new((self.as_u64() & 0xfff) as u16)
+        positions::page_offset(self)
     }
 
     /// Gives the index of level one, bits 12 to 20.
-    #[tactic(auto, unfolding(x86_64_model::specs::Position::index))]
     pub fn p1_index(self) -> PageTableIndex
         ensures { result ≡ index 1 self }
     {
-        PageTableIndex::new(((self.as_u64() >> 12) & 511) as u16)
+        positions::table_index(self, 1)
     }
 
     /// Gives the index of level two, bits 21 to 29.
-    #[tactic(auto, unfolding(x86_64_model::specs::Position::index))]
     pub fn p2_index(self) -> PageTableIndex
         ensures { result ≡ index 2 self }
     {
-        PageTableIndex::new(((self.as_u64() >> 21) & 511) as u16)
+        positions::table_index(self, 2)
     }
 
     /// Gives the index of level three, bits 30 to 38.
-    #[tactic(auto, unfolding(x86_64_model::specs::Position::index))]
     pub fn p3_index(self) -> PageTableIndex
         ensures { result ≡ index 3 self }
     {
-        PageTableIndex::new(((self.as_u64() >> 30) & 511) as u16)
+        positions::table_index(self, 3)
     }
 
     /// Gives the index of level four, bits 39 to 47.
-    #[tactic(auto, unfolding(x86_64_model::specs::Position::index))]
     pub fn p4_index(self) -> PageTableIndex
         ensures { result ≡ index 4 self }
     {
-        PageTableIndex::new(((self.as_u64() >> 39) & 511) as u16)
+        positions::table_index(self, 4)
     }
 
     /// Gives the index of a level.
     pub fn page_table_index(self, level: PageTableLevel) -> PageTableIndex
         ensures { result ≡ index (level_number level) self }
     {
-        match level {
-            PageTableLevel::One => self.p1_index(),
-            PageTableLevel::Two => self.p2_index(),
-            PageTableLevel::Three => self.p3_index(),
-            PageTableLevel::Four => self.p4_index(),
-        }
+        positions::table_index(self, level.number())
     }
 }
 

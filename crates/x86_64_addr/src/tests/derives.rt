@@ -1,6 +1,6 @@
 //! What addresses, indices, offsets and levels have in common: they are copied, ordered and hashed.
-use crate::addr::{PhysAddr, VirtAddr};
-use crate::index::{PageOffset, PageTableIndex, PageTableLevel};
+use crate::addr::{PhysAddr, VirtAddr, VirtAddr57};
+use crate::index::{PageOffset, PageTableIndex, PageTableLevel, PageTableLevel57};
 use std::cmp::Ordering;
 use std::fmt::Debug;
 use std::hash::{BuildHasher, BuildHasherDefault, DefaultHasher, Hash};
@@ -26,4 +26,7 @@ fn values_are_ordered_and_hashed(rt: HostRuntime) {
     check_derives(&rt, PageOffset::new(2), PageOffset::new(4095));
     check_derives(&rt, PageTableLevel::One, PageTableLevel::Two);
     check_derives(&rt, PageTableLevel::Three, PageTableLevel::Four);
+    let upper_half = VirtAddr57::new(0xff00_0000_0000_0000);
+    check_derives(&rt, VirtAddr57::new(0x00ff_ffff_ffff_ffff), upper_half);
+    check_derives(&rt, PageTableLevel57::Four, PageTableLevel57::Five);
 }

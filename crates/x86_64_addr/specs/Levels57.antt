@@ -1,0 +1,12 @@
+-- The levels of page tables as numbers, where there are five.
+use Rattle.std.specs.Prelude.{ℕ}
+use Rattle.x86_64_addr.specs.declared.index.level57.PageTableLevel57.{PageTableLevel57}
+use Rattle.x86_64_addr.specs.declared.index.level57.PageTableLevel57.TheVariants.{One, Two, Three, Four, Five}
+
+-- the number of a level, counted from the tables whose entries map 4KiB pages
+abbrev pub level_number_57 : PageTableLevel57 → ℕ
+level_number_57 One = 1
+level_number_57 Two = 2
+level_number_57 Three = 3
+level_number_57 Four = 4
+level_number_57 Five = 5
