@@ -78,7 +78,8 @@ positive z k = by_size (λ z. 0 < z) (omega arith) (omega arith) (omega arith) z
 -- a block below the limit ends at the limit or below it
 below_limit : (size limit place : ℕ) → IsBlockSize size → IsLimit limit → place % size ≡ 0 → place < limit → place + size ≤ limit
 below_limit z m p k (inl h) = rw h (by_size (λ z. p % z ≡ 0 → p < 0x1_0000_0000_0000 → p + z ≤ 0x1_0000_0000_0000) (λ a l. omega arith) (λ a l. omega arith) (λ a l. omega arith) z k)
-below_limit z m p k (inr h) = rw h (by_size (λ z. p % z ≡ 0 → p < 0x10_0000_0000_0000 → p + z ≤ 0x10_0000_0000_0000) (λ a l. omega arith) (λ a l. omega arith) (λ a l. omega arith) z k)
+below_limit z m p k (inr (inl h)) = rw h (by_size (λ z. p % z ≡ 0 → p < 0x10_0000_0000_0000 → p + z ≤ 0x10_0000_0000_0000) (λ a l. omega arith) (λ a l. omega arith) (λ a l. omega arith) z k)
+below_limit z m p k (inr (inr h)) = rw h (by_size (λ z. p % z ≡ 0 → p < 0x200_0000_0000_0000 → p + z ≤ 0x200_0000_0000_0000) (λ a l. omega arith) (λ a l. omega arith) (λ a l. omega arith) z k)
 
 -- ---- lists between two places
 

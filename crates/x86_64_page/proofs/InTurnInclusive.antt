@@ -11,7 +11,8 @@ use Rattle.x86_64_page.specs.TakenInTurnInclusive.{AreTakenInTurnInclusive}
 -- two blocks have room below the limit
 pub two_fit : (size limit : ℕ) → IsBlockSize size → IsLimit limit → size + size ≤ limit
 two_fit z m k (inl h) = rw h (by_size (λ z. z + z ≤ 0x1_0000_0000_0000) (omega arith) (omega arith) (omega arith) z k)
-two_fit z m k (inr h) = rw h (by_size (λ z. z + z ≤ 0x10_0000_0000_0000) (omega arith) (omega arith) (omega arith) z k)
+two_fit z m k (inr (inl h)) = rw h (by_size (λ z. z + z ≤ 0x10_0000_0000_0000) (omega arith) (omega arith) (omega arith) z k)
+two_fit z m k (inr (inr h)) = rw h (by_size (λ z. z + z ≤ 0x200_0000_0000_0000) (omega arith) (omega arith) (omega arith) z k)
 
 -- where blocks that were taken lead to the limit, the end lies there too
 reaches : (size limit start end n count : ℕ) → IsBlockSize size → start % size ≡ 0 → end % size ≡ 0 → count ≡ (end - start) / size → start < limit

@@ -1,8 +1,9 @@
 -- Multiples of a size of pages.
 use Rattle.std.specs.Prelude.{zero, suc, ◌≡◌, ℕ, ◌+◌, ◌-◌, ◌*◌, ◌/◌, ◌%◌, ◌^◌, ◌≤◌, ◌<◌, nat_lt, Bool, true, false, if◌then◌else◌}
-use Rattle.std.proofs.Common.{refl, subst, arith}
+use Rattle.std.proofs.Common.{inl, inr, refl, subst, arith}
 use Rattle.std.proofs.Math.Nat.{mul-mod_left, div-mul-le_self, mod-eq-sub-div-mul}
-use Rattle.x86_64_addr.specs.Position.{span, raw, lower_half}
+use Rattle.x86_64_addr.specs.Levels.{IsLevelCount}
+use Rattle.x86_64_addr.specs.Position.{span, raw, lower_half, position_count}
 
 -- a number rounded down to a multiple of a size is one
 pub rounded_down : (number size : ℕ) → (number - number % size) % size ≡ 0
@@ -24,19 +25,21 @@ pub record RoundedDown (position size : ℕ) : Type 0 where
   pub start : (raw 4 position - raw 4 position % size) % 2 ^ 48 ≡ position - position % size
 
 -- the remainder is the same in the lower half of the address space and in the upper one
-remainder_in : (p size level : ℕ) → 1 ≤ level → level ≤ 3 → size ≡ span level → (lower : Bool) → (if lower then p else p + (2 ^ 64 - 2 ^ 48)) % size ≡ p % size
-remainder_in p z zero low high e lower = absurd (omega arith)
-remainder_in p z (suc zero) low high e true = refl
-remainder_in p z (suc zero) low high e false = let e' : z ≡ 0x1000 = e in rw e' (omega arith)
-remainder_in p z (suc (suc zero)) low high e true = refl
-remainder_in p z (suc (suc zero)) low high e false = let e' : z ≡ 0x20_0000 = e in rw e' (omega arith)
-remainder_in p z (suc (suc (suc zero))) low high e true = refl
-remainder_in p z (suc (suc (suc zero))) low high e false = let e' : z ≡ 0x4000_0000 = e in rw e' (omega arith)
-remainder_in p z (suc (suc (suc (suc l)))) low high e lower = absurd (omega arith)
+remainder_in : (L p size level : ℕ) → IsLevelCount L → 1 ≤ level → level ≤ 3 → size ≡ span level → (lower : Bool)
+    → (if lower then p else p + (2 ^ 64 - position_count L)) % size ≡ p % size
+remainder_in L p z level count low high e true = refl
+remainder_in L p z zero count low high e false = absurd (omega arith)
+remainder_in L p z (suc zero) (inl four) low high e false = let e' : z ≡ 0x1000 = e in rw (e', four) (omega arith)
+remainder_in L p z (suc zero) (inr five) low high e false = let e' : z ≡ 0x1000 = e in rw (e', five) (omega arith)
+remainder_in L p z (suc (suc zero)) (inl four) low high e false = let e' : z ≡ 0x20_0000 = e in rw (e', four) (omega arith)
+remainder_in L p z (suc (suc zero)) (inr five) low high e false = let e' : z ≡ 0x20_0000 = e in rw (e', five) (omega arith)
+remainder_in L p z (suc (suc (suc zero))) (inl four) low high e false = let e' : z ≡ 0x4000_0000 = e in rw (e', four) (omega arith)
+remainder_in L p z (suc (suc (suc zero))) (inr five) low high e false = let e' : z ≡ 0x4000_0000 = e in rw (e', five) (omega arith)
+remainder_in L p z (suc (suc (suc (suc l)))) count low high e false = absurd (omega arith)
 
 -- an address and its position leave the same remainder by the size of a level
-pub same_remainder : (position size level : ℕ) → 1 ≤ level → level ≤ 3 → size ≡ span level → raw 4 position % size ≡ position % size
-same_remainder p z level low high e = remainder_in p z level low high e (nat_lt p (lower_half 4))
+pub same_remainder : (L position size level : ℕ) → IsLevelCount L → 1 ≤ level → level ≤ 3 → size ≡ span level → raw L position % size ≡ position % size
+same_remainder L p z level count low high e = remainder_in L p z level count low high e (nat_lt p (lower_half L))
 
 -- rounded down, the raw value in either half is that of the position rounded down
 rounded : (p size level : ℕ) → 1 ≤ level → level ≤ 3 → size ≡ span level → p < 2 ^ 48 → (lower : Bool)
@@ -52,6 +55,6 @@ rounded p z (suc (suc (suc (suc l)))) low high e small lower = absurd (omega ari
 
 pub rounded_position : (position size level : ℕ) → 1 ≤ level → level ≤ 3 → size ≡ span level → position < 2 ^ 48 → RoundedDown position size
 rounded_position p z level low high e small = record {
-  remainder = same_remainder p z level low high e;
+  remainder = same_remainder 4 p z level (inl refl) low high e;
   start = rounded p z level low high e small (nat_lt p (lower_half 4));
 }

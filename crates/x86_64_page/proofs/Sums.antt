@@ -3,6 +3,7 @@ use Rattle.std.specs.Prelude.{◌≡◌, ℕ, ◌+◌, ◌-◌, ◌*◌, ◌%◌
 use Rattle.std.proofs.Common.{◌∙◌, refl, sym, ap, arith}
 use Rattle.std.proofs.Math.Nat.{add-mul-mod_self_right}
 use Rattle.std.proofs.lemmas.Nat.{pow_pos}
+use Rattle.x86_64_addr.specs.Levels.{IsLevelCount}
 use Rattle.x86_64_addr.specs.Position.{span, raw}
 use Rattle.x86_64_addr.specs.Successor.{forward, backward}
 use Rattle.x86_64_page.proofs.Multiples.{same_remainder}
@@ -18,18 +19,18 @@ difference_is_multiple n count z enough aligned =
     sym (add-mul-mod_self_right (n - count * z) count z) ∙ (ap (λ m. m % z) whole ∙ aligned)
 
 -- a position is a multiple of the size where its raw value is so many sizes above that of one that is
-pub sum_is_aligned : (sum position count size level : ℕ) → 1 ≤ level → level ≤ 3 → size ≡ span level
-    → raw 4 sum ≡ raw 4 position + count * size → position % size ≡ 0 → sum % size ≡ 0
-sum_is_aligned r p count z level low high e at aligned =
-    sym (same_remainder r z level low high e)
-    ∙ (ap (λ m. m % z) at ∙ sum_is_multiple (raw 4 p) count z (same_remainder p z level low high e ∙ aligned))
+pub sum_is_aligned : (L sum position count size level : ℕ) → IsLevelCount L → 1 ≤ level → level ≤ 3 → size ≡ span level
+    → raw L sum ≡ raw L position + count * size → position % size ≡ 0 → sum % size ≡ 0
+sum_is_aligned L r p count z level levels low high e at aligned =
+    sym (same_remainder L r z level levels low high e)
+    ∙ (ap (λ m. m % z) at ∙ sum_is_multiple (raw L p) count z (same_remainder L p z level levels low high e ∙ aligned))
 
 -- the same of a position whose raw value is so many sizes below
-pub difference_is_aligned : (difference position count size level : ℕ) → 1 ≤ level → level ≤ 3 → size ≡ span level
-    → count * size ≤ raw 4 position → raw 4 difference ≡ raw 4 position - count * size → position % size ≡ 0 → difference % size ≡ 0
-difference_is_aligned r p count z level low high e enough at aligned =
-    sym (same_remainder r z level low high e)
-    ∙ (ap (λ m. m % z) at ∙ difference_is_multiple (raw 4 p) count z enough (same_remainder p z level low high e ∙ aligned))
+pub difference_is_aligned : (L difference position count size level : ℕ) → IsLevelCount L → 1 ≤ level → level ≤ 3 → size ≡ span level
+    → count * size ≤ raw L position → raw L difference ≡ raw L position - count * size → position % size ≡ 0 → difference % size ≡ 0
+difference_is_aligned L r p count z level levels low high e enough at aligned =
+    sym (same_remainder L r z level levels low high e)
+    ∙ (ap (λ m. m % z) at ∙ difference_is_multiple (raw L p) count z enough (same_remainder L p z level levels low high e ∙ aligned))
 
 -- where there is a number so many sizes on from a multiple of the size, it is one
 forward_in : (found size number : ℕ) → number % size ≡ 0 → (inside : Bool) → (if inside then Some number else None) ≡ Some found → found % size ≡ 0

@@ -15,9 +15,9 @@ size_of_level z (suc (suc zero)) low high e = inr (inl e)
 size_of_level z (suc (suc (suc zero))) low high e = inr (inr e)
 size_of_level z (suc (suc (suc (suc l)))) low high e = absurd (omega arith)
 
--- positions of pages end before 2^48, addresses of frames before 2^52
+-- positions of pages end before 2^48, addresses of frames before 2^52, positions of pages with five levels of tables before 2^57
 abbrev pub IsLimit : (limit : ℕ) → Type 0
-IsLimit limit = (limit ≡ 2 ^ 48) ⊎ (limit ≡ 2 ^ 52)
+IsLimit limit = (limit ≡ 2 ^ 48) ⊎ (limit ≡ 2 ^ 52) ⊎ (limit ≡ 2 ^ 57)
 
 -- so many blocks of a size, from a start on
 abbrev pub blocks_from : (size start count : ℕ) → List ℕ

@@ -1,14 +1,22 @@
--- The law of steps along the pages of a size.
+-- The laws of steps along the pages of a size.
 use Rattle.std.specs.Prelude.{◌≡◌, ℕ, ◌+◌, ◌*◌, ◌^◌, ◌<◌, Some}
 use Rattle.x86_64_model.specs.Successor.{forward, backward}
 use Rattle.x86_64_page.specs.Steps.{pages_between}
 
 -- steps by m pages and then by n are steps by m + n, steps back undo steps on and the other way round, and `steps_between` counts them
-pub record ArePageSteps (size : ℕ) : Type 0 where
-  pub compose : (start m n middle end : ℕ) → forward (2 ^ 48) start (m * size) ≡ Some middle → forward (2 ^ 48) middle (n * size) ≡ Some end
-      → forward (2 ^ 48) start ((m + n) * size) ≡ Some end
+pub record AreStepsBelow (limit size : ℕ) : Type 0 where
+  pub compose : (start m n middle end : ℕ) → forward limit start (m * size) ≡ Some middle → forward limit middle (n * size) ≡ Some end
+      → forward limit start ((m + n) * size) ≡ Some end
   pub compose_back : (start m n middle end : ℕ) → backward start (m * size) ≡ Some middle → backward middle (n * size) ≡ Some end
       → backward start ((m + n) * size) ≡ Some end
-  pub undone : (start n end : ℕ) → forward (2 ^ 48) start (n * size) ≡ Some end → backward end (n * size) ≡ Some start
-  pub redone : (start n end : ℕ) → start < 2 ^ 48 → backward start (n * size) ≡ Some end → forward (2 ^ 48) end (n * size) ≡ Some start
-  pub counted : (start n end : ℕ) → forward (2 ^ 48) start (n * size) ≡ Some end → pages_between size start end ≡ (n, Some n)
+  pub undone : (start n end : ℕ) → forward limit start (n * size) ≡ Some end → backward end (n * size) ≡ Some start
+  pub redone : (start n end : ℕ) → start < limit → backward start (n * size) ≡ Some end → forward limit end (n * size) ≡ Some start
+  pub counted : (start n end : ℕ) → forward limit start (n * size) ≡ Some end → pages_between size start end ≡ (n, Some n)
+
+-- along pages, which lie below 2^48
+abbrev pub ArePageSteps : (size : ℕ) → Type 0
+ArePageSteps size = AreStepsBelow (2 ^ 48) size
+
+-- with five levels of tables, where pages lie below 2^57
+abbrev pub ArePageSteps57 : (size : ℕ) → Type 0
+ArePageSteps57 size = AreStepsBelow (2 ^ 57) size

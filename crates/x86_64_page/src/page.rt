@@ -1,10 +1,11 @@
 //! Pages: aligned blocks of virtual memory of one of three sizes.
 //!
 //! Intel SDM vol. 3A, "4-Level Paging and 5-Level Paging"; AMD APM vol. 2, "Long-Mode Page Translation".
-ghost use Rattle.std.specs.Prelude.{◌≡◌, ℕ, ◌-◌, ◌%◌, ◌≤◌, ◌↔◌, IsOk, IfOk};
+ghost use Rattle.std.specs.Prelude.{◌≡◌, ℕ, ◌-◌, ◌%◌, ◌^◌, ◌<◌, ◌≤◌, ◌↔◌, IsOk, IfOk};
 ghost use Rattle.x86_64_addr.specs.Levels.{level_number};
 ghost use Rattle.x86_64_addr.specs.Position.{span, index};
 
+use crate::range::places;
 use std::fmt::{Debug, Display, Formatter, Result as FmtResult, Write};
 use std::marker::{Model, PhantomData};
 use x86_64_addr::addr::VirtAddr;
@@ -12,9 +13,11 @@ use x86_64_addr::index::{PageTableIndex, PageTableLevel};
 
 mod indices;
 mod operators;
+mod page57;
 mod ranges;
 mod steps;
 
+pub use page57::{Page57, PageRangeInclusive57};
 pub use ranges::{PageRange, PageRangeInclusive};
 
 mod sealed {
@@ -181,11 +184,7 @@ impl<S: PageSize> Page<S> {
         ensures aligned { IsOk result ↔ (address % S.SIZE ≡ 0) }
         ensures value { IfOk result (λ page. page ≡ address) }
     {
-        if address.as_u64() % S::SIZE == 0 {
-            Ok(Self::from_start_address_unchecked(address))
-        } else {
-            Err(AddressNotAligned)
-        }
+        places::starting_at(position(address))
     }
 
     /// Gives the page that starts at an address, which must be a multiple of the size. Test that by
@@ -206,11 +205,7 @@ impl<S: PageSize> Page<S> {
     pub fn containing_address(address: VirtAddr) -> Self
         ensures { result ≡ address - address % S.SIZE }
     {
-        let raw = address.as_u64();
-        Page {
-            start_address: VirtAddr::new_truncate(raw - raw % S::SIZE),
-            size: PhantomData,
-        }
+        places::containing(position(address))
     }
 
     /// Gives the start address.
@@ -273,6 +268,14 @@ impl<S: PageSize> Debug for Page<S> {
         let start = self.start_address.as_u64();
         write_block::<S, W>(f, "Page", start)
     }
+}
+
+/// Gives the position of an address: the raw value modulo 2^48.
+fn position(address: VirtAddr) -> u64
+    ensures value { result ≡ address }
+    ensures below { result < 2 ^ 48 }
+{
+    address.as_u64() & 0x0000_ffff_ffff_ffff
 }
 
 /// Writes what a page or a frame is, its size and its start, as in `Page[4KiB](0x1000)`.

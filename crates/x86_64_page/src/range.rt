@@ -7,20 +7,23 @@ ghost use Rattle.std.specs.Iterator.SizeHint.{IsWithinCount};
 ghost use Rattle.x86_64_page.specs.Blocks.{IsBlockSize, IsLimit, blocks, ends, front_taken, back_taken};
 
 use crate::frame::PhysFrame;
-use crate::page::{Page, PageSize};
+use crate::page::{Page, Page57, PageSize};
 use std::fmt::{Debug, Formatter, Result as FmtResult, Write};
 
 mod inclusive;
+pub(crate) mod places;
 
 pub use inclusive::BlockRangeInclusive;
 
 mod sealed {
-    use super::{Page, PageSize, PhysFrame};
+    use super::{Page, Page57, PageSize, PhysFrame};
 
     /// Keeps other crates from adding blocks.
     pub trait Sealed {}
 
     impl<S: PageSize> Sealed for Page<S> {}
+
+    impl<S: PageSize> Sealed for Page57<S> {}
 
     impl<S: PageSize> Sealed for PhysFrame<S> {}
 }

@@ -1,6 +1,7 @@
 //! Values from outside: the sizes, the starts of frames and the texts.
 ghost use Rattle.std.specs.Prelude.{◌≡◌, ◌<◌, ◌↔◌, IsTrue};
 
+mod five_levels;
 mod ranges;
 
 use crate::frame::{PfnNotValid, PhysFrame};

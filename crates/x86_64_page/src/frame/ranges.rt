@@ -13,7 +13,7 @@ pub type PhysFrameRange<S> = BlockRange<PhysFrame<S>>;
 pub type PhysFrameRangeInclusive<S> = BlockRangeInclusive<PhysFrame<S>>;
 
 impl<S: PageSize> Block for PhysFrame<S> {
-    ghost use Rattle.std.proofs.Common.{inr, refl};
+    ghost use Rattle.std.proofs.Common.{inl, inr, refl};
     ghost use Rattle.std.specs.Prelude.{◌^◌};
     ghost use Rattle.x86_64_page.specs.Blocks.{size_of_level};
 
@@ -41,7 +41,7 @@ impl<S: PageSize> Block for PhysFrame<S> {
 
     ghost known_size = { size_of_level S.SIZE S.LEVEL S.low S.high S.size };
 
-    ghost known_limit = { inr refl };
+    ghost known_limit = { inr (inl refl) };
 }
 
 impl<S: PageSize> PhysFrame<S> {

@@ -1,7 +1,7 @@
 //! Ranges of pages.
 ghost use Rattle.std.specs.Prelude.{◌≡◌, ℕ, ◌%◌};
 
-use crate::page::{Page, PageSize, Size2MiB, Size4KiB};
+use crate::page::{Page, PageSize, Size2MiB, Size4KiB, position};
 use crate::range::{Block, BlockRange, BlockRangeInclusive};
 use x86_64_addr::addr::VirtAddr;
 
@@ -31,7 +31,7 @@ impl<S: PageSize> Block for Page<S> {
     const RANGE_INCLUSIVE: &'static str = "PageRangeInclusive";
 
     fn place(&self) -> u64 {
-        self.start_address.as_u64() & 0x0000_ffff_ffff_ffff
+        position(self.start_address)
     }
 
     fn at(start: u64) -> Self {

@@ -4,7 +4,7 @@ ghost use Rattle.x86_64_addr.specs.Successor.{forward, backward};
 ghost use Rattle.x86_64_page.specs.Steps.{pages_between};
 
 use crate::page::{Page, PageSize};
-use x86_64_addr::addr::VirtAddr;
+use crate::range::places;
 
 impl<S: PageSize> Page<S> {
     /// Gives the page so many pages on.
@@ -13,9 +13,7 @@ impl<S: PageSize> Page<S> {
     pub fn forward_checked(start: Self, count: usize) -> Option<Self>
         ensures { result ≡ forward (2 ^ 48) start (count * S.SIZE) }
     {
-        let bytes = count.checked_mul(S::SIZE as usize)?;
-        let later = VirtAddr::forward_checked(start.start_address(), bytes)?;
-        Some(Page::from_start_address_unchecked(later))
+        places::forward_checked(start, count)
     }
 
     /// Gives the page so many pages before.
@@ -24,9 +22,7 @@ impl<S: PageSize> Page<S> {
     pub fn backward_checked(start: Self, count: usize) -> Option<Self>
         ensures { result ≡ backward start (count * S.SIZE) }
     {
-        let bytes = count.checked_mul(S::SIZE as usize)?;
-        let earlier = VirtAddr::backward_checked(start.start_address(), bytes)?;
-        Some(Page::from_start_address_unchecked(earlier))
+        places::backward_checked(start, count)
     }
 
     /// Counts the pages from one up to another, as a lower and an upper bound, which are equal.
@@ -35,13 +31,6 @@ impl<S: PageSize> Page<S> {
     pub fn steps_between(start: &Self, end: &Self) -> (usize, Option<usize>)
         ensures { result ≡ pages_between S.SIZE start.now end.now }
     {
-        let (_, bytes) = VirtAddr::steps_between(&start.start_address(), &end.start_address());
-        match bytes {
-            Some(bytes) => {
-                let count = bytes / S::SIZE as usize;
-                (count, Some(count))
-            }
-            None => (0, None),
-        }
+        places::steps_between(*start, *end)
     }
 }
