@@ -1,9 +1,10 @@
 -- The places of a memory, in their order, and where a search finds one.
-use Rattle.std.proofs.Common.{◌≡◌, ◌≢◌, ◌<◌, ◌≤◌, ◌+◌, ◌-◌, ◌%◌, ◌^◌, ◌&&◌, nat_lt, ℕ, Bool, true, false, cond, List, [], ◌∷◌, length, get_or, map, Some, None, Result, Ok, Err, ◌⊎◌, inl, inr, Less, refl, sym, ap, ap₂, ◌∙◌, arith, lt-ltb, le-ltb}
-use Rattle.std.proofs.lemmas.Bool.{cases_lt}
+use Rattle.std.proofs.Common.{◌≡◌, ◌≢◌, ◌<◌, ◌≤◌, ◌+◌, ◌-◌, ◌%◌, ◌^◌, ◌&&◌, nat_lt, ℕ, Bool, true, false, cond, List, [], ◌∷◌, length, get_or, slice_get, map, Some, None, IsSome, is_some, Result, Ok, Err, ◌⊎◌, inl, inr, Less, refl, sym, ap, ap₂, subst, ◌∙◌, arith, lt-ltb, le-ltb}
+use Rattle.std.proofs.lemmas.Bool.{cases_lt, false≢true}
 use Rattle.std.proofs.lemmas.List.Kept.{AllPairs-from_increasing}
 use Rattle.std.proofs.lemmas.List.Sorted.{searched}
 use Rattle.std.proofs.lemmas.List.Sums.{position_or_len_is}
+use Rattle.std.proofs.lemmas.Option.{slice_get_past}
 use Rattle.std.proofs.lemmas.Map.Keys.{sorted_from_strictly_increasing}
 use Rattle.std.specs.Prelude.{T}
 use Rattle.std.specs.Result.{result_ok}
@@ -14,9 +15,10 @@ use Rattle.std.specs.Cmp.{nat_cmp_total}
 use Rattle.std.specs.FinMap.Entries.{below_all}
 use Rattle.std.specs.FinMap.{get, keys, find, is_sorted, from_sorted, entries-from_sorted, get-empty, get-from_sorted, get-insert, same_map, nat_cmp-IsAntisymmetric}
 use Rattle.x86_64_model.proofs.Lemmas.Hierarchies.Memories.{same_key, other_key}
+use Rattle.x86_64_model.specs.Memory.{Memory}
 use Rattle.x86_64_tables.specs.PhysMemory.{tables_at}
 use Rattle.x86_64_tables.specs.SortedPlaces.{HasRun}
-use Rattle.x86_64_tables.proofs.Places.{rank}
+use Rattle.x86_64_tables.proofs.Places.{rank, there, gone, found_there}
 
 -- the tables with their places
 abbrev pairs : List ℕ → List (List ℕ) → List (ℕ × List ℕ)
@@ -101,6 +103,37 @@ position_searched ps q (Err i) up found =
       | inl before ↦ (let less = split.1 k before in omega (arith, less, e))
       | inr after ↦ (let more = split.2 k after l in omega (arith, more, e))
     ])
+
+-- where the places are the numbers from 0 on, each stands where its number says
+module _ (ps : List ℕ) (q : ℕ) (up : IsStrictlyIncreasing ps) (all : HasRun ps 0 (length ps)) where
+  pub position_dense : q < length ps → Some q ≡ position (eq_by_cmp nat_cmp q) ps
+  position_dense near = position_there ps q up q near (let is = all.follow q near in omega (arith, is))
+
+  pub position_past : length ps ≤ q → None ≡ position (eq_by_cmp nat_cmp q) ps
+  position_past past = position_gone ps q (λ k h e. let is = all.follow k h in omega (arith, is, e, h, past))
+
+  pub position_dense_there : IsSome (position (eq_by_cmp nat_cmp q) ps) → Some q ≡ position (eq_by_cmp nat_cmp q) ps
+  position_dense_there there = elim (cases_lt q (length ps)) [
+    | inl near ↦ position_dense near
+    | inr past ↦ absurd (false≢true (ap is_some (position_past past) ∙ there))
+  ]
+
+module _ (ps : List ℕ) (ts : List (List ℕ)) (m : Memory) (same : length ts ≡ length ps) (is : tables_at ps ts ≡ m)
+    (up : IsStrictlyIncreasing ps) (all : HasRun (keys m) 0 (length (keys m))) (q : ℕ) where
+  dense : HasRun ps 0 (length ps)
+  dense = subst (λ (ps : List ℕ). HasRun ps 0 (length ps)) (sym (ap keys is) ∙ keys-tables ps ts up same) all
+
+  pub stands : q < length ts → position (eq_by_cmp nat_cmp q) ps ≡ Some q
+  stands near = sym (position_dense ps q up dense (omega (arith, near, same)))
+
+  pub stands_there : IsSome (get m q) → position (eq_by_cmp nat_cmp q) ps ≡ Some q
+  stands_there has = sym (position_dense_there ps q up dense (found_there ps ts m same is q has _ refl))
+
+  pub dense_table : slice_get ts q ≡ get m q
+  dense_table = elim (cases_lt q (length ts)) [
+    | inl near ↦ there ps ts m same is q q (stands near)
+    | inr past ↦ slice_get_past ts q past ∙ gone ps ts m same is q (sym (position_past ps q up dense (omega (arith, past, same))))
+  ]
 
 -- a place in the run stands where its distance from the first says
 pub position_in_run : (ps : List ℕ) (first run q : ℕ) → IsStrictlyIncreasing ps → HasRun ps first run → q < 2 ^ 64

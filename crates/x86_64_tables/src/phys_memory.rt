@@ -1,5 +1,5 @@
 //! Physical memory that consists of page tables, and where frames lie in it.
-ghost use Rattle.std.specs.Prelude.{◌≡◌, ◌==◌, ◌/◌, ◌↔◌, ℕ, true, Some, IsSome, IfOk, OnOk, Err, nat_lt, if◌then◌else◌};
+ghost use Rattle.std.specs.Prelude.{◌≡◌, ◌==◌, ◌/◌, ◌↔◌, ℕ, true, length, Some, IsSome, IfOk, OnOk, Err, nat_lt, if◌then◌else◌};
 ghost use Rattle.std.specs.Option.{option_copied, option_copied_mut};
 ghost use Rattle.std.specs.Borrow.{sem};
 ghost use Rattle.std.specs.FinMap as map;
@@ -10,6 +10,7 @@ ghost use Rattle.x86_64_model.specs.Memory.{Places, IsMapping, identity_places};
 ghost use Rattle.x86_64_tables.specs.PageTable.{zero_words};
 ghost use Rattle.x86_64_tables.specs.PhysMemory.{zero_tables_at};
 ghost use Rattle.x86_64_tables.specs.Lending.{LendsTable, LendsTableAt};
+ghost use Rattle.x86_64_tables.specs.SortedPlaces.{HasRun};
 
 mod active;
 mod alike;
@@ -167,8 +168,11 @@ impl PhysMemory {
     pub fn table(&self, place: FramePlace) -> Option<&PageTable>
         ensures { option_copied result ≡ map.get self.now place }
     {
-        let index = self.places.index_of(place.number())?;
-        self.tables.get(index)
+        if self.is_dense() {
+            self.tables.get(place.number() as usize)
+        } else {
+            self.search(place)
+        }
     }
 
     /// Lends the table at a place to be changed, or gives `None` where the memory lacks the place.
@@ -176,8 +180,11 @@ impl PhysMemory {
         ensures* writes_back { sem 𝓛 (LendsTable self.entry place result) }
         ensures value { option_copied_mut result ≡ map.get self.old place }
     {
-        let index = self.places.index_of(place.number())?;
-        self.tables.get_mut(index)
+        if self.is_dense() {
+            self.tables.get_mut(place.number() as usize)
+        } else {
+            self.search_mut(place)
+        }
     }
 
     /// Gives how many places come before a place, or `None` where the memory lacks it.
@@ -185,6 +192,58 @@ impl PhysMemory {
         ensures { result ≡ position (eq_by_cmp nat_cmp place) (map.keys self.now) }
     {
         self.places.index_of(place.number())
+    }
+
+    /// Tells whether the places are known to be all numbers from 0 on, so that each stands where its number says.
+    fn is_dense(&self) -> bool
+        ensures { let places = map.keys self.now in result ≡ true → HasRun places 0 (length places) }
+    {
+        self.places.is_dense()
+    }
+
+    /// Gives the table at a place by its index, or `None`. It is a function of its own, as those below are, so that callers
+    /// hold the case of all numbers from 0 on alone.
+    #[cold]
+    #[inline(never)]
+    fn search(&self, place: FramePlace) -> Option<&PageTable>
+        ensures { option_copied result ≡ map.get self.now place }
+    {
+        let index = self.places.index_of(place.number())?;
+        self.tables.get(index)
+    }
+
+    /// Lends the same table to be changed.
+    #[cold]
+    #[inline(never)]
+    fn search_mut(&mut self, place: FramePlace) -> Option<&mut PageTable>
+        ensures* writes_back { sem 𝓛 (LendsTable self.entry place result) }
+        ensures value { option_copied_mut result ≡ map.get self.old place }
+    {
+        let index = self.places.index_of(place.number())?;
+        self.tables.get_mut(index)
+    }
+
+    /// Gives the table at a place that is there, by its index.
+    #[cold]
+    #[inline(never)]
+    fn find(&self, place: FramePlace) -> &PageTable
+        requires { IsSome (map.get self.now place) }
+        ensures { map.get self.now place ≡ Some result.now }
+    {
+        let index = self.places.index_there(place.number());
+        &self.tables[index]
+    }
+
+    /// Lends the same table to be changed.
+    #[cold]
+    #[inline(never)]
+    fn find_mut(&mut self, place: FramePlace) -> &mut PageTable
+        requires { IsSome (map.get self.old place) }
+        ensures* writes_back { sem 𝓛 (LendsTableAt self.entry place result) }
+        ensures value { map.get self.old place ≡ Some result.now }
+    {
+        let index = self.places.index_there(place.number());
+        &mut self.tables[index]
     }
 }
 
@@ -210,8 +269,11 @@ impl Index<FramePlace> for PhysMemory {
     ghost index_gives = { λ memory place table. map.get memory place ≡ Some table };
 
     fn index(&self, place: FramePlace) -> &PageTable {
-        let index = self.places.index_there(place.number());
-        &self.tables[index]
+        if self.is_dense() {
+            &self.tables[place.number() as usize]
+        } else {
+            self.find(place)
+        }
     }
 }
 
@@ -221,8 +283,11 @@ impl IndexMut<FramePlace> for PhysMemory {
         ensures* writes_back { sem 𝓛 (LendsTableAt self.entry place result) }
         ensures value { map.get self.old place ≡ Some result.now }
     {
-        let index = self.places.index_there(place.number());
-        &mut self.tables[index]
+        if self.is_dense() {
+            &mut self.tables[place.number() as usize]
+        } else {
+            self.find_mut(place)
+        }
     }
 }
 

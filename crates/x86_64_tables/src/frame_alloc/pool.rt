@@ -160,6 +160,9 @@ impl FrameKeeper<Size4KiB> for FramePool {
 impl FrameAllocator<Size4KiB> for FramePool {
     ghost supply = { λ pool. pool.frames };
 
+    // Few maps of pages make a table, so this stays out of the way of the others.
+    #[cold]
+    #[inline(never)]
     fn allocate_frame(&mut self) -> Option<PhysFrame<Size4KiB>>
         ensures first { result ≡ slice_get self.old.frames 0 }
         ensures rest { self.new.frames ≡ drop 1 self.old.frames }

@@ -1,5 +1,5 @@
 //! Places in the order of their numbers, found by halving.
-ghost use Rattle.std.specs.Prelude.{◌≡◌, ◌↔◌, true, Some, IsSome, IfSome, slice_get, slice_index};
+ghost use Rattle.std.specs.Prelude.{◌≡◌, ◌↔◌, true, Some, IsSome, length, slice_get, slice_index};
 ghost use Rattle.std.specs.List.{position};
 ghost use Rattle.std.specs.List.Sorted.{IsStrictlyIncreasing};
 ghost use Rattle.std.specs.Ordering.{nat_cmp, eq_by_cmp};
@@ -10,16 +10,17 @@ use std::marker::Model;
 /// Holds the numbers of places, each below the next, seen as their list.
 ///
 /// The first `run` of them follow one another without a gap from `first` on, so that each of these stands as many places
-/// from the front as its number is from `first`.
+/// from the front as its number is from `first`. Where `is_dense` they are all numbers from 0 on, up to their last.
 #[derive(Drop)]
 pub(super) struct SortedPlaces {
     numbers: Vec<u64>,
     first: u64,
     run: u64,
+    is_dense: bool,
 }
 
 impl Model for SortedPlaces {
-    ghost use Rattle.std.specs.Prelude.{List, ℕ};
+    ghost use Rattle.std.specs.Prelude.{◌≡◌, true, List, ℕ, length};
     ghost use Rattle.std.specs.List.Sorted.{IsStrictlyIncreasing};
     ghost use Rattle.x86_64_tables.specs.SortedPlaces.{HasRun};
 
@@ -28,7 +29,8 @@ impl Model for SortedPlaces {
     ghost view = { λ places. places.numbers.items };
 
     ghost invariant = { λ places. IsStrictlyIncreasing places.numbers.items
-        × HasRun places.numbers.items places.first places.run };
+        × HasRun places.numbers.items places.first places.run
+        × (places.is_dense ≡ true → HasRun places.numbers.items 0 (length places.numbers.items)) };
 }
 
 impl SortedPlaces {
@@ -39,10 +41,12 @@ impl SortedPlaces {
     {
         let run = run_of(&numbers);
         let first = if run == 0 { 0 } else { numbers[0] };
+        let is_dense = first == 0 && run == numbers.len() as u64;
         SortedPlaces {
             numbers,
             first,
             run,
+            is_dense,
         }
     }
 
@@ -59,9 +63,11 @@ impl SortedPlaces {
     pub(super) fn index_of(&self, number: u64) -> Option<usize>
         ensures { result ≡ position (eq_by_cmp nat_cmp number) self.now }
     {
-        match self.index_in_run(number) {
-            Some(index) => Some(index),
-            None => self.search(number),
+        let distance = number.wrapping_sub(self.first);
+        if distance < self.run {
+            Some(distance as usize)
+        } else {
+            self.numbers.binary_search(&number).ok()
         }
     }
 
@@ -70,32 +76,15 @@ impl SortedPlaces {
         requires { IsSome (position (eq_by_cmp nat_cmp number) self.now) }
         ensures { Some result ≡ position (eq_by_cmp nat_cmp number) self.now }
     {
-        match self.index_in_run(number) {
-            Some(index) => index,
-            None => self.search(number).unwrap(),
-        }
+        self.index_of(number).unwrap()
     }
 
-    /// Gives the same for a place among those at the front, which have no gap between them, else `None`.
-    fn index_in_run(&self, number: u64) -> Option<usize>
-        ensures { IfSome result (λ index. Some index ≡ position (eq_by_cmp nat_cmp number) self.now) }
+    /// Tells whether the places are known to be all numbers from 0 on up to their last, so that each stands where its number
+    /// says.
+    pub(super) fn is_dense(&self) -> bool
+        ensures { result ≡ true → HasRun self.now 0 (length self.now) }
     {
-        let distance = number.wrapping_sub(self.first);
-        if distance < self.run {
-            Some(distance as usize)
-        } else {
-            None
-        }
-    }
-
-    /// Gives how many places come before a place by halving, or `None`. It is a function of its own, so that callers hold the
-    /// first look alone.
-    #[cold]
-    #[inline(never)]
-    fn search(&self, number: u64) -> Option<usize>
-        ensures { result ≡ position (eq_by_cmp nat_cmp number) self.now }
-    {
-        self.numbers.binary_search(&number).ok()
+        self.is_dense
     }
 }
 

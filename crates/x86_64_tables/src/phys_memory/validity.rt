@@ -220,7 +220,8 @@ impl<'a, P: PageTableFrameMapping> Survey<'a, P> {
         ensures { let image = self.now.image in let places = P.places image.mapping in
             let words = seen image.memory.now places image.root image.recursive in
             let slot = mark_slot image.memory.now places image.root self.now.limit in
-            (if result then Some marks.new else None) ≡ mark_all slot marks.old (tables_from levels words frame) }
+            (if result then Some marks.new else None)
+            ≡ mark_all slot marks.old (tables_from levels words frame) }
     {
         if !self.mark(marks, frame) {
             return false;

@@ -1,5 +1,6 @@
 //! Tests of memories with gaps between their places.
 use super::{fits, is_valid, set_word, walk};
+use crate::phys_memory::places::{SortedPlaces, is_increasing};
 use crate::phys_memory::{FramePlace, PhysMemory, PlacesRefusal};
 use std::alloc::{AllocError, Global};
 use std::process::Abort;
@@ -62,9 +63,11 @@ fn places_rise(rt: HostRuntime) -> Result<(), Fail> {
 
 #[test]
 fn memory_has_the_places_of_a_list(rt: HostRuntime) -> Result<(), Fail> {
-    let rows: [(&[u64], &[u64]); 7] = [
+    let rows: [(&[u64], &[u64]); 9] = [
         (&[], &[0, 1, u64::MAX]),
         (&[0], &[1, u64::MAX]),
+        (&[0, 1, 2], &[3, u64::MAX]),
+        (&[0, 1, 3], &[2, 4]),
         (&[7], &[0, 6, 8, u64::MAX]),
         (&[u64::MAX], &[0, 1, u64::MAX - 1]),
         (&[0, u64::MAX], &[1, u64::MAX - 1]),
@@ -82,6 +85,44 @@ fn memory_has_the_places_of_a_list(rt: HostRuntime) -> Result<(), Fail> {
     check_places(&rt, &memory, &[0, 1, 2], &[3, u64::MAX])?;
     let empty = memory_at(rt.alloc(), &[])?;
     assert!(rt; !is_valid(rt.alloc(), &empty)?);
+    Ok(())
+}
+
+/// Makes so many places with a gap after each, from a first one on.
+fn places_with_gaps(alloc: Global, first: u64, count: u64) -> Result<Vec<u64>, Fail> {
+    let mut places = Vec::new(alloc);
+    for k in 0..count {
+        places.push(first.wrapping_add(k.wrapping_mul(2)))?;
+    }
+    Ok(places)
+}
+
+#[test]
+fn a_million_places_have_gaps(rt: HostRuntime) -> Result<(), Fail> {
+    for first in [0, 1] {
+        let numbers = places_with_gaps(rt.alloc(), first, 1_000_000)?;
+        assert!(rt; is_increasing(&numbers));
+        let places = SortedPlaces::new(numbers);
+        for n in [0, 1, 500_000, 999_999] {
+            let number = places.number_at(n).ok_or("a place in the order")?;
+            assert_eq!(rt; number, first.wrapping_add((n as u64).wrapping_mul(2)));
+            assert_eq!(rt; places.index_of(number), Some(n));
+            assert_eq!(rt; places.index_of(number.wrapping_add(1)), None);
+            assert_eq!(rt; places.index_of(number.wrapping_sub(1)), None);
+        }
+        assert_eq!(rt; places.number_at(1_000_000), None);
+    }
+    Ok(())
+}
+
+#[test]
+fn tables_lie_between_gaps(rt: HostRuntime) -> Result<(), Fail> {
+    for first in [0, 1] {
+        let places = places_with_gaps(rt.alloc(), first, 1000)?;
+        let gaps = places_with_gaps(rt.alloc(), 1_u64.wrapping_sub(first), 1000)?;
+        let memory = memory_at(rt.alloc(), &places)?;
+        check_places(&rt, &memory, &places, &gaps)?;
+    }
     Ok(())
 }
 

@@ -1,20 +1,12 @@
-use Rattle.std.proofs.Common.{◌∙◌, ap, sym}
-use Rattle.std.specs.Option.{option_copied}
-use Rattle.x86_64_tables.proofs.Places.{there, gone, copied_is_element}
+use Rattle.std.proofs.Common.{◌∙◌}
+use Rattle.x86_64_tables.proofs.Places.{copied_is_element}
+use Rattle.x86_64_tables.proofs.PlacesInOrder.{dense_table}
 use Rattle.x86_64_tables.proofs.phys_memory.PhysMemory.table.Goals as goal
 
-pub returns-in_err-index : goal.returns-in_err-index
-returns-in_err-index c =
+pub returns-then-is_dense : goal.returns-then-is_dense
+returns-then-is_dense c =
     let inside = c.self.inside in
-    let none = sym (rw c.number.ensures at c.index_of.ensures) ∙ c.in_err-index.was in
-    ap option_copied c.from_residual.ensures
-    ∙ gone inside.places inside.tables.items c.args.self.now c.self.invariant.0 c.self.view_is c.args.place none
-
-pub returns : goal.returns
-returns c =
-    let inside = c.self.inside in
-    let index = c.in_ok-index.index in
-    let found = sym (rw c.number.ensures at c.index_of.ensures) ∙ c.in_ok-index.was in
-    let lookup = rw c.deref.ensures.value at c.get.ensures.lookup in
-    copied_is_element c.get.result inside.tables.items index lookup.0 lookup.1
-    ∙ there inside.places inside.tables.items c.args.self.now c.self.invariant.0 c.self.view_is c.args.place index found
+    let tables = inside.tables.items in
+    let lookup = rw (c.deref.ensures.value, c.number.ensures) at c.get.ensures.lookup in
+    copied_is_element c.get.result tables c.args.place lookup.0 lookup.1
+    ∙ dense_table inside.places tables c.args.self.now c.self.invariant.0 c.self.view_is c.self.invariant.1 (c.is_dense.ensures c.if-is_dense.true) c.args.place

@@ -1,20 +1,21 @@
-use Rattle.std.proofs.Common.{refl, sym}
-use Rattle.x86_64_tables.proofs.Places.{found_there, within, read}
+use Rattle.x86_64_tables.proofs.Places.{within, read}
+use Rattle.x86_64_tables.proofs.PlacesInOrder.{stands_there}
 use Rattle.x86_64_tables.proofs.phys_memory.PhysMemoryIndexFramePlace.index.Goals as goal
-
-pub index_there-index-requires : goal.index_there-index-requires
-index_there-index-requires c =
-    let inside = c.self.inside in
-    rw c.number.ensures (found_there inside.places inside.tables.items c.args.self.now c.self.invariant.0 c.self.view_is c.args.place c.requires _ refl)
 
 pub index-requires : goal.index-requires
 index-requires c =
     let inside = c.self.inside in
-    let found = sym (rw c.number.ensures at c.index_there-index.ensures) in
-    rw inside.tables.ok.0 (within inside.places inside.tables.items c.args.self.now c.self.invariant.0 c.self.view_is c.args.place c.index_there-index.result found)
+    let places = inside.places in
+    let tables = inside.tables.items in
+    let place = c.args.place in
+    let found = stands_there places tables c.args.self.now c.self.invariant.0 c.self.view_is c.self.invariant.1 (c.is_dense.ensures c.if-is_dense.true) place c.requires in
+    rw (c.number.ensures, inside.tables.ok.0) (within places tables c.args.self.now c.self.invariant.0 c.self.view_is place place found)
 
-pub returns : goal.returns
-returns c =
+pub returns-then-is_dense : goal.returns-then-is_dense
+returns-then-is_dense c =
     let inside = c.self.inside in
-    let found = sym (rw c.number.ensures at c.index_there-index.ensures) in
-    read inside.places inside.tables.items c.args.self.now c.self.invariant.0 c.self.view_is c.args.place c.index_there-index.result c.index.result.now found c.index.ensures
+    let places = inside.places in
+    let tables = inside.tables.items in
+    let place = c.args.place in
+    let found = stands_there places tables c.args.self.now c.self.invariant.0 c.self.view_is c.self.invariant.1 (c.is_dense.ensures c.if-is_dense.true) place c.requires in
+    read places tables c.args.self.now c.self.invariant.0 c.self.view_is place place c.index.result.now found (rw c.number.ensures at c.index.ensures)
