@@ -145,7 +145,8 @@ fn serve_page<S: PageSize, M: Mapper<S>, F: FrameStore, K: Tokens>(
     ensures step { let layout = (M.hierarchy mapper.old).layout in
         let start = state_of layout (M.hierarchy mapper.old).memory (F.supply frames.old) in
         let after = state_of layout (M.hierarchy mapper.new).memory (F.supply frames.new) in
-        size_step (machine_of layout F.put) S.LEVEL start call ≡ record { state = after; reply = Some result } }
+        size_step (machine_of layout F.put) S.LEVEL start call
+        ≡ record { state = after; reply = Some result } }
     ensures still { let memory = (M.hierarchy mapper.old).memory in
         changes_nothing_where result ≡ true → (M.hierarchy mapper.new).memory ≡ memory }
     ensures keeps { let h = M.hierarchy mapper.old in

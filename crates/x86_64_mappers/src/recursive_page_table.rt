@@ -133,7 +133,8 @@ impl<A: WalkedTables> Recursive<A> {
     ///
     /// Condition: the hierarchy is valid for the index.
     pub fn new_unchecked(active: A, index: PageTableIndex) -> Self
-        requires { let memory = A.memory active in ValidIn (recursive_now memory (A.root active) index) memory }
+        requires { let memory = A.memory active in
+            ValidIn (recursive_now memory (A.root active) index) memory }
         ensures active { active_in result ≡ active }
         ensures layout { let now = recursive_now (A.memory active) (A.root active) index in
             (⟦<Self as Tables>⟧.hierarchy result).layout ≡ now }
