@@ -40,7 +40,7 @@ fn report(rt: &impl Eprint, ending: Ending) -> ExitCode {
     };
     match told {
         Ok(()) => exit_code(ending),
-        Err(error) => exit_code(Ending::Stopped(Fault::from(error))),
+        Err(_) => exit_code(Ending::Stopped(Fault::Output)),
     }
 }
 

@@ -52,9 +52,9 @@ fits_at_end (Pair index) frames twin copied = (
 )
 
 -- so the test of the image is that of the hierarchy after it
-pub ends : (before after : Hierarchy) → HasCopy before → after.frames.memory ≡ first_memory before.mode before.frames.memory → after.frames.pool ≡ before.frames.pool
-    → after.mode ≡ before.mode → after.twin ≡ before.twin → (fits : Bool) → IsTrue fits ↔ (FitsImage before × IsReached before.mode before.frames.memory) → IsTrue fits ↔ IsHierarchy after
-ends before after copied memory pool mode twin fits tested =
+pub ends : (before after : Hierarchy) → HasCopy before → IsReached before.mode before.frames.memory → after.frames.memory ≡ first_memory before.mode before.frames.memory
+    → after.frames.pool ≡ before.frames.pool → after.mode ≡ before.mode → after.twin ≡ before.twin → (fits : Bool) → IsTrue fits ↔ FitsImage before → IsTrue fits ↔ IsHierarchy after
+ends before after copied reached memory pool mode twin fits tested =
     let same : after ≡ first_hierarchy before.mode before.frames before.twin = λ i. record { mode = mode i; frames = record { memory = memory i; pool = pool i }; twin = twin i } in
     let both = fits_at_end before.mode before.frames before.twin copied in
-    (λ is. subst (λ (h : Hierarchy). IsHierarchy h) (sym same) (both.0 (tested.0 is)), λ is. tested.1 (both.1 (subst (λ (h : Hierarchy). IsHierarchy h) same is)))
+    (λ is. subst (λ (h : Hierarchy). IsHierarchy h) (sym same) (both.0 (tested.0 is, reached)), λ is. tested.1 (both.1 (subst (λ (h : Hierarchy). IsHierarchy h) same is)).0)

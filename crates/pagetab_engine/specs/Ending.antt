@@ -1,6 +1,6 @@
 -- Exit statuses.
 use Rattle.std.specs.Prelude.{ℕ}
-use Rattle.pagetab_engine.specs.declared.ending.Fault.TheVariants.{BadLine, InvalidHierarchy, OutOfMemory, InputOutput, Usage}
+use Rattle.pagetab_engine.specs.declared.ending.Fault.TheVariants.{BadLine, InvalidHierarchy, OutOfMemory, Input, Output, Usage}
 use Rattle.pagetab_engine.specs.declared.ending.Ending.{Ending}
 use Rattle.pagetab_engine.specs.declared.ending.Ending.TheVariants.{Done, Stopped}
 
@@ -10,5 +10,6 @@ status_of Done = 0
 status_of (Stopped (BadLine number)) = 1
 status_of (Stopped InvalidHierarchy) = 2
 status_of (Stopped OutOfMemory) = 3
-status_of (Stopped InputOutput) = 4
+status_of (Stopped Input) = 4
+status_of (Stopped Output) = 4
 status_of (Stopped Usage) = 5

@@ -1,13 +1,15 @@
 pub mod Number
 pub mod Arguments
-pub mod Line
 pub mod Starts
 pub mod Fields
 pub mod PageCalls
 pub mod Slot
 pub mod Statements
+pub mod Lines
 pub mod Frames
 pub mod Calls
 pub mod Hierarchy
 pub mod Reply
 pub mod Ending
+pub mod Texts
+pub mod Program

@@ -1,9 +1,10 @@
 -- What answers a command, and what it leaves.
-use Rattle.std.specs.Prelude.{◌≡◌, Some, option_map}
+use Rattle.std.specs.Prelude.{◌≡◌, ⊤, true, Some, option_map}
 use Rattle.x86_64_model.specs.Machine.{State}
 use Rattle.x86_64_model.specs.Memory.{words_of, identity_places}
 use Rattle.x86_64_model.specs.PageWalk.{page_walk}
 use Rattle.x86_64_tables.specs.Walks.{walked_of}
+use Rattle.pagetab_engine.specs.Arguments.{is_named}
 use Rattle.pagetab_engine.specs.Hierarchy.{call_step, state_of}
 use Rattle.pagetab_engine.specs.Slot.{word_in}
 use Rattle.pagetab_engine.specs.declared.hierarchy.Hierarchy.{Hierarchy}
@@ -19,6 +20,11 @@ IsReply hierarchy (command.Walk addr) (reply.Arrival walked) = option_map walked
 IsReply hierarchy (command.Show slot) (reply.Word word) = word ≡ word_in hierarchy.frames.memory slot.place slot.index
 IsReply hierarchy command.Pool (reply.Pool frames) = frames.items ≡ hierarchy.frames.pool.frames
 IsReply hierarchy asked told = ⊥
+
+-- a command that is no call only reads, and so does a call that names the recursive index of a pair
+abbrev pub OnlyReads : Hierarchy → Command → Type 0
+OnlyReads hierarchy (command.Call call) = is_named hierarchy.mode call ≡ true
+OnlyReads hierarchy asked = ⊤
 
 -- the state after a command: the machine's after a call, and the same after another
 abbrev pub state_after : Hierarchy → Command → State

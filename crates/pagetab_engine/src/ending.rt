@@ -1,10 +1,10 @@
 //! How runs of the program end.
-ghost use Rattle.std.specs.Prelude.{◌≡◌};
+ghost use Rattle.std.specs.Prelude.{◌≡◌, Some};
 ghost use Rattle.pagetab_engine.specs.Ending.{status_of};
+ghost use Rattle.pagetab_engine.specs.Texts.{fault_text};
 
 use std::alloc::AllocError;
 use std::fmt::{Display, Formatter, Result as FmtResult, Write};
-use std::io;
 
 /// Says why a run ended before its input did.
 #[derive(Clone, Copy, Debug, PartialEq, Eq)]
@@ -15,8 +15,10 @@ pub enum Fault {
     InvalidHierarchy,
     /// Memory was refused.
     OutOfMemory,
-    /// A read or a write failed.
-    InputOutput,
+    /// A read failed.
+    Input,
+    /// A write failed.
+    Output,
     /// The arguments were not those of the program.
     Usage,
 }
@@ -40,7 +42,7 @@ impl Ending {
             Ending::Stopped(Fault::BadLine(_)) => 1,
             Ending::Stopped(Fault::InvalidHierarchy) => 2,
             Ending::Stopped(Fault::OutOfMemory) => 3,
-            Ending::Stopped(Fault::InputOutput) => 4,
+            Ending::Stopped(Fault::Input | Fault::Output) => 4,
             Ending::Stopped(Fault::Usage) => 5,
         }
     }
@@ -56,23 +58,15 @@ impl From<AllocError> for Fault {
     }
 }
 
-impl From<io::Error> for Fault {
-    ghost use Rattle.pagetab_engine.specs.declared.ending.Fault.TheVariants.{InputOutput};
-
-    ghost from_gives = { λ _ fault. fault ≡ InputOutput };
-
-    fn from(_error: io::Error) -> Fault {
-        Fault::InputOutput
-    }
-}
-
 impl Display for Fault {
+    ghost output = { λ fault. Some (fault_text fault) };
+
     fn fmt<W: Write>(&self, f: &mut Formatter<W>) -> FmtResult {
         match self {
             Fault::BadLine(number) => write!(f, "bad line {number}"),
             Fault::InvalidHierarchy => f.write_str("invalid hierarchy"),
             Fault::OutOfMemory => f.write_str("out of memory"),
-            Fault::InputOutput => f.write_str("input or output failed"),
+            Fault::Input | Fault::Output => f.write_str("input or output failed"),
             Fault::Usage => f.write_str(
                 "usage: pagetab direct N | offset N OFF | recursive N R | pair N R",
             ),

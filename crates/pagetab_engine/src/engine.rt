@@ -1,7 +1,10 @@
 //! The run of the program.
-ghost use Rattle.std.specs.Prelude.{◌≡◌, IfOk, OnOk, OnErr};
-ghost use Rattle.pagetab_engine.specs.Hierarchy.{state_of, HasCopy, IsHierarchy, Keeps};
-ghost use Rattle.pagetab_engine.specs.Reply.{IsReply, state_after};
+ghost use Rattle.std.specs.Prelude.{◌≡◌, [], map, string_bytes, IfOk, IfErr, IfSome, OnOk, OnErr};
+ghost use Rattle.pagetab_engine.specs.Hierarchy.{state_of, HasCopy, IsHierarchy, IsReached, Keeps};
+ghost use Rattle.pagetab_engine.specs.Lines.{lines_left};
+ghost use Rattle.pagetab_engine.specs.Program.{LoadsImage, Reads, Replies, Runs, Served, StopsAt, ending_of};
+ghost use Rattle.pagetab_engine.specs.Reply.{IsReply, OnlyReads, state_after};
+ghost use Rattle.pagetab_engine.specs.declared.ending.Ending.TheVariants.{Stopped};
 
 use crate::arguments::Arguments;
 use crate::ending::{Ending, Fault};
@@ -23,13 +26,17 @@ use std::io::{Read, Write};
 ///   the first one's without the root's word R. A call that names the index R is not allowed, also where it only reads;
 ///   `walk`, `show` and `pool` look at the memory and the free frames of the first one.
 ///
-/// Each reply is a line, written by one `write_all`.
+/// Each reply is a line, written by one `write_all`. The arguments and the input alone decide the replies and the ending, unless
+/// memory is refused, or a read or a write fails: then the replies given so far are whole, but for the one whose write failed.
 pub fn run<R: Read, W: Write>(
     alloc: Global,
     words: &[String],
     reader: &mut R,
     writer: &mut W,
-) -> Ending {
+) -> Ending
+    ensures { IfSome (R.remaining reader.old) (λ input. let words = map string_bytes words.now in
+        Runs words input (W.contents writer.old) (W.contents writer.new) result) }
+{
     match serve(alloc, words, reader, writer) {
         Ok(()) => Ending::Done,
         Err(fault) => Ending::Stopped(fault),
@@ -42,7 +49,10 @@ fn serve<R: Read, W: Write>(
     words: &[String],
     reader: &mut R,
     writer: &mut W,
-) -> Result<(), Fault> {
+) -> Result<(), Fault>
+    ensures { IfSome (R.remaining reader.old) (λ input. let words = map string_bytes words.now in
+        Runs words input (W.contents writer.old) (W.contents writer.new) (ending_of result)) }
+{
     let Some(arguments) = Arguments::parse(words) else {
         return Err(Fault::Usage);
     };
@@ -56,7 +66,17 @@ fn serve<R: Read, W: Write>(
     if !hierarchy.end_image(alloc)? {
         return Err(Fault::InvalidHierarchy);
     }
-    answer_commands(alloc, &mut lines, &mut hierarchy, places, first, writer)
+    match first {
+        Some(command) => answer_commands(
+            alloc,
+            &mut lines,
+            &mut hierarchy,
+            places,
+            command,
+            writer,
+        ),
+        None => Ok(()),
+    }
 }
 
 /// Loads the image, and gives the command that follows, or `None` at the end of the input.
@@ -65,18 +85,23 @@ fn read_image<R: Read>(
     hierarchy: &mut Hierarchy,
     places: u64,
 ) -> Result<Option<Command>, Fault>
-    requires { HasCopy hierarchy.old }
-    ensures { HasCopy hierarchy.new }
+    requires copy { HasCopy hierarchy.old }
+    requires reached { IsReached hierarchy.old.mode hierarchy.old.frames.memory }
+    ensures read { IfOk result (λ first. IfSome (lines_left R.remaining lines.old) (λ known.
+        LoadsImage places known hierarchy.old first (lines_left R.remaining lines.new) hierarchy.new)) }
+    ensures stopped { IfErr result (λ fault. IfSome (lines_left R.remaining lines.old) (λ known.
+        Reads places known hierarchy.old (Stopped fault) [])) }
+    ensures copy { HasCopy hierarchy.new }
+    ensures reached { IsReached hierarchy.new.mode hierarchy.new.frames.memory }
 {
-    for _ in 0..u64::MAX {
-        match lines.next_statement(places)? {
-            Some(Statement::Image(line)) => {
+    while let Some(statement) = lines.next_statement(places)? {
+        match statement {
+            Statement::Image(line) => {
                 if hierarchy.load(&line).is_err() {
                     return Err(lines.fault());
                 }
             }
-            Some(Statement::Command(command)) => return Ok(Some(command)),
-            None => return Ok(None),
+            Statement::Command(command) => return Ok(Some(command)),
         }
     }
     Ok(None)
@@ -88,27 +113,40 @@ fn answer_commands<R: Read, W: Write>(
     lines: &mut Lines<'_, R>,
     hierarchy: &mut Hierarchy,
     places: u64,
-    first: Option<Command>,
+    first: Command,
     writer: &mut W,
 ) -> Result<(), Fault>
     requires { IsHierarchy hierarchy.old }
-    ensures { Keeps hierarchy.old hierarchy.new }
+    ensures { let old = W.contents writer.old in let new = W.contents writer.new in
+        IfSome (lines_left R.remaining lines.old) (λ behind.
+        Served places first behind hierarchy.old old new (ending_of result)) }
 {
-    let mut next = first;
-    for _ in 0..u64::MAX {
-        let Some(command) = next else {
-            break;
-        };
-        let reply = answer(alloc, hierarchy, command)?;
-        let text = format!(in alloc; "{reply}\n")?;
-        writer.write_all(text.as_bytes())?;
-        next = match lines.next_statement(places)? {
-            Some(Statement::Command(command)) => Some(command),
-            Some(Statement::Image(_)) => return Err(lines.fault()),
-            None => None,
-        };
+    write_reply(alloc, hierarchy, first, writer)?;
+    while let Some(statement) = lines.next_statement(places)? {
+        match statement {
+            Statement::Command(command) => write_reply(alloc, hierarchy, command, writer)?,
+            Statement::Image(_) => return Err(lines.fault()),
+        }
     }
     Ok(())
+}
+
+/// Answers a command, and writes the line of the reply.
+fn write_reply<W: Write>(
+    alloc: Global,
+    hierarchy: &mut Hierarchy,
+    command: Command,
+    writer: &mut W,
+) -> Result<(), Fault>
+    requires { IsHierarchy hierarchy.old }
+    ensures answered { OnOk result (
+        Replies command hierarchy.old hierarchy.new (W.contents writer.old) (W.contents writer.new)) }
+    ensures stopped { IfErr result (StopsAt (W.contents writer.old) (W.contents writer.new)) }
+    ensures keeps { Keeps hierarchy.old hierarchy.new }
+{
+    let reply = answer(alloc, hierarchy, command)?;
+    let text = format!(in alloc; "{reply}\n")?;
+    writer.write_all(text.as_bytes()).map_err(|_| Fault::Output)
 }
 
 /// Answers a command.
@@ -120,6 +158,7 @@ fn answer(alloc: Global, hierarchy: &mut Hierarchy, command: Command) -> Result<
     requires { IsHierarchy hierarchy.old }
     ensures reply { IfOk result (IsReply hierarchy.old command) }
     ensures state { OnOk result (state_of hierarchy.new ≡ state_after hierarchy.old command) }
+    ensures reads { OnlyReads hierarchy.old command → hierarchy.new ≡ hierarchy.old }
     ensures unchanged { OnErr result (hierarchy.new ≡ hierarchy.old) }
     ensures keeps { Keeps hierarchy.old hierarchy.new }
 {

@@ -82,6 +82,8 @@ impl Hierarchy {
         ensures limit { self.new.frames.pool.limit ≡ self.old.frames.pool.limit }
         ensures mode { self.new.mode ≡ self.old.mode }
         ensures copy { HasCopy self.new }
+        ensures reached { IsReached self.old.mode self.old.frames.memory →
+            IsReached self.new.mode self.new.frames.memory }
     {
         self.frames.load(line)?;
         match self.mode {
@@ -90,24 +92,26 @@ impl Hierarchy {
         }
     }
 
-    /// Ends the image: tells whether the hierarchy is valid, its free frames fit it, and the mapper reaches each place. In a pair
-    /// the hierarchy is the recursive mapper's, and the root's word at the index becomes 0 for the other one.
+    /// Ends the image: tells whether the hierarchy is valid, and its free frames fit it. In a pair the hierarchy is the recursive
+    /// mapper's, and the root's word at the index becomes 0 for the other one.
+    ///
+    /// Condition: the mapper reaches each place.
     ///
     /// # Errors
     ///
     /// `AllocError` where memory is refused.
     pub fn end_image(&mut self, alloc: Global) -> Result<bool, AllocError>
-        requires { HasCopy self.old }
+        requires copy { HasCopy self.old }
+        requires reached { IsReached self.old.mode self.old.frames.memory }
         ensures fits { IfOk result (λ fits. IsTrue fits ↔ IsHierarchy self.new) }
-        ensures tested { let mode = self.old.mode in
-            IfOk result (λ fits. IsTrue fits ↔ (FitsImage self.old × IsReached mode self.old.frames.memory)) }
+        ensures tested { IfOk result (λ fits. IsTrue fits ↔ FitsImage self.old) }
         ensures memory { OnOk result (
             self.new.frames.memory ≡ first_memory self.old.mode self.old.frames.memory) }
         ensures pool { self.new.frames.pool ≡ self.old.frames.pool }
         ensures mode { self.new.mode ≡ self.old.mode }
         ensures twin { self.new.twin ≡ self.old.twin }
     {
-        let fits = self.fits(alloc)? && self.is_reached();
+        let fits = self.fits(alloc)?;
         self.clear_self_entry();
         Ok(fits)
     }

@@ -1,6 +1,8 @@
 //! The lines of the input.
-ghost use Rattle.std.specs.Prelude.{◌≡◌, ◌≤◌, IfOk, IfErr, IfSome};
-ghost use Rattle.pagetab_engine.specs.Line.{FitsLine, IsReadFault};
+ghost use Rattle.std.specs.Prelude.{◌≡◌, ◌≤◌, ◌<◌, IfOk, IfErr, IfSome, MatchBool};
+ghost use Rattle.std.specs.Io.KnownBytes.{IsAtEnd, Keeps};
+ghost use Rattle.std.specs.List.{list_all};
+ghost use Rattle.pagetab_engine.specs.Fields.{is_space};
 ghost use Rattle.pagetab_engine.specs.Statements.{IsAccepted};
 ghost use Rattle.pagetab_engine.specs.declared.ending.Fault.TheVariants.{BadLine};
 
@@ -37,9 +39,12 @@ enum Line {
 }
 
 impl<'a, R: Read> Lines<'a, R> {
+    ghost use Rattle.pagetab_engine.specs.Lines.{bytes_left};
+
     /// Begins at the first line.
     pub fn new(reader: &'a mut R) -> Self
-        ensures { result.number ≡ 0 }
+        ensures number { result.number ≡ 0 }
+        ensures bytes { bytes_left R.remaining result ≡ R.remaining reader.old }
     {
         Lines {
             reader,
@@ -52,24 +57,32 @@ impl<'a, R: Read> Lines<'a, R> {
 }
 
 impl<R: Read> Lines<'_, R> {
+    ghost use Rattle.pagetab_engine.specs.Lines.{bytes_left, lines_left, ExplainsRead, FitsLine, IsCounted, IsReadFault, ReadsLine, ReadsStatement, TakesByte};
+
     /// Reads the next statement about a memory with so many places, or `None` at the end. Empty lines are passed over.
     ///
     /// # Errors
     ///
-    /// `Fault::BadLine` where the line can't be read, and `Fault::InputOutput` where the reader fails.
+    /// `Fault::BadLine` where the line can't be read, and `Fault::Input` where the reader fails or has more lines than a
+    /// `u64` counts.
     pub fn next_statement(&mut self, places: u64) -> Result<Option<Statement>, Fault>
+        ensures next { IfOk result (λ next. IfSome (lines_left R.remaining self.old) (λ lines.
+            ReadsStatement places lines self.new.number (lines_left R.remaining self.new) next)) }
         ensures accepted { IfOk result (λ next. IfSome next (λ statement. IsAccepted places statement)) }
+        ensures counted { IfOk result (λ next. IfSome next (λ _. IsCounted self.old.number self.new.number)) }
+        ensures why { IfErr result (λ fault. IfSome (lines_left R.remaining self.old) (λ lines.
+            ExplainsRead places lines fault)) }
         ensures fault { IfErr result (IsReadFault self.new.number) }
     {
         let mut line = [0; LONGEST];
-        for _ in 0..u64::MAX {
-            self.number = self.number.saturating_add(1);
-            let text = match self.next_line(&mut line)? {
+        while let Some(number) = self.number.checked_add(1) {
+            self.number = number;
+            let text = match self.next_line(&mut line).map_err(|_| Fault::Input)? {
                 Line::End => return Ok(None),
                 Line::TooLong => return Err(self.fault()),
                 Line::Text(length) => &line[..length],
             };
-            if text.iter().all(|byte| *byte == b' ') {
+            if is_blank(text) {
                 continue;
             }
             return match Statement::parse(text, places) {
@@ -77,7 +90,7 @@ impl<R: Read> Lines<'_, R> {
                 None => Err(self.fault()),
             };
         }
-        Ok(None)
+        Err(Fault::Input)
     }
 
     /// Gives the fault that the line that was read last is bad.
@@ -89,35 +102,56 @@ impl<R: Read> Lines<'_, R> {
 
     /// Reads the next line into the front of `line`.
     fn next_line(&mut self, line: &mut [u8; LONGEST]) -> io::Result<Line>
-        ensures { IfOk result FitsLine }
+        ensures fits { IfOk result FitsLine }
+        ensures line { IfOk result (λ told. IfSome (bytes_left R.remaining self.old) (λ bytes.
+            ReadsLine bytes (bytes_left R.remaining self.new) line.new told)) }
+        ensures number { self.new.number ≡ self.old.number }
     {
-        let mut length = 0;
-        for _ in 0..u64::MAX {
+        for length in 0..LONGEST {
             match self.next_byte()? {
                 None if length == 0 => return Ok(Line::End),
                 None | Some(b'\n') => return Ok(Line::Text(length)),
-                Some(_) if length >= LONGEST => return Ok(Line::TooLong),
-                Some(byte) => {
-                    line[length] = byte;
-                    length += 1;
-                }
+                Some(byte) => line[length] = byte,
             }
         }
-        Ok(Line::End)
+        match self.next_byte()? {
+            None | Some(b'\n') => Ok(Line::Text(LONGEST)),
+            Some(_) => Ok(Line::TooLong),
+        }
     }
 
     /// Reads the next byte, or `None` at the end.
-    fn next_byte(&mut self) -> io::Result<Option<u8>> {
-        if self.at == self.end {
-            self.at = 0;
-            self.end = 0;
-            self.end = self.reader.read(&mut self.buffer)?;
-            if self.end == 0 {
-                return Ok(None);
-            }
+    fn next_byte(&mut self) -> io::Result<Option<u8>>
+        ensures byte { IfOk result (λ next.
+            TakesByte (bytes_left R.remaining self.old) (bytes_left R.remaining self.new) next) }
+        ensures number { self.new.number ≡ self.old.number }
+    {
+        if self.at == self.end && !self.fill()? {
+            return Ok(None);
         }
         let byte = self.buffer[self.at];
         self.at += 1;
         Ok(Some(byte))
     }
+
+    /// Reads into the buffer, of which nothing is left. Answers `false` at the end of the input.
+    fn fill(&mut self) -> io::Result<bool>
+        requires { self.old.at ≡ self.old.end }
+        ensures bytes { Keeps (bytes_left R.remaining self.old) (bytes_left R.remaining self.new) }
+        ensures filled { IfOk result (λ filled.
+            MatchBool filled (self.new.at < self.new.end) (IsAtEnd (bytes_left R.remaining self.new))) }
+        ensures number { self.new.number ≡ self.old.number }
+    {
+        self.at = 0;
+        self.end = 0;
+        self.end = self.reader.read(&mut self.buffer)?;
+        Ok(self.end > 0)
+    }
+}
+
+/// Tests whether a line has spaces alone.
+fn is_blank(line: &[u8]) -> bool
+    ensures { result ≡ list_all is_space line.now }
+{
+    line.iter().all(|byte| *byte == b' ')
 }

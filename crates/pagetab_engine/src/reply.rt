@@ -1,4 +1,8 @@
 //! The texts of replies.
+ghost use Rattle.std.specs.Prelude.{◌≡◌, Some};
+ghost use Rattle.std.specs.Fmt.{WritesOnOk};
+ghost use Rattle.pagetab_engine.specs.Texts as texts;
+
 use bitflags::Flags;
 use std::fmt::{Display, Formatter, Result as FmtResult, Write};
 use x86_64::structures::paging::mapper::{
@@ -27,31 +31,45 @@ pub enum Reply {
 }
 
 impl Display for Reply {
+    ghost output = { λ reply. Some (texts.reply_text reply) };
+
     fn fmt<W: Write>(&self, f: &mut Formatter<W>) -> FmtResult {
         match self {
             Reply::Answered(answer) => write_answer(f, answer),
             Reply::Arrival(None) => f.write_str("none"),
-            Reply::Arrival(Some(walked)) => {
-                let address = walked.address.as_u64();
-                let write = u8::from(walked.write);
-                let user = u8::from(walked.user);
-                write!(f, "{address:#x} write={write} user={user}")
-            }
-            Reply::Word(word) => write!(f, "{word:#x}"),
-            Reply::Pool(frames) => {
-                f.write_str("pool")?;
-                for frame in frames {
-                    let start = frame.start_address().as_u64();
-                    write!(f, " {start:#x}")?;
-                }
-                Ok(())
-            }
+            Reply::Arrival(Some(walked)) => write_walked(f, *walked),
+            Reply::Word(word) => write_number(f, *word),
+            Reply::Pool(frames) => write_pool(f, frames),
         }
     }
 }
 
+/// Writes where the processor arrives.
+fn write_walked<W: Write>(f: &mut Formatter<W>, walked: Walked) -> FmtResult
+    ensures { WritesOnOk W.write_str_gives f.old result (texts.walked_text (Some walked)) f.new }
+{
+    let address = walked.address.as_u64();
+    let write = u8::from(walked.write);
+    let user = u8::from(walked.user);
+    write!(f, "0x{address:x} write={write} user={user}")
+}
+
+/// Writes the free frames.
+fn write_pool<W: Write>(f: &mut Formatter<W>, frames: &[PhysFrame<Size4KiB>]) -> FmtResult
+    ensures { WritesOnOk W.write_str_gives f.old result (texts.pool_text frames.now) f.new }
+{
+    f.write_str("pool")?;
+    for frame in frames {
+        f.write_str(" ")?;
+        write_address(f, frame.start_address())?;
+    }
+    Ok(())
+}
+
 /// Writes the reply to a call.
-fn write_answer<W: Write>(f: &mut Formatter<W>, answer: &CallReply) -> FmtResult {
+fn write_answer<W: Write>(f: &mut Formatter<W>, answer: &CallReply) -> FmtResult
+    ensures { WritesOnOk W.write_str_gives f.old result (texts.call_text answer.now) f.new }
+{
     match answer {
         CallReply::Of4KiB(reply) => write_size_reply(f, reply),
         CallReply::Of2MiB(reply) => write_size_reply(f, reply),
@@ -65,10 +83,9 @@ fn write_answer<W: Write>(f: &mut Formatter<W>, answer: &CallReply) -> FmtResult
 }
 
 /// Writes the reply to a call on a page.
-fn write_size_reply<S: PageSize, W: Write>(
-    f: &mut Formatter<W>,
-    reply: &SizeReply<S>,
-) -> FmtResult {
+fn write_size_reply<S: PageSize, W: Write>(f: &mut Formatter<W>, reply: &SizeReply<S>) -> FmtResult
+    ensures { WritesOnOk W.write_str_gives f.old result (texts.page_text reply.now) f.new }
+{
     match reply {
         SizeReply::Map(Ok(_)) => f.write_str("ok"),
         SizeReply::Map(Err(error)) => write_map_error(f, error),
@@ -84,10 +101,9 @@ fn write_size_reply<S: PageSize, W: Write>(
 }
 
 /// Writes why a page was not mapped.
-fn write_map_error<S: PageSize, W: Write>(
-    f: &mut Formatter<W>,
-    error: &MapToError<S>,
-) -> FmtResult {
+fn write_map_error<S: PageSize, W: Write>(f: &mut Formatter<W>, error: &MapToError<S>) -> FmtResult
+    ensures { WritesOnOk W.write_str_gives f.old result (texts.map_error_text error.now) f.new }
+{
     match error {
         MapToError::FrameAllocationFailed => f.write_str("frame allocation failed"),
         MapToError::ParentEntryHugePage => f.write_str(PARENT_ENTRY_HUGE_PAGE),
@@ -99,7 +115,9 @@ fn write_map_error<S: PageSize, W: Write>(
 }
 
 /// Writes why a page was not unmapped.
-fn write_unmap_error<W: Write>(f: &mut Formatter<W>, error: &UnmapError) -> FmtResult {
+fn write_unmap_error<W: Write>(f: &mut Formatter<W>, error: &UnmapError) -> FmtResult
+    ensures { WritesOnOk W.write_str_gives f.old result (texts.unmap_error_text error.now) f.new }
+{
     match error {
         UnmapError::PageNotMapped => f.write_str(PAGE_NOT_MAPPED),
         UnmapError::ParentEntryHugePage => f.write_str(PARENT_ENTRY_HUGE_PAGE),
@@ -108,7 +126,9 @@ fn write_unmap_error<W: Write>(f: &mut Formatter<W>, error: &UnmapError) -> FmtR
 }
 
 /// Writes why flags were not set.
-fn write_flags_error<W: Write>(f: &mut Formatter<W>, error: &FlagUpdateError) -> FmtResult {
+fn write_flags_error<W: Write>(f: &mut Formatter<W>, error: &FlagUpdateError) -> FmtResult
+    ensures { WritesOnOk W.write_str_gives f.old result (texts.flags_error_text error.now) f.new }
+{
     f.write_str(match error {
         FlagUpdateError::PageNotMapped => PAGE_NOT_MAPPED,
         FlagUpdateError::ParentEntryHugePage => PARENT_ENTRY_HUGE_PAGE,
@@ -116,7 +136,9 @@ fn write_flags_error<W: Write>(f: &mut Formatter<W>, error: &FlagUpdateError) ->
 }
 
 /// Writes why a page has no frame.
-fn write_frame_error<W: Write>(f: &mut Formatter<W>, error: &TranslateError) -> FmtResult {
+fn write_frame_error<W: Write>(f: &mut Formatter<W>, error: &TranslateError) -> FmtResult
+    ensures { WritesOnOk W.write_str_gives f.old result (texts.frame_error_text error.now) f.new }
+{
     match error {
         TranslateError::PageNotMapped => f.write_str(PAGE_NOT_MAPPED),
         TranslateError::ParentEntryHugePage => f.write_str(PARENT_ENTRY_HUGE_PAGE),
@@ -125,22 +147,28 @@ fn write_frame_error<W: Write>(f: &mut Formatter<W>, error: &TranslateError) -> 
 }
 
 /// Writes that a page's entry has no address of a frame of its size.
-fn write_invalid_address<W: Write>(f: &mut Formatter<W>, address: PhysAddr) -> FmtResult {
+fn write_invalid_address<W: Write>(f: &mut Formatter<W>, address: PhysAddr) -> FmtResult
+    ensures { WritesOnOk W.write_str_gives f.old result (texts.invalid_frame_address address) f.new }
+{
     f.write_str("invalid frame address ")?;
     write_address(f, address)
 }
 
 /// Writes where an address is mapped to.
-fn write_translation<W: Write>(f: &mut Formatter<W>, translation: &TranslateResult) -> FmtResult {
+fn write_translation<W: Write>(f: &mut Formatter<W>, translation: &TranslateResult) -> FmtResult
+    ensures { WritesOnOk W.write_str_gives f.old result (texts.translation_text translation.now) f.new }
+{
     match translation {
         TranslateResult::Mapped {
             frame,
             offset,
             flags,
         } => {
+            let size = size_name(frame);
+            let start = frame.start_address().as_u64();
+            let offset = *offset;
             let flags = flags.bits();
-            write_frame(f, frame)?;
-            write!(f, " {offset:#x} {flags:#x}")
+            write!(f, "mapped {size} 0x{start:x} 0x{offset:x} 0x{flags:x}")
         }
         TranslateResult::NotMapped | TranslateResult::InvalidFrameAddress(_) => {
             f.write_str("not mapped")
@@ -148,24 +176,27 @@ fn write_translation<W: Write>(f: &mut Formatter<W>, translation: &TranslateResu
     }
 }
 
-/// Writes that a frame is mapped.
-fn write_frame<W: Write>(f: &mut Formatter<W>, frame: &MappedFrame) -> FmtResult {
+/// Gives the name of a frame's size.
+fn size_name(frame: &MappedFrame) -> &'static str
+    ensures { result.now ≡ texts.size_name frame.now }
+{
     match frame {
-        MappedFrame::Size4KiB(frame) => write_frame_of(f, *frame),
-        MappedFrame::Size2MiB(frame) => write_frame_of(f, *frame),
-        MappedFrame::Size1GiB(frame) => write_frame_of(f, *frame),
+        MappedFrame::Size4KiB(_) => "4KiB",
+        MappedFrame::Size2MiB(_) => "2MiB",
+        MappedFrame::Size1GiB(_) => "1GiB",
     }
 }
 
-/// Writes that a frame of a size is mapped.
-fn write_frame_of<S: PageSize, W: Write>(f: &mut Formatter<W>, frame: PhysFrame<S>) -> FmtResult {
-    let size = S::DEBUG_STR;
-    write!(f, "mapped {size} ")?;
-    write_address(f, frame.start_address())
+/// Writes an address.
+fn write_address<W: Write>(f: &mut Formatter<W>, address: PhysAddr) -> FmtResult
+    ensures { WritesOnOk W.write_str_gives f.old result (texts.hexadecimal address) f.new }
+{
+    write_number(f, address.as_u64())
 }
 
-/// Writes an address.
-fn write_address<W: Write>(f: &mut Formatter<W>, address: PhysAddr) -> FmtResult {
-    let number = address.as_u64();
-    write!(f, "{number:#x}")
+/// Writes a number.
+fn write_number<W: Write>(f: &mut Formatter<W>, number: u64) -> FmtResult
+    ensures { WritesOnOk W.write_str_gives f.old result (texts.hexadecimal number) f.new }
+{
+    write!(f, "0x{number:x}")
 }

@@ -1,0 +1,119 @@
+-- The lines of the input, what is left of them, and what is read of one.
+use Rattle.std.specs.Prelude.{◌≡◌, ◌≤◌, ◌<◌, ◌^◌, ◌==◌, ◌&&◌, ℕ, ⊤, suc, nat_le, take, slice_range, cond, Bool, List, [], ◌∷◌, length, option_map, Option, Some, None}
+use Rattle.std.specs.Io.KnownBytes.{Consumes, IsAtEnd, Keeps, prepend_known}
+use Rattle.std.specs.List.{list_all, slice_split}
+use Rattle.pagetab_engine.specs.Fields.{is_space, has_bytes, Says}
+use Rattle.pagetab_engine.specs.Statements.{IsAccepted, IsStatement, SaysStatement}
+use Rattle.pagetab_engine.specs.declared.ending.Fault.{Fault}
+use Rattle.pagetab_engine.specs.declared.ending.Fault.TheVariants.{BadLine, Input}
+use Rattle.pagetab_engine.specs.declared.fields.Name.{Name}
+use Rattle.pagetab_engine.specs.declared.fields.Size.{Size}
+use Rattle.pagetab_engine.specs.declared.lines.Line.{Line}
+use Rattle.pagetab_engine.specs.declared.lines.Line.TheVariants.{Text, TooLong, End}
+use Rattle.pagetab_engine.specs.declared.lines.Lines.{Lines}
+use Rattle.pagetab_engine.specs.declared.statement.Statement.{Statement}
+
+abbrev pub is_line_feed : ℕ → Bool
+is_line_feed byte = byte == 10
+
+-- what is behind the last line feed is a line unless it is empty
+abbrev pub without_empty_last : List (List ℕ) → List (List ℕ)
+without_empty_last [] = []
+without_empty_last (part ∷ []) = cond (has_bytes part) (part ∷ []) []
+without_empty_last (part ∷ other ∷ parts) = part ∷ without_empty_last (other ∷ parts)
+
+-- what stands between line feeds; the last line may lack its own
+unfoldable pub lines_of : List ℕ → List (List ℕ)
+lines_of input = without_empty_last (slice_split is_line_feed input)
+
+-- at most 256 spaces, and nothing else
+abbrev pub is_blank : List ℕ → Bool
+is_blank line = nat_le (length line) 256 && list_all is_space line
+
+-- a line with its number
+pub record Numbered : Type 0 where
+  pub number : ℕ
+  pub line : List ℕ
+
+-- the lines that aren't blank, where the first of all has this number
+abbrev pub numbered_from : (number : ℕ) → List (List ℕ) → List Numbered
+numbered_from number [] = []
+numbered_from number (line ∷ lines) =
+    cond (is_blank line) (numbered_from (suc number) lines)
+    (record { number = number; line = line } ∷ numbered_from (suc number) lines)
+
+-- the bytes that are not taken yet, where they are known: those in the buffer, and then those that the reader has left
+abbrev pub bytes_left : {R : Type 0} → (remaining : R → Option (List ℕ)) → Lines R → Option (List ℕ)
+bytes_left remaining lines = prepend_known (slice_range lines.buffer lines.at lines.end) (remaining lines.reader.now)
+
+-- the lines that are left and aren't blank, with their numbers, where they are known
+abbrev pub lines_left : {R : Type 0} → (remaining : R → Option (List ℕ)) → Lines R → Option (List Numbered)
+lines_left remaining lines = option_map (λ bytes. numbered_from (suc lines.number) (lines_of bytes)) (bytes_left remaining lines)
+
+-- a byte was taken off the front of known bytes, or there was none to take
+abbrev pub TakesByte : (old new : Option (List ℕ)) → Option ℕ → Type 0
+TakesByte old new (Some byte) = Consumes old new (byte ∷ [])
+TakesByte old new None = IsAtEnd old × Keeps old new
+
+-- a line that is not too long has 256 bytes or fewer
+abbrev pub FitsLine : Line → Type 0
+FitsLine (Text length) = length ≤ 256
+FitsLine TooLong = ⊤
+FitsLine End = ⊤
+
+-- the first line is this one, and the bytes behind it are left
+abbrev pub TakesLine : (bytes line : List ℕ) (rest : Option (List ℕ)) → Type 0
+TakesLine bytes line None = ⊥
+TakesLine bytes line (Some rest) = lines_of bytes ≡ line ∷ lines_of rest
+
+-- the first line has more than 256 bytes
+abbrev pub BeginsTooLong : List (List ℕ) → Type 0
+BeginsTooLong [] = ⊥
+BeginsTooLong (line ∷ lines) = ¬ (length line ≤ 256)
+
+-- what was read of the next line of these bytes, where `line` begins with its text
+abbrev pub ReadsLine : (bytes : List ℕ) (rest : Option (List ℕ)) (line : List ℕ) → Line → Type 0
+ReadsLine bytes rest line (Text length) = TakesLine bytes (take length line) rest
+ReadsLine bytes rest line TooLong = BeginsTooLong (lines_of bytes)
+ReadsLine bytes rest line End = lines_of bytes ≡ []
+
+-- the line says a statement about a memory of so many places
+abbrev pub SaysAccepted : (places : ℕ) (line : List ℕ) → Statement → Type 0
+SaysAccepted places line statement = (length line ≤ 256) × SaysStatement line statement × IsAccepted places statement
+
+-- the line has more than 256 bytes, or says no statement about a memory of so many places
+abbrev pub IsBad : (places : ℕ) (line : List ℕ) → Type 0
+IsBad places line =
+    (length line ≤ 256) → (name : Name) (size : Option Size) (numbers : List ℕ) → Says line name size numbers → ¬ (IsStatement places name size numbers)
+
+-- the first line has this number and says this statement, and the lines behind it are left
+abbrev pub TakesStatement : (places : ℕ) (lines : List Numbered) (number : ℕ) (rest : Option (List Numbered)) → Statement → Type 0
+TakesStatement places lines number None statement = ⊥
+TakesStatement places lines number (Some rest) statement =
+    (line : List ℕ) × (lines ≡ record { number = number; line = line } ∷ rest) × SaysAccepted places line statement
+
+-- what was read of these lines: the statement of the first one, of this number; or that there is none
+abbrev pub ReadsStatement : (places : ℕ) (lines : List Numbered) (number : ℕ) (rest : Option (List Numbered)) → Option Statement → Type 0
+ReadsStatement places lines number rest (Some statement) = TakesStatement places lines number rest statement
+ReadsStatement places lines number rest None = lines ≡ []
+
+-- the first line has this number and is bad
+abbrev pub BeginsBad : (places : ℕ) (lines : List Numbered) (number : ℕ) → Type 0
+BeginsBad places [] number = ⊥
+BeginsBad places (first ∷ lines) number = (first.number ≡ number) × IsBad places first.line
+
+-- why no statement of these lines was read: the first one is bad, or a read failed
+abbrev pub ExplainsRead : (places : ℕ) (lines : List Numbered) → Fault → Type 0
+ExplainsRead places lines (BadLine number) = BeginsBad places lines number
+ExplainsRead places lines Input = ⊤
+ExplainsRead places lines fault = ⊥
+
+-- one line or more was counted
+abbrev pub IsCounted : (old new : ℕ) → Type 0
+IsCounted old new = (old < new) × (new < 2 ^ 64)
+
+-- the line of this number is bad, or a read failed
+abbrev pub IsReadFault : (number : ℕ) → Fault → Type 0
+IsReadFault number (BadLine line) = line ≡ number
+IsReadFault number Input = ⊤
+IsReadFault number fault = ⊥

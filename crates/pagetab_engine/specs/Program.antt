@@ -1,0 +1,164 @@
+-- What the program writes and how it ends, by its arguments and the bytes of its input.
+use Rattle.std.specs.Prelude.{◌≡◌, ℕ, ⊤, if◌then◌else◌, nat_lt, List, [], ◌∷◌, ◌++◌, flat_map, Option, Some, None, Result, Ok, Err}
+use Rattle.std.specs.FinMap.{get}
+use Rattle.std.specs.Io.KnownBytes.{Appends}
+use Rattle.x86_64_tables.specs.PageTable.{zero_words}
+use Rattle.pagetab_engine.specs.Arguments.{Says}
+use Rattle.pagetab_engine.specs.Frames.{IsLoadable, memory_after, free_after}
+use Rattle.pagetab_engine.specs.Hierarchy.{state_of, first_memory, FitsImage, HasCopy, IsReached, Keeps}
+use Rattle.pagetab_engine.specs.Lines.{Numbered, numbered_from, lines_of, SaysAccepted, IsBad}
+use Rattle.pagetab_engine.specs.Reply.{IsReply, OnlyReads, state_after}
+use Rattle.pagetab_engine.specs.Texts.{reply_line}
+use Rattle.pagetab_engine.specs.declared.arguments.Arguments.{Arguments}
+use Rattle.pagetab_engine.specs.declared.ending.Ending.{Ending}
+use Rattle.pagetab_engine.specs.declared.ending.Ending.TheVariants.{Done, Stopped}
+use Rattle.pagetab_engine.specs.declared.ending.Fault.{Fault}
+use Rattle.pagetab_engine.specs.declared.ending.Fault.TheVariants.{BadLine, InvalidHierarchy, OutOfMemory, Input, Output, Usage}
+use Rattle.pagetab_engine.specs.declared.hierarchy.Hierarchy.{Hierarchy}
+use Rattle.pagetab_engine.specs.declared.reply.Reply.{Reply}
+use Rattle.pagetab_engine.specs.declared.statement.Command.{Command}
+use Rattle.pagetab_engine.specs.declared.statement.ImageLine.{ImageLine}
+use Rattle.pagetab_engine.specs.declared.statement.Statement.TheVariants as says
+
+-- not the arguments or the input stop the program: memory was refused, or a read or a write failed
+abbrev pub IsForced : Fault → Type 0
+IsForced OutOfMemory = ⊤
+IsForced Input = ⊤
+IsForced Output = ⊤
+IsForced fault = ⊥
+
+-- ---- the commands
+
+-- the line says this command
+abbrev pub SaysCommand : (places : ℕ) → Numbered → Command → Type 0
+SaysCommand places line command = SaysAccepted places line.line (says.Command command)
+
+-- the line says this line of an image
+abbrev pub SaysImage : (places : ℕ) → Numbered → ImageLine → Type 0
+SaysImage places line image = SaysAccepted places line.line (says.Image image)
+
+-- The reply to a command, and what it leaves of the hierarchy.
+pub record Answers (command : Command) (before : Hierarchy) (answer : Reply) (after : Hierarchy) : Type 0 where
+  pub reply : IsReply before command answer
+  pub state : state_of after ≡ state_after before command
+  pub reads : OnlyReads before command → after ≡ before
+  pub keeps : Keeps before after
+
+-- Where the image is read, each line that says a command is answered, and the first other one is bad.
+pub data Serves (places : ℕ) : (lines : List Numbered) → Hierarchy → Ending → (replies : List Reply) → Type 0 where
+  ends : (hierarchy : Hierarchy) → Serves places [] hierarchy Done []
+  answers : (line : Numbered) (lines : List Numbered) (command : Command) (before : Hierarchy) (reply : Reply) (after : Hierarchy) (ending : Ending) (replies : List Reply)
+      → SaysCommand places line command → Answers command before reply after → Serves places lines after ending replies → Serves places (line ∷ lines) before ending (reply ∷ replies)
+  bad_line : (line : Numbered) (lines : List Numbered) (hierarchy : Hierarchy) → IsBad places line.line → Serves places (line ∷ lines) hierarchy (Stopped (BadLine line.number)) []
+  late_image : (line : Numbered) (lines : List Numbered) (image : ImageLine) (hierarchy : Hierarchy)
+      → SaysImage places line image → Serves places (line ∷ lines) hierarchy (Stopped (BadLine line.number)) []
+  gives_up : (lines : List Numbered) (hierarchy : Hierarchy) (fault : Fault) → IsForced fault → Serves places lines hierarchy (Stopped fault) []
+
+-- ---- the image
+
+-- The hierarchy that the program begins with: all words are 0, and no frame is free.
+pub record IsEmpty (arguments : Arguments) (hierarchy : Hierarchy) : Type 0 where
+  pub mode : hierarchy.mode ≡ arguments.mode
+  pub memory : (place : ℕ) → get hierarchy.frames.memory place ≡ (if nat_lt place arguments.places then Some zero_words else None)
+  pub free : hierarchy.frames.pool.frames ≡ []
+  pub limit : hierarchy.frames.pool.limit ≡ arguments.places
+  pub copy : HasCopy hierarchy
+
+-- A line of the image sets its word, or adds its frame at the back of the free ones; in a pair the other mapper gets it too.
+pub record Loads (image : ImageLine) (before after : Hierarchy) : Type 0 where
+  pub accepted : IsLoadable before.frames image
+  pub memory : after.frames.memory ≡ memory_after before.frames image
+  pub free : after.frames.pool.frames ≡ free_after before.frames image
+  pub limit : after.frames.pool.limit ≡ before.frames.pool.limit
+  pub mode : after.mode ≡ before.mode
+  pub copy : HasCopy after
+
+-- The hierarchy of the first command: in a pair the mapper that isn't recursive lacks the self-entry.
+pub record IsFirst (image first : Hierarchy) : Type 0 where
+  pub memory : first.frames.memory ≡ first_memory image.mode image.frames.memory
+  pub pool : first.frames.pool ≡ image.frames.pool
+  pub mode : first.mode ≡ image.mode
+  pub twin : first.twin ≡ image.twin
+
+-- the image is read: the next line says a command, or there is none
+abbrev pub IsRead : (places : ℕ) → List Numbered → Type 0
+IsRead places [] = ⊤
+IsRead places (line ∷ lines) = (command : Command) × SaysCommand places line command
+
+-- Each line that says one of an image is loaded. The first other one ends the image, which is tested then, as it is at the end of the input.
+pub data Reads (places : ℕ) : (lines : List Numbered) → Hierarchy → Ending → (replies : List Reply) → Type 0 where
+  loads : (line : Numbered) (lines : List Numbered) (image : ImageLine) (before after : Hierarchy) (ending : Ending) (replies : List Reply)
+      → SaysImage places line image → Loads image before after → Reads places lines after ending replies → Reads places (line ∷ lines) before ending replies
+  bad_line : (line : Numbered) (lines : List Numbered) (hierarchy : Hierarchy) → IsBad places line.line → Reads places (line ∷ lines) hierarchy (Stopped (BadLine line.number)) []
+  refused : (line : Numbered) (lines : List Numbered) (image : ImageLine) (hierarchy : Hierarchy)
+      → SaysImage places line image → ¬ (IsLoadable hierarchy.frames image) → Reads places (line ∷ lines) hierarchy (Stopped (BadLine line.number)) []
+  unfit : (lines : List Numbered) (hierarchy : Hierarchy) → IsRead places lines → ¬ (FitsImage hierarchy) → Reads places lines hierarchy (Stopped InvalidHierarchy) []
+  fits : (lines : List Numbered) (image first : Hierarchy) (ending : Ending) (replies : List Reply)
+      → IsRead places lines → FitsImage image → IsFirst image first → Serves places lines first ending replies → Reads places lines image ending replies
+  gives_up : (lines : List Numbered) (hierarchy : Hierarchy) (fault : Fault) → IsForced fault → Reads places lines hierarchy (Stopped fault) []
+
+-- ---- the run
+
+-- The arguments say a mode and a number of places, and the mapper reaches each place; then the input is read. It may be forced to stop at each line.
+pub data IsRun (words : List (List ℕ)) (input : List ℕ) : Ending → (replies : List Reply) → Type 0 where
+  usage : ((arguments : Arguments) → ¬ (Says words arguments)) → IsRun words input (Stopped Usage) []
+  unreached : (arguments : Arguments) (hierarchy : Hierarchy)
+      → Says words arguments → IsEmpty arguments hierarchy → ¬ (IsReached hierarchy.mode hierarchy.frames.memory) → IsRun words input (Stopped Usage) []
+  reads : (arguments : Arguments) (hierarchy : Hierarchy) (ending : Ending) (replies : List Reply)
+      → Says words arguments → IsEmpty arguments hierarchy → IsReached hierarchy.mode hierarchy.frames.memory
+      → Reads arguments.places (numbered_from 1 (lines_of input)) hierarchy ending replies → IsRun words input ending replies
+  gives_up : (fault : Fault) → IsForced fault → IsRun words input (Stopped fault) []
+
+-- the replies are written in order, each in a line, and nothing else is; after a write that failed nothing is known
+abbrev pub IsWritten : (before after : Option (List ℕ)) → Ending → (replies : List Reply) → Type 0
+IsWritten before after (Stopped Output) replies = ⊤
+IsWritten before after ending replies = Appends before after (flat_map reply_line replies)
+
+-- the replies that say what a run does and how it ends are written
+abbrev pub Runs : (words : List (List ℕ)) (input : List ℕ) (before after : Option (List ℕ)) → Ending → Type 0
+Runs words input before after ending = (replies : List Reply) × IsRun words input ending replies × IsWritten before after ending replies
+
+-- ---- the parts of a run
+
+abbrev pub ending_of : Result (Unit {0}) Fault → Ending
+ending_of (Ok done) = Done
+ending_of (Err fault) = Stopped fault
+
+-- a run that goes on so from these lines and this hierarchy goes on so from those
+abbrev pub Follows : (places : ℕ) (lines : List Numbered) (before : Hierarchy) (left : List Numbered) (after : Hierarchy) → Type 0
+Follows places lines before left after = (ending : Ending) (replies : List Reply) → Reads places left after ending replies → Reads places lines before ending replies
+
+-- the same, where the lines that are left are known
+abbrev pub FollowsKnown : (places : ℕ) (lines : List Numbered) (before : Hierarchy) (left : Option (List Numbered)) (after : Hierarchy) → Type 0
+FollowsKnown places lines before None after = ⊥
+FollowsKnown places lines before (Some left) after = Follows places lines before left after
+
+-- what is left after an image: the line of the first command and those behind it, or no line
+abbrev pub IsLeft : (places : ℕ) → (first : Option Command) → (behind : Option (List Numbered)) → (left : List Numbered) → Type 0
+IsLeft places None behind left = left ≡ []
+IsLeft places (Some command) None left = ⊥
+IsLeft places (Some command) (Some behind) left = (line : Numbered) × SaysCommand places line command × (left ≡ line ∷ behind)
+
+-- the lines begin with an image, which was loaded
+abbrev pub LoadsImage : (places : ℕ) → (lines : List Numbered) → (before : Hierarchy) → (first : Option Command) → (behind : Option (List Numbered)) → (after : Hierarchy) → Type 0
+LoadsImage places lines before first behind after = (left : List Numbered) × IsLeft places first behind left × Follows places lines before left after
+
+-- a command was answered, and the reply written
+abbrev pub Replies : Command → (before after : Hierarchy) → (old new : Option (List ℕ)) → Type 0
+Replies command before after old new = (reply : Reply) × Answers command before reply after × Appends old new (reply_line reply)
+
+-- the program was forced to stop, and nothing more is written
+abbrev pub StopsAt : (old new : Option (List ℕ)) → Fault → Type 0
+StopsAt old new fault = IsForced fault × IsWritten old new (Stopped fault) []
+
+-- where a line says the first command, it and the lines behind it were served
+abbrev pub Served : (places : ℕ) → (first : Command) → (behind : List Numbered) → Hierarchy → (old new : Option (List ℕ)) → Ending → Type 0
+Served places first behind before old new ending = (line : Numbered) → SaysCommand places line first
+    → (replies : List Reply) × Serves places (line ∷ behind) before ending replies × IsWritten old new ending replies
+
+-- where a line says the first command, it and the lines up to those that are left were served
+abbrev pub ServedUntil : (places : ℕ) → (first : Command) → (behind : List Numbered) → (before : Hierarchy) → (old new : Option (List ℕ)) → (left : Option (List Numbered)) → (after : Hierarchy) → Type 0
+ServedUntil places first behind before old new None after = ⊥
+ServedUntil places first behind before old new (Some left) after = (line : Numbered) → SaysCommand places line first
+    → (replies : List Reply) × Appends old new (flat_map reply_line replies)
+    × ((ending : Ending) (more : List Reply) → Serves places left after ending more → Serves places (line ∷ behind) before ending (replies ++ more))

@@ -1,0 +1,138 @@
+-- What the program prints: the text of each reply, and of each fault.
+use Rattle.std.specs.Prelude.{ℕ, Bool, false, if◌then◌else◌, List, [], ◌∷◌, ◌++◌, flat_map, codes, decimal, Option, Some, None, Ok, Err}
+use Rattle.std.specs.Fmt.{digits}
+use Rattle.x86_64_tables.specs.PageTableFlags.{bits_of}
+use Rattle.x86_64_tables.specs.Translations.{frame_start}
+use Rattle.x86_64_tables.specs.declared.mapper.FlagUpdateError.{FlagUpdateError}
+use Rattle.x86_64_tables.specs.declared.mapper.FlagUpdateError.TheVariants as update
+use Rattle.x86_64_tables.specs.declared.mapper.MapToError.{MapToError}
+use Rattle.x86_64_tables.specs.declared.mapper.MapToError.TheVariants as map_to
+use Rattle.x86_64_tables.specs.declared.mapper.MappedFrame.{MappedFrame}
+use Rattle.x86_64_tables.specs.declared.mapper.MappedFrame.TheVariants.{Size4KiB, Size2MiB, Size1GiB}
+use Rattle.x86_64_tables.specs.declared.mapper.TranslateError.{TranslateError}
+use Rattle.x86_64_tables.specs.declared.mapper.TranslateError.TheVariants as page_frame
+use Rattle.x86_64_tables.specs.declared.mapper.TranslateResult.{TranslateResult}
+use Rattle.x86_64_tables.specs.declared.mapper.TranslateResult.TheVariants.{Mapped, NotMapped, InvalidFrameAddress}
+use Rattle.x86_64_tables.specs.declared.mapper.UnmapError.{UnmapError}
+use Rattle.x86_64_tables.specs.declared.mapper.UnmapError.TheVariants as unmap
+use Rattle.x86_64_tables.specs.declared.phys_memory.walk.Walked.{Walked}
+use Rattle.x86_64.specs.declared.calls.Reply.{Reply as CallReply}
+use Rattle.x86_64.specs.declared.calls.Reply.TheVariants as call
+use Rattle.x86_64.specs.declared.calls.SizeReply.{SizeReply}
+use Rattle.x86_64.specs.declared.calls.SizeReply.TheVariants.{Map, Unmap, Update, TableFlags, Frame}
+use Rattle.pagetab_engine.specs.declared.ending.Fault.{Fault}
+use Rattle.pagetab_engine.specs.declared.ending.Fault.TheVariants.{BadLine, InvalidHierarchy, OutOfMemory, Input, Output, Usage}
+use Rattle.pagetab_engine.specs.declared.reply.Reply.{Reply}
+use Rattle.pagetab_engine.specs.declared.reply.Reply.TheVariants.{Answered, Arrival, Word, Pool}
+
+-- ---- numbers
+
+-- the digits of base 16, in lower case and without leading zeros
+abbrev pub hexadecimal : ℕ → List ℕ
+hexadecimal number = codes "0x" ++ digits 16 false number
+
+-- what is so is 1, and what is not is 0
+abbrev pub bit : Bool → ℕ
+bit holds = if holds then 1 else 0
+
+-- ---- the replies to calls on a page
+
+abbrev pub page_not_mapped : List ℕ
+page_not_mapped = codes "page not mapped"
+
+abbrev pub parent_entry_huge_page : List ℕ
+parent_entry_huge_page = codes "parent entry huge page"
+
+abbrev pub invalid_frame_address : (address : ℕ) → List ℕ
+invalid_frame_address address = codes "invalid frame address " ++ hexadecimal address
+
+abbrev pub map_error_text : {S : Type 0} → MapToError S → List ℕ
+map_error_text map_to.FrameAllocationFailed = codes "frame allocation failed"
+map_error_text map_to.ParentEntryHugePage = parent_entry_huge_page
+map_error_text (map_to.PageAlreadyMapped frame) = codes "page already mapped " ++ hexadecimal frame
+
+abbrev pub unmap_error_text : UnmapError → List ℕ
+unmap_error_text unmap.PageNotMapped = page_not_mapped
+unmap_error_text unmap.ParentEntryHugePage = parent_entry_huge_page
+unmap_error_text (unmap.InvalidFrameAddress address) = invalid_frame_address address
+
+abbrev pub flags_error_text : FlagUpdateError → List ℕ
+flags_error_text update.PageNotMapped = page_not_mapped
+flags_error_text update.ParentEntryHugePage = parent_entry_huge_page
+
+abbrev pub frame_error_text : TranslateError → List ℕ
+frame_error_text page_frame.PageNotMapped = page_not_mapped
+frame_error_text page_frame.ParentEntryHugePage = parent_entry_huge_page
+frame_error_text (page_frame.InvalidFrameAddress address) = invalid_frame_address address
+
+abbrev pub page_text : {S : Type 0} → SizeReply S → List ℕ
+page_text (Map (Ok page)) = codes "ok"
+page_text (Map (Err why)) = map_error_text why
+page_text (Unmap (Ok (frame, page))) = hexadecimal frame
+page_text (Unmap (Err why)) = unmap_error_text why
+page_text (Update (Ok page)) = codes "ok"
+page_text (Update (Err why)) = flags_error_text why
+page_text (TableFlags (Ok done)) = codes "ok"
+page_text (TableFlags (Err why)) = flags_error_text why
+page_text (Frame (Ok frame)) = hexadecimal frame
+page_text (Frame (Err why)) = frame_error_text why
+
+-- ---- the replies to calls
+
+abbrev pub size_name : MappedFrame → List ℕ
+size_name (Size4KiB start) = codes "4KiB"
+size_name (Size2MiB start) = codes "2MiB"
+size_name (Size1GiB start) = codes "1GiB"
+
+abbrev pub translation_text : TranslateResult → List ℕ
+translation_text (Mapped frame offset flags) =
+    codes "mapped " ++ size_name frame ++ codes " " ++ hexadecimal (frame_start frame)
+    ++ codes " " ++ hexadecimal offset ++ codes " " ++ hexadecimal (bits_of flags)
+translation_text NotMapped = codes "not mapped"
+translation_text (InvalidFrameAddress address) = codes "not mapped"
+
+abbrev pub address_text : Option ℕ → List ℕ
+address_text (Some address) = hexadecimal address
+address_text None = codes "none"
+
+abbrev pub call_text : CallReply → List ℕ
+call_text (call.Of4KiB answer) = page_text answer
+call_text (call.Of2MiB answer) = page_text answer
+call_text (call.Of1GiB answer) = page_text answer
+call_text (call.Translate translation) = translation_text translation
+call_text (call.Address address) = address_text address
+call_text call.Cleaned = codes "ok"
+call_text call.NotAllowed = codes "not allowed"
+
+-- ---- the replies to commands
+
+abbrev pub walked_text : Option Walked → List ℕ
+walked_text (Some walked) =
+    hexadecimal walked.address ++ codes " write=" ++ decimal (bit walked.write) ++ codes " user=" ++ decimal (bit walked.user)
+walked_text None = codes "none"
+
+abbrev pub free_text : (frame : ℕ) → List ℕ
+free_text frame = codes " " ++ hexadecimal frame
+
+abbrev pub pool_text : (frames : List ℕ) → List ℕ
+pool_text frames = codes "pool" ++ flat_map free_text frames
+
+abbrev pub reply_text : Reply → List ℕ
+reply_text (Answered answer) = call_text answer
+reply_text (Arrival walked) = walked_text walked
+reply_text (Word word) = hexadecimal word
+reply_text (Pool frames) = pool_text frames.items
+
+-- each reply is a line
+abbrev pub reply_line : Reply → List ℕ
+reply_line reply = reply_text reply ++ 10 ∷ []
+
+-- ---- faults
+
+abbrev pub fault_text : Fault → List ℕ
+fault_text (BadLine number) = codes "bad line " ++ decimal number
+fault_text InvalidHierarchy = codes "invalid hierarchy"
+fault_text OutOfMemory = codes "out of memory"
+fault_text Input = codes "input or output failed"
+fault_text Output = codes "input or output failed"
+fault_text Usage = codes "usage: pagetab direct N | offset N OFF | recursive N R | pair N R"
