@@ -1,0 +1,4 @@
+mod OneMap
+mod Runs
+mod Holding
+mod Segments

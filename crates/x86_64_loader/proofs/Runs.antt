@@ -1,0 +1,86 @@
+-- Runs of pages, page by page.
+use Rattle.std.proofs.Common.{◌≡◌, ◌≢◌, ◌⊎◌, inl, inr, ⊎_elim, ◌<◌, ◌≤◌, ◌+◌, ◌-◌, ◌*◌, ◌%◌, ◌^◌, ℕ, ◌&&◌, ◌||◌, not, Bool, true, false, List, Option, Some, find, refl, sym, ap, ◌∙◌, subst, arith}
+use Rattle.std.proofs.Math.Nat.{add-mul, one-mul}
+use Rattle.std.proofs.lemmas.Bool.{cases_lt}
+use Rattle.x86_64_model.specs.Allowed.{map_allowed, parents_present, none_absent}
+use Rattle.x86_64_model.specs.Arrivals.{NoWorse}
+use Rattle.x86_64_model.specs.Call.{MapTo}
+use Rattle.x86_64_model.specs.Entry.{present, huge, no_address}
+use Rattle.x86_64_model.specs.Layout.{Layout}
+use Rattle.x86_64_model.specs.MapRule.{parent_part}
+use Rattle.x86_64_model.specs.Owned.{Hierarchy, MayMap, Stands, allows, paths, path_of, walk}
+use Rattle.x86_64_model.specs.PageWalk.{Walked}
+use Rattle.x86_64_model.specs.Path.{is_small, parents, path_at}
+use Rattle.x86_64_model.specs.PathMap.{PathMap, entry}
+use Rattle.x86_64_model.specs.Window.{Window, begins_with}
+use Rattle.x86_64_model.proofs.Lemmas.Maps.Arrives.{part_has}
+use Rattle.x86_64_loader.specs.Pages.{IsFree, Kept, Leaves, MayBeMapped, RunStands}
+
+-- what holds up to a number and of it
+pub one_more : (P : ℕ → Type 0) (k : ℕ) → ((j : ℕ) → j < k → P j) → P k → (j : ℕ) → j < k + 1 → P j
+one_more P k before this j within = elim (cases_lt j k) [
+  | inl lower ↦ before j lower
+  | inr not_lower ↦ let same : k ≡ j = omega (arith, within, not_lower) in subst P same this
+]
+
+pub no_worse_then : (w v x : Walked) → NoWorse w v → NoWorse v x → NoWorse w x
+no_worse_then w v x one two = record {
+  same_place = two.same_place ∙ one.same_place;
+  write_kept = λ a. two.write_kept (one.write_kept a);
+  user_kept = λ a. two.user_kept (one.user_kept a);
+}
+
+-- maps after maps
+pub kept_then : {Lent : Type 0} (h now after : Hierarchy Lent) (between rest : List ℕ) → Kept h now between → Kept now after rest → Kept h after rest
+kept_then h now after between rest one two = record {
+  fits = two.fits;
+  walks = λ p w is.
+      let v = one.walks p w is in let x = two.walks p v.0 v.1 in
+      (x.0, x.1, no_worse_then w v.0 x.0 v.2 x.2);
+  layout = two.layout ∙ one.layout;
+  lent = two.lent ∙ one.lent;
+}
+
+pub leaves_then : {Lent : Type 0} (h now after : Hierarchy Lent) (between rest : List ℕ) (first second highest : ℕ) → highest ≤ first → highest ≤ second
+    → Leaves first h now between → Leaves second now after rest → Leaves highest h after rest
+leaves_then h now after between rest first second highest in_first in_second one two = record {
+  kept = kept_then h now after between rest one.kept two.kept;
+  pages = λ level page frame given low stands. two.pages level page frame given (omega (arith, low, in_second)) (one.pages level page frame given (omega (arith, low, in_first)) stands);
+}
+
+-- a map's condition, where its parents are as they have to be or not
+abbrev with_parents : (L : ℕ) → Option Window → List ℕ → (given : ℕ) → (parents : Bool) → Bool
+with_parents L window q given parents =
+    no_address given && no_address (parent_part given) && not (huge (parent_part given)) && (not (is_small L q) || not (huge given)) && parents && not (begins_with window q)
+
+-- with PRESENT it doesn't depend on what is mapped
+allowed_again : (L : ℕ) (window : Option Window) (M N : PathMap) (q : List ℕ) (given : ℕ) → present given ≡ true
+    → map_allowed L window M q given (parent_part given) ≡ true → map_allowed L window N q given (parent_part given) ≡ true
+allowed_again L window M N q given is_present allowed = ap (with_parents L window q given) (will N ∙ sym (will M)) ∙ allowed
+  where
+    will : (paths : PathMap) → parents_present paths (parent_part given) q ≡ true
+    will paths = ap (λ b. b || none_absent paths (find (λ p. not (present (entry paths p)) || huge (entry paths p)) (parents q))) (part_has given 1 refl ∙ is_present)
+
+pub may_now : {Lent : Type 0} (h now : Hierarchy Lent) (rest : List ℕ) (level size page frame given k : ℕ) → present given ≡ true → Leaves 3 h now rest
+    → MayBeMapped h level size page frame given k → MayMap now rest (MapTo (path_of now level (page + k * size)) (frame + k * size) given)
+may_now h now rest level size page frame given k is_present left may = record {
+  fits = left.kept.fits;
+  allowed = subst (λ (l : Layout). map_allowed l.levels l.window (paths now) (path_at l.levels level (page + k * size)) given (parent_part given) ≡ true) (sym left.kept.layout)
+      (allowed_again h.layout.levels h.layout.window (paths h) (paths now) (path_of h level (page + k * size)) given is_present may.allowed);
+}
+
+one_more_page : (k size : ℕ) → (k + 1) * size ≡ k * size + size
+one_more_page k size = add-mul k 1 size ∙ ap (λ n. k * size + n) (one-mul size)
+
+module _ {Lent : Type 0} (h now after : Hierarchy Lent) (rest : List ℕ) (level size page frame given k : ℕ) where
+  pub one_more_stands : level ≤ 3 → RunStands now level size page frame given k → Leaves 3 now after rest → Stands after level (page + k * size) (frame + k * size) given
+      → RunStands after level size page frame given (k + 1)
+  one_more_stands high stand left this = one_more (λ j. Stands after level (page + j * size) (frame + j * size) given) k
+      (λ j before. left.pages level (page + j * size) (frame + j * size) given high (stand j before)) this
+
+  pub one_more_free : (between : List ℕ) → IsFree h page (k * size) → Leaves 3 h now between → IsFree now (page + k * size) size → IsFree h page ((k + 1) * size)
+  one_more_free between free left this l q f g multiple stands p from to its_from its_to = elim (cases_lt p (page + k * size)) [
+    | inl before ↦ free l q f g multiple stands p from before its_from its_to
+    | inr not_before ↦ this l q f g multiple (left.pages l q f g stands.asks.high stands) p (omega (arith, not_before))
+        (let more = one_more_page k size in omega (arith, to, more)) its_from its_to
+  ]

@@ -1,0 +1,78 @@
+-- Loads of segments, one after the other.
+use Rattle.std.proofs.Common.{◌≡◌, ◌<◌, ◌≤◌, ◌+◌, ◌-◌, ◌*◌, ℕ, List, length, get_or, inl, inr, refl, sym, ap, ◌∙◌, subst, arith}
+use Rattle.std.proofs.lemmas.Bool.{cases_lt}
+use Rattle.std.proofs.lemmas.Option.{slice_get_read, get_or_from_slice_get}
+use Rattle.std.specs.List.{All}
+use Rattle.x86_64_model.specs.Owned.{Hierarchy, Valid}
+use Rattle.x86_64_tables.specs.MapperAnswers.{map_refusal}
+use Rattle.x86_64_tables.specs.PageTableFlags.{bits_of}
+use Rattle.x86_64_loader.specs.Held.{AreHeld}
+use Rattle.x86_64_loader.specs.Loads.{AreApart, HoldsSegment, IsHalted}
+use Rattle.x86_64_loader.specs.Pages.{IsFree, Leaves, WasRefused}
+use Rattle.x86_64_loader.specs.Segments.{Has, IsAllowed, IsLoaded, IsRefused, IsReached, size_of}
+use Rattle.x86_64_loader.specs.declared.segment.LoadError.{LoadError}
+use Rattle.x86_64_loader.specs.declared.segment.Segment.{Segment}
+use Rattle.x86_64_loader.proofs.Holding.{held_arrives, held_not_free, held_reached, held_still, reached_after}
+use Rattle.x86_64_loader.proofs.Runs.{may_now, one_more}
+
+-- a segment that may be loaded still may after maps
+pub still_allowed : {Lent : Type 0} (h now : Hierarchy Lent) (rest : List ℕ) (s : Segment) → Leaves 3 h now rest → IsAllowed h s → IsAllowed now s
+still_allowed h now rest s left allowed = record {
+  is_present = allowed.is_present;
+  each_page = λ k within. let may = allowed.each_page k within in record {
+    page_there = may.page_there;
+    frame_there = may.frame_there;
+    allowed = (may_now h now rest 1 0x1000 s.page s.frame (bits_of s.flags) k allowed.is_present left may).allowed;
+  };
+}
+
+-- what is held is loaded
+pub held_is_loaded : {Lent : Type 0} (h : Hierarchy Lent) (s : Segment) → Valid h → HoldsSegment h s → IsLoaded h s
+held_is_loaded h s valid held o within = held_arrives h (s.page + o) (s.frame + o) (bits_of s.flags) (held o within) valid
+
+module _ (segments : List Segment) (i : ℕ) (s : Segment) (here : i < length segments) (item : s ≡ get_or segments i s) where
+  -- the element, whatever stands for one that is missing
+  is_at : (d : Segment) → get_or segments i d ≡ s
+  is_at d = get_or_from_slice_get segments i s d (slice_get_read segments (length segments) i s refl here item)
+
+  -- what holds of the elements before and of it
+  pub next_too : (P : Segment → Type 0) → ((j : ℕ) (d : Segment) → j < i → P (get_or segments j d)) → P s → (j : ℕ) (d : Segment) → j < i + 1 → P (get_or segments j d)
+  next_too P before this j d = one_more (λ j. P (get_or segments j d)) i (λ j. before j d) (subst P (sym (is_at d)) this) j
+
+  pub allowed_at : {Lent : Type 0} (h : Hierarchy Lent) → All (IsAllowed h) segments → IsAllowed h s
+  allowed_at h all = subst (IsAllowed h) (is_at s) (all i s here)
+
+  module _ {Lent : Type 0} (now after : Hierarchy Lent) (rest : List ℕ) (held : (j : ℕ) (d : Segment) → j < i → HoldsSegment now (get_or segments j d)) where
+    pub held_next : Leaves 3 now after rest → HoldsSegment after s → (j : ℕ) (d : Segment) → j < i + 1 → HoldsSegment after (get_or segments j d)
+    held_next left = next_too (HoldsSegment after)
+        (λ j d before o fits. let t = get_or segments j d in held_still now (t.page + o) (t.frame + o) (bits_of t.flags) (held j d before o fits) after rest left)
+
+    pub apart_next : AreApart segments i → IsFree now s.page (size_of s) → AreApart segments (i + 1)
+    apart_next apart free j k d less within p in_first in_second = elim (cases_lt k i) [
+      | inl before ↦ apart j k d less before p in_first in_second
+      | inr not_before ↦
+          let same : i ≡ k = omega (arith, within, not_before) in
+          let in_this : Has s p = subst (λ t. Has t p) (is_at d) (subst (λ k. Has (get_or segments k d) p) (sym same) in_second) in
+          let t = get_or segments j d in
+          let start = in_first.0 in let end = in_first.1 in
+          let at : t.page + (p - t.page) ≡ p = omega (arith, start) in
+          held_not_free now (t.page + (p - t.page)) (t.frame + (p - t.page)) (bits_of t.flags) (held j d (omega (arith, less, same)) (p - t.page) (omega (arith, start, end)))
+          s.page (size_of s) free (let from = in_this.0 in omega (arith, from, at)) (let to = in_this.1 in omega (arith, to, at))
+    ]
+
+    pub refused_here : (h : Hierarchy Lent) (between : List ℕ) (e : LoadError) → Leaves 3 h now between → e.segment ≡ i → e.page ≡ s.page + e.mapped * 0x1000
+        → IsHalted now s e.mapped (map_refusal e.why) after rest → IsRefused segments e after rest
+    refused_here h between e left at page halted = (
+      s,
+      record {
+        there = subst (λ n. n < length segments) (sym at) here;
+        is_segment = item ∙ ap (λ n. get_or segments n s) (sym at);
+        segments_before = λ j d before. let t = get_or segments j d in
+            reached_after now after rest t (size_of t) halted.kept (held_reached now t (size_of t) left.kept.fits.valid (held j d (subst (λ n. j < n) at before)));
+        pages_before = halted.pages_before;
+        within = halted.within;
+        page = page;
+        level = halted.level;
+        refused = subst (λ p. WasRefused halted.level p (s.frame + e.mapped * 0x1000) (bits_of s.flags) (map_refusal e.why) after rest) (sym page) halted.refused;
+      },
+    )

@@ -1,0 +1,21 @@
+-- Positions held: by pages that stand and map them where they should be.
+use Rattle.std.specs.Prelude.{◌≡◌, ◌+◌, ◌%◌, ◌<◌, ◌≤◌, ℕ, false}
+use Rattle.x86_64_model.specs.Owned.{Hierarchy, Stands, path_of}
+use Rattle.x86_64_model.specs.Position.{span}
+use Rattle.x86_64_model.specs.Window.{begins_with}
+
+-- a page that stands outside the window has the position and maps it to this address, with these flags
+pub record IsHeld {Lent : Type 0} (h : Hierarchy Lent) (position to flags : ℕ) : Type 0 where
+  pub level : ℕ
+  pub page : ℕ
+  pub frame : ℕ
+  pub stands : Stands h level page frame flags
+  pub aligned : page % span level ≡ 0
+  pub outside : begins_with h.layout.window (path_of h level page) ≡ false
+  pub from_start : page ≤ position
+  pub before_end : position < page + span level
+  pub lands : to + page ≡ frame + position
+
+-- so many positions from a page on are held, mapped to the addresses from a frame on
+abbrev pub AreHeld : {Lent : Type 0} → Hierarchy Lent → (size page frame flags : ℕ) → Type 0
+AreHeld h size page frame given = (offset : ℕ) → offset < size → IsHeld h (page + offset) (frame + offset) given

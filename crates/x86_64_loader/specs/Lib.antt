@@ -1,0 +1,4 @@
+pub mod Pages
+pub mod Held
+pub mod Segments
+pub mod Loads

@@ -1,0 +1,12 @@
+//! A program loader: it maps the segments of a program by any mapper. It is a client of the library, proved from its public
+//! contracts and laws alone.
+#![tactic(auto)]
+
+mod loader;
+mod pages;
+mod segment;
+#[cfg(test)]
+mod tests;
+
+pub use loader::load;
+pub use segment::{LoadError, Segment, segments_allowed};

@@ -1,0 +1,83 @@
+//! Loads of segments.
+ghost use Rattle.std.specs.Prelude.{◌≡◌, OnOk, IfErr};
+ghost use Rattle.std.specs.List.{All};
+ghost use Rattle.x86_64_loader.specs.Loads.{HoldsSegment, IsHalted};
+ghost use Rattle.x86_64_loader.specs.Pages.{IsFree, Kept, Leaves};
+ghost use Rattle.x86_64_loader.specs.Segments.{Disjoint, IsAllowed, IsLoaded, IsRefused, size_of};
+ghost use Rattle.x86_64_model.specs.Owned.{SupplyFits};
+ghost use Rattle.x86_64_tables.specs.MapperAnswers.{map_refusal};
+
+use crate::pages::{Stopped, map_pages, page_after};
+use crate::segment::{LoadError, Segment};
+use x86_64::structures::paging::{FrameAllocator, Mapper, Size4KiB};
+
+/// Maps the pages of segments to their frames, one segment after the other, by pages of 4KiB.
+///
+/// Where it succeeds, the processor arrives from each address of a segment at the one as far from the start of the first
+/// frame, with the right to write exactly if `WRITABLE`, and that of a user exactly if `USER_ACCESSIBLE`, is among its flags.
+/// No two segments have an address in common.
+///
+/// In any case an address where the processor arrived before still leads to the same place, with no right lost. The hierarchy
+/// is valid, and the allocator's frames are as in a pool that fits it.
+///
+/// The tokens of the maps are spent without a flush: nothing was mapped before where a page is mapped.
+///
+/// Conditions: the hierarchy is valid, the allocator's frames are as in a pool that fits it, and [`segments_allowed`]
+/// (crate::segments_allowed) holds.
+///
+/// # Errors
+///
+/// The segment and its first page that was refused, and why: the page or a part of it was mapped before, also by this load
+/// where segments overlap, or a table was missing and there was no frame for it. The segments before, and the pages of this
+/// one before the page, are mapped: the processor arrives in them as it should, with no right missing.
+pub fn load<M: Mapper<Size4KiB>, A: FrameAllocator<Size4KiB>>(
+    mapper: &mut M,
+    frames: &mut A,
+    segments: &[Segment],
+) -> Result<(), LoadError>
+    requires fits { SupplyFits (M.hierarchy mapper.old) (A.supply frames.old) }
+    requires allowed { All (IsAllowed (M.hierarchy mapper.old)) segments.now }
+    ensures loaded { OnOk result (All (IsLoaded (M.hierarchy mapper.new)) segments.now) }
+    ensures disjoint { OnOk result (Disjoint segments.now) }
+    ensures refused { let after = M.hierarchy mapper.new in
+        IfErr result (λ error. IsRefused segments.now error after (A.supply frames.new)) }
+    ensures kept { Kept (M.hierarchy mapper.old) (M.hierarchy mapper.new) (A.supply frames.new) }
+{
+    for (index, segment) in segments.iter().enumerate() {
+        if let Err(stopped) = load_segment(mapper, frames, segment) {
+            return Err(LoadError {
+                segment: index,
+                page: page_after(segment.page, stopped.mapped),
+                mapped: stopped.mapped,
+                why: stopped.why,
+            });
+        }
+    }
+    Ok(())
+}
+
+/// Maps the pages of a segment to its frames.
+fn load_segment<M: Mapper<Size4KiB>, A: FrameAllocator<Size4KiB>>(
+    mapper: &mut M,
+    frames: &mut A,
+    segment: &Segment,
+) -> Result<(), Stopped<Size4KiB>>
+    requires fits { SupplyFits (M.hierarchy mapper.old) (A.supply frames.old) }
+    requires allowed { IsAllowed (M.hierarchy mapper.old) segment.now }
+    ensures held { OnOk result (HoldsSegment (M.hierarchy mapper.new) segment.now) }
+    ensures were_free { let s = segment.now in
+        OnOk result (IsFree (M.hierarchy mapper.old) s.page (size_of s)) }
+    ensures leaves { OnOk result (
+        Leaves 3 (M.hierarchy mapper.old) (M.hierarchy mapper.new) (A.supply frames.new)) }
+    ensures halted { let h = M.hierarchy mapper.old in let after = M.hierarchy mapper.new in
+        let rest = A.supply frames.new in IfErr result (λ stopped.
+        IsHalted h segment.now stopped.mapped (map_refusal stopped.why) after rest) }
+{
+    let Segment {
+        page,
+        frame,
+        pages,
+        flags,
+    } = *segment;
+    map_pages(mapper, frames, page, frame, pages, flags)
+}

@@ -1,0 +1,92 @@
+//! Maps of runs of pages of one size.
+ghost use Rattle.std.specs.Prelude.{◌≡◌, ◌+◌, ◌*◌, ◌%◌, ◌^◌, ◌<◌, ℕ, true, OnOk, OnErr, IfErr};
+ghost use Rattle.x86_64_loader.specs.Pages.{MayBeMapped, RunStands, IsFree, Leaves, IsStopped};
+ghost use Rattle.x86_64_model.specs.Call.{MapTo};
+ghost use Rattle.x86_64_model.specs.Entry.{present};
+ghost use Rattle.x86_64_model.specs.Owned.{SupplyFits, MayMap, DoesMap, Stands, path_of};
+ghost use Rattle.x86_64_tables.specs.MapperAnswers.{map_answer, map_refusal};
+ghost use Rattle.x86_64_tables.specs.PageTableFlags.{bits_of};
+
+use x86_64::structures::paging::mapper::MapToError;
+use x86_64::structures::paging::{
+    FrameAllocator, Mapper, Page, PageSize, PageTableFlags, PhysFrame, Size4KiB,
+};
+
+/// Says where a run of pages was stopped.
+#[derive(Clone, Copy, Debug, PartialEq)]
+pub(crate) struct Stopped<S: PageSize> {
+    /// How many pages were mapped before the one that was refused.
+    pub(crate) mapped: u64,
+    /// Why it was.
+    pub(crate) why: MapToError<S>,
+}
+
+/// Gives the page so many pages on, which must be there.
+pub(crate) fn page_after<S: PageSize>(page: Page<S>, count: u64) -> Page<S>
+    requires { page + count * S.SIZE < 2 ^ 48 }
+    ensures { result ≡ page + count * S.SIZE }
+{
+    match Page::forward_checked(page, count as usize) {
+        Some(page) => page,
+        None => unreachable!(),
+    }
+}
+
+/// Maps a page with `PRESENT`. Its token is spent without a flush: no walk arrived in the page before.
+pub(crate) fn map_page<S: PageSize, M: Mapper<S>, A: FrameAllocator<Size4KiB>>(
+    mapper: &mut M,
+    frames: &mut A,
+    page: Page<S>,
+    frame: PhysFrame<S>,
+    flags: PageTableFlags,
+) -> Result<(), MapToError<S>>
+    requires is_present { present (bits_of flags) ≡ true }
+    requires may { let h = M.hierarchy mapper.old in
+        MayMap h (A.supply frames.old) (MapTo (path_of h S.LEVEL page) frame (bits_of flags)) }
+    ensures does { let h = M.hierarchy mapper.old in
+        let call = MapTo (path_of h S.LEVEL page) frame (bits_of flags) in
+        let after = M.hierarchy mapper.new in
+        DoesMap h (A.supply frames.old) call (map_answer frame result) after (A.supply frames.new) }
+    ensures stands { OnOk result (Stands (M.hierarchy mapper.new) S.LEVEL page frame (bits_of flags)) }
+    ensures was_free { OnOk result (IsFree (M.hierarchy mapper.old) page S.SIZE) }
+    ensures leaves_all { OnOk result (
+        Leaves 3 (M.hierarchy mapper.old) (M.hierarchy mapper.new) (A.supply frames.new)) }
+    ensures leaves_small { OnErr result (
+        Leaves S.LEVEL (M.hierarchy mapper.old) (M.hierarchy mapper.new) (A.supply frames.new)) }
+{
+    mapper.map_to(page, frame, flags, frames)?.ignore();
+    Ok(())
+}
+
+/// Maps so many pages from a page on to the frames from a frame on, one after the other, with `PRESENT`.
+pub(crate) fn map_pages<S: PageSize, M: Mapper<S>, A: FrameAllocator<Size4KiB>>(
+    mapper: &mut M,
+    frames: &mut A,
+    page: Page<S>,
+    frame: PhysFrame<S>,
+    count: u64,
+    flags: PageTableFlags,
+) -> Result<(), Stopped<S>>
+    requires fits { SupplyFits (M.hierarchy mapper.old) (A.supply frames.old) }
+    requires is_present { present (bits_of flags) ≡ true }
+    requires may { (k : ℕ) → k < count
+        → MayBeMapped (M.hierarchy mapper.old) S.LEVEL S.SIZE page frame (bits_of flags) k }
+    ensures stand { OnOk result (
+        RunStands (M.hierarchy mapper.new) S.LEVEL S.SIZE page frame (bits_of flags) count) }
+    ensures were_free { OnOk result (IsFree (M.hierarchy mapper.old) page (count * S.SIZE)) }
+    ensures leaves { OnOk result (
+        Leaves 3 (M.hierarchy mapper.old) (M.hierarchy mapper.new) (A.supply frames.new)) }
+    ensures stopped { let h = M.hierarchy mapper.old in let after = M.hierarchy mapper.new in
+        let rest = A.supply frames.new in let given = bits_of flags in
+        IfErr result (λ stopped. let why = map_refusal stopped.why in
+        IsStopped h S.LEVEL S.SIZE page frame given count stopped.mapped why after rest) }
+    ensures aligned { page % S.SIZE ≡ 0 }
+{
+    for k in 0..count {
+        let (page, frame) = (page_after(page, k), frame + k);
+        if let Err(why) = map_page(mapper, frames, page, frame, flags) {
+            return Err(Stopped { mapped: k, why });
+        }
+    }
+    Ok(())
+}
