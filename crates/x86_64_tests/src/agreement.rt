@@ -14,9 +14,12 @@ mod chooser;
 mod outcomes;
 mod pairs;
 
+use crate::hostile::IMAGES;
 use crate::images::{ROOT, WORD_COUNT, fill, set_word};
 use crate::replies::{Wanted, wanted_of};
-use crate::rows::{By, SELF_ENTRY, answer, begin_in, compare_pool, compare_word, put_self_entry};
+use crate::rows::{
+    By, SELF_ENTRY, Word, answer, begin_in, compare_pool, compare_word, put_self_entry,
+};
 use alone::answer_alone;
 use chooser::{Choice, Chooser};
 use outcomes::{ACTIONS, Action, OUTCOMES, Outcome, outcome_of, possible_outcomes};
@@ -42,22 +45,22 @@ const CALLS_ALONE: usize = 60;
 /// The recursive index, which calls choose among others.
 const RECURSIVE_INDEX: u16 = 1;
 
-/// The entries at first, each with its path and the frame of the table that it stands in. Pages of each size
-/// are mapped; a table, a page and an entry that maps a page of 1GiB lack `PRESENT`; and two entries with
-/// `HUGE_PAGE` name an address that isn't a multiple of their size.
-const ENTRIES: [(&[u64], u64, u64); 12] = [
-    (&[3], 0x1000, 0xb003),
-    (&[3, 0], 0xb000, 0x4000_0083),
-    (&[3, 1], 0xb000, 0xc003),
-    (&[3, 2], 0xb000, 0x4020_0083),
-    (&[3, 1, 0], 0xc000, 0x20_0087),
-    (&[3, 1, 1], 0xc000, 0xd002),
-    (&[3, 1, 2], 0xc000, 0x20_1083),
-    (&[3, 1, 1, 0], 0xd000, 0x5081),
-    (&[3, 1, 1, 1], 0xd000, 0x6003),
-    (&[3, 1, 1, 511], 0xd000, 0x6002),
-    (&[256], 0x1000, 0xe001),
-    (&[256, 0], 0xe000, 0x80),
+/// The entries at first, as words, each after those above it. Pages of each size are mapped; a table, a page and
+/// an entry that maps a page of 1GiB lack `PRESENT`; and two entries with `HUGE_PAGE` name an address that isn't a
+/// multiple of their size.
+const ENTRIES: [Word; 12] = [
+    (ROOT, 3, 0xb003),
+    (0xb000, 0, 0x4000_0083),
+    (0xb000, 1, 0xc003),
+    (0xb000, 2, 0x4020_0083),
+    (0xc000, 0, 0x20_0087),
+    (0xc000, 1, 0xd002),
+    (0xc000, 2, 0x20_1083),
+    (0xd000, 0, 0x5081),
+    (0xd000, 1, 0x6003),
+    (0xd000, 511, 0x6002),
+    (ROOT, 256, 0xe001),
+    (0xe000, 0, 0x80),
 ];
 
 /// The frames that are free at first, of which a state gets the first few.
@@ -65,9 +68,6 @@ const FREE: [u64; 7] = [0x4000, 0x2000, 0x8000, 0x3000, 0x7000, 0x6000, 0xa000];
 
 /// A frame that is full of ones, and neither a table nor free.
 const STRANGER: u64 = 0x9000;
-
-/// The other frames that are neither tables nor free. Their words are 0.
-const EMPTY: [u64; 3] = [0x0, 0x5000, 0xf000];
 
 /// Says that an outcome came of a call, with the level of the page's entry or of the one that a translation
 /// ends at.
@@ -117,20 +117,26 @@ struct Twins {
 }
 
 impl Twins {
-    /// Makes them of the entries at first and so many free frames, which are full of ones, as the stranger is.
-    fn new(alloc: Global, by: By, count: usize) -> Result<Twins, Fail> {
-        let (free, others) = FREE.split_at(count.min(FREE.len()));
-        let (mut memory, pool) = begin_in(alloc, PLACES, free)?;
+    /// Makes them of the entries at first, as words, each after those above it, and at most so many free frames, which
+    /// are full of ones, as the stranger is.
+    fn new(alloc: Global, words: &[Word], by: By, count: usize) -> Result<Twins, Fail> {
+        let free = free_frames(alloc, words, count)?;
+        let (mut memory, pool) = begin_in(alloc, PLACES, &free)?;
         put_self_entry(&mut memory, by)?;
         fill(&mut memory, STRANGER)?;
-        let paths = put_entries(alloc, &mut memory)?;
+        for (frame, index, word) in words {
+            set_word(&mut memory, *frame, *index, *word)?;
+        }
         Ok(Twins {
             by,
             memory,
             pool,
-            plain: plain_state(alloc, paths, free)?,
             untouched: free.len(),
-            empty: empty_frames(alloc, others)?,
+            empty: empty_frames(alloc, words, &free)?,
+            plain: PlainState {
+                paths: paths_of(alloc, words)?,
+                pool: free,
+            },
         })
     }
 
@@ -286,29 +292,50 @@ impl Twins {
     }
 }
 
-/// Puts the entries at first into a memory, and gives them as a path map.
-fn put_entries(alloc: Global, memory: &mut PhysMemory) -> Result<PathEntries, Fail> {
+/// Gives the path map of words, each after those above it.
+fn paths_of(alloc: Global, words: &[Word]) -> Result<PathEntries, AllocError> {
     let mut paths = PathEntries::new(alloc);
-    for (path, frame, word) in ENTRIES {
-        let index = (path.last().copied().unwrap_or(0) & 0x1ff) as u16;
-        set_word(memory, frame, index, word)?;
-        paths.put(path, word)?;
+    let mut tables = vec![in alloc; (ROOT, Vec::new(alloc))]?;
+    for (frame, index, word) in words {
+        let Some((_, parent)) = tables.iter().find(|(at, _)| at == frame) else {
+            continue;
+        };
+        let mut path = Vec::from_slice(alloc, parent)?;
+        path.push(u64::from(*index))?;
+        paths.put(&path, *word)?;
+        if path.len() < 4 && !is_huge(*word) {
+            tables.push((address(*word), path))?;
+        }
     }
     Ok(paths)
 }
 
-/// Makes a plain state.
-fn plain_state(alloc: Global, paths: PathEntries, free: &[u64]) -> Result<PlainState, AllocError> {
-    Ok(PlainState {
-        paths,
-        pool: Vec::from_slice(alloc, free)?,
-    })
+/// Tells whether some of these words stand in a frame.
+fn is_table(words: &[Word], frame: u64) -> bool {
+    words.iter().any(|(at, ..)| *at == frame)
 }
 
-/// Gives the frames whose words are 0, with those that aren't free though they may be.
-fn empty_frames(alloc: Global, others: &[u64]) -> Result<Vec<u64>, AllocError> {
-    let mut empty = Vec::from_slice(alloc, &EMPTY)?;
-    empty.extend_from_slice(others)?;
+/// Gives at most so many free frames, none of which is a table of these words.
+fn free_frames(alloc: Global, words: &[Word], count: usize) -> Result<Vec<u64>, AllocError> {
+    let mut free = Vec::new(alloc);
+    for frame in FREE {
+        if free.len() < count && !is_table(words, frame) {
+            free.push(frame)?;
+        }
+    }
+    Ok(free)
+}
+
+/// Gives the frames but the root and the stranger that are neither tables of these words nor free.
+fn empty_frames(alloc: Global, words: &[Word], free: &[u64]) -> Result<Vec<u64>, AllocError> {
+    let mut empty = Vec::new(alloc);
+    for place in 0..PLACES {
+        let frame = place * 0x1000;
+        let is_other = frame == ROOT || frame == STRANGER || free.contains(&frame);
+        if !is_other && !is_table(words, frame) {
+            empty.push(frame)?;
+        }
+    }
     Ok(empty)
 }
 
@@ -335,15 +362,16 @@ fn unexpected(alloc: Global, met: &[Met], in_window: bool) -> Result<Vec<Met>, A
     Ok(unexpected)
 }
 
-/// Answers lists of calls on a hierarchy with so many free frames both ways and then single calls, and compares.
+/// Answers lists of calls on a hierarchy of words with so many free frames both ways and then single calls, and compares.
 fn check_lists(
     rt: &impl Abort,
     alloc: Global,
+    words: &[Word],
     (by, count): (By, usize),
     chooser: &mut Chooser,
     met: &mut Vec<Met>,
 ) -> Result<(), Fail> {
-    let mut twins = Twins::new(alloc, by, count)?;
+    let mut twins = Twins::new(alloc, words, by, count)?;
     twins.compare(rt, alloc)?;
     for _ in 0..LISTS {
         twins.answer(rt, alloc, chooser, met)?;
@@ -359,7 +387,7 @@ fn check_agreement(rt: &impl Abort, alloc: Global, by: By, places: &[bool]) -> R
     let mut chooser = Chooser::new(1);
     let mut met = Vec::new(alloc);
     for count in 0..=FREE.len() {
-        check_lists(rt, alloc, (by, count), &mut chooser, &mut met)?;
+        check_lists(rt, alloc, &ENTRIES, (by, count), &mut chooser, &mut met)?;
     }
     for in_window in places {
         let unexpected = unexpected(alloc, &met, *in_window)?;
@@ -377,4 +405,24 @@ fn the_direct_mapper_agrees_with_the_plain_program(rt: HostRuntime) -> Result<()
 fn the_recursive_mapper_agrees_with_the_plain_program(rt: HostRuntime) -> Result<(), Fail> {
     let by = By::Recursive(RECURSIVE_INDEX);
     check_agreement(&rt, rt.alloc(), by, &[false, true])
+}
+
+/// Answers calls on each image that nobody vouches for and that is valid, by a mapper and plainly, and compares.
+fn check_images(rt: &impl Abort, alloc: Global, by: By) -> Result<(), Fail> {
+    let mut chooser = Chooser::new(1);
+    let mut met = Vec::new(alloc);
+    for image in IMAGES.iter().filter(|image| image.replies.is_some()) {
+        let words = image.words(alloc)?;
+        let start = (by, FREE.len());
+        check_lists(rt, alloc, &words, start, &mut chooser, &mut met)?;
+    }
+    Ok(())
+}
+
+#[test]
+fn mappers_agree_on_images_that_nobody_vouches_for(rt: HostRuntime) -> Result<(), Fail> {
+    for by in [By::Identity, By::Offset, By::Recursive(RECURSIVE_INDEX)] {
+        check_images(&rt, rt.alloc(), by)?;
+    }
+    Ok(())
 }

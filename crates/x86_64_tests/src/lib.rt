@@ -6,7 +6,10 @@
 mod agreement;
 #[cfg(test)]
 mod counting;
+#[cfg(test)]
+mod hostile;
 pub mod images;
+pub mod pairs;
 #[cfg(test)]
 mod program;
 #[cfg(test)]

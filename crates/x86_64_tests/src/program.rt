@@ -3,8 +3,9 @@ mod bad_lines;
 mod clean_ups;
 mod endings;
 mod flags;
+mod images;
+mod lines;
 mod maps;
-mod pairs;
 mod reads;
 mod recursive;
 

@@ -16,6 +16,7 @@ mod pools;
 mod recursive;
 mod single;
 mod sparse;
+mod supplies;
 mod tokens;
 mod walks;
 mod windows;
@@ -144,6 +145,39 @@ const FIRST_LARGE: Exchange = (
     Large(MapTo(0x20_0000, 0x40_0000, 0x1)),
     PlainReply::Answered(Answer::Done(0x40_0000)),
 );
+
+/// A row of the first map, which takes all of three free frames.
+const MAPPED: Row<'static> = Row {
+    free: &FREE,
+    calls: &[FIRST],
+    words: &WORDS,
+    full: &[],
+    left: &[],
+};
+
+/// A row of the first map of a 2MiB page, which leaves one of them.
+const LARGE_MAPPED: Row<'static> = Row {
+    calls: &[FIRST_LARGE],
+    words: &LARGE_WORDS,
+    full: &[0x4000],
+    left: &[0x4000],
+    ..MAPPED
+};
+
+/// A row without calls.
+const UNTOUCHED: Row<'static> = Row {
+    calls: &[],
+    words: &[],
+    full: &FREE,
+    left: &FREE,
+    ..MAPPED
+};
+
+/// A row of calls whose tables all go back.
+const CLEANED: Row<'static> = Row {
+    full: &[],
+    ..UNTOUCHED
+};
 
 /// Gives the word that a row wants at an index of a frame.
 fn wanted_word(row: &Row<'_>, frame: u64, index: u16) -> u64 {

@@ -153,11 +153,14 @@ const CLEAN_UPS: [&str; 15] = [
     "cleanup_range 0x1000 0x2000",
 ];
 
-/// Asserts that each line is bad as the first one, and that nothing is written.
+/// Asserts that each line is bad as the first one, whether a line feed ends it or not, and that nothing is written.
 fn assert_bad(rt: &impl Abort, alloc: Global, lines: &[&str]) -> Result<(), Fail> {
     for line in lines {
-        let bad = Ending::Stopped(Fault::BadLine(1));
-        assert_run(rt, alloc, "direct 8", ("", line.as_bytes()), bad, "")?;
+        for end in ["", "\n"] {
+            let whole = format!(in alloc; "{line}{end}")?;
+            let bad = Ending::Stopped(Fault::BadLine(1));
+            assert_run(rt, alloc, "direct 8", ("", whole.as_bytes()), bad, "")?;
+        }
     }
     Ok(())
 }
@@ -173,8 +176,16 @@ fn bad_lines_end_the_run(rt: HostRuntime) -> Result<(), Fail> {
 }
 
 /// Images and lines, the number of the bad line, and the replies before it.
-const COUNTED: [(&str, &[u8], u64, &str); 8] = [
+const COUNTED: [(&str, &[u8], u64, &str); 13] = [
+    // Bytes that are no text.
+    ("", b"\xff", 1, ""),
+    ("", b"\x80\n", 1, ""),
+    ("", b"translate 1\xc3", 1, ""),
+    ("", b"translate 1\xc3\n", 1, ""),
+    // Empty lines, and lines of spaces, count.
     ("", b"\n  \nfoo\n", 3, ""),
+    ("", b" show 0 0  \n \n\n    \nfoo", 5, "0x0\n"),
+    // Lines of an image at the wrong place, and a frame that is free already.
     ("", b"show 0 0\nword 0x1000 0 0\nshow 0 0\n", 2, "0x0\n"),
     ("", b"pool\nfree 0x2000\npool\n", 2, "pool\n"),
     ("", b"free 0x2000\nfree 0x3000\nfree 0x2000\n", 3, ""),

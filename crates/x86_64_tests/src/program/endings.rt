@@ -1,5 +1,5 @@
 //! How runs end.
-use super::{FIRST, INVALID, MODES, Outcome, SELF_ENTRY, assert_outcome, assert_run, run_failing};
+use super::{FIRST, MODES, Outcome, SELF_ENTRY, assert_outcome, assert_run, run_failing};
 use pagetab_engine::ending::{Ending, Fault};
 use std::alloc::{AllocError, Global};
 use std::process::Abort;
@@ -7,109 +7,8 @@ use std::test::Fail;
 
 const USAGE: &str = "usage: pagetab direct N | offset N OFF | recursive N R | pair N R";
 
-/// The end of a run whose first line is bad.
-const BAD: Ending = Ending::Stopped(Fault::BadLine(1));
-
 /// The end of a run with other arguments.
 const USED_WRONGLY: Ending = Ending::Stopped(Fault::Usage);
-
-/// What a line begins with, how many spaces follow, what it ends with, and how the run ends and what it writes.
-const LENGTHS: [(&str, u32, &str, Ending, &str); 8] = [
-    ("", 256, "", Ending::Done, ""),
-    ("", 256, "\n", Ending::Done, ""),
-    ("", 257, "", BAD, ""),
-    ("", 257, "\n", BAD, ""),
-    ("", 600, "\n", BAD, ""),
-    ("show 0 0", 248, "\n", Ending::Done, "0x0\n"),
-    ("show 0 0", 248, "", Ending::Done, "0x0\n"),
-    ("show 0 0", 249, "\n", BAD, ""),
-];
-
-/// Gives a line with so many spaces between its front and its end.
-fn spaced(alloc: Global, front: &str, spaces: u32, end: &str) -> Result<String, AllocError> {
-    let mut line = String::from_str(alloc, front)?;
-    for _ in 0..spaces {
-        line.push(' ')?;
-    }
-    line.push_str(end)?;
-    Ok(line)
-}
-
-#[test]
-fn lines_have_at_most_256_bytes(rt: HostRuntime) -> Result<(), Fail> {
-    for (front, spaces, end, ending, written) in LENGTHS {
-        let line = spaced(rt.alloc(), front, spaces, end)?;
-        let input = ("", line.as_bytes());
-        assert_run(&rt, rt.alloc(), "direct 8", input, ending, written)?;
-    }
-    Ok(())
-}
-
-/// Images that are no valid hierarchy.
-const IMAGES: [&str; 8] = [
-    INVALID,
-    "word 0x1000 0 0x1003\n",
-    "word 0x1000 0 0x8003\n",
-    "word 0x1000 0 0x3\n",
-    "word 0x1000 0 0x2083\n",
-    "word 0x1000 0 0x2003\nword 0x2000 0 0x3003\nword 0x3000 0 0x2003\n",
-    // The root and a table are free.
-    "free 0x1000\n",
-    "free 0x3000\nword 0x1000 0 0x2003\nword 0x2000 0 0x3002\n",
-];
-
-/// Asserts that an image is refused, whatever lines come after it.
-fn assert_invalid(
-    rt: &impl Abort,
-    alloc: Global,
-    arguments: &str,
-    image: &str,
-) -> Result<(), Fail> {
-    for lines in ["", "show 0 0\n", "\n walk 0\nfoo\n"] {
-        let input = (image, lines.as_bytes());
-        let invalid = Ending::Stopped(Fault::InvalidHierarchy);
-        assert_run(rt, alloc, arguments, input, invalid, "")?;
-    }
-    Ok(())
-}
-
-#[test]
-fn invalid_images_are_refused(rt: HostRuntime) -> Result<(), Fail> {
-    for image in IMAGES {
-        for (arguments, first) in MODES {
-            let whole = format!(in rt.alloc(); "{first}{image}")?;
-            assert_invalid(&rt, rt.alloc(), arguments, whole.as_str())?;
-        }
-    }
-    Ok(())
-}
-
-/// Images in which the root has no entry for itself at the index 510: no word, one at another index, one without
-/// PRESENT, one with HUGE_PAGE, and one of another frame.
-const NOT_RECURSIVE: [&str; 5] = [
-    "",
-    "word 0x1000 511 0x1003\n",
-    "word 0x1000 510 0x1002\n",
-    "word 0x1000 510 0x1083\n",
-    "word 0x1000 510 0x2003\n",
-];
-
-#[test]
-fn images_without_a_self_entry_are_refused(rt: HostRuntime) -> Result<(), Fail> {
-    for image in NOT_RECURSIVE {
-        assert_invalid(&rt, rt.alloc(), "recursive 8 510", image)?;
-        assert_invalid(&rt, rt.alloc(), "pair 8 510", image)?;
-    }
-    Ok(())
-}
-
-#[test]
-fn images_with_a_self_entry_alone_need_the_index(rt: HostRuntime) -> Result<(), Fail> {
-    for arguments in ["direct 8", "offset 8 0", "recursive 8 0", "pair 8 511"] {
-        assert_invalid(&rt, rt.alloc(), arguments, SELF_ENTRY)?;
-    }
-    Ok(())
-}
 
 /// Arguments, and how the run ends.
 const ARGUMENTS: [(&str, Ending); 36] = [
@@ -197,17 +96,27 @@ const REPLIES: [&str; 5] = [
     "pool 0x6000 0x7000\n",
 ];
 
-/// The end of a run whose read or write failed.
-const FAILED: Ending = Ending::Stopped(Fault::InputOutput);
+/// The end of a run whose read failed.
+const UNREAD: Ending = Ending::Stopped(Fault::Input);
 
-/// Runs the engine on these lines. The read and the write of these numbers fail, where they aren't 0.
-fn run_lines(alloc: Global, read: u64, write: u64) -> Result<Outcome, AllocError> {
-    run_failing(alloc, "direct 8", FIRST, LINES, read, write)
+/// The end of a run whose write failed.
+const UNWRITTEN: Ending = Ending::Stopped(Fault::Output);
+
+/// Runs the engine on these lines, in a mode and with the line that its image needs besides. The read and the write of these
+/// numbers fail, where they aren't 0.
+fn run_lines(
+    alloc: Global,
+    (arguments, first): (&str, &str),
+    read: u64,
+    write: u64,
+) -> Result<Outcome, AllocError> {
+    let image = format!(in alloc; "{first}{FIRST}")?;
+    run_failing(alloc, arguments, &image, LINES, read, write)
 }
 
 /// Asserts that a failed read ends the run, which has written a front part of the replies by then.
 fn assert_failed_read(rt: &impl Abort, outcome: &Outcome, read: u64, whole: &[u8]) {
-    assert_eq!(rt; outcome.ending, FAILED, "read {read}");
+    assert_eq!(rt; outcome.ending, UNREAD, "read {read}");
     assert_eq!(rt; outcome.reads, read);
     assert!(rt;
         whole.starts_with(outcome.written.as_slice()),
@@ -215,36 +124,53 @@ fn assert_failed_read(rt: &impl Abort, outcome: &Outcome, read: u64, whole: &[u8
     );
 }
 
-#[test]
-fn failed_reads_end_the_run(rt: HostRuntime) -> Result<(), Fail> {
-    let whole = run_lines(rt.alloc(), 0, 0)?;
+/// Lets each read fail in turn.
+fn assert_failed_reads(rt: &impl Abort, alloc: Global, mode: (&str, &str)) -> Result<(), Fail> {
+    let whole = run_lines(alloc, mode, 0, 0)?;
     assert_eq!(rt; whole.ending, Ending::Done);
     for read in 1..=whole.reads {
-        let outcome = run_lines(rt.alloc(), read, 0)?;
-        assert_failed_read(&rt, &outcome, read, &whole.written);
+        let outcome = run_lines(alloc, mode, read, 0)?;
+        assert_failed_read(rt, &outcome, read, &whole.written);
+    }
+    Ok(())
+}
+
+#[test]
+fn failed_reads_end_the_run(rt: HostRuntime) -> Result<(), Fail> {
+    for mode in MODES {
+        assert_failed_reads(&rt, rt.alloc(), mode)?;
+    }
+    Ok(())
+}
+
+/// Lets each write fail in turn.
+fn assert_failed_writes(rt: &impl Abort, alloc: Global, mode: (&str, &str)) -> Result<(), Fail> {
+    let whole = run_lines(alloc, mode, 0, 0)?;
+    assert_eq!(rt; whole.writes, 4);
+    let mut earlier = String::new(alloc);
+    for (write, reply) in (1..).zip(REPLIES).take(4) {
+        earlier.push_str(reply)?;
+        let outcome = run_lines(alloc, mode, 0, write)?;
+        assert_outcome(rt, &outcome, UNWRITTEN, &earlier, "a failed write");
     }
     Ok(())
 }
 
 #[test]
 fn failed_writes_end_the_run(rt: HostRuntime) -> Result<(), Fail> {
-    let whole = run_lines(rt.alloc(), 0, 0)?;
-    assert_eq!(rt; whole.writes, 4);
-    let mut earlier = String::new(rt.alloc());
-    for (write, reply) in (1..).zip(REPLIES).take(4) {
-        earlier.push_str(reply)?;
-        let outcome = run_lines(rt.alloc(), 0, write)?;
-        assert_outcome(&rt, &outcome, FAILED, &earlier, "a failed write");
+    for mode in MODES {
+        assert_failed_writes(&rt, rt.alloc(), mode)?;
     }
     Ok(())
 }
 
 /// Faults, each with its status and its text.
-const FAULTS: [(Fault, u8, &str); 5] = [
+const FAULTS: [(Fault, u8, &str); 6] = [
     (Fault::BadLine(7), 1, "bad line 7"),
     (Fault::InvalidHierarchy, 2, "invalid hierarchy"),
     (Fault::OutOfMemory, 3, "out of memory"),
-    (Fault::InputOutput, 4, "input or output failed"),
+    (Fault::Input, 4, "input or output failed"),
+    (Fault::Output, 4, "input or output failed"),
     (Fault::Usage, 5, USAGE),
 ];
 

@@ -1,5 +1,5 @@
 //! Clean ups.
-use super::{Exchange, FIRST, FREE, LEVEL_1, LEVEL_2, LEVEL_3, LEVEL_4, Row, WORDS, check};
+use super::{CLEANED, Exchange, FIRST, LEVEL_1, LEVEL_2, LEVEL_3, LEVEL_4, MAPPED, Row, check};
 use crate::turns::PageTurn::{MapTo, SetFlagsP4, Unmap};
 use crate::turns::Turn::{CleanUp, CleanUpRange, Small, Translate, TranslateAddr};
 use std::test::Fail;
@@ -16,27 +16,18 @@ const CLEAN_UP: Exchange = (CleanUp, Cleaned);
 
 const EMPTY_TABLES: [Row<'static>; 3] = [
     Row {
-        free: &FREE,
         calls: &[FIRST, UNMAP, CLEAN_UP],
-        words: &[],
-        full: &[],
-        left: &FREE,
+        ..CLEANED
     },
     // The second clean up finds none.
     Row {
-        free: &FREE,
         calls: &[FIRST, UNMAP, CLEAN_UP, CLEAN_UP],
-        words: &[],
-        full: &[],
-        left: &FREE,
+        ..CLEANED
     },
     // The page is mapped by the same tables again.
     Row {
-        free: &FREE,
         calls: &[FIRST, UNMAP, CLEAN_UP, FIRST],
-        words: &WORDS,
-        full: &[],
-        left: &[],
+        ..MAPPED
     },
 ];
 
@@ -50,15 +41,11 @@ const HIDE: Exchange = (Small(SetFlagsP4(0x1000, 0x2)), Answered(Done(0x2000)));
 
 const USED_TABLES: [Row<'static>; 3] = [
     Row {
-        free: &FREE,
         calls: &[FIRST, CLEAN_UP],
-        words: &WORDS,
-        full: &[],
-        left: &[],
+        ..MAPPED
     },
     // Below an entry without PRESENT nothing goes back, though the page isn't mapped.
     Row {
-        free: &FREE,
         calls: &[
             FIRST,
             HIDE,
@@ -66,11 +53,9 @@ const USED_TABLES: [Row<'static>; 3] = [
             CLEAN_UP,
         ],
         words: &[(0x1000, 0, 0x2002), LEVEL_3, LEVEL_2, LEVEL_1],
-        full: &[],
-        left: &[],
+        ..MAPPED
     },
     Row {
-        free: &FREE,
         calls: &[
             FIRST,
             HIDE,
@@ -81,9 +66,7 @@ const USED_TABLES: [Row<'static>; 3] = [
             ),
             (TranslateAddr(0x1abc), Address(Some(0x5abc))),
         ],
-        words: &WORDS,
-        full: &[],
-        left: &[],
+        ..MAPPED
     },
 ];
 
@@ -98,7 +81,6 @@ const SECOND: Exchange = (Small(MapTo(0x20_0000, 0x8000, 0x3)), Answered(Done(0x
 const RANGES: [Row<'static>; 3] = [
     // A range without pages, and one in which the tables have no page.
     Row {
-        free: &FREE,
         calls: &[
             FIRST,
             UNMAP,
@@ -106,16 +88,12 @@ const RANGES: [Row<'static>; 3] = [
             (CleanUpRange(0x4000_0000, 0x4000_0000), Cleaned),
         ],
         words: &[LEVEL_4, LEVEL_3, LEVEL_2],
-        full: &[],
-        left: &[],
+        ..MAPPED
     },
     // Each table has a part of the range.
     Row {
-        free: &FREE,
         calls: &[FIRST, UNMAP, (CleanUpRange(0x2000, 0x2000), Cleaned)],
-        words: &[],
-        full: &[],
-        left: &FREE,
+        ..CLEANED
     },
     // The table of level two has a table outside the range.
     Row {

@@ -1,7 +1,7 @@
 //! Flags of entries on the paths of pages.
 use super::{
-    FIRST, FIRST_LARGE, FREE, LARGE_LEVEL_3, LARGE_LEVEL_4, LEVEL_1, LEVEL_2, LEVEL_3, LEVEL_4,
-    Row, WORDS, check,
+    FIRST, FIRST_LARGE, LARGE_LEVEL_3, LARGE_LEVEL_4, LARGE_MAPPED, LEVEL_1, LEVEL_2, LEVEL_3,
+    LEVEL_4, MAPPED, Row, check,
 };
 use crate::turns::PageTurn::{MapTo, SetFlagsP2, SetFlagsP3, SetFlagsP4, Unmap, UpdateFlags};
 use crate::turns::Turn::{Giant, Large, Small, Translate, TranslateAddr};
@@ -15,7 +15,6 @@ use x86_64_plain::Translated::{Mapped, NotMapped};
 const PAGE_FLAGS: [Row<'static>; 2] = [
     // Without PRESENT a page is still translated, and its entry still used.
     Row {
-        free: &FREE,
         calls: &[
             FIRST,
             (Small(UpdateFlags(0x1000, 0x2)), Answered(Done(0x5000))),
@@ -35,12 +34,10 @@ const PAGE_FLAGS: [Row<'static>; 2] = [
             ),
         ],
         words: &[LEVEL_4, LEVEL_3, LEVEL_2, (0x4000, 1, 0x5002)],
-        full: &[],
-        left: &[],
+        ..MAPPED
     },
     // Bit 7 of a 4KiB page's entry doesn't change its size.
     Row {
-        free: &FREE,
         calls: &[
             FIRST,
             (Small(UpdateFlags(0x1000, 0x81)), Answered(Done(0x5000))),
@@ -56,8 +53,7 @@ const PAGE_FLAGS: [Row<'static>; 2] = [
             (Small(Unmap(0x1000)), Answered(Refused(ParentEntryHugePage))),
         ],
         words: &[LEVEL_4, LEVEL_3, LEVEL_2, (0x4000, 1, 0x5081)],
-        full: &[],
-        left: &[],
+        ..MAPPED
     },
 ];
 
@@ -69,18 +65,15 @@ fn pages_get_flags(rt: HostRuntime) -> Result<(), Fail> {
 /// Rows in which the entry of level four above the page 0x1000 loses `PRESENT`.
 const HIDDEN_TABLES: [Row<'static>; 2] = [
     Row {
-        free: &FREE,
         calls: &[
             FIRST,
             (Small(SetFlagsP4(0x1000, 0x2)), Answered(Done(0x2000))),
             (Translate(0x1000), Position(NotMapped)),
         ],
         words: &[(0x1000, 0, 0x2002), LEVEL_3, LEVEL_2, LEVEL_1],
-        full: &[],
-        left: &[],
+        ..MAPPED
     },
     Row {
-        free: &FREE,
         calls: &[
             FIRST,
             (Small(SetFlagsP4(0x1000, 0x2)), Answered(Done(0x2000))),
@@ -90,9 +83,7 @@ const HIDDEN_TABLES: [Row<'static>; 2] = [
             ),
             (TranslateAddr(0x1abc), Address(Some(0x5abc))),
         ],
-        words: &WORDS,
-        full: &[],
-        left: &[],
+        ..MAPPED
     },
 ];
 
@@ -103,7 +94,6 @@ fn tables_lose_flags_and_get_them_back(rt: HostRuntime) -> Result<(), Fail> {
 
 /// The lower levels come first, since below an entry without `PRESENT` there is none.
 const FLAGS_OF_EACH_LEVEL: [Row<'static>; 1] = [Row {
-    free: &FREE,
     calls: &[
         FIRST,
         (Small(SetFlagsP2(0x1000, 0xa)), Answered(Done(0x4000))),
@@ -116,8 +106,7 @@ const FLAGS_OF_EACH_LEVEL: [Row<'static>; 1] = [Row {
         (0x3000, 0, 0x400a),
         (0x4000, 1, 0x5003),
     ],
-    full: &[],
-    left: &[],
+    ..MAPPED
 }];
 
 #[test]
@@ -126,7 +115,6 @@ fn each_level_has_an_entry_on_the_path(rt: HostRuntime) -> Result<(), Fail> {
 }
 
 const FLAGS_OF_A_LARGE_PAGE: [Row<'static>; 1] = [Row {
-    free: &FREE,
     calls: &[
         FIRST_LARGE,
         (
@@ -144,8 +132,7 @@ const FLAGS_OF_A_LARGE_PAGE: [Row<'static>; 1] = [Row {
         ),
     ],
     words: &[LARGE_LEVEL_4, LARGE_LEVEL_3, (0x3000, 1, 0x40_0083)],
-    full: &[0x4000],
-    left: &[0x4000],
+    ..LARGE_MAPPED
 }];
 
 #[test]
@@ -156,7 +143,6 @@ fn flags_keep_the_size_of_a_page(rt: HostRuntime) -> Result<(), Fail> {
 const HUGE: PlainReply = Answered(Refused(ParentEntryHugePage));
 
 const FLAGS_BELOW_LARGER_PAGES: [Row<'static>; 1] = [Row {
-    free: &FREE,
     calls: &[
         FIRST,
         (Large(SetFlagsP2(0x0, 0x1)), HUGE),
@@ -165,9 +151,7 @@ const FLAGS_BELOW_LARGER_PAGES: [Row<'static>; 1] = [Row {
         (Giant(SetFlagsP3(0x0, 0x1)), HUGE),
         (Giant(SetFlagsP3(0xffff_ffff_c000_0000, 0x1)), HUGE),
     ],
-    words: &WORDS,
-    full: &[],
-    left: &[],
+    ..MAPPED
 }];
 
 #[test]
@@ -177,7 +161,6 @@ fn larger_pages_have_no_entries_above_them_there(rt: HostRuntime) -> Result<(), 
 
 /// An address bit, and `HUGE_PAGE` where the entry lacks it.
 const FLAGS_NOT_ALLOWED: [Row<'static>; 1] = [Row {
-    free: &FREE,
     calls: &[
         FIRST,
         (Small(UpdateFlags(0x1000, 0x1003)), NotAllowed),
@@ -186,9 +169,7 @@ const FLAGS_NOT_ALLOWED: [Row<'static>; 1] = [Row {
         (Small(SetFlagsP3(0x1000, 0x83)), NotAllowed),
         (Small(SetFlagsP2(0x1000, 0x83)), NotAllowed),
     ],
-    words: &WORDS,
-    full: &[],
-    left: &[],
+    ..MAPPED
 }];
 
 #[test]

@@ -1,7 +1,7 @@
 //! Lists of calls whose flushes are recorded.
 use super::{
-    FIRST, FIRST_LARGE, FREE, LARGE_LEVEL_3, LARGE_LEVEL_4, LEVEL_2, LEVEL_3, LEVEL_4, Row,
-    add_exchanges, assert_fits, begin, compare,
+    CLEANED, FIRST, FIRST_LARGE, LARGE_LEVEL_3, LARGE_LEVEL_4, LARGE_MAPPED, LEVEL_2, LEVEL_3,
+    LEVEL_4, MAPPED, Row, add_exchanges, assert_fits, begin, compare,
 };
 use crate::images::{ROOT, frame_at, run_flushed_on};
 use crate::turns::PageTurn::{SetFlagsP4, Unmap, UpdateFlags};
@@ -71,7 +71,6 @@ fn check_flushes(
 }
 
 const LARGE_PAGE: Row<'static> = Row {
-    free: &FREE,
     calls: &[
         FIRST_LARGE,
         (
@@ -84,8 +83,7 @@ const LARGE_PAGE: Row<'static> = Row {
         (Large(Unmap(0x20_0000)), Answered(Refused(PageNotMapped))),
     ],
     words: &[LARGE_LEVEL_4, LARGE_LEVEL_3],
-    full: &[0x4000],
-    left: &[0x4000],
+    ..LARGE_MAPPED
 };
 
 #[test]
@@ -97,11 +95,9 @@ fn accepted_calls_are_recorded_and_no_others(rt: HostRuntime) -> Result<(), Fail
 }
 
 const SMALL_PAGE: Row<'static> = Row {
-    free: &FREE,
     calls: &[FIRST, (Small(Unmap(0x1000)), Answered(Done(0x5000)))],
     words: &[LEVEL_4, LEVEL_3, LEVEL_2],
-    full: &[],
-    left: &[],
+    ..MAPPED
 };
 
 #[test]
@@ -111,7 +107,6 @@ fn pages_of_4kib_are_recorded_with_their_size(rt: HostRuntime) -> Result<(), Fai
 }
 
 const TABLES_GO_BACK: Row<'static> = Row {
-    free: &FREE,
     calls: &[
         FIRST,
         (Small(Unmap(0x1000)), Answered(Done(0x5000))),
@@ -119,9 +114,7 @@ const TABLES_GO_BACK: Row<'static> = Row {
         (CleanUpRange(0x1000, 0x20_0000), Cleaned),
         (CleanUp, Cleaned),
     ],
-    words: &[],
-    full: &[],
-    left: &FREE,
+    ..CLEANED
 };
 
 #[test]

@@ -4,7 +4,7 @@ ghost use Rattle.x86_64_model.specs.Memory.{identity_places};
 ghost use Rattle.x86_64_mappers.specs.Layouts.{direct};
 ghost use Rattle.x86_64.specs.Runs.{FitsPool};
 
-use super::{FIRST, FREE, Row, add_exchanges, assert_fits, begin, compare};
+use super::{CLEANED, FIRST, Row, add_exchanges, assert_fits, begin, compare};
 use crate::counting::Counting;
 use crate::images::{ROOT, frame_at};
 use crate::turns::PageTurn::{Unmap, UpdateFlags};
@@ -20,7 +20,6 @@ use x86_64_plain::Translated::Mapped;
 
 /// Calls of which four write.
 const ROW: Row<'static> = Row {
-    free: &FREE,
     calls: &[
         FIRST,
         (
@@ -36,9 +35,7 @@ const ROW: Row<'static> = Row {
         (Small(Unmap(0x1000)), Answered(Done(0x5000))),
         (CleanUp, Cleaned),
     ],
-    words: &[],
-    full: &[],
-    left: &FREE,
+    ..CLEANED
 };
 
 /// Answers calls by a mapper that counts those that write, and gives their number.

@@ -1,7 +1,7 @@
 //! Maps and unmaps.
 use super::{
-    FIRST, FIRST_LARGE, FREE, LARGE_LEVEL_3, LARGE_LEVEL_4, LARGE_WORDS, LEVEL_2, LEVEL_3, LEVEL_4,
-    Row, WORDS, check,
+    FIRST, FIRST_LARGE, FREE, LARGE_LEVEL_3, LARGE_LEVEL_4, LARGE_MAPPED, LEVEL_2, LEVEL_3,
+    LEVEL_4, MAPPED, Row, UNTOUCHED, WORDS, check,
 };
 use crate::turns::PageTurn::{IdentityMap, MapTo, TranslatePage, Unmap, UpdateFlags};
 use crate::turns::Turn::{Giant, Large, Small, Translate, TranslateAddr};
@@ -16,11 +16,8 @@ use x86_64_plain::Translated::NotMapped;
 
 const TABLES_ARE_TAKEN: [Row<'static>; 3] = [
     Row {
-        free: &FREE,
         calls: &[FIRST, (TranslateAddr(0x1abc), Address(Some(0x5abc)))],
-        words: &WORDS,
-        full: &[],
-        left: &[],
+        ..MAPPED
     },
     Row {
         free: &[0x2000, 0x3000],
@@ -48,14 +45,11 @@ fn maps_take_tables_from_the_front_of_the_pool(rt: HostRuntime) -> Result<(), Fa
 
 const LARGER_PAGES: [Row<'static>; 2] = [
     Row {
-        free: &FREE,
         calls: &[
             FIRST_LARGE,
             (TranslateAddr(0x23_4567), Address(Some(0x43_4567))),
         ],
-        words: &LARGE_WORDS,
-        full: &[0x4000],
-        left: &[0x4000],
+        ..LARGE_MAPPED
     },
     Row {
         free: &FREE,
@@ -79,32 +73,25 @@ fn larger_pages_want_fewer_tables(rt: HostRuntime) -> Result<(), Fail> {
 
 const IDENTITY_MAPS: [Row<'static>; 3] = [
     Row {
-        free: &FREE,
         calls: &[
             (Small(IdentityMap(0x5000, 0x3)), Answered(Done(0x5000))),
             (TranslateAddr(0x5abc), Address(Some(0x5abc))),
         ],
         words: &[LEVEL_4, LEVEL_3, LEVEL_2, (0x4000, 5, 0x5003)],
-        full: &[],
-        left: &[],
+        ..MAPPED
     },
     Row {
-        free: &FREE,
         calls: &[(
             Large(IdentityMap(0x60_0000, 0x1)),
             Answered(Done(0x60_0000)),
         )],
         words: &[LARGE_LEVEL_4, LARGE_LEVEL_3, (0x3000, 3, 0x60_0081)],
-        full: &[0x4000],
-        left: &[0x4000],
+        ..LARGE_MAPPED
     },
     // No page starts at an address of 2^47, or its position is another one.
     Row {
-        free: &FREE,
         calls: &[(Small(IdentityMap(0x8000_0000_0000, 0x1)), NotAllowed)],
-        words: &[],
-        full: &FREE,
-        left: &FREE,
+        ..UNTOUCHED
     },
 ];
 
@@ -116,7 +103,6 @@ fn identity_maps_name_the_page_at_the_frame(rt: HostRuntime) -> Result<(), Fail>
 const REFUSED_MAPS: [Row<'static>; 2] = [
     // The frame of the reply is the one asked for.
     Row {
-        free: &FREE,
         calls: &[
             FIRST,
             (
@@ -124,21 +110,16 @@ const REFUSED_MAPS: [Row<'static>; 2] = [
                 Answered(Refused(PageAlreadyMapped(0x9000))),
             ),
         ],
-        words: &WORDS,
-        full: &[],
-        left: &[],
+        ..MAPPED
     },
     // Frame 0 without flags is the word 0: the page stays unused.
     Row {
-        free: &FREE,
         calls: &[
             FIRST,
             (Small(MapTo(0x2000, 0x0, 0x0)), Answered(Done(0x0))),
             (Translate(0x2000), Position(NotMapped)),
         ],
-        words: &WORDS,
-        full: &[],
-        left: &[],
+        ..MAPPED
     },
 ];
 
@@ -149,15 +130,12 @@ fn refused_maps_leave_what_they_did(rt: HostRuntime) -> Result<(), Fail> {
 
 /// Parent flags without `PRESENT`, `HUGE_PAGE` on a 4KiB page, an address bit.
 const MAPS_NOT_ALLOWED: [Row<'static>; 1] = [Row {
-    free: &FREE,
     calls: &[
         (Small(MapTo(0x1000, 0x5000, 0x0)), NotAllowed),
         (Small(MapTo(0x1000, 0x5000, 0x81)), NotAllowed),
         (Small(MapTo(0x1000, 0x5000, 0x1001)), NotAllowed),
     ],
-    words: &[],
-    full: &FREE,
-    left: &FREE,
+    ..UNTOUCHED
 }];
 
 #[test]
@@ -167,36 +145,29 @@ fn maps_that_are_not_allowed_change_nothing(rt: HostRuntime) -> Result<(), Fail>
 
 const UNMAPS: [Row<'static>; 3] = [
     Row {
-        free: &FREE,
         calls: &[
             FIRST,
             (Small(Unmap(0x2000)), Answered(Refused(PageNotMapped))),
             (Small(Unmap(0x4000_0000)), Answered(Refused(PageNotMapped))),
         ],
-        words: &WORDS,
-        full: &[],
-        left: &[],
+        ..MAPPED
     },
     Row {
-        free: &FREE,
         calls: &[
             FIRST,
             (Small(Unmap(0x1000)), Answered(Done(0x5000))),
             (Small(Unmap(0x1000)), Answered(Refused(PageNotMapped))),
         ],
         words: &[LEVEL_4, LEVEL_3, LEVEL_2],
-        full: &[],
-        left: &[],
+        ..MAPPED
     },
     Row {
-        free: &FREE,
         calls: &[
             FIRST_LARGE,
             (Large(Unmap(0x20_0000)), Answered(Done(0x40_0000))),
         ],
         words: &[LARGE_LEVEL_4, LARGE_LEVEL_3],
-        full: &[0x4000],
-        left: &[0x4000],
+        ..LARGE_MAPPED
     },
 ];
 
@@ -206,7 +177,6 @@ fn unmaps_leave_the_tables(rt: HostRuntime) -> Result<(), Fail> {
 }
 
 const LARGER_PAGES_AT_TABLES: [Row<'static>; 1] = [Row {
-    free: &FREE,
     calls: &[
         FIRST,
         (Large(Unmap(0x0)), Answered(Refused(ParentEntryHugePage))),
@@ -223,9 +193,7 @@ const LARGER_PAGES_AT_TABLES: [Row<'static>; 1] = [Row {
             Answered(Refused(PageAlreadyMapped(0x40_0000))),
         ),
     ],
-    words: &WORDS,
-    full: &[],
-    left: &[],
+    ..MAPPED
 }];
 
 #[test]

@@ -4,8 +4,9 @@ ghost use Rattle.x86_64_mappers.specs.Recursive.{recursive_now};
 ghost use Rattle.x86_64.specs.Runs.{FitsPool};
 
 use super::{
-    Exchange, FIRST_LARGE, FREE, LEVEL_2, LEVEL_3, LEVEL_4, RECURSIVE, RECURSIVE_INDEX, Row, Word,
-    add_exchanges, assert_fits_recursive, begin_by, check_by, compare_by,
+    CLEANED, Exchange, FIRST_LARGE, LARGE_MAPPED, LEVEL_2, LEVEL_3, LEVEL_4, MAPPED, RECURSIVE,
+    RECURSIVE_INDEX, Row, Word, add_exchanges, assert_fits_recursive, begin_by, check_by,
+    compare_by,
 };
 use crate::images::{ROOT, frame_at, run_recursive_on};
 use crate::turns::PageTurn::{
@@ -41,7 +42,6 @@ const CLEAN_UP: Exchange = (CleanUp, Cleaned);
 
 const TABLES_ARE_PAGES: [Row<'static>; 2] = [
     Row {
-        free: &FREE,
         calls: &[
             MAP,
             (
@@ -65,12 +65,10 @@ const TABLES_ARE_PAGES: [Row<'static>; 2] = [
             (Small(MapTo(WINDOW, 0x6000, 0x1)), NotAllowed),
         ],
         words: &WORDS,
-        full: &[],
-        left: &[],
+        ..MAPPED
     },
     // The entry of a 2MiB page is read as that of a 4KiB one.
     Row {
-        free: &FREE,
         calls: &[
             FIRST_LARGE,
             (
@@ -88,8 +86,7 @@ const TABLES_ARE_PAGES: [Row<'static>; 2] = [
             ),
         ],
         words: &[LEVEL_4, LEVEL_3, (0x3000, 1, 0x40_0081)],
-        full: &[0x4000],
-        left: &[0x4000],
+        ..LARGE_MAPPED
     },
 ];
 
@@ -100,42 +97,31 @@ fn tables_are_pages_of_the_window(rt: HostRuntime) -> Result<(), Fail> {
 
 const CLEAN_UPS: [Row<'static>; 4] = [
     Row {
-        free: &FREE,
         calls: &[MAP, UNMAP, CLEAN_UP],
-        words: &[],
-        full: &[],
-        left: &FREE,
+        ..CLEANED
     },
     Row {
-        free: &FREE,
         calls: &[MAP, UNMAP, CLEAN_UP, CLEAN_UP],
-        words: &[],
-        full: &[],
-        left: &FREE,
+        ..CLEANED
     },
     // The range is the window: it has no table's part, though a table is empty.
     Row {
-        free: &FREE,
         calls: &[
             MAP,
             UNMAP,
             (CleanUpRange(WINDOW, 0xffff_ff7f_ffff_f000), Cleaned),
         ],
         words: &[LEVEL_4, LEVEL_3, LEVEL_2],
-        full: &[],
-        left: &[],
+        ..MAPPED
     },
     // The range goes over the window, from a page below it to one above it.
     Row {
-        free: &FREE,
         calls: &[
             MAP,
             UNMAP,
             (CleanUpRange(0x1000, 0xffff_ff80_0000_0000), Cleaned),
         ],
-        words: &[],
-        full: &[],
-        left: &FREE,
+        ..CLEANED
     },
 ];
 
@@ -146,7 +132,6 @@ fn clean_ups_leave_the_window(rt: HostRuntime) -> Result<(), Fail> {
 
 /// Each call that writes, on pages of each size.
 const WRITES: [Row<'static>; 1] = [Row {
-    free: &FREE,
     calls: &[
         MAP,
         (
@@ -168,8 +153,7 @@ const WRITES: [Row<'static>; 1] = [Row {
         (Giant(SetFlagsP3(WINDOW, 0x1)), NotAllowed),
     ],
     words: &WORDS,
-    full: &[],
-    left: &[],
+    ..MAPPED
 }];
 
 #[test]

@@ -3,11 +3,12 @@ ghost use Rattle.std.specs.Prelude.{◌≡◌, ◌<◌, ◌^◌};
 ghost use Rattle.x86_64_model.specs.Owned.{Valid, SupplyFits};
 
 use super::{
-    FREE, LARGE_LEVEL_3, LARGE_LEVEL_4, RECURSIVE, RECURSIVE_INDEX, Row, SELF_ENTRY, assert_fits,
-    assert_fits_recursive, begin, begin_by, compare, compare_by,
+    LARGE_LEVEL_3, LARGE_LEVEL_4, LARGE_MAPPED, LEVEL_2, LEVEL_3, LEVEL_4, MAPPED, RECURSIVE,
+    RECURSIVE_INDEX, Row, SELF_ENTRY, assert_fits, assert_fits_recursive, begin, begin_by, compare,
 };
 use crate::images::{ROOT, flags_of, frame_at, page_at};
 use crate::replies::page_of;
+use std::alloc::Global;
 use std::fmt::Debug;
 use std::process::Abort;
 use std::test::Fail;
@@ -174,15 +175,18 @@ fn set_level_2<S: PageSize, M: Mapper<S>>(
 
 /// What is left of a map and an unmap of the page 0x1000.
 const UNMAPPED: Row<'static> = Row {
-    free: &FREE,
-    calls: &[],
     words: &[
         (0x1000, 0, 0x2001),
         (0x2000, 0, 0x3001),
         (0x3000, 0, 0x4001),
     ],
-    full: &[],
-    left: &[],
+    ..MAPPED
+};
+
+/// The same through windows.
+const WRITABLE_UNMAPPED: Row<'static> = Row {
+    words: &[LEVEL_4, LEVEL_3, LEVEL_2],
+    ..UNMAPPED
 };
 
 /// Maps the page 0x1000 of 4KiB, maps it again, and unmaps it twice.
@@ -203,43 +207,16 @@ fn map_and_unmap<M: Mapper<Size4KiB>, A: FrameAllocator<Size4KiB>>(
     unmap(rt, mapper, page, Err(UnmapError::PageNotMapped));
 }
 
-#[test]
-fn mappers_map_and_unmap(rt: HostRuntime) -> Result<(), Fail> {
-    let (mut memory, mut pool) = begin(rt.alloc(), &FREE)?;
-    let root = frame_at(ROOT);
-    assert_fits(&rt, rt.alloc(), &memory, &IdentityMapping, root, &pool)?;
-    let mut mapper = MappedPageTable::new(&mut memory, root, IdentityMapping);
-    map_and_unmap(&rt, &mut mapper, &mut pool);
-    drop(mapper);
-    compare(&rt, &memory, &pool, &UNMAPPED, "by the mapper")
-}
-
-#[test]
-fn mappers_map_and_unmap_through_windows(rt: HostRuntime) -> Result<(), Fail> {
-    let (mut memory, mut pool) = begin_by(rt.alloc(), RECURSIVE, &FREE)?;
-    let (root, index) = (frame_at(ROOT), PageTableIndex::new(RECURSIVE_INDEX));
-    assert_fits_recursive(&rt, rt.alloc(), &memory, root, index, &pool)?;
-    let active = ActiveMemory::new(&mut memory, root);
-    let mut mapper = RecursivePageTable::new_unchecked(active, index);
-    map_and_unmap(&rt, &mut mapper, &mut pool);
-    drop(mapper);
-    compare_by(
-        &rt,
-        rt.alloc(),
-        RECURSIVE,
-        (&memory, &pool),
-        &UNMAPPED,
-        "by windows",
-    )
-}
-
 /// What is left of a map of the page 0x600000 of 2MiB whose flags were set.
 const PAGE_FLAGS: Row<'static> = Row {
-    free: &FREE,
-    calls: &[],
     words: &[LARGE_LEVEL_4, LARGE_LEVEL_3, (0x3000, 3, 0x60_0082)],
-    full: &[0x4000],
-    left: &[0x4000],
+    ..LARGE_MAPPED
+};
+
+/// The same through windows.
+const WRITABLE_PAGE_FLAGS: Row<'static> = Row {
+    words: &[LEVEL_4, LEVEL_3, (0x3000, 3, 0x60_0082)],
+    ..PAGE_FLAGS
 };
 
 /// Asks a mapper for the frame of a page, and compares the answer.
@@ -272,48 +249,15 @@ fn set_page_flags<M: MapperAllSizes, A: FrameAllocator<Size4KiB>>(
     make_writable(rt, mapper, below, Err(FlagUpdateError::PageNotMapped));
 }
 
-#[test]
-fn mappers_set_flags_of_pages(rt: HostRuntime) -> Result<(), Fail> {
-    let (mut memory, mut pool) = begin(rt.alloc(), &FREE)?;
-    let root = frame_at(ROOT);
-    assert_fits(&rt, rt.alloc(), &memory, &IdentityMapping, root, &pool)?;
-    let mut mapper = MappedPageTable::new(&mut memory, root, IdentityMapping);
-    set_page_flags(&rt, &mut mapper, &mut pool);
-    drop(mapper);
-    compare(&rt, &memory, &pool, &PAGE_FLAGS, "by the mapper")
-}
-
-#[test]
-fn mappers_set_flags_of_pages_through_windows(rt: HostRuntime) -> Result<(), Fail> {
-    let (mut memory, mut pool) = begin_by(rt.alloc(), RECURSIVE, &FREE)?;
-    let (root, index) = (frame_at(ROOT), PageTableIndex::new(RECURSIVE_INDEX));
-    assert_fits_recursive(&rt, rt.alloc(), &memory, root, index, &pool)?;
-    let active = ActiveMemory::new(&mut memory, root);
-    let mut mapper = RecursivePageTable::new_unchecked(active, index);
-    set_page_flags(&rt, &mut mapper, &mut pool);
-    drop(mapper);
-    compare_by(
-        &rt,
-        rt.alloc(),
-        RECURSIVE,
-        (&memory, &pool),
-        &PAGE_FLAGS,
-        "by windows",
-    )
-}
-
 /// What is left of a map of the page 0x1000 where flags of its tables were set.
 const TABLE_FLAGS: Row<'static> = Row {
-    free: &FREE,
-    calls: &[],
     words: &[
         (0x1000, 0, 0x2001),
         (0x2000, 0, 0x3005),
         (0x3000, 0, 0x4009),
         (0x4000, 1, 0x5003),
     ],
-    full: &[],
-    left: &[],
+    ..MAPPED
 };
 
 /// Maps the page 0x1000 of 4KiB, and sets the flags of the entries above it. A page of 2MiB has no entry above
@@ -350,31 +294,78 @@ fn set_table_flags<M: MapperAllSizes, A: FrameAllocator<Size4KiB>>(
     set_level_3(rt, mapper, page, flags_of(0x5));
 }
 
-#[test]
-fn mappers_set_flags_of_tables(rt: HostRuntime) -> Result<(), Fail> {
-    let (mut memory, mut pool) = begin(rt.alloc(), &FREE)?;
-    let root = frame_at(ROOT);
-    assert_fits(&rt, rt.alloc(), &memory, &IdentityMapping, root, &pool)?;
-    let mut mapper = MappedPageTable::new(&mut memory, root, IdentityMapping);
-    set_table_flags(&rt, &mut mapper, &mut pool);
-    drop(mapper);
-    compare(&rt, &memory, &pool, &TABLE_FLAGS, "by the mapper")
+/// Calls of a mapper itself.
+#[derive(Clone, Copy, Debug)]
+enum Script {
+    MapAndUnmap,
+    SetPageFlags,
+    SetTableFlags,
 }
 
-#[test]
-fn mappers_set_flags_of_tables_through_windows(rt: HostRuntime) -> Result<(), Fail> {
-    let (mut memory, mut pool) = begin_by(rt.alloc(), RECURSIVE, &FREE)?;
+/// Makes the calls of a script.
+fn play<M: MapperAllSizes, A: FrameAllocator<Size4KiB>>(
+    rt: &impl Abort,
+    script: Script,
+    mapper: &mut M,
+    allocator: &mut A,
+)
+    requires { SupplyFits (M.hierarchy mapper.old) (A.supply allocator.old) }
+{
+    match script {
+        Script::MapAndUnmap => map_and_unmap(rt, mapper, allocator),
+        Script::SetPageFlags => set_page_flags(rt, mapper, allocator),
+        Script::SetTableFlags => set_table_flags(rt, mapper, allocator),
+    }
+}
+
+/// Makes the calls of a script by the direct mapper, and compares what is left.
+fn check_direct(rt: &impl Abort, alloc: Global, script: Script, row: &Row<'_>) -> Result<(), Fail> {
+    let (mut memory, mut pool) = begin(alloc, row.free)?;
+    let root = frame_at(ROOT);
+    assert_fits(rt, alloc, &memory, &IdentityMapping, root, &pool)?;
+    let mut mapper = MappedPageTable::new(&mut memory, root, IdentityMapping);
+    play(rt, script, &mut mapper, &mut pool);
+    drop(mapper);
+    let title = format!(in alloc; "{script:?} by the direct mapper")?;
+    compare(rt, &memory, &pool, row, &title)
+}
+
+/// Makes the calls of a script through windows, and compares what is left: the entry for the root itself besides.
+fn check_recursive(
+    rt: &impl Abort,
+    alloc: Global,
+    script: Script,
+    row: &Row<'_>,
+) -> Result<(), Fail> {
+    let (mut memory, mut pool) = begin_by(alloc, RECURSIVE, row.free)?;
     let (root, index) = (frame_at(ROOT), PageTableIndex::new(RECURSIVE_INDEX));
-    assert_fits_recursive(&rt, rt.alloc(), &memory, root, index, &pool)?;
+    assert_fits_recursive(rt, alloc, &memory, root, index, &pool)?;
     let active = ActiveMemory::new(&mut memory, root);
     let mut mapper = RecursivePageTable::new_unchecked(active, index);
-    set_table_flags(&rt, &mut mapper, &mut pool);
+    play(rt, script, &mut mapper, &mut pool);
     drop(mapper);
-    let mut words = vec![in rt.alloc(); (ROOT, RECURSIVE_INDEX, SELF_ENTRY)]?;
-    words.extend_from_slice(TABLE_FLAGS.words)?;
+    let mut words = vec![in alloc; (ROOT, RECURSIVE_INDEX, SELF_ENTRY)]?;
+    words.extend_from_slice(row.words)?;
     let left = Row {
         words: &words,
-        ..TABLE_FLAGS
+        ..*row
     };
-    compare(&rt, &memory, &pool, &left, "by windows")
+    let title = format!(in alloc; "{script:?} through windows")?;
+    compare(rt, &memory, &pool, &left, &title)
+}
+
+/// Scripts, and what is left of them by the direct mapper and through windows, where new tables are writable.
+const SCRIPTS: [(Script, Row<'static>, Row<'static>); 3] = [
+    (Script::MapAndUnmap, UNMAPPED, WRITABLE_UNMAPPED),
+    (Script::SetPageFlags, PAGE_FLAGS, WRITABLE_PAGE_FLAGS),
+    (Script::SetTableFlags, TABLE_FLAGS, TABLE_FLAGS),
+];
+
+#[test]
+fn mappers_answer_single_calls(rt: HostRuntime) -> Result<(), Fail> {
+    for (script, direct, recursive) in &SCRIPTS {
+        check_direct(&rt, rt.alloc(), *script, direct)?;
+        check_recursive(&rt, rt.alloc(), *script, recursive)?;
+    }
+    Ok(())
 }

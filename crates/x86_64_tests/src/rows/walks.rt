@@ -1,7 +1,7 @@
 //! Where a page walk arrives after calls, and with which rights.
 use super::{
-    By, DIRECT, EACH, FIRST, FIRST_LARGE, FREE, LARGE_LEVEL_3, LARGE_LEVEL_4, LARGE_WORDS, LEVEL_2,
-    LEVEL_3, LEVEL_4, RECURSIVE, Row, check_row,
+    By, DIRECT, EACH, FIRST, FIRST_LARGE, LARGE_LEVEL_3, LARGE_LEVEL_4, LARGE_MAPPED, LEVEL_2,
+    LEVEL_3, LEVEL_4, MAPPED, RECURSIVE, Row, check_row,
 };
 use crate::images::{ROOT, frame_at};
 use crate::turns::PageTurn::{MapTo, MapToWithTableFlags, UpdateFlags};
@@ -48,7 +48,6 @@ fn check_walks(
 
 const TWO_MAPS: [(Row<'static>, &[Walk]); 1] = [(
     Row {
-        free: &FREE,
         calls: &[
             FIRST,
             (Small(MapTo(0x2000, 0x6000, 0x5)), Answered(Done(0x6000))),
@@ -60,8 +59,7 @@ const TWO_MAPS: [(Row<'static>, &[Walk]); 1] = [(
             (0x4000, 1, 0x5003),
             (0x4000, 2, 0x6005),
         ],
-        full: &[],
-        left: &[],
+        ..MAPPED
     },
     &[
         (0x2000, Some((0x6000, false, true))),
@@ -80,17 +78,13 @@ fn accepted_maps_arrive_with_the_rights_asked_for(rt: HostRuntime) -> Result<(),
 const WIDER_RIGHTS: [(Row<'static>, &[Walk]); 2] = [
     (
         Row {
-            free: &FREE,
             calls: &[FIRST_LARGE],
-            words: &LARGE_WORDS,
-            full: &[0x4000],
-            left: &[0x4000],
+            ..LARGE_MAPPED
         },
         &[(0x23_4567, Some((0x43_4567, false, false)))],
     ),
     (
         Row {
-            free: &FREE,
             calls: &[
                 FIRST_LARGE,
                 (
@@ -103,8 +97,7 @@ const WIDER_RIGHTS: [(Row<'static>, &[Walk]); 2] = [
                 (0x2000, 0, 0x3003),
                 (0x3000, 1, 0x40_0083),
             ],
-            full: &[0x4000],
-            left: &[0x4000],
+            ..LARGE_MAPPED
         },
         &[(0x23_4567, Some((0x43_4567, true, false)))],
     ),
@@ -116,7 +109,6 @@ fn refused_maps_widen_rights_of_walks_on_their_way(rt: HostRuntime) -> Result<()
 }
 
 const PARENT_FLAGS: Row<'static> = Row {
-    free: &FREE,
     calls: &[(
         Small(MapToWithTableFlags(0x1000, 0x5000, 0x3, 0x1)),
         Answered(Done(0x5000)),
@@ -127,8 +119,7 @@ const PARENT_FLAGS: Row<'static> = Row {
         (0x3000, 0, 0x4001),
         (0x4000, 1, 0x5003),
     ],
-    full: &[],
-    left: &[],
+    ..MAPPED
 };
 
 #[test]
@@ -146,34 +137,29 @@ fn new_tables_are_writable_through_windows(rt: HostRuntime) -> Result<(), Fail> 
 const PAGE_FLAGS: [(Row<'static>, &[Walk]); 3] = [
     (
         Row {
-            free: &FREE,
             calls: &[
                 FIRST,
                 (Small(UpdateFlags(0x1000, 0x2)), Answered(Done(0x5000))),
             ],
             words: &[LEVEL_4, LEVEL_3, LEVEL_2, (0x4000, 1, 0x5002)],
-            full: &[],
-            left: &[],
+            ..MAPPED
         },
         &[(0x1000, None), (0x1abc, None)],
     ),
     (
         Row {
-            free: &FREE,
             calls: &[
                 FIRST,
                 (Small(UpdateFlags(0x1000, 0x81)), Answered(Done(0x5000))),
             ],
             words: &[LEVEL_4, LEVEL_3, LEVEL_2, (0x4000, 1, 0x5081)],
-            full: &[],
-            left: &[],
+            ..MAPPED
         },
         &[(0x1abc, Some((0x5abc, false, false)))],
     ),
     // The entries above the page give no right to users.
     (
         Row {
-            free: &FREE,
             calls: &[
                 FIRST_LARGE,
                 (
@@ -182,8 +168,7 @@ const PAGE_FLAGS: [(Row<'static>, &[Walk]); 3] = [
                 ),
             ],
             words: &[LARGE_LEVEL_4, LARGE_LEVEL_3, (0x3000, 1, 0x40_0085)],
-            full: &[0x4000],
-            left: &[0x4000],
+            ..LARGE_MAPPED
         },
         &[(0x3f_ffff, Some((0x5f_ffff, false, false)))],
     ),

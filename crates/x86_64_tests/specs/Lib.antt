@@ -1,0 +1,2 @@
+-- What tests begin with.
+pub mod Pairs

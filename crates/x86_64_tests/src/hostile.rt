@@ -1,0 +1,207 @@
+//! Images that nobody vouches for, and which of them are valid: by the tests of hierarchies, and by walks.
+use crate::images::{ROOT, WORD_COUNT, frame_at, set_word};
+use crate::rows::{SELF_ENTRY, Word};
+use std::alloc::{AllocError, Global};
+use std::process::Abort;
+use std::test::Fail;
+use x86_64::structures::paging::PageTableIndex;
+use x86_64::{IdentityMapping, PhysMemory, is_valid_hierarchy, is_valid_recursive};
+
+/// How many places the memory of an image has.
+const PLACES: u64 = 8;
+
+/// An image: the words below the root that aren't 0.
+#[derive(Drop)]
+pub struct Image {
+    /// Words, each after those above it.
+    words: &'static [Word],
+    /// The table whose words are full of ones, if there is one.
+    full: Option<u64>,
+    /// Where the image is valid, the replies of the program to `translate 0` and `walk 0`.
+    pub replies: Option<(&'static str, &'static str)>,
+}
+
+impl Image {
+    /// Gives the words that aren't 0, each after those above it.
+    pub fn words(&self, alloc: Global) -> Result<Vec<Word>, AllocError> {
+        let mut words = Vec::from_slice(alloc, self.words)?;
+        if let Some(frame) = self.full {
+            for index in 0..WORD_COUNT {
+                words.push((frame, index, u64::MAX))?;
+            }
+        }
+        Ok(words)
+    }
+}
+
+/// Makes a row of an image that isn't valid.
+const INVALID: Image = Image {
+    words: &[],
+    full: None,
+    replies: None,
+};
+
+/// The images. In the first four the words name each table once.
+pub const IMAGES: [Image; 16] = [
+    Image {
+        words: &[],
+        full: None,
+        replies: Some(("not mapped", "none")),
+    },
+    // The address of a 1GiB page has bits below its size.
+    Image {
+        words: &[(ROOT, 0, 0x2003), (0x2000, 0, 0x4000_1083)],
+        full: None,
+        replies: Some((
+            "mapped 1GiB 0x40000000 0x0 0x83",
+            "0x40000000 write=1 user=0",
+        )),
+    },
+    // A 4KiB page is the table that maps it.
+    Image {
+        words: &[
+            (ROOT, 0, 0x2003),
+            (0x2000, 0, 0x3003),
+            (0x3000, 0, 0x4003),
+            (0x4000, 0, 0x4003),
+        ],
+        full: None,
+        replies: Some(("mapped 4KiB 0x4000 0x0 0x3", "0x4000 write=1 user=0")),
+    },
+    Image {
+        words: &[(ROOT, 0, 0x2003)],
+        full: Some(0x2000),
+        replies: Some((
+            "mapped 1GiB 0xfffffc0000000 0x0 0xfff0000000000fff",
+            "0xfffffc0000000 write=1 user=0",
+        )),
+    },
+    // The root names itself, or is named further down.
+    Image {
+        words: &[(ROOT, 0, 0x1003)],
+        ..INVALID
+    },
+    Image {
+        words: &[(ROOT, 0, 0x2002), (0x2000, 0, 0x1003)],
+        ..INVALID
+    },
+    Image {
+        words: &[(ROOT, 0, 0x2003), (0x2000, 0, 0x3003), (0x3000, 0, 0x1003)],
+        ..INVALID
+    },
+    // A table names itself, is named below itself, or is named twice.
+    Image {
+        words: &[(ROOT, 0, 0x2003), (0x2000, 0, 0x2003)],
+        ..INVALID
+    },
+    Image {
+        words: &[(ROOT, 0, 0x2003), (0x2000, 0, 0x3003), (0x3000, 0, 0x2003)],
+        ..INVALID
+    },
+    Image {
+        words: &[(ROOT, 0, 0x2003), (ROOT, 1, 0x2002)],
+        ..INVALID
+    },
+    // A table would lie past the memory, or in frame 0.
+    Image {
+        words: &[(ROOT, 0, 0x8003)],
+        ..INVALID
+    },
+    Image {
+        words: &[(ROOT, 0, 0x9003)],
+        ..INVALID
+    },
+    Image {
+        words: &[(ROOT, 0, 0x3)],
+        ..INVALID
+    },
+    Image {
+        words: &[(ROOT, 0, 0x2)],
+        ..INVALID
+    },
+    // A word of level four has HUGE_PAGE.
+    Image {
+        words: &[(ROOT, 0, 0x2083)],
+        ..INVALID
+    },
+    Image {
+        words: &[(ROOT, 0, 0x80)],
+        ..INVALID
+    },
+];
+
+/// Makes a memory with words.
+fn memory_of(alloc: Global, words: &[Word]) -> Result<PhysMemory, Fail> {
+    let mut memory = PhysMemory::new(alloc, PLACES)?;
+    for (frame, index, word) in words {
+        set_word(&mut memory, *frame, *index, *word)?;
+    }
+    Ok(memory)
+}
+
+/// Asserts whether a hierarchy is valid, without a recursive index and with one.
+fn assert_validity(
+    rt: &impl Abort,
+    alloc: Global,
+    memory: &PhysMemory,
+    index: Option<u16>,
+    is_valid: bool,
+    title: &str,
+) -> Result<(), Fail> {
+    let root = frame_at(ROOT);
+    let answer = match index {
+        Some(index) => {
+            is_valid_recursive(alloc, memory, root, PageTableIndex::new_truncate(index))?
+        }
+        None => is_valid_hierarchy(alloc, memory, &IdentityMapping, root)?,
+    };
+    assert_eq!(rt; answer, is_valid, "{title}, {index:?}");
+    Ok(())
+}
+
+#[test]
+fn hierarchies_are_valid_or_not(rt: HostRuntime) -> Result<(), Fail> {
+    let alloc = rt.alloc();
+    for image in &IMAGES {
+        let mut memory = memory_of(alloc, &image.words(alloc)?)?;
+        let is_valid = image.replies.is_some();
+        let title = format!(in alloc; "{:?}", image.words)?;
+        assert_validity(&rt, alloc, &memory, None, is_valid, &title)?;
+        set_word(&mut memory, ROOT, 510, SELF_ENTRY)?;
+        assert_validity(&rt, alloc, &memory, Some(510), is_valid, &title)?;
+        assert_validity(&rt, alloc, &memory, None, false, &title)?;
+    }
+    Ok(())
+}
+
+/// Words of the root, recursive indices, and whether the hierarchy is valid for them.
+const INDICES: [(&[Word], u16, bool); 9] = [
+    (&[], 510, false),
+    (&[(ROOT, 0, 0x1003)], 0, true),
+    (&[(ROOT, 511, 0x1003)], 511, true),
+    (&[(ROOT, 511, 0x1003)], 510, false),
+    (&[(ROOT, 510, 0x1003), (ROOT, 511, 0x1003)], 510, false),
+    (&[(ROOT, 510, 0x1003), (ROOT, 511, 0x1003)], 511, false),
+    (&[(ROOT, 510, 0x1002)], 510, false),
+    (&[(ROOT, 510, 0x1083)], 510, false),
+    (&[(ROOT, 510, 0x2003)], 510, false),
+];
+
+#[test]
+fn hierarchies_are_valid_for_one_index(rt: HostRuntime) -> Result<(), Fail> {
+    let alloc = rt.alloc();
+    for (words, index, is_valid) in INDICES {
+        let memory = memory_of(alloc, words)?;
+        let title = format!(in alloc; "{words:?}")?;
+        assert_validity(&rt, alloc, &memory, Some(index), is_valid, &title)?;
+    }
+    Ok(())
+}
+
+#[test]
+fn roots_past_the_memory_are_not_valid(rt: HostRuntime) -> Result<(), Fail> {
+    let alloc = rt.alloc();
+    let memory = PhysMemory::new(alloc, 1)?;
+    assert_validity(&rt, alloc, &memory, None, false, "one place")?;
+    assert_validity(&rt, alloc, &memory, Some(510), false, "one place")
+}
