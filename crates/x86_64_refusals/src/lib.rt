@@ -6,6 +6,8 @@ mod hoard;
 #[cfg(test)]
 mod library;
 #[cfg(test)]
+mod pairs;
+#[cfg(test)]
 mod program;
 #[cfg(test)]
 mod tokens;

@@ -4,37 +4,71 @@ ghost use Rattle.x86_64_model.specs.Memory.{identity_places};
 ghost use Rattle.x86_64_mappers.specs.Layouts.{direct};
 ghost use Rattle.x86_64.specs.Runs.{FitsPool};
 
-use crate::hoard::answer_at_last;
+use crate::hoard::{answer_at_last, answer_past};
 use std::alloc::{AllocError, Global};
 use std::process::Abort;
 use std::test::Fail;
 use x86_64::structures::paging::{MappedPageTable, PageTableFlags, PageTableIndex};
 use x86_64::{
-    Call, FlushItem, FlushRecorder, FramePlace, FramePool, IdentityMapping, PhysMemory, Reply,
-    SizeCall, SizeReply, VirtAddr, is_valid_hierarchy, is_valid_recursive, pool_fits,
-    pool_fits_recursive,
+    Call, FlushItem, FlushRecorder, FramePlace, FramePool, IdentityMapping, PhysMemory,
+    PlacesRefusal, Reply, SizeCall, SizeReply, VirtAddr, is_valid_hierarchy, is_valid_recursive,
+    pool_fits, pool_fits_recursive,
 };
 use x86_64_tests::images::{ROOT, frame_at, page_at, pool_of, run_flushed_on, run_on, set_word};
 
 /// The addresses of the frames that are free at first.
-const FREE: [u64; 3] = [0x2000, 0x3000, 0x4000];
+pub const FREE: [u64; 3] = [0x2000, 0x3000, 0x4000];
 
 /// A reply from before a list.
 const EARLIER: Reply = Reply::NotAllowed;
 
+/// Places of a memory that has gaps.
+const PLACES: [u64; 16] = [
+    1, 2, 3, 5, 8, 13, 21, 34, 55, 89, 144, 233, 377, 610, 987, 0x8_0000,
+];
+
+/// Room for no growth of a memory of sixteen places, and for the first: that of their numbers.
+const MEMORY_ROOMS: [&[usize]; 2] = [&[], &[16 * 8]];
+
 #[test]
-fn memories_and_pools_are_made_once_there_is_room(rt: HostRuntime) -> Result<(), Fail> {
+fn memories_are_made_once_there_is_room(rt: HostRuntime) -> Result<(), Fail> {
     let alloc = rt.alloc();
     assert_eq!(rt; PhysMemory::new(alloc, u64::MAX).err(), Some(AllocError));
-    let memory = answer_at_last(&rt, alloc, || PhysMemory::new(alloc, 16))?;
-    assert_eq!(rt; memory.len(), 16);
-    let sparse = answer_at_last(&rt, alloc, || {
-        PhysMemory::with_places(alloc, &[1, 2, 0x8_0000, 0x8_0001]).or(Err(AllocError))
-    })?;
-    assert_eq!(rt; sparse.len(), 4);
+    for room in MEMORY_ROOMS {
+        let memory = answer_past(&rt, alloc, room, || PhysMemory::new(alloc, 16))?;
+        assert_eq!(rt; memory.len(), 16);
+    }
+    Ok(())
+}
+
+#[test]
+fn memories_with_gaps_are_made_once_there_is_room(rt: HostRuntime) -> Result<(), Fail> {
+    let alloc = rt.alloc();
+    let mut is_want = true;
+    for room in MEMORY_ROOMS {
+        let memory = answer_past(&rt, alloc, room, || {
+            PhysMemory::with_places(alloc, &PLACES).map_err(|refusal| {
+                is_want = is_want && refusal == PlacesRefusal::Alloc(AllocError);
+                AllocError
+            })
+        })?;
+        assert_eq!(rt; memory.len(), 16);
+    }
+    assert!(rt; is_want);
+    Ok(())
+}
+
+/// Room for no growth of a pool that serves frames with numbers below 4096, and for the first: that of the free frames.
+const POOL_ROOMS: [&[usize]; 2] = [&[], &[4096 * 8]];
+
+#[test]
+fn pools_are_made_once_there_is_room(rt: HostRuntime) -> Result<(), Fail> {
+    let alloc = rt.alloc();
     assert_eq!(rt; FramePool::new(alloc, u64::MAX).err(), Some(AllocError));
-    let mut pool = answer_at_last(&rt, alloc, || FramePool::new(alloc, 4096))?;
-    assert_eq!(rt; pool.try_add(frame_at(0xfff_000)), Ok(()));
+    for room in POOL_ROOMS {
+        let mut pool = answer_past(&rt, alloc, room, || FramePool::new(alloc, 4096))?;
+        assert_eq!(rt; pool.try_add(frame_at(0xfff_000)), Ok(()));
+    }
     Ok(())
 }
 
@@ -76,23 +110,35 @@ fn recursive_hierarchies_are_tested_once_there_is_room(rt: HostRuntime) -> Resul
     Ok(())
 }
 
+/// Gives how many entries of a memory of five places are used.
+pub fn used_entries(memory: &PhysMemory) -> usize {
+    let mut count: usize = 0;
+    for place in 0..5 {
+        if let Some(table) = memory.table(FramePlace::new(place)) {
+            let used = table.iter().filter(|entry| !entry.is_unused()).count();
+            count = count.saturating_add(used);
+        }
+    }
+    count
+}
+
+/// Tells whether a pool has the frames that are free at first.
+pub fn is_full(pool: &FramePool) -> bool {
+    let is_free = (0..3).all(|n| pool.frame_at(n) == FREE.get(n).map(|frame| frame_at(*frame)));
+    is_free && pool.len() == 3
+}
+
 /// Tells whether the memory has unused entries alone, the pool has the frames that are free at first, and the replies are
 /// the earlier one.
 fn is_untouched(memory: &PhysMemory, pool: &FramePool, replies: &[Reply]) -> bool {
-    let is_empty = (0..5).all(|place| {
-        memory
-            .table(FramePlace::new(place))
-            .is_some_and(|table| table.is_empty())
-    });
-    let is_free = (0..3).all(|n| pool.frame_at(n) == FREE.get(n).map(|frame| frame_at(*frame)));
-    is_empty && is_free && pool.len() == 3 && replies == [EARLIER].as_slice()
+    used_entries(memory) == 0 && is_full(pool) && replies == [EARLIER].as_slice()
 }
 
 /// How many calls a list has, so many that room for as many replies or items takes a block of its own.
 const CALL_COUNT: usize = 4096;
 
 /// Makes a call that maps a page, which is done the first time alone.
-fn map_of_a_page() -> Call {
+pub fn map_of_a_page() -> Call {
     Call::Of4KiB(SizeCall::MapTo {
         page: page_at(0x1000),
         frame: frame_at(0x5000),
@@ -123,7 +169,8 @@ fn record_at_last(
         alloc,
         ||
             requires { FitsPool (direct identity_places root) memory (serves_below pool.limit) pool.frames }
-            ensures { FitsPool (direct identity_places root) memory.exit (serves_below pool.exit.limit) pool.exit.frames }
+            ensures { let serves = serves_below pool.exit.limit in
+                FitsPool (direct identity_places root) memory.exit serves pool.exit.frames }
         {
             let answer = run_flushed_on(
                 &mut memory,
@@ -179,7 +226,8 @@ fn lists_change_nothing_until_there_is_room(rt: HostRuntime) -> Result<(), Fail>
         alloc,
         ||
             requires { FitsPool (direct identity_places root) memory (serves_below pool.limit) pool.frames }
-            ensures { FitsPool (direct identity_places root) memory.exit (serves_below pool.exit.limit) pool.exit.frames }
+            ensures { let serves = serves_below pool.exit.limit in
+                FitsPool (direct identity_places root) memory.exit serves pool.exit.frames }
         {
             let answer = run_on(&mut memory, root, &mut pool, &calls, &mut replies);
             if answer.is_err() {

@@ -1,39 +1,81 @@
-//! A run of the program `pagetab`.
-use crate::hoard::answer_at_last;
+//! Runs of the program `pagetab`.
+use crate::hoard::{answer_at_last, hoard};
 use pagetab_engine::ending::{Ending, Fault};
 use pagetab_engine::engine::run;
 use std::alloc::{AllocError, Global};
+use std::io::{self, Read, Write};
 use std::process::Abort;
 use std::test::Fail;
 use x86_64_tests::streams::{Comparison, Source};
 
-/// An image of which the table in frame 0x2000 is a part, and a command of each kind.
+/// An image of which the table in frame 0x2000 is a part, and commands of each kind.
 const INPUT: &[u8] = b"word 0x1000 0 0x2003\nfree 0x3000\nfree 0x4000\n\
-    translate 0\nwalk 0\nshow 0x1000 0\nmap 4KiB 0x1000 0x5000 0x3\naddr 0x1abc\npool\nunmap 4KiB 0x1000\n";
+    translate 0\nwalk 0\nshow 0x1000 0\npool\nmap 4KiB 0x1000 0x5000 0x3\naddr 0x1abc\nunmap 4KiB 0x1000\n\
+    cleanup\npool\n";
+
+/// The replies, each after those before it.
+const REPLIES: [&[u8]; 9] = [
+    b"not mapped\n",
+    b"none\n",
+    b"0x2003\n",
+    b"pool 0x3000 0x4000\n",
+    b"ok\n",
+    b"0x5abc\n",
+    b"0x5000\n",
+    b"ok\n",
+    b"pool 0x2000 0x3000 0x4000\n",
+];
 
 /// The line of an image whose root names itself.
 const SELF_ENTRY: &[u8] = b"word 0x1000 510 0x1003\n";
 
-/// The replies.
-const REPLIES: &[u8] = b"not mapped\nnone\n0x2003\nok\n0x5abc\npool\n0x5000\n";
+/// The arguments of each mode, and the first line of its image.
+type Mode = (&'static [&'static str], &'static [u8]);
 
-/// Runs the program on an image that begins with a line until there is room, and compares the replies and the ending.
-fn run_at_last(
-    rt: &impl Abort,
-    alloc: Global,
-    arguments: &[&str],
-    first_line: &[u8],
-) -> Result<(), Fail> {
+const MODES: [Mode; 4] = [
+    (&["direct", "4096"], b""),
+    (&["offset", "4096", "0xffff800000000000"], b""),
+    (&["recursive", "4096", "510"], SELF_ENTRY),
+    (&["pair", "4096", "510"], SELF_ENTRY),
+];
+
+/// Gives the words of arguments.
+fn words_of(alloc: Global, arguments: &[&str]) -> Result<Vec<String>, AllocError> {
     let mut words = Vec::new(alloc);
     for argument in arguments {
         words.push(String::from_str(alloc, argument)?)?;
     }
+    Ok(words)
+}
+
+/// Gives the words of a mode's arguments, and its input.
+fn start(
+    alloc: Global,
+    (arguments, first_line): Mode,
+) -> Result<(Vec<String>, Vec<u8>), AllocError> {
+    let words = words_of(alloc, arguments)?;
     let mut input = Vec::from_slice(alloc, first_line)?;
     input.extend_from_slice(INPUT)?;
+    Ok((words, input))
+}
+
+/// Gives the first replies, so many.
+fn first_replies(alloc: Global, count: usize) -> Result<Vec<u8>, AllocError> {
+    let mut replies = Vec::new(alloc);
+    for reply in REPLIES.iter().take(count) {
+        replies.extend_from_slice(reply)?;
+    }
+    Ok(replies)
+}
+
+/// Runs the program until there is room, and compares the replies and the ending.
+fn run_at_last(rt: &impl Abort, alloc: Global, mode: Mode) -> Result<(), Fail> {
+    let (words, input) = start(alloc, mode)?;
+    let replies = first_replies(alloc, REPLIES.len())?;
     let mut agrees = true;
     let answer = answer_at_last(rt, alloc, || {
         let mut source = Source::new(&input, 0);
-        let mut sink = Comparison::new(REPLIES);
+        let mut sink = Comparison::new(&replies);
         let ending = run(alloc, words.as_slice(), &mut source, &mut sink);
         agrees = agrees && sink.agrees;
         match ending {
@@ -48,6 +90,156 @@ fn run_at_last(
 
 #[test]
 fn the_program_wants_memory_until_there_is_room(rt: HostRuntime) -> Result<(), Fail> {
-    run_at_last(&rt, rt.alloc(), &["direct", "4096"], b"")?;
-    run_at_last(&rt, rt.alloc(), &["pair", "4096", "510"], SELF_ENTRY)
+    for mode in MODES {
+        run_at_last(&rt, rt.alloc(), mode)?;
+    }
+    Ok(())
+}
+
+/// Hands reads and writes on, and takes all memory at the call of a number, counted from 1.
+#[derive(Drop)]
+struct Hoarding<S: Drop> {
+    stream: S,
+    alloc: Global,
+    calls: usize,
+    hoards_at: usize,
+    blocks: Vec<Vec<u8>>,
+}
+
+impl<S: Drop> Hoarding<S> {
+    /// Makes one that never takes memory where the number is 0.
+    fn new(alloc: Global, stream: S, hoards_at: usize) -> Hoarding<S> {
+        Hoarding {
+            stream,
+            alloc,
+            calls: 0,
+            hoards_at,
+            blocks: Vec::new(alloc),
+        }
+    }
+
+    /// Counts a call.
+    fn count_call(&mut self) -> Result<(), AllocError> {
+        self.calls = self.calls.saturating_add(1);
+        if self.calls == self.hoards_at {
+            self.blocks = hoard(self.alloc)?;
+        }
+        Ok(())
+    }
+}
+
+impl<S: Read + Drop> Read for Hoarding<S> {
+    fn read(&mut self, buf: &mut [u8]) -> io::Result<usize> {
+        self.count_call()?;
+        self.stream.read(buf)
+    }
+}
+
+impl<S: Write + Drop> Write for Hoarding<S> {
+    fn write(&mut self, buf: &[u8]) -> io::Result<usize> {
+        self.count_call()?;
+        self.stream.write(buf)
+    }
+
+    fn flush(&mut self) -> io::Result<()> {
+        self.stream.flush()
+    }
+}
+
+/// Tells whether so many bytes are those of the last replies, with at least the first `least` before them.
+fn are_last_replies(bytes: usize, least: usize) -> bool {
+    let mut left: usize = 0;
+    for (n, reply) in REPLIES.iter().enumerate().rev() {
+        if n + 1 >= least && left == bytes {
+            return true;
+        }
+        left = left.saturating_add(reply.len());
+    }
+    least == 0 && left == bytes
+}
+
+/// Runs the program where a read or a write takes all memory, and compares that whole replies are written, so many at least, and
+/// all unless memory was refused. What a reply gives back may be room enough for the next one.
+fn assert_starved(
+    rt: &impl Abort,
+    alloc: Global,
+    mode: Mode,
+    (read, write): (usize, usize),
+) -> Result<Ending, Fail> {
+    let (words, input) = start(alloc, mode)?;
+    let replies = first_replies(alloc, REPLIES.len())?;
+    let mut source = Hoarding::new(alloc, Source::new(&input, 0), read);
+    let mut sink = Hoarding::new(alloc, Comparison::new(&replies), write);
+    let ending = run(alloc, words.as_slice(), &mut source, &mut sink);
+    source.blocks.clear();
+    sink.blocks.clear();
+    let left = sink.stream.rest.len();
+    assert!(rt; sink.stream.agrees, "write {write}");
+    if ending == Ending::Stopped(Fault::OutOfMemory) {
+        assert!(rt; are_last_replies(left, write), "write {write}");
+    } else {
+        assert_eq!(rt; (ending, left), (Ending::Done, 0), "write {write}");
+    }
+    Ok(ending)
+}
+
+/// Takes all memory at the first read, so that the image can't be tested, and at each write in turn.
+fn assert_each_starved(rt: &impl Abort, alloc: Global, mode: Mode) -> Result<(), Fail> {
+    let ending = assert_starved(rt, alloc, mode, (1, 0))?;
+    assert_eq!(rt; ending, Ending::Stopped(Fault::OutOfMemory));
+    for write in 1..=REPLIES.len() {
+        assert_starved(rt, alloc, mode, (0, write))?;
+    }
+    Ok(())
+}
+
+#[test]
+fn replies_stay_where_the_next_one_finds_no_room(rt: HostRuntime) -> Result<(), Fail> {
+    for mode in MODES {
+        assert_each_starved(&rt, rt.alloc(), mode)?;
+    }
+    Ok(())
+}
+
+/// Arguments that are refused before memory is taken: numbers out of range, an offset that isn't canonical, and a mode that is
+/// none.
+const REFUSED: [&[&str]; 6] = [
+    &[],
+    &["direct", "1"],
+    &["direct", "65537"],
+    &["offset", "8", "0x800000000000"],
+    &["recursive", "8", "512"],
+    &["sparse", "8"],
+];
+
+/// Runs the program without input.
+fn run_alone(alloc: Global, words: &[String]) -> Ending {
+    let mut source = Source::new(b"", 0);
+    let mut sink = Comparison::new(b"");
+    run(alloc, words, &mut source, &mut sink)
+}
+
+#[test]
+fn wrong_arguments_want_no_memory(rt: HostRuntime) -> Result<(), Fail> {
+    let alloc = rt.alloc();
+    for arguments in REFUSED {
+        let words = words_of(alloc, arguments)?;
+        let blocks = hoard(alloc)?;
+        let ending = run_alone(alloc, &words);
+        drop(blocks);
+        assert_eq!(rt; ending, Ending::Stopped(Fault::Usage), "{arguments:?}");
+    }
+    Ok(())
+}
+
+#[test]
+fn offsets_are_tested_once_the_memory_is_made(rt: HostRuntime) -> Result<(), Fail> {
+    let alloc = rt.alloc();
+    let words = words_of(alloc, &["offset", "4096", "0x7ffffffff000"])?;
+    let ending = answer_at_last(&rt, alloc, || match run_alone(alloc, &words) {
+        Ending::Stopped(Fault::OutOfMemory) => Err(AllocError),
+        ending => Ok(ending),
+    })?;
+    assert_eq!(rt; ending, Ending::Stopped(Fault::Usage));
+    Ok(())
 }
