@@ -25,6 +25,9 @@ const TRANSLATIONS: u64 = 10;
 /// The index of the root's entry for itself, which no page has.
 const RECURSIVE_INDEX: u16 = 511;
 
+/// The place of the root, which is also its frame's number.
+const ROOT: u64 = 1;
+
 /// Says by which mapper a round is done.
 #[derive(Clone, Copy, Debug, PartialEq)]
 pub enum Access {
@@ -40,14 +43,26 @@ impl Access {
     /// All, the one that is the measure first.
     pub const ALL: [Access; 3] = [Access::Direct, Access::Sparse, Access::Recursive];
 
-    /// Gives the numbers of so many places, from 1 on: all, or every second one.
+    /// Gives the numbers of so many places: the first ones, or every second one from 1 on.
     fn places(self, alloc: Global, count: u64) -> Result<Vec<u64>, AllocError> {
-        let step = if self == Access::Sparse { 2 } else { 1 };
         let mut places = Vec::new(alloc);
         for k in 0..count {
-            places.push(k.wrapping_mul(step).wrapping_add(1))?;
+            places.push(match self {
+                Access::Sparse => k.wrapping_mul(2).wrapping_add(1),
+                Access::Direct | Access::Recursive => k,
+            })?;
         }
         Ok(places)
+    }
+
+    /// Makes a memory with places, given by their numbers, or none where these don't rise.
+    fn memory(self, alloc: Global, places: &[u64]) -> Result<Option<PhysMemory>, AllocError> {
+        match self {
+            Access::Sparse => Ok(PhysMemory::with_places(alloc, places).ok()),
+            Access::Direct | Access::Recursive => {
+                Ok(Some(PhysMemory::new(alloc, places.len() as u64)?))
+            }
+        }
     }
 
     /// Gives the name.
@@ -257,7 +272,7 @@ pub fn measure<S: PageSize>(
     workload: Workload,
 ) -> io::Result<Option<Round>> {
     let places = access.places(alloc, workload.places())?;
-    let Ok(mut memory) = PhysMemory::with_places(alloc, &places) else {
+    let Some(mut memory) = access.memory(alloc, &places)? else {
         return Ok(None);
     };
     let mut pool = new_pool(alloc, &places)?;
@@ -334,7 +349,7 @@ fn measure_recursive<S: PageSize>(
 
 /// Makes the root's entry at an index name the root.
 fn write_self_entry(memory: &mut PhysMemory, index: PageTableIndex) {
-    if let Some(table) = memory.table_mut(FramePlace::new(1)) {
+    if let Some(table) = memory.table_mut(FramePlace::new(ROOT)) {
         let flags = PageTableFlags::PRESENT.union(PageTableFlags::WRITABLE);
         table[index].set_addr(root().start_address(), flags);
     }
@@ -342,7 +357,7 @@ fn write_self_entry(memory: &mut PhysMemory, index: PageTableIndex) {
 
 /// Gives the root's frame.
 fn root() -> PhysFrame<Size4KiB> {
-    frame_numbered(1)
+    frame_numbered(ROOT)
 }
 
 /// Gives the 4KiB frame with a number modulo 2^40.
@@ -350,13 +365,15 @@ fn frame_numbered(number: u64) -> PhysFrame<Size4KiB> {
     PhysFrame::containing_address(PhysAddr::new_truncate(number.wrapping_mul(4096)))
 }
 
-/// Makes a pool of the frames at all places but the first.
+/// Makes a pool of the frames at all places after the root's.
 fn new_pool(alloc: Global, places: &[u64]) -> Result<FramePool, AllocError> {
     let limit = places.last().copied().unwrap_or(0).saturating_add(1);
     let mut pool = FramePool::new(alloc, limit)?;
-    for number in places.iter().skip(1) {
-        // None of these frames is refused: each is in range, and is added once.
-        let _added = pool.try_add(frame_numbered(*number));
+    for number in places {
+        if *number > ROOT {
+            // None of these frames is refused: each is in range, and is added once.
+            let _added = pool.try_add(frame_numbered(*number));
+        }
     }
     Ok(pool)
 }
