@@ -1,4 +1,6 @@
 mod OneMap
 mod Runs
 mod Holding
+mod SizedParts
+mod Sequences
 mod Segments

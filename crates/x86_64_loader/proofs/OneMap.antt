@@ -1,10 +1,9 @@
 -- What one `map_to` leaves.
-use Rattle.std.proofs.Common.{zero, suc, ◌≡◌, ◌≢◌, ◌⊎◌, inl, inr, ◌<◌, ◌≤◌, ◌+◌, ◌-◌, ◌%◌, ◌^◌, ℕ, true, List, Option, Some, refl, sym, ap, ◌∙◌, subst, arith}
+use Rattle.std.proofs.Common.{zero, suc, ◌≡◌, ◌≢◌, ◌⊎◌, inl, inr, ◌<◌, ◌≤◌, ◌+◌, ◌-◌, ◌%◌, ◌^◌, ℕ, true, List, refl, sym, ap, ◌∙◌, subst, arith}
 use Rattle.x86_64_model.specs.Call.{MapTo}
 use Rattle.x86_64_model.specs.Entry.{IsParentFlags, present, address}
 use Rattle.x86_64_model.specs.MapRule.{parent_part}
-use Rattle.x86_64_model.specs.Owned.{Hierarchy, MayMap, DoesMap, Stands, path_of, walk}
-use Rattle.x86_64_model.specs.PageWalk.{Walked}
+use Rattle.x86_64_model.specs.Owned.{Hierarchy, MayMap, DoesMap, Stands, path_of}
 use Rattle.x86_64_model.specs.Position.{span}
 use Rattle.x86_64_model.specs.Refusal.{Answer, Done, Refused, ParentEntryHugePage}
 use Rattle.x86_64_model.proofs.Lemmas.Entries.Bits.{address_is}

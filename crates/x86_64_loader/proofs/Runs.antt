@@ -1,5 +1,5 @@
 -- Runs of pages, page by page.
-use Rattle.std.proofs.Common.{◌≡◌, ◌≢◌, ◌⊎◌, inl, inr, ⊎_elim, ◌<◌, ◌≤◌, ◌+◌, ◌-◌, ◌*◌, ◌%◌, ◌^◌, ℕ, ◌&&◌, ◌||◌, not, Bool, true, false, List, Option, Some, find, refl, sym, ap, ◌∙◌, subst, arith}
+use Rattle.std.proofs.Common.{◌≡◌, inl, inr, ◌<◌, ◌≤◌, ◌+◌, ◌*◌, ℕ, ◌&&◌, ◌||◌, not, Bool, true, List, Option, find, refl, sym, ap, ◌∙◌, subst, arith}
 use Rattle.std.proofs.Math.Nat.{add-mul, one-mul}
 use Rattle.std.proofs.lemmas.Bool.{cases_lt}
 use Rattle.x86_64_model.specs.Allowed.{map_allowed, parents_present, none_absent}
@@ -8,7 +8,7 @@ use Rattle.x86_64_model.specs.Call.{MapTo}
 use Rattle.x86_64_model.specs.Entry.{present, huge, no_address}
 use Rattle.x86_64_model.specs.Layout.{Layout}
 use Rattle.x86_64_model.specs.MapRule.{parent_part}
-use Rattle.x86_64_model.specs.Owned.{Hierarchy, MayMap, Stands, allows, paths, path_of, walk}
+use Rattle.x86_64_model.specs.Owned.{Hierarchy, MayMap, Stands, paths, path_of}
 use Rattle.x86_64_model.specs.PageWalk.{Walked}
 use Rattle.x86_64_model.specs.Path.{is_small, parents, path_at}
 use Rattle.x86_64_model.specs.PathMap.{PathMap, entry}
@@ -53,13 +53,14 @@ abbrev with_parents : (L : ℕ) → Option Window → List ℕ → (given : ℕ)
 with_parents L window q given parents =
     no_address given && no_address (parent_part given) && not (huge (parent_part given)) && (not (is_small L q) || not (huge given)) && parents && not (begins_with window q)
 
+pub will_be_present : (paths : PathMap) (q : List ℕ) (given : ℕ) → present given ≡ true → parents_present paths (parent_part given) q ≡ true
+will_be_present paths q given is_present =
+    ap (λ b. b || none_absent paths (find (λ p. not (present (entry paths p)) || huge (entry paths p)) (parents q))) (part_has given 1 refl ∙ is_present)
+
 -- with PRESENT it doesn't depend on what is mapped
 allowed_again : (L : ℕ) (window : Option Window) (M N : PathMap) (q : List ℕ) (given : ℕ) → present given ≡ true
     → map_allowed L window M q given (parent_part given) ≡ true → map_allowed L window N q given (parent_part given) ≡ true
-allowed_again L window M N q given is_present allowed = ap (with_parents L window q given) (will N ∙ sym (will M)) ∙ allowed
-  where
-    will : (paths : PathMap) → parents_present paths (parent_part given) q ≡ true
-    will paths = ap (λ b. b || none_absent paths (find (λ p. not (present (entry paths p)) || huge (entry paths p)) (parents q))) (part_has given 1 refl ∙ is_present)
+allowed_again L window M N q given is_present allowed = ap (with_parents L window q given) (will_be_present N q given is_present ∙ sym (will_be_present M q given is_present)) ∙ allowed
 
 pub may_now : {Lent : Type 0} (h now : Hierarchy Lent) (rest : List ℕ) (level size page frame given k : ℕ) → present given ≡ true → Leaves 3 h now rest
     → MayBeMapped h level size page frame given k → MayMap now rest (MapTo (path_of now level (page + k * size)) (frame + k * size) given)
@@ -69,8 +70,16 @@ may_now h now rest level size page frame given k is_present left may = record {
       (allowed_again h.layout.levels h.layout.window (paths h) (paths now) (path_of h level (page + k * size)) given is_present may.allowed);
 }
 
-one_more_page : (k size : ℕ) → (k + 1) * size ≡ k * size + size
+pub one_more_page : (k size : ℕ) → (k + 1) * size ≡ k * size + size
 one_more_page k size = add-mul k 1 size ∙ ap (λ n. k * size + n) (one-mul size)
+
+-- positions that were free, and then others
+pub free_then : {Lent : Type 0} (h now : Hierarchy Lent) (between : List ℕ) (a m b n start size : ℕ) → a ≤ start → b ≤ a + m → start + size ≤ b + n
+    → IsFree h a m → Leaves 3 h now between → IsFree now b n → IsFree h start size
+free_then h now between a m b n start size from meet to free left this l q f g multiple stands p starts ends its_from its_to = elim (cases_lt p (a + m)) [
+  | inl before ↦ free l q f g multiple stands p (omega (arith, from, starts)) before its_from its_to
+  | inr not_before ↦ this l q f g multiple (left.pages l q f g stands.asks.high stands) p (omega (arith, not_before, meet)) (omega (arith, ends, to)) its_from its_to
+]
 
 module _ {Lent : Type 0} (h now after : Hierarchy Lent) (rest : List ℕ) (level size page frame given k : ℕ) where
   pub one_more_stands : level ≤ 3 → RunStands now level size page frame given k → Leaves 3 now after rest → Stands after level (page + k * size) (frame + k * size) given
@@ -79,8 +88,5 @@ module _ {Lent : Type 0} (h now after : Hierarchy Lent) (rest : List ℕ) (level
       (λ j before. left.pages level (page + j * size) (frame + j * size) given high (stand j before)) this
 
   pub one_more_free : (between : List ℕ) → IsFree h page (k * size) → Leaves 3 h now between → IsFree now (page + k * size) size → IsFree h page ((k + 1) * size)
-  one_more_free between free left this l q f g multiple stands p from to its_from its_to = elim (cases_lt p (page + k * size)) [
-    | inl before ↦ free l q f g multiple stands p from before its_from its_to
-    | inr not_before ↦ this l q f g multiple (left.pages l q f g stands.asks.high stands) p (omega (arith, not_before))
-        (let more = one_more_page k size in omega (arith, to, more)) its_from its_to
-  ]
+  one_more_free between free left this = let more = one_more_page k size in
+      free_then h now between page (k * size) (page + k * size) size page ((k + 1) * size) (omega arith) (omega arith) (omega (arith, more)) free left this

@@ -1,15 +1,14 @@
 -- Loads of segments, one after the other.
-use Rattle.std.proofs.Common.{◌≡◌, ◌<◌, ◌≤◌, ◌+◌, ◌-◌, ◌*◌, ℕ, List, length, get_or, inl, inr, refl, sym, ap, ◌∙◌, subst, arith}
+use Rattle.std.proofs.Common.{◌≡◌, ◌<◌, ◌+◌, ◌-◌, ◌*◌, ℕ, List, length, get_or, inl, inr, refl, sym, ap, ◌∙◌, subst, arith}
 use Rattle.std.proofs.lemmas.Bool.{cases_lt}
 use Rattle.std.proofs.lemmas.Option.{slice_get_read, get_or_from_slice_get}
 use Rattle.std.specs.List.{All}
 use Rattle.x86_64_model.specs.Owned.{Hierarchy, Valid}
 use Rattle.x86_64_tables.specs.MapperAnswers.{map_refusal}
 use Rattle.x86_64_tables.specs.PageTableFlags.{bits_of}
-use Rattle.x86_64_loader.specs.Held.{AreHeld}
-use Rattle.x86_64_loader.specs.Loads.{AreApart, HoldsSegment, IsHalted}
+use Rattle.x86_64_loader.specs.Loads.{AreApart, HoldsPart, IsHalted}
 use Rattle.x86_64_loader.specs.Pages.{IsFree, Leaves, WasRefused}
-use Rattle.x86_64_loader.specs.Segments.{Has, IsAllowed, IsLoaded, IsRefused, IsReached, size_of}
+use Rattle.x86_64_loader.specs.Segments.{Has, IsAllowed, IsLoaded, IsRefused, size_of}
 use Rattle.x86_64_loader.specs.declared.segment.LoadError.{LoadError}
 use Rattle.x86_64_loader.specs.declared.segment.Segment.{Segment}
 use Rattle.x86_64_loader.proofs.Holding.{held_arrives, held_not_free, held_reached, held_still, reached_after}
@@ -27,8 +26,11 @@ still_allowed h now rest s left allowed = record {
 }
 
 -- what is held is loaded
-pub held_is_loaded : {Lent : Type 0} (h : Hierarchy Lent) (s : Segment) → Valid h → HoldsSegment h s → IsLoaded h s
-held_is_loaded h s valid held o within = held_arrives h (s.page + o) (s.frame + o) (bits_of s.flags) (held o within) valid
+abbrev pub HoldsAll : {Lent : Type 0} → Hierarchy Lent → Segment → Type 0
+HoldsAll h s = HoldsPart h s 0 (size_of s)
+
+pub held_is_loaded : {Lent : Type 0} (h : Hierarchy Lent) (s : Segment) → Valid h → HoldsAll h s → IsLoaded h s
+held_is_loaded h s valid held o within = held_arrives h (s.page + o) (s.frame + o) (bits_of s.flags) (held o (omega arith) within) valid
 
 module _ (segments : List Segment) (i : ℕ) (s : Segment) (here : i < length segments) (item : s ≡ get_or segments i s) where
   -- the element, whatever stands for one that is missing
@@ -42,10 +44,10 @@ module _ (segments : List Segment) (i : ℕ) (s : Segment) (here : i < length se
   pub allowed_at : {Lent : Type 0} (h : Hierarchy Lent) → All (IsAllowed h) segments → IsAllowed h s
   allowed_at h all = subst (IsAllowed h) (is_at s) (all i s here)
 
-  module _ {Lent : Type 0} (now after : Hierarchy Lent) (rest : List ℕ) (held : (j : ℕ) (d : Segment) → j < i → HoldsSegment now (get_or segments j d)) where
-    pub held_next : Leaves 3 now after rest → HoldsSegment after s → (j : ℕ) (d : Segment) → j < i + 1 → HoldsSegment after (get_or segments j d)
-    held_next left = next_too (HoldsSegment after)
-        (λ j d before o fits. let t = get_or segments j d in held_still now (t.page + o) (t.frame + o) (bits_of t.flags) (held j d before o fits) after rest left)
+  module _ {Lent : Type 0} (now after : Hierarchy Lent) (rest : List ℕ) (held : (j : ℕ) (d : Segment) → j < i → HoldsAll now (get_or segments j d)) where
+    pub held_next : Leaves 3 now after rest → HoldsAll after s → (j : ℕ) (d : Segment) → j < i + 1 → HoldsAll after (get_or segments j d)
+    held_next left = next_too (HoldsAll after)
+        (λ j d before o low fits. let t = get_or segments j d in held_still now (t.page + o) (t.frame + o) (bits_of t.flags) (held j d before o low fits) after rest left)
 
     pub apart_next : AreApart segments i → IsFree now s.page (size_of s) → AreApart segments (i + 1)
     apart_next apart free j k d less within p in_first in_second = elim (cases_lt k i) [
@@ -56,20 +58,21 @@ module _ (segments : List Segment) (i : ℕ) (s : Segment) (here : i < length se
           let t = get_or segments j d in
           let start = in_first.0 in let end = in_first.1 in
           let at : t.page + (p - t.page) ≡ p = omega (arith, start) in
-          held_not_free now (t.page + (p - t.page)) (t.frame + (p - t.page)) (bits_of t.flags) (held j d (omega (arith, less, same)) (p - t.page) (omega (arith, start, end)))
+          held_not_free now (t.page + (p - t.page)) (t.frame + (p - t.page)) (bits_of t.flags) (held j d (omega (arith, less, same)) (p - t.page) (omega arith) (omega (arith, start, end)))
           s.page (size_of s) free (let from = in_this.0 in omega (arith, from, at)) (let to = in_this.1 in omega (arith, to, at))
     ]
 
     pub refused_here : (h : Hierarchy Lent) (between : List ℕ) (e : LoadError) → Leaves 3 h now between → e.segment ≡ i → e.page ≡ s.page + e.mapped * 0x1000
-        → IsHalted now s e.mapped (map_refusal e.why) after rest → IsRefused segments e after rest
+        → IsHalted now s 0 e.mapped (map_refusal e.why) after rest → IsRefused segments e after rest
     refused_here h between e left at page halted = (
       s,
       record {
         there = subst (λ n. n < length segments) (sym at) here;
         is_segment = item ∙ ap (λ n. get_or segments n s) (sym at);
-        segments_before = λ j d before. let t = get_or segments j d in
-            reached_after now after rest t (size_of t) halted.kept (held_reached now t (size_of t) left.kept.fits.valid (held j d (subst (λ n. j < n) at before)));
-        pages_before = halted.pages_before;
+        segments_before = λ j d before o within. let t = get_or segments j d in
+            reached_after now after rest t o halted.kept
+            (held_reached now (t.page + o) (t.frame + o) (bits_of t.flags) (held j d (subst (λ n. j < n) at before) o (omega arith) within) left.kept.fits.valid);
+        pages_before = λ o within. halted.pages_before o (omega arith) within;
         within = halted.within;
         page = page;
         level = halted.level;

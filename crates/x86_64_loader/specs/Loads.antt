@@ -1,25 +1,26 @@
 -- Words of private contracts: what a load of one segment leaves.
-use Rattle.std.specs.Prelude.{◌+◌, ◌*◌, ◌<◌, ℕ, List, get_or}
+use Rattle.std.specs.Prelude.{◌+◌, ◌*◌, ◌<◌, ◌≤◌, ℕ, List, get_or}
 use Rattle.x86_64_model.specs.Owned.{Hierarchy}
 use Rattle.x86_64_model.specs.Refusal.{Refusal}
 use Rattle.x86_64_tables.specs.PageTableFlags.{bits_of}
 use Rattle.x86_64_loader.specs.declared.segment.Segment.{Segment}
-use Rattle.x86_64_loader.specs.Held.{AreHeld}
+use Rattle.x86_64_loader.specs.Held.{IsHeld}
 use Rattle.x86_64_loader.specs.Pages.{Kept, WasRefused}
-use Rattle.x86_64_loader.specs.Segments.{Has, IsReached, size_of}
+use Rattle.x86_64_loader.specs.Segments.{Has, ReachesAt}
 
--- each position of the segment is held, mapped as it should
-abbrev pub HoldsSegment : {Lent : Type 0} → Hierarchy Lent → Segment → Type 0
-HoldsSegment h s = AreHeld h (size_of s) s.page s.frame (bits_of s.flags)
+-- the positions of the segment from an offset up to before another are held, mapped as they should
+abbrev pub HoldsPart : {Lent : Type 0} → Hierarchy Lent → Segment → (low high : ℕ) → Type 0
+HoldsPart h s low high = (offset : ℕ) → low ≤ offset → offset < high → IsHeld h (s.page + offset) (s.frame + offset) (bits_of s.flags)
 
 -- no two of the first so many segments have a position in common
 abbrev pub AreApart : List Segment → (count : ℕ) → Type 0
 AreApart segments n = (i j : ℕ) (d : Segment) → i < j → j < n → (p : ℕ) → Has (get_or segments i d) p → Has (get_or segments j d) p → ⊥
 
--- the load of a segment was refused at the page after so many, for this reason: those before it are reached
-pub record IsHalted {Lent : Type 0} (h : Hierarchy Lent) (s : Segment) (mapped : ℕ) (why : Refusal) (after : Hierarchy Lent) (rest : List ℕ) : Type 0 where
+-- the load of a segment, from an offset on, was refused at the page after so many, for this reason: those before it are reached
+pub record IsHalted {Lent : Type 0} (h : Hierarchy Lent) (s : Segment) (low mapped : ℕ) (why : Refusal) (after : Hierarchy Lent) (rest : List ℕ) : Type 0 where
+  pub above : low ≤ mapped * 0x1000
   pub within : mapped < s.pages
-  pub pages_before : IsReached after s (mapped * 0x1000)
+  pub pages_before : (offset : ℕ) → low ≤ offset → offset < mapped * 0x1000 → ReachesAt after s offset
   pub kept : Kept h after rest
   pub level : ℕ
   pub refused : WasRefused level (s.page + mapped * 0x1000) (s.frame + mapped * 0x1000) (bits_of s.flags) why after rest

@@ -33,10 +33,14 @@ Disjoint segments = (i j : ℕ) (d : Segment) → i < j → j < length segments 
 
 -- ---- where a load was refused
 
--- from each of the first so many positions of the segment the processor arrives where it should, and no right is missing
+-- from this offset in the segment the processor arrives where it should, and no right is missing
+abbrev pub ReachesAt : {Lent : Type 0} → Hierarchy Lent → Segment → (offset : ℕ) → Type 0
+ReachesAt h s o = (walked : Walked) × (walk h (s.page + o) ≡ Some walked)
+    × NoWorse (record { address = s.frame + o; write = writable (bits_of s.flags); user = user (bits_of s.flags) }) walked
+
+-- so it does from each of the first so many
 abbrev pub IsReached : {Lent : Type 0} → Hierarchy Lent → Segment → (size : ℕ) → Type 0
-IsReached h s size = (offset : ℕ) → offset < size → (walked : Walked) × (walk h (s.page + offset) ≡ Some walked)
-    × NoWorse (record { address = s.frame + offset; write = writable (bits_of s.flags); user = user (bits_of s.flags) }) walked
+IsReached h s size = (offset : ℕ) → offset < size → ReachesAt h s offset
 
 -- The segments before are reached, and of this one the pages before the one that was refused; that was the next, and its last map was refused
 -- for this reason.

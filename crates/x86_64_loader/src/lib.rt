@@ -4,9 +4,10 @@
 
 mod loader;
 mod pages;
+mod parts;
 mod segment;
 #[cfg(test)]
 mod tests;
 
-pub use loader::load;
+pub use loader::{load, load_large};
 pub use segment::{LoadError, Segment, segments_allowed};

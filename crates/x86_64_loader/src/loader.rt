@@ -1,15 +1,17 @@
 //! Loads of segments.
 ghost use Rattle.std.specs.Prelude.{◌≡◌, OnOk, IfErr};
 ghost use Rattle.std.specs.List.{All};
-ghost use Rattle.x86_64_loader.specs.Loads.{HoldsSegment, IsHalted};
+ghost use Rattle.x86_64_loader.specs.Loads.{HoldsPart, IsHalted};
 ghost use Rattle.x86_64_loader.specs.Pages.{IsFree, Kept, Leaves};
 ghost use Rattle.x86_64_loader.specs.Segments.{Disjoint, IsAllowed, IsLoaded, IsRefused, size_of};
 ghost use Rattle.x86_64_model.specs.Owned.{SupplyFits};
 ghost use Rattle.x86_64_tables.specs.MapperAnswers.{map_refusal};
 
-use crate::pages::{Stopped, map_pages, page_after};
+use crate::pages::{Stopped, page_after};
+use crate::parts::{map_part, pages_before_large};
 use crate::segment::{LoadError, Segment};
-use x86_64::structures::paging::{FrameAllocator, Mapper, Size4KiB};
+use x86_64::structures::paging::mapper::MapperAllSizes;
+use x86_64::structures::paging::{FrameAllocator, Size2MiB, Size4KiB};
 
 /// Maps the pages of segments to their frames, one segment after the other, by pages of 4KiB.
 ///
@@ -30,7 +32,7 @@ use x86_64::structures::paging::{FrameAllocator, Mapper, Size4KiB};
 /// The segment and its first page that was refused, and why: the page or a part of it was mapped before, also by this load
 /// where segments overlap, or a table was missing and there was no frame for it. The segments before, and the pages of this
 /// one before the page, are mapped: the processor arrives in them as it should, with no right missing.
-pub fn load<M: Mapper<Size4KiB>, A: FrameAllocator<Size4KiB>>(
+pub fn load<M: MapperAllSizes, A: FrameAllocator<Size4KiB>>(
     mapper: &mut M,
     frames: &mut A,
     segments: &[Segment],
@@ -43,8 +45,56 @@ pub fn load<M: Mapper<Size4KiB>, A: FrameAllocator<Size4KiB>>(
         IfErr result (λ error. IsRefused segments.now error after (A.supply frames.new)) }
     ensures kept { Kept (M.hierarchy mapper.old) (M.hierarchy mapper.new) (A.supply frames.new) }
 {
+    load_each(mapper, frames, segments, Sizes::Small)
+}
+
+/// Maps the pages of segments as [`load`] does, but by pages of 2MiB where a page and its frame both start at a multiple of it
+/// and enough of the segment is left.
+///
+/// The conditions are those of [`load`], and so are the errors. A page of 2MiB that is refused is named by the first page of
+/// 4KiB in it.
+pub fn load_large<M: MapperAllSizes, A: FrameAllocator<Size4KiB>>(
+    mapper: &mut M,
+    frames: &mut A,
+    segments: &[Segment],
+) -> Result<(), LoadError>
+    requires fits { SupplyFits (M.hierarchy mapper.old) (A.supply frames.old) }
+    requires allowed { All (IsAllowed (M.hierarchy mapper.old)) segments.now }
+    ensures loaded { OnOk result (All (IsLoaded (M.hierarchy mapper.new)) segments.now) }
+    ensures disjoint { OnOk result (Disjoint segments.now) }
+    ensures refused { let after = M.hierarchy mapper.new in
+        IfErr result (λ error. IsRefused segments.now error after (A.supply frames.new)) }
+    ensures kept { Kept (M.hierarchy mapper.old) (M.hierarchy mapper.new) (A.supply frames.new) }
+{
+    load_each(mapper, frames, segments, Sizes::Large)
+}
+
+/// Says by which pages a segment is mapped.
+#[derive(Clone, Copy)]
+enum Sizes {
+    /// Pages of 4KiB alone.
+    Small,
+    /// Pages of 2MiB where they fit.
+    Large,
+}
+
+/// Maps the pages of segments, one segment after the other.
+fn load_each<M: MapperAllSizes, A: FrameAllocator<Size4KiB>>(
+    mapper: &mut M,
+    frames: &mut A,
+    segments: &[Segment],
+    sizes: Sizes,
+) -> Result<(), LoadError>
+    requires fits { SupplyFits (M.hierarchy mapper.old) (A.supply frames.old) }
+    requires allowed { All (IsAllowed (M.hierarchy mapper.old)) segments.now }
+    ensures loaded { OnOk result (All (IsLoaded (M.hierarchy mapper.new)) segments.now) }
+    ensures disjoint { OnOk result (Disjoint segments.now) }
+    ensures refused { let after = M.hierarchy mapper.new in
+        IfErr result (λ error. IsRefused segments.now error after (A.supply frames.new)) }
+    ensures kept { Kept (M.hierarchy mapper.old) (M.hierarchy mapper.new) (A.supply frames.new) }
+{
     for (index, segment) in segments.iter().enumerate() {
-        if let Err(stopped) = load_segment(mapper, frames, segment) {
+        if let Err(stopped) = load_segment(mapper, frames, segment, sizes) {
             return Err(LoadError {
                 segment: index,
                 page: page_after(segment.page, stopped.mapped),
@@ -56,28 +106,77 @@ pub fn load<M: Mapper<Size4KiB>, A: FrameAllocator<Size4KiB>>(
     Ok(())
 }
 
-/// Maps the pages of a segment to its frames.
-fn load_segment<M: Mapper<Size4KiB>, A: FrameAllocator<Size4KiB>>(
+/// Maps a segment.
+fn load_segment<M: MapperAllSizes, A: FrameAllocator<Size4KiB>>(
     mapper: &mut M,
     frames: &mut A,
     segment: &Segment,
+    sizes: Sizes,
 ) -> Result<(), Stopped<Size4KiB>>
     requires fits { SupplyFits (M.hierarchy mapper.old) (A.supply frames.old) }
     requires allowed { IsAllowed (M.hierarchy mapper.old) segment.now }
-    ensures held { OnOk result (HoldsSegment (M.hierarchy mapper.new) segment.now) }
+    ensures held { let s = segment.now in
+        OnOk result (HoldsPart (M.hierarchy mapper.new) s 0 (size_of s)) }
     ensures were_free { let s = segment.now in
         OnOk result (IsFree (M.hierarchy mapper.old) s.page (size_of s)) }
     ensures leaves { OnOk result (
         Leaves 3 (M.hierarchy mapper.old) (M.hierarchy mapper.new) (A.supply frames.new)) }
     ensures halted { let h = M.hierarchy mapper.old in let after = M.hierarchy mapper.new in
         let rest = A.supply frames.new in IfErr result (λ stopped.
-        IsHalted h segment.now stopped.mapped (map_refusal stopped.why) after rest) }
+        IsHalted h segment.now 0 stopped.mapped (map_refusal stopped.why) after rest) }
 {
-    let Segment {
-        page,
-        frame,
-        pages,
-        flags,
-    } = *segment;
-    map_pages(mapper, frames, page, frame, pages, flags)
+    match sizes {
+        Sizes::Small => load_small_pages(mapper, frames, segment),
+        Sizes::Large => load_large_pages(mapper, frames, segment),
+    }
+}
+
+/// Maps a segment by pages of 4KiB.
+fn load_small_pages<M: MapperAllSizes, A: FrameAllocator<Size4KiB>>(
+    mapper: &mut M,
+    frames: &mut A,
+    segment: &Segment,
+) -> Result<(), Stopped<Size4KiB>>
+    requires fits { SupplyFits (M.hierarchy mapper.old) (A.supply frames.old) }
+    requires allowed { IsAllowed (M.hierarchy mapper.old) segment.now }
+    ensures held { let s = segment.now in
+        OnOk result (HoldsPart (M.hierarchy mapper.new) s 0 (size_of s)) }
+    ensures were_free { let s = segment.now in
+        OnOk result (IsFree (M.hierarchy mapper.old) s.page (size_of s)) }
+    ensures leaves { OnOk result (
+        Leaves 3 (M.hierarchy mapper.old) (M.hierarchy mapper.new) (A.supply frames.new)) }
+    ensures halted { let h = M.hierarchy mapper.old in let after = M.hierarchy mapper.new in
+        let rest = A.supply frames.new in IfErr result (λ stopped.
+        IsHalted h segment.now 0 stopped.mapped (map_refusal stopped.why) after rest) }
+{
+    // Both are multiples of 4KiB.
+    let (_page, _frame) = (segment.page.start_address(), segment.frame.start_address());
+    map_part::<Size4KiB, M, A>(mapper, frames, segment, 0, segment.pages)
+}
+
+/// Maps a segment by pages of 2MiB where they fit, and by pages of 4KiB before and after these.
+fn load_large_pages<M: MapperAllSizes, A: FrameAllocator<Size4KiB>>(
+    mapper: &mut M,
+    frames: &mut A,
+    segment: &Segment,
+) -> Result<(), Stopped<Size4KiB>>
+    requires fits { SupplyFits (M.hierarchy mapper.old) (A.supply frames.old) }
+    requires allowed { IsAllowed (M.hierarchy mapper.old) segment.now }
+    ensures held { let s = segment.now in
+        OnOk result (HoldsPart (M.hierarchy mapper.new) s 0 (size_of s)) }
+    ensures were_free { let s = segment.now in
+        OnOk result (IsFree (M.hierarchy mapper.old) s.page (size_of s)) }
+    ensures leaves { OnOk result (
+        Leaves 3 (M.hierarchy mapper.old) (M.hierarchy mapper.new) (A.supply frames.new)) }
+    ensures halted { let h = M.hierarchy mapper.old in let after = M.hierarchy mapper.new in
+        let rest = A.supply frames.new in IfErr result (λ stopped.
+        IsHalted h segment.now 0 stopped.mapped (map_refusal stopped.why) after rest) }
+{
+    let head = pages_before_large(segment);
+    let large = (segment.pages - head) / 512;
+    let tail = head + large * 512;
+    map_part::<Size4KiB, M, A>(mapper, frames, segment, 0, head)?;
+    map_part::<Size2MiB, M, A>(mapper, frames, segment, head, large)?;
+    map_part::<Size4KiB, M, A>(mapper, frames, segment, tail, segment.pages - tail)?;
+    Ok(())
 }

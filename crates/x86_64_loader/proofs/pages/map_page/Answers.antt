@@ -1,8 +1,6 @@
-use Rattle.std.proofs.Common.{rules, ◌≡◌, ◌<◌, ◌%◌, ◌^◌, inl, inr, arith}
+use Rattle.std.proofs.Common.{rules, inl, inr, arith}
 use Rattle.std.proofs.lemmas.Result.{err_from_is_err_and}
-use Rattle.x86_64_model.specs.Owned.{path_of}
-use Rattle.x86_64_model.specs.Refusal.{Done, Refused}
-use Rattle.x86_64_tables.specs.MapperAnswers.{map_refusal}
+use Rattle.x86_64_model.specs.Refusal.{Done}
 use Rattle.x86_64_loader.proofs.OneMap.{makes_stand, was_free, leaves}
 use Rattle.x86_64_loader.proofs.pages.map_page.Goals as goal
 

@@ -1,5 +1,4 @@
-use Rattle.std.proofs.Common.{rules, ◌≡◌, ◌+◌, ◌*◌, ◌<◌, ℕ, arith, subst}
-use Rattle.x86_64_model.specs.Owned.{Stands}
+use Rattle.std.proofs.Common.{◌≡◌, ◌+◌, ◌*◌, arith, subst}
 use Rattle.x86_64_loader.specs.Pages.{IsFree}
 use Rattle.x86_64_loader.proofs.Runs.{leaves_then, may_now, one_more_stands, one_more_free}
 use Rattle.x86_64_loader.proofs.pages.map_pages.Goals as goal

@@ -1,7 +1,7 @@
-use Rattle.std.proofs.Common.{◌≡◌, ◌≤◌, length, rules, refl, arith}
+use Rattle.std.proofs.Common.{refl, arith}
 use Rattle.x86_64_loader.proofs.Runs.{leaves_then}
 use Rattle.x86_64_loader.proofs.Segments.{allowed_at, apart_next, held_is_loaded, held_next, refused_here, still_allowed}
-use Rattle.x86_64_loader.proofs.loader.load.Goals as goal
+use Rattle.x86_64_loader.proofs.loader.load_each.Goals as goal
 
 pub load_segment-requires-clause-allowed : goal.load_segment-requires-clause-allowed
 load_segment-requires-clause-allowed g c =

@@ -1,0 +1,62 @@
+use Rattle.std.proofs.Common.{rules, ◌<◌, arith}
+use Rattle.x86_64_loader.proofs.SizedParts.{part_number, part_may, part_held, part_halted}
+use Rattle.x86_64_loader.proofs.parts.map_part.Goals as goal
+
+pub page_after-page-requires : goal.page_after-page-requires
+page_after-page-requires g c =
+    let some : 0 < c.args.count = search rules in
+    let levels = g.met.M.Tables.some_levels c.args.mapper.now in let high = g.S.PageSize.high in
+    let may = part_may (g.M.Tables.hierarchy c.args.mapper.now) c.args.segment.now g.S.PageSize.LEVEL g.S.PageSize.SIZE c.args.first c.args.count g.S.PageSize.size g.S.PageSize.low high
+    c.requires.allowed c.requires.within (omega (arith, levels, high)) 0 some in
+    let there = may.page_there in omega (arith, there)
+
+pub add-frame-requires : goal.add-frame-requires
+add-frame-requires g c =
+    let some : 0 < c.args.count = search rules in
+    let levels = g.met.M.Tables.some_levels c.args.mapper.now in let high = g.S.PageSize.high in
+    let may = part_may (g.M.Tables.hierarchy c.args.mapper.now) c.args.segment.now g.S.PageSize.LEVEL g.S.PageSize.SIZE c.args.first c.args.count g.S.PageSize.size g.S.PageSize.low high
+    c.requires.allowed c.requires.within (omega (arith, levels, high)) 0 some in
+    let there = may.frame_there in omega (arith, there)
+
+pub map_pages-requires-clause-may : goal.map_pages-requires-clause-may
+map_pages-requires-clause-may g c =
+    let levels = g.met.M.Tables.some_levels c.args.mapper.now in let high = g.S.PageSize.high in
+    rw (c.from_start_address_unchecked-page.ensures, c.start_address.ensures.value, c.page_after-page.ensures, c.from_start_address_unchecked-frame.ensures, c.start_address-2.ensures.value, c.add-frame.ensures)
+    (part_may (g.M.Tables.hierarchy c.args.mapper.now) c.args.segment.now g.S.PageSize.LEVEL g.S.PageSize.SIZE c.args.first c.args.count g.S.PageSize.size g.S.PageSize.low high
+    c.requires.allowed c.requires.within (omega (arith, levels, high)))
+
+pub overflow_mul-result : goal.overflow_mul-result
+overflow_mul-result g c =
+    let number = part_number (g.M.Tables.hierarchy c.args.mapper.now) c.args.segment.now g.S.PageSize.LEVEL g.S.PageSize.SIZE c.args.first c.args.count g.S.PageSize.size g.S.PageSize.low g.S.PageSize.high
+    c.requires.allowed c.requires.within c.in-Err.stopped.mapped c.in-Err.ensures.stopped.within in
+    rw c.SIZE.ensures (omega (arith, number))
+
+pub overflow_add-result : goal.overflow_add-result
+overflow_add-result g c =
+    let number = part_number (g.M.Tables.hierarchy c.args.mapper.now) c.args.segment.now g.S.PageSize.LEVEL g.S.PageSize.SIZE c.args.first c.args.count g.S.PageSize.size g.S.PageSize.low g.S.PageSize.high
+    c.requires.allowed c.requires.within c.in-Err.stopped.mapped c.in-Err.ensures.stopped.within in
+    rw c.SIZE.ensures (omega (arith, number))
+
+pub returns-in-Ok-clause-held : goal.returns-in-Ok-clause-held
+returns-in-Ok-clause-held g c =
+    let levels = g.met.M.Tables.some_levels c.args.mapper.now in let high = g.S.PageSize.high in
+    let done = c.in-Ok.ensures in
+    part_held (g.M.Tables.hierarchy c.args.mapper.now) c.args.segment.now g.S.PageSize.LEVEL g.S.PageSize.SIZE c.args.first c.args.count g.S.PageSize.size g.S.PageSize.low high
+    c.requires.allowed c.requires.within (g.M.Tables.hierarchy c.map_pages.new.mapper) (g.A.FrameAllocator.supply c.map_pages.new.frames) (omega (arith, levels, high))
+    (rw (c.from_start_address_unchecked-page.ensures, c.start_address.ensures.value, c.page_after-page.ensures) at c.map_pages.ensures.aligned)
+    c.args.count (omega arith) done.leaves.kept.layout
+    (rw (c.from_start_address_unchecked-page.ensures, c.start_address.ensures.value, c.page_after-page.ensures, c.from_start_address_unchecked-frame.ensures, c.start_address-2.ensures.value, c.add-frame.ensures) at done.stand)
+
+pub returns-in-Ok-clause-were_free : goal.returns-in-Ok-clause-were_free
+returns-in-Ok-clause-were_free g c =
+    rw (c.from_start_address_unchecked-page.ensures, c.start_address.ensures.value, c.page_after-page.ensures) at c.in-Ok.ensures.were_free
+
+pub returns-in-Err-clause-halted : goal.returns-in-Err-clause-halted
+returns-in-Err-clause-halted g c =
+    let levels = g.met.M.Tables.some_levels c.args.mapper.now in let high = g.S.PageSize.high in
+    rw (c.SIZE.ensures, c.in_4kib.ensures)
+    (part_halted (g.M.Tables.hierarchy c.args.mapper.now) c.args.segment.now g.S.PageSize.LEVEL g.S.PageSize.SIZE c.args.first c.args.count g.S.PageSize.size g.S.PageSize.low high
+    c.requires.allowed c.requires.within (g.M.Tables.hierarchy c.map_pages.new.mapper) (g.A.FrameAllocator.supply c.map_pages.new.frames) (omega (arith, levels, high))
+    (rw (c.from_start_address_unchecked-page.ensures, c.start_address.ensures.value, c.page_after-page.ensures) at c.map_pages.ensures.aligned)
+    c.in-Err.stopped.mapped _
+    (rw (c.from_start_address_unchecked-page.ensures, c.start_address.ensures.value, c.page_after-page.ensures, c.from_start_address_unchecked-frame.ensures, c.start_address-2.ensures.value, c.add-frame.ensures) at c.in-Err.ensures.stopped))

@@ -1,0 +1,87 @@
+//! Maps of parts of a segment by pages of one size.
+ghost use Rattle.std.specs.Prelude.{◌≡◌, ◌+◌, ◌*◌, ◌%◌, ◌<◌, ◌≤◌, OnOk, IfErr};
+ghost use Rattle.x86_64_loader.specs.Loads.{HoldsPart, IsHalted};
+ghost use Rattle.x86_64_loader.specs.Pages.{IsFree, Leaves};
+ghost use Rattle.x86_64_loader.specs.Segments.{IsAllowed, size_of};
+ghost use Rattle.x86_64_model.specs.Owned.{SupplyFits};
+ghost use Rattle.x86_64_tables.specs.MapperAnswers.{map_refusal};
+
+use crate::pages::{Stopped, map_pages, page_after};
+use crate::segment::Segment;
+use x86_64::structures::paging::mapper::MapToError;
+use x86_64::structures::paging::{FrameAllocator, Mapper, Page, PageSize, PhysFrame, Size4KiB};
+
+/// Maps so many pages of a size, from a page of a segment on, which starts at a multiple of the size as its frame does.
+pub(crate) fn map_part<S: PageSize, M: Mapper<S>, A: FrameAllocator<Size4KiB>>(
+    mapper: &mut M,
+    frames: &mut A,
+    segment: &Segment,
+    first: u64,
+    count: u64,
+) -> Result<(), Stopped<Size4KiB>>
+    requires fits { SupplyFits (M.hierarchy mapper.old) (A.supply frames.old) }
+    requires allowed { IsAllowed (M.hierarchy mapper.old) segment.now }
+    requires page_aligned { 0 < count → (segment.now.page + first * 0x1000) % S.SIZE ≡ 0 }
+    requires frame_aligned { 0 < count → (segment.now.frame + first * 0x1000) % S.SIZE ≡ 0 }
+    requires within { first * 0x1000 + count * S.SIZE ≤ size_of segment.now }
+    ensures held { let low = first * 0x1000 in
+        OnOk result (HoldsPart (M.hierarchy mapper.new) segment.now low (low + count * S.SIZE)) }
+    ensures were_free { let start = segment.now.page + first * 0x1000 in
+        OnOk result (IsFree (M.hierarchy mapper.old) start (count * S.SIZE)) }
+    ensures leaves { OnOk result (
+        Leaves 3 (M.hierarchy mapper.old) (M.hierarchy mapper.new) (A.supply frames.new)) }
+    ensures halted { let h = M.hierarchy mapper.old in let after = M.hierarchy mapper.new in
+        let rest = A.supply frames.new in let low = first * 0x1000 in IfErr result (λ stopped.
+        IsHalted h segment.now low stopped.mapped (map_refusal stopped.why) after rest) }
+{
+    if count == 0 {
+        return Ok(());
+    }
+    let page = page_after(segment.page, first);
+    let page = Page::<S>::from_start_address_unchecked(page.start_address());
+    let frame = segment.frame + first;
+    let frame = PhysFrame::<S>::from_start_address_unchecked(frame.start_address());
+    match map_pages(mapper, frames, page, frame, count, segment.flags) {
+        Ok(()) => Ok(()),
+        Err(stopped) => Err(Stopped {
+            mapped: first + stopped.mapped * (S::SIZE / 0x1000),
+            why: in_4kib(stopped.why),
+        }),
+    }
+}
+
+/// Gives the same reason for a page of 4KiB: the frame is the one that starts where the page's does.
+fn in_4kib<S: PageSize>(why: MapToError<S>) -> MapToError<Size4KiB>
+    ensures { map_refusal result ≡ map_refusal why }
+{
+    match why {
+        MapToError::FrameAllocationFailed => MapToError::FrameAllocationFailed,
+        MapToError::ParentEntryHugePage => MapToError::ParentEntryHugePage,
+        MapToError::PageAlreadyMapped(frame) => {
+            let frame = PhysFrame::containing_address(frame.start_address());
+            MapToError::PageAlreadyMapped(frame)
+        }
+    }
+}
+
+/// Counts the pages of a segment before the first that a page of 2MiB may begin with. These are all, where the first page and
+/// the first frame lie at different offsets in theirs of 2MiB.
+#[tactic(auto, unfolding(x86_64_model::specs::Position::index))]
+pub(crate) fn pages_before_large(segment: &Segment) -> u64
+    ensures within { result ≤ segment.now.pages }
+    ensures page { result < segment.now.pages
+        → (segment.now.page + result * 0x1000) % 0x20_0000 ≡ 0 }
+    ensures frame { result < segment.now.pages
+        → (segment.now.frame + result * 0x1000) % 0x20_0000 ≡ 0 }
+    ensures small_page { segment.now.page % 0x1000 ≡ 0 }
+    ensures small_frame { segment.now.frame % 0x1000 ≡ 0 }
+{
+    let page = segment.page.start_address();
+    let frame = segment.frame.start_address().as_u64();
+    let number = u64::from(page.p1_index());
+    if frame / 0x1000 % 512 != number {
+        return segment.pages;
+    }
+    let before = (512 - number) % 512;
+    before.min(segment.pages)
+}
