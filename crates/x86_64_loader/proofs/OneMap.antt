@@ -1,24 +1,14 @@
 -- What one `map_to` leaves.
-use Rattle.std.proofs.Common.{zero, suc, ◌≡◌, ◌≢◌, ◌⊎◌, inl, inr, ◌<◌, ◌≤◌, ◌+◌, ◌-◌, ◌%◌, ◌^◌, ℕ, true, List, refl, sym, ap, ◌∙◌, subst, arith}
+use Rattle.std.proofs.Common.{◌≡◌, ◌≢◌, ◌⊎◌, inl, inr, ◌<◌, ◌≤◌, ◌+◌, ◌-◌, ◌%◌, ◌^◌, ℕ, true, List, refl, sym, ap, ◌∙◌, subst, arith}
 use Rattle.x86_64_model.specs.Call.{MapTo}
-use Rattle.x86_64_model.specs.Entry.{IsParentFlags, present, address}
+use Rattle.x86_64_model.specs.Entry.{IsParentFlags, present}
 use Rattle.x86_64_model.specs.MapRule.{parent_part}
 use Rattle.x86_64_model.specs.Owned.{Hierarchy, MayMap, DoesMap, Stands, path_of}
 use Rattle.x86_64_model.specs.Position.{span}
 use Rattle.x86_64_model.specs.Refusal.{Answer, Done, Refused, ParentEntryHugePage}
-use Rattle.x86_64_model.proofs.Lemmas.Entries.Bits.{address_is}
 use Rattle.x86_64_model.proofs.Lemmas.Machines.Standing.{map_to_stands, stands_after, stands_refuses}
+use Rattle.x86_64_tables.proofs.MapArrivals.{frame_address, small_multiple}
 use Rattle.x86_64_loader.specs.Pages.{IsFree, Leaves}
-
-frame_address : (frame : ℕ) → frame < 2 ^ 52 → frame % 4096 ≡ 0 → address frame ≡ frame
-frame_address frame below aligned = let is = address_is frame in omega (arith, is, below, aligned)
-
-small_multiple : (level frame : ℕ) → 1 ≤ level → level ≤ 3 → frame % span level ≡ 0 → frame % 4096 ≡ 0
-small_multiple zero frame low high multiple = absurd (omega arith)
-small_multiple (suc zero) frame low high multiple = multiple
-small_multiple (suc (suc zero)) frame low high multiple = let at : frame % 0x20_0000 ≡ 0 = multiple in omega (arith, at)
-small_multiple (suc (suc (suc zero))) frame low high multiple = let at : frame % 0x4000_0000 ≡ 0 = multiple in omega (arith, at)
-small_multiple (suc (suc (suc (suc n)))) frame low high multiple = absurd (omega arith)
 
 module _ {Lent : Type 0} (h after : Hierarchy Lent) (supply rest : List ℕ) (level size page frame given : ℕ) (spans : size ≡ span level) (low : 1 ≤ level) (high : level ≤ 3) (some : 3 < h.layout.levels)
     (may : MayMap h supply (MapTo (path_of h level page) frame given)) where

@@ -6,9 +6,9 @@ use Rattle.std.specs.List.{All}
 use Rattle.x86_64_model.specs.Owned.{Hierarchy, Valid}
 use Rattle.x86_64_tables.specs.MapperAnswers.{map_refusal}
 use Rattle.x86_64_tables.specs.PageTableFlags.{bits_of}
-use Rattle.x86_64_loader.specs.Loads.{AreApart, HoldsPart, IsHalted}
+use Rattle.x86_64_loader.specs.Loads.{HoldsSegment, IsHalted}
 use Rattle.x86_64_loader.specs.Pages.{IsFree, Leaves, WasRefused}
-use Rattle.x86_64_loader.specs.Segments.{Has, IsAllowed, IsLoaded, IsRefused, size_of}
+use Rattle.x86_64_loader.specs.Segments.{AreApart, Has, IsAllowed, IsLoaded, IsRefused, size_of}
 use Rattle.x86_64_loader.specs.declared.segment.LoadError.{LoadError}
 use Rattle.x86_64_loader.specs.declared.segment.Segment.{Segment}
 use Rattle.x86_64_loader.proofs.Holding.{held_arrives, held_not_free, held_reached, held_still, reached_after}
@@ -26,10 +26,7 @@ still_allowed h now rest s left allowed = record {
 }
 
 -- what is held is loaded
-abbrev pub HoldsAll : {Lent : Type 0} → Hierarchy Lent → Segment → Type 0
-HoldsAll h s = HoldsPart h s 0 (size_of s)
-
-pub held_is_loaded : {Lent : Type 0} (h : Hierarchy Lent) (s : Segment) → Valid h → HoldsAll h s → IsLoaded h s
+pub held_is_loaded : {Lent : Type 0} (h : Hierarchy Lent) (s : Segment) → Valid h → HoldsSegment h s → IsLoaded h s
 held_is_loaded h s valid held o within = held_arrives h (s.page + o) (s.frame + o) (bits_of s.flags) (held o (omega arith) within) valid
 
 module _ (segments : List Segment) (i : ℕ) (s : Segment) (here : i < length segments) (item : s ≡ get_or segments i s) where
@@ -44,9 +41,9 @@ module _ (segments : List Segment) (i : ℕ) (s : Segment) (here : i < length se
   pub allowed_at : {Lent : Type 0} (h : Hierarchy Lent) → All (IsAllowed h) segments → IsAllowed h s
   allowed_at h all = subst (IsAllowed h) (is_at s) (all i s here)
 
-  module _ {Lent : Type 0} (now after : Hierarchy Lent) (rest : List ℕ) (held : (j : ℕ) (d : Segment) → j < i → HoldsAll now (get_or segments j d)) where
-    pub held_next : Leaves 3 now after rest → HoldsAll after s → (j : ℕ) (d : Segment) → j < i + 1 → HoldsAll after (get_or segments j d)
-    held_next left = next_too (HoldsAll after)
+  module _ {Lent : Type 0} (now after : Hierarchy Lent) (rest : List ℕ) (held : (j : ℕ) (d : Segment) → j < i → HoldsSegment now (get_or segments j d)) where
+    pub held_next : Leaves 3 now after rest → HoldsSegment after s → (j : ℕ) (d : Segment) → j < i + 1 → HoldsSegment after (get_or segments j d)
+    held_next left = next_too (HoldsSegment after)
         (λ j d before o low fits. let t = get_or segments j d in held_still now (t.page + o) (t.frame + o) (bits_of t.flags) (held j d before o low fits) after rest left)
 
     pub apart_next : AreApart segments i → IsFree now s.page (size_of s) → AreApart segments (i + 1)

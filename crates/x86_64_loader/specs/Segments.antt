@@ -27,9 +27,13 @@ IsLoaded h s = ArrivesIn h (size_of s) s.page s.frame (bits_of s.flags)
 abbrev pub Has : Segment → (position : ℕ) → Type 0
 Has s p = (s.page ≤ p) × (p < s.page + size_of s)
 
--- no two of the segments have a position in common
+-- no two of the first so many segments have a position in common
+abbrev pub AreApart : List Segment → (count : ℕ) → Type 0
+AreApart segments n = (i j : ℕ) (d : Segment) → i < j → j < n → (p : ℕ) → Has (get_or segments i d) p → Has (get_or segments j d) p → ⊥
+
+-- no two of them
 abbrev pub Disjoint : List Segment → Type 0
-Disjoint segments = (i j : ℕ) (d : Segment) → i < j → j < length segments → (p : ℕ) → Has (get_or segments i d) p → Has (get_or segments j d) p → ⊥
+Disjoint segments = AreApart segments (length segments)
 
 -- ---- where a load was refused
 

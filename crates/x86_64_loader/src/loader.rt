@@ -1,7 +1,7 @@
 //! Loads of segments.
 ghost use Rattle.std.specs.Prelude.{◌≡◌, OnOk, IfErr};
 ghost use Rattle.std.specs.List.{All};
-ghost use Rattle.x86_64_loader.specs.Loads.{HoldsPart, IsHalted};
+ghost use Rattle.x86_64_loader.specs.Loads.{HoldsSegment, IsHalted};
 ghost use Rattle.x86_64_loader.specs.Pages.{IsFree, Kept, Leaves};
 ghost use Rattle.x86_64_loader.specs.Segments.{Disjoint, IsAllowed, IsLoaded, IsRefused, size_of};
 ghost use Rattle.x86_64_model.specs.Owned.{SupplyFits};
@@ -24,8 +24,8 @@ use x86_64::structures::paging::{FrameAllocator, Size2MiB, Size4KiB};
 ///
 /// The tokens of the maps are spent without a flush: nothing was mapped before where a page is mapped.
 ///
-/// Conditions: the hierarchy is valid, the allocator's frames are as in a pool that fits it, and [`segments_allowed`]
-/// (crate::segments_allowed) holds.
+/// Conditions: the hierarchy is valid, the allocator's frames are as in a pool that fits it, and
+/// [`segments_allowed`](crate::segments_allowed) holds.
 ///
 /// # Errors
 ///
@@ -115,8 +115,7 @@ fn load_segment<M: MapperAllSizes, A: FrameAllocator<Size4KiB>>(
 ) -> Result<(), Stopped<Size4KiB>>
     requires fits { SupplyFits (M.hierarchy mapper.old) (A.supply frames.old) }
     requires allowed { IsAllowed (M.hierarchy mapper.old) segment.now }
-    ensures held { let s = segment.now in
-        OnOk result (HoldsPart (M.hierarchy mapper.new) s 0 (size_of s)) }
+    ensures held { OnOk result (HoldsSegment (M.hierarchy mapper.new) segment.now) }
     ensures were_free { let s = segment.now in
         OnOk result (IsFree (M.hierarchy mapper.old) s.page (size_of s)) }
     ensures leaves { OnOk result (
@@ -139,8 +138,7 @@ fn load_small_pages<M: MapperAllSizes, A: FrameAllocator<Size4KiB>>(
 ) -> Result<(), Stopped<Size4KiB>>
     requires fits { SupplyFits (M.hierarchy mapper.old) (A.supply frames.old) }
     requires allowed { IsAllowed (M.hierarchy mapper.old) segment.now }
-    ensures held { let s = segment.now in
-        OnOk result (HoldsPart (M.hierarchy mapper.new) s 0 (size_of s)) }
+    ensures held { OnOk result (HoldsSegment (M.hierarchy mapper.new) segment.now) }
     ensures were_free { let s = segment.now in
         OnOk result (IsFree (M.hierarchy mapper.old) s.page (size_of s)) }
     ensures leaves { OnOk result (
@@ -162,8 +160,7 @@ fn load_large_pages<M: MapperAllSizes, A: FrameAllocator<Size4KiB>>(
 ) -> Result<(), Stopped<Size4KiB>>
     requires fits { SupplyFits (M.hierarchy mapper.old) (A.supply frames.old) }
     requires allowed { IsAllowed (M.hierarchy mapper.old) segment.now }
-    ensures held { let s = segment.now in
-        OnOk result (HoldsPart (M.hierarchy mapper.new) s 0 (size_of s)) }
+    ensures held { OnOk result (HoldsSegment (M.hierarchy mapper.new) segment.now) }
     ensures were_free { let s = segment.now in
         OnOk result (IsFree (M.hierarchy mapper.old) s.page (size_of s)) }
     ensures leaves { OnOk result (

@@ -1,9 +1,4 @@
-//! Loads of small programs by the mapper that finds tables by their frames.
-ghost use Rattle.x86_64_model.specs.Marks.{serves_below};
-ghost use Rattle.x86_64_model.specs.Memory.{identity_places};
-ghost use Rattle.x86_64_mappers.specs.Layouts.{direct};
-ghost use Rattle.x86_64.specs.Runs.{FitsPool};
-
+//! Loads of small programs into empty hierarchies.
 use crate::{LoadError, Segment, load, load_large, segments_allowed};
 use bitflags::Flags;
 use std::alloc::Global;
@@ -11,161 +6,198 @@ use std::process::Abort;
 use std::test::Fail;
 use x86_64::structures::paging::mapper::MapToError;
 use x86_64::structures::paging::{MappedPageTable, Page, PageTableFlags, PhysFrame, Size4KiB};
-use x86_64::{FramePool, IdentityMapping, PhysAddr, PhysMemory, VirtAddr, page_walk, pool_fits};
+use x86_64::{
+    FramePool, IdentityMapping, PhysAddr, PhysMemory, VirtAddr, Walked, page_walk, pool_fits,
+};
+
+/// The number of places, and the limit of pools.
+const PLACES: u64 = 0x20;
+
+/// Gives the flags of pages that a user reads.
+fn read() -> PageTableFlags {
+    PageTableFlags::PRESENT.union(PageTableFlags::USER_ACCESSIBLE)
+}
+
+/// Gives the flags of pages that a user reads and writes.
+fn write() -> PageTableFlags {
+    read()
+        .union(PageTableFlags::WRITABLE)
+        .union(PageTableFlags::NO_EXECUTE)
+}
 
 /// Gives the frame that contains an address.
-fn frame_at(address: u64) -> PhysFrame<Size4KiB> {
+fn frame(address: u64) -> PhysFrame<Size4KiB> {
     PhysFrame::containing_address(PhysAddr::new_truncate(address))
 }
 
-/// Gives a segment by the start addresses of its first page and frame.
-fn segment(page: u64, frame: u64, pages: u64, flags: PageTableFlags) -> Segment {
+/// Gives the page that contains an address.
+fn page(address: u64) -> Page<Size4KiB> {
+    Page::containing_address(VirtAddr::new_truncate(address))
+}
+
+/// Gives a segment by the addresses of its first page and frame.
+fn segment(start: u64, to: u64, pages: u64, flags: PageTableFlags) -> Segment {
     Segment {
-        page: Page::containing_address(VirtAddr::new_truncate(page)),
-        frame: frame_at(frame),
+        page: page(start),
+        frame: frame(to),
         pages,
         flags,
     }
 }
 
-/// Loads segments, by pages of 2MiB where they fit if these are asked for, or answers `None` where they may not be loaded.
-fn load_on(
-    memory: &mut PhysMemory,
-    root: PhysFrame<Size4KiB>,
-    pool: &mut FramePool,
-    segments: &[Segment],
-    is_large: bool,
-) -> Option<Result<(), LoadError>>
-    requires { let layout = direct identity_places root in
-        FitsPool layout memory.old (serves_below pool.old.limit) pool.old.frames }
-{
-    let mut mapper = MappedPageTable::new(memory, root, IdentityMapping);
-    if !segments_allowed(&mapper, segments) {
-        return None;
-    }
-    Some(if is_large {
-        load_large(&mut mapper, pool, segments)
-    } else {
-        load(&mut mapper, pool, segments)
-    })
+/// Says by which call a program is loaded.
+#[derive(Clone, Copy)]
+enum Way {
+    Small,
+    Large,
 }
 
-/// Where walks from some addresses arrive, and whether they may write and are a user's.
-type Walks<'a> = &'a [(u64, Option<(u64, bool, bool)>)];
+/// Holds an empty hierarchy, whose pool has all frames from 0x2000 on.
+#[derive(Drop)]
+struct Machine {
+    memory: PhysMemory,
+    pool: FramePool,
+}
 
-/// Compares where walks arrive.
-fn check_walks(
-    rt: &impl Abort,
-    memory: &PhysMemory,
-    root: PhysFrame<Size4KiB>,
-    walks: Walks<'_>,
-) -> Result<(), Fail> {
-    for (address, arrival) in walks {
-        let start = VirtAddr::new_truncate(*address);
-        let walked = page_walk(memory, &IdentityMapping, root, start);
-        let arrived = walked.map(|walked| (walked.address.as_u64(), walked.write, walked.user));
-        assert_eq!(rt; arrived, *arrival, "{address:#x}");
+impl Machine {
+    fn new(alloc: Global) -> Result<Machine, Fail> {
+        let memory = PhysMemory::new(alloc, PLACES)?;
+        let mut pool = FramePool::new(alloc, PLACES)?;
+        for number in 2..PLACES {
+            pool.try_add(frame(number * 0x1000)).or(Err("a frame"))?;
+        }
+        Ok(Machine { memory, pool })
     }
+
+    /// Loads a program, or answers `None` where it isn't allowed.
+    fn load(
+        &mut self,
+        alloc: Global,
+        way: Way,
+        segments: &[Segment],
+    ) -> Result<Option<Result<(), LoadError>>, Fail> {
+        let (memory, pool) = (&mut self.memory, &mut self.pool);
+        let root = frame(0x1000);
+        if !pool_fits(alloc, memory, &IdentityMapping, root, pool)? {
+            return Err("the pool doesn't fit".into());
+        }
+        let mut mapper = MappedPageTable::new(memory, root, IdentityMapping);
+        if !segments_allowed(&mapper, segments) {
+            return Ok(None);
+        }
+        Ok(Some(match way {
+            Way::Small => load(&mut mapper, pool, segments),
+            Way::Large => load_large(&mut mapper, pool, segments),
+        }))
+    }
+
+    /// Says where the processor arrives from an address, and whether it may write and a user may use it.
+    fn walk(&self, address: u64) -> Option<(u64, bool, bool)> {
+        let address = VirtAddr::new_truncate(address);
+        let walked = page_walk(&self.memory, &IdentityMapping, frame(0x1000), address)?;
+        let Walked {
+            address,
+            write,
+            user,
+        } = walked;
+        Some((address.as_u64(), write, user))
+    }
+}
+
+/// Makes a program: 3 pages to read, 517 to write from below one border of 2MiB to above the next, and a page of the kernel.
+fn program() -> [Segment; 3] {
+    [
+        segment(0x40_0000, 0x80_0000, 3, read()),
+        segment(0x5f_e000, 0x9f_e000, 0x205, write()),
+        segment(0xffff_8000_0000_0000, 0x5000, 1, PageTableFlags::PRESENT),
+    ]
+}
+
+/// Where the processor arrives once the program is loaded.
+const WALKS: [(u64, Option<(u64, bool, bool)>); 8] = [
+    (0x3f_ffff, None),
+    (0x40_0000, Some((0x80_0000, false, true))),
+    (0x40_2fff, Some((0x80_2fff, false, true))),
+    (0x40_3000, None),
+    (0x5f_e123, Some((0x9f_e123, true, true))),
+    (0x7f_fabc, Some((0xbf_fabc, true, true))),
+    (0x80_2fff, Some((0xc0_2fff, true, true))),
+    (0xffff_8000_0000_0fff, Some((0x5fff, false, false))),
+];
+
+/// Loads the program in one way, and compares where the processor arrives, and how many frames are left. Of 30 frames the
+/// tables take eight, of which one is for pages of 4KiB where one of 2MiB fits.
+fn check_program(rt: &impl Abort, alloc: Global, way: Way, left: usize) -> Result<(), Fail> {
+    let mut machine = Machine::new(alloc)?;
+    let loaded = machine.load(alloc, way, &program())?;
+    assert_eq!(rt; loaded, Some(Ok(())));
+    for (address, wanted) in WALKS {
+        assert_eq!(rt; machine.walk(address), wanted, "{address:#x}");
+    }
+    assert_eq!(rt; machine.pool.len(), left);
     Ok(())
 }
 
-/// Loads segments into an empty memory by pages of either size, and compares the answer, how many tables each load makes, and
-/// where walks arrive then.
-fn check_load(
-    rt: &impl Abort,
-    alloc: Global,
-    segments: &[Segment],
-    answer: Option<Result<(), LoadError>>,
-    tables: [usize; 2],
-    walks: Walks<'_>,
-) -> Result<(), Fail> {
-    let root = frame_at(0x1000);
-    for (is_large, made) in [(false, tables[0]), (true, tables[1])] {
-        let mut memory = PhysMemory::new(alloc, 8)?;
-        let mut pool = free_pool(rt, alloc)?;
-        assert!(rt; pool_fits(alloc, &memory, &IdentityMapping, root, &pool)?);
-        assert_eq!(rt;
-            load_on(&mut memory, root, &mut pool, segments, is_large),
-            answer
-        );
-        assert_eq!(rt; pool.len().checked_add(made), Some(6));
-        check_walks(rt, &memory, root, walks)?;
-    }
-    Ok(())
-}
-
-/// Makes a pool of the frames from 0x2000 to 0x7000.
-fn free_pool(rt: &impl Abort, alloc: Global) -> Result<FramePool, Fail> {
-    let mut pool = FramePool::new(alloc, 8)?;
-    for number in 2..8 {
-        assert_eq!(rt; pool.try_add(frame_at(number * 0x1000)), Ok(()));
-    }
-    Ok(pool)
+#[test]
+fn programs_are_loaded_by_pages_of_4kib(rt: HostRuntime) -> Result<(), Fail> {
+    check_program(&rt, rt.alloc(), Way::Small, 22)
 }
 
 #[test]
-fn segments_are_loaded(rt: HostRuntime) -> Result<(), Fail> {
-    let code = PageTableFlags::PRESENT.union(PageTableFlags::USER_ACCESSIBLE);
-    let data = code
-        .union(PageTableFlags::WRITABLE)
-        .union(PageTableFlags::NO_EXECUTE);
-    let segments = [
-        segment(0x40_0000, 0x10_0000, 3, code),
-        segment(0x60_0000, 0x20_0000, 2, data),
-    ];
-    let walks = [
-        (0x40_0000, Some((0x10_0000, false, true))),
-        (0x40_2fff, Some((0x10_2fff, false, true))),
-        (0x40_3000, None),
-        (0x60_1234, Some((0x20_1234, true, true))),
-        (0x60_2000, None),
-    ];
-    check_load(&rt, rt.alloc(), &segments, Some(Ok(())), [4, 4], &walks)
+fn programs_are_loaded_by_pages_of_2mib_where_they_fit(rt: HostRuntime) -> Result<(), Fail> {
+    check_program(&rt, rt.alloc(), Way::Large, 23)
 }
 
 #[test]
-fn overlapping_segments_are_refused(rt: HostRuntime) -> Result<(), Fail> {
-    let flags = PageTableFlags::PRESENT;
+fn segments_that_overlap_are_refused(rt: HostRuntime) -> Result<(), Fail> {
     let segments = [
-        segment(0x40_2000, 0x10_0000, 1, flags),
-        segment(0x40_0000, 0x20_0000, 4, flags),
+        segment(0x40_0000, 0x80_0000, 4, read()),
+        segment(0x3f_e000, 0x9f_e000, 3, write()),
     ];
-    let error = LoadError {
+    let wanted = LoadError {
         segment: 1,
-        page: Page::containing_address(VirtAddr::new_truncate(0x40_2000)),
+        page: page(0x40_0000),
         mapped: 2,
-        why: MapToError::PageAlreadyMapped(frame_at(0x20_2000)),
+        why: MapToError::PageAlreadyMapped(frame(0xa0_0000)),
     };
-    let walks = [
-        (0x40_1000, Some((0x20_1000, false, false))),
-        (0x40_2000, Some((0x10_0000, false, false))),
-        (0x40_3000, None),
-    ];
-    check_load(&rt, rt.alloc(), &segments, Some(Err(error)), [3, 3], &walks)
+    for way in [Way::Small, Way::Large] {
+        let mut machine = Machine::new(rt.alloc())?;
+        assert_eq!(rt;
+            machine.load(rt.alloc(), way, &segments)?,
+            Some(Err(wanted))
+        );
+        assert_eq!(rt; machine.walk(0x40_0000), Some((0x80_0000, false, true)));
+        assert_eq!(rt; machine.walk(0x3f_ffff), Some((0x9f_ffff, true, true)));
+    }
+    Ok(())
+}
+
+/// Finds that a segment isn't allowed.
+fn check_refused(rt: &impl Abort, alloc: Global, segment: Segment) -> Result<(), Fail> {
+    let mut machine = Machine::new(alloc)?;
+    let loaded = machine.load(alloc, Way::Small, &[segment])?;
+    assert_eq!(rt; loaded, None);
+    Ok(())
 }
 
 #[test]
-fn segments_without_present_are_not_loaded(rt: HostRuntime) -> Result<(), Fail> {
-    let segments = [segment(0x40_0000, 0x10_0000, 1, PageTableFlags::WRITABLE)];
-    check_load(
+fn segments_are_allowed_as_their_pages_are(rt: HostRuntime) -> Result<(), Fail> {
+    let (page, frame) = (0x40_0000, 0x80_0000);
+    let huge = read().union(PageTableFlags::HUGE_PAGE);
+    check_refused(
         &rt,
         rt.alloc(),
-        &segments,
-        None,
-        [0, 0],
-        &[(0x40_0000, None)],
+        segment(page, frame, 1, PageTableFlags::WRITABLE),
+    )?;
+    check_refused(&rt, rt.alloc(), segment(page, frame, 1, huge))?;
+    check_refused(
+        &rt,
+        rt.alloc(),
+        segment(0xffff_ffff_ffff_f000, frame, 2, read()),
+    )?;
+    check_refused(
+        &rt,
+        rt.alloc(),
+        segment(page, 0xf_ffff_ffff_f000, 2, read()),
     )
-}
-
-#[test]
-fn large_pages_are_used_where_they_fit(rt: HostRuntime) -> Result<(), Fail> {
-    let segments = [segment(0x20_0000, 0x60_0000, 514, PageTableFlags::PRESENT)];
-    let walks = [
-        (0x1f_ffff, None),
-        (0x20_0000, Some((0x60_0000, false, false))),
-        (0x3f_ffff, Some((0x7f_ffff, false, false))),
-        (0x40_1fff, Some((0x80_1fff, false, false))),
-        (0x40_2000, None),
-    ];
-    check_load(&rt, rt.alloc(), &segments, Some(Ok(())), [4, 3], &walks)
 }

@@ -11,10 +11,12 @@ use Rattle.x86_64_model.proofs.Lemmas.Machines.Owners.{map_arrives as model_arri
 use Rattle.x86_64_tables.specs.MapperAnswers.{map_answer}
 use Rattle.x86_64_tables.specs.declared.mapper.MapToError.{MapToError}
 
-frame_address : (frame : ℕ) → frame < 2 ^ 52 → frame % 4096 ≡ 0 → address frame ≡ frame
+-- a frame's start has address bits alone
+pub frame_address : (frame : ℕ) → frame < 2 ^ 52 → frame % 4096 ≡ 0 → address frame ≡ frame
 frame_address frame below aligned = let is = address_is frame in omega (arith, is, below, aligned)
 
-small_multiple : (level frame : ℕ) → 1 ≤ level → level ≤ 3 → frame % span level ≡ 0 → frame % 4096 ≡ 0
+-- a multiple of a size is one of 4KiB
+pub small_multiple : (level frame : ℕ) → 1 ≤ level → level ≤ 3 → frame % span level ≡ 0 → frame % 4096 ≡ 0
 small_multiple zero frame low high multiple = absurd (omega arith)
 small_multiple (suc zero) frame low high multiple = multiple
 small_multiple (suc (suc zero)) frame low high multiple = let at : frame % 0x20_0000 ≡ 0 = multiple in omega (arith, at)
