@@ -59,9 +59,9 @@ module _ (segments : List Segment) (i : ℕ) (s : Segment) (here : i < length se
           s.page (size_of s) free (let from = in_this.0 in omega (arith, from, at)) (let to = in_this.1 in omega (arith, to, at))
     ]
 
-    pub refused_here : (h : Hierarchy Lent) (between : List ℕ) (e : LoadError) → Leaves 3 h now between → e.segment ≡ i → e.page ≡ s.page + e.mapped * 0x1000
-        → IsHalted now s 0 e.mapped (map_refusal e.why) after rest → IsRefused segments e after rest
-    refused_here h between e left at page halted = (
+    pub refused_here : (largest : ℕ) (h : Hierarchy Lent) (between : List ℕ) (e : LoadError) → Leaves 3 h now between → e.segment ≡ i → e.page ≡ s.page + e.mapped * 0x1000
+        → IsHalted now s largest 0 e.mapped (map_refusal e.why) after rest → IsRefused largest segments e after rest
+    refused_here largest h between e left at page halted = (
       s,
       record {
         there = subst (λ n. n < length segments) (sym at) here;
@@ -73,6 +73,7 @@ module _ (segments : List Segment) (i : ℕ) (s : Segment) (here : i < length se
         within = halted.within;
         page = page;
         level = halted.level;
+        fits = halted.fits;
         refused = subst (λ p. WasRefused halted.level p (s.frame + e.mapped * 0x1000) (bits_of s.flags) (map_refusal e.why) after rest) (sym page) halted.refused;
       },
     )

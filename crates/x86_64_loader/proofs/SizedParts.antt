@@ -1,6 +1,6 @@
 -- Parts of a segment, mapped by pages of one size.
 use Rattle.std.proofs.Common.{zero, suc, ◌≡◌, ◌<◌, ◌≤◌, ◌+◌, ◌-◌, ◌*◌, ◌/◌, ◌%◌, ◌^◌, ℕ, ◌||◌, not, Bool, true, false, List, [], ◌∷◌, take, Option, Some, None, refl, sym, ap, ◌∙◌, subst, subst₂, arith, eq-eqb, pow_pos}
-use Rattle.std.proofs.Math.Nat.{mul_assoc, mul-le-mul_right}
+use Rattle.std.proofs.Math.Nat.{add-mul-mod_self_right, mul_assoc, mul-le-mul_right}
 use Rattle.std.proofs.lemmas.Bool.{and_from, and_parts, not-true}
 use Rattle.x86_64_model.specs.Allowed.{map_allowed}
 use Rattle.x86_64_model.specs.Entry.{present, huge}
@@ -60,6 +60,12 @@ small_pages (suc (suc zero)) low high = refl
 small_pages (suc (suc (suc zero))) low high = refl
 small_pages (suc (suc (suc (suc n)))) low high = absurd (omega arith)
 
+-- a part starts at a multiple of its size where larger pages than those of 4KiB do
+pub part_aligned : (level size start : ℕ) → size ≡ span level → 1 ≤ level → (1 < level → start % size ≡ 0) → start % 0x1000 ≡ 0 → start % size ≡ 0
+part_aligned zero size start spans low large small = absurd (omega (arith, low))
+part_aligned (suc zero) size start spans low large small = ap (λ z. start % z) spans ∙ small
+part_aligned (suc (suc n)) size start spans low large small = large (omega arith)
+
 module _ {Lent : Type 0} (h : Hierarchy Lent) (s : Segment) (level size first count : ℕ) (spans : size ≡ span level) (low : 1 ≤ level) (high : level ≤ 3)
     (allowed : IsAllowed h s) (within : first * 0x1000 + count * size ≤ size_of s) where
   whole : size ≡ size / 0x1000 * 0x1000
@@ -72,11 +78,18 @@ module _ {Lent : Type 0} (h : Hierarchy Lent) (s : Segment) (level size first co
   some : 0 < size
   some = subst (λ z. 0 < z) (sym spans) (pow_pos (12 + 9 * (level - 1)))
 
-  below : (k : ℕ) → k < count → first + k * (size / 0x1000) < s.pages
-  below k less =
+  -- as far from a start as page k of the part is from that of the segment
+  moved : (start k : ℕ) → start + first * 0x1000 + k * size ≡ start + (first + k * (size / 0x1000)) * 0x1000
+  moved start k = let is = in_small k in omega (arith, is)
+
+  room : (k : ℕ) → k < count → (first + k * (size / 0x1000)) * 0x1000 + size ≤ size_of s
+  room k less =
       let more : (k + 1) * size ≤ count * size = mul-le-mul_right size (omega (arith, less)) in
       let next = one_more_page k size in let is = in_small k in
-      omega (arith, more, next, is, within, some)
+      omega (arith, more, next, is, within)
+
+  below : (k : ℕ) → k < count → first + k * (size / 0x1000) < s.pages
+  below k less = let left = room k less in omega (arith, left, some)
 
   pub part_number : (k : ℕ) → k < count → first + k * (size / 0x1000) < 2 ^ 36
   part_number k less = let there = (allowed.each_page (first + k * (size / 0x1000)) (below k less)).page_there in omega (arith, there)
@@ -84,14 +97,16 @@ module _ {Lent : Type 0} (h : Hierarchy Lent) (s : Segment) (level size first co
   pub part_may : level ≤ h.layout.levels → (k : ℕ) → k < count → MayBeMapped h level size (s.page + first * 0x1000) (s.frame + first * 0x1000) (bits_of s.flags) k
   part_may levels k less =
       let may = allowed.each_page (first + k * (size / 0x1000)) (below k less) in
-      let page_is : s.page + (first + k * (size / 0x1000)) * 0x1000 ≡ s.page + first * 0x1000 + k * size = let is = in_small k in omega (arith, is) in
-      let frame_is : s.frame + (first + k * (size / 0x1000)) * 0x1000 ≡ s.frame + first * 0x1000 + k * size = let is = in_small k in omega (arith, is) in
+      let page_is = sym (moved s.page k) in
       record {
         page_there = subst (λ p. p < 2 ^ 48) page_is may.page_there;
-        frame_there = subst (λ p. p < 2 ^ 52) frame_is may.frame_there;
+        frame_there = subst (λ p. p < 2 ^ 52) (sym (moved s.frame k)) may.frame_there;
         allowed = subst (λ p. map_allowed h.layout.levels h.layout.window (paths h) (path_at h.layout.levels level p) (bits_of s.flags) (parent_part (bits_of s.flags)) ≡ true) page_is
             (larger_allowed h.layout.levels h.layout.window (paths h) level _ (bits_of s.flags) low levels allowed.is_present may.allowed);
       }
+
+  multiple : (start k : ℕ) → (start + first * 0x1000) % size ≡ 0 → (start + (first + k * (size / 0x1000)) * 0x1000) % span level ≡ 0
+  multiple start k aligned = subst₂ (λ p z. p % z ≡ 0) (moved start k) spans (add-mul-mod_self_right (start + first * 0x1000) k size ∙ aligned)
 
   module _ (after : Hierarchy Lent) (rest : List ℕ) (levels : level ≤ h.layout.levels) (aligned : (s.page + first * 0x1000) % size ≡ 0) where
     -- so many of its pages that stand hold as much of the segment
@@ -105,9 +120,10 @@ module _ {Lent : Type 0} (h : Hierarchy Lent) (s : Segment) (level size first co
         (λ k less. run_outside h after level size (s.page + first * 0x1000) (s.frame + first * 0x1000) (bits_of s.flags) k (part_may levels k (omega (arith, less, few))) layout)
         (o - first * 0x1000) (omega (arith, from, to)))
 
-    pub part_halted : (mapped : ℕ) (why : Refusal) → IsStopped h level size (s.page + first * 0x1000) (s.frame + first * 0x1000) (bits_of s.flags) count mapped why after rest
-        → IsHalted h s (first * 0x1000) (first + mapped * (size / 0x1000)) why after rest
-    part_halted mapped why stopped =
+    pub part_halted : (s.frame + first * 0x1000) % size ≡ 0 → (mapped : ℕ) (why : Refusal)
+        → IsStopped h level size (s.page + first * 0x1000) (s.frame + first * 0x1000) (bits_of s.flags) count mapped why after rest
+        → IsHalted h s level (first * 0x1000) (first + mapped * (size / 0x1000)) why after rest
+    part_halted frame_aligned mapped why stopped =
         let is = in_small mapped in let kept = stopped.leaves.kept in record {
           above = omega arith;
           within = below mapped stopped.within;
@@ -115,6 +131,12 @@ module _ {Lent : Type 0} (h : Hierarchy Lent) (s : Segment) (level size first co
               (part_held mapped (let end = stopped.within in omega (arith, end)) kept.layout stopped.stand o from (omega (arith, to, is))) kept.fits.valid;
           kept = kept;
           level = level;
-          refused = subst₂ (λ p f. WasRefused level p f (bits_of s.flags) why after rest) (let e : s.page + first * 0x1000 + mapped * size ≡ s.page + (first + mapped * (size / 0x1000)) * 0x1000 = omega (arith, is) in e)
-              (let e : s.frame + first * 0x1000 + mapped * size ≡ s.frame + (first + mapped * (size / 0x1000)) * 0x1000 = omega (arith, is) in e) stopped.refused;
+          fits = record {
+            from_one = low;
+            to_largest = omega arith;
+            page_aligned = multiple s.page mapped aligned;
+            frame_aligned = multiple s.frame mapped frame_aligned;
+            is_left = subst (λ z. (first + mapped * (size / 0x1000)) * 0x1000 + z ≤ size_of s) spans (room mapped stopped.within);
+          };
+          refused = subst₂ (λ p f. WasRefused level p f (bits_of s.flags) why after rest) (moved s.page mapped) (moved s.frame mapped) stopped.refused;
         }

@@ -1,11 +1,10 @@
 //! Loads of segments.
 ghost use Rattle.std.specs.Prelude.{◌≡◌, OnOk, IfErr};
 ghost use Rattle.std.specs.List.{All};
-ghost use Rattle.x86_64_loader.specs.Loads.{HoldsSegment, IsHalted};
-ghost use Rattle.x86_64_loader.specs.Pages.{IsFree, Kept, Leaves};
+ghost use Rattle.x86_64_loader.specs.Loads.{LoadsPart, largest_level};
+ghost use Rattle.x86_64_loader.specs.Pages.{Kept};
 ghost use Rattle.x86_64_loader.specs.Segments.{Disjoint, IsAllowed, IsLoaded, IsRefused, size_of};
 ghost use Rattle.x86_64_model.specs.Owned.{SupplyFits};
-ghost use Rattle.x86_64_tables.specs.MapperAnswers.{map_refusal};
 
 use crate::pages::{Stopped, page_after};
 use crate::parts::{map_part, pages_before_large};
@@ -29,9 +28,9 @@ use x86_64::structures::paging::{FrameAllocator, Size2MiB, Size4KiB};
 ///
 /// # Errors
 ///
-/// The segment and its first page that was refused, and why: the page or a part of it was mapped before, also by this load
-/// where segments overlap, or a table was missing and there was no frame for it. The segments before, and the pages of this
-/// one before the page, are mapped: the processor arrives in them as it should, with no right missing.
+/// The segment and its first page that was refused as one of 4KiB, and why: the page or a part of it was mapped before, also by
+/// this load where segments overlap, or a table was missing and there was no frame for it. The segments before, and the pages
+/// of this one before the page, are mapped: the processor arrives in them as it should, with no right missing.
 pub fn load<M: MapperAllSizes, A: FrameAllocator<Size4KiB>>(
     mapper: &mut M,
     frames: &mut A,
@@ -42,7 +41,7 @@ pub fn load<M: MapperAllSizes, A: FrameAllocator<Size4KiB>>(
     ensures loaded { OnOk result (All (IsLoaded (M.hierarchy mapper.new)) segments.now) }
     ensures disjoint { OnOk result (Disjoint segments.now) }
     ensures refused { let after = M.hierarchy mapper.new in
-        IfErr result (λ error. IsRefused segments.now error after (A.supply frames.new)) }
+        IfErr result (λ error. IsRefused 1 segments.now error after (A.supply frames.new)) }
     ensures kept { Kept (M.hierarchy mapper.old) (M.hierarchy mapper.new) (A.supply frames.new) }
 {
     load_each(mapper, frames, segments, Sizes::Small)
@@ -51,8 +50,8 @@ pub fn load<M: MapperAllSizes, A: FrameAllocator<Size4KiB>>(
 /// Maps the pages of segments as [`load`] does, but by pages of 2MiB where a page and its frame both start at a multiple of it
 /// and enough of the segment is left.
 ///
-/// The conditions are those of [`load`], and so are the errors. A page of 2MiB that is refused is named by the first page of
-/// 4KiB in it.
+/// The conditions are those of [`load`], and so are the errors, but that pages of 2MiB are refused too, where they fit; such a
+/// page is named by the first one of 4KiB in it.
 pub fn load_large<M: MapperAllSizes, A: FrameAllocator<Size4KiB>>(
     mapper: &mut M,
     frames: &mut A,
@@ -63,7 +62,7 @@ pub fn load_large<M: MapperAllSizes, A: FrameAllocator<Size4KiB>>(
     ensures loaded { OnOk result (All (IsLoaded (M.hierarchy mapper.new)) segments.now) }
     ensures disjoint { OnOk result (Disjoint segments.now) }
     ensures refused { let after = M.hierarchy mapper.new in
-        IfErr result (λ error. IsRefused segments.now error after (A.supply frames.new)) }
+        IfErr result (λ error. IsRefused 2 segments.now error after (A.supply frames.new)) }
     ensures kept { Kept (M.hierarchy mapper.old) (M.hierarchy mapper.new) (A.supply frames.new) }
 {
     load_each(mapper, frames, segments, Sizes::Large)
@@ -89,8 +88,8 @@ fn load_each<M: MapperAllSizes, A: FrameAllocator<Size4KiB>>(
     requires allowed { All (IsAllowed (M.hierarchy mapper.old)) segments.now }
     ensures loaded { OnOk result (All (IsLoaded (M.hierarchy mapper.new)) segments.now) }
     ensures disjoint { OnOk result (Disjoint segments.now) }
-    ensures refused { let after = M.hierarchy mapper.new in
-        IfErr result (λ error. IsRefused segments.now error after (A.supply frames.new)) }
+    ensures refused { let after = M.hierarchy mapper.new in let rest = A.supply frames.new in
+        IfErr result (λ error. IsRefused (largest_level sizes) segments.now error after rest) }
     ensures kept { Kept (M.hierarchy mapper.old) (M.hierarchy mapper.new) (A.supply frames.new) }
 {
     for (index, segment) in segments.iter().enumerate() {
@@ -115,14 +114,9 @@ fn load_segment<M: MapperAllSizes, A: FrameAllocator<Size4KiB>>(
 ) -> Result<(), Stopped<Size4KiB>>
     requires fits { SupplyFits (M.hierarchy mapper.old) (A.supply frames.old) }
     requires allowed { IsAllowed (M.hierarchy mapper.old) segment.now }
-    ensures held { OnOk result (HoldsSegment (M.hierarchy mapper.new) segment.now) }
-    ensures were_free { let s = segment.now in
-        OnOk result (IsFree (M.hierarchy mapper.old) s.page (size_of s)) }
-    ensures leaves { OnOk result (
-        Leaves 3 (M.hierarchy mapper.old) (M.hierarchy mapper.new) (A.supply frames.new)) }
-    ensures halted { let h = M.hierarchy mapper.old in let after = M.hierarchy mapper.new in
-        let rest = A.supply frames.new in IfErr result (λ stopped.
-        IsHalted h segment.now 0 stopped.mapped (map_refusal stopped.why) after rest) }
+    ensures { let h = M.hierarchy mapper.old in let s = segment.now in
+        let after = M.hierarchy mapper.new in let rest = A.supply frames.new in
+        LoadsPart h s (largest_level sizes) 0 (size_of s) result after rest }
 {
     match sizes {
         Sizes::Small => load_small_pages(mapper, frames, segment),
@@ -138,17 +132,10 @@ fn load_small_pages<M: MapperAllSizes, A: FrameAllocator<Size4KiB>>(
 ) -> Result<(), Stopped<Size4KiB>>
     requires fits { SupplyFits (M.hierarchy mapper.old) (A.supply frames.old) }
     requires allowed { IsAllowed (M.hierarchy mapper.old) segment.now }
-    ensures held { OnOk result (HoldsSegment (M.hierarchy mapper.new) segment.now) }
-    ensures were_free { let s = segment.now in
-        OnOk result (IsFree (M.hierarchy mapper.old) s.page (size_of s)) }
-    ensures leaves { OnOk result (
-        Leaves 3 (M.hierarchy mapper.old) (M.hierarchy mapper.new) (A.supply frames.new)) }
-    ensures halted { let h = M.hierarchy mapper.old in let after = M.hierarchy mapper.new in
-        let rest = A.supply frames.new in IfErr result (λ stopped.
-        IsHalted h segment.now 0 stopped.mapped (map_refusal stopped.why) after rest) }
+    ensures { let h = M.hierarchy mapper.old in let s = segment.now in
+        let after = M.hierarchy mapper.new in let rest = A.supply frames.new in
+        LoadsPart h s 1 0 (size_of s) result after rest }
 {
-    // Both are multiples of 4KiB.
-    let (_page, _frame) = (segment.page.start_address(), segment.frame.start_address());
     map_part::<Size4KiB, M, A>(mapper, frames, segment, 0, segment.pages)
 }
 
@@ -160,14 +147,9 @@ fn load_large_pages<M: MapperAllSizes, A: FrameAllocator<Size4KiB>>(
 ) -> Result<(), Stopped<Size4KiB>>
     requires fits { SupplyFits (M.hierarchy mapper.old) (A.supply frames.old) }
     requires allowed { IsAllowed (M.hierarchy mapper.old) segment.now }
-    ensures held { OnOk result (HoldsSegment (M.hierarchy mapper.new) segment.now) }
-    ensures were_free { let s = segment.now in
-        OnOk result (IsFree (M.hierarchy mapper.old) s.page (size_of s)) }
-    ensures leaves { OnOk result (
-        Leaves 3 (M.hierarchy mapper.old) (M.hierarchy mapper.new) (A.supply frames.new)) }
-    ensures halted { let h = M.hierarchy mapper.old in let after = M.hierarchy mapper.new in
-        let rest = A.supply frames.new in IfErr result (λ stopped.
-        IsHalted h segment.now 0 stopped.mapped (map_refusal stopped.why) after rest) }
+    ensures { let h = M.hierarchy mapper.old in let s = segment.now in
+        let after = M.hierarchy mapper.new in let rest = A.supply frames.new in
+        LoadsPart h s 2 0 (size_of s) result after rest }
 {
     let head = pages_before_large(segment);
     let large = (segment.pages - head) / 512;

@@ -80,7 +80,8 @@ pub(crate) fn map_pages<S: PageSize, M: Mapper<S>, A: FrameAllocator<Size4KiB>>(
         let rest = A.supply frames.new in let given = bits_of flags in
         IfErr result (λ stopped. let why = map_refusal stopped.why in
         IsStopped h S.LEVEL S.SIZE page frame given count stopped.mapped why after rest) }
-    ensures aligned { page % S.SIZE ≡ 0 }
+    ensures page_aligned { page % S.SIZE ≡ 0 }
+    ensures frame_aligned { frame % S.SIZE ≡ 0 }
 {
     for k in 0..count {
         let (page, frame) = (page_after(page, k), frame + k);

@@ -1,7 +1,6 @@
 //! Maps of parts of a segment by pages of one size.
-ghost use Rattle.std.specs.Prelude.{◌≡◌, ◌+◌, ◌*◌, ◌%◌, ◌<◌, ◌≤◌, OnOk, IfErr};
-ghost use Rattle.x86_64_loader.specs.Loads.{HoldsPart, IsHalted};
-ghost use Rattle.x86_64_loader.specs.Pages.{IsFree, Leaves};
+ghost use Rattle.std.specs.Prelude.{◌≡◌, ◌+◌, ◌*◌, ◌%◌, ◌<◌, ◌≤◌};
+ghost use Rattle.x86_64_loader.specs.Loads.{LoadsPart};
 ghost use Rattle.x86_64_loader.specs.Segments.{IsAllowed, size_of};
 ghost use Rattle.x86_64_model.specs.Owned.{SupplyFits};
 ghost use Rattle.x86_64_tables.specs.MapperAnswers.{map_refusal};
@@ -11,7 +10,8 @@ use crate::segment::Segment;
 use x86_64::structures::paging::mapper::MapToError;
 use x86_64::structures::paging::{FrameAllocator, Mapper, Page, PageSize, PhysFrame, Size4KiB};
 
-/// Maps so many pages of a size, from a page of a segment on, which starts at a multiple of the size as its frame does.
+/// Maps so many pages of a size, from a page of a segment on. Where these are larger than 4KiB, it starts at a multiple of the size, as
+/// its frame does.
 pub(crate) fn map_part<S: PageSize, M: Mapper<S>, A: FrameAllocator<Size4KiB>>(
     mapper: &mut M,
     frames: &mut A,
@@ -21,18 +21,12 @@ pub(crate) fn map_part<S: PageSize, M: Mapper<S>, A: FrameAllocator<Size4KiB>>(
 ) -> Result<(), Stopped<Size4KiB>>
     requires fits { SupplyFits (M.hierarchy mapper.old) (A.supply frames.old) }
     requires allowed { IsAllowed (M.hierarchy mapper.old) segment.now }
-    requires page_aligned { 0 < count → (segment.now.page + first * 0x1000) % S.SIZE ≡ 0 }
-    requires frame_aligned { 0 < count → (segment.now.frame + first * 0x1000) % S.SIZE ≡ 0 }
+    requires page_aligned { 0 < count → 1 < S.LEVEL → (segment.now.page + first * 0x1000) % S.SIZE ≡ 0 }
+    requires frame_aligned { 0 < count → 1 < S.LEVEL → (segment.now.frame + first * 0x1000) % S.SIZE ≡ 0 }
     requires within { first * 0x1000 + count * S.SIZE ≤ size_of segment.now }
-    ensures held { let low = first * 0x1000 in
-        OnOk result (HoldsPart (M.hierarchy mapper.new) segment.now low (low + count * S.SIZE)) }
-    ensures were_free { let start = segment.now.page + first * 0x1000 in
-        OnOk result (IsFree (M.hierarchy mapper.old) start (count * S.SIZE)) }
-    ensures leaves { OnOk result (
-        Leaves 3 (M.hierarchy mapper.old) (M.hierarchy mapper.new) (A.supply frames.new)) }
-    ensures halted { let h = M.hierarchy mapper.old in let after = M.hierarchy mapper.new in
-        let rest = A.supply frames.new in let low = first * 0x1000 in IfErr result (λ stopped.
-        IsHalted h segment.now low stopped.mapped (map_refusal stopped.why) after rest) }
+    ensures { let h = M.hierarchy mapper.old in let s = segment.now in
+        let after = M.hierarchy mapper.new in let rest = A.supply frames.new in
+        LoadsPart h s S.LEVEL (first * 0x1000) (count * S.SIZE) result after rest }
 {
     if count == 0 {
         return Ok(());
@@ -73,8 +67,6 @@ pub(crate) fn pages_before_large(segment: &Segment) -> u64
         → (segment.now.page + result * 0x1000) % 0x20_0000 ≡ 0 }
     ensures frame { result < segment.now.pages
         → (segment.now.frame + result * 0x1000) % 0x20_0000 ≡ 0 }
-    ensures small_page { segment.now.page % 0x1000 ≡ 0 }
-    ensures small_frame { segment.now.frame % 0x1000 ≡ 0 }
 {
     let page = segment.page.start_address();
     let frame = segment.frame.start_address().as_u64();
