@@ -44,7 +44,7 @@ impl Access {
     pub const ALL: [Access; 3] = [Access::Direct, Access::Sparse, Access::Recursive];
 
     /// Gives the numbers of so many places: the first ones, or every second one from 1 on.
-    fn places(self, alloc: Global, count: u64) -> Result<Vec<u64>, AllocError> {
+    pub fn places(self, alloc: Global, count: u64) -> Result<Vec<u64>, AllocError> {
         let mut places = Vec::new(alloc);
         for k in 0..count {
             places.push(match self {
@@ -356,7 +356,7 @@ fn write_self_entry(memory: &mut PhysMemory, index: PageTableIndex) {
 }
 
 /// Gives the root's frame.
-fn root() -> PhysFrame<Size4KiB> {
+pub fn root() -> PhysFrame<Size4KiB> {
     frame_numbered(ROOT)
 }
 
@@ -366,7 +366,7 @@ fn frame_numbered(number: u64) -> PhysFrame<Size4KiB> {
 }
 
 /// Makes a pool of the frames at all places after the root's.
-fn new_pool(alloc: Global, places: &[u64]) -> Result<FramePool, AllocError> {
+pub fn new_pool(alloc: Global, places: &[u64]) -> Result<FramePool, AllocError> {
     let limit = places.last().copied().unwrap_or(0).saturating_add(1);
     let mut pool = FramePool::new(alloc, limit)?;
     for number in places {
