@@ -12,7 +12,7 @@ use Rattle.x86_64_model.specs.Path.{path_at}
 use Rattle.x86_64_model.specs.Position.{page_path}
 use Rattle.x86_64_model.specs.Window.{begins_with, IsValidFor}
 use Rattle.x86_64_tables.specs.declared.mapper.recorder.FlushItem.{FlushItem}
-use Rattle.x86_64_tables.specs.declared.mapper.recorder.FlushItem.TheVariants.{Page, All}
+use Rattle.x86_64_tables.specs.declared.mapper.recorder.FlushItem.TheVariants.{Page, Page57, All}
 use Rattle.x86_64.specs.Calls.{calls_of}
 use Rattle.x86_64.specs.Runs.{machine_of, state_of}
 use Rattle.x86_64.specs.declared.calls.Call.{Call}
@@ -58,9 +58,14 @@ abbrev pub items_told : List Reply → List FlushItem
 items_told [] = []
 items_told (answer ∷ answers) = items_of answer ++ items_told answers
 
+-- the level of pages of this size
+abbrev pub level_of_size : (size : ℕ) → ℕ
+level_of_size size = cond (size == 0x1000) 1 (cond (size == 0x20_0000) 2 3)
+
 -- what an item covers: the positions of the page of its size that starts there, or all
 abbrev pub item_of : FlushItem → flush.Item
-item_of (Page start size) = flush.OnePage (path_at 4 (cond (size == 0x1000) 1 (cond (size == 0x20_0000) 2 3)) start)
+item_of (Page start size) = flush.OnePage (path_at 4 (level_of_size size) start)
+item_of (Page57 start size) = flush.OnePage (path_at 5 (level_of_size size) start)
 item_of All = flush.Everything
 
 abbrev pub NoneCovers : List FlushItem → (position : ℕ) → Type 0

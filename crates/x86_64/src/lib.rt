@@ -8,19 +8,19 @@ mod calls;
 pub mod laws;
 mod runs;
 pub mod structures;
-#[cfg(test)]
-mod tests;
 
 pub use calls::{Call, Reply, SizeCall, SizeReply};
 pub use runs::{is_outside_window, run, run_flushed, run_pair};
 pub use x86_64_addr::addr;
-pub use x86_64_addr::addr::{PhysAddr, VirtAddr};
+pub use x86_64_addr::addr::{PhysAddr, VirtAddr, VirtAddr57};
 pub use x86_64_mappers::recursive_page_table::{WalkedTables, p1_window, p2_window, p3_window};
 pub use x86_64_page::range::Block;
 pub use x86_64_tables::frame_alloc::{FrameKeeper, FramePool, FrameStore, PoolRefusal};
-pub use x86_64_tables::mapper::{FlushItem, FlushRecorder, PageTables, Tables, parent_flags};
+pub use x86_64_tables::mapper::{
+    FlushItem, FlushRecorder, PageTables, PageTables57, Tables, parent_flags,
+};
 pub use x86_64_tables::phys_memory::{
     ActiveMemory, FramePlace, IdentityMapping, PhysMemory, PlacesRefusal, ShiftMapping, Walked,
-    is_valid_hierarchy, is_valid_recursive, page_walk, pool_fits, pool_fits_recursive,
-    tables_alike,
+    is_valid_hierarchy, is_valid_hierarchy_57, is_valid_recursive, page_walk, page_walk_57,
+    pool_fits, pool_fits_57, pool_fits_recursive, tables_alike,
 };

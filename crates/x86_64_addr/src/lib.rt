@@ -4,5 +4,3 @@
 pub mod addr;
 pub mod index;
 pub mod laws;
-#[cfg(test)]
-mod tests;

@@ -8,13 +8,13 @@ use Rattle.x86_64_mappers.specs.Layouts.{direct, HasRoot}
 
 -- what is made of a place and of the root's being there depends on the place alone
 pub alike : {X : Type 0} (places : Places) (root : ℕ) (memory : Memory) (table : List ℕ)
-    (make : (place : ℕ) → HasRoot (direct places root) (insert memory place table) → X)
-    (a b : ℕ) → a ≡ b → (h : HasRoot (direct places root) (insert memory a table)) (k : HasRoot (direct places root) (insert memory b table)) → make a h ≡ make b k
+    (make : (place : ℕ) → HasRoot places root (insert memory place table) → X)
+    (a b : ℕ) → a ≡ b → (h : HasRoot places root (insert memory a table)) (k : HasRoot places root (insert memory b table)) → make a h ≡ make b k
 alike places root memory table make a b e =
-    let There : ℕ → Type 0 = λ place. HasRoot (direct places root) (insert memory place table) in
+    let There : ℕ → Type 0 = λ place. HasRoot places root (insert memory place table) in
     let prop : (h k : There a) → h ≡ k = hlevel props in
     subst (λ b. (h : There a) (k : There b) → make a h ≡ make b k) e (λ h k. ap (make a) (prop h k))
 
 -- a valid hierarchy has it
-pub valid_root : (places : Places) (root : ℕ) (memory : Memory) → Valid (direct places root) memory → HasRoot (direct places root) memory
+pub valid_root : (places : Places) (root : ℕ) (memory : Memory) → Valid (direct places root) memory → HasRoot places root memory
 valid_root places root memory valid = valid.valid.holds.in_memory [] root refl

@@ -1,21 +1,29 @@
 -- The layouts of mappers.
 use Rattle.std.specs.Prelude.{ℕ, List, Option, None, IsSome}
 use Rattle.x86_64_model.specs.Layout.{Layout, words}
-use Rattle.x86_64_model.specs.Memory.{Memory, Places}
+use Rattle.x86_64_model.specs.Memory.{Memory, Places, words_of}
 use Rattle.x86_64_model.specs.Owned.{Hierarchy}
 
--- four levels of tables from a root, without a recursive index: a new table entry gets the parent flags alone
+-- so many levels of tables from a root, without a recursive index: a new table entry gets the parent flags alone
+abbrev pub direct_at : (levels : ℕ) → Places → (root : ℕ) → Layout
+direct_at levels places root = record { levels = levels; places = places; root = root; window = None; added_flags = 0 }
+
+-- four of them
 abbrev pub direct : Places → (root : ℕ) → Layout
-direct places root = record { levels = 4; places = places; root = root; window = None; added_flags = 0 }
+direct places root = direct_at 4 places root
 
 -- such a hierarchy in a memory, and which memory was lent, and what finds frames in it
+abbrev pub owned_at : {Lent : Type 0} → (levels : ℕ) → Places → (root : ℕ) → Memory → Lent → Hierarchy Lent
+owned_at levels places root memory lent = record { layout = direct_at levels places root; memory = memory; lent = lent }
+
+-- one of four levels
 abbrev pub owned : {Lent : Type 0} → Places → (root : ℕ) → Memory → Lent → Hierarchy Lent
-owned places root memory lent = record { layout = direct places root; memory = memory; lent = lent }
+owned places root memory lent = owned_at 4 places root memory lent
 
 -- the table in the root's frame
 abbrev pub root_table : {Lent : Type 0} → Hierarchy Lent → Option (List ℕ)
 root_table h = words h.layout h.memory h.layout.root
 
 -- the root's frame is covered and in the memory
-abbrev pub HasRoot : Layout → Memory → Type 0
-HasRoot layout memory = IsSome (words layout memory layout.root)
+abbrev pub HasRoot : Places → (root : ℕ) → Memory → Type 0
+HasRoot places root memory = IsSome (words_of memory places root)

@@ -2,65 +2,89 @@
 ghost use Rattle.std.specs.Prelude.{◌≡◌, ◌↔◌, Some, IfOk, IsTrue};
 ghost use Rattle.x86_64_model.specs.Layout.{Valid as ValidIn};
 ghost use Rattle.x86_64_model.specs.Owned.{Valid};
-ghost use Rattle.x86_64_mappers.specs.Layouts.{direct, root_table, HasRoot};
+ghost use Rattle.x86_64_mappers.specs.Layouts.{direct_at, root_table, HasRoot};
 
 use crate::access::{TableAccess, change, clean_up, condition, map, translate};
+use crate::level_count::{FiveLevels, FourLevels, LevelCount};
 use bitflags::Flags;
 use std::alloc::{AllocError, Global};
-use x86_64_addr::addr::VirtAddr;
+use std::marker::PhantomData;
+use x86_64_addr::addr::{VirtAddr, VirtAddr57};
 use x86_64_addr::index::PageTableIndex;
 use x86_64_page::frame::PhysFrame;
 use x86_64_page::page::{PageSize, Size4KiB};
 use x86_64_tables::frame_alloc::{FrameAllocator, FrameDeallocator};
 use x86_64_tables::mapper::{
-    CleanUp, FlagUpdateError, MapToError, Mapper, PageTables, PathCalls, Tables, Translate,
-    TranslateError, TranslateResult, UnmapError,
+    CleanUp, CleanUp57, FlagUpdateError, MapToError, Mapper, Mapper57, PageTables, PageTables57,
+    PathCalls, Tables, Translate, Translate57, TranslateError, TranslateResult, UnmapError,
 };
 use x86_64_tables::page_table::{PageTable, PageTableFlags};
-use x86_64_tables::phys_memory::{PageTableFrameMapping, PhysMemory, is_valid_hierarchy};
+use x86_64_tables::phys_memory::{
+    PageTableFrameMapping, PhysMemory, is_valid_hierarchy, is_valid_hierarchy_57,
+};
 
-/// Maps pages in a hierarchy of four levels of tables, which it finds in a memory by a frame mapping.
+/// Maps pages in a hierarchy of so many levels of tables, which it finds in a memory by a frame mapping.
 ///
 /// It has the memory lent until it is dropped. Its hierarchy has no recursive index.
-pub struct MappedPageTable<'a, P: PageTableFrameMapping> {
+pub struct Direct<'a, P: PageTableFrameMapping, L: LevelCount> {
     memory: &'a mut PhysMemory,
     root: PhysFrame<Size4KiB>,
     mapping: P,
-    ghost has_root: { HasRoot (direct (P.places mapping) root) memory.now },
+    levels: PhantomData<L>,
+    ghost has_root: { HasRoot (P.places mapping) root memory.now },
 }
 
-impl<'a, P: PageTableFrameMapping + Drop> Drop for MappedPageTable<'a, P> {
+/// The mapper of four levels of tables.
+pub type MappedPageTable<'a, P> = Direct<'a, P, FourLevels>;
+
+/// The mapper of five levels of tables.
+pub type MappedPageTable57<'a, P> = Direct<'a, P, FiveLevels>;
+
+impl<'a, P: PageTableFrameMapping + Drop, L: LevelCount> Drop for Direct<'a, P, L> {
     fn drop(self)
         ensures { self.exit.0.now ≡ (⟦<Self as Tables>⟧.hierarchy self.entry).memory }
     {
-        let MappedPageTable {
+        let Direct {
             memory: _,
             root: _,
             mapping: _,
+            levels: _,
         } = self;
     }
 }
 
-impl<'a, P: PageTableFrameMapping> MappedPageTable<'a, P> {
-    ghost use Rattle.std.specs.Borrow.{sem};
-    ghost use Rattle.x86_64_mappers.specs.Lending.{LendsRootTable};
-
+impl<'a, P: PageTableFrameMapping, L: LevelCount> Direct<'a, P, L> {
     /// Makes a mapper of the hierarchy that starts at a root, in a memory where the mapping says where frames lie.
     ///
     /// Condition: the hierarchy is valid. Test that by
     /// [`is_valid_hierarchy`](x86_64_tables::phys_memory::is_valid_hierarchy) with the same mapping.
     pub fn new(memory: &'a mut PhysMemory, root: PhysFrame<Size4KiB>, mapping: P) -> Self
-        requires { ValidIn (direct (P.places mapping) root) memory.old }
+        requires { ValidIn (direct_at L.LEVELS (P.places mapping) root) memory.old }
         ensures lent { (⟦<Self as Tables>⟧.hierarchy result).lent ≡ (memory.entry.ghost_name, mapping) }
         ensures memory { (⟦<Self as Tables>⟧.hierarchy result).memory ≡ memory.old }
-        ensures layout { (⟦<Self as Tables>⟧.hierarchy result).layout ≡ direct (P.places mapping) root }
+        ensures layout { let layout = (⟦<Self as Tables>⟧.hierarchy result).layout in
+            layout ≡ direct_at L.LEVELS (P.places mapping) root }
     {
-        MappedPageTable {
+        Direct {
             memory,
             root,
             mapping,
+            levels: PhantomData,
         }
     }
+
+    /// Gives the frame mapping that the mapper was made with.
+    pub fn page_table_frame_mapping(&self) -> &P
+        ensures mapping { result.now ≡ (⟦<Self as Tables>⟧.hierarchy self.now).lent.1 }
+        ensures places { P.places result.now ≡ (⟦<Self as Tables>⟧.hierarchy self.now).layout.places }
+    {
+        &self.mapping
+    }
+}
+
+impl<'a, P: PageTableFrameMapping> Direct<'a, P, FourLevels> {
+    ghost use Rattle.std.specs.Borrow.{sem};
+    ghost use Rattle.x86_64_mappers.specs.Lending.{LendsRootTable};
 
     /// Gives the table of level four, in the root's frame.
     pub fn level_4_table(&self) -> &PageTable
@@ -89,26 +113,50 @@ impl<'a, P: PageTableFrameMapping> MappedPageTable<'a, P> {
     {
         is_valid_hierarchy(alloc, self.memory, &self.mapping, self.root)
     }
+}
 
-    /// Gives the frame mapping that the mapper was made with.
-    pub fn page_table_frame_mapping(&self) -> &P
-        ensures mapping { result.now ≡ (⟦<Self as Tables>⟧.hierarchy self.now).lent.1 }
-        ensures places { P.places result.now ≡ (⟦<Self as Tables>⟧.hierarchy self.now).layout.places }
+impl<'a, P: PageTableFrameMapping> Direct<'a, P, FiveLevels> {
+    ghost use Rattle.std.specs.Borrow.{sem};
+    ghost use Rattle.x86_64_mappers.specs.Lending.{LendsRootTable57};
+
+    /// Gives the table of level five, in the root's frame.
+    pub fn level_5_table(&self) -> &PageTable
+        ensures { root_table (⟦<Self as Tables>⟧.hierarchy self.now) ≡ Some result.now }
     {
-        &self.mapping
+        self.table(&[], self.root)
+    }
+
+    /// Lends the table of level five to be changed.
+    pub fn level_5_table_mut(&mut self) -> &mut PageTable
+        ensures* lends { sem 𝓛 (
+            LendsRootTable57 P.row ⟦<P as PageTableFrameMapping>⟧ self.entry result) }
+        ensures value { root_table (⟦<Self as Tables>⟧.hierarchy self.old) ≡ Some result.now }
+    {
+        let root = self.root;
+        self.table_mut(&[], root)
+    }
+
+    /// Tells whether the hierarchy is valid now.
+    ///
+    /// # Errors
+    ///
+    /// `AllocError` where memory is refused.
+    pub fn is_valid(&self, alloc: Global) -> Result<bool, AllocError>
+        ensures { IfOk result (λ valid. IsTrue valid ↔ Valid (⟦<Self as Tables>⟧.hierarchy self.now)) }
+    {
+        is_valid_hierarchy_57(alloc, self.memory, &self.mapping, self.root)
     }
 }
 
-impl<'a, P: PageTableFrameMapping> Tables for MappedPageTable<'a, P> {
+impl<'a, P: PageTableFrameMapping, L: LevelCount> Tables for Direct<'a, P, L> {
     ghost use Rattle.std.specs.Borrow.{GName};
-    ghost use Rattle.std.proofs.Common.{lit≤};
     ghost use Rattle.x86_64_mappers.specs.ImplLaws.{no_flags};
-    ghost use Rattle.x86_64_mappers.specs.Layouts.{owned};
+    ghost use Rattle.x86_64_mappers.specs.Layouts.{owned_at};
 
     ghost Lent = { GName × P };
 
     ghost hierarchy = { λ mapper. let lent : GName × P = (mapper.memory.ghost_name, mapper.mapping) in
-        owned (P.places mapper.mapping) mapper.root mapper.memory.now lent };
+        owned_at L.LEVELS (P.places mapper.mapping) mapper.root mapper.memory.now lent };
 
     ghost added_flags = { λ _. no_flags };
 
@@ -116,20 +164,26 @@ impl<'a, P: PageTableFrameMapping> Tables for MappedPageTable<'a, P> {
         None
     }
 
-    ghost some_levels = { λ _. lit≤ tt };
+    ghost some_levels = { λ _. L.some_levels };
 
-    ghost most_levels = { λ _. lit≤ tt };
+    ghost most_levels = { λ _. L.most_levels };
 
     ghost is_mapping = { λ mapper. P.is_mapping mapper.mapping };
 }
 
-impl<'a, P: PageTableFrameMapping> PageTables for MappedPageTable<'a, P> {
+impl<'a, P: PageTableFrameMapping> PageTables for Direct<'a, P, FourLevels> {
     ghost use Rattle.std.proofs.Common.{refl};
 
     ghost four_levels = { λ _. refl };
 }
 
-impl<'a, P: PageTableFrameMapping> TableAccess for MappedPageTable<'a, P> {
+impl<'a, P: PageTableFrameMapping> PageTables57 for Direct<'a, P, FiveLevels> {
+    ghost use Rattle.std.proofs.Common.{refl};
+
+    ghost five_levels = { λ _. refl };
+}
+
+impl<'a, P: PageTableFrameMapping, L: LevelCount> TableAccess for Direct<'a, P, L> {
     ghost use Rattle.std.specs.FinMap.{insert};
     ghost use Rattle.std.proofs.Common.{refl};
     ghost use Rattle.x86_64_mappers.specs.Lending.{root_stays};
@@ -168,13 +222,19 @@ impl<'a, P: PageTableFrameMapping> TableAccess for MappedPageTable<'a, P> {
     ghost keeps_lent = { λ mapper frame table. refl };
 }
 
-impl<'a, P: PageTableFrameMapping> Translate for MappedPageTable<'a, P> {
+impl<'a, P: PageTableFrameMapping> Translate for Direct<'a, P, FourLevels> {
     fn translate(&self, addr: VirtAddr) -> TranslateResult {
         translate::translate(self, addr)
     }
 }
 
-impl<'a, P: PageTableFrameMapping> PathCalls for MappedPageTable<'a, P> {
+impl<'a, P: PageTableFrameMapping> Translate57 for Direct<'a, P, FiveLevels> {
+    fn translate(&self, addr: VirtAddr57) -> TranslateResult {
+        translate::translate_57(self, addr)
+    }
+}
+
+impl<'a, P: PageTableFrameMapping, L: LevelCount> PathCalls for Direct<'a, P, L> {
     fn map_path<S: PageSize, A: FrameAllocator<Size4KiB>>(
         &mut self,
         path: &[PageTableIndex],
@@ -245,6 +305,10 @@ impl<'a, P: PageTableFrameMapping> PathCalls for MappedPageTable<'a, P> {
     }
 }
 
-impl<'a, P: PageTableFrameMapping, S: PageSize> Mapper<S> for MappedPageTable<'a, P> {}
+impl<'a, P: PageTableFrameMapping, S: PageSize> Mapper<S> for Direct<'a, P, FourLevels> {}
 
-impl<'a, P: PageTableFrameMapping> CleanUp for MappedPageTable<'a, P> {}
+impl<'a, P: PageTableFrameMapping, S: PageSize> Mapper57<S> for Direct<'a, P, FiveLevels> {}
+
+impl<'a, P: PageTableFrameMapping> CleanUp for Direct<'a, P, FourLevels> {}
+
+impl<'a, P: PageTableFrameMapping> CleanUp57 for Direct<'a, P, FiveLevels> {}

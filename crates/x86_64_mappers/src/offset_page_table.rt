@@ -31,7 +31,7 @@ pub struct OffsetPageTable<'a> {
     memory: &'a mut PhysMemory,
     root: PhysFrame<Size4KiB>,
     mapping: PhysOffset,
-    ghost has_root: { HasRoot (direct (offset_places mapping.offset) root) memory.now },
+    ghost has_root: { HasRoot (offset_places mapping.offset) root memory.now },
 }
 
 impl<'a> Drop for OffsetPageTable<'a> {

@@ -5,5 +5,3 @@ pub mod frame;
 pub mod laws;
 pub mod page;
 pub mod range;
-#[cfg(test)]
-mod tests;

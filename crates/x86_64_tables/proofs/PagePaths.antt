@@ -1,5 +1,5 @@
--- The path of a page, as the first of its four indices, and where it starts.
-use Rattle.std.proofs.Common.{◌≡◌, ◌↔◌, ◌+◌, ◌-◌, ◌*◌, ◌%◌, ◌<◌, ◌≤◌, ℕ, true, List, fold, length, take, refl, ap, ap₂, ◌∙◌, subst, arith, lit≤, ◌^◌}
+-- The path of a page, as the first of its indices, and where it starts.
+use Rattle.std.proofs.Common.{◌≡◌, ◌↔◌, ◌+◌, ◌-◌, ◌*◌, ◌%◌, ◌<◌, ◌≤◌, ℕ, true, List, fold, length, take, refl, ap, ap₂, ◌∙◌, subst, arith}
 use Rattle.std.proofs.lemmas.List.{take_all}
 use Rattle.x86_64_model.proofs.Lemmas.Paths.Begins.{begins_itself}
 use Rattle.x86_64_model.proofs.Lemmas.Machines.Effects.{below_taken}
@@ -8,8 +8,8 @@ use Rattle.x86_64_model.proofs.Lemmas.Paths.Spans.{spans_are_intervals}
 use Rattle.x86_64_model.specs.Path.{AllBelow, begins, path_at, span_size, span_start}
 use Rattle.x86_64_model.specs.Position.{page_path, position_count, span}
 
-pub taken : (levels level page n : ℕ) (indices : List ℕ) → levels ≡ 4 → n ≡ 5 - level → indices ≡ page_path 4 page → take n indices ≡ path_at levels level page
-taken levels level page n indices four length is = rw (four, length, is) refl
+pub taken : (L levels level page n : ℕ) (indices : List ℕ) → levels ≡ L → n ≡ L + 1 - level → indices ≡ page_path L page → take n indices ≡ path_at levels level page
+taken L levels level page n indices known length is = rw (known, length, is) refl
 
 -- ---- the first position of a 4KiB page's path
 
@@ -37,5 +37,13 @@ start_of_path L p some inside multiple = at_multiple (fold (λ n i. n * 512 + i)
         let high : p < n * 4096 + 4096 = rw is at h.1 in
         ap (λ s. n * s) is ∙ (let e : n * 4096 ≡ p = omega (arith, multiple) in e)
 
-pub page_start : (levels page : ℕ) (indices : List ℕ) → levels ≡ 4 → indices ≡ page_path 4 page → page < 2 ^ 48 → page % 4096 ≡ 0 → span_start levels indices ≡ page
-page_start levels page indices four is inside multiple = ap₂ span_start four is ∙ start_of_path 4 page (lit≤ tt) inside multiple
+pub page_start : (L levels page : ℕ) (indices : List ℕ) → 1 ≤ L → levels ≡ L → indices ≡ page_path L page → page < position_count L → page % 4096 ≡ 0 → span_start levels indices ≡ page
+page_start L levels page indices some known is inside multiple = ap₂ span_start known is ∙ start_of_path L page some inside multiple
+
+-- ---- the page that contains a frame's own address
+
+-- the page that contains a position that is a multiple of the size starts there
+pub starts_there : (frame size position page : ℕ) → frame % size ≡ 0 → position ≡ frame → page ≡ position - position % size → page ≡ frame
+starts_there frame size position page aligned here page_is =
+    let page_at : page ≡ frame - frame % size = page_is ∙ ap (λ n. n - n % size) here in
+    omega (arith, page_at, aligned)

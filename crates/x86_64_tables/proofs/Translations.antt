@@ -6,10 +6,7 @@ use Rattle.x86_64_model.proofs.Lemmas.Entries.Words.{address_aligned, address_wi
 use Rattle.x86_64_model.specs.PageWalk.{page_start}
 use Rattle.x86_64_model.specs.Position.{span, index}
 use Rattle.x86_64_model.specs.Translation.{Translated, NotMapped, Mapped, translate_on, translate}
-
-abbrev pub StaysBelow : Option Translated → Type 0
-StaysBelow (Some (Mapped size frame offset given)) = frame + offset < 2 ^ 52
-StaysBelow _ = Unit {0}
+use Rattle.x86_64_tables.specs.Translations.{StaysBelow}
 
 large : (level e p : ℕ) → 1 < level → level ≤ 3 → page_start level e + p % span level < 2 ^ 52
 large zero e p low high = absurd (omega arith)

@@ -1,5 +1,5 @@
 -- What the answers of `translate` say.
-use Rattle.std.specs.Prelude.{ℕ, Option, Some, None, option_and_then}
+use Rattle.std.specs.Prelude.{◌+◌, ◌^◌, ◌<◌, ℕ, Option, Some, None, option_and_then}
 use Rattle.x86_64_model.specs.Translation.{Translated, NotMapped as Nowhere, Mapped as At, present_to}
 use Rattle.x86_64_tables.specs.PageTableFlags.{bits_of}
 use Rattle.x86_64_tables.specs.declared.mapper.MappedFrame.{MappedFrame}
@@ -26,3 +26,8 @@ translation_of (InvalidFrameAddress address) = None
 -- where a present mapping leads
 abbrev pub reaches : TranslateResult → Option ℕ
 reaches answer = option_and_then present_to (translation_of answer)
+
+-- where a mapping leads is a physical address
+abbrev pub StaysBelow : Option Translated → Type 0
+StaysBelow (Some (At size frame offset given)) = frame + offset < 2 ^ 52
+StaysBelow _ = Unit {0}

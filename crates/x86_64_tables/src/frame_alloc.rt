@@ -3,8 +3,6 @@ ghost use Rattle.std.specs.Prelude.{◌≡◌, ℕ, Bool, true, List, ◌∷◌,
 ghost use Rattle.x86_64_model.specs.Lists.{In};
 
 mod pool;
-#[cfg(test)]
-mod tests;
 
 pub use pool::{FramePool, PoolRefusal};
 use x86_64_page::frame::PhysFrame;

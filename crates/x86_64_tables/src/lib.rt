@@ -6,5 +6,3 @@ pub mod laws;
 pub mod mapper;
 pub mod page_table;
 pub mod phys_memory;
-#[cfg(test)]
-mod tests;

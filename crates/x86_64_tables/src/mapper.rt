@@ -8,21 +8,27 @@ ghost use Rattle.x86_64_model.specs.Translation.{address_of};
 ghost use Rattle.x86_64_tables.specs.PageTableFlags.{bits_of};
 
 mod clean_up;
+mod clean_up57;
 mod flush;
+mod flush57;
+mod mapper57;
 mod path;
 mod path_calls;
 mod recorder;
-#[cfg(test)]
-mod tests;
+mod translate57;
 
 use crate::frame_alloc::FrameAllocator;
 use crate::page_table::PageTableFlags;
 use bitflags::Flags;
 pub use clean_up::CleanUp;
+pub use clean_up57::CleanUp57;
 pub use flush::{MapperFlush, MapperFlushAll};
+pub use flush57::MapperFlush57;
+pub use mapper57::{Mapper57, MapperAllSizes57};
 use path::{page_indices, path_length};
 pub use path_calls::PathCalls;
 pub use recorder::{FlushItem, FlushRecorder};
+pub use translate57::Translate57;
 use x86_64_addr::addr::{PhysAddr, VirtAddr};
 use x86_64_addr::index::PageTableIndex;
 use x86_64_page::frame::PhysFrame;
@@ -83,6 +89,24 @@ pub enum TranslateResult {
     InvalidFrameAddress(PhysAddr),
 }
 
+impl TranslateResult {
+    ghost use Rattle.std.specs.Prelude.{option_and_then};
+    ghost use Rattle.x86_64_tables.specs.Translations.{translation_of, StaysBelow};
+
+    /// Gives the physical address that was asked for: the frame's start plus the offset.
+    fn address(self) -> Option<PhysAddr>
+        requires { StaysBelow (translation_of self) }
+        ensures { result ≡ option_and_then address_of (translation_of self) }
+    {
+        match self {
+            TranslateResult::Mapped { frame, offset, .. } => {
+                Some(PhysAddr::new(frame.start_address().as_u64() + offset))
+            }
+            TranslateResult::NotMapped | TranslateResult::InvalidFrameAddress(_) => None,
+        }
+    }
+}
+
 /// Owns tables of pages, of four or five levels, in a memory that was lent to it.
 ///
 /// Laws: only frames are covered, and distinct covered frames have distinct places.
@@ -113,6 +137,11 @@ pub trait PageTables: Tables {
     ghost four_levels: { (tables : Self) → (Self.Tables.hierarchy tables).layout.levels ≡ 4 };
 }
 
+/// Owns tables of five levels.
+pub trait PageTables57: Tables {
+    ghost five_levels: { (tables : Self) → (Self.Tables.hierarchy tables).layout.levels ≡ 5 };
+}
+
 /// Translates virtual addresses.
 pub trait Translate: PageTables {
     ghost use Rattle.x86_64_tables.specs.Translations.{translation_of, reaches};
@@ -141,12 +170,7 @@ pub trait Translate: PageTables {
         requires { Valid (Self.hierarchy self.now) }
         ensures { result ≡ address_of (translation (Self.hierarchy self.now) addr) }
     {
-        match self.translate(addr) {
-            TranslateResult::Mapped { frame, offset, .. } => {
-                Some(PhysAddr::new(frame.start_address().as_u64() + offset))
-            }
-            TranslateResult::NotMapped | TranslateResult::InvalidFrameAddress(_) => None,
-        }
+        self.translate(addr).address()
     }
 }
 

@@ -3,8 +3,6 @@ mod entries;
 mod entry;
 mod flags;
 mod table;
-#[cfg(test)]
-mod tests;
 
 pub use entries::{Entries, EntriesMut};
 pub use entry::{FrameError, PageTableEntry};

@@ -17,8 +17,6 @@ mod alike;
 mod image;
 mod places;
 mod shift_mapping;
-#[cfg(test)]
-mod tests;
 mod validity;
 mod walk;
 
@@ -30,8 +28,11 @@ pub use shift_mapping::ShiftMapping;
 use std::alloc::{AllocError, Global};
 use std::marker::Model;
 use std::ops::{Index, IndexMut};
-pub use validity::{is_valid_hierarchy, is_valid_recursive, pool_fits, pool_fits_recursive};
-pub use walk::{Walked, page_walk};
+pub use validity::{
+    is_valid_hierarchy, is_valid_hierarchy_57, is_valid_recursive, pool_fits, pool_fits_57,
+    pool_fits_recursive,
+};
+pub use walk::{Walked, page_walk, page_walk_57};
 use x86_64_page::frame::PhysFrame;
 use x86_64_page::page::{PageSize, Size4KiB};
 

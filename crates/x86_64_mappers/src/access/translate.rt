@@ -11,11 +11,13 @@ ghost use Rattle.x86_64_tables.specs.Translations.{translation_of, reaches, fram
 use super::find::find_table;
 use super::leaf::named_frame;
 use super::{TableAccess, entry};
-use x86_64_addr::addr::VirtAddr;
+use x86_64_addr::addr::{VirtAddr, VirtAddr57};
 use x86_64_addr::index::PageTableIndex;
 use x86_64_page::frame::PhysFrame;
 use x86_64_page::page::PageSize;
-use x86_64_tables::mapper::{MappedFrame, PageTables, TranslateError, TranslateResult};
+use x86_64_tables::mapper::{
+    MappedFrame, PageTables, PageTables57, TranslateError, TranslateResult,
+};
 use x86_64_tables::page_table::{FrameError, PageTableEntry};
 
 /// Gives the frame of the page of a path.
@@ -44,7 +46,31 @@ pub fn translate<M: TableAccess + PageTables>(mapper: &M, addr: VirtAddr) -> Tra
     ensures walk { let arrival = walk (M.hierarchy mapper.now) addr in
         reaches result ≡ option_map (λ walked. walked.address) arrival }
 {
-    translate_along(mapper, &address_indices(addr), addr)
+    translate_position(mapper, &address_indices(addr), position_of(addr))
+}
+
+/// Tells where an address of 57 bits is mapped to.
+pub fn translate_57<M: TableAccess + PageTables57>(mapper: &M, addr: VirtAddr57) -> TranslateResult
+    requires { Valid (M.hierarchy mapper.now) }
+    ensures answer { translation_of result ≡ Some (translation (M.hierarchy mapper.now) addr) }
+    ensures walk { let arrival = walk (M.hierarchy mapper.now) addr in
+        reaches result ≡ option_map (λ walked. walked.address) arrival }
+{
+    translate_position(mapper, &address_indices_57(addr), position_of_57(addr))
+}
+
+/// Gives the position of an address.
+fn position_of(addr: VirtAddr) -> u64
+    ensures { result ≡ addr }
+{
+    addr.as_u64() & 0x0000_ffff_ffff_ffff
+}
+
+/// Gives the position of an address of 57 bits.
+fn position_of_57(addr: VirtAddr57) -> u64
+    ensures { result ≡ addr }
+{
+    addr.as_u64() & 0x01ff_ffff_ffff_ffff
 }
 
 /// Gives the indices of an address, from level four down to level one.
@@ -59,16 +85,45 @@ fn address_indices(addr: VirtAddr) -> [PageTableIndex; 4]
     ]
 }
 
-/// Tells where an address is mapped to, by its indices from the root's level down to level one.
-fn translate_along<M: TableAccess>(
+/// Gives the indices of an address of 57 bits, from level five down to level one.
+fn address_indices_57(addr: VirtAddr57) -> [PageTableIndex; 5]
+    ensures { result ≡ page_path 5 addr }
+{
+    [
+        addr.p5_index(),
+        addr.p4_index(),
+        addr.p3_index(),
+        addr.p2_index(),
+        addr.p1_index(),
+    ]
+}
+
+/// Tells where a position is mapped to, by its indices from the root's level down to level one, as the walk does.
+fn translate_position<M: TableAccess>(
     mapper: &M,
     indices: &[PageTableIndex],
-    addr: VirtAddr,
+    position: u64,
 ) -> TranslateResult
     requires valid { Valid (M.hierarchy mapper.now) }
     requires levels { length indices.now ≡ (M.hierarchy mapper.now).layout.levels }
-    requires path { indices.now ≡ page_path (M.hierarchy mapper.now).layout.levels addr }
-    ensures { translation_of result ≡ Some (translation (M.hierarchy mapper.now) addr) }
+    requires path { indices.now ≡ page_path (M.hierarchy mapper.now).layout.levels position }
+    ensures answer { translation_of result ≡ Some (translation (M.hierarchy mapper.now) position) }
+    ensures walk { let arrival = walk (M.hierarchy mapper.now) position in
+        reaches result ≡ option_map (λ walked. walked.address) arrival }
+{
+    translate_along(mapper, indices, position)
+}
+
+/// Tells where a position is mapped to, by its indices from the root's level down to level one.
+fn translate_along<M: TableAccess>(
+    mapper: &M,
+    indices: &[PageTableIndex],
+    position: u64,
+) -> TranslateResult
+    requires valid { Valid (M.hierarchy mapper.now) }
+    requires levels { length indices.now ≡ (M.hierarchy mapper.now).layout.levels }
+    requires path { indices.now ≡ page_path (M.hierarchy mapper.now).layout.levels position }
+    ensures { translation_of result ≡ Some (translation (M.hierarchy mapper.now) position) }
 {
     let last = indices.len() - 1;
     let mut table = mapper.root();
@@ -77,28 +132,32 @@ fn translate_along<M: TableAccess>(
         match entry.frame() {
             Ok(next) => table = next,
             Err(FrameError::FrameNotPresent) => return TranslateResult::NotMapped,
-            Err(FrameError::HugeFrame) => return leaf_translation(indices.len() - k, entry, addr),
+            Err(FrameError::HugeFrame) => return leaf_translation(
+                indices.len() - k,
+                entry,
+                position,
+            ),
         }
     }
     let entry = entry(mapper, &indices[..last], table, indices[last]);
     if entry.is_unused() {
         TranslateResult::NotMapped
     } else {
-        leaf_translation(1, entry, addr)
+        leaf_translation(1, entry, position)
     }
 }
 
-/// Gives the translation of an address by the entry of a level that maps its page.
-fn leaf_translation(level: usize, entry: &PageTableEntry, addr: VirtAddr) -> TranslateResult
+/// Gives the translation of a position by the entry of a level that maps its page.
+fn leaf_translation(level: usize, entry: &PageTableEntry, position: u64) -> TranslateResult
     requires low { 1 ≤ level }
     requires high { level ≤ 3 }
-    ensures { let start = page_start level entry.now in let offset = addr % span level in
+    ensures { let start = page_start level entry.now in let offset = position % span level in
         translation_of result ≡ Some (Mapped (span level) start offset (flags entry.now)) }
 {
     let frame = mapped_frame(level, entry);
     TranslateResult::Mapped {
         frame,
-        offset: addr.as_u64() % frame.size(),
+        offset: position % frame.size(),
         flags: entry.flags(),
     }
 }

@@ -12,8 +12,9 @@ use x86_64_page::page::{PageSize, Size4KiB};
 
 /// What each mapper does in its own way: its calls along the paths of pages.
 ///
-/// Who writes a mapper implements these calls, and gets those of [`Mapper`](super::Mapper) by an empty impl for every size of
-/// pages. Who uses one calls [`Mapper`](super::Mapper), where a page stands in place of its path.
+/// Who writes a mapper implements these calls, and gets those of [`Mapper`](super::Mapper), or with five levels of
+/// [`Mapper57`](super::Mapper57), by an empty impl for every size of pages. Who uses one calls these traits, where a page stands
+/// in place of its path.
 ///
 /// A path has an index for each level of the hierarchy, from the highest down to that of the page's entry.
 pub trait PathCalls: Tables {

@@ -3,7 +3,7 @@ ghost use Rattle.std.specs.Prelude.{◌≡◌, ◌-◌, ◌<◌, ◌≤◌, [], 
 
 use std::alloc::{AllocError, Global};
 use std::marker::Model;
-use x86_64_addr::addr::VirtAddr;
+use x86_64_addr::addr::{VirtAddr, VirtAddr57};
 
 /// Says what the TLB is to forget.
 #[derive(Clone, Copy, Debug, PartialEq)]
@@ -12,6 +12,13 @@ pub enum FlushItem {
     Page {
         /// Where the page starts.
         start: VirtAddr,
+        /// The size of the page in bytes.
+        size: u64,
+    },
+    /// The mapping of a page where there are five levels of tables. Intel SDM vol. 2, `INVLPG`.
+    Page57 {
+        /// Where the page starts.
+        start: VirtAddr57,
         /// The size of the page in bytes.
         size: u64,
     },

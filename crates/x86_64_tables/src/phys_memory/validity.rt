@@ -1,5 +1,5 @@
 //! The tests of a hierarchy: whether the words below a root are one, and whether a pool fits it.
-ghost use Rattle.std.specs.Prelude.{◌≡◌, ◌<◌, ◌↔◌, ℕ, if◌then◌else◌, length, IfOk, IsTrue, Some, None, false, true, slice_index_or};
+ghost use Rattle.std.specs.Prelude.{◌≡◌, ◌<◌, ◌↔◌, suc, ℕ, if◌then◌else◌, length, IfOk, IsTrue, Some, None, false, true, slice_index_or};
 ghost use Rattle.std.specs.FinMap.{keys};
 ghost use Rattle.std.specs.Option.{option_copied};
 ghost use Rattle.x86_64_model.specs.Memory.{identity_places, words_of};
@@ -40,6 +40,45 @@ pub fn is_valid_hierarchy<P: PageTableFrameMapping>(
     ensures { let words = words_of memory.now (P.places mapping.now) in
         IfOk result (λ b. IsTrue b ↔ IsValid 4 words root (paths_of 4 words root)) }
 {
+    is_valid_through(alloc, memory, mapping, root, 3)
+}
+
+/// Tells whether the words below the root are a valid hierarchy of five levels.
+///
+/// It is as `is_valid_hierarchy` says, with one more level: also each table that a used word of level five names is in the
+/// memory and is named once, and no word of levels five and four has `HUGE_PAGE`. The test ends for any words, and takes
+/// memory for a mark for each place alone.
+///
+/// # Errors
+///
+/// `AllocError` where memory is refused.
+pub fn is_valid_hierarchy_57<P: PageTableFrameMapping>(
+    alloc: Global,
+    memory: &PhysMemory,
+    mapping: &P,
+    root: PhysFrame<Size4KiB>,
+) -> Result<bool, AllocError>
+    ensures { let words = words_of memory.now (P.places mapping.now) in
+        IfOk result (λ b. IsTrue b ↔ IsValid 5 words root (paths_of 5 words root)) }
+{
+    is_valid_through(alloc, memory, mapping, root, 4)
+}
+
+/// Tells whether the words below the root are a valid hierarchy with so many levels of tables below the root.
+///
+/// # Errors
+///
+/// `AllocError` where memory is refused.
+fn is_valid_through<P: PageTableFrameMapping>(
+    alloc: Global,
+    memory: &PhysMemory,
+    mapping: &P,
+    root: PhysFrame<Size4KiB>,
+    levels: u8,
+) -> Result<bool, AllocError>
+    ensures { let words = words_of memory.now (P.places mapping.now) in
+        IfOk result (λ b. IsTrue b ↔ IsValid (suc levels) words root (paths_of (suc levels) words root)) }
+{
     let image = Image {
         memory,
         mapping,
@@ -50,7 +89,7 @@ pub fn is_valid_hierarchy<P: PageTableFrameMapping>(
         image,
         limit: FRAME_COUNT,
     };
-    survey.is_sound(alloc, 3, None)
+    survey.is_sound(alloc, levels, None)
 }
 
 /// Tells whether the words below the root are a valid hierarchy of four levels for a recursive index, where each frame
@@ -107,6 +146,49 @@ pub fn pool_fits<P: PageTableFrameMapping>(
         let serves = serves_below pool.now.limit in
         IfOk result (λ b. IsTrue b ↔ Fits 4 None words root (paths_of 4 words root) serves pool.now.frames) }
 {
+    fits_through(alloc, memory, mapping, root, pool, 3)
+}
+
+/// Tells whether the words below the root are a valid hierarchy of five levels, and a pool fits it.
+///
+/// The hierarchies are those of `is_valid_hierarchy_57`. A pool fits one as `pool_fits` says. The test ends for any words and
+/// any pool, and takes memory for a mark for each place alone.
+///
+/// # Errors
+///
+/// `AllocError` where memory is refused.
+pub fn pool_fits_57<P: PageTableFrameMapping>(
+    alloc: Global,
+    memory: &PhysMemory,
+    mapping: &P,
+    root: PhysFrame<Size4KiB>,
+    pool: &FramePool,
+) -> Result<bool, AllocError>
+    ensures { let words = words_of memory.now (P.places mapping.now) in
+        let serves = serves_below pool.now.limit in
+        IfOk result (λ b. IsTrue b ↔ Fits 5 None words root (paths_of 5 words root) serves pool.now.frames) }
+{
+    fits_through(alloc, memory, mapping, root, pool, 4)
+}
+
+/// Tells whether the words below the root are a valid hierarchy with so many levels of tables below the root, and a pool
+/// fits it.
+///
+/// # Errors
+///
+/// `AllocError` where memory is refused.
+fn fits_through<P: PageTableFrameMapping>(
+    alloc: Global,
+    memory: &PhysMemory,
+    mapping: &P,
+    root: PhysFrame<Size4KiB>,
+    pool: &FramePool,
+    levels: u8,
+) -> Result<bool, AllocError>
+    ensures { let words = words_of memory.now (P.places mapping.now) in
+        let serves = serves_below pool.now.limit in let paths = paths_of (suc levels) words root in
+        IfOk result (λ b. IsTrue b ↔ Fits (suc levels) None words root paths serves pool.now.frames) }
+{
     let image = Image {
         memory,
         mapping,
@@ -117,7 +199,7 @@ pub fn pool_fits<P: PageTableFrameMapping>(
         image,
         limit: pool.limit(),
     };
-    survey.is_sound(alloc, 3, Some(pool))
+    survey.is_sound(alloc, levels, Some(pool))
 }
 
 /// Tells whether the words below the root are a valid hierarchy of four levels for a recursive index, and a pool fits

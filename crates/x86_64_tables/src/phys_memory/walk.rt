@@ -11,7 +11,7 @@ ghost use Rattle.x86_64_tables.specs.Walks.{walked_of, arrival, ends};
 use super::{PageTableFrameMapping, PhysMemory};
 use crate::page_table::{PageTableEntry, PageTableFlags};
 use bitflags::Flags;
-use x86_64_addr::addr::{PhysAddr, VirtAddr};
+use x86_64_addr::addr::{PhysAddr, VirtAddr, VirtAddr57};
 use x86_64_page::frame::PhysFrame;
 use x86_64_page::page::{PageSize, Size1GiB, Size2MiB, Size4KiB};
 
@@ -43,6 +43,23 @@ pub fn page_walk<P: PageTableFrameMapping>(
         option_map walked_of result ≡ page_walk_of 4 tables root addr }
 {
     walk_from(memory, mapping, 4, root, position_of(addr))
+}
+
+/// Walks the tables of five levels below the root as the processor does, or gives `None` where the walk arrives nowhere.
+///
+/// It is the walk of [`page_walk`] with one more level above: a word of level five is read first, and ends the walk with
+/// `HUGE_PAGE` as one of level four does. Intel SDM vol. 3A, "Linear-Address Translation with 4-Level Paging and 5-Level
+/// Paging"; AMD APM vol. 2, "Long-Mode Page Translation".
+pub fn page_walk_57<P: PageTableFrameMapping>(
+    memory: &PhysMemory,
+    mapping: &P,
+    root: PhysFrame<Size4KiB>,
+    addr: VirtAddr57,
+) -> Option<Walked>
+    ensures { let tables = words_of memory.now (P.places mapping.now) in
+        option_map walked_of result ≡ page_walk_of 5 tables root addr }
+{
+    walk_from(memory, mapping, 5, root, position_of_57(addr))
 }
 
 /// Says what the entries on the way so far allow.
@@ -166,4 +183,11 @@ fn position_of(addr: VirtAddr) -> u64
     ensures { result ≡ addr }
 {
     addr.as_u64() & 0x0000_ffff_ffff_ffff
+}
+
+/// Gives the position of an address of 57 bits.
+fn position_of_57(addr: VirtAddr57) -> u64
+    ensures { result ≡ addr }
+{
+    addr.as_u64() & 0x01ff_ffff_ffff_ffff
 }

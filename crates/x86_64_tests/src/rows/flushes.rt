@@ -21,6 +21,7 @@ pub type Flushed = Option<(u64, u64)>;
 fn flushed_by(item: &FlushItem) -> Flushed {
     match item {
         FlushItem::Page { start, size } => Some((start.as_u64(), *size)),
+        FlushItem::Page57 { start, size } => Some((start.as_u64(), *size)),
         FlushItem::All => None,
     }
 }

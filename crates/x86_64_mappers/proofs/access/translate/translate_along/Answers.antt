@@ -16,21 +16,21 @@ pub loop-k-init : goal.loop-k-init
 loop-k-init g c =
     let l = (g.M.Tables.hierarchy c.args.mapper.now).layout in
     let m = (g.M.Tables.hierarchy c.args.mapper.now).memory in
-    subst (IsSoughtAt l m c.args.indices.now c.args.addr 0) (sym c.root-table.ensures) (sought_first l m c.args.indices.now c.args.addr c.requires.valid)
+    subst (IsSoughtAt l m c.args.indices.now c.args.position 0) (sym c.root-table.ensures) (sought_first l m c.args.indices.now c.args.position c.requires.valid)
 
 pub loop-k-preserved : goal.loop-k-preserved
 loop-k-preserved g c =
     let l = (g.M.Tables.hierarchy c.args.mapper.now).layout in
     let m = (g.M.Tables.hierarchy c.args.mapper.now).memory in
     let entry = c.entry-entry in
-    sought_next l m c.args.indices.now c.args.addr c.requires.levels c.requires.path c.loop-k.k (omega (arith, c.loop-k-test.true, c.requires.levels)) c.loop-k.table c.loop-k.invariant
+    sought_next l m c.args.indices.now c.args.position c.requires.levels c.requires.path c.loop-k.k (omega (arith, c.loop-k-test.true, c.requires.levels)) c.loop-k.table c.loop-k.invariant
     (omega (arith, c.loop-k-test.true, c.requires.levels)) c.index-indices-k.result c.index-indices-k.is entry.ensures.index entry.result.now entry.ensures.value c.in-Ok.next (sym c.in-Ok.is ∙ c.frame.ensures)
 
 pub returns-in-Err-FrameNotPresent : goal.returns-in-Err-FrameNotPresent
 returns-in-Err-FrameNotPresent g c =
     let l = (g.M.Tables.hierarchy c.args.mapper.now).layout in
     let m = (g.M.Tables.hierarchy c.args.mapper.now).memory in
-    let read = index_read l m c.args.indices.now c.args.addr c.requires.levels c.requires.path c.loop-k.k (omega (arith, c.loop-k-test.true, c.requires.levels)) c.index-indices-k.result c.index-indices-k.is in
+    let read = index_read l m c.args.indices.now c.args.position c.requires.levels c.requires.path c.loop-k.k (omega (arith, c.loop-k-test.true, c.requires.levels)) c.index-indices-k.result c.index-indices-k.is in
     ap Some (sym (found_absent c.loop-k.invariant.way c.entry-entry.result.now (omega (arith, c.loop-k-test.true, c.requires.levels))
     (c.entry-entry.ensures.value ∙ ap (word (words l m) c.loop-k.table) read)
     (sym (c.in-Err-FrameNotPresent.is ∙ ap Err c.in-Err-FrameNotPresent.field-0-is) ∙ c.frame.ensures)))
@@ -39,7 +39,7 @@ pub leaf_translation-requires-clause-high : goal.leaf_translation-requires-claus
 leaf_translation-requires-clause-high g c =
     let l = (g.M.Tables.hierarchy c.args.mapper.now).layout in
     let m = (g.M.Tables.hierarchy c.args.mapper.now).memory in
-    let read = index_read l m c.args.indices.now c.args.addr c.requires.levels c.requires.path c.loop-k.k (omega (arith, c.loop-k-test.true, c.requires.levels)) c.index-indices-k.result c.index-indices-k.is in
+    let read = index_read l m c.args.indices.now c.args.position c.requires.levels c.requires.path c.loop-k.k (omega (arith, c.loop-k-test.true, c.requires.levels)) c.index-indices-k.result c.index-indices-k.is in
     rw c.requires.levels (found_low c.loop-k.invariant.way c.entry-entry.result.now (omega (arith, c.loop-k-test.true, c.requires.levels))
     (c.entry-entry.ensures.value ∙ ap (word (words l m) c.loop-k.table) read)
     (sym (c.in-Err-HugeFrame.is ∙ ap Err c.in-Err-HugeFrame.field-0-is) ∙ c.frame.ensures))
@@ -49,9 +49,9 @@ returns-in-Err-HugeFrame g c =
     let l = (g.M.Tables.hierarchy c.args.mapper.now).layout in
     let m = (g.M.Tables.hierarchy c.args.mapper.now).memory in
     let e = c.entry-entry.result.now in
-    let read = index_read l m c.args.indices.now c.args.addr c.requires.levels c.requires.path c.loop-k.k (omega (arith, c.loop-k-test.true, c.requires.levels)) c.index-indices-k.result c.index-indices-k.is in
+    let read = index_read l m c.args.indices.now c.args.position c.requires.levels c.requires.path c.loop-k.k (omega (arith, c.loop-k-test.true, c.requires.levels)) c.index-indices-k.result c.index-indices-k.is in
     c.leaf_translation.ensures
-    ∙ ap Some (ap (λ n. Mapped (span (n - c.loop-k.k)) (page_start (n - c.loop-k.k) e) (c.args.addr % span (n - c.loop-k.k)) (flags e)) c.requires.levels
+    ∙ ap Some (ap (λ n. Mapped (span (n - c.loop-k.k)) (page_start (n - c.loop-k.k) e) (c.args.position % span (n - c.loop-k.k)) (flags e)) c.requires.levels
     ∙ sym (found_large c.loop-k.invariant.way e (omega (arith, c.loop-k-test.true, c.requires.levels))
     (c.entry-entry.ensures.value ∙ ap (word (words l m) c.loop-k.table) read)
     (sym (c.in-Err-HugeFrame.is ∙ ap Err c.in-Err-HugeFrame.field-0-is) ∙ c.frame.ensures)))
@@ -67,7 +67,7 @@ returns-then-is_unused g c =
     let l = (g.M.Tables.hierarchy s).layout in
     let m = (g.M.Tables.hierarchy s).memory in
     let some = positive_levels l.levels (g.met.M.Tables.some_levels s) in
-    let read = last_read l m c.args.indices.now c.args.addr c.requires.levels c.requires.path some c.index-indices-last.result c.index-indices-last.is in
+    let read = last_read l m c.args.indices.now c.args.position c.requires.levels c.requires.path some c.index-indices-last.result c.index-indices-last.is in
     ap Some (sym (found_unused c.loop-k.invariant.way c.entry-entry-2.result.now (omega (arith, c.loop-k.auto.k-end, c.loop-k-test.false, c.requires.levels, some))
     (c.entry-entry-2.ensures.value ∙ ap (word (words l m) c.loop-k.table) read) (let u = c.if-is_unused.ensures in grind (arith, u))))
 
@@ -77,7 +77,7 @@ returns-else-is_unused g c =
     let l = (g.M.Tables.hierarchy s).layout in
     let m = (g.M.Tables.hierarchy s).memory in
     let some = positive_levels l.levels (g.met.M.Tables.some_levels s) in
-    let read = last_read l m c.args.indices.now c.args.addr c.requires.levels c.requires.path some c.index-indices-last.result c.index-indices-last.is in
+    let read = last_read l m c.args.indices.now c.args.position c.requires.levels c.requires.path some c.index-indices-last.result c.index-indices-last.is in
     c.leaf_translation-else-is_unused.ensures
     ∙ ap Some (sym (found_small c.loop-k.invariant.way c.entry-entry-2.result.now (omega (arith, c.loop-k.auto.k-end, c.loop-k-test.false, c.requires.levels, some))
     (c.entry-entry-2.ensures.value ∙ ap (word (words l m) c.loop-k.table) read) (let u = c.if-is_unused.ensures in grind (arith, u))))

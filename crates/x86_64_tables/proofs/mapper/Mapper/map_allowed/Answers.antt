@@ -9,4 +9,4 @@ returns g c =
     let s = c.args.self.now in
     let h = g.Self.Tables.hierarchy s in
     c.path_allowed.ensures ∙ ap (λ p. allows_map h p (bits_of c.args.flags) (bits_of c.args.parent_flags))
-    (taken h.layout.levels g.S.PageSize.LEVEL c.args.page _ _ (g.met.Self.PageTables.four_levels s) c.path_length.ensures c.page_indices-indices.ensures)
+    (taken 4 h.layout.levels g.S.PageSize.LEVEL c.args.page _ _ (g.met.Self.PageTables.four_levels s) c.path_length.ensures c.page_indices-indices.ensures)

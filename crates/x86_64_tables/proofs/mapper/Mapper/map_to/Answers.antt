@@ -36,7 +36,5 @@ returns-clause-arrives g c =
     let done = c.map_to_with_table_flags in
     let after = g.Self.Tables.hierarchy done.new.self in
     let rest = g.A.FrameAllocator.supply done.new.frame_allocator in
-    map_arrives h supply g.S.PageSize.LEVEL g.S.PageSize.SIZE c.args.page c.args.frame (bits_of c.args.flags) g.S.PageSize.size g.S.PageSize.low g.S.PageSize.high
-    (g.met.Self.Tables.some_levels mapper) (g.Self.Tables.added_flags mapper).adds (search rules) (search rules) (search rules) after rest c.requires done.result
-    (subst (λ (more : ℕ). DoesMap h supply (MapToWithTableFlags page c.args.frame (bits_of c.args.flags) more) (map_answer c.args.frame done.result) after rest)
-    c.parent_flags-parent_flags.ensures done.ensures.does)
+    map_arrives h supply g.S.PageSize.LEVEL g.S.PageSize.SIZE c.args.page c.args.frame (bits_of c.args.flags) _ g.S.PageSize.size g.S.PageSize.low g.S.PageSize.high
+    (g.met.Self.Tables.some_levels mapper) (g.Self.Tables.added_flags mapper).adds (search rules) (search rules) (search rules) after rest c.requires c.parent_flags-parent_flags.ensures done.result done.ensures.does

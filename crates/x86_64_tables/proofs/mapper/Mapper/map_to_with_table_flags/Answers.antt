@@ -10,4 +10,4 @@ map_path-requires-clause-may g c =
     let s = c.args.self.now in
     let h = g.Self.Tables.hierarchy s in
     subst (λ p. MayMap h (g.A.FrameAllocator.supply c.args.frame_allocator.now) (MapToWithTableFlags p c.args.frame (bits_of c.args.flags) (bits_of c.args.parent_flags)))
-    (sym (taken h.layout.levels g.S.PageSize.LEVEL c.args.page _ _ (g.met.Self.PageTables.four_levels s) c.path_length.ensures c.page_indices-indices.ensures)) c.requires
+    (sym (taken 4 h.layout.levels g.S.PageSize.LEVEL c.args.page _ _ (g.met.Self.PageTables.four_levels s) c.path_length.ensures c.page_indices-indices.ensures)) c.requires

@@ -1,4 +1,4 @@
-use Rattle.std.proofs.Common.{rules, ◌+◌, subst₂}
+use Rattle.std.proofs.Common.{rules, ◌+◌, subst₂, lit≤}
 use Rattle.x86_64_model.specs.Owned.{CleansUp}
 use Rattle.x86_64_tables.proofs.PagePaths.{page_start}
 use Rattle.x86_64_tables.proofs.mapper.clean_up.CleanUp.clean_up_addr_range.Goals as goal
@@ -10,7 +10,7 @@ returns-clause-cleans g c =
     let deallocator = c.args.frame_deallocator.now in
     let done = c.clean_up_paths in
     let four = g.met.Self.PageTables.four_levels mapper in
-    let low = page_start h.layout.levels c.args.range.start c.page_indices-first.result four c.page_indices-first.ensures (search rules) (search rules) in
-    let high = page_start h.layout.levels c.args.range.end c.page_indices-last.result four c.page_indices-last.ensures (search rules) (search rules) in
+    let low = page_start 4 h.layout.levels c.args.range.start c.page_indices-first.result (lit≤ tt) four c.page_indices-first.ensures (search rules) (search rules) in
+    let high = page_start 4 h.layout.levels c.args.range.end c.page_indices-last.result (lit≤ tt) four c.page_indices-last.ensures (search rules) (search rules) in
     subst₂ (λ low high. CleansUp h g.D.FrameDeallocator.put (g.D.FrameDeallocator.held deallocator) low (high + 0xfff) (g.Self.Tables.hierarchy done.new.self) (g.D.FrameDeallocator.held done.new.frame_deallocator))
     low high done.ensures.cleans

@@ -1,0 +1,31 @@
+use Rattle.std.proofs.Common.{refl, sym, ap, ◌∙◌, ◌≡◌}
+use Rattle.std.specs.FinMap.{get, insert}
+use Rattle.x86_64_mappers.specs.Lending.{root_stays}
+use Rattle.x86_64_model.proofs.Lemmas.Hierarchies.Memories.{covered}
+use Rattle.x86_64_mappers.proofs.Stored.{there_is}
+use Rattle.x86_64_mappers.proofs.RootTables.{alike}
+use Rattle.x86_64_mappers.proofs.mapped_page_table.DirectTableAccess.table_mut.Goals as goal
+
+pub invariant_of-self-lent : goal.invariant_of-self-lent
+invariant_of-self-lent g c table =
+    let mapper = c.args.self.now in
+    (root_stays (g.P.PageTableFrameMapping.places mapper.mapping) mapper.root mapper.memory.now c.frame_to_pointer-place.result table mapper.has_root, tt)
+
+pub returns : goal.returns
+returns g c =
+    let mapper = c.args.self.now in
+    let m = mapper.memory.now in
+    let places = g.P.PageTableFrameMapping.places mapper.mapping in
+    let frame = c.args.frame in
+    let at : c.frame_to_pointer-place.result ≡ places.place frame = c.frame_to_pointer-place.ensures in (
+      (
+        refl,
+        λ table. alike places mapper.root m table
+            (λ place there. record mapper { memory = record mapper.memory { now = insert m place table }; has_root = there })
+            _ _ at _ _,
+      ),
+      record {
+        lends = tt;
+        value = there_is m places frame (covered m places frame c.requires.reached.there) ∙ ap (get m) (sym at) ∙ c.index_mut.ensures.value;
+      },
+    )

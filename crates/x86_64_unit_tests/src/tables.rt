@@ -1,0 +1,90 @@
+//! Tests of parent flags, tokens and memory, and the frames of all tests.
+ghost use Rattle.std.specs.Prelude.{◌≡◌, ◌-◌, ◌%◌, ◌^◌};
+
+mod frame_alloc;
+mod mapper;
+mod page_table;
+mod phys_memory;
+
+use bitflags::Flags;
+use std::test::Fail;
+use x86_64_addr::addr::{PhysAddr, VirtAddr};
+use x86_64_page::frame::PhysFrame;
+use x86_64_page::page::{Page, Size2MiB, Size4KiB};
+use x86_64_tables::mapper::{MapperFlush, MapperFlushAll, parent_flags};
+use x86_64_tables::page_table::PageTableFlags;
+use x86_64_tables::phys_memory::{FramePlace, IdentityMapping, PageTableFrameMapping, PhysMemory};
+
+/// Gives the 4KiB frame that contains an address, of which the low 52 bits count.
+pub(crate) fn frame_at(address: u64) -> PhysFrame<Size4KiB>
+    ensures { let low = address % 2 ^ 52 in result ≡ low - low % 4096 }
+{
+    PhysFrame::containing_address(PhysAddr::new_truncate(address))
+}
+
+#[test]
+fn flags_have_parts(rt: HostRuntime) -> Result<(), Fail> {
+    let parts = [
+        (0x0, 0x0, false),
+        (0x3, 0x3, false),
+        (0x8000_0000_0000_01fe, 0x6, false),
+        (0xfff0_0000_0000_0fff, 0x7, false),
+        (0x1005, 0x5, true),
+        (0x8_0000_0000_0080, 0x0, true),
+    ];
+    for (bits, parents, has_address) in parts {
+        let flags = PageTableFlags::from_bits_retain(bits);
+        assert_eq!(rt; parent_flags(flags).bits(), parents, "of {bits:#x}");
+        assert_eq!(rt; flags.has_address_bits(), has_address, "of {bits:#x}");
+    }
+    Ok(())
+}
+
+#[test]
+fn tokens_name_pages(rt: HostRuntime) -> Result<(), Fail> {
+    let page = Page::<Size2MiB>::containing_address(VirtAddr::new(0x20_0000));
+    let flush = MapperFlush::new(page);
+    assert_eq!(rt; flush.page(), page);
+    flush.ignore();
+    MapperFlushAll::new().ignore();
+    Ok(())
+}
+
+#[test]
+fn memory_has_tables_at_places(rt: HostRuntime) -> Result<(), Fail> {
+    let mut memory = PhysMemory::new(rt.alloc(), 8)?;
+    assert_eq!(rt; memory.len(), 8);
+    for number in 0..8 {
+        let table = memory.table(FramePlace::new(number)).ok_or("a place")?;
+        assert!(rt; table.is_empty(), "at {number}");
+    }
+    let frame = frame_at(0x7000);
+    assert!(rt; IdentityMapping.covers(frame));
+    let place = IdentityMapping.frame_to_pointer(frame);
+    assert_eq!(rt; place.number(), 7);
+    let table = memory.table_mut(place).ok_or("the last place")?;
+    table[3].set_addr(PhysAddr::new(0x1000), PageTableFlags::PRESENT);
+    assert!(rt; memory.table(FramePlace::new(8)).is_none());
+    assert!(rt; memory.table_mut(FramePlace::new(8)).is_none());
+    assert!(rt; memory.table_mut(FramePlace::new(u64::MAX)).is_none());
+    for number in 0..8 {
+        let table = memory.table(FramePlace::new(number)).ok_or("a place")?;
+        assert_eq!(rt; table.is_empty(), number < 7, "at {number}");
+    }
+    let table = memory.table(place).ok_or("the last place")?;
+    assert_eq!(rt; table[3].addr(), PhysAddr::new(0x1000));
+    assert_eq!(rt; table[3].flags(), PageTableFlags::PRESENT);
+    assert_eq!(rt; PhysMemory::new(rt.alloc(), 0)?.len(), 0);
+    Ok(())
+}
+
+#[test]
+fn memory_is_indexed_by_places(rt: HostRuntime) -> Result<(), Fail> {
+    let mut memory = PhysMemory::new(rt.alloc(), 8)?;
+    let place = FramePlace::new(7);
+    assert!(rt; memory[place].is_empty());
+    memory[place][3].set_addr(PhysAddr::new(0x1000), PageTableFlags::PRESENT);
+    let table = memory.table(place).ok_or("the last place")?;
+    assert_eq!(rt; table[3].addr(), PhysAddr::new(0x1000));
+    Ok(())
+}

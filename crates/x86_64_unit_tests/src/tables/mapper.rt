@@ -1,0 +1,72 @@
+//! Tests of flushes.
+use std::process::Abort;
+use std::test::Fail;
+use x86_64_addr::addr::{VirtAddr, VirtAddr57};
+use x86_64_page::page::{Page, Page57, PageSize, Size1GiB, Size2MiB, Size4KiB};
+use x86_64_tables::mapper::{FlushItem, FlushRecorder, MapperFlush, MapperFlush57, MapperFlushAll};
+
+/// Flushes the page of a size at an address.
+fn flush_page<S: PageSize>(rt: &impl Abort, recorder: &mut FlushRecorder, start: u64) {
+    let page = Page::<S>::containing_address(VirtAddr::new_truncate(start));
+    let answer = MapperFlush::new(page).flush(recorder);
+    assert_eq!(rt; answer.map_err(MapperFlush::ignore), Ok(()));
+}
+
+/// Flushes all pages.
+fn flush_all(rt: &impl Abort, recorder: &mut FlushRecorder) {
+    let answer = MapperFlushAll::new().flush_all(recorder);
+    assert_eq!(rt; answer.map_err(MapperFlushAll::ignore), Ok(()));
+}
+
+/// Makes the item of a page.
+fn item(start: u64, size: u64) -> FlushItem {
+    FlushItem::Page {
+        start: VirtAddr::new_truncate(start),
+        size,
+    }
+}
+
+#[test]
+fn flushes_are_recorded_in_order(rt: HostRuntime) -> Result<(), Fail> {
+    let items = [
+        item(0x1000, 4096),
+        FlushItem::All,
+        item(0x20_0000, 2_097_152),
+        FlushItem::All,
+        item(0x4000_0000, 1_073_741_824),
+        item(0xffff_8000_0000_0000, 4096),
+    ];
+    for room in [0, 2, 4, 8] {
+        let mut recorder = FlushRecorder::new(rt.alloc());
+        assert!(rt; recorder.items().is_empty(), "room {room}");
+        assert_eq!(rt; recorder.reserve(room), Ok(()));
+        flush_page::<Size4KiB>(&rt, &mut recorder, 0x1000);
+        flush_all(&rt, &mut recorder);
+        flush_page::<Size2MiB>(&rt, &mut recorder, 0x20_0000);
+        flush_all(&rt, &mut recorder);
+        assert_eq!(rt; recorder.items(), &items[..4], "room {room}");
+        assert_eq!(rt; recorder.reserve(room), Ok(()));
+        assert_eq!(rt; recorder.items(), &items[..4], "room {room}");
+        flush_page::<Size1GiB>(&rt, &mut recorder, 0x4000_0000);
+        flush_page::<Size4KiB>(&rt, &mut recorder, 0xffff_8000_0000_0000);
+        assert_eq!(rt; recorder.items(), items.as_slice(), "room {room}");
+    }
+    Ok(())
+}
+
+#[test]
+fn flushes_of_pages_of_57_bits_are_recorded(rt: HostRuntime) -> Result<(), Fail> {
+    for start in [0x20_0000, 0xff00_0000_0000_0000] {
+        let start = VirtAddr57::new_truncate(start);
+        let mut recorder = FlushRecorder::new(rt.alloc());
+        let page = Page57::<Size2MiB>::containing_address(start);
+        let token = MapperFlush57::new(page);
+        assert_eq!(rt; token.page(), page);
+        let answer = token.flush(&mut recorder);
+        assert_eq!(rt; answer.map_err(MapperFlush57::ignore), Ok(()));
+        let size = 2_097_152;
+        let items = [FlushItem::Page57 { start, size }];
+        assert_eq!(rt; recorder.items(), items.as_slice());
+    }
+    Ok(())
+}

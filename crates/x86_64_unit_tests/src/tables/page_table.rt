@@ -1,0 +1,279 @@
+//! Tests of flags, entries and tables.
+use crate::tables::frame_at;
+use bitflags::Flags;
+use std::alloc::{AllocError, Global};
+use std::test::Fail;
+use x86_64_addr::addr::PhysAddr;
+use x86_64_addr::index::PageTableIndex;
+use x86_64_tables::page_table::{FrameError, PageTable, PageTableEntry, PageTableFlags};
+
+#[test]
+fn flags_have_places(rt: HostRuntime) {
+    let places = [
+        (PageTableFlags::PRESENT, 0x1),
+        (PageTableFlags::WRITABLE, 0x2),
+        (PageTableFlags::USER_ACCESSIBLE, 0x4),
+        (PageTableFlags::WRITE_THROUGH, 0x8),
+        (PageTableFlags::NO_CACHE, 0x10),
+        (PageTableFlags::ACCESSED, 0x20),
+        (PageTableFlags::DIRTY, 0x40),
+        (PageTableFlags::HUGE_PAGE, 0x80),
+        (PageTableFlags::GLOBAL, 0x100),
+        (PageTableFlags::BIT_9, 0x200),
+        (PageTableFlags::BIT_10, 0x400),
+        (PageTableFlags::BIT_11, 0x800),
+        (PageTableFlags::BIT_52, 0x0010_0000_0000_0000),
+        (PageTableFlags::BIT_53, 0x0020_0000_0000_0000),
+        (PageTableFlags::BIT_54, 0x0040_0000_0000_0000),
+        (PageTableFlags::BIT_55, 0x0080_0000_0000_0000),
+        (PageTableFlags::BIT_56, 0x0100_0000_0000_0000),
+        (PageTableFlags::BIT_57, 0x0200_0000_0000_0000),
+        (PageTableFlags::BIT_58, 0x0400_0000_0000_0000),
+        (PageTableFlags::BIT_59, 0x0800_0000_0000_0000),
+        (PageTableFlags::BIT_60, 0x1000_0000_0000_0000),
+        (PageTableFlags::BIT_61, 0x2000_0000_0000_0000),
+        (PageTableFlags::BIT_62, 0x4000_0000_0000_0000),
+        (PageTableFlags::NO_EXECUTE, 0x8000_0000_0000_0000),
+    ];
+    for (flag, bits) in places {
+        assert_eq!(rt; flag.bits(), bits);
+    }
+}
+
+#[test]
+fn operators_are_of_bits(rt: HostRuntime) {
+    let low = PageTableFlags::PRESENT | PageTableFlags::WRITABLE;
+    let high = PageTableFlags::WRITABLE | PageTableFlags::NO_EXECUTE;
+    let odd = PageTableFlags::from_bits_retain(0x1003);
+    let rows = [
+        (low, 0x3),
+        (low | high, 0x8000_0000_0000_0003),
+        (low.union(high), 0x8000_0000_0000_0003),
+        (low & high, 0x2),
+        (low.intersection(high), 0x2),
+        (low ^ high, 0x8000_0000_0000_0001),
+        (low.symmetric_difference(high), 0x8000_0000_0000_0001),
+        (low - high, 0x1),
+        (low.difference(high), 0x1),
+        (!low, 0xfff0_0000_0000_0ffc),
+        (low.complement(), 0xfff0_0000_0000_0ffc),
+        (odd | high, 0x8000_0000_0000_1003),
+        (odd & odd, 0x1003),
+        (odd ^ low, 0x1000),
+        (odd - low, 0x1000),
+        (!odd, 0xfff0_0000_0000_0ffc),
+        (PageTableFlags::empty(), 0x0),
+        (PageTableFlags::all(), 0xfff0_0000_0000_0fff),
+        (PageTableFlags::from_bits_retain(0x1003), 0x1003),
+        (PageTableFlags::from_bits_truncate(0x1003), 0x3),
+    ];
+    for (flags, bits) in rows {
+        assert_eq!(rt; flags.bits(), bits);
+    }
+}
+
+#[test]
+fn flags_change_in_place(rt: HostRuntime) {
+    let low = PageTableFlags::PRESENT | PageTableFlags::WRITABLE;
+    let high = PageTableFlags::WRITABLE | PageTableFlags::NO_EXECUTE;
+    let (mut or, mut and, mut xor, mut sub) = (low, low, low, low);
+    or |= high;
+    and &= high;
+    xor ^= high;
+    sub -= high;
+    let (mut inserted, mut removed, mut toggled) = (low, low, low);
+    inserted.insert(high);
+    removed.remove(high);
+    toggled.toggle(high);
+    let (mut with, mut without, mut cleared) = (low, low, low);
+    with.set(high, true);
+    without.set(high, false);
+    cleared.clear();
+    let mut truncated = PageTableFlags::from_bits_retain(0x1003);
+    truncated.truncate();
+    let rows = [
+        (or, 0x8000_0000_0000_0003),
+        (inserted, 0x8000_0000_0000_0003),
+        (with, 0x8000_0000_0000_0003),
+        (and, 0x2),
+        (xor, 0x8000_0000_0000_0001),
+        (toggled, 0x8000_0000_0000_0001),
+        (sub, 0x1),
+        (removed, 0x1),
+        (without, 0x1),
+        (cleared, 0x0),
+        (truncated, 0x3),
+    ];
+    for (flags, bits) in rows {
+        assert_eq!(rt; flags.bits(), bits);
+    }
+}
+
+#[test]
+fn flags_are_asked(rt: HostRuntime) -> Result<(), Fail> {
+    let low = PageTableFlags::PRESENT | PageTableFlags::WRITABLE;
+    // The bits; whether both low flags are among them, whether one is, whether none is set, whether all known ones are.
+    let rows = [
+        (0x0, [false, false, true, false]),
+        (0x2, [false, true, false, false]),
+        (0x83, [true, true, false, false]),
+        (0x1000, [false, false, false, false]),
+        (0xfff0_0000_0000_0fff, [true, true, false, true]),
+        (u64::MAX, [true, true, false, true]),
+    ];
+    for (bits, answers) in rows {
+        let flags = PageTableFlags::from_bits_retain(bits);
+        let asked = [
+            flags.contains(low),
+            flags.intersects(low),
+            flags.is_empty(),
+            flags.is_all(),
+        ];
+        assert_eq!(rt; asked, answers, "of {bits:#x}");
+        let known = bits & 0x000f_ffff_ffff_f000 == 0;
+        let read = PageTableFlags::from_bits(bits);
+        assert_eq!(rt; read, if known { Some(flags) } else { None });
+        assert_eq!(rt; flags.contains_unknown_bits(), !known);
+        let text = format!(in rt.alloc(); "{flags:?}")?;
+        let expected = format!(in rt.alloc(); "PageTableFlags({bits:#x})")?;
+        assert_eq!(rt; text.as_str(), expected.as_str());
+    }
+    Ok(())
+}
+
+/// Gives the word of an entry.
+fn word_of(entry: &PageTableEntry) -> u64 {
+    entry.addr().as_u64() | entry.flags().bits()
+}
+
+#[test]
+fn entries_are_words(rt: HostRuntime) {
+    use FrameError::{FrameNotPresent, HugeFrame};
+    let rows = [
+        (0x0, 0x0, 0x0, Err(FrameNotPresent)),
+        (0x5000, 0x0, 0x5000, Err(FrameNotPresent)),
+        (0x5000, 0x82, 0x5082, Err(FrameNotPresent)),
+        (
+            0x5000,
+            0x8000_0000_0000_0083,
+            0x8000_0000_0000_5083,
+            Err(HugeFrame),
+        ),
+        (0x6000, 0x3, 0x6003, Ok(0x6000)),
+        (
+            0x000f_ffff_ffff_f000,
+            0x1,
+            0x000f_ffff_ffff_f001,
+            Ok(0x000f_ffff_ffff_f000),
+        ),
+    ];
+    for (start, bits, word, frame) in rows {
+        let addr = PhysAddr::new_truncate(start);
+        let flags = PageTableFlags::from_bits_retain(bits);
+        let mut entry = PageTableEntry::new();
+        assert!(rt; addr.as_u64() % 4096 == 0);
+        entry.set_addr(addr, flags);
+        assert_eq!(rt; word_of(&entry), word);
+        assert_eq!(rt; entry.addr(), addr);
+        assert_eq!(rt; entry.flags(), flags);
+        assert_eq!(rt; entry.frame(), frame.map(frame_at), "of {word:#x}");
+        assert_eq!(rt; entry.is_unused(), word == 0);
+        entry.set_flags(PageTableFlags::empty());
+        assert_eq!(rt; word_of(&entry), start);
+        assert_eq!(rt; entry.frame(), Err(FrameNotPresent));
+        assert_eq!(rt; entry.is_unused(), start == 0);
+    }
+}
+
+#[tactic(auto, unfolding(x86_64_model::specs::Entry::has))]
+#[test]
+fn entries_are_changed(rt: HostRuntime) -> Result<(), Fail> {
+    let mut entry = PageTableEntry::default();
+    assert!(rt; entry.is_unused());
+    let low = PageTableFlags::PRESENT.union(PageTableFlags::WRITABLE);
+    assert!(rt; !low.contains(PageTableFlags::HUGE_PAGE));
+    entry.set_frame(frame_at(0x6000), low);
+    let copy = entry.clone()?;
+    entry.set_flags(PageTableFlags::NO_EXECUTE);
+    assert_eq!(rt; word_of(&entry), 0x8000_0000_0000_6000);
+    assert_eq!(rt; word_of(&copy), 0x6003);
+    assert_eq!(rt; copy.frame(), Ok(frame_at(0x6000)));
+    let text = format!(in rt.alloc(); "{copy:?}")?;
+    assert_eq!(rt;
+        text.as_str(),
+        "PageTableEntry { addr: PhysAddr(0x6000), flags: PageTableFlags(0x3) }"
+    );
+    entry.set_unused();
+    assert!(rt; entry.is_unused());
+    let errors = [FrameError::FrameNotPresent, FrameError::HugeFrame];
+    let text = format!(in rt.alloc(); "{errors:?}")?;
+    assert_eq!(rt; text.as_str(), "[FrameNotPresent, HugeFrame]");
+    Ok(())
+}
+
+#[test]
+fn tables_are_lists_of_words(rt: HostRuntime) -> Result<(), Fail> {
+    let mut table = PageTable::default();
+    assert!(rt; table.is_empty());
+    table[1].set_addr(PhysAddr::new(0x5000), PageTableFlags::PRESENT);
+    table[PageTableIndex::new(511)].set_addr(PhysAddr::new(0x6000), PageTableFlags::WRITABLE);
+    assert!(rt; !table.is_empty());
+    assert_eq!(rt; word_of(&table[PageTableIndex::new(1)]), 0x5001);
+    assert_eq!(rt; word_of(&table[511]), 0x6002);
+    assert!(rt; table[2].is_unused());
+    let copy = table.clone()?;
+    table.zero();
+    assert!(rt; table.is_empty());
+    assert_eq!(rt; word_of(&copy[511]), 0x6002);
+    let text = format!(in rt.alloc(); "{copy:?}")?;
+    let expected = text_of(&copy, rt.alloc())?;
+    assert_eq!(rt; text.as_str(), expected.as_str());
+    Ok(())
+}
+
+/// Gives the texts of all entries, parted by commas, in brackets.
+fn text_of(table: &PageTable, alloc: Global) -> Result<String<Global>, AllocError> {
+    let mut text = format!(in alloc; "[{:?}", table[0])?;
+    for index in 1..512 {
+        text = format!(in alloc; "{text}, {:?}", table[index])?;
+    }
+    format!(in alloc; "{text}]")
+}
+
+#[test]
+fn entries_come_in_order(rt: HostRuntime) -> Result<(), Fail> {
+    let mut table = PageTable::new();
+    for (index, entry) in table.iter_mut().enumerate() {
+        entry.set_flags(PageTableFlags::from_bits_retain(index as u64));
+    }
+    let mut entries = table.iter();
+    assert_eq!(rt; entries.size_hint(), (512, Some(512)));
+    for index in 0..512 {
+        let entry = entries.next().ok_or("an entry")?;
+        assert_eq!(rt; word_of(entry), index as u64);
+        assert_eq!(rt; word_of(&table[index]), index as u64);
+    }
+    assert_eq!(rt; entries.size_hint(), (0, Some(0)));
+    assert!(rt; entries.next().is_none());
+    assert!(rt; entries.next().is_none());
+    assert_eq!(rt; table.iter().count(), 512);
+    Ok(())
+}
+
+#[test]
+fn entries_are_lent_in_order(rt: HostRuntime) -> Result<(), Fail> {
+    let mut table = PageTable::new();
+    let mut entries = table.iter_mut();
+    assert_eq!(rt; entries.size_hint(), (512, Some(512)));
+    for index in 0..512 {
+        let entry = entries.next().ok_or("an entry")?;
+        assert!(rt; entry.is_unused());
+        entry.set_flags(PageTableFlags::from_bits_retain(index));
+    }
+    assert_eq!(rt; entries.size_hint(), (0, Some(0)));
+    assert!(rt; entries.next().is_none());
+    assert!(rt; entries.next().is_none());
+    assert_eq!(rt; word_of(&table[0]), 0x0);
+    assert_eq!(rt; word_of(&table[511]), 0x1ff);
+    Ok(())
+}

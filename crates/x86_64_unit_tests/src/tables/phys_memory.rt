@@ -1,0 +1,284 @@
+//! Tests of walks, of hierarchies and of pools that fit them, over memories that are given as words.
+mod alike;
+mod five_levels;
+mod places;
+mod recursive;
+
+use crate::tables::frame_at;
+use bitflags::Flags;
+use std::alloc::Global;
+use std::process::Abort;
+use std::test::Fail;
+use x86_64_addr::addr::{PhysAddr, VirtAddr};
+use x86_64_addr::index::PageTableIndex;
+use x86_64_tables::frame_alloc::FramePool;
+use x86_64_tables::page_table::PageTableFlags;
+use x86_64_tables::phys_memory::{
+    FramePlace, IdentityMapping, PhysMemory, Walked, is_valid_hierarchy, page_walk, pool_fits,
+};
+
+/// The bits of a word that are flags.
+const FLAGS_MASK: u64 = 0xfff0_0000_0000_0fff;
+
+/// Sets the word at an index of the table in a frame.
+fn set_word(memory: &mut PhysMemory, frame: u64, index: u16, word: u64) -> Result<(), Fail> {
+    let table = memory
+        .table_mut(FramePlace::new(frame / 0x1000))
+        .ok_or("a place")?;
+    let flags = PageTableFlags::from_bits_retain(word & FLAGS_MASK);
+    let entry = &mut table[PageTableIndex::new_truncate(index)];
+    entry.set_addr(frame_at(word).start_address(), flags);
+    Ok(())
+}
+
+/// Makes a memory of 8 places with words, each given by its frame, its index and itself.
+fn memory_with(alloc: Global, words: &[(u64, u16, u64)]) -> Result<PhysMemory, Fail> {
+    let mut memory = PhysMemory::new(alloc, 8)?;
+    for (frame, index, word) in words {
+        set_word(&mut memory, *frame, *index, *word)?;
+    }
+    Ok(memory)
+}
+
+/// Makes the same memory, where all words of the table in frame 0x2000 are ones.
+fn memory_of_ones(alloc: Global, words: &[(u64, u16, u64)]) -> Result<PhysMemory, Fail> {
+    let mut memory = memory_with(alloc, words)?;
+    for index in 0..512 {
+        set_word(&mut memory, 0x2000, index, u64::MAX)?;
+    }
+    Ok(memory)
+}
+
+/// Makes a pool of a limit with frames, each given by its start address.
+fn pool_with(alloc: Global, limit: u64, frames: &[u64]) -> Result<FramePool, Fail> {
+    let mut pool = FramePool::new(alloc, limit)?;
+    for frame in frames {
+        pool.try_add(frame_at(*frame)).ok().ok_or("a free frame")?;
+    }
+    Ok(pool)
+}
+
+/// Tells whether a pool fits the hierarchy below the root in frame 0x1000.
+fn fits(alloc: Global, memory: &PhysMemory, limit: u64, frames: &[u64]) -> Result<bool, Fail> {
+    let pool = pool_with(alloc, limit, frames)?;
+    Ok(pool_fits(alloc, memory, &IdentityMapping, frame_at(0x1000), &pool)?)
+}
+
+/// Tells whether words are a valid hierarchy below the root in frame 0x1000.
+fn is_valid(alloc: Global, memory: &PhysMemory) -> Result<bool, Fail> {
+    Ok(is_valid_hierarchy(alloc, memory, &IdentityMapping, frame_at(0x1000))?)
+}
+
+/// Walks from the root in frame 0x1000.
+fn walk(memory: &PhysMemory, addr: u64) -> Option<Walked> {
+    page_walk(
+        memory,
+        &IdentityMapping,
+        frame_at(0x1000),
+        VirtAddr::new_truncate(addr),
+    )
+}
+
+/// Gives the arrival at an address, without `USER_ACCESSIBLE`.
+fn arrival(address: u64, write: bool) -> Option<Walked> {
+    Some(Walked {
+        address: PhysAddr::new_truncate(address),
+        write,
+        user: false,
+    })
+}
+
+/// Compares walks from the root in frame 0x1000, each given by the words, the address and where it arrives.
+fn check_walks(
+    rt: &impl Abort,
+    alloc: Global,
+    rows: &[(&[(u64, u16, u64)], u64, Option<Walked>)],
+) -> Result<(), Fail> {
+    for (words, addr, expected) in rows {
+        let memory = memory_with(alloc, words)?;
+        assert_eq!(rt; walk(&memory, *addr), *expected, "at {addr:#x}");
+    }
+    Ok(())
+}
+
+/// Compares whether words, of which each row has some, are a valid hierarchy below the root in frame 0x1000.
+fn check_validity(
+    rt: &impl Abort,
+    alloc: Global,
+    rows: &[&[(u64, u16, u64)]],
+    expected: bool,
+) -> Result<(), Fail> {
+    for words in rows {
+        let memory = memory_with(alloc, words)?;
+        assert_eq!(rt; is_valid(alloc, &memory)?, expected, "of {words:?}");
+    }
+    Ok(())
+}
+
+#[test]
+fn walks_arrive(rt: HostRuntime) -> Result<(), Fail> {
+    let rows: [(&[(u64, u16, u64)], u64, Option<Walked>); 4] = [
+        (
+            &[
+                (0x1000, 0, 0x2003),
+                (0x2000, 0, 0x3003),
+                (0x3000, 0, 0x4003),
+                (0x4000, 1, 0x5003),
+            ],
+            0x1abc,
+            arrival(0x5abc, true),
+        ),
+        (&[(0x1000, 0, 0x2003), (0x2000, 0, 0x3080)], 0, None),
+        (&[(0x1000, 0, 0x9003)], 0, None),
+        (&[], 0, None),
+    ];
+    check_walks(&rt, rt.alloc(), &rows)
+}
+
+#[test]
+fn walks_arrive_in_huge_pages(rt: HostRuntime) -> Result<(), Fail> {
+    let rows: [(&[(u64, u16, u64)], u64, Option<Walked>); 3] = [
+        (
+            &[
+                (0x1000, 0, 0x2001),
+                (0x2000, 0, 0x3001),
+                (0x3000, 1, 0x40_0081),
+            ],
+            0x23_4567,
+            arrival(0x43_4567, false),
+        ),
+        (
+            &[(0x1000, 0, 0x2003), (0x2000, 1, 0x8000_0083)],
+            0x4012_3456,
+            arrival(0x8012_3456, true),
+        ),
+        (
+            &[(0x1000, 511, 0x2003), (0x2000, 511, 0x4000_0083)],
+            0xffff_ffff_c000_0001,
+            arrival(0x4000_0001, true),
+        ),
+    ];
+    check_walks(&rt, rt.alloc(), &rows)?;
+    let memory = memory_of_ones(rt.alloc(), &[(0x1000, 0, 0x2003)])?;
+    assert_eq!(rt; walk(&memory, 0), arrival(0x000f_ffff_c000_0000, true));
+    Ok(())
+}
+
+#[test]
+fn hierarchies_are_valid(rt: HostRuntime) -> Result<(), Fail> {
+    let rows: [&[(u64, u16, u64)]; 4] = [
+        &[],
+        &[(0x1000, 0, 0x2003), (0x2000, 0, 0x4000_1083)],
+        &[
+            (0x1000, 0, 0x2003),
+            (0x2000, 0, 0x3003),
+            (0x3000, 0, 0x4003),
+            (0x4000, 0, 0x4003),
+        ],
+        &[
+            (0x1000, 0, 0x2003),
+            (0x2000, 0, 0x3003),
+            (0x3000, 0, 0x4003),
+            (0x4000, 0, 0x1003),
+        ],
+    ];
+    check_validity(&rt, rt.alloc(), &rows, true)?;
+    let memory = memory_of_ones(rt.alloc(), &[(0x1000, 0, 0x2003)])?;
+    assert!(rt; is_valid(rt.alloc(), &memory)?);
+    Ok(())
+}
+
+#[test]
+fn hierarchies_with_a_table_met_twice_are_not_valid(rt: HostRuntime) -> Result<(), Fail> {
+    let rows: [&[(u64, u16, u64)]; 6] = [
+        &[(0x1000, 0, 0x1003)],
+        &[(0x1000, 0, 0x2003), (0x2000, 0, 0x2003)],
+        &[
+            (0x1000, 0, 0x2003),
+            (0x2000, 0, 0x3003),
+            (0x3000, 0, 0x2003),
+        ],
+        &[(0x1000, 0, 0x2002), (0x2000, 0, 0x1003)],
+        &[(0x1000, 0, 0x2003), (0x1000, 1, 0x2002)],
+        &[
+            (0x1000, 0, 0x2003),
+            (0x2000, 0, 0x3003),
+            (0x3000, 0, 0x1003),
+        ],
+    ];
+    check_validity(&rt, rt.alloc(), &rows, false)
+}
+
+#[test]
+fn hierarchies_with_a_word_of_no_table_are_not_valid(rt: HostRuntime) -> Result<(), Fail> {
+    let rows: [&[(u64, u16, u64)]; 5] = [
+        &[(0x1000, 0, 0x9003)],
+        &[(0x1000, 0, 0x3)],
+        &[(0x1000, 0, 0x2)],
+        &[(0x1000, 0, 0x2083)],
+        &[(0x1000, 0, 0x80)],
+    ];
+    check_validity(&rt, rt.alloc(), &rows, false)?;
+    let small = PhysMemory::new(rt.alloc(), 1)?;
+    assert!(rt; !is_valid(rt.alloc(), &small)?);
+    Ok(())
+}
+
+#[test]
+fn pools_fit_a_root(rt: HostRuntime) -> Result<(), Fail> {
+    let rows: [(&[(u64, u16, u64)], u64, &[u64], bool); 11] = [
+        (&[], 8, &[0x2000, 0x3000, 0x4000], true),
+        (&[], 8, &[], true),
+        (&[], 8, &[0x7000], true),
+        (&[], 9, &[0x7000, 0x8000], false),
+        (&[], 8, &[0x1000], false),
+        (&[], 8, &[0x2000, 0x1000], false),
+        (&[], 0, &[], true),
+        (&[(0x1000, 0, 0x1003)], 8, &[0x2000], false),
+        (&[(0x1000, 0, 0x80)], 8, &[0x2000], false),
+        (&[(0x1000, 0, 0x8003)], 16, &[0x2000], false),
+        (
+            &[(0x1000, 0, 0x2003), (0x1000, 1, 0x2002)],
+            8,
+            &[0x3000],
+            false,
+        ),
+    ];
+    for (words, limit, frames, expected) in rows {
+        let memory = memory_with(rt.alloc(), words)?;
+        let fits = fits(rt.alloc(), &memory, limit, frames)?;
+        assert_eq!(rt; fits, expected, "{frames:?} below {limit} of {words:?}");
+    }
+    let small = PhysMemory::new(rt.alloc(), 1)?;
+    assert!(rt; !fits(rt.alloc(), &small, 8, &[])?);
+    Ok(())
+}
+
+#[test]
+fn pools_fit_tables(rt: HostRuntime) -> Result<(), Fail> {
+    let words = [
+        (0x1000, 0, 0x2003),
+        (0x2000, 0, 0x3003),
+        (0x3000, 0, 0x4002),
+        (0x3000, 1, 0x5083),
+        (0x4000, 0, 0x6003),
+    ];
+    let rows: [(u64, &[u64], bool); 7] = [
+        (8, &[0x7000, 0x6000, 0x5000], true),
+        (8, &[0x2000, 0x7000], false),
+        (8, &[0x7000, 0x3000, 0x6000], false),
+        (8, &[0x7000, 0x4000], false),
+        (5, &[], true),
+        (4, &[], false),
+        (1, &[], false),
+    ];
+    let memory = memory_with(rt.alloc(), &words)?;
+    for (limit, frames, expected) in rows {
+        let fits = fits(rt.alloc(), &memory, limit, frames)?;
+        assert_eq!(rt; fits, expected, "{frames:?} below {limit}");
+    }
+    let memory = memory_of_ones(rt.alloc(), &[(0x1000, 0, 0x2003)])?;
+    assert!(rt; fits(rt.alloc(), &memory, 8, &[0x3000])?);
+    assert!(rt; !fits(rt.alloc(), &memory, 8, &[0x2000])?);
+    Ok(())
+}

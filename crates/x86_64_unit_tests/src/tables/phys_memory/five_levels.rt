@@ -1,0 +1,109 @@
+//! Tests of walks, of hierarchies and of pools that fit them, where there are five levels of tables.
+use super::{arrival, is_valid, memory_with, pool_with};
+use crate::tables::frame_at;
+use std::alloc::Global;
+use std::test::Fail;
+use x86_64_addr::addr::VirtAddr57;
+use x86_64_tables::phys_memory::{
+    IdentityMapping, PhysMemory, Walked, is_valid_hierarchy_57, page_walk_57, pool_fits_57,
+};
+
+/// Tells whether words are a valid hierarchy of five levels below the root in frame 0x1000.
+fn is_valid_57(alloc: Global, memory: &PhysMemory) -> Result<bool, Fail> {
+    Ok(is_valid_hierarchy_57(alloc, memory, &IdentityMapping, frame_at(0x1000))?)
+}
+
+/// Walks from the root of level five in frame 0x1000.
+fn walk_57(memory: &PhysMemory, addr: u64) -> Option<Walked> {
+    page_walk_57(
+        memory,
+        &IdentityMapping,
+        frame_at(0x1000),
+        VirtAddr57::new_truncate(addr),
+    )
+}
+
+#[test]
+fn walks_of_five_levels_arrive(rt: HostRuntime) -> Result<(), Fail> {
+    let rows: [(&[(u64, u16, u64)], u64, Option<Walked>); 5] = [
+        (
+            &[
+                (0x1000, 0, 0x2003),
+                (0x2000, 0, 0x3003),
+                (0x3000, 0, 0x4003),
+                (0x4000, 0, 0x5003),
+                (0x5000, 1, 0x6003),
+            ],
+            0x1abc,
+            arrival(0x6abc, true),
+        ),
+        (
+            &[
+                (0x1000, 256, 0x2003),
+                (0x2000, 0, 0x3001),
+                (0x3000, 1, 0x4000_0083),
+            ],
+            0xff00_0000_4000_0001,
+            arrival(0x4000_0001, false),
+        ),
+        (&[(0x1000, 0, 0x2003), (0x2000, 0, 0x83)], 0, None),
+        (&[(0x1000, 0, 0x83)], 0, None),
+        (&[(0x1000, 0, 0x2003), (0x2000, 0, 0x3003)], 0, None),
+    ];
+    for (words, addr, expected) in rows {
+        let memory = memory_with(rt.alloc(), words)?;
+        assert_eq!(rt; walk_57(&memory, addr), expected, "at {addr:#x}");
+    }
+    Ok(())
+}
+
+#[test]
+fn hierarchies_are_valid_with_as_many_levels(rt: HostRuntime) -> Result<(), Fail> {
+    let rows: [(&[(u64, u16, u64)], bool, bool); 4] = [
+        (&[], true, true),
+        (&[(0x1000, 0, 0x2003), (0x2000, 0, 0x83)], false, true),
+        (
+            &[
+                (0x1000, 0, 0x2003),
+                (0x2000, 0, 0x3003),
+                (0x3000, 0, 0x4003),
+                (0x4000, 0, 0x9003),
+            ],
+            false,
+            true,
+        ),
+        (&[(0x1000, 0, 0x1003)], false, false),
+    ];
+    for (words, five, four) in rows {
+        let memory = memory_with(rt.alloc(), words)?;
+        assert_eq!(rt; is_valid_57(rt.alloc(), &memory)?, five, "of {words:?}");
+        assert_eq!(rt; is_valid(rt.alloc(), &memory)?, four, "of {words:?}");
+    }
+    Ok(())
+}
+
+#[test]
+fn pools_fit_tables_of_five_levels(rt: HostRuntime) -> Result<(), Fail> {
+    let words = [
+        (0x1000, 0, 0x2003),
+        (0x2000, 0, 0x3003),
+        (0x3000, 0, 0x4003),
+        (0x4000, 0, 0x5002),
+        (0x5000, 0, 0x6003),
+    ];
+    let rows: [(u64, &[u64], bool); 5] = [
+        (8, &[0x7000, 0x6000], true),
+        (8, &[0x7000, 0x5000], false),
+        (8, &[0x1000], false),
+        (6, &[], true),
+        (5, &[], false),
+    ];
+    let memory = memory_with(rt.alloc(), &words)?;
+    for (limit, frames, expected) in rows {
+        let pool = pool_with(rt.alloc(), limit, frames)?;
+        let root = frame_at(0x1000);
+        let fits = pool_fits_57(rt.alloc(), &memory, &IdentityMapping, root, &pool)?;
+        assert_eq!(rt; fits, expected, "{frames:?} below {limit}");
+    }
+    Ok(())
+}

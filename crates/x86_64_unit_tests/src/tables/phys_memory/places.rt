@@ -1,0 +1,185 @@
+//! Tests of memories with gaps between their places.
+use super::{fits, is_valid, set_word, walk};
+use std::alloc::{AllocError, Global};
+use std::process::Abort;
+use std::test::Fail;
+use x86_64_addr::addr::PhysAddr;
+use x86_64_tables::phys_memory::{FramePlace, PhysMemory, PlacesRefusal};
+
+/// Makes a memory with places that rise.
+fn memory_at(alloc: Global, places: &[u64]) -> Result<PhysMemory, Fail> {
+    let memory = PhysMemory::with_places(alloc, places).ok();
+    Ok(memory.ok_or("places that rise")?)
+}
+
+/// Compares the places of a memory with numbers, and whether it has a table of unused entries at each, and none at the others.
+fn check_places(
+    rt: &impl Abort,
+    memory: &PhysMemory,
+    places: &[u64],
+    others: &[u64],
+) -> Result<(), Fail> {
+    assert_eq!(rt; memory.len(), places.len());
+    for i in 0..places.len() {
+        let number = places[i];
+        let place = memory.place_at(i).ok_or("a place in the order")?;
+        assert_eq!(rt; place.number(), number);
+        let table = memory.table(place).ok_or("a place")?;
+        assert!(rt; table.is_empty(), "at {number:#x}");
+    }
+    assert_eq!(rt; memory.place_at(places.len()), None);
+    for number in others {
+        let table = memory.table(FramePlace::new(*number));
+        assert!(rt; table.is_none(), "at {number:#x}");
+    }
+    Ok(())
+}
+
+#[test]
+fn places_rise(rt: HostRuntime) -> Result<(), Fail> {
+    let rows: [&[u64]; 6] = [
+        &[1, 1],
+        &[2, 1],
+        &[0, 1, 2, 2],
+        &[0, 2, 1, 3],
+        &[u64::MAX, 0],
+        &[u64::MAX, u64::MAX],
+    ];
+    for places in rows {
+        let refusal = PhysMemory::with_places(rt.alloc(), places).err();
+        assert_eq!(rt;
+            refusal,
+            Some(PlacesRefusal::NotIncreasing),
+            "of {places:?}"
+        );
+    }
+    let refusal = PlacesRefusal::from(AllocError);
+    assert_eq!(rt; refusal, PlacesRefusal::Alloc(AllocError));
+    let text = format!(in rt.alloc(); "{:?} {refusal:?}", PlacesRefusal::NotIncreasing)?;
+    assert_eq!(rt; text.as_str(), "NotIncreasing Alloc(AllocError)");
+    Ok(())
+}
+
+#[test]
+fn memory_has_the_places_of_a_list(rt: HostRuntime) -> Result<(), Fail> {
+    let rows: [(&[u64], &[u64]); 9] = [
+        (&[], &[0, 1, u64::MAX]),
+        (&[0], &[1, u64::MAX]),
+        (&[0, 1, 2], &[3, u64::MAX]),
+        (&[0, 1, 3], &[2, 4]),
+        (&[7], &[0, 6, 8, u64::MAX]),
+        (&[u64::MAX], &[0, 1, u64::MAX - 1]),
+        (&[0, u64::MAX], &[1, u64::MAX - 1]),
+        (
+            &[1, 2, 0x8_0000, 0x8_0001],
+            &[0, 3, 4, 0x7_ffff, 0x8_0002, 0x1_0000_0001],
+        ),
+        (&[2, 4, 6, 8, 1 << 39], &[0, 1, 3, 5, 7, 9, 10, 1 << 40]),
+    ];
+    for (places, others) in rows {
+        let memory = memory_at(rt.alloc(), places)?;
+        check_places(&rt, &memory, places, others)?;
+    }
+    let memory = PhysMemory::new(rt.alloc(), 3)?;
+    check_places(&rt, &memory, &[0, 1, 2], &[3, u64::MAX])?;
+    let empty = memory_at(rt.alloc(), &[])?;
+    assert!(rt; !is_valid(rt.alloc(), &empty)?);
+    Ok(())
+}
+
+/// Makes so many places with a gap after each, from a first one on.
+fn places_with_gaps(alloc: Global, first: u64, count: u64) -> Result<Vec<u64>, Fail> {
+    let mut places = Vec::new(alloc);
+    for k in 0..count {
+        places.push(first.wrapping_add(k.wrapping_mul(2)))?;
+    }
+    Ok(places)
+}
+
+#[test]
+fn a_million_places_with_gaps_must_rise(rt: HostRuntime) -> Result<(), Fail> {
+    let mut places = places_with_gaps(rt.alloc(), 1, 1_000_000)?;
+    places.push(0)?;
+    let refusal = PhysMemory::with_places(rt.alloc(), &places).err();
+    assert_eq!(rt; refusal, Some(PlacesRefusal::NotIncreasing));
+    Ok(())
+}
+
+#[test]
+fn ten_thousand_places_have_gaps(rt: HostRuntime) -> Result<(), Fail> {
+    let memory = memory_at(rt.alloc(), &places_with_gaps(rt.alloc(), 1, 10_000)?)?;
+    assert_eq!(rt; memory.len(), 10_000);
+    for k in [0, 1, 5000, 9999] {
+        let number = 1_u64.wrapping_add(2_u64.wrapping_mul(k));
+        assert!(rt; memory.table(FramePlace::new(number)).is_some());
+        assert!(rt;
+            memory
+                .table(FramePlace::new(number.wrapping_add(1)))
+                .is_none()
+        );
+        assert!(rt;
+            memory
+                .table(FramePlace::new(number.wrapping_sub(1)))
+                .is_none()
+        );
+    }
+    Ok(())
+}
+
+#[test]
+fn tables_lie_between_gaps(rt: HostRuntime) -> Result<(), Fail> {
+    for first in [0, 1] {
+        let places = places_with_gaps(rt.alloc(), first, 1000)?;
+        let gaps = places_with_gaps(rt.alloc(), 1_u64.wrapping_sub(first), 1000)?;
+        let memory = memory_at(rt.alloc(), &places)?;
+        check_places(&rt, &memory, &places, &gaps)?;
+    }
+    Ok(())
+}
+
+#[test]
+fn tables_change_at_places_after_gaps(rt: HostRuntime) -> Result<(), Fail> {
+    let places = [1, 2, 0x8_0000, 0x8_0001];
+    for changed in places {
+        let mut memory = memory_at(rt.alloc(), &places)?;
+        set_word(&mut memory, changed * 0x1000, 5, 0x2003)?;
+        for number in places {
+            let table = memory.table(FramePlace::new(number)).ok_or("a place")?;
+            assert_eq!(rt; table.is_empty(), number != changed, "at {number:#x}");
+        }
+        assert!(rt; memory.table_mut(FramePlace::new(3)).is_none());
+    }
+    Ok(())
+}
+
+#[test]
+fn hierarchies_are_valid_after_gaps(rt: HostRuntime) -> Result<(), Fail> {
+    let mut memory = memory_at(rt.alloc(), &[1, 3, 0x8_0000, 1 << 39])?;
+    set_word(&mut memory, 0x1000, 0, 0x8_0000_0000_0003)?;
+    set_word(&mut memory, 0x8_0000_0000_0000, 0, 0x8000_0003)?;
+    set_word(&mut memory, 0x8000_0000, 1, 0x40_0083)?;
+    assert!(rt; is_valid(rt.alloc(), &memory)?);
+    let walked = walk(&memory, 0x23_4567).ok_or("an arrival")?;
+    assert_eq!(rt; walked.address, PhysAddr::new(0x43_4567));
+    set_word(&mut memory, 0x8000_0000, 0, 0x2003)?;
+    assert!(rt; !is_valid(rt.alloc(), &memory)?);
+    Ok(())
+}
+
+#[test]
+fn pools_fit_after_gaps(rt: HostRuntime) -> Result<(), Fail> {
+    let mut memory = memory_at(rt.alloc(), &[1, 3, 0x8_0000, 0x8_0001])?;
+    set_word(&mut memory, 0x1000, 0, 0x8000_0003)?;
+    let rows: [(u64, &[u64], bool); 5] = [
+        (0x8_0002, &[0x3000, 0x8000_1000], true),
+        (0x8_0002, &[0x2000], false),
+        (0x8_0002, &[0x8000_0000], false),
+        (0x8_0003, &[0x8000_2000], false),
+        (0x8_0000, &[0x3000], false),
+    ];
+    for (limit, frames, expected) in rows {
+        let fits = fits(rt.alloc(), &memory, limit, frames)?;
+        assert_eq!(rt; fits, expected, "{frames:?} below {limit:#x}");
+    }
+    Ok(())
+}

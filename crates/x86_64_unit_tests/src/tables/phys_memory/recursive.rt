@@ -1,0 +1,188 @@
+//! Tests of tables that are reached through themselves, and of hierarchies with a recursive index.
+use super::{memory_with, pool_with};
+use crate::tables::frame_at;
+use std::alloc::Global;
+use std::test::Fail;
+use x86_64_addr::addr::{PhysAddr, VirtAddr};
+use x86_64_addr::index::PageTableIndex;
+use x86_64_tables::page_table::{PageTable, PageTableFlags};
+use x86_64_tables::phys_memory::{
+    ActiveMemory, FramePlace, PhysMemory, is_valid_recursive, pool_fits_recursive,
+};
+
+/// The window of the root where the recursive index is 510.
+const ROOT_WINDOW: u64 = 0xffff_ff7f_bfdf_e000;
+
+/// Makes a memory where the root in frame 0x1000 names itself at index 510, and leads to a 4KiB page in each kind of
+/// place and to a 2MiB page at 0. Word 511 of each table has the table's own address, without `PRESENT`.
+fn memory_with_windows(alloc: Global) -> Result<PhysMemory, Fail> {
+    let words = [
+        (0x1000, 510, 0x1003),
+        (0x1000, 0, 0x2003),
+        (0x2000, 0, 0x3003),
+        (0x3000, 0, 0x4003),
+        (0x3000, 1, 0x83),
+        (0x4000, 1, 0x5003),
+        (0x4000, 2, 0x5002),
+        (0x4000, 3, 0x9003),
+        (0x0, 511, 0x2),
+        (0x1000, 511, 0x1002),
+        (0x2000, 511, 0x2002),
+        (0x3000, 511, 0x3002),
+        (0x4000, 511, 0x4002),
+        (0x5000, 511, 0x5002),
+        (0x6000, 511, 0x6002),
+        (0x7000, 511, 0x7002),
+    ];
+    memory_with(alloc, &words)
+}
+
+/// Gives the address of a table of such a memory.
+fn address_of(table: Option<&PageTable>) -> Option<u64> {
+    let table = table?;
+    Some(table[511].addr().as_u64())
+}
+
+#[test]
+fn roots_have_self_entries(rt: HostRuntime) -> Result<(), Fail> {
+    let rows: [(u64, u16, u64, u64, bool); 9] = [
+        (0x1000, 510, 0x1003, 0x1000, true),
+        (0x1000, 510, 0xfff0_0000_0000_1f7f, 0x1000, true),
+        (0x1000, 510, 0x1002, 0x1000, false),
+        (0x1000, 510, 0x1083, 0x1000, false),
+        (0x1000, 510, 0x2003, 0x1000, false),
+        (0x1000, 509, 0x1003, 0x1000, false),
+        (0x1000, 510, 0x1003, 0x2000, false),
+        (0x2000, 510, 0x1003, 0x2000, false),
+        (0x1000, 510, 0x1003, 0x8000, false),
+    ];
+    for (frame, index, word, cr3, expected) in rows {
+        let mut memory = memory_with(rt.alloc(), &[(frame, index, word)])?;
+        let active = ActiveMemory::new(&mut memory, frame_at(cr3));
+        assert_eq!(rt; active.cr3(), frame_at(cr3));
+        let found = active.self_entry(PageTableIndex::new(510));
+        assert_eq!(rt; found, expected, "of {word:#x} at {index} from {cr3:#x}");
+    }
+    Ok(())
+}
+
+#[test]
+fn tables_are_lent_where_walks_arrive(rt: HostRuntime) -> Result<(), Fail> {
+    let rows: [(u64, Option<u64>); 13] = [
+        (0x1000, Some(0x5000)),
+        (0x1abc, None),
+        (0x2000, None),
+        (0x3000, None),
+        (0x4000, None),
+        (0x20_6000, Some(0x6000)),
+        (0x20_6800, None),
+        (0x20_8000, None),
+        (ROOT_WINDOW, Some(0x1000)),
+        (0xffff_ff7f_bfc0_0000, Some(0x2000)),
+        (0xffff_ff7f_8000_0000, Some(0x3000)),
+        (0xffff_ff00_0000_0000, Some(0x4000)),
+        (0xffff_ff00_0000_1000, Some(0x0)),
+    ];
+    for (addr, expected) in rows {
+        let mut memory = memory_with_windows(rt.alloc())?;
+        let mut active = ActiveMemory::new(&mut memory, frame_at(0x1000));
+        let addr = VirtAddr::new_truncate(addr);
+        assert_eq!(rt; address_of(active.table(addr)), expected, "at {addr:?}");
+        if let Some(table) = active.table_mut(addr) {
+            table[7].set_addr(PhysAddr::new(0x7000), PageTableFlags::WRITABLE);
+        }
+        drop(active);
+        for number in 0..8 {
+            let table = memory.table(FramePlace::new(number)).ok_or("a place")?;
+            let is_changed = expected == Some(number * 0x1000);
+            assert_eq!(rt; !table[7].is_unused(), is_changed, "{number} at {addr:?}");
+        }
+    }
+    Ok(())
+}
+
+#[test]
+fn walks_go_through_the_words_of_the_moment(rt: HostRuntime) -> Result<(), Fail> {
+    let mut memory = memory_with_windows(rt.alloc())?;
+    let mut active = ActiveMemory::new(&mut memory, frame_at(0x1000));
+    let root = VirtAddr::new(ROOT_WINDOW);
+    let window = VirtAddr::new(0xffff_ff7f_bfc0_1000);
+    assert_eq!(rt; address_of(active.table(window)), None);
+    let table = active.table_mut(root).ok_or("the root")?;
+    table[1].set_addr(PhysAddr::new(0x6000), PageTableFlags::PRESENT);
+    assert_eq!(rt; address_of(active.table(window)), Some(0x6000));
+    let table = active.table_mut(root).ok_or("the root")?;
+    table[510].set_unused();
+    assert_eq!(rt; address_of(active.table(root)), None);
+    assert_eq!(rt; address_of(active.table(window)), None);
+    assert!(rt; !active.self_entry(PageTableIndex::new(510)));
+    Ok(())
+}
+
+#[test]
+fn hierarchies_are_valid_for_an_index(rt: HostRuntime) -> Result<(), Fail> {
+    let rows: [(&[(u64, u16, u64)], bool); 10] = [
+        (&[(0x1000, 510, 0x1003)], true),
+        (
+            &[
+                (0x1000, 510, 0x1001),
+                (0x1000, 0, 0x2003),
+                (0x2000, 0, 0x3002),
+                (0x3000, 0, 0x4003),
+                (0x4000, 0, 0x1003),
+            ],
+            true,
+        ),
+        (&[], false),
+        (&[(0x1000, 510, 0x1002)], false),
+        (&[(0x1000, 510, 0x1083)], false),
+        (&[(0x1000, 510, 0x2003)], false),
+        (&[(0x1000, 511, 0x1003)], false),
+        (&[(0x1000, 510, 0x1003), (0x1000, 511, 0x1003)], false),
+        (&[(0x1000, 510, 0x1003), (0x1000, 0, 0x80)], false),
+        (
+            &[
+                (0x1000, 510, 0x1003),
+                (0x1000, 0, 0x2003),
+                (0x1000, 1, 0x2002),
+            ],
+            false,
+        ),
+    ];
+    let index = PageTableIndex::new(510);
+    for (words, expected) in rows {
+        let memory = memory_with(rt.alloc(), words)?;
+        let is_valid = is_valid_recursive(rt.alloc(), &memory, frame_at(0x1000), index)?;
+        assert_eq!(rt; is_valid, expected, "of {words:?}");
+    }
+    let small = PhysMemory::new(rt.alloc(), 1)?;
+    assert!(rt; !is_valid_recursive(rt.alloc(), &small, frame_at(0x1000), index)?);
+    Ok(())
+}
+
+#[test]
+fn pools_fit_for_an_index(rt: HostRuntime) -> Result<(), Fail> {
+    let words = [
+        (0x1000, 510, 0x1003),
+        (0x1000, 0, 0x2003),
+        (0x2000, 0, 0x3002),
+    ];
+    let rows: [(u16, u64, &[u64], bool); 8] = [
+        (510, 8, &[0x7000, 0x4000], true),
+        (510, 4, &[], true),
+        (510, 3, &[], false),
+        (510, 8, &[0x1000], false),
+        (510, 8, &[0x4000, 0x3000], false),
+        (510, 9, &[0x8000], false),
+        (509, 8, &[0x4000], false),
+        (0, 8, &[], false),
+    ];
+    let memory = memory_with(rt.alloc(), &words)?;
+    for (index, limit, frames, expected) in rows {
+        let index = PageTableIndex::new_truncate(index);
+        let pool = pool_with(rt.alloc(), limit, frames)?;
+        let fits = pool_fits_recursive(rt.alloc(), &memory, frame_at(0x1000), index, &pool)?;
+        assert_eq!(rt; fits, expected, "{frames:?} below {limit} for {index:?}");
+    }
+    Ok(())
+}
