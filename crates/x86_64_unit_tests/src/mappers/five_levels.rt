@@ -1,4 +1,8 @@
 //! Calls by the direct mapper of five levels of tables.
+ghost use Rattle.x86_64_model.specs.Marks.{serves_below};
+ghost use Rattle.x86_64_model.specs.MapperCalls.{IsReady};
+ghost use Rattle.x86_64_model.specs.Owned.{MayCleanUp};
+
 use super::clean_up::check_left;
 use super::map::{check_words, pool_of};
 use super::{image, small};
@@ -13,7 +17,7 @@ use x86_64_page::page::{Page57, PageSize, Size2MiB, Size4KiB};
 use x86_64_tables::frame_alloc::FramePool;
 use x86_64_tables::mapper::{
     CleanUp57, FlagUpdateError, FlushItem, FlushRecorder, MapToError, Mapper57, MapperFlush57,
-    MapperFlushAll, Translate57, UnmapError,
+    MapperFlushAll, Translate57, UnmapError, parent_flags,
 };
 use x86_64_tables::page_table::PageTableFlags;
 use x86_64_tables::phys_memory::{
@@ -34,6 +38,26 @@ fn page<S: PageSize>(address: u64) -> Page57<S> {
     Page57::containing_address(VirtAddr57::new_truncate(address))
 }
 
+/// Maps a page by any mapper, and records the flush.
+fn map_by<S: PageSize, M: Mapper57<S>>(
+    rt: &impl Abort,
+    alloc: Global,
+    mapper: &mut M,
+    page: Page57<S>,
+    frame: PhysFrame<S>,
+    flags: PageTableFlags,
+    pool: &mut FramePool,
+) -> Result<FlushRecorder, MapToError<S>>
+    requires { IsReady (M.hierarchy mapper.old).layout (M.hierarchy mapper.old).memory pool.old.frames }
+{
+    assert!(rt; mapper.map_allowed(page, flags, parent_flags(flags)));
+    let flush = mapper.map_to(page, frame, flags, pool)?;
+    let mut recorder = FlushRecorder::new(alloc);
+    let flushed = flush.flush(&mut recorder).map_err(MapperFlush57::ignore);
+    assert_eq!(rt; flushed, Ok(()));
+    Ok(recorder)
+}
+
 /// Maps the page of a size at an address to the frame at another, in a memory with the root in frame 0x1000, and records the flush.
 #[tactic(auto, using(x86_64_model::proofs::Lemmas::Machines::Fitting::ready_of_fits))]
 fn map<S: PageSize>(
@@ -51,19 +75,11 @@ fn map<S: PageSize>(
     let frame = PhysFrame::containing_address(PhysAddr::new_truncate(frame));
     let flags = PageTableFlags::from_bits_retain(flags);
     let page = page::<S>(start);
-    assert!(rt; mapper.map_allowed(page, flags, flags));
-    let mut recorder = FlushRecorder::new(alloc);
-    match mapper.map_to(page, frame, flags, pool) {
-        Ok(flush) => {
-            let flushed = flush.flush(&mut recorder).map_err(MapperFlush57::ignore);
-            assert_eq!(rt; flushed, Ok(()));
-            Ok(Ok(recorder))
-        }
-        Err(why) => Ok(Err(why)),
-    }
+    Ok(map_by(rt, alloc, &mut mapper, page, frame, flags, pool))
 }
 
 /// Sets the flags of the entry of level five or four on the path of the page of 4KiB at an address, by a mapper that is dropped then.
+#[tactic(auto, unfolding(x86_64_model::specs::Entry::has))]
 fn set_table_flags(
     rt: &impl Abort,
     alloc: Global,
@@ -118,8 +134,14 @@ fn translate(
     Ok(mapper.translate_addr(VirtAddr57::new_truncate(address)))
 }
 
+/// Cleans up all tables by any mapper.
+fn clean_up_by<M: CleanUp57>(mapper: &mut M, pool: &mut FramePool)
+    requires { MayCleanUp (M.hierarchy mapper.old) (serves_below pool.old.limit) pool.old.frames }
+{
+    mapper.clean_up(pool);
+}
+
 /// Cleans up all tables, by a mapper that is dropped then.
-#[tactic(auto, using(x86_64_model::proofs::Lemmas::Machines::Fitting::ready_of_fits))]
 fn clean_up(
     rt: &impl Abort,
     alloc: Global,
@@ -129,7 +151,7 @@ fn clean_up(
     let root = small(0x1000);
     assert!(rt; pool_fits_57(alloc, memory, &IdentityMapping, root, pool)?);
     let mut mapper = MappedPageTable57::new(memory, root, IdentityMapping);
-    mapper.clean_up(pool);
+    clean_up_by(&mut mapper, pool);
     Ok(())
 }
 
