@@ -27,6 +27,7 @@ pub mod Paths
 pub mod PresentParents
 pub mod ReachedSteps
 pub mod RootTables
+pub mod RootWindows
 pub mod Seen
 pub mod Sought
 pub mod StepOutcomes

@@ -1,20 +1,22 @@
 -- Windows: their indices, and where their walks arrive.
-use Rattle.std.proofs.Common.{◌≡◌, ◌<◌, ◌+◌, ◌*◌, ◌%◌, ◌==◌, ◌&&◌, ℕ, Bool, true, false, not, cond, List, [], ◌∷◌, ◌++◌, replicate, get_or, length, Option, Some, None, IsSome, option_and_then, refl, sym, ap, ap₂, ◌∙◌, arith, lit<, eqb-true, eq-eqb, ltb-true, nat_lt}
+use Rattle.std.proofs.Common.{◌≡◌, ◌<◌, ◌≤◌, ◌+◌, ◌-◌, ◌*◌, ◌^◌, ◌%◌, ◌==◌, ◌&&◌, ℕ, Bool, true, false, not, cond, List, [], ◌∷◌, ◌++◌, replicate, length, Option, Some, None, IsSome, option_and_then, refl, sym, ap, ap₂, ◌∙◌, subst, arith, eqb-true, eq-eqb, ltb-true, nat_lt}
 use Rattle.std.proofs.lemmas.Option.{same_Some}
+use Rattle.std.proofs.Math.Nat.{pow-le-pow_right}
 use Rattle.x86_64_model.specs.Arrivals.{leads}
 use Rattle.x86_64_model.specs.Entry.{has, present, huge, address}
 use Rattle.x86_64_model.specs.Memory.{Memory, Words, word, word_in, words_of, identity_places}
 use Rattle.x86_64_model.specs.PageWalk.{read}
-use Rattle.x86_64_model.specs.Path.{path_at}
-use Rattle.x86_64_model.specs.Position.{index, page_path, span}
+use Rattle.x86_64_model.specs.Path.{AllBelow, span_start}
+use Rattle.x86_64_model.specs.Position.{page_path, position_count, span}
 use Rattle.x86_64_model.specs.Window.{Window, IsSelfEntry}
 use Rattle.x86_64_model.proofs.Lemmas.Entries.Words.{address_aligned}
+use Rattle.x86_64_model.proofs.Lemmas.Paths.Starts.{path_of_start, start_inside}
 use Rattle.x86_64_model.proofs.Lemmas.Walks.Windows.{windows_reach}
 use Rattle.x86_64_tables.specs.ActiveMemory.{frame_at, walked_frame, walked_table}
 use Rattle.x86_64_tables.specs.SelfEntries.{has_self_entry, window_at}
 use Rattle.x86_64_mappers.specs.Reached.{IsReached}
-use Rattle.x86_64_mappers.specs.Recursive.{recursive}
-use Rattle.x86_64_mappers.specs.Windows.{ShowsTable, WindowsShowTables}
+use Rattle.x86_64_mappers.specs.Recursive.{recursive_at}
+use Rattle.x86_64_mappers.specs.Windows.{ShowsTableAt, WindowsShowTables}
 
 -- ---- the root's entry for itself
 
@@ -63,61 +65,41 @@ arrived : (to f : ℕ) → to ≡ f → f % 4096 ≡ 0 → cond (to % 4096 == 0)
 arrived to f same aligned = ap (λ to. cond (to % 4096 == 0) (Some to) None) same ∙ ap (λ b. cond b (Some f) None) (eq-eqb (f % 4096) 0 aligned)
 
 pub windows_show_tables : WindowsShowTables
-windows_show_tables r times path p aligned is T root frame found way =
+windows_show_tables levels r times path p some aligned is T root frame found way =
     let self = self_entry_found T root r found in
     let there = present_there T root r self.is_present in
-    let walk = windows_reach 4 (lit< tt) T root (window_at T root r) there.0 there.1 self times path frame way p is in
+    let walk = windows_reach levels some T root (window_at T root r) there.0 there.1 self times path frame way p is in
     let root_aligned = ap (λ f. f % 4096) (sym self.names_root) ∙ address_aligned (word T root r) in
     ap (option_and_then frame_at) walk.2
     ∙ arrived (frame + p % span 1) frame (ap (λ o. frame + o) aligned ∙ omega arith) (leads_aligned T path root frame root_aligned way)
 
--- ---- the three windows
+-- ---- the page of a window
 
--- a page with four indices starts at a multiple of 4096
-pub page_aligned : (a b c d p : ℕ) → p ≡ a * span 4 + b * span 3 + c * span 2 + d * span 1 → p % 4096 ≡ 0
-page_aligned a b c d p start = omega (arith, start)
+-- a page that contains a multiple of 4096 starts there
+starts_at : (w p : ℕ) → p ≡ w - w % 4096 → w % 4096 ≡ 0 → p ≡ w
+starts_at w p contains aligned = omega (arith, contains, aligned)
 
-module _ (r page p : ℕ) (four : index 4 p ≡ r) where
-  pub p3_path : index 3 p ≡ r → index 2 p ≡ r → index 1 p ≡ index 4 page → page_path 4 p ≡ replicate 3 r ++ path_at 4 4 page
-  unfolding page_path
-  p3_path three two one = λ i. four i ∷ three i ∷ two i ∷ one i ∷ []
+module _ (levels r times w p : ℕ) (path q : List ℕ) (contains : p ≡ w - w % 4096) (aligned : w % 4096 ≡ 0) (same : path ≡ q) where
+  pub window_path : page_path levels w ≡ replicate times r ++ path → page_path levels p ≡ replicate times r ++ q
+  window_path is = ap (page_path levels) (starts_at w p contains aligned) ∙ is ∙ ap (λ q. replicate times r ++ q) same
 
-  pub p2_path : index 3 p ≡ r → index 2 p ≡ index 4 page → index 1 p ≡ index 3 page → page_path 4 p ≡ replicate 2 r ++ path_at 4 3 page
-  unfolding page_path
-  p2_path three two one = λ i. four i ∷ three i ∷ two i ∷ one i ∷ []
+  pub window_shows : ShowsTableAt levels r path w → ShowsTableAt levels r q p
+  window_shows shows = subst (ShowsTableAt levels r q) (sym (starts_at w p contains aligned)) (subst (λ q. ShowsTableAt levels r q w) same shows)
 
-  pub p1_path : index 3 p ≡ index 4 page → index 2 p ≡ index 3 page → index 1 p ≡ index 2 page → page_path 4 p ≡ replicate 1 r ++ path_at 4 2 page
-  unfolding page_path
-  p1_path three two one = λ i. four i ∷ three i ∷ two i ∷ one i ∷ []
+-- positions have 57 bits at most
+pub few_positions : (levels : ℕ) → levels ≤ 5 → position_count levels ≤ 2 ^ 57
+few_positions levels few = pow-le-pow_right (omega arith) (let e : 12 + 9 * levels ≤ 57 = omega (arith, few) in e)
 
--- ---- the window of a path
+-- the page whose number is that of so many indices has them
+module _ (levels n : ℕ) (path q : List ℕ) (is : path ≡ q) (long : length q ≡ levels) (start : n * 4096 ≡ span_start (length path) path) (below : AllBelow path) where
+  start_is : n * 4096 ≡ span_start levels q
+  start_is = start ∙ ap₂ span_start (ap length is ∙ long) is
 
-module _ (r p : ℕ) (aligned : p % 4096 ≡ 0) (four : index 4 p ≡ r) where
-  pub shows_root : (path : List ℕ) → length path ≡ 0 → index 3 p ≡ r → index 2 p ≡ r → index 1 p ≡ r → ShowsTable r path p
-  unfolding page_path
-  shows_root [] l three two one = windows_show_tables r 4 [] p aligned (λ i. four i ∷ three i ∷ two i ∷ one i ∷ [])
-  shows_root (a ∷ q) l three two one = absurd (omega (arith, l))
+  pub number_path : page_path levels (n * 4096) ≡ q
+  number_path = ap (page_path levels) start_is ∙ path_of_start levels q long (subst AllBelow is below)
 
-  pub shows_level_3 : (path : List ℕ) → length path ≡ 1 → index 3 p ≡ r → index 2 p ≡ r → index 1 p ≡ get_or path 0 0 → ShowsTable r path p
-  unfolding page_path
-  shows_level_3 [] l three two one = absurd (omega (arith, l))
-  shows_level_3 (a ∷ []) l three two one = windows_show_tables r 3 (a ∷ []) p aligned (λ i. four i ∷ three i ∷ two i ∷ one i ∷ [])
-  shows_level_3 (a ∷ b ∷ q) l three two one = absurd (omega (arith, l))
-
-  pub shows_level_2 : (path : List ℕ) → length path ≡ 2 → index 3 p ≡ r → index 2 p ≡ get_or path 0 0 → index 1 p ≡ get_or path 1 0 → ShowsTable r path p
-  unfolding page_path
-  shows_level_2 [] l three two one = absurd (omega (arith, l))
-  shows_level_2 (a ∷ []) l three two one = absurd (omega (arith, l))
-  shows_level_2 (a ∷ b ∷ []) l three two one = windows_show_tables r 2 (a ∷ b ∷ []) p aligned (λ i. four i ∷ three i ∷ two i ∷ one i ∷ [])
-  shows_level_2 (a ∷ b ∷ c ∷ q) l three two one = absurd (omega (arith, l))
-
-  pub shows_level_1 : (path : List ℕ) → length path ≡ 3 → index 3 p ≡ get_or path 0 0 → index 2 p ≡ get_or path 1 0 → index 1 p ≡ get_or path 2 0 → ShowsTable r path p
-  unfolding page_path
-  shows_level_1 [] l three two one = absurd (omega (arith, l))
-  shows_level_1 (a ∷ []) l three two one = absurd (omega (arith, l))
-  shows_level_1 (a ∷ b ∷ []) l three two one = absurd (omega (arith, l))
-  shows_level_1 (a ∷ b ∷ c ∷ []) l three two one = windows_show_tables r 1 (a ∷ b ∷ c ∷ []) p aligned (λ i. four i ∷ three i ∷ two i ∷ one i ∷ [])
-  shows_level_1 (a ∷ b ∷ c ∷ d ∷ q) l three two one = absurd (omega (arith, l))
+  pub number_inside : n * 4096 < position_count levels
+  number_inside = subst (λ p. p < position_count levels) (sym start_is) (start_inside levels q long (subst AllBelow is below))
 
 -- ---- tables through them
 
@@ -127,9 +109,9 @@ self_entry_tells T root w self =
     ap (λ e. present e && not (huge e) && (address e == root)) (sym self.is_word)
     ∙ ap₂ (λ p h. p && not h && (address w.self_entry == root)) self.is_present self.not_huge ∙ eq-eqb (address w.self_entry) root self.names_root
 
-module _ (memory : Memory) (root : ℕ) (w : Window) (path : List ℕ) (f : ℕ) (reached : IsReached (recursive root w) memory path f) (p : ℕ) (shows : ShowsTable w.index path p) where
-  pub window_walks : walked_frame (words_of memory identity_places) root p ≡ Some f
+module _ (levels : ℕ) (memory : Memory) (root : ℕ) (w : Window) (path : List ℕ) (f : ℕ) (reached : IsReached (recursive_at levels root w) memory path f) (p : ℕ) (shows : ShowsTableAt levels w.index path p) where
+  pub window_walks : walked_frame levels (words_of memory identity_places) root p ≡ Some f
   window_walks = shows (words_of memory identity_places) root f (self_entry_tells (words_of memory identity_places) root w reached.self) reached.way
 
-  pub window_table : walked_table (words_of memory identity_places) root p ≡ words_of memory identity_places f
+  pub window_table : walked_table levels (words_of memory identity_places) root p ≡ words_of memory identity_places f
   window_table = ap (option_and_then (words_of memory identity_places)) window_walks

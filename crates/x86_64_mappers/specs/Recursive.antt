@@ -6,30 +6,48 @@ use Rattle.x86_64_model.specs.Memory.{Memory, identity_places, words_of}
 use Rattle.x86_64_model.specs.Owned.{Hierarchy}
 use Rattle.x86_64_model.specs.Window.{Window}
 use Rattle.x86_64_tables.specs.SelfEntries.{window_at}
+use Rattle.x86_64_tables.specs.contracts.level_count.FiveLevels as five
+use Rattle.x86_64_tables.specs.contracts.level_count.FourLevels as four
 use Rattle.x86_64_tables.specs.contracts.page_table.table.PageTable.{the_row as table_row}
 use Rattle.x86_64_mappers.specs.contracts.recursive_page_table.Recursive.{the_row as recursive_row}
 use Rattle.x86_64_mappers.specs.declared.recursive_page_table.Recursive.{Recursive}
 
--- four levels of tables from a root with a window: a new table entry gets PRESENT and WRITABLE beside the parent flags
-abbrev pub recursive : (root : ℕ) → Window → Layout
-recursive root window = record { levels = 4; places = identity_places; root = root; window = Some window; added_flags = 3 }
+-- so many levels of tables from a root with a window: a new table entry gets PRESENT and WRITABLE beside the parent flags
+abbrev pub recursive_at : (levels : ℕ) → (root : ℕ) → Window → Layout
+recursive_at levels root window = record { levels = levels; places = identity_places; root = root; window = Some window; added_flags = 3 }
 
 -- such a hierarchy in a memory, and which memory was lent
-abbrev pub owned_by : (root : ℕ) → Window → Memory → GName → Hierarchy GName
-owned_by root window memory lent = record { layout = recursive root window; memory = memory; lent = lent }
+abbrev pub owned_by : (levels : ℕ) → (root : ℕ) → Window → Memory → GName → Hierarchy GName
+owned_by levels root window memory lent = record { layout = recursive_at levels root window; memory = memory; lent = lent }
 
--- the layout for a recursive index, with the word that the root has there now
+-- the layout of so many levels for a recursive index, with the word that the root has there now
+abbrev pub recursive_now_at : (levels : ℕ) → Memory → (root index : ℕ) → Layout
+recursive_now_at levels memory root r = recursive_at levels root (window_at (words_of memory identity_places) root r)
+
+-- that of four levels
 abbrev pub recursive_now : Memory → (root index : ℕ) → Layout
-recursive_now memory root r = recursive root (window_at (words_of memory identity_places) root r)
+recursive_now memory root r = recursive_now_at 4 memory root r
+
+-- that of five levels
+abbrev pub recursive_now_57 : Memory → (root index : ℕ) → Layout
+recursive_now_57 memory root r = recursive_now_at 5 memory root r
 
 -- the window of an index where the root's word names the root and has these flags
 abbrev pub window_with : (root index flags : ℕ) → Window
 window_with root r flags = record { index = r; self_entry = bit_or root flags }
 
 -- the memory that it was made of, as it is
-abbrev pub active_in : {A : Type 0} → Recursive A → A
+abbrev pub active_in : {A L : Type 0} → Recursive A L → A
 active_in mapper = mapper.active
 
 -- a mapper ends with the last table behind r in the root's frame
-abbrev pub LendsRootWindow : (A : RattleType) → (with : A.Denot → ℕ → List ℕ → A.Denot) → MutBor (Recursive A.Denot) → (root : ℕ) → MutBor (List ℕ) → Fml
-LendsRootWindow A with s root r = Lends (recursive_row A) table_row s r (λ table. record s.now { active = with s.now.active root table })
+abbrev pub LendsRootWindowAt : (A L : RattleType) → (with : A.Denot → ℕ → List ℕ → A.Denot) → MutBor (Recursive A.Denot L.Denot) → (root : ℕ) → MutBor (List ℕ) → Fml
+LendsRootWindowAt A L with s root r = Lends (recursive_row A L) table_row s r (λ table. record s.now { active = with s.now.active root table })
+
+-- the same at four levels
+abbrev pub LendsRootWindow : (A : RattleType) → (with : A.Denot → ℕ → List ℕ → A.Denot) → MutBor (Recursive A.Denot four.the_row.Denot) → (root : ℕ) → MutBor (List ℕ) → Fml
+LendsRootWindow A with s root r = LendsRootWindowAt A four.the_row with s root r
+
+-- the same at five levels
+abbrev pub LendsRootWindow57 : (A : RattleType) → (with : A.Denot → ℕ → List ℕ → A.Denot) → MutBor (Recursive A.Denot five.the_row.Denot) → (root : ℕ) → MutBor (List ℕ) → Fml
+LendsRootWindow57 A with s root r = LendsRootWindowAt A five.the_row with s root r

@@ -3,7 +3,6 @@
 
 mod access;
 pub mod laws;
-pub mod level_count;
 pub mod mapped_page_table;
 pub mod offset_page_table;
 pub mod recursive_page_table;

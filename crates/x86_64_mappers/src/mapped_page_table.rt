@@ -5,7 +5,6 @@ ghost use Rattle.x86_64_model.specs.Owned.{Valid};
 ghost use Rattle.x86_64_mappers.specs.Layouts.{direct_at, root_table, HasRoot};
 
 use crate::access::{TableAccess, change, clean_up, condition, map, translate};
-use crate::level_count::{FiveLevels, FourLevels, LevelCount};
 use bitflags::Flags;
 use std::alloc::{AllocError, Global};
 use std::marker::PhantomData;
@@ -14,6 +13,7 @@ use x86_64_addr::index::PageTableIndex;
 use x86_64_page::frame::PhysFrame;
 use x86_64_page::page::{PageSize, Size4KiB};
 use x86_64_tables::frame_alloc::{FrameAllocator, FrameDeallocator};
+use x86_64_tables::level_count::{FiveLevels, FourLevels, LevelCount};
 use x86_64_tables::mapper::{
     CleanUp, CleanUp57, FlagUpdateError, MapToError, Mapper, Mapper57, PageTables, PageTables57,
     PathCalls, Tables, Translate, Translate57, TranslateError, TranslateResult, UnmapError,

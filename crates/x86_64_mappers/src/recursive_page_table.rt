@@ -1,14 +1,13 @@
 //! The mapper that reaches tables through the root's entry for itself, and the windows in which it finds them.
-ghost use Rattle.std.specs.Prelude.{◌≡◌, ◌<◌, length, Some, bit_or};
+ghost use Rattle.std.specs.Prelude.{◌≡◌, Some, bit_or};
 ghost use Rattle.std.specs.Borrow.{sem, GName};
 ghost use Rattle.x86_64_model.specs.Layout.{Valid as ValidIn};
 ghost use Rattle.x86_64_model.specs.Memory.{word, words_of, identity_places};
 ghost use Rattle.x86_64_model.specs.Owned.{Valid};
 ghost use Rattle.x86_64_tables.specs.PageTableFlags.{bits_of};
-ghost use Rattle.x86_64_mappers.specs.InvalidPageTables.{refuses};
+ghost use Rattle.x86_64_mappers.specs.InvalidPageTables.{is_root_window};
 ghost use Rattle.x86_64_mappers.specs.Layouts.{root_table};
-ghost use Rattle.x86_64_mappers.specs.Recursive.{recursive_now};
-ghost use Rattle.x86_64_mappers.specs.Windows.{ShowsTable};
+ghost use Rattle.x86_64_mappers.specs.Recursive.{recursive_now_at};
 
 mod walked_tables;
 mod windows;
@@ -16,24 +15,29 @@ mod windows;
 use crate::access::{TableAccess, change, clean_up, condition, map, translate};
 use bitflags::Flags;
 use std::fmt::{Display, Formatter, Result as FmtResult, Write};
+use std::marker::PhantomData;
 pub use walked_tables::WalkedTables;
-pub use windows::{p1_window, p2_window, p3_window};
-use x86_64_addr::addr::VirtAddr;
-use x86_64_addr::index::{PageOffset, PageTableIndex};
+use windows::{window, window_position};
+pub use windows::{
+    p1_window, p1_window_57, p2_window, p2_window_57, p3_window, p3_window_57, p4_window_57,
+};
+use x86_64_addr::addr::{VirtAddr, VirtAddr57};
+use x86_64_addr::index::PageTableIndex;
 use x86_64_page::frame::PhysFrame;
-use x86_64_page::page::{Page, PageSize, Size4KiB};
+use x86_64_page::page::{PageSize, Size4KiB};
 use x86_64_tables::frame_alloc::{FrameAllocator, FrameDeallocator};
+use x86_64_tables::level_count::{FiveLevels, FourLevels, LevelCount};
 use x86_64_tables::mapper::{
-    CleanUp, FlagUpdateError, MapToError, Mapper, PageTables, PathCalls, Tables, Translate,
-    TranslateError, TranslateResult, UnmapError,
+    CleanUp, CleanUp57, FlagUpdateError, MapToError, Mapper, Mapper57, PageTables, PageTables57,
+    PathCalls, Tables, Translate, Translate57, TranslateError, TranslateResult, UnmapError,
 };
 use x86_64_tables::page_table::{PageTable, PageTableFlags};
-use x86_64_tables::phys_memory::ActiveMemory;
+use x86_64_tables::phys_memory::{ActiveMemory, ActiveMemory57};
 
 /// Says why no mapper was made.
 #[derive(Clone, Copy, Debug, PartialEq)]
 pub enum InvalidPageTable {
-    /// The address isn't one whose four indices are the same and whose offset in the page is 0.
+    /// The address isn't one whose indices are all the same and whose offset in the page is 0.
     NotRecursive,
     /// The table isn't the one from which walks start, or its entry at the index doesn't name it.
     NotActive,
@@ -48,27 +52,32 @@ impl Display for InvalidPageTable {
     }
 }
 
-/// Maps pages in a hierarchy of four levels of tables. It is handed no memory: each table is reached at its window, by a walk
+/// Maps pages in a hierarchy of so many levels of tables. It is handed no memory: each table is reached at its window, by a walk
 /// through the tables as they are at that moment, which goes through the root's entry for itself.
 ///
 /// A new table's entry gets `PRESENT` and `WRITABLE` beside the parent flags, since the table is reached only once it is named.
 /// Of an address that begins with the recursive index, [`translate`](Translate::translate) and
 /// [`translate_page`](Mapper::translate_page) tell what the rest of its path says, as the processor does.
 #[derive(Drop)]
-pub struct Recursive<A> {
+pub struct Recursive<A, L> {
     active: A,
     index: PageTableIndex,
     self_flags: PageTableFlags,
+    levels: PhantomData<L>,
 }
 
-/// The mapper of an active memory.
-pub type RecursivePageTable<'a> = Recursive<ActiveMemory<'a>>;
+/// The mapper of an active memory with four levels of tables.
+pub type RecursivePageTable<'a> = Recursive<ActiveMemory<'a>, FourLevels>;
 
-impl<'a> Recursive<ActiveMemory<'a>> {
+/// The mapper of an active memory with five levels of tables.
+pub type RecursivePageTable57<'a> = Recursive<ActiveMemory57<'a>, FiveLevels>;
+
+impl<'a> Recursive<ActiveMemory<'a>, FourLevels> {
     ghost use Rattle.std.specs.Prelude.{◌↔◌, None, IsOk, IfOk, IfErr};
     ghost use Rattle.x86_64_model.specs.Position.{index};
     ghost use Rattle.x86_64_tables.specs.ActiveMemory.{memory_of, cr3_of};
-    ghost use Rattle.x86_64_mappers.specs.Recursive.{active_in};
+    ghost use Rattle.x86_64_mappers.specs.InvalidPageTables.{refuses};
+    ghost use Rattle.x86_64_mappers.specs.Recursive.{active_in, recursive_now};
 
     /// Makes a mapper of the hierarchy whose root is the table in a frame, which the walk of an address arrives at.
     ///
@@ -97,32 +106,68 @@ impl<'a> Recursive<ActiveMemory<'a>> {
         ensures refused { let why_not = refuses (memory_of active.entry) (cr3_of active.entry) table virt in
             IfErr result (λ why. why_not ≡ Some why) }
     {
-        match Self::refusal(&active, table, virt) {
-            Some(why) => Err(why),
-            None => Ok(Self::new_unchecked(active, virt.p4_index())),
-        }
+        Self::unless_refused(active, table, virt)
     }
 }
 
-impl<A: WalkedTables> Recursive<A> {
-    ghost use Rattle.x86_64_mappers.specs.Recursive.{active_in, LendsRootWindow};
+impl<'a> Recursive<ActiveMemory57<'a>, FiveLevels> {
+    ghost use Rattle.std.specs.Prelude.{◌↔◌, None, IsOk, IfOk, IfErr};
+    ghost use Rattle.x86_64_model.specs.Position.{index};
+    ghost use Rattle.x86_64_tables.specs.ActiveMemory.{memory_of, cr3_of};
+    ghost use Rattle.x86_64_mappers.specs.InvalidPageTables.{refuses_57};
+    ghost use Rattle.x86_64_mappers.specs.Recursive.{active_in, recursive_now_57};
+
+    /// Makes a mapper of the hierarchy whose root is the table in a frame, which the walk of an address arrives at.
+    ///
+    /// Where it is refused no word changes; an owner of the memory that asks [`refusal`](Self::refusal) first knows so.
+    ///
+    /// Condition: unless [`refusal`](Self::refusal) tells why not, the hierarchy is valid for the index of the address, whose
+    /// five indices are one then.
+    ///
+    /// # Errors
+    ///
+    /// What [`refusal`](Self::refusal) tells.
+    pub fn new(
+        active: ActiveMemory57<'a>,
+        table: PhysFrame<Size4KiB>,
+        virt: VirtAddr57,
+    ) -> Result<Self, InvalidPageTable>
+        requires { let memory = memory_of active in let cr3 = cr3_of active in
+            let now = recursive_now_57 memory cr3 (index 5 virt) in
+            refuses_57 memory cr3 table virt ≡ None → ValidIn now memory }
+        ensures active { IfOk result (λ mapper. active_in mapper ≡ active.entry) }
+        ensures layout { let memory = memory_of active.entry in let cr3 = cr3_of active.entry in
+            let now = recursive_now_57 memory cr3 (index 5 virt) in
+            IfOk result (λ mapper. (⟦<Self as Tables>⟧.hierarchy mapper).layout ≡ now) }
+        ensures made { let why_not = refuses_57 (memory_of active.entry) (cr3_of active.entry) table virt in
+            IsOk result ↔ (why_not ≡ None) }
+        ensures refused { let memory = memory_of active.entry in let cr3 = cr3_of active.entry in
+            let why_not = refuses_57 memory cr3 table virt in
+            IfErr result (λ why. why_not ≡ Some why) }
+    {
+        Self::unless_refused(active, table, virt)
+    }
+}
+
+impl<A: WalkedTables<L>, L: LevelCount> Recursive<A, L> {
+    ghost use Rattle.std.specs.Prelude.{◌↔◌, None, IsOk, IfOk, IfErr};
+    ghost use Rattle.x86_64_model.specs.Position.{index};
+    ghost use Rattle.x86_64_mappers.specs.InvalidPageTables.{refuses_at};
+    ghost use Rattle.x86_64_mappers.specs.Recursive.{active_in};
 
     /// Tells why no mapper is made of a table at an address, if none is.
     pub fn refusal(
         active: &A,
         table: PhysFrame<Size4KiB>,
-        virt: VirtAddr,
+        virt: L::Addr,
     ) -> Option<InvalidPageTable>
-        ensures { result ≡ refuses (A.memory active.now) (A.root active.now) table virt }
+        ensures { let memory = A.memory active.now in
+            result ≡ refuses_at L.LEVELS memory (A.root active.now) table (L.position virt) }
     {
-        let index = virt.p4_index();
-        if virt.p3_index() != index
-            || virt.p2_index() != index
-            || virt.p1_index() != index
-            || virt.page_offset() != PageOffset::new(0)
-        {
+        if !is_root_window::<L>(virt) {
             return Some(InvalidPageTable::NotRecursive);
         }
+        let index = L::root_index(virt);
         if table != active.cr3() || !active.self_entry(index) {
             return Some(InvalidPageTable::NotActive);
         }
@@ -134,18 +179,51 @@ impl<A: WalkedTables> Recursive<A> {
     /// Condition: the hierarchy is valid for the index.
     pub fn new_unchecked(active: A, index: PageTableIndex) -> Self
         requires { let memory = A.memory active in
-            ValidIn (recursive_now memory (A.root active) index) memory }
+            ValidIn (recursive_now_at L.LEVELS memory (A.root active) index) memory }
         ensures active { active_in result ≡ active }
-        ensures layout { let now = recursive_now (A.memory active) (A.root active) index in
+        ensures layout { let now = recursive_now_at L.LEVELS (A.memory active) (A.root active) index in
             (⟦<Self as Tables>⟧.hierarchy result).layout ≡ now }
     {
-        let self_flags = self_flags(&active, index);
+        let self_flags = self_flags::<A, L>(&active, index);
         Recursive {
             active,
             index,
             self_flags,
+            levels: PhantomData,
         }
     }
+
+    /// Makes a mapper unless [`refusal`](Self::refusal) tells why not.
+    fn unless_refused(
+        active: A,
+        table: PhysFrame<Size4KiB>,
+        virt: L::Addr,
+    ) -> Result<Self, InvalidPageTable>
+    where
+        A: Drop,
+        requires { let memory = A.memory active in let root = A.root active in
+            let now = recursive_now_at L.LEVELS memory root (index L.LEVELS (L.position virt)) in
+            refuses_at L.LEVELS memory root table (L.position virt) ≡ None → ValidIn now memory }
+        ensures active { IfOk result (λ mapper. active_in mapper ≡ active) }
+        ensures layout { let r = index L.LEVELS (L.position virt) in
+            let now = recursive_now_at L.LEVELS (A.memory active) (A.root active) r in
+            IfOk result (λ mapper. (⟦<Self as Tables>⟧.hierarchy mapper).layout ≡ now) }
+        ensures made { let root = A.root active in
+            let why_not = refuses_at L.LEVELS (A.memory active) root table (L.position virt) in
+            IsOk result ↔ (why_not ≡ None) }
+        ensures refused { let root = A.root active in
+            let why_not = refuses_at L.LEVELS (A.memory active) root table (L.position virt) in
+            IfErr result (λ why. why_not ≡ Some why) }
+    {
+        match Self::refusal(&active, table, virt) {
+            Some(why) => Err(why),
+            None => Ok(Self::new_unchecked(active, L::root_index(virt))),
+        }
+    }
+}
+
+impl<A: WalkedTables<FourLevels>> Recursive<A, FourLevels> {
+    ghost use Rattle.x86_64_mappers.specs.Recursive.{LendsRootWindow};
 
     /// Gives the table of level four, through its window.
     ///
@@ -171,26 +249,62 @@ impl<A: WalkedTables> Recursive<A> {
     }
 }
 
+impl<A: WalkedTables<FiveLevels>> Recursive<A, FiveLevels> {
+    ghost use Rattle.x86_64_mappers.specs.Recursive.{LendsRootWindow57};
+
+    /// Gives the table of level five, through its window.
+    ///
+    /// Condition: the hierarchy is valid.
+    pub fn level_5_table(&self) -> &PageTable
+        requires { Valid (⟦<Self as Tables>⟧.hierarchy self.now) }
+        ensures { root_table (⟦<Self as Tables>⟧.hierarchy self.now) ≡ Some result.now }
+    {
+        self.table(&[], self.active.cr3())
+    }
+
+    /// Lends the table of level five to be changed, through its window.
+    ///
+    /// Condition: the hierarchy is valid.
+    pub fn level_5_table_mut(&mut self) -> &mut PageTable
+        requires { Valid (⟦<Self as Tables>⟧.hierarchy self.old) }
+        ensures* lends { let root = A.root self.old.active in
+            sem 𝓛 (LendsRootWindow57 A.row A.with_table self.entry root result) }
+        ensures value { root_table (⟦<Self as Tables>⟧.hierarchy self.old) ≡ Some result.now }
+    {
+        let root = self.active.cr3();
+        self.table_mut(&[], root)
+    }
+}
+
+/// Tells whether an address is the root's window: its indices are one, and its page offset is 0.
+fn is_root_window<L: LevelCount>(addr: L::Addr) -> bool
+    ensures { result ≡ is_root_window L.LEVELS (L.position addr) }
+{
+    L::position_of(addr) == window_position::<L>(L::root_index(addr), &[])
+}
+
 /// Gives the flags of the root's entry for itself.
-fn self_flags<A: WalkedTables>(active: &A, index: PageTableIndex) -> PageTableFlags
+fn self_flags<A: WalkedTables<L>, L: LevelCount>(
+    active: &A,
+    index: PageTableIndex,
+) -> PageTableFlags
     requires { let memory = A.memory active.now in
-        ValidIn (recursive_now memory (A.root active.now) index) memory }
+        ValidIn (recursive_now_at L.LEVELS memory (A.root active.now) index) memory }
     ensures { let words = words_of (A.memory active.now) identity_places in let root = A.root active.now in
         bit_or root (bits_of result) ≡ word words root index }
 {
-    let table = active.table(window(index, &[])).unwrap();
+    let table = active.table(window::<L>(index, &[])).unwrap();
     table[usize::from(index)].flags()
 }
 
-impl<A: WalkedTables> Tables for Recursive<A> {
-    ghost use Rattle.std.proofs.Common.{lit≤};
+impl<A: WalkedTables<L>, L: LevelCount> Tables for Recursive<A, L> {
     ghost use Rattle.x86_64_mappers.specs.ImplLaws.{present_writable, numbers_are_mapping};
     ghost use Rattle.x86_64_mappers.specs.Recursive.{owned_by, window_with};
 
     ghost Lent = { GName };
 
     ghost hierarchy = { λ mapper. let root = A.root mapper.active in
-        owned_by root (window_with root mapper.index (bits_of mapper.self_flags)) (A.memory mapper.active) (A.lent mapper.active) };
+        owned_by L.LEVELS root (window_with root mapper.index (bits_of mapper.self_flags)) (A.memory mapper.active) (A.lent mapper.active) };
 
     ghost added_flags = { λ _. present_writable };
 
@@ -198,22 +312,28 @@ impl<A: WalkedTables> Tables for Recursive<A> {
         Some(self.index)
     }
 
-    ghost some_levels = { λ _. lit≤ tt };
+    ghost some_levels = { λ _. L.some_levels };
 
-    ghost most_levels = { λ _. lit≤ tt };
+    ghost most_levels = { λ _. L.most_levels };
 
     ghost is_mapping = { λ _. numbers_are_mapping };
 }
 
-impl<A: WalkedTables> PageTables for Recursive<A> {
+impl<A: WalkedTables<FourLevels>> PageTables for Recursive<A, FourLevels> {
     ghost use Rattle.std.proofs.Common.{refl};
 
     ghost four_levels = { λ _. refl };
 }
 
-impl<A: WalkedTables> TableAccess for Recursive<A> {
+impl<A: WalkedTables<FiveLevels>> PageTables57 for Recursive<A, FiveLevels> {
+    ghost use Rattle.std.proofs.Common.{refl};
+
+    ghost five_levels = { λ _. refl };
+}
+
+impl<A: WalkedTables<L>, L: LevelCount> TableAccess for Recursive<A, L> {
     ghost use Rattle.std.proofs.Common.{ap};
-    ghost use Rattle.x86_64_mappers.specs.Recursive.{recursive, window_with};
+    ghost use Rattle.x86_64_mappers.specs.Recursive.{recursive_at, window_with};
 
     ghost with_table = { λ mapper frame table. record mapper { active = A.with_table mapper.active frame table } };
 
@@ -226,7 +346,7 @@ impl<A: WalkedTables> TableAccess for Recursive<A> {
     }
 
     fn table(&self, path: &[PageTableIndex], _frame: PhysFrame<Size4KiB>) -> &PageTable {
-        self.active.table(window(self.index, path)).unwrap()
+        self.active.table(window::<L>(self.index, path)).unwrap()
     }
 
     fn table_mut(
@@ -234,25 +354,31 @@ impl<A: WalkedTables> TableAccess for Recursive<A> {
         path: &[PageTableIndex],
         _frame: PhysFrame<Size4KiB>,
     ) -> &mut PageTable {
-        let addr = window(self.index, path);
+        let addr = window::<L>(self.index, path);
         self.active.table_mut(addr).unwrap()
     }
 
     ghost puts = { λ mapper frame table. A.puts mapper.active frame table };
 
     ghost keeps_layout = { λ mapper frame table.
-        ap (λ root. recursive root (window_with root mapper.index (bits_of mapper.self_flags))) (A.keeps_root mapper.active frame table) };
+        ap (λ root. recursive_at L.LEVELS root (window_with root mapper.index (bits_of mapper.self_flags))) (A.keeps_root mapper.active frame table) };
 
     ghost keeps_lent = { λ mapper frame table. A.keeps_lent mapper.active frame table };
 }
 
-impl<A: WalkedTables> Translate for Recursive<A> {
+impl<A: WalkedTables<FourLevels>> Translate for Recursive<A, FourLevels> {
     fn translate(&self, addr: VirtAddr) -> TranslateResult {
         translate::translate(self, addr)
     }
 }
 
-impl<A: WalkedTables> PathCalls for Recursive<A> {
+impl<A: WalkedTables<FiveLevels>> Translate57 for Recursive<A, FiveLevels> {
+    fn translate(&self, addr: VirtAddr57) -> TranslateResult {
+        translate::translate_57(self, addr)
+    }
+}
+
+impl<A: WalkedTables<L>, L: LevelCount> PathCalls for Recursive<A, L> {
     fn map_path<S: PageSize, F: FrameAllocator<Size4KiB>>(
         &mut self,
         path: &[PageTableIndex],
@@ -323,19 +449,10 @@ impl<A: WalkedTables> PathCalls for Recursive<A> {
     }
 }
 
-impl<A: WalkedTables, S: PageSize> Mapper<S> for Recursive<A> {}
+impl<A: WalkedTables<FourLevels>, S: PageSize> Mapper<S> for Recursive<A, FourLevels> {}
 
-impl<A: WalkedTables> CleanUp for Recursive<A> {}
+impl<A: WalkedTables<FiveLevels>, S: PageSize> Mapper57<S> for Recursive<A, FiveLevels> {}
 
-/// Gives the address at which the table that a path leads to is reached.
-fn window(index: PageTableIndex, path: &[PageTableIndex]) -> VirtAddr
-    requires { length path.now < 4 }
-    ensures { ShowsTable index path.now result }
-{
-    match path.len() {
-        0 => Page::from_page_table_indices(index, index, index, index).start_address(),
-        1 => Page::from_page_table_indices(index, index, index, path[0]).start_address(),
-        2 => Page::from_page_table_indices(index, index, path[0], path[1]).start_address(),
-        _ => Page::from_page_table_indices(index, path[0], path[1], path[2]).start_address(),
-    }
-}
+impl<A: WalkedTables<FourLevels>> CleanUp for Recursive<A, FourLevels> {}
+
+impl<A: WalkedTables<FiveLevels>> CleanUp57 for Recursive<A, FiveLevels> {}

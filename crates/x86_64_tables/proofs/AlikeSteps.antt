@@ -9,7 +9,7 @@ use Rattle.x86_64_model.specs.Tables.{without_word}
 use Rattle.x86_64_model.specs.Window.{outside_window}
 use Rattle.x86_64_model.proofs.Lemmas.Hierarchies.Exists.{read_or_in, entry_paths_of}
 use Rattle.x86_64_tables.specs.Images.{below_word}
-use Rattle.x86_64_tables.specs.PathsSeen.{AlikeFrom, places_for, paths_seen}
+use Rattle.x86_64_tables.specs.PathsSeen.{AlikeFrom, places_for, paths_seen_at}
 use Rattle.x86_64_tables.specs.SelfEntries.{window_in}
 use Rattle.x86_64_tables.proofs.WordsSeen.{is_named, named_at, is_not_named}
 
@@ -167,7 +167,7 @@ module _ (L : ℕ) (T : Words) (root : ℕ) (U : Words) (other_root : ℕ) where
       (entry_paths_of L T root q) (entry_paths_of L U other_root q) (alike q)
 
 -- hierarchies are alike from their roots exactly where the path maps that are seen are
-module _ (memory other_memory : Memory) (places other_places : Places) (root other_root : ℕ) (index other_index : Option ℕ) where
+module _ (memory other_memory : Memory) (places other_places : Places) (root other_root : ℕ) (index other_index : Option ℕ) (levels : ℕ) where
   abbrev words : Words
   words = words_of memory (places_for (is_some index) places)
 
@@ -175,10 +175,10 @@ module _ (memory other_memory : Memory) (places other_places : Places) (root oth
   other_words = words_of other_memory (places_for (is_some other_index) other_places)
 
   abbrev AlikeMaps : Words → Words → Type 0
-  AlikeMaps T U = Alike 4 (paths_of 4 T root) (paths_of 4 U other_root)
+  AlikeMaps T U = Alike (suc levels) (paths_of (suc levels) T root) (paths_of (suc levels) U other_root)
 
-  pub alike_seen : AlikeFrom 3 (without_word index root words) root (without_word other_index other_root other_words) other_root
-      ↔ Alike 4 (paths_seen memory places root index) (paths_seen other_memory other_places other_root other_index)
+  pub alike_seen : AlikeFrom levels (without_word index root words) root (without_word other_index other_root other_words) other_root
+      ↔ Alike (suc levels) (paths_seen_at (suc levels) memory places root index) (paths_seen_at (suc levels) other_memory other_places other_root other_index)
   alike_seen =
       let e = seen_outside words root index in
       let d = seen_outside other_words other_root other_index in
@@ -186,6 +186,6 @@ module _ (memory other_memory : Memory) (places other_places : Places) (root oth
       let U = without_word other_index other_root other_words in
       let V = outside_window (window_in words root index) root words in
       let W = outside_window (window_in other_words other_root other_index) other_root other_words in (
-        λ alike. subst (λ T. AlikeMaps T W) e (subst (λ U. AlikeMaps T U) d (alike_paths 4 T root U other_root alike.at)),
-        λ alike. record { at = alike_read 4 T root U other_root (subst (λ V. AlikeMaps V U) (sym e) (subst (λ W. AlikeMaps V W) (sym d) alike)) },
+        λ alike. subst (λ T. AlikeMaps T W) e (subst (λ U. AlikeMaps T U) d (alike_paths (suc levels) T root U other_root alike.at)),
+        λ alike. record { at = alike_read (suc levels) T root U other_root (subst (λ V. AlikeMaps V U) (sym e) (subst (λ W. AlikeMaps V W) (sym d) alike)) },
       )

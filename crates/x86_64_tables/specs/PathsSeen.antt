@@ -17,11 +17,19 @@ pub is_mapping_for : (by_number : Bool) (places : Places) → IsMapping places �
 is_mapping_for false places mapping = mapping
 is_mapping_for true places mapping = identity_is_mapping
 
--- the path map that the memory's words hold, without the root's word at the recursive index where there is one
-abbrev pub paths_seen : Memory → Places → (root : ℕ) → (recursive : Option ℕ) → PathMap
-paths_seen memory places root recursive =
+-- the path map of so many levels that the memory's words hold, without the root's word at the recursive index where there is one
+abbrev pub paths_seen_at : (levels : ℕ) → Memory → Places → (root : ℕ) → (recursive : Option ℕ) → PathMap
+paths_seen_at levels memory places root recursive =
     let words = words_of memory (places_for (is_some recursive) places) in
-    paths_of 4 (outside_window (window_in words root recursive) root words) root
+    paths_of levels (outside_window (window_in words root recursive) root words) root
+
+-- of four levels
+abbrev pub paths_seen : Memory → Places → (root : ℕ) → (recursive : Option ℕ) → PathMap
+paths_seen memory places root recursive = paths_seen_at 4 memory places root recursive
+
+-- of five levels
+abbrev pub paths_seen_57 : Memory → Places → (root : ℕ) → (recursive : Option ℕ) → PathMap
+paths_seen_57 memory places root recursive = paths_seen_at 5 memory places root recursive
 
 -- from the tables in two frames, with n levels of tables below each, the entries at each path are alike
 pub record AlikeFrom (n : ℕ) (T : Words) (f : ℕ) (U : Words) (g : ℕ) : Type 0 where

@@ -3,6 +3,7 @@
 
 pub mod frame_alloc;
 pub mod laws;
+pub mod level_count;
 pub mod mapper;
 pub mod page_table;
 pub mod phys_memory;

@@ -21,16 +21,16 @@ mod validity;
 mod walk;
 
 use crate::page_table::PageTable;
-pub use active::ActiveMemory;
-pub use alike::tables_alike;
+pub use active::{Active, ActiveMemory, ActiveMemory57};
+pub use alike::{tables_alike, tables_alike_57};
 use places::{SortedPlaces, is_increasing};
 pub use shift_mapping::ShiftMapping;
 use std::alloc::{AllocError, Global};
 use std::marker::Model;
 use std::ops::{Index, IndexMut};
 pub use validity::{
-    is_valid_hierarchy, is_valid_hierarchy_57, is_valid_recursive, pool_fits, pool_fits_57,
-    pool_fits_recursive,
+    is_valid_hierarchy, is_valid_hierarchy_57, is_valid_recursive, is_valid_recursive_57,
+    pool_fits, pool_fits_57, pool_fits_recursive, pool_fits_recursive_57,
 };
 pub use walk::{Walked, page_walk, page_walk_57};
 use x86_64_page::frame::PhysFrame;

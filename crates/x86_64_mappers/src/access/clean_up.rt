@@ -15,7 +15,7 @@ use x86_64_page::page::Size4KiB;
 use x86_64_tables::frame_alloc::FrameDeallocator;
 
 /// How many indices the longest path has: one for each level of tables that a processor knows.
-const MOST_LEVELS: usize = 5;
+pub const MOST_LEVELS: usize = 5;
 
 /// Holds the paths of the first and of the last page of a range, which have an index for each level of tables.
 #[derive(Drop)]
@@ -140,7 +140,7 @@ fn clean_up_entry<M: TableAccess, D: FrameDeallocator<Size4KiB>>(
 }
 
 /// Gives the number of the 4KiB page with a path: how many pages start before it.
-fn page_number(path: &[PageTableIndex]) -> u64
+pub fn page_number(path: &[PageTableIndex]) -> u64
     requires { length path.now ≤ 5 }
     ensures start { result * 0x1000 ≡ span_start (length path.now) path.now }
     ensures below { AllBelow path.now }

@@ -15,6 +15,7 @@ use x86_64_addr::addr::{VirtAddr, VirtAddr57};
 use x86_64_addr::index::PageTableIndex;
 use x86_64_page::frame::PhysFrame;
 use x86_64_page::page::PageSize;
+use x86_64_tables::level_count::{FiveLevels, FourLevels, LevelCount};
 use x86_64_tables::mapper::{
     MappedFrame, PageTables, PageTables57, TranslateError, TranslateResult,
 };
@@ -46,7 +47,11 @@ pub fn translate<M: TableAccess + PageTables>(mapper: &M, addr: VirtAddr) -> Tra
     ensures walk { let arrival = walk (M.hierarchy mapper.now) addr in
         reaches result ≡ option_map (λ walked. walked.address) arrival }
 {
-    translate_position(mapper, &address_indices(addr), position_of(addr))
+    translate_position(
+        mapper,
+        &address_indices(addr),
+        FourLevels::position_of(addr),
+    )
 }
 
 /// Tells where an address of 57 bits is mapped to.
@@ -56,21 +61,11 @@ pub fn translate_57<M: TableAccess + PageTables57>(mapper: &M, addr: VirtAddr57)
     ensures walk { let arrival = walk (M.hierarchy mapper.now) addr in
         reaches result ≡ option_map (λ walked. walked.address) arrival }
 {
-    translate_position(mapper, &address_indices_57(addr), position_of_57(addr))
-}
-
-/// Gives the position of an address.
-fn position_of(addr: VirtAddr) -> u64
-    ensures { result ≡ addr }
-{
-    addr.as_u64() & 0x0000_ffff_ffff_ffff
-}
-
-/// Gives the position of an address of 57 bits.
-fn position_of_57(addr: VirtAddr57) -> u64
-    ensures { result ≡ addr }
-{
-    addr.as_u64() & 0x01ff_ffff_ffff_ffff
+    translate_position(
+        mapper,
+        &address_indices_57(addr),
+        FiveLevels::position_of(addr),
+    )
 }
 
 /// Gives the indices of an address, from level four down to level one.

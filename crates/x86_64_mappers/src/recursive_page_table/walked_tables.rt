@@ -8,15 +8,15 @@ ghost use Rattle.x86_64_tables.specs.ActiveMemory.{walked_frame, walked_table};
 ghost use Rattle.x86_64_tables.specs.SelfEntries.{has_self_entry};
 ghost use Rattle.x86_64_mappers.specs.AccessLending.{LendsTableIfBy};
 
-use x86_64_addr::addr::VirtAddr;
 use x86_64_addr::index::PageTableIndex;
 use x86_64_page::frame::PhysFrame;
 use x86_64_page::page::Size4KiB;
+use x86_64_tables::level_count::LevelCount;
 use x86_64_tables::page_table::PageTable;
-use x86_64_tables::phys_memory::ActiveMemory;
+use x86_64_tables::phys_memory::Active;
 
 /// Reaches tables at virtual addresses alone, by walks through the tables as they are at that moment.
-pub trait WalkedTables {
+pub trait WalkedTables<L: LevelCount> {
     /// The memory as it is, in which each frame lies at the place of its number.
     ghost memory: { Self → Memory };
 
@@ -39,17 +39,17 @@ pub trait WalkedTables {
             result ≡ has_self_entry words (Self.root self.now) index };
 
     /// Gives the table where the walk of an address arrives.
-    fn table(&self, addr: VirtAddr) -> Option<&PageTable>
+    fn table(&self, addr: L::Addr) -> Option<&PageTable>
         ensures { let words = words_of (Self.memory self.now) identity_places in
-            option_copied result ≡ walked_table words (Self.root self.now) addr };
+            option_copied result ≡ walked_table L.LEVELS words (Self.root self.now) (L.position addr) };
 
     /// Lends the table where the walk of an address arrives.
-    fn table_mut(&mut self, addr: VirtAddr) -> Option<&mut PageTable>
+    fn table_mut(&mut self, addr: L::Addr) -> Option<&mut PageTable>
         ensures* lends { let words = words_of (Self.memory self.old) identity_places in
-            let frame = unwrap_or (walked_frame words (Self.root self.old) addr) 0 in
+            let frame = unwrap_or (walked_frame L.LEVELS words (Self.root self.old) (L.position addr)) 0 in
             sem 𝓛 (LendsTableIfBy Self.row self.entry result (Self.with_table self.old frame)) }
         ensures value { let words = words_of (Self.memory self.old) identity_places in
-            option_copied_mut result ≡ walked_table words (Self.root self.old) addr };
+            option_copied_mut result ≡ walked_table L.LEVELS words (Self.root self.old) (L.position addr) };
 
     ghost puts: { (s : Self) (f : ℕ) (t : List ℕ) →
         memory (with_table s f t) ≡ insert (memory s) (identity_places.place f) t };
@@ -59,7 +59,7 @@ pub trait WalkedTables {
     ghost keeps_lent: { (s : Self) (f : ℕ) (t : List ℕ) → lent (with_table s f t) ≡ lent s };
 }
 
-impl<'a> WalkedTables for ActiveMemory<'a> {
+impl<'a, L: LevelCount> WalkedTables<L> for Active<'a, L> {
     ghost use Rattle.std.proofs.Common.{refl};
     ghost use Rattle.x86_64_tables.specs.ActiveMemory.{memory_of, cr3_of, lent as lent_of, with_table as active_with};
 
@@ -72,19 +72,19 @@ impl<'a> WalkedTables for ActiveMemory<'a> {
     ghost with_table = { active_with };
 
     fn cr3(&self) -> PhysFrame<Size4KiB> {
-        ActiveMemory::cr3(self)
+        Active::cr3(self)
     }
 
     fn self_entry(&self, index: PageTableIndex) -> bool {
-        ActiveMemory::self_entry(self, index)
+        Active::self_entry(self, index)
     }
 
-    fn table(&self, addr: VirtAddr) -> Option<&PageTable> {
-        ActiveMemory::table(self, addr)
+    fn table(&self, addr: L::Addr) -> Option<&PageTable> {
+        Active::table(self, addr)
     }
 
-    fn table_mut(&mut self, addr: VirtAddr) -> Option<&mut PageTable> {
-        ActiveMemory::table_mut(self, addr)
+    fn table_mut(&mut self, addr: L::Addr) -> Option<&mut PageTable> {
+        Active::table_mut(self, addr)
     }
 
     ghost puts = { λ s f t. refl };

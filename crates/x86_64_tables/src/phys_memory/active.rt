@@ -7,9 +7,12 @@ ghost use Rattle.x86_64_tables.specs.ActiveMemory.{lent, memory_of, words_in, cr
 ghost use Rattle.x86_64_tables.specs.SelfEntries.{has_self_entry};
 
 use super::image::has_self_entry;
-use super::{FramePlace, IdentityMapping, PhysMemory, page_walk};
+use super::walk::walk_at;
+use super::{FramePlace, IdentityMapping, PhysMemory};
+use crate::level_count::{FiveLevels, FourLevels, LevelCount};
 use crate::page_table::PageTable;
-use x86_64_addr::addr::{PhysAddr, VirtAddr};
+use std::marker::PhantomData;
+use x86_64_addr::addr::PhysAddr;
 use x86_64_addr::index::PageTableIndex;
 use x86_64_page::frame::PhysFrame;
 use x86_64_page::page::{PageSize, Size4KiB};
@@ -20,20 +23,31 @@ use x86_64_page::page::{PageSize, Size4KiB};
 /// at that moment. No call reaches one by its frame, and none gives the memory back, which ends with the words that it
 /// had last. Intel SDM vol. 3A, "Linear-Address Translation with 4-Level Paging and 5-Level Paging".
 #[derive(Drop)]
-pub struct ActiveMemory<'a> {
+pub struct Active<'a, L> {
     memory: &'a mut PhysMemory,
     cr3: u64,
+    levels: PhantomData<L>,
 }
 
-impl<'a> ActiveMemory<'a> {
+/// A memory with four levels of tables below CR3.
+pub type ActiveMemory<'a> = Active<'a, FourLevels>;
+
+/// A memory with five levels of tables below CR3.
+pub type ActiveMemory57<'a> = Active<'a, FiveLevels>;
+
+impl<'a, L: LevelCount> Active<'a, L> {
     /// Makes a memory active, with a frame in CR3. No word changes.
-    pub fn new(memory: &'a mut PhysMemory, cr3: PhysFrame<Size4KiB>) -> ActiveMemory<'a>
+    pub fn new(memory: &'a mut PhysMemory, cr3: PhysFrame<Size4KiB>) -> Self
         ensures lent { lent result ≡ memory.entry.ghost_name }
         ensures memory { memory_of result ≡ memory.old }
         ensures cr3 { cr3_of result ≡ cr3 }
     {
         let cr3 = cr3.start_address().as_u64();
-        ActiveMemory { memory, cr3 }
+        Active {
+            memory,
+            cr3,
+            levels: PhantomData,
+        }
     }
 
     /// Gives the frame in CR3.
@@ -53,18 +67,20 @@ impl<'a> ActiveMemory<'a> {
 
     /// Gives the table at an address, or `None` where the walk of the address from CR3 arrives nowhere, not at a
     /// multiple of 4096, or at no table in the memory. It may arrive inside a huge page.
-    pub fn table(&self, addr: VirtAddr) -> Option<&PageTable>
-        ensures { option_copied result ≡ walked_table (words_in self.now) (cr3_of self.now) addr }
+    pub fn table(&self, addr: L::Addr) -> Option<&PageTable>
+        ensures { let words = words_in self.now in
+            option_copied result ≡ walked_table L.LEVELS words (cr3_of self.now) (L.position addr) }
     {
         let frame = self.arrive(addr)?;
         self.memory.table(place_of(frame))
     }
 
-    /// Lends the table at an address to be changed, or gives `None` where [`table`](ActiveMemory::table) does. All
+    /// Lends the table at an address to be changed, or gives `None` where [`table`](Active::table) does. All
     /// other tables stay. What is written may change where later walks arrive.
-    pub fn table_mut(&mut self, addr: VirtAddr) -> Option<&mut PageTable>
-        ensures* writes_back { sem 𝓛 (LendsWalked self.entry addr result) }
-        ensures value { option_copied_mut result ≡ walked_table (words_in self.old) (cr3_of self.old) addr }
+    pub fn table_mut(&mut self, addr: L::Addr) -> Option<&mut PageTable>
+        ensures* writes_back { sem 𝓛 (LendsWalked L.row L.LEVELS self.entry (L.position addr) result) }
+        ensures value { let words = words_in self.old in
+            option_copied_mut result ≡ walked_table L.LEVELS words (cr3_of self.old) (L.position addr) }
     {
         match self.arrive(addr) {
             Some(frame) => self.table_in(frame),
@@ -73,16 +89,16 @@ impl<'a> ActiveMemory<'a> {
     }
 
     /// Gives the frame that starts where the walk of an address arrives.
-    fn arrive(&self, addr: VirtAddr) -> Option<PhysFrame<Size4KiB>>
-        ensures { result ≡ walked_frame (words_in self.now) (cr3_of self.now) addr }
+    fn arrive(&self, addr: L::Addr) -> Option<PhysFrame<Size4KiB>>
+        ensures { result ≡ walked_frame L.LEVELS (words_in self.now) (cr3_of self.now) (L.position addr) }
     {
-        let walked = page_walk(self.memory, &IdentityMapping, self.cr3(), addr)?;
+        let walked = walk_at::<_, L>(self.memory, &IdentityMapping, self.cr3(), addr)?;
         PhysFrame::from_start_address(walked.address).ok()
     }
 
     /// Lends the table in a frame.
     fn table_in(&mut self, frame: PhysFrame<Size4KiB>) -> Option<&mut PageTable>
-        ensures* writes_back { sem 𝓛 (LendsFrame self.entry frame result) }
+        ensures* writes_back { sem 𝓛 (LendsFrame L.row self.entry frame result) }
         ensures value { option_copied_mut result ≡ words_in self.old frame }
     {
         let place = place_of(frame);

@@ -1,8 +1,8 @@
 //! The test of two hierarchies: whether their path maps are alike.
-ghost use Rattle.std.specs.Prelude.{◌≡◌, ◌==◌, ◌↔◌, IsTrue};
+ghost use Rattle.std.specs.Prelude.{◌≡◌, ◌==◌, ◌↔◌, IsTrue, suc};
 ghost use Rattle.x86_64_model.specs.Alike.{Alike, without_writable};
 ghost use Rattle.x86_64_tables.specs.Images.{seen};
-ghost use Rattle.x86_64_tables.specs.PathsSeen.{AlikeFrom, paths_seen, places_for};
+ghost use Rattle.x86_64_tables.specs.PathsSeen.{AlikeFrom, paths_seen, paths_seen_57, paths_seen_at, places_for};
 
 use super::image::Image;
 use super::{FramePlace, IdentityMapping, PageTableFrameMapping, PhysMemory};
@@ -34,6 +34,68 @@ pub fn tables_alike<P: PageTableFrameMapping, Q: PageTableFrameMapping>(
         let other_paths = paths_seen other_memory.now other_places other_root other_index in
         IsTrue result ↔ Alike 4 paths other_paths }
 {
+    alike_through(
+        memory,
+        mapping,
+        root,
+        index,
+        other_memory,
+        other_mapping,
+        other_root,
+        other_index,
+        3,
+    )
+}
+
+/// Tells whether two hierarchies of five levels are alike: path maps that are equal but for `WRITABLE` of table entries.
+///
+/// It is as `tables_alike` says, of hierarchies of `is_valid_recursive_57` where an index is given, and of
+/// `is_valid_hierarchy_57` where none is. The test ends for any words. It takes no memory.
+pub fn tables_alike_57<P: PageTableFrameMapping, Q: PageTableFrameMapping>(
+    memory: &PhysMemory,
+    mapping: &P,
+    root: PhysFrame<Size4KiB>,
+    index: Option<PageTableIndex>,
+    other_memory: &PhysMemory,
+    other_mapping: &Q,
+    other_root: PhysFrame<Size4KiB>,
+    other_index: Option<PageTableIndex>,
+) -> bool
+    ensures { let paths = paths_seen_57 memory.now (P.places mapping.now) root index in
+        let other_places = Q.places other_mapping.now in
+        let other_paths = paths_seen_57 other_memory.now other_places other_root other_index in
+        IsTrue result ↔ Alike 5 paths other_paths }
+{
+    alike_through(
+        memory,
+        mapping,
+        root,
+        index,
+        other_memory,
+        other_mapping,
+        other_root,
+        other_index,
+        4,
+    )
+}
+
+/// Tells whether two hierarchies are alike, with so many levels of tables below each root.
+fn alike_through<P: PageTableFrameMapping, Q: PageTableFrameMapping>(
+    memory: &PhysMemory,
+    mapping: &P,
+    root: PhysFrame<Size4KiB>,
+    index: Option<PageTableIndex>,
+    other_memory: &PhysMemory,
+    other_mapping: &Q,
+    other_root: PhysFrame<Size4KiB>,
+    other_index: Option<PageTableIndex>,
+    levels: u8,
+) -> bool
+    ensures { let paths = paths_seen_at (suc levels) memory.now (P.places mapping.now) root index in
+        let other_places = Q.places other_mapping.now in
+        let other_paths = paths_seen_at (suc levels) other_memory.now other_places other_root other_index in
+        IsTrue result ↔ Alike (suc levels) paths other_paths }
+{
     let mapping = MappingFor {
         by_number: index.is_some(),
         mapping,
@@ -54,7 +116,7 @@ pub fn tables_alike<P: PageTableFrameMapping, Q: PageTableFrameMapping>(
         root: other_root,
         recursive: other_index,
     };
-    alike_from(&one, root, &other, other_root, 3)
+    alike_from(&one, root, &other, other_root, levels)
 }
 
 /// Tells whether the entries at each path from the tables in two frames, through so many levels below them, are alike.

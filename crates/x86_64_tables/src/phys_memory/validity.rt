@@ -113,6 +113,50 @@ pub fn is_valid_recursive(
         let paths = paths_of 4 (outside_window window root words) root in
         IfOk result (λ b. IsTrue b ↔ IsValidFor 4 window words root paths) }
 {
+    is_valid_recursive_through(alloc, memory, root, index, 3)
+}
+
+/// Tells whether the words below the root are a valid hierarchy of five levels for a recursive index, where each frame
+/// lies at the place of its number.
+///
+/// It is as `is_valid_recursive` says, with one more level: with the root's word at the index read as 0 the hierarchy is
+/// one of `is_valid_hierarchy_57`. The test ends for any words, and takes memory for a mark for each place alone.
+///
+/// # Errors
+///
+/// `AllocError` where memory is refused.
+pub fn is_valid_recursive_57(
+    alloc: Global,
+    memory: &PhysMemory,
+    root: PhysFrame<Size4KiB>,
+    index: PageTableIndex,
+) -> Result<bool, AllocError>
+    ensures { let words = words_of memory.now identity_places in
+        let window = Some (window_at words root index) in
+        let paths = paths_of 5 (outside_window window root words) root in
+        IfOk result (λ b. IsTrue b ↔ IsValidFor 5 window words root paths) }
+{
+    is_valid_recursive_through(alloc, memory, root, index, 4)
+}
+
+/// Tells whether the words below the root are a valid hierarchy for a recursive index, with so many levels of tables below
+/// the root.
+///
+/// # Errors
+///
+/// `AllocError` where memory is refused.
+fn is_valid_recursive_through(
+    alloc: Global,
+    memory: &PhysMemory,
+    root: PhysFrame<Size4KiB>,
+    index: PageTableIndex,
+    levels: u8,
+) -> Result<bool, AllocError>
+    ensures { let words = words_of memory.now identity_places in
+        let window = Some (window_at words root index) in
+        let paths = paths_of (suc levels) (outside_window window root words) root in
+        IfOk result (λ b. IsTrue b ↔ IsValidFor (suc levels) window words root paths) }
+{
     let image = Image {
         memory,
         mapping: IdentityMapping,
@@ -123,7 +167,7 @@ pub fn is_valid_recursive(
         image,
         limit: FRAME_COUNT,
     };
-    survey.is_sound(alloc, 3, None)
+    survey.is_sound(alloc, levels, None)
 }
 
 /// Tells whether the words below the root are a valid hierarchy of four levels, and a pool fits it.
@@ -223,6 +267,52 @@ pub fn pool_fits_recursive(
         let paths = paths_of 4 (outside_window window root words) root in
         IfOk result (λ b. IsTrue b ↔ Fits 4 window words root paths serves pool.now.frames) }
 {
+    fits_recursive_through(alloc, memory, root, index, pool, 3)
+}
+
+/// Tells whether the words below the root are a valid hierarchy of five levels for a recursive index, and a pool fits
+/// it, where each frame lies at the place of its number.
+///
+/// The hierarchies are those of `is_valid_recursive_57`. A pool fits one as `pool_fits_recursive` says. The test ends for any
+/// words and any pool, and takes memory for a mark for each place alone.
+///
+/// # Errors
+///
+/// `AllocError` where memory is refused.
+pub fn pool_fits_recursive_57(
+    alloc: Global,
+    memory: &PhysMemory,
+    root: PhysFrame<Size4KiB>,
+    index: PageTableIndex,
+    pool: &FramePool,
+) -> Result<bool, AllocError>
+    ensures { let words = words_of memory.now identity_places in
+        let window = Some (window_at words root index) in let serves = serves_below pool.now.limit in
+        let paths = paths_of 5 (outside_window window root words) root in
+        IfOk result (λ b. IsTrue b ↔ Fits 5 window words root paths serves pool.now.frames) }
+{
+    fits_recursive_through(alloc, memory, root, index, pool, 4)
+}
+
+/// Tells whether the words below the root are a valid hierarchy for a recursive index, with so many levels of tables below
+/// the root, and a pool fits it.
+///
+/// # Errors
+///
+/// `AllocError` where memory is refused.
+fn fits_recursive_through(
+    alloc: Global,
+    memory: &PhysMemory,
+    root: PhysFrame<Size4KiB>,
+    index: PageTableIndex,
+    pool: &FramePool,
+    levels: u8,
+) -> Result<bool, AllocError>
+    ensures { let words = words_of memory.now identity_places in
+        let window = Some (window_at words root index) in let serves = serves_below pool.now.limit in
+        let paths = paths_of (suc levels) (outside_window window root words) root in
+        IfOk result (λ b. IsTrue b ↔ Fits (suc levels) window words root paths serves pool.now.frames) }
+{
     let image = Image {
         memory,
         mapping: IdentityMapping,
@@ -233,7 +323,7 @@ pub fn pool_fits_recursive(
         image,
         limit: pool.limit(),
     };
-    survey.is_sound(alloc, 3, Some(pool))
+    survey.is_sound(alloc, levels, Some(pool))
 }
 
 /// Holds a hierarchy to be tested. The frames of its tables, but for the root, and those of a pool have numbers from 1

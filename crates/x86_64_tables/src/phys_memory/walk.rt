@@ -9,6 +9,7 @@ ghost use Rattle.x86_64_tables.specs.PageTableFlags.{bits_of};
 ghost use Rattle.x86_64_tables.specs.Walks.{walked_of, arrival, ends};
 
 use super::{PageTableFrameMapping, PhysMemory};
+use crate::level_count::{FiveLevels, FourLevels, LevelCount};
 use crate::page_table::{PageTableEntry, PageTableFlags};
 use bitflags::Flags;
 use x86_64_addr::addr::{PhysAddr, VirtAddr, VirtAddr57};
@@ -42,7 +43,7 @@ pub fn page_walk<P: PageTableFrameMapping>(
     ensures { let tables = words_of memory.now (P.places mapping.now) in
         option_map walked_of result ≡ page_walk_of 4 tables root addr }
 {
-    walk_from(memory, mapping, 4, root, position_of(addr))
+    walk_at::<P, FourLevels>(memory, mapping, root, addr)
 }
 
 /// Walks the tables of five levels below the root as the processor does, or gives `None` where the walk arrives nowhere.
@@ -59,7 +60,20 @@ pub fn page_walk_57<P: PageTableFrameMapping>(
     ensures { let tables = words_of memory.now (P.places mapping.now) in
         option_map walked_of result ≡ page_walk_of 5 tables root addr }
 {
-    walk_from(memory, mapping, 5, root, position_of_57(addr))
+    walk_at::<P, FiveLevels>(memory, mapping, root, addr)
+}
+
+/// Walks the tables of so many levels below the root.
+pub(super) fn walk_at<P: PageTableFrameMapping, L: LevelCount>(
+    memory: &PhysMemory,
+    mapping: &P,
+    root: PhysFrame<Size4KiB>,
+    addr: L::Addr,
+) -> Option<Walked>
+    ensures { let tables = words_of memory.now (P.places mapping.now) in
+        option_map walked_of result ≡ page_walk_of L.LEVELS tables root (L.position addr) }
+{
+    walk_from(memory, mapping, L::LEVELS, root, L::position_of(addr))
 }
 
 /// Says what the entries on the way so far allow.
@@ -176,18 +190,4 @@ fn index_of(position: u64, level: u64) -> usize
     ensures below { result < 512 }
 {
     ((position >> (12 + 9 * (level - 1))) & 511) as usize
-}
-
-/// Gives the position of an address.
-fn position_of(addr: VirtAddr) -> u64
-    ensures { result ≡ addr }
-{
-    addr.as_u64() & 0x0000_ffff_ffff_ffff
-}
-
-/// Gives the position of an address of 57 bits.
-fn position_of_57(addr: VirtAddr57) -> u64
-    ensures { result ≡ addr }
-{
-    addr.as_u64() & 0x01ff_ffff_ffff_ffff
 }

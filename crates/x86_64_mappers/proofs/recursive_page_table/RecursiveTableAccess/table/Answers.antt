@@ -9,12 +9,12 @@ pub unwrap-requires : goal.unwrap-requires
 unwrap-requires g c =
     let s = c.args.self.now in
     let root = g.A.WalkedTables.root s.active in
-    copied_some c.table.result _ (c.table.ensures ∙ window_table (g.A.WalkedTables.memory s.active) root (window_with root s.index s.self_flags.0) c.args.path.now c.args._frame c.requires.reached c.window.result c.window.ensures)
+    copied_some c.table.result _ (c.table.ensures ∙ window_table g.L.LevelCount.LEVELS (g.A.WalkedTables.memory s.active) root (window_with root s.index s.self_flags.0) c.args.path.now c.args._frame c.requires.reached (g.L.LevelCount.position c.window.result) c.window.ensures.table)
     c.requires.reached.there
 
 pub returns : goal.returns
 returns g c =
     let s = c.args.self.now in
     let root = g.A.WalkedTables.root s.active in
-    sym (window_table (g.A.WalkedTables.memory s.active) root (window_with root s.index s.self_flags.0) c.args.path.now c.args._frame c.requires.reached c.window.result c.window.ensures)
+    sym (window_table g.L.LevelCount.LEVELS (g.A.WalkedTables.memory s.active) root (window_with root s.index s.self_flags.0) c.args.path.now c.args._frame c.requires.reached (g.L.LevelCount.position c.window.result) c.window.ensures.table)
     ∙ sym c.table.ensures ∙ ap option_copied c.unwrap.ensures

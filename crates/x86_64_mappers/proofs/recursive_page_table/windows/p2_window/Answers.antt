@@ -1,15 +1,17 @@
-use Rattle.std.proofs.Common.{◌∙◌}
+use Rattle.std.proofs.Common.{◌∷◌, []}
 use Rattle.x86_64_model.specs.Path.{path_at}
-use Rattle.x86_64_mappers.proofs.Windows.{page_aligned, p2_path, windows_show_tables}
+use Rattle.x86_64_model.specs.Position.{page_path}
+use Rattle.x86_64_mappers.proofs.Windows.{window_path, window_shows}
 use Rattle.x86_64_mappers.proofs.recursive_page_table.windows.p2_window.Goals as goal
 
 pub returns-clause-path : goal.returns-clause-path
+unfolding page_path
 returns-clause-path g c =
-    let made = c.from_page_table_indices.ensures in
-    p2_path c.args.index c.args.page c.from_page_table_indices.result made.level_four made.level_three (made.level_two ∙ c.p4_index.ensures) (made.level_one ∙ c.p3_index.ensures)
+    window_path 4 c.args.index 2 c.window.result c.containing_address.result (c.p4_index.result ∷ c.p3_index.result ∷ []) (path_at 4 3 c.args.page) c.containing_address.ensures c.window.ensures.aligned
+    (λ i. c.p4_index.ensures i ∷ c.p3_index.ensures i ∷ []) c.window.ensures.path
 
 pub returns-clause-table : goal.returns-clause-table
+unfolding page_path
 returns-clause-table g c =
-    let page = c.from_page_table_indices.result in
-    let aligned = page_aligned c.args.index c.args.index c.p4_index.result c.p3_index.result page c.from_page_table_indices.ensures.start in
-    windows_show_tables c.args.index 2 (path_at 4 3 c.args.page) page aligned (returns-clause-path g c)
+    window_shows 4 c.args.index 2 c.window.result c.containing_address.result (c.p4_index.result ∷ c.p3_index.result ∷ []) (path_at 4 3 c.args.page) c.containing_address.ensures c.window.ensures.aligned
+    (λ i. c.p4_index.ensures i ∷ c.p3_index.ensures i ∷ []) c.window.ensures.table

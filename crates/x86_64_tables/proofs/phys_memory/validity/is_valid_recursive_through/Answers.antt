@@ -1,4 +1,4 @@
-use Rattle.std.proofs.Common.{◌↔◌, IsTrue, [], Some, ◌^◌}
+use Rattle.std.proofs.Common.{◌↔◌, suc, IsTrue, [], Some, ◌^◌}
 use Rattle.std.proofs.lemmas.Result.{IfOk-weaker}
 use Rattle.x86_64_model.specs.Memory.{identity_places, words_of}
 use Rattle.x86_64_model.specs.Hierarchy.{paths_of}
@@ -7,18 +7,19 @@ use Rattle.x86_64_model.specs.Marks.{serves_below}
 use Rattle.x86_64_model.proofs.Lemmas.Tables.Meant.{valid_means}
 use Rattle.x86_64_tables.specs.Images.{IsSound}
 use Rattle.x86_64_tables.specs.SelfEntries.{window_at}
-use Rattle.x86_64_tables.proofs.phys_memory.validity.is_valid_recursive.Goals as goal
+use Rattle.x86_64_tables.proofs.phys_memory.validity.is_valid_recursive_through.Goals as goal
 
 pub returns : goal.returns
 returns c =
     let words = words_of c.args.memory.now identity_places in
     let root = c.args.root in
+    let levels = c.args.levels in
     let window = Some (window_at words root c.args.index) in
     let outside = outside_window window root words in
-    let means = valid_means 3 outside root in
+    let means = valid_means levels outside root in
     IfOk-weaker c.is_sound.result
-    (λ b. IsTrue b ↔ IsSound 3 words root (Some c.args.index) (serves_below (2 ^ 40)) [])
-    (λ b. IsTrue b ↔ IsValidFor 4 window words root (paths_of 4 outside root))
+    (λ b. IsTrue b ↔ IsSound levels words root (Some c.args.index) (serves_below (2 ^ 40)) [])
+    (λ b. IsTrue b ↔ IsValidFor (suc levels) window words root (paths_of (suc levels) outside root))
     (λ b is. (
       λ t. let sound = is.0 t in record { valid = means.0 sound.tables; self = sound.self },
       λ v. is.1 (record { self = v.self; tables = means.1 v.valid }),
