@@ -16,20 +16,17 @@ use Rattle.x86_64_model.proofs.Lemmas.Machines.Effects.{page_at_level}
 use Rattle.x86_64_model.proofs.Lemmas.Machines.Flushes.{flushes_suffice}
 use Rattle.x86_64_tables.specs.declared.mapper.recorder.FlushItem.{FlushItem}
 use Rattle.x86_64_tables.specs.declared.mapper.recorder.FlushItem.TheVariants.{Page}
-use Rattle.x86_64.specs.declared.calls.SizeCall.{SizeCall}
-use Rattle.x86_64.specs.declared.calls.SizeCall.TheVariants as size_call
-use Rattle.x86_64.specs.declared.calls.SizeReply.{SizeReply}
-use Rattle.x86_64.specs.declared.calls.SizeReply.TheVariants as size_reply
 use Rattle.x86_64.specs.declared.calls.Call.{Call}
-use Rattle.x86_64.specs.declared.calls.Call.TheVariants.{Of4KiB, Of2MiB, Of1GiB, Translate, TranslateAddr, CleanUp, CleanUpRange}
-use Rattle.x86_64.specs.declared.calls.Reply.{Reply}
-use Rattle.x86_64.specs.declared.calls.Reply.TheVariants as reply
-use Rattle.x86_64.specs.Calls.{size_call as size_call_of, call_of, calls_of}
+use Rattle.x86_64.specs.declared.calls.PageReply.TheVariants as size_reply
+use Rattle.x86_64.specs.declared.calls.MapperReply.TheVariants as reply
+use Rattle.x86_64.specs.Asked.{PageCall, MapTo, MapToWithTableFlags, IdentityMap, Unmap, UpdateFlags, SetFlags, TranslatePage, MapperCall, Of4KiB, Of2MiB, Of1GiB, Translate, TranslateAddr, CleanUp, page_call, machine_call}
+use Rattle.x86_64.specs.Calls.{asks, call_of, calls_of}
 use Rattle.x86_64_tables.specs.declared.mapper.TranslateResult.{TranslateResult}
 use Rattle.x86_64.specs.Flushes.{size_items, items_of, items_told, item_of, NoneCovers, FlushesSuffice}
 use Rattle.x86_64.specs.Private.{items_where}
-use Rattle.x86_64.specs.Replies.{map_error, unmap_error, update_error, translate_error, sized, size_answer, translate_result, reply_of}
+use Rattle.x86_64.specs.Replies.{SizeReply, Reply, map_error, unmap_error, update_error, translate_error, sized, size_answer, translate_result, reply_of}
 use Rattle.x86_64.specs.Runs.{machine_of, state_of, FitsPool, call_step, replies_to}
+use Rattle.x86_64.specs.AskedCalls.{is_call}
 
 -- ---- of one call
 
@@ -38,45 +35,41 @@ abbrev told_items : {S : Type 0} → (size : ℕ) → Option (Option (SizeReply 
 told_items size None = []
 told_items size (Some answer) = items_where size answer
 
-module _ {S : Type 0} (size level : ℕ) (is : (page : ℕ) → item_of (Page page size) ≡ flush.OnePage (path_at 4 level page)) where
-  abbrev AreItems : SizeCall S → machine.Reply → Type 0
-  AreItems call r = map item_of (told_items size (size_answer call r)) ≡ flush.items_of 4 (size_call_of 4 level call) r
+module _ (S : Type 0) (size level : ℕ) (is : (page : ℕ) → item_of (Page page size) ≡ flush.OnePage (path_at 4 level page)) where
+  abbrev AreItems : PageCall → machine.Reply → Type 0
+  AreItems call r = map item_of (told_items {S = S} size (size_answer call r)) ≡ flush.items_of 4 (page_call 4 level call) r
 
-  done : (call : SizeCall S) (frame : ℕ) → AreItems call (machine.Answered (Done frame))
-  done (size_call.MapTo page frame flags) f = ap (λ i. i ∷ []) (is page)
-  done (size_call.MapToWithTableFlags page frame flags more) f = ap (λ i. i ∷ []) (is page)
-  done (size_call.IdentityMap frame flags) f = ap (λ i. i ∷ []) (is frame)
-  done (size_call.Unmap page) f = ap (λ i. i ∷ []) (is page)
-  done (size_call.UpdateFlags page flags) f = ap (λ i. i ∷ []) (is page)
+  done : (call : PageCall) (frame : ℕ) → AreItems call (machine.Answered (Done frame))
+  done (MapTo page frame flags) f = ap (λ i. i ∷ []) (is page)
+  done (MapToWithTableFlags page frame flags more) f = ap (λ i. i ∷ []) (is page)
+  done (IdentityMap frame flags) f = ap (λ i. i ∷ []) (is frame)
+  done (Unmap page) f = ap (λ i. i ∷ []) (is page)
+  done (UpdateFlags page flags) f = ap (λ i. i ∷ []) (is page)
   done call f = refl
 
-  no_item : (call : SizeCall S) (r : machine.Reply) → ((item : flush.Item) → flush.if_done r item ≡ []) → flush.items_of 4 (size_call_of 4 level call) r ≡ []
-  no_item (size_call.MapTo page frame flags) r none = none _
-  no_item (size_call.MapToWithTableFlags page frame flags more) r none = none _
-  no_item (size_call.IdentityMap frame flags) r none = none _
-  no_item (size_call.Unmap page) r none = none _
-  no_item (size_call.UpdateFlags page flags) r none = none _
-  no_item (size_call.SetFlagsP4 page flags) r none = none _
-  no_item (size_call.SetFlagsP3 page flags) r none = none _
-  no_item (size_call.SetFlagsP2 page flags) r none = none _
-  no_item (size_call.TranslatePage page) r none = refl
+  no_item : (call : PageCall) (r : machine.Reply) → ((item : flush.Item) → flush.if_done r item ≡ []) → flush.items_of 4 (page_call 4 level call) r ≡ []
+  no_item (MapTo page frame flags) r none = none _
+  no_item (MapToWithTableFlags page frame flags more) r none = none _
+  no_item (IdentityMap frame flags) r none = none _
+  no_item (Unmap page) r none = none _
+  no_item (UpdateFlags page flags) r none = none _
+  no_item (SetFlags at page flags) r none = none _
+  no_item (TranslatePage page) r none = refl
 
   no_error : {X E : Type 0} (wrap : Result X E → SizeReply S) → ((why : E) → size_items size (wrap (Err why)) ≡ []) → (error : Option E) → told_items size (option_map Some (option_map wrap (option_map Err error))) ≡ []
   no_error wrap none None = refl
   no_error wrap none (Some why) = none why
 
-  none_refused : (call : SizeCall S) (why : Refusal) → told_items size (size_answer call (machine.Answered (Refused why))) ≡ []
-  none_refused (size_call.MapTo page frame flags) why = no_error size_reply.Map (λ w. refl) (map_error why)
-  none_refused (size_call.MapToWithTableFlags page frame flags more) why = no_error size_reply.Map (λ w. refl) (map_error why)
-  none_refused (size_call.IdentityMap frame flags) why = no_error size_reply.Map (λ w. refl) (map_error why)
-  none_refused (size_call.Unmap page) why = no_error size_reply.Unmap (λ w. refl) (unmap_error why)
-  none_refused (size_call.UpdateFlags page flags) why = no_error size_reply.Update (λ w. refl) (update_error why)
-  none_refused (size_call.SetFlagsP4 page flags) why = no_error size_reply.TableFlags (λ w. refl) (update_error why)
-  none_refused (size_call.SetFlagsP3 page flags) why = no_error size_reply.TableFlags (λ w. refl) (update_error why)
-  none_refused (size_call.SetFlagsP2 page flags) why = no_error size_reply.TableFlags (λ w. refl) (update_error why)
-  none_refused (size_call.TranslatePage page) why = no_error size_reply.Frame (λ w. refl) (translate_error why)
+  none_refused : (call : PageCall) (why : Refusal) → told_items {S = S} size (size_answer call (machine.Answered (Refused why))) ≡ []
+  none_refused (MapTo page frame flags) why = no_error size_reply.Map (λ w. refl) (map_error why)
+  none_refused (MapToWithTableFlags page frame flags more) why = no_error size_reply.Map (λ w. refl) (map_error why)
+  none_refused (IdentityMap frame flags) why = no_error size_reply.Map (λ w. refl) (map_error why)
+  none_refused (Unmap page) why = no_error size_reply.Unmap (λ w. refl) (unmap_error why)
+  none_refused (UpdateFlags page flags) why = no_error size_reply.Update (λ w. refl) (update_error why)
+  none_refused (SetFlags at page flags) why = no_error size_reply.TableFlags (λ w. refl) (update_error why)
+  none_refused (TranslatePage page) why = no_error size_reply.Frame (λ w. refl) (translate_error why)
 
-  pub size_items_are : (call : SizeCall S) (r : machine.Reply) → AreItems call r
+  pub size_items_are : (call : PageCall) (r : machine.Reply) → AreItems call r
   size_items_are call (machine.Answered (Done frame)) = done call frame
   size_items_are call (machine.Answered (Refused why)) = ap (λ items. map item_of items) (none_refused call why) ∙ sym (no_item call (machine.Answered (Refused why)) (λ item. refl))
   size_items_are call machine.NotAllowed = sym (no_item call machine.NotAllowed (λ item. refl))
@@ -98,10 +91,10 @@ none_translated : (o : Option TranslateResult) → reply_items (option_map reply
 none_translated None = refl
 none_translated (Some result) = refl
 
-items_are : (call : Call) (r : machine.Reply) → map item_of (reply_items (reply_of call r)) ≡ flush.items_of 4 (call_of 4 call) r
-items_are (Of4KiB call) r = ap (λ xs. map item_of xs) (sized_items 0x1000 reply.Of4KiB (λ r. refl) (size_answer call r)) ∙ size_items_are 0x1000 1 (λ page. refl) call r
-items_are (Of2MiB call) r = ap (λ xs. map item_of xs) (sized_items 0x20_0000 reply.Of2MiB (λ r. refl) (size_answer call r)) ∙ size_items_are 0x20_0000 2 (λ page. refl) call r
-items_are (Of1GiB call) r = ap (λ xs. map item_of xs) (sized_items 0x4000_0000 reply.Of1GiB (λ r. refl) (size_answer call r)) ∙ size_items_are 0x4000_0000 3 (λ page. refl) call r
+items_are : (call : MapperCall) (r : machine.Reply) → map item_of (reply_items (reply_of call r)) ≡ flush.items_of 4 (machine_call 4 call) r
+items_are (Of4KiB call) r = ap (λ xs. map item_of xs) (sized_items 0x1000 reply.Of4KiB (λ r. refl) (size_answer call r)) ∙ size_items_are _ 0x1000 1 (λ page. refl) call r
+items_are (Of2MiB call) r = ap (λ xs. map item_of xs) (sized_items 0x20_0000 reply.Of2MiB (λ r. refl) (size_answer call r)) ∙ size_items_are _ 0x20_0000 2 (λ page. refl) call r
+items_are (Of1GiB call) r = ap (λ xs. map item_of xs) (sized_items 0x4000_0000 reply.Of1GiB (λ r. refl) (size_answer call r)) ∙ size_items_are _ 0x4000_0000 3 (λ page. refl) call r
 items_are (Translate addr) machine.NotAllowed = refl
 items_are (Translate addr) (machine.Answered a) = refl
 items_are (Translate addr) (machine.Position t) = ap (λ xs. map item_of xs) (none_translated (translate_result t))
@@ -112,16 +105,11 @@ items_are (TranslateAddr addr) (machine.Answered a) = refl
 items_are (TranslateAddr addr) (machine.Position t) = refl
 items_are (TranslateAddr addr) (machine.Address a) = refl
 items_are (TranslateAddr addr) machine.Cleaned = refl
-items_are CleanUp machine.NotAllowed = refl
-items_are CleanUp (machine.Answered a) = refl
-items_are CleanUp (machine.Position t) = refl
-items_are CleanUp (machine.Address a) = refl
-items_are CleanUp machine.Cleaned = refl
-items_are (CleanUpRange range) machine.NotAllowed = refl
-items_are (CleanUpRange range) (machine.Answered a) = refl
-items_are (CleanUpRange range) (machine.Position t) = refl
-items_are (CleanUpRange range) (machine.Address a) = refl
-items_are (CleanUpRange range) machine.Cleaned = refl
+items_are (CleanUp low high) machine.NotAllowed = refl
+items_are (CleanUp low high) (machine.Answered a) = refl
+items_are (CleanUp low high) (machine.Position t) = refl
+items_are (CleanUp low high) (machine.Address a) = refl
+items_are (CleanUp low high) machine.Cleaned = refl
 
 -- ---- of a list
 
@@ -132,10 +120,10 @@ all_items_are m four s (call ∷ calls) [] is = cc
 all_items_are m four s (call ∷ calls) (x ∷ told) is =
     let r = (step m s (call_of m.levels call)).reply in
     let t = (step m s (call_of m.levels call)).state in
-    let first : Some x ≡ reply_of call r = cc in
+    let first : Some x ≡ reply_of (asks call) r = cc in
     let next : map Some told ≡ replies_to m t calls = cc in
     map-append item_of (items_of x) (items_told told)
-    ∙ ap₂ (λ xs ys. xs ++ ys) (subst (λ L. map item_of (items_of x) ≡ flush.items_of L (call_of L call) r) (sym four) (ap (λ o. map item_of (reply_items o)) first ∙ items_are call r)) (all_items_are m four t calls told next)
+    ∙ ap₂ (λ xs ys. xs ++ ys) (subst (λ L. map item_of (items_of x) ≡ flush.items_of L (call_of L call) r) (sym four) (ap (λ o. map item_of (reply_items o)) first ∙ items_are (asks call) r)) (all_items_are m four t calls told next)
 
 -- the replies to the calls after the first k
 late_told : (m : Machine) (s : State) (k : ℕ) (calls : List Call) (told : List Reply) → map Some told ≡ replies_to m s calls
@@ -152,33 +140,11 @@ covers_none : (items : List FlushItem) (p : ℕ) → NoneCovers items p → NoIt
 covers_none [] p none = tt
 covers_none (item ∷ items) p none = (none.0, covers_none items p none.1)
 
--- ---- calls of the machine
+-- ---- stale walks
 
-size_is_call : {S : Type 0} (level : ℕ) → 1 ≤ level → level ≤ 3 → (call : SizeCall S) → machine.IsCall 4 (size_call_of 4 level call)
-size_is_call level low high (size_call.MapTo page frame flags) = page_at_level 4 level page low high (omega arith)
-size_is_call level low high (size_call.MapToWithTableFlags page frame flags more) = page_at_level 4 level page low high (omega arith)
-size_is_call level low high (size_call.IdentityMap frame flags) = (low, high, omega arith)
-size_is_call level low high (size_call.Unmap page) = page_at_level 4 level page low high (omega arith)
-size_is_call level low high (size_call.UpdateFlags page flags) = page_at_level 4 level page low high (omega arith)
-size_is_call level low high (size_call.SetFlagsP4 page flags) = (lit≤ tt, lit≤ tt, page_at_level 4 level page low high (omega arith))
-size_is_call level low high (size_call.SetFlagsP3 page flags) = (lit≤ tt, lit≤ tt, page_at_level 4 level page low high (omega arith))
-size_is_call level low high (size_call.SetFlagsP2 page flags) = (lit≤ tt, lit≤ tt, page_at_level 4 level page low high (omega arith))
-size_is_call level low high (size_call.TranslatePage page) = page_at_level 4 level page low high (omega arith)
-
-is_call : (call : Call) → machine.IsCall 4 (call_of 4 call)
-is_call (Of4KiB call) = size_is_call 1 (lit≤ tt) (lit≤ tt) call
-is_call (Of2MiB call) = size_is_call 2 (lit≤ tt) (lit≤ tt) call
-is_call (Of1GiB call) = size_is_call 3 (lit≤ tt) (lit≤ tt) call
-is_call (Translate addr) = tt
-is_call (TranslateAddr addr) = tt
-is_call CleanUp = tt
-is_call (CleanUpRange range) = tt
-
-pub are_calls : (calls : List Call) → AllCalls 4 (calls_of 4 calls)
+are_calls : (calls : List Call) → AllCalls 4 (calls_of 4 calls)
 are_calls [] = tt
 are_calls (call ∷ calls) = (is_call call, are_calls calls)
-
--- ---- stale walks
 
 pub flushed : (l : Layout) → l.levels ≡ 4 → IsParentFlags l.added_flags → (put : List ℕ → ℕ → List ℕ) → IsGiving put → (serves : ℕ → Bool) (m : Memory) (pool : List ℕ) → FitsPool l m serves pool
     → (calls : List Call) (n : Memory) (rest : List ℕ) → IsValidFor l.levels l.window (words l n) l.root (state_of l n rest).paths
@@ -188,8 +154,8 @@ flushed l four adds put gives serves m pool fits calls n rest valid is told tell
     let runs = machine_of l put in
     let start = state_of l m pool in
     let then = state_after runs start (calls_of l.levels (take k calls)) in
-    let early : take k (calls_of l.levels calls) ≡ calls_of l.levels (take k calls) = take-map (call_of l.levels) k calls in
-    let late : drop k (calls_of l.levels calls) ≡ calls_of l.levels (drop k calls) = drop-map (call_of l.levels) k calls in
+    let early : take k (calls_of l.levels calls) ≡ calls_of l.levels (take k calls) = take-map (λ c. call_of l.levels c) k calls in
+    let late : drop k (calls_of l.levels calls) ≡ calls_of l.levels (drop k calls) = drop-map (λ c. call_of l.levels c) k calls in
     flushes_suffice l.levels l.window (words l m) V (words l n) l.root serves l.added_flags adds put gives start (calls_of l.levels calls)
     (subst (λ L. AllCalls L (calls_of L calls)) (sym four) (are_calls calls)) fits k
     (subst (λ (cs : List machine.Call). IsValidFor l.levels l.window V l.root (state_after runs start cs).paths) (sym early) first)

@@ -1,5 +1,5 @@
 -- What a mapper's call on a page leaves and answers is the machine's step.
-use Rattle.std.proofs.Common.{◌≡◌, ◌≤◌, ℕ, Bool, true, cond, List, Some, option_map, Result, Ok, Err, inr, refl, ap, sym, ◌∙◌, subst, arith}
+use Rattle.std.proofs.Common.{◌≡◌, ◌<◌, ◌≤◌, ℕ, Bool, true, cond, List, Some, option_map, Result, Ok, Err, inr, refl, ap, sym, ◌∙◌, subst, arith}
 use Rattle.std.proofs.lemmas.Option.{same_Some}
 use Rattle.std.specs.Result.{IfOk}
 use Rattle.x86_64_model.specs.Entry.{IsParentFlags}
@@ -16,8 +16,6 @@ use Rattle.x86_64_model.specs.MapperCalls.{IsReady, Owns, KeepsOthers}
 use Rattle.x86_64_model.specs.Owned.{Hierarchy, Steps, Does, DoesMap, page_translation}
 use Rattle.x86_64_model.proofs.Lemmas.Machines.Effects.{page_at_level}
 use Rattle.x86_64_tables.specs.MapperAnswers.{map_answer, map_refusal, unmap_answer, unmap_refusal, flags_refusal, flags_answer, update_refusal, translate_answer, translate_refusal}
-use Rattle.x86_64_tables.specs.PageTableFlags.{bits_of}
-use Rattle.x86_64_tables.specs.declared.page_table.flags.PageTableFlags.{PageTableFlags}
 use Rattle.x86_64_tables.specs.declared.mapper.MapToError.{MapToError}
 use Rattle.x86_64_tables.specs.declared.mapper.MapToError.TheVariants as map_to
 use Rattle.x86_64_tables.specs.declared.mapper.UnmapError.{UnmapError}
@@ -26,12 +24,9 @@ use Rattle.x86_64_tables.specs.declared.mapper.FlagUpdateError.{FlagUpdateError}
 use Rattle.x86_64_tables.specs.declared.mapper.FlagUpdateError.TheVariants as update_to
 use Rattle.x86_64_tables.specs.declared.mapper.TranslateError.{TranslateError}
 use Rattle.x86_64_tables.specs.declared.mapper.TranslateError.TheVariants as translate_to
-use Rattle.x86_64.specs.declared.calls.SizeCall.{SizeCall}
-use Rattle.x86_64.specs.declared.calls.SizeCall.TheVariants.{MapTo, MapToWithTableFlags, IdentityMap, Unmap, UpdateFlags, TranslatePage}
-use Rattle.x86_64.specs.declared.calls.SizeReply.{SizeReply}
-use Rattle.x86_64.specs.declared.calls.SizeReply.TheVariants as reply
-use Rattle.x86_64.specs.Calls.{size_call}
-use Rattle.x86_64.specs.Replies.{map_error, unmap_error, update_error, translate_error, result_of, size_reply, size_answer, is_refused, size_changes_nothing}
+use Rattle.x86_64.specs.Asked.{PageCall, MapTo, MapToWithTableFlags, IdentityMap, Unmap, UpdateFlags, SetFlags, TranslatePage, page_call}
+use Rattle.x86_64.specs.declared.calls.PageReply.TheVariants as reply
+use Rattle.x86_64.specs.Replies.{SizeReply, map_error, unmap_error, update_error, translate_error, result_of, size_reply, size_answer, is_refused, size_changes_nothing}
 use Rattle.x86_64.specs.Runs.{machine_of, state_of, FitsPool, Keeps}
 use Rattle.x86_64.specs.Private.{size_step}
 use Rattle.x86_64_model.proofs.Lemmas.Machines.Fitting.{ready_of_fits}
@@ -98,9 +93,9 @@ flags_refuse frame (Err why) (Err same) tells refused = refl
 
 -- ---- steps
 
--- what a call on a page that an entry of the level maps begins with: a hierarchy of four levels and a pool that fits it
+-- what a call on a page that an entry of the level maps begins with: a hierarchy of more than three levels and a pool that fits it
 pub record Start (l : Layout) (put : List ℕ → ℕ → List ℕ) (serves : ℕ → Bool) (m : Memory) (pool : List ℕ) (level : ℕ) : Type 0 where
-  pub four : l.levels ≡ 4
+  pub some_levels : 3 < l.levels
   pub adds : IsParentFlags l.added_flags
   pub gives : IsGiving put
   pub fits : FitsPool l m serves pool
@@ -108,17 +103,17 @@ pub record Start (l : Layout) (put : List ℕ → ℕ → List ℕ) (serves : �
   pub high : level ≤ 3
 
 -- the call's step in the machine, what it keeps, and that a reply that says so leaves all as it was
-pub record Serves (S : Type 0) (l : Layout) (put : List ℕ → ℕ → List ℕ) (serves : ℕ → Bool) (m : Memory) (pool : List ℕ) (level : ℕ) (call : SizeCall S) (n : Memory) (rest : List ℕ) (answer : SizeReply S) : Type 0 where
+pub record Serves (S : Type 0) (l : Layout) (put : List ℕ → ℕ → List ℕ) (serves : ℕ → Bool) (m : Memory) (pool : List ℕ) (level : ℕ) (call : PageCall) (n : Memory) (rest : List ℕ) (answer : SizeReply S) : Type 0 where
   pub step : size_step (machine_of l put) level (state_of l m pool) call ≡ record { state = state_of l n rest; reply = Some (Some answer) }
   pub keeps : Keeps l serves m pool n rest
   pub still : size_changes_nothing answer ≡ true → n ≡ m
 
 is_page : {l : Layout} {put : List ℕ → ℕ → List ℕ} {serves : ℕ → Bool} {m : Memory} {pool : List ℕ} {level : ℕ} → Start l put serves m pool level → (page : ℕ) → IsPage l.levels (path_at l.levels level page)
-is_page {l = l} {level = level} start page = let four = start.four in page_at_level l.levels level page start.low start.high (omega (arith, start.high))
+is_page {l = l} {level = level} start page = page_at_level l.levels level page start.low start.high (omega (arith, start.some_levels, start.high))
 
 -- that the call is served so if it is allowed
-abbrev pub IsServed : (S : Type 0) (l : Layout) (put : List ℕ → ℕ → List ℕ) (serves : ℕ → Bool) (m : Memory) (pool : List ℕ) (level : ℕ) (call : SizeCall S) (n : Memory) (rest : List ℕ) (answer : SizeReply S) → Type 0
-IsServed S l put serves m pool level call n rest answer = allowed l.levels l.window (paths l m) (size_call l.levels level call) ≡ true → Serves S l put serves m pool level call n rest answer
+abbrev pub IsServed : (S : Type 0) (l : Layout) (put : List ℕ → ℕ → List ℕ) (serves : ℕ → Bool) (m : Memory) (pool : List ℕ) (level : ℕ) (call : PageCall) (n : Memory) (rest : List ℕ) (answer : SizeReply S) → Type 0
+IsServed S l put serves m pool level call n rest answer = allowed l.levels l.window (paths l m) (page_call l.levels level call) ≡ true → Serves S l put serves m pool level call n rest answer
 
 -- the outcome of a call, in the layout that no call changes
 stepped : {Lent : Type 0} (h : Hierarchy Lent) (put : List ℕ → ℕ → List ℕ) (pool : List ℕ) (on : machine.Call) (answer : Answer) (after : Hierarchy Lent) (rest : List ℕ) → after.layout ≡ h.layout
@@ -127,16 +122,16 @@ stepped h put pool on answer after rest same steps =
     subst (λ l. do_call (machine_of h.layout put) (state_of h.layout h.memory pool) on ≡ record { state = state_of l after.memory rest; reply = machine.Answered answer }) same (steps put)
 
 module _ {Lent S : Type 0} (h : Hierarchy Lent) {put : List ℕ → ℕ → List ℕ} {serves : ℕ → Bool} {pool : List ℕ} {level : ℕ} (start : Start h.layout put serves h.memory pool level) where
-  abbrev Is : (call : SizeCall S) (n : Memory) (rest : List ℕ) (answer : SizeReply S) → Type 0
+  abbrev Is : (call : PageCall) (n : Memory) (rest : List ℕ) (answer : SizeReply S) → Type 0
   Is = IsServed S h.layout put serves h.memory pool level
 
-  answered : (call : SizeCall S) → IsCall h.layout.levels (size_call h.layout.levels level call) → (n : Memory) (rest : List ℕ) (answer : Answer)
-      → do_call (machine_of h.layout put) (state_of h.layout h.memory pool) (size_call h.layout.levels level call) ≡ record { state = state_of h.layout n rest; reply = machine.Answered answer }
+  answered : (call : PageCall) → IsCall h.layout.levels (page_call h.layout.levels level call) → (n : Memory) (rest : List ℕ) (answer : Answer)
+      → do_call (machine_of h.layout put) (state_of h.layout h.memory pool) (page_call h.layout.levels level call) ≡ record { state = state_of h.layout n rest; reply = machine.Answered answer }
       → IsReady h.layout n rest → KeepsOthers h.layout.places (Owns h.layout h.memory pool) h.memory n → (told : SizeReply S) → size_reply call answer ≡ Some told → (size_changes_nothing told ≡ true → n ≡ h.memory)
       → Is call n rest told
   answered call is n rest answer does ready others told tells still may =
       let before = state_of h.layout h.memory pool in
-      let on = size_call h.layout.levels level call in
+      let on = page_call h.layout.levels level call in
       let one : step (machine_of h.layout put) before on ≡ record { state = state_of h.layout n rest; reply = machine.Answered answer } = ap (λ b. cond b (do_call (machine_of h.layout put) before on) (only_reply before machine.NotAllowed)) may ∙ does in
       record {
         step = ap (λ (x : AfterCall). record { state = x.state; reply = size_answer call x.reply }) one ∙ ap (λ a. record { state = state_of h.layout n rest; reply = option_map Some a }) tells;
@@ -146,58 +141,57 @@ module _ {Lent S : Type 0} (h : Hierarchy Lent) {put : List ℕ → ℕ → List
 
   -- ---- maps
 
-  map_served : (call : SizeCall S) → IsCall h.layout.levels (size_call h.layout.levels level call) → (page frame : ℕ)
-      → ((answer : Answer) → size_reply call answer ≡ option_map reply.Map (result_of (λ f. page) map_error answer))
-      → (r : Result ℕ (MapToError S)) (after : Hierarchy Lent) (rest : List ℕ) → DoesMap h pool (size_call h.layout.levels level call) (map_answer frame r) after rest → IfOk r (λ flush. flush ≡ page)
+  map_served : (call : PageCall) → IsCall h.layout.levels (page_call h.layout.levels level call) → (page frame : ℕ)
+      → ((answer : Answer) → size_reply {S = S} call answer ≡ option_map reply.Map (result_of (λ f. page) map_error answer))
+      → (r : Result ℕ (MapToError S)) (after : Hierarchy Lent) (rest : List ℕ) → DoesMap h pool (page_call h.layout.levels level call) (map_answer frame r) after rest → IfOk r (λ flush. flush ≡ page)
       → (told : Result ℕ (MapToError S)) → told ≡ r → Is call after.memory rest (reply.Map told)
   map_served call is page frame replies r after rest does same told tells =
-      answered call is after.memory rest (map_answer frame r) (stepped h put pool (size_call h.layout.levels level call) (map_answer frame r) after rest does.layout does.outcome)
+      answered call is after.memory rest (map_answer frame r) (stepped h put pool (page_call h.layout.levels level call) (map_answer frame r) after rest does.layout does.outcome)
       (subst (λ l. IsReady l after.memory rest) does.layout does.fits) (λ k none. does.others k (λ f uses. none f uses.0))
       (reply.Map told) (replies _ ∙ ap (option_map reply.Map) (map_result S page frame r same ∙ ap Some (sym tells))) (λ unchanged. cc)
 
-  pub map_to_served : (page frame : ℕ) (flags : PageTableFlags) (r : Result ℕ (MapToError S)) (after : Hierarchy Lent) (rest : List ℕ)
-      → DoesMap h pool (size_call {S = S} h.layout.levels level (MapTo page frame flags)) (map_answer frame r) after rest → IfOk r (λ flush. flush ≡ page)
+  pub map_to_served : (page frame : ℕ) (flags : ℕ) (r : Result ℕ (MapToError S)) (after : Hierarchy Lent) (rest : List ℕ)
+      → DoesMap h pool (page_call h.layout.levels level (MapTo page frame flags)) (map_answer frame r) after rest → IfOk r (λ flush. flush ≡ page)
       → (told : Result ℕ (MapToError S)) → told ≡ r → Is (MapTo page frame flags) after.memory rest (reply.Map told)
   map_to_served page frame flags = map_served (MapTo page frame flags) (is_page start page) page frame (λ a. refl)
 
-  pub map_with_flags_served : (page frame : ℕ) (flags parent_flags : PageTableFlags) (r : Result ℕ (MapToError S)) (after : Hierarchy Lent) (rest : List ℕ)
-      → DoesMap h pool (size_call {S = S} h.layout.levels level (MapToWithTableFlags page frame flags parent_flags)) (map_answer frame r) after rest → IfOk r (λ flush. flush ≡ page)
+  pub map_with_flags_served : (page frame : ℕ) (flags parent_flags : ℕ) (r : Result ℕ (MapToError S)) (after : Hierarchy Lent) (rest : List ℕ)
+      → DoesMap h pool (page_call h.layout.levels level (MapToWithTableFlags page frame flags parent_flags)) (map_answer frame r) after rest → IfOk r (λ flush. flush ≡ page)
       → (told : Result ℕ (MapToError S)) → told ≡ r → Is (MapToWithTableFlags page frame flags parent_flags) after.memory rest (reply.Map told)
   map_with_flags_served page frame flags parent_flags = map_served (MapToWithTableFlags page frame flags parent_flags) (is_page start page) page frame (λ a. refl)
 
-  pub identity_map_served : (frame : ℕ) (flags : PageTableFlags) (r : Result ℕ (MapToError S)) (after : Hierarchy Lent) (rest : List ℕ)
-      → DoesMap h pool (size_call {S = S} h.layout.levels level (IdentityMap frame flags)) (map_answer frame r) after rest → IfOk r (λ flush. flush ≡ frame)
+  pub identity_map_served : (frame : ℕ) (flags : ℕ) (r : Result ℕ (MapToError S)) (after : Hierarchy Lent) (rest : List ℕ)
+      → DoesMap h pool (page_call h.layout.levels level (IdentityMap frame flags)) (map_answer frame r) after rest → IfOk r (λ flush. flush ≡ frame)
       → (told : Result ℕ (MapToError S)) → told ≡ r → Is (IdentityMap frame flags) after.memory rest (reply.Map told)
-  identity_map_served frame flags = let four = start.four in map_served (IdentityMap frame flags) (start.low, start.high, omega (arith, start.high)) frame frame (λ a. refl)
+  identity_map_served frame flags = map_served (IdentityMap frame flags) (start.low, start.high, omega (arith, start.some_levels, start.high)) frame frame (λ a. refl)
 
   -- ---- changes of one entry
 
-  change_served : (call : SizeCall S) → IsCall h.layout.levels (size_call h.layout.levels level call) → (answer : Answer) (after : Hierarchy Lent) → Does h (size_call h.layout.levels level call) answer after
+  change_served : (call : PageCall) → IsCall h.layout.levels (page_call h.layout.levels level call) → (answer : Answer) (after : Hierarchy Lent) → Does h (page_call h.layout.levels level call) answer after
       → (told : SizeReply S) → size_reply call answer ≡ Some told → (size_changes_nothing told ≡ true → refuses answer ≡ true) → Is call after.memory pool told
   change_served call is answer after does told tells still =
-      answered call is after.memory pool answer (stepped h put pool (size_call h.layout.levels level call) answer after pool does.layout (does.outcome pool))
+      answered call is after.memory pool answer (stepped h put pool (page_call h.layout.levels level call) answer after pool does.layout (does.outcome pool))
       (subst (λ l. IsReady l after.memory pool) does.layout (does.fits pool (ready_of_fits h.layout h.memory serves pool start.fits))) (λ k none. does.others k (λ f table. none f (inr table)))
       told tells (λ unchanged. does.refused (still unchanged))
 
-  pub unmap_served : (page : ℕ) (r : Result (ℕ × ℕ) UnmapError) (after : Hierarchy Lent) → Does h (size_call {S = S} h.layout.levels level (Unmap page)) (unmap_answer r) after → IfOk r (λ unmapped. unmapped.1 ≡ page)
+  pub unmap_served : (page : ℕ) (r : Result (ℕ × ℕ) UnmapError) (after : Hierarchy Lent) → Does h (page_call h.layout.levels level (Unmap page)) (unmap_answer r) after → IfOk r (λ unmapped. unmapped.1 ≡ page)
       → (told : Result (ℕ × ℕ) UnmapError) → told ≡ r → Is (Unmap page) after.memory pool (reply.Unmap told)
   unmap_served page r after does same told tells = change_served (Unmap page) (is_page start page) (unmap_answer r) after does (reply.Unmap told)
       (ap (option_map reply.Unmap) (unmap_result page r same ∙ ap Some (sym tells))) (unmap_refuses told r tells)
 
-  pub update_served : (page : ℕ) (flags : PageTableFlags) (frame : ℕ) (r : Result ℕ FlagUpdateError) (after : Hierarchy Lent)
-      → Does h (size_call {S = S} h.layout.levels level (UpdateFlags page flags)) (flags_answer frame r) after → IfOk r (λ flush. flush ≡ page)
+  pub update_served : (page : ℕ) (flags : ℕ) (frame : ℕ) (r : Result ℕ FlagUpdateError) (after : Hierarchy Lent)
+      → Does h (page_call h.layout.levels level (UpdateFlags page flags)) (flags_answer frame r) after → IfOk r (λ flush. flush ≡ page)
       → (told : Result ℕ FlagUpdateError) → told ≡ r → Is (UpdateFlags page flags) after.memory pool (reply.Update told)
   update_served page flags frame r after does same told tells = change_served (UpdateFlags page flags) (is_page start page) (flags_answer frame r) after does (reply.Update told)
       (ap (option_map reply.Update) (flags_result page frame r same r refl ∙ ap Some (sym tells))) (flags_refuse frame told r (ap flags_refusal tells))
 
   -- on the entry of another level
-  pub set_flags_served : (call : SizeCall S) (at page : ℕ) (flags : PageTableFlags) → size_call h.layout.levels level call ≡ machine.SetFlags at (path_at h.layout.levels level page) (bits_of flags) → 2 ≤ at → at ≤ 4
-      → ((answer : Answer) → size_reply call answer ≡ option_map reply.TableFlags (result_of (λ f. tt) update_error answer))
-      → {X : Type 0} (frame : ℕ) (r : Result X FlagUpdateError) (after : Hierarchy Lent) → Does h (size_call h.layout.levels level call) (flags_answer frame r) after
-      → (told : Result Unit FlagUpdateError) → flags_refusal told ≡ flags_refusal r → Is call after.memory pool (reply.TableFlags told)
-  set_flags_served call at page flags is above below replies frame r after does told tells =
-      change_served call (subst (IsCall h.layout.levels) (sym is) (above, subst (λ L. at ≤ L) (sym start.four) below, is_page start page)) (flags_answer frame r) after does (reply.TableFlags told)
-      (replies _ ∙ ap (option_map reply.TableFlags) (flags_result tt frame told (any_unit told) r tells)) (flags_refuse frame told r tells)
+  pub set_flags_served : (at page flags : ℕ) → 2 ≤ at → at ≤ h.layout.levels → {X : Type 0} (frame : ℕ) (r : Result X FlagUpdateError) (after : Hierarchy Lent)
+      → Does h (page_call h.layout.levels level (SetFlags at page flags)) (flags_answer frame r) after
+      → (told : Result Unit FlagUpdateError) → flags_refusal told ≡ flags_refusal r → Is (SetFlags at page flags) after.memory pool (reply.TableFlags told)
+  set_flags_served at page flags above below frame r after does told tells =
+      change_served (SetFlags at page flags) (above, below, is_page start page) (flags_answer frame r) after does (reply.TableFlags told)
+      (ap (option_map reply.TableFlags) (flags_result tt frame told (any_unit told) r tells)) (flags_refuse frame told r tells)
 
   -- ---- translations
 

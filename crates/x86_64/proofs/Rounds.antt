@@ -8,81 +8,78 @@ use Rattle.x86_64_model.specs.Layout.{Layout}
 use Rattle.x86_64_model.specs.Machine.{Machine, State, state_after}
 use Rattle.x86_64_model.specs.Owned.{Hierarchy}
 use Rattle.x86_64_tables.specs.declared.mapper.recorder.FlushItem.{FlushItem}
-use Rattle.x86_64.specs.Flushes.{items_of, items_told}
+use Rattle.x86_64.specs.Flushes.{items_by}
 use Rattle.x86_64.specs.Private.{recorded}
-use Rattle.x86_64.specs.declared.calls.Call.{Call}
-use Rattle.x86_64.specs.declared.calls.Reply.{Reply}
-use Rattle.x86_64.specs.Calls.{calls_of}
-use Rattle.x86_64.specs.Replies.{changes_nothing}
-use Rattle.x86_64.specs.Runs.{machine_of, state_of, Keeps, Kept, AfterStep, call_step, replies_to, appended, UnchangedIfRefused}
+use Rattle.x86_64.specs.Asked.{Kind, calls_by}
+use Rattle.x86_64.specs.Runs.{machine_of, state_of, Keeps, Kept, AfterStep, step_as, replies_as, appended, UnchangedAs}
 use Rattle.x86_64.proofs.Keeping.{keeps_then}
 
-left : (calls : List Call) (i : ℕ) (call : Call) → i < length calls → call ≡ get_or calls i call → drop i calls ≡ call ∷ drop (i + 1) calls
+left : {C : Type 0} (calls : List C) (i : ℕ) (call : C) → i < length calls → call ≡ get_or calls i call → drop i calls ≡ call ∷ drop (i + 1) calls
 left calls i call here item = rw add-one (drop-cons calls i call here ∙ ap (λ c. c ∷ drop (suc i) calls) (sym item))
 
 recorded_both : (b : Bool) (xs ys : List FlushItem) → recorded b (xs ++ ys) ≡ recorded b xs ++ recorded b ys
 recorded_both true xs ys = refl
 recorded_both false xs ys = refl
 
-module _ (m : Machine) (s t : State) (r : Reply) (calls : List Call) (i : ℕ) (call : Call) (here : i < length calls) (item : call ≡ get_or calls i call) (one : call_step m s call ≡ record { state = t; reply = Some r }) where
-  pub told_next : (items more : List Reply) (all : List (Option Reply)) → more ≡ items ++ r ∷ [] → map Some items ++ replies_to m s (drop i calls) ≡ all → map Some more ++ replies_to m t (drop (i + 1) calls) ≡ all
+module _ {C R : Type 0} (kind : Kind C R) (m : Machine) (s t : State) (r : R) (calls : List C) (i : ℕ) (call : C) (here : i < length calls) (item : call ≡ get_or calls i call) (one : step_as kind m s call ≡ record { state = t; reply = Some r }) where
+  pub told_next : (items more : List R) (all : List (Option R)) → more ≡ items ++ r ∷ [] → map Some items ++ replies_as kind m s (drop i calls) ≡ all → map Some more ++ replies_as kind m t (drop (i + 1) calls) ≡ all
   told_next items more all e before =
       let rest = drop (i + 1) calls in
-      ap (λ xs. map Some xs ++ replies_to m t rest) e ∙ ap (λ xs. xs ++ replies_to m t rest) (map-append Some items (r ∷ [])) ∙ append_assoc (map Some items) (Some r ∷ []) (replies_to m t rest)
-      ∙ ap (λ (x : AfterStep Reply). map Some items ++ x.reply ∷ replies_to m x.state rest) (sym one) ∙ ap (λ cs. map Some items ++ replies_to m s cs) (sym (left calls i call here item)) ∙ before
+      ap (λ xs. map Some xs ++ replies_as kind m t rest) e ∙ ap (λ xs. xs ++ replies_as kind m t rest) (map-append Some items (r ∷ [])) ∙ append_assoc (map Some items) (Some r ∷ []) (replies_as kind m t rest)
+      ∙ ap (λ (x : AfterStep R). map Some items ++ x.reply ∷ replies_as kind m x.state rest) (sym one) ∙ ap (λ cs. map Some items ++ replies_as kind m s cs) (sym (left calls i call here item)) ∙ before
 
-  pub rest_next : (all : State) → state_after m s (calls_of m.levels (drop i calls)) ≡ all → state_after m t (calls_of m.levels (drop (i + 1) calls)) ≡ all
-  rest_next all before = ap (λ (x : AfterStep Reply). state_after m x.state (calls_of m.levels (drop (i + 1) calls))) (sym one) ∙ ap (λ cs. state_after m s (calls_of m.levels cs)) (sym (left calls i call here item)) ∙ before
+  pub rest_next : (all : State) → state_after m s (calls_by kind.asks m.levels (drop i calls)) ≡ all → state_after m t (calls_by kind.asks m.levels (drop (i + 1) calls)) ≡ all
+  rest_next all before = ap (λ (x : AfterStep R). state_after m x.state (calls_by kind.asks m.levels (drop (i + 1) calls))) (sym one) ∙ ap (λ cs. state_after m s (calls_by kind.asks m.levels cs)) (sym (left calls i call here item)) ∙ before
 
 -- ---- the replies that were appended
 
-items_both : (xs ys : List Reply) → items_told (xs ++ ys) ≡ items_told xs ++ items_told ys
-items_both [] ys = refl
-items_both (x ∷ xs) ys = ap (λ zs. items_of x ++ zs) (items_both xs ys) ∙ sym (append_assoc (items_of x) (items_told xs) (items_told ys))
+items_both : {R : Type 0} (items_of : R → List FlushItem) (xs ys : List R) → items_by items_of (xs ++ ys) ≡ items_by items_of xs ++ items_by items_of ys
+items_both items_of [] ys = refl
+items_both items_of (x ∷ xs) ys = ap (λ zs. items_of x ++ zs) (items_both items_of xs ys) ∙ sym (append_assoc (items_of x) (items_by items_of xs) (items_by items_of ys))
 
 all_parts : {X : Type 0} (P : X → Type 0) (xs : List X) (y : X) → AllByRecursion P (xs ++ y ∷ []) → AllByRecursion P xs × P y
 all_parts P [] y all = (tt, all.0)
 all_parts P (x ∷ xs) y all = let parts = all_parts P xs y all.1 in ((all.0, parts.0), parts.1)
 
-module _ (before items more : List Reply) (r : Reply) (longer : length before ≤ length items) (e : more ≡ items ++ r ∷ []) where
+module _ {R : Type 0} (before items more : List R) (r : R) (longer : length before ≤ length items) (e : more ≡ items ++ r ∷ []) where
   one_appended : appended before more ≡ appended before items ++ r ∷ []
   one_appended = ap (appended before) e ∙ drop-append-le (length before) items (r ∷ []) longer
 
   pub longer_next : length before ≤ length more
   longer_next = let long : length more ≡ length items + 1 = ap length e ∙ length-append items (r ∷ []) in omega (arith, longer, long)
 
-  pub items_next : (b : Bool) (start held next : List FlushItem) → next ≡ held ++ recorded b (items_of r) → held ≡ start ++ recorded b (items_told (appended before items))
-      → next ≡ start ++ recorded b (items_told (appended before more))
-  items_next b start held next adds first =
-      adds ∙ ap (λ xs. xs ++ recorded b (items_of r)) first ∙ append_assoc start (recorded b (items_told (appended before items))) (recorded b (items_of r))
-      ∙ ap (λ xs. start ++ xs) (sym (recorded_both b (items_told (appended before items)) (items_of r)) ∙ ap (recorded b) (one_item ∙ ap items_told (sym one_appended)))
+  pub items_next : (items_of : R → List FlushItem) (b : Bool) (start held next : List FlushItem) → next ≡ held ++ recorded b (items_of r) → held ≡ start ++ recorded b (items_by items_of (appended before items))
+      → next ≡ start ++ recorded b (items_by items_of (appended before more))
+  items_next items_of b start held next adds first =
+      adds ∙ ap (λ xs. xs ++ recorded b (items_of r)) first ∙ append_assoc start (recorded b (items_by items_of (appended before items))) (recorded b (items_of r))
+      ∙ ap (λ xs. start ++ xs) (sym (recorded_both b (items_by items_of (appended before items)) (items_of r)) ∙ ap (recorded b) (one_item ∙ ap (items_by items_of) (sym one_appended)))
     where
-      one_item : items_told (appended before items) ++ items_of r ≡ items_told (appended before items ++ r ∷ [])
-      one_item = ap (λ xs. items_told (appended before items) ++ xs) (sym (append-nil (items_of r))) ∙ sym (items_both (appended before items) (r ∷ []))
+      one_item : items_by items_of (appended before items) ++ items_of r ≡ items_by items_of (appended before items ++ r ∷ [])
+      one_item = ap (λ xs. items_by items_of (appended before items) ++ xs) (sym (append-nil (items_of r))) ∙ sym (items_both items_of (appended before items) (r ∷ []))
 
-  pub still_next : (m n o : Memory) → UnchangedIfRefused (appended before items) m n → (changes_nothing r ≡ true → o ≡ n) → UnchangedIfRefused (appended before more) m o
-  still_next m n o first next all =
+  pub still_next : (changes_nothing : R → Bool) (m n o : Memory) → UnchangedAs changes_nothing (appended before items) m n → (changes_nothing r ≡ true → o ≡ n) → UnchangedAs changes_nothing (appended before more) m o
+  still_next changes_nothing m n o first next all =
       let parts = all_parts (λ reply. changes_nothing reply ≡ true) (appended before items) r (subst (AllByRecursion (λ reply. changes_nothing reply ≡ true)) one_appended all) in
       next parts.1 ∙ first parts.0
 
-replies_long : (m : Machine) (s : State) (calls : List Call) → length (replies_to m s calls) ≡ length calls
-replies_long m s [] = refl
-replies_long m s (call ∷ calls) = ap suc (replies_long m (call_step m s call).state calls)
+replies_long : {C R : Type 0} (kind : Kind C R) (m : Machine) (s : State) (calls : List C) → length (replies_as kind m s calls) ≡ length calls
+replies_long kind m s [] = refl
+replies_long kind m s (call ∷ calls) = ap suc (replies_long kind m (step_as kind m s call).state calls)
 
 -- where no call is left
-pub told_last : (m : Machine) (s : State) (calls : List Call) (i : ℕ) → length calls ≤ i → (items : List Reply) (all : List (Option Reply)) → map Some items ++ replies_to m s (drop i calls) ≡ all → map Some items ≡ all
-told_last m s calls i past items all told = sym (append-nil (map Some items)) ∙ ap (λ cs. map Some items ++ replies_to m s cs) (sym (drop_all i calls past)) ∙ told
+pub told_last : {C R : Type 0} (kind : Kind C R) (m : Machine) (s : State) (calls : List C) (i : ℕ) → length calls ≤ i → (items : List R) (all : List (Option R)) → map Some items ++ replies_as kind m s (drop i calls) ≡ all → map Some items ≡ all
+told_last kind m s calls i past items all told = sym (append-nil (map Some items)) ∙ ap (λ cs. map Some items ++ replies_as kind m s cs) (sym (drop_all i calls past)) ∙ told
 
-pub rest_last : (m : Machine) (s : State) (calls : List Call) (i : ℕ) → length calls ≤ i → (all : State) → state_after m s (calls_of m.levels (drop i calls)) ≡ all → s ≡ all
-rest_last m s calls i past all rest = ap (λ cs. state_after m s (calls_of m.levels cs)) (sym (drop_all i calls past)) ∙ rest
+pub rest_last : {C R : Type 0} (kind : Kind C R) (m : Machine) (s : State) (calls : List C) (i : ℕ) → length calls ≤ i → (all : State) → state_after m s (calls_by kind.asks m.levels (drop i calls)) ≡ all → s ≡ all
+rest_last kind m s calls i past all rest = ap (λ cs. state_after m s (calls_by kind.asks m.levels cs)) (sym (drop_all i calls past)) ∙ rest
 
 -- one for each call
-pub one_each : (m : Machine) (s : State) (calls : List Call) (before after : List Reply) → map Some after ≡ map Some before ++ replies_to m s calls → length after ≡ length before + length calls
-one_each m s calls before after told =
-    sym (length-map after Some) ∙ ap length told ∙ length-append (map Some before) (replies_to m s calls) ∙ ap (λ n. n + length (replies_to m s calls)) (length-map before Some) ∙ ap (λ n. length before + n) (replies_long m s calls)
+pub one_each : {C R : Type 0} (kind : Kind C R) (m : Machine) (s : State) (calls : List C) (before after : List R) → map Some after ≡ map Some before ++ replies_as kind m s calls → length after ≡ length before + length calls
+one_each kind m s calls before after told =
+    sym (length-map after Some) ∙ ap length told ∙ length-append (map Some before) (replies_as kind m s calls) ∙ ap (λ n. n + length (replies_as kind m s calls)) (length-map before Some) ∙ ap (λ n. length before + n) (replies_long kind m s calls)
 
 -- they are the machine's
-pub appended_told : (before after : List Reply) (told : List (Option Reply)) → map Some after ≡ map Some before ++ told → map Some (appended before after) ≡ told
+pub appended_told : {R : Type 0} (before after : List R) (told : List (Option R)) → map Some after ≡ map Some before ++ told → map Some (appended before after) ≡ told
 appended_told before after told e =
     sym (drop-map Some (length before) after) ∙ ap (drop (length before)) e ∙ ap (λ n. drop n (map Some before ++ told)) (sym (length-map before Some)) ∙ drop-append_seam (map Some before) told
 
@@ -96,8 +93,8 @@ room_for_one has_room fewer (suc k) room =
 -- ---- in the same layout, with the same frames served
 
 module _ (k l : Layout) (same : l ≡ k) (put : List ℕ → ℕ → List ℕ) (n o : Memory) (rest last : List ℕ) where
-  pub step_at : (call : Call) (r : Reply) → call_step (machine_of l put) (state_of l n rest) call ≡ record { state = state_of l o last; reply = Some r } → call_step (machine_of k put) (state_of k n rest) call ≡ record { state = state_of k o last; reply = Some r }
-  step_at call r = subst (λ l. call_step (machine_of l put) (state_of l n rest) call ≡ record { state = state_of l o last; reply = Some r }) same
+  pub step_at : {C R : Type 0} (kind : Kind C R) (call : C) (r : R) → step_as kind (machine_of l put) (state_of l n rest) call ≡ record { state = state_of l o last; reply = Some r } → step_as kind (machine_of k put) (state_of k n rest) call ≡ record { state = state_of k o last; reply = Some r }
+  step_at kind call r = subst (λ l. step_as kind (machine_of l put) (state_of l n rest) call ≡ record { state = state_of l o last; reply = Some r }) same
 
 pub kept_then : {Lent : Type 0} (h now after : Hierarchy Lent) (served serves : ℕ → Bool) → serves ≡ served → (pool rest last : List ℕ) → Kept h served pool now rest → Kept now serves rest after last
     → Kept h served pool after last

@@ -14,16 +14,12 @@ use Rattle.x86_64_tables.specs.declared.mapper.MappedFrame.{MappedFrame}
 use Rattle.x86_64_tables.specs.declared.mapper.MappedFrame.TheVariants.{Size4KiB, Size2MiB, Size1GiB}
 use Rattle.x86_64_tables.specs.declared.mapper.TranslateResult.{TranslateResult}
 use Rattle.x86_64_tables.specs.declared.mapper.TranslateResult.TheVariants.{Mapped, NotMapped, InvalidFrameAddress}
-use Rattle.x86_64.specs.declared.calls.SizeCall.{SizeCall}
-use Rattle.x86_64.specs.declared.calls.SizeCall.TheVariants as size_call
-use Rattle.x86_64.specs.declared.calls.Call.{Call}
-use Rattle.x86_64.specs.declared.calls.Call.TheVariants.{Of4KiB, Of2MiB, Of1GiB, Translate, TranslateAddr, CleanUp, CleanUpRange}
-use Rattle.x86_64.specs.declared.calls.SizeReply.{SizeReply}
-use Rattle.x86_64.specs.declared.calls.SizeReply.TheVariants.{Map, Unmap, Update, TableFlags, Frame}
-use Rattle.x86_64.specs.declared.calls.Reply.{Reply}
-use Rattle.x86_64.specs.declared.calls.Reply.TheVariants as reply
-use Rattle.x86_64.specs.Replies.{map_error, unmap_error, update_error, translate_error, size_answer, translate_result, sized, reply_of}
-use Rattle.x86_64.specs.ToldReplies.{size_told, told, RepliesTell}
+use Rattle.x86_64.specs.Asked.{PageCall, MapTo, MapToWithTableFlags, IdentityMap, UpdateFlags, SetFlags, TranslatePage, Unmap as UnmapPage, MapperCall, Of4KiB, Of2MiB, Of1GiB, Translate, TranslateAddr, CleanUp, Kind}
+use Rattle.x86_64.specs.Calls.{asks, asks_57}
+use Rattle.x86_64.specs.declared.calls.PageReply.TheVariants.{Map, Unmap, Update, TableFlags, Frame}
+use Rattle.x86_64.specs.declared.calls.MapperReply.TheVariants as reply
+use Rattle.x86_64.specs.Replies.{SizeReply, Reply, map_error, unmap_error, update_error, translate_error, size_answer, translate_result, sized, reply_of}
+use Rattle.x86_64.specs.ToldReplies.{size_told, told, RepliesTell, RepliesTell57}
 
 -- ---- errors
 
@@ -73,6 +69,15 @@ abbrev back_where : {S : Type 0} → Option (SizeReply S) → machine.Reply
 back_where None = machine.NotAllowed
 back_where (Some answer) = size_back answer
 
+not_allowed_told : (call : PageCall) → size_told call machine.NotAllowed ≡ machine.NotAllowed
+not_allowed_told (MapTo page frame flags) = refl
+not_allowed_told (MapToWithTableFlags page frame flags more) = refl
+not_allowed_told (IdentityMap frame flags) = refl
+not_allowed_told (UnmapPage page) = refl
+not_allowed_told (UpdateFlags page flags) = refl
+not_allowed_told (SetFlags at page flags) = refl
+not_allowed_told (TranslatePage page) = refl
+
 module _ {S : Type 0} where
   done_back : (r : machine.Reply) (answer : SizeReply S) → r ≡ size_back answer → (o : Option (SizeReply S)) → Some (Some answer) ≡ Some o → r ≡ back_where o
   done_back r answer is o e = is ∙ ap back_where (same_Some _ _ e)
@@ -89,38 +94,23 @@ module _ {S : Type 0} where
   flags_told : (why : Refusal) (o : Option (SizeReply S)) → option_map Some (option_map TableFlags (option_map Err (update_error why))) ≡ Some o → machine.Answered (Refused why) ≡ back_where o
   flags_told why = refused_back TableFlags why (update_error why) (λ w is. ap (λ x. machine.Answered (Refused x)) (update_back why w is))
 
-  answer_back : (call : SizeCall S) (a : refusal.Answer) (o : Option (SizeReply S)) → size_answer call (machine.Answered a) ≡ Some o → size_told call (machine.Answered a) ≡ back_where o
-  answer_back (size_call.MapTo page frame flags) (Done f) = done_back _ _ refl
-  answer_back (size_call.MapTo page frame flags) (Refused why) = map_told page why
-  answer_back (size_call.MapToWithTableFlags page frame flags more) (Done f) = done_back _ _ refl
-  answer_back (size_call.MapToWithTableFlags page frame flags more) (Refused why) = map_told page why
-  answer_back (size_call.IdentityMap frame flags) (Done f) = done_back _ _ refl
-  answer_back (size_call.IdentityMap frame flags) (Refused why) = map_told frame why
-  answer_back (size_call.Unmap page) (Done f) = done_back _ _ refl
-  answer_back (size_call.Unmap page) (Refused why) = refused_back Unmap why (unmap_error why) (λ w is. ap (λ x. machine.Answered (Refused x)) (unmap_back why w is))
-  answer_back (size_call.UpdateFlags page flags) (Done f) = done_back _ _ refl
-  answer_back (size_call.UpdateFlags page flags) (Refused why) = refused_back Update why (update_error why) (λ w is. ap (λ x. machine.Answered (Refused x)) (update_back why w is))
-  answer_back (size_call.SetFlagsP4 page flags) (Done f) = done_back _ _ refl
-  answer_back (size_call.SetFlagsP4 page flags) (Refused why) = flags_told why
-  answer_back (size_call.SetFlagsP3 page flags) (Done f) = done_back _ _ refl
-  answer_back (size_call.SetFlagsP3 page flags) (Refused why) = flags_told why
-  answer_back (size_call.SetFlagsP2 page flags) (Done f) = done_back _ _ refl
-  answer_back (size_call.SetFlagsP2 page flags) (Refused why) = flags_told why
-  answer_back (size_call.TranslatePage page) (Done f) = done_back _ _ refl
-  answer_back (size_call.TranslatePage page) (Refused why) = refused_back Frame why (translate_error why) (λ w is. ap (λ x. machine.Answered (Refused x)) (translate_back why w is))
+  answer_back : (call : PageCall) (a : refusal.Answer) (o : Option (SizeReply S)) → size_answer call (machine.Answered a) ≡ Some o → size_told call (machine.Answered a) ≡ back_where o
+  answer_back (MapTo page frame flags) (Done f) = done_back _ _ refl
+  answer_back (MapTo page frame flags) (Refused why) = map_told page why
+  answer_back (MapToWithTableFlags page frame flags more) (Done f) = done_back _ _ refl
+  answer_back (MapToWithTableFlags page frame flags more) (Refused why) = map_told page why
+  answer_back (IdentityMap frame flags) (Done f) = done_back _ _ refl
+  answer_back (IdentityMap frame flags) (Refused why) = map_told frame why
+  answer_back (UnmapPage page) (Done f) = done_back _ _ refl
+  answer_back (UnmapPage page) (Refused why) = refused_back Unmap why (unmap_error why) (λ w is. ap (λ x. machine.Answered (Refused x)) (unmap_back why w is))
+  answer_back (UpdateFlags page flags) (Done f) = done_back _ _ refl
+  answer_back (UpdateFlags page flags) (Refused why) = refused_back Update why (update_error why) (λ w is. ap (λ x. machine.Answered (Refused x)) (update_back why w is))
+  answer_back (SetFlags at page flags) (Done f) = done_back _ _ refl
+  answer_back (SetFlags at page flags) (Refused why) = flags_told why
+  answer_back (TranslatePage page) (Done f) = done_back _ _ refl
+  answer_back (TranslatePage page) (Refused why) = refused_back Frame why (translate_error why) (λ w is. ap (λ x. machine.Answered (Refused x)) (translate_back why w is))
 
-  not_allowed_told : (call : SizeCall S) → size_told call machine.NotAllowed ≡ machine.NotAllowed
-  not_allowed_told (size_call.MapTo page frame flags) = refl
-  not_allowed_told (size_call.MapToWithTableFlags page frame flags more) = refl
-  not_allowed_told (size_call.IdentityMap frame flags) = refl
-  not_allowed_told (size_call.Unmap page) = refl
-  not_allowed_told (size_call.UpdateFlags page flags) = refl
-  not_allowed_told (size_call.SetFlagsP4 page flags) = refl
-  not_allowed_told (size_call.SetFlagsP3 page flags) = refl
-  not_allowed_told (size_call.SetFlagsP2 page flags) = refl
-  not_allowed_told (size_call.TranslatePage page) = refl
-
-  size_is_back : (call : SizeCall S) (r : machine.Reply) (o : Option (SizeReply S)) → size_answer call r ≡ Some o → size_told call r ≡ back_where o
+  size_is_back : (call : PageCall) (r : machine.Reply) (o : Option (SizeReply S)) → size_answer call r ≡ Some o → size_told call r ≡ back_where o
   size_is_back call (machine.Answered a) o is = answer_back call a o is
   size_is_back call machine.NotAllowed o is = not_allowed_told call ∙ ap back_where (same_Some _ _ is)
   size_is_back call (machine.Position t) o is = cc
@@ -170,30 +160,31 @@ translated_back : (t : Translated) (found : Option TranslateResult) → ((x : Tr
 translated_back t None tells x e = cc
 translated_back t (Some result) tells x e = ap machine.Position (tells result refl) ∙ ap back (same_Some _ _ e)
 
-is_back : (call : Call) (r : machine.Reply) (x : Reply) → reply_of call r ≡ Some x → told call r ≡ back x
+is_back : (call : MapperCall) (r : machine.Reply) (x : Reply) → reply_of call r ≡ Some x → told call r ≡ back x
 is_back (Of4KiB call) r x e = sized_back reply.Of4KiB (λ a. refl) (size_told call r) (size_answer call r) (size_is_back call r) x e
 is_back (Of2MiB call) r x e = sized_back reply.Of2MiB (λ a. refl) (size_told call r) (size_answer call r) (size_is_back call r) x e
 is_back (Of1GiB call) r x e = sized_back reply.Of1GiB (λ a. refl) (size_told call r) (size_answer call r) (size_is_back call r) x e
-is_back (Translate addr) (machine.Position t) x e = translated_back t (translate_result t) (translation_back t) x e
-is_back (Translate addr) machine.NotAllowed x e = cc
-is_back (Translate addr) (machine.Answered a) x e = cc
-is_back (Translate addr) (machine.Address a) x e = cc
-is_back (Translate addr) machine.Cleaned x e = cc
-is_back (TranslateAddr addr) (machine.Address a) x e = ap back (same_Some _ _ e)
-is_back (TranslateAddr addr) machine.NotAllowed x e = cc
-is_back (TranslateAddr addr) (machine.Answered a) x e = cc
-is_back (TranslateAddr addr) (machine.Position t) x e = cc
-is_back (TranslateAddr addr) machine.Cleaned x e = cc
-is_back CleanUp machine.Cleaned x e = ap back (same_Some _ _ e)
-is_back CleanUp machine.NotAllowed x e = cc
-is_back CleanUp (machine.Answered a) x e = cc
-is_back CleanUp (machine.Position t) x e = cc
-is_back CleanUp (machine.Address a) x e = cc
-is_back (CleanUpRange range) machine.Cleaned x e = ap back (same_Some _ _ e)
-is_back (CleanUpRange range) machine.NotAllowed x e = cc
-is_back (CleanUpRange range) (machine.Answered a) x e = cc
-is_back (CleanUpRange range) (machine.Position t) x e = cc
-is_back (CleanUpRange range) (machine.Address a) x e = cc
+is_back (Translate position) (machine.Position t) x e = translated_back t (translate_result t) (translation_back t) x e
+is_back (Translate position) machine.NotAllowed x e = cc
+is_back (Translate position) (machine.Answered a) x e = cc
+is_back (Translate position) (machine.Address a) x e = cc
+is_back (Translate position) machine.Cleaned x e = cc
+is_back (TranslateAddr position) (machine.Address a) x e = ap back (same_Some _ _ e)
+is_back (TranslateAddr position) machine.NotAllowed x e = cc
+is_back (TranslateAddr position) (machine.Answered a) x e = cc
+is_back (TranslateAddr position) (machine.Position t) x e = cc
+is_back (TranslateAddr position) machine.Cleaned x e = cc
+is_back (CleanUp low high) machine.Cleaned x e = ap back (same_Some _ _ e)
+is_back (CleanUp low high) machine.NotAllowed x e = cc
+is_back (CleanUp low high) (machine.Answered a) x e = cc
+is_back (CleanUp low high) (machine.Position t) x e = cc
+is_back (CleanUp low high) (machine.Address a) x e = cc
+
+tells_by : (call : MapperCall) (r s : machine.Reply) (x : Reply) → reply_of call r ≡ Some x → reply_of call s ≡ Some x → told call r ≡ told call s
+tells_by call r s x first second = is_back call r x first ∙ sym (is_back call s x second)
 
 pub replies_tell : RepliesTell
-replies_tell call r s x first second = is_back call r x first ∙ sym (is_back call s x second)
+replies_tell call = tells_by (asks call)
+
+pub replies_tell_57 : RepliesTell57
+replies_tell_57 call = tells_by (asks_57 call)

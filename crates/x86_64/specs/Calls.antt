@@ -1,61 +1,80 @@
--- The calls of the machine that the calls of a list are, and which index of level four they name.
-use Rattle.std.specs.Prelude.{ℕ, false, ◌+◌, ◌^◌, ◌==◌, ◌&&◌, nat_lt, Bool, cond, List, map, Option, Some, None}
-use Rattle.x86_64_model.specs.Position.{index}
-use Rattle.x86_64_model.specs.Path.{path_at}
+-- The calls of the machine that the calls of a list are, and which index of the highest level they name: of four levels, and of five.
+use Rattle.std.specs.Prelude.{ℕ, ◌+◌, ◌^◌, nat_lt, Bool, cond, List, Option, Some, None}
 use Rattle.x86_64_model.specs.Call as machine
 use Rattle.x86_64_tables.specs.PageTableFlags.{bits_of}
+use Rattle.x86_64.specs.Asked as asked
+use Rattle.x86_64.specs.Asked.{PageCall, MapperCall, page_call, machine_call, calls_by, page_names, names_by}
 use Rattle.x86_64.specs.declared.calls.SizeCall.{SizeCall}
 use Rattle.x86_64.specs.declared.calls.SizeCall.TheVariants.{MapTo, MapToWithTableFlags, IdentityMap, Unmap, UpdateFlags, SetFlagsP4, SetFlagsP3, SetFlagsP2, TranslatePage}
 use Rattle.x86_64.specs.declared.calls.Call.{Call}
 use Rattle.x86_64.specs.declared.calls.Call.TheVariants.{Of4KiB, Of2MiB, Of1GiB, Translate, TranslateAddr, CleanUp, CleanUpRange}
+use Rattle.x86_64.specs.declared.calls.call57.SizeCall57.{SizeCall57}
+use Rattle.x86_64.specs.declared.calls.call57.SizeCall57.TheVariants as size_57
+use Rattle.x86_64.specs.declared.calls.call57.Call57.{Call57}
+use Rattle.x86_64.specs.declared.calls.call57.Call57.TheVariants as call_57
 
--- the call on a page that an entry of a level maps, where there are L levels
-abbrev pub size_call : {S : Type 0} → (L level : ℕ) → SizeCall S → machine.Call
-size_call L level (MapTo page frame flags) = machine.MapTo (path_at L level page) frame (bits_of flags)
-size_call L level (MapToWithTableFlags page frame flags parent_flags) = machine.MapToWithTableFlags (path_at L level page) frame (bits_of flags) (bits_of parent_flags)
-size_call L level (IdentityMap frame flags) = machine.IdentityMap level frame (bits_of flags)
-size_call L level (Unmap page) = machine.Unmap (path_at L level page)
-size_call L level (UpdateFlags page flags) = machine.UpdateFlags (path_at L level page) (bits_of flags)
-size_call L level (SetFlagsP4 page flags) = machine.SetFlags 4 (path_at L level page) (bits_of flags)
-size_call L level (SetFlagsP3 page flags) = machine.SetFlags 3 (path_at L level page) (bits_of flags)
-size_call L level (SetFlagsP2 page flags) = machine.SetFlags 2 (path_at L level page) (bits_of flags)
-size_call L level (TranslatePage page) = machine.TranslatePage (path_at L level page)
+-- ---- of four levels
+
+abbrev pub size_asks : {S : Type 0} → SizeCall S → PageCall
+size_asks (MapTo page frame flags) = asked.MapTo page frame (bits_of flags)
+size_asks (MapToWithTableFlags page frame flags parent_flags) = asked.MapToWithTableFlags page frame (bits_of flags) (bits_of parent_flags)
+size_asks (IdentityMap frame flags) = asked.IdentityMap frame (bits_of flags)
+size_asks (Unmap page) = asked.Unmap page
+size_asks (UpdateFlags page flags) = asked.UpdateFlags page (bits_of flags)
+size_asks (SetFlagsP4 page flags) = asked.SetFlags 4 page (bits_of flags)
+size_asks (SetFlagsP3 page flags) = asked.SetFlags 3 page (bits_of flags)
+size_asks (SetFlagsP2 page flags) = asked.SetFlags 2 page (bits_of flags)
+size_asks (TranslatePage page) = asked.TranslatePage page
+
+abbrev pub asks : Call → MapperCall
+asks (Of4KiB call) = asked.Of4KiB (size_asks call)
+asks (Of2MiB call) = asked.Of2MiB (size_asks call)
+asks (Of1GiB call) = asked.Of1GiB (size_asks call)
+asks (Translate addr) = asked.Translate addr
+asks (TranslateAddr addr) = asked.TranslateAddr addr
+asks CleanUp = asked.CleanUp 0 0xffff_ffff_ffff
+asks (CleanUpRange range) = asked.CleanUp range.start (range.end + 0xfff)
 
 abbrev pub call_of : (L : ℕ) → Call → machine.Call
-call_of L (Of4KiB call) = size_call L 1 call
-call_of L (Of2MiB call) = size_call L 2 call
-call_of L (Of1GiB call) = size_call L 3 call
-call_of L (Translate addr) = machine.Translate addr
-call_of L (TranslateAddr addr) = machine.TranslateAddress addr
-call_of L CleanUp = machine.CleanUp 0 0xffff_ffff_ffff
-call_of L (CleanUpRange range) = machine.CleanUp range.start (range.end + 0xfff)
+call_of L call = machine_call L (asks call)
 
 abbrev pub calls_of : (L : ℕ) → List Call → List machine.Call
-calls_of L calls = map (call_of L) calls
-
--- ---- the index of level four
+calls_of L calls = calls_by asks L calls
 
 -- the page at a frame's own address: an address below 2^47 is its own position, and one from there on is none of a page
 abbrev pub identity_page : (frame : ℕ) → Option ℕ
 identity_page frame = cond (nat_lt frame (2 ^ 47)) (Some frame) None
 
 abbrev pub size_names : {S : Type 0} → SizeCall S → (i : ℕ) → Bool
-size_names (MapTo page frame flags) i = index 4 page == i
-size_names (MapToWithTableFlags page frame flags parent_flags) i = index 4 page == i
-size_names (IdentityMap frame flags) i = nat_lt frame (2 ^ 47) && (index 4 frame == i)
-size_names (Unmap page) i = index 4 page == i
-size_names (UpdateFlags page flags) i = index 4 page == i
-size_names (SetFlagsP4 page flags) i = index 4 page == i
-size_names (SetFlagsP3 page flags) i = index 4 page == i
-size_names (SetFlagsP2 page flags) i = index 4 page == i
-size_names (TranslatePage page) i = index 4 page == i
+size_names call i = page_names 4 (size_asks call) i
 
 -- whether the call's page or address has this index of level four, which a clean up has not
 abbrev pub names : Call → (i : ℕ) → Bool
-names (Of4KiB call) i = size_names call i
-names (Of2MiB call) i = size_names call i
-names (Of1GiB call) i = size_names call i
-names (Translate addr) i = index 4 addr == i
-names (TranslateAddr addr) i = index 4 addr == i
-names CleanUp i = false
-names (CleanUpRange range) i = false
+names call i = names_by 4 (asks call) i
+
+-- ---- of five levels
+
+abbrev pub size_asks_57 : {S : Type 0} → SizeCall57 S → PageCall
+size_asks_57 (size_57.MapTo page frame flags) = asked.MapTo page frame (bits_of flags)
+size_asks_57 (size_57.MapToWithTableFlags page frame flags parent_flags) = asked.MapToWithTableFlags page frame (bits_of flags) (bits_of parent_flags)
+size_asks_57 (size_57.IdentityMap frame flags) = asked.IdentityMap frame (bits_of flags)
+size_asks_57 (size_57.Unmap page) = asked.Unmap page
+size_asks_57 (size_57.UpdateFlags page flags) = asked.UpdateFlags page (bits_of flags)
+size_asks_57 (size_57.SetFlagsP5 page flags) = asked.SetFlags 5 page (bits_of flags)
+size_asks_57 (size_57.SetFlagsP4 page flags) = asked.SetFlags 4 page (bits_of flags)
+size_asks_57 (size_57.SetFlagsP3 page flags) = asked.SetFlags 3 page (bits_of flags)
+size_asks_57 (size_57.SetFlagsP2 page flags) = asked.SetFlags 2 page (bits_of flags)
+size_asks_57 (size_57.TranslatePage page) = asked.TranslatePage page
+
+abbrev pub asks_57 : Call57 → MapperCall
+asks_57 (call_57.Of4KiB call) = asked.Of4KiB (size_asks_57 call)
+asks_57 (call_57.Of2MiB call) = asked.Of2MiB (size_asks_57 call)
+asks_57 (call_57.Of1GiB call) = asked.Of1GiB (size_asks_57 call)
+asks_57 (call_57.Translate addr) = asked.Translate addr
+asks_57 (call_57.TranslateAddr addr) = asked.TranslateAddr addr
+asks_57 call_57.CleanUp = asked.CleanUp 0 0x1ff_ffff_ffff_ffff
+asks_57 (call_57.CleanUpRange range) = asked.CleanUp range.start (range.end + 0xfff)
+
+-- whether the call's page or address has this index of level five, which a clean up has not
+abbrev pub names_57 : Call57 → (i : ℕ) → Bool
+names_57 call i = names_by 5 (asks_57 call) i

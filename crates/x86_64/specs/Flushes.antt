@@ -16,10 +16,9 @@ use Rattle.x86_64_tables.specs.declared.mapper.recorder.FlushItem.TheVariants.{P
 use Rattle.x86_64.specs.Calls.{calls_of}
 use Rattle.x86_64.specs.Runs.{machine_of, state_of}
 use Rattle.x86_64.specs.declared.calls.Call.{Call}
-use Rattle.x86_64.specs.declared.calls.SizeReply.{SizeReply}
-use Rattle.x86_64.specs.declared.calls.SizeReply.TheVariants.{Map, Unmap, Update, TableFlags, Frame}
-use Rattle.x86_64.specs.declared.calls.Reply.{Reply}
-use Rattle.x86_64.specs.declared.calls.Reply.TheVariants as reply
+use Rattle.x86_64.specs.Replies.{SizeReply, Reply}
+use Rattle.x86_64.specs.declared.calls.PageReply.TheVariants.{Map, Unmap, Update, TableFlags, Frame}
+use Rattle.x86_64.specs.declared.calls.MapperReply.TheVariants as reply
 
 -- the item of a page of a size, where the call was accepted
 abbrev pub page_items : {E : Type 0} → (size : ℕ) → Result ℕ E → List FlushItem
@@ -54,9 +53,12 @@ items_of reply.Cleaned = []
 items_of reply.NotAllowed = []
 
 -- the items of calls that have these replies, one after another
+abbrev pub items_by : {R : Type 0} → (items_of : R → List FlushItem) → List R → List FlushItem
+items_by items_of [] = []
+items_by items_of (answer ∷ answers) = items_of answer ++ items_by items_of answers
+
 abbrev pub items_told : List Reply → List FlushItem
-items_told [] = []
-items_told (answer ∷ answers) = items_of answer ++ items_told answers
+items_told answers = items_by items_of answers
 
 -- the level of pages of this size
 abbrev pub level_of_size : (size : ℕ) → ℕ

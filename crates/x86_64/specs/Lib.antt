@@ -1,3 +1,4 @@
+pub mod Asked
 pub mod Calls
 pub mod Replies
 pub mod Runs
@@ -5,6 +6,7 @@ pub mod Pairs
 pub mod Flushes
 pub mod ToldReplies
 pub mod SecondHierarchies
+pub mod AskedCalls
 pub mod Private
 pub use Rattle.x86_64_model.specs.Machine
 pub use Rattle.x86_64_model.specs.MapperCalls

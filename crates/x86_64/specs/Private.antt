@@ -3,12 +3,10 @@ use Rattle.std.specs.Prelude.{◌≤◌, ◌+◌, ℕ, Bool, true, false, List, 
 use Rattle.std.proofs.Common.{arith}
 use Rattle.x86_64_model.specs.Machine.{Machine, State, step}
 use Rattle.x86_64_tables.specs.declared.mapper.recorder.FlushItem.{FlushItem}
-use Rattle.x86_64.specs.Calls.{size_call}
+use Rattle.x86_64.specs.Asked.{PageCall, page_call}
 use Rattle.x86_64.specs.Flushes.{size_items}
-use Rattle.x86_64.specs.Replies.{size_answer, size_changes_nothing}
+use Rattle.x86_64.specs.Replies.{SizeReply, size_answer, size_changes_nothing}
 use Rattle.x86_64.specs.Runs.{AfterStep}
-use Rattle.x86_64.specs.declared.calls.SizeCall.{SizeCall}
-use Rattle.x86_64.specs.declared.calls.SizeReply.{SizeReply}
 
 -- these items where they are recorded
 abbrev pub recorded : Bool → List FlushItem → List FlushItem
@@ -29,7 +27,7 @@ changes_nothing_where None = true
 changes_nothing_where (Some answer) = size_changes_nothing answer
 
 -- the machine's step by a call on a page that an entry of the level maps, and the reply, with none for a call that isn't allowed
-abbrev pub size_step : {S : Type 0} → Machine → (level : ℕ) → State → SizeCall S → AfterStep (Option (SizeReply S))
+abbrev pub size_step : {S : Type 0} → Machine → (level : ℕ) → State → PageCall → AfterStep (Option (SizeReply S))
 size_step machine level state call =
-    let after = step machine state (size_call machine.levels level call) in
+    let after = step machine state (page_call machine.levels level call) in
     record { state = after.state; reply = size_answer call after.reply }

@@ -1,4 +1,4 @@
--- The replies to calls that the machine's replies are: none where a call never gets such a reply of the machine.
+-- The replies to calls that the machine's replies are, with four levels as with five: none where a call never gets such a reply of the machine.
 use Rattle.std.specs.Prelude.{ℕ, ◌==◌, cond, Bool, true, false, Option, Some, None, option_map, Result, Ok, Err}
 use Rattle.x86_64_model.specs.Call as machine
 use Rattle.x86_64_model.specs.Refusal as refusal
@@ -16,14 +16,21 @@ use Rattle.x86_64_tables.specs.declared.mapper.MappedFrame.{MappedFrame}
 use Rattle.x86_64_tables.specs.declared.mapper.MappedFrame.TheVariants.{Size4KiB, Size2MiB, Size1GiB}
 use Rattle.x86_64_tables.specs.declared.mapper.TranslateResult.{TranslateResult}
 use Rattle.x86_64_tables.specs.declared.mapper.TranslateResult.TheVariants.{Mapped, NotMapped}
-use Rattle.x86_64.specs.declared.calls.SizeCall.{SizeCall}
-use Rattle.x86_64.specs.declared.calls.SizeCall.TheVariants as size_call
-use Rattle.x86_64.specs.declared.calls.Call.{Call}
-use Rattle.x86_64.specs.declared.calls.Call.TheVariants.{Of4KiB, Of2MiB, Of1GiB, Translate, TranslateAddr, CleanUp, CleanUpRange}
-use Rattle.x86_64.specs.declared.calls.SizeReply.{SizeReply}
-use Rattle.x86_64.specs.declared.calls.SizeReply.TheVariants.{Map, Unmap, Update, TableFlags, Frame}
-use Rattle.x86_64.specs.declared.calls.Reply.{Reply}
-use Rattle.x86_64.specs.declared.calls.Reply.TheVariants as reply
+use Rattle.x86_64_page.specs.declared.page.Size4KiB.{Size4KiB as Small}
+use Rattle.x86_64_page.specs.declared.page.Size2MiB.{Size2MiB as Large}
+use Rattle.x86_64_page.specs.declared.page.Size1GiB.{Size1GiB as Giant}
+use Rattle.x86_64.specs.Asked.{PageCall, MapTo, MapToWithTableFlags, IdentityMap, Unmap, UpdateFlags, SetFlags, TranslatePage, MapperCall, Of4KiB, Of2MiB, Of1GiB, Translate, TranslateAddr, CleanUp}
+use Rattle.x86_64.specs.declared.calls.PageReply.{PageReply}
+use Rattle.x86_64.specs.declared.calls.PageReply.TheVariants as page_reply
+use Rattle.x86_64.specs.declared.calls.MapperReply.{MapperReply}
+use Rattle.x86_64.specs.declared.calls.MapperReply.TheVariants as reply
+
+-- a page is its position, with four levels as with five
+abbrev pub SizeReply : (S : Type 0) → Type 0
+SizeReply S = PageReply ℕ S
+
+abbrev pub Reply : Type 0
+Reply = MapperReply (SizeReply Small) (SizeReply Large) (SizeReply Giant)
 
 abbrev pub map_error : {S : Type 0} → Refusal → Option (MapToError S)
 map_error refusal.FrameAllocationFailed = Some map_to.FrameAllocationFailed
@@ -58,19 +65,17 @@ result_of done refused (Done frame) = Some (Ok (done frame))
 result_of done refused (Refused why) = option_map Err (refused why)
 
 -- the reply to a call on a page that has this answer
-abbrev pub size_reply : {S : Type 0} → SizeCall S → Answer → Option (SizeReply S)
-size_reply (size_call.MapTo page frame flags) answer = option_map Map (result_of (λ mapped. page) map_error answer)
-size_reply (size_call.MapToWithTableFlags page frame flags parent_flags) answer = option_map Map (result_of (λ mapped. page) map_error answer)
-size_reply (size_call.IdentityMap frame flags) answer = option_map Map (result_of (λ mapped. frame) map_error answer)
-size_reply (size_call.Unmap page) answer = option_map Unmap (result_of (λ frame. (frame, page)) unmap_error answer)
-size_reply (size_call.UpdateFlags page flags) answer = option_map Update (result_of (λ frame. page) update_error answer)
-size_reply (size_call.SetFlagsP4 page flags) answer = option_map TableFlags (result_of (λ frame. tt) update_error answer)
-size_reply (size_call.SetFlagsP3 page flags) answer = option_map TableFlags (result_of (λ frame. tt) update_error answer)
-size_reply (size_call.SetFlagsP2 page flags) answer = option_map TableFlags (result_of (λ frame. tt) update_error answer)
-size_reply (size_call.TranslatePage page) answer = option_map Frame (result_of (λ frame. frame) translate_error answer)
+abbrev pub size_reply : {S : Type 0} → PageCall → Answer → Option (SizeReply S)
+size_reply (MapTo page frame flags) answer = option_map page_reply.Map (result_of (λ mapped. page) map_error answer)
+size_reply (MapToWithTableFlags page frame flags parent_flags) answer = option_map page_reply.Map (result_of (λ mapped. page) map_error answer)
+size_reply (IdentityMap frame flags) answer = option_map page_reply.Map (result_of (λ mapped. frame) map_error answer)
+size_reply (Unmap page) answer = option_map page_reply.Unmap (result_of (λ frame. (frame, page)) unmap_error answer)
+size_reply (UpdateFlags page flags) answer = option_map page_reply.Update (result_of (λ frame. page) update_error answer)
+size_reply (SetFlags at page flags) answer = option_map page_reply.TableFlags (result_of (λ frame. tt) update_error answer)
+size_reply (TranslatePage page) answer = option_map page_reply.Frame (result_of (λ frame. frame) translate_error answer)
 
 -- the same, with none for a call that isn't allowed
-abbrev pub size_answer : {S : Type 0} → SizeCall S → machine.Reply → Option (Option (SizeReply S))
+abbrev pub size_answer : {S : Type 0} → PageCall → machine.Reply → Option (Option (SizeReply S))
 size_answer call (machine.Answered answer) = option_map Some (size_reply call answer)
 size_answer call machine.NotAllowed = Some None
 size_answer call (machine.Position translated) = None
@@ -89,18 +94,16 @@ sized wrap None = reply.NotAllowed
 sized wrap (Some answer) = wrap answer
 
 -- the reply to a call that the machine answers so
-abbrev pub reply_of : Call → machine.Reply → Option Reply
+abbrev pub reply_of : MapperCall → machine.Reply → Option Reply
 reply_of (Of4KiB call) answer = option_map (sized reply.Of4KiB) (size_answer call answer)
 reply_of (Of2MiB call) answer = option_map (sized reply.Of2MiB) (size_answer call answer)
 reply_of (Of1GiB call) answer = option_map (sized reply.Of1GiB) (size_answer call answer)
-reply_of (Translate addr) (machine.Position translated) = option_map reply.Translate (translate_result translated)
-reply_of (Translate addr) answer = None
-reply_of (TranslateAddr addr) (machine.Address address) = Some (reply.Address address)
-reply_of (TranslateAddr addr) answer = None
-reply_of CleanUp machine.Cleaned = Some reply.Cleaned
-reply_of CleanUp answer = None
-reply_of (CleanUpRange range) machine.Cleaned = Some reply.Cleaned
-reply_of (CleanUpRange range) answer = None
+reply_of (Translate position) (machine.Position translated) = option_map reply.Translate (translate_result translated)
+reply_of (Translate position) answer = None
+reply_of (TranslateAddr position) (machine.Address address) = Some (reply.Address address)
+reply_of (TranslateAddr position) answer = None
+reply_of (CleanUp low high) machine.Cleaned = Some reply.Cleaned
+reply_of (CleanUp low high) answer = None
 
 -- ---- replies of calls that change nothing
 
@@ -110,11 +113,11 @@ is_refused (Err why) = true
 
 -- a translation, or a refusal, but for that of a map, which may have made tables on its way
 abbrev pub size_changes_nothing : {S : Type 0} → SizeReply S → Bool
-size_changes_nothing (Map mapped) = false
-size_changes_nothing (Unmap unmapped) = is_refused unmapped
-size_changes_nothing (Update updated) = is_refused updated
-size_changes_nothing (TableFlags done) = is_refused done
-size_changes_nothing (Frame frame) = true
+size_changes_nothing (page_reply.Map mapped) = false
+size_changes_nothing (page_reply.Unmap unmapped) = is_refused unmapped
+size_changes_nothing (page_reply.Update updated) = is_refused updated
+size_changes_nothing (page_reply.TableFlags done) = is_refused done
+size_changes_nothing (page_reply.Frame frame) = true
 
 abbrev pub changes_nothing : Reply → Bool
 changes_nothing (reply.Of4KiB answer) = size_changes_nothing answer

@@ -2,12 +2,8 @@
 use Rattle.std.specs.Prelude.{◌≡◌, Some}
 use Rattle.x86_64_model.specs.Call as machine
 use Rattle.x86_64_model.specs.Refusal.{Done, Refused}
-use Rattle.x86_64.specs.declared.calls.SizeCall.{SizeCall}
-use Rattle.x86_64.specs.declared.calls.SizeCall.TheVariants.{MapTo, MapToWithTableFlags, IdentityMap, Unmap, UpdateFlags, SetFlagsP4, SetFlagsP3, SetFlagsP2, TranslatePage}
-use Rattle.x86_64.specs.declared.calls.Call.{Call}
-use Rattle.x86_64.specs.declared.calls.Call.TheVariants.{Of4KiB, Of2MiB, Of1GiB, Translate, TranslateAddr, CleanUp, CleanUpRange}
-use Rattle.x86_64.specs.declared.calls.Reply.{Reply}
-use Rattle.x86_64.specs.Replies.{reply_of}
+use Rattle.x86_64.specs.Asked.{PageCall, MapTo, MapToWithTableFlags, IdentityMap, Unmap, UpdateFlags, SetFlags, TranslatePage, MapperCall, Of4KiB, Of2MiB, Of1GiB, Translate, TranslateAddr, CleanUp, Kind}
+use Rattle.x86_64.specs.Runs.{four, five}
 
 -- frame 0 in place of the frame
 abbrev pub without_frame : machine.Reply → machine.Reply
@@ -18,27 +14,30 @@ without_frame (machine.Position translated) = machine.Position translated
 without_frame (machine.Address address) = machine.Address address
 without_frame machine.Cleaned = machine.Cleaned
 
-abbrev pub size_told : {S : Type 0} → SizeCall S → machine.Reply → machine.Reply
+abbrev pub size_told : PageCall → machine.Reply → machine.Reply
 size_told (MapTo page frame flags) r = without_frame r
 size_told (MapToWithTableFlags page frame flags parent_flags) r = without_frame r
 size_told (IdentityMap frame flags) r = without_frame r
 size_told (Unmap page) r = r
 size_told (UpdateFlags page flags) r = without_frame r
-size_told (SetFlagsP4 page flags) r = without_frame r
-size_told (SetFlagsP3 page flags) r = without_frame r
-size_told (SetFlagsP2 page flags) r = without_frame r
+size_told (SetFlags at page flags) r = without_frame r
 size_told (TranslatePage page) r = r
 
 -- what is told of the machine's reply to a call
-abbrev pub told : Call → machine.Reply → machine.Reply
+abbrev pub told : MapperCall → machine.Reply → machine.Reply
 told (Of4KiB call) r = size_told call r
 told (Of2MiB call) r = size_told call r
 told (Of1GiB call) r = size_told call r
-told (Translate addr) r = r
-told (TranslateAddr addr) r = r
-told CleanUp r = r
-told (CleanUpRange range) r = r
+told (Translate position) r = r
+told (TranslateAddr position) r = r
+told (CleanUp low high) r = r
 
 -- two of the machine's replies to a call that are told by one reply are told alike
+abbrev pub TellsAs : {C R : Type 0} → Kind C R → Type 0
+TellsAs {C = C} {R = R} kind = (call : C) (r s : machine.Reply) (reply : R) → kind.tells (kind.asks call) r ≡ Some reply → kind.tells (kind.asks call) s ≡ Some reply → told (kind.asks call) r ≡ told (kind.asks call) s
+
 abbrev pub RepliesTell : Type 0
-RepliesTell = (call : Call) (r s : machine.Reply) (reply : Reply) → reply_of call r ≡ Some reply → reply_of call s ≡ Some reply → told call r ≡ told call s
+RepliesTell = TellsAs four
+
+abbrev pub RepliesTell57 : Type 0
+RepliesTell57 = TellsAs five

@@ -2,10 +2,14 @@
 ghost use Rattle.std.specs.Prelude.{◌≡◌};
 ghost use Rattle.x86_64.specs.Calls.{identity_page};
 
+mod call57;
+
+pub(crate) use call57::identity_page_57;
+pub use call57::{Call57, SizeCall57};
 use x86_64_addr::addr::{PhysAddr, VirtAddr};
 use x86_64_addr::index::PageTableIndex;
 use x86_64_page::frame::PhysFrame;
-use x86_64_page::page::{Page, PageRangeInclusive, PageSize, Size1GiB, Size2MiB, Size4KiB};
+use x86_64_page::page::{Page, Page57, PageRangeInclusive, PageSize, Size1GiB, Size2MiB, Size4KiB};
 use x86_64_tables::mapper::{
     FlagUpdateError, MapToError, TranslateError, TranslateResult, UnmapError,
 };
@@ -164,28 +168,34 @@ impl Call {
 
 /// The reply to a call on a page of a size. The pages are those that the tokens of the mapper name.
 #[derive(Clone, Copy, Debug, PartialEq)]
-pub enum SizeReply<S: PageSize> {
+pub enum PageReply<P, S: PageSize> {
     /// The page that was mapped, or why it was not.
-    Map(Result<Page<S>, MapToError<S>>),
+    Map(Result<P, MapToError<S>>),
     /// The frame that the page was mapped to, with the page, or why it was not unmapped.
-    Unmap(Result<(PhysFrame<S>, Page<S>), UnmapError>),
+    Unmap(Result<(PhysFrame<S>, P), UnmapError>),
     /// The page whose flags were changed, or why they were not.
-    Update(Result<Page<S>, FlagUpdateError>),
+    Update(Result<P, FlagUpdateError>),
     /// Why the flags of a table entry were not changed, if they were not.
     TableFlags(Result<(), FlagUpdateError>),
     /// The page's frame, or why it has none.
     Frame(Result<PhysFrame<S>, TranslateError>),
 }
 
-/// The reply to a call of a mapper.
+/// The reply to a call on a page of a size.
+pub type SizeReply<S> = PageReply<Page<S>, S>;
+
+/// The reply to a call on a page of a size of 57 bits.
+pub type SizeReply57<S> = PageReply<Page57<S>, S>;
+
+/// The reply to a call of a mapper: `Small`, `Large` and `Giant` are the replies to a call on a page of 4KiB, 2MiB and 1GiB.
 #[derive(Clone, Copy, Debug, PartialEq)]
-pub enum Reply {
+pub enum MapperReply<Small, Large, Giant> {
     /// The reply to a call on a 4KiB page.
-    Of4KiB(SizeReply<Size4KiB>),
+    Of4KiB(Small),
     /// The reply to a call on a 2MiB page.
-    Of2MiB(SizeReply<Size2MiB>),
+    Of2MiB(Large),
     /// The reply to a call on a 1GiB page.
-    Of1GiB(SizeReply<Size1GiB>),
+    Of1GiB(Giant),
     /// Where the address is mapped to.
     Translate(TranslateResult),
     /// The physical address that the address is mapped to, if it is.
@@ -195,3 +205,9 @@ pub enum Reply {
     /// The condition of the call did not hold. Nothing changed.
     NotAllowed,
 }
+
+/// The reply to a call of a mapper.
+pub type Reply = MapperReply<SizeReply<Size4KiB>, SizeReply<Size2MiB>, SizeReply<Size1GiB>>;
+
+/// The reply to a call of a mapper of five levels.
+pub type Reply57 = MapperReply<SizeReply57<Size4KiB>, SizeReply57<Size2MiB>, SizeReply57<Size1GiB>>;

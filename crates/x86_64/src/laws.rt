@@ -1,10 +1,12 @@
 //! Laws of calls and replies, as public functions with empty bodies.
 ghost use Rattle.x86_64.specs.SecondHierarchies.{SecondHierarchiesStay};
-ghost use Rattle.x86_64.specs.ToldReplies.{RepliesTell};
+ghost use Rattle.x86_64.specs.ToldReplies.{RepliesTell, RepliesTell57};
 
-/// A reply tells all of the machine's reply to its call, but which frame a map or a change of flags is done with.
+/// A reply tells all of the machine's reply to its call, with four levels as with five, but which frame a map or a change of
+/// flags is done with.
 pub fn replies_lose_nothing()
-    ensures { RepliesTell }
+    ensures four_levels { RepliesTell }
+    ensures five_levels { RepliesTell57 }
 {}
 
 /// A second hierarchy of the memory and mapping of a first one, whose root and tables are none of the frames of the first one

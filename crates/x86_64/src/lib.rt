@@ -1,4 +1,4 @@
-//! Page tables of x86-64: virtual and physical addresses, pages and frames, tables of four levels, and mappers over a
+//! Page tables of x86-64: virtual and physical addresses, pages and frames, tables of four and five levels, and mappers over a
 //! physical memory that consists of page tables.
 //!
 //! The names and paths are those of the Rust crate `x86_64`. What is lent to a mapper here is a [`PhysMemory`].
@@ -9,18 +9,28 @@ pub mod laws;
 mod runs;
 pub mod structures;
 
-pub use calls::{Call, Reply, SizeCall, SizeReply};
-pub use runs::{is_outside_window, run, run_flushed, run_pair};
+pub use calls::{
+    Call, Call57, MapperReply, PageReply, Reply, Reply57, SizeCall, SizeCall57, SizeReply,
+    SizeReply57,
+};
+pub use runs::{
+    is_outside_window, is_outside_window_57, run, run_57, run_flushed, run_pair, run_pair_57,
+};
 pub use x86_64_addr::addr;
 pub use x86_64_addr::addr::{PhysAddr, VirtAddr, VirtAddr57};
-pub use x86_64_mappers::recursive_page_table::{WalkedTables, p1_window, p2_window, p3_window};
+pub use x86_64_mappers::recursive_page_table::{
+    WalkedTables, p1_window, p1_window_57, p2_window, p2_window_57, p3_window, p3_window_57,
+    p4_window_57,
+};
 pub use x86_64_page::range::Block;
 pub use x86_64_tables::frame_alloc::{FrameKeeper, FramePool, FrameStore, PoolRefusal};
+pub use x86_64_tables::level_count::{FiveLevels, FourLevels, LevelCount};
 pub use x86_64_tables::mapper::{
     FlushItem, FlushRecorder, PageTables, PageTables57, Tables, parent_flags,
 };
 pub use x86_64_tables::phys_memory::{
-    ActiveMemory, FramePlace, IdentityMapping, PhysMemory, PlacesRefusal, ShiftMapping, Walked,
-    is_valid_hierarchy, is_valid_hierarchy_57, is_valid_recursive, page_walk, page_walk_57,
-    pool_fits, pool_fits_57, pool_fits_recursive, tables_alike,
+    ActiveMemory, ActiveMemory57, FramePlace, IdentityMapping, PhysMemory, PlacesRefusal,
+    ShiftMapping, Walked, is_valid_hierarchy, is_valid_hierarchy_57, is_valid_recursive,
+    is_valid_recursive_57, page_walk, page_walk_57, pool_fits, pool_fits_57, pool_fits_recursive,
+    pool_fits_recursive_57, tables_alike, tables_alike_57,
 };

@@ -5,20 +5,24 @@ ghost use Rattle.x86_64_model.specs.Entry.{huge, no_address};
 ghost use Rattle.x86_64_model.specs.Owned.{Valid, PoolFits, allows, path_of};
 ghost use Rattle.x86_64_model.specs.Window.{begins_with};
 ghost use Rattle.x86_64_tables.specs.PageTableFlags.{bits_of};
-ghost use Rattle.x86_64.specs.Calls.{size_call};
-ghost use Rattle.x86_64.specs.Flushes.{items_of, items_told};
-ghost use Rattle.x86_64.specs.Replies.{changes_nothing};
-ghost use Rattle.x86_64.specs.Runs.{machine_of, state_of, Kept, Ran, call_step, appended};
+ghost use Rattle.x86_64.specs.Asked.{page_call};
+ghost use Rattle.x86_64.specs.Calls.{size_asks};
+ghost use Rattle.x86_64.specs.Flushes.{items_by};
+ghost use Rattle.x86_64.specs.Runs.{machine_of, state_of, Kept, Ran, RanAs, appended};
 ghost use Rattle.x86_64.specs.Private.{recorded, items_where, changes_nothing_where, size_step};
 
+mod five_levels;
 mod flushed;
 mod pair;
+mod served;
 mod tokens;
 
 use crate::calls::{Call, Reply, SizeCall, SizeReply, identity_page};
 use bitflags::Flags;
+pub use five_levels::{is_outside_window_57, run_57};
 pub use flushed::run_flushed;
-pub use pair::run_pair;
+pub use pair::{run_pair, run_pair_57};
+use served::{Asked, Served};
 use std::alloc::AllocError;
 use tokens::{Ignored, Tokens, take, take_all, take_unmapped};
 use x86_64_page::page::{Page, PageSize, Size1GiB, Size2MiB, Size4KiB};
@@ -62,11 +66,11 @@ pub fn run<M: MapperAllSizes + Translate + CleanUp, F: FrameStore>(
 }
 
 /// Answers calls in order, for which there is room.
-fn serve_all<M: MapperAllSizes + Translate + CleanUp, F: FrameStore, K: Tokens>(
+fn serve_all<C: Served<M, K, R>, R, M: Tables, F: FrameStore, K: Tokens>(
     mapper: &mut M,
     frames: &mut F,
-    calls: &[Call],
-    replies: &mut Vec<Reply>,
+    calls: &[C],
+    replies: &mut Vec<R>,
     tokens: &mut K,
 )
     requires fits { PoolFits (M.hierarchy mapper.old) (F.serves frames.old) (F.supply frames.old) }
@@ -74,61 +78,58 @@ fn serve_all<M: MapperAllSizes + Translate + CleanUp, F: FrameStore, K: Tokens>(
     requires room { K.has_room tokens.old (length calls.now) }
     ensures ran { let h = M.hierarchy mapper.old in let after = M.hierarchy mapper.new in
         let pool = F.supply frames.old in let rest = F.supply frames.new in
-        Ran F.put h pool calls.now replies.old.items replies.new.items after rest }
+        RanAs C.kind F.put h pool calls.now replies.old.items replies.new.items after rest }
     ensures items { let told = appended replies.old.items replies.new.items in
-        K.items tokens.new ≡ K.items tokens.old ++ recorded K.records (items_told told) }
+        K.items tokens.new ≡ K.items tokens.old ++ recorded K.records (items_by C.items_of told) }
     ensures keeps { let h = M.hierarchy mapper.old in
         Kept h (F.serves frames.old) (F.supply frames.old) (M.hierarchy mapper.new) (F.supply frames.new) }
     ensures serves { F.serves frames.new ≡ F.serves frames.old }
 {
     for call in calls {
-        replies.push_reserved(serve(mapper, frames, *call, tokens));
+        replies.push_reserved(call.serve(mapper, frames, tokens));
     }
 }
 
-/// Answers a call.
-fn serve<M: MapperAllSizes + Translate + CleanUp, F: FrameStore, K: Tokens>(
-    mapper: &mut M,
-    frames: &mut F,
-    call: Call,
-    tokens: &mut K,
-) -> Reply
-    requires fits { PoolFits (M.hierarchy mapper.old) (F.serves frames.old) (F.supply frames.old) }
-    requires room { K.has_room tokens.old 1 }
-    ensures step { let layout = (M.hierarchy mapper.old).layout in
-        let start = state_of layout (M.hierarchy mapper.old).memory (F.supply frames.old) in
-        let after = state_of layout (M.hierarchy mapper.new).memory (F.supply frames.new) in
-        call_step (machine_of layout F.put) start call ≡ record { state = after; reply = Some result } }
-    ensures still { let memory = (M.hierarchy mapper.old).memory in
-        changes_nothing result ≡ true → (M.hierarchy mapper.new).memory ≡ memory }
-    ensures keeps { let h = M.hierarchy mapper.old in
-        Kept h (F.serves frames.old) (F.supply frames.old) (M.hierarchy mapper.new) (F.supply frames.new) }
-    ensures serves { F.serves frames.new ≡ F.serves frames.old }
-    ensures items { K.items tokens.new ≡ K.items tokens.old ++ recorded K.records (items_of result) }
-    ensures room { (n : ℕ) → K.has_room tokens.old (n + 1) → K.has_room tokens.new n }
-{
-    match call {
-        Call::Of4KiB(call) => {
-            let reply = serve_page::<Size4KiB, M, F, K>(mapper, frames, call, tokens);
-            reply.map_or(Reply::NotAllowed, Reply::Of4KiB)
-        }
-        Call::Of2MiB(call) => {
-            let reply = serve_page::<Size2MiB, M, F, K>(mapper, frames, call, tokens);
-            reply.map_or(Reply::NotAllowed, Reply::Of2MiB)
-        }
-        Call::Of1GiB(call) => {
-            let reply = serve_page::<Size1GiB, M, F, K>(mapper, frames, call, tokens);
-            reply.map_or(Reply::NotAllowed, Reply::Of1GiB)
-        }
-        Call::Translate(addr) => Reply::Translate(mapper.translate(addr)),
-        Call::TranslateAddr(addr) => Reply::Address(mapper.translate_addr(addr)),
-        Call::CleanUp => {
-            mapper.clean_up(frames);
-            Reply::Cleaned
-        }
-        Call::CleanUpRange(range) => {
-            mapper.clean_up_addr_range(range, frames);
-            Reply::Cleaned
+impl Asked<Reply> for Call {
+    ghost use Rattle.x86_64.specs.Runs.{four};
+    ghost use Rattle.x86_64.specs.AskedCalls.{is_call};
+
+    ghost kind = { four };
+
+    ghost is_call = { is_call };
+}
+
+impl<M: MapperAllSizes + Translate + CleanUp, K: Tokens> Served<M, K, Reply> for Call {
+    ghost use Rattle.x86_64.specs.Flushes.{items_of};
+
+    ghost items_of = { items_of };
+
+    ghost levels = { M.four_levels };
+
+    fn serve<F: FrameStore>(self, mapper: &mut M, frames: &mut F, tokens: &mut K) -> Reply {
+        match self {
+            Call::Of4KiB(call) => {
+                let reply = serve_page::<Size4KiB, M, F, K>(mapper, frames, call, tokens);
+                reply.map_or(Reply::NotAllowed, Reply::Of4KiB)
+            }
+            Call::Of2MiB(call) => {
+                let reply = serve_page::<Size2MiB, M, F, K>(mapper, frames, call, tokens);
+                reply.map_or(Reply::NotAllowed, Reply::Of2MiB)
+            }
+            Call::Of1GiB(call) => {
+                let reply = serve_page::<Size1GiB, M, F, K>(mapper, frames, call, tokens);
+                reply.map_or(Reply::NotAllowed, Reply::Of1GiB)
+            }
+            Call::Translate(addr) => Reply::Translate(mapper.translate(addr)),
+            Call::TranslateAddr(addr) => Reply::Address(mapper.translate_addr(addr)),
+            Call::CleanUp => {
+                mapper.clean_up(frames);
+                Reply::Cleaned
+            }
+            Call::CleanUpRange(range) => {
+                mapper.clean_up_addr_range(range, frames);
+                Reply::Cleaned
+            }
         }
     }
 }
@@ -145,7 +146,7 @@ fn serve_page<S: PageSize, M: Mapper<S>, F: FrameStore, K: Tokens>(
     ensures step { let layout = (M.hierarchy mapper.old).layout in
         let start = state_of layout (M.hierarchy mapper.old).memory (F.supply frames.old) in
         let after = state_of layout (M.hierarchy mapper.new).memory (F.supply frames.new) in
-        size_step (machine_of layout F.put) S.LEVEL start call
+        size_step (machine_of layout F.put) S.LEVEL start (size_asks call)
         ≡ record { state = after; reply = Some result } }
     ensures still { let memory = (M.hierarchy mapper.old).memory in
         changes_nothing_where result ≡ true → (M.hierarchy mapper.new).memory ≡ memory }
@@ -196,7 +197,7 @@ fn serve_page<S: PageSize, M: Mapper<S>, F: FrameStore, K: Tokens>(
 fn is_allowed<S: PageSize, M: Mapper<S>>(mapper: &M, call: &SizeCall<S>) -> bool
     requires { Valid (M.hierarchy mapper.now) }
     ensures { let h = M.hierarchy mapper.now in
-        result ≡ allows h (size_call h.layout.levels S.LEVEL call.now) }
+        result ≡ allows h (page_call h.layout.levels S.LEVEL (size_asks call.now)) }
 {
     match call {
         SizeCall::MapTo { page, flags, .. } => {
@@ -217,7 +218,7 @@ fn is_allowed<S: PageSize, M: Mapper<S>>(mapper: &M, call: &SizeCall<S>) -> bool
             !flags.has_address_bits() && is_outside_window(mapper, *page)
         }
         SizeCall::SetFlagsP4 { page, flags } => {
-            fit_p4_entry(*flags) && is_outside_window(mapper, *page)
+            fit_high_entry(*flags) && is_outside_window(mapper, *page)
         }
         SizeCall::SetFlagsP3 { page, flags } => mapper.p3_flags_allowed(*page, *flags),
         SizeCall::SetFlagsP2 { page, flags } => mapper.p2_flags_allowed(*page, *flags),
@@ -225,9 +226,9 @@ fn is_allowed<S: PageSize, M: Mapper<S>>(mapper: &M, call: &SizeCall<S>) -> bool
     }
 }
 
-/// Tells whether an entry of level four may have these flags: they have no address bits and no `HUGE_PAGE`.
+/// Tells whether an entry of level four or five may have these flags: they have no address bits and no `HUGE_PAGE`.
 #[tactic(auto, unfolding(x86_64_model::specs::Entry::has))]
-fn fit_p4_entry(flags: PageTableFlags) -> bool
+fn fit_high_entry(flags: PageTableFlags) -> bool
     ensures { result ≡ no_address (bits_of flags) && not (huge (bits_of flags)) }
 {
     !flags.has_address_bits() & !flags.contains(PageTableFlags::HUGE_PAGE)

@@ -6,9 +6,10 @@ ghost use Rattle.x86_64.specs.Flushes.{page_items, unmapped_items, all_items};
 ghost use Rattle.x86_64.specs.Private.{recorded};
 
 use x86_64_page::frame::PhysFrame;
-use x86_64_page::page::{Page, PageSize};
+use x86_64_page::page::{Page, Page57, PageSize};
 use x86_64_tables::mapper::{
-    FlagUpdateError, FlushItem, FlushRecorder, MapperFlush, MapperFlushAll, UnmapError,
+    FlagUpdateError, FlushItem, FlushRecorder, MapperFlush, MapperFlush57, MapperFlushAll,
+    UnmapError,
 };
 
 /// Takes the tokens of calls that were accepted.
@@ -135,4 +136,26 @@ pub fn take_all<K: Tokens>(
 {
     tokens.all(flushed?);
     Ok(())
+}
+
+/// Ignores the token of a call on a page of 57 bits that was accepted, and gives the page.
+pub fn ignore_page<S: PageSize, E>(flushed: Result<MapperFlush57<S>, E>) -> Result<Page57<S>, E>
+    ensures { result ≡ flushed }
+{
+    let flush = flushed?;
+    let page = flush.page();
+    flush.ignore();
+    Ok(page)
+}
+
+/// Ignores the token of an unmap of a page of 57 bits that was accepted, and gives the page beside the frame.
+pub fn ignore_unmapped<S: PageSize>(
+    unmapped: Result<(PhysFrame<S>, MapperFlush57<S>), UnmapError>,
+) -> Result<(PhysFrame<S>, Page57<S>), UnmapError>
+    ensures { result ≡ unmapped }
+{
+    let (frame, flush) = unmapped?;
+    let page = flush.page();
+    flush.ignore();
+    Ok((frame, page))
 }

@@ -4,7 +4,7 @@ pub mod page_table;
 
 pub use mapper::{
     MappedPageTable, MappedPageTable57, Mapper, Mapper57, OffsetPageTable, RecursivePageTable,
-    Translate, Translate57,
+    RecursivePageTable57, Translate, Translate57,
 };
 pub use page_table::{PageOffset, PageTable, PageTableFlags, PageTableIndex};
 pub use x86_64_page::frame::PhysFrame;

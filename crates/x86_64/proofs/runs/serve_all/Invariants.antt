@@ -1,10 +1,10 @@
 use Rattle.std.proofs.Common.{◌≡◌, ◌+◌, ◌-◌, ◌≤◌, ◌++◌, length, map, drop, Some, vec_len}
 use Rattle.std.specs.Vec.{vec_capacity}
 use Rattle.x86_64_model.specs.Machine.{Machine, State, state_after}
-use Rattle.x86_64.specs.Calls.{calls_of}
-use Rattle.x86_64.specs.Flushes.{items_told}
+use Rattle.x86_64.specs.Asked.{calls_by}
+use Rattle.x86_64.specs.Flushes.{items_by}
 use Rattle.x86_64.specs.Private.{recorded}
-use Rattle.x86_64.specs.Runs.{machine_of, state_of, Kept, replies_to, appended, UnchangedIfRefused}
+use Rattle.x86_64.specs.Runs.{machine_of, state_of, Kept, replies_as, appended, UnchangedAs}
 use Rattle.x86_64.proofs.runs.serve_all.Given as goal
 
 abbrev pub invariant-loop-call : goal.invariant-loop-call
@@ -14,13 +14,13 @@ invariant-loop-call g l =
     let start : State = state_of layout (g.M.Tables.hierarchy l.fn.mapper).memory (g.F.FrameAllocator.supply l.fn.frames) in
     let now : State = state_of layout (g.M.Tables.hierarchy l.mapper).memory (g.F.FrameAllocator.supply l.frames) in
     record {
-      told : map Some l.replies.items ++ replies_to machine now (drop l.call-index l.calls) ≡ map Some l.fn.replies.items ++ replies_to machine start l.calls;
+      told : map Some l.replies.items ++ replies_as g.C.Asked.kind machine now (drop l.call-index l.calls) ≡ map Some l.fn.replies.items ++ replies_as g.C.Asked.kind machine start l.calls;
       longer : length l.fn.replies.items ≤ length l.replies.items;
-      still : UnchangedIfRefused (appended l.fn.replies.items l.replies.items) (g.M.Tables.hierarchy l.fn.mapper).memory (g.M.Tables.hierarchy l.mapper).memory;
-      rest : state_after machine now (calls_of layout.levels (drop l.call-index l.calls)) ≡ state_after machine start (calls_of layout.levels l.calls);
+      still : UnchangedAs g.C.Asked.kind.changes_nothing (appended l.fn.replies.items l.replies.items) (g.M.Tables.hierarchy l.fn.mapper).memory (g.M.Tables.hierarchy l.mapper).memory;
+      rest : state_after machine now (calls_by g.C.Asked.kind.asks layout.levels (drop l.call-index l.calls)) ≡ state_after machine start (calls_by g.C.Asked.kind.asks layout.levels l.calls);
       room : vec_len l.replies + (length l.calls - l.call-index) ≤ vec_capacity l.replies;
       keeps : Kept (g.M.Tables.hierarchy l.fn.mapper) (g.F.FrameKeeper.serves l.fn.frames) (g.F.FrameAllocator.supply l.fn.frames) (g.M.Tables.hierarchy l.mapper) (g.F.FrameAllocator.supply l.frames);
-      items : g.K.Tokens.items l.tokens ≡ g.K.Tokens.items l.fn.tokens ++ recorded g.K.Tokens.records (items_told (appended l.fn.replies.items l.replies.items));
+      items : g.K.Tokens.items l.tokens ≡ g.K.Tokens.items l.fn.tokens ++ recorded g.K.Tokens.records (items_by g.C.Served.items_of (appended l.fn.replies.items l.replies.items));
       tokens : g.K.Tokens.has_room l.tokens (length l.calls - l.call-index);
       serves : g.F.FrameKeeper.serves l.frames ≡ g.F.FrameKeeper.serves l.fn.frames;
     }

@@ -1,43 +1,45 @@
-use Rattle.std.proofs.Common.{refl, sym, ◌∙◌, lit≤}
+use Rattle.std.proofs.Common.{◌≤◌, ℕ, refl, sym, ◌∙◌, subst, lit≤}
 use Rattle.x86_64_model.proofs.Lemmas.Machines.Giving.{giving_from}
-use Rattle.x86_64.specs.declared.calls.SizeCall.TheVariants.{SetFlagsP4, SetFlagsP3, SetFlagsP2}
+use Rattle.x86_64_tables.specs.PageTableFlags.{bits_of}
+use Rattle.x86_64.specs.Calls.{size_asks}
 use Rattle.x86_64.proofs.PageSteps.{Start, IsServed, map_to_served, map_with_flags_served, identity_map_served, unmap_served, update_served, set_flags_served, translate_served, IsKept, map_kept, change_kept}
 use Rattle.x86_64.proofs.runs.serve_page.Given.{Over}
 use Rattle.x86_64.proofs.runs.serve_page.Goals as goal
 use Rattle.x86_64.proofs.runs.serve_page.Goals.{in-MapTo, in-MapToWithTableFlags, in-IdentityMap, in-Unmap, in-UpdateFlags, in-SetFlagsP4, in-SetFlagsP3, in-SetFlagsP2, in-TranslatePage}
 
 is_served : (g : Over) (c : goal.Joined-call g) → IsServed _ (g.M.Tables.hierarchy c.args.mapper.now).layout g.F.FrameDeallocator.put (g.F.FrameKeeper.serves c.args.frames.now) (g.M.Tables.hierarchy c.args.mapper.now).memory
-    (g.F.FrameAllocator.supply c.args.frames.now) g.S.PageSize.LEVEL c.args.call (g.M.Tables.hierarchy c.match-call.mapper).memory (g.F.FrameAllocator.supply c.match-call.frames) c.match-call.result
+    (g.F.FrameAllocator.supply c.args.frames.now) g.S.PageSize.LEVEL (size_asks c.args.call) (g.M.Tables.hierarchy c.match-call.mapper).memory (g.F.FrameAllocator.supply c.match-call.frames) c.match-call.result
 is_served g c =
     let mapper = c.args.mapper.now in
     let start : Start (g.M.Tables.hierarchy mapper).layout g.F.FrameDeallocator.put (g.F.FrameKeeper.serves c.args.frames.now) (g.M.Tables.hierarchy mapper).memory (g.F.FrameAllocator.supply c.args.frames.now) g.S.PageSize.LEVEL = record {
-      four = g.met.M.PageTables.four_levels mapper;
+      some_levels = g.met.M.Tables.some_levels mapper;
       adds = (g.M.Tables.added_flags mapper).adds;
       gives = giving_from _ g.met.F.FrameDeallocator.put_rearranges;
       fits = c.requires.fits;
       low = g.S.PageSize.low;
       high = g.S.PageSize.high;
     } in
+    let at_most : (at : ℕ) → at ≤ 4 → at ≤ (g.M.Tables.hierarchy mapper).layout.levels = λ at below. subst (λ L. at ≤ L) (sym (g.met.M.PageTables.four_levels mapper)) below in
     elim c.match-call.branch [
       | in-MapTo w ↦ rw (w.in-MapTo.is, w.mapper-is, w.frames-is, w.result-is)
-          (map_to_served (g.M.Tables.hierarchy mapper) start w.in-MapTo.page w.in-MapTo.frame w.in-MapTo.flags w.map_to.result _ _ w.map_to.ensures.does w.map_to.ensures.page w.take.result w.take.ensures.result)
+          (map_to_served (g.M.Tables.hierarchy mapper) start w.in-MapTo.page w.in-MapTo.frame (bits_of w.in-MapTo.flags) w.map_to.result _ _ w.map_to.ensures.does w.map_to.ensures.page w.take.result w.take.ensures.result)
       | in-MapToWithTableFlags w ↦ rw (w.in-MapToWithTableFlags.is, w.mapper-is, w.frames-is, w.result-is)
-          (map_with_flags_served (g.M.Tables.hierarchy mapper) start w.in-MapToWithTableFlags.page w.in-MapToWithTableFlags.frame w.in-MapToWithTableFlags.flags w.in-MapToWithTableFlags.parent_flags w.map_to_with_table_flags-mapped.result _ _
+          (map_with_flags_served (g.M.Tables.hierarchy mapper) start w.in-MapToWithTableFlags.page w.in-MapToWithTableFlags.frame (bits_of w.in-MapToWithTableFlags.flags) (bits_of w.in-MapToWithTableFlags.parent_flags) w.map_to_with_table_flags-mapped.result _ _
           w.map_to_with_table_flags-mapped.ensures.does w.map_to_with_table_flags-mapped.ensures.page w.take-in-MapToWithTableFlags.result w.take-in-MapToWithTableFlags.ensures.result)
       | in-IdentityMap w ↦ rw (w.in-IdentityMap.is, w.mapper-is, w.frames-is, w.result-is)
-          (identity_map_served (g.M.Tables.hierarchy mapper) start w.in-IdentityMap.frame w.in-IdentityMap.flags w.identity_map.result _ _ w.identity_map.ensures.does w.identity_map.ensures.page w.take-in-IdentityMap.result w.take-in-IdentityMap.ensures.result)
+          (identity_map_served (g.M.Tables.hierarchy mapper) start w.in-IdentityMap.frame (bits_of w.in-IdentityMap.flags) w.identity_map.result _ _ w.identity_map.ensures.does w.identity_map.ensures.page w.take-in-IdentityMap.result w.take-in-IdentityMap.ensures.result)
       | in-Unmap w ↦ rw (w.in-Unmap.is, w.mapper-is, w.frames-is, w.result-is)
           (unmap_served (g.M.Tables.hierarchy mapper) start w.in-Unmap.page w.unmap.result _ w.unmap.ensures.does w.unmap.ensures.page w.take_unmapped.result w.take_unmapped.ensures.result)
       | in-UpdateFlags w ↦ rw (w.in-UpdateFlags.is, w.mapper-is, w.frames-is, w.result-is)
-          (update_served (g.M.Tables.hierarchy mapper) start w.in-UpdateFlags.page w.in-UpdateFlags.flags _ w.update_flags.result _ w.update_flags.ensures.does w.update_flags.ensures.page w.take-in-UpdateFlags.result w.take-in-UpdateFlags.ensures.result)
+          (update_served (g.M.Tables.hierarchy mapper) start w.in-UpdateFlags.page (bits_of w.in-UpdateFlags.flags) _ w.update_flags.result _ w.update_flags.ensures.does w.update_flags.ensures.page w.take-in-UpdateFlags.result w.take-in-UpdateFlags.ensures.result)
       | in-SetFlagsP4 w ↦ rw (w.in-SetFlagsP4.is, w.mapper-is, w.frames-is, w.result-is)
-          (set_flags_served (g.M.Tables.hierarchy mapper) start (SetFlagsP4 w.in-SetFlagsP4.page w.in-SetFlagsP4.flags) 4 w.in-SetFlagsP4.page w.in-SetFlagsP4.flags refl (lit≤ tt) (lit≤ tt) (λ a. refl)
+          (set_flags_served (g.M.Tables.hierarchy mapper) start 4 w.in-SetFlagsP4.page (bits_of w.in-SetFlagsP4.flags) (lit≤ tt) (at_most 4 (lit≤ tt))
           _ w.set_flags_p4_entry.result _ w.set_flags_p4_entry.ensures w.take_all.result w.take_all.ensures.result)
       | in-SetFlagsP3 w ↦ rw (w.in-SetFlagsP3.is, w.mapper-is, w.frames-is, w.result-is)
-          (set_flags_served (g.M.Tables.hierarchy mapper) start (SetFlagsP3 w.in-SetFlagsP3.page w.in-SetFlagsP3.flags) 3 w.in-SetFlagsP3.page w.in-SetFlagsP3.flags refl (lit≤ tt) (lit≤ tt) (λ a. refl)
+          (set_flags_served (g.M.Tables.hierarchy mapper) start 3 w.in-SetFlagsP3.page (bits_of w.in-SetFlagsP3.flags) (lit≤ tt) (at_most 3 (lit≤ tt))
           _ w.set_flags_p3_entry.result _ w.set_flags_p3_entry.ensures w.take_all-in-SetFlagsP3.result w.take_all-in-SetFlagsP3.ensures.result)
       | in-SetFlagsP2 w ↦ rw (w.in-SetFlagsP2.is, w.mapper-is, w.frames-is, w.result-is)
-          (set_flags_served (g.M.Tables.hierarchy mapper) start (SetFlagsP2 w.in-SetFlagsP2.page w.in-SetFlagsP2.flags) 2 w.in-SetFlagsP2.page w.in-SetFlagsP2.flags refl (lit≤ tt) (lit≤ tt) (λ a. refl)
+          (set_flags_served (g.M.Tables.hierarchy mapper) start 2 w.in-SetFlagsP2.page (bits_of w.in-SetFlagsP2.flags) (lit≤ tt) (at_most 2 (lit≤ tt))
           _ w.set_flags_p2_entry.result _ w.set_flags_p2_entry.ensures w.take_all-in-SetFlagsP2.result w.take_all-in-SetFlagsP2.ensures.result)
       | in-TranslatePage w ↦ rw (w.in-TranslatePage.is, w.mapper-is, w.frames-is, w.result-is)
           (translate_served (g.M.Tables.hierarchy mapper) start w.in-TranslatePage.page w.translate_page.result w.translate_page.ensures)

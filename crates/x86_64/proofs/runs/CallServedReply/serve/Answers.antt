@@ -1,13 +1,15 @@
+use Rattle.std.proofs.Common.{ap}
 use Rattle.x86_64_model.proofs.Lemmas.Machines.Giving.{giving_from}
+use Rattle.x86_64.specs.Calls.{asks}
 use Rattle.x86_64.proofs.CallSteps.{translate_served, address_served}
 use Rattle.x86_64.proofs.CleanUpSteps.{held_may_clean_up, kept_cleaned}
-use Rattle.x86_64.proofs.runs.serve.Goals as goal
+use Rattle.x86_64.proofs.runs.CallServedReply.serve.Goals as goal
 
 pub returns-in-Translate-clause-step : goal.returns-in-Translate-clause-step
-returns-in-Translate-clause-step g c = translate_served _ _ _ _ _ _ c.in-Translate.is _ c.translate.ensures.answer
+returns-in-Translate-clause-step g c = translate_served _ _ _ _ _ _ (ap asks c.in-Translate.is) _ c.translate.ensures.answer
 
 pub returns-in-TranslateAddr-clause-step : goal.returns-in-TranslateAddr-clause-step
-returns-in-TranslateAddr-clause-step g c = address_served _ _ _ _ _ _ c.in-TranslateAddr.is _ c.translate_addr.ensures
+returns-in-TranslateAddr-clause-step g c = address_served _ _ _ _ _ _ (ap asks c.in-TranslateAddr.is) _ c.translate_addr.ensures
 
 pub clean_up-requires : goal.clean_up-requires
 clean_up-requires g c = held_may_clean_up (g.M.Tables.hierarchy c.args.mapper.now) _ _ _ (g.met.F.FrameStore.one_list _) c.requires.fits

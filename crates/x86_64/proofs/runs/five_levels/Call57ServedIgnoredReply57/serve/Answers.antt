@@ -1,0 +1,28 @@
+use Rattle.std.proofs.Common.{ap}
+use Rattle.x86_64_model.proofs.Lemmas.Machines.Giving.{giving_from}
+use Rattle.x86_64.specs.Calls.{asks_57}
+use Rattle.x86_64.proofs.CallSteps.{translate_served, address_served}
+use Rattle.x86_64.proofs.CleanUpSteps.{held_may_clean_up, kept_cleaned}
+use Rattle.x86_64.proofs.runs.five_levels.Call57ServedIgnoredReply57.serve.Goals as goal
+
+pub returns-in-Translate-clause-step : goal.returns-in-Translate-clause-step
+returns-in-Translate-clause-step g c = translate_served _ _ _ _ _ _ (ap asks_57 c.in-Translate.is) _ c.translate.ensures.answer
+
+pub returns-in-TranslateAddr-clause-step : goal.returns-in-TranslateAddr-clause-step
+returns-in-TranslateAddr-clause-step g c = address_served _ _ _ _ _ _ (ap asks_57 c.in-TranslateAddr.is) _ c.translate_addr.ensures
+
+pub clean_up-requires : goal.clean_up-requires
+clean_up-requires g c = held_may_clean_up (g.M.Tables.hierarchy c.args.mapper.now) _ _ _ (g.met.F.FrameStore.one_list _) c.requires.fits
+
+pub clean_up_addr_range-requires : goal.clean_up_addr_range-requires
+clean_up_addr_range-requires g c = held_may_clean_up (g.M.Tables.hierarchy c.args.mapper.now) _ _ _ (g.met.F.FrameStore.one_list _) c.requires.fits
+
+pub returns-in-CleanUp-clause-keeps : goal.returns-in-CleanUp-clause-keeps
+returns-in-CleanUp-clause-keeps g c =
+    kept_cleaned (g.M.Tables.hierarchy c.args.mapper.now) _ _ _ (g.met.F.FrameStore.one_list _) c.requires.fits _ _ _ _ _ _ (g.met.F.FrameStore.one_list _) c.clean_up.ensures.cleans
+    (g.M.Tables.added_flags c.args.mapper.now).adds (giving_from _ g.met.F.FrameDeallocator.put_rearranges)
+
+pub returns-in-CleanUpRange-clause-keeps : goal.returns-in-CleanUpRange-clause-keeps
+returns-in-CleanUpRange-clause-keeps g c =
+    kept_cleaned (g.M.Tables.hierarchy c.args.mapper.now) _ _ _ (g.met.F.FrameStore.one_list _) c.requires.fits _ _ _ _ _ _ (g.met.F.FrameStore.one_list _) c.clean_up_addr_range.ensures.cleans
+    (g.M.Tables.added_flags c.args.mapper.now).adds (giving_from _ g.met.F.FrameDeallocator.put_rearranges)

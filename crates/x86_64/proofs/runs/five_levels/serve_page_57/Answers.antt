@@ -1,0 +1,76 @@
+use Rattle.std.proofs.Common.{◌≤◌, ℕ, refl, sym, ◌∙◌, subst, lit≤}
+use Rattle.x86_64_model.proofs.Lemmas.Machines.Giving.{giving_from}
+use Rattle.x86_64_tables.specs.PageTableFlags.{bits_of}
+use Rattle.x86_64.specs.Calls.{size_asks_57}
+use Rattle.x86_64.proofs.PageSteps.{Start, IsServed, map_to_served, map_with_flags_served, identity_map_served, unmap_served, update_served, set_flags_served, translate_served, IsKept, map_kept, change_kept}
+use Rattle.x86_64.proofs.runs.five_levels.serve_page_57.Given.{Over}
+use Rattle.x86_64.proofs.runs.five_levels.serve_page_57.Goals as goal
+use Rattle.x86_64.proofs.runs.five_levels.serve_page_57.Goals.{in-MapTo, in-MapToWithTableFlags, in-IdentityMap, in-Unmap, in-UpdateFlags, in-SetFlagsP5, in-SetFlagsP4, in-SetFlagsP3, in-SetFlagsP2, in-TranslatePage}
+
+is_served : (g : Over) (c : goal.Joined-call g) → IsServed _ (g.M.Tables.hierarchy c.args.mapper.now).layout g.F.FrameDeallocator.put (g.F.FrameKeeper.serves c.args.frames.now) (g.M.Tables.hierarchy c.args.mapper.now).memory
+    (g.F.FrameAllocator.supply c.args.frames.now) g.S.PageSize.LEVEL (size_asks_57 c.args.call) (g.M.Tables.hierarchy c.match-call.mapper).memory (g.F.FrameAllocator.supply c.match-call.frames) c.match-call.result
+is_served g c =
+    let mapper = c.args.mapper.now in
+    let start : Start (g.M.Tables.hierarchy mapper).layout g.F.FrameDeallocator.put (g.F.FrameKeeper.serves c.args.frames.now) (g.M.Tables.hierarchy mapper).memory (g.F.FrameAllocator.supply c.args.frames.now) g.S.PageSize.LEVEL = record {
+      some_levels = g.met.M.Tables.some_levels mapper;
+      adds = (g.M.Tables.added_flags mapper).adds;
+      gives = giving_from _ g.met.F.FrameDeallocator.put_rearranges;
+      fits = c.requires;
+      low = g.S.PageSize.low;
+      high = g.S.PageSize.high;
+    } in
+    let at_most : (at : ℕ) → at ≤ 5 → at ≤ (g.M.Tables.hierarchy mapper).layout.levels = λ at below. subst (λ L. at ≤ L) (sym (g.met.M.PageTables57.five_levels mapper)) below in
+    elim c.match-call.branch [
+      | in-MapTo w ↦ rw (w.in-MapTo.is, w.mapper-is, w.frames-is, w.result-is)
+          (map_to_served (g.M.Tables.hierarchy mapper) start w.in-MapTo.page w.in-MapTo.frame (bits_of w.in-MapTo.flags) w.map_to.result _ _ w.map_to.ensures.does w.map_to.ensures.page w.ignore_page.result w.ignore_page.ensures)
+      | in-MapToWithTableFlags w ↦ rw (w.in-MapToWithTableFlags.is, w.mapper-is, w.frames-is, w.result-is)
+          (map_with_flags_served (g.M.Tables.hierarchy mapper) start w.in-MapToWithTableFlags.page w.in-MapToWithTableFlags.frame (bits_of w.in-MapToWithTableFlags.flags) (bits_of w.in-MapToWithTableFlags.parent_flags) w.map_to_with_table_flags-mapped.result _ _
+          w.map_to_with_table_flags-mapped.ensures.does w.map_to_with_table_flags-mapped.ensures.page w.ignore_page-in-MapToWithTableFlags.result w.ignore_page-in-MapToWithTableFlags.ensures)
+      | in-IdentityMap w ↦ rw (w.in-IdentityMap.is, w.mapper-is, w.frames-is, w.result-is)
+          (identity_map_served (g.M.Tables.hierarchy mapper) start w.in-IdentityMap.frame (bits_of w.in-IdentityMap.flags) w.identity_map.result _ _ w.identity_map.ensures.does w.identity_map.ensures.page w.ignore_page-in-IdentityMap.result w.ignore_page-in-IdentityMap.ensures)
+      | in-Unmap w ↦ rw (w.in-Unmap.is, w.mapper-is, w.frames-is, w.result-is)
+          (unmap_served (g.M.Tables.hierarchy mapper) start w.in-Unmap.page w.unmap.result _ w.unmap.ensures.does w.unmap.ensures.page w.ignore_unmapped.result w.ignore_unmapped.ensures)
+      | in-UpdateFlags w ↦ rw (w.in-UpdateFlags.is, w.mapper-is, w.frames-is, w.result-is)
+          (update_served (g.M.Tables.hierarchy mapper) start w.in-UpdateFlags.page (bits_of w.in-UpdateFlags.flags) _ w.update_flags.result _ w.update_flags.ensures.does w.update_flags.ensures.page w.ignore_page-in-UpdateFlags.result w.ignore_page-in-UpdateFlags.ensures)
+      | in-SetFlagsP5 w ↦ rw (w.in-SetFlagsP5.is, w.mapper-is, w.frames-is, w.result-is)
+          (set_flags_served (g.M.Tables.hierarchy mapper) start 5 w.in-SetFlagsP5.page (bits_of w.in-SetFlagsP5.flags) (lit≤ tt) (at_most 5 (lit≤ tt))
+          _ w.set_flags_p5_entry.result _ w.set_flags_p5_entry.ensures w.take_all.result w.take_all.ensures.result)
+      | in-SetFlagsP4 w ↦ rw (w.in-SetFlagsP4.is, w.mapper-is, w.frames-is, w.result-is)
+          (set_flags_served (g.M.Tables.hierarchy mapper) start 4 w.in-SetFlagsP4.page (bits_of w.in-SetFlagsP4.flags) (lit≤ tt) (at_most 4 (lit≤ tt))
+          _ w.set_flags_p4_entry.result _ w.set_flags_p4_entry.ensures w.take_all-in-SetFlagsP4.result w.take_all-in-SetFlagsP4.ensures.result)
+      | in-SetFlagsP3 w ↦ rw (w.in-SetFlagsP3.is, w.mapper-is, w.frames-is, w.result-is)
+          (set_flags_served (g.M.Tables.hierarchy mapper) start 3 w.in-SetFlagsP3.page (bits_of w.in-SetFlagsP3.flags) (lit≤ tt) (at_most 3 (lit≤ tt))
+          _ w.set_flags_p3_entry.result _ w.set_flags_p3_entry.ensures w.take_all-in-SetFlagsP3.result w.take_all-in-SetFlagsP3.ensures.result)
+      | in-SetFlagsP2 w ↦ rw (w.in-SetFlagsP2.is, w.mapper-is, w.frames-is, w.result-is)
+          (set_flags_served (g.M.Tables.hierarchy mapper) start 2 w.in-SetFlagsP2.page (bits_of w.in-SetFlagsP2.flags) (lit≤ tt) (at_most 2 (lit≤ tt))
+          _ w.set_flags_p2_entry.result _ w.set_flags_p2_entry.ensures w.take_all-in-SetFlagsP2.result w.take_all-in-SetFlagsP2.ensures.result)
+      | in-TranslatePage w ↦ rw (w.in-TranslatePage.is, w.mapper-is, w.frames-is, w.result-is)
+          (translate_served (g.M.Tables.hierarchy mapper) start w.in-TranslatePage.page w.translate_page.result w.translate_page.ensures)
+    ]
+
+pub returns-clause-step : goal.returns-clause-step
+returns-clause-step g c = (is_served g c (sym c.is_allowed_57.ensures ∙ c.if-not-is_allowed_57.false)).step
+
+kept : (g : Over) (c : goal.Joined-call g) → IsKept (g.M.Tables.hierarchy c.args.mapper.now) (g.M.Tables.hierarchy c.match-call.mapper)
+kept g c =
+    let h = g.M.Tables.hierarchy c.args.mapper.now in
+    elim c.match-call.branch [
+      | in-MapTo w ↦ rw w.mapper-is (map_kept h w.map_to.ensures.does)
+      | in-MapToWithTableFlags w ↦ rw w.mapper-is (map_kept h w.map_to_with_table_flags-mapped.ensures.does)
+      | in-IdentityMap w ↦ rw w.mapper-is (map_kept h w.identity_map.ensures.does)
+      | in-Unmap w ↦ rw w.mapper-is (change_kept h w.unmap.ensures.does)
+      | in-UpdateFlags w ↦ rw w.mapper-is (change_kept h w.update_flags.ensures.does)
+      | in-SetFlagsP5 w ↦ rw w.mapper-is (change_kept h w.set_flags_p5_entry.ensures)
+      | in-SetFlagsP4 w ↦ rw w.mapper-is (change_kept h w.set_flags_p4_entry.ensures)
+      | in-SetFlagsP3 w ↦ rw w.mapper-is (change_kept h w.set_flags_p3_entry.ensures)
+      | in-SetFlagsP2 w ↦ rw w.mapper-is (change_kept h w.set_flags_p2_entry.ensures)
+      | in-TranslatePage w ↦ rw w.mapper-is (refl, refl)
+    ]
+
+pub returns-clause-keeps : goal.returns-clause-keeps
+returns-clause-keeps g c =
+    let same = kept g c in
+    record { keeps = (is_served g c (sym c.is_allowed_57.ensures ∙ c.if-not-is_allowed_57.false)).keeps; layout = same.0; lent = same.1 }
+
+pub returns-clause-still : goal.returns-clause-still
+returns-clause-still g c = (is_served g c (sym c.is_allowed_57.ensures ∙ c.if-not-is_allowed_57.false)).still

@@ -1,0 +1,79 @@
+-- What a call of a list asks, with four levels as with five: the call of the machine that it is, and which index of the highest level it names.
+use Rattle.std.specs.Prelude.{ℕ, ◌==◌, ◌&&◌, nat_lt, Bool, false, List, map, Option}
+use Rattle.x86_64_model.specs.Call as machine
+use Rattle.x86_64_model.specs.Path.{path_at}
+use Rattle.x86_64_model.specs.Position.{index, lower_half}
+
+-- on a page, by its position; flags by their bits
+pub data PageCall : Type 0 where
+  MapTo : (page frame flags : ℕ) → PageCall
+  MapToWithTableFlags : (page frame flags parent_flags : ℕ) → PageCall
+  -- of the page at the frame's own address
+  IdentityMap : (frame flags : ℕ) → PageCall
+  Unmap : (page : ℕ) → PageCall
+  UpdateFlags : (page flags : ℕ) → PageCall
+  -- of the entry of the level on the page's path
+  SetFlags : (level page flags : ℕ) → PageCall
+  TranslatePage : (page : ℕ) → PageCall
+
+pub data MapperCall : Type 0 where
+  Of4KiB : PageCall → MapperCall
+  Of2MiB : PageCall → MapperCall
+  Of1GiB : PageCall → MapperCall
+  Translate : (position : ℕ) → MapperCall
+  TranslateAddr : (position : ℕ) → MapperCall
+  -- of the positions from low to high
+  CleanUp : (low high : ℕ) → MapperCall
+
+-- the call on a page that an entry of a level maps, where there are L levels
+abbrev pub page_call : (L level : ℕ) → PageCall → machine.Call
+page_call L level (MapTo page frame flags) = machine.MapTo (path_at L level page) frame flags
+page_call L level (MapToWithTableFlags page frame flags parent_flags) = machine.MapToWithTableFlags (path_at L level page) frame flags parent_flags
+page_call L level (IdentityMap frame flags) = machine.IdentityMap level frame flags
+page_call L level (Unmap page) = machine.Unmap (path_at L level page)
+page_call L level (UpdateFlags page flags) = machine.UpdateFlags (path_at L level page) flags
+page_call L level (SetFlags at page flags) = machine.SetFlags at (path_at L level page) flags
+page_call L level (TranslatePage page) = machine.TranslatePage (path_at L level page)
+
+abbrev pub machine_call : (L : ℕ) → MapperCall → machine.Call
+machine_call L (Of4KiB call) = page_call L 1 call
+machine_call L (Of2MiB call) = page_call L 2 call
+machine_call L (Of1GiB call) = page_call L 3 call
+machine_call L (Translate position) = machine.Translate position
+machine_call L (TranslateAddr position) = machine.TranslateAddress position
+machine_call L (CleanUp low high) = machine.CleanUp low high
+
+-- of calls that ask so
+abbrev pub calls_by : {C : Type 0} → (asks : C → MapperCall) → (L : ℕ) → List C → List machine.Call
+calls_by asks L calls = map (λ call. machine_call L (asks call)) calls
+
+-- ---- the index of the highest level
+
+-- whether the page has this index of the highest level, an identity map's page where it has one: an address of the lower half is its own position
+abbrev pub page_names : (L : ℕ) → PageCall → (i : ℕ) → Bool
+page_names L (MapTo page frame flags) i = index L page == i
+page_names L (MapToWithTableFlags page frame flags parent_flags) i = index L page == i
+page_names L (IdentityMap frame flags) i = nat_lt frame (lower_half L) && (index L frame == i)
+page_names L (Unmap page) i = index L page == i
+page_names L (UpdateFlags page flags) i = index L page == i
+page_names L (SetFlags at page flags) i = index L page == i
+page_names L (TranslatePage page) i = index L page == i
+
+-- whether the call's page or address has this index of the highest level, which a clean up has not
+abbrev pub names_by : (L : ℕ) → MapperCall → (i : ℕ) → Bool
+names_by L (Of4KiB call) i = page_names L call i
+names_by L (Of2MiB call) i = page_names L call i
+names_by L (Of1GiB call) i = page_names L call i
+names_by L (Translate position) i = index L position == i
+names_by L (TranslateAddr position) i = index L position == i
+names_by L (CleanUp low high) i = false
+
+-- ---- kinds of calls
+
+-- A kind of calls C with replies R: for how many levels they are, what a call asks, the reply that tells of the machine's, none where a call never
+-- gets such a reply of the machine, and whether a reply says that nothing changed.
+pub record Kind (C R : Type 0) : Type 0 where
+  pub levels : ℕ
+  pub asks : C → MapperCall
+  pub tells : MapperCall → machine.Reply → Option R
+  pub changes_nothing : R → Bool
