@@ -12,27 +12,28 @@ use Rattle.x86_64_mappers.specs.Offsets.{OffsetFits, offset_places}
 use Rattle.x86_64.proofs.Moved.{moved}
 use Rattle.x86_64.proofs.Offsets.{same_state, still_reached, same_kept}
 use Rattle.x86_64.specs.Runs as runs
-use Rattle.x86_64.specs.declared.calls.Call.{Call}
-use Rattle.x86_64.specs.declared.calls.Reply.{Reply}
-use Rattle.pagetab_engine.specs.Calls.{machine_by, IsAnswered}
+use Rattle.x86_64.specs.Replies.{Reply}
+use Rattle.pagetab_engine.specs.Calls.{machine_by, request_step, IsAnswered}
 use Rattle.pagetab_engine.specs.Frames.{direct_layout}
+use Rattle.pagetab_engine.specs.declared.arguments.Levels.TheVariants.{Four}
+use Rattle.pagetab_engine.specs.declared.request.Request.{Request}
 
 -- the layout at the offset
 abbrev pub layout_at : (offset : ℕ) → Layout
 layout_at offset = direct (offset_places offset) 0x1000
 
 -- what is answered at an offset is answered
-pub answered_alike : (offset : ℕ) (before : Memory) (free : List ℕ) (call : Call) (after : Memory) (rest : List ℕ) (reply : Reply) → OffsetFits before offset → OffsetFits after offset
-    → IsAnswered (layout_at offset) before free call after rest reply → IsAnswered direct_layout before free call after rest reply
+pub answered_alike : (offset : ℕ) (before : Memory) (free : List ℕ) (call : Request) (after : Memory) (rest : List ℕ) (reply : Reply) → OffsetFits before offset → OffsetFits after offset
+    → IsAnswered (layout_at offset) before free call after rest reply → IsAnswered (direct_layout Four) before free call after rest reply
 answered_alike offset before free call after rest reply first last answered =
-    ap (λ (state : State). runs.call_step (machine_by direct_layout) state call) (sym (same_state offset 0x1000 before free first)) ∙ answered
+    ap (λ (state : State). request_step (machine_by (direct_layout Four)) state call) (sym (same_state offset 0x1000 before free first)) ∙ answered
     ∙ ap (λ (state : State). record { state = state; reply = Some reply }) (same_state offset 0x1000 after rest last)
 
 -- the free frames fit at the offset
-pub at_offset : (offset : ℕ) (m : Memory) (limit : ℕ) (free : List ℕ) → OffsetFits m offset → runs.FitsPool direct_layout m (serves_below limit) free → runs.FitsPool (layout_at offset) m (serves_below limit) free
+pub at_offset : (offset : ℕ) (m : Memory) (limit : ℕ) (free : List ℕ) → OffsetFits m offset → runs.FitsPool (direct_layout Four) m (serves_below limit) free → runs.FitsPool (layout_at offset) m (serves_below limit) free
 at_offset offset m limit free reached fits = (offset_fits m offset reached 0x1000 (serves_below limit) free).0 fits
 
-module _ (offset limit : ℕ) (m : Memory) (free rest : List ℕ) (reached : OffsetFits m offset) (fits : runs.FitsPool direct_layout m (serves_below limit) free) where
+module _ (offset limit : ℕ) (m : Memory) (free rest : List ℕ) (reached : OffsetFits m offset) (fits : runs.FitsPool (direct_layout Four) m (serves_below limit) free) where
   -- what is kept at the offset, by the mapper's layout and by its memory before and after
   kept_at : (l : Layout) (before after n : Memory) → n ≡ after → l ≡ layout_at offset → before ≡ m → runs.Keeps l (serves_below limit) before free after rest → runs.Keeps (layout_at offset) (serves_below limit) m free n rest
   kept_at l before after n last is first = moved (λ (l : Layout) (m n : Memory). runs.Keeps l (serves_below limit) m free n rest) l (layout_at offset) before m after n is first last
@@ -42,14 +43,14 @@ module _ (offset limit : ℕ) (m : Memory) (free rest : List ℕ) (reached : Off
   reached_after l before after n last is first kept = still_reached offset 0x1000 (serves_below limit) m n free rest reached (at_offset offset m limit free reached fits) (kept_at l before after n last is first kept)
 
   -- and what is kept at the offset is kept
-  pub kept_after : (l : Layout) (before after n : Memory) → n ≡ after → l ≡ layout_at offset → before ≡ m → runs.Keeps l (serves_below limit) before free after rest → runs.Keeps direct_layout (serves_below limit) m free n rest
+  pub kept_after : (l : Layout) (before after n : Memory) → n ≡ after → l ≡ layout_at offset → before ≡ m → runs.Keeps l (serves_below limit) before free after rest → runs.Keeps (direct_layout Four) (serves_below limit) m free n rest
   kept_after l before after n last is first kept =
       same_kept offset 0x1000 (serves_below limit) m n free rest reached (reached_after l before after n last is first kept) (kept_at l before after n last is first kept)
 
   -- and so is what is answered
-  pub answered_after : {E : Type 0} (call : Call) (result : Result Reply E) (l : Layout) (before after n : Memory) → n ≡ after → l ≡ layout_at offset → before ≡ m
-      → runs.Keeps l (serves_below limit) before free after rest → IfOk result (IsAnswered l before free call after rest) → IfOk result (IsAnswered direct_layout m free call n rest)
+  pub answered_after : {E : Type 0} (call : Request) (result : Result Reply E) (l : Layout) (before after n : Memory) → n ≡ after → l ≡ layout_at offset → before ≡ m
+      → runs.Keeps l (serves_below limit) before free after rest → IfOk result (IsAnswered l before free call after rest) → IfOk result (IsAnswered (direct_layout Four) m free call n rest)
   answered_after call result l before after n last is first kept =
-      IfOk-weaker result (IsAnswered l before free call after rest) (IsAnswered direct_layout m free call n rest) (λ reply answered.
+      IfOk-weaker result (IsAnswered l before free call after rest) (IsAnswered (direct_layout Four) m free call n rest) (λ reply answered.
       answered_alike offset m free call n rest reply reached (reached_after l before after n last is first kept)
       (moved (λ (l : Layout) (m n : Memory). IsAnswered l m free call n rest reply) l (layout_at offset) before m after n is first last answered))

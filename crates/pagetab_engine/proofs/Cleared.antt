@@ -11,10 +11,12 @@ use Rattle.x86_64_model.specs.Memory.{Memory, Words, identity_places, words_of, 
 use Rattle.x86_64_model.specs.PathMap.{PathMap, entry, table_at}
 use Rattle.x86_64_model.specs.Pool.{IsTable}
 use Rattle.x86_64.specs.Runs.{FitsPool}
+use Rattle.pagetab_engine.specs.Arguments.{count}
 use Rattle.pagetab_engine.specs.Frames.{direct_layout, recursive_layout, without_self_entry}
 use Rattle.pagetab_engine.specs.Slot.{stored_in}
+use Rattle.pagetab_engine.specs.declared.arguments.Levels.{Levels}
 
-module _ (m : Memory) (r : ℕ) where
+module _ (levels : Levels) (m : Memory) (r : ℕ) where
   abbrev T : Words
   T = words_of m identity_places
 
@@ -35,20 +37,20 @@ module _ (m : Memory) (r : ℕ) where
       by (Some table) is = words_of-insert m identity_places 0x1000 r 0 table identity_distinct refl is
       by None is = no_root is
 
-  pub cleared_paths : paths direct_layout (without_self_entry r m) ≡ paths (recursive_layout m r) m
-  cleared_paths = ap (λ (T : Words). paths_of 4 T 0x1000) cleared_words
+  pub cleared_paths : paths (direct_layout levels) (without_self_entry r m) ≡ paths (recursive_layout levels m r) m
+  cleared_paths = ap (λ (T : Words). paths_of (count levels) T 0x1000) cleared_words
 
-  pub cleared_alike : Alike 4 (paths direct_layout (without_self_entry r m)) (paths (recursive_layout m r) m)
+  pub cleared_alike : Alike (count levels) (paths (direct_layout levels) (without_self_entry r m)) (paths (recursive_layout levels m r) m)
   cleared_alike = λ q. inl (ap (λ (M : PathMap). entry M q) cleared_paths)
 
-  pub cleared_fits : (serves : ℕ → Bool) (free : List ℕ) → FitsPool (recursive_layout m r) m serves free → FitsPool direct_layout (without_self_entry r m) serves free
+  pub cleared_fits : (serves : ℕ → Bool) (free : List ℕ) → FitsPool (recursive_layout levels m r) m serves free → FitsPool (direct_layout levels) (without_self_entry r m) serves free
   cleared_fits serves free fits = record {
-    valid = record { valid = subst (λ (T : Words). IsValid 4 T 0x1000 (paths_of 4 T 0x1000)) (sym cleared_words) fits.valid.valid; self = tt };
+    valid = record { valid = subst (λ (T : Words). IsValid (count levels) T 0x1000 (paths_of (count levels) T 0x1000)) (sym cleared_words) fits.valid.valid; self = tt };
     each_once = fits.each_once;
     in_memory = λ f i. subst (λ (T : Words). IsSome (T f)) (sym cleared_words) (is_some-set T 0x1000 r 0 f (fits.in_memory f i));
     are_frames = fits.are_frames;
     not_zero = fits.not_zero;
-    no_table = λ f i table. fits.no_table f i (subst (λ (M : PathMap). IsTable 4 0x1000 M f) cleared_paths table);
+    no_table = λ f i table. fits.no_table f i (subst (λ (M : PathMap). IsTable (count levels) 0x1000 M f) cleared_paths table);
     serves_pool = fits.serves_pool;
-    serves_tables = λ i q f leads. fits.serves_tables i q f (subst (λ (M : PathMap). table_at 4 0x1000 M (i ∷ q) ≡ Some f) cleared_paths leads);
+    serves_tables = λ i q f leads. fits.serves_tables i q f (subst (λ (M : PathMap). table_at (count levels) 0x1000 M (i ∷ q) ≡ Some f) cleared_paths leads);
   }

@@ -8,8 +8,10 @@ use Rattle.x86_64_model.specs.Marks.{serves_below}
 use Rattle.x86_64_model.specs.Memory.{Memory}
 use Rattle.x86_64_tables.specs.PageTable.{zero_words}
 use Rattle.x86_64.specs.Runs.{FitsPool}
+use Rattle.pagetab_engine.specs.Arguments.{count}
 use Rattle.pagetab_engine.specs.Frames.{direct_layout, recursive_layout, without_self_entry}
 use Rattle.pagetab_engine.specs.Hierarchy.{IsCopy, HasCopy, FitsIn, FitsImage, IsReached, IsHierarchy, first_memory}
+use Rattle.pagetab_engine.specs.declared.arguments.Levels.{Levels}
 use Rattle.pagetab_engine.specs.declared.arguments.Mode.{Mode}
 use Rattle.pagetab_engine.specs.declared.arguments.Mode.TheVariants.{Direct, Offset, Recursive, Pair}
 use Rattle.pagetab_engine.specs.declared.frames.Frames.{Frames}
@@ -17,10 +19,10 @@ use Rattle.pagetab_engine.specs.declared.hierarchy.Hierarchy.{Hierarchy}
 use Rattle.pagetab_engine.proofs.Cleared.{cleared_alike, cleared_fits}
 
 -- two memories of as many places that no line was loaded into have one image
-pub empty_copy : (index : ℕ) (frames copy : Frames) (places copied : ℕ) → copied ≡ places
+pub empty_copy : (levels : Levels) (index : ℕ) (frames copy : Frames) (places copied : ℕ) → copied ≡ places
     → ((place : ℕ) → get frames.memory place ≡ (if nat_lt place places then Some zero_words else None)) → ((place : ℕ) → get copy.memory place ≡ (if nat_lt place copied then Some zero_words else None))
-    → frames.pool.frames ≡ [] → copy.pool.frames ≡ [] → frames.pool.limit ≡ places → copy.pool.limit ≡ copied → IsCopy (Pair index) frames copy
-empty_copy index frames copy places copied same words others free none limit other = (
+    → frames.pool.frames ≡ [] → copy.pool.frames ≡ [] → frames.pool.limit ≡ places → copy.pool.limit ≡ copied → IsCopy (Pair levels index) frames copy
+empty_copy levels index frames copy places copied same words others free none limit other = (
   same_map nat_cmp_total nat_cmp-IsAntisymmetric copy.memory frames.memory
       (λ place. others place ∙ ap (λ places. if nat_lt place places then Some zero_words else None) same ∙ sym (words place)),
   none ∙ sym free,
@@ -33,18 +35,18 @@ first_hierarchy mode frames twin = record { mode = mode; frames = record { memor
 
 -- The image fits, and each place is reached, exactly if the hierarchy of the first commands is valid and fits, in a pair that with another alike.
 pub fits_at_end : (mode : Mode) (frames twin : Frames) → IsCopy mode frames twin → (FitsIn mode frames twin × IsReached mode frames.memory) ↔ IsHierarchy (first_hierarchy mode frames twin)
-fits_at_end Direct frames twin copied = (λ fits. record { fits = fits.0; reached = tt; twin = tt }, λ is. (is.fits, tt))
+fits_at_end (Direct levels) frames twin copied = (λ fits. record { fits = fits.0; reached = tt; twin = tt }, λ is. (is.fits, tt))
 fits_at_end (Offset offset) frames twin copied = (λ fits. record { fits = fits.0; reached = fits.1; twin = tt }, λ is. (is.fits, is.reached))
-fits_at_end (Recursive index) frames twin copied = (λ fits. record { fits = fits.0; reached = tt; twin = tt }, λ is. (is.fits, tt))
-fits_at_end (Pair index) frames twin copied = (
+fits_at_end (Recursive levels index) frames twin copied = (λ fits. record { fits = fits.0; reached = tt; twin = tt }, λ is. (is.fits, tt))
+fits_at_end (Pair levels index) frames twin copied = (
   λ fits. record {
-    fits = subst₂ (λ (free : List ℕ) limit. FitsPool direct_layout (without_self_entry index frames.memory) (serves_below limit) free) copied.1 copied.2
-        (subst (λ (m : Memory). FitsPool direct_layout (without_self_entry index m) (serves_below twin.pool.limit) twin.pool.frames) copied.0
-        (cleared_fits twin.memory index (serves_below twin.pool.limit) twin.pool.frames fits.0));
+    fits = subst₂ (λ (free : List ℕ) limit. FitsPool (direct_layout levels) (without_self_entry index frames.memory) (serves_below limit) free) copied.1 copied.2
+        (subst (λ (m : Memory). FitsPool (direct_layout levels) (without_self_entry index m) (serves_below twin.pool.limit) twin.pool.frames) copied.0
+        (cleared_fits levels twin.memory index (serves_below twin.pool.limit) twin.pool.frames fits.0));
     reached = tt;
     twin = record {
       fits = fits.0;
-      alike = subst (λ (m : Memory). Alike 4 (paths direct_layout (without_self_entry index m)) (paths (recursive_layout twin.memory index) twin.memory)) copied.0 (cleared_alike twin.memory index);
+      alike = subst (λ (m : Memory). Alike (count levels) (paths (direct_layout levels) (without_self_entry index m)) (paths (recursive_layout levels twin.memory index) twin.memory)) copied.0 (cleared_alike levels twin.memory index);
       same_free = sym copied.1;
     };
   },

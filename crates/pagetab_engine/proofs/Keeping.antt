@@ -25,10 +25,10 @@ keeps_then before between after one next = record {
 
 -- each frame lies at the place of its number
 by_number : (mode : Mode) (memory : Memory) → (layout mode memory).places ≡ identity_places
-by_number Direct memory = refl
+by_number (Direct levels) memory = refl
 by_number (Offset offset) memory = refl
-by_number (Recursive index) memory = refl
-by_number (Pair index) memory = refl
+by_number (Recursive levels index) memory = refl
+by_number (Pair levels index) memory = refl
 
 -- what a mapper keeps is kept, where it is the mode's
 pub kept_by : (before after : Hierarchy) → after.mode ≡ before.mode → serves_below after.frames.pool.limit ≡ serves_below before.frames.pool.limit

@@ -10,8 +10,8 @@ pub mod Loading
 pub mod Numbering
 pub mod Reading
 pub mod Saying
+pub mod Refusing
 pub mod ServedCommands
-pub mod ShortLists
 pub mod Splitting
 pub mod Uniqueness
 pub mod WholeRun

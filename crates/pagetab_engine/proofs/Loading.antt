@@ -35,6 +35,6 @@ same_places_after frames (Free frame) place = λ there. there
 -- so a mapper that reached each place does so
 pub reached_after : (mode : Mode) (frames : Frames) (image : ImageLine) (after : Memory) → after ≡ memory_after frames image → IsReached mode frames.memory → IsReached mode after
 reached_after (Offset offset) frames image after is reached = λ place there. reached place (same_places_after frames image place (subst (λ (m : Memory). IsSome (get m place)) is there))
-reached_after Direct frames image after is reached = tt
-reached_after (Recursive index) frames image after is reached = tt
-reached_after (Pair index) frames image after is reached = tt
+reached_after (Direct levels) frames image after is reached = tt
+reached_after (Recursive levels index) frames image after is reached = tt
+reached_after (Pair levels index) frames image after is reached = tt

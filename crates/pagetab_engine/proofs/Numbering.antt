@@ -4,6 +4,7 @@ use Rattle.std.proofs.lemmas.Bool.Decides.{nat_tests}
 use Rattle.std.specs.List.{list_all}
 use Rattle.pagetab_engine.specs.Fields.{is_space}
 use Rattle.pagetab_engine.specs.Lines.{Numbered, numbered_from, is_blank, lines_of, TakesLine, TakesStatement, BeginsBad, IsBad, SaysAccepted}
+use Rattle.pagetab_engine.specs.declared.arguments.Arguments.{Arguments}
 use Rattle.pagetab_engine.specs.declared.statement.Statement.{Statement}
 
 -- the lines that are left behind so many lines
@@ -33,19 +34,19 @@ line_next number bytes line rest some takes =
     ap (numbered_from (suc number)) takes
     ∙ ap (λ b. cond b (numbered_from (suc (suc number)) (lines_of rest)) (record { number = suc number; line = line } ∷ numbered_from (suc (suc number)) (lines_of rest))) some
 
-pub statement_taken : (places number next : ℕ) (old new : Option (List ℕ)) (line : List ℕ) (statement : Statement) → next ≡ suc number → is_blank line ≡ false → IfSome old (λ bytes. TakesLine bytes line new)
-    → SaysAccepted places line statement → IfSome (numbered_left number old) (λ lines. TakesStatement places lines next (numbered_left next new) statement)
-statement_taken places number next None new line statement counted some takes says = tt
-statement_taken places number next (Some bytes) None line statement counted some takes says = absurd takes
-statement_taken places number next (Some bytes) (Some rest) line statement counted some takes says =
+pub statement_taken : (arguments : Arguments) (number next : ℕ) (old new : Option (List ℕ)) (line : List ℕ) (statement : Statement) → next ≡ suc number → is_blank line ≡ false → IfSome old (λ bytes. TakesLine bytes line new)
+    → SaysAccepted arguments line statement → IfSome (numbered_left number old) (λ lines. TakesStatement arguments lines next (numbered_left next new) statement)
+statement_taken arguments number next None new line statement counted some takes says = tt
+statement_taken arguments number next (Some bytes) None line statement counted some takes says = absurd takes
+statement_taken arguments number next (Some bytes) (Some rest) line statement counted some takes says =
     (line, line_next number bytes line rest some takes ∙ ap (λ n. record { number = n; line = line } ∷ numbered_from (suc n) (lines_of rest)) (sym counted), says)
 
-pub bad_taken : (places number next : ℕ) (old new : Option (List ℕ)) (line : List ℕ) → next ≡ suc number → is_blank line ≡ false → IfSome old (λ bytes. TakesLine bytes line new)
-    → IsBad places line → IfSome (numbered_left number old) (λ lines. BeginsBad places lines next)
-bad_taken places number next None new line counted some takes bad = tt
-bad_taken places number next (Some bytes) None line counted some takes bad = absurd takes
-bad_taken places number next (Some bytes) (Some rest) line counted some takes bad =
-    subst (λ (lines : List Numbered). BeginsBad places lines next) (sym (line_next number bytes line rest some takes)) (sym counted, bad)
+pub bad_taken : (arguments : Arguments) (number next : ℕ) (old new : Option (List ℕ)) (line : List ℕ) → next ≡ suc number → is_blank line ≡ false → IfSome old (λ bytes. TakesLine bytes line new)
+    → IsBad arguments line → IfSome (numbered_left number old) (λ lines. BeginsBad arguments lines next)
+bad_taken arguments number next None new line counted some takes bad = tt
+bad_taken arguments number next (Some bytes) None line counted some takes bad = absurd takes
+bad_taken arguments number next (Some bytes) (Some rest) line counted some takes bad =
+    subst (λ (lines : List Numbered). BeginsBad arguments lines next) (sym (line_next number bytes line rest some takes)) (sym counted, bad)
 
 -- a line that fits is blank exactly where it has spaces alone
 pub blank_line : (line : List ℕ) (spaces : Bool) → length line ≤ 256 → spaces ≡ list_all is_space line → is_blank line ≡ spaces

@@ -56,31 +56,31 @@ module _ (words : List (List ℕ)) (known : Option (List ℕ)) (old : Option (Li
 
     module _ (reached : IsReached empty.mode empty.frames.memory) where
       -- a run that stops in the image
-      pub stops_in_image : (fault : Fault) → IfSome (lines_in known) (λ lines. Reads arguments.places lines empty (Stopped fault) []) → IfSome known (λ input. Runs words input old old (Stopped fault))
+      pub stops_in_image : (fault : Fault) → IfSome (lines_in known) (λ lines. Reads arguments lines empty (Stopped fault) []) → IfSome known (λ input. Runs words input old old (Stopped fault))
       stops_in_image fault = by known
         where
-          by : (known : Option (List ℕ)) → IfSome (lines_in known) (λ lines. Reads arguments.places lines empty (Stopped fault) []) → IfSome known (λ input. Runs words input old old (Stopped fault))
+          by : (known : Option (List ℕ)) → IfSome (lines_in known) (λ lines. Reads arguments lines empty (Stopped fault) []) → IfSome known (λ input. Runs words input old old (Stopped fault))
           by None told = tt
           by (Some input) told = ([], reads arguments empty (Stopped fault) [] says is_empty reached told, unwritten old fault)
 
       module _ (image : Hierarchy) (first : Option Command) (behind : Option (List Numbered))
-          (loaded : IfSome (lines_in known) (λ lines. LoadsImage arguments.places lines empty first behind image)) where
+          (loaded : IfSome (lines_in known) (λ lines. LoadsImage arguments lines empty first behind image)) where
         -- a run that goes on after the image
         goes_on : (ending : Ending) (new : Option (List ℕ))
-            → ((left : List Numbered) → IsLeft arguments.places first behind left → (replies : List Reply) × Reads arguments.places left image ending replies × IsWritten old new ending replies)
+            → ((left : List Numbered) → IsLeft arguments first behind left → (replies : List Reply) × Reads arguments left image ending replies × IsWritten old new ending replies)
             → IfSome known (λ input. Runs words input old new ending)
         goes_on ending new tail = by known loaded
           where
-            by : (known : Option (List ℕ)) → IfSome (lines_in known) (λ lines. LoadsImage arguments.places lines empty first behind image) → IfSome known (λ input. Runs words input old new ending)
+            by : (known : Option (List ℕ)) → IfSome (lines_in known) (λ lines. LoadsImage arguments lines empty first behind image) → IfSome known (λ input. Runs words input old new ending)
             by None loaded = tt
             by (Some input) loaded =
                 let rest = tail loaded.0 loaded.1 in
                 (rest.0, reads arguments empty ending rest.0 says is_empty reached (loaded.2 ending rest.0 rest.1), rest.2)
 
-        is_read : (first : Option Command) (behind : Option (List Numbered)) (left : List Numbered) → IsLeft arguments.places first behind left → IsRead arguments.places left
-        is_read None behind left is = subst (λ left. IsRead arguments.places left) (sym is) tt
+        is_read : (first : Option Command) (behind : Option (List Numbered)) (left : List Numbered) → IsLeft arguments first behind left → IsRead arguments left
+        is_read None behind left is = subst (λ left. IsRead arguments left) (sym is) tt
         is_read (Some command) None left is = absurd is
-        is_read (Some command) (Some behind) left is = subst (λ left. IsRead arguments.places left) (sym is.2) (command, is.1)
+        is_read (Some command) (Some behind) left is = subst (λ left. IsRead arguments left) (sym is.2) (command, is.1)
 
         pub not_tested : IfSome known (λ input. Runs words input old old (Stopped OutOfMemory))
         not_tested = goes_on (Stopped OutOfMemory) old (λ left is. ([], gives_up_in_image left image OutOfMemory tt, appends_nothing old))
@@ -91,17 +91,17 @@ module _ (words : List (List ℕ)) (known : Option (List ℕ)) (old : Option (Li
         module _ (fits : FitsImage image) (ready : Hierarchy) (is_first : IsFirst image ready) where
           pub no_commands : first ≡ None → IfSome known (λ input. Runs words input old old Done)
           no_commands none = goes_on Done old (λ left is.
-              let over : left ≡ [] = subst (λ first. IsLeft arguments.places first behind left) none is in
-              ([], fits_then left image ready Done [] (is_read first behind left is) fits is_first (subst (λ left. Serves arguments.places left ready Done []) (sym over) (ends ready)), appends_nothing old))
+              let over : left ≡ [] = subst (λ first. IsLeft arguments first behind left) none is in
+              ([], fits_then left image ready Done [] (is_read first behind left is) fits is_first (subst (λ left. Serves arguments left ready Done []) (sym over) (ends ready)), appends_nothing old))
 
           pub commands : (command : Command) (ending : Ending) (new : Option (List ℕ)) → first ≡ Some command
-              → IfSome behind (λ behind. Served arguments.places command behind ready old new ending) → IfSome known (λ input. Runs words input old new ending)
-          commands command ending new asked served = goes_on ending new (λ left is. by behind left (subst (λ first. IsLeft arguments.places first behind left) asked is) (is_read first behind left is) served)
+              → IfSome behind (λ behind. Served arguments command behind ready old new ending) → IfSome known (λ input. Runs words input old new ending)
+          commands command ending new asked served = goes_on ending new (λ left is. by behind left (subst (λ first. IsLeft arguments first behind left) asked is) (is_read first behind left is) served)
             where
-              by : (behind : Option (List Numbered)) (left : List Numbered) → IsLeft arguments.places (Some command) behind left → IsRead arguments.places left
-                  → IfSome behind (λ behind. Served arguments.places command behind ready old new ending)
-                  → (replies : List Reply) × Reads arguments.places left image ending replies × IsWritten old new ending replies
+              by : (behind : Option (List Numbered)) (left : List Numbered) → IsLeft arguments (Some command) behind left → IsRead arguments left
+                  → IfSome behind (λ behind. Served arguments command behind ready old new ending)
+                  → (replies : List Reply) × Reads arguments left image ending replies × IsWritten old new ending replies
               by None left is tested served = absurd is
               by (Some behind) left is tested served =
                   let told = served is.0 is.1 in
-                  (told.0, fits_then left image ready ending told.0 tested fits is_first (subst (λ left. Serves arguments.places left ready ending told.0) (sym is.2) told.1), told.2)
+                  (told.0, fits_then left image ready ending told.0 tested fits is_first (subst (λ left. Serves arguments left ready ending told.0) (sym is.2) told.1), told.2)

@@ -1,10 +1,10 @@
 -- The arguments of the program.
-use Rattle.std.specs.Prelude.{◌≡◌, ◌≤◌, ◌<◌, ℕ, List, [], ◌∷◌, codes, Bool, false}
+use Rattle.std.specs.Prelude.{◌≡◌, ◌≤◌, ◌<◌, ℕ, List, [], ◌∷◌, codes}
 use Rattle.x86_64_model.specs.Position.{raw}
-use Rattle.x86_64.specs.Calls.{names}
-use Rattle.x86_64.specs.declared.calls.Call.{Call}
 use Rattle.pagetab_engine.specs.Number.{IsNumber, number_of}
 use Rattle.pagetab_engine.specs.declared.arguments.Arguments.{Arguments}
+use Rattle.pagetab_engine.specs.declared.arguments.Levels.{Levels}
+use Rattle.pagetab_engine.specs.declared.arguments.Levels.TheVariants.{Four, Five}
 use Rattle.pagetab_engine.specs.declared.arguments.Mode.{Mode}
 use Rattle.pagetab_engine.specs.declared.arguments.Mode.TheVariants.{Direct, Offset, Recursive, Pair}
 
@@ -20,20 +20,41 @@ IsAddress text address = IsNumber text × (raw 4 address ≡ number_of text)
 abbrev pub IsIndex : List ℕ → Type 0
 IsIndex text = IsNumber text × (number_of text < 512)
 
--- the word `direct` alone, the word `offset` and an address, or the word `recursive` or `pair` and an index
+-- ---- levels
+
+abbrev pub count : Levels → ℕ
+count Four = 4
+count Five = 5
+
+abbrev pub levels_of : Mode → Levels
+levels_of (Direct levels) = levels
+levels_of (Offset address) = Four
+levels_of (Recursive levels index) = levels
+levels_of (Pair levels index) = levels
+
+-- ---- modes
+
+abbrev pub direct_word : Levels → List ℕ
+direct_word Four = codes "direct"
+direct_word Five = codes "direct5"
+
+abbrev pub recursive_word : Levels → List ℕ
+recursive_word Four = codes "recursive"
+recursive_word Five = codes "recursive5"
+
+abbrev pub pair_word : Levels → List ℕ
+pair_word Four = codes "pair"
+pair_word Five = codes "pair5"
+
+-- the word of the direct mapper alone, the word `offset` and an address, or that of the recursive one or of a pair and an index
 abbrev pub SaysMode : (word : List ℕ) → (more : List (List ℕ)) → Mode → Type 0
-SaysMode word [] Direct = word ≡ codes "direct"
+SaysMode word [] (Direct levels) = word ≡ direct_word levels
 SaysMode word (text ∷ []) (Offset address) = (word ≡ codes "offset") × IsAddress text address
-SaysMode word (text ∷ []) (Recursive index) = (word ≡ codes "recursive") × IsIndex text × (index ≡ number_of text)
-SaysMode word (text ∷ []) (Pair index) = (word ≡ codes "pair") × IsIndex text × (index ≡ number_of text)
+SaysMode word (text ∷ []) (Recursive levels index) = (word ≡ recursive_word levels) × IsIndex text × (index ≡ number_of text)
+SaysMode word (text ∷ []) (Pair levels index) = (word ≡ pair_word levels) × IsIndex text × (index ≡ number_of text)
 SaysMode word more mode = ⊥
 
 -- a mode, with the number of places after its word
 abbrev pub Says : (words : List (List ℕ)) → Arguments → Type 0
 Says (word ∷ places ∷ more) arguments = IsPlaces places × (arguments.places ≡ number_of places) × SaysMode word more arguments.mode
 Says words arguments = ⊥
-
--- whether a call names the recursive index of a pair
-abbrev pub is_named : Mode → Call → Bool
-is_named (Pair index) call = names call index
-is_named mode call = false

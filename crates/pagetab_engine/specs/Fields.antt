@@ -3,7 +3,7 @@ use Rattle.std.specs.Prelude.{◌≡◌, ◌==◌, ℕ, ⊤, Bool, true, false, 
 use Rattle.std.specs.List.{slice_split}
 use Rattle.pagetab_engine.specs.Number.{IsNumber, number_of}
 use Rattle.pagetab_engine.specs.declared.fields.Name.{Name}
-use Rattle.pagetab_engine.specs.declared.fields.Name.TheVariants.{Word, Free, Translate, Addr, Walk, Show, Pool, Map, MapWith, Identity, Unmap, Update, P4, P3, P2, TranslatePage, CleanUp, CleanUpRange}
+use Rattle.pagetab_engine.specs.declared.fields.Name.TheVariants.{Word, Free, Translate, Addr, Walk, Show, Pool, Map, MapWith, Identity, Unmap, Update, P5, P4, P3, P2, TranslatePage, CleanUp, CleanUpRange}
 use Rattle.pagetab_engine.specs.declared.fields.Size.{Size}
 use Rattle.pagetab_engine.specs.declared.fields.Size.TheVariants.{Size4KiB, Size2MiB, Size1GiB}
 
@@ -31,6 +31,7 @@ name_text MapWith = codes "map-with"
 name_text Identity = codes "identity"
 name_text Unmap = codes "unmap"
 name_text Update = codes "update"
+name_text P5 = codes "p5"
 name_text P4 = codes "p4"
 name_text P3 = codes "p3"
 name_text P2 = codes "p2"

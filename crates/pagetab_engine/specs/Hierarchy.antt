@@ -8,22 +8,26 @@ use Rattle.x86_64_model.specs.Marks.{serves_below}
 use Rattle.x86_64_model.specs.Memory.{Memory, identity_places}
 use Rattle.x86_64_mappers.specs.Offsets.{OffsetFits}
 use Rattle.x86_64.specs.Runs as runs
-use Rattle.x86_64.specs.declared.calls.Call.{Call}
-use Rattle.x86_64.specs.declared.calls.Reply.{Reply}
-use Rattle.x86_64.specs.declared.calls.Reply.TheVariants.{NotAllowed}
-use Rattle.pagetab_engine.specs.Arguments.{is_named}
-use Rattle.pagetab_engine.specs.Calls.{machine_by}
+use Rattle.x86_64.specs.Replies.{Reply}
+use Rattle.x86_64.specs.Runs.{AfterStep}
+use Rattle.x86_64.specs.declared.calls.MapperReply.TheVariants.{NotAllowed}
+use Rattle.pagetab_engine.specs.Arguments.{count}
+use Rattle.pagetab_engine.specs.Calls.{machine_by, request_step}
 use Rattle.pagetab_engine.specs.Frames.{direct_layout, recursive_layout, FitsBy, without_self_entry}
+use Rattle.pagetab_engine.specs.Requests.{is_refused}
+use Rattle.pagetab_engine.specs.declared.arguments.Levels.{Levels}
+use Rattle.pagetab_engine.specs.declared.arguments.Levels.TheVariants.{Four}
 use Rattle.pagetab_engine.specs.declared.arguments.Mode.{Mode}
 use Rattle.pagetab_engine.specs.declared.arguments.Mode.TheVariants.{Direct, Offset, Recursive, Pair}
 use Rattle.pagetab_engine.specs.declared.frames.Frames.{Frames}
 use Rattle.pagetab_engine.specs.declared.hierarchy.Hierarchy.{Hierarchy}
+use Rattle.pagetab_engine.specs.declared.request.Request.{Request}
 
 -- ---- the image
 
 -- in a pair both mappers got the same image
 abbrev pub IsCopy : Mode → (frames copy : Frames) → Type 0
-IsCopy (Pair index) frames copy = (copy.memory ≡ frames.memory) × (copy.pool.frames ≡ frames.pool.frames) × (copy.pool.limit ≡ frames.pool.limit)
+IsCopy (Pair levels index) frames copy = (copy.memory ≡ frames.memory) × (copy.pool.frames ≡ frames.pool.frames) × (copy.pool.limit ≡ frames.pool.limit)
 IsCopy mode frames copy = ⊤
 
 abbrev pub HasCopy : Hierarchy → Type 0
@@ -31,26 +35,26 @@ HasCopy hierarchy = IsCopy hierarchy.mode hierarchy.frames hierarchy.twin
 
 -- the hierarchy is valid, and the free frames fit it; in a pair the recursive mapper's
 abbrev pub FitsIn : Mode → (frames copy : Frames) → Type 0
-FitsIn Direct frames copy = FitsBy direct_layout frames
-FitsIn (Offset offset) frames copy = FitsBy direct_layout frames
-FitsIn (Recursive index) frames copy = FitsBy (recursive_layout frames.memory index) frames
-FitsIn (Pair index) frames copy = FitsBy (recursive_layout copy.memory index) copy
+FitsIn (Direct levels) frames copy = FitsBy (direct_layout levels) frames
+FitsIn (Offset offset) frames copy = FitsBy (direct_layout Four) frames
+FitsIn (Recursive levels index) frames copy = FitsBy (recursive_layout levels frames.memory index) frames
+FitsIn (Pair levels index) frames copy = FitsBy (recursive_layout levels copy.memory index) copy
 
 abbrev pub FitsImage : Hierarchy → Type 0
 FitsImage hierarchy = FitsIn hierarchy.mode hierarchy.frames hierarchy.twin
 
 -- the memory of the first commands: in a pair the other mapper's lacks the self-entry
 abbrev pub first_memory : Mode → Memory → Memory
-first_memory (Pair index) memory = without_self_entry index memory
+first_memory (Pair levels index) memory = without_self_entry index memory
 first_memory mode memory = memory
 
 -- ---- the commands
 
 abbrev pub layout : Mode → Memory → Layout
-layout Direct memory = direct_layout
-layout (Offset offset) memory = direct_layout
-layout (Recursive index) memory = recursive_layout memory index
-layout (Pair index) memory = direct_layout
+layout (Direct levels) memory = direct_layout levels
+layout (Offset offset) memory = direct_layout Four
+layout (Recursive levels index) memory = recursive_layout levels memory index
+layout (Pair levels index) memory = direct_layout levels
 
 abbrev pub layout_of : Hierarchy → Layout
 layout_of hierarchy = layout hierarchy.mode hierarchy.frames.memory
@@ -62,11 +66,11 @@ machine_of hierarchy = machine_by (layout_of hierarchy)
 abbrev pub state_of : Hierarchy → State
 state_of hierarchy = runs.state_of (layout_of hierarchy) hierarchy.frames.memory hierarchy.frames.pool.frames
 
--- what a call leaves: what the machine's step does, but a call that names the recursive index of a pair is not allowed
-abbrev pub call_step : Hierarchy → Call → runs.AfterStep Reply
-call_step hierarchy call = cond (is_named hierarchy.mode call)
+-- what a call leaves: what the machine's step does, but a call that no mapper is asked is not allowed
+abbrev pub call_step : Hierarchy → Request → AfterStep Reply
+call_step hierarchy request = cond (is_refused hierarchy.mode request)
     (record { state = state_of hierarchy; reply = Some NotAllowed })
-    (runs.call_step (machine_of hierarchy) (state_of hierarchy) call)
+    (request_step (machine_of hierarchy) (state_of hierarchy) request)
 
 -- the mapper reaches each place of the memory
 abbrev pub IsReached : Mode → Memory → Type 0
@@ -74,14 +78,14 @@ IsReached (Offset offset) memory = OffsetFits memory offset
 IsReached mode memory = ⊤
 
 -- The recursive mapper's hierarchy is valid for the index, its free frames fit it and are those of the other one, and the path maps are alike.
-pub record IsTwin (index : ℕ) (memory : Memory) (free : List ℕ) (twin : Frames) : Type 0 where
-  pub fits : FitsBy (recursive_layout twin.memory index) twin
-  pub alike : Alike 4 (paths direct_layout memory) (paths (recursive_layout twin.memory index) twin.memory)
+pub record IsTwin (levels : Levels) (index : ℕ) (memory : Memory) (free : List ℕ) (twin : Frames) : Type 0 where
+  pub fits : FitsBy (recursive_layout levels twin.memory index) twin
+  pub alike : Alike (count levels) (paths (direct_layout levels) memory) (paths (recursive_layout levels twin.memory index) twin.memory)
   pub same_free : free ≡ twin.pool.frames
 
 -- in a pair the two are alike
 abbrev pub HasTwin : Mode → (frames twin : Frames) → Type 0
-HasTwin (Pair index) frames twin = IsTwin index frames.memory frames.pool.frames twin
+HasTwin (Pair levels index) frames twin = IsTwin levels index frames.memory frames.pool.frames twin
 HasTwin mode frames twin = ⊤
 
 -- the hierarchy is valid, the free frames fit it, and the mapper reaches each place; in a pair both are so, alike

@@ -2,6 +2,7 @@ pub mod Number
 pub mod Arguments
 pub mod Starts
 pub mod Fields
+pub mod Requests
 pub mod PageCalls
 pub mod Slot
 pub mod Statements

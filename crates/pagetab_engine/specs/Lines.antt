@@ -4,6 +4,7 @@ use Rattle.std.specs.Io.KnownBytes.{Consumes, IsAtEnd, Keeps, prepend_known}
 use Rattle.std.specs.List.{list_all, slice_split}
 use Rattle.pagetab_engine.specs.Fields.{is_space, has_bytes, Says}
 use Rattle.pagetab_engine.specs.Statements.{IsAccepted, IsStatement, SaysStatement}
+use Rattle.pagetab_engine.specs.declared.arguments.Arguments.{Arguments}
 use Rattle.pagetab_engine.specs.declared.ending.Fault.{Fault}
 use Rattle.pagetab_engine.specs.declared.ending.Fault.TheVariants.{BadLine, Input}
 use Rattle.pagetab_engine.specs.declared.fields.Name.{Name}
@@ -77,36 +78,36 @@ ReadsLine bytes rest line (Text length) = TakesLine bytes (take length line) res
 ReadsLine bytes rest line TooLong = BeginsTooLong (lines_of bytes)
 ReadsLine bytes rest line End = lines_of bytes ≡ []
 
--- the line says a statement about a memory of so many places
-abbrev pub SaysAccepted : (places : ℕ) (line : List ℕ) → Statement → Type 0
-SaysAccepted places line statement = (length line ≤ 256) × SaysStatement line statement × IsAccepted places statement
+-- the line says a statement about what the arguments say
+abbrev pub SaysAccepted : (arguments : Arguments) (line : List ℕ) → Statement → Type 0
+SaysAccepted arguments line statement = (length line ≤ 256) × SaysStatement line statement × IsAccepted arguments statement
 
--- the line has more than 256 bytes, or says no statement about a memory of so many places
-abbrev pub IsBad : (places : ℕ) (line : List ℕ) → Type 0
-IsBad places line =
-    (length line ≤ 256) → (name : Name) (size : Option Size) (numbers : List ℕ) → Says line name size numbers → ¬ (IsStatement places name size numbers)
+-- the line has more than 256 bytes, or says no statement about what the arguments say
+abbrev pub IsBad : (arguments : Arguments) (line : List ℕ) → Type 0
+IsBad arguments line =
+    (length line ≤ 256) → (name : Name) (size : Option Size) (numbers : List ℕ) → Says line name size numbers → ¬ (IsStatement arguments name size numbers)
 
 -- the first line has this number and says this statement, and the lines behind it are left
-abbrev pub TakesStatement : (places : ℕ) (lines : List Numbered) (number : ℕ) (rest : Option (List Numbered)) → Statement → Type 0
-TakesStatement places lines number None statement = ⊥
-TakesStatement places lines number (Some rest) statement =
-    (line : List ℕ) × (lines ≡ record { number = number; line = line } ∷ rest) × SaysAccepted places line statement
+abbrev pub TakesStatement : (arguments : Arguments) (lines : List Numbered) (number : ℕ) (rest : Option (List Numbered)) → Statement → Type 0
+TakesStatement arguments lines number None statement = ⊥
+TakesStatement arguments lines number (Some rest) statement =
+    (line : List ℕ) × (lines ≡ record { number = number; line = line } ∷ rest) × SaysAccepted arguments line statement
 
 -- what was read of these lines: the statement of the first one, of this number; or that there is none
-abbrev pub ReadsStatement : (places : ℕ) (lines : List Numbered) (number : ℕ) (rest : Option (List Numbered)) → Option Statement → Type 0
-ReadsStatement places lines number rest (Some statement) = TakesStatement places lines number rest statement
-ReadsStatement places lines number rest None = lines ≡ []
+abbrev pub ReadsStatement : (arguments : Arguments) (lines : List Numbered) (number : ℕ) (rest : Option (List Numbered)) → Option Statement → Type 0
+ReadsStatement arguments lines number rest (Some statement) = TakesStatement arguments lines number rest statement
+ReadsStatement arguments lines number rest None = lines ≡ []
 
 -- the first line has this number and is bad
-abbrev pub BeginsBad : (places : ℕ) (lines : List Numbered) (number : ℕ) → Type 0
-BeginsBad places [] number = ⊥
-BeginsBad places (first ∷ lines) number = (first.number ≡ number) × IsBad places first.line
+abbrev pub BeginsBad : (arguments : Arguments) (lines : List Numbered) (number : ℕ) → Type 0
+BeginsBad arguments [] number = ⊥
+BeginsBad arguments (first ∷ lines) number = (first.number ≡ number) × IsBad arguments first.line
 
 -- why no statement of these lines was read: the first one is bad, or a read failed
-abbrev pub ExplainsRead : (places : ℕ) (lines : List Numbered) → Fault → Type 0
-ExplainsRead places lines (BadLine number) = BeginsBad places lines number
-ExplainsRead places lines Input = ⊤
-ExplainsRead places lines fault = ⊥
+abbrev pub ExplainsRead : (arguments : Arguments) (lines : List Numbered) → Fault → Type 0
+ExplainsRead arguments lines (BadLine number) = BeginsBad arguments lines number
+ExplainsRead arguments lines Input = ⊤
+ExplainsRead arguments lines fault = ⊥
 
 -- one line or more was counted
 abbrev pub IsCounted : (old new : ℕ) → Type 0

@@ -1,29 +1,34 @@
 -- How lines write calls: a name, a size where they are on a page of a size, and numbers.
-use Rattle.std.specs.Prelude.{ℕ, List, [], ◌∷◌, Option, Some, None}
+use Rattle.std.specs.Prelude.{◌≡◌, ◌==◌, cond, ℕ, List, [], ◌∷◌, Option, Some, None}
 use Rattle.x86_64_addr.specs.Position.{raw}
-use Rattle.x86_64_tables.specs.PageTableFlags.{bits_of}
-use Rattle.x86_64.specs.declared.calls.SizeCall.{SizeCall}
-use Rattle.x86_64.specs.declared.calls.SizeCall.TheVariants as call
+use Rattle.x86_64.specs.Asked.{PageCall}
+use Rattle.x86_64.specs.Asked as asked
+use Rattle.x86_64.specs.Calls.{size_asks, size_asks_57}
 use Rattle.x86_64.specs.declared.calls.Call.{Call}
 use Rattle.x86_64.specs.declared.calls.Call.TheVariants.{Of4KiB, Of2MiB, Of1GiB, Translate, TranslateAddr, CleanUp, CleanUpRange}
+use Rattle.x86_64.specs.declared.calls.call57.Call57.{Call57}
+use Rattle.x86_64.specs.declared.calls.call57.Call57.TheVariants as call_57
 use Rattle.pagetab_engine.specs.Starts.{IsPageStart, IsFrameStart}
 use Rattle.pagetab_engine.specs.declared.fields.Name.{Name}
 use Rattle.pagetab_engine.specs.declared.fields.Name.TheVariants as name
 use Rattle.pagetab_engine.specs.declared.fields.Size.{Size}
 use Rattle.pagetab_engine.specs.declared.fields.Size.TheVariants.{Size4KiB, Size2MiB, Size1GiB}
+use Rattle.pagetab_engine.specs.declared.request.Request.{Request}
+use Rattle.pagetab_engine.specs.declared.request.Request.TheVariants.{Four, Five}
 
--- whether a name, and numbers past a size, are a call: start addresses that are the size's, and flags, which are any
-abbrev pub IsPageCall : (size : ℕ) → Name → List ℕ → Type 0
-IsPageCall size name.Map (page ∷ frame ∷ flags ∷ []) = IsPageStart size page × IsFrameStart size frame
-IsPageCall size name.MapWith (page ∷ frame ∷ flags ∷ parent_flags ∷ []) = IsPageStart size page × IsFrameStart size frame
-IsPageCall size name.Identity (frame ∷ flags ∷ []) = IsFrameStart size frame
-IsPageCall size name.Unmap (page ∷ []) = IsPageStart size page
-IsPageCall size name.Update (page ∷ flags ∷ []) = IsPageStart size page
-IsPageCall size name.P4 (page ∷ flags ∷ []) = IsPageStart size page
-IsPageCall size name.P3 (page ∷ flags ∷ []) = IsPageStart size page
-IsPageCall size name.P2 (page ∷ flags ∷ []) = IsPageStart size page
-IsPageCall size name.TranslatePage (page ∷ []) = IsPageStart size page
-IsPageCall size name numbers = ⊥
+-- whether a name, and numbers past a size, are a call where there are so many levels: start addresses that are the size's, and flags, which are any
+abbrev pub IsPageCall : (levels size : ℕ) → Name → List ℕ → Type 0
+IsPageCall levels size name.Map (page ∷ frame ∷ flags ∷ []) = IsPageStart levels size page × IsFrameStart size frame
+IsPageCall levels size name.MapWith (page ∷ frame ∷ flags ∷ parent_flags ∷ []) = IsPageStart levels size page × IsFrameStart size frame
+IsPageCall levels size name.Identity (frame ∷ flags ∷ []) = IsFrameStart size frame
+IsPageCall levels size name.Unmap (page ∷ []) = IsPageStart levels size page
+IsPageCall levels size name.Update (page ∷ flags ∷ []) = IsPageStart levels size page
+IsPageCall levels size name.P5 (page ∷ flags ∷ []) = (levels ≡ 5) × IsPageStart levels size page
+IsPageCall levels size name.P4 (page ∷ flags ∷ []) = IsPageStart levels size page
+IsPageCall levels size name.P3 (page ∷ flags ∷ []) = IsPageStart levels size page
+IsPageCall levels size name.P2 (page ∷ flags ∷ []) = IsPageStart levels size page
+IsPageCall levels size name.TranslatePage (page ∷ []) = IsPageStart levels size page
+IsPageCall levels size name numbers = ⊥
 
 -- the size in bytes
 abbrev pub bytes_of : Size → ℕ
@@ -31,53 +36,65 @@ bytes_of Size4KiB = 0x1000
 bytes_of Size2MiB = 0x20_0000
 bytes_of Size1GiB = 0x4000_0000
 
--- the name that writes a call
-abbrev pub size_call_name : {S : Type 0} → SizeCall S → Name
-size_call_name (call.MapTo page frame flags) = name.Map
-size_call_name (call.MapToWithTableFlags page frame flags parent_flags) = name.MapWith
-size_call_name (call.IdentityMap frame flags) = name.Identity
-size_call_name (call.Unmap page) = name.Unmap
-size_call_name (call.UpdateFlags page flags) = name.Update
-size_call_name (call.SetFlagsP4 page flags) = name.P4
-size_call_name (call.SetFlagsP3 page flags) = name.P3
-size_call_name (call.SetFlagsP2 page flags) = name.P2
-size_call_name (call.TranslatePage page) = name.TranslatePage
+-- what a line writes: a name, a size where there is one, and numbers
+pub record Written : Type 0 where
+  pub name : Name
+  pub size : Option Size
+  pub numbers : List ℕ
 
--- the numbers that write it: start addresses, and flags
-abbrev pub size_call_numbers : {S : Type 0} → SizeCall S → List ℕ
-size_call_numbers (call.MapTo page frame flags) = raw 4 page ∷ frame ∷ bits_of flags ∷ []
-size_call_numbers (call.MapToWithTableFlags page frame flags parent_flags) = raw 4 page ∷ frame ∷ bits_of flags ∷ bits_of parent_flags ∷ []
-size_call_numbers (call.IdentityMap frame flags) = frame ∷ bits_of flags ∷ []
-size_call_numbers (call.Unmap page) = raw 4 page ∷ []
-size_call_numbers (call.UpdateFlags page flags) = raw 4 page ∷ bits_of flags ∷ []
-size_call_numbers (call.SetFlagsP4 page flags) = raw 4 page ∷ bits_of flags ∷ []
-size_call_numbers (call.SetFlagsP3 page flags) = raw 4 page ∷ bits_of flags ∷ []
-size_call_numbers (call.SetFlagsP2 page flags) = raw 4 page ∷ bits_of flags ∷ []
-size_call_numbers (call.TranslatePage page) = raw 4 page ∷ []
+abbrev pub without_size : Name → List ℕ → Written
+without_size name numbers = record { name = name; size = None; numbers = numbers }
 
-abbrev pub call_name : Call → Name
-call_name (Of4KiB call) = size_call_name call
-call_name (Of2MiB call) = size_call_name call
-call_name (Of1GiB call) = size_call_name call
-call_name (Translate addr) = name.Translate
-call_name (TranslateAddr addr) = name.Addr
-call_name CleanUp = name.CleanUp
-call_name (CleanUpRange range) = name.CleanUpRange
+-- ---- calls on pages
 
-abbrev pub call_size : Call → Option Size
-call_size (Of4KiB call) = Some Size4KiB
-call_size (Of2MiB call) = Some Size2MiB
-call_size (Of1GiB call) = Some Size1GiB
-call_size (Translate addr) = None
-call_size (TranslateAddr addr) = None
-call_size CleanUp = None
-call_size (CleanUpRange range) = None
+-- the name that writes the call that sets the flags of the entry of a level
+abbrev pub flags_name : (level : ℕ) → Name
+flags_name level = cond (level == 5) name.P5 (cond (level == 4) name.P4 (cond (level == 3) name.P3 name.P2))
 
-abbrev pub call_numbers : Call → List ℕ
-call_numbers (Of4KiB call) = size_call_numbers call
-call_numbers (Of2MiB call) = size_call_numbers call
-call_numbers (Of1GiB call) = size_call_numbers call
-call_numbers (Translate addr) = raw 4 addr ∷ []
-call_numbers (TranslateAddr addr) = raw 4 addr ∷ []
-call_numbers CleanUp = []
-call_numbers (CleanUpRange range) = raw 4 range.start ∷ raw 4 range.end ∷ []
+abbrev pub page_call_name : PageCall → Name
+page_call_name (asked.MapTo page frame flags) = name.Map
+page_call_name (asked.MapToWithTableFlags page frame flags parent_flags) = name.MapWith
+page_call_name (asked.IdentityMap frame flags) = name.Identity
+page_call_name (asked.Unmap page) = name.Unmap
+page_call_name (asked.UpdateFlags page flags) = name.Update
+page_call_name (asked.SetFlags level page flags) = flags_name level
+page_call_name (asked.TranslatePage page) = name.TranslatePage
+
+-- start addresses, and flags
+abbrev pub page_call_numbers : (levels : ℕ) → PageCall → List ℕ
+page_call_numbers levels (asked.MapTo page frame flags) = raw levels page ∷ frame ∷ flags ∷ []
+page_call_numbers levels (asked.MapToWithTableFlags page frame flags parent_flags) = raw levels page ∷ frame ∷ flags ∷ parent_flags ∷ []
+page_call_numbers levels (asked.IdentityMap frame flags) = frame ∷ flags ∷ []
+page_call_numbers levels (asked.Unmap page) = raw levels page ∷ []
+page_call_numbers levels (asked.UpdateFlags page flags) = raw levels page ∷ flags ∷ []
+page_call_numbers levels (asked.SetFlags level page flags) = raw levels page ∷ flags ∷ []
+page_call_numbers levels (asked.TranslatePage page) = raw levels page ∷ []
+
+abbrev pub page_written : (levels : ℕ) → Size → PageCall → Written
+page_written levels size call = record { name = page_call_name call; size = Some size; numbers = page_call_numbers levels call }
+
+-- ---- calls
+
+-- of four levels
+abbrev pub call_written : Call → Written
+call_written (Of4KiB call) = page_written 4 Size4KiB (size_asks call)
+call_written (Of2MiB call) = page_written 4 Size2MiB (size_asks call)
+call_written (Of1GiB call) = page_written 4 Size1GiB (size_asks call)
+call_written (Translate addr) = without_size name.Translate (raw 4 addr ∷ [])
+call_written (TranslateAddr addr) = without_size name.Addr (raw 4 addr ∷ [])
+call_written CleanUp = without_size name.CleanUp []
+call_written (CleanUpRange range) = without_size name.CleanUpRange (raw 4 range.start ∷ raw 4 range.end ∷ [])
+
+-- of five
+abbrev pub call_57_written : Call57 → Written
+call_57_written (call_57.Of4KiB call) = page_written 5 Size4KiB (size_asks_57 call)
+call_57_written (call_57.Of2MiB call) = page_written 5 Size2MiB (size_asks_57 call)
+call_57_written (call_57.Of1GiB call) = page_written 5 Size1GiB (size_asks_57 call)
+call_57_written (call_57.Translate addr) = without_size name.Translate (raw 5 addr ∷ [])
+call_57_written (call_57.TranslateAddr addr) = without_size name.Addr (raw 5 addr ∷ [])
+call_57_written call_57.CleanUp = without_size name.CleanUp []
+call_57_written (call_57.CleanUpRange range) = without_size name.CleanUpRange (raw 5 range.start ∷ raw 5 range.end ∷ [])
+
+abbrev pub request_written : Request → Written
+request_written (Four call) = call_written call
+request_written (Five call) = call_57_written call

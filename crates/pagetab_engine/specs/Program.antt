@@ -30,12 +30,12 @@ IsForced fault = ⊥
 -- ---- the commands
 
 -- the line says this command
-abbrev pub SaysCommand : (places : ℕ) → Numbered → Command → Type 0
-SaysCommand places line command = SaysAccepted places line.line (says.Command command)
+abbrev pub SaysCommand : (arguments : Arguments) → Numbered → Command → Type 0
+SaysCommand arguments line command = SaysAccepted arguments line.line (says.Command command)
 
 -- the line says this line of an image
-abbrev pub SaysImage : (places : ℕ) → Numbered → ImageLine → Type 0
-SaysImage places line image = SaysAccepted places line.line (says.Image image)
+abbrev pub SaysImage : (arguments : Arguments) → Numbered → ImageLine → Type 0
+SaysImage arguments line image = SaysAccepted arguments line.line (says.Image image)
 
 -- The reply to a command, and what it leaves of the hierarchy.
 pub record Answers (command : Command) (before : Hierarchy) (answer : Reply) (after : Hierarchy) : Type 0 where
@@ -45,14 +45,14 @@ pub record Answers (command : Command) (before : Hierarchy) (answer : Reply) (af
   pub keeps : Keeps before after
 
 -- Where the image is read, each line that says a command is answered, and the first other one is bad.
-pub data Serves (places : ℕ) : (lines : List Numbered) → Hierarchy → Ending → (replies : List Reply) → Type 0 where
-  ends : (hierarchy : Hierarchy) → Serves places [] hierarchy Done []
+pub data Serves (arguments : Arguments) : (lines : List Numbered) → Hierarchy → Ending → (replies : List Reply) → Type 0 where
+  ends : (hierarchy : Hierarchy) → Serves arguments [] hierarchy Done []
   answers : (line : Numbered) (lines : List Numbered) (command : Command) (before : Hierarchy) (reply : Reply) (after : Hierarchy) (ending : Ending) (replies : List Reply)
-      → SaysCommand places line command → Answers command before reply after → Serves places lines after ending replies → Serves places (line ∷ lines) before ending (reply ∷ replies)
-  bad_line : (line : Numbered) (lines : List Numbered) (hierarchy : Hierarchy) → IsBad places line.line → Serves places (line ∷ lines) hierarchy (Stopped (BadLine line.number)) []
+      → SaysCommand arguments line command → Answers command before reply after → Serves arguments lines after ending replies → Serves arguments (line ∷ lines) before ending (reply ∷ replies)
+  bad_line : (line : Numbered) (lines : List Numbered) (hierarchy : Hierarchy) → IsBad arguments line.line → Serves arguments (line ∷ lines) hierarchy (Stopped (BadLine line.number)) []
   late_image : (line : Numbered) (lines : List Numbered) (image : ImageLine) (hierarchy : Hierarchy)
-      → SaysImage places line image → Serves places (line ∷ lines) hierarchy (Stopped (BadLine line.number)) []
-  gives_up : (lines : List Numbered) (hierarchy : Hierarchy) (fault : Fault) → IsForced fault → Serves places lines hierarchy (Stopped fault) []
+      → SaysImage arguments line image → Serves arguments (line ∷ lines) hierarchy (Stopped (BadLine line.number)) []
+  gives_up : (lines : List Numbered) (hierarchy : Hierarchy) (fault : Fault) → IsForced fault → Serves arguments lines hierarchy (Stopped fault) []
 
 -- ---- the image
 
@@ -81,21 +81,21 @@ pub record IsFirst (image first : Hierarchy) : Type 0 where
   pub twin : first.twin ≡ image.twin
 
 -- the image is read: the next line says a command, or there is none
-abbrev pub IsRead : (places : ℕ) → List Numbered → Type 0
-IsRead places [] = ⊤
-IsRead places (line ∷ lines) = (command : Command) × SaysCommand places line command
+abbrev pub IsRead : (arguments : Arguments) → List Numbered → Type 0
+IsRead arguments [] = ⊤
+IsRead arguments (line ∷ lines) = (command : Command) × SaysCommand arguments line command
 
 -- Each line that says one of an image is loaded. The first other one ends the image, which is tested then, as it is at the end of the input.
-pub data Reads (places : ℕ) : (lines : List Numbered) → Hierarchy → Ending → (replies : List Reply) → Type 0 where
+pub data Reads (arguments : Arguments) : (lines : List Numbered) → Hierarchy → Ending → (replies : List Reply) → Type 0 where
   loads : (line : Numbered) (lines : List Numbered) (image : ImageLine) (before after : Hierarchy) (ending : Ending) (replies : List Reply)
-      → SaysImage places line image → Loads image before after → Reads places lines after ending replies → Reads places (line ∷ lines) before ending replies
-  bad_line : (line : Numbered) (lines : List Numbered) (hierarchy : Hierarchy) → IsBad places line.line → Reads places (line ∷ lines) hierarchy (Stopped (BadLine line.number)) []
+      → SaysImage arguments line image → Loads image before after → Reads arguments lines after ending replies → Reads arguments (line ∷ lines) before ending replies
+  bad_line : (line : Numbered) (lines : List Numbered) (hierarchy : Hierarchy) → IsBad arguments line.line → Reads arguments (line ∷ lines) hierarchy (Stopped (BadLine line.number)) []
   refused : (line : Numbered) (lines : List Numbered) (image : ImageLine) (hierarchy : Hierarchy)
-      → SaysImage places line image → ¬ (IsLoadable hierarchy.frames image) → Reads places (line ∷ lines) hierarchy (Stopped (BadLine line.number)) []
-  unfit : (lines : List Numbered) (hierarchy : Hierarchy) → IsRead places lines → ¬ (FitsImage hierarchy) → Reads places lines hierarchy (Stopped InvalidHierarchy) []
+      → SaysImage arguments line image → ¬ (IsLoadable hierarchy.frames image) → Reads arguments (line ∷ lines) hierarchy (Stopped (BadLine line.number)) []
+  unfit : (lines : List Numbered) (hierarchy : Hierarchy) → IsRead arguments lines → ¬ (FitsImage hierarchy) → Reads arguments lines hierarchy (Stopped InvalidHierarchy) []
   fits : (lines : List Numbered) (image first : Hierarchy) (ending : Ending) (replies : List Reply)
-      → IsRead places lines → FitsImage image → IsFirst image first → Serves places lines first ending replies → Reads places lines image ending replies
-  gives_up : (lines : List Numbered) (hierarchy : Hierarchy) (fault : Fault) → IsForced fault → Reads places lines hierarchy (Stopped fault) []
+      → IsRead arguments lines → FitsImage image → IsFirst image first → Serves arguments lines first ending replies → Reads arguments lines image ending replies
+  gives_up : (lines : List Numbered) (hierarchy : Hierarchy) (fault : Fault) → IsForced fault → Reads arguments lines hierarchy (Stopped fault) []
 
 -- ---- the run
 
@@ -106,7 +106,7 @@ pub data IsRun (words : List (List ℕ)) (input : List ℕ) : Ending → (replie
       → Says words arguments → IsEmpty arguments hierarchy → ¬ (IsReached hierarchy.mode hierarchy.frames.memory) → IsRun words input (Stopped Usage) []
   reads : (arguments : Arguments) (hierarchy : Hierarchy) (ending : Ending) (replies : List Reply)
       → Says words arguments → IsEmpty arguments hierarchy → IsReached hierarchy.mode hierarchy.frames.memory
-      → Reads arguments.places (numbered_from 1 (lines_of input)) hierarchy ending replies → IsRun words input ending replies
+      → Reads arguments (numbered_from 1 (lines_of input)) hierarchy ending replies → IsRun words input ending replies
   gives_up : (fault : Fault) → IsForced fault → IsRun words input (Stopped fault) []
 
 -- the replies are written in order, each in a line, and nothing else is; after a write that failed nothing is known
@@ -125,23 +125,23 @@ ending_of (Ok done) = Done
 ending_of (Err fault) = Stopped fault
 
 -- a run that goes on so from these lines and this hierarchy goes on so from those
-abbrev pub Follows : (places : ℕ) (lines : List Numbered) (before : Hierarchy) (left : List Numbered) (after : Hierarchy) → Type 0
-Follows places lines before left after = (ending : Ending) (replies : List Reply) → Reads places left after ending replies → Reads places lines before ending replies
+abbrev pub Follows : (arguments : Arguments) (lines : List Numbered) (before : Hierarchy) (left : List Numbered) (after : Hierarchy) → Type 0
+Follows arguments lines before left after = (ending : Ending) (replies : List Reply) → Reads arguments left after ending replies → Reads arguments lines before ending replies
 
 -- the same, where the lines that are left are known
-abbrev pub FollowsKnown : (places : ℕ) (lines : List Numbered) (before : Hierarchy) (left : Option (List Numbered)) (after : Hierarchy) → Type 0
-FollowsKnown places lines before None after = ⊥
-FollowsKnown places lines before (Some left) after = Follows places lines before left after
+abbrev pub FollowsKnown : (arguments : Arguments) (lines : List Numbered) (before : Hierarchy) (left : Option (List Numbered)) (after : Hierarchy) → Type 0
+FollowsKnown arguments lines before None after = ⊥
+FollowsKnown arguments lines before (Some left) after = Follows arguments lines before left after
 
 -- what is left after an image: the line of the first command and those behind it, or no line
-abbrev pub IsLeft : (places : ℕ) → (first : Option Command) → (behind : Option (List Numbered)) → (left : List Numbered) → Type 0
-IsLeft places None behind left = left ≡ []
-IsLeft places (Some command) None left = ⊥
-IsLeft places (Some command) (Some behind) left = (line : Numbered) × SaysCommand places line command × (left ≡ line ∷ behind)
+abbrev pub IsLeft : (arguments : Arguments) → (first : Option Command) → (behind : Option (List Numbered)) → (left : List Numbered) → Type 0
+IsLeft arguments None behind left = left ≡ []
+IsLeft arguments (Some command) None left = ⊥
+IsLeft arguments (Some command) (Some behind) left = (line : Numbered) × SaysCommand arguments line command × (left ≡ line ∷ behind)
 
 -- the lines begin with an image, which was loaded
-abbrev pub LoadsImage : (places : ℕ) → (lines : List Numbered) → (before : Hierarchy) → (first : Option Command) → (behind : Option (List Numbered)) → (after : Hierarchy) → Type 0
-LoadsImage places lines before first behind after = (left : List Numbered) × IsLeft places first behind left × Follows places lines before left after
+abbrev pub LoadsImage : (arguments : Arguments) → (lines : List Numbered) → (before : Hierarchy) → (first : Option Command) → (behind : Option (List Numbered)) → (after : Hierarchy) → Type 0
+LoadsImage arguments lines before first behind after = (left : List Numbered) × IsLeft arguments first behind left × Follows arguments lines before left after
 
 -- a command was answered, and the reply written
 abbrev pub Replies : Command → (before after : Hierarchy) → (old new : Option (List ℕ)) → Type 0
@@ -152,13 +152,13 @@ abbrev pub StopsAt : (old new : Option (List ℕ)) → Fault → Type 0
 StopsAt old new fault = IsForced fault × IsWritten old new (Stopped fault) []
 
 -- where a line says the first command, it and the lines behind it were served
-abbrev pub Served : (places : ℕ) → (first : Command) → (behind : List Numbered) → Hierarchy → (old new : Option (List ℕ)) → Ending → Type 0
-Served places first behind before old new ending = (line : Numbered) → SaysCommand places line first
-    → (replies : List Reply) × Serves places (line ∷ behind) before ending replies × IsWritten old new ending replies
+abbrev pub Served : (arguments : Arguments) → (first : Command) → (behind : List Numbered) → Hierarchy → (old new : Option (List ℕ)) → Ending → Type 0
+Served arguments first behind before old new ending = (line : Numbered) → SaysCommand arguments line first
+    → (replies : List Reply) × Serves arguments (line ∷ behind) before ending replies × IsWritten old new ending replies
 
 -- where a line says the first command, it and the lines up to those that are left were served
-abbrev pub ServedUntil : (places : ℕ) → (first : Command) → (behind : List Numbered) → (before : Hierarchy) → (old new : Option (List ℕ)) → (left : Option (List Numbered)) → (after : Hierarchy) → Type 0
-ServedUntil places first behind before old new None after = ⊥
-ServedUntil places first behind before old new (Some left) after = (line : Numbered) → SaysCommand places line first
+abbrev pub ServedUntil : (arguments : Arguments) → (first : Command) → (behind : List Numbered) → (before : Hierarchy) → (old new : Option (List ℕ)) → (left : Option (List Numbered)) → (after : Hierarchy) → Type 0
+ServedUntil arguments first behind before old new None after = ⊥
+ServedUntil arguments first behind before old new (Some left) after = (line : Numbered) → SaysCommand arguments line first
     → (replies : List Reply) × Appends old new (flat_map reply_line replies)
-    × ((ending : Ending) (more : List Reply) → Serves places left after ending more → Serves places (line ∷ behind) before ending (replies ++ more))
+    × ((ending : Ending) (more : List Reply) → Serves arguments left after ending more → Serves arguments (line ∷ behind) before ending (replies ++ more))

@@ -2,10 +2,9 @@
 use Rattle.std.specs.Prelude.{◌≡◌, ⊤, true, Some, option_map}
 use Rattle.x86_64_model.specs.Machine.{State}
 use Rattle.x86_64_model.specs.Memory.{words_of, identity_places}
-use Rattle.x86_64_model.specs.PageWalk.{page_walk}
 use Rattle.x86_64_tables.specs.Walks.{walked_of}
-use Rattle.pagetab_engine.specs.Arguments.{is_named}
 use Rattle.pagetab_engine.specs.Hierarchy.{call_step, state_of}
+use Rattle.pagetab_engine.specs.Requests.{is_refused, reply_in, walk_to}
 use Rattle.pagetab_engine.specs.Slot.{word_in}
 use Rattle.pagetab_engine.specs.declared.hierarchy.Hierarchy.{Hierarchy}
 use Rattle.pagetab_engine.specs.declared.statement.Command.{Command}
@@ -15,15 +14,15 @@ use Rattle.pagetab_engine.specs.declared.reply.Reply.TheVariants as reply
 
 -- the reply to a call is the machine's, and that to another command says what the definitions say of the hierarchy
 abbrev pub IsReply : Hierarchy → Command → Reply → Type 0
-IsReply hierarchy (command.Call call) (reply.Answered answer) = Some answer ≡ (call_step hierarchy call).reply
-IsReply hierarchy (command.Walk addr) (reply.Arrival walked) = option_map walked_of walked ≡ page_walk 4 (words_of hierarchy.frames.memory identity_places) 0x1000 addr
+IsReply hierarchy (command.Call call) (reply.Answered answer) = Some (reply_in answer) ≡ (call_step hierarchy call).reply
+IsReply hierarchy (command.Walk address) (reply.Arrival walked) = option_map walked_of walked ≡ walk_to (words_of hierarchy.frames.memory identity_places) 0x1000 address
 IsReply hierarchy (command.Show slot) (reply.Word word) = word ≡ word_in hierarchy.frames.memory slot.place slot.index
 IsReply hierarchy command.Pool (reply.Pool frames) = frames.items ≡ hierarchy.frames.pool.frames
 IsReply hierarchy asked told = ⊥
 
--- a command that is no call only reads, and so does a call that names the recursive index of a pair
+-- a command that is no call only reads, and so does a call that no mapper is asked
 abbrev pub OnlyReads : Hierarchy → Command → Type 0
-OnlyReads hierarchy (command.Call call) = is_named hierarchy.mode call ≡ true
+OnlyReads hierarchy (command.Call call) = is_refused hierarchy.mode call ≡ true
 OnlyReads hierarchy asked = ⊤
 
 -- the state after a command: the machine's after a call, and the same after another

@@ -2,8 +2,9 @@
 use Rattle.std.specs.Prelude.{◌≡◌, ◌<◌, ◌/◌, ◌%◌, ◌^◌, ℕ}
 use Rattle.x86_64_addr.specs.Position.{IsCanonical}
 
-abbrev pub IsPageStart : (size start : ℕ) → Type 0
-IsPageStart size start = IsCanonical 4 start × (start % size ≡ 0)
+-- the start of a page where there are so many levels
+abbrev pub IsPageStart : (levels size start : ℕ) → Type 0
+IsPageStart levels size start = IsCanonical levels start × (start % size ≡ 0)
 
 abbrev pub IsFrameStart : (size start : ℕ) → Type 0
 IsFrameStart size start = (start < 2 ^ 52) × (start % size ≡ 0)

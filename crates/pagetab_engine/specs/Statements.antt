@@ -1,62 +1,81 @@
 -- How lines write statements: a name, SIZE where they are about a page of a size, and numbers.
-use Rattle.std.specs.Prelude.{◌<◌, ◌*◌, ℕ, ⊤, List, [], ◌∷◌, Option, Some, None}
+use Rattle.std.specs.Prelude.{◌≡◌, ◌<◌, ◌*◌, ℕ, ⊤, true, List, [], ◌∷◌, Option, Some, None}
 use Rattle.x86_64_addr.specs.Position.{raw, IsCanonical}
 use Rattle.pagetab_engine.specs.Fields.{Says}
-use Rattle.pagetab_engine.specs.PageCalls.{IsPageCall, bytes_of, call_name, call_size, call_numbers}
+use Rattle.pagetab_engine.specs.Arguments.{count, levels_of}
+use Rattle.pagetab_engine.specs.PageCalls.{IsPageCall, Written, bytes_of, request_written, without_size}
+use Rattle.pagetab_engine.specs.Requests.{has_levels}
 use Rattle.pagetab_engine.specs.Starts.{IsPageStart, IsTableStart}
 use Rattle.pagetab_engine.specs.declared.fields.Name.{Name}
 use Rattle.pagetab_engine.specs.declared.fields.Name.TheVariants as name
 use Rattle.pagetab_engine.specs.declared.fields.Size.{Size}
+use Rattle.pagetab_engine.specs.declared.arguments.Arguments.{Arguments}
+use Rattle.pagetab_engine.specs.declared.arguments.Levels.{Levels}
+use Rattle.pagetab_engine.specs.declared.arguments.Levels.TheVariants as levels
+use Rattle.pagetab_engine.specs.declared.request.Address.TheVariants as address
 use Rattle.pagetab_engine.specs.declared.statement.ImageLine.TheVariants.{Word, Free}
+use Rattle.pagetab_engine.specs.declared.statement.Command.{Command as Asked}
 use Rattle.pagetab_engine.specs.declared.statement.Command.TheVariants as command
 use Rattle.pagetab_engine.specs.declared.statement.Statement.{Statement}
 use Rattle.pagetab_engine.specs.declared.statement.Statement.TheVariants.{Image, Command}
 
--- whether a name and numbers with no size between them are a statement about a memory of so many places
-abbrev pub IsPlain : (places : ℕ) → Name → List ℕ → Type 0
-IsPlain places name.Word (frame ∷ index ∷ value ∷ []) = IsTableStart places frame × (index < 512)
-IsPlain places name.Free (frame ∷ []) = IsTableStart places frame
-IsPlain places name.Translate (addr ∷ []) = IsCanonical 4 addr
-IsPlain places name.Addr (addr ∷ []) = IsCanonical 4 addr
-IsPlain places name.Walk (addr ∷ []) = IsCanonical 4 addr
-IsPlain places name.Show (frame ∷ index ∷ []) = IsTableStart places frame × (index < 512)
-IsPlain places name.Pool [] = ⊤
-IsPlain places name.CleanUp [] = ⊤
-IsPlain places name.CleanUpRange (first ∷ last ∷ []) = IsPageStart 4096 first × IsPageStart 4096 last
-IsPlain places other numbers = ⊥
+-- whether a name and numbers with no size between them are a command on addresses, where there are so many levels
+abbrev pub IsOnAddresses : (levels : ℕ) → Name → List ℕ → Type 0
+IsOnAddresses levels name.Translate (addr ∷ []) = IsCanonical levels addr
+IsOnAddresses levels name.Addr (addr ∷ []) = IsCanonical levels addr
+IsOnAddresses levels name.Walk (addr ∷ []) = IsCanonical levels addr
+IsOnAddresses levels name.CleanUp [] = ⊤
+IsOnAddresses levels name.CleanUpRange (first ∷ last ∷ []) = IsPageStart levels 4096 first × IsPageStart levels 4096 last
+IsOnAddresses levels other numbers = ⊥
 
--- whether these fields are a statement
-abbrev pub IsStatement : (places : ℕ) → Name → Option Size → List ℕ → Type 0
-IsStatement places name None numbers = IsPlain places name numbers
-IsStatement places name (Some size) numbers = IsPageCall (bytes_of size) name numbers
+-- whether they are a statement about a memory of so many places, and so many levels
+abbrev pub IsPlain : (places levels : ℕ) → Name → List ℕ → Type 0
+IsPlain places levels name.Word (frame ∷ index ∷ value ∷ []) = IsTableStart places frame × (index < 512)
+IsPlain places levels name.Free (frame ∷ []) = IsTableStart places frame
+IsPlain places levels name.Show (frame ∷ index ∷ []) = IsTableStart places frame × (index < 512)
+IsPlain places levels name.Pool [] = ⊤
+IsPlain places levels other numbers = IsOnAddresses levels other numbers
 
--- the fields that write a statement
-abbrev pub statement_name : Statement → Name
-statement_name (Image (Word slot value)) = name.Word
-statement_name (Image (Free frame)) = name.Free
-statement_name (Command (command.Call call)) = call_name call
-statement_name (Command (command.Walk addr)) = name.Walk
-statement_name (Command (command.Show slot)) = name.Show
-statement_name (Command command.Pool) = name.Pool
+-- the number of levels that the arguments say
+abbrev pub levels_in : Arguments → ℕ
+levels_in arguments = count (levels_of arguments.mode)
 
-abbrev pub statement_size : Statement → Option Size
-statement_size (Image line) = None
-statement_size (Command (command.Call call)) = call_size call
-statement_size (Command (command.Walk addr)) = None
-statement_size (Command (command.Show slot)) = None
-statement_size (Command command.Pool) = None
+-- whether these fields are a statement about what the arguments say
+abbrev pub IsStatement : Arguments → Name → Option Size → List ℕ → Type 0
+IsStatement arguments name None numbers = IsPlain arguments.places (levels_in arguments) name numbers
+IsStatement arguments name (Some size) numbers = IsPageCall (levels_in arguments) (bytes_of size) name numbers
 
-abbrev pub statement_numbers : Statement → List ℕ
-statement_numbers (Image (Word slot value)) = (slot.place * 4096) ∷ slot.index ∷ value ∷ []
-statement_numbers (Image (Free frame)) = frame ∷ []
-statement_numbers (Command (command.Call call)) = call_numbers call
-statement_numbers (Command (command.Walk addr)) = raw 4 addr ∷ []
-statement_numbers (Command (command.Show slot)) = (slot.place * 4096) ∷ slot.index ∷ []
-statement_numbers (Command command.Pool) = []
+-- ---- what writes a command, and a statement
 
--- a line says a statement, and it is one about a memory of so many places
+abbrev pub command_written : Asked → Written
+command_written (command.Call request) = request_written request
+command_written (command.Walk (address.Four addr)) = without_size name.Walk (raw 4 addr ∷ [])
+command_written (command.Walk (address.Five addr)) = without_size name.Walk (raw 5 addr ∷ [])
+command_written (command.Show slot) = without_size name.Show ((slot.place * 4096) ∷ slot.index ∷ [])
+command_written command.Pool = without_size name.Pool []
+
+abbrev pub written : Statement → Written
+written (Image (Word slot value)) = without_size name.Word ((slot.place * 4096) ∷ slot.index ∷ value ∷ [])
+written (Image (Free frame)) = without_size name.Free (frame ∷ [])
+written (Command asked) = command_written asked
+
+-- a call is one of so many levels, and so is the address of a walk
+abbrev pub CommandHas : Levels → Asked → Type 0
+CommandHas levels (command.Call request) = has_levels levels request ≡ true
+CommandHas levels.Four (command.Walk (address.Four addr)) = ⊤
+CommandHas levels.Five (command.Walk (address.Five addr)) = ⊤
+CommandHas levels (command.Walk other) = ⊥
+CommandHas levels (command.Show slot) = ⊤
+CommandHas levels command.Pool = ⊤
+
+abbrev pub HasLevels : Levels → Statement → Type 0
+HasLevels levels (Image line) = ⊤
+HasLevels levels (Command asked) = CommandHas levels asked
+
+-- a line says a statement, and it is one about what the arguments say
 abbrev pub SaysStatement : (line : List ℕ) → Statement → Type 0
-SaysStatement line statement = Says line (statement_name statement) (statement_size statement) (statement_numbers statement)
+SaysStatement line statement = let fields = written statement in Says line fields.name fields.size fields.numbers
 
-abbrev pub IsAccepted : (places : ℕ) → Statement → Type 0
-IsAccepted places statement = IsStatement places (statement_name statement) (statement_size statement) (statement_numbers statement)
+abbrev pub IsAccepted : Arguments → Statement → Type 0
+IsAccepted arguments statement =
+    let fields = written statement in IsStatement arguments fields.name fields.size fields.numbers × HasLevels (levels_of arguments.mode) statement

@@ -16,10 +16,11 @@ use Rattle.x86_64_tables.specs.declared.mapper.TranslateResult.TheVariants.{Mapp
 use Rattle.x86_64_tables.specs.declared.mapper.UnmapError.{UnmapError}
 use Rattle.x86_64_tables.specs.declared.mapper.UnmapError.TheVariants as unmap
 use Rattle.x86_64_tables.specs.declared.phys_memory.walk.Walked.{Walked}
-use Rattle.x86_64.specs.declared.calls.Reply.{Reply as CallReply}
-use Rattle.x86_64.specs.declared.calls.Reply.TheVariants as call
-use Rattle.x86_64.specs.declared.calls.SizeReply.{SizeReply}
-use Rattle.x86_64.specs.declared.calls.SizeReply.TheVariants.{Map, Unmap, Update, TableFlags, Frame}
+use Rattle.x86_64.specs.declared.calls.MapperReply.{MapperReply}
+use Rattle.x86_64.specs.declared.calls.MapperReply.TheVariants as call
+use Rattle.x86_64.specs.declared.calls.PageReply.{PageReply}
+use Rattle.x86_64.specs.declared.calls.PageReply.TheVariants.{Map, Unmap, Update, TableFlags, Frame}
+use Rattle.pagetab_engine.specs.Requests.{reply_in}
 use Rattle.pagetab_engine.specs.declared.ending.Fault.{Fault}
 use Rattle.pagetab_engine.specs.declared.ending.Fault.TheVariants.{BadLine, InvalidHierarchy, OutOfMemory, Input, Output, Usage}
 use Rattle.pagetab_engine.specs.declared.reply.Reply.{Reply}
@@ -65,7 +66,7 @@ frame_error_text page_frame.PageNotMapped = page_not_mapped
 frame_error_text page_frame.ParentEntryHugePage = parent_entry_huge_page
 frame_error_text (page_frame.InvalidFrameAddress address) = invalid_frame_address address
 
-abbrev pub page_text : {S : Type 0} → SizeReply S → List ℕ
+abbrev pub page_text : {P S : Type 0} → PageReply P S → List ℕ
 page_text (Map (Ok page)) = codes "ok"
 page_text (Map (Err why)) = map_error_text why
 page_text (Unmap (Ok (frame, page))) = hexadecimal frame
@@ -95,7 +96,7 @@ abbrev pub address_text : Option ℕ → List ℕ
 address_text (Some address) = hexadecimal address
 address_text None = codes "none"
 
-abbrev pub call_text : CallReply → List ℕ
+abbrev pub call_text : {P Q R S T U : Type 0} → MapperReply (PageReply P S) (PageReply Q T) (PageReply R U) → List ℕ
 call_text (call.Of4KiB answer) = page_text answer
 call_text (call.Of2MiB answer) = page_text answer
 call_text (call.Of1GiB answer) = page_text answer
@@ -118,7 +119,7 @@ abbrev pub pool_text : (frames : List ℕ) → List ℕ
 pool_text frames = codes "pool" ++ flat_map free_text frames
 
 abbrev pub reply_text : Reply → List ℕ
-reply_text (Answered answer) = call_text answer
+reply_text (Answered answer) = call_text (reply_in answer)
 reply_text (Arrival walked) = walked_text walked
 reply_text (Word word) = hexadecimal word
 reply_text (Pool frames) = pool_text frames.items
@@ -135,4 +136,4 @@ fault_text InvalidHierarchy = codes "invalid hierarchy"
 fault_text OutOfMemory = codes "out of memory"
 fault_text Input = codes "input or output failed"
 fault_text Output = codes "input or output failed"
-fault_text Usage = codes "usage: pagetab direct N | offset N OFF | recursive N R | pair N R"
+fault_text Usage = codes "usage: pagetab direct N | offset N OFF | recursive N R | pair N R | direct5 N | recursive5 N R | pair5 N R"

@@ -3,36 +3,83 @@ ghost use Rattle.std.specs.Prelude.{◌<◌, ℕ, [], ◌∷◌, map, string_byt
 ghost use Rattle.std.specs.Option.{SomeIff};
 ghost use Rattle.pagetab_engine.specs.Arguments.{IsPlaces, IsAddress, IsIndex, Says, SaysMode};
 ghost use Rattle.pagetab_engine.specs.Number.{number_of};
+ghost use Rattle.pagetab_engine.specs.declared.arguments.Mode.TheVariants.{Recursive, Pair};
 
 use crate::number;
+use crate::request::Request;
+use x86_64::VirtAddr;
 use x86_64::structures::paging::PageTableIndex;
-use x86_64::{Call, VirtAddr};
 
-/// Says how tables are found in the memory.
+/// Says how many levels of page tables there are.
+#[derive(Clone, Copy, Debug, PartialEq)]
+pub enum Levels {
+    /// Four, for addresses of 48 bits.
+    Four,
+    /// Five, for addresses of 57 bits.
+    Five,
+}
+
+impl Levels {
+    ghost use Rattle.std.specs.Prelude.{◌≡◌};
+    ghost use Rattle.pagetab_engine.specs.Arguments.{recursive_word, pair_word};
+
+    /// Gives the word of the recursive mapper.
+    fn recursive_word(self) -> &'static str
+        ensures { result.now ≡ recursive_word self }
+    {
+        match self {
+            Levels::Four => "recursive",
+            Levels::Five => "recursive5",
+        }
+    }
+
+    /// Gives the word of a pair of mappers.
+    fn pair_word(self) -> &'static str
+        ensures { result.now ≡ pair_word self }
+    {
+        match self {
+            Levels::Four => "pair",
+            Levels::Five => "pair5",
+        }
+    }
+}
+
+/// Says how tables are found in the memory, and how many levels there are.
 #[derive(Clone, Copy, Debug, PartialEq)]
 pub enum Mode {
     /// Each frame lies at the place of its number.
-    Direct,
-    /// The whole memory stands in the virtual address space from this address on.
+    Direct(Levels),
+    /// The whole memory stands in the virtual address space from this address on. There are four levels.
     Offset(VirtAddr),
     /// Each frame lies at the place of its number, and tables are reached through the root's entry for itself at this index.
-    Recursive(PageTableIndex),
+    Recursive(Levels, PageTableIndex),
     /// Two memories have one image, and calls are answered by both of the mappers above: in one of them each frame lies at the
     /// place of its number, and in the other the root has an entry for itself at this index.
-    Pair(PageTableIndex),
+    Pair(Levels, PageTableIndex),
 }
 
 impl Mode {
     ghost use Rattle.std.specs.Prelude.{◌≡◌};
-    ghost use Rattle.pagetab_engine.specs.Arguments.{is_named};
+    ghost use Rattle.pagetab_engine.specs.Arguments.{levels_of};
+    ghost use Rattle.pagetab_engine.specs.Requests.{is_named};
 
-    /// Tells whether a call names the recursive index of a pair.
-    pub fn is_named(self, call: &Call) -> bool
-        ensures { result ≡ is_named self call.now }
+    /// Gives the number of levels.
+    pub fn levels(self) -> Levels
+        ensures { result ≡ levels_of self }
     {
         match self {
-            Mode::Direct | Mode::Offset(_) | Mode::Recursive(_) => false,
-            Mode::Pair(index) => call.names(index),
+            Mode::Direct(levels) | Mode::Recursive(levels, _) | Mode::Pair(levels, _) => levels,
+            Mode::Offset(_) => Levels::Four,
+        }
+    }
+
+    /// Tells whether a call names the recursive index of a pair.
+    pub fn is_named(self, request: &Request) -> bool
+        ensures { result ≡ is_named self request.now }
+    {
+        match self {
+            Mode::Direct(_) | Mode::Offset(_) | Mode::Recursive(..) => false,
+            Mode::Pair(_, index) => request.names(index),
         }
     }
 }
@@ -40,23 +87,24 @@ impl Mode {
 /// Says what the arguments say.
 #[derive(Clone, Copy, Debug, PartialEq)]
 pub struct Arguments {
-    /// How tables are found.
+    /// How tables are found, and how many levels there are.
     pub mode: Mode,
     /// How many places the memory has, from 2 to 65536.
     pub places: u64,
 }
 
 impl Arguments {
-    /// Reads `direct N`, `offset N OFF`, `recursive N R` or `pair N R`. Answers `None` exactly where the words are none of these.
+    /// Reads `direct N`, `offset N OFF`, `recursive N R` or `pair N R`, or one of the same with five levels, which are `direct5 N`,
+    /// `recursive5 N R` and `pair5 N R`. Answers `None` exactly where the words are none of these.
     pub fn parse(words: &[String]) -> Option<Arguments>
         ensures says { IfSome result (Says (map string_bytes words.now)) }
         ensures none { IfNone result ((arguments : Arguments) →
             ¬ (Says (map string_bytes words.now) arguments)) }
     {
         match words {
-            [mode, places] if mode.as_str() == "direct" => Some(Arguments {
-                mode: Mode::Direct,
+            [mode, places] => Some(Arguments {
                 places: parse_places(places.as_str())?,
+                mode: parse_word(mode.as_str())?,
             }),
             [mode, places, number] => Some(Arguments {
                 places: parse_places(places.as_str())?,
@@ -67,17 +115,47 @@ impl Arguments {
     }
 }
 
-/// Reads the word of a mode with a number: `offset` with OFF, or `recursive` or `pair` with R. Answers `None` exactly where they
-/// are none of these.
+/// Reads the word of a mode without a number: `direct` or `direct5`. Answers `None` exactly where it is neither.
+fn parse_word(word: &str) -> Option<Mode>
+    ensures says { IfSome result (SaysMode word.now []) }
+    ensures none { IfNone result ((mode : Mode) → ¬ (SaysMode word.now [] mode)) }
+{
+    match word.as_bytes() {
+        b"direct" => Some(Mode::Direct(Levels::Four)),
+        b"direct5" => Some(Mode::Direct(Levels::Five)),
+        _ => None,
+    }
+}
+
+/// Reads the word of a mode with a number: `offset` with OFF, or `recursive`, `recursive5`, `pair` or `pair5` with R. Answers
+/// `None` exactly where they are none of these.
 fn parse_mode(word: &str, number: &str) -> Option<Mode>
     ensures says { IfSome result (SaysMode word.now (number.now ∷ [])) }
     ensures none { IfNone result ((mode : Mode) → ¬ (SaysMode word.now (number.now ∷ []) mode)) }
 {
-    match word.as_bytes() {
-        b"offset" => Some(Mode::Offset(parse_address(number)?)),
-        b"recursive" => Some(Mode::Recursive(parse_index(number)?)),
-        b"pair" => Some(Mode::Pair(parse_index(number)?)),
-        _ => None,
+    if word == "offset" {
+        return Some(Mode::Offset(parse_address(number)?));
+    }
+    match parse_recursive(Levels::Four, word, number) {
+        Some(mode) => Some(mode),
+        None => parse_recursive(Levels::Five, word, number),
+    }
+}
+
+/// Reads the word of a mode with a recursive index, for a number of levels. Answers `None` exactly where it is none of these.
+fn parse_recursive(levels: Levels, word: &str, number: &str) -> Option<Mode>
+    ensures says { IfSome result (SaysMode word.now (number.now ∷ [])) }
+    ensures not_recursive { IfNone result ((index : ℕ) →
+        ¬ (SaysMode word.now (number.now ∷ []) (Recursive levels index))) }
+    ensures no_pair { IfNone result ((index : ℕ) →
+        ¬ (SaysMode word.now (number.now ∷ []) (Pair levels index))) }
+{
+    if word == levels.recursive_word() {
+        Some(Mode::Recursive(levels, parse_index(number)?))
+    } else if word == levels.pair_word() {
+        Some(Mode::Pair(levels, parse_index(number)?))
+    } else {
+        None
     }
 }
 

@@ -8,6 +8,10 @@ ghost use Rattle.x86_64.specs.Runs.{FitsPool, Keeps as KeepsPool, Kept};
 ghost use Rattle.pagetab_engine.specs.Calls.{IsAnswered};
 ghost use Rattle.pagetab_engine.specs.Frames.{direct_layout, recursive_layout};
 ghost use Rattle.pagetab_engine.specs.Hierarchy.{IsTwin};
+ghost use Rattle.pagetab_engine.specs.declared.arguments.Levels.TheVariants.{Four};
+ghost use Rattle.pagetab_engine.specs.declared.request.Request.TheVariants.{Four as four};
+
+pub mod five_levels;
 
 use crate::frames::{Frames, root};
 use std::alloc::{AllocError, Global};
@@ -35,7 +39,7 @@ fn answer_by<M: MapperAllSizes + Translate + CleanUp>(
     requires { PoolFits (M.hierarchy mapper.old) (serves_below pool.old.limit) pool.old.frames }
     ensures answered { let h = M.hierarchy mapper.old in
         let memory = (M.hierarchy mapper.new).memory in
-        IfOk result (IsAnswered h.layout h.memory pool.old.frames call memory pool.new.frames) }
+        IfOk result (IsAnswered h.layout h.memory pool.old.frames (four call) memory pool.new.frames) }
     ensures unchanged { OnErr result (
         ((M.hierarchy mapper.new).memory ≡ (M.hierarchy mapper.old).memory) × (pool.new ≡ pool.old)) }
     ensures keeps { let h = M.hierarchy mapper.old in
@@ -61,12 +65,12 @@ pub fn answer_direct(
     pool: &mut FramePool,
     call: Call,
 ) -> Result<Reply, AllocError>
-    requires { FitsPool direct_layout memory.old (serves_below pool.old.limit) pool.old.frames }
+    requires { FitsPool (direct_layout Four) memory.old (serves_below pool.old.limit) pool.old.frames }
     ensures answered { IfOk result (
-        IsAnswered direct_layout memory.old pool.old.frames call memory.new pool.new.frames) }
+        IsAnswered (direct_layout Four) memory.old pool.old.frames (four call) memory.new pool.new.frames) }
     ensures unchanged { OnErr result ((memory.new ≡ memory.old) × (pool.new ≡ pool.old)) }
     ensures keeps { let serves = serves_below pool.old.limit in
-        KeepsPool direct_layout serves memory.old pool.old.frames memory.new pool.new.frames }
+        KeepsPool (direct_layout Four) serves memory.old pool.old.frames memory.new pool.new.frames }
     ensures serves { serves_below pool.new.limit ≡ serves_below pool.old.limit }
 {
     let mut mapper = MappedPageTable::new(memory, root(), IdentityMapping);
@@ -87,13 +91,13 @@ pub fn answer_at_offset(
     pool: &mut FramePool,
     call: Call,
 ) -> Result<Reply, AllocError>
-    requires pool { FitsPool direct_layout memory.old (serves_below pool.old.limit) pool.old.frames }
+    requires pool { FitsPool (direct_layout Four) memory.old (serves_below pool.old.limit) pool.old.frames }
     requires offset { OffsetFits memory.old phys_offset }
     ensures answered { IfOk result (
-        IsAnswered direct_layout memory.old pool.old.frames call memory.new pool.new.frames) }
+        IsAnswered (direct_layout Four) memory.old pool.old.frames (four call) memory.new pool.new.frames) }
     ensures unchanged { OnErr result ((memory.new ≡ memory.old) × (pool.new ≡ pool.old)) }
     ensures keeps { let serves = serves_below pool.old.limit in
-        KeepsPool direct_layout serves memory.old pool.old.frames memory.new pool.new.frames }
+        KeepsPool (direct_layout Four) serves memory.old pool.old.frames memory.new pool.new.frames }
     ensures offset { OffsetFits memory.new phys_offset }
     ensures serves { serves_below pool.new.limit ≡ serves_below pool.old.limit }
 {
@@ -115,15 +119,15 @@ pub fn answer_recursively(
     pool: &mut FramePool,
     call: Call,
 ) -> Result<Reply, AllocError>
-    requires { let layout = recursive_layout memory.old index in
+    requires { let layout = recursive_layout Four memory.old index in
         FitsPool layout memory.old (serves_below pool.old.limit) pool.old.frames }
-    ensures answered { let layout = recursive_layout memory.old index in IfOk result (
-        IsAnswered layout memory.old pool.old.frames call memory.new pool.new.frames) }
+    ensures answered { let layout = recursive_layout Four memory.old index in IfOk result (
+        IsAnswered layout memory.old pool.old.frames (four call) memory.new pool.new.frames) }
     ensures unchanged { OnErr result ((memory.new ≡ memory.old) × (pool.new ≡ pool.old)) }
-    ensures keeps { let layout = recursive_layout memory.old index in
+    ensures keeps { let layout = recursive_layout Four memory.old index in
         let serves = serves_below pool.old.limit in
         KeepsPool layout serves memory.old pool.old.frames memory.new pool.new.frames }
-    ensures layout { recursive_layout memory.new index ≡ recursive_layout memory.old index }
+    ensures layout { recursive_layout Four memory.new index ≡ recursive_layout Four memory.old index }
     ensures serves { serves_below pool.new.limit ≡ serves_below pool.old.limit }
 {
     let active = ActiveMemory::new(memory, root());
@@ -147,17 +151,17 @@ pub fn answer_by_both(
     index: PageTableIndex,
     call: Call,
 ) -> Result<Reply, AllocError>
-    requires fits { FitsPool direct_layout memory.old (serves_below pool.old.limit) pool.old.frames }
-    requires twin { IsTwin index memory.old pool.old.frames twin.old }
+    requires fits { FitsPool (direct_layout Four) memory.old (serves_below pool.old.limit) pool.old.frames }
+    requires twin { IsTwin Four index memory.old pool.old.frames twin.old }
     requires unnamed { names call index ≡ false }
     ensures answered { IfOk result (
-        IsAnswered direct_layout memory.old pool.old.frames call memory.new pool.new.frames) }
+        IsAnswered (direct_layout Four) memory.old pool.old.frames (four call) memory.new pool.new.frames) }
     ensures unchanged { OnErr result (
         (memory.new ≡ memory.old) × (pool.new ≡ pool.old) × (twin.new ≡ twin.old)) }
     ensures keeps { let serves = serves_below pool.old.limit in
-        KeepsPool direct_layout serves memory.old pool.old.frames memory.new pool.new.frames }
+        KeepsPool (direct_layout Four) serves memory.old pool.old.frames memory.new pool.new.frames }
     ensures serves { serves_below pool.new.limit ≡ serves_below pool.old.limit }
-    ensures twin { IsTwin index memory.new pool.new.frames twin.new }
+    ensures twin { IsTwin Four index memory.new pool.new.frames twin.new }
 {
     let calls = [call];
     let mut direct = MappedPageTable::new(memory, root(), IdentityMapping);

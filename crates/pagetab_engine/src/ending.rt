@@ -6,6 +6,10 @@ ghost use Rattle.pagetab_engine.specs.Texts.{fault_text};
 use std::alloc::AllocError;
 use std::fmt::{Display, Formatter, Result as FmtResult, Write};
 
+/// What is printed where the arguments were not those of the program.
+const USAGE: &str =
+    "usage: pagetab direct N | offset N OFF | recursive N R | pair N R | direct5 N | recursive5 N R | pair5 N R";
+
 /// Says why a run ended before its input did.
 #[derive(Clone, Copy, Debug, PartialEq, Eq)]
 pub enum Fault {
@@ -67,9 +71,7 @@ impl Display for Fault {
             Fault::InvalidHierarchy => f.write_str("invalid hierarchy"),
             Fault::OutOfMemory => f.write_str("out of memory"),
             Fault::Input | Fault::Output => f.write_str("input or output failed"),
-            Fault::Usage => f.write_str(
-                "usage: pagetab direct N | offset N OFF | recursive N R | pair N R",
-            ),
+            Fault::Usage => f.write_str(USAGE),
         }
     }
 }

@@ -25,6 +25,7 @@ use std::io::{Read, Write};
 /// - `pair N R`: the mappers of `direct` and of `recursive` answer together, each in a memory of its own that has the image,
 ///   the first one's without the root's word R. A call that names the index R is not allowed, also where it only reads;
 ///   `walk`, `show` and `pool` look at the memory and the free frames of the first one.
+/// - `direct5 N`, `recursive5 N R`, `pair5 N R`: the same with five levels of page tables, where addresses have 57 bits.
 ///
 /// Each reply is a line, written by one `write_all`. The arguments and the input alone decide the replies and the ending, unless
 /// memory is refused, or a read or a write fails: then the replies given so far are whole, but for the one whose write failed.
@@ -56,13 +57,12 @@ fn serve<R: Read, W: Write>(
     let Some(arguments) = Arguments::parse(words) else {
         return Err(Fault::Usage);
     };
-    let places = arguments.places;
     let mut hierarchy = Hierarchy::new(alloc, arguments)?;
     if !hierarchy.is_reached() {
         return Err(Fault::Usage);
     }
     let mut lines = Lines::new(reader);
-    let first = read_image(&mut lines, &mut hierarchy, places)?;
+    let first = read_image(&mut lines, &mut hierarchy, &arguments)?;
     if !hierarchy.end_image(alloc)? {
         return Err(Fault::InvalidHierarchy);
     }
@@ -71,7 +71,7 @@ fn serve<R: Read, W: Write>(
             alloc,
             &mut lines,
             &mut hierarchy,
-            places,
+            &arguments,
             command,
             writer,
         ),
@@ -83,18 +83,18 @@ fn serve<R: Read, W: Write>(
 fn read_image<R: Read>(
     lines: &mut Lines<'_, R>,
     hierarchy: &mut Hierarchy,
-    places: u64,
+    arguments: &Arguments,
 ) -> Result<Option<Command>, Fault>
     requires copy { HasCopy hierarchy.old }
     requires reached { IsReached hierarchy.old.mode hierarchy.old.frames.memory }
     ensures read { IfOk result (λ first. IfSome (lines_left R.remaining lines.old) (λ known.
-        LoadsImage places known hierarchy.old first (lines_left R.remaining lines.new) hierarchy.new)) }
+        LoadsImage arguments.now known hierarchy.old first (lines_left R.remaining lines.new) hierarchy.new)) }
     ensures stopped { IfErr result (λ fault. IfSome (lines_left R.remaining lines.old) (λ known.
-        Reads places known hierarchy.old (Stopped fault) [])) }
+        Reads arguments.now known hierarchy.old (Stopped fault) [])) }
     ensures copy { HasCopy hierarchy.new }
     ensures reached { IsReached hierarchy.new.mode hierarchy.new.frames.memory }
 {
-    while let Some(statement) = lines.next_statement(places)? {
+    while let Some(statement) = lines.next_statement(arguments)? {
         match statement {
             Statement::Image(line) => {
                 if hierarchy.load(&line).is_err() {
@@ -112,17 +112,17 @@ fn answer_commands<R: Read, W: Write>(
     alloc: Global,
     lines: &mut Lines<'_, R>,
     hierarchy: &mut Hierarchy,
-    places: u64,
+    arguments: &Arguments,
     first: Command,
     writer: &mut W,
 ) -> Result<(), Fault>
     requires { IsHierarchy hierarchy.old }
     ensures { let old = W.contents writer.old in let new = W.contents writer.new in
         IfSome (lines_left R.remaining lines.old) (λ behind.
-        Served places first behind hierarchy.old old new (ending_of result)) }
+        Served arguments.now first behind hierarchy.old old new (ending_of result)) }
 {
     write_reply(alloc, hierarchy, first, writer)?;
-    while let Some(statement) = lines.next_statement(places)? {
+    while let Some(statement) = lines.next_statement(arguments)? {
         match statement {
             Statement::Command(command) => write_reply(alloc, hierarchy, command, writer)?,
             Statement::Image(_) => return Err(lines.fault()),
@@ -163,8 +163,8 @@ fn answer(alloc: Global, hierarchy: &mut Hierarchy, command: Command) -> Result<
     ensures keeps { Keeps hierarchy.old hierarchy.new }
 {
     Ok(match command {
-        Command::Call(call) => Reply::Answered(hierarchy.answer_call(alloc, call)?),
-        Command::Walk(addr) => Reply::Arrival(hierarchy.frames().walk(addr)),
+        Command::Call(request) => Reply::Answered(hierarchy.answer_call(alloc, request)?),
+        Command::Walk(address) => Reply::Arrival(hierarchy.frames().walk(address)),
         Command::Show(slot) => Reply::Word(hierarchy.frames().word(slot)),
         Command::Pool => Reply::Pool(hierarchy.frames().free_frames(alloc)?),
     })

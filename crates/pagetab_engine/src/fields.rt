@@ -34,6 +34,8 @@ pub enum Name {
     Unmap,
     /// `update`.
     Update,
+    /// `p5`.
+    P5,
     /// `p4`.
     P4,
     /// `p3`.
@@ -67,6 +69,7 @@ impl Name {
             b"identity" => Name::Identity,
             b"unmap" => Name::Unmap,
             b"update" => Name::Update,
+            b"p5" => Name::P5,
             b"p4" => Name::P4,
             b"p3" => Name::P3,
             b"p2" => Name::P2,

@@ -2,19 +2,21 @@
 ghost use Rattle.std.specs.Prelude.{◌≡◌, ◌↔◌, [], ℕ, if◌then◌else◌, IsOk, IfOk, IfErr, OnOk, OnErr, IsTrue, Some, None, nat_lt, option_map};
 ghost use Rattle.std.specs.FinMap as map;
 ghost use Rattle.x86_64_model.specs.Memory.{words_of, identity_places};
-ghost use Rattle.x86_64_model.specs.PageWalk.{page_walk as walk_of};
 ghost use Rattle.x86_64_tables.specs.PageTable.{zero_words};
 ghost use Rattle.x86_64_tables.specs.Walks.{walked_of};
 ghost use Rattle.pagetab_engine.specs.Frames.{direct_layout, recursive_layout, FitsBy, IsLoadable, IsRefusedFor, memory_after, free_after, without_self_entry};
+ghost use Rattle.pagetab_engine.specs.Requests.{walk_to};
 ghost use Rattle.pagetab_engine.specs.Slot.{word_in};
 
+use crate::arguments::Levels;
+use crate::request::Address;
 use crate::slot::Slot;
 use crate::statement::ImageLine;
 use std::alloc::{AllocError, Global};
 use x86_64::structures::paging::{PageTableIndex, PhysFrame, Size4KiB};
 use x86_64::{
-    FramePool, IdentityMapping, PhysAddr, PhysMemory, PoolRefusal, VirtAddr, Walked, page_walk,
-    pool_fits, pool_fits_recursive,
+    FramePool, IdentityMapping, PhysAddr, PhysMemory, PoolRefusal, Walked, page_walk, page_walk_57,
+    pool_fits, pool_fits_57, pool_fits_recursive, pool_fits_recursive_57,
 };
 
 /// Holds page tables in a memory, and the frames that are free for new ones.
@@ -79,10 +81,14 @@ impl Frames {
     /// # Errors
     ///
     /// `AllocError` where memory is refused.
-    pub fn fits(&self, alloc: Global) -> Result<bool, AllocError>
-        ensures { IfOk result (λ fits. IsTrue fits ↔ FitsBy direct_layout self.now) }
+    pub fn fits(&self, alloc: Global, levels: Levels) -> Result<bool, AllocError>
+        ensures { IfOk result (λ fits. IsTrue fits ↔ FitsBy (direct_layout levels) self.now) }
     {
-        pool_fits(alloc, &self.memory, &IdentityMapping, root(), &self.pool)
+        let (memory, pool) = (&self.memory, &self.pool);
+        match levels {
+            Levels::Four => pool_fits(alloc, memory, &IdentityMapping, root(), pool),
+            Levels::Five => pool_fits_57(alloc, memory, &IdentityMapping, root(), pool),
+        }
     }
 
     /// Tells whether the hierarchy is valid for a recursive index, and the free frames fit it.
@@ -90,11 +96,20 @@ impl Frames {
     /// # Errors
     ///
     /// `AllocError` where memory is refused.
-    pub fn fits_recursive(&self, alloc: Global, index: PageTableIndex) -> Result<bool, AllocError>
+    pub fn fits_recursive(
+        &self,
+        alloc: Global,
+        levels: Levels,
+        index: PageTableIndex,
+    ) -> Result<bool, AllocError>
         ensures { IfOk result (λ fits.
-            IsTrue fits ↔ FitsBy (recursive_layout self.now.memory index) self.now) }
+            IsTrue fits ↔ FitsBy (recursive_layout levels self.now.memory index) self.now) }
     {
-        pool_fits_recursive(alloc, &self.memory, root(), index, &self.pool)
+        let (memory, pool) = (&self.memory, &self.pool);
+        match levels {
+            Levels::Four => pool_fits_recursive(alloc, memory, root(), index, pool),
+            Levels::Five => pool_fits_recursive_57(alloc, memory, root(), index, pool),
+        }
     }
 
     /// Gives the word in a slot, 0 where the memory lacks the table.
@@ -105,11 +120,14 @@ impl Frames {
     }
 
     /// Walks to an address as the processor does, or gives `None` where the walk arrives nowhere.
-    pub fn walk(&self, addr: VirtAddr) -> Option<Walked>
+    pub fn walk(&self, address: Address) -> Option<Walked>
         ensures { let words = words_of self.now.memory identity_places in
-            option_map walked_of result ≡ walk_of 4 words 0x1000 addr }
+            option_map walked_of result ≡ walk_to words 0x1000 address }
     {
-        page_walk(&self.memory, &IdentityMapping, root(), addr)
+        match address {
+            Address::Four(addr) => page_walk(&self.memory, &IdentityMapping, root(), addr),
+            Address::Five(addr) => page_walk_57(&self.memory, &IdentityMapping, root(), addr),
+        }
     }
 
     /// Gives the free frames, in order.

@@ -1,18 +1,21 @@
 //! The hierarchy of the program, or in a pair two of one image, and how calls are answered.
-ghost use Rattle.std.specs.Prelude.{◌≡◌, ◌↔◌, [], ℕ, if◌then◌else◌, IsOk, IfOk, IfErr, OnOk, OnErr, IsTrue, true, Some, None, nat_lt};
+ghost use Rattle.std.specs.Prelude.{◌≡◌, ◌↔◌, [], ℕ, if◌then◌else◌, IsOk, IfOk, IfErr, OnOk, OnErr, IsTrue, true, false, Some, None, nat_lt};
 ghost use Rattle.std.specs.FinMap as map;
 ghost use Rattle.x86_64_tables.specs.PageTable.{zero_words};
-ghost use Rattle.pagetab_engine.specs.Arguments.{is_named};
 ghost use Rattle.pagetab_engine.specs.Frames.{IsLoadable, IsRefusedFor, memory_after, free_after};
 ghost use Rattle.pagetab_engine.specs.Hierarchy.{state_of, call_step, first_memory, FitsImage, HasCopy, IsReached, IsHierarchy, Keeps};
+ghost use Rattle.pagetab_engine.specs.Requests.{is_named, is_refused, reply_in};
+ghost use Rattle.pagetab_engine.specs.declared.request.Request.TheVariants.{Four as four, Five as five};
 
-use crate::arguments::{Arguments, Mode};
+use crate::arguments::{Arguments, Levels, Mode};
+use crate::calls::five_levels::{answer_by_both_57, answer_direct_57, answer_recursively_57};
 use crate::calls::{answer_at_offset, answer_by_both, answer_direct, answer_recursively};
 use crate::frames::Frames;
+use crate::request::{Answer, Request};
 use crate::statement::ImageLine;
 use std::alloc::{AllocError, Global};
 use x86_64::structures::paging::OffsetPageTable;
-use x86_64::{Call, PoolRefusal, Reply};
+use x86_64::{Call, Call57, PoolRefusal, Reply, Reply57};
 
 /// Holds the frames of a hierarchy, and says by which mapper calls are answered.
 ///
@@ -40,8 +43,8 @@ impl Hierarchy {
         ensures copy { IfOk result HasCopy }
     {
         let copied_places = match arguments.mode {
-            Mode::Direct | Mode::Offset(_) | Mode::Recursive(_) => 0,
-            Mode::Pair(_) => arguments.places,
+            Mode::Direct(_) | Mode::Offset(_) | Mode::Recursive(..) => 0,
+            Mode::Pair(..) => arguments.places,
         };
         Ok(Hierarchy {
             mode: arguments.mode,
@@ -62,7 +65,7 @@ impl Hierarchy {
         ensures { IsTrue result ↔ IsReached self.now.mode self.now.frames.memory }
     {
         match self.mode {
-            Mode::Direct | Mode::Recursive(_) | Mode::Pair(_) => true,
+            Mode::Direct(_) | Mode::Recursive(..) | Mode::Pair(..) => true,
             Mode::Offset(offset) => OffsetPageTable::offset_fits(&self.frames.memory, offset),
         }
     }
@@ -87,8 +90,8 @@ impl Hierarchy {
     {
         self.frames.load(line)?;
         match self.mode {
-            Mode::Direct | Mode::Offset(_) | Mode::Recursive(_) => Ok(()),
-            Mode::Pair(_) => self.twin.load(line),
+            Mode::Direct(_) | Mode::Offset(_) | Mode::Recursive(..) => Ok(()),
+            Mode::Pair(..) => self.twin.load(line),
         }
     }
 
@@ -125,8 +128,8 @@ impl Hierarchy {
     {
         let mode = self.mode;
         match mode {
-            Mode::Direct | Mode::Offset(_) | Mode::Recursive(_) => {}
-            Mode::Pair(index) => self.frames.clear_self_entry(index),
+            Mode::Direct(_) | Mode::Offset(_) | Mode::Recursive(..) => {}
+            Mode::Pair(_, index) => self.frames.clear_self_entry(index),
         }
     }
 
@@ -139,38 +142,93 @@ impl Hierarchy {
         ensures { IfOk result (λ fits. IsTrue fits ↔ FitsImage self.now) }
     {
         match self.mode {
-            Mode::Direct | Mode::Offset(_) => self.frames.fits(alloc),
-            Mode::Recursive(index) => self.frames.fits_recursive(alloc, index),
-            Mode::Pair(index) => self.twin.fits_recursive(alloc, index),
+            Mode::Direct(levels) => self.frames.fits(alloc, levels),
+            Mode::Offset(_) => self.frames.fits(alloc, Levels::Four),
+            Mode::Recursive(levels, index) => self.frames.fits_recursive(alloc, levels, index),
+            Mode::Pair(levels, index) => self.twin.fits_recursive(alloc, levels, index),
         }
     }
 
-    /// Runs the list of one call, by the mapper of the mode, and gives the reply. In a pair a call that names the recursive index
-    /// is not allowed, also where it only reads.
+    /// Runs the list of one call, by the mapper of the mode, and gives the answer. A call for another number of levels is not
+    /// allowed, and in a pair none that names the recursive index, also where it only reads.
     ///
     /// Condition: the hierarchy is valid, its free frames fit it, and the mapper reaches each place; in a pair both are, alike.
     ///
     /// # Errors
     ///
     /// `AllocError` where memory is refused; then nothing changes.
-    pub fn answer_call(&mut self, alloc: Global, call: Call) -> Result<Reply, AllocError>
+    pub fn answer_call(&mut self, alloc: Global, request: Request) -> Result<Answer, AllocError>
         requires { IsHierarchy self.old }
-        ensures reply { IfOk result (λ reply. Some reply ≡ (call_step self.old call).reply) }
-        ensures state { OnOk result (state_of self.new ≡ (call_step self.old call).state) }
-        ensures named { is_named self.old.mode call ≡ true → self.new ≡ self.old }
+        ensures answer { IfOk result (λ answer. Some (reply_in answer) ≡ (call_step self.old request).reply) }
+        ensures state { OnOk result (state_of self.new ≡ (call_step self.old request).state) }
+        ensures refused { is_refused self.old.mode request ≡ true → self.new ≡ self.old }
         ensures unchanged { OnErr result (self.new ≡ self.old) }
         ensures keeps { Keeps self.old self.new }
     {
-        if self.mode.is_named(&call) {
-            return Ok(Reply::NotAllowed);
+        if self.mode.is_named(&request) {
+            return Ok(request.refusal());
         }
+        match request {
+            Request::Four(call) => Ok(Answer::Four(self.answer(alloc, call)?)),
+            Request::Five(call) => Ok(Answer::Five(self.answer_57(alloc, call)?)),
+        }
+    }
+
+    /// Does what [`answer_call`](Self::answer_call) does, where there are four levels, for a call that doesn't name the index of a pair.
+    fn answer(&mut self, alloc: Global, call: Call) -> Result<Reply, AllocError>
+        requires fits { IsHierarchy self.old }
+        requires unnamed { is_named self.old.mode (four call) ≡ false }
+        ensures answer { IfOk result (λ reply. Some reply ≡ (call_step self.old (four call)).reply) }
+        ensures state { OnOk result (state_of self.new ≡ (call_step self.old (four call)).state) }
+        ensures refused { is_refused self.old.mode (four call) ≡ true → self.new ≡ self.old }
+        ensures unchanged { OnErr result (self.new ≡ self.old) }
+        ensures keeps { Keeps self.old self.new }
+    {
         let (mode, twin) = (self.mode, &mut self.twin);
         let (memory, pool) = (&mut self.frames.memory, &mut self.frames.pool);
         match mode {
-            Mode::Direct => answer_direct(alloc, memory, pool, call),
+            Mode::Direct(levels) => match levels {
+                Levels::Four => answer_direct(alloc, memory, pool, call),
+                Levels::Five => Ok(Reply::NotAllowed),
+            },
             Mode::Offset(offset) => answer_at_offset(alloc, memory, offset, pool, call),
-            Mode::Recursive(index) => answer_recursively(alloc, memory, index, pool, call),
-            Mode::Pair(index) => answer_by_both(alloc, memory, pool, twin, index, call),
+            Mode::Recursive(levels, index) => match levels {
+                Levels::Four => answer_recursively(alloc, memory, index, pool, call),
+                Levels::Five => Ok(Reply::NotAllowed),
+            },
+            Mode::Pair(levels, index) => match levels {
+                Levels::Four => answer_by_both(alloc, memory, pool, twin, index, call),
+                Levels::Five => Ok(Reply::NotAllowed),
+            },
+        }
+    }
+
+    /// Does what [`answer_call`](Self::answer_call) does, where there are five levels, for a call that doesn't name the index of a pair.
+    fn answer_57(&mut self, alloc: Global, call: Call57) -> Result<Reply57, AllocError>
+        requires fits { IsHierarchy self.old }
+        requires unnamed { is_named self.old.mode (five call) ≡ false }
+        ensures answer { IfOk result (λ reply. Some reply ≡ (call_step self.old (five call)).reply) }
+        ensures state { OnOk result (state_of self.new ≡ (call_step self.old (five call)).state) }
+        ensures refused { is_refused self.old.mode (five call) ≡ true → self.new ≡ self.old }
+        ensures unchanged { OnErr result (self.new ≡ self.old) }
+        ensures keeps { Keeps self.old self.new }
+    {
+        let (mode, twin) = (self.mode, &mut self.twin);
+        let (memory, pool) = (&mut self.frames.memory, &mut self.frames.pool);
+        match mode {
+            Mode::Direct(levels) => match levels {
+                Levels::Four => Ok(Reply57::NotAllowed),
+                Levels::Five => answer_direct_57(alloc, memory, pool, call),
+            },
+            Mode::Offset(_) => Ok(Reply57::NotAllowed),
+            Mode::Recursive(levels, index) => match levels {
+                Levels::Four => Ok(Reply57::NotAllowed),
+                Levels::Five => answer_recursively_57(alloc, memory, index, pool, call),
+            },
+            Mode::Pair(levels, index) => match levels {
+                Levels::Four => Ok(Reply57::NotAllowed),
+                Levels::Five => answer_by_both_57(alloc, memory, pool, twin, index, call),
+            },
         }
     }
 }

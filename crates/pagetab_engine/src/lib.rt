@@ -12,5 +12,6 @@ mod lines;
 pub mod number;
 mod page_call;
 mod reply;
+mod request;
 mod slot;
 mod statement;

@@ -6,6 +6,7 @@ ghost use Rattle.pagetab_engine.specs.Fields.{is_space};
 ghost use Rattle.pagetab_engine.specs.Statements.{IsAccepted};
 ghost use Rattle.pagetab_engine.specs.declared.ending.Fault.TheVariants.{BadLine};
 
+use crate::arguments::Arguments;
 use crate::ending::Fault;
 use crate::statement::Statement;
 use std::io::{self, Read};
@@ -59,19 +60,20 @@ impl<'a, R: Read> Lines<'a, R> {
 impl<R: Read> Lines<'_, R> {
     ghost use Rattle.pagetab_engine.specs.Lines.{bytes_left, lines_left, ExplainsRead, FitsLine, IsCounted, IsReadFault, ReadsLine, ReadsStatement, TakesByte};
 
-    /// Reads the next statement about a memory with so many places, or `None` at the end. Empty lines are passed over.
+    /// Reads the next statement about what the arguments say, or `None` at the end. Empty lines are passed over.
     ///
     /// # Errors
     ///
     /// `Fault::BadLine` where the line can't be read, and `Fault::Input` where the reader fails or has more lines than a
     /// `u64` counts.
-    pub fn next_statement(&mut self, places: u64) -> Result<Option<Statement>, Fault>
+    pub fn next_statement(&mut self, arguments: &Arguments) -> Result<Option<Statement>, Fault>
         ensures next { IfOk result (λ next. IfSome (lines_left R.remaining self.old) (λ lines.
-            ReadsStatement places lines self.new.number (lines_left R.remaining self.new) next)) }
-        ensures accepted { IfOk result (λ next. IfSome next (λ statement. IsAccepted places statement)) }
+            ReadsStatement arguments.now lines self.new.number (lines_left R.remaining self.new) next)) }
+        ensures accepted { IfOk result (λ next.
+            IfSome next (λ statement. IsAccepted arguments.now statement)) }
         ensures counted { IfOk result (λ next. IfSome next (λ _. IsCounted self.old.number self.new.number)) }
         ensures why { IfErr result (λ fault. IfSome (lines_left R.remaining self.old) (λ lines.
-            ExplainsRead places lines fault)) }
+            ExplainsRead arguments.now lines fault)) }
         ensures fault { IfErr result (IsReadFault self.new.number) }
     {
         let mut line = [0; LONGEST];
@@ -85,7 +87,7 @@ impl<R: Read> Lines<'_, R> {
             if is_blank(text) {
                 continue;
             }
-            return match Statement::parse(text, places) {
+            return match Statement::parse(text, arguments) {
                 Some(statement) => Ok(Some(statement)),
                 None => Err(self.fault()),
             };

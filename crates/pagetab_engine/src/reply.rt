@@ -3,13 +3,14 @@ ghost use Rattle.std.specs.Prelude.{◌≡◌, Some};
 ghost use Rattle.std.specs.Fmt.{WritesOnOk};
 ghost use Rattle.pagetab_engine.specs.Texts as texts;
 
+use crate::request::Answer;
 use bitflags::Flags;
 use std::fmt::{Display, Formatter, Result as FmtResult, Write};
 use x86_64::structures::paging::mapper::{
     FlagUpdateError, MapToError, MappedFrame, TranslateError, TranslateResult, UnmapError,
 };
-use x86_64::structures::paging::{PageSize, PhysFrame, Size4KiB};
-use x86_64::{PhysAddr, Reply as CallReply, SizeReply, Walked};
+use x86_64::structures::paging::{PageSize, PhysFrame, Size1GiB, Size2MiB, Size4KiB};
+use x86_64::{MapperReply, PageReply, PhysAddr, Walked};
 
 /// The reply to a call on a page that is not mapped.
 const PAGE_NOT_MAPPED: &str = "page not mapped";
@@ -21,7 +22,7 @@ const PARENT_ENTRY_HUGE_PAGE: &str = "parent entry huge page";
 #[derive(Debug, Drop)]
 pub enum Reply {
     /// What the mapper answers to a call.
-    Answered(CallReply),
+    Answered(Answer),
     /// Where the processor arrives, or `None`.
     Arrival(Option<Walked>),
     /// A word.
@@ -35,7 +36,8 @@ impl Display for Reply {
 
     fn fmt<W: Write>(&self, f: &mut Formatter<W>) -> FmtResult {
         match self {
-            Reply::Answered(answer) => write_answer(f, answer),
+            Reply::Answered(Answer::Four(reply)) => write_answer(f, reply),
+            Reply::Answered(Answer::Five(reply)) => write_answer(f, reply),
             Reply::Arrival(None) => f.write_str("none"),
             Reply::Arrival(Some(walked)) => write_walked(f, *walked),
             Reply::Word(word) => write_number(f, *word),
@@ -66,37 +68,47 @@ fn write_pool<W: Write>(f: &mut Formatter<W>, frames: &[PhysFrame<Size4KiB>]) ->
     Ok(())
 }
 
+/// The reply to a call, whatever its pages are.
+type AnyReply<P, Q, R> = MapperReply<
+    PageReply<P, Size4KiB>,
+    PageReply<Q, Size2MiB>,
+    PageReply<R, Size1GiB>,
+>;
+
 /// Writes the reply to a call.
-fn write_answer<W: Write>(f: &mut Formatter<W>, answer: &CallReply) -> FmtResult
+fn write_answer<P, Q, R, W: Write>(f: &mut Formatter<W>, answer: &AnyReply<P, Q, R>) -> FmtResult
     ensures { WritesOnOk W.write_str_gives f.old result (texts.call_text answer.now) f.new }
 {
     match answer {
-        CallReply::Of4KiB(reply) => write_size_reply(f, reply),
-        CallReply::Of2MiB(reply) => write_size_reply(f, reply),
-        CallReply::Of1GiB(reply) => write_size_reply(f, reply),
-        CallReply::Translate(translation) => write_translation(f, translation),
-        CallReply::Address(Some(address)) => write_address(f, *address),
-        CallReply::Address(None) => f.write_str("none"),
-        CallReply::Cleaned => f.write_str("ok"),
-        CallReply::NotAllowed => f.write_str("not allowed"),
+        MapperReply::Of4KiB(reply) => write_page_reply(f, reply),
+        MapperReply::Of2MiB(reply) => write_page_reply(f, reply),
+        MapperReply::Of1GiB(reply) => write_page_reply(f, reply),
+        MapperReply::Translate(translation) => write_translation(f, translation),
+        MapperReply::Address(Some(address)) => write_address(f, *address),
+        MapperReply::Address(None) => f.write_str("none"),
+        MapperReply::Cleaned => f.write_str("ok"),
+        MapperReply::NotAllowed => f.write_str("not allowed"),
     }
 }
 
 /// Writes the reply to a call on a page.
-fn write_size_reply<S: PageSize, W: Write>(f: &mut Formatter<W>, reply: &SizeReply<S>) -> FmtResult
+fn write_page_reply<P, S: PageSize, W: Write>(
+    f: &mut Formatter<W>,
+    reply: &PageReply<P, S>,
+) -> FmtResult
     ensures { WritesOnOk W.write_str_gives f.old result (texts.page_text reply.now) f.new }
 {
     match reply {
-        SizeReply::Map(Ok(_)) => f.write_str("ok"),
-        SizeReply::Map(Err(error)) => write_map_error(f, error),
-        SizeReply::Unmap(Ok((frame, _))) => write_address(f, frame.start_address()),
-        SizeReply::Unmap(Err(error)) => write_unmap_error(f, error),
-        SizeReply::Update(Ok(_)) | SizeReply::TableFlags(Ok(())) => f.write_str("ok"),
-        SizeReply::Update(Err(error)) | SizeReply::TableFlags(Err(error)) => {
+        PageReply::Map(Ok(_)) => f.write_str("ok"),
+        PageReply::Map(Err(error)) => write_map_error(f, error),
+        PageReply::Unmap(Ok((frame, _))) => write_address(f, frame.start_address()),
+        PageReply::Unmap(Err(error)) => write_unmap_error(f, error),
+        PageReply::Update(Ok(_)) | PageReply::TableFlags(Ok(())) => f.write_str("ok"),
+        PageReply::Update(Err(error)) | PageReply::TableFlags(Err(error)) => {
             write_flags_error(f, error)
         }
-        SizeReply::Frame(Ok(frame)) => write_address(f, frame.start_address()),
-        SizeReply::Frame(Err(error)) => write_frame_error(f, error),
+        PageReply::Frame(Ok(frame)) => write_address(f, frame.start_address()),
+        PageReply::Frame(Err(error)) => write_frame_error(f, error),
     }
 }
 

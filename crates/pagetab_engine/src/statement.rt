@@ -1,22 +1,27 @@
 //! What lines say.
 ghost use Rattle.std.specs.Prelude.{◌≡◌, ◌↔◌, ℕ, Option, List, Some, None, IsSome, IfSome, IfNone};
 ghost use Rattle.pagetab_engine.specs.Fields.{Says};
-ghost use Rattle.pagetab_engine.specs.Statements.{IsPlain, IsStatement, IsAccepted, SaysStatement, statement_name, statement_size, statement_numbers};
+ghost use Rattle.pagetab_engine.specs.Arguments.{levels_of};
+ghost use Rattle.pagetab_engine.specs.Statements.{IsOnAddresses, IsPlain, IsStatement, IsAccepted, SaysStatement, CommandHas, HasLevels};
+ghost use Rattle.pagetab_engine.specs.Statements.{levels_in, command_written, written};
+ghost use Rattle.pagetab_engine.specs.declared.arguments.Levels.TheVariants.{Four, Five};
 
+use crate::arguments::{Arguments, Levels};
 use crate::fields::{Fields, Name, Size};
-use crate::page_call::{page_at, parse_call};
+use crate::page_call::{page_57_at, page_at, parse_call, parse_call_57};
+use crate::request::{Address, Request};
 use crate::slot::{Slot, frame_at, slot_at};
-use x86_64::structures::paging::{Page, PhysFrame, Size4KiB};
-use x86_64::{Call, VirtAddr};
+use x86_64::structures::paging::{Page, Page57, PhysFrame, Size4KiB};
+use x86_64::{Call, Call57, VirtAddr, VirtAddr57};
 
 /// Asks something of the hierarchy.
 #[derive(Clone, Copy, Debug, PartialEq)]
 pub enum Command {
     /// `translate ADDR`, `addr ADDR`, `cleanup`, `cleanup-range FIRST LAST`, or a command on a page of a size: a call of the
     /// mapper.
-    Call(Call),
+    Call(Request),
     /// `walk ADDR`: where the processor arrives.
-    Walk(VirtAddr),
+    Walk(Address),
     /// `show FRAME INDEX`: the word in the slot.
     Show(Slot),
     /// `pool`: the free frames.
@@ -42,15 +47,16 @@ pub enum Statement {
 }
 
 impl Statement {
-    /// Reads a line without its line feed, about a memory with so many places. Answers `None` exactly where it says no statement.
-    pub fn parse(line: &[u8], places: u64) -> Option<Statement>
+    /// Reads a line without its line feed, about the memory and the levels of the arguments. Answers `None` exactly where it says no
+    /// statement.
+    pub fn parse(line: &[u8], arguments: &Arguments) -> Option<Statement>
         ensures says { IfSome result (λ statement. SaysStatement line.now statement) }
-        ensures accepted { IfSome result (λ statement. IsAccepted places statement) }
+        ensures accepted { IfSome result (λ statement. IsAccepted arguments.now statement) }
         ensures none { IfNone result ((name : Name) (size : Option Size) (numbers : List ℕ) →
-            Says line.now name size numbers → ¬ (IsStatement places name size numbers)) }
+            Says line.now name size numbers → ¬ (IsStatement arguments.now name size numbers)) }
     {
         let fields = Fields::parse(str::from_utf8(line).ok()?)?;
-        Self::from_fields(fields.name, fields.size, fields.numbers(), places)
+        Self::from_fields(fields.name, fields.size, fields.numbers(), arguments)
     }
 
     /// Gives the statement that fields write, or `None` exactly where there is none.
@@ -58,29 +64,36 @@ impl Statement {
         name: Name,
         size: Option<Size>,
         numbers: &[u64],
-        places: u64,
+        arguments: &Arguments,
     ) -> Option<Statement>
-        ensures accepted { IsSome result ↔ IsStatement places name size numbers.now }
-        ensures name { IfSome result (λ statement. statement_name statement ≡ name) }
-        ensures size { IfSome result (λ statement. statement_size statement ≡ size) }
-        ensures numbers { IfSome result (λ statement. statement_numbers statement ≡ numbers.now) }
+        ensures accepted { IsSome result ↔ IsStatement arguments.now name size numbers.now }
+        ensures name { IfSome result (λ statement. (written statement).name ≡ name) }
+        ensures size { IfSome result (λ statement. (written statement).size ≡ size) }
+        ensures numbers { IfSome result (λ statement. (written statement).numbers ≡ numbers.now) }
+        ensures levels { IfSome result (λ statement. HasLevels (levels_of arguments.now.mode) statement) }
     {
         match size {
             Some(size) => {
-                let call = parse_call(name, size, numbers)?;
-                Some(Statement::Command(Command::Call(call)))
+                let request = match arguments.mode.levels() {
+                    Levels::Four => Request::Four(parse_call(name, size, numbers)?),
+                    Levels::Five => Request::Five(parse_call_57(name, size, numbers)?),
+                };
+                Some(Statement::Command(Command::Call(request)))
             }
-            None => Self::from_plain_fields(name, numbers, places),
+            None => Self::from_plain_fields(name, numbers, arguments),
         }
     }
 
     /// Does what [`from_fields`](Self::from_fields) does where the line has no SIZE.
-    fn from_plain_fields(name: Name, numbers: &[u64], places: u64) -> Option<Statement>
-        ensures accepted { IsSome result ↔ IsPlain places name numbers.now }
-        ensures name { IfSome result (λ statement. statement_name statement ≡ name) }
-        ensures size { IfSome result (λ statement. statement_size statement ≡ None) }
-        ensures numbers { IfSome result (λ statement. statement_numbers statement ≡ numbers.now) }
+    fn from_plain_fields(name: Name, numbers: &[u64], arguments: &Arguments) -> Option<Statement>
+        ensures accepted { let about = arguments.now in
+            IsSome result ↔ IsPlain about.places (levels_in about) name numbers.now }
+        ensures name { IfSome result (λ statement. (written statement).name ≡ name) }
+        ensures size { IfSome result (λ statement. (written statement).size ≡ None) }
+        ensures numbers { IfSome result (λ statement. (written statement).numbers ≡ numbers.now) }
+        ensures levels { IfSome result (λ statement. HasLevels (levels_of arguments.now.mode) statement) }
     {
+        let places = arguments.places;
         match (name, numbers) {
             (Name::Word, [frame, index, value]) => Some(Statement::Image(ImageLine::Word {
                 slot: slot_at(*frame, *index, places)?,
@@ -90,28 +103,79 @@ impl Statement {
                 let frame = frame_at(*frame, places)?;
                 Some(Statement::Image(ImageLine::Free(frame)))
             }
-            (Name::Translate, [addr]) => {
-                let addr = VirtAddr::try_new(*addr).ok()?;
-                Some(Statement::Command(Command::Call(Call::Translate(addr))))
-            }
-            (Name::Addr, [addr]) => {
-                let addr = VirtAddr::try_new(*addr).ok()?;
-                Some(Statement::Command(Command::Call(Call::TranslateAddr(addr))))
-            }
-            (Name::CleanUp, []) => Some(Statement::Command(Command::Call(Call::CleanUp))),
-            (Name::CleanUpRange, [first, last]) => {
-                let range = Page::range_inclusive(page_at(*first)?, page_at(*last)?);
-                Some(Statement::Command(Command::Call(Call::CleanUpRange(range))))
-            }
-            (Name::Walk, [addr]) => {
-                let addr = VirtAddr::try_new(*addr).ok()?;
-                Some(Statement::Command(Command::Walk(addr)))
-            }
             (Name::Show, [frame, index]) => {
                 let slot = slot_at(*frame, *index, places)?;
                 Some(Statement::Command(Command::Show(slot)))
             }
             (Name::Pool, []) => Some(Statement::Command(Command::Pool)),
+            _ => {
+                let command = match arguments.mode.levels() {
+                    Levels::Four => Command::at_48_bits(name, numbers)?,
+                    Levels::Five => Command::at_57_bits(name, numbers)?,
+                };
+                Some(Statement::Command(command))
+            }
+        }
+    }
+}
+
+impl Command {
+    /// Gives the command on addresses of 48 bits that fields without SIZE write, or `None` exactly where there is none.
+    fn at_48_bits(name: Name, numbers: &[u64]) -> Option<Command>
+        ensures accepted { IsSome result ↔ IsOnAddresses 4 name numbers.now }
+        ensures name { IfSome result (λ command. (command_written command).name ≡ name) }
+        ensures size { IfSome result (λ command. (command_written command).size ≡ None) }
+        ensures numbers { IfSome result (λ command. (command_written command).numbers ≡ numbers.now) }
+        ensures levels { IfSome result (CommandHas Four) }
+    {
+        match (name, numbers) {
+            (Name::Walk, [addr]) => {
+                let addr = VirtAddr::try_new(*addr).ok()?;
+                Some(Command::Walk(Address::Four(addr)))
+            }
+            (Name::Translate, [addr]) => {
+                let addr = VirtAddr::try_new(*addr).ok()?;
+                Some(Command::Call(Request::Four(Call::Translate(addr))))
+            }
+            (Name::Addr, [addr]) => {
+                let addr = VirtAddr::try_new(*addr).ok()?;
+                Some(Command::Call(Request::Four(Call::TranslateAddr(addr))))
+            }
+            (Name::CleanUp, []) => Some(Command::Call(Request::Four(Call::CleanUp))),
+            (Name::CleanUpRange, [first, last]) => {
+                let range = Page::range_inclusive(page_at(*first)?, page_at(*last)?);
+                Some(Command::Call(Request::Four(Call::CleanUpRange(range))))
+            }
+            _ => None,
+        }
+    }
+
+    /// Does what [`at_48_bits`](Self::at_48_bits) does, for addresses of 57 bits.
+    fn at_57_bits(name: Name, numbers: &[u64]) -> Option<Command>
+        ensures accepted { IsSome result ↔ IsOnAddresses 5 name numbers.now }
+        ensures name { IfSome result (λ command. (command_written command).name ≡ name) }
+        ensures size { IfSome result (λ command. (command_written command).size ≡ None) }
+        ensures numbers { IfSome result (λ command. (command_written command).numbers ≡ numbers.now) }
+        ensures levels { IfSome result (CommandHas Five) }
+    {
+        match (name, numbers) {
+            (Name::Walk, [addr]) => {
+                let addr = VirtAddr57::try_new(*addr).ok()?;
+                Some(Command::Walk(Address::Five(addr)))
+            }
+            (Name::Translate, [addr]) => {
+                let addr = VirtAddr57::try_new(*addr).ok()?;
+                Some(Command::Call(Request::Five(Call57::Translate(addr))))
+            }
+            (Name::Addr, [addr]) => {
+                let addr = VirtAddr57::try_new(*addr).ok()?;
+                Some(Command::Call(Request::Five(Call57::TranslateAddr(addr))))
+            }
+            (Name::CleanUp, []) => Some(Command::Call(Request::Five(Call57::CleanUp))),
+            (Name::CleanUpRange, [first, last]) => {
+                let range = Page57::range_inclusive(page_57_at(*first)?, page_57_at(*last)?);
+                Some(Command::Call(Request::Five(Call57::CleanUpRange(range))))
+            }
             _ => None,
         }
     }

@@ -1,14 +1,10 @@
-use Rattle.std.proofs.Common.{rules, arith}
-use Rattle.std.proofs.lemmas.Slice.Eq.{text_from_reads}
+use Rattle.std.proofs.Common.{sym, ◌∙◌, true≢false}
+use Rattle.std.proofs.lemmas.Slice.Eq.{bytes_eq-Decides}
+use Rattle.pagetab_engine.proofs.Saying.{says_no_mode}
 use Rattle.pagetab_engine.proofs.arguments.parse_mode.Goals as goal
 
-pub returns-in_ok-parse_address-in-offset-clause-says : goal.returns-in_ok-parse_address-in-offset-clause-says
-returns-in_ok-parse_address-in-offset-clause-says c = (text_from_reads c.args.word.now _ (omega arith) (search rules), search rules)
-
-pub returns-in_ok-parse_index-in-recursive-clause-says : goal.returns-in_ok-parse_index-in-recursive-clause-says
-returns-in_ok-parse_index-in-recursive-clause-says c =
-    let read = c.in_ok-parse_index-in-recursive.ensures in (text_from_reads c.args.word.now _ (omega arith) (search rules), read.0, read.1)
-
-pub returns-in_ok-parse_index-in-pair-clause-says : goal.returns-in_ok-parse_index-in-pair-clause-says
-returns-in_ok-parse_index-in-pair-clause-says c =
-    let read = c.in_ok-parse_index-in-pair.ensures in (text_from_reads c.args.word.now _ (omega arith) (search rules), read.0, read.1)
+pub returns-in-None-clause-none : goal.returns-in-None-clause-none
+returns-in-None-clause-none c =
+    let four = c.in-None.ensures in let five = c.parse_recursive-in-None.ensures in
+    says_no_mode _ c.args.word.now c.args.number.now (λ is. true≢false (sym ((bytes_eq-Decides _ _).1 is) ∙ sym c.eq.ensures ∙ c.if-eq.false))
+    four.not_recursive four.no_pair five.not_recursive five.no_pair

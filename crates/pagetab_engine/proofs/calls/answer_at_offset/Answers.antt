@@ -6,6 +6,7 @@ use Rattle.x86_64_mappers.specs.Layouts.{direct}
 use Rattle.x86_64_mappers.specs.Offsets.{offset_places}
 use Rattle.x86_64.proofs.Moved.{moved}
 use Rattle.x86_64.specs.Runs.{FitsPool}
+use Rattle.pagetab_engine.specs.declared.request.Request.TheVariants.{Four}
 use Rattle.pagetab_engine.proofs.AtOffset.{layout_at, at_offset, reached_after, kept_after, answered_after}
 use Rattle.pagetab_engine.proofs.calls.answer_at_offset.Goals as goal
 
@@ -31,5 +32,5 @@ returns-clause-keeps c =
 pub returns-clause-answered : goal.returns-clause-answered
 returns-clause-answered c =
     let is = c.new-mapper.ensures.layout ∙ ap (λ (root : ℕ). direct (offset_places c.args.phys_offset) root) c.root.ensures in
-    answered_after c.args.phys_offset c.args.pool.now.limit c.args.memory.now c.args.pool.now.frames c.answer_by.new.pool.frames c.requires.offset c.requires.pool c.args.call c.answer_by.result _ _ _ _
+    answered_after c.args.phys_offset c.args.pool.now.limit c.args.memory.now c.args.pool.now.frames c.answer_by.new.pool.frames c.requires.offset c.requires.pool (Four c.args.call) c.answer_by.result _ _ _ _
     (search rules) is c.new-mapper.ensures.memory c.answer_by.ensures.keeps.keeps c.answer_by.ensures.answered

@@ -7,7 +7,7 @@ use Rattle.pagetab_engine.proofs.engine.answer_commands.Goals as goal
 pub returns-in_err-write_reply : goal.returns-in_err-write_reply
 returns-in_err-write_reply g c =
     let contents = g.W.Write.contents in
-    let stops = first_stops c.args.places c.args.first c.args.hierarchy.now (contents c.args.writer.now) (lines_left g.R.Read.remaining c.args.lines.now)
+    let stops = first_stops c.args.arguments.now c.args.first c.args.hierarchy.now (contents c.args.writer.now) (lines_left g.R.Read.remaining c.args.lines.now)
     (contents c.write_reply.new.writer) c.in_err-write_reply.field-0.0 c.in_err-write_reply.ensures.stopped in
     let told : c.from_residual.result ≡ Err c.in_err-write_reply.field-0.0 = search rules in
     rw told stops
@@ -17,7 +17,7 @@ loop-statement-init g c =
     let contents = g.W.Write.contents in
     record {
       fits = c.write_reply.ensures.keeps.fits;
-      served = first_served c.args.places c.args.first c.args.hierarchy.now (contents c.args.writer.now) (lines_left g.R.Read.remaining c.args.lines.now)
+      served = first_served c.args.arguments.now c.args.first c.args.hierarchy.now (contents c.args.writer.now) (lines_left g.R.Read.remaining c.args.lines.now)
           c.write_reply.new.hierarchy (contents c.write_reply.new.writer) c.in_ok-write_reply.ensures.answered;
     }
 
@@ -25,7 +25,7 @@ pub returns-in_err-statement : goal.returns-in_err-statement
 returns-in_err-statement g c =
     let left = lines_left g.R.Read.remaining in
     let contents = g.W.Write.contents in
-    let stops = unread c.args.places c.args.first c.args.hierarchy.now (contents c.args.writer.now) c.loop-statement.hierarchy (contents c.loop-statement.writer)
+    let stops = unread c.args.arguments.now c.args.first c.args.hierarchy.now (contents c.args.writer.now) c.loop-statement.hierarchy (contents c.loop-statement.writer)
     (left c.args.lines.now) (left c.loop-statement.lines) c.in_err-statement.field-0.0 c.loop-statement.invariant.served c.in_err-statement.ensures.why in
     let told : c.from_residual-in_err-statement.result ≡ Err c.in_err-statement.field-0.0 = search rules in
     rw told stops
@@ -34,10 +34,10 @@ pub loop-statement-preserved : goal.loop-statement-preserved
 loop-statement-preserved g c =
     let left = lines_left g.R.Read.remaining in
     let contents = g.W.Write.contents in
-    let takes : IfSome (left c.loop-statement.lines) (λ lines. TakesStatement c.args.places lines c.next_statement.new.self.number (left c.next_statement.new.self) (says.Command c.in-Command.command)) = search rules in
+    let takes : IfSome (left c.loop-statement.lines) (λ lines. TakesStatement c.args.arguments.now lines c.next_statement.new.self.number (left c.next_statement.new.self) (says.Command c.in-Command.command)) = search rules in
     record {
       fits = c.write_reply-in-Command.ensures.keeps.fits;
-      served = next_served c.args.places c.args.first c.args.hierarchy.now (contents c.args.writer.now) c.loop-statement.hierarchy (contents c.loop-statement.writer)
+      served = next_served c.args.arguments.now c.args.first c.args.hierarchy.now (contents c.args.writer.now) c.loop-statement.hierarchy (contents c.loop-statement.writer)
           (left c.args.lines.now) (left c.loop-statement.lines) (left c.next_statement.new.self) c.next_statement.new.self.number c.in-Command.command
           c.write_reply-in-Command.new.hierarchy (contents c.write_reply-in-Command.new.writer) c.loop-statement.invariant.served takes c.in_ok-write_reply-in-Command.ensures.answered;
     }
@@ -46,8 +46,8 @@ pub returns-in_err-write_reply-in-Command : goal.returns-in_err-write_reply-in-C
 returns-in_err-write_reply-in-Command g c =
     let left = lines_left g.R.Read.remaining in
     let contents = g.W.Write.contents in
-    let takes : IfSome (left c.loop-statement.lines) (λ lines. TakesStatement c.args.places lines c.next_statement.new.self.number (left c.next_statement.new.self) (says.Command c.in-Command.command)) = search rules in
-    let stops = next_stops c.args.places c.args.first c.args.hierarchy.now (contents c.args.writer.now) c.loop-statement.hierarchy (contents c.loop-statement.writer)
+    let takes : IfSome (left c.loop-statement.lines) (λ lines. TakesStatement c.args.arguments.now lines c.next_statement.new.self.number (left c.next_statement.new.self) (says.Command c.in-Command.command)) = search rules in
+    let stops = next_stops c.args.arguments.now c.args.first c.args.hierarchy.now (contents c.args.writer.now) c.loop-statement.hierarchy (contents c.loop-statement.writer)
     (left c.args.lines.now) (left c.loop-statement.lines) (left c.next_statement.new.self) c.next_statement.new.self.number c.in-Command.command
     (contents c.write_reply-in-Command.new.writer) c.in_err-write_reply-in-Command.field-0.0 c.loop-statement.invariant.served takes c.in_err-write_reply-in-Command.ensures.stopped in
     let told : c.from_residual-in_err-write_reply-in-Command.result ≡ Err c.in_err-write_reply-in-Command.field-0.0 = search rules in
@@ -57,8 +57,8 @@ pub returns-in-Image : goal.returns-in-Image
 returns-in-Image g c =
     let left = lines_left g.R.Read.remaining in
     let contents = g.W.Write.contents in
-    let takes : IfSome (left c.loop-statement.lines) (λ lines. TakesStatement c.args.places lines c.next_statement.new.self.number (left c.next_statement.new.self) (says.Image c.in-Image.field-0)) = search rules in
-    let stops = image_too_late c.args.places c.args.first c.args.hierarchy.now (contents c.args.writer.now) c.loop-statement.hierarchy (contents c.loop-statement.writer)
+    let takes : IfSome (left c.loop-statement.lines) (λ lines. TakesStatement c.args.arguments.now lines c.next_statement.new.self.number (left c.next_statement.new.self) (says.Image c.in-Image.field-0)) = search rules in
+    let stops = image_too_late c.args.arguments.now c.args.first c.args.hierarchy.now (contents c.args.writer.now) c.loop-statement.hierarchy (contents c.loop-statement.writer)
     (left c.args.lines.now) (left c.loop-statement.lines) (left c.next_statement.new.self) c.next_statement.new.self.number c.in-Image.field-0 c.loop-statement.invariant.served takes in
     rw c.fault.ensures stops
 
@@ -67,6 +67,6 @@ returns g c =
     let left = lines_left g.R.Read.remaining in
     let contents = g.W.Write.contents in
     let none : IfSome (left c.loop-statement.lines) (λ lines. lines ≡ []) = search rules in
-    let stops = all_served c.args.places c.args.first c.args.hierarchy.now (contents c.args.writer.now) c.loop-statement.hierarchy (contents c.loop-statement.writer)
+    let stops = all_served c.args.arguments.now c.args.first c.args.hierarchy.now (contents c.args.writer.now) c.loop-statement.hierarchy (contents c.loop-statement.writer)
     (left c.args.lines.now) (left c.loop-statement.lines) c.loop-statement.invariant.served none in
     search (rules, stops)

@@ -11,7 +11,7 @@ invariant-loop-statement g l =
     let contents = g.W.Write.contents in
     record {
       fits : IsHierarchy l.hierarchy;
-      served : IfSome (left l.fn.lines) (λ behind. ServedUntil l.places l.fn.first behind l.fn.hierarchy (contents l.fn.writer) (contents l.writer) (left l.lines) l.hierarchy);
+      served : IfSome (left l.fn.lines) (λ behind. ServedUntil l.arguments l.fn.first behind l.fn.hierarchy (contents l.fn.writer) (contents l.writer) (left l.lines) l.hierarchy);
     }
 
 abbrev pub decreases-loop-statement : goal.decreases-loop-statement

@@ -11,7 +11,7 @@ invariant-loop-statement g l =
     record {
       copy : HasCopy l.hierarchy;
       reached : IsReached l.hierarchy.mode l.hierarchy.frames.memory;
-      follows : IfSome (left l.fn.lines) (λ known. FollowsKnown l.places known l.fn.hierarchy (left l.lines) l.hierarchy);
+      follows : IfSome (left l.fn.lines) (λ known. FollowsKnown l.arguments known l.fn.hierarchy (left l.lines) l.hierarchy);
     }
 
 abbrev pub decreases-loop-statement : goal.decreases-loop-statement

@@ -40,7 +40,7 @@ returns-in_err-first g c =
     let is_empty : IsEmpty arguments empty = search rules in
     let reached : IsReached empty.mode empty.frames.memory = search rules in
     let lines = first_left c.new-lines.result.number _ _ c.new-lines.ensures.number c.new-lines.ensures.bytes in
-    let reads = subst (λ (left : Option (List Numbered)). IfSome left (λ lines. Reads arguments.places lines empty (Stopped fault) [])) lines c.in_err-first.ensures.stopped in
+    let reads = subst (λ (left : Option (List Numbered)). IfSome left (λ lines. Reads arguments lines empty (Stopped fault) [])) lines c.in_err-first.ensures.stopped in
     let told : c.from_residual-in_err-first.result ≡ Err fault = search rules in
     rw told (stops_in_image words known (g.W.Write.contents c.args.writer.now) arguments says empty is_empty reached fault reads)
 
@@ -56,7 +56,7 @@ returns-in_err-end_image g c =
     let is_empty : IsEmpty arguments empty = search rules in
     let reached : IsReached empty.mode empty.frames.memory = search rules in
     let lines = first_left c.new-lines.result.number _ _ c.new-lines.ensures.number c.new-lines.ensures.bytes in
-    let loaded = subst (λ (known : Option (List Numbered)). IfSome known (λ lines. LoadsImage arguments.places lines empty c.in_ok-first.first left image)) lines c.in_ok-first.ensures.read in
+    let loaded = subst (λ (known : Option (List Numbered)). IfSome known (λ lines. LoadsImage arguments lines empty c.in_ok-first.first left image)) lines c.in_ok-first.ensures.read in
     let told : c.from_residual-in_err-end_image.result ≡ Err OutOfMemory = search rules in
     rw told (not_tested words known (g.W.Write.contents c.args.writer.now) arguments says empty is_empty reached image c.in_ok-first.first left loaded)
 
@@ -72,7 +72,7 @@ returns-then-not-branch g c =
     let is_empty : IsEmpty arguments empty = search rules in
     let reached : IsReached empty.mode empty.frames.memory = search rules in
     let lines = first_left c.new-lines.result.number _ _ c.new-lines.ensures.number c.new-lines.ensures.bytes in
-    let loaded = subst (λ (known : Option (List Numbered)). IfSome known (λ lines. LoadsImage arguments.places lines empty c.in_ok-first.first left image)) lines c.in_ok-first.ensures.read in
+    let loaded = subst (λ (known : Option (List Numbered)). IfSome known (λ lines. LoadsImage arguments lines empty c.in_ok-first.first left image)) lines c.in_ok-first.ensures.read in
     let never : ¬ (FitsImage image) = search rules in
     not_fitting words known (g.W.Write.contents c.args.writer.now) arguments says empty is_empty reached image c.in_ok-first.first left loaded never
 
@@ -88,7 +88,7 @@ returns-in-Some-first g c =
     let is_empty : IsEmpty arguments empty = search rules in
     let reached : IsReached empty.mode empty.frames.memory = search rules in
     let lines = first_left c.new-lines.result.number _ _ c.new-lines.ensures.number c.new-lines.ensures.bytes in
-    let loaded = subst (λ (known : Option (List Numbered)). IfSome known (λ lines. LoadsImage arguments.places lines empty c.in_ok-first.first left image)) lines c.in_ok-first.ensures.read in
+    let loaded = subst (λ (known : Option (List Numbered)). IfSome known (λ lines. LoadsImage arguments lines empty c.in_ok-first.first left image)) lines c.in_ok-first.ensures.read in
     let fits : FitsImage image = search rules in
     let ready = c.end_image.new.self in
     let is_first : IsFirst image ready = search rules in
@@ -108,7 +108,7 @@ returns g c =
     let is_empty : IsEmpty arguments empty = search rules in
     let reached : IsReached empty.mode empty.frames.memory = search rules in
     let lines = first_left c.new-lines.result.number _ _ c.new-lines.ensures.number c.new-lines.ensures.bytes in
-    let loaded = subst (λ (known : Option (List Numbered)). IfSome known (λ lines. LoadsImage arguments.places lines empty c.in_ok-first.first left image)) lines c.in_ok-first.ensures.read in
+    let loaded = subst (λ (known : Option (List Numbered)). IfSome known (λ lines. LoadsImage arguments lines empty c.in_ok-first.first left image)) lines c.in_ok-first.ensures.read in
     let fits : FitsImage image = search rules in
     let ready = c.end_image.new.self in
     let is_first : IsFirst image ready = search rules in

@@ -1,23 +1,23 @@
-use Rattle.std.proofs.Common.{◌↔◌, IsTrue, ⊎_elim, sym, subst}
+use Rattle.std.proofs.Common.{◌≡◌, ◌↔◌, IsTrue, Bool, Result, sym, subst}
 use Rattle.std.specs.Result.{IfOk}
 use Rattle.pagetab_engine.specs.Hierarchy.{FitsIn}
 use Rattle.pagetab_engine.specs.declared.arguments.Mode.{Mode}
+use Rattle.pagetab_engine.specs.declared.frames.Frames.{Frames}
 use Rattle.pagetab_engine.proofs.hierarchy.Hierarchy.fits.Goals as goal
 
+-- what tests the hierarchy of a mode tests that of the one that it is
+in_mode : {E : Type 0} (result : Result Bool E) (frames twin : Frames) (mode is : Mode) → mode ≡ is → IfOk result (λ fits. IsTrue fits ↔ FitsIn is frames twin)
+    → IfOk result (λ fits. IsTrue fits ↔ FitsIn mode frames twin)
+in_mode result frames twin mode is same = subst (λ (mode : Mode). IfOk result (λ fits. IsTrue fits ↔ FitsIn mode frames twin)) (sym same)
+
 pub returns-in-Direct : goal.returns-in-Direct
-returns-in-Direct c =
-    let h = c.args.self.now in
-    ⊎_elim
-    (λ is. subst (λ (mode : Mode). IfOk c.fits.result (λ fits. IsTrue fits ↔ FitsIn mode h.frames h.twin)) (sym is) c.fits.ensures)
-    (λ at. subst (λ (mode : Mode). IfOk c.fits.result (λ fits. IsTrue fits ↔ FitsIn mode h.frames h.twin)) (sym at.1) c.fits.ensures)
-    c.in-Direct.is
+returns-in-Direct c = in_mode _ _ _ _ _ c.in-Direct.is c.fits.ensures
+
+pub returns-in-Offset : goal.returns-in-Offset
+returns-in-Offset c = in_mode _ _ _ _ _ c.in-Offset.is c.fits-in-Offset.ensures
 
 pub returns-in-Recursive : goal.returns-in-Recursive
-returns-in-Recursive c =
-    let h = c.args.self.now in
-    subst (λ (mode : Mode). IfOk c.fits_recursive.result (λ fits. IsTrue fits ↔ FitsIn mode h.frames h.twin)) (sym c.in-Recursive.is) c.fits_recursive.ensures
+returns-in-Recursive c = in_mode _ _ _ _ _ c.in-Recursive.is c.fits_recursive.ensures
 
 pub returns-in-Pair : goal.returns-in-Pair
-returns-in-Pair c =
-    let h = c.args.self.now in
-    subst (λ (mode : Mode). IfOk c.fits_recursive-in-Pair.result (λ fits. IsTrue fits ↔ FitsIn mode h.frames h.twin)) (sym c.in-Pair.is) c.fits_recursive-in-Pair.ensures
+returns-in-Pair c = in_mode _ _ _ _ _ c.in-Pair.is c.fits_recursive-in-Pair.ensures

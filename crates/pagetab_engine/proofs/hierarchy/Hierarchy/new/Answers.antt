@@ -10,9 +10,10 @@ returns-clause-copy c =
     let frames = c.in_ok-new.field-0 in let copy = c.in_ok-new-2.field-0 in
     let made = c.in_ok-new.ensures in let copied = c.in_ok-new-2.ensures in
     elim c.match-arguments.branch [
-      | in-Direct w ↦ ⊎_elim (λ is. subst (λ (mode : Mode). IsCopy mode frames copy) (sym is) tt) (⊎_elim
+      | in-Direct w ↦ ⊎_elim
           (λ at. subst (λ (mode : Mode). IsCopy mode frames copy) (sym at.1) tt)
-          (λ at. subst (λ (mode : Mode). IsCopy mode frames copy) (sym at.1) tt)) w.in-Direct.is
+          (⊎_elim (λ at. subst (λ (mode : Mode). IsCopy mode frames copy) (sym at.1) tt)
+          (λ at. subst (λ (mode : Mode). IsCopy mode frames copy) (sym at.2) tt)) w.in-Direct.is
       | in-Pair w ↦ subst (λ (mode : Mode). IsCopy mode frames copy) (sym w.in-Pair.is)
-          (empty_copy w.in-Pair.field-0 frames copy c.args.arguments.places c.match-arguments.copied_places w.copied_places-is made.memory copied.memory made.pool copied.pool made.limit copied.limit)
+          (empty_copy w.in-Pair.field-0 w.in-Pair.field-1 frames copy c.args.arguments.places c.match-arguments.copied_places w.copied_places-is made.memory copied.memory made.pool copied.pool made.limit copied.limit)
     ]

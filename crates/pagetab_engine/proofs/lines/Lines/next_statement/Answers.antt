@@ -24,7 +24,7 @@ returns-in-Some-parse-clause-next g c =
     let fits : length (take c.in-Text.length c.next_line.new.line) ≤ 256 = omega (arith, length-take c.in-Text.length c.next_line.new.line) in
     let some : is_blank (take c.in-Text.length c.next_line.new.line) ≡ false = blank_line _ _ fits c.is_blank.ensures ∙ c.if-is_blank.false in
     let says = c.in-Some-parse.ensures in
-    behind_blank _ _ _ c.loop-number.invariant.blank (statement_taken c.args.places c.loop-number.self.number _ _ _ _ c.in-Some-parse.statement counted some
+    behind_blank _ _ _ c.loop-number.invariant.blank (statement_taken c.args.arguments.now c.loop-number.self.number _ _ _ _ c.in-Some-parse.statement counted some
     (rw read at c.next_line.ensures.line) (fits, says.says, says.accepted))
 
 pub returns-in-None-clause-why : goal.returns-in-None-clause-why
@@ -34,5 +34,5 @@ returns-in-None-clause-why g c =
     let short = rw read at c.next_line.ensures.fits in
     let fits : length (take c.in-Text.length c.next_line.new.line) ≤ 256 = omega (arith, length-take c.in-Text.length c.next_line.new.line) in
     let some : is_blank (take c.in-Text.length c.next_line.new.line) ≡ false = blank_line _ _ fits c.is_blank.ensures ∙ c.if-is_blank.false in
-    rw c.fault-in-None.ensures (behind_blank _ _ _ c.loop-number.invariant.blank (bad_taken c.args.places c.loop-number.self.number _ _ _ _ counted some
+    rw c.fault-in-None.ensures (behind_blank _ _ _ c.loop-number.invariant.blank (bad_taken c.args.arguments.now c.loop-number.self.number _ _ _ _ counted some
     (rw read at c.next_line.ensures.line) (λ _. c.in-None.ensures.none)))

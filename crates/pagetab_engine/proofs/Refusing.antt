@@ -1,0 +1,26 @@
+-- What a call leaves that no mapper is asked.
+use Rattle.std.proofs.Common.{◌≡◌, ◌||◌, Bool, true, false, not, cond, Some, refl, sym, ap, ◌∙◌}
+use Rattle.x86_64.specs.Replies.{Reply}
+use Rattle.x86_64.specs.Runs.{AfterStep}
+use Rattle.x86_64.specs.declared.calls.MapperReply.TheVariants.{NotAllowed}
+use Rattle.pagetab_engine.specs.Arguments.{levels_of}
+use Rattle.pagetab_engine.specs.Calls.{request_step}
+use Rattle.pagetab_engine.specs.Hierarchy.{call_step, machine_of, state_of}
+use Rattle.pagetab_engine.specs.Requests.{has_levels, is_named, is_refused}
+use Rattle.pagetab_engine.specs.declared.arguments.Mode.{Mode}
+use Rattle.pagetab_engine.specs.declared.hierarchy.Hierarchy.{Hierarchy}
+use Rattle.pagetab_engine.specs.declared.request.Request.{Request}
+
+or_true : (b : Bool) → (b || true) ≡ true
+or_true true = refl
+or_true false = refl
+
+abbrev pub refused : Hierarchy → AfterStep Reply
+refused hierarchy = record { state = state_of hierarchy; reply = Some NotAllowed }
+
+-- a call that names the recursive index of a pair is not allowed, and changes nothing
+pub named_step : (hierarchy : Hierarchy) (request : Request) → is_named hierarchy.mode request ≡ true → call_step hierarchy request ≡ refused hierarchy
+named_step hierarchy request named =
+    let others = not (has_levels (levels_of hierarchy.mode) request) in
+    let is : is_refused hierarchy.mode request ≡ true = ap (λ b. others || b) named ∙ or_true others in
+    ap (λ b. cond b (refused hierarchy) (request_step (machine_of hierarchy) (state_of hierarchy) request)) is

@@ -1,0 +1,47 @@
+-- Calls of the mappers of both numbers of levels.
+use Rattle.std.specs.Prelude.{ℕ, ◌||◌, Bool, true, false, not, Option}
+use Rattle.x86_64_model.specs.Memory.{Words}
+use Rattle.x86_64_model.specs.PageWalk.{Walked, page_walk}
+use Rattle.x86_64.specs.Calls.{names, names_57}
+use Rattle.x86_64.specs.Replies.{Reply}
+use Rattle.pagetab_engine.specs.Arguments.{levels_of}
+use Rattle.pagetab_engine.specs.declared.arguments.Levels.{Levels}
+use Rattle.pagetab_engine.specs.declared.arguments.Levels.TheVariants as levels
+use Rattle.pagetab_engine.specs.declared.arguments.Mode.{Mode}
+use Rattle.pagetab_engine.specs.declared.arguments.Mode.TheVariants.{Pair}
+use Rattle.pagetab_engine.specs.declared.request.Address.{Address}
+use Rattle.pagetab_engine.specs.declared.request.Address.TheVariants as address
+use Rattle.pagetab_engine.specs.declared.request.Answer.{Answer}
+use Rattle.pagetab_engine.specs.declared.request.Answer.TheVariants as answer
+use Rattle.pagetab_engine.specs.declared.request.Request.{Request}
+use Rattle.pagetab_engine.specs.declared.request.Request.TheVariants.{Four, Five}
+
+-- whether a call is one where there are so many levels
+abbrev pub has_levels : Levels → Request → Bool
+has_levels levels.Four (Four call) = true
+has_levels levels.Five (Five call) = true
+has_levels other request = false
+
+-- whether a call's page or address has this index of the highest level, which a clean up has not
+abbrev pub request_names : Request → (index : ℕ) → Bool
+request_names (Four call) index = names call index
+request_names (Five call) index = names_57 call index
+
+-- whether a call names the recursive index of a pair
+abbrev pub is_named : Mode → Request → Bool
+is_named (Pair levels index) request = request_names request index
+is_named mode request = false
+
+-- whether no mapper is asked: the call is one of another number of levels, or names the recursive index of a pair
+abbrev pub is_refused : Mode → Request → Bool
+is_refused mode request = not (has_levels (levels_of mode) request) || is_named mode request
+
+-- the reply that an answer is
+abbrev pub reply_in : Answer → Reply
+reply_in (answer.Four reply) = reply
+reply_in (answer.Five reply) = reply
+
+-- where the processor arrives, through as many levels as the address has
+abbrev pub walk_to : Words → (root : ℕ) → Address → Option Walked
+walk_to words root (address.Four addr) = page_walk 4 words root addr
+walk_to words root (address.Five addr) = page_walk 5 words root addr

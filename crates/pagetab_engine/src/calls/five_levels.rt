@@ -1,0 +1,148 @@
+//! Calls by the mappers of five levels, one at a time, and the replies to them.
+ghost use Rattle.std.specs.Prelude.{◌≡◌, false, IfOk, OnErr};
+ghost use Rattle.x86_64_model.specs.Marks.{serves_below};
+ghost use Rattle.x86_64_model.specs.Owned.{PoolFits};
+ghost use Rattle.x86_64.specs.Calls.{names_57};
+ghost use Rattle.x86_64.specs.Runs.{FitsPool, Keeps as KeepsPool, Kept};
+ghost use Rattle.pagetab_engine.specs.Calls.{IsAnswered};
+ghost use Rattle.pagetab_engine.specs.Frames.{direct_layout, recursive_layout};
+ghost use Rattle.pagetab_engine.specs.Hierarchy.{IsTwin};
+ghost use Rattle.pagetab_engine.specs.declared.arguments.Levels.TheVariants.{Five};
+ghost use Rattle.pagetab_engine.specs.declared.request.Request.TheVariants.{Five as five};
+
+use crate::frames::{Frames, root};
+use std::alloc::{AllocError, Global};
+use x86_64::structures::paging::mapper::{CleanUp57, MapperAllSizes57, Tables};
+use x86_64::structures::paging::{
+    MappedPageTable57, PageTableIndex, RecursivePageTable57, Translate57,
+};
+use x86_64::{
+    ActiveMemory57, Call57, FramePool, IdentityMapping, PhysMemory, Reply57, run_57, run_pair_57,
+};
+
+/// Runs the list of one call by a mapper, and gives the reply.
+///
+/// Condition: the mapper's hierarchy is valid, and the pool fits it.
+///
+/// # Errors
+///
+/// `AllocError` where memory is refused; then nothing changes.
+fn answer_by_57<M: MapperAllSizes57 + Translate57 + CleanUp57>(
+    alloc: Global,
+    mapper: &mut M,
+    pool: &mut FramePool,
+    call: Call57,
+) -> Result<Reply57, AllocError>
+    requires { PoolFits (M.hierarchy mapper.old) (serves_below pool.old.limit) pool.old.frames }
+    ensures answered { let h = M.hierarchy mapper.old in
+        let memory = (M.hierarchy mapper.new).memory in
+        IfOk result (IsAnswered h.layout h.memory pool.old.frames (five call) memory pool.new.frames) }
+    ensures unchanged { OnErr result (
+        ((M.hierarchy mapper.new).memory ≡ (M.hierarchy mapper.old).memory) × (pool.new ≡ pool.old)) }
+    ensures keeps { let h = M.hierarchy mapper.old in
+        Kept h (serves_below pool.old.limit) pool.old.frames (M.hierarchy mapper.new) pool.new.frames }
+    ensures serves { serves_below pool.new.limit ≡ serves_below pool.old.limit }
+{
+    let calls = [call];
+    let mut replies = Vec::with_capacity(alloc, 1)?;
+    run_57(mapper, pool, &calls, &mut replies)?;
+    Ok(replies[0])
+}
+
+/// Runs the list of one call where each frame lies at the place of its number, and gives the reply.
+///
+/// Condition: the hierarchy is valid, and the pool fits it.
+///
+/// # Errors
+///
+/// `AllocError` where memory is refused; then nothing changes.
+pub fn answer_direct_57(
+    alloc: Global,
+    memory: &mut PhysMemory,
+    pool: &mut FramePool,
+    call: Call57,
+) -> Result<Reply57, AllocError>
+    requires { FitsPool (direct_layout Five) memory.old (serves_below pool.old.limit) pool.old.frames }
+    ensures answered { IfOk result (
+        IsAnswered (direct_layout Five) memory.old pool.old.frames (five call) memory.new pool.new.frames) }
+    ensures unchanged { OnErr result ((memory.new ≡ memory.old) × (pool.new ≡ pool.old)) }
+    ensures keeps { let serves = serves_below pool.old.limit in
+        KeepsPool (direct_layout Five) serves memory.old pool.old.frames memory.new pool.new.frames }
+    ensures serves { serves_below pool.new.limit ≡ serves_below pool.old.limit }
+{
+    let mut mapper = MappedPageTable57::new(memory, root(), IdentityMapping);
+    answer_by_57(alloc, &mut mapper, pool, call)
+}
+
+/// Runs the list of one call where tables are reached through the root's entry for itself at an index, and gives the reply.
+///
+/// Condition: the hierarchy is valid for the index, and the pool fits it.
+///
+/// # Errors
+///
+/// `AllocError` where memory is refused; then nothing changes.
+pub fn answer_recursively_57(
+    alloc: Global,
+    memory: &mut PhysMemory,
+    index: PageTableIndex,
+    pool: &mut FramePool,
+    call: Call57,
+) -> Result<Reply57, AllocError>
+    requires { let layout = recursive_layout Five memory.old index in
+        FitsPool layout memory.old (serves_below pool.old.limit) pool.old.frames }
+    ensures answered { let layout = recursive_layout Five memory.old index in IfOk result (
+        IsAnswered layout memory.old pool.old.frames (five call) memory.new pool.new.frames) }
+    ensures unchanged { OnErr result ((memory.new ≡ memory.old) × (pool.new ≡ pool.old)) }
+    ensures keeps { let layout = recursive_layout Five memory.old index in
+        let serves = serves_below pool.old.limit in
+        KeepsPool layout serves memory.old pool.old.frames memory.new pool.new.frames }
+    ensures layout { recursive_layout Five memory.new index ≡ recursive_layout Five memory.old index }
+    ensures serves { serves_below pool.new.limit ≡ serves_below pool.old.limit }
+{
+    let active = ActiveMemory57::new(memory, root());
+    let mut mapper = RecursivePageTable57::new_unchecked(active, index);
+    answer_by_57(alloc, &mut mapper, pool, call)
+}
+
+/// Runs the list of one call where each frame lies at the place of its number, and in frames of their own through the root's entry
+/// for itself at an index, and gives the one reply.
+///
+/// Conditions: both hierarchies are valid, alike, and the pools fit them and are equal; the call doesn't name the index.
+///
+/// # Errors
+///
+/// `AllocError` where memory is refused; then nothing changes.
+pub fn answer_by_both_57(
+    alloc: Global,
+    memory: &mut PhysMemory,
+    pool: &mut FramePool,
+    twin: &mut Frames,
+    index: PageTableIndex,
+    call: Call57,
+) -> Result<Reply57, AllocError>
+    requires fits { FitsPool (direct_layout Five) memory.old (serves_below pool.old.limit) pool.old.frames }
+    requires twin { IsTwin Five index memory.old pool.old.frames twin.old }
+    requires unnamed { names_57 call index ≡ false }
+    ensures answered { IfOk result (
+        IsAnswered (direct_layout Five) memory.old pool.old.frames (five call) memory.new pool.new.frames) }
+    ensures unchanged { OnErr result (
+        (memory.new ≡ memory.old) × (pool.new ≡ pool.old) × (twin.new ≡ twin.old)) }
+    ensures keeps { let serves = serves_below pool.old.limit in
+        KeepsPool (direct_layout Five) serves memory.old pool.old.frames memory.new pool.new.frames }
+    ensures serves { serves_below pool.new.limit ≡ serves_below pool.old.limit }
+    ensures twin { IsTwin Five index memory.new pool.new.frames twin.new }
+{
+    let calls = [call];
+    let mut direct = MappedPageTable57::new(memory, root(), IdentityMapping);
+    let active = ActiveMemory57::new(&mut twin.memory, root());
+    let mut recursive = RecursivePageTable57::new_unchecked(active, index);
+    let replies = run_pair_57(
+        alloc,
+        &mut direct,
+        pool,
+        &mut recursive,
+        &mut twin.pool,
+        &calls,
+    )?;
+    Ok(replies[0])
+}
