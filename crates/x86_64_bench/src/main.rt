@@ -1,6 +1,6 @@
 //! Measures maps, translations and unmaps of 4KiB or 2MiB pages, and the clean up of the tables that the unmaps left, by the
-//! mapper that finds tables by their frames, also in a memory that lacks every second place, and by the one that reaches them
-//! through the root's entry for itself.
+//! mapper that finds tables by their frames, also in a memory that lacks every second place and with five levels, and by the one that
+//! reaches them through the root's entry for itself.
 //!
 //! Without arguments it does a small fixed run, and prints how often each operation was done; it also loads a small program, and
 //! prints where the processor arrives in it. With `M contiguous` or
@@ -11,6 +11,7 @@
 mod load;
 mod report;
 mod rounds;
+mod subject;
 mod workload;
 
 use crate::load::report_loads;
@@ -93,7 +94,7 @@ fn compare<S: PageSize>(rt: &HostRuntime, workload: Workload) -> io::Result<Exit
     let Some(direct) = all_rounds::<S>(rt, Access::Direct, workload)? else {
         return Ok(ExitCode::from(2));
     };
-    for access in [Access::Sparse, Access::Recursive] {
+    for access in [Access::Sparse, Access::FiveLevels, Access::Recursive] {
         let Some(rounds) = all_rounds::<S>(rt, access, workload)? else {
             return Ok(ExitCode::from(2));
         };

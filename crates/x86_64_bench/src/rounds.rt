@@ -3,20 +3,19 @@ ghost use Rattle.std.specs.Prelude.{◌≡◌};
 ghost use Rattle.x86_64_model.specs.Marks.{serves_below};
 ghost use Rattle.x86_64_model.specs.Owned.{Valid, SupplyFits, MayCleanUp};
 
+use crate::subject::Subject;
 use crate::workload::Workload;
 use bitflags::Flags;
 use std::alloc::{AllocError, Global};
 use std::io;
 use std::time::{Clock, Duration, Instant};
-use x86_64::structures::paging::mapper::{
-    CleanUp, MappedPageTable, Mapper, RecursivePageTable, Translate,
-};
+use x86_64::structures::paging::mapper::{MappedPageTable, MappedPageTable57, RecursivePageTable};
 use x86_64::structures::paging::{
     FrameAllocator, PageSize, PageTableFlags, PageTableIndex, PhysFrame, Size4KiB,
 };
 use x86_64::{
-    ActiveMemory, FramePlace, FramePool, IdentityMapping, PhysAddr, PhysMemory, is_outside_window,
-    pool_fits, pool_fits_recursive,
+    ActiveMemory, FramePlace, FramePool, IdentityMapping, PhysAddr, PhysMemory, pool_fits,
+    pool_fits_57, pool_fits_recursive,
 };
 
 /// How often all pages are translated in a round.
@@ -35,13 +34,20 @@ pub enum Access {
     Direct,
     /// By the same, in a memory that lacks every second place.
     Sparse,
+    /// By the same, with five levels of tables.
+    FiveLevels,
     /// By the one that reaches tables through the root's entry for itself.
     Recursive,
 }
 
 impl Access {
     /// All, the one that is the measure first.
-    pub const ALL: [Access; 3] = [Access::Direct, Access::Sparse, Access::Recursive];
+    pub const ALL: [Access; 4] = [
+        Access::Direct,
+        Access::Sparse,
+        Access::FiveLevels,
+        Access::Recursive,
+    ];
 
     /// Gives the numbers of so many places: the first ones, or every second one from 1 on.
     pub fn places(self, alloc: Global, count: u64) -> Result<Vec<u64>, AllocError> {
@@ -49,7 +55,7 @@ impl Access {
         for k in 0..count {
             places.push(match self {
                 Access::Sparse => k.wrapping_mul(2).wrapping_add(1),
-                Access::Direct | Access::Recursive => k,
+                Access::Direct | Access::FiveLevels | Access::Recursive => k,
             })?;
         }
         Ok(places)
@@ -59,7 +65,7 @@ impl Access {
     fn memory(self, alloc: Global, places: &[u64]) -> Result<Option<PhysMemory>, AllocError> {
         match self {
             Access::Sparse => Ok(PhysMemory::with_places(alloc, places).ok()),
-            Access::Direct | Access::Recursive => {
+            Access::Direct | Access::FiveLevels | Access::Recursive => {
                 Ok(Some(PhysMemory::new(alloc, places.len() as u64)?))
             }
         }
@@ -70,13 +76,14 @@ impl Access {
         match self {
             Access::Direct => "direct",
             Access::Sparse => "sparse",
+            Access::FiveLevels => "direct5",
             Access::Recursive => "recursive",
         }
     }
 }
 
 /// Maps all pages, and gives how many were mapped.
-fn map_all<S: PageSize, M: Mapper<S>, A: FrameAllocator<Size4KiB>>(
+fn map_all<S: PageSize, M: Subject<S>, A: FrameAllocator<Size4KiB>>(
     mapper: &mut M,
     allocator: &mut A,
     workload: Workload,
@@ -84,60 +91,43 @@ fn map_all<S: PageSize, M: Mapper<S>, A: FrameAllocator<Size4KiB>>(
     requires { SupplyFits (M.hierarchy mapper.old) (A.supply allocator.old) }
     ensures { SupplyFits (M.hierarchy mapper.new) (A.supply allocator.new) }
 {
-    let flags = PageTableFlags::PRESENT.union(PageTableFlags::WRITABLE);
     let mut mapped = 0_u64;
     for k in 0..workload.pages {
-        let page = workload.page(k);
-        if is_outside_window(mapper, page) {
-            if let Ok(flush) = mapper.map_to(page, workload.frame(k), flags, allocator) {
-                flush.ignore();
-                mapped = mapped.saturating_add(1);
-            }
-        }
+        mapped = mapped.saturating_add(u64::from(mapper.map_page(workload, k, allocator)));
     }
     mapped
 }
 
 /// Unmaps all pages, and gives how many were unmapped.
-fn unmap_all<S: PageSize, M: Mapper<S>>(mapper: &mut M, workload: Workload) -> u64
+fn unmap_all<S: PageSize, M: Subject<S>>(mapper: &mut M, workload: Workload) -> u64
     requires { Valid (M.hierarchy mapper.old) }
     ensures { Valid (M.hierarchy mapper.new) }
 {
     let mut unmapped = 0_u64;
     for k in 0..workload.pages {
-        let page = workload.page(k);
-        if is_outside_window(mapper, page) {
-            if let Ok((_, flush)) = mapper.unmap(page) {
-                flush.ignore();
-                unmapped = unmapped.saturating_add(1);
-            }
-        }
+        unmapped = unmapped.saturating_add(u64::from(mapper.unmap_page(workload, k)));
     }
     unmapped
 }
 
 /// Translates all pages in an order ten times, and gives how often one is mapped to its frame.
-fn translate_all<S: PageSize, T: Translate>(mapper: &T, workload: Workload, order: &[u32]) -> u64
-    requires { Valid (T.hierarchy mapper.now) }
+fn translate_all<S: PageSize, M: Subject<S>>(mapper: &M, workload: Workload, order: &[u32]) -> u64
+    requires { Valid (M.hierarchy mapper.now) }
 {
     let mut found = 0_u64;
     for _ in 0..TRANSLATIONS {
-        found = found.saturating_add(translate_once::<S, T>(mapper, workload, order));
+        found = found.saturating_add(translate_once::<S, M>(mapper, workload, order));
     }
     found
 }
 
 /// Translates all pages in an order, and gives how many are mapped to their frames.
-fn translate_once<S: PageSize, T: Translate>(mapper: &T, workload: Workload, order: &[u32]) -> u64
-    requires { Valid (T.hierarchy mapper.now) }
+fn translate_once<S: PageSize, M: Subject<S>>(mapper: &M, workload: Workload, order: &[u32]) -> u64
+    requires { Valid (M.hierarchy mapper.now) }
 {
     let mut found = 0_u64;
     for k in order {
-        let addr = workload.page::<S>(*k).start_address();
-        let wanted = workload.frame::<S>(*k).start_address();
-        if mapper.translate_addr(addr) == Some(wanted) {
-            found = found.saturating_add(1);
-        }
+        found = found.saturating_add(u64::from(mapper.finds_page(workload, *k)));
     }
     found
 }
@@ -214,7 +204,7 @@ struct Calls {
 }
 
 /// Maps, translates and unmaps all pages of a workload, which are of a size, by a mapper.
-fn measure_calls<S: PageSize, M: Mapper<S> + Translate>(
+fn measure_calls<S: PageSize, M: Subject<S>>(
     clock: &impl Clock,
     mapper: &mut M,
     pool: &mut FramePool,
@@ -249,7 +239,7 @@ fn measure_calls<S: PageSize, M: Mapper<S> + Translate>(
 }
 
 /// Cleans up by a mapper.
-fn measure_clean_up<M: CleanUp>(
+fn measure_clean_up<S: PageSize, M: Subject<S>>(
     clock: &impl Clock,
     mapper: &mut M,
     pool: &mut FramePool,
@@ -258,7 +248,7 @@ fn measure_clean_up<M: CleanUp>(
 {
     let free = pool.len();
     let start = Instant::now(clock)?;
-    mapper.clean_up(pool);
+    mapper.take_empty_tables(pool);
     let time = start.elapsed(clock)?;
     let count = pool.len().saturating_sub(free) as u64;
     Ok(Part { count, time })
@@ -282,6 +272,7 @@ pub fn measure<S: PageSize>(
         Access::Direct | Access::Sparse => {
             measure_direct::<S>(alloc, clock, memory, pool, workload, &order)
         }
+        Access::FiveLevels => measure_direct_57::<S>(alloc, clock, memory, pool, workload, &order),
         Access::Recursive => measure_recursive::<S>(alloc, clock, memory, pool, workload, &order),
     }
 }
@@ -308,7 +299,37 @@ fn measure_direct<S: PageSize>(
         return Ok(None);
     }
     let mut mapper = MappedPageTable::new(memory, root, IdentityMapping);
-    let clean_up = measure_clean_up(clock, &mut mapper, pool)?;
+    let clean_up = measure_clean_up::<S, _>(clock, &mut mapper, pool)?;
+    Ok(Some(Round {
+        calls,
+        clean_up,
+        tables,
+    }))
+}
+
+/// Does a round by the mapper of five levels that reaches tables by their frames.
+fn measure_direct_57<S: PageSize>(
+    alloc: Global,
+    clock: &impl Clock,
+    memory: &mut PhysMemory,
+    pool: &mut FramePool,
+    workload: Workload,
+    order: &[u32],
+) -> io::Result<Option<Round>> {
+    let root = root();
+    if !pool_fits_57(alloc, memory, &IdentityMapping, root, pool)? {
+        return Ok(None);
+    }
+    let free = pool.len();
+    let mut mapper = MappedPageTable57::new(memory, root, IdentityMapping);
+    let calls = measure_calls::<S, _>(clock, &mut mapper, pool, workload, order)?;
+    drop(mapper);
+    let tables = free.saturating_sub(pool.len());
+    if !pool_fits_57(alloc, memory, &IdentityMapping, root, pool)? {
+        return Ok(None);
+    }
+    let mut mapper = MappedPageTable57::new(memory, root, IdentityMapping);
+    let clean_up = measure_clean_up::<S, _>(clock, &mut mapper, pool)?;
     Ok(Some(Round {
         calls,
         clean_up,
@@ -339,7 +360,7 @@ fn measure_recursive<S: PageSize>(
         return Ok(None);
     }
     let mut mapper = RecursivePageTable::new_unchecked(ActiveMemory::new(memory, root), index);
-    let clean_up = measure_clean_up(clock, &mut mapper, pool)?;
+    let clean_up = measure_clean_up::<S, _>(clock, &mut mapper, pool)?;
     Ok(Some(Round {
         calls,
         clean_up,

@@ -2,8 +2,8 @@
 ghost use Rattle.std.specs.Prelude.{◌≡◌, ◌<◌, ◌≤◌};
 
 use std::alloc::{AllocError, Global};
-use x86_64::structures::paging::{Page, PageSize, PhysFrame};
-use x86_64::{PhysAddr, VirtAddr};
+use x86_64::structures::paging::{Page, Page57, PageSize, PhysFrame};
+use x86_64::{PhysAddr, VirtAddr, VirtAddr57};
 
 /// How many numbers of pages there are in a scattered workload.
 const SCATTERED_PAGES: u64 = 1 << 22;
@@ -36,11 +36,21 @@ impl Workload {
 
     /// Gives the `k`-th page.
     pub fn page<S: PageSize>(self, k: u32) -> Page<S> {
+        Page::containing_address(VirtAddr::new_truncate(self.page_start::<S>(k)))
+    }
+
+    /// Gives the same page where there are five levels of tables.
+    pub fn page_57<S: PageSize>(self, k: u32) -> Page57<S> {
+        Page57::containing_address(VirtAddr57::new_truncate(self.page_start::<S>(k)))
+    }
+
+    /// Gives the address of the `k`-th page.
+    fn page_start<S: PageSize>(self, k: u32) -> u64 {
         let number = match self.pattern {
             Pattern::Contiguous => u64::from(k),
             Pattern::Scattered => u64::from(k) * 0x9e37_79b1 % SCATTERED_PAGES,
         };
-        Page::containing_address(VirtAddr::new_truncate(number.wrapping_mul(S::SIZE)))
+        number.wrapping_mul(S::SIZE)
     }
 
     /// Gives the frame to which the `k`-th page is mapped.

@@ -1,0 +1,11 @@
+use Rattle.std.proofs.Common.{rules, ◌≡◌, true}
+use Rattle.x86_64_model.specs.Marks.{serves_below}
+use Rattle.x86_64_bench.proofs.CleanUps.{fitting_cleans_up}
+use Rattle.x86_64_bench.proofs.rounds.measure_direct_57.Goals as goal
+
+pub measure_clean_up-requires : goal.measure_clean_up-requires
+measure_clean_up-requires g c =
+    let pool = c.measure_calls.new.pool in
+    let mapper = c.new-mapper-2.ensures in
+    let holds : c.in_ok-pool_fits_57-2.field-0 ≡ true = search rules in
+    fitting_cleans_up _ _ _ mapper.layout mapper.memory (serves_below pool.limit) pool.frames (c.in_ok-pool_fits_57-2.ensures.0 holds)
