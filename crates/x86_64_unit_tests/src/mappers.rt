@@ -8,6 +8,7 @@ ghost use Rattle.x86_64_mappers.specs.Layouts.{direct};
 
 mod clean_up;
 mod five_levels;
+mod five_levels_recursive;
 mod flags;
 mod map;
 mod offset;

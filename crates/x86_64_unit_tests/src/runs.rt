@@ -6,6 +6,7 @@ ghost use Rattle.x86_64_mappers.specs.Layouts.{direct};
 ghost use Rattle.x86_64.specs.Calls.{calls_of};
 ghost use Rattle.x86_64.specs.Runs.{machine_of, state_of, FitsPool, replies_to, appended, UnchangedIfRefused};
 
+mod five_levels;
 mod pair;
 
 use bitflags::Flags;

@@ -1,7 +1,8 @@
 //! Calls by the direct mapper of five levels of tables.
 ghost use Rattle.x86_64_model.specs.Marks.{serves_below};
 ghost use Rattle.x86_64_model.specs.MapperCalls.{IsReady};
-ghost use Rattle.x86_64_model.specs.Owned.{MayCleanUp};
+ghost use Rattle.x86_64_model.specs.Call.{Unmap};
+ghost use Rattle.x86_64_model.specs.Owned.{May, MayCleanUp, path_of};
 
 use super::clean_up::check_left;
 use super::map::{check_words, pool_of};
@@ -34,12 +35,12 @@ const MAPPED: [(u64, u16, u64); 5] = [
 ];
 
 /// Gives the page of a size that contains an address.
-fn page<S: PageSize>(address: u64) -> Page57<S> {
+pub fn page<S: PageSize>(address: u64) -> Page57<S> {
     Page57::containing_address(VirtAddr57::new_truncate(address))
 }
 
 /// Maps a page by any mapper, and records the flush.
-fn map_by<S: PageSize, M: Mapper57<S>>(
+pub fn map_by<S: PageSize, M: Mapper57<S>>(
     rt: &impl Abort,
     alloc: Global,
     mapper: &mut M,
@@ -102,6 +103,22 @@ fn set_table_flags(
     Ok(changed.map(MapperFlushAll::ignore))
 }
 
+/// Unmaps a page by any mapper, whose path is not in the window.
+pub fn unmap_by<S: PageSize, M: Mapper57<S>>(
+    mapper: &mut M,
+    page: Page57<S>,
+) -> Result<PhysFrame<S>, UnmapError>
+    requires { May (M.hierarchy mapper.old) (Unmap (path_of (M.hierarchy mapper.old) S.LEVEL page)) }
+{
+    match mapper.unmap(page) {
+        Ok((frame, flush)) => {
+            flush.ignore();
+            Ok(frame)
+        }
+        Err(why) => Err(why),
+    }
+}
+
 /// Unmaps the page of a size at an address, by a mapper that is dropped then.
 fn unmap<S: PageSize>(
     rt: &impl Abort,
@@ -112,13 +129,7 @@ fn unmap<S: PageSize>(
     let root = small(0x1000);
     assert!(rt; is_valid_hierarchy_57(alloc, memory, &IdentityMapping, root)?);
     let mut mapper = MappedPageTable57::new(memory, root, IdentityMapping);
-    match mapper.unmap(page::<S>(address)) {
-        Ok((frame, flush)) => {
-            flush.ignore();
-            Ok(Ok(frame))
-        }
-        Err(why) => Ok(Err(why)),
-    }
+    Ok(unmap_by(&mut mapper, page::<S>(address)))
 }
 
 /// Gives the address that an address is mapped to.
@@ -135,7 +146,7 @@ fn translate(
 }
 
 /// Cleans up all tables by any mapper.
-fn clean_up_by<M: CleanUp57>(mapper: &mut M, pool: &mut FramePool)
+pub fn clean_up_by<M: CleanUp57>(mapper: &mut M, pool: &mut FramePool)
     requires { MayCleanUp (M.hierarchy mapper.old) (serves_below pool.old.limit) pool.old.frames }
 {
     mapper.clean_up(pool);

@@ -24,10 +24,10 @@ use x86_64_tables::phys_memory::{
 };
 
 /// The root's entry for itself.
-const SELF_ENTRY: (u64, u16, u64) = (1, 510, 0x1003);
+pub const SELF_ENTRY: (u64, u16, u64) = (1, 510, 0x1003);
 
 /// The recursive index.
-fn recursive_index() -> PageTableIndex {
+pub fn recursive_index() -> PageTableIndex {
     PageTableIndex::new(510)
 }
 

@@ -1,6 +1,7 @@
 //! Tests of walks, of hierarchies and of pools that fit them, over memories that are given as words.
 mod alike;
 mod five_levels;
+mod five_levels_recursive;
 mod places;
 mod recursive;
 

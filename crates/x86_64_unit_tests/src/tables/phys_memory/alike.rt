@@ -33,7 +33,7 @@ const RECURSIVE: [(u64, u16, u64); 5] = [
 ];
 
 /// Makes a memory of 8 places with words, and then with more words.
-fn memory_of(
+pub fn memory_of(
     alloc: Global,
     words: &[(u64, u16, u64)],
     more: &[(u64, u16, u64)],

@@ -38,7 +38,7 @@ fn memory_with_windows(alloc: Global) -> Result<PhysMemory, Fail> {
 }
 
 /// Gives the address of a table of such a memory.
-fn address_of(table: Option<&PageTable>) -> Option<u64> {
+pub fn address_of(table: Option<&PageTable>) -> Option<u64> {
     let table = table?;
     Some(table[511].addr().as_u64())
 }
