@@ -2,6 +2,8 @@
 #![tactic(auto)]
 
 #[cfg(test)]
+mod five_levels;
+#[cfg(test)]
 mod hoard;
 #[cfg(test)]
 mod library;

@@ -12,17 +12,17 @@ use x86_64_tests::images::{ROOT, frame_at, pool_of, set_word};
 use x86_64_tests::pairs::{is_pair, none_names, run_pair_on};
 
 /// The recursive index.
-const INDEX: u16 = 510;
+pub const INDEX: u16 = 510;
 
 /// How many calls a list has: so few that an allocator keeps the room for as many replies, once it is given back.
-const CALL_COUNT: usize = 1024;
+pub const CALL_COUNT: usize = 1024;
 
 /// Room for no growth, and for the first: that of the first mapper's replies.
-const ROOMS: [&[usize]; 2] = [&[], &[CALL_COUNT * size_of::<Reply>()]];
+pub const ROOMS: [&[usize]; 2] = [&[], &[CALL_COUNT * size_of::<Reply>()]];
 
 /// Tells whether both memories have unused entries alone, but for the second one's entry of the root for itself, and both
 /// pools have the frames that are free at first.
-fn are_untouched(
+pub fn are_untouched(
     memory: &PhysMemory,
     pool: &FramePool,
     walked: &PhysMemory,
@@ -52,8 +52,8 @@ fn run_pair_at_last(rt: &impl Abort, alloc: Global, room: &[usize]) -> Result<()
         alloc,
         room,
         ||
-            requires { IsPair root index memory pool walked walked_pool }
-            ensures { IsPair root index memory.exit pool.exit walked.exit walked_pool.exit }
+            requires { IsPair 4 root index memory pool walked walked_pool }
+            ensures { IsPair 4 root index memory.exit pool.exit walked.exit walked_pool.exit }
         {
             assert!(rt; none_names(&calls, index));
             let answer = run_pair_on(

@@ -13,8 +13,8 @@ const INPUT: &[u8] = b"word 0x1000 0 0x2003\nfree 0x3000\nfree 0x4000\n\
     translate 0\nwalk 0\nshow 0x1000 0\npool\nmap 4KiB 0x1000 0x5000 0x3\naddr 0x1abc\nunmap 4KiB 0x1000\n\
     cleanup\npool\n";
 
-/// The replies, each after those before it.
-const REPLIES: [&[u8]; 9] = [
+/// The replies but the last one, each after those before it.
+const FIRST_REPLIES: [&[u8]; 8] = [
     b"not mapped\n",
     b"none\n",
     b"0x2003\n",
@@ -23,20 +23,48 @@ const REPLIES: [&[u8]; 9] = [
     b"0x5abc\n",
     b"0x5000\n",
     b"ok\n",
-    b"pool 0x2000 0x3000 0x4000\n",
 ];
 
-/// The line of an image whose root names itself.
-const SELF_ENTRY: &[u8] = b"word 0x1000 510 0x1003\n";
+/// How many replies there are.
+const REPLY_COUNT: usize = 9;
 
-/// The arguments of each mode, and the first line of its image.
-type Mode = (&'static [&'static str], &'static [u8]);
+/// The free frames at the end.
+const FREE_AT_END: &[u8] = b"pool 0x2000 0x3000 0x4000\n";
 
-const MODES: [Mode; 4] = [
-    (&["direct", "4096"], b""),
-    (&["offset", "4096", "0xffff800000000000"], b""),
-    (&["recursive", "4096", "510"], SELF_ENTRY),
-    (&["pair", "4096", "510"], SELF_ENTRY),
+/// The same where there are five levels, whose image has one table more.
+const FREE_AT_END_OF_FIVE: &[u8] = b"pool 0x2000 0x6000 0x3000 0x4000\n";
+
+/// The arguments of each mode, the first lines of its image, and the last reply.
+type Mode = (&'static [&'static str], &'static [u8], &'static [u8]);
+
+const MODES: [Mode; 7] = [
+    (&["direct", "4096"], b"", FREE_AT_END),
+    (&["offset", "4096", "0xffff800000000000"], b"", FREE_AT_END),
+    (
+        &["recursive", "4096", "510"],
+        b"word 0x1000 510 0x1003\n",
+        FREE_AT_END,
+    ),
+    (
+        &["pair", "4096", "510"],
+        b"word 0x1000 510 0x1003\n",
+        FREE_AT_END,
+    ),
+    (
+        &["direct5", "4096"],
+        b"word 0x2000 0 0x6003\n",
+        FREE_AT_END_OF_FIVE,
+    ),
+    (
+        &["recursive5", "4096", "510"],
+        b"word 0x1000 510 0x1003\nword 0x2000 0 0x6003\n",
+        FREE_AT_END_OF_FIVE,
+    ),
+    (
+        &["pair5", "4096", "510"],
+        b"word 0x1000 510 0x1003\nword 0x2000 0 0x6003\n",
+        FREE_AT_END_OF_FIVE,
+    ),
 ];
 
 /// Gives the words of arguments.
@@ -51,27 +79,28 @@ fn words_of(alloc: Global, arguments: &[&str]) -> Result<Vec<String>, AllocError
 /// Gives the words of a mode's arguments, and its input.
 fn start(
     alloc: Global,
-    (arguments, first_line): Mode,
+    (arguments, first_lines, _): Mode,
 ) -> Result<(Vec<String>, Vec<u8>), AllocError> {
     let words = words_of(alloc, arguments)?;
-    let mut input = Vec::from_slice(alloc, first_line)?;
+    let mut input = Vec::from_slice(alloc, first_lines)?;
     input.extend_from_slice(INPUT)?;
     Ok((words, input))
 }
 
-/// Gives the first replies, so many.
-fn first_replies(alloc: Global, count: usize) -> Result<Vec<u8>, AllocError> {
+/// Gives all replies.
+fn replies_in(alloc: Global, (_, _, last): Mode) -> Result<Vec<u8>, AllocError> {
     let mut replies = Vec::new(alloc);
-    for reply in REPLIES.iter().take(count) {
+    for reply in FIRST_REPLIES {
         replies.extend_from_slice(reply)?;
     }
+    replies.extend_from_slice(last)?;
     Ok(replies)
 }
 
 /// Runs the program until there is room, and compares the replies and the ending.
 fn run_at_last(rt: &impl Abort, alloc: Global, mode: Mode) -> Result<(), Fail> {
     let (words, input) = start(alloc, mode)?;
-    let replies = first_replies(alloc, REPLIES.len())?;
+    let replies = replies_in(alloc, mode)?;
     let mut agrees = true;
     let answer = answer_at_last(rt, alloc, || {
         let mut source = Source::new(&input, 0);
@@ -147,9 +176,12 @@ impl<S: Write + Drop> Write for Hoarding<S> {
 }
 
 /// Tells whether so many bytes are those of the last replies, with at least the first `least` before them.
-fn are_last_replies(bytes: usize, least: usize) -> bool {
-    let mut left: usize = 0;
-    for (n, reply) in REPLIES.iter().enumerate().rev() {
+fn are_last_replies((_, _, last): Mode, bytes: usize, least: usize) -> bool {
+    if bytes == 0 {
+        return true;
+    }
+    let mut left: usize = last.len();
+    for (n, reply) in FIRST_REPLIES.iter().enumerate().rev() {
         if n + 1 >= least && left == bytes {
             return true;
         }
@@ -167,7 +199,7 @@ fn assert_starved(
     (read, write): (usize, usize),
 ) -> Result<Ending, Fail> {
     let (words, input) = start(alloc, mode)?;
-    let replies = first_replies(alloc, REPLIES.len())?;
+    let replies = replies_in(alloc, mode)?;
     let mut source = Hoarding::new(alloc, Source::new(&input, 0), read);
     let mut sink = Hoarding::new(alloc, Comparison::new(&replies), write);
     let ending = run(alloc, words.as_slice(), &mut source, &mut sink);
@@ -176,7 +208,7 @@ fn assert_starved(
     let left = sink.stream.rest.len();
     assert!(rt; sink.stream.agrees, "write {write}");
     if ending == Ending::Stopped(Fault::OutOfMemory) {
-        assert!(rt; are_last_replies(left, write), "write {write}");
+        assert!(rt; are_last_replies(mode, left, write), "write {write}");
     } else {
         assert_eq!(rt; (ending, left), (Ending::Done, 0), "write {write}");
     }
@@ -187,7 +219,7 @@ fn assert_starved(
 fn assert_each_starved(rt: &impl Abort, alloc: Global, mode: Mode) -> Result<(), Fail> {
     let ending = assert_starved(rt, alloc, mode, (1, 0))?;
     assert_eq!(rt; ending, Ending::Stopped(Fault::OutOfMemory));
-    for write in 1..=REPLIES.len() {
+    for write in 1..=REPLY_COUNT {
         assert_starved(rt, alloc, mode, (0, write))?;
     }
     Ok(())

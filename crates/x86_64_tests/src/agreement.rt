@@ -7,10 +7,13 @@
 //! were; and the words of the frames that are neither tables nor free, with what they were. At the end each
 //! outcome that a call of a kind and a size can have, inside the window of a recursive index or elsewhere, was
 //! met, and no other.
-ghost use Rattle.std.specs.Prelude.{◌≡◌};
+ghost use Rattle.std.specs.Prelude.{◌≤◌};
 
 mod alone;
 mod chooser;
+mod five_levels;
+mod levels;
+mod lists57;
 mod outcomes;
 mod pairs;
 
@@ -20,15 +23,18 @@ use crate::replies::{Wanted, wanted_of};
 use crate::rows::{
     By, SELF_ENTRY, Word, answer, begin_in, compare_pool, compare_word, put_self_entry,
 };
+use crate::turns::{Turn, call_of};
 use alone::answer_alone;
 use chooser::{Choice, Chooser};
-use outcomes::{ACTIONS, Action, OUTCOMES, Outcome, outcome_of, possible_outcomes};
+use levels::Levels;
+use outcomes::{Action, OUTCOMES, Outcome, outcome_of, possible_outcomes};
 use std::alloc::{AllocError, Global};
 use std::process::Abort;
 use std::test::Fail;
+use x86_64::structures::paging::PageTableIndex;
 use x86_64::{Call, FramePool, PhysMemory, Reply};
 use x86_64_plain::words::{address, is_huge, is_used};
-use x86_64_plain::{PathEntries, PlainMachine, PlainState, PlainWindow};
+use x86_64_plain::{PathEntries, PlainMachine, PlainReply, PlainState, PlainWindow};
 
 /// How many places the memory has.
 const PLACES: u64 = 16;
@@ -80,18 +86,19 @@ struct Met {
     outcome: Outcome,
 }
 
-/// Gives the plain machine of a mapper.
-fn machine_of(by: By) -> PlainMachine
-    ensures { result.levels ≡ 4 }
+/// Gives the plain machine of a mapper of so many levels.
+fn machine_of(levels: Levels, by: By) -> PlainMachine
+    ensures { result.levels ≤ 5 }
 {
+    let levels = levels.count();
     match by {
         By::Identity | By::Reference | By::Offset => PlainMachine {
-            levels: 4,
+            levels,
             window: None,
             added_flags: 0x0,
         },
         By::Recursive(index) => PlainMachine {
-            levels: 4,
+            levels,
             window: Some(PlainWindow {
                 index: u64::from(index),
                 self_entry: SELF_ENTRY,
@@ -104,6 +111,7 @@ fn machine_of(by: By) -> PlainMachine
 /// Holds one hierarchy and its free frames twice: in a memory, and plainly.
 #[derive(Drop)]
 struct Twins {
+    levels: Levels,
     /// The mapper of the memory.
     by: By,
     memory: PhysMemory,
@@ -119,7 +127,13 @@ struct Twins {
 impl Twins {
     /// Makes them of the entries at first, as words, each after those above it, and at most so many free frames, which
     /// are full of ones, as the stranger is.
-    fn new(alloc: Global, words: &[Word], by: By, count: usize) -> Result<Twins, Fail> {
+    fn new(
+        alloc: Global,
+        levels: Levels,
+        words: &[Word],
+        by: By,
+        count: usize,
+    ) -> Result<Twins, Fail> {
         let free = free_frames(alloc, words, count)?;
         let (mut memory, pool) = begin_in(alloc, PLACES, &free)?;
         put_self_entry(&mut memory, by)?;
@@ -128,13 +142,14 @@ impl Twins {
             set_word(&mut memory, *frame, *index, *word)?;
         }
         Ok(Twins {
+            levels,
             by,
             memory,
             pool,
             untouched: free.len(),
             empty: empty_frames(alloc, words, &free)?,
             plain: PlainState {
-                paths: paths_of(alloc, words)?,
+                paths: paths_of(alloc, levels, words)?,
                 pool: free,
             },
         })
@@ -171,7 +186,7 @@ impl Twins {
         let entry = self.plain.paths.entry(path);
         let word = self.self_entry(path).unwrap_or(entry);
         compare_word(rt, &self.memory, (frame, index, word), "plain entries")?;
-        if path.len() < 4 && is_used(entry) && !is_huge(entry) {
+        if path.len() < self.levels.count() && is_used(entry) && !is_huge(entry) {
             tables.push((Vec::from_slice(alloc, path)?, address(entry)))?;
         }
         Ok(())
@@ -179,7 +194,7 @@ impl Twins {
 
     /// Gives the root's entry for itself, if it stands at a path.
     fn self_entry(&self, path: &[u64]) -> Option<u64> {
-        match (machine_of(self.by).window, path) {
+        match (machine_of(self.levels, self.by).window, path) {
             (Some(window), [index]) if *index == window.index => Some(window.self_entry),
             _ => None,
         }
@@ -213,26 +228,32 @@ impl Twins {
     }
 
     /// Answers a call plainly, and gives what comes of it too.
-    fn step(&mut self, choice: &Choice) -> Result<(Wanted, Met), Fail> {
+    fn step_plainly(&mut self, choice: &Choice) -> Result<(PlainReply, Met), Fail> {
         let free = self.plain.pool.len();
-        let reply = machine_of(self.by).step(&mut self.plain, &choice.plain)?;
+        let reply = machine_of(self.levels, self.by).step(&mut self.plain, &choice.plain)?;
         let gave_back = free < self.plain.pool.len();
         self.untouched = self.untouched.min(self.plain.pool.len());
-        let wanted = wanted_of(choice.turn, reply).ok_or("a reply that fits no such call")?;
-        let (level, outcome) = outcome_of(wanted.reply, gave_back);
+        let (level, outcome) = outcome_of(reply, gave_back);
         let met = Met {
             action: choice.action,
             level: level.max(choice.level),
-            in_window: self.names_the_window(wanted.call),
+            in_window: self.names_the_window(choice.turn),
             outcome,
         };
+        Ok((reply, met))
+    }
+
+    /// Answers a call plainly, and gives the call for `run` and its reply, and what comes of it too.
+    fn step(&mut self, choice: &Choice) -> Result<(Wanted, Met), Fail> {
+        let (reply, met) = self.step_plainly(choice)?;
+        let wanted = wanted_of(choice.turn, reply).ok_or("a reply that fits no such call")?;
         Ok((wanted, met))
     }
 
     /// Tells whether a call names the recursive index.
-    fn names_the_window(&self, call: Call) -> bool {
+    fn names_the_window(&self, turn: Turn) -> bool {
         match self.by.recursive_index() {
-            Some(index) => call.names(index),
+            Some(index) => is_named(turn, index),
             None => false,
         }
     }
@@ -292,8 +313,16 @@ impl Twins {
     }
 }
 
-/// Gives the path map of words, each after those above it.
-fn paths_of(alloc: Global, words: &[Word]) -> Result<PathEntries, AllocError> {
+/// Tells whether a call for `run` names an index.
+fn is_named(turn: Turn, index: PageTableIndex) -> bool {
+    match call_of(turn) {
+        Some(call) => call.names(index),
+        None => false,
+    }
+}
+
+/// Gives the path map of words of so many levels, each after those above it.
+fn paths_of(alloc: Global, levels: Levels, words: &[Word]) -> Result<PathEntries, AllocError> {
     let mut paths = PathEntries::new(alloc);
     let mut tables = vec![in alloc; (ROOT, Vec::new(alloc))]?;
     for (frame, index, word) in words {
@@ -303,7 +332,7 @@ fn paths_of(alloc: Global, words: &[Word]) -> Result<PathEntries, AllocError> {
         let mut path = Vec::from_slice(alloc, parent)?;
         path.push(u64::from(*index))?;
         paths.put(&path, *word)?;
-        if path.len() < 4 && !is_huge(*word) {
+        if path.len() < levels.count() && !is_huge(*word) {
             tables.push((address(*word), path))?;
         }
     }
@@ -339,16 +368,21 @@ fn empty_frames(alloc: Global, words: &[Word], free: &[u64]) -> Result<Vec<u64>,
     Ok(empty)
 }
 
-/// Gives what was met though it isn't possible, and what is possible and wasn't met, where calls name the window
-/// or don't.
-fn unexpected(alloc: Global, met: &[Met], in_window: bool) -> Result<Vec<Met>, AllocError> {
+/// Gives what was met at so many levels though it isn't possible, and what is possible and wasn't met, where calls
+/// name the window or don't.
+fn unexpected(
+    alloc: Global,
+    levels: Levels,
+    met: &[Met],
+    in_window: bool,
+) -> Result<Vec<Met>, AllocError> {
     let mut unexpected = Vec::new(alloc);
-    for action in ACTIONS {
+    for action in levels.actions() {
         for level in 0..=3 {
-            let possible = possible_outcomes(action, level, in_window);
+            let possible = possible_outcomes(*action, level, in_window);
             for outcome in OUTCOMES {
                 let item = Met {
-                    action,
+                    action: *action,
                     level,
                     in_window,
                     outcome,
@@ -371,7 +405,7 @@ fn check_lists(
     chooser: &mut Chooser,
     met: &mut Vec<Met>,
 ) -> Result<(), Fail> {
-    let mut twins = Twins::new(alloc, words, by, count)?;
+    let mut twins = Twins::new(alloc, Levels::Four, words, by, count)?;
     twins.compare(rt, alloc)?;
     for _ in 0..LISTS {
         twins.answer(rt, alloc, chooser, met)?;
@@ -384,13 +418,13 @@ fn check_lists(
 
 /// Does so with each number of free frames, and compares what was met with what is possible.
 fn check_agreement(rt: &impl Abort, alloc: Global, by: By, places: &[bool]) -> Result<(), Fail> {
-    let mut chooser = Chooser::new(1);
+    let mut chooser = Chooser::new(Levels::Four, 1);
     let mut met = Vec::new(alloc);
     for count in 0..=FREE.len() {
         check_lists(rt, alloc, &ENTRIES, (by, count), &mut chooser, &mut met)?;
     }
     for in_window in places {
-        let unexpected = unexpected(alloc, &met, *in_window)?;
+        let unexpected = unexpected(alloc, Levels::Four, &met, *in_window)?;
         assert!(rt; unexpected.is_empty(), "{unexpected:?}");
     }
     Ok(())
@@ -409,7 +443,7 @@ fn the_recursive_mapper_agrees_with_the_plain_program(rt: HostRuntime) -> Result
 
 /// Answers calls on each image that nobody vouches for and that is valid, by a mapper and plainly, and compares.
 fn check_images(rt: &impl Abort, alloc: Global, by: By) -> Result<(), Fail> {
-    let mut chooser = Chooser::new(1);
+    let mut chooser = Chooser::new(Levels::Four, 1);
     let mut met = Vec::new(alloc);
     for image in IMAGES.iter().filter(|image| image.replies.is_some()) {
         let words = image.words(alloc)?;

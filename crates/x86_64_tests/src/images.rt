@@ -2,9 +2,9 @@
 ghost use Rattle.std.specs.Prelude.{◌≡◌};
 ghost use Rattle.x86_64_model.specs.Marks.{serves_below};
 ghost use Rattle.x86_64_model.specs.Memory.{identity_places};
-ghost use Rattle.x86_64_mappers.specs.Layouts.{direct};
+ghost use Rattle.x86_64_mappers.specs.Layouts.{direct, direct_at};
 ghost use Rattle.x86_64_mappers.specs.Offsets.{offset_places, OffsetFits};
-ghost use Rattle.x86_64_mappers.specs.Recursive.{recursive_now};
+ghost use Rattle.x86_64_mappers.specs.Recursive.{recursive_now, recursive_now_57};
 ghost use Rattle.x86_64.specs.Runs.{FitsPool};
 
 use bitflags::Flags;
@@ -12,12 +12,13 @@ use std::alloc::{AllocError, Global};
 use std::test::Fail;
 use x86_64::structures::paging::mapper::PageTableFrameMapping;
 use x86_64::structures::paging::{
-    MappedPageTable, OffsetPageTable, Page, PageSize, PageTableFlags, PageTableIndex, PhysFrame,
-    RecursivePageTable, Size4KiB,
+    MappedPageTable, MappedPageTable57, OffsetPageTable, Page, Page57, PageSize, PageTableFlags,
+    PageTableIndex, PhysFrame, RecursivePageTable, RecursivePageTable57, Size4KiB,
 };
 use x86_64::{
-    ActiveMemory, Call, FlushRecorder, FramePlace, FramePool, IdentityMapping, PhysAddr,
-    PhysMemory, Reply, VirtAddr, run, run_flushed,
+    ActiveMemory, ActiveMemory57, Call, Call57, FlushRecorder, FramePlace, FramePool,
+    IdentityMapping, PhysAddr, PhysMemory, Reply, Reply57, VirtAddr, VirtAddr57, run, run_57,
+    run_flushed,
 };
 use x86_64_mappers::laws::offset_has_the_tables_of_the_identity;
 
@@ -38,6 +39,11 @@ pub fn frame_at<S: PageSize>(address: u64) -> PhysFrame<S> {
 /// Gives the page of a size that contains an address.
 pub fn page_at<S: PageSize>(address: u64) -> Page<S> {
     Page::containing_address(VirtAddr::new_truncate(address))
+}
+
+/// The same with five levels of tables.
+pub fn page_57_at<S: PageSize>(address: u64) -> Page57<S> {
+    Page57::containing_address(VirtAddr57::new_truncate(address))
 }
 
 /// Gives the flags with these bits, which may have address bits among them.
@@ -157,6 +163,42 @@ pub fn run_recursive_on(
     let active = ActiveMemory::new(memory, root);
     let mut mapper = RecursivePageTable::new_unchecked(active, index);
     run(&mut mapper, pool, calls, replies)
+}
+
+/// Answers calls by a mapper of five levels over the identity mapping, as [`run_over`] does.
+pub fn run_57_on(
+    memory: &mut PhysMemory,
+    root: PhysFrame<Size4KiB>,
+    pool: &mut FramePool,
+    calls: &[Call57],
+    replies: &mut Vec<Reply57>,
+) -> Result<(), AllocError>
+    requires { let layout = direct_at 5 identity_places root in
+        FitsPool layout memory.old (serves_below pool.old.limit) pool.old.frames }
+    ensures { let layout = direct_at 5 identity_places root in
+        FitsPool layout memory.new (serves_below pool.new.limit) pool.new.frames }
+{
+    let mut mapper = MappedPageTable57::new(memory, root, IdentityMapping);
+    run_57(&mut mapper, pool, calls, replies)
+}
+
+/// Answers calls by a mapper of five levels that reaches tables through the root's entry for itself, as [`run_over`] does.
+pub fn run_57_recursive_on(
+    memory: &mut PhysMemory,
+    root: PhysFrame<Size4KiB>,
+    index: PageTableIndex,
+    pool: &mut FramePool,
+    calls: &[Call57],
+    replies: &mut Vec<Reply57>,
+) -> Result<(), AllocError>
+    requires { let layout = recursive_now_57 memory.old root index in
+        FitsPool layout memory.old (serves_below pool.old.limit) pool.old.frames }
+    ensures { let layout = recursive_now_57 memory.new root index in
+        FitsPool layout memory.new (serves_below pool.new.limit) pool.new.frames }
+{
+    let active = ActiveMemory57::new(memory, root);
+    let mut mapper = RecursivePageTable57::new_unchecked(active, index);
+    run_57(&mut mapper, pool, calls, replies)
 }
 
 /// Answers calls by a mapper over the identity mapping, as [`run_on`] does, and records their flushes.

@@ -2,16 +2,18 @@
 ghost use Rattle.std.specs.Prelude.{◌≡◌, false, IfOk, IsTrue};
 ghost use Rattle.std.specs.List.{AllByRecursion};
 ghost use Rattle.x86_64_mappers.specs.Offsets.{OffsetFits};
-ghost use Rattle.x86_64.specs.Calls.{names};
+ghost use Rattle.x86_64.specs.Calls.{names, names_57};
 ghost use Rattle.x86_64_tests.specs.Pairs.{IsPair};
 
 use std::alloc::{AllocError, Global};
 use x86_64::structures::paging::{
-    MappedPageTable, OffsetPageTable, PageTableIndex, PhysFrame, RecursivePageTable, Size4KiB,
+    MappedPageTable, MappedPageTable57, OffsetPageTable, PageTableIndex, PhysFrame,
+    RecursivePageTable, RecursivePageTable57, Size4KiB,
 };
 use x86_64::{
-    ActiveMemory, Call, FramePool, IdentityMapping, PhysMemory, Reply, VirtAddr, pool_fits,
-    pool_fits_recursive, run_pair, tables_alike,
+    ActiveMemory, ActiveMemory57, Call, Call57, FramePool, IdentityMapping, PhysMemory, Reply,
+    Reply57, VirtAddr, pool_fits, pool_fits_57, pool_fits_recursive, pool_fits_recursive_57,
+    run_pair, run_pair_57, tables_alike, tables_alike_57,
 };
 use x86_64_mappers::laws::offset_has_the_tables_of_the_identity;
 
@@ -27,7 +29,7 @@ pub fn is_pair(
     walked_pool: &FramePool,
 ) -> Result<bool, AllocError>
     ensures { IfOk result (λ is_pair.
-        IsTrue is_pair → IsPair root index memory.now pool.now walked.now walked_pool.now) }
+        IsTrue is_pair → IsPair 4 root index memory.now pool.now walked.now walked_pool.now) }
 {
     let identity = &IdentityMapping;
     let fits = pool_fits(alloc, memory, identity, root, pool)?;
@@ -65,14 +67,72 @@ pub fn run_pair_on(
     walked_pool: &mut FramePool,
     calls: &[Call],
 ) -> Result<Vec<Reply>, AllocError>
-    requires pair { IsPair root index memory.old pool.old walked.old walked_pool.old }
+    requires pair { IsPair 4 root index memory.old pool.old walked.old walked_pool.old }
     requires unnamed { AllByRecursion (λ call. names call index ≡ false) calls.now }
-    ensures { IsPair root index memory.new pool.new walked.new walked_pool.new }
+    ensures { IsPair 4 root index memory.new pool.new walked.new walked_pool.new }
 {
     let mut direct = MappedPageTable::new(memory, root, IdentityMapping);
     let active = ActiveMemory::new(walked, root);
     let mut recursive = RecursivePageTable::new_unchecked(active, index);
     run_pair(alloc, &mut direct, pool, &mut recursive, walked_pool, calls)
+}
+
+/// Tells what [`is_pair`] tells, of two hierarchies of five levels.
+pub fn is_pair_57(
+    alloc: Global,
+    root: PhysFrame<Size4KiB>,
+    index: PageTableIndex,
+    memory: &PhysMemory,
+    pool: &FramePool,
+    walked: &PhysMemory,
+    walked_pool: &FramePool,
+) -> Result<bool, AllocError>
+    ensures { IfOk result (λ is_pair.
+        IsTrue is_pair → IsPair 5 root index memory.now pool.now walked.now walked_pool.now) }
+{
+    let identity = &IdentityMapping;
+    let fits = pool_fits_57(alloc, memory, identity, root, pool)?;
+    let walked_fits = pool_fits_recursive_57(alloc, walked, root, index, walked_pool)?;
+    let alike = tables_alike_57(
+        memory,
+        identity,
+        root,
+        None,
+        walked,
+        identity,
+        root,
+        Some(index),
+    );
+    let same_free = *pool == *walked_pool;
+    Ok(fits & walked_fits & alike & same_free)
+}
+
+/// Tells whether no call names an index of level five.
+pub fn none_names_57(calls: &[Call57], index: PageTableIndex) -> bool
+    ensures { IsTrue result → AllByRecursion (λ call. names_57 call index ≡ false) calls.now }
+{
+    calls.iter().all(|call| !call.names(index))
+}
+
+/// Answers calls of five levels as [`run_pair_on`] does those of four.
+pub fn run_pair_57_on(
+    alloc: Global,
+    root: PhysFrame<Size4KiB>,
+    index: PageTableIndex,
+    memory: &mut PhysMemory,
+    pool: &mut FramePool,
+    walked: &mut PhysMemory,
+    walked_pool: &mut FramePool,
+    calls: &[Call57],
+) -> Result<Vec<Reply57>, AllocError>
+    requires pair { IsPair 5 root index memory.old pool.old walked.old walked_pool.old }
+    requires unnamed { AllByRecursion (λ call. names_57 call index ≡ false) calls.now }
+    ensures { IsPair 5 root index memory.new pool.new walked.new walked_pool.new }
+{
+    let mut direct = MappedPageTable57::new(memory, root, IdentityMapping);
+    let active = ActiveMemory57::new(walked, root);
+    let mut recursive = RecursivePageTable57::new_unchecked(active, index);
+    run_pair_57(alloc, &mut direct, pool, &mut recursive, walked_pool, calls)
 }
 
 /// Answers calls as [`run_pair_on`] does, the first memory's by the mapper of a memory that stands at an offset.
@@ -87,7 +147,7 @@ pub fn run_pair_at_offset(
     walked_pool: &mut FramePool,
     calls: &[Call],
 ) -> Result<Vec<Reply>, AllocError>
-    requires pair { IsPair root index memory.old pool.old walked.old walked_pool.old }
+    requires pair { IsPair 4 root index memory.old pool.old walked.old walked_pool.old }
     requires offset { OffsetFits memory.old phys_offset }
     requires unnamed { AllByRecursion (λ call. names call index ≡ false) calls.now }
 {

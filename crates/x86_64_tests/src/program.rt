@@ -2,6 +2,7 @@
 mod bad_lines;
 mod clean_ups;
 mod endings;
+mod five_levels;
 mod flags;
 mod images;
 mod lines;

@@ -1,7 +1,8 @@
 //! Calls that a fixed rule chooses.
 ghost use Rattle.std.specs.Prelude.{◌≤◌, length};
 
-use super::outcomes::{ACTIONS, Action, PageAction};
+use super::levels::Levels;
+use super::outcomes::{Action, PageAction};
 use crate::images::frame_at;
 use crate::turns::{PageTurn, Turn};
 use std::alloc::{AllocError, Global};
@@ -9,7 +10,10 @@ use x86_64::structures::paging::{PageSize, PhysFrame, Size1GiB, Size2MiB, Size4K
 use x86_64_plain::PlainCall;
 use x86_64_plain::positions::page_path;
 
-/// The indices that calls choose from, level four first. Where 1 is the recursive index, the entries of a level
+/// The indices of level five that calls choose from, where there is one. Frames lie below that of index 1.
+const LEVEL_5_INDICES: [u64; 5] = [0, 0, 0, 0, 511];
+
+/// The indices of the other levels that calls choose from, level four first. Where 1 is the recursive index, the entries of a level
 /// are also read with the indices of a lower one.
 const INDICES: [&[u64]; 4] = [
     &[0, 1, 1, 3, 3, 3, 3, 256, 511],
@@ -55,9 +59,6 @@ const EMPTYING: [Action; 4] = [
     Action::CleanUpRange,
 ];
 
-/// The last position.
-const LAST: u64 = 0xffff_ffff_ffff;
-
 /// A call, for `run` and for the plain program.
 #[derive(Drop)]
 pub struct Choice {
@@ -84,13 +85,14 @@ struct Subject {
 /// Chooses by a linear congruential rule, so that each run of the test makes the same calls.
 #[derive(Drop)]
 pub struct Chooser {
+    levels: Levels,
     state: u64,
 }
 
 impl Chooser {
-    /// Makes one that begins with a state.
-    pub fn new(state: u64) -> Chooser {
-        Chooser { state }
+    /// Makes one for so many levels that begins with a state.
+    pub fn new(levels: Levels, state: u64) -> Chooser {
+        Chooser { levels, state }
     }
 
     /// Chooses one of some items.
@@ -104,9 +106,12 @@ impl Chooser {
         items[(self.state >> 33) as usize % items.len()]
     }
 
-    /// Chooses indices, level four first, and gives the position of the page that has them.
+    /// Chooses indices, the highest level first, and gives the position of the page that has them.
     fn position(&mut self) -> u64 {
-        let mut position = 0;
+        let mut position = match self.levels {
+            Levels::Four => 0,
+            Levels::Five => self.choose(&LEVEL_5_INDICES),
+        };
         for indices in INDICES {
             position = position << 9 | self.choose(indices);
         }
@@ -118,7 +123,7 @@ impl Chooser {
         let position = self.position();
         Ok(Subject {
             position,
-            path: page_path(alloc, 4, position)?,
+            path: page_path(alloc, self.levels.count(), position)?,
             frame: self.choose(&FRAMES),
             flags: self.choose(&FLAGS),
             parent_flags: self.choose(&FLAGS),
@@ -130,7 +135,7 @@ impl Chooser {
         if self.choose(&[true, false, false]) {
             self.choose(&EMPTYING)
         } else {
-            self.choose(&ACTIONS)
+            self.choose(self.levels.actions())
         }
     }
 
@@ -157,7 +162,10 @@ impl Chooser {
                 action,
                 level: 0,
                 turn: Turn::CleanUp,
-                plain: PlainCall::CleanUp { low: 0, high: LAST },
+                plain: PlainCall::CleanUp {
+                    low: 0,
+                    high: self.levels.last_position(),
+                },
             },
             Action::CleanUpRange => self.clean_up_from(position),
         })
@@ -180,11 +188,21 @@ impl Chooser {
     /// Chooses the size of a call on a page.
     fn page_choice(&mut self, action: PageAction, subject: Subject) -> Choice {
         let level = self.choose(&[1, 1, 2, 3]);
+        let levels = self.levels;
         let turn = page_turn(action, &subject);
         let (turn, plain) = match level {
-            1 => (Turn::Small(turn), plain_call::<Size4KiB>(action, subject)),
-            2 => (Turn::Large(turn), plain_call::<Size2MiB>(action, subject)),
-            _ => (Turn::Giant(turn), plain_call::<Size1GiB>(action, subject)),
+            1 => (
+                Turn::Small(turn),
+                plain_call::<Size4KiB>(levels, action, subject),
+            ),
+            2 => (
+                Turn::Large(turn),
+                plain_call::<Size2MiB>(levels, action, subject),
+            ),
+            _ => (
+                Turn::Giant(turn),
+                plain_call::<Size1GiB>(levels, action, subject),
+            ),
         };
         Choice {
             action: Action::OnPage(action),
@@ -208,6 +226,7 @@ fn page_turn(action: PageAction, subject: &Subject) -> PageTurn {
         PageAction::IdentityMap => PageTurn::IdentityMap(frame, flags),
         PageAction::Unmap => PageTurn::Unmap(page),
         PageAction::UpdateFlags => PageTurn::UpdateFlags(page, flags),
+        PageAction::SetFlagsP5 => PageTurn::SetFlagsP5(page, flags),
         PageAction::SetFlagsP4 => PageTurn::SetFlagsP4(page, flags),
         PageAction::SetFlagsP3 => PageTurn::SetFlagsP3(page, flags),
         PageAction::SetFlagsP2 => PageTurn::SetFlagsP2(page, flags),
@@ -216,9 +235,9 @@ fn page_turn(action: PageAction, subject: &Subject) -> PageTurn {
 }
 
 /// Makes the call for the plain program.
-fn plain_call<S: PageSize>(action: PageAction, subject: Subject) -> PlainCall {
+fn plain_call<S: PageSize>(levels: Levels, action: PageAction, subject: Subject) -> PlainCall {
     let mut page = subject.path;
-    page.truncate(5_u64.saturating_sub(S::LEVEL) as usize);
+    page.truncate((levels.count() + 1).saturating_sub(S::LEVEL as usize));
     let frame: PhysFrame<S> = frame_at(subject.frame);
     let frame = frame.start_address().as_u64();
     let flags = subject.flags;
@@ -238,6 +257,7 @@ fn plain_call<S: PageSize>(action: PageAction, subject: Subject) -> PlainCall {
         },
         PageAction::Unmap => PlainCall::Unmap { page },
         PageAction::UpdateFlags => PlainCall::UpdateFlags { page, flags },
+        PageAction::SetFlagsP5 => set_flags(5, page),
         PageAction::SetFlagsP4 => set_flags(4, page),
         PageAction::SetFlagsP3 => set_flags(3, page),
         PageAction::SetFlagsP2 => set_flags(2, page),

@@ -1,9 +1,5 @@
 //! What calls do and what comes of them, without their values.
-use x86_64::structures::paging::PageSize;
-use x86_64::structures::paging::mapper::{
-    FlagUpdateError, MapToError, MappedFrame, TranslateError, TranslateResult, UnmapError,
-};
-use x86_64::{Reply, SizeReply};
+use x86_64_plain::{Answer, PlainReply, Refusal, Translated};
 
 /// What a call on a page does.
 #[derive(Clone, Copy, Debug, PartialEq)]
@@ -13,6 +9,7 @@ pub enum PageAction {
     IdentityMap,
     Unmap,
     UpdateFlags,
+    SetFlagsP5,
     SetFlagsP4,
     SetFlagsP3,
     SetFlagsP2,
@@ -29,8 +26,8 @@ pub enum Action {
     CleanUpRange,
 }
 
-/// All that calls do.
-pub const ACTIONS: [Action; 13] = [
+/// All that calls do. Those of four levels come first.
+pub const ACTIONS: [Action; 14] = [
     Action::OnPage(PageAction::MapTo),
     Action::OnPage(PageAction::MapToWithTableFlags),
     Action::OnPage(PageAction::IdentityMap),
@@ -44,6 +41,7 @@ pub const ACTIONS: [Action; 13] = [
     Action::TranslateAddr,
     Action::CleanUp,
     Action::CleanUpRange,
+    Action::OnPage(PageAction::SetFlagsP5),
 ];
 
 /// What comes of a call.
@@ -78,7 +76,7 @@ pub const OUTCOMES: [Outcome; 8] = [
 /// Gives all that can come of a call on a page whose entry is of a level, or of another call that ends at an
 /// entry of a level, 0 where it ends at none, where the call names the recursive index or doesn't.
 ///
-/// No entry of level four has `HUGE_PAGE`, so no page of 1GiB lies below one that has it.
+/// No entry above level three has `HUGE_PAGE`, so no page of 1GiB lies below one that has it.
 pub fn possible_outcomes(action: Action, level: u64, in_window: bool) -> &'static [Outcome] {
     match (action, level) {
         _ if in_window => window_outcomes(action, level),
@@ -118,7 +116,9 @@ fn small_outcomes(action: PageAction) -> &'static [Outcome] {
         PageAction::UpdateFlags | PageAction::SetFlagsP2 => {
             &[Done, NotAllowed, NotMapped, HugeParent]
         }
-        PageAction::SetFlagsP4 | PageAction::SetFlagsP3 => &[Done, NotAllowed, NotMapped],
+        PageAction::SetFlagsP5 | PageAction::SetFlagsP4 | PageAction::SetFlagsP3 => {
+            &[Done, NotAllowed, NotMapped]
+        }
     }
 }
 
@@ -132,7 +132,9 @@ fn large_outcomes(action: PageAction) -> &'static [Outcome] {
             &[Done, NotMapped, HugeParent, InvalidFrame]
         }
         PageAction::UpdateFlags => &[Done, NotAllowed, NotMapped, HugeParent],
-        PageAction::SetFlagsP4 | PageAction::SetFlagsP3 => &[Done, NotAllowed, NotMapped],
+        PageAction::SetFlagsP5 | PageAction::SetFlagsP4 | PageAction::SetFlagsP3 => {
+            &[Done, NotAllowed, NotMapped]
+        }
         PageAction::SetFlagsP2 => &[NotAllowed, HugeParent],
     }
 }
@@ -145,52 +147,39 @@ fn giant_outcomes(action: PageAction) -> &'static [Outcome] {
         }
         PageAction::Unmap => &[Done, NotMapped, HugeParent, InvalidFrame],
         PageAction::TranslatePage => &[Done, NotMapped, InvalidFrame],
-        PageAction::UpdateFlags | PageAction::SetFlagsP4 => &[Done, NotAllowed, NotMapped],
+        PageAction::UpdateFlags | PageAction::SetFlagsP5 | PageAction::SetFlagsP4 => {
+            &[Done, NotAllowed, NotMapped]
+        }
         PageAction::SetFlagsP3 | PageAction::SetFlagsP2 => &[NotAllowed, HugeParent],
     }
 }
 
 /// Gives what a reply says, with the level of the entry that a translation ends at. A clean up is done where it
 /// gave tables back.
-pub fn outcome_of(reply: Reply, gave_back: bool) -> (u64, Outcome) {
+pub fn outcome_of(reply: PlainReply, gave_back: bool) -> (u64, Outcome) {
     match reply {
-        Reply::Of4KiB(reply) => (1, size_outcome(reply)),
-        Reply::Of2MiB(reply) => (2, size_outcome(reply)),
-        Reply::Of1GiB(reply) => (3, size_outcome(reply)),
-        Reply::Translate(TranslateResult::Mapped { frame, .. }) => match frame {
-            MappedFrame::Size4KiB(_) => (1, Done),
-            MappedFrame::Size2MiB(_) => (2, Done),
-            MappedFrame::Size1GiB(_) => (3, Done),
+        PlainReply::Answered(answer) => (0, answer_outcome(answer)),
+        PlainReply::Position(Translated::Mapped { size, .. }) => match size {
+            0x1000 => (1, Done),
+            0x20_0000 => (2, Done),
+            _ => (3, Done),
         },
-        Reply::Translate(TranslateResult::NotMapped) => (0, NotMapped),
-        Reply::Translate(TranslateResult::InvalidFrameAddress(_)) => (0, InvalidFrame),
-        Reply::Address(Some(_)) => (0, Done),
-        Reply::Address(None) => (0, NotMapped),
-        Reply::Cleaned => (0, if gave_back { Done } else { NoEmptyTable }),
-        Reply::NotAllowed => (0, NotAllowed),
+        PlainReply::Position(Translated::NotMapped) => (0, NotMapped),
+        PlainReply::Address(Some(_)) => (0, Done),
+        PlainReply::Address(None) => (0, NotMapped),
+        PlainReply::Cleaned => (0, if gave_back { Done } else { NoEmptyTable }),
+        PlainReply::NotAllowed => (0, NotAllowed),
     }
 }
 
 /// The same of a call on a page.
-fn size_outcome<S: PageSize>(reply: SizeReply<S>) -> Outcome {
-    match reply {
-        SizeReply::Map(Ok(_))
-        | SizeReply::Unmap(Ok(_))
-        | SizeReply::Update(Ok(_))
-        | SizeReply::TableFlags(Ok(_))
-        | SizeReply::Frame(Ok(_)) => Done,
-        SizeReply::Map(Err(MapToError::FrameAllocationFailed)) => NoFrame,
-        SizeReply::Map(Err(MapToError::PageAlreadyMapped(_))) => AlreadyMapped,
-        SizeReply::Map(Err(MapToError::ParentEntryHugePage))
-        | SizeReply::Unmap(Err(UnmapError::ParentEntryHugePage))
-        | SizeReply::Update(Err(FlagUpdateError::ParentEntryHugePage))
-        | SizeReply::TableFlags(Err(FlagUpdateError::ParentEntryHugePage))
-        | SizeReply::Frame(Err(TranslateError::ParentEntryHugePage)) => HugeParent,
-        SizeReply::Unmap(Err(UnmapError::PageNotMapped))
-        | SizeReply::Update(Err(FlagUpdateError::PageNotMapped))
-        | SizeReply::TableFlags(Err(FlagUpdateError::PageNotMapped))
-        | SizeReply::Frame(Err(TranslateError::PageNotMapped)) => NotMapped,
-        SizeReply::Unmap(Err(UnmapError::InvalidFrameAddress(_)))
-        | SizeReply::Frame(Err(TranslateError::InvalidFrameAddress(_))) => InvalidFrame,
+fn answer_outcome(answer: Answer) -> Outcome {
+    match answer {
+        Answer::Done(_) => Done,
+        Answer::Refused(Refusal::FrameAllocationFailed) => NoFrame,
+        Answer::Refused(Refusal::PageAlreadyMapped(_)) => AlreadyMapped,
+        Answer::Refused(Refusal::ParentEntryHugePage) => HugeParent,
+        Answer::Refused(Refusal::PageNotMapped) => NotMapped,
+        Answer::Refused(Refusal::InvalidFrameAddress(_)) => InvalidFrame,
     }
 }

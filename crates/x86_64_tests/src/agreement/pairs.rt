@@ -1,11 +1,12 @@
 //! Lists of calls that a fixed rule makes, answered by two mappers at once: one of a hierarchy without a recursive
 //! index, and the recursive one of a hierarchy that is like it.
-use super::{CALLS, Choice, Chooser, ENTRIES, FREE, LISTS, RECURSIVE_INDEX, Twins};
+use super::{
+    CALLS, Choice, Chooser, ENTRIES, FREE, LISTS, Levels, RECURSIVE_INDEX, Twins, is_named,
+};
 use crate::hostile::IMAGES;
 use crate::images::{ROOT, frame_at};
 use crate::pairs::{is_pair, none_names, run_pair_at_offset, run_pair_on};
 use crate::rows::{By, OFFSET, Word};
-use crate::turns::call_of;
 use std::alloc::Global;
 use std::process::Abort;
 use std::test::Fail;
@@ -54,9 +55,10 @@ struct Pair {
 impl Pair {
     /// Makes it of words and so many free frames.
     fn new(alloc: Global, words: &[Word], by: By, count: usize) -> Result<Pair, Fail> {
+        let recursive = By::Recursive(RECURSIVE_INDEX);
         Ok(Pair {
-            direct: Twins::new(alloc, words, by, count)?,
-            recursive: Twins::new(alloc, words, By::Recursive(RECURSIVE_INDEX), count)?,
+            direct: Twins::new(alloc, Levels::Four, words, by, count)?,
+            recursive: Twins::new(alloc, Levels::Four, words, recursive, count)?,
         })
     }
 
@@ -80,7 +82,7 @@ impl Pair {
         let mut wanted = Vec::new(alloc);
         for _ in 0..CALLS {
             let choice = chooser.choice(alloc)?;
-            if call_of(choice.turn).names(PageTableIndex::new(RECURSIVE_INDEX)) {
+            if is_named(choice.turn, PageTableIndex::new(RECURSIVE_INDEX)) {
                 continue;
             }
             let (call, reply) = self.step(rt, &choice)?;
@@ -114,7 +116,7 @@ fn check_lists(
 
 /// Does so with each number of free frames, and on each image that nobody vouches for and that is valid.
 fn check_pairs(rt: &impl Abort, alloc: Global, by: By) -> Result<(), Fail> {
-    let mut chooser = Chooser::new(1);
+    let mut chooser = Chooser::new(Levels::Four, 1);
     for count in 0..=FREE.len() {
         check_lists(rt, alloc, &ENTRIES, (by, count), &mut chooser)?;
     }

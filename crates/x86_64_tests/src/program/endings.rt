@@ -5,7 +5,8 @@ use std::alloc::{AllocError, Global};
 use std::process::Abort;
 use std::test::Fail;
 
-const USAGE: &str = "usage: pagetab direct N | offset N OFF | recursive N R | pair N R";
+const USAGE: &str =
+    "usage: pagetab direct N | offset N OFF | recursive N R | pair N R | direct5 N | recursive5 N R | pair5 N R";
 
 /// The end of a run with other arguments.
 const USED_WRONGLY: Ending = Ending::Stopped(Fault::Usage);
