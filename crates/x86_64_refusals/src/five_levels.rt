@@ -71,7 +71,12 @@ fn lists_of_five_levels_change_nothing_until_there_is_room(rt: HostRuntime) -> R
     let root = frame_at(ROOT);
     let mut memory = PhysMemory::new(alloc, 5)?;
     let mut pool = pool_of(alloc, 5, &FREE)?;
-    let calls = vec![in alloc; map_of_a_page(); CALL_COUNT]?;
+    let call = Call57::Of2MiB(SizeCall57::MapTo {
+        page: page_57_at(0x20_0000),
+        frame: frame_at(0x40_0000),
+        flags: PageTableFlags::PRESENT,
+    });
+    let calls = vec![in alloc; call; CALL_COUNT]?;
     let mut replies = Vec::new(alloc);
     let mut is_kept = true;
     assert!(rt; pool_fits_57(alloc, &memory, &IdentityMapping, root, &pool)?);
