@@ -2,12 +2,16 @@
 use Rattle.std.proofs.Common.{◌≡◌, ℕ, Bool, List, inr, sym, ap, ◌∙◌, subst}
 use Rattle.x86_64_model.specs.Call as machine
 use Rattle.x86_64_model.specs.Entry.{IsParentFlags}
+use Rattle.x86_64_model.specs.Layout.{words as words_in}
 use Rattle.x86_64_model.specs.Machine.{AfterCall, do_call, step}
 use Rattle.x86_64_model.specs.MapperCalls.{IsReady}
+use Rattle.x86_64_model.specs.Memory.{IsMapping, word}
 use Rattle.x86_64_model.specs.Owned.{Hierarchy, PoolFits, MayCleanUp, CleansUp, back}
 use Rattle.x86_64_model.specs.Pool.{IsGiving, given_back}
 use Rattle.x86_64_model.proofs.Lemmas.Machines.Fitting.{ready_of_fits, may_clean_up}
+use Rattle.x86_64.specs.FreeFrames.{KeepsFree}
 use Rattle.x86_64.specs.Runs.{machine_of, state_of, Kept}
+use Rattle.x86_64.proofs.FreeFrames.{clean_up_keeps_free}
 use Rattle.x86_64.proofs.Keeping.{keeps_step}
 
 -- a hierarchy and the pool that fits it, which is what a frame store holds
@@ -37,3 +41,7 @@ module _ {Lent : Type 0} (h : Hierarchy Lent) (serves : ℕ → Bool) (pool held
       where
         held_now : List ℕ
         held_now = given_back put pool (back h low high)
+
+    pub free_cleaned : IsMapping h.layout.places → IsGiving put → KeepsFree h.layout h.memory pool (back h low high) after.memory rest
+    free_cleaned mapping gives = clean_up_keeps_free h.layout mapping serves h.memory pool fits put gives after.memory (back h low high) rest (last ∙ all_back ∙ ap (λ fs. given_back put fs (back h low high)) (sym same))
+        (λ f came i. subst (λ l. word (words_in l after.memory) f i ≡ 0) cleans.layout (cleans.empty f came i)) cleans.others

@@ -1,5 +1,5 @@
 -- The first index of a page's path is that of the highest level.
-use Rattle.std.proofs.Common.{zero, suc, ◌≡◌, ◌≤◌, ◌<◌, ◌+◌, ◌-◌, ℕ, ◌==◌, Bool, false, ◌∷◌, take, Option, Some, None, option_map, not, refl, ap, subst, sym, ◌∙◌, arith}
+use Rattle.std.proofs.Common.{zero, suc, ◌≡◌, ◌≤◌, ◌<◌, ◌+◌, ◌-◌, ℕ, ◌==◌, Bool, false, ◌∷◌, take, Option, Some, None, option_map, not, refl, ap, sym, ◌∙◌, arith}
 use Rattle.x86_64_model.specs.Position.{index, page_path}
 use Rattle.x86_64_model.specs.Path.{path_at}
 use Rattle.x86_64_model.specs.Window.{Window, begins_with}

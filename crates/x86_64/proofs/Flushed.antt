@@ -1,5 +1,5 @@
 -- What is recorded of calls is what the machine records of its calls, so it suffices.
-use Rattle.std.proofs.Common.{zero, suc, ◌≡◌, ◌≤◌, ◌++◌, ℕ, Bool, List, [], ◌∷◌, map, take, drop, Option, Some, None, option_map, Result, Err, refl, sym, ap, ap₂, ◌∙◌, subst, arith, lit≤}
+use Rattle.std.proofs.Common.{zero, suc, ◌≡◌, ◌++◌, ℕ, Bool, List, [], ◌∷◌, map, take, drop, Option, Some, None, option_map, Result, Err, refl, sym, ap, ap₂, ◌∙◌, subst}
 use Rattle.std.proofs.lemmas.List.{map-append, take-map, drop-map}
 use Rattle.x86_64_model.specs.Call as machine
 use Rattle.x86_64_model.specs.Entry.{IsParentFlags}
@@ -12,7 +12,6 @@ use Rattle.x86_64_model.specs.Pool.{IsGiving}
 use Rattle.x86_64_model.specs.Refusal.{Refusal, Done, Refused}
 use Rattle.x86_64_model.specs.Window.{IsValidFor}
 use Rattle.x86_64_model.specs.Laws.Steps.{AllCalls, NoneCovers as NoItemCovers}
-use Rattle.x86_64_model.proofs.Lemmas.Machines.Effects.{page_at_level}
 use Rattle.x86_64_model.proofs.Lemmas.Machines.Flushes.{flushes_suffice}
 use Rattle.x86_64_tables.specs.declared.mapper.recorder.FlushItem.{FlushItem}
 use Rattle.x86_64_tables.specs.declared.mapper.recorder.FlushItem.TheVariants.{Page}

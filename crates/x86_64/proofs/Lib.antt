@@ -4,6 +4,8 @@ pub mod Keeping
 pub mod PageSteps
 pub mod Rounds
 pub mod Flushed
+pub mod FreeFrames
+pub mod EveryWord
 pub mod Telling
 pub mod Moved
 pub mod Offsets

@@ -1,9 +1,9 @@
 -- A call of a list that names no recursive index is one of the machine's that names none.
-use Rattle.std.proofs.Common.{◌≡◌, ◌≤◌, ◌<◌, ◌^◌, ◌&&◌, ℕ, Bool, true, false, nat_lt, List, [], ◌∷◌, Option, Some, None, refl, ap, ◌∙◌, lit≤}
+use Rattle.std.proofs.Common.{◌≡◌, ◌≤◌, ◌<◌, ◌&&◌, ℕ, Bool, true, false, nat_lt, List, [], ◌∷◌, Option, Some, None, refl, ap, ◌∙◌, lit≤}
 use Rattle.x86_64_model.specs.Alike.{names_index}
 use Rattle.x86_64_model.specs.Laws.Pairs as machine
-use Rattle.x86_64_model.specs.Position.{lower_half, page_path}
-use Rattle.x86_64_model.specs.Window.{Window, begins_with}
+use Rattle.x86_64_model.specs.Position.{lower_half}
+use Rattle.x86_64_model.specs.Window.{Window}
 use Rattle.x86_64.specs.Asked.{PageCall, MapTo, MapToWithTableFlags, IdentityMap, Unmap, UpdateFlags, SetFlags, TranslatePage, MapperCall, Of4KiB, Of2MiB, Of1GiB, Translate, TranslateAddr, CleanUp, Kind, page_call, machine_call, calls_by, page_names, names_by}
 use Rattle.x86_64.specs.Pairs.{NoneNamesAs}
 use Rattle.x86_64.proofs.FirstIndex.{first_index, first_of_all}

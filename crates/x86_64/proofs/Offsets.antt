@@ -9,7 +9,7 @@ use Rattle.x86_64_model.specs.Layout.{words, paths}
 use Rattle.x86_64_model.proofs.Lemmas.Entries.Words.{address_aligned}
 use Rattle.x86_64_model.proofs.Lemmas.Machines.Fitting.{own_there}
 use Rattle.x86_64_model.specs.MapperCalls.{Owns}
-use Rattle.x86_64_model.specs.Memory.{Memory, identity_places}
+use Rattle.x86_64_model.specs.Memory.{Memory, Words, identity_places, word}
 use Rattle.x86_64_model.specs.PathMap.{PathMap}
 use Rattle.x86_64_model.specs.Pool.{IsOwn}
 use Rattle.x86_64_model.specs.Position.{IsCanonical, raw}
@@ -17,6 +17,7 @@ use Rattle.x86_64_model.specs.Window.{outside_window}
 use Rattle.x86_64_mappers.specs.Layouts.{direct}
 use Rattle.x86_64_mappers.proofs.OffsetTables.{canonical_from_reached, offset_words, offset_fits}
 use Rattle.x86_64_mappers.specs.Offsets.{OffsetFits, is_reached, offset_places}
+use Rattle.x86_64.specs.FreeFrames.{KeepsFree}
 use Rattle.x86_64.specs.Runs.{FitsPool, Keeps, state_of}
 
 -- a frame that has a table is covered
@@ -64,3 +65,15 @@ same_kept offset root serves m n pool rest before after kept = record {
       (λ own. last.0 ((kept.conserved f).0 (first.1 own)), λ own. first.0 ((kept.conserved f).1 (last.1 own)));
   others = λ place none. kept.others place (λ f own. none f ((same_own offset root m pool before f).0 own));
 }
+
+-- and so are the words of free frames
+pub same_free : (offset root : ℕ) (m n : Memory) (pool back rest : List ℕ) → OffsetFits m offset → OffsetFits n offset
+    → KeepsFree (direct (offset_places offset) root) m pool back n rest → KeepsFree (direct identity_places root) m pool back n rest
+same_free offset root m n pool back rest before after keeps =
+    let first = offset_words m offset before in
+    let last = offset_words n offset after in
+    record {
+      came_back = λ f left came i. subst (λ (T : Words). word T f i ≡ 0) last (keeps.came_back f left came i);
+      was_free = keeps.was_free;
+      same_words = λ f left none. sym (ap (λ (T : Words). T f) last) ∙ keeps.same_words f left none ∙ ap (λ (T : Words). T f) first;
+    }

@@ -1,10 +1,11 @@
 -- What a mapper's call on a page leaves and answers is the machine's step.
-use Rattle.std.proofs.Common.{◌≡◌, ◌<◌, ◌≤◌, ℕ, Bool, true, cond, List, Some, option_map, Result, Ok, Err, inr, refl, ap, sym, ◌∙◌, subst, arith}
+use Rattle.std.proofs.Common.{◌≡◌, ◌<◌, ◌≤◌, ℕ, Bool, true, cond, List, [], ◌++◌, Some, option_map, Result, Ok, Err, inr, refl, ap, sym, ◌∙◌, subst, arith}
 use Rattle.std.proofs.lemmas.Option.{same_Some}
 use Rattle.std.specs.Result.{IfOk}
 use Rattle.x86_64_model.specs.Entry.{IsParentFlags}
-use Rattle.x86_64_model.specs.Memory.{Memory}
-use Rattle.x86_64_model.specs.Layout.{Layout, paths}
+use Rattle.x86_64_model.specs.MapRule.{map_call, parent_part}
+use Rattle.x86_64_model.specs.Memory.{Memory, IsMapping}
+use Rattle.x86_64_model.specs.Layout.{Layout, words, paths}
 use Rattle.x86_64_model.specs.Path.{IsPage, path_at}
 use Rattle.x86_64_model.specs.Refusal.{Answer}
 use Rattle.x86_64_model.specs.Pool.{IsGiving}
@@ -27,9 +28,12 @@ use Rattle.x86_64_tables.specs.declared.mapper.TranslateError.TheVariants as tra
 use Rattle.x86_64.specs.Asked.{PageCall, MapTo, MapToWithTableFlags, IdentityMap, Unmap, UpdateFlags, SetFlags, TranslatePage, page_call}
 use Rattle.x86_64.specs.declared.calls.PageReply.TheVariants as reply
 use Rattle.x86_64.specs.Replies.{SizeReply, map_error, unmap_error, update_error, translate_error, result_of, size_reply, size_answer, is_refused, size_changes_nothing}
+use Rattle.x86_64.specs.FreeFrames.{KeepsFree}
 use Rattle.x86_64.specs.Runs.{machine_of, state_of, FitsPool, Keeps}
 use Rattle.x86_64.specs.Private.{size_step}
-use Rattle.x86_64_model.proofs.Lemmas.Machines.Fitting.{ready_of_fits}
+use Rattle.x86_64_model.proofs.Lemmas.Machines.Fitting.{ready_of_fits, sound_of_fits}
+use Rattle.x86_64_model.proofs.Lemmas.Maps.Takes.{map_takes}
+use Rattle.x86_64.proofs.FreeFrames.{map_keeps_free, change_keeps_free, nothing_keeps_free}
 use Rattle.x86_64.proofs.Keeping.{keeps_step}
 
 -- ---- results that answers are
@@ -98,6 +102,7 @@ pub record Start (l : Layout) (put : List ℕ → ℕ → List ℕ) (serves : �
   pub some_levels : 3 < l.levels
   pub adds : IsParentFlags l.added_flags
   pub gives : IsGiving put
+  pub mapping : IsMapping l.places
   pub fits : FitsPool l m serves pool
   pub low : 1 ≤ level
   pub high : level ≤ 3
@@ -106,6 +111,7 @@ pub record Start (l : Layout) (put : List ℕ → ℕ → List ℕ) (serves : �
 pub record Serves (S : Type 0) (l : Layout) (put : List ℕ → ℕ → List ℕ) (serves : ℕ → Bool) (m : Memory) (pool : List ℕ) (level : ℕ) (call : PageCall) (n : Memory) (rest : List ℕ) (answer : SizeReply S) : Type 0 where
   pub step : size_step (machine_of l put) level (state_of l m pool) call ≡ record { state = state_of l n rest; reply = Some (Some answer) }
   pub keeps : Keeps l serves m pool n rest
+  pub free : KeepsFree l m pool [] n rest
   pub still : size_changes_nothing answer ≡ true → n ≡ m
 
 is_page : {l : Layout} {put : List ℕ → ℕ → List ℕ} {serves : ℕ → Bool} {m : Memory} {pool : List ℕ} {level : ℕ} → Start l put serves m pool level → (page : ℕ) → IsPage l.levels (path_at l.levels level page)
@@ -121,49 +127,73 @@ stepped : {Lent : Type 0} (h : Hierarchy Lent) (put : List ℕ → ℕ → List 
 stepped h put pool on answer after rest same steps =
     subst (λ l. do_call (machine_of h.layout put) (state_of h.layout h.memory pool) on ≡ record { state = state_of l after.memory rest; reply = machine.Answered answer }) same (steps put)
 
+-- ---- frames that a map takes
+
+module _ {Lent : Type 0} (h : Hierarchy Lent) {put : List ℕ → ℕ → List ℕ} {serves : ℕ → Bool} {pool : List ℕ} {level : ℕ} (start : Start h.layout put serves h.memory pool level) where
+  -- what a map by a call leaves of the pool, at whose front are the frames that it took
+  abbrev Takes : (call : PageCall) → Type 0
+  Takes call = (rest : List ℕ) → (do_call (machine_of h.layout put) (state_of h.layout h.memory pool) (page_call h.layout.levels level call)).state.pool ≡ rest → (taken : List ℕ) × (pool ≡ taken ++ rest)
+
+  taken_off : (q : List ℕ) → IsPage h.layout.levels q → (frame flags more : ℕ) (rest : List ℕ) → (map_call h.layout.levels (paths h.layout h.memory) pool more h.layout.added_flags q frame flags).supply ≡ rest
+      → (taken : List ℕ) × (pool ≡ taken ++ rest)
+  taken_off q page frame flags more rest same =
+      let sound = sound_of_fits h.layout.levels h.layout.window (words h.layout h.memory) h.layout.root serves (state_of h.layout h.memory pool) start.fits in
+      let takes = map_takes h.layout.levels h.layout.root (paths h.layout h.memory) pool more h.layout.added_flags q frame flags sound.hierarchy.tree page.at_most in
+      (takes.taken, takes.first ∙ ap (λ fs. takes.taken ++ fs) same)
+
 module _ {Lent S : Type 0} (h : Hierarchy Lent) {put : List ℕ → ℕ → List ℕ} {serves : ℕ → Bool} {pool : List ℕ} {level : ℕ} (start : Start h.layout put serves h.memory pool level) where
   abbrev Is : (call : PageCall) (n : Memory) (rest : List ℕ) (answer : SizeReply S) → Type 0
   Is = IsServed S h.layout put serves h.memory pool level
 
   answered : (call : PageCall) → IsCall h.layout.levels (page_call h.layout.levels level call) → (n : Memory) (rest : List ℕ) (answer : Answer)
       → do_call (machine_of h.layout put) (state_of h.layout h.memory pool) (page_call h.layout.levels level call) ≡ record { state = state_of h.layout n rest; reply = machine.Answered answer }
-      → IsReady h.layout n rest → KeepsOthers h.layout.places (Owns h.layout h.memory pool) h.memory n → (told : SizeReply S) → size_reply call answer ≡ Some told → (size_changes_nothing told ≡ true → n ≡ h.memory)
-      → Is call n rest told
-  answered call is n rest answer does ready others told tells still may =
+      → IsReady h.layout n rest → KeepsOthers h.layout.places (Owns h.layout h.memory pool) h.memory n → KeepsFree h.layout h.memory pool [] n rest
+      → (told : SizeReply S) → size_reply call answer ≡ Some told → (size_changes_nothing told ≡ true → n ≡ h.memory) → Is call n rest told
+  answered call is n rest answer does ready others free told tells still may =
       let before = state_of h.layout h.memory pool in
       let on = page_call h.layout.levels level call in
       let one : step (machine_of h.layout put) before on ≡ record { state = state_of h.layout n rest; reply = machine.Answered answer } = ap (λ b. cond b (do_call (machine_of h.layout put) before on) (only_reply before machine.NotAllowed)) may ∙ does in
       record {
         step = ap (λ (x : AfterCall). record { state = x.state; reply = size_answer call x.reply }) one ∙ ap (λ a. record { state = state_of h.layout n rest; reply = option_map Some a }) tells;
         still = still;
+        free = free;
         keeps = keeps_step h.layout start.adds put start.gives serves h.memory pool start.fits on is n rest (sym (ap (λ (x : AfterCall). x.state) one)) ready others;
       }
 
   -- ---- maps
 
-  map_served : (call : PageCall) → IsCall h.layout.levels (page_call h.layout.levels level call) → (page frame : ℕ)
+  map_served : (call : PageCall) → IsCall h.layout.levels (page_call h.layout.levels level call) → Takes h start call → (page frame : ℕ)
       → ((answer : Answer) → size_reply {S = S} call answer ≡ option_map reply.Map (result_of (λ f. page) map_error answer))
       → (r : Result ℕ (MapToError S)) (after : Hierarchy Lent) (rest : List ℕ) → DoesMap h pool (page_call h.layout.levels level call) (map_answer frame r) after rest → IfOk r (λ flush. flush ≡ page)
       → (told : Result ℕ (MapToError S)) → told ≡ r → Is call after.memory rest (reply.Map told)
-  map_served call is page frame replies r after rest does same told tells =
-      answered call is after.memory rest (map_answer frame r) (stepped h put pool (page_call h.layout.levels level call) (map_answer frame r) after rest does.layout does.outcome)
+  map_served call is takes page frame replies r after rest does same told tells =
+      let steps = stepped h put pool (page_call h.layout.levels level call) (map_answer frame r) after rest does.layout does.outcome in
+      let off = takes rest (ap (λ (x : AfterCall). x.state.pool) steps) in
+      answered call is after.memory rest (map_answer frame r) steps
       (subst (λ l. IsReady l after.memory rest) does.layout does.fits) (λ k none. does.others k (λ f uses. none f uses.0))
+      (map_keeps_free h.layout start.mapping serves h.memory pool start.fits after.memory off.0 rest off.1 does.others)
       (reply.Map told) (replies _ ∙ ap (option_map reply.Map) (map_result S page frame r same ∙ ap Some (sym tells))) (λ unchanged. cc)
 
   pub map_to_served : (page frame : ℕ) (flags : ℕ) (r : Result ℕ (MapToError S)) (after : Hierarchy Lent) (rest : List ℕ)
       → DoesMap h pool (page_call h.layout.levels level (MapTo page frame flags)) (map_answer frame r) after rest → IfOk r (λ flush. flush ≡ page)
       → (told : Result ℕ (MapToError S)) → told ≡ r → Is (MapTo page frame flags) after.memory rest (reply.Map told)
-  map_to_served page frame flags = map_served (MapTo page frame flags) (is_page start page) page frame (λ a. refl)
+  unfolding do_call
+  map_to_served page frame flags =
+      map_served (MapTo page frame flags) (is_page start page) (taken_off h start (path_at h.layout.levels level page) (is_page start page) frame flags (parent_part flags)) page frame (λ a. refl)
 
   pub map_with_flags_served : (page frame : ℕ) (flags parent_flags : ℕ) (r : Result ℕ (MapToError S)) (after : Hierarchy Lent) (rest : List ℕ)
       → DoesMap h pool (page_call h.layout.levels level (MapToWithTableFlags page frame flags parent_flags)) (map_answer frame r) after rest → IfOk r (λ flush. flush ≡ page)
       → (told : Result ℕ (MapToError S)) → told ≡ r → Is (MapToWithTableFlags page frame flags parent_flags) after.memory rest (reply.Map told)
-  map_with_flags_served page frame flags parent_flags = map_served (MapToWithTableFlags page frame flags parent_flags) (is_page start page) page frame (λ a. refl)
+  unfolding do_call
+  map_with_flags_served page frame flags parent_flags =
+      map_served (MapToWithTableFlags page frame flags parent_flags) (is_page start page) (taken_off h start (path_at h.layout.levels level page) (is_page start page) frame flags parent_flags) page frame (λ a. refl)
 
   pub identity_map_served : (frame : ℕ) (flags : ℕ) (r : Result ℕ (MapToError S)) (after : Hierarchy Lent) (rest : List ℕ)
       → DoesMap h pool (page_call h.layout.levels level (IdentityMap frame flags)) (map_answer frame r) after rest → IfOk r (λ flush. flush ≡ frame)
       → (told : Result ℕ (MapToError S)) → told ≡ r → Is (IdentityMap frame flags) after.memory rest (reply.Map told)
-  identity_map_served frame flags = map_served (IdentityMap frame flags) (start.low, start.high, omega (arith, start.some_levels, start.high)) frame frame (λ a. refl)
+  unfolding do_call
+  identity_map_served frame flags = map_served (IdentityMap frame flags) (start.low, start.high, omega (arith, start.some_levels, start.high))
+      (taken_off h start (path_at h.layout.levels level frame) (is_page start frame) frame flags (parent_part flags)) frame frame (λ a. refl)
 
   -- ---- changes of one entry
 
@@ -172,7 +202,7 @@ module _ {Lent S : Type 0} (h : Hierarchy Lent) {put : List ℕ → ℕ → List
   change_served call is answer after does told tells still =
       answered call is after.memory pool answer (stepped h put pool (page_call h.layout.levels level call) answer after pool does.layout (does.outcome pool))
       (subst (λ l. IsReady l after.memory pool) does.layout (does.fits pool (ready_of_fits h.layout h.memory serves pool start.fits))) (λ k none. does.others k (λ f table. none f (inr table)))
-      told tells (λ unchanged. does.refused (still unchanged))
+      (change_keeps_free h.layout start.mapping serves h.memory pool start.fits after.memory does.others) told tells (λ unchanged. does.refused (still unchanged))
 
   pub unmap_served : (page : ℕ) (r : Result (ℕ × ℕ) UnmapError) (after : Hierarchy Lent) → Does h (page_call h.layout.levels level (Unmap page)) (unmap_answer r) after → IfOk r (λ unmapped. unmapped.1 ≡ page)
       → (told : Result (ℕ × ℕ) UnmapError) → told ≡ r → Is (Unmap page) after.memory pool (reply.Unmap told)
@@ -198,7 +228,7 @@ module _ {Lent S : Type 0} (h : Hierarchy Lent) {put : List ℕ → ℕ → List
   pub translate_served : (page : ℕ) (r : Result ℕ TranslateError) → translate_answer r ≡ page_translation h (path_at h.layout.levels level page) → Is (TranslatePage page) h.memory pool (reply.Frame r)
   unfolding do_call
   translate_served page r answers = answered (TranslatePage page) (is_page start page) h.memory pool (page_translation h (path_at h.layout.levels level page)) refl
-      (ready_of_fits h.layout h.memory serves pool start.fits) (λ k none. refl) (reply.Frame r) (ap (λ a. option_map reply.Frame (result_of (λ f. f) translate_error a)) (sym answers) ∙ ap (option_map reply.Frame) (translate_result r)) (λ unchanged. refl)
+      (ready_of_fits h.layout h.memory serves pool start.fits) (λ k none. refl) (nothing_keeps_free h.layout h.memory pool) (reply.Frame r) (ap (λ a. option_map reply.Frame (result_of (λ f. f) translate_error a)) (sym answers) ∙ ap (option_map reply.Frame) (translate_result r)) (λ unchanged. refl)
 
 -- ---- the layout and what was lent stay
 

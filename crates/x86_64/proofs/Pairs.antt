@@ -11,7 +11,7 @@ use Rattle.x86_64_model.specs.Owned.{Hierarchy, PoolFits, paths, words}
 use Rattle.x86_64_model.specs.Pool.{IsGiving}
 use Rattle.x86_64_model.proofs.Lemmas.Machines.Giving.{giving_from}
 use Rattle.x86_64_model.proofs.Lemmas.Machines.Laws.{pairs_reply_alike}
-use Rattle.x86_64.specs.Asked.{Kind, MapperCall, machine_call, calls_by}
+use Rattle.x86_64.specs.Asked.{Kind, machine_call, calls_by}
 use Rattle.x86_64.specs.Pairs.{NoneNamesAs, put_first}
 use Rattle.x86_64.specs.Runs.{machine_of, state_of, RanAs, replies_as}
 use Rattle.x86_64.proofs.Named.{none_named}

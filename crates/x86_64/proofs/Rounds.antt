@@ -10,7 +10,8 @@ use Rattle.x86_64_model.specs.Owned.{Hierarchy}
 use Rattle.x86_64_tables.specs.declared.mapper.recorder.FlushItem.{FlushItem}
 use Rattle.x86_64.specs.Flushes.{items_by}
 use Rattle.x86_64.specs.Private.{recorded}
-use Rattle.x86_64.specs.Asked.{Kind, calls_by}
+use Rattle.x86_64.specs.Asked.{Kind, MapperCall, machine_call, calls_by}
+use Rattle.x86_64.specs.FreeFrames.{KeepsFree, back_by, all_back}
 use Rattle.x86_64.specs.Runs.{machine_of, state_of, Keeps, Kept, AfterStep, step_as, replies_as, appended, UnchangedAs}
 use Rattle.x86_64.proofs.Keeping.{keeps_then}
 
@@ -30,6 +31,12 @@ module _ {C R : Type 0} (kind : Kind C R) (m : Machine) (s t : State) (r : R) (c
 
   pub rest_next : (all : State) → state_after m s (calls_by kind.asks m.levels (drop i calls)) ≡ all → state_after m t (calls_by kind.asks m.levels (drop (i + 1) calls)) ≡ all
   rest_next all before = ap (λ (x : AfterStep R). state_after m x.state (calls_by kind.asks m.levels (drop (i + 1) calls))) (sym one) ∙ ap (λ cs. state_after m s (calls_by kind.asks m.levels cs)) (sym (left calls i call here item)) ∙ before
+
+  -- the frames that come back from here on
+  pub back_next : all_back m s (calls_by kind.asks m.levels (drop i calls)) ≡ back_by m s (machine_call m.levels (kind.asks call)) ++ all_back m t (calls_by kind.asks m.levels (drop (i + 1) calls))
+  back_next =
+      ap (λ cs. all_back m s (calls_by kind.asks m.levels cs)) (left calls i call here item)
+      ∙ ap (λ (x : AfterStep R). back_by m s (machine_call m.levels (kind.asks call)) ++ all_back m x.state (calls_by kind.asks m.levels (drop (i + 1) calls))) one
 
 -- ---- the replies that were appended
 
@@ -73,6 +80,9 @@ told_last kind m s calls i past items all told = sym (append-nil (map Some items
 pub rest_last : {C R : Type 0} (kind : Kind C R) (m : Machine) (s : State) (calls : List C) (i : ℕ) → length calls ≤ i → (all : State) → state_after m s (calls_by kind.asks m.levels (drop i calls)) ≡ all → s ≡ all
 rest_last kind m s calls i past all rest = ap (λ cs. state_after m s (calls_by kind.asks m.levels cs)) (sym (drop_all i calls past)) ∙ rest
 
+pub back_last : {C R : Type 0} (kind : Kind C R) (m : Machine) (s : State) (calls : List C) (i : ℕ) → length calls ≤ i → all_back m s (calls_by kind.asks m.levels (drop i calls)) ≡ []
+back_last kind m s calls i past = ap (λ cs. all_back m s (calls_by kind.asks m.levels cs)) (drop_all i calls past)
+
 -- one for each call
 pub one_each : {C R : Type 0} (kind : Kind C R) (m : Machine) (s : State) (calls : List C) (before after : List R) → map Some after ≡ map Some before ++ replies_as kind m s calls → length after ≡ length before + length calls
 one_each kind m s calls before after told =
@@ -82,6 +92,17 @@ one_each kind m s calls before after told =
 pub appended_told : {R : Type 0} (before after : List R) (told : List (Option R)) → map Some after ≡ map Some before ++ told → map Some (appended before after) ≡ told
 appended_told before after told e =
     sym (drop-map Some (length before) after) ∙ ap (drop (length before)) e ∙ ap (λ n. drop n (map Some before ++ told)) (sym (length-map before Some)) ∙ drop-append_seam (map Some before) told
+
+-- where none was appended no item is recorded
+pub items_first : {R : Type 0} (items_of : R → List FlushItem) (b : Bool) (before : List R) (held : List FlushItem) → held ≡ held ++ recorded b (items_by items_of (appended before before))
+items_first items_of b before held = sym (ap (λ told. held ++ recorded b (items_by items_of told)) (drop_all (length before) before (leq_refl (length before))) ∙ ap (λ xs. held ++ xs) (recorded_none b) ∙ append-nil held)
+  where
+    recorded_none : (b : Bool) → recorded b [] ≡ []
+    recorded_none true = refl
+    recorded_none false = refl
+
+    leq_refl : (n : ℕ) → n ≤ n
+    leq_refl n = omega arith
 
 -- with room for some there is room for one
 pub room_for_one : (has_room : ℕ → Type 0) → ((n : ℕ) → has_room (n + 1) → has_room n) → (k : ℕ) → has_room (k + 1) → has_room 1
@@ -95,6 +116,9 @@ room_for_one has_room fewer (suc k) room =
 module _ (k l : Layout) (same : l ≡ k) (put : List ℕ → ℕ → List ℕ) (n o : Memory) (rest last : List ℕ) where
   pub step_at : {C R : Type 0} (kind : Kind C R) (call : C) (r : R) → step_as kind (machine_of l put) (state_of l n rest) call ≡ record { state = state_of l o last; reply = Some r } → step_as kind (machine_of k put) (state_of k n rest) call ≡ record { state = state_of k o last; reply = Some r }
   step_at kind call r = subst (λ l. step_as kind (machine_of l put) (state_of l n rest) call ≡ record { state = state_of l o last; reply = Some r }) same
+
+  pub free_at : (call : MapperCall) → KeepsFree l n rest (back_by (machine_of l put) (state_of l n rest) (machine_call l.levels call)) o last → KeepsFree k n rest (back_by (machine_of k put) (state_of k n rest) (machine_call k.levels call)) o last
+  free_at call = subst (λ l. KeepsFree l n rest (back_by (machine_of l put) (state_of l n rest) (machine_call l.levels call)) o last) same
 
 pub kept_then : {Lent : Type 0} (h now after : Hierarchy Lent) (served serves : ℕ → Bool) → serves ≡ served → (pool rest last : List ℕ) → Kept h served pool now rest → Kept now serves rest after last
     → Kept h served pool after last

@@ -1,7 +1,9 @@
 pub mod Asked
 pub mod Calls
 pub mod Replies
+pub mod FreeFrames
 pub mod Runs
+pub mod EveryWord
 pub mod Pairs
 pub mod Flushes
 pub mod ToldReplies

@@ -12,6 +12,7 @@ use Rattle.x86_64.specs.declared.calls.Call.{Call}
 use Rattle.x86_64.specs.declared.calls.call57.Call57.{Call57}
 use Rattle.x86_64.specs.Asked.{Kind, machine_call, calls_by}
 use Rattle.x86_64.specs.Calls.{asks, asks_57}
+use Rattle.x86_64.specs.FreeFrames.{KeepsFree, all_back}
 use Rattle.x86_64.specs.Replies.{Reply, reply_of, changes_nothing}
 
 -- the calls of four levels, and those of five
@@ -76,12 +77,13 @@ pub record Kept {Lent : Type 0} (h : Hierarchy Lent) (serves : ℕ → Bool) (po
   pub lent : after.lent ≡ h.lent
 
 -- A list of calls of a kind was answered: by the replies of the machine, one each, after those of before, and its state is the machine's. Where
--- every reply says that nothing changed, no word did.
+-- every reply says that nothing changed, no word did. Free frames keep their words, but those that came back, which have words 0.
 pub record RanAs {C R Lent : Type 0} (kind : Kind C R) (put : List ℕ → ℕ → List ℕ) (h : Hierarchy Lent) (pool : List ℕ) (calls : List C) (before now : List R) (after : Hierarchy Lent) (rest : List ℕ) : Type 0 where
   pub replies : map Some now ≡ map Some before ++ replies_as kind (machine_of h.layout put) (state_of h.layout h.memory pool) calls
   pub one_each : length now ≡ length before + length calls
   pub refused : UnchangedAs kind.changes_nothing (appended before now) h.memory after.memory
   pub state : state_of h.layout after.memory rest ≡ state_after (machine_of h.layout put) (state_of h.layout h.memory pool) (calls_by kind.asks h.layout.levels calls)
+  pub free : KeepsFree h.layout h.memory pool (all_back (machine_of h.layout put) (state_of h.layout h.memory pool) (calls_by kind.asks h.layout.levels calls)) after.memory rest
 
 -- calls of four levels
 abbrev pub Ran : {Lent : Type 0} → (put : List ℕ → ℕ → List ℕ) → (h : Hierarchy Lent) → (pool : List ℕ) → List Call → (before now : List Reply) → (after : Hierarchy Lent) → (rest : List ℕ) → Type 0

@@ -1,4 +1,5 @@
 //! Laws of calls and replies, as public functions with empty bodies.
+ghost use Rattle.x86_64.specs.EveryWord.{EveryWordIsDecided};
 ghost use Rattle.x86_64.specs.SecondHierarchies.{SecondHierarchiesStay};
 ghost use Rattle.x86_64.specs.ToldReplies.{RepliesTell, RepliesTell57};
 
@@ -14,4 +15,11 @@ pub fn replies_lose_nothing()
 /// fits it: what [`run`](crate::run) keeps (`keeps`) is enough.
 pub fn second_hierarchies_stay()
     ensures { SecondHierarchiesStay }
+{}
+
+/// What a list of calls leaves decides every word of the memory: the root's and those of tables by the path map at the end, those
+/// of free frames by which of them came back, and all others stay. What [`run`](crate::run) tells (`ran`) and keeps (`keeps`) is
+/// enough.
+pub fn every_word_is_decided()
+    ensures { EveryWordIsDecided }
 {}

@@ -1,5 +1,5 @@
 //! Lists of calls of a mapper.
-ghost use Rattle.std.specs.Prelude.{◌≡◌, ◌+◌, ◌<◌, ◌≤◌, ◌++◌, ◌&&◌, ℕ, true, not, length, Some, OnOk, OnErr, vec_len};
+ghost use Rattle.std.specs.Prelude.{◌≡◌, ◌+◌, ◌<◌, ◌≤◌, ◌++◌, ◌&&◌, [], ℕ, true, not, length, Some, OnOk, OnErr, vec_len};
 ghost use Rattle.std.specs.Vec.{vec_capacity};
 ghost use Rattle.x86_64_model.specs.Entry.{huge, no_address};
 ghost use Rattle.x86_64_model.specs.Owned.{Valid, PoolFits, allows, path_of};
@@ -8,6 +8,7 @@ ghost use Rattle.x86_64_tables.specs.PageTableFlags.{bits_of};
 ghost use Rattle.x86_64.specs.Asked.{page_call};
 ghost use Rattle.x86_64.specs.Calls.{size_asks};
 ghost use Rattle.x86_64.specs.Flushes.{items_by};
+ghost use Rattle.x86_64.specs.FreeFrames.{KeepsFree};
 ghost use Rattle.x86_64.specs.Runs.{machine_of, state_of, Kept, Ran, RanAs, appended};
 ghost use Rattle.x86_64.specs.Private.{recorded, items_where, changes_nothing_where, size_step};
 
@@ -150,6 +151,8 @@ fn serve_page<S: PageSize, M: Mapper<S>, F: FrameStore, K: Tokens>(
         ≡ record { state = after; reply = Some result } }
     ensures still { let memory = (M.hierarchy mapper.old).memory in
         changes_nothing_where result ≡ true → (M.hierarchy mapper.new).memory ≡ memory }
+    ensures free { let h = M.hierarchy mapper.old in let after = M.hierarchy mapper.new in
+        KeepsFree h.layout h.memory (F.supply frames.old) [] after.memory (F.supply frames.new) }
     ensures keeps { let h = M.hierarchy mapper.old in
         Kept h (F.serves frames.old) (F.supply frames.old) (M.hierarchy mapper.new) (F.supply frames.new) }
     ensures serves { F.serves frames.new ≡ F.serves frames.old }

@@ -1,11 +1,12 @@
 //! Lists of calls of a mapper of five levels.
-ghost use Rattle.std.specs.Prelude.{◌≡◌, ◌+◌, ◌<◌, true, not, length, Some, OnOk, OnErr, vec_len};
+ghost use Rattle.std.specs.Prelude.{◌≡◌, ◌+◌, ◌<◌, [], true, not, length, Some, OnOk, OnErr, vec_len};
 ghost use Rattle.std.specs.Vec.{vec_capacity};
 ghost use Rattle.x86_64_model.specs.Owned.{Valid, PoolFits, allows, path_of};
 ghost use Rattle.x86_64_model.specs.Window.{begins_with};
 ghost use Rattle.x86_64.specs.Asked.{page_call};
 ghost use Rattle.x86_64.specs.Calls.{size_asks_57};
 ghost use Rattle.x86_64.specs.Private.{changes_nothing_where, size_step};
+ghost use Rattle.x86_64.specs.FreeFrames.{KeepsFree};
 ghost use Rattle.x86_64.specs.Runs.{machine_of, state_of, Kept, Ran57};
 
 use super::served::{Asked, Served};
@@ -118,6 +119,8 @@ fn serve_page_57<S: PageSize, M: Mapper57<S>, F: FrameStore>(
         ≡ record { state = after; reply = Some result } }
     ensures still { let memory = (M.hierarchy mapper.old).memory in
         changes_nothing_where result ≡ true → (M.hierarchy mapper.new).memory ≡ memory }
+    ensures free { let h = M.hierarchy mapper.old in let after = M.hierarchy mapper.new in
+        KeepsFree h.layout h.memory (F.supply frames.old) [] after.memory (F.supply frames.new) }
     ensures keeps { let h = M.hierarchy mapper.old in
         Kept h (F.serves frames.old) (F.supply frames.old) (M.hierarchy mapper.new) (F.supply frames.new) }
     ensures serves { F.serves frames.new ≡ F.serves frames.old }

@@ -4,6 +4,7 @@ ghost use Rattle.x86_64_model.specs.Call.{IsCall};
 ghost use Rattle.x86_64_model.specs.Owned.{PoolFits};
 ghost use Rattle.x86_64_tables.specs.declared.mapper.recorder.FlushItem.{FlushItem as Item};
 ghost use Rattle.x86_64.specs.Asked.{Kind, machine_call};
+ghost use Rattle.x86_64.specs.FreeFrames.{KeepsFree, back_by};
 ghost use Rattle.x86_64.specs.Private.{recorded};
 ghost use Rattle.x86_64.specs.Runs.{machine_of, state_of, Kept, step_as};
 
@@ -36,6 +37,10 @@ pub trait Served<M: Tables, K: Tokens, R>: Asked<R> {
             ≡ record { state = after; reply = Some result } }
         ensures still { let memory = (M.hierarchy mapper.old).memory in
             Self.kind.changes_nothing result ≡ true → (M.hierarchy mapper.new).memory ≡ memory }
+        ensures free { let h = M.hierarchy mapper.old in let pool = F.supply frames.old in
+            let asked = machine_call h.layout.levels (Self.kind.asks self) in
+            let back = back_by (machine_of h.layout F.put) (state_of h.layout h.memory pool) asked in
+            KeepsFree h.layout h.memory pool back (M.hierarchy mapper.new).memory (F.supply frames.new) }
         ensures keeps { let h = M.hierarchy mapper.old in let rest = F.supply frames.new in
             Kept h (F.serves frames.old) (F.supply frames.old) (M.hierarchy mapper.new) rest }
         ensures serves { F.serves frames.new ≡ F.serves frames.old }

@@ -1,9 +1,25 @@
-use Rattle.std.proofs.Common.{◌∙◌, ◌++◌, ◌+◌, ◌-◌, length, map, Some, subst, arith}
+use Rattle.std.proofs.Common.{◌∙◌, ◌++◌, ◌+◌, ◌-◌, length, map, Some, subst, arith, rules}
 use Rattle.x86_64_model.specs.Machine.{Machine, State, state_after}
 use Rattle.x86_64.specs.Asked.{calls_by}
+use Rattle.x86_64.specs.FreeFrames.{all_back}
 use Rattle.x86_64.specs.Runs.{machine_of, state_of, replies_as}
-use Rattle.x86_64.proofs.Rounds.{told_next, rest_next, longer_next, items_next, still_next, told_last, rest_last, one_each, room_for_one, step_at, kept_then}
+use Rattle.x86_64.proofs.FreeFrames.{free_at_first, free_next, free_at_last}
+use Rattle.x86_64.proofs.Rounds.{told_next, rest_next, longer_next, items_first, items_next, still_next, told_last, rest_last, one_each, room_for_one, back_next, back_last, step_at, free_at, kept_then}
 use Rattle.x86_64.proofs.runs.serve_all.Goals as goal
+
+pub loop-call-init : goal.loop-call-init
+loop-call-init g c = record {
+  told = search rules;
+  longer = search rules;
+  still = search rules;
+  rest = search rules;
+  free = free_at_first (g.M.Tables.hierarchy c.args.mapper.now).layout (g.M.Tables.hierarchy c.args.mapper.now).memory (g.F.FrameAllocator.supply c.args.frames.now) _;
+  room = search rules;
+  keeps = search rules;
+  items = items_first g.C.Served.items_of g.K.Tokens.records c.args.replies.now.items (g.K.Tokens.items c.args.tokens.now);
+  tokens = search rules;
+  serves = search rules;
+}
 
 pub loop-call-preserved : goal.loop-call-preserved
 loop-call-preserved g c =
@@ -18,6 +34,9 @@ loop-call-preserved g c =
       told = told_next g.C.Asked.kind machine _ _ _ calls c.loop-call.call-index c.call-item.result c.loop-call-test.true c.call-item.is one
           c.loop-call.replies.items c.push_reserved.new.self.items (map Some c.args.replies.now.items ++ replies_as g.C.Asked.kind machine start calls) c.push_reserved.ensures.items before.told;
       rest = rest_next g.C.Asked.kind machine _ _ c.serve.result calls c.loop-call.call-index c.call-item.result c.loop-call-test.true c.call-item.is one (state_after machine start (calls_by g.C.Asked.kind.asks layout.levels calls)) before.rest;
+      free = free_next layout _ _ _ _ _ _ (all_back machine start (calls_by g.C.Asked.kind.asks layout.levels calls)) _ _ _ before.free
+          (back_next g.C.Asked.kind machine _ _ c.serve.result calls c.loop-call.call-index c.call-item.result c.loop-call-test.true c.call-item.is one)
+          (free_at layout _ before.keeps.layout g.F.FrameDeallocator.put _ (g.M.Tables.hierarchy c.serve.new.mapper).memory _ (g.F.FrameAllocator.supply c.serve.new.frames) (g.C.Asked.kind.asks c.call-item.result) after.free);
       room = omega arith;
       longer = longer_next c.args.replies.now.items c.loop-call.replies.items c.push_reserved.new.self.items c.serve.result before.longer c.push_reserved.ensures.items;
       still = still_next c.args.replies.now.items c.loop-call.replies.items c.push_reserved.new.self.items c.serve.result before.longer c.push_reserved.ensures.items g.C.Asked.kind.changes_nothing _ _ _ before.still after.still;
@@ -47,5 +66,6 @@ returns-clause-ran g c =
       replies = replies;
       one_each = one_each g.C.Asked.kind machine start calls before items replies;
       refused = c.loop-call.invariant.still;
+      free = free_at_last layout _ _ _ _ (all_back machine start (calls_by g.C.Asked.kind.asks layout.levels calls)) _ c.loop-call.invariant.free (back_last g.C.Asked.kind machine _ calls c.loop-call.call-index (omega arith));
       state = rest_last g.C.Asked.kind machine _ calls c.loop-call.call-index (omega arith) (state_after machine start (calls_by g.C.Asked.kind.asks layout.levels calls)) c.loop-call.invariant.rest;
     }

@@ -15,6 +15,7 @@ is_served g c =
       some_levels = g.met.M.Tables.some_levels mapper;
       adds = (g.M.Tables.added_flags mapper).adds;
       gives = giving_from _ g.met.F.FrameDeallocator.put_rearranges;
+      mapping = g.met.M.Tables.is_mapping mapper;
       fits = c.requires.fits;
       low = g.S.PageSize.low;
       high = g.S.PageSize.high;
@@ -70,3 +71,6 @@ returns-clause-keeps g c =
 
 pub returns-clause-still : goal.returns-clause-still
 returns-clause-still g c = (is_served g c (sym c.is_allowed.ensures ∙ c.if-not-is_allowed.false)).still
+
+pub returns-clause-free : goal.returns-clause-free
+returns-clause-free g c = (is_served g c (sym c.is_allowed.ensures ∙ c.if-not-is_allowed.false)).free

@@ -2,7 +2,7 @@ use Rattle.std.proofs.Common.{ap}
 use Rattle.x86_64_model.proofs.Lemmas.Machines.Giving.{giving_from}
 use Rattle.x86_64.specs.Calls.{asks_57}
 use Rattle.x86_64.proofs.CallSteps.{translate_served, address_served}
-use Rattle.x86_64.proofs.CleanUpSteps.{held_may_clean_up, kept_cleaned}
+use Rattle.x86_64.proofs.CleanUpSteps.{held_may_clean_up, kept_cleaned, free_cleaned}
 use Rattle.x86_64.proofs.runs.five_levels.Call57ServedIgnoredReply57.serve.Goals as goal
 
 pub returns-in-Translate-clause-step : goal.returns-in-Translate-clause-step
@@ -26,3 +26,13 @@ pub returns-in-CleanUpRange-clause-keeps : goal.returns-in-CleanUpRange-clause-k
 returns-in-CleanUpRange-clause-keeps g c =
     kept_cleaned (g.M.Tables.hierarchy c.args.mapper.now) _ _ _ (g.met.F.FrameStore.one_list _) c.requires.fits _ _ _ _ _ _ (g.met.F.FrameStore.one_list _) c.clean_up_addr_range.ensures.cleans
     (g.M.Tables.added_flags c.args.mapper.now).adds (giving_from _ g.met.F.FrameDeallocator.put_rearranges)
+
+pub returns-in-CleanUp-clause-free : goal.returns-in-CleanUp-clause-free
+returns-in-CleanUp-clause-free g c =
+    rw c.in-CleanUp.is (free_cleaned (g.M.Tables.hierarchy c.args.mapper.now) _ _ _ (g.met.F.FrameStore.one_list _) c.requires.fits _ _ _ _ _ _ (g.met.F.FrameStore.one_list _) c.clean_up.ensures.cleans
+    (g.met.M.Tables.is_mapping _) (giving_from _ g.met.F.FrameDeallocator.put_rearranges))
+
+pub returns-in-CleanUpRange-clause-free : goal.returns-in-CleanUpRange-clause-free
+returns-in-CleanUpRange-clause-free g c =
+    rw c.in-CleanUpRange.is (free_cleaned (g.M.Tables.hierarchy c.args.mapper.now) _ _ _ (g.met.F.FrameStore.one_list _) c.requires.fits _ _ _ _ _ _ (g.met.F.FrameStore.one_list _) c.clean_up_addr_range.ensures.cleans
+    (g.met.M.Tables.is_mapping _) (giving_from _ g.met.F.FrameDeallocator.put_rearranges))

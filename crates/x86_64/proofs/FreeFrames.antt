@@ -1,0 +1,117 @@
+-- What calls leave of the words of free frames.
+use Rattle.std.proofs.Common.{◌≡◌, ◌⊎◌, inl, inr, ⊎_elim, ℕ, ◌==◌, Bool, true, false, cond, nat_lt, List, [], ◌∷◌, ◌++◌, Option, None, refl, sym, ap, ◌∙◌, subst, append-nil, append_assoc, eqb-true}
+use Rattle.std.proofs.lemmas.Bool.{eqb-false}
+use Rattle.x86_64_model.specs.Layout.{Layout, words, paths}
+use Rattle.x86_64_model.specs.Lists.{In}
+use Rattle.x86_64_model.specs.MapperCalls.{Owns, KeepsOthers}
+use Rattle.x86_64_model.specs.Memory.{Memory, IsMapping, Words, word, word_in}
+use Rattle.x86_64_model.specs.Pool.{IsTable, IsGiving, given_back}
+use Rattle.x86_64_model.proofs.Lemmas.CleanUps.Trees.{given_frames}
+use Rattle.x86_64_model.proofs.Lemmas.Hierarchies.Memories.{covered}
+use Rattle.x86_64_model.proofs.Lemmas.Lists.Members.{in_left, in_right, in_append}
+use Rattle.x86_64_model.proofs.Lemmas.Machines.Fitting.{own_there}
+use Rattle.x86_64.specs.Asked.{PageCall, MapTo, MapToWithTableFlags, IdentityMap, Unmap, UpdateFlags, SetFlags, TranslatePage, page_call}
+use Rattle.x86_64.specs.FreeFrames.{KeepsFree, back_by}
+use Rattle.x86_64.specs.Runs.{FitsPool, machine_of, state_of}
+
+-- ---- one call
+
+module _ (l : Layout) (mapping : IsMapping l.places) (serves : ℕ → Bool) (m : Memory) (pool : List ℕ) (fits : FitsPool l m serves pool) where
+  abbrev Table : (f : ℕ) → Type 0
+  Table f = IsTable l.levels l.root (paths l m) f
+
+  own_is_covered : (f : ℕ) → Owns l m pool f → l.places.covers f ≡ true
+  own_is_covered f own = covered m l.places f (own_there l.levels l.window (words l m) l.root serves (state_of l m pool) fits f own)
+
+  -- a frame that is free before and after keeps its words, where none changed but in tables and in frames that were taken
+  stays : (n : Memory) (rest : List ℕ) → KeepsOthers l.places (λ g. Table g ⊎ (In pool g × (In rest g → ⊥))) m n → (f : ℕ) → In rest f → In pool f → words l n f ≡ words l m f
+  stays n rest others f left was = ap (λ o. cond (l.places.covers f) o None) (others (l.places.place f) (λ g changed e.
+      let same : g ≡ f = mapping.distinct g f (own_is_covered g (⊎_elim (λ t. inr t) (λ taken. inl taken.0) changed)) (own_is_covered f (inl was)) e in
+      ⊎_elim (λ t. fits.no_table f was (subst Table same t)) (λ taken. taken.1 (subst (In rest) (sym same) left)) changed))
+
+  -- a map, which takes frames off the front
+  pub map_keeps_free : (n : Memory) (taken rest : List ℕ) → pool ≡ taken ++ rest → KeepsOthers l.places (λ f. Owns l m pool f × (In rest f → ⊥)) m n → KeepsFree l m pool [] n rest
+  map_keeps_free n taken rest first others = record {
+    came_back = λ f left back. absurd back;
+    was_free = λ f left none. was f left;
+    same_words = λ f left none. stays n rest (λ k no. others k (λ g uses. no g (⊎_elim (λ i. inr (i, uses.1)) (λ t. inl t) uses.0))) f left (was f left);
+  }
+    where
+      was : (f : ℕ) → In rest f → In pool f
+      was f left = subst (λ fs. In fs f) (sym first) (in_right taken rest f left)
+
+  -- a call that takes no frame
+  pub change_keeps_free : (n : Memory) → KeepsOthers l.places Table m n → KeepsFree l m pool [] n pool
+  change_keeps_free n others = map_keeps_free n [] pool refl (λ k no. others k (λ g t. no g (inr t, λ i. fits.no_table g i t)))
+
+  -- a clean up
+  pub clean_up_keeps_free : (put : List ℕ → ℕ → List ℕ) → IsGiving put → (n : Memory) (back rest : List ℕ) → rest ≡ given_back put pool back → ((f : ℕ) → In back f → (i : ℕ) → word (words l n) f i ≡ 0)
+      → KeepsOthers l.places Table m n → KeepsFree l m pool back n rest
+  clean_up_keeps_free put gives n back rest is empty others = record {
+    came_back = λ f left came. empty f came;
+    was_free = was;
+    same_words = λ f left none. stays n rest (λ k no. others k (λ g t. no g (inl t))) f left (was f left none);
+  }
+    where
+      was : (f : ℕ) → In rest f → (In back f → ⊥) → In pool f
+      was f left none = ⊎_elim (λ came. absurd (none came)) (λ i. i) (in_append back pool f ((given_frames put gives pool back f).0 (subst (λ fs. In fs f) is left)))
+
+-- a call on a page gives no frame back
+pub page_keeps_free : (l : Layout) (m : Memory) (pool : List ℕ) (put : List ℕ → ℕ → List ℕ) (level : ℕ) (call : PageCall) (n : Memory) (rest : List ℕ) → KeepsFree l m pool [] n rest
+    → KeepsFree l m pool (back_by (machine_of l put) (state_of l m pool) (page_call l.levels level call)) n rest
+page_keeps_free l m pool put level (MapTo page frame flags) n rest keeps = keeps
+page_keeps_free l m pool put level (MapToWithTableFlags page frame flags parent_flags) n rest keeps = keeps
+page_keeps_free l m pool put level (IdentityMap frame flags) n rest keeps = keeps
+page_keeps_free l m pool put level (Unmap page) n rest keeps = keeps
+page_keeps_free l m pool put level (UpdateFlags page flags) n rest keeps = keeps
+page_keeps_free l m pool put level (SetFlags at page flags) n rest keeps = keeps
+page_keeps_free l m pool put level (TranslatePage page) n rest keeps = keeps
+
+-- ---- calls one after another
+
+pub nothing_keeps_free : (l : Layout) (m : Memory) (pool : List ℕ) → KeepsFree l m pool [] m pool
+nothing_keeps_free l m pool = record { came_back = λ f left back. absurd back; was_free = λ f left none. left; same_words = λ f left none. refl }
+
+pub in_or_not : (fs : List ℕ) (f : ℕ) → In fs f ⊎ (In fs f → ⊥)
+in_or_not [] f = inr (λ i. i)
+in_or_not (g ∷ fs) f = by (g == f) refl (in_or_not fs f)
+  where
+    by : (b : Bool) → (g == f) ≡ b → In fs f ⊎ (In fs f → ⊥) → In (g ∷ fs) f ⊎ (In (g ∷ fs) f → ⊥)
+    by true is further = inl (inl (eqb-true g f is))
+    by false is further = ⊎_elim (λ i. inl (inr i)) (λ none. inr (λ i. ⊎_elim (eqb-false g f is) none i)) further
+
+pub same_word : (T U : Words) (f i : ℕ) → U f ≡ T f → word U f i ≡ word T f i
+unfolding word
+same_word T U f i same = ap (λ (table : Option (List ℕ)). cond (nat_lt i 512) (word_in table i) 0) same
+
+module _ (l : Layout) (m n o : Memory) (pool rest last back more : List ℕ) (one : KeepsFree l m pool back n rest) (next : KeepsFree l n rest more o last) where
+  apart : (f : ℕ) → (In (back ++ more) f → ⊥) → (In back f → ⊥) × (In more f → ⊥)
+  apart f none = (λ i. none (in_left back more f i), λ i. none (in_right back more f i))
+
+  pub free_then : KeepsFree l m pool (back ++ more) o last
+  free_then = record {
+    came_back = λ f left came i. ⊎_elim (λ again. next.came_back f left again i)
+        (λ never. same_word (words l n) (words l o) f i (next.same_words f left never) ∙ one.came_back f (next.was_free f left never) (⊎_elim (λ first. first) (λ again. absurd (never again)) (in_append back more f came)) i)
+        (in_or_not more f);
+    was_free = λ f left none. let never = apart f none in one.was_free f (next.was_free f left never.1) never.0;
+    same_words = λ f left none. let never = apart f none in next.same_words f left never.1 ∙ one.same_words f (next.was_free f left never.1) never.0;
+  }
+
+-- what the free frames keep so far, and what is to come back yet of all that comes back
+pub record FreeSoFar (l : Layout) (m : Memory) (pool all left : List ℕ) (n : Memory) (rest : List ℕ) : Type 0 where
+  pub back : List ℕ
+  pub keeps : KeepsFree l m pool back n rest
+  pub whole : back ++ left ≡ all
+
+pub free_at_first : (l : Layout) (m : Memory) (pool all : List ℕ) → FreeSoFar l m pool all all m pool
+free_at_first l m pool all = record { back = []; keeps = nothing_keeps_free l m pool; whole = refl }
+
+pub free_next : (l : Layout) (m n o : Memory) (pool rest last all left one more : List ℕ) → FreeSoFar l m pool all left n rest → left ≡ one ++ more → KeepsFree l n rest one o last → FreeSoFar l m pool all more o last
+free_next l m n o pool rest last all left one more so is next = record {
+  back = so.back ++ one;
+  keeps = free_then l m n o pool rest last so.back one so.keeps next;
+  whole = append_assoc so.back one more ∙ ap (λ fs. so.back ++ fs) (sym is) ∙ so.whole;
+}
+
+pub free_at_last : (l : Layout) (m n : Memory) (pool rest all left : List ℕ) → FreeSoFar l m pool all left n rest → left ≡ [] → KeepsFree l m pool all n rest
+free_at_last l m n pool rest all left so none = subst (λ back. KeepsFree l m pool back n rest) (sym (append-nil so.back) ∙ ap (λ fs. so.back ++ fs) (sym none) ∙ so.whole) so.keeps
