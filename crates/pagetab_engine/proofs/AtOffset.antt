@@ -1,5 +1,5 @@
 -- What a call of the mapper at an offset leaves of the program's hierarchy.
-use Rattle.std.proofs.Common.{◌≡◌, ◌∙◌, ℕ, List, Some, Result, sym, ap}
+use Rattle.std.proofs.Common.{◌≡◌, ◌∙◌, ℕ, List, Some, Result, sym, ap, subst}
 use Rattle.std.specs.Result.{IfOk}
 use Rattle.std.proofs.lemmas.Result.{IfOk-weaker}
 use Rattle.x86_64_model.specs.Layout.{Layout}
@@ -10,10 +10,11 @@ use Rattle.x86_64_mappers.specs.Layouts.{direct}
 use Rattle.x86_64_mappers.proofs.OffsetTables.{offset_fits}
 use Rattle.x86_64_mappers.specs.Offsets.{OffsetFits, offset_places}
 use Rattle.x86_64.proofs.Moved.{moved}
-use Rattle.x86_64.proofs.Offsets.{same_state, still_reached, same_kept}
+use Rattle.x86_64.proofs.Offsets.{same_state, still_reached, same_kept, same_free}
+use Rattle.x86_64.specs.FreeFrames.{KeepsFree}
 use Rattle.x86_64.specs.Runs as runs
 use Rattle.x86_64.specs.Replies.{Reply}
-use Rattle.pagetab_engine.specs.Calls.{machine_by, request_step, IsAnswered}
+use Rattle.pagetab_engine.specs.Calls.{machine_by, request_back, request_step, IsAnswered}
 use Rattle.pagetab_engine.specs.Frames.{direct_layout}
 use Rattle.pagetab_engine.specs.declared.arguments.Levels.TheVariants.{Four}
 use Rattle.pagetab_engine.specs.declared.request.Request.{Request}
@@ -26,8 +27,12 @@ layout_at offset = direct (offset_places offset) 0x1000
 pub answered_alike : (offset : ℕ) (before : Memory) (free : List ℕ) (call : Request) (after : Memory) (rest : List ℕ) (reply : Reply) → OffsetFits before offset → OffsetFits after offset
     → IsAnswered (layout_at offset) before free call after rest reply → IsAnswered (direct_layout Four) before free call after rest reply
 answered_alike offset before free call after rest reply first last answered =
-    ap (λ (state : State). request_step (machine_by (direct_layout Four)) state call) (sym (same_state offset 0x1000 before free first)) ∙ answered
-    ∙ ap (λ (state : State). record { state = state; reply = Some reply }) (same_state offset 0x1000 after rest last)
+    let same = same_state offset 0x1000 before free first in
+    record {
+      step = ap (λ (state : State). request_step (machine_by (direct_layout Four)) state call) (sym same) ∙ answered.step ∙ ap (λ (state : State). record { state = state; reply = Some reply }) (same_state offset 0x1000 after rest last);
+      free_words = subst (λ (state : State). KeepsFree (direct_layout Four) before free (request_back (machine_by (direct_layout Four)) state call) after rest) same
+          (same_free offset 0x1000 before after free _ rest first last answered.free_words);
+    }
 
 -- the free frames fit at the offset
 pub at_offset : (offset : ℕ) (m : Memory) (limit : ℕ) (free : List ℕ) → OffsetFits m offset → runs.FitsPool (direct_layout Four) m (serves_below limit) free → runs.FitsPool (layout_at offset) m (serves_below limit) free

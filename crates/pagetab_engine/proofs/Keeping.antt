@@ -1,14 +1,21 @@
 -- What no command changes, and so no commands one after another.
-use Rattle.std.proofs.Common.{◌≡◌, ◌↔◌, refl, sym, ap, ◌∙◌, subst, subst₂}
+use Rattle.std.proofs.Common.{◌≡◌, ◌↔◌, ◌||◌, ℕ, true, false, not, cond, List, [], refl, sym, ap, ap₂, ◌∙◌, subst, subst₂}
 use Rattle.x86_64_model.specs.Layout.{Layout}
 use Rattle.x86_64_model.specs.MapperCalls.{Owns, KeepsOthers}
 use Rattle.x86_64_model.specs.Marks.{serves_below}
 use Rattle.x86_64_model.specs.Memory.{Memory, Places, identity_places}
+use Rattle.x86_64.specs.FreeFrames.{KeepsFree as KeepsFreeFrames}
+use Rattle.x86_64.specs.Replies.{Reply}
 use Rattle.x86_64.specs.Runs as runs
-use Rattle.pagetab_engine.specs.Hierarchy.{layout, layout_of, IsReached, HasTwin, IsHierarchy, Keeps}
+use Rattle.x86_64.proofs.FreeFrames.{nothing_keeps_free}
+use Rattle.pagetab_engine.specs.Arguments.{levels_of}
+use Rattle.pagetab_engine.specs.Calls.{machine_by, request_back, IsAnswered}
+use Rattle.pagetab_engine.specs.Hierarchy.{layout, layout_of, machine_of, state_of, call_back, IsReached, HasTwin, IsHierarchy, Keeps, KeepsFree}
+use Rattle.pagetab_engine.specs.Requests.{has_levels, is_named, is_refused}
 use Rattle.pagetab_engine.specs.declared.arguments.Mode.{Mode}
 use Rattle.pagetab_engine.specs.declared.arguments.Mode.TheVariants.{Direct, Offset, Recursive, Pair}
 use Rattle.pagetab_engine.specs.declared.hierarchy.Hierarchy.{Hierarchy}
+use Rattle.pagetab_engine.specs.declared.request.Request.{Request}
 
 pub keeps_itself : (hierarchy : Hierarchy) → IsHierarchy hierarchy → Keeps hierarchy hierarchy
 keeps_itself hierarchy fits = record { mode = refl; layout = refl; serves = refl; fits = fits; conserved = λ frame. (λ own. own, λ own. own); others = λ place none. refl }
@@ -24,7 +31,7 @@ keeps_then before between after one next = record {
 }
 
 -- each frame lies at the place of its number
-by_number : (mode : Mode) (memory : Memory) → (layout mode memory).places ≡ identity_places
+pub by_number : (mode : Mode) (memory : Memory) → (layout mode memory).places ≡ identity_places
 by_number (Direct levels) memory = refl
 by_number (Offset offset) memory = refl
 by_number (Recursive levels index) memory = refl
@@ -51,3 +58,34 @@ kept_by before after same serves mode is still reached twin kept =
       conserved = λ frame. subst₂ (λ (l k : Layout). Owns l m free frame ↔ Owns k n rest frame) (sym first) (sym last) (kept.conserved frame);
       others = subst₂ (λ (l : Layout) (places : Places). KeepsOthers places (Owns l m free) m n) (sym first) (by_number mode m) kept.others;
     }
+
+-- what is kept is kept as by a mapper
+pub kept_as : (before after : Hierarchy) → Keeps before after → runs.Keeps (layout_of before) (serves_below before.frames.pool.limit) before.frames.memory before.frames.pool.frames after.frames.memory after.frames.pool.frames
+kept_as before after kept =
+    let m = before.frames.memory in let n = after.frames.memory in
+    let free = before.frames.pool.frames in let rest = after.frames.pool.frames in record {
+      fits = subst₂ (λ l serves. runs.FitsPool l n serves rest) kept.layout kept.serves kept.fits.fits;
+      conserved = λ frame. subst (λ (l : Layout). Owns (layout_of before) m free frame ↔ Owns l n rest frame) kept.layout (kept.conserved frame);
+      others = subst (λ (places : Places). KeepsOthers places (Owns (layout_of before) m free) m n) (sym (by_number before.mode m)) kept.others;
+    }
+
+-- ---- the words of free frames
+
+-- where nothing changes none came back
+pub free_itself : (hierarchy : Hierarchy) (back : List ℕ) → back ≡ [] → KeepsFree hierarchy back hierarchy
+free_itself hierarchy back none = subst (λ back. KeepsFree hierarchy back hierarchy) (sym none) (nothing_keeps_free (layout_of hierarchy) hierarchy.frames.memory hierarchy.frames.pool.frames)
+
+-- a call that no mapper is asked gives no frame back
+pub none_back : (hierarchy : Hierarchy) (request : Request) → is_refused hierarchy.mode request ≡ true → call_back hierarchy request ≡ []
+none_back hierarchy request refused = ap (λ b. cond b [] (request_back (machine_of hierarchy) (state_of hierarchy) request)) refused
+
+-- what a mapper leaves of them is left, where it is the mode's and is asked
+pub free_by : (before : Hierarchy) (mode : Mode) → before.mode ≡ mode → (request : Request) → has_levels (levels_of mode) request ≡ true → is_named before.mode request ≡ false → {n : Memory} {rest : List ℕ} (reply : Reply)
+    → IsAnswered (layout mode before.frames.memory) before.frames.memory before.frames.pool.frames request n rest reply
+    → KeepsFreeFrames (layout_of before) before.frames.memory before.frames.pool.frames (call_back before request) n rest
+free_by before mode is request has unnamed {n} {rest} reply answered =
+    let m = before.frames.memory in let free = before.frames.pool.frames in
+    let asked : is_refused before.mode request ≡ false = ap₂ (λ has named. not has || named) (ap (λ mode. has_levels (levels_of mode) request) is ∙ has) unnamed in
+    let back : call_back before request ≡ request_back (machine_by (layout mode m)) (runs.state_of (layout mode m) m free) request =
+    ap (λ b. cond b [] (request_back (machine_of before) (state_of before) request)) asked ∙ ap (λ mode. request_back (machine_by (layout mode m)) (runs.state_of (layout mode m) m free) request) is in
+    subst₂ (λ (l : Layout) back. KeepsFreeFrames l m free back n rest) (sym (ap (λ mode. layout mode m) is)) (sym back) answered.free_words

@@ -8,9 +8,15 @@ pub mod Keeping
 pub mod LoadedImages
 pub mod Loading
 pub mod Numbering
+pub mod OneArguments
+pub mod OneStatement
 pub mod Reading
 pub mod Saying
 pub mod Refusing
+pub mod SameWalks
+pub mod SameCommands
+pub mod SameImages
+pub mod Decided
 pub mod ServedCommands
 pub mod Splitting
 pub mod Uniqueness

@@ -1,5 +1,5 @@
 -- What a call leaves that no mapper is asked.
-use Rattle.std.proofs.Common.{◌≡◌, ◌||◌, Bool, true, false, not, cond, Some, refl, sym, ap, ◌∙◌}
+use Rattle.std.proofs.Common.{◌≡◌, ◌||◌, Bool, true, false, not, cond, Some, refl, ap, ◌∙◌}
 use Rattle.x86_64.specs.Replies.{Reply}
 use Rattle.x86_64.specs.Runs.{AfterStep}
 use Rattle.x86_64.specs.declared.calls.MapperReply.TheVariants.{NotAllowed}
@@ -18,9 +18,11 @@ or_true false = refl
 abbrev pub refused : Hierarchy → AfterStep Reply
 refused hierarchy = record { state = state_of hierarchy; reply = Some NotAllowed }
 
--- a call that names the recursive index of a pair is not allowed, and changes nothing
+-- a call that names the recursive index of a pair is asked of no mapper
+pub named_refused : (mode : Mode) (request : Request) → is_named mode request ≡ true → is_refused mode request ≡ true
+named_refused mode request named = let others = not (has_levels (levels_of mode) request) in ap (λ b. others || b) named ∙ or_true others
+
+-- so it is not allowed, and changes nothing
 pub named_step : (hierarchy : Hierarchy) (request : Request) → is_named hierarchy.mode request ≡ true → call_step hierarchy request ≡ refused hierarchy
 named_step hierarchy request named =
-    let others = not (has_levels (levels_of hierarchy.mode) request) in
-    let is : is_refused hierarchy.mode request ≡ true = ap (λ b. others || b) named ∙ or_true others in
-    ap (λ b. cond b (refused hierarchy) (request_step (machine_of hierarchy) (state_of hierarchy) request)) is
+    ap (λ b. cond b (refused hierarchy) (request_step (machine_of hierarchy) (state_of hierarchy) request)) (named_refused hierarchy.mode request named)

@@ -1,5 +1,5 @@
 -- The hierarchy that the program reads, in a pair two of one image, and the machine that it is.
-use Rattle.std.specs.Prelude.{◌≡◌, ◌↔◌, ℕ, ⊤, cond, List, Some}
+use Rattle.std.specs.Prelude.{◌≡◌, ◌↔◌, ℕ, ⊤, cond, List, [], Some}
 use Rattle.x86_64_model.specs.Alike.{Alike}
 use Rattle.x86_64_model.specs.Layout.{Layout, paths}
 use Rattle.x86_64_model.specs.Machine.{Machine, State}
@@ -7,12 +7,13 @@ use Rattle.x86_64_model.specs.MapperCalls.{Owns, KeepsOthers}
 use Rattle.x86_64_model.specs.Marks.{serves_below}
 use Rattle.x86_64_model.specs.Memory.{Memory, identity_places}
 use Rattle.x86_64_mappers.specs.Offsets.{OffsetFits}
+use Rattle.x86_64.specs.FreeFrames.{KeepsFree as KeepsFreeFrames}
 use Rattle.x86_64.specs.Runs as runs
 use Rattle.x86_64.specs.Replies.{Reply}
 use Rattle.x86_64.specs.Runs.{AfterStep}
 use Rattle.x86_64.specs.declared.calls.MapperReply.TheVariants.{NotAllowed}
 use Rattle.pagetab_engine.specs.Arguments.{count}
-use Rattle.pagetab_engine.specs.Calls.{machine_by, request_step}
+use Rattle.pagetab_engine.specs.Calls.{machine_by, request_back, request_step}
 use Rattle.pagetab_engine.specs.Frames.{direct_layout, recursive_layout, FitsBy, without_self_entry}
 use Rattle.pagetab_engine.specs.Requests.{is_refused}
 use Rattle.pagetab_engine.specs.declared.arguments.Levels.{Levels}
@@ -71,6 +72,14 @@ abbrev pub call_step : Hierarchy → Request → AfterStep Reply
 call_step hierarchy request = cond (is_refused hierarchy.mode request)
     (record { state = state_of hierarchy; reply = Some NotAllowed })
     (request_step (machine_of hierarchy) (state_of hierarchy) request)
+
+-- the frames that a call gives back, where a mapper is asked: those of the tables that a clean up takes away
+abbrev pub call_back : Hierarchy → Request → List ℕ
+call_back hierarchy request = cond (is_refused hierarchy.mode request) [] (request_back (machine_of hierarchy) (state_of hierarchy) request)
+
+-- the words of free frames are those of before, or 0 where the frames came back
+abbrev pub KeepsFree : (before : Hierarchy) → (back : List ℕ) → (after : Hierarchy) → Type 0
+KeepsFree before back after = KeepsFreeFrames (layout_of before) before.frames.memory before.frames.pool.frames back after.frames.memory after.frames.pool.frames
 
 -- the mapper reaches each place of the memory
 abbrev pub IsReached : Mode → Memory → Type 0

@@ -14,3 +14,4 @@ pub mod Reply
 pub mod Ending
 pub mod Texts
 pub mod Program
+pub mod Decided

@@ -5,9 +5,9 @@ use Rattle.std.specs.Io.KnownBytes.{Appends}
 use Rattle.x86_64_tables.specs.PageTable.{zero_words}
 use Rattle.pagetab_engine.specs.Arguments.{Says}
 use Rattle.pagetab_engine.specs.Frames.{IsLoadable, memory_after, free_after}
-use Rattle.pagetab_engine.specs.Hierarchy.{state_of, first_memory, FitsImage, HasCopy, IsReached, Keeps}
+use Rattle.pagetab_engine.specs.Hierarchy.{state_of, first_memory, FitsImage, HasCopy, IsReached, Keeps, KeepsFree}
 use Rattle.pagetab_engine.specs.Lines.{Numbered, numbered_from, lines_of, SaysAccepted, IsBad}
-use Rattle.pagetab_engine.specs.Reply.{IsReply, OnlyReads, state_after}
+use Rattle.pagetab_engine.specs.Reply.{IsReply, OnlyReads, back_of, state_after}
 use Rattle.pagetab_engine.specs.Texts.{reply_line}
 use Rattle.pagetab_engine.specs.declared.arguments.Arguments.{Arguments}
 use Rattle.pagetab_engine.specs.declared.ending.Ending.{Ending}
@@ -42,6 +42,7 @@ pub record Answers (command : Command) (before : Hierarchy) (answer : Reply) (af
   pub reply : IsReply before command answer
   pub state : state_of after ≡ state_after before command
   pub reads : OnlyReads before command → after ≡ before
+  pub free : KeepsFree before (back_of before command) after
   pub keeps : Keeps before after
 
 -- Where the image is read, each line that says a command is answered, and the first other one is bad.

@@ -1,9 +1,9 @@
 -- What answers a command, and what it leaves.
-use Rattle.std.specs.Prelude.{◌≡◌, ⊤, true, Some, option_map}
+use Rattle.std.specs.Prelude.{◌≡◌, ℕ, ⊤, true, List, [], Some, option_map}
 use Rattle.x86_64_model.specs.Machine.{State}
 use Rattle.x86_64_model.specs.Memory.{words_of, identity_places}
 use Rattle.x86_64_tables.specs.Walks.{walked_of}
-use Rattle.pagetab_engine.specs.Hierarchy.{call_step, state_of}
+use Rattle.pagetab_engine.specs.Hierarchy.{call_back, call_step, state_of}
 use Rattle.pagetab_engine.specs.Requests.{is_refused, reply_in, walk_to}
 use Rattle.pagetab_engine.specs.Slot.{word_in}
 use Rattle.pagetab_engine.specs.declared.hierarchy.Hierarchy.{Hierarchy}
@@ -29,3 +29,8 @@ OnlyReads hierarchy asked = ⊤
 abbrev pub state_after : Hierarchy → Command → State
 state_after hierarchy (command.Call call) = (call_step hierarchy call).state
 state_after hierarchy asked = state_of hierarchy
+
+-- the frames that a command gives back, as a call may
+abbrev pub back_of : Hierarchy → Command → List ℕ
+back_of hierarchy (command.Call call) = call_back hierarchy call
+back_of hierarchy asked = []

@@ -1,9 +1,9 @@
 //! The run of the program.
 ghost use Rattle.std.specs.Prelude.{◌≡◌, [], map, string_bytes, IfOk, IfErr, IfSome, OnOk, OnErr};
-ghost use Rattle.pagetab_engine.specs.Hierarchy.{state_of, HasCopy, IsHierarchy, IsReached, Keeps};
+ghost use Rattle.pagetab_engine.specs.Hierarchy.{state_of, HasCopy, IsHierarchy, IsReached, Keeps, KeepsFree};
 ghost use Rattle.pagetab_engine.specs.Lines.{lines_left};
 ghost use Rattle.pagetab_engine.specs.Program.{LoadsImage, Reads, Replies, Runs, Served, StopsAt, ending_of};
-ghost use Rattle.pagetab_engine.specs.Reply.{IsReply, OnlyReads, state_after};
+ghost use Rattle.pagetab_engine.specs.Reply.{IsReply, OnlyReads, back_of, state_after};
 ghost use Rattle.pagetab_engine.specs.declared.ending.Ending.TheVariants.{Stopped};
 
 use crate::arguments::Arguments;
@@ -158,6 +158,7 @@ fn answer(alloc: Global, hierarchy: &mut Hierarchy, command: Command) -> Result<
     requires { IsHierarchy hierarchy.old }
     ensures reply { IfOk result (IsReply hierarchy.old command) }
     ensures state { OnOk result (state_of hierarchy.new ≡ state_after hierarchy.old command) }
+    ensures free { OnOk result (KeepsFree hierarchy.old (back_of hierarchy.old command) hierarchy.new) }
     ensures reads { OnlyReads hierarchy.old command → hierarchy.new ≡ hierarchy.old }
     ensures unchanged { OnErr result (hierarchy.new ≡ hierarchy.old) }
     ensures keeps { Keeps hierarchy.old hierarchy.new }

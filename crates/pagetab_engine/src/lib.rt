@@ -8,6 +8,7 @@ pub mod engine;
 mod fields;
 mod frames;
 mod hierarchy;
+pub mod laws;
 mod lines;
 pub mod number;
 mod page_call;

@@ -1,4 +1,6 @@
-use Rattle.pagetab_engine.proofs.Keeping.{keeps_itself}
+use Rattle.std.proofs.Common.{◌≡◌, OnOk, Result, Ok, refl, subst, rules}
+use Rattle.pagetab_engine.specs.Hierarchy.{KeepsFree, call_back}
+use Rattle.pagetab_engine.proofs.Keeping.{keeps_itself, free_itself}
 use Rattle.pagetab_engine.proofs.engine.answer.Goals as goal
 use Rattle.pagetab_engine.proofs.engine.answer.Goals.{in-Call+in_ok-answer_call-in-Call, in-Walk, in-Show, in-Pool+in_ok-free_frames-in-Pool}
 
@@ -8,4 +10,19 @@ returns-clause-keeps c = elim c.match-command.branch [
   | in-Walk w ↦ rw w.hierarchy-is (keeps_itself c.args.hierarchy.now c.requires)
   | in-Show w ↦ rw w.hierarchy-is (keeps_itself c.args.hierarchy.now c.requires)
   | in-Pool+in_ok-free_frames-in-Pool w ↦ rw w.hierarchy-is (keeps_itself c.args.hierarchy.now c.requires)
+]
+
+-- what holds on success
+if_ok : {T E P : Type 0} {r : Result T E} {value : T} → OnOk r P → r ≡ Ok value → P
+if_ok {P = P} told is = subst (λ r. OnOk r P) is told
+
+pub returns-clause-free : goal.returns-clause-free
+returns-clause-free c = elim c.match-command.branch [
+  | in-Call+in_ok-answer_call-in-Call w ↦ rw (w.hierarchy-is, w.in-Call.is)
+      (let is : w.answer_call.result ≡ Ok w.in_ok-answer_call-in-Call.field-0 = search rules in
+      let told : OnOk w.answer_call.result (KeepsFree c.args.hierarchy.now (call_back c.args.hierarchy.now w.in-Call.request) w.answer_call.new.self) = w.answer_call.ensures.free in
+      if_ok told is)
+  | in-Walk w ↦ rw (w.hierarchy-is, w.in-Walk.is) (free_itself c.args.hierarchy.now _ refl)
+  | in-Show w ↦ rw (w.hierarchy-is, w.in-Show.is) (free_itself c.args.hierarchy.now _ refl)
+  | in-Pool+in_ok-free_frames-in-Pool w ↦ rw (w.hierarchy-is, w.in-Pool.is) (free_itself c.args.hierarchy.now _ refl)
 ]

@@ -1,0 +1,64 @@
+-- Memories with the same words lead walks to the same places.
+use Rattle.std.proofs.Common.{◌≡◌, ◌+◌, ◌*◌, ◌/◌, ◌%◌, ◌^◌, ◌<◌, ◌&&◌, ℕ, zero, suc, nat_le, nat_lt, Bool, true, cond, get_or, List, Option, Some, None, option_and_then, option_map, refl, sym, ap, ◌∙◌, arith, eq-eqb, lt-ltb}
+use Rattle.std.proofs.Math.Nat.{mul-div_cancel}
+use Rattle.std.specs.FinMap.{get}
+use Rattle.x86_64_model.specs.Entry.{present, writable, user, huge, address, is_frame}
+use Rattle.x86_64_model.specs.Memory.{Memory, Words, identity_places, word, word_in, words_of}
+use Rattle.x86_64_model.specs.PageWalk.{Walked, arrives, page_start, page_walk, read, walk_on}
+use Rattle.x86_64_model.specs.Position.{index, span}
+use Rattle.x86_64_model.proofs.Lemmas.Entries.Bits.{zero_absent}
+use Rattle.x86_64_model.proofs.Lemmas.Entries.Words.{address-multiple}
+use Rattle.x86_64_model.proofs.Lemmas.Walks.Walked.{index_small}
+use Rattle.x86_64.specs.EveryWord.{SameWords}
+use Rattle.pagetab_engine.specs.Requests.{walk_to}
+use Rattle.pagetab_engine.specs.Slot as slots
+use Rattle.pagetab_engine.specs.declared.request.Address.{Address}
+use Rattle.pagetab_engine.specs.declared.request.Address.TheVariants.{Four, Five}
+
+-- where there is no table a word is read as 0
+read_word : (F : ℕ → Option Walked) → F 0 ≡ None → (T : Words) (frame i : ℕ) → i < 512 → option_and_then F (read T frame i) ≡ F (word T frame i)
+unfolding word
+read_word F none T frame i small = by (T frame) ∙ ap (λ b. F (cond b (word_in (T frame) i) 0)) (sym (lt-ltb i 512 small))
+  where
+    by : (table : Option (List ℕ)) → option_and_then F (option_map (λ words. get_or words i 0) table) ≡ F (word_in table i)
+    by None = sym none
+    by (Some words) = refl
+
+-- a word without PRESENT leads nowhere
+leads_nowhere : (to : Option Walked) → cond (present 0) to None ≡ None
+leads_nowhere to = ap (λ b. cond b to None) zero_absent
+
+module _ (T U : Words) (same : SameWords T U) (p : ℕ) where
+  same_walk_on : (level : ℕ) (w u : Bool) (frame : ℕ) → walk_on T p level w u frame ≡ walk_on U p level w u frame
+  unfolding walk_on
+  same_walk_on zero w u frame = refl
+  same_walk_on (suc zero) w u frame =
+      let F : ℕ → Option Walked = λ e. cond (present e) (arrives (address e + p % span 1) (w && writable e) (u && user e)) None in
+      read_word F (leads_nowhere _) T frame (index 1 p) (index_small 1 p) ∙ ap F (same frame (index 1 p)) ∙ sym (read_word F (leads_nowhere _) U frame (index 1 p) (index_small 1 p))
+  same_walk_on (suc (suc n)) w u frame =
+      let level = suc (suc n) in
+      let lands : ℕ → Option Walked = λ e. cond (nat_le level 3) (arrives (page_start level e + p % span level) (w && writable e) (u && user e)) None in
+      let F : Words → ℕ → Option Walked = λ V e. cond (present e) (cond (huge e) (lands e) (walk_on V p (suc n) (w && writable e) (u && user e) (address e))) None in
+      read_word (F T) (leads_nowhere _) T frame (index level p) (index_small level p) ∙ ap (F T) (same frame (index level p))
+      ∙ ap (λ next. let e = word U frame (index level p) in cond (present e) (cond (huge e) (lands e) next) None)
+      (same_walk_on (suc n) (w && writable (word U frame (index level p))) (u && user (word U frame (index level p))) (address (word U frame (index level p))))
+      ∙ sym (read_word (F U) (leads_nowhere _) U frame (index level p) (index_small level p))
+
+-- so they lead those of an address, of four levels or of five
+pub same_walk_to : (T U : Words) → SameWords T U → (root : ℕ) (address : Address) → walk_to T root address ≡ walk_to U root address
+unfolding page_walk
+same_walk_to T U same root (Four addr) = same_walk_on T U same addr 4 true true root
+same_walk_to T U same root (Five addr) = same_walk_on T U same addr 5 true true root
+
+-- the word in a slot is that of the frame which lies there
+pub slot_word : (memory : Memory) (place index : ℕ) → index < 512 → place * 4096 < 2 ^ 52 → (place * 4096) % 4096 ≡ 0 → slots.word_in memory place index ≡ word (words_of memory identity_places) (place * 4096) index
+unfolding word
+slot_word memory place index small within aligned =
+    let frame : is_frame (place * 4096) ≡ true = eq-eqb (address (place * 4096)) (place * 4096) (address-multiple (place * 4096) aligned within) in
+    let here : place * 4096 / 4096 ≡ place = mul-div_cancel place (omega arith) in
+    by (get memory place) ∙ ap (λ b. cond b (word_in (get memory place) index) 0) (sym (lt-ltb index 512 small))
+    ∙ ap (λ k. cond (nat_lt index 512) (word_in (get memory k) index) 0) (sym here) ∙ ap (λ b. cond (nat_lt index 512) (word_in (cond b (get memory (place * 4096 / 4096)) None) index) 0) (sym frame)
+  where
+    by : (table : Option (List ℕ)) → slots.word_of_table table index ≡ word_in table index
+    by None = refl
+    by (Some words) = refl

@@ -1,0 +1,31 @@
+-- That the arguments and the input decide what is written and how the program ends.
+use Rattle.std.specs.Prelude.{◌≡◌, ◌⊎◌, List, ℕ, ◌++◌, map}
+use Rattle.pagetab_engine.specs.Program.{IsForced, IsRun}
+use Rattle.pagetab_engine.specs.Texts.{reply_line}
+use Rattle.pagetab_engine.specs.declared.ending.Ending.{Ending}
+use Rattle.pagetab_engine.specs.declared.ending.Ending.TheVariants.{Done, Stopped}
+use Rattle.pagetab_engine.specs.declared.reply.Reply.{Reply}
+
+-- a run ended so since memory was refused, or a read or a write failed
+abbrev pub IsForcedEnd : Ending → Type 0
+IsForcedEnd Done = ⊥
+IsForcedEnd (Stopped fault) = IsForced fault
+
+-- the lines of replies
+abbrev pub lines_told : List Reply → List (List ℕ)
+lines_told replies = map reply_line replies
+
+-- the lines of the first replies are the first ones of the others'
+abbrev pub IsFront : (replies others : List Reply) → Type 0
+IsFront replies others = (left : List (List ℕ)) × (lines_told others ≡ lines_told replies ++ left)
+
+-- Of two runs the first was forced to stop, and its lines are the first ones of the second's; or the other way round; or both have the same
+-- lines, and end alike.
+abbrev pub Decides : (ending other : Ending) (replies others : List Reply) → Type 0
+Decides ending other replies others =
+    (IsForcedEnd ending × IsFront replies others) ⊎ (IsForcedEnd other × IsFront others replies) ⊎ ((ending ≡ other) × (lines_told replies ≡ lines_told others))
+
+-- any two runs by the same arguments and input are so
+abbrev pub RunsAreDecided : (words : List (List ℕ)) (input : List ℕ) → Type 0
+RunsAreDecided words input =
+    (ending other : Ending) (replies others : List Reply) → IsRun words input ending replies → IsRun words input other others → Decides ending other replies others
