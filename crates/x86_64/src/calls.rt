@@ -1,11 +1,12 @@
 //! Calls of a mapper as values, and the replies to them.
-ghost use Rattle.std.specs.Prelude.{◌≡◌};
+ghost use Rattle.std.specs.Prelude.{◌≡◌, ⊤};
 ghost use Rattle.x86_64.specs.Calls.{identity_page};
 
 mod call57;
 
 pub(crate) use call57::identity_page_57;
 pub use call57::{Call57, SizeCall57};
+use std::alloc::AllocError;
 use x86_64_addr::addr::{PhysAddr, VirtAddr};
 use x86_64_addr::index::PageTableIndex;
 use x86_64_page::frame::PhysFrame;
@@ -16,7 +17,7 @@ use x86_64_tables::mapper::{
 use x86_64_tables::page_table::PageTableFlags;
 
 /// A call on a page of a size.
-#[derive(Clone, Copy, Debug, PartialEq)]
+#[derive(Copy, Debug, PartialEq)]
 pub enum SizeCall<S: PageSize> {
     /// Map the page to the frame, as [`map_to`](crate::structures::paging::Mapper::map_to) does.
     MapTo {
@@ -88,6 +89,16 @@ pub enum SizeCall<S: PageSize> {
         /// The page.
         page: Page<S>,
     },
+}
+
+impl<S: PageSize> Clone for SizeCall<S> {
+    ghost is_clone = { λ s r. r ≡ s };
+
+    ghost is_infallible = { λ _. ⊤ };
+
+    fn clone(&self) -> Result<Self, AllocError> {
+        Ok(*self)
+    }
 }
 
 impl<S: PageSize> SizeCall<S> {

@@ -110,16 +110,22 @@ impl<M: MapperAllSizes + Translate + CleanUp, K: Tokens> Served<M, K, Reply> for
     fn serve<F: FrameStore>(self, mapper: &mut M, frames: &mut F, tokens: &mut K) -> Reply {
         match self {
             Call::Of4KiB(call) => {
-                let reply = serve_page::<Size4KiB, M, F, K>(mapper, frames, call, tokens);
-                reply.map_or(Reply::NotAllowed, Reply::Of4KiB)
+                match serve_page::<Size4KiB, M, F, K>(mapper, frames, call, tokens) {
+                    Some(reply) => Reply::Of4KiB(reply),
+                    None => Reply::NotAllowed,
+                }
             }
             Call::Of2MiB(call) => {
-                let reply = serve_page::<Size2MiB, M, F, K>(mapper, frames, call, tokens);
-                reply.map_or(Reply::NotAllowed, Reply::Of2MiB)
+                match serve_page::<Size2MiB, M, F, K>(mapper, frames, call, tokens) {
+                    Some(reply) => Reply::Of2MiB(reply),
+                    None => Reply::NotAllowed,
+                }
             }
             Call::Of1GiB(call) => {
-                let reply = serve_page::<Size1GiB, M, F, K>(mapper, frames, call, tokens);
-                reply.map_or(Reply::NotAllowed, Reply::Of1GiB)
+                match serve_page::<Size1GiB, M, F, K>(mapper, frames, call, tokens) {
+                    Some(reply) => Reply::Of1GiB(reply),
+                    None => Reply::NotAllowed,
+                }
             }
             Call::Translate(addr) => Reply::Translate(mapper.translate(addr)),
             Call::TranslateAddr(addr) => Reply::Address(mapper.translate_addr(addr)),
@@ -234,7 +240,7 @@ fn is_allowed<S: PageSize, M: Mapper<S>>(mapper: &M, call: &SizeCall<S>) -> bool
 fn fit_high_entry(flags: PageTableFlags) -> bool
     ensures { result ≡ no_address (bits_of flags) && not (huge (bits_of flags)) }
 {
-    !flags.has_address_bits() & !flags.contains(PageTableFlags::HUGE_PAGE)
+    !flags.has_address_bits() && !flags.contains(PageTableFlags::HUGE_PAGE)
 }
 
 /// Tells whether a page lies outside the recursive index of a mapper: whether its index of level four is another, or there is

@@ -15,6 +15,7 @@ mod mapper57;
 mod path;
 mod path_calls;
 mod recorder;
+mod table_flags;
 mod translate57;
 
 use crate::frame_alloc::FrameAllocator;
@@ -28,6 +29,7 @@ pub use mapper57::{Mapper57, MapperAllSizes57};
 use path::{page_indices, path_length};
 pub use path_calls::PathCalls;
 pub use recorder::{FlushItem, FlushRecorder};
+use table_flags::{flags_allowed, set_flags};
 pub use translate57::Translate57;
 use x86_64_addr::addr::{PhysAddr, VirtAddr};
 use x86_64_addr::index::PageTableIndex;
@@ -425,10 +427,7 @@ pub trait Mapper<S: PageSize>: PathCalls + PageTables {
             let call = SetFlags 4 (path_of h S.LEVEL page) (bits_of flags) in
             Does h call (flags_answer (named h call) result) (Self.hierarchy self.new) }
     {
-        let indices = page_indices(page);
-        let path = &indices[..path_length::<S>()];
-        self.set_table_flags::<S>(path, 4, flags)?;
-        Ok(MapperFlushAll::new())
+        set_flags(self, page, 4, flags)
     }
 
     /// Sets the flags of the entry of level three on a page's path, and keeps its address.
@@ -450,10 +449,7 @@ pub trait Mapper<S: PageSize>: PathCalls + PageTables {
             let call = SetFlags 3 (path_of h S.LEVEL page) (bits_of flags) in
             Does h call (flags_answer (named h call) result) (Self.hierarchy self.new) }
     {
-        let indices = page_indices(page);
-        let path = &indices[..path_length::<S>()];
-        self.set_table_flags::<S>(path, 3, flags)?;
-        Ok(MapperFlushAll::new())
+        set_flags(self, page, 3, flags)
     }
 
     /// Sets the flags of the entry of level two on a page's path, and keeps its address.
@@ -475,10 +471,7 @@ pub trait Mapper<S: PageSize>: PathCalls + PageTables {
             let call = SetFlags 2 (path_of h S.LEVEL page) (bits_of flags) in
             Does h call (flags_answer (named h call) result) (Self.hierarchy self.new) }
     {
-        let indices = page_indices(page);
-        let path = &indices[..path_length::<S>()];
-        self.set_table_flags::<S>(path, 2, flags)?;
-        Ok(MapperFlushAll::new())
+        set_flags(self, page, 2, flags)
     }
 
     /// Tells whether the flags of the entry of level three on a page's path may be set to these: they have no address bits, the
@@ -491,9 +484,7 @@ pub trait Mapper<S: PageSize>: PathCalls + PageTables {
         ensures { let h = Self.hierarchy self.now in
             result ≡ allows h (SetFlags 3 (path_of h S.LEVEL page) (bits_of flags)) }
     {
-        let indices = page_indices(page);
-        let path = &indices[..path_length::<S>()];
-        self.table_flags_allowed::<S>(path, 3, flags)
+        flags_allowed(self, page, 3, flags)
     }
 
     /// Tells whether the flags of the entry of level two on a page's path may be set to these: they have no address bits, the
@@ -506,9 +497,7 @@ pub trait Mapper<S: PageSize>: PathCalls + PageTables {
         ensures { let h = Self.hierarchy self.now in
             result ≡ allows h (SetFlags 2 (path_of h S.LEVEL page) (bits_of flags)) }
     {
-        let indices = page_indices(page);
-        let path = &indices[..path_length::<S>()];
-        self.table_flags_allowed::<S>(path, 2, flags)
+        flags_allowed(self, page, 2, flags)
     }
 
     /// Gives the frame that a page's entry names, `PRESENT` or not.

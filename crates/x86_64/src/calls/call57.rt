@@ -1,7 +1,8 @@
 //! Calls of a mapper of five levels as values.
-ghost use Rattle.std.specs.Prelude.{◌≡◌, nat_lt, true};
+ghost use Rattle.std.specs.Prelude.{◌≡◌, ⊤, nat_lt, true};
 ghost use Rattle.x86_64_model.specs.Position.{lower_half};
 
+use std::alloc::AllocError;
 use x86_64_addr::addr::VirtAddr57;
 use x86_64_addr::index::PageTableIndex;
 use x86_64_page::frame::PhysFrame;
@@ -9,7 +10,7 @@ use x86_64_page::page::{Page57, PageRangeInclusive57, PageSize, Size1GiB, Size2M
 use x86_64_tables::page_table::PageTableFlags;
 
 /// A call on a page of a size of 57 bits.
-#[derive(Clone, Copy, Debug, PartialEq)]
+#[derive(Copy, Debug, PartialEq)]
 pub enum SizeCall57<S: PageSize> {
     /// Map the page to the frame, as [`map_to`](crate::structures::paging::Mapper57::map_to) does.
     MapTo {
@@ -89,6 +90,16 @@ pub enum SizeCall57<S: PageSize> {
         /// The page.
         page: Page57<S>,
     },
+}
+
+impl<S: PageSize> Clone for SizeCall57<S> {
+    ghost is_clone = { λ s r. r ≡ s };
+
+    ghost is_infallible = { λ _. ⊤ };
+
+    fn clone(&self) -> Result<Self, AllocError> {
+        Ok(*self)
+    }
 }
 
 impl<S: PageSize> SizeCall57<S> {

@@ -187,7 +187,10 @@ fn is_allowed_57<S: PageSize, M: Mapper57<S>>(mapper: &M, call: &SizeCall57<S>) 
         SizeCall57::UpdateFlags { page, flags } => {
             !flags.has_address_bits() && is_outside_window_57(mapper, *page)
         }
-        SizeCall57::SetFlagsP5 { page, flags } | SizeCall57::SetFlagsP4 { page, flags } => {
+        SizeCall57::SetFlagsP5 { page, flags } => {
+            fit_high_entry(*flags) && is_outside_window_57(mapper, *page)
+        }
+        SizeCall57::SetFlagsP4 { page, flags } => {
             fit_high_entry(*flags) && is_outside_window_57(mapper, *page)
         }
         SizeCall57::SetFlagsP3 { page, flags } => mapper.p3_flags_allowed(*page, *flags),

@@ -4,6 +4,7 @@ ghost use Rattle.x86_64_model.specs.Owned.{Valid};
 ghost use Rattle.x86_64_tables.specs.PageTableFlags.{bits_of};
 
 use super::path::{page_indices_57, path_length_57};
+use super::table_flags::{flags_allowed_57, set_flags_57};
 use super::{
     FlagUpdateError, MapToError, MapperFlush57, MapperFlushAll, PageTables57, PathCalls,
     TranslateError, UnmapError, parent_flags,
@@ -216,10 +217,7 @@ pub trait Mapper57<S: PageSize>: PathCalls + PageTables57 {
             let call = SetFlags 5 (path_of h S.LEVEL page) (bits_of flags) in
             Does h call (flags_answer (named h call) result) (Self.hierarchy self.new) }
     {
-        let indices = page_indices_57(page);
-        let path = &indices[..path_length_57::<S>()];
-        self.set_table_flags::<S>(path, 5, flags)?;
-        Ok(MapperFlushAll::new())
+        set_flags_57(self, page, 5, flags)
     }
 
     /// Sets the flags of the entry of level four on a page's path, and keeps its address.
@@ -241,10 +239,7 @@ pub trait Mapper57<S: PageSize>: PathCalls + PageTables57 {
             let call = SetFlags 4 (path_of h S.LEVEL page) (bits_of flags) in
             Does h call (flags_answer (named h call) result) (Self.hierarchy self.new) }
     {
-        let indices = page_indices_57(page);
-        let path = &indices[..path_length_57::<S>()];
-        self.set_table_flags::<S>(path, 4, flags)?;
-        Ok(MapperFlushAll::new())
+        set_flags_57(self, page, 4, flags)
     }
 
     /// Sets the flags of the entry of level three on a page's path, and keeps its address.
@@ -266,10 +261,7 @@ pub trait Mapper57<S: PageSize>: PathCalls + PageTables57 {
             let call = SetFlags 3 (path_of h S.LEVEL page) (bits_of flags) in
             Does h call (flags_answer (named h call) result) (Self.hierarchy self.new) }
     {
-        let indices = page_indices_57(page);
-        let path = &indices[..path_length_57::<S>()];
-        self.set_table_flags::<S>(path, 3, flags)?;
-        Ok(MapperFlushAll::new())
+        set_flags_57(self, page, 3, flags)
     }
 
     /// Sets the flags of the entry of level two on a page's path, and keeps its address.
@@ -291,10 +283,7 @@ pub trait Mapper57<S: PageSize>: PathCalls + PageTables57 {
             let call = SetFlags 2 (path_of h S.LEVEL page) (bits_of flags) in
             Does h call (flags_answer (named h call) result) (Self.hierarchy self.new) }
     {
-        let indices = page_indices_57(page);
-        let path = &indices[..path_length_57::<S>()];
-        self.set_table_flags::<S>(path, 2, flags)?;
-        Ok(MapperFlushAll::new())
+        set_flags_57(self, page, 2, flags)
     }
 
     /// Tells whether the flags of the entry of level three on a page's path may be set to these: they have no address bits, the
@@ -307,9 +296,7 @@ pub trait Mapper57<S: PageSize>: PathCalls + PageTables57 {
         ensures { let h = Self.hierarchy self.now in
             result ≡ allows h (SetFlags 3 (path_of h S.LEVEL page) (bits_of flags)) }
     {
-        let indices = page_indices_57(page);
-        let path = &indices[..path_length_57::<S>()];
-        self.table_flags_allowed::<S>(path, 3, flags)
+        flags_allowed_57(self, page, 3, flags)
     }
 
     /// Tells whether the flags of the entry of level two on a page's path may be set to these: they have no address bits, the
@@ -322,9 +309,7 @@ pub trait Mapper57<S: PageSize>: PathCalls + PageTables57 {
         ensures { let h = Self.hierarchy self.now in
             result ≡ allows h (SetFlags 2 (path_of h S.LEVEL page) (bits_of flags)) }
     {
-        let indices = page_indices_57(page);
-        let path = &indices[..path_length_57::<S>()];
-        self.table_flags_allowed::<S>(path, 2, flags)
+        flags_allowed_57(self, page, 2, flags)
     }
 
     /// Gives the frame that a page's entry names, `PRESENT` or not.
