@@ -22,3 +22,4 @@ pub mod Splitting
 pub mod Uniqueness
 pub mod WholeRun
 pub mod Written
+pub mod Naming

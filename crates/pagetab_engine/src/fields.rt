@@ -51,33 +51,67 @@ pub enum Name {
 }
 
 impl Name {
+    /// All names.
+    const ALL: [Name; 19] = [
+        Name::Word,
+        Name::Free,
+        Name::Translate,
+        Name::Addr,
+        Name::Walk,
+        Name::Show,
+        Name::Pool,
+        Name::Map,
+        Name::MapWith,
+        Name::Identity,
+        Name::Unmap,
+        Name::Update,
+        Name::P5,
+        Name::P4,
+        Name::P3,
+        Name::P2,
+        Name::TranslatePage,
+        Name::CleanUp,
+        Name::CleanUpRange,
+    ];
+
+    /// Gives the name as a line has it.
+    fn text(self) -> &'static str
+        ensures { result.now ≡ name_text self }
+    {
+        match self {
+            Name::Word => "word",
+            Name::Free => "free",
+            Name::Translate => "translate",
+            Name::Addr => "addr",
+            Name::Walk => "walk",
+            Name::Show => "show",
+            Name::Pool => "pool",
+            Name::Map => "map",
+            Name::MapWith => "map-with",
+            Name::Identity => "identity",
+            Name::Unmap => "unmap",
+            Name::Update => "update",
+            Name::P5 => "p5",
+            Name::P4 => "p4",
+            Name::P3 => "p3",
+            Name::P2 => "p2",
+            Name::TranslatePage => "translate-page",
+            Name::CleanUp => "cleanup",
+            Name::CleanUpRange => "cleanup-range",
+        }
+    }
+
     /// Reads a name.
     fn parse(field: &str) -> Option<Name>
         ensures found { IfSome result (λ name. name_text name ≡ field.now) }
         ensures none { IfNone result ((name : Name) → name_text name ≢ field.now) }
     {
-        Some(match field.as_bytes() {
-            b"word" => Name::Word,
-            b"free" => Name::Free,
-            b"translate" => Name::Translate,
-            b"addr" => Name::Addr,
-            b"walk" => Name::Walk,
-            b"show" => Name::Show,
-            b"pool" => Name::Pool,
-            b"map" => Name::Map,
-            b"map-with" => Name::MapWith,
-            b"identity" => Name::Identity,
-            b"unmap" => Name::Unmap,
-            b"update" => Name::Update,
-            b"p5" => Name::P5,
-            b"p4" => Name::P4,
-            b"p3" => Name::P3,
-            b"p2" => Name::P2,
-            b"translate-page" => Name::TranslatePage,
-            b"cleanup" => Name::CleanUp,
-            b"cleanup-range" => Name::CleanUpRange,
-            _ => return None,
-        })
+        for name in Name::ALL {
+            if name.text() == field {
+                return Some(name);
+            }
+        }
+        None
     }
 }
 

@@ -40,10 +40,14 @@ pub fn parse_call_57(name: Name, size: Size, numbers: &[u64]) -> Option<Call57>
     })
 }
 
-// The call of a kind that a name and numbers write, where pages are read so.
+// The call of a kind that a name and numbers write, where pages are read so; with five levels also that of level five.
 macro_rules! size_call {
-    ($call:ident, $page_at:ident, $name:expr, $numbers:expr) => {
+    ($call:ident, $page_at:ident, $name:expr, $numbers:expr $(, $set_flags_p5:ident)?) => {
         match ($name, $numbers) {
+            $((Name::P5, [page, flags]) => Some($call::$set_flags_p5 {
+                page: $page_at(*page)?,
+                flags: PageTableFlags::from_bits_retain(*flags),
+            }),)?
             (Name::Map, [page, frame, flags]) => Some($call::MapTo {
                 page: $page_at(*page)?,
                 frame: frame_at(*frame)?,
@@ -105,13 +109,7 @@ fn parse_size_call_57<S: PageSize>(name: Name, numbers: &[u64]) -> Option<SizeCa
     ensures name { IfSome result (λ call. page_call_name (size_asks_57 call) ≡ name) }
     ensures numbers { IfSome result (λ call. page_call_numbers 5 (size_asks_57 call) ≡ numbers.now) }
 {
-    match (name, numbers) {
-        (Name::P5, [page, flags]) => Some(SizeCall57::SetFlagsP5 {
-            page: page_57_at(*page)?,
-            flags: PageTableFlags::from_bits_retain(*flags),
-        }),
-        _ => size_call!(SizeCall57, page_57_at, name, numbers),
-    }
+    size_call!(SizeCall57, page_57_at, name, numbers, SetFlagsP5)
 }
 
 /// Gives the page that starts at an address.

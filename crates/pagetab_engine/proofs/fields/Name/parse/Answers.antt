@@ -1,6 +1,12 @@
-use Rattle.std.proofs.Common.{rules, sym, arith}
-use Rattle.std.proofs.lemmas.Slice.Eq.{text_from_reads}
+use Rattle.std.proofs.Common.{◌<◌, ap, ◌∙◌, arith}
+use Rattle.std.proofs.lemmas.Grind.{common_steps}
+use Rattle.pagetab_engine.specs.Fields.{name_text}
+use Rattle.pagetab_engine.specs.declared.fields.Name.TheVariants.{Word}
+use Rattle.pagetab_engine.proofs.Naming.{place, listed, below}
 use Rattle.pagetab_engine.proofs.fields.Name.parse.Goals as goal
 
-pub returns-in-116-clause-found : goal.returns-in-116-clause-found
-returns-in-116-clause-found c = sym (text_from_reads c.args.field.now _ (omega arith) (search rules))
+pub returns-clause-none : goal.returns-clause-none
+returns-clause-none c name is =
+    let low = below name in
+    let met : place name < c.loop-name.name-index = grind (arith, common_steps) in
+    c.loop-name.invariant (place name) Word met (ap name_text (listed name) ∙ is)
