@@ -6,8 +6,6 @@ mod loader;
 mod pages;
 mod parts;
 mod segment;
-#[cfg(test)]
-mod tests;
 
 pub use loader::{load, load_large};
 pub use segment::{LoadError, Segment, segments_allowed};

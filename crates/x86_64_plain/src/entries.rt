@@ -9,15 +9,18 @@ use std::marker::Model;
 
 /// A path and the entry at it.
 #[derive(Drop)]
-pub(super) struct PathEntry {
-    pub(super) path: Vec<u64>,
-    pub(super) word: u64,
+pub struct PathEntry {
+    /// The path.
+    pub path: Vec<u64>,
+    /// The entry's word.
+    pub word: u64,
 }
 
 /// The entries by their paths, seen as a path map. The first that stands at a path counts.
 #[derive(Drop)]
 pub struct PathEntries {
-    pub(super) items: Vec<PathEntry>,
+    /// The paths and entries.
+    pub items: Vec<PathEntry>,
 }
 
 impl Model for PathEntries {

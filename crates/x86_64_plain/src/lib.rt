@@ -10,8 +10,6 @@ pub mod entries;
 pub mod machine;
 pub mod maps;
 pub mod positions;
-#[cfg(test)]
-mod tests;
 pub mod translations;
 pub mod windows;
 pub mod words;

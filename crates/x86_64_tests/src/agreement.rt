@@ -17,6 +17,7 @@ mod lists57;
 mod outcomes;
 mod pairs;
 
+use crate::assertions::assert_equal_in;
 use crate::hostile::IMAGES;
 use crate::images::{ROOT, WORD_COUNT, fill, set_word};
 use crate::replies::{Wanted, wanted_of};
@@ -156,7 +157,7 @@ impl Twins {
     }
 
     /// Compares each word of the root and of each table with the plain entry at its path.
-    fn compare_tables(&self, rt: &impl Abort, alloc: Global) -> Result<(), Fail> {
+    fn compare_tables(&self, rt: impl Abort + Copy, alloc: Global) -> Result<(), Fail> {
         let mut tables = Vec::new(alloc);
         tables.push((Vec::new(alloc), ROOT))?;
         for _ in 0..PLACES {
@@ -177,7 +178,7 @@ impl Twins {
     /// it names.
     fn compare_entry(
         &self,
-        rt: &impl Abort,
+        rt: impl Abort + Copy,
         alloc: Global,
         path: &[u64],
         (frame, index): (u64, u16),
@@ -201,7 +202,7 @@ impl Twins {
     }
 
     /// Compares the states.
-    fn compare(&self, rt: &impl Abort, alloc: Global) -> Result<(), Fail> {
+    fn compare(&self, rt: impl Abort + Copy, alloc: Global) -> Result<(), Fail> {
         self.compare_tables(rt, alloc)?;
         compare_pool(rt, &self.pool, &self.plain.pool, "of the plain state");
         self.compare_frames(rt, &self.empty, 0)?;
@@ -210,7 +211,7 @@ impl Twins {
     }
 
     /// Compares the words of the free frames.
-    fn compare_free_frames(&self, rt: &impl Abort) -> Result<(), Fail> {
+    fn compare_free_frames(&self, rt: impl Abort + Copy) -> Result<(), Fail> {
         let free = &self.plain.pool;
         let (returned, untouched) = free.split_at(free.len().saturating_sub(self.untouched));
         self.compare_frames(rt, returned, 0)?;
@@ -218,7 +219,7 @@ impl Twins {
     }
 
     /// Compares each word of frames with one.
-    fn compare_frames(&self, rt: &impl Abort, frames: &[u64], word: u64) -> Result<(), Fail> {
+    fn compare_frames(&self, rt: impl Abort + Copy, frames: &[u64], word: u64) -> Result<(), Fail> {
         for frame in frames {
             for index in 0..WORD_COUNT {
                 compare_word(rt, &self.memory, (*frame, index, word), "no table")?;
@@ -261,7 +262,7 @@ impl Twins {
     /// Answers a list of calls both ways, and compares the replies and the states. Keeps what comes of each call.
     fn answer(
         &mut self,
-        rt: &impl Abort,
+        rt: impl Abort + Copy,
         alloc: Global,
         chooser: &mut Chooser,
         met: &mut Vec<Met>,
@@ -281,7 +282,7 @@ impl Twins {
     /// Answers calls by `run`, and compares the replies.
     fn compare_replies(
         &mut self,
-        rt: &impl Abort,
+        rt: impl Abort + Copy,
         alloc: Global,
         calls: &[Call],
         wanted: &[Reply],
@@ -289,7 +290,7 @@ impl Twins {
         let mut replies = Vec::new(alloc);
         let image = (&mut self.memory, &mut self.pool);
         answer(rt, alloc, self.by, image, calls, &mut replies)?;
-        assert_eq!(rt; replies.as_slice(), wanted, "to {calls:?}");
+        assert_equal_in(rt, calls, replies.as_slice(), wanted);
         Ok(())
     }
 
@@ -297,7 +298,7 @@ impl Twins {
     /// it. A call that the mapper itself isn't asked here, or that isn't allowed, is answered by `run`.
     fn answer_alone(
         &mut self,
-        rt: &impl Abort,
+        rt: impl Abort + Copy,
         alloc: Global,
         chooser: &mut Chooser,
         met: &mut Vec<Met>,
@@ -306,7 +307,7 @@ impl Twins {
         met.push(item)?;
         let image = (&mut self.memory, &mut self.pool);
         match answer_alone(rt, alloc, self.by, image, call)? {
-            Some(answer) => assert_eq!(rt; answer, reply, "to {call:?}"),
+            Some(answer) => assert_equal_in(rt, call, answer, reply),
             None => self.compare_replies(rt, alloc, &[call], &[reply])?,
         }
         self.compare(rt, alloc)
@@ -398,7 +399,7 @@ fn unexpected(
 
 /// Answers lists of calls on a hierarchy of words with so many free frames both ways and then single calls, and compares.
 fn check_lists(
-    rt: &impl Abort,
+    rt: impl Abort + Copy,
     alloc: Global,
     words: &[Word],
     (by, count): (By, usize),
@@ -417,7 +418,12 @@ fn check_lists(
 }
 
 /// Does so with each number of free frames, and compares what was met with what is possible.
-fn check_agreement(rt: &impl Abort, alloc: Global, by: By, places: &[bool]) -> Result<(), Fail> {
+fn check_agreement(
+    rt: impl Abort + Copy,
+    alloc: Global,
+    by: By,
+    places: &[bool],
+) -> Result<(), Fail> {
     let mut chooser = Chooser::new(Levels::Four, 1);
     let mut met = Vec::new(alloc);
     for count in 0..=FREE.len() {
@@ -432,17 +438,17 @@ fn check_agreement(rt: &impl Abort, alloc: Global, by: By, places: &[bool]) -> R
 
 #[test]
 fn the_direct_mapper_agrees_with_the_plain_program(rt: HostRuntime) -> Result<(), Fail> {
-    check_agreement(&rt, rt.alloc(), By::Identity, &[false])
+    check_agreement(rt, rt.alloc(), By::Identity, &[false])
 }
 
 #[test]
 fn the_recursive_mapper_agrees_with_the_plain_program(rt: HostRuntime) -> Result<(), Fail> {
     let by = By::Recursive(RECURSIVE_INDEX);
-    check_agreement(&rt, rt.alloc(), by, &[false, true])
+    check_agreement(rt, rt.alloc(), by, &[false, true])
 }
 
 /// Answers calls on each image that nobody vouches for and that is valid, by a mapper and plainly, and compares.
-fn check_images(rt: &impl Abort, alloc: Global, by: By) -> Result<(), Fail> {
+fn check_images(rt: impl Abort + Copy, alloc: Global, by: By) -> Result<(), Fail> {
     let mut chooser = Chooser::new(Levels::Four, 1);
     let mut met = Vec::new(alloc);
     for image in IMAGES.iter().filter(|image| image.replies.is_some()) {
@@ -456,7 +462,7 @@ fn check_images(rt: &impl Abort, alloc: Global, by: By) -> Result<(), Fail> {
 #[test]
 fn mappers_agree_on_images_that_nobody_vouches_for(rt: HostRuntime) -> Result<(), Fail> {
     for by in [By::Identity, By::Offset, By::Recursive(RECURSIVE_INDEX)] {
-        check_images(&rt, rt.alloc(), by)?;
+        check_images(rt, rt.alloc(), by)?;
     }
     Ok(())
 }

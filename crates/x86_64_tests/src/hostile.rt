@@ -1,4 +1,5 @@
 //! Images that nobody vouches for, and which of them are valid: by the tests of hierarchies, and by walks.
+use crate::assertions::assert_equal_in;
 use crate::images::{ROOT, WORD_COUNT, frame_at, set_word};
 use crate::rows::{SELF_ENTRY, Word};
 use std::alloc::{AllocError, Global};
@@ -141,7 +142,7 @@ fn memory_of(alloc: Global, words: &[Word]) -> Result<PhysMemory, Fail> {
 
 /// Asserts whether a hierarchy is valid, without a recursive index and with one.
 fn assert_validity(
-    rt: &impl Abort,
+    rt: impl Abort + Copy,
     alloc: Global,
     memory: &PhysMemory,
     index: Option<u16>,
@@ -155,7 +156,7 @@ fn assert_validity(
         }
         None => is_valid_hierarchy(alloc, memory, &IdentityMapping, root)?,
     };
-    assert_eq!(rt; answer, is_valid, "{title}, {index:?}");
+    assert_equal_in(rt, (title, index), answer, is_valid);
     Ok(())
 }
 
@@ -166,10 +167,10 @@ fn hierarchies_are_valid_or_not(rt: HostRuntime) -> Result<(), Fail> {
         let mut memory = memory_of(alloc, &image.words(alloc)?)?;
         let is_valid = image.replies.is_some();
         let title = format!(in alloc; "{:?}", image.words)?;
-        assert_validity(&rt, alloc, &memory, None, is_valid, &title)?;
+        assert_validity(rt, alloc, &memory, None, is_valid, &title)?;
         set_word(&mut memory, ROOT, 510, SELF_ENTRY)?;
-        assert_validity(&rt, alloc, &memory, Some(510), is_valid, &title)?;
-        assert_validity(&rt, alloc, &memory, None, false, &title)?;
+        assert_validity(rt, alloc, &memory, Some(510), is_valid, &title)?;
+        assert_validity(rt, alloc, &memory, None, false, &title)?;
     }
     Ok(())
 }
@@ -193,7 +194,7 @@ fn hierarchies_are_valid_for_one_index(rt: HostRuntime) -> Result<(), Fail> {
     for (words, index, is_valid) in INDICES {
         let memory = memory_of(alloc, words)?;
         let title = format!(in alloc; "{words:?}")?;
-        assert_validity(&rt, alloc, &memory, Some(index), is_valid, &title)?;
+        assert_validity(rt, alloc, &memory, Some(index), is_valid, &title)?;
     }
     Ok(())
 }
@@ -202,6 +203,6 @@ fn hierarchies_are_valid_for_one_index(rt: HostRuntime) -> Result<(), Fail> {
 fn roots_past_the_memory_are_not_valid(rt: HostRuntime) -> Result<(), Fail> {
     let alloc = rt.alloc();
     let memory = PhysMemory::new(alloc, 1)?;
-    assert_validity(&rt, alloc, &memory, None, false, "one place")?;
-    assert_validity(&rt, alloc, &memory, Some(510), false, "one place")
+    assert_validity(rt, alloc, &memory, None, false, "one place")?;
+    assert_validity(rt, alloc, &memory, Some(510), false, "one place")
 }

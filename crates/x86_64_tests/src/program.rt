@@ -10,6 +10,7 @@ mod maps;
 mod reads;
 mod recursive;
 
+use crate::assertions::assert_equal_in;
 use crate::streams::{Sink, Source};
 use pagetab_engine::ending::Ending;
 use pagetab_engine::engine::run;
@@ -60,12 +61,19 @@ fn words_of(alloc: Global, text: &str) -> Result<Vec<String>, AllocError> {
 }
 
 /// Asserts how a run ended and what it wrote.
-fn assert_outcome(rt: &impl Abort, outcome: &Outcome, ending: Ending, written: &str, title: &str) {
-    assert_eq!(rt; outcome.ending, ending, "{title}");
-    assert_eq!(rt;
+fn assert_outcome(
+    rt: impl Abort + Copy,
+    outcome: &Outcome,
+    ending: Ending,
+    written: &str,
+    title: &str,
+) {
+    assert_equal_in(rt, title, outcome.ending, ending);
+    assert_equal_in(
+        rt,
+        title,
         str::from_utf8(outcome.written.as_slice()),
         Ok(written),
-        "{title}"
     );
 }
 
@@ -84,7 +92,7 @@ const MODES: [(&str, &str); 4] = [
 /// Runs the engine on arguments, and on an image and lines after it, and asserts how the run ends and what it
 /// writes.
 fn assert_run(
-    rt: &impl Abort,
+    rt: impl Abort + Copy,
     alloc: Global,
     arguments: &str,
     (image, lines): (&str, &[u8]),
@@ -120,7 +128,7 @@ fn push_line(text: &mut String, line: &str) -> Result<(), AllocError> {
 /// Asserts the replies to commands on an image, each beside its command. They are the same however tables are
 /// found.
 fn assert_replies(
-    rt: &impl Abort,
+    rt: impl Abort + Copy,
     alloc: Global,
     image: &str,
     exchanges: &[(&str, &str)],
@@ -130,7 +138,7 @@ fn assert_replies(
 
 /// Asserts the replies to commands on an image, each beside its command, in some of the modes.
 fn assert_replies_in(
-    rt: &impl Abort,
+    rt: impl Abort + Copy,
     alloc: Global,
     modes: &[(&str, &str)],
     image: &str,

@@ -21,6 +21,7 @@ mod tokens;
 mod walks;
 mod windows;
 
+use crate::assertions::assert_equal_in;
 use crate::images::{
     ROOT, WORD_COUNT, fill, frame_at, pool_of, run_at_offset, run_on, run_over, run_recursive_on,
     set_word, word_at,
@@ -191,32 +192,28 @@ fn wanted_word(row: &Row<'_>, frame: u64, index: u16) -> u64 {
 }
 
 /// Compares the free frames of a pool with these.
-pub fn compare_pool(rt: &impl Abort, pool: &FramePool, frames: &[u64], title: &str) {
-    assert_eq!(rt; pool.len(), frames.len(), "free frames: {title}");
+pub fn compare_pool(rt: impl Abort + Copy, pool: &FramePool, frames: &[u64], title: &str) {
+    assert_equal_in(rt, title, pool.len(), frames.len());
     for (n, frame) in frames.iter().enumerate() {
-        assert_eq!(rt;
-            pool.frame_at(n),
-            Some(frame_at(*frame)),
-            "free frame {n}: {title}"
-        );
+        assert_equal_in(rt, (n, title), pool.frame_at(n), Some(frame_at(*frame)));
     }
 }
 
 /// Compares a word of a memory with one.
 pub fn compare_word(
-    rt: &impl Abort,
+    rt: impl Abort + Copy,
     memory: &PhysMemory,
     (frame, index, wanted): Word,
     title: &str,
 ) -> Result<(), Fail> {
     let word = word_at(memory, frame, index)?;
-    assert_eq!(rt; word, wanted, "{title}: word {index} of {frame:#x}");
+    assert_equal_in(rt, (title, index, frame), word, wanted);
     Ok(())
 }
 
 /// Compares every word of a memory of so many places with what a row wants.
 fn compare_words(
-    rt: &impl Abort,
+    rt: impl Abort + Copy,
     memory: &PhysMemory,
     places: u32,
     row: &Row<'_>,
@@ -234,7 +231,7 @@ fn compare_words(
 
 /// Compares every word of the memory and the free frames with what a row wants.
 fn compare(
-    rt: &impl Abort,
+    rt: impl Abort + Copy,
     memory: &PhysMemory,
     pool: &FramePool,
     row: &Row<'_>,
@@ -269,7 +266,7 @@ fn begin_by(alloc: Global, by: By, free: &[u64]) -> Result<(PhysMemory, FramePoo
 
 /// Asserts that a hierarchy is valid and a pool fits it.
 pub fn assert_fits<P: PageTableFrameMapping>(
-    rt: &impl Abort,
+    rt: impl Abort + Copy,
     alloc: Global,
     memory: &PhysMemory,
     mapping: &P,
@@ -285,7 +282,7 @@ pub fn assert_fits<P: PageTableFrameMapping>(
 
 /// Asserts that a hierarchy is valid for a recursive index and a pool fits it.
 pub fn assert_fits_recursive(
-    rt: &impl Abort,
+    rt: impl Abort + Copy,
     alloc: Global,
     memory: &PhysMemory,
     root: PhysFrame<Size4KiB>,
@@ -322,12 +319,17 @@ fn add_exchanges(
 }
 
 /// Answers the calls of rows by each of the mappers, and compares what comes of them.
-fn check(rt: &impl Abort, alloc: Global, rows: &[Row<'_>]) -> Result<(), Fail> {
+fn check(rt: impl Abort + Copy, alloc: Global, rows: &[Row<'_>]) -> Result<(), Fail> {
     check_by(rt, alloc, rows, &EACH)
 }
 
 /// Answers the calls of rows by each of these mappers, and compares what comes of them.
-fn check_by(rt: &impl Abort, alloc: Global, rows: &[Row<'_>], mappers: &[By]) -> Result<(), Fail> {
+fn check_by(
+    rt: impl Abort + Copy,
+    alloc: Global,
+    rows: &[Row<'_>],
+    mappers: &[By],
+) -> Result<(), Fail> {
     for (number, row) in rows.iter().enumerate() {
         check_row(rt, alloc, number, row, &[], mappers)?;
     }
@@ -336,7 +338,7 @@ fn check_by(rt: &impl Abort, alloc: Global, rows: &[Row<'_>], mappers: &[By]) ->
 
 /// Answers the calls of a row by each of these mappers, and compares what comes of them and where walks arrive.
 fn check_row(
-    rt: &impl Abort,
+    rt: impl Abort + Copy,
     alloc: Global,
     number: usize,
     row: &Row<'_>,
@@ -373,7 +375,7 @@ fn words_by(alloc: Global, row: &Row<'_>, by: By) -> Result<Vec<Word>, AllocErro
 
 /// Compares every word of the memory and the free frames with what a row wants by a mapper.
 fn compare_by(
-    rt: &impl Abort,
+    rt: impl Abort + Copy,
     alloc: Global,
     by: By,
     (memory, pool): (&PhysMemory, &FramePool),
@@ -390,7 +392,7 @@ fn compare_by(
 
 /// Answers calls by a mapper, where the image and the pool fit.
 pub fn answer(
-    rt: &impl Abort,
+    rt: impl Abort + Copy,
     alloc: Global,
     by: By,
     (memory, pool): (&mut PhysMemory, &mut FramePool),
@@ -425,7 +427,7 @@ pub fn answer(
 /// Answers a row's calls by the mapper of a root over a frame mapping, where the image and the pool fit, and
 /// compares the replies.
 fn answer_over<P: PageTableFrameMapping + Drop>(
-    rt: &impl Abort,
+    rt: impl Abort + Copy,
     alloc: Global,
     row: &Row<'_>,
     (root, mapping): (u64, P),
@@ -439,14 +441,14 @@ fn answer_over<P: PageTableFrameMapping + Drop>(
     let root = frame_at(root);
     assert_fits(rt, alloc, memory, &mapping, root, pool)?;
     run_over(memory, root, mapping, pool, &calls, &mut replies)?;
-    assert_eq!(rt; replies, wanted, "{title}");
+    assert_equal_in(rt, title, replies, wanted);
     Ok(())
 }
 
 /// Answers a row's calls by `run`, the first in a list of its own, after an earlier reply, and compares the
 /// replies.
 fn answer_exchanges(
-    rt: &impl Abort,
+    rt: impl Abort + Copy,
     alloc: Global,
     row: &Row<'_>,
     by: By,
@@ -468,13 +470,13 @@ fn answer_exchanges(
             &mut replies,
         )?;
     }
-    assert_eq!(rt; replies, wanted, "{title}");
+    assert_equal_in(rt, title, replies, wanted);
     Ok(())
 }
 
 /// Answers a row's calls, compares what comes of them, and gives the memory and the pool.
 fn answer_row(
-    rt: &impl Abort,
+    rt: impl Abort + Copy,
     alloc: Global,
     row: &Row<'_>,
     by: By,
@@ -488,7 +490,7 @@ fn answer_row(
 
 /// Tests that the hierarchy is valid and the pool fits it again.
 fn check_fits(
-    rt: &impl Abort,
+    rt: impl Abort + Copy,
     alloc: Global,
     by: By,
     (memory, pool): (&mut PhysMemory, &FramePool),

@@ -2,6 +2,7 @@
 ghost use Rattle.std.specs.Prelude.{◌≡◌, ◌<◌, ◌↔◌, IsTrue};
 ghost use Rattle.x86_64_addr.specs.Levels.{level_number};
 
+use crate::assertions::{assert_equal, assert_equal_at};
 use x86_64_addr::addr::{PhysAddr, PhysAddrNotValid, VirtAddr, VirtAddrNotValid};
 use x86_64_addr::index::{PageOffset, PageTableIndex, PageTableLevel};
 
@@ -43,18 +44,14 @@ fn virtual_addresses_are_canonical(rt: HostRuntime) {
         (0xffff_7fff_ffff_ffff, 0x7fff_ffff_ffff),
     ];
     for (value, raw) in truncated {
-        assert_eq!(rt;
-            VirtAddr::new_truncate(value).as_u64(),
-            raw,
-            "at {value:#x}"
-        );
+        assert_equal_at(rt, value, VirtAddr::new_truncate(value).as_u64(), raw);
     }
     for value in [0, 0x7fff_ffff_ffff, 0xffff_8000_0000_0000, u64::MAX] {
         let address = VirtAddr::try_new(value);
-        assert_eq!(rt; address, Ok(VirtAddr::new_truncate(value)), "at {value:#x}");
+        assert_equal_at(rt, value, address, Ok(VirtAddr::new_truncate(value)));
     }
     for value in [0x8000_0000_0000, 0xffff_7fff_ffff_ffff] {
-        assert_eq!(rt; VirtAddr::try_new(value), Err(VirtAddrNotValid(value)));
+        assert_equal(rt, VirtAddr::try_new(value), Err(VirtAddrNotValid(value)));
     }
     let low = VirtAddr::new(0x7fff_ffff_ffff);
     let high = VirtAddr::new_unsafe(0xffff_8000_0000_0000);
@@ -73,15 +70,15 @@ fn physical_addresses_have_52_bits(rt: HostRuntime) {
         (u64::MAX, (1 << 52) - 1),
     ];
     for (value, raw) in truncated {
-        assert_eq!(rt;
-            PhysAddr::new_truncate(value).as_u64(),
-            raw,
-            "at {value:#x}"
-        );
+        assert_equal_at(rt, value, PhysAddr::new_truncate(value).as_u64(), raw);
     }
     let greatest = PhysAddr::new(0x000f_ffff_ffff_ffff);
-    assert_eq!(rt; PhysAddr::try_new(0x000f_ffff_ffff_ffff), Ok(greatest));
-    assert_eq!(rt; PhysAddr::try_new(1 << 52), Err(PhysAddrNotValid(1 << 52)));
+    assert_equal(rt, PhysAddr::try_new(0x000f_ffff_ffff_ffff), Ok(greatest));
+    assert_equal(
+        rt,
+        PhysAddr::try_new(1 << 52),
+        Err(PhysAddrNotValid(1 << 52)),
+    );
     assert!(rt; PhysAddr::zero() < greatest);
     assert!(rt; PhysAddr::new_unsafe(0).is_null());
     assert!(rt; !greatest.is_null());
@@ -104,16 +101,16 @@ fn addresses_have_indices(rt: HostRuntime) {
     ];
     for (raw, indices, offset) in rows {
         let address = VirtAddr::new_truncate(raw);
-        assert_eq!(rt; address.page_offset(), PageOffset::new_truncate(offset));
+        assert_equal(rt, address.page_offset(), PageOffset::new_truncate(offset));
         let found = levels.map(|level| u16::from(address.page_table_index(level)));
-        assert_eq!(rt; found, indices, "at {raw:#x}");
+        assert_equal_at(rt, raw, found, indices);
         let each = [
             u16::from(address.p4_index()),
             u16::from(address.p3_index()),
             u16::from(address.p2_index()),
             u16::from(address.p1_index()),
         ];
-        assert_eq!(rt; each, indices, "at {raw:#x}");
+        assert_equal_at(rt, raw, each, indices);
     }
     assert!(rt; is_lower(PageTableLevel::One, PageTableLevel::Two));
     assert!(rt; is_lower(PageTableLevel::Three, PageTableLevel::Four));
@@ -121,18 +118,22 @@ fn addresses_have_indices(rt: HostRuntime) {
 
 #[test]
 fn indices_and_offsets_are_numbers(rt: HostRuntime) {
-    assert_eq!(rt; PageTableIndex::new_truncate(513), PageTableIndex::new(1));
+    assert_equal(
+        rt,
+        PageTableIndex::new_truncate(513),
+        PageTableIndex::new(1),
+    );
     let index = PageTableIndex::new_truncate(512 + 510);
-    assert_eq!(rt; index, PageTableIndex::new(510));
-    assert_eq!(rt; u32::from(index), 510);
-    assert_eq!(rt; u64::from(index), 510);
-    assert_eq!(rt; usize::from(index), 510);
+    assert_equal(rt, index, PageTableIndex::new(510));
+    assert_equal(rt, u32::from(index), 510);
+    assert_equal(rt, u64::from(index), 510);
+    assert_equal(rt, usize::from(index), 510);
     let offset = PageOffset::new_truncate(4096 + 4095);
-    assert_eq!(rt; offset, PageOffset::new(4095));
-    assert_eq!(rt; u16::from(offset), 4095);
-    assert_eq!(rt; u32::from(offset), 4095);
-    assert_eq!(rt; u64::from(offset), 4095);
-    assert_eq!(rt; usize::from(offset), 4095);
+    assert_equal(rt, offset, PageOffset::new(4095));
+    assert_equal(rt, u16::from(offset), 4095);
+    assert_equal(rt, u32::from(offset), 4095);
+    assert_equal(rt, u64::from(offset), 4095);
+    assert_equal(rt, usize::from(offset), 4095);
 }
 
 #[test]
@@ -140,18 +141,19 @@ fn addresses_have_texts(rt: HostRuntime) {
     let address = VirtAddr::new(0x1000);
     let high = VirtAddr::new_truncate(1 << 47);
     let text = format!(in rt.alloc(); "{address:?} {high:?}").expect(&rt, "memory");
-    assert_eq!(rt;
+    assert_equal(
+        rt,
         text.as_str(),
-        "VirtAddr(0x1000) VirtAddr(0xffff800000000000)"
+        "VirtAddr(0x1000) VirtAddr(0xffff800000000000)",
     );
     let frame = PhysAddr::new(0x1000);
     let zero = PhysAddr::zero();
     let text = format!(in rt.alloc(); "{frame:?} {zero:?}").expect(&rt, "memory");
-    assert_eq!(rt; text.as_str(), "PhysAddr(0x1000) PhysAddr(0x0)");
+    assert_equal(rt, text.as_str(), "PhysAddr(0x1000) PhysAddr(0x0)");
     let error = VirtAddrNotValid(0x8000_0000_0000);
     let text = format!(in rt.alloc(); "{error:?}").expect(&rt, "memory");
-    assert_eq!(rt; text.as_str(), "VirtAddrNotValid(0x800000000000)");
+    assert_equal(rt, text.as_str(), "VirtAddrNotValid(0x800000000000)");
     let error = PhysAddrNotValid(1 << 52);
     let text = format!(in rt.alloc(); "{error:?}").expect(&rt, "memory");
-    assert_eq!(rt; text.as_str(), "PhysAddrNotValid(0x10000000000000)");
+    assert_equal(rt, text.as_str(), "PhysAddrNotValid(0x10000000000000)");
 }

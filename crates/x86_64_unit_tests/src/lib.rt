@@ -1,14 +1,14 @@
-//! Tests of the public calls of each crate below, one module a crate. They stand here and not in the crates, so that each crate is
-//! proved once.
+//! Tests of the public calls of the crates up to tables, and of the plain program, one module a crate. They stand here and not in the
+//! crates, so that each crate is proved once.
 #![tactic(auto)]
 
 #[cfg(test)]
 mod addr;
 #[cfg(test)]
-mod mappers;
+mod assertions;
 #[cfg(test)]
 mod page;
 #[cfg(test)]
-mod runs;
+mod plain;
 #[cfg(test)]
 mod tables;

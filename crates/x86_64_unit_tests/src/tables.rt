@@ -6,6 +6,7 @@ mod mapper;
 mod page_table;
 mod phys_memory;
 
+use crate::assertions::{assert_equal, assert_equal_at, assert_equal_in};
 use bitflags::Flags;
 use std::test::Fail;
 use x86_64_addr::addr::{PhysAddr, VirtAddr};
@@ -34,8 +35,8 @@ fn flags_have_parts(rt: HostRuntime) -> Result<(), Fail> {
     ];
     for (bits, parents, has_address) in parts {
         let flags = PageTableFlags::from_bits_retain(bits);
-        assert_eq!(rt; parent_flags(flags).bits(), parents, "of {bits:#x}");
-        assert_eq!(rt; flags.has_address_bits(), has_address, "of {bits:#x}");
+        assert_equal_at(rt, bits, parent_flags(flags).bits(), parents);
+        assert_equal_at(rt, bits, flags.has_address_bits(), has_address);
     }
     Ok(())
 }
@@ -44,7 +45,7 @@ fn flags_have_parts(rt: HostRuntime) -> Result<(), Fail> {
 fn tokens_name_pages(rt: HostRuntime) -> Result<(), Fail> {
     let page = Page::<Size2MiB>::containing_address(VirtAddr::new(0x20_0000));
     let flush = MapperFlush::new(page);
-    assert_eq!(rt; flush.page(), page);
+    assert_equal(rt, flush.page(), page);
     flush.ignore();
     MapperFlushAll::new().ignore();
     Ok(())
@@ -53,7 +54,7 @@ fn tokens_name_pages(rt: HostRuntime) -> Result<(), Fail> {
 #[test]
 fn memory_has_tables_at_places(rt: HostRuntime) -> Result<(), Fail> {
     let mut memory = PhysMemory::new(rt.alloc(), 8)?;
-    assert_eq!(rt; memory.len(), 8);
+    assert_equal(rt, memory.len(), 8);
     for number in 0..8 {
         let table = memory.table(FramePlace::new(number)).ok_or("a place")?;
         assert!(rt; table.is_empty(), "at {number}");
@@ -61,7 +62,7 @@ fn memory_has_tables_at_places(rt: HostRuntime) -> Result<(), Fail> {
     let frame = frame_at(0x7000);
     assert!(rt; IdentityMapping.covers(frame));
     let place = IdentityMapping.frame_to_pointer(frame);
-    assert_eq!(rt; place.number(), 7);
+    assert_equal(rt, place.number(), 7);
     let table = memory.table_mut(place).ok_or("the last place")?;
     table[3].set_addr(PhysAddr::new(0x1000), PageTableFlags::PRESENT);
     assert!(rt; memory.table(FramePlace::new(8)).is_none());
@@ -69,12 +70,12 @@ fn memory_has_tables_at_places(rt: HostRuntime) -> Result<(), Fail> {
     assert!(rt; memory.table_mut(FramePlace::new(u64::MAX)).is_none());
     for number in 0..8 {
         let table = memory.table(FramePlace::new(number)).ok_or("a place")?;
-        assert_eq!(rt; table.is_empty(), number < 7, "at {number}");
+        assert_equal_in(rt, number, table.is_empty(), number < 7);
     }
     let table = memory.table(place).ok_or("the last place")?;
-    assert_eq!(rt; table[3].addr(), PhysAddr::new(0x1000));
-    assert_eq!(rt; table[3].flags(), PageTableFlags::PRESENT);
-    assert_eq!(rt; PhysMemory::new(rt.alloc(), 0)?.len(), 0);
+    assert_equal(rt, table[3].addr(), PhysAddr::new(0x1000));
+    assert_equal(rt, table[3].flags(), PageTableFlags::PRESENT);
+    assert_equal(rt, PhysMemory::new(rt.alloc(), 0)?.len(), 0);
     Ok(())
 }
 
@@ -85,6 +86,6 @@ fn memory_is_indexed_by_places(rt: HostRuntime) -> Result<(), Fail> {
     assert!(rt; memory[place].is_empty());
     memory[place][3].set_addr(PhysAddr::new(0x1000), PageTableFlags::PRESENT);
     let table = memory.table(place).ok_or("the last place")?;
-    assert_eq!(rt; table[3].addr(), PhysAddr::new(0x1000));
+    assert_equal(rt, table[3].addr(), PhysAddr::new(0x1000));
     Ok(())
 }

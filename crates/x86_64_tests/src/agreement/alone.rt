@@ -20,7 +20,7 @@ use x86_64::{
 /// Answers a call by the mapper itself, the recursive one or the direct one, where the image and the pool fit.
 /// Gives `None` where the call is of another kind or isn't allowed.
 pub fn answer_alone(
-    rt: &impl Abort,
+    rt: impl Abort + Copy,
     alloc: Global,
     by: By,
     (memory, pool): (&mut PhysMemory, &mut FramePool),

@@ -5,6 +5,7 @@ ghost use Rattle.x86_64_model.specs.Marks.{serves_below};
 ghost use Rattle.x86_64_model.specs.Owned.{PoolFits, Valid};
 
 use super::{Chooser, ENTRIES, FREE, Levels, Met, Twins, unexpected};
+use crate::assertions::assert_equal_in;
 use crate::images::{ROOT, flags_of, frame_at, page_57_at as page_at};
 use crate::replies::{flags_result, frame_result, map_result, translate_result, unmap_result};
 use crate::rows::{By, Word};
@@ -248,12 +249,12 @@ fn update_result<S: PageSize>(page: Page57<S>, answer: Answer) -> Option<Changed
 /// Compares what a mapper said to a call, if that was allowed, with what the plain program's answer is as one of a
 /// mapper, if there is such an answer.
 fn compare<T: PartialEq + Debug + Drop>(
-    rt: &impl Abort,
+    rt: impl Abort + Copy,
     turn: PageTurn,
     said: Option<T>,
     wanted: Option<Option<T>>,
 ) {
-    assert_eq!(rt; said.map(Some), wanted, "to {turn:?}");
+    assert_equal_in(rt, turn, said.map(Some), wanted);
 }
 
 /// Makes a map by any mapper, where it is allowed.
@@ -316,7 +317,7 @@ fn set_table_flags<S: PageSize, M: Mapper57<S>>(
 
 /// Makes a call on a page by any mapper without a recursive index, and compares the reply.
 fn compare_on<S: PageSize + Debug, M: Mapper57<S>>(
-    rt: &impl Abort,
+    rt: impl Abort + Copy,
     mapper: &mut M,
     pool: &mut FramePool,
     turn: PageTurn,
@@ -368,7 +369,7 @@ fn compare_on<S: PageSize + Debug, M: Mapper57<S>>(
 
 /// Makes a call by any mapper without a recursive index, and compares the reply.
 fn compare_by<M: MapperAllSizes57 + Translate57 + CleanUp57>(
-    rt: &impl Abort,
+    rt: impl Abort + Copy,
     mapper: &mut M,
     pool: &mut FramePool,
     turn: Turn,
@@ -389,11 +390,11 @@ fn compare_by<M: MapperAllSizes57 + Translate57 + CleanUp57>(
         }
         (Turn::Translate(addr), PlainReply::Position(translated)) => {
             let said = mapper.translate(VirtAddr57::new_truncate(addr));
-            assert_eq!(rt; said, translate_result(translated), "to {turn:?}");
+            assert_equal_in(rt, turn, said, translate_result(translated));
         }
         (Turn::TranslateAddr(addr), PlainReply::Address(address)) => {
             let said = mapper.translate_addr(VirtAddr57::new_truncate(addr));
-            assert_eq!(rt; said, address.map(PhysAddr::new_truncate), "to {turn:?}");
+            assert_equal_in(rt, turn, said, address.map(PhysAddr::new_truncate));
         }
         (Turn::CleanUp, PlainReply::Cleaned) => mapper.clean_up(pool),
         (Turn::CleanUpRange(first, last), PlainReply::Cleaned) => {
@@ -407,7 +408,7 @@ fn compare_by<M: MapperAllSizes57 + Translate57 + CleanUp57>(
 
 /// Makes a call by the direct mapper, where the image and the pool fit, and compares the reply.
 fn compare_alone(
-    rt: &impl Abort,
+    rt: impl Abort + Copy,
     alloc: Global,
     (memory, pool): (&mut PhysMemory, &mut FramePool),
     turn: Turn,
@@ -422,7 +423,7 @@ fn compare_alone(
 /// Makes calls on a hierarchy of words with so many free frames by the mapper itself and plainly, and compares the
 /// replies and, after each call, the states. Keeps what comes of each call.
 fn check_calls(
-    rt: &impl Abort,
+    rt: impl Abort + Copy,
     alloc: Global,
     count: usize,
     chooser: &mut Chooser,
@@ -448,7 +449,7 @@ fn the_mapper_of_five_levels_agrees_with_the_plain_program(rt: HostRuntime) -> R
     let mut chooser = Chooser::new(Levels::Five, 7);
     let mut met = Vec::new(alloc);
     for count in 0..=FREE.len() {
-        check_calls(&rt, alloc, count, &mut chooser, &mut met)?;
+        check_calls(rt, alloc, count, &mut chooser, &mut met)?;
     }
     let unexpected = unexpected(alloc, Levels::Five, &met, false)?;
     assert!(rt; unexpected.is_empty(), "{unexpected:?}");

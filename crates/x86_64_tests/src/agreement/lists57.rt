@@ -2,6 +2,7 @@
 //! program.
 use super::five_levels::{UNFIT, entries};
 use super::{CALLS, Choice, Chooser, FREE, LISTS, Levels, RECURSIVE_INDEX, Twins};
+use crate::assertions::assert_equal_in;
 use crate::images::{ROOT, frame_at, run_57_on, run_57_recursive_on};
 use crate::pairs::{is_pair_57, none_names_57, run_pair_57_on};
 use crate::replies::reply_57_to;
@@ -17,7 +18,7 @@ use x86_64::{
 
 /// Answers calls by the direct mapper, or by the recursive one, where the image and the pool fit.
 fn answer(
-    rt: &impl Abort,
+    rt: impl Abort + Copy,
     alloc: Global,
     by: By,
     (memory, pool): (&mut PhysMemory, &mut FramePool),
@@ -41,7 +42,7 @@ fn answer(
 
 /// Answers a list of calls both ways, and compares the replies and the states.
 fn compare_list(
-    rt: &impl Abort,
+    rt: impl Abort + Copy,
     alloc: Global,
     twins: &mut Twins,
     chooser: &mut Chooser,
@@ -56,12 +57,12 @@ fn compare_list(
     }
     let image = (&mut twins.memory, &mut twins.pool);
     let replies = answer(rt, alloc, twins.by, image, &calls)?;
-    assert_eq!(rt; replies, wanted, "to {calls:?}");
+    assert_equal_in(rt, calls, replies, wanted);
     twins.compare(rt, alloc)
 }
 
 /// Answers lists of calls on the entries with each number of free frames.
-fn check_lists(rt: &impl Abort, alloc: Global, by: By) -> Result<(), Fail> {
+fn check_lists(rt: impl Abort + Copy, alloc: Global, by: By) -> Result<(), Fail> {
     let mut chooser = Chooser::new(Levels::Five, 1);
     let words = entries(alloc)?;
     for count in 0..=FREE.len() {
@@ -75,13 +76,13 @@ fn check_lists(rt: &impl Abort, alloc: Global, by: By) -> Result<(), Fail> {
 
 #[test]
 fn lists_of_five_levels_agree_with_the_plain_program(rt: HostRuntime) -> Result<(), Fail> {
-    check_lists(&rt, rt.alloc(), By::Identity)?;
-    check_lists(&rt, rt.alloc(), By::Recursive(RECURSIVE_INDEX))
+    check_lists(rt, rt.alloc(), By::Identity)?;
+    check_lists(rt, rt.alloc(), By::Recursive(RECURSIVE_INDEX))
 }
 
 /// Answers calls by the direct mapper of an image and the recursive one of another, where these are a pair.
 fn answer_pair(
-    rt: &impl Abort,
+    rt: impl Abort + Copy,
     alloc: Global,
     (memory, pool): (&mut PhysMemory, &mut FramePool),
     (walked, walked_pool): (&mut PhysMemory, &mut FramePool),
@@ -95,7 +96,7 @@ fn answer_pair(
 
 /// Answers a call by both plain machines, whose replies are the same, and gives the reply.
 fn step_both(
-    rt: &impl Abort,
+    rt: impl Abort + Copy,
     direct: &mut Twins,
     recursive: &mut Twins,
     choice: &Choice,
@@ -111,7 +112,7 @@ fn step_both(
 /// Answers a list of calls that don't name the recursive index by both mappers at once and plainly, and compares the
 /// replies and the states.
 fn compare_pair(
-    rt: &impl Abort,
+    rt: impl Abort + Copy,
     alloc: Global,
     direct: &mut Twins,
     recursive: &mut Twins,
@@ -130,7 +131,7 @@ fn compare_pair(
     let image = (&mut direct.memory, &mut direct.pool);
     let walked = (&mut recursive.memory, &mut recursive.pool);
     let replies = answer_pair(rt, alloc, image, walked, &calls)?;
-    assert_eq!(rt; replies, wanted, "to {calls:?}");
+    assert_equal_in(rt, calls, replies, wanted);
     direct.compare(rt, alloc)?;
     recursive.compare(rt, alloc)
 }
@@ -145,7 +146,7 @@ fn pairs_of_five_levels_reply_alike(rt: HostRuntime) -> Result<(), Fail> {
         let mut direct = Twins::new(alloc, Levels::Five, &words, By::Identity, count)?;
         let mut recursive = Twins::new(alloc, Levels::Five, &words, walked, count)?;
         for _ in 0..LISTS {
-            compare_pair(&rt, alloc, &mut direct, &mut recursive, &mut chooser)?;
+            compare_pair(rt, alloc, &mut direct, &mut recursive, &mut chooser)?;
         }
     }
     Ok(())

@@ -3,6 +3,7 @@
 use super::{
     CALLS, Choice, Chooser, ENTRIES, FREE, LISTS, Levels, RECURSIVE_INDEX, Twins, is_named,
 };
+use crate::assertions::assert_equal_in;
 use crate::hostile::IMAGES;
 use crate::images::{ROOT, frame_at};
 use crate::pairs::{is_pair, none_names, run_pair_at_offset, run_pair_on};
@@ -16,7 +17,7 @@ use x86_64::{Call, FramePool, PhysMemory, Reply, VirtAddr};
 /// Answers calls by the mapper of an image, the direct one or the one at an offset, and by the recursive mapper of
 /// another image, where both images and their pools fit and are alike.
 fn answer_pair(
-    rt: &impl Abort,
+    rt: impl Abort + Copy,
     alloc: Global,
     by: By,
     (memory, pool): (&mut PhysMemory, &mut FramePool),
@@ -63,10 +64,10 @@ impl Pair {
     }
 
     /// Answers a call by both plain machines, whose replies are the same. Gives the call and the reply.
-    fn step(&mut self, rt: &impl Abort, choice: &Choice) -> Result<(Call, Reply), Fail> {
+    fn step(&mut self, rt: impl Abort + Copy, choice: &Choice) -> Result<(Call, Reply), Fail> {
         let (wanted, _) = self.direct.step(choice)?;
         let (same, _) = self.recursive.step(choice)?;
-        assert_eq!(rt; same.reply, wanted.reply, "to {:?}", wanted.call);
+        assert_equal_in(rt, wanted.call, same.reply, wanted.reply);
         Ok((wanted.call, wanted.reply))
     }
 
@@ -74,7 +75,7 @@ impl Pair {
     /// the replies and the states.
     fn answer(
         &mut self,
-        rt: &impl Abort,
+        rt: impl Abort + Copy,
         alloc: Global,
         chooser: &mut Chooser,
     ) -> Result<(), Fail> {
@@ -93,7 +94,7 @@ impl Pair {
         let image = (&mut self.direct.memory, &mut self.direct.pool);
         let walked = (&mut self.recursive.memory, &mut self.recursive.pool);
         let replies = answer_pair(rt, alloc, by, image, walked, &calls)?;
-        assert_eq!(rt; replies, wanted, "to {calls:?}");
+        assert_equal_in(rt, calls, replies, wanted);
         self.direct.compare(rt, alloc)?;
         self.recursive.compare(rt, alloc)
     }
@@ -101,7 +102,7 @@ impl Pair {
 
 /// Answers lists of calls by the recursive mapper and another one, on a hierarchy of words with so many free frames.
 fn check_lists(
-    rt: &impl Abort,
+    rt: impl Abort + Copy,
     alloc: Global,
     words: &[Word],
     (by, count): (By, usize),
@@ -115,7 +116,7 @@ fn check_lists(
 }
 
 /// Does so with each number of free frames, and on each image that nobody vouches for and that is valid.
-fn check_pairs(rt: &impl Abort, alloc: Global, by: By) -> Result<(), Fail> {
+fn check_pairs(rt: impl Abort + Copy, alloc: Global, by: By) -> Result<(), Fail> {
     let mut chooser = Chooser::new(Levels::Four, 1);
     for count in 0..=FREE.len() {
         check_lists(rt, alloc, &ENTRIES, (by, count), &mut chooser)?;
@@ -129,10 +130,10 @@ fn check_pairs(rt: &impl Abort, alloc: Global, by: By) -> Result<(), Fail> {
 
 #[test]
 fn the_direct_and_the_recursive_mapper_reply_alike(rt: HostRuntime) -> Result<(), Fail> {
-    check_pairs(&rt, rt.alloc(), By::Identity)
+    check_pairs(rt, rt.alloc(), By::Identity)
 }
 
 #[test]
 fn the_mapper_at_an_offset_and_the_recursive_one_reply_alike(rt: HostRuntime) -> Result<(), Fail> {
-    check_pairs(&rt, rt.alloc(), By::Offset)
+    check_pairs(rt, rt.alloc(), By::Offset)
 }

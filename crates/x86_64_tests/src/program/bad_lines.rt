@@ -154,7 +154,7 @@ const CLEAN_UPS: [&str; 15] = [
 ];
 
 /// Asserts that each line is bad as the first one, whether a line feed ends it or not, and that nothing is written.
-fn assert_bad(rt: &impl Abort, alloc: Global, lines: &[&str]) -> Result<(), Fail> {
+fn assert_bad(rt: impl Abort + Copy, alloc: Global, lines: &[&str]) -> Result<(), Fail> {
     for line in lines {
         for end in ["", "\n"] {
             let whole = format!(in alloc; "{line}{end}")?;
@@ -167,12 +167,12 @@ fn assert_bad(rt: &impl Abort, alloc: Global, lines: &[&str]) -> Result<(), Fail
 
 #[test]
 fn bad_lines_end_the_run(rt: HostRuntime) -> Result<(), Fail> {
-    assert_bad(&rt, rt.alloc(), &FORMS)?;
-    assert_bad(&rt, rt.alloc(), &IMAGES)?;
-    assert_bad(&rt, rt.alloc(), &READS)?;
-    assert_bad(&rt, rt.alloc(), &MAPS)?;
-    assert_bad(&rt, rt.alloc(), &CHANGES)?;
-    assert_bad(&rt, rt.alloc(), &CLEAN_UPS)
+    assert_bad(rt, rt.alloc(), &FORMS)?;
+    assert_bad(rt, rt.alloc(), &IMAGES)?;
+    assert_bad(rt, rt.alloc(), &READS)?;
+    assert_bad(rt, rt.alloc(), &MAPS)?;
+    assert_bad(rt, rt.alloc(), &CHANGES)?;
+    assert_bad(rt, rt.alloc(), &CLEAN_UPS)
 }
 
 /// Images and lines, the number of the bad line, and the replies before it.
@@ -205,7 +205,7 @@ const COUNTED: [(&str, &[u8], u64, &str); 13] = [
 fn bad_lines_are_counted(rt: HostRuntime) -> Result<(), Fail> {
     for (image, lines, number, replies) in COUNTED {
         let bad = Ending::Stopped(Fault::BadLine(number));
-        assert_run(&rt, rt.alloc(), "direct 8", (image, lines), bad, replies)?;
+        assert_run(rt, rt.alloc(), "direct 8", (image, lines), bad, replies)?;
     }
     Ok(())
 }

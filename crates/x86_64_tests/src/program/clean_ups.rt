@@ -29,8 +29,8 @@ const WITHOUT_PRESENT: [(&str, &str); 6] = [
 
 #[test]
 fn tables_go_back(rt: HostRuntime) -> Result<(), Fail> {
-    assert_replies(&rt, rt.alloc(), POOL, &ALL_PAGES)?;
-    assert_replies(&rt, rt.alloc(), FIRST, &WITHOUT_PRESENT)
+    assert_replies(rt, rt.alloc(), POOL, &ALL_PAGES)?;
+    assert_replies(rt, rt.alloc(), FIRST, &WITHOUT_PRESENT)
 }
 
 /// The tables are those of the image, and were never free.
@@ -64,6 +64,6 @@ const AT_THE_GAP: [(&str, &str); 9] = [
 
 #[test]
 fn tables_of_ranges_go_back(rt: HostRuntime) -> Result<(), Fail> {
-    assert_replies(&rt, rt.alloc(), FIRST, &RANGES)?;
-    assert_replies(&rt, rt.alloc(), SIX_FREE, &AT_THE_GAP)
+    assert_replies(rt, rt.alloc(), FIRST, &RANGES)?;
+    assert_replies(rt, rt.alloc(), SIX_FREE, &AT_THE_GAP)
 }

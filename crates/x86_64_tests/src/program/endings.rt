@@ -1,5 +1,6 @@
 //! How runs end.
 use super::{FIRST, MODES, Outcome, SELF_ENTRY, assert_outcome, assert_run, run_failing};
+use crate::assertions::{assert_equal, assert_equal_in};
 use pagetab_engine::ending::{Ending, Fault};
 use std::alloc::{AllocError, Global};
 use std::process::Abort;
@@ -56,7 +57,7 @@ fn arguments_are_a_mode_and_its_numbers(rt: HostRuntime) -> Result<(), Fail> {
     for (arguments, ending) in ARGUMENTS {
         let written = if ending == USED_WRONGLY { "" } else { "0x0\n" };
         let input = ("", b"show 0x1000 0\n".as_slice());
-        assert_run(&rt, rt.alloc(), arguments, input, ending, written)?;
+        assert_run(rt, rt.alloc(), arguments, input, ending, written)?;
     }
     Ok(())
 }
@@ -74,7 +75,7 @@ const INDICES: [(&str, &str); 5] = [
 fn arguments_have_a_recursive_index(rt: HostRuntime) -> Result<(), Fail> {
     for (arguments, image) in INDICES {
         let input = (image, b"show 0x1000 1\n".as_slice());
-        assert_run(&rt, rt.alloc(), arguments, input, Ending::Done, "0x0\n")?;
+        assert_run(rt, rt.alloc(), arguments, input, Ending::Done, "0x0\n")?;
     }
     Ok(())
 }
@@ -116,9 +117,9 @@ fn run_lines(
 }
 
 /// Asserts that a failed read ends the run, which has written a front part of the replies by then.
-fn assert_failed_read(rt: &impl Abort, outcome: &Outcome, read: u64, whole: &[u8]) {
-    assert_eq!(rt; outcome.ending, UNREAD, "read {read}");
-    assert_eq!(rt; outcome.reads, read);
+fn assert_failed_read(rt: impl Abort + Copy, outcome: &Outcome, read: u64, whole: &[u8]) {
+    assert_equal_in(rt, read, outcome.ending, UNREAD);
+    assert_equal(rt, outcome.reads, read);
     assert!(rt;
         whole.starts_with(outcome.written.as_slice()),
         "read {read}"
@@ -126,9 +127,13 @@ fn assert_failed_read(rt: &impl Abort, outcome: &Outcome, read: u64, whole: &[u8
 }
 
 /// Lets each read fail in turn.
-fn assert_failed_reads(rt: &impl Abort, alloc: Global, mode: (&str, &str)) -> Result<(), Fail> {
+fn assert_failed_reads(
+    rt: impl Abort + Copy,
+    alloc: Global,
+    mode: (&str, &str),
+) -> Result<(), Fail> {
     let whole = run_lines(alloc, mode, 0, 0)?;
-    assert_eq!(rt; whole.ending, Ending::Done);
+    assert_equal(rt, whole.ending, Ending::Done);
     for read in 1..=whole.reads {
         let outcome = run_lines(alloc, mode, read, 0)?;
         assert_failed_read(rt, &outcome, read, &whole.written);
@@ -139,15 +144,19 @@ fn assert_failed_reads(rt: &impl Abort, alloc: Global, mode: (&str, &str)) -> Re
 #[test]
 fn failed_reads_end_the_run(rt: HostRuntime) -> Result<(), Fail> {
     for mode in MODES {
-        assert_failed_reads(&rt, rt.alloc(), mode)?;
+        assert_failed_reads(rt, rt.alloc(), mode)?;
     }
     Ok(())
 }
 
 /// Lets each write fail in turn.
-fn assert_failed_writes(rt: &impl Abort, alloc: Global, mode: (&str, &str)) -> Result<(), Fail> {
+fn assert_failed_writes(
+    rt: impl Abort + Copy,
+    alloc: Global,
+    mode: (&str, &str),
+) -> Result<(), Fail> {
     let whole = run_lines(alloc, mode, 0, 0)?;
-    assert_eq!(rt; whole.writes, 4);
+    assert_equal(rt, whole.writes, 4);
     let mut earlier = String::new(alloc);
     for (write, reply) in (1..).zip(REPLIES).take(4) {
         earlier.push_str(reply)?;
@@ -160,7 +169,7 @@ fn assert_failed_writes(rt: &impl Abort, alloc: Global, mode: (&str, &str)) -> R
 #[test]
 fn failed_writes_end_the_run(rt: HostRuntime) -> Result<(), Fail> {
     for mode in MODES {
-        assert_failed_writes(&rt, rt.alloc(), mode)?;
+        assert_failed_writes(rt, rt.alloc(), mode)?;
     }
     Ok(())
 }
@@ -177,11 +186,11 @@ const FAULTS: [(Fault, u8, &str); 6] = [
 
 #[test]
 fn faults_have_a_status_and_a_text(rt: HostRuntime) -> Result<(), Fail> {
-    assert_eq!(rt; Ending::Done.status(), 0);
+    assert_equal(rt, Ending::Done.status(), 0);
     for (fault, status, text) in FAULTS {
-        assert_eq!(rt; Ending::Stopped(fault).status(), status);
+        assert_equal(rt, Ending::Stopped(fault).status(), status);
         let told = format!(in rt.alloc(); "{fault}")?;
-        assert_eq!(rt; told.as_str(), text);
+        assert_equal(rt, told.as_str(), text);
     }
     Ok(())
 }

@@ -49,7 +49,7 @@ const CALLS: [(&str, &str); 25] = [
 
 #[test]
 fn tables_of_five_levels_are_made_and_taken_away(rt: HostRuntime) -> Result<(), Fail> {
-    assert_replies_in(&rt, rt.alloc(), &MODES, POOL, &CALLS)
+    assert_replies_in(rt, rt.alloc(), &MODES, POOL, &CALLS)
 }
 
 /// Tables are read in the window, and the entry for the root itself stays.
@@ -73,7 +73,7 @@ const WINDOWS: [(&str, &str); 15] = [
 
 #[test]
 fn the_recursive_mapper_of_five_levels_answers(rt: HostRuntime) -> Result<(), Fail> {
-    assert_replies_in(&rt, rt.alloc(), &MODES[2..], POOL, &WINDOWS)
+    assert_replies_in(rt, rt.alloc(), &MODES[2..], POOL, &WINDOWS)
 }
 
 /// Calls that name the recursive index are not allowed.
@@ -88,7 +88,7 @@ const PAIRS: [(&str, &str); 6] = [
 
 #[test]
 fn both_mappers_of_five_levels_answer_at_once(rt: HostRuntime) -> Result<(), Fail> {
-    assert_replies_in(&rt, rt.alloc(), &MODES[1..2], POOL, &PAIRS)
+    assert_replies_in(rt, rt.alloc(), &MODES[1..2], POOL, &PAIRS)
 }
 
 /// Images in which the entry of level five or four has HUGE_PAGE, and in which one table stands at two places or at
@@ -107,7 +107,7 @@ fn images_of_five_levels_are_tested(rt: HostRuntime) -> Result<(), Fail> {
             let whole = format!(in rt.alloc(); "{first}{image}")?;
             let input = (whole.as_str(), &b"walk 0\n"[..]);
             let invalid = Ending::Stopped(Fault::InvalidHierarchy);
-            assert_run(&rt, rt.alloc(), arguments, input, invalid, "")?;
+            assert_run(rt, rt.alloc(), arguments, input, invalid, "")?;
         }
     }
     Ok(())
@@ -129,7 +129,7 @@ const BAD_LINES: [(&str, &str); 7] = [
 fn lines_are_read_by_the_levels(rt: HostRuntime) -> Result<(), Fail> {
     for (arguments, line) in BAD_LINES {
         let bad = Ending::Stopped(Fault::BadLine(1));
-        assert_run(&rt, rt.alloc(), arguments, ("", line.as_bytes()), bad, "")?;
+        assert_run(rt, rt.alloc(), arguments, ("", line.as_bytes()), bad, "")?;
     }
     Ok(())
 }
@@ -144,7 +144,7 @@ fn there_is_no_offset_with_five_levels(rt: HostRuntime) -> Result<(), Fail> {
         "recursive5 8 512",
     ] {
         let usage = Ending::Stopped(Fault::Usage);
-        assert_run(&rt, rt.alloc(), arguments, ("", b""), usage, "")?;
+        assert_run(rt, rt.alloc(), arguments, ("", b""), usage, "")?;
     }
     Ok(())
 }

@@ -36,9 +36,9 @@ const LARGE_PAGE_FLAGS: [(&str, &str); 5] = [
 
 #[test]
 fn pages_get_flags(rt: HostRuntime) -> Result<(), Fail> {
-    assert_replies(&rt, rt.alloc(), FIRST, &WITHOUT_PRESENT)?;
-    assert_replies(&rt, rt.alloc(), FIRST, &WITH_BIT_7)?;
-    assert_replies(&rt, rt.alloc(), LARGE, &LARGE_PAGE_FLAGS)
+    assert_replies(rt, rt.alloc(), FIRST, &WITHOUT_PRESENT)?;
+    assert_replies(rt, rt.alloc(), FIRST, &WITH_BIT_7)?;
+    assert_replies(rt, rt.alloc(), LARGE, &LARGE_PAGE_FLAGS)
 }
 
 const LEVEL_4_FLAGS: [(&str, &str); 9] = [
@@ -76,9 +76,9 @@ const FLAGS_AT_A_LARGE_PAGE: [(&str, &str); 4] = [
 
 #[test]
 fn tables_get_flags(rt: HostRuntime) -> Result<(), Fail> {
-    assert_replies(&rt, rt.alloc(), FIRST, &LEVEL_4_FLAGS)?;
-    assert_replies(&rt, rt.alloc(), FIRST, &LOWER_FLAGS)?;
-    assert_replies(&rt, rt.alloc(), LARGE, &FLAGS_AT_A_LARGE_PAGE)
+    assert_replies(rt, rt.alloc(), FIRST, &LEVEL_4_FLAGS)?;
+    assert_replies(rt, rt.alloc(), FIRST, &LOWER_FLAGS)?;
+    assert_replies(rt, rt.alloc(), LARGE, &FLAGS_AT_A_LARGE_PAGE)
 }
 
 const SMALL_FRAMES: [(&str, &str); 3] = [
@@ -104,7 +104,7 @@ const ASKEW_FRAMES: [(&str, &str); 4] = [
 
 #[test]
 fn pages_have_frames(rt: HostRuntime) -> Result<(), Fail> {
-    assert_replies(&rt, rt.alloc(), FIRST, &SMALL_FRAMES)?;
-    assert_replies(&rt, rt.alloc(), LARGE, &LARGE_FRAMES)?;
-    assert_replies(&rt, rt.alloc(), ASKEW, &ASKEW_FRAMES)
+    assert_replies(rt, rt.alloc(), FIRST, &SMALL_FRAMES)?;
+    assert_replies(rt, rt.alloc(), LARGE, &LARGE_FRAMES)?;
+    assert_replies(rt, rt.alloc(), ASKEW, &ASKEW_FRAMES)
 }

@@ -8,7 +8,7 @@ use std::test::Fail;
 
 /// Asserts that an image is refused, whatever lines come after it.
 fn assert_invalid(
-    rt: &impl Abort,
+    rt: impl Abort + Copy,
     alloc: Global,
     arguments: &str,
     image: &str,
@@ -22,7 +22,7 @@ fn assert_invalid(
 }
 
 /// Asserts that an image is refused however tables are found.
-fn assert_invalid_in_each(rt: &impl Abort, alloc: Global, image: &str) -> Result<(), Fail> {
+fn assert_invalid_in_each(rt: impl Abort + Copy, alloc: Global, image: &str) -> Result<(), Fail> {
     for (arguments, first) in MODES {
         let whole = format!(in alloc; "{first}{image}")?;
         assert_invalid(rt, alloc, arguments, whole.as_str())?;
@@ -46,12 +46,12 @@ fn images_are_valid_or_refused(rt: HostRuntime) -> Result<(), Fail> {
         let lines = lines_of(rt.alloc(), image)?;
         match image.replies {
             Some((translation, arrival)) => assert_replies(
-                &rt,
+                rt,
                 rt.alloc(),
                 &lines,
                 &[("translate 0", translation), ("walk 0", arrival)],
             )?,
-            None => assert_invalid_in_each(&rt, rt.alloc(), &lines)?,
+            None => assert_invalid_in_each(rt, rt.alloc(), &lines)?,
         }
     }
     Ok(())
@@ -66,7 +66,7 @@ const FREE_TABLES: [&str; 2] = [
 #[test]
 fn images_whose_tables_are_free_are_refused(rt: HostRuntime) -> Result<(), Fail> {
     for image in FREE_TABLES {
-        assert_invalid_in_each(&rt, rt.alloc(), image)?;
+        assert_invalid_in_each(rt, rt.alloc(), image)?;
     }
     Ok(())
 }
@@ -85,8 +85,8 @@ const NOT_RECURSIVE: [&str; 6] = [
 #[test]
 fn images_without_a_self_entry_are_refused(rt: HostRuntime) -> Result<(), Fail> {
     for image in NOT_RECURSIVE {
-        assert_invalid(&rt, rt.alloc(), "recursive 8 510", image)?;
-        assert_invalid(&rt, rt.alloc(), "pair 8 510", image)?;
+        assert_invalid(rt, rt.alloc(), "recursive 8 510", image)?;
+        assert_invalid(rt, rt.alloc(), "pair 8 510", image)?;
     }
     Ok(())
 }
@@ -94,7 +94,7 @@ fn images_without_a_self_entry_are_refused(rt: HostRuntime) -> Result<(), Fail> 
 #[test]
 fn images_with_a_self_entry_alone_need_the_index(rt: HostRuntime) -> Result<(), Fail> {
     for arguments in ["direct 8", "offset 8 0", "recursive 8 0", "pair 8 511"] {
-        assert_invalid(&rt, rt.alloc(), arguments, SELF_ENTRY)?;
+        assert_invalid(rt, rt.alloc(), arguments, SELF_ENTRY)?;
     }
     Ok(())
 }

@@ -1,5 +1,6 @@
 //! Lines that are long, and input that goes on for ever.
 use super::{assert_outcome, assert_run, words_of};
+use crate::assertions::{assert_equal, assert_equal_in};
 use crate::streams::{Endless, Sink};
 use pagetab_engine::ending::{Ending, Fault};
 use pagetab_engine::engine::run;
@@ -38,7 +39,7 @@ fn lines_have_at_most_256_bytes(rt: HostRuntime) -> Result<(), Fail> {
         for end in ["", "\n"] {
             let line = spaced(rt.alloc(), front, length, end)?;
             let input = ("", line.as_bytes());
-            assert_run(&rt, rt.alloc(), "direct 8", input, ending, written)?;
+            assert_run(rt, rt.alloc(), "direct 8", input, ending, written)?;
         }
     }
     Ok(())
@@ -124,7 +125,7 @@ const ENDLESS: [EndlessRow; 7] = [
 /// Runs the program on a row's input, and compares how the run ends, what it writes, and how much it reads: at most one
 /// buffer past the fault.
 fn assert_endless(
-    rt: &impl Abort,
+    rt: impl Abort + Copy,
     alloc: Global,
     arguments: &str,
     row: &EndlessRow,
@@ -133,8 +134,8 @@ fn assert_endless(
     let mut source = Endless::new(row.front.as_bytes(), row.again);
     let mut sink = Sink::new(Vec::new(alloc), row.failing_write);
     let ending = run(alloc, &words, &mut source, &mut sink);
-    assert_eq!(rt; ending, Ending::Stopped(row.fault), "{:?}", row.front);
-    assert_eq!(rt; str::from_utf8(sink.bytes.as_slice()), Ok(row.written));
+    assert_equal_in(rt, row.front, ending, Ending::Stopped(row.fault));
+    assert_equal(rt, str::from_utf8(sink.bytes.as_slice()), Ok(row.written));
     assert!(rt; source.given >= row.fault_at, "{:?}", row.front);
     assert!(rt; source.given - row.fault_at < BUFFER, "{:?}", row.front);
     Ok(())
@@ -143,7 +144,7 @@ fn assert_endless(
 #[test]
 fn input_without_end_is_read_up_to_its_fault(rt: HostRuntime) -> Result<(), Fail> {
     for row in &ENDLESS {
-        assert_endless(&rt, rt.alloc(), "direct 8", row)?;
+        assert_endless(rt, rt.alloc(), "direct 8", row)?;
     }
     Ok(())
 }
@@ -154,7 +155,7 @@ fn wrong_arguments_read_nothing(rt: HostRuntime) -> Result<(), Fail> {
     let mut source = Endless::new(b"", b'\n');
     let mut sink = Sink::new(Vec::new(rt.alloc()), 0);
     let ending = run(rt.alloc(), &words, &mut source, &mut sink);
-    assert_eq!(rt; ending, Ending::Stopped(Fault::Usage));
-    assert_eq!(rt; source.given, 0);
+    assert_equal(rt, ending, Ending::Stopped(Fault::Usage));
+    assert_equal(rt, source.given, 0);
     Ok(())
 }

@@ -31,9 +31,9 @@ fn pages_are_mapped(rt: HostRuntime) -> Result<(), Fail> {
     // The words that the free frames hold are cleared.
     let image = "free 0x2000\nfree 0x3000\nword 0x2000 1 0xffffffffffffffff\n\
         word 0x3000 511 0xffffffffffffffff\nword 0x4000 0 0xffffffffffffffff\nfree 0x4000\n";
-    assert_replies(&rt, rt.alloc(), image, &FIRST_PAGE)?;
+    assert_replies(rt, rt.alloc(), image, &FIRST_PAGE)?;
     // The upper half of the addresses, and flags in decimal.
-    assert_replies_in(&rt, rt.alloc(), &MODES[..3], POOL, &LAST_PAGE)
+    assert_replies_in(rt, rt.alloc(), &MODES[..3], POOL, &LAST_PAGE)
 }
 
 const LATER_MAPS: [(&str, &str); 16] = [
@@ -58,7 +58,7 @@ const LATER_MAPS: [(&str, &str); 16] = [
 #[test]
 fn later_maps_add_flags_to_parents(rt: HostRuntime) -> Result<(), Fail> {
     // Frame 0 without flags leaves the page's entry unused.
-    assert_replies(&rt, rt.alloc(), POOL, &LATER_MAPS)
+    assert_replies(rt, rt.alloc(), POOL, &LATER_MAPS)
 }
 
 const PARENT_FLAGS: [(&str, &str); 11] = [
@@ -80,7 +80,7 @@ const PARENT_FLAGS: [(&str, &str); 11] = [
 
 #[test]
 fn parents_get_flags_of_their_own(rt: HostRuntime) -> Result<(), Fail> {
-    assert_replies_in(&rt, rt.alloc(), &MODES[..3], POOL, &PARENT_FLAGS)
+    assert_replies_in(rt, rt.alloc(), &MODES[..3], POOL, &PARENT_FLAGS)
 }
 
 const LARGE_PAGES: [(&str, &str); 16] = [
@@ -115,8 +115,8 @@ const GIANT_PAGES: [(&str, &str); 8] = [
 
 #[test]
 fn larger_pages_are_mapped(rt: HostRuntime) -> Result<(), Fail> {
-    assert_replies_in(&rt, rt.alloc(), &MODES[..3], POOL, &LARGE_PAGES)?;
-    assert_replies(&rt, rt.alloc(), POOL, &GIANT_PAGES)
+    assert_replies_in(rt, rt.alloc(), &MODES[..3], POOL, &LARGE_PAGES)?;
+    assert_replies(rt, rt.alloc(), POOL, &GIANT_PAGES)
 }
 
 const IDENTITY_MAPS: [(&str, &str); 11] = [
@@ -138,7 +138,7 @@ const IDENTITY_MAPS: [(&str, &str); 11] = [
 
 #[test]
 fn identity_maps_name_the_page_at_the_frame(rt: HostRuntime) -> Result<(), Fail> {
-    assert_replies(&rt, rt.alloc(), POOL, &IDENTITY_MAPS)
+    assert_replies(rt, rt.alloc(), POOL, &IDENTITY_MAPS)
 }
 
 const MAPPED_ALREADY: [(&str, &str); 6] = [
@@ -169,11 +169,11 @@ const NOT_ALLOWED: [(&str, &str); 5] = [
 
 #[test]
 fn maps_are_refused(rt: HostRuntime) -> Result<(), Fail> {
-    assert_replies(&rt, rt.alloc(), POOL, &MAPPED_ALREADY)?;
+    assert_replies(rt, rt.alloc(), POOL, &MAPPED_ALREADY)?;
     let few = "free 0x2000\nfree 0x3000\nword 0x3000 5 0xffffffffffffffff\n";
-    assert_replies(&rt, rt.alloc(), few, &TOO_FEW_FRAMES)?;
+    assert_replies(rt, rt.alloc(), few, &TOO_FEW_FRAMES)?;
     // No parent would have PRESENT, HUGE_PAGE in a 4KiB page's flags, address bits in flags.
-    assert_replies(&rt, rt.alloc(), POOL, &NOT_ALLOWED)
+    assert_replies(rt, rt.alloc(), POOL, &NOT_ALLOWED)
 }
 
 const UNMAPS: [(&str, &str); 13] = [
@@ -199,8 +199,8 @@ const UNMAPS_BELOW_A_LARGE_PAGE: [(&str, &str); 2] = [
 
 #[test]
 fn pages_are_unmapped(rt: HostRuntime) -> Result<(), Fail> {
-    assert_replies(&rt, rt.alloc(), POOL, &UNMAPS)?;
-    assert_replies(&rt, rt.alloc(), LARGE, &UNMAPS_BELOW_A_LARGE_PAGE)
+    assert_replies(rt, rt.alloc(), POOL, &UNMAPS)?;
+    assert_replies(rt, rt.alloc(), LARGE, &UNMAPS_BELOW_A_LARGE_PAGE)
 }
 
 const LARGER_PAGES_AT_TABLES: [(&str, &str); 8] = [
@@ -216,5 +216,5 @@ const LARGER_PAGES_AT_TABLES: [(&str, &str); 8] = [
 
 #[test]
 fn tables_are_no_larger_pages(rt: HostRuntime) -> Result<(), Fail> {
-    assert_replies(&rt, rt.alloc(), FIRST, &LARGER_PAGES_AT_TABLES)
+    assert_replies(rt, rt.alloc(), FIRST, &LARGER_PAGES_AT_TABLES)
 }

@@ -26,7 +26,7 @@ const IMAGES: [(&str, &[(&str, &str)]); 4] = [
 #[test]
 fn images_are_read(rt: HostRuntime) -> Result<(), Fail> {
     for (image, exchanges) in IMAGES {
-        assert_replies(&rt, rt.alloc(), image, exchanges)?;
+        assert_replies(rt, rt.alloc(), image, exchanges)?;
     }
     Ok(())
 }
@@ -62,7 +62,7 @@ const LEVEL_3_WORDS: [(&str, &[(&str, &str)]); 3] = [
 #[test]
 fn words_of_level_three_are_read(rt: HostRuntime) -> Result<(), Fail> {
     for (image, exchanges) in LEVEL_3_WORDS {
-        assert_replies(&rt, rt.alloc(), image, exchanges)?;
+        assert_replies(rt, rt.alloc(), image, exchanges)?;
     }
     Ok(())
 }
@@ -88,17 +88,17 @@ const FORMS: [(&str, &[(&str, &str)]); 3] = [
 #[test]
 fn numbers_and_fields_have_many_forms(rt: HostRuntime) -> Result<(), Fail> {
     for (image, exchanges) in FORMS {
-        assert_replies(&rt, rt.alloc(), image, exchanges)?;
+        assert_replies(rt, rt.alloc(), image, exchanges)?;
     }
     Ok(())
 }
 
 #[test]
 fn free_frames_are_listed_in_order(rt: HostRuntime) -> Result<(), Fail> {
-    assert_replies(&rt, rt.alloc(), "", &[("pool", "pool")])?;
-    assert_replies(&rt, rt.alloc(), FIRST, &[("pool", "pool")])?;
+    assert_replies(rt, rt.alloc(), "", &[("pool", "pool")])?;
+    assert_replies(rt, rt.alloc(), FIRST, &[("pool", "pool")])?;
     assert_replies(
-        &rt,
+        rt,
         rt.alloc(),
         "free 0x7000\nfree 8192\nfree 0x0005000\n",
         &[("pool", "pool 0x7000 0x2000 0x5000")],

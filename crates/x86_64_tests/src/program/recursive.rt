@@ -9,7 +9,7 @@ type Exchanges = &'static [(&'static str, &'static str)];
 
 /// Asserts the replies to lists of commands in some of the modes.
 fn check(
-    rt: &impl Abort,
+    rt: impl Abort + Copy,
     alloc: Global,
     modes: &[(&str, &str)],
     lists: &[Exchanges],
@@ -85,8 +85,8 @@ const WINDOWS: [Exchanges; 2] = [
 
 #[test]
 fn the_recursive_mapper_answers(rt: HostRuntime) -> Result<(), Fail> {
-    check(&rt, rt.alloc(), &MODES[3..], &NEW_TABLES)?;
-    check(&rt, rt.alloc(), &MODES[3..], &WINDOWS)
+    check(rt, rt.alloc(), &MODES[3..], &NEW_TABLES)?;
+    check(rt, rt.alloc(), &MODES[3..], &WINDOWS)
 }
 
 /// Calls that name the recursive index are not allowed, and the direct mapper's root has no word there.
@@ -131,5 +131,5 @@ const PAIRS: [Exchanges; 3] = [
 
 #[test]
 fn both_mappers_answer_at_once(rt: HostRuntime) -> Result<(), Fail> {
-    check(&rt, rt.alloc(), &MODES[2..3], &PAIRS)
+    check(rt, rt.alloc(), &MODES[2..3], &PAIRS)
 }

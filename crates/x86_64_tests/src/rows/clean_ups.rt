@@ -33,7 +33,7 @@ const EMPTY_TABLES: [Row<'static>; 3] = [
 
 #[test]
 fn empty_tables_go_back_children_first(rt: HostRuntime) -> Result<(), Fail> {
-    check(&rt, rt.alloc(), &EMPTY_TABLES)
+    check(rt, rt.alloc(), &EMPTY_TABLES)
 }
 
 /// Takes `PRESENT` from the entry of level four above the page 0x1000.
@@ -72,7 +72,7 @@ const USED_TABLES: [Row<'static>; 3] = [
 
 #[test]
 fn tables_of_used_entries_stay(rt: HostRuntime) -> Result<(), Fail> {
-    check(&rt, rt.alloc(), &USED_TABLES)
+    check(rt, rt.alloc(), &USED_TABLES)
 }
 
 /// Maps the page 0x200000, whose table of level one alone is another than that of the page 0x1000.
@@ -113,7 +113,7 @@ const RANGES: [Row<'static>; 3] = [
 
 #[test]
 fn ranges_name_the_tables_that_go_back(rt: HostRuntime) -> Result<(), Fail> {
-    check(&rt, rt.alloc(), &RANGES)
+    check(rt, rt.alloc(), &RANGES)
 }
 
 /// The frames for the tables above two pages that have no table in common.
@@ -170,5 +170,5 @@ const PAGES_AT_THE_GAP: [Row<'static>; 2] = [
 
 #[test]
 fn ranges_go_on_after_the_gap(rt: HostRuntime) -> Result<(), Fail> {
-    check(&rt, rt.alloc(), &PAGES_AT_THE_GAP)
+    check(rt, rt.alloc(), &PAGES_AT_THE_GAP)
 }

@@ -59,7 +59,7 @@ const PAGE_FLAGS: [Row<'static>; 2] = [
 
 #[test]
 fn pages_get_flags(rt: HostRuntime) -> Result<(), Fail> {
-    check(&rt, rt.alloc(), &PAGE_FLAGS)
+    check(rt, rt.alloc(), &PAGE_FLAGS)
 }
 
 /// Rows in which the entry of level four above the page 0x1000 loses `PRESENT`.
@@ -89,7 +89,7 @@ const HIDDEN_TABLES: [Row<'static>; 2] = [
 
 #[test]
 fn tables_lose_flags_and_get_them_back(rt: HostRuntime) -> Result<(), Fail> {
-    check(&rt, rt.alloc(), &HIDDEN_TABLES)
+    check(rt, rt.alloc(), &HIDDEN_TABLES)
 }
 
 /// The lower levels come first, since below an entry without `PRESENT` there is none.
@@ -111,7 +111,7 @@ const FLAGS_OF_EACH_LEVEL: [Row<'static>; 1] = [Row {
 
 #[test]
 fn each_level_has_an_entry_on_the_path(rt: HostRuntime) -> Result<(), Fail> {
-    check(&rt, rt.alloc(), &FLAGS_OF_EACH_LEVEL)
+    check(rt, rt.alloc(), &FLAGS_OF_EACH_LEVEL)
 }
 
 const FLAGS_OF_A_LARGE_PAGE: [Row<'static>; 1] = [Row {
@@ -137,7 +137,7 @@ const FLAGS_OF_A_LARGE_PAGE: [Row<'static>; 1] = [Row {
 
 #[test]
 fn flags_keep_the_size_of_a_page(rt: HostRuntime) -> Result<(), Fail> {
-    check(&rt, rt.alloc(), &FLAGS_OF_A_LARGE_PAGE)
+    check(rt, rt.alloc(), &FLAGS_OF_A_LARGE_PAGE)
 }
 
 const HUGE: PlainReply = Answered(Refused(ParentEntryHugePage));
@@ -156,7 +156,7 @@ const FLAGS_BELOW_LARGER_PAGES: [Row<'static>; 1] = [Row {
 
 #[test]
 fn larger_pages_have_no_entries_above_them_there(rt: HostRuntime) -> Result<(), Fail> {
-    check(&rt, rt.alloc(), &FLAGS_BELOW_LARGER_PAGES)
+    check(rt, rt.alloc(), &FLAGS_BELOW_LARGER_PAGES)
 }
 
 /// An address bit, and `HUGE_PAGE` where the entry lacks it.
@@ -174,5 +174,5 @@ const FLAGS_NOT_ALLOWED: [Row<'static>; 1] = [Row {
 
 #[test]
 fn flags_that_are_not_allowed_change_nothing(rt: HostRuntime) -> Result<(), Fail> {
-    check(&rt, rt.alloc(), &FLAGS_NOT_ALLOWED)
+    check(rt, rt.alloc(), &FLAGS_NOT_ALLOWED)
 }

@@ -3,6 +3,7 @@ use super::{
     CLEANED, FIRST, FIRST_LARGE, LARGE_LEVEL_3, LARGE_LEVEL_4, LARGE_MAPPED, LEVEL_2, LEVEL_3,
     LEVEL_4, MAPPED, Row, add_exchanges, assert_fits, begin, compare,
 };
+use crate::assertions::{assert_equal, assert_equal_in};
 use crate::images::{ROOT, frame_at, run_flushed_on};
 use crate::turns::PageTurn::{SetFlagsP4, Unmap, UpdateFlags};
 use crate::turns::Turn::{CleanUp, CleanUpRange, Large, Small};
@@ -27,17 +28,17 @@ fn flushed_by(item: &FlushItem) -> Flushed {
 }
 
 /// Compares what is recorded.
-pub fn compare_flushes(rt: &impl Abort, recorder: &FlushRecorder, flushed: &[Flushed]) {
+pub fn compare_flushes(rt: impl Abort + Copy, recorder: &FlushRecorder, flushed: &[Flushed]) {
     let items = recorder.items();
-    assert_eq!(rt; items.len(), flushed.len());
+    assert_equal(rt, items.len(), flushed.len());
     for (n, wanted) in flushed.iter().enumerate() {
-        assert_eq!(rt; items.get(n).map(flushed_by), Some(*wanted), "item {n}");
+        assert_equal_in(rt, n, items.get(n).map(flushed_by), Some(*wanted));
     }
 }
 
 /// Answers the calls of a row, records their flushes, and compares the replies.
 fn answer_flushed(
-    rt: &impl Abort,
+    rt: impl Abort + Copy,
     alloc: Global,
     row: &Row<'_>,
     (memory, pool): (&mut PhysMemory, &mut FramePool),
@@ -50,14 +51,14 @@ fn answer_flushed(
     let root = frame_at(ROOT);
     assert_fits(rt, alloc, memory, &IdentityMapping, root, pool)?;
     run_flushed_on(memory, root, pool, &calls, &mut replies, recorder)?;
-    assert_eq!(rt; replies, wanted);
+    assert_equal(rt, replies, wanted);
     Ok(())
 }
 
 /// Answers the calls of a row where so many items have room, and compares what comes of them and what is
 /// recorded.
 fn check_flushes(
-    rt: &impl Abort,
+    rt: impl Abort + Copy,
     alloc: Global,
     row: &Row<'_>,
     flushed: &[Flushed],
@@ -91,8 +92,8 @@ const LARGE_PAGE: Row<'static> = Row {
 fn accepted_calls_are_recorded_and_no_others(rt: HostRuntime) -> Result<(), Fail> {
     let page = Some((0x20_0000, 0x20_0000));
     let flushed = [page, page, None, page];
-    check_flushes(&rt, rt.alloc(), &LARGE_PAGE, &flushed, 0)?;
-    check_flushes(&rt, rt.alloc(), &LARGE_PAGE, &flushed, 64)
+    check_flushes(rt, rt.alloc(), &LARGE_PAGE, &flushed, 0)?;
+    check_flushes(rt, rt.alloc(), &LARGE_PAGE, &flushed, 64)
 }
 
 const SMALL_PAGE: Row<'static> = Row {
@@ -104,7 +105,7 @@ const SMALL_PAGE: Row<'static> = Row {
 #[test]
 fn pages_of_4kib_are_recorded_with_their_size(rt: HostRuntime) -> Result<(), Fail> {
     let page = Some((0x1000, 0x1000));
-    check_flushes(&rt, rt.alloc(), &SMALL_PAGE, &[page, page], 0)
+    check_flushes(rt, rt.alloc(), &SMALL_PAGE, &[page, page], 0)
 }
 
 const TABLES_GO_BACK: Row<'static> = Row {
@@ -121,5 +122,5 @@ const TABLES_GO_BACK: Row<'static> = Row {
 #[test]
 fn clean_ups_are_not_recorded(rt: HostRuntime) -> Result<(), Fail> {
     let page = Some((0x1000, 0x1000));
-    check_flushes(&rt, rt.alloc(), &TABLES_GO_BACK, &[page, page], 0)
+    check_flushes(rt, rt.alloc(), &TABLES_GO_BACK, &[page, page], 0)
 }

@@ -104,7 +104,7 @@ const STEPS: [(u64, Row<'static>); 4] = [
 
 /// Asserts that both hierarchies are valid and the pool fits each.
 fn assert_fits_both(
-    rt: &impl Abort,
+    rt: impl Abort + Copy,
     alloc: Global,
     memory: &PhysMemory,
     pool: &FramePool,
@@ -121,16 +121,16 @@ fn hierarchies_take_tables_from_one_pool(rt: HostRuntime) -> Result<(), Fail> {
     for (number, (root, row)) in STEPS.iter().enumerate() {
         let title = format!(in rt.alloc(); "step {number}")?;
         answer_over(
-            &rt,
+            rt,
             rt.alloc(),
             row,
             (*root, IdentityMapping),
             (&mut memory, &mut pool),
             &title,
         )?;
-        compare_words(&rt, &memory, PLACES, row, &title)?;
-        compare_pool(&rt, &pool, row.left, &title);
-        assert_fits_both(&rt, rt.alloc(), &memory, &pool)?;
+        compare_words(rt, &memory, PLACES, row, &title)?;
+        compare_pool(rt, &pool, row.left, &title);
+        assert_fits_both(rt, rt.alloc(), &memory, &pool)?;
     }
     Ok(())
 }

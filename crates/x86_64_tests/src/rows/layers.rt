@@ -5,6 +5,7 @@ ghost use Rattle.x86_64_mappers.specs.Layouts.{direct};
 ghost use Rattle.x86_64.specs.Runs.{FitsPool};
 
 use super::{CLEANED, FIRST, Row, add_exchanges, assert_fits, begin, compare};
+use crate::assertions::assert_equal;
 use crate::counting::Counting;
 use crate::images::{ROOT, frame_at};
 use crate::turns::PageTurn::{Unmap, UpdateFlags};
@@ -56,7 +57,7 @@ fn run_counted(
 
 /// Answers the calls, and compares the replies and the number of those that write.
 fn answer_counted(
-    rt: &impl Abort,
+    rt: impl Abort + Copy,
     alloc: Global,
     (memory, pool): (&mut PhysMemory, &mut FramePool),
 ) -> Result<(), Fail> {
@@ -67,14 +68,14 @@ fn answer_counted(
     let root = frame_at(ROOT);
     assert_fits(rt, alloc, memory, &IdentityMapping, root, pool)?;
     let count = run_counted(memory, root, pool, &calls, &mut replies)?;
-    assert_eq!(rt; replies, wanted);
-    assert_eq!(rt; count, 4);
+    assert_equal(rt, replies, wanted);
+    assert_equal(rt, count, 4);
     Ok(())
 }
 
 #[test]
 fn layers_over_mappers_run_lists(rt: HostRuntime) -> Result<(), Fail> {
     let (mut memory, mut pool) = begin(rt.alloc(), ROW.free)?;
-    answer_counted(&rt, rt.alloc(), (&mut memory, &mut pool))?;
-    compare(&rt, &memory, &pool, &ROW, "counted")
+    answer_counted(rt, rt.alloc(), (&mut memory, &mut pool))?;
+    compare(rt, &memory, &pool, &ROW, "counted")
 }

@@ -1,5 +1,6 @@
 //! Frames that lie elsewhere than at the places of their numbers.
 use super::{FIRST, Row, answer_over, compare_pool, compare_words};
+use crate::assertions::assert_equal;
 use crate::images::{frame_at, pool_of};
 use std::test::Fail;
 use x86_64::structures::paging::mapper::PageTableFrameMapping;
@@ -28,7 +29,7 @@ fn mappings_cover_frames_from_a_first_one_on(rt: HostRuntime) {
     let root = frame_at(ROOT);
     assert!(rt; !mapping.covers(frame_at(0xf_f000)));
     assert!(rt; mapping.covers(root));
-    assert_eq!(rt; mapping.frame_to_pointer(root).number(), 0);
+    assert_equal(rt, mapping.frame_to_pointer(root).number(), 0);
 }
 
 #[test]
@@ -37,14 +38,14 @@ fn frames_lie_from_a_first_one_on(rt: HostRuntime) -> Result<(), Fail> {
     let mut pool = pool_of(rt.alloc(), 0x104, ROW.free)?;
     let mapping = ShiftMapping::new(0x100);
     answer_over(
-        &rt,
+        rt,
         rt.alloc(),
         &ROW,
         (ROOT, mapping),
         (&mut memory, &mut pool),
         "shifted",
     )?;
-    compare_words(&rt, &memory, 4, &ROW, "shifted")?;
-    compare_pool(&rt, &pool, &[], "shifted");
+    compare_words(rt, &memory, 4, &ROW, "shifted")?;
+    compare_pool(rt, &pool, &[], "shifted");
     Ok(())
 }

@@ -40,7 +40,7 @@ const TABLES_ARE_TAKEN: [Row<'static>; 3] = [
 
 #[test]
 fn maps_take_tables_from_the_front_of_the_pool(rt: HostRuntime) -> Result<(), Fail> {
-    check(&rt, rt.alloc(), &TABLES_ARE_TAKEN)
+    check(rt, rt.alloc(), &TABLES_ARE_TAKEN)
 }
 
 const LARGER_PAGES: [Row<'static>; 2] = [
@@ -68,7 +68,7 @@ const LARGER_PAGES: [Row<'static>; 2] = [
 
 #[test]
 fn larger_pages_want_fewer_tables(rt: HostRuntime) -> Result<(), Fail> {
-    check(&rt, rt.alloc(), &LARGER_PAGES)
+    check(rt, rt.alloc(), &LARGER_PAGES)
 }
 
 const IDENTITY_MAPS: [Row<'static>; 3] = [
@@ -97,7 +97,7 @@ const IDENTITY_MAPS: [Row<'static>; 3] = [
 
 #[test]
 fn identity_maps_name_the_page_at_the_frame(rt: HostRuntime) -> Result<(), Fail> {
-    check(&rt, rt.alloc(), &IDENTITY_MAPS)
+    check(rt, rt.alloc(), &IDENTITY_MAPS)
 }
 
 const REFUSED_MAPS: [Row<'static>; 2] = [
@@ -125,7 +125,7 @@ const REFUSED_MAPS: [Row<'static>; 2] = [
 
 #[test]
 fn refused_maps_leave_what_they_did(rt: HostRuntime) -> Result<(), Fail> {
-    check(&rt, rt.alloc(), &REFUSED_MAPS)
+    check(rt, rt.alloc(), &REFUSED_MAPS)
 }
 
 /// Parent flags without `PRESENT`, `HUGE_PAGE` on a 4KiB page, an address bit.
@@ -140,7 +140,7 @@ const MAPS_NOT_ALLOWED: [Row<'static>; 1] = [Row {
 
 #[test]
 fn maps_that_are_not_allowed_change_nothing(rt: HostRuntime) -> Result<(), Fail> {
-    check(&rt, rt.alloc(), &MAPS_NOT_ALLOWED)
+    check(rt, rt.alloc(), &MAPS_NOT_ALLOWED)
 }
 
 const UNMAPS: [Row<'static>; 3] = [
@@ -173,7 +173,7 @@ const UNMAPS: [Row<'static>; 3] = [
 
 #[test]
 fn unmaps_leave_the_tables(rt: HostRuntime) -> Result<(), Fail> {
-    check(&rt, rt.alloc(), &UNMAPS)
+    check(rt, rt.alloc(), &UNMAPS)
 }
 
 const LARGER_PAGES_AT_TABLES: [Row<'static>; 1] = [Row {
@@ -198,5 +198,5 @@ const LARGER_PAGES_AT_TABLES: [Row<'static>; 1] = [Row {
 
 #[test]
 fn tables_are_no_larger_pages(rt: HostRuntime) -> Result<(), Fail> {
-    check(&rt, rt.alloc(), &LARGER_PAGES_AT_TABLES)
+    check(rt, rt.alloc(), &LARGER_PAGES_AT_TABLES)
 }

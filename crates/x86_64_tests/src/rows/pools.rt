@@ -1,5 +1,6 @@
 //! Free frames, and the index of level four that a call names.
 use super::{PLACES, compare_pool};
+use crate::assertions::assert_equal_in;
 use crate::images::{frame_at, pool_of};
 use crate::turns::PageTurn::{IdentityMap, MapTo, Unmap, UpdateFlags};
 use crate::turns::Turn::{CleanUp, CleanUpRange, Giant, Large, Small, Translate, TranslateAddr};
@@ -21,9 +22,9 @@ const REFUSALS: [(u64, Result<(), PoolRefusal>); 4] = [
 fn pools_refuse_frames(rt: HostRuntime) -> Result<(), Fail> {
     let mut pool = FramePool::new(rt.alloc(), u64::from(PLACES))?;
     for (frame, answer) in REFUSALS {
-        assert_eq!(rt; pool.try_add(frame_at(frame)), answer, "{frame:#x}");
+        assert_equal_in(rt, frame, pool.try_add(frame_at(frame)), answer);
     }
-    compare_pool(&rt, &pool, &[0x2000], "after the refusals");
+    compare_pool(rt, &pool, &[0x2000], "after the refusals");
     Ok(())
 }
 
@@ -50,7 +51,7 @@ const OTHER_POOLS: [(u64, &[u64], bool); 6] = [
 fn pools_tell_which_frames_are_free(rt: HostRuntime) -> Result<(), Fail> {
     let pool = pool_of(rt.alloc(), 8, &[0x2000, 0x7000])?;
     for (frame, is_free) in FREE_FRAMES {
-        assert_eq!(rt; pool.contains(frame_at(frame)), is_free, "{frame:#x}");
+        assert_equal_in(rt, frame, pool.contains(frame_at(frame)), is_free);
     }
     Ok(())
 }
@@ -60,7 +61,7 @@ fn pools_are_their_frames_in_order(rt: HostRuntime) -> Result<(), Fail> {
     let pool = pool_of(rt.alloc(), 8, &[0x2000, 0x7000])?;
     for (limit, frames, is_same) in OTHER_POOLS {
         let other = pool_of(rt.alloc(), limit, frames)?;
-        assert_eq!(rt; pool == other, is_same, "{frames:?} below {limit}");
+        assert_equal_in(rt, (frames, limit), pool == other, is_same);
     }
     Ok(())
 }
@@ -84,7 +85,7 @@ fn calls_name_an_index_of_level_four(rt: HostRuntime) -> Result<(), Fail> {
         let call = call_of(turn).ok_or("a call of five levels alone")?;
         for other in 0..512 {
             let names = call.names(PageTableIndex::new(other));
-            assert_eq!(rt; names, index == Some(other), "{call:?}: {other}");
+            assert_equal_in(rt, (call, other), names, index == Some(other));
         }
     }
     Ok(())

@@ -8,6 +8,7 @@ use super::{
     RECURSIVE_INDEX, Row, Word, add_exchanges, assert_fits_recursive, begin_by, check_by,
     compare_by,
 };
+use crate::assertions::assert_equal;
 use crate::images::{ROOT, frame_at, run_recursive_on};
 use crate::turns::PageTurn::{
     MapTo, MapToWithTableFlags, SetFlagsP2, SetFlagsP3, SetFlagsP4, TranslatePage, Unmap,
@@ -92,7 +93,7 @@ const TABLES_ARE_PAGES: [Row<'static>; 2] = [
 
 #[test]
 fn tables_are_pages_of_the_window(rt: HostRuntime) -> Result<(), Fail> {
-    check_by(&rt, rt.alloc(), &TABLES_ARE_PAGES, &[RECURSIVE])
+    check_by(rt, rt.alloc(), &TABLES_ARE_PAGES, &[RECURSIVE])
 }
 
 const CLEAN_UPS: [Row<'static>; 4] = [
@@ -127,7 +128,7 @@ const CLEAN_UPS: [Row<'static>; 4] = [
 
 #[test]
 fn clean_ups_leave_the_window(rt: HostRuntime) -> Result<(), Fail> {
-    check_by(&rt, rt.alloc(), &CLEAN_UPS, &[RECURSIVE])
+    check_by(rt, rt.alloc(), &CLEAN_UPS, &[RECURSIVE])
 }
 
 /// Each call that writes, on pages of each size.
@@ -158,7 +159,7 @@ const WRITES: [Row<'static>; 1] = [Row {
 
 #[test]
 fn pages_of_the_window_are_not_changed(rt: HostRuntime) -> Result<(), Fail> {
-    check_by(&rt, rt.alloc(), &WRITES, &[RECURSIVE])
+    check_by(rt, rt.alloc(), &WRITES, &[RECURSIVE])
 }
 
 /// Answers two lists of calls, each by a mapper of its own. After the first list its owner knows of the memory what
@@ -188,13 +189,13 @@ fn lists_go_on_where_others_ended(rt: HostRuntime) -> Result<(), Fail> {
     let mut wanted = Vec::new(rt.alloc());
     add_exchanges(row, &mut calls, &mut wanted)?;
     let (root, index) = (frame_at(ROOT), PageTableIndex::new(RECURSIVE_INDEX));
-    assert_fits_recursive(&rt, rt.alloc(), &memory, root, index, &pool)?;
+    assert_fits_recursive(rt, rt.alloc(), &memory, root, index, &pool)?;
     let mut replies = Vec::new(rt.alloc());
     let lists = calls.split_at(calls.len().min(1));
     run_both(&mut memory, root, index, &mut pool, lists, &mut replies)?;
-    assert_eq!(rt; replies, wanted);
+    assert_equal(rt, replies, wanted);
     compare_by(
-        &rt,
+        rt,
         rt.alloc(),
         RECURSIVE,
         (&memory, &pool),

@@ -6,6 +6,7 @@ use super::{
     LARGE_LEVEL_3, LARGE_LEVEL_4, LARGE_MAPPED, LEVEL_2, LEVEL_3, LEVEL_4, MAPPED, RECURSIVE,
     RECURSIVE_INDEX, Row, SELF_ENTRY, assert_fits, assert_fits_recursive, begin, begin_by, compare,
 };
+use crate::assertions::assert_equal_in;
 use crate::images::{ROOT, flags_of, frame_at, page_at};
 use crate::replies::page_of;
 use std::alloc::Global;
@@ -27,13 +28,18 @@ fn done(flush: MapperFlushAll) {
 }
 
 /// Compares an answer with the one that is wanted.
-fn compare_answer<T: PartialEq + Debug + Drop>(rt: &impl Abort, answer: T, wanted: T, title: &str) {
-    assert_eq!(rt; answer, wanted, "{title}");
+fn compare_answer<T: PartialEq + Debug + Drop>(
+    rt: impl Abort + Copy,
+    answer: T,
+    wanted: T,
+    title: &str,
+) {
+    assert_equal_in(rt, title, answer, wanted);
 }
 
 /// Maps a page with flags, the second for its parents, where that is allowed, and compares the answer.
 fn map<S: PageSize + Debug, M: Mapper<S>, A: FrameAllocator<Size4KiB>>(
-    rt: &impl Abort,
+    rt: impl Abort + Copy,
     mapper: &mut M,
     page: Page<S>,
     frame: PhysFrame<S>,
@@ -51,7 +57,7 @@ fn map<S: PageSize + Debug, M: Mapper<S>, A: FrameAllocator<Size4KiB>>(
 
 /// Maps a page that is mapped already, with the flags that ask for the parent flags.
 fn map_again<S: PageSize + Debug, M: Mapper<S>, A: FrameAllocator<Size4KiB>>(
-    rt: &impl Abort,
+    rt: impl Abort + Copy,
     mapper: &mut M,
     page: Page<S>,
     frame: PhysFrame<S>,
@@ -70,7 +76,7 @@ fn map_again<S: PageSize + Debug, M: Mapper<S>, A: FrameAllocator<Size4KiB>>(
 
 /// Maps the page at a frame's own address, where that is allowed, and compares the answer.
 fn map_identity<S: PageSize + Debug, M: Mapper<S>, A: FrameAllocator<Size4KiB>>(
-    rt: &impl Abort,
+    rt: impl Abort + Copy,
     mapper: &mut M,
     page: Page<S>,
     frame: PhysFrame<S>,
@@ -95,7 +101,7 @@ fn map_identity<S: PageSize + Debug, M: Mapper<S>, A: FrameAllocator<Size4KiB>>(
 
 /// Unmaps a page, and compares the answer.
 fn unmap<S: PageSize, M: Mapper<S>>(
-    rt: &impl Abort,
+    rt: impl Abort + Copy,
     mapper: &mut M,
     page: Page<S>,
     wanted: Result<(PhysFrame<S>, Page<S>), UnmapError>,
@@ -114,7 +120,7 @@ fn unmap<S: PageSize, M: Mapper<S>>(
 /// Sets `WRITABLE` alone on a page's entry, and compares the answer.
 #[tactic(auto, unfolding(x86_64_model::specs::Entry::address))]
 fn make_writable<S: PageSize, M: Mapper<S>>(
-    rt: &impl Abort,
+    rt: impl Abort + Copy,
     mapper: &mut M,
     page: Page<S>,
     wanted: Result<Page<S>, FlagUpdateError>,
@@ -130,7 +136,7 @@ fn make_writable<S: PageSize, M: Mapper<S>>(
 
 /// Sets `PRESENT` alone on the entry of level four above a page.
 #[tactic(auto, unfolding(x86_64_model::specs::Entry::address, x86_64_model::specs::Entry::has))]
-fn set_level_4<S: PageSize, M: Mapper<S>>(rt: &impl Abort, mapper: &mut M, page: Page<S>)
+fn set_level_4<S: PageSize, M: Mapper<S>>(rt: impl Abort + Copy, mapper: &mut M, page: Page<S>)
     requires { Valid (M.hierarchy mapper.old) }
     ensures valid { Valid (M.hierarchy mapper.new) }
     ensures layout { (M.hierarchy mapper.new).layout ≡ (M.hierarchy mapper.old).layout }
@@ -142,7 +148,7 @@ fn set_level_4<S: PageSize, M: Mapper<S>>(rt: &impl Abort, mapper: &mut M, page:
 
 /// Sets the flags of the entry of level three above a page, where that is allowed.
 fn set_level_3<S: PageSize, M: Mapper<S>>(
-    rt: &impl Abort,
+    rt: impl Abort + Copy,
     mapper: &mut M,
     page: Page<S>,
     flags: PageTableFlags,
@@ -158,7 +164,7 @@ fn set_level_3<S: PageSize, M: Mapper<S>>(
 
 /// Sets the flags of the entry of level two above a page, where that is allowed, and compares the answer.
 fn set_level_2<S: PageSize, M: Mapper<S>>(
-    rt: &impl Abort,
+    rt: impl Abort + Copy,
     mapper: &mut M,
     page: Page<S>,
     flags: PageTableFlags,
@@ -191,7 +197,7 @@ const WRITABLE_UNMAPPED: Row<'static> = Row {
 
 /// Maps the page 0x1000 of 4KiB, maps it again, and unmaps it twice.
 fn map_and_unmap<M: Mapper<Size4KiB>, A: FrameAllocator<Size4KiB>>(
-    rt: &impl Abort,
+    rt: impl Abort + Copy,
     mapper: &mut M,
     allocator: &mut A,
 )
@@ -221,7 +227,7 @@ const WRITABLE_PAGE_FLAGS: Row<'static> = Row {
 
 /// Asks a mapper for the frame of a page, and compares the answer.
 fn translate<S: PageSize, M: Mapper<S>>(
-    rt: &impl Abort,
+    rt: impl Abort + Copy,
     mapper: &M,
     page: Page<S>,
     wanted: Result<PhysFrame<S>, TranslateError>,
@@ -233,7 +239,7 @@ fn translate<S: PageSize, M: Mapper<S>>(
 
 /// Maps the page 0x600000 of 2MiB, and sets its flags. The 4KiB page at its start isn't mapped.
 fn set_page_flags<M: MapperAllSizes, A: FrameAllocator<Size4KiB>>(
-    rt: &impl Abort,
+    rt: impl Abort + Copy,
     mapper: &mut M,
     allocator: &mut A,
 )
@@ -263,7 +269,7 @@ const TABLE_FLAGS: Row<'static> = Row {
 /// Maps the page 0x1000 of 4KiB, and sets the flags of the entries above it. A page of 2MiB has no entry above
 /// it in level two.
 fn set_table_flags<M: MapperAllSizes, A: FrameAllocator<Size4KiB>>(
-    rt: &impl Abort,
+    rt: impl Abort + Copy,
     mapper: &mut M,
     allocator: &mut A,
 )
@@ -304,7 +310,7 @@ enum Script {
 
 /// Makes the calls of a script.
 fn play<M: MapperAllSizes, A: FrameAllocator<Size4KiB>>(
-    rt: &impl Abort,
+    rt: impl Abort + Copy,
     script: Script,
     mapper: &mut M,
     allocator: &mut A,
@@ -319,7 +325,12 @@ fn play<M: MapperAllSizes, A: FrameAllocator<Size4KiB>>(
 }
 
 /// Makes the calls of a script by the direct mapper, and compares what is left.
-fn check_direct(rt: &impl Abort, alloc: Global, script: Script, row: &Row<'_>) -> Result<(), Fail> {
+fn check_direct(
+    rt: impl Abort + Copy,
+    alloc: Global,
+    script: Script,
+    row: &Row<'_>,
+) -> Result<(), Fail> {
     let (mut memory, mut pool) = begin(alloc, row.free)?;
     let root = frame_at(ROOT);
     assert_fits(rt, alloc, &memory, &IdentityMapping, root, &pool)?;
@@ -332,7 +343,7 @@ fn check_direct(rt: &impl Abort, alloc: Global, script: Script, row: &Row<'_>) -
 
 /// Makes the calls of a script through windows, and compares what is left: the entry for the root itself besides.
 fn check_recursive(
-    rt: &impl Abort,
+    rt: impl Abort + Copy,
     alloc: Global,
     script: Script,
     row: &Row<'_>,
@@ -364,8 +375,8 @@ const SCRIPTS: [(Script, Row<'static>, Row<'static>); 3] = [
 #[test]
 fn mappers_answer_single_calls(rt: HostRuntime) -> Result<(), Fail> {
     for (script, direct, recursive) in &SCRIPTS {
-        check_direct(&rt, rt.alloc(), *script, direct)?;
-        check_recursive(&rt, rt.alloc(), *script, recursive)?;
+        check_direct(rt, rt.alloc(), *script, direct)?;
+        check_recursive(rt, rt.alloc(), *script, recursive)?;
     }
     Ok(())
 }

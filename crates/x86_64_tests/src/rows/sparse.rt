@@ -3,6 +3,7 @@ use super::{
     By, EACH, FIRST, Row, answer_exchanges, check_fits, compare_pool, compare_word, put_self_entry,
     wanted_word, words_by,
 };
+use crate::assertions::assert_equal;
 use crate::images::{ROOT, WORD_COUNT, fill, frame_at, page_at, pool_of, set_word};
 use std::alloc::Global;
 use std::process::Abort;
@@ -48,7 +49,7 @@ fn begin(alloc: Global, by: By) -> Result<(PhysMemory, FramePool), Fail> {
 
 /// Compares every word of the memory with what the row wants by a mapper.
 fn compare_tables(
-    rt: &impl Abort,
+    rt: impl Abort + Copy,
     alloc: Global,
     memory: &PhysMemory,
     by: By,
@@ -75,17 +76,17 @@ fn tables_are_made_past_a_gap(rt: HostRuntime) -> Result<(), Fail> {
         let title = format!(in alloc; "past a gap, {by:?}")?;
         let (mut memory, mut pool) = begin(alloc, by)?;
         answer_exchanges(
-            &rt,
+            rt,
             alloc,
             &PAST_THE_GAP,
             by,
             (&mut memory, &mut pool),
             &title,
         )?;
-        compare_tables(&rt, alloc, &memory, by, &title)?;
-        compare_pool(&rt, &pool, &[], &title);
-        check_fits(&rt, alloc, by, (&mut memory, &pool), &title)?;
-        assert_eq!(rt; memory.len(), 4);
+        compare_tables(rt, alloc, &memory, by, &title)?;
+        compare_pool(rt, &pool, &[], &title);
+        check_fits(rt, alloc, by, (&mut memory, &pool), &title)?;
+        assert_equal(rt, memory.len(), 4);
         assert!(rt; memory.table(FramePlace::new(3)).is_none());
     }
     Ok(())
@@ -111,17 +112,18 @@ fn tables_lie_as_far_apart_as_frames(rt: HostRuntime) -> Result<(), Fail> {
     let root = frame_at(ROOT);
     assert!(rt; is_valid_hierarchy(alloc, &memory, &IdentityMapping, root)?);
     let mut mapper = MappedPageTable::new(&mut memory, root, IdentityMapping);
-    assert_eq!(rt;
+    assert_equal(
+        rt,
         mapper.translate_addr(VirtAddr::new(0x1abc)),
-        Some(PhysAddr::new(0x5abc))
+        Some(PhysAddr::new(0x5abc)),
     );
     match mapper.unmap(page_at::<Size4KiB>(0x1000)) {
         Ok((frame, flush)) => {
             flush.ignore();
-            assert_eq!(rt; frame, frame_at(0x5000));
+            assert_equal(rt, frame, frame_at(0x5000));
         }
         Err(why) => assert!(rt; false, "{why:?}"),
     }
     drop(mapper);
-    compare_word(&rt, &memory, (0xf_ffff_ffff_f000, 1, 0), "far apart")
+    compare_word(rt, &memory, (0xf_ffff_ffff_f000, 1, 0), "far apart")
 }

@@ -3,6 +3,7 @@ use super::{
     EACH, Exchange, FIRST, LEVEL_1, LEVEL_2, LEVEL_3, LEVEL_4, MAPPED, Row, WORDS,
     answer_exchanges, answer_row, check, compare_by,
 };
+use crate::assertions::assert_equal;
 use crate::images::{fill, frame_at};
 use crate::turns::PageTurn::MapTo;
 use crate::turns::Turn::Small;
@@ -41,7 +42,7 @@ const TOO_FEW_FRAMES: [Row<'static>; 2] = [
 
 #[test]
 fn maps_without_a_frame_change_no_word_below_the_last_parent(rt: HostRuntime) -> Result<(), Fail> {
-    check(&rt, rt.alloc(), &TOO_FEW_FRAMES)
+    check(rt, rt.alloc(), &TOO_FEW_FRAMES)
 }
 
 /// One frame, which becomes the first of the tables that are wanting.
@@ -67,13 +68,13 @@ fn maps_go_on_once_there_are_frames(rt: HostRuntime) -> Result<(), Fail> {
     let alloc = rt.alloc();
     for by in EACH {
         let title = format!(in alloc; "one frame, then two more, {by:?}")?;
-        let (mut memory, mut pool) = answer_row(&rt, alloc, &ONE_FRAME, by, &title)?;
+        let (mut memory, mut pool) = answer_row(rt, alloc, &ONE_FRAME, by, &title)?;
         for frame in TWO_MORE.free {
             fill(&mut memory, *frame)?;
-            assert_eq!(rt; pool.try_add(frame_at(*frame)), Ok(()));
+            assert_equal(rt, pool.try_add(frame_at(*frame)), Ok(()));
         }
-        answer_exchanges(&rt, alloc, &TWO_MORE, by, (&mut memory, &mut pool), &title)?;
-        compare_by(&rt, alloc, by, (&memory, &pool), &TWO_MORE, &title)?;
+        answer_exchanges(rt, alloc, &TWO_MORE, by, (&mut memory, &mut pool), &title)?;
+        compare_by(rt, alloc, by, (&memory, &pool), &TWO_MORE, &title)?;
     }
     Ok(())
 }

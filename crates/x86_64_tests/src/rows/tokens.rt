@@ -4,6 +4,7 @@ ghost use Rattle.x86_64_model.specs.Owned.{Valid, SupplyFits};
 
 use super::flushes::compare_flushes;
 use super::{FREE, assert_fits, begin};
+use crate::assertions::assert_equal;
 use crate::images::{ROOT, frame_at, page_at};
 use bitflags::Flags;
 use std::alloc::Global;
@@ -17,7 +18,7 @@ use x86_64::{FlushRecorder, IdentityMapping};
 
 /// Maps the page 0x1000 of 4KiB, and flushes the token.
 fn flush_map<M: Mapper<Size4KiB>, A: FrameAllocator<Size4KiB>>(
-    rt: &impl Abort,
+    rt: impl Abort + Copy,
     mapper: &mut M,
     allocator: &mut A,
     recorder: &mut FlushRecorder,
@@ -32,14 +33,14 @@ fn flush_map<M: Mapper<Size4KiB>, A: FrameAllocator<Size4KiB>>(
     let answer = mapper.map_to(page, frame_at(0x5000), flags, allocator);
     let flush = answer.map_err(|_| "the map is refused")?;
     let flushed = flush.flush(recorder).map_err(MapperFlush::ignore);
-    assert_eq!(rt; flushed, Ok(()));
+    assert_equal(rt, flushed, Ok(()));
     Ok(())
 }
 
 /// Sets the flags of level four above the page, and flushes the token.
 #[tactic(auto, unfolding(x86_64_model::specs::Entry::address, x86_64_model::specs::Entry::has))]
 fn flush_table_flags<M: Mapper<Size4KiB>>(
-    rt: &impl Abort,
+    rt: impl Abort + Copy,
     mapper: &mut M,
     recorder: &mut FlushRecorder,
 ) -> Result<(), Fail>
@@ -51,12 +52,16 @@ fn flush_table_flags<M: Mapper<Size4KiB>>(
     let flushed = flush_all
         .flush_all(recorder)
         .map_err(MapperFlushAll::ignore);
-    assert_eq!(rt; flushed, Ok(()));
+    assert_equal(rt, flushed, Ok(()));
     Ok(())
 }
 
 /// Flushes both tokens of a mapper over an empty root.
-fn flush_tokens(rt: &impl Abort, alloc: Global, recorder: &mut FlushRecorder) -> Result<(), Fail> {
+fn flush_tokens(
+    rt: impl Abort + Copy,
+    alloc: Global,
+    recorder: &mut FlushRecorder,
+) -> Result<(), Fail> {
     let (mut memory, mut pool) = begin(alloc, &FREE)?;
     let root = frame_at(ROOT);
     assert_fits(rt, alloc, &memory, &IdentityMapping, root, &pool)?;
@@ -66,7 +71,7 @@ fn flush_tokens(rt: &impl Abort, alloc: Global, recorder: &mut FlushRecorder) ->
 }
 
 /// Flushes both tokens where so many items have room, and compares what is recorded.
-fn check_tokens(rt: &impl Abort, alloc: Global, room: usize) -> Result<(), Fail> {
+fn check_tokens(rt: impl Abort + Copy, alloc: Global, room: usize) -> Result<(), Fail> {
     let mut recorder = FlushRecorder::new(alloc);
     recorder.reserve(room)?;
     flush_tokens(rt, alloc, &mut recorder)?;
@@ -76,6 +81,6 @@ fn check_tokens(rt: &impl Abort, alloc: Global, room: usize) -> Result<(), Fail>
 
 #[test]
 fn tokens_of_mappers_are_flushed(rt: HostRuntime) -> Result<(), Fail> {
-    check_tokens(&rt, rt.alloc(), 2)?;
-    check_tokens(&rt, rt.alloc(), 0)
+    check_tokens(rt, rt.alloc(), 2)?;
+    check_tokens(rt, rt.alloc(), 0)
 }

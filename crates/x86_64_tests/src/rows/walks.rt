@@ -3,6 +3,7 @@ use super::{
     By, DIRECT, EACH, FIRST, FIRST_LARGE, LARGE_LEVEL_3, LARGE_LEVEL_4, LARGE_MAPPED, LEVEL_2,
     LEVEL_3, LEVEL_4, MAPPED, RECURSIVE, Row, check_row,
 };
+use crate::assertions::assert_equal_in;
 use crate::images::{ROOT, frame_at};
 use crate::turns::PageTurn::{MapTo, MapToWithTableFlags, UpdateFlags};
 use crate::turns::Turn::{Large, Small};
@@ -19,7 +20,7 @@ use x86_64_plain::Refusal::ParentEntryHugePage;
 pub type Walk = (u64, Option<(u64, bool, bool)>);
 
 /// Compares where walks arrive.
-pub fn compare_walks(rt: &impl Abort, memory: &PhysMemory, walks: &[Walk], title: &str) {
+pub fn compare_walks(rt: impl Abort + Copy, memory: &PhysMemory, walks: &[Walk], title: &str) {
     for (from, to) in walks {
         let addr = VirtAddr::new_truncate(*from);
         let wanted = to.map(|(address, write, user)| Walked {
@@ -28,14 +29,14 @@ pub fn compare_walks(rt: &impl Abort, memory: &PhysMemory, walks: &[Walk], title
             user,
         });
         let walked = page_walk(memory, &IdentityMapping, frame_at(ROOT), addr);
-        assert_eq!(rt; walked, wanted, "{title}: {from:#x}");
+        assert_equal_in(rt, (title, from), walked, wanted);
     }
 }
 
 /// Answers the calls of rows by each of these mappers, and compares what comes of them and where the walks beside
 /// them arrive.
 fn check_walks(
-    rt: &impl Abort,
+    rt: impl Abort + Copy,
     alloc: Global,
     rows: &[(Row<'_>, &[Walk])],
     mappers: &[By],
@@ -71,7 +72,7 @@ const TWO_MAPS: [(Row<'static>, &[Walk]); 1] = [(
 
 #[test]
 fn accepted_maps_arrive_with_the_rights_asked_for(rt: HostRuntime) -> Result<(), Fail> {
-    check_walks(&rt, rt.alloc(), &TWO_MAPS, &EACH)
+    check_walks(rt, rt.alloc(), &TWO_MAPS, &EACH)
 }
 
 /// Before a refused map and after it.
@@ -105,7 +106,7 @@ const WIDER_RIGHTS: [(Row<'static>, &[Walk]); 2] = [
 
 #[test]
 fn refused_maps_widen_rights_of_walks_on_their_way(rt: HostRuntime) -> Result<(), Fail> {
-    check_walks(&rt, rt.alloc(), &WIDER_RIGHTS, &EACH)
+    check_walks(rt, rt.alloc(), &WIDER_RIGHTS, &EACH)
 }
 
 const PARENT_FLAGS: Row<'static> = Row {
@@ -125,13 +126,13 @@ const PARENT_FLAGS: Row<'static> = Row {
 #[test]
 fn parent_flags_of_a_map_bound_its_rights(rt: HostRuntime) -> Result<(), Fail> {
     let walks: [Walk; 1] = [(0x1abc, Some((0x5abc, false, false)))];
-    check_row(&rt, rt.alloc(), 0, &PARENT_FLAGS, &walks, &DIRECT)
+    check_row(rt, rt.alloc(), 0, &PARENT_FLAGS, &walks, &DIRECT)
 }
 
 #[test]
 fn new_tables_are_writable_through_windows(rt: HostRuntime) -> Result<(), Fail> {
     let walks: [Walk; 1] = [(0x1abc, Some((0x5abc, true, false)))];
-    check_row(&rt, rt.alloc(), 0, &PARENT_FLAGS, &walks, &[RECURSIVE])
+    check_row(rt, rt.alloc(), 0, &PARENT_FLAGS, &walks, &[RECURSIVE])
 }
 
 const PAGE_FLAGS: [(Row<'static>, &[Walk]); 3] = [
@@ -176,5 +177,5 @@ const PAGE_FLAGS: [(Row<'static>, &[Walk]); 3] = [
 
 #[test]
 fn walks_follow_the_flags_of_pages(rt: HostRuntime) -> Result<(), Fail> {
-    check_walks(&rt, rt.alloc(), &PAGE_FLAGS, &EACH)
+    check_walks(rt, rt.alloc(), &PAGE_FLAGS, &EACH)
 }

@@ -4,6 +4,7 @@ ghost use Rattle.x86_64_model.specs.Layout.{Valid};
 ghost use Rattle.x86_64_mappers.specs.Recursive.{recursive_now};
 
 use super::{RECURSIVE_INDEX, SELF_ENTRY, Word};
+use crate::assertions::assert_equal_in;
 use crate::images::{ROOT, frame_at, set_word};
 use crate::replies::{frame_result, translate_result};
 use std::alloc::Global;
@@ -129,7 +130,7 @@ fn wanted(leads: Leads, offset: u64) -> Result<Told, Fail> {
 /// Compares what the mapper tells of the address at an offset in a page, and where the walk arrives: where the
 /// entry has `PRESENT`, at the same address.
 fn check(
-    rt: &impl Abort,
+    rt: impl Abort + Copy,
     alloc: Global,
     memory: &mut PhysMemory,
     (indices, leads): ([u16; 4], Leads),
@@ -141,11 +142,11 @@ fn check(
     let addr = VirtAddr::new_truncate(page.start_address().as_u64() | offset);
     assert!(rt; is_valid_recursive(alloc, memory, root, index)?);
     let told = ask(memory, root, index, addr);
-    assert_eq!(rt; told, wanted(leads, offset)?, "{indices:?} {offset:#x}");
+    assert_equal_in(rt, (indices, offset), told, wanted(leads, offset)?);
     let arrives = leads.is_some_and(|(.., flags)| is_present(flags));
     let walked = page_walk(memory, &IdentityMapping, root, addr).map(|walked| walked.address);
     let address = if arrives { told.address } else { None };
-    assert_eq!(rt; walked, address, "{indices:?} {offset:#x}");
+    assert_equal_in(rt, (indices, offset), walked, address);
     Ok(())
 }
 
@@ -157,7 +158,7 @@ fn addresses_of_the_window_lead_where_walks_arrive(rt: HostRuntime) -> Result<()
     }
     for page in PAGES {
         for offset in OFFSETS {
-            check(&rt, rt.alloc(), &mut memory, page, offset)?;
+            check(rt, rt.alloc(), &mut memory, page, offset)?;
         }
     }
     Ok(())

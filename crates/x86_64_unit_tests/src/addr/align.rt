@@ -1,11 +1,12 @@
 //! Alignment of numbers and of addresses.
+use crate::assertions::{assert_equal, assert_equal_in};
 use x86_64_addr::addr::{PhysAddr, VirtAddr, align_down, align_up};
 
 /// The least multiple that isn't below a number, where `align` is a power of two and there is one of 64 bits.
 fn aligned_up(addr: u64, align: u64) -> Option<u64> {
     if align.is_power_of_two() {
-        addr.checked_next_multiple_of(align)
-            .map(|_fits| align_up(addr, align))
+        addr.checked_next_multiple_of(align)?;
+        Some(align_up(addr, align))
     } else {
         None
     }
@@ -36,25 +37,22 @@ fn numbers_are_aligned(rt: HostRuntime) {
         (1234, 3, None),
     ];
     for (addr, align, multiple) in rows {
-        assert_eq!(rt;
-            aligned_up(addr, align),
-            multiple,
-            "{addr:#x} by {align:#x}"
-        );
+        assert_equal_in(rt, (addr, align), aligned_up(addr, align), multiple);
     }
-    assert_eq!(rt; align_down(1235, 2), 1234);
-    assert_eq!(rt; align_down(u64::MAX, 1 << 63), 1 << 63);
+    assert_equal(rt, align_down(1235, 2), 1234);
+    assert_equal(rt, align_down(u64::MAX, 1 << 63), 1 << 63);
 }
 
 #[test]
 #[tactic(auto, using(x86_64_addr::proofs::PowersOfTwo::numeral_power))]
 fn virtual_addresses_are_aligned(rt: HostRuntime) {
     let high = VirtAddr::new_truncate(1 << 47);
-    assert_eq!(rt; VirtAddr::new(0x7fff_ffff_ffff).align_up(2), high);
-    assert_eq!(rt; high.align_down(1 << 48), VirtAddr::zero());
-    assert_eq!(rt;
+    assert_equal(rt, VirtAddr::new(0x7fff_ffff_ffff).align_up(2), high);
+    assert_equal(rt, high.align_down(1 << 48), VirtAddr::zero());
+    assert_equal(
+        rt,
         VirtAddr::new(0x1fff).align_down(0x1000),
-        VirtAddr::new(0x1000)
+        VirtAddr::new(0x1000),
     );
     let rows = [
         (0xffff_8000_0000_0000, 1 << 47, Some(true)),
@@ -64,11 +62,7 @@ fn virtual_addresses_are_aligned(rt: HostRuntime) {
         (0x2001, 2, Some(false)),
     ];
     for (raw, align, is_aligned) in rows {
-        assert_eq!(rt;
-            is_virt_aligned(raw, align),
-            is_aligned,
-            "{raw:#x} by {align:#x}"
-        );
+        assert_equal_in(rt, (raw, align), is_virt_aligned(raw, align), is_aligned);
     }
 }
 
@@ -76,8 +70,8 @@ fn virtual_addresses_are_aligned(rt: HostRuntime) {
 #[tactic(auto, using(x86_64_addr::proofs::PowersOfTwo::numeral_power))]
 fn physical_addresses_are_aligned(rt: HostRuntime) {
     let address = PhysAddr::new(0x1234);
-    assert_eq!(rt; address.align_up(0x1000), PhysAddr::new(0x2000));
-    assert_eq!(rt; address.align_down(0x1000), PhysAddr::new(0x1000));
+    assert_equal(rt, address.align_up(0x1000), PhysAddr::new(0x2000));
+    assert_equal(rt, address.align_down(0x1000), PhysAddr::new(0x1000));
     assert!(rt; address.is_aligned(4));
     assert!(rt; !address.is_aligned(8));
     assert!(rt; !address.is_aligned(1 << 63));

@@ -1,4 +1,5 @@
 //! Addresses of 57 bits, and levels where there are five.
+use crate::assertions::{assert_equal, assert_equal_at, assert_equal_in};
 use x86_64_addr::addr::{VirtAddr57, VirtAddr57NotValid};
 use x86_64_addr::index::{PageOffset, PageTableLevel57};
 
@@ -11,17 +12,17 @@ const FIRST_HIGH: u64 = 0xff00_0000_0000_0000;
 #[test]
 fn addresses_are_canonical_by_bit_56(rt: HostRuntime) {
     let high = VirtAddr57::new_truncate(1 << 56);
-    assert_eq!(rt; high.as_u64(), FIRST_HIGH);
+    assert_equal(rt, high.as_u64(), FIRST_HIGH);
     for value in [0, 0x8000_0000_0000, LAST_LOW, FIRST_HIGH, u64::MAX] {
         let address = VirtAddr57::try_new(value);
-        assert_eq!(rt;
-            address,
-            Ok(VirtAddr57::new_truncate(value)),
-            "at {value:#x}"
-        );
+        assert_equal_at(rt, value, address, Ok(VirtAddr57::new_truncate(value)));
     }
     for value in [1 << 56, 0xfeff_ffff_ffff_ffff] {
-        assert_eq!(rt; VirtAddr57::try_new(value), Err(VirtAddr57NotValid(value)));
+        assert_equal(
+            rt,
+            VirtAddr57::try_new(value),
+            Err(VirtAddr57NotValid(value)),
+        );
     }
     assert!(rt; VirtAddr57::new(LAST_LOW) < VirtAddr57::new_unsafe(FIRST_HIGH));
     assert!(rt; VirtAddr57::zero().is_null());
@@ -45,9 +46,9 @@ fn addresses_have_five_indices(rt: HostRuntime) {
     ];
     for (raw, indices, offset) in rows {
         let address = VirtAddr57::new_truncate(raw);
-        assert_eq!(rt; address.page_offset(), PageOffset::new_truncate(offset));
+        assert_equal(rt, address.page_offset(), PageOffset::new_truncate(offset));
         let found = levels.map(|level| u16::from(address.page_table_index(level)));
-        assert_eq!(rt; found, indices, "at {raw:#x}");
+        assert_equal_at(rt, raw, found, indices);
         let each = [
             u16::from(address.p5_index()),
             u16::from(address.p4_index()),
@@ -55,31 +56,32 @@ fn addresses_have_five_indices(rt: HostRuntime) {
             u16::from(address.p2_index()),
             u16::from(address.p1_index()),
         ];
-        assert_eq!(rt; each, indices, "at {raw:#x}");
+        assert_equal_at(rt, raw, each, indices);
     }
 }
 
 #[test]
 fn addresses_step_over_the_gap(rt: HostRuntime) {
     let (low, high) = (VirtAddr57::new(LAST_LOW), VirtAddr57::new(FIRST_HIGH));
-    assert_eq!(rt; VirtAddr57::forward_checked(low, 1), Some(high));
-    assert_eq!(rt; VirtAddr57::backward_checked(high, 1), Some(low));
-    assert_eq!(rt;
+    assert_equal(rt, VirtAddr57::forward_checked(low, 1), Some(high));
+    assert_equal(rt, VirtAddr57::backward_checked(high, 1), Some(low));
+    assert_equal(
+        rt,
         VirtAddr57::forward_checked(low, 1 << 56).map(|a| a.as_u64()),
-        Some(u64::MAX)
+        Some(u64::MAX),
     );
-    assert_eq!(rt; VirtAddr57::forward_checked(low, (1 << 56) + 1), None);
-    assert_eq!(rt; VirtAddr57::backward_checked(low, 1 << 56), None);
-    assert_eq!(rt; VirtAddr57::steps_between(&low, &high), (1, Some(1)));
-    assert_eq!(rt; VirtAddr57::steps_between(&high, &low), (0, None));
+    assert_equal(rt, VirtAddr57::forward_checked(low, (1 << 56) + 1), None);
+    assert_equal(rt, VirtAddr57::backward_checked(low, 1 << 56), None);
+    assert_equal(rt, VirtAddr57::steps_between(&low, &high), (1, Some(1)));
+    assert_equal(rt, VirtAddr57::steps_between(&high, &low), (0, None));
 }
 
 #[test]
 #[tactic(auto, using(x86_64_addr::proofs::PowersOfTwo::numeral_power))]
 fn addresses_are_aligned_by_position(rt: HostRuntime) {
     let high = VirtAddr57::new(FIRST_HIGH);
-    assert_eq!(rt; VirtAddr57::new(LAST_LOW).align_up(2), high);
-    assert_eq!(rt; high.align_down(1 << 57), VirtAddr57::zero());
+    assert_equal(rt, VirtAddr57::new(LAST_LOW).align_up(2), high);
+    assert_equal(rt, high.align_down(1 << 57), VirtAddr57::zero());
     assert!(rt; high.is_aligned(1 << 56));
     assert!(rt; !high.is_aligned(1 << 57));
 }
@@ -88,12 +90,13 @@ fn addresses_are_aligned_by_position(rt: HostRuntime) {
 fn addresses_are_added(rt: HostRuntime) {
     let mut address = VirtAddr57::new(0x8000_0000_0000) + 0xfff;
     address += 1;
-    assert_eq!(rt; address, VirtAddr57::new(0x8000_0000_1000));
+    assert_equal(rt, address, VirtAddr57::new(0x8000_0000_1000));
     address -= 0x1000;
-    assert_eq!(rt; address - 1, VirtAddr57::new(0x7fff_ffff_ffff));
-    assert_eq!(rt;
+    assert_equal(rt, address - 1, VirtAddr57::new(0x7fff_ffff_ffff));
+    assert_equal(
+        rt,
         VirtAddr57::new(FIRST_HIGH) - VirtAddr57::new(LAST_LOW),
-        0xfe00_0000_0000_0001
+        0xfe00_0000_0000_0001,
     );
 }
 
@@ -122,18 +125,10 @@ fn levels_have_neighbours_and_alignments(rt: HostRuntime) {
         ),
     ];
     for (level, lower, higher, table, entry) in rows {
-        assert_eq!(rt; level.next_lower_level(), lower, "of {level:?}");
-        assert_eq!(rt; level.next_higher_level(), higher, "of {level:?}");
-        assert_eq!(rt;
-            level.table_address_space_alignment(),
-            table,
-            "of {level:?}"
-        );
-        assert_eq!(rt;
-            level.entry_address_space_alignment(),
-            entry,
-            "of {level:?}"
-        );
+        assert_equal_in(rt, level, level.next_lower_level(), lower);
+        assert_equal_in(rt, level, level.next_higher_level(), higher);
+        assert_equal_in(rt, level, level.table_address_space_alignment(), table);
+        assert_equal_in(rt, level, level.entry_address_space_alignment(), entry);
     }
 }
 
@@ -142,8 +137,9 @@ fn addresses_have_texts(rt: HostRuntime) {
     let (low, high) = (VirtAddr57::new(0x1000), VirtAddr57::new(FIRST_HIGH));
     let error = VirtAddr57NotValid(1 << 56);
     let text = format!(in rt.alloc(); "{low:?} {high:?} {error:?}").expect(&rt, "memory");
-    assert_eq!(rt;
+    assert_equal(
+        rt,
         text.as_str(),
-        "VirtAddr57(0x1000) VirtAddr57(0xff00000000000000) VirtAddr57NotValid(0x100000000000000)"
+        "VirtAddr57(0x1000) VirtAddr57(0xff00000000000000) VirtAddr57NotValid(0x100000000000000)",
     );
 }

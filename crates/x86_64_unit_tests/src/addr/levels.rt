@@ -1,4 +1,5 @@
 //! The levels of page tables, with what their tables and entries describe.
+use crate::assertions::assert_equal_in;
 use x86_64_addr::index::PageTableLevel;
 
 #[test]
@@ -12,12 +13,12 @@ fn levels_have_neighbours_and_alignments(rt: HostRuntime) {
         (four, Some(three), None, 0x1_0000_0000_0000, 0x80_0000_0000),
     ];
     for (level, lower, higher, table, entry) in rows {
-        assert_eq!(rt; level.next_lower_level(), lower, "of {level:?}");
-        assert_eq!(rt; level.next_higher_level(), higher, "of {level:?}");
+        assert_equal_in(rt, level, level.next_lower_level(), lower);
+        assert_equal_in(rt, level, level.next_higher_level(), higher);
         let alignments = (
             level.table_address_space_alignment(),
             level.entry_address_space_alignment(),
         );
-        assert_eq!(rt; alignments, (table, entry), "of {level:?}");
+        assert_equal_in(rt, level, alignments, (table, entry));
     }
 }

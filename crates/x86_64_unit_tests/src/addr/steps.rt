@@ -1,4 +1,5 @@
 //! Steps along addresses and indices, from the tests of the Rust crate and beyond.
+use crate::assertions::{assert_equal, assert_equal_in};
 use x86_64_addr::addr::VirtAddr;
 use x86_64_addr::index::PageTableIndex;
 
@@ -39,7 +40,7 @@ fn addresses_step_forward(rt: HostRuntime) {
         (1, usize::MAX, None),
     ];
     for (start, count, end) in rows {
-        assert_eq!(rt; forward(start, count), end, "from {start:#x} by {count:#x}");
+        assert_equal_in(rt, (start, count), forward(start, count), end);
     }
 }
 
@@ -58,11 +59,7 @@ fn addresses_step_backward(rt: HostRuntime) {
         (u64::MAX, usize::MAX, None),
     ];
     for (start, count, end) in rows {
-        assert_eq!(rt;
-            backward(start, count),
-            end,
-            "from {start:#x} by {count:#x}"
-        );
+        assert_equal_in(rt, (start, count), backward(start, count), end);
     }
 }
 
@@ -80,30 +77,38 @@ fn steps_between_addresses_are_counted(rt: HostRuntime) {
         (FIRST_HIGH + 1, FIRST_HIGH, (0, None)),
     ];
     for (start, end, count) in rows {
-        assert_eq!(rt; between(start, end), count, "from {start:#x} to {end:#x}");
+        assert_equal_in(rt, (start, end), between(start, end), count);
     }
 }
 
 #[test]
 fn indices_step(rt: HostRuntime) {
     let index = PageTableIndex::new_truncate;
-    assert_eq!(rt;
+    assert_equal(
+        rt,
         PageTableIndex::forward_checked(index(3), 508),
-        Some(index(511))
+        Some(index(511)),
     );
-    assert_eq!(rt; PageTableIndex::forward_checked(index(511), 1), None);
-    assert_eq!(rt; PageTableIndex::forward_checked(index(0), usize::MAX), None);
-    assert_eq!(rt;
+    assert_equal(rt, PageTableIndex::forward_checked(index(511), 1), None);
+    assert_equal(
+        rt,
+        PageTableIndex::forward_checked(index(0), usize::MAX),
+        None,
+    );
+    assert_equal(
+        rt,
         PageTableIndex::backward_checked(index(511), 508),
-        Some(index(3))
+        Some(index(3)),
     );
-    assert_eq!(rt; PageTableIndex::backward_checked(index(0), 1), None);
-    assert_eq!(rt;
+    assert_equal(rt, PageTableIndex::backward_checked(index(0), 1), None);
+    assert_equal(
+        rt,
         PageTableIndex::steps_between(&index(1), &index(3)),
-        (2, Some(2))
+        (2, Some(2)),
     );
-    assert_eq!(rt;
+    assert_equal(
+        rt,
         PageTableIndex::steps_between(&index(3), &index(1)),
-        (0, None)
+        (0, None),
     );
 }

@@ -2,6 +2,7 @@
 ghost use Rattle.std.specs.Prelude.{◌≡◌, drop, slice_get, IfSome};
 ghost use Rattle.x86_64_model.specs.Lists.{EachOnce};
 
+use crate::assertions::assert_equal;
 use crate::tables::frame_at;
 use std::test::Fail;
 use x86_64_page::frame::PhysFrame;
@@ -13,39 +14,42 @@ use x86_64_tables::frame_alloc::{
 #[test]
 fn pool_refuses_what_it_cannot_serve(rt: HostRuntime) -> Result<(), Fail> {
     let mut pool = FramePool::new(rt.alloc(), 8)?;
-    assert_eq!(rt; pool.len(), 0);
-    assert_eq!(rt; pool.try_add(frame_at(0x0)), Err(PoolRefusal::Zero));
-    assert_eq!(rt;
+    assert_equal(rt, pool.len(), 0);
+    assert_equal(rt, pool.try_add(frame_at(0x0)), Err(PoolRefusal::Zero));
+    assert_equal(
+        rt,
         pool.try_add(frame_at(0x8000)),
-        Err(PoolRefusal::OutOfRange)
+        Err(PoolRefusal::OutOfRange),
     );
-    assert_eq!(rt; pool.try_add(frame_at(0x2000)), Ok(()));
-    assert_eq!(rt;
+    assert_equal(rt, pool.try_add(frame_at(0x2000)), Ok(()));
+    assert_equal(
+        rt,
         pool.try_add(frame_at(0x2000)),
-        Err(PoolRefusal::AlreadyFree)
+        Err(PoolRefusal::AlreadyFree),
     );
-    assert_eq!(rt; pool.try_add(frame_at(0x7000)), Ok(()));
-    assert_eq!(rt; pool.len(), 2);
+    assert_equal(rt, pool.try_add(frame_at(0x7000)), Ok(()));
+    assert_equal(rt, pool.len(), 2);
     assert!(rt; pool.contains(frame_at(0x2000)));
     assert!(rt; !pool.contains(frame_at(0x3000)));
     assert!(rt; !pool.contains(frame_at(0x8000)));
-    assert_eq!(rt; pool.frame_at(0), Some(frame_at(0x2000)));
-    assert_eq!(rt; pool.frame_at(1), Some(frame_at(0x7000)));
-    assert_eq!(rt; pool.frame_at(2), None);
+    assert_equal(rt, pool.frame_at(0), Some(frame_at(0x2000)));
+    assert_equal(rt, pool.frame_at(1), Some(frame_at(0x7000)));
+    assert_equal(rt, pool.frame_at(2), None);
     let text = format!(in rt.alloc(); "{:?}", PoolRefusal::OutOfRange)?;
-    assert_eq!(rt; text.as_str(), "OutOfRange");
+    assert_equal(rt, text.as_str(), "OutOfRange");
     Ok(())
 }
 
 #[test]
 fn limits_may_be_any(rt: HostRuntime) -> Result<(), Fail> {
     let mut pool = FramePool::new(rt.alloc(), 0)?;
-    assert_eq!(rt; pool.try_add(frame_at(0x0)), Err(PoolRefusal::Zero));
-    assert_eq!(rt;
+    assert_equal(rt, pool.try_add(frame_at(0x0)), Err(PoolRefusal::Zero));
+    assert_equal(
+        rt,
         pool.try_add(frame_at(0x1000)),
-        Err(PoolRefusal::OutOfRange)
+        Err(PoolRefusal::OutOfRange),
     );
-    assert_eq!(rt; pool.allocate_frame(), None);
+    assert_equal(rt, pool.allocate_frame(), None);
     assert!(rt; FramePool::new(rt.alloc(), u64::MAX).is_err());
     Ok(())
 }
@@ -56,15 +60,15 @@ fn frames_come_back_to_the_front(rt: HostRuntime) -> Result<(), Fail> {
     let mut pool = FramePool::new(rt.alloc(), 8)?;
     assert!(rt; pool.try_add(first).is_ok());
     assert!(rt; pool.try_add(second).is_ok());
-    assert_eq!(rt; take_and_put_back(&mut pool), Some(first));
-    assert_eq!(rt; pool.allocate_frame(), Some(first));
-    assert_eq!(rt; pool.allocate_frame(), Some(second));
-    assert_eq!(rt; pool.allocate_frame(), None);
+    assert_equal(rt, take_and_put_back(&mut pool), Some(first));
+    assert_equal(rt, pool.allocate_frame(), Some(first));
+    assert_equal(rt, pool.allocate_frame(), Some(second));
+    assert_equal(rt, pool.allocate_frame(), None);
     pool.deallocate_frame(first);
     pool.deallocate_frame(second);
-    assert_eq!(rt; pool.frame_at(0), Some(second));
-    assert_eq!(rt; pool.frame_at(1), Some(first));
-    assert_eq!(rt; pool.len(), 2);
+    assert_equal(rt, pool.frame_at(0), Some(second));
+    assert_equal(rt, pool.frame_at(1), Some(first));
+    assert_equal(rt, pool.len(), 2);
     Ok(())
 }
 
@@ -73,14 +77,14 @@ fn pools_are_equal_as_lists(rt: HostRuntime) -> Result<(), Fail> {
     let mut one = FramePool::new(rt.alloc(), 8)?;
     let mut other = FramePool::new(rt.alloc(), 16)?;
     assert!(rt; one == other);
-    assert_eq!(rt; one.try_add(frame_at(0x2000)), Ok(()));
+    assert_equal(rt, one.try_add(frame_at(0x2000)), Ok(()));
     assert!(rt; one != other);
-    assert_eq!(rt; other.try_add(frame_at(0x2000)), Ok(()));
+    assert_equal(rt, other.try_add(frame_at(0x2000)), Ok(()));
     assert!(rt; one == other);
-    assert_eq!(rt; one.try_add(frame_at(0x3000)), Ok(()));
-    assert_eq!(rt; other.try_add(frame_at(0x4000)), Ok(()));
-    assert_eq!(rt; one.try_add(frame_at(0x4000)), Ok(()));
-    assert_eq!(rt; other.try_add(frame_at(0x3000)), Ok(()));
+    assert_equal(rt, one.try_add(frame_at(0x3000)), Ok(()));
+    assert_equal(rt, other.try_add(frame_at(0x4000)), Ok(()));
+    assert_equal(rt, one.try_add(frame_at(0x4000)), Ok(()));
+    assert_equal(rt, other.try_add(frame_at(0x3000)), Ok(()));
     assert!(rt; one != other);
     Ok(())
 }

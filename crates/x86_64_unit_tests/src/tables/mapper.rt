@@ -1,4 +1,5 @@
 //! Tests of flushes.
+use crate::assertions::{assert_equal, assert_equal_in};
 use std::process::Abort;
 use std::test::Fail;
 use x86_64_addr::addr::{VirtAddr, VirtAddr57};
@@ -6,16 +7,16 @@ use x86_64_page::page::{Page, Page57, PageSize, Size1GiB, Size2MiB, Size4KiB};
 use x86_64_tables::mapper::{FlushItem, FlushRecorder, MapperFlush, MapperFlush57, MapperFlushAll};
 
 /// Flushes the page of a size at an address.
-fn flush_page<S: PageSize>(rt: &impl Abort, recorder: &mut FlushRecorder, start: u64) {
+fn flush_page<S: PageSize>(rt: impl Abort + Copy, recorder: &mut FlushRecorder, start: u64) {
     let page = Page::<S>::containing_address(VirtAddr::new_truncate(start));
     let answer = MapperFlush::new(page).flush(recorder);
-    assert_eq!(rt; answer.map_err(MapperFlush::ignore), Ok(()));
+    assert_equal(rt, answer.map_err(MapperFlush::ignore), Ok(()));
 }
 
 /// Flushes all pages.
-fn flush_all(rt: &impl Abort, recorder: &mut FlushRecorder) {
+fn flush_all(rt: impl Abort + Copy, recorder: &mut FlushRecorder) {
     let answer = MapperFlushAll::new().flush_all(recorder);
-    assert_eq!(rt; answer.map_err(MapperFlushAll::ignore), Ok(()));
+    assert_equal(rt, answer.map_err(MapperFlushAll::ignore), Ok(()));
 }
 
 /// Makes the item of a page.
@@ -39,17 +40,17 @@ fn flushes_are_recorded_in_order(rt: HostRuntime) -> Result<(), Fail> {
     for room in [0, 2, 4, 8] {
         let mut recorder = FlushRecorder::new(rt.alloc());
         assert!(rt; recorder.items().is_empty(), "room {room}");
-        assert_eq!(rt; recorder.reserve(room), Ok(()));
-        flush_page::<Size4KiB>(&rt, &mut recorder, 0x1000);
-        flush_all(&rt, &mut recorder);
-        flush_page::<Size2MiB>(&rt, &mut recorder, 0x20_0000);
-        flush_all(&rt, &mut recorder);
-        assert_eq!(rt; recorder.items(), &items[..4], "room {room}");
-        assert_eq!(rt; recorder.reserve(room), Ok(()));
-        assert_eq!(rt; recorder.items(), &items[..4], "room {room}");
-        flush_page::<Size1GiB>(&rt, &mut recorder, 0x4000_0000);
-        flush_page::<Size4KiB>(&rt, &mut recorder, 0xffff_8000_0000_0000);
-        assert_eq!(rt; recorder.items(), items.as_slice(), "room {room}");
+        assert_equal(rt, recorder.reserve(room), Ok(()));
+        flush_page::<Size4KiB>(rt, &mut recorder, 0x1000);
+        flush_all(rt, &mut recorder);
+        flush_page::<Size2MiB>(rt, &mut recorder, 0x20_0000);
+        flush_all(rt, &mut recorder);
+        assert_equal_in(rt, room, recorder.items(), &items[..4]);
+        assert_equal(rt, recorder.reserve(room), Ok(()));
+        assert_equal_in(rt, room, recorder.items(), &items[..4]);
+        flush_page::<Size1GiB>(rt, &mut recorder, 0x4000_0000);
+        flush_page::<Size4KiB>(rt, &mut recorder, 0xffff_8000_0000_0000);
+        assert_equal_in(rt, room, recorder.items(), items.as_slice());
     }
     Ok(())
 }
@@ -61,12 +62,12 @@ fn flushes_of_pages_of_57_bits_are_recorded(rt: HostRuntime) -> Result<(), Fail>
         let mut recorder = FlushRecorder::new(rt.alloc());
         let page = Page57::<Size2MiB>::containing_address(start);
         let token = MapperFlush57::new(page);
-        assert_eq!(rt; token.page(), page);
+        assert_equal(rt, token.page(), page);
         let answer = token.flush(&mut recorder);
-        assert_eq!(rt; answer.map_err(MapperFlush57::ignore), Ok(()));
+        assert_equal(rt, answer.map_err(MapperFlush57::ignore), Ok(()));
         let size = 2_097_152;
         let items = [FlushItem::Page57 { start, size }];
-        assert_eq!(rt; recorder.items(), items.as_slice());
+        assert_equal(rt, recorder.items(), items.as_slice());
     }
     Ok(())
 }

@@ -1,4 +1,5 @@
 //! Tests of flags, entries and tables.
+use crate::assertions::{assert_equal, assert_equal_at};
 use crate::tables::frame_at;
 use bitflags::Flags;
 use std::alloc::{AllocError, Global};
@@ -36,7 +37,7 @@ fn flags_have_places(rt: HostRuntime) {
         (PageTableFlags::NO_EXECUTE, 0x8000_0000_0000_0000),
     ];
     for (flag, bits) in places {
-        assert_eq!(rt; flag.bits(), bits);
+        assert_equal(rt, flag.bits(), bits);
     }
 }
 
@@ -68,7 +69,7 @@ fn operators_are_of_bits(rt: HostRuntime) {
         (PageTableFlags::from_bits_truncate(0x1003), 0x3),
     ];
     for (flags, bits) in rows {
-        assert_eq!(rt; flags.bits(), bits);
+        assert_equal(rt, flags.bits(), bits);
     }
 }
 
@@ -105,7 +106,7 @@ fn flags_change_in_place(rt: HostRuntime) {
         (truncated, 0x3),
     ];
     for (flags, bits) in rows {
-        assert_eq!(rt; flags.bits(), bits);
+        assert_equal(rt, flags.bits(), bits);
     }
 }
 
@@ -129,14 +130,14 @@ fn flags_are_asked(rt: HostRuntime) -> Result<(), Fail> {
             flags.is_empty(),
             flags.is_all(),
         ];
-        assert_eq!(rt; asked, answers, "of {bits:#x}");
+        assert_equal_at(rt, bits, asked, answers);
         let known = bits & 0x000f_ffff_ffff_f000 == 0;
         let read = PageTableFlags::from_bits(bits);
-        assert_eq!(rt; read, if known { Some(flags) } else { None });
-        assert_eq!(rt; flags.contains_unknown_bits(), !known);
+        assert_equal(rt, read, if known { Some(flags) } else { None });
+        assert_equal(rt, flags.contains_unknown_bits(), !known);
         let text = format!(in rt.alloc(); "{flags:?}")?;
         let expected = format!(in rt.alloc(); "PageTableFlags({bits:#x})")?;
-        assert_eq!(rt; text.as_str(), expected.as_str());
+        assert_equal(rt, text.as_str(), expected.as_str());
     }
     Ok(())
 }
@@ -173,15 +174,15 @@ fn entries_are_words(rt: HostRuntime) {
         let mut entry = PageTableEntry::new();
         assert!(rt; addr.as_u64() % 4096 == 0);
         entry.set_addr(addr, flags);
-        assert_eq!(rt; word_of(&entry), word);
-        assert_eq!(rt; entry.addr(), addr);
-        assert_eq!(rt; entry.flags(), flags);
-        assert_eq!(rt; entry.frame(), frame.map(frame_at), "of {word:#x}");
-        assert_eq!(rt; entry.is_unused(), word == 0);
+        assert_equal(rt, word_of(&entry), word);
+        assert_equal(rt, entry.addr(), addr);
+        assert_equal(rt, entry.flags(), flags);
+        assert_equal_at(rt, word, entry.frame(), frame.map(frame_at));
+        assert_equal(rt, entry.is_unused(), word == 0);
         entry.set_flags(PageTableFlags::empty());
-        assert_eq!(rt; word_of(&entry), start);
-        assert_eq!(rt; entry.frame(), Err(FrameNotPresent));
-        assert_eq!(rt; entry.is_unused(), start == 0);
+        assert_equal(rt, word_of(&entry), start);
+        assert_equal(rt, entry.frame(), Err(FrameNotPresent));
+        assert_equal(rt, entry.is_unused(), start == 0);
     }
 }
 
@@ -195,19 +196,20 @@ fn entries_are_changed(rt: HostRuntime) -> Result<(), Fail> {
     entry.set_frame(frame_at(0x6000), low);
     let copy = entry.clone()?;
     entry.set_flags(PageTableFlags::NO_EXECUTE);
-    assert_eq!(rt; word_of(&entry), 0x8000_0000_0000_6000);
-    assert_eq!(rt; word_of(&copy), 0x6003);
-    assert_eq!(rt; copy.frame(), Ok(frame_at(0x6000)));
+    assert_equal(rt, word_of(&entry), 0x8000_0000_0000_6000);
+    assert_equal(rt, word_of(&copy), 0x6003);
+    assert_equal(rt, copy.frame(), Ok(frame_at(0x6000)));
     let text = format!(in rt.alloc(); "{copy:?}")?;
-    assert_eq!(rt;
+    assert_equal(
+        rt,
         text.as_str(),
-        "PageTableEntry { addr: PhysAddr(0x6000), flags: PageTableFlags(0x3) }"
+        "PageTableEntry { addr: PhysAddr(0x6000), flags: PageTableFlags(0x3) }",
     );
     entry.set_unused();
     assert!(rt; entry.is_unused());
     let errors = [FrameError::FrameNotPresent, FrameError::HugeFrame];
     let text = format!(in rt.alloc(); "{errors:?}")?;
-    assert_eq!(rt; text.as_str(), "[FrameNotPresent, HugeFrame]");
+    assert_equal(rt, text.as_str(), "[FrameNotPresent, HugeFrame]");
     Ok(())
 }
 
@@ -218,16 +220,16 @@ fn tables_are_lists_of_words(rt: HostRuntime) -> Result<(), Fail> {
     table[1].set_addr(PhysAddr::new(0x5000), PageTableFlags::PRESENT);
     table[PageTableIndex::new(511)].set_addr(PhysAddr::new(0x6000), PageTableFlags::WRITABLE);
     assert!(rt; !table.is_empty());
-    assert_eq!(rt; word_of(&table[PageTableIndex::new(1)]), 0x5001);
-    assert_eq!(rt; word_of(&table[511]), 0x6002);
+    assert_equal(rt, word_of(&table[PageTableIndex::new(1)]), 0x5001);
+    assert_equal(rt, word_of(&table[511]), 0x6002);
     assert!(rt; table[2].is_unused());
     let copy = table.clone()?;
     table.zero();
     assert!(rt; table.is_empty());
-    assert_eq!(rt; word_of(&copy[511]), 0x6002);
+    assert_equal(rt, word_of(&copy[511]), 0x6002);
     let text = format!(in rt.alloc(); "{copy:?}")?;
     let expected = text_of(&copy, rt.alloc())?;
-    assert_eq!(rt; text.as_str(), expected.as_str());
+    assert_equal(rt, text.as_str(), expected.as_str());
     Ok(())
 }
 
@@ -247,16 +249,16 @@ fn entries_come_in_order(rt: HostRuntime) -> Result<(), Fail> {
         entry.set_flags(PageTableFlags::from_bits_retain(index as u64));
     }
     let mut entries = table.iter();
-    assert_eq!(rt; entries.size_hint(), (512, Some(512)));
+    assert_equal(rt, entries.size_hint(), (512, Some(512)));
     for index in 0..512 {
         let entry = entries.next().ok_or("an entry")?;
-        assert_eq!(rt; word_of(entry), index as u64);
-        assert_eq!(rt; word_of(&table[index]), index as u64);
+        assert_equal(rt, word_of(entry), index as u64);
+        assert_equal(rt, word_of(&table[index]), index as u64);
     }
-    assert_eq!(rt; entries.size_hint(), (0, Some(0)));
+    assert_equal(rt, entries.size_hint(), (0, Some(0)));
     assert!(rt; entries.next().is_none());
     assert!(rt; entries.next().is_none());
-    assert_eq!(rt; table.iter().count(), 512);
+    assert_equal(rt, table.iter().count(), 512);
     Ok(())
 }
 
@@ -264,16 +266,16 @@ fn entries_come_in_order(rt: HostRuntime) -> Result<(), Fail> {
 fn entries_are_lent_in_order(rt: HostRuntime) -> Result<(), Fail> {
     let mut table = PageTable::new();
     let mut entries = table.iter_mut();
-    assert_eq!(rt; entries.size_hint(), (512, Some(512)));
+    assert_equal(rt, entries.size_hint(), (512, Some(512)));
     for index in 0..512 {
         let entry = entries.next().ok_or("an entry")?;
         assert!(rt; entry.is_unused());
         entry.set_flags(PageTableFlags::from_bits_retain(index));
     }
-    assert_eq!(rt; entries.size_hint(), (0, Some(0)));
+    assert_equal(rt, entries.size_hint(), (0, Some(0)));
     assert!(rt; entries.next().is_none());
     assert!(rt; entries.next().is_none());
-    assert_eq!(rt; word_of(&table[0]), 0x0);
-    assert_eq!(rt; word_of(&table[511]), 0x1ff);
+    assert_equal(rt, word_of(&table[0]), 0x0);
+    assert_equal(rt, word_of(&table[511]), 0x1ff);
     Ok(())
 }

@@ -5,6 +5,7 @@ mod five_levels_recursive;
 mod places;
 mod recursive;
 
+use crate::assertions::{assert_equal, assert_equal_at, assert_equal_in};
 use crate::tables::frame_at;
 use bitflags::Flags;
 use std::alloc::Global;
@@ -91,27 +92,27 @@ fn arrival(address: u64, write: bool) -> Option<Walked> {
 
 /// Compares walks from the root in frame 0x1000, each given by the words, the address and where it arrives.
 fn check_walks(
-    rt: &impl Abort,
+    rt: impl Abort + Copy,
     alloc: Global,
     rows: &[(&[(u64, u16, u64)], u64, Option<Walked>)],
 ) -> Result<(), Fail> {
     for (words, addr, expected) in rows {
         let memory = memory_with(alloc, words)?;
-        assert_eq!(rt; walk(&memory, *addr), *expected, "at {addr:#x}");
+        assert_equal_at(rt, *addr, walk(&memory, *addr), *expected);
     }
     Ok(())
 }
 
 /// Compares whether words, of which each row has some, are a valid hierarchy below the root in frame 0x1000.
 fn check_validity(
-    rt: &impl Abort,
+    rt: impl Abort + Copy,
     alloc: Global,
     rows: &[&[(u64, u16, u64)]],
     expected: bool,
 ) -> Result<(), Fail> {
     for words in rows {
         let memory = memory_with(alloc, words)?;
-        assert_eq!(rt; is_valid(alloc, &memory)?, expected, "of {words:?}");
+        assert_equal_in(rt, words, is_valid(alloc, &memory)?, expected);
     }
     Ok(())
 }
@@ -133,7 +134,7 @@ fn walks_arrive(rt: HostRuntime) -> Result<(), Fail> {
         (&[(0x1000, 0, 0x9003)], 0, None),
         (&[], 0, None),
     ];
-    check_walks(&rt, rt.alloc(), &rows)
+    check_walks(rt, rt.alloc(), &rows)
 }
 
 #[test]
@@ -159,9 +160,9 @@ fn walks_arrive_in_huge_pages(rt: HostRuntime) -> Result<(), Fail> {
             arrival(0x4000_0001, true),
         ),
     ];
-    check_walks(&rt, rt.alloc(), &rows)?;
+    check_walks(rt, rt.alloc(), &rows)?;
     let memory = memory_of_ones(rt.alloc(), &[(0x1000, 0, 0x2003)])?;
-    assert_eq!(rt; walk(&memory, 0), arrival(0x000f_ffff_c000_0000, true));
+    assert_equal(rt, walk(&memory, 0), arrival(0x000f_ffff_c000_0000, true));
     Ok(())
 }
 
@@ -183,7 +184,7 @@ fn hierarchies_are_valid(rt: HostRuntime) -> Result<(), Fail> {
             (0x4000, 0, 0x1003),
         ],
     ];
-    check_validity(&rt, rt.alloc(), &rows, true)?;
+    check_validity(rt, rt.alloc(), &rows, true)?;
     let memory = memory_of_ones(rt.alloc(), &[(0x1000, 0, 0x2003)])?;
     assert!(rt; is_valid(rt.alloc(), &memory)?);
     Ok(())
@@ -207,7 +208,7 @@ fn hierarchies_with_a_table_met_twice_are_not_valid(rt: HostRuntime) -> Result<(
             (0x3000, 0, 0x1003),
         ],
     ];
-    check_validity(&rt, rt.alloc(), &rows, false)
+    check_validity(rt, rt.alloc(), &rows, false)
 }
 
 #[test]
@@ -219,7 +220,7 @@ fn hierarchies_with_a_word_of_no_table_are_not_valid(rt: HostRuntime) -> Result<
         &[(0x1000, 0, 0x2083)],
         &[(0x1000, 0, 0x80)],
     ];
-    check_validity(&rt, rt.alloc(), &rows, false)?;
+    check_validity(rt, rt.alloc(), &rows, false)?;
     let small = PhysMemory::new(rt.alloc(), 1)?;
     assert!(rt; !is_valid(rt.alloc(), &small)?);
     Ok(())
@@ -248,7 +249,7 @@ fn pools_fit_a_root(rt: HostRuntime) -> Result<(), Fail> {
     for (words, limit, frames, expected) in rows {
         let memory = memory_with(rt.alloc(), words)?;
         let fits = fits(rt.alloc(), &memory, limit, frames)?;
-        assert_eq!(rt; fits, expected, "{frames:?} below {limit} of {words:?}");
+        assert_equal_in(rt, (frames, limit, words), fits, expected);
     }
     let small = PhysMemory::new(rt.alloc(), 1)?;
     assert!(rt; !fits(rt.alloc(), &small, 8, &[])?);
@@ -276,7 +277,7 @@ fn pools_fit_tables(rt: HostRuntime) -> Result<(), Fail> {
     let memory = memory_with(rt.alloc(), &words)?;
     for (limit, frames, expected) in rows {
         let fits = fits(rt.alloc(), &memory, limit, frames)?;
-        assert_eq!(rt; fits, expected, "{frames:?} below {limit}");
+        assert_equal_in(rt, (frames, limit), fits, expected);
     }
     let memory = memory_of_ones(rt.alloc(), &[(0x1000, 0, 0x2003)])?;
     assert!(rt; fits(rt.alloc(), &memory, 8, &[0x3000])?);

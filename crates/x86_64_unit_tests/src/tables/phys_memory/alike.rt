@@ -7,6 +7,7 @@ ghost use Rattle.x86_64_model.specs.Window.{outside_window};
 ghost use Rattle.x86_64_tables.specs.SelfEntries.{window_at};
 
 use super::{memory_with, set_word};
+use crate::assertions::assert_equal_in;
 use crate::tables::frame_at;
 use std::alloc::Global;
 use std::test::Fail;
@@ -95,7 +96,7 @@ fn hierarchies_are_alike_but_for_writable_tables(rt: HostRuntime) -> Result<(), 
         let other = memory_of(rt.alloc(), &RECURSIVE, recursive)?;
         let shifted = ShiftMapping::new(3);
         let alike = alike_by_index(&one, &other, &shifted, frame_at(0x1000), index);
-        assert_eq!(rt; alike, expected, "of {direct:?} and {recursive:?}");
+        assert_equal_in(rt, (direct, recursive), alike, expected);
     }
     Ok(())
 }
@@ -123,7 +124,7 @@ fn hierarchies_are_alike_by_their_own_mappings(rt: HostRuntime) -> Result<(), Fa
             root,
             None,
         );
-        assert_eq!(rt; alike, expected, "from frame {first}");
+        assert_equal_in(rt, first, alike, expected);
     }
     Ok(())
 }

@@ -1,5 +1,6 @@
 //! Tests of walks, of hierarchies and of pools that fit them, where there are five levels of tables.
 use super::{arrival, is_valid, memory_with, pool_with};
+use crate::assertions::{assert_equal_at, assert_equal_in};
 use crate::tables::frame_at;
 use std::alloc::Global;
 use std::test::Fail;
@@ -52,7 +53,7 @@ fn walks_of_five_levels_arrive(rt: HostRuntime) -> Result<(), Fail> {
     ];
     for (words, addr, expected) in rows {
         let memory = memory_with(rt.alloc(), words)?;
-        assert_eq!(rt; walk_57(&memory, addr), expected, "at {addr:#x}");
+        assert_equal_at(rt, addr, walk_57(&memory, addr), expected);
     }
     Ok(())
 }
@@ -76,8 +77,8 @@ fn hierarchies_are_valid_with_as_many_levels(rt: HostRuntime) -> Result<(), Fail
     ];
     for (words, five, four) in rows {
         let memory = memory_with(rt.alloc(), words)?;
-        assert_eq!(rt; is_valid_57(rt.alloc(), &memory)?, five, "of {words:?}");
-        assert_eq!(rt; is_valid(rt.alloc(), &memory)?, four, "of {words:?}");
+        assert_equal_in(rt, words, is_valid_57(rt.alloc(), &memory)?, five);
+        assert_equal_in(rt, words, is_valid(rt.alloc(), &memory)?, four);
     }
     Ok(())
 }
@@ -103,7 +104,7 @@ fn pools_fit_tables_of_five_levels(rt: HostRuntime) -> Result<(), Fail> {
         let pool = pool_with(rt.alloc(), limit, frames)?;
         let root = frame_at(0x1000);
         let fits = pool_fits_57(rt.alloc(), &memory, &IdentityMapping, root, &pool)?;
-        assert_eq!(rt; fits, expected, "{frames:?} below {limit}");
+        assert_equal_in(rt, (frames, limit), fits, expected);
     }
     Ok(())
 }

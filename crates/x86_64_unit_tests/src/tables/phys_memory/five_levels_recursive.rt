@@ -9,6 +9,7 @@ ghost use Rattle.x86_64_tables.specs.SelfEntries.{window_at};
 use super::alike::memory_of;
 use super::recursive::address_of;
 use super::{memory_with, pool_with};
+use crate::assertions::assert_equal_in;
 use crate::tables::frame_at;
 use std::test::Fail;
 use x86_64_addr::addr::{PhysAddr, VirtAddr57};
@@ -67,7 +68,7 @@ fn tables_of_five_levels_are_lent_where_walks_arrive(rt: HostRuntime) -> Result<
         let mut memory = memory_of(rt.alloc(), &RECURSIVE, &OWN_ADDRESSES)?;
         let mut active = ActiveMemory57::new(&mut memory, frame_at(0x1000));
         let addr = VirtAddr57::new_truncate(addr);
-        assert_eq!(rt; address_of(active.table(addr)), expected, "at {addr:?}");
+        assert_equal_in(rt, addr, address_of(active.table(addr)), expected);
         if let Some(table) = active.table_mut(addr) {
             table[7].set_addr(PhysAddr::new(0x7000), PageTableFlags::WRITABLE);
         }
@@ -75,7 +76,7 @@ fn tables_of_five_levels_are_lent_where_walks_arrive(rt: HostRuntime) -> Result<
         for number in 0..8 {
             let table = memory.table(FramePlace::new(number)).ok_or("a place")?;
             let is_changed = expected == Some(number * 0x1000);
-            assert_eq!(rt; !table[7].is_unused(), is_changed, "{number} at {addr:?}");
+            assert_equal_in(rt, (number, addr), !table[7].is_unused(), is_changed);
         }
     }
     Ok(())
@@ -105,7 +106,7 @@ fn hierarchies_of_five_levels_are_valid_for_an_index(rt: HostRuntime) -> Result<
     for (words, expected) in rows {
         let memory = memory_with(rt.alloc(), words)?;
         let is_valid = is_valid_recursive_57(rt.alloc(), &memory, frame_at(0x1000), index)?;
-        assert_eq!(rt; is_valid, expected, "of {words:?}");
+        assert_equal_in(rt, words, is_valid, expected);
     }
     let small = PhysMemory::new(rt.alloc(), 1)?;
     assert!(rt; !is_valid_recursive_57(rt.alloc(), &small, frame_at(0x1000), index)?);
@@ -132,9 +133,9 @@ fn hierarchies_are_valid_for_an_index_with_as_many_levels(rt: HostRuntime) -> Re
     for (more, five, four) in rows {
         let memory = memory_of(rt.alloc(), &RECURSIVE, more)?;
         let is_valid = is_valid_recursive_57(rt.alloc(), &memory, root, index)?;
-        assert_eq!(rt; is_valid, five, "of {more:?}");
+        assert_equal_in(rt, more, is_valid, five);
         let is_valid = is_valid_recursive(rt.alloc(), &memory, root, index)?;
-        assert_eq!(rt; is_valid, four, "of {more:?} with four levels");
+        assert_equal_in(rt, more, is_valid, four);
     }
     Ok(())
 }
@@ -157,7 +158,7 @@ fn pools_fit_tables_of_five_levels_for_an_index(rt: HostRuntime) -> Result<(), F
         let pool = pool_with(rt.alloc(), limit, frames)?;
         let root = frame_at(0x1000);
         let fits = pool_fits_recursive_57(rt.alloc(), &memory, root, index, &pool)?;
-        assert_eq!(rt; fits, expected, "{frames:?} below {limit} for {index:?}");
+        assert_equal_in(rt, (frames, limit, index), fits, expected);
     }
     Ok(())
 }
@@ -209,7 +210,7 @@ fn hierarchies_of_five_levels_are_alike_but_for_writable_tables(
         let other = memory_of(rt.alloc(), &RECURSIVE, recursive)?;
         let shifted = ShiftMapping::new(3);
         let alike = alike_by_index(&one, &other, &shifted, frame_at(0x1000), index);
-        assert_eq!(rt; alike, expected, "of {direct:?} and {recursive:?}");
+        assert_equal_in(rt, (direct, recursive), alike, expected);
     }
     Ok(())
 }

@@ -1,5 +1,6 @@
 //! Tests of memories with gaps between their places.
 use super::{fits, is_valid, set_word, walk};
+use crate::assertions::{assert_equal, assert_equal_at, assert_equal_in};
 use std::alloc::{AllocError, Global};
 use std::process::Abort;
 use std::test::Fail;
@@ -14,20 +15,20 @@ fn memory_at(alloc: Global, places: &[u64]) -> Result<PhysMemory, Fail> {
 
 /// Compares the places of a memory with numbers, and whether it has a table of unused entries at each, and none at the others.
 fn check_places(
-    rt: &impl Abort,
+    rt: impl Abort + Copy,
     memory: &PhysMemory,
     places: &[u64],
     others: &[u64],
 ) -> Result<(), Fail> {
-    assert_eq!(rt; memory.len(), places.len());
+    assert_equal(rt, memory.len(), places.len());
     for i in 0..places.len() {
         let number = places[i];
         let place = memory.place_at(i).ok_or("a place in the order")?;
-        assert_eq!(rt; place.number(), number);
+        assert_equal(rt, place.number(), number);
         let table = memory.table(place).ok_or("a place")?;
         assert!(rt; table.is_empty(), "at {number:#x}");
     }
-    assert_eq!(rt; memory.place_at(places.len()), None);
+    assert_equal(rt, memory.place_at(places.len()), None);
     for number in others {
         let table = memory.table(FramePlace::new(*number));
         assert!(rt; table.is_none(), "at {number:#x}");
@@ -47,16 +48,12 @@ fn places_rise(rt: HostRuntime) -> Result<(), Fail> {
     ];
     for places in rows {
         let refusal = PhysMemory::with_places(rt.alloc(), places).err();
-        assert_eq!(rt;
-            refusal,
-            Some(PlacesRefusal::NotIncreasing),
-            "of {places:?}"
-        );
+        assert_equal_in(rt, places, refusal, Some(PlacesRefusal::NotIncreasing));
     }
     let refusal = PlacesRefusal::from(AllocError);
-    assert_eq!(rt; refusal, PlacesRefusal::Alloc(AllocError));
+    assert_equal(rt, refusal, PlacesRefusal::Alloc(AllocError));
     let text = format!(in rt.alloc(); "{:?} {refusal:?}", PlacesRefusal::NotIncreasing)?;
-    assert_eq!(rt; text.as_str(), "NotIncreasing Alloc(AllocError)");
+    assert_equal(rt, text.as_str(), "NotIncreasing Alloc(AllocError)");
     Ok(())
 }
 
@@ -78,10 +75,10 @@ fn memory_has_the_places_of_a_list(rt: HostRuntime) -> Result<(), Fail> {
     ];
     for (places, others) in rows {
         let memory = memory_at(rt.alloc(), places)?;
-        check_places(&rt, &memory, places, others)?;
+        check_places(rt, &memory, places, others)?;
     }
     let memory = PhysMemory::new(rt.alloc(), 3)?;
-    check_places(&rt, &memory, &[0, 1, 2], &[3, u64::MAX])?;
+    check_places(rt, &memory, &[0, 1, 2], &[3, u64::MAX])?;
     let empty = memory_at(rt.alloc(), &[])?;
     assert!(rt; !is_valid(rt.alloc(), &empty)?);
     Ok(())
@@ -101,14 +98,14 @@ fn a_million_places_with_gaps_must_rise(rt: HostRuntime) -> Result<(), Fail> {
     let mut places = places_with_gaps(rt.alloc(), 1, 1_000_000)?;
     places.push(0)?;
     let refusal = PhysMemory::with_places(rt.alloc(), &places).err();
-    assert_eq!(rt; refusal, Some(PlacesRefusal::NotIncreasing));
+    assert_equal(rt, refusal, Some(PlacesRefusal::NotIncreasing));
     Ok(())
 }
 
 #[test]
 fn ten_thousand_places_have_gaps(rt: HostRuntime) -> Result<(), Fail> {
     let memory = memory_at(rt.alloc(), &places_with_gaps(rt.alloc(), 1, 10_000)?)?;
-    assert_eq!(rt; memory.len(), 10_000);
+    assert_equal(rt, memory.len(), 10_000);
     for k in [0, 1, 5000, 9999] {
         let number = 1_u64.wrapping_add(2_u64.wrapping_mul(k));
         assert!(rt; memory.table(FramePlace::new(number)).is_some());
@@ -132,7 +129,7 @@ fn tables_lie_between_gaps(rt: HostRuntime) -> Result<(), Fail> {
         let places = places_with_gaps(rt.alloc(), first, 1000)?;
         let gaps = places_with_gaps(rt.alloc(), 1_u64.wrapping_sub(first), 1000)?;
         let memory = memory_at(rt.alloc(), &places)?;
-        check_places(&rt, &memory, &places, &gaps)?;
+        check_places(rt, &memory, &places, &gaps)?;
     }
     Ok(())
 }
@@ -145,7 +142,7 @@ fn tables_change_at_places_after_gaps(rt: HostRuntime) -> Result<(), Fail> {
         set_word(&mut memory, changed * 0x1000, 5, 0x2003)?;
         for number in places {
             let table = memory.table(FramePlace::new(number)).ok_or("a place")?;
-            assert_eq!(rt; table.is_empty(), number != changed, "at {number:#x}");
+            assert_equal_at(rt, number, table.is_empty(), number != changed);
         }
         assert!(rt; memory.table_mut(FramePlace::new(3)).is_none());
     }
@@ -160,7 +157,7 @@ fn hierarchies_are_valid_after_gaps(rt: HostRuntime) -> Result<(), Fail> {
     set_word(&mut memory, 0x8000_0000, 1, 0x40_0083)?;
     assert!(rt; is_valid(rt.alloc(), &memory)?);
     let walked = walk(&memory, 0x23_4567).ok_or("an arrival")?;
-    assert_eq!(rt; walked.address, PhysAddr::new(0x43_4567));
+    assert_equal(rt, walked.address, PhysAddr::new(0x43_4567));
     set_word(&mut memory, 0x8000_0000, 0, 0x2003)?;
     assert!(rt; !is_valid(rt.alloc(), &memory)?);
     Ok(())
@@ -179,7 +176,7 @@ fn pools_fit_after_gaps(rt: HostRuntime) -> Result<(), Fail> {
     ];
     for (limit, frames, expected) in rows {
         let fits = fits(rt.alloc(), &memory, limit, frames)?;
-        assert_eq!(rt; fits, expected, "{frames:?} below {limit:#x}");
+        assert_equal_in(rt, (frames, limit), fits, expected);
     }
     Ok(())
 }

@@ -1,5 +1,6 @@
 //! Tests of tables that are reached through themselves, and of hierarchies with a recursive index.
 use super::{memory_with, pool_with};
+use crate::assertions::{assert_equal, assert_equal_in};
 use crate::tables::frame_at;
 use std::alloc::Global;
 use std::test::Fail;
@@ -59,9 +60,9 @@ fn roots_have_self_entries(rt: HostRuntime) -> Result<(), Fail> {
     for (frame, index, word, cr3, expected) in rows {
         let mut memory = memory_with(rt.alloc(), &[(frame, index, word)])?;
         let active = ActiveMemory::new(&mut memory, frame_at(cr3));
-        assert_eq!(rt; active.cr3(), frame_at(cr3));
+        assert_equal(rt, active.cr3(), frame_at(cr3));
         let found = active.self_entry(PageTableIndex::new(510));
-        assert_eq!(rt; found, expected, "of {word:#x} at {index} from {cr3:#x}");
+        assert_equal_in(rt, (word, index, cr3), found, expected);
     }
     Ok(())
 }
@@ -87,7 +88,7 @@ fn tables_are_lent_where_walks_arrive(rt: HostRuntime) -> Result<(), Fail> {
         let mut memory = memory_with_windows(rt.alloc())?;
         let mut active = ActiveMemory::new(&mut memory, frame_at(0x1000));
         let addr = VirtAddr::new_truncate(addr);
-        assert_eq!(rt; address_of(active.table(addr)), expected, "at {addr:?}");
+        assert_equal_in(rt, addr, address_of(active.table(addr)), expected);
         if let Some(table) = active.table_mut(addr) {
             table[7].set_addr(PhysAddr::new(0x7000), PageTableFlags::WRITABLE);
         }
@@ -95,7 +96,7 @@ fn tables_are_lent_where_walks_arrive(rt: HostRuntime) -> Result<(), Fail> {
         for number in 0..8 {
             let table = memory.table(FramePlace::new(number)).ok_or("a place")?;
             let is_changed = expected == Some(number * 0x1000);
-            assert_eq!(rt; !table[7].is_unused(), is_changed, "{number} at {addr:?}");
+            assert_equal_in(rt, (number, addr), !table[7].is_unused(), is_changed);
         }
     }
     Ok(())
@@ -107,14 +108,14 @@ fn walks_go_through_the_words_of_the_moment(rt: HostRuntime) -> Result<(), Fail>
     let mut active = ActiveMemory::new(&mut memory, frame_at(0x1000));
     let root = VirtAddr::new(ROOT_WINDOW);
     let window = VirtAddr::new(0xffff_ff7f_bfc0_1000);
-    assert_eq!(rt; address_of(active.table(window)), None);
+    assert_equal(rt, address_of(active.table(window)), None);
     let table = active.table_mut(root).ok_or("the root")?;
     table[1].set_addr(PhysAddr::new(0x6000), PageTableFlags::PRESENT);
-    assert_eq!(rt; address_of(active.table(window)), Some(0x6000));
+    assert_equal(rt, address_of(active.table(window)), Some(0x6000));
     let table = active.table_mut(root).ok_or("the root")?;
     table[510].set_unused();
-    assert_eq!(rt; address_of(active.table(root)), None);
-    assert_eq!(rt; address_of(active.table(window)), None);
+    assert_equal(rt, address_of(active.table(root)), None);
+    assert_equal(rt, address_of(active.table(window)), None);
     assert!(rt; !active.self_entry(PageTableIndex::new(510)));
     Ok(())
 }
@@ -153,7 +154,7 @@ fn hierarchies_are_valid_for_an_index(rt: HostRuntime) -> Result<(), Fail> {
     for (words, expected) in rows {
         let memory = memory_with(rt.alloc(), words)?;
         let is_valid = is_valid_recursive(rt.alloc(), &memory, frame_at(0x1000), index)?;
-        assert_eq!(rt; is_valid, expected, "of {words:?}");
+        assert_equal_in(rt, words, is_valid, expected);
     }
     let small = PhysMemory::new(rt.alloc(), 1)?;
     assert!(rt; !is_valid_recursive(rt.alloc(), &small, frame_at(0x1000), index)?);
@@ -182,7 +183,7 @@ fn pools_fit_for_an_index(rt: HostRuntime) -> Result<(), Fail> {
         let index = PageTableIndex::new_truncate(index);
         let pool = pool_with(rt.alloc(), limit, frames)?;
         let fits = pool_fits_recursive(rt.alloc(), &memory, frame_at(0x1000), index, &pool)?;
-        assert_eq!(rt; fits, expected, "{frames:?} below {limit} for {index:?}");
+        assert_equal_in(rt, (frames, limit, index), fits, expected);
     }
     Ok(())
 }

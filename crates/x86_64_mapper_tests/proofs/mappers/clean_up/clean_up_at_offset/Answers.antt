@@ -1,0 +1,15 @@
+use Rattle.std.proofs.Common.{rules, ◌≡◌, true, sym, subst₂}
+use Rattle.x86_64_model.proofs.Lemmas.Machines.Fitting.{may_clean_up}
+use Rattle.x86_64_model.specs.Layout.{Layout, words, paths}
+use Rattle.x86_64_model.specs.Marks.{serves_below}
+use Rattle.x86_64_model.specs.Pool.{Fits}
+use Rattle.x86_64_mapper_tests.proofs.mappers.clean_up.clean_up_at_offset.Goals as goal
+
+pub clean_up_by-requires : goal.clean_up_by-requires
+clean_up_by-requires g c =
+    let pool = c.args.pool.now in
+    let holds : c.in_ok-pool_fits.field-0 ≡ true = search rules in
+    let fits = c.offset_has_the_tables_of_the_identity.ensures.fits c.small-root.result (serves_below pool.limit) pool.frames in
+    may_clean_up _ (serves_below pool.limit) pool.frames
+    (subst₂ (λ (l : Layout) m. Fits l.levels l.window (words l m) l.root (paths l m) (serves_below pool.limit) pool.frames)
+    (sym c.new-mapper.ensures.layout) (sym c.new-mapper.ensures.memory) (fits.0 (c.in_ok-pool_fits.ensures.0 holds)))

@@ -1,0 +1,12 @@
+//! Tests of the public calls of mappers, of lists of calls and of the loader, one module a crate. They stand here and not in the
+//! crates, so that each crate is proved once.
+#![tactic(auto)]
+
+#[cfg(test)]
+mod assertions;
+#[cfg(test)]
+mod loader;
+#[cfg(test)]
+mod mappers;
+#[cfg(test)]
+mod runs;

@@ -1,0 +1,201 @@
+//! Loads of small programs into empty hierarchies.
+use crate::assertions::{assert_equal, assert_equal_at};
+use bitflags::Flags;
+use std::alloc::Global;
+use std::process::Abort;
+use std::test::Fail;
+use x86_64::structures::paging::mapper::MapToError;
+use x86_64::structures::paging::{MappedPageTable, Page, PageTableFlags, PhysFrame, Size4KiB};
+use x86_64::{
+    FramePool, IdentityMapping, PhysAddr, PhysMemory, VirtAddr, Walked, page_walk, pool_fits,
+};
+use x86_64_loader::{LoadError, Segment, load, load_large, segments_allowed};
+
+/// The number of places, and the limit of pools.
+const PLACES: u64 = 0x20;
+
+/// Gives the flags of pages that a user reads.
+fn read() -> PageTableFlags {
+    PageTableFlags::PRESENT.union(PageTableFlags::USER_ACCESSIBLE)
+}
+
+/// Gives the flags of pages that a user reads and writes.
+fn write() -> PageTableFlags {
+    read()
+        .union(PageTableFlags::WRITABLE)
+        .union(PageTableFlags::NO_EXECUTE)
+}
+
+/// Gives the frame that contains an address.
+fn frame(address: u64) -> PhysFrame<Size4KiB> {
+    PhysFrame::containing_address(PhysAddr::new_truncate(address))
+}
+
+/// Gives the page that contains an address.
+fn page(address: u64) -> Page<Size4KiB> {
+    Page::containing_address(VirtAddr::new_truncate(address))
+}
+
+/// Gives a segment by the addresses of its first page and frame.
+fn segment(start: u64, to: u64, pages: u64, flags: PageTableFlags) -> Segment {
+    Segment {
+        page: page(start),
+        frame: frame(to),
+        pages,
+        flags,
+    }
+}
+
+/// Says by which call a program is loaded.
+#[derive(Clone, Copy)]
+enum Way {
+    Small,
+    Large,
+}
+
+/// Holds an empty hierarchy, whose pool has all frames from 0x2000 on.
+#[derive(Drop)]
+struct Machine {
+    memory: PhysMemory,
+    pool: FramePool,
+}
+
+impl Machine {
+    fn new(alloc: Global) -> Result<Machine, Fail> {
+        let memory = PhysMemory::new(alloc, PLACES)?;
+        let mut pool = FramePool::new(alloc, PLACES)?;
+        for number in 2..PLACES {
+            pool.try_add(frame(number * 0x1000)).or(Err("a frame"))?;
+        }
+        Ok(Machine { memory, pool })
+    }
+
+    /// Loads a program, or answers `None` where it isn't allowed.
+    fn load(
+        &mut self,
+        alloc: Global,
+        way: Way,
+        segments: &[Segment],
+    ) -> Result<Option<Result<(), LoadError>>, Fail> {
+        let (memory, pool) = (&mut self.memory, &mut self.pool);
+        let root = frame(0x1000);
+        if !pool_fits(alloc, memory, &IdentityMapping, root, pool)? {
+            return Err("the pool doesn't fit".into());
+        }
+        let mut mapper = MappedPageTable::new(memory, root, IdentityMapping);
+        if !segments_allowed(&mapper, segments) {
+            return Ok(None);
+        }
+        Ok(Some(match way {
+            Way::Small => load(&mut mapper, pool, segments),
+            Way::Large => load_large(&mut mapper, pool, segments),
+        }))
+    }
+
+    /// Says where the processor arrives from an address, and whether it may write and a user may use it.
+    fn walk(&self, address: u64) -> Option<(u64, bool, bool)> {
+        let address = VirtAddr::new_truncate(address);
+        let walked = page_walk(&self.memory, &IdentityMapping, frame(0x1000), address)?;
+        let Walked {
+            address,
+            write,
+            user,
+        } = walked;
+        Some((address.as_u64(), write, user))
+    }
+}
+
+/// Makes a program: 3 pages to read, 517 to write from below one border of 2MiB to above the next, and a page of the kernel.
+fn program() -> [Segment; 3] {
+    [
+        segment(0x40_0000, 0x80_0000, 3, read()),
+        segment(0x5f_e000, 0x9f_e000, 0x205, write()),
+        segment(0xffff_8000_0000_0000, 0x5000, 1, PageTableFlags::PRESENT),
+    ]
+}
+
+/// Where the processor arrives once the program is loaded.
+const WALKS: [(u64, Option<(u64, bool, bool)>); 8] = [
+    (0x3f_ffff, None),
+    (0x40_0000, Some((0x80_0000, false, true))),
+    (0x40_2fff, Some((0x80_2fff, false, true))),
+    (0x40_3000, None),
+    (0x5f_e123, Some((0x9f_e123, true, true))),
+    (0x7f_fabc, Some((0xbf_fabc, true, true))),
+    (0x80_2fff, Some((0xc0_2fff, true, true))),
+    (0xffff_8000_0000_0fff, Some((0x5fff, false, false))),
+];
+
+/// Loads the program in one way, and compares where the processor arrives, and how many frames are left. Of 30 frames the
+/// tables take eight, of which one is for pages of 4KiB where one of 2MiB fits.
+fn check_program(rt: impl Abort + Copy, alloc: Global, way: Way, left: usize) -> Result<(), Fail> {
+    let mut machine = Machine::new(alloc)?;
+    let loaded = machine.load(alloc, way, &program())?;
+    assert_equal(rt, loaded, Some(Ok(())));
+    for (address, wanted) in WALKS {
+        assert_equal_at(rt, address, machine.walk(address), wanted);
+    }
+    assert_equal(rt, machine.pool.len(), left);
+    Ok(())
+}
+
+#[test]
+fn programs_are_loaded_by_pages_of_4kib(rt: HostRuntime) -> Result<(), Fail> {
+    check_program(rt, rt.alloc(), Way::Small, 22)
+}
+
+#[test]
+fn programs_are_loaded_by_pages_of_2mib_where_they_fit(rt: HostRuntime) -> Result<(), Fail> {
+    check_program(rt, rt.alloc(), Way::Large, 23)
+}
+
+#[test]
+fn segments_that_overlap_are_refused(rt: HostRuntime) -> Result<(), Fail> {
+    let segments = [
+        segment(0x40_0000, 0x80_0000, 4, read()),
+        segment(0x3f_e000, 0x9f_e000, 3, write()),
+    ];
+    let wanted = LoadError {
+        segment: 1,
+        page: page(0x40_0000),
+        mapped: 2,
+        why: MapToError::PageAlreadyMapped(frame(0xa0_0000)),
+    };
+    for way in [Way::Small, Way::Large] {
+        let mut machine = Machine::new(rt.alloc())?;
+        assert_equal(
+            rt,
+            machine.load(rt.alloc(), way, &segments)?,
+            Some(Err(wanted)),
+        );
+        assert_equal(rt, machine.walk(0x40_0000), Some((0x80_0000, false, true)));
+        assert_equal(rt, machine.walk(0x3f_ffff), Some((0x9f_ffff, true, true)));
+    }
+    Ok(())
+}
+
+/// Finds that a segment isn't allowed.
+fn check_refused(rt: impl Abort + Copy, alloc: Global, segment: Segment) -> Result<(), Fail> {
+    let mut machine = Machine::new(alloc)?;
+    let loaded = machine.load(alloc, Way::Small, &[segment])?;
+    assert_equal(rt, loaded, None);
+    Ok(())
+}
+
+#[test]
+fn segments_are_allowed_as_their_pages_are(rt: HostRuntime) -> Result<(), Fail> {
+    let (page, frame) = (0x40_0000, 0x80_0000);
+    let huge = read().union(PageTableFlags::HUGE_PAGE);
+    check_refused(
+        rt,
+        rt.alloc(),
+        segment(page, frame, 1, PageTableFlags::WRITABLE),
+    )?;
+    check_refused(rt, rt.alloc(), segment(page, frame, 1, huge))?;
+    check_refused(
+        rt,
+        rt.alloc(),
+        segment(0xffff_ffff_ffff_f000, frame, 2, read()),
+    )?;
+    check_refused(rt, rt.alloc(), segment(page, 0xf_ffff_ffff_f000, 2, read()))
+}

@@ -1,0 +1,64 @@
+//! Windows of pages through the recursive index 510, and their walks.
+use super::unmap::page;
+use super::{image, small};
+use crate::assertions::assert_equal;
+use std::test::Fail;
+use x86_64_addr::index::PageTableIndex;
+use x86_64_mappers::recursive_page_table::{p1_window, p2_window, p3_window};
+use x86_64_page::page::{Page, Size1GiB, Size2MiB, Size4KiB};
+use x86_64_tables::phys_memory::{IdentityMapping, page_walk};
+
+#[test]
+fn windows_of_small_pages(rt: HostRuntime) -> Result<(), Fail> {
+    let index = PageTableIndex::new(510);
+    let first = page::<Size4KiB>(0);
+    assert_equal(rt, p3_window(first, index), page(0xffff_ff7f_bfc0_0000));
+    assert_equal(rt, p2_window(first, index), page(0xffff_ff7f_8000_0000));
+    assert_equal(rt, p1_window(first, index), page(0xffff_ff00_0000_0000));
+    let second = page::<Size4KiB>(0x4000_0000);
+    assert_equal(rt, p2_window(second, index), page(0xffff_ff7f_8000_1000));
+    assert_equal(rt, p1_window(second, index), page(0xffff_ff00_0020_0000));
+    Ok(())
+}
+
+#[test]
+fn windows_of_large_pages(rt: HostRuntime) -> Result<(), Fail> {
+    let index = PageTableIndex::new(510);
+    let giant = page::<Size1GiB>(0x4000_0000);
+    assert_equal(rt, p3_window(giant, index), page(0xffff_ff7f_bfc0_0000));
+    let large = page::<Size2MiB>(0x4000_0000);
+    assert_equal(rt, p3_window(large, index), page(0xffff_ff7f_bfc0_0000));
+    assert_equal(rt, p2_window(large, index), page(0xffff_ff7f_8000_1000));
+    Ok(())
+}
+
+#[test]
+fn windows_are_walked_to_their_tables(rt: HostRuntime) -> Result<(), Fail> {
+    let words = [
+        (1, 510, 0x1003),
+        (1, 0, 0x2003),
+        (2, 0, 0x3003),
+        (3, 0, 0x4003),
+        (4, 0, 0x1fff),
+        (4, 510, 0x80),
+    ];
+    let memory = image(rt.alloc(), &words)?;
+    let index = PageTableIndex::new(510);
+    let page: Page<Size4KiB> = page(0x1000);
+    let rows = [
+        (p3_window(page, index), 0x2000),
+        (p2_window(page, index), 0x3000),
+        (p1_window(page, index), 0x4000),
+    ];
+    for (window, table) in rows {
+        let walked = page_walk(
+            &memory,
+            &IdentityMapping,
+            small(0x1000),
+            window.start_address(),
+        );
+        let walked = walked.ok_or("no table")?;
+        assert_equal(rt, walked.address.as_u64(), table);
+    }
+    Ok(())
+}

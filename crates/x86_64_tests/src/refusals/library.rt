@@ -1,0 +1,249 @@
+//! Calls of the library that take memory.
+ghost use Rattle.x86_64_model.specs.Marks.{serves_below};
+ghost use Rattle.x86_64_model.specs.Memory.{identity_places};
+ghost use Rattle.x86_64_mappers.specs.Layouts.{direct};
+ghost use Rattle.x86_64.specs.Runs.{FitsPool};
+
+use super::hoard::{answer_at_last, answer_past};
+use crate::assertions::assert_equal;
+use crate::images::{ROOT, frame_at, page_at, pool_of, run_flushed_on, run_on, set_word};
+use std::alloc::{AllocError, Global};
+use std::process::Abort;
+use std::test::Fail;
+use x86_64::structures::paging::{MappedPageTable, PageTableFlags, PageTableIndex};
+use x86_64::{
+    Call, FlushItem, FlushRecorder, FramePlace, FramePool, IdentityMapping, PhysMemory,
+    PlacesRefusal, Reply, SizeCall, SizeReply, VirtAddr, is_valid_hierarchy, is_valid_recursive,
+    pool_fits, pool_fits_recursive,
+};
+
+/// The addresses of the frames that are free at first.
+pub const FREE: [u64; 3] = [0x2000, 0x3000, 0x4000];
+
+/// A reply from before a list.
+const EARLIER: Reply = Reply::NotAllowed;
+
+/// Places of a memory that has gaps.
+const PLACES: [u64; 16] = [
+    1, 2, 3, 5, 8, 13, 21, 34, 55, 89, 144, 233, 377, 610, 987, 0x8_0000,
+];
+
+/// Room for no growth of a memory of sixteen places, and for the first: that of their numbers.
+const MEMORY_ROOMS: [&[usize]; 2] = [&[], &[16 * 8]];
+
+#[test]
+fn memories_are_made_once_there_is_room(rt: HostRuntime) -> Result<(), Fail> {
+    let alloc = rt.alloc();
+    assert_equal(rt, PhysMemory::new(alloc, u64::MAX).err(), Some(AllocError));
+    for room in MEMORY_ROOMS {
+        let memory = answer_past(rt, alloc, room, || PhysMemory::new(alloc, 16))?;
+        assert_equal(rt, memory.len(), 16);
+    }
+    Ok(())
+}
+
+#[test]
+fn memories_with_gaps_are_made_once_there_is_room(rt: HostRuntime) -> Result<(), Fail> {
+    let alloc = rt.alloc();
+    let mut is_want = true;
+    for room in MEMORY_ROOMS {
+        let memory = answer_past(rt, alloc, room, || {
+            PhysMemory::with_places(alloc, &PLACES).map_err(|refusal| {
+                is_want = is_want && refusal == PlacesRefusal::Alloc(AllocError);
+                AllocError
+            })
+        })?;
+        assert_equal(rt, memory.len(), 16);
+    }
+    assert!(rt; is_want);
+    Ok(())
+}
+
+/// Room for no growth of a pool that serves frames with numbers below 4096, and for the first: that of the free frames.
+const POOL_ROOMS: [&[usize]; 2] = [&[], &[4096 * 8]];
+
+#[test]
+fn pools_are_made_once_there_is_room(rt: HostRuntime) -> Result<(), Fail> {
+    let alloc = rt.alloc();
+    assert_equal(rt, FramePool::new(alloc, u64::MAX).err(), Some(AllocError));
+    for room in POOL_ROOMS {
+        let mut pool = answer_past(rt, alloc, room, || FramePool::new(alloc, 4096))?;
+        assert_equal(rt, pool.try_add(frame_at(0xfff_000)), Ok(()));
+    }
+    Ok(())
+}
+
+#[test]
+fn hierarchies_and_pools_are_tested_once_there_is_room(rt: HostRuntime) -> Result<(), Fail> {
+    let alloc = rt.alloc();
+    let root = frame_at(ROOT);
+    let mut memory = PhysMemory::new(alloc, 4096)?;
+    let pool = pool_of(alloc, 4096, &FREE)?;
+    let is_valid = answer_at_last(rt, alloc, || {
+        is_valid_hierarchy(alloc, &memory, &IdentityMapping, root)
+    })?;
+    assert!(rt; is_valid);
+    let fits = answer_at_last(rt, alloc, || {
+        pool_fits(alloc, &memory, &IdentityMapping, root, &pool)
+    })?;
+    assert!(rt; fits);
+    assert!(rt; is_valid_hierarchy(alloc, &memory, &IdentityMapping, root)?);
+    let mapper = MappedPageTable::new(&mut memory, root, IdentityMapping);
+    assert!(rt; answer_at_last(rt, alloc, || mapper.is_valid(alloc))?);
+    Ok(())
+}
+
+#[test]
+fn recursive_hierarchies_are_tested_once_there_is_room(rt: HostRuntime) -> Result<(), Fail> {
+    let alloc = rt.alloc();
+    let (root, index) = (frame_at(ROOT), PageTableIndex::new(510));
+    let mut memory = PhysMemory::new(alloc, 4096)?;
+    set_word(&mut memory, ROOT, 510, 0x1003)?;
+    let pool = pool_of(alloc, 4096, &FREE)?;
+    let is_valid = answer_at_last(rt, alloc, || {
+        is_valid_recursive(alloc, &memory, root, index)
+    })?;
+    assert!(rt; is_valid);
+    let fits = answer_at_last(rt, alloc, || {
+        pool_fits_recursive(alloc, &memory, root, index, &pool)
+    })?;
+    assert!(rt; fits);
+    Ok(())
+}
+
+/// Gives how many entries of a memory of five places are used.
+pub fn used_entries(memory: &PhysMemory) -> usize {
+    let mut count: usize = 0;
+    for place in 0..5 {
+        if let Some(table) = memory.table(FramePlace::new(place)) {
+            let used = table.iter().filter(|entry| !entry.is_unused()).count();
+            count = count.saturating_add(used);
+        }
+    }
+    count
+}
+
+/// Tells whether a pool has the frames that are free at first.
+pub fn is_full(pool: &FramePool) -> bool {
+    let is_free = (0..3).all(|n| pool.frame_at(n) == FREE.get(n).map(|frame| frame_at(*frame)));
+    is_free && pool.len() == 3
+}
+
+/// Tells whether the memory has unused entries alone, the pool has the frames that are free at first, and the replies are
+/// the earlier one.
+fn is_untouched(memory: &PhysMemory, pool: &FramePool, replies: &[Reply]) -> bool {
+    used_entries(memory) == 0 && is_full(pool) && replies == [EARLIER].as_slice()
+}
+
+/// How many calls a list has, so many that room for as many replies or items takes a block of its own.
+const CALL_COUNT: usize = 4096;
+
+/// Makes a call that maps a page, which is done the first time alone.
+pub fn map_of_a_page() -> Call {
+    Call::Of4KiB(SizeCall::MapTo {
+        page: page_at(0x1000),
+        frame: frame_at(0x5000),
+        flags: PageTableFlags::PRESENT,
+    })
+}
+
+/// Answers a list whose flushes are recorded once there is room, where so many replies and so many items have room from the start,
+/// and compares that nothing changed before.
+fn record_at_last(
+    rt: impl Abort + Copy,
+    alloc: Global,
+    reply_room: usize,
+    item_room: usize,
+) -> Result<(), Fail> {
+    let root = frame_at(ROOT);
+    let mut memory = PhysMemory::new(alloc, 5)?;
+    let mut pool = pool_of(alloc, 5, &FREE)?;
+    let calls = vec![in alloc; map_of_a_page(); CALL_COUNT]?;
+    let mut replies = vec![in alloc; EARLIER]?;
+    replies.reserve(reply_room)?;
+    let mut recorder = FlushRecorder::new(alloc);
+    recorder.reserve(item_room)?;
+    let mut is_kept = true;
+    assert!(rt; pool_fits(alloc, &memory, &IdentityMapping, root, &pool)?);
+    answer_at_last(
+        rt,
+        alloc,
+        ||
+            requires { FitsPool (direct identity_places root) memory (serves_below pool.limit) pool.frames }
+            ensures { let serves = serves_below pool.exit.limit in
+                FitsPool (direct identity_places root) memory.exit serves pool.exit.frames }
+        {
+            let answer = run_flushed_on(
+                &mut memory,
+                root,
+                &mut pool,
+                &calls,
+                &mut replies,
+                &mut recorder,
+            );
+            if answer.is_err() {
+                is_kept = is_kept
+                    && is_untouched(&memory, &pool, &replies)
+                    && recorder.items().is_empty();
+            }
+            answer
+        },
+    )?;
+    assert!(rt; is_kept);
+    assert_equal(rt, replies.len(), CALL_COUNT + 1);
+    let item = FlushItem::Page {
+        start: VirtAddr::new(0x1000),
+        size: 4096,
+    };
+    assert_equal(rt, recorder.items(), [item].as_slice());
+    Ok(())
+}
+
+#[test]
+fn recorded_lists_change_nothing_until_there_is_room(rt: HostRuntime) -> Result<(), Fail> {
+    record_at_last(rt, rt.alloc(), 0, 0)?;
+    record_at_last(rt, rt.alloc(), CALL_COUNT, 0)?;
+    record_at_last(rt, rt.alloc(), 0, CALL_COUNT)
+}
+
+#[test]
+fn lists_change_nothing_until_there_is_room(rt: HostRuntime) -> Result<(), Fail> {
+    let alloc = rt.alloc();
+    let root = frame_at(ROOT);
+    let mut memory = PhysMemory::new(alloc, 5)?;
+    let mut pool = pool_of(alloc, 5, &FREE)?;
+    let page = page_at(0x1000);
+    let call = Call::Of4KiB(SizeCall::MapTo {
+        page,
+        frame: frame_at(0x5000),
+        flags: PageTableFlags::PRESENT,
+    });
+    let calls = vec![in alloc; call; CALL_COUNT]?;
+    let mut replies = vec![in alloc; EARLIER]?;
+    let mut is_kept = true;
+    assert!(rt; pool_fits(alloc, &memory, &IdentityMapping, root, &pool)?);
+    answer_at_last(
+        rt,
+        alloc,
+        ||
+            requires { FitsPool (direct identity_places root) memory (serves_below pool.limit) pool.frames }
+            ensures { let serves = serves_below pool.exit.limit in
+                FitsPool (direct identity_places root) memory.exit serves pool.exit.frames }
+        {
+            let answer = run_on(&mut memory, root, &mut pool, &calls, &mut replies);
+            if answer.is_err() {
+                is_kept = is_kept && is_untouched(&memory, &pool, &replies);
+            }
+            answer
+        },
+    )?;
+    assert!(rt; is_kept);
+    assert_equal(rt, replies.len(), CALL_COUNT + 1);
+    assert_equal(
+        rt,
+        replies.get(1),
+        Some(&Reply::Of4KiB(SizeReply::Map(Ok(page)))),
+    );
+    assert_equal(rt, pool.len(), 0);
+    Ok(())
+}

@@ -1,0 +1,278 @@
+//! Runs of the program `pagetab`.
+use super::hoard::{answer_at_last, hoard};
+use crate::assertions::{assert_equal, assert_equal_in};
+use crate::streams::{Comparison, Source};
+use pagetab_engine::ending::{Ending, Fault};
+use pagetab_engine::engine::run;
+use std::alloc::{AllocError, Global};
+use std::io::{self, Read, Write};
+use std::process::Abort;
+use std::test::Fail;
+
+/// An image of which the table in frame 0x2000 is a part, and commands of each kind.
+const INPUT: &[u8] = b"word 0x1000 0 0x2003\nfree 0x3000\nfree 0x4000\n\
+    translate 0\nwalk 0\nshow 0x1000 0\npool\nmap 4KiB 0x1000 0x5000 0x3\naddr 0x1abc\nunmap 4KiB 0x1000\n\
+    cleanup\npool\n";
+
+/// The replies but the last one, each after those before it.
+const FIRST_REPLIES: [&[u8]; 8] = [
+    b"not mapped\n",
+    b"none\n",
+    b"0x2003\n",
+    b"pool 0x3000 0x4000\n",
+    b"ok\n",
+    b"0x5abc\n",
+    b"0x5000\n",
+    b"ok\n",
+];
+
+/// How many replies there are.
+const REPLY_COUNT: usize = 9;
+
+/// The free frames at the end.
+const FREE_AT_END: &[u8] = b"pool 0x2000 0x3000 0x4000\n";
+
+/// The same where there are five levels, whose image has one table more.
+const FREE_AT_END_OF_FIVE: &[u8] = b"pool 0x2000 0x6000 0x3000 0x4000\n";
+
+/// The arguments of each mode, the first lines of its image, and the last reply.
+type Mode = (&'static [&'static str], &'static [u8], &'static [u8]);
+
+const MODES: [Mode; 7] = [
+    (&["direct", "4096"], b"", FREE_AT_END),
+    (&["offset", "4096", "0xffff800000000000"], b"", FREE_AT_END),
+    (
+        &["recursive", "4096", "510"],
+        b"word 0x1000 510 0x1003\n",
+        FREE_AT_END,
+    ),
+    (
+        &["pair", "4096", "510"],
+        b"word 0x1000 510 0x1003\n",
+        FREE_AT_END,
+    ),
+    (
+        &["direct5", "4096"],
+        b"word 0x2000 0 0x6003\n",
+        FREE_AT_END_OF_FIVE,
+    ),
+    (
+        &["recursive5", "4096", "510"],
+        b"word 0x1000 510 0x1003\nword 0x2000 0 0x6003\n",
+        FREE_AT_END_OF_FIVE,
+    ),
+    (
+        &["pair5", "4096", "510"],
+        b"word 0x1000 510 0x1003\nword 0x2000 0 0x6003\n",
+        FREE_AT_END_OF_FIVE,
+    ),
+];
+
+/// Gives the words of arguments.
+fn words_of(alloc: Global, arguments: &[&str]) -> Result<Vec<String>, AllocError> {
+    let mut words = Vec::new(alloc);
+    for argument in arguments {
+        words.push(String::from_str(alloc, argument)?)?;
+    }
+    Ok(words)
+}
+
+/// Gives the words of a mode's arguments, and its input.
+fn start(
+    alloc: Global,
+    (arguments, first_lines, _): Mode,
+) -> Result<(Vec<String>, Vec<u8>), AllocError> {
+    let words = words_of(alloc, arguments)?;
+    let mut input = Vec::from_slice(alloc, first_lines)?;
+    input.extend_from_slice(INPUT)?;
+    Ok((words, input))
+}
+
+/// Gives all replies.
+fn replies_in(alloc: Global, (_, _, last): Mode) -> Result<Vec<u8>, AllocError> {
+    let mut replies = Vec::new(alloc);
+    for reply in FIRST_REPLIES {
+        replies.extend_from_slice(reply)?;
+    }
+    replies.extend_from_slice(last)?;
+    Ok(replies)
+}
+
+/// Runs the program until there is room, and compares the replies and the ending.
+fn run_at_last(rt: impl Abort + Copy, alloc: Global, mode: Mode) -> Result<(), Fail> {
+    let (words, input) = start(alloc, mode)?;
+    let replies = replies_in(alloc, mode)?;
+    let mut agrees = true;
+    let answer = answer_at_last(rt, alloc, || {
+        let mut source = Source::new(&input, 0);
+        let mut sink = Comparison::new(&replies);
+        let ending = run(alloc, words.as_slice(), &mut source, &mut sink);
+        agrees = agrees && sink.agrees;
+        match ending {
+            Ending::Stopped(Fault::OutOfMemory) => Err(AllocError),
+            _ => Ok((ending, sink.rest.len())),
+        }
+    })?;
+    assert_equal(rt, answer, (Ending::Done, 0));
+    assert!(rt; agrees);
+    Ok(())
+}
+
+#[test]
+fn the_program_wants_memory_until_there_is_room(rt: HostRuntime) -> Result<(), Fail> {
+    for mode in MODES {
+        run_at_last(rt, rt.alloc(), mode)?;
+    }
+    Ok(())
+}
+
+/// Hands reads and writes on, and takes all memory at the call of a number, counted from 1.
+#[derive(Drop)]
+struct Hoarding<S: Drop> {
+    stream: S,
+    alloc: Global,
+    calls: usize,
+    hoards_at: usize,
+    blocks: Vec<Vec<u8>>,
+}
+
+impl<S: Drop> Hoarding<S> {
+    /// Makes one that never takes memory where the number is 0.
+    fn new(alloc: Global, stream: S, hoards_at: usize) -> Hoarding<S> {
+        Hoarding {
+            stream,
+            alloc,
+            calls: 0,
+            hoards_at,
+            blocks: Vec::new(alloc),
+        }
+    }
+
+    /// Counts a call.
+    fn count_call(&mut self) -> Result<(), AllocError> {
+        self.calls = self.calls.saturating_add(1);
+        if self.calls == self.hoards_at {
+            self.blocks = hoard(self.alloc)?;
+        }
+        Ok(())
+    }
+}
+
+impl<S: Read + Drop> Read for Hoarding<S> {
+    fn read(&mut self, buf: &mut [u8]) -> io::Result<usize> {
+        self.count_call()?;
+        self.stream.read(buf)
+    }
+}
+
+impl<S: Write + Drop> Write for Hoarding<S> {
+    fn write(&mut self, buf: &[u8]) -> io::Result<usize> {
+        self.count_call()?;
+        self.stream.write(buf)
+    }
+
+    fn flush(&mut self) -> io::Result<()> {
+        self.stream.flush()
+    }
+}
+
+/// Tells whether so many bytes are those of the last replies, with at least the first `least` before them.
+fn are_last_replies((_, _, last): Mode, bytes: usize, least: usize) -> bool {
+    if bytes == 0 {
+        return true;
+    }
+    let mut left: usize = last.len();
+    for (n, reply) in FIRST_REPLIES.iter().enumerate().rev() {
+        if n + 1 >= least && left == bytes {
+            return true;
+        }
+        left = left.saturating_add(reply.len());
+    }
+    least == 0 && left == bytes
+}
+
+/// Runs the program where a read or a write takes all memory, and compares that whole replies are written, so many at least, and
+/// all unless memory was refused. What a reply gives back may be room enough for the next one.
+fn assert_starved(
+    rt: impl Abort + Copy,
+    alloc: Global,
+    mode: Mode,
+    (read, write): (usize, usize),
+) -> Result<Ending, Fail> {
+    let (words, input) = start(alloc, mode)?;
+    let replies = replies_in(alloc, mode)?;
+    let mut source = Hoarding::new(alloc, Source::new(&input, 0), read);
+    let mut sink = Hoarding::new(alloc, Comparison::new(&replies), write);
+    let ending = run(alloc, words.as_slice(), &mut source, &mut sink);
+    source.blocks.clear();
+    sink.blocks.clear();
+    let left = sink.stream.rest.len();
+    assert!(rt; sink.stream.agrees, "write {write}");
+    if ending == Ending::Stopped(Fault::OutOfMemory) {
+        assert!(rt; are_last_replies(mode, left, write), "write {write}");
+    } else {
+        assert_equal_in(rt, write, (ending, left), (Ending::Done, 0));
+    }
+    Ok(ending)
+}
+
+/// Takes all memory at the first read, so that the image can't be tested, and at each write in turn.
+fn assert_each_starved(rt: impl Abort + Copy, alloc: Global, mode: Mode) -> Result<(), Fail> {
+    let ending = assert_starved(rt, alloc, mode, (1, 0))?;
+    assert_equal(rt, ending, Ending::Stopped(Fault::OutOfMemory));
+    for write in 1..=REPLY_COUNT {
+        assert_starved(rt, alloc, mode, (0, write))?;
+    }
+    Ok(())
+}
+
+#[test]
+fn replies_stay_where_the_next_one_finds_no_room(rt: HostRuntime) -> Result<(), Fail> {
+    for mode in MODES {
+        assert_each_starved(rt, rt.alloc(), mode)?;
+    }
+    Ok(())
+}
+
+/// Arguments that are refused before memory is taken: numbers out of range, an offset that isn't canonical, and a mode that is
+/// none.
+const REFUSED: [&[&str]; 6] = [
+    &[],
+    &["direct", "1"],
+    &["direct", "65537"],
+    &["offset", "8", "0x800000000000"],
+    &["recursive", "8", "512"],
+    &["sparse", "8"],
+];
+
+/// Runs the program without input.
+fn run_alone(alloc: Global, words: &[String]) -> Ending {
+    let mut source = Source::new(b"", 0);
+    let mut sink = Comparison::new(b"");
+    run(alloc, words, &mut source, &mut sink)
+}
+
+#[test]
+fn wrong_arguments_want_no_memory(rt: HostRuntime) -> Result<(), Fail> {
+    let alloc = rt.alloc();
+    for arguments in REFUSED {
+        let words = words_of(alloc, arguments)?;
+        let blocks = hoard(alloc)?;
+        let ending = run_alone(alloc, &words);
+        drop(blocks);
+        assert_equal_in(rt, arguments, ending, Ending::Stopped(Fault::Usage));
+    }
+    Ok(())
+}
+
+#[test]
+fn offsets_are_tested_once_the_memory_is_made(rt: HostRuntime) -> Result<(), Fail> {
+    let alloc = rt.alloc();
+    let words = words_of(alloc, &["offset", "4096", "0x7ffffffff000"])?;
+    let ending = answer_at_last(rt, alloc, || match run_alone(alloc, &words) {
+        Ending::Stopped(Fault::OutOfMemory) => Err(AllocError),
+        ending => Ok(ending),
+    })?;
+    assert_equal(rt, ending, Ending::Stopped(Fault::Usage));
+    Ok(())
+}
