@@ -9,7 +9,6 @@ use crate::assertions::{assert_equal, assert_equal_at, assert_equal_in};
 use crate::tables::frame_at;
 use bitflags::Flags;
 use std::alloc::Global;
-use std::process::Abort;
 use std::test::Fail;
 use x86_64_addr::addr::{PhysAddr, VirtAddr};
 use x86_64_addr::index::PageTableIndex;
@@ -81,8 +80,9 @@ fn walk(memory: &PhysMemory, addr: u64) -> Option<Walked> {
     )
 }
 
-/// Gives the arrival at an address, without `USER_ACCESSIBLE`.
-fn arrival(address: u64, write: bool) -> Option<Walked> {
+/// Gives where a walk arrives, without `USER_ACCESSIBLE`.
+fn arrival(wanted: Option<(u64, bool)>) -> Option<Walked> {
+    let (address, write) = wanted?;
     Some(Walked {
         address: PhysAddr::new_truncate(address),
         write,
@@ -90,163 +90,78 @@ fn arrival(address: u64, write: bool) -> Option<Walked> {
     })
 }
 
-/// Compares walks from the root in frame 0x1000, each given by the words, the address and where it arrives.
-fn check_walks(
-    rt: impl Abort + Copy,
-    alloc: Global,
-    rows: &[(&[(u64, u16, u64)], u64, Option<Walked>)],
-) -> Result<(), Fail> {
-    for (words, addr, expected) in rows {
-        let memory = memory_with(alloc, words)?;
-        assert_equal_at(rt, *addr, walk(&memory, *addr), *expected);
-    }
-    Ok(())
-}
+/// Words, an address, and where the walk of it arrives, if it does, and whether it may write.
+type Walk = (&'static [(u64, u16, u64)], u64, Option<(u64, bool)>);
 
-/// Compares whether words, of which each row has some, are a valid hierarchy below the root in frame 0x1000.
-fn check_validity(
-    rt: impl Abort + Copy,
-    alloc: Global,
-    rows: &[&[(u64, u16, u64)]],
-    expected: bool,
-) -> Result<(), Fail> {
-    for words in rows {
-        let memory = memory_with(alloc, words)?;
-        assert_equal_in(rt, words, is_valid(alloc, &memory)?, expected);
-    }
-    Ok(())
-}
+const WALKS: [Walk; 7] = [
+    (
+        &[
+            (0x1000, 0, 0x2003),
+            (0x2000, 0, 0x3003),
+            (0x3000, 0, 0x4003),
+            (0x4000, 1, 0x5003),
+        ],
+        0x1abc,
+        Some((0x5abc, true)),
+    ),
+    (&[(0x1000, 0, 0x2003), (0x2000, 0, 0x3080)], 0, None),
+    (&[(0x1000, 0, 0x9003)], 0, None),
+    (&[], 0, None),
+    (
+        &[
+            (0x1000, 0, 0x2001),
+            (0x2000, 0, 0x3001),
+            (0x3000, 1, 0x40_0081),
+        ],
+        0x23_4567,
+        Some((0x43_4567, false)),
+    ),
+    (
+        &[(0x1000, 0, 0x2003), (0x2000, 1, 0x8000_0083)],
+        0x4012_3456,
+        Some((0x8012_3456, true)),
+    ),
+    (
+        &[(0x1000, 511, 0x2003), (0x2000, 511, 0x4000_0083)],
+        0xffff_ffff_c000_0001,
+        Some((0x4000_0001, true)),
+    ),
+];
 
 #[test]
 fn walks_arrive(rt: HostRuntime) -> Result<(), Fail> {
-    let rows: [(&[(u64, u16, u64)], u64, Option<Walked>); 4] = [
-        (
-            &[
-                (0x1000, 0, 0x2003),
-                (0x2000, 0, 0x3003),
-                (0x3000, 0, 0x4003),
-                (0x4000, 1, 0x5003),
-            ],
-            0x1abc,
-            arrival(0x5abc, true),
-        ),
-        (&[(0x1000, 0, 0x2003), (0x2000, 0, 0x3080)], 0, None),
-        (&[(0x1000, 0, 0x9003)], 0, None),
-        (&[], 0, None),
-    ];
-    check_walks(rt, rt.alloc(), &rows)
-}
-
-#[test]
-fn walks_arrive_in_huge_pages(rt: HostRuntime) -> Result<(), Fail> {
-    let rows: [(&[(u64, u16, u64)], u64, Option<Walked>); 3] = [
-        (
-            &[
-                (0x1000, 0, 0x2001),
-                (0x2000, 0, 0x3001),
-                (0x3000, 1, 0x40_0081),
-            ],
-            0x23_4567,
-            arrival(0x43_4567, false),
-        ),
-        (
-            &[(0x1000, 0, 0x2003), (0x2000, 1, 0x8000_0083)],
-            0x4012_3456,
-            arrival(0x8012_3456, true),
-        ),
-        (
-            &[(0x1000, 511, 0x2003), (0x2000, 511, 0x4000_0083)],
-            0xffff_ffff_c000_0001,
-            arrival(0x4000_0001, true),
-        ),
-    ];
-    check_walks(rt, rt.alloc(), &rows)?;
+    for (words, addr, wanted) in WALKS {
+        let memory = memory_with(rt.alloc(), words)?;
+        assert_equal_at(rt, addr, walk(&memory, addr), arrival(wanted));
+    }
     let memory = memory_of_ones(rt.alloc(), &[(0x1000, 0, 0x2003)])?;
-    assert_equal(rt, walk(&memory, 0), arrival(0x000f_ffff_c000_0000, true));
+    let wanted = arrival(Some((0x000f_ffff_c000_0000, true)));
+    assert_equal(rt, walk(&memory, 0), wanted);
     Ok(())
 }
 
-#[test]
-fn hierarchies_are_valid(rt: HostRuntime) -> Result<(), Fail> {
-    let rows: [&[(u64, u16, u64)]; 4] = [
-        &[],
-        &[(0x1000, 0, 0x2003), (0x2000, 0, 0x4000_1083)],
-        &[
-            (0x1000, 0, 0x2003),
-            (0x2000, 0, 0x3003),
-            (0x3000, 0, 0x4003),
-            (0x4000, 0, 0x4003),
-        ],
-        &[
-            (0x1000, 0, 0x2003),
-            (0x2000, 0, 0x3003),
-            (0x3000, 0, 0x4003),
-            (0x4000, 0, 0x1003),
-        ],
-    ];
-    check_validity(rt, rt.alloc(), &rows, true)?;
-    let memory = memory_of_ones(rt.alloc(), &[(0x1000, 0, 0x2003)])?;
-    assert!(rt; is_valid(rt.alloc(), &memory)?);
-    Ok(())
-}
-
-#[test]
-fn hierarchies_with_a_table_met_twice_are_not_valid(rt: HostRuntime) -> Result<(), Fail> {
-    let rows: [&[(u64, u16, u64)]; 6] = [
-        &[(0x1000, 0, 0x1003)],
-        &[(0x1000, 0, 0x2003), (0x2000, 0, 0x2003)],
-        &[
-            (0x1000, 0, 0x2003),
-            (0x2000, 0, 0x3003),
-            (0x3000, 0, 0x2003),
-        ],
-        &[(0x1000, 0, 0x2002), (0x2000, 0, 0x1003)],
+const ROOT_POOLS: [(&[(u64, u16, u64)], u64, &[u64], bool); 11] = [
+    (&[], 8, &[0x2000, 0x3000, 0x4000], true),
+    (&[], 8, &[], true),
+    (&[], 8, &[0x7000], true),
+    (&[], 9, &[0x7000, 0x8000], false),
+    (&[], 8, &[0x1000], false),
+    (&[], 8, &[0x2000, 0x1000], false),
+    (&[], 0, &[], true),
+    (&[(0x1000, 0, 0x1003)], 8, &[0x2000], false),
+    (&[(0x1000, 0, 0x80)], 8, &[0x2000], false),
+    (&[(0x1000, 0, 0x8003)], 16, &[0x2000], false),
+    (
         &[(0x1000, 0, 0x2003), (0x1000, 1, 0x2002)],
-        &[
-            (0x1000, 0, 0x2003),
-            (0x2000, 0, 0x3003),
-            (0x3000, 0, 0x1003),
-        ],
-    ];
-    check_validity(rt, rt.alloc(), &rows, false)
-}
-
-#[test]
-fn hierarchies_with_a_word_of_no_table_are_not_valid(rt: HostRuntime) -> Result<(), Fail> {
-    let rows: [&[(u64, u16, u64)]; 5] = [
-        &[(0x1000, 0, 0x9003)],
-        &[(0x1000, 0, 0x3)],
-        &[(0x1000, 0, 0x2)],
-        &[(0x1000, 0, 0x2083)],
-        &[(0x1000, 0, 0x80)],
-    ];
-    check_validity(rt, rt.alloc(), &rows, false)?;
-    let small = PhysMemory::new(rt.alloc(), 1)?;
-    assert!(rt; !is_valid(rt.alloc(), &small)?);
-    Ok(())
-}
+        8,
+        &[0x3000],
+        false,
+    ),
+];
 
 #[test]
 fn pools_fit_a_root(rt: HostRuntime) -> Result<(), Fail> {
-    let rows: [(&[(u64, u16, u64)], u64, &[u64], bool); 11] = [
-        (&[], 8, &[0x2000, 0x3000, 0x4000], true),
-        (&[], 8, &[], true),
-        (&[], 8, &[0x7000], true),
-        (&[], 9, &[0x7000, 0x8000], false),
-        (&[], 8, &[0x1000], false),
-        (&[], 8, &[0x2000, 0x1000], false),
-        (&[], 0, &[], true),
-        (&[(0x1000, 0, 0x1003)], 8, &[0x2000], false),
-        (&[(0x1000, 0, 0x80)], 8, &[0x2000], false),
-        (&[(0x1000, 0, 0x8003)], 16, &[0x2000], false),
-        (
-            &[(0x1000, 0, 0x2003), (0x1000, 1, 0x2002)],
-            8,
-            &[0x3000],
-            false,
-        ),
-    ];
-    for (words, limit, frames, expected) in rows {
+    for (words, limit, frames, expected) in ROOT_POOLS {
         let memory = memory_with(rt.alloc(), words)?;
         let fits = fits(rt.alloc(), &memory, limit, frames)?;
         assert_equal_in(rt, (frames, limit, words), fits, expected);
@@ -255,6 +170,16 @@ fn pools_fit_a_root(rt: HostRuntime) -> Result<(), Fail> {
     assert!(rt; !fits(rt.alloc(), &small, 8, &[])?);
     Ok(())
 }
+
+const POOLS: [(u64, &[u64], bool); 7] = [
+    (8, &[0x7000, 0x6000, 0x5000], true),
+    (8, &[0x2000, 0x7000], false),
+    (8, &[0x7000, 0x3000, 0x6000], false),
+    (8, &[0x7000, 0x4000], false),
+    (5, &[], true),
+    (4, &[], false),
+    (1, &[], false),
+];
 
 #[test]
 fn pools_fit_tables(rt: HostRuntime) -> Result<(), Fail> {
@@ -265,17 +190,8 @@ fn pools_fit_tables(rt: HostRuntime) -> Result<(), Fail> {
         (0x3000, 1, 0x5083),
         (0x4000, 0, 0x6003),
     ];
-    let rows: [(u64, &[u64], bool); 7] = [
-        (8, &[0x7000, 0x6000, 0x5000], true),
-        (8, &[0x2000, 0x7000], false),
-        (8, &[0x7000, 0x3000, 0x6000], false),
-        (8, &[0x7000, 0x4000], false),
-        (5, &[], true),
-        (4, &[], false),
-        (1, &[], false),
-    ];
     let memory = memory_with(rt.alloc(), &words)?;
-    for (limit, frames, expected) in rows {
+    for (limit, frames, expected) in POOLS {
         let fits = fits(rt.alloc(), &memory, limit, frames)?;
         assert_equal_in(rt, (frames, limit), fits, expected);
     }

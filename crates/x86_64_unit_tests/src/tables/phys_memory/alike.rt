@@ -72,26 +72,27 @@ fn alike_by_index(
     )
 }
 
+const DIFFERENCES: [(&[(u64, u16, u64)], &[(u64, u16, u64)], bool); 14] = [
+    (&[], &[], true),
+    (&[(0x4000, 1, 0x5003)], &[], false),
+    (&[(0x4000, 1, 0x5003)], &[(0x4000, 1, 0x5003)], true),
+    (&[(0x4000, 2, 0x6002)], &[], false),
+    (&[(0x4000, 2, 0x6002)], &[(0x4000, 2, 0x6000)], false),
+    (&[(0x4000, 2, 0x6002)], &[(0x4000, 2, 0x6002)], true),
+    (&[], &[(0x2000, 1, 0x6002)], false),
+    (&[(0x2000, 1, 0x6002)], &[(0x2000, 1, 0x6000)], true),
+    (&[(0x2000, 1, 0x2)], &[], false),
+    (&[(0x3000, 0, 0x4005)], &[], false),
+    (&[(0x3000, 1, 0x81)], &[(0x3000, 1, 0x83)], false),
+    (&[(0x3000, 1, 0x83)], &[(0x3000, 1, 0x83)], true),
+    (&[(0x3000, 0, 0x6001), (0x6000, 1, 0x5001)], &[], false),
+    (&[(0x1000, 510, 0x1003)], &[], false),
+];
+
 #[test]
 fn hierarchies_are_alike_but_for_writable_tables(rt: HostRuntime) -> Result<(), Fail> {
-    let rows: [(&[(u64, u16, u64)], &[(u64, u16, u64)], bool); 14] = [
-        (&[], &[], true),
-        (&[(0x4000, 1, 0x5003)], &[], false),
-        (&[(0x4000, 1, 0x5003)], &[(0x4000, 1, 0x5003)], true),
-        (&[(0x4000, 2, 0x6002)], &[], false),
-        (&[(0x4000, 2, 0x6002)], &[(0x4000, 2, 0x6000)], false),
-        (&[(0x4000, 2, 0x6002)], &[(0x4000, 2, 0x6002)], true),
-        (&[], &[(0x2000, 1, 0x6002)], false),
-        (&[(0x2000, 1, 0x6002)], &[(0x2000, 1, 0x6000)], true),
-        (&[(0x2000, 1, 0x2)], &[], false),
-        (&[(0x3000, 0, 0x4005)], &[], false),
-        (&[(0x3000, 1, 0x81)], &[(0x3000, 1, 0x83)], false),
-        (&[(0x3000, 1, 0x83)], &[(0x3000, 1, 0x83)], true),
-        (&[(0x3000, 0, 0x6001), (0x6000, 1, 0x5001)], &[], false),
-        (&[(0x1000, 510, 0x1003)], &[], false),
-    ];
     let index = PageTableIndex::new(510);
-    for (direct, recursive, expected) in rows {
+    for (direct, recursive, expected) in DIFFERENCES {
         let one = memory_of(rt.alloc(), &DIRECT, direct)?;
         let other = memory_of(rt.alloc(), &RECURSIVE, recursive)?;
         let shifted = ShiftMapping::new(3);

@@ -1,5 +1,5 @@
 //! Tests of walks, of hierarchies and of pools that fit them, where there are five levels of tables.
-use super::{arrival, is_valid, memory_with, pool_with};
+use super::{Walk, arrival, is_valid, memory_with, pool_with};
 use crate::assertions::{assert_equal_at, assert_equal_in};
 use crate::tables::frame_at;
 use std::alloc::Global;
@@ -24,64 +24,74 @@ fn walk_57(memory: &PhysMemory, addr: u64) -> Option<Walked> {
     )
 }
 
+const WALKS: [Walk; 5] = [
+    (
+        &[
+            (0x1000, 0, 0x2003),
+            (0x2000, 0, 0x3003),
+            (0x3000, 0, 0x4003),
+            (0x4000, 0, 0x5003),
+            (0x5000, 1, 0x6003),
+        ],
+        0x1abc,
+        Some((0x6abc, true)),
+    ),
+    (
+        &[
+            (0x1000, 256, 0x2003),
+            (0x2000, 0, 0x3001),
+            (0x3000, 1, 0x4000_0083),
+        ],
+        0xff00_0000_4000_0001,
+        Some((0x4000_0001, false)),
+    ),
+    (&[(0x1000, 0, 0x2003), (0x2000, 0, 0x83)], 0, None),
+    (&[(0x1000, 0, 0x83)], 0, None),
+    (&[(0x1000, 0, 0x2003), (0x2000, 0, 0x3003)], 0, None),
+];
+
 #[test]
 fn walks_of_five_levels_arrive(rt: HostRuntime) -> Result<(), Fail> {
-    let rows: [(&[(u64, u16, u64)], u64, Option<Walked>); 5] = [
-        (
-            &[
-                (0x1000, 0, 0x2003),
-                (0x2000, 0, 0x3003),
-                (0x3000, 0, 0x4003),
-                (0x4000, 0, 0x5003),
-                (0x5000, 1, 0x6003),
-            ],
-            0x1abc,
-            arrival(0x6abc, true),
-        ),
-        (
-            &[
-                (0x1000, 256, 0x2003),
-                (0x2000, 0, 0x3001),
-                (0x3000, 1, 0x4000_0083),
-            ],
-            0xff00_0000_4000_0001,
-            arrival(0x4000_0001, false),
-        ),
-        (&[(0x1000, 0, 0x2003), (0x2000, 0, 0x83)], 0, None),
-        (&[(0x1000, 0, 0x83)], 0, None),
-        (&[(0x1000, 0, 0x2003), (0x2000, 0, 0x3003)], 0, None),
-    ];
-    for (words, addr, expected) in rows {
+    for (words, addr, wanted) in WALKS {
         let memory = memory_with(rt.alloc(), words)?;
-        assert_equal_at(rt, addr, walk_57(&memory, addr), expected);
+        assert_equal_at(rt, addr, walk_57(&memory, addr), arrival(wanted));
     }
     Ok(())
 }
 
+const HIERARCHIES: [(&[(u64, u16, u64)], bool, bool); 4] = [
+    (&[], true, true),
+    (&[(0x1000, 0, 0x2003), (0x2000, 0, 0x83)], false, true),
+    (
+        &[
+            (0x1000, 0, 0x2003),
+            (0x2000, 0, 0x3003),
+            (0x3000, 0, 0x4003),
+            (0x4000, 0, 0x9003),
+        ],
+        false,
+        true,
+    ),
+    (&[(0x1000, 0, 0x1003)], false, false),
+];
+
 #[test]
 fn hierarchies_are_valid_with_as_many_levels(rt: HostRuntime) -> Result<(), Fail> {
-    let rows: [(&[(u64, u16, u64)], bool, bool); 4] = [
-        (&[], true, true),
-        (&[(0x1000, 0, 0x2003), (0x2000, 0, 0x83)], false, true),
-        (
-            &[
-                (0x1000, 0, 0x2003),
-                (0x2000, 0, 0x3003),
-                (0x3000, 0, 0x4003),
-                (0x4000, 0, 0x9003),
-            ],
-            false,
-            true,
-        ),
-        (&[(0x1000, 0, 0x1003)], false, false),
-    ];
-    for (words, five, four) in rows {
+    for (words, five, four) in HIERARCHIES {
         let memory = memory_with(rt.alloc(), words)?;
         assert_equal_in(rt, words, is_valid_57(rt.alloc(), &memory)?, five);
         assert_equal_in(rt, words, is_valid(rt.alloc(), &memory)?, four);
     }
     Ok(())
 }
+
+const POOLS: [(u64, &[u64], bool); 5] = [
+    (8, &[0x7000, 0x6000], true),
+    (8, &[0x7000, 0x5000], false),
+    (8, &[0x1000], false),
+    (6, &[], true),
+    (5, &[], false),
+];
 
 #[test]
 fn pools_fit_tables_of_five_levels(rt: HostRuntime) -> Result<(), Fail> {
@@ -92,15 +102,8 @@ fn pools_fit_tables_of_five_levels(rt: HostRuntime) -> Result<(), Fail> {
         (0x4000, 0, 0x5002),
         (0x5000, 0, 0x6003),
     ];
-    let rows: [(u64, &[u64], bool); 5] = [
-        (8, &[0x7000, 0x6000], true),
-        (8, &[0x7000, 0x5000], false),
-        (8, &[0x1000], false),
-        (6, &[], true),
-        (5, &[], false),
-    ];
     let memory = memory_with(rt.alloc(), &words)?;
-    for (limit, frames, expected) in rows {
+    for (limit, frames, expected) in POOLS {
         let pool = pool_with(rt.alloc(), limit, frames)?;
         let root = frame_at(0x1000);
         let fits = pool_fits_57(rt.alloc(), &memory, &IdentityMapping, root, &pool)?;

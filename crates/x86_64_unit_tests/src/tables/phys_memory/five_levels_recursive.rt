@@ -51,20 +51,21 @@ const OWN_ADDRESSES: [(u64, u16, u64); 6] = [
     (0x6000, 511, 0x6002),
 ];
 
+const LENT: [(u64, Option<u64>); 9] = [
+    (0x1000, Some(0x6000)),
+    (0x1abc, None),
+    (0x2000, None),
+    (0xfffe_ff7f_bfdf_e000, Some(0x1000)),
+    (0xfffe_ff7f_bfc0_0000, Some(0x2000)),
+    (0xfffe_ff7f_8000_0000, Some(0x3000)),
+    (0xfffe_ff00_0000_0000, Some(0x4000)),
+    (0xfffe_0000_0000_0000, Some(0x5000)),
+    (0xffff_ff7f_bfdf_e000, None),
+];
+
 #[test]
 fn tables_of_five_levels_are_lent_where_walks_arrive(rt: HostRuntime) -> Result<(), Fail> {
-    let rows: [(u64, Option<u64>); 9] = [
-        (0x1000, Some(0x6000)),
-        (0x1abc, None),
-        (0x2000, None),
-        (0xfffe_ff7f_bfdf_e000, Some(0x1000)),
-        (0xfffe_ff7f_bfc0_0000, Some(0x2000)),
-        (0xfffe_ff7f_8000_0000, Some(0x3000)),
-        (0xfffe_ff00_0000_0000, Some(0x4000)),
-        (0xfffe_0000_0000_0000, Some(0x5000)),
-        (0xffff_ff7f_bfdf_e000, None),
-    ];
-    for (addr, expected) in rows {
+    for (addr, expected) in LENT {
         let mut memory = memory_of(rt.alloc(), &RECURSIVE, &OWN_ADDRESSES)?;
         let mut active = ActiveMemory57::new(&mut memory, frame_at(0x1000));
         let addr = VirtAddr57::new_truncate(addr);
@@ -82,28 +83,29 @@ fn tables_of_five_levels_are_lent_where_walks_arrive(rt: HostRuntime) -> Result<
     Ok(())
 }
 
+const HIERARCHIES: [(&[(u64, u16, u64)], bool); 9] = [
+    (&[(0x1000, 510, 0x1003)], true),
+    (&RECURSIVE, true),
+    (&DIRECT, false),
+    (&[(0x1000, 510, 0x1002)], false),
+    (&[(0x1000, 510, 0x1083)], false),
+    (&[(0x1000, 510, 0x2003)], false),
+    (&[(0x1000, 510, 0x1003), (0x1000, 511, 0x1003)], false),
+    (&[(0x1000, 510, 0x1003), (0x1000, 0, 0x80)], false),
+    (
+        &[
+            (0x1000, 510, 0x1003),
+            (0x1000, 0, 0x2003),
+            (0x1000, 1, 0x2002),
+        ],
+        false,
+    ),
+];
+
 #[test]
 fn hierarchies_of_five_levels_are_valid_for_an_index(rt: HostRuntime) -> Result<(), Fail> {
-    let rows: [(&[(u64, u16, u64)], bool); 9] = [
-        (&[(0x1000, 510, 0x1003)], true),
-        (&RECURSIVE, true),
-        (&DIRECT, false),
-        (&[(0x1000, 510, 0x1002)], false),
-        (&[(0x1000, 510, 0x1083)], false),
-        (&[(0x1000, 510, 0x2003)], false),
-        (&[(0x1000, 510, 0x1003), (0x1000, 511, 0x1003)], false),
-        (&[(0x1000, 510, 0x1003), (0x1000, 0, 0x80)], false),
-        (
-            &[
-                (0x1000, 510, 0x1003),
-                (0x1000, 0, 0x2003),
-                (0x1000, 1, 0x2002),
-            ],
-            false,
-        ),
-    ];
     let index = PageTableIndex::new(510);
-    for (words, expected) in rows {
+    for (words, expected) in HIERARCHIES {
         let memory = memory_with(rt.alloc(), words)?;
         let is_valid = is_valid_recursive_57(rt.alloc(), &memory, frame_at(0x1000), index)?;
         assert_equal_in(rt, words, is_valid, expected);
@@ -113,24 +115,25 @@ fn hierarchies_of_five_levels_are_valid_for_an_index(rt: HostRuntime) -> Result<
     Ok(())
 }
 
+const MORE_WORDS: [(&[(u64, u16, u64)], bool, bool); 9] = [
+    (&[], true, true),
+    // A word of level one may be any with five levels; with four, so may one of the table above.
+    (&[(0x5000, 0, 0x1003)], true, true),
+    (&[(0x4000, 1, 0x5003)], false, true),
+    (&[(0x4000, 1, 0x2003)], false, true),
+    (&[(0x4000, 1, 0x1003)], false, true),
+    (&[(0x4000, 1, 0x9003)], false, true),
+    (&[(0x2000, 1, 0x83)], false, true),
+    (&[(0x3000, 1, 0x83)], true, true),
+    (&[(0x2000, 510, 0x1003)], false, false),
+];
+
 #[test]
 fn hierarchies_are_valid_for_an_index_with_as_many_levels(rt: HostRuntime) -> Result<(), Fail> {
     // Each of these is written over the tables of a valid hierarchy of five levels.
-    let rows: [(&[(u64, u16, u64)], bool, bool); 9] = [
-        (&[], true, true),
-        // A word of level one may be any with five levels; with four, so may one of the table above.
-        (&[(0x5000, 0, 0x1003)], true, true),
-        (&[(0x4000, 1, 0x5003)], false, true),
-        (&[(0x4000, 1, 0x2003)], false, true),
-        (&[(0x4000, 1, 0x1003)], false, true),
-        (&[(0x4000, 1, 0x9003)], false, true),
-        (&[(0x2000, 1, 0x83)], false, true),
-        (&[(0x3000, 1, 0x83)], true, true),
-        (&[(0x2000, 510, 0x1003)], false, false),
-    ];
     let index = PageTableIndex::new(510);
     let root = frame_at(0x1000);
-    for (more, five, four) in rows {
+    for (more, five, four) in MORE_WORDS {
         let memory = memory_of(rt.alloc(), &RECURSIVE, more)?;
         let is_valid = is_valid_recursive_57(rt.alloc(), &memory, root, index)?;
         assert_equal_in(rt, more, is_valid, five);
@@ -140,20 +143,21 @@ fn hierarchies_are_valid_for_an_index_with_as_many_levels(rt: HostRuntime) -> Re
     Ok(())
 }
 
+const POOLS: [(u16, u64, &[u64], bool); 8] = [
+    (510, 8, &[0x7000, 0x6000], true),
+    (510, 6, &[], true),
+    (510, 5, &[], false),
+    (510, 8, &[0x1000], false),
+    (510, 8, &[0x6000, 0x5000], false),
+    (510, 9, &[0x8000], false),
+    (509, 8, &[0x6000], false),
+    (0, 8, &[], false),
+];
+
 #[test]
 fn pools_fit_tables_of_five_levels_for_an_index(rt: HostRuntime) -> Result<(), Fail> {
-    let rows: [(u16, u64, &[u64], bool); 8] = [
-        (510, 8, &[0x7000, 0x6000], true),
-        (510, 6, &[], true),
-        (510, 5, &[], false),
-        (510, 8, &[0x1000], false),
-        (510, 8, &[0x6000, 0x5000], false),
-        (510, 9, &[0x8000], false),
-        (509, 8, &[0x6000], false),
-        (0, 8, &[], false),
-    ];
     let memory = memory_with(rt.alloc(), &RECURSIVE)?;
-    for (index, limit, frames, expected) in rows {
+    for (index, limit, frames, expected) in POOLS {
         let index = PageTableIndex::new_truncate(index);
         let pool = pool_with(rt.alloc(), limit, frames)?;
         let root = frame_at(0x1000);
@@ -189,23 +193,24 @@ fn alike_by_index(
     )
 }
 
+const DIFFERENCES: [(&[(u64, u16, u64)], &[(u64, u16, u64)], bool); 9] = [
+    (&[], &[], true),
+    (&[(0x5000, 1, 0x6003)], &[], false),
+    (&[(0x5000, 1, 0x6003)], &[(0x5000, 1, 0x6003)], true),
+    (&[(0x4000, 0, 0x5005)], &[], false),
+    (&[(0x4000, 1, 0x7002)], &[(0x4000, 1, 0x7000)], true),
+    (&[(0x2000, 1, 0x7002)], &[(0x2000, 1, 0x7000)], true),
+    (&[(0x4000, 1, 0x81)], &[(0x4000, 1, 0x83)], false),
+    (&[(0x5000, 2, 0x7002)], &[(0x5000, 2, 0x7000)], false),
+    (&[(0x1000, 510, 0x1003)], &[], false),
+];
+
 #[test]
 fn hierarchies_of_five_levels_are_alike_but_for_writable_tables(
     rt: HostRuntime,
 ) -> Result<(), Fail> {
-    let rows: [(&[(u64, u16, u64)], &[(u64, u16, u64)], bool); 9] = [
-        (&[], &[], true),
-        (&[(0x5000, 1, 0x6003)], &[], false),
-        (&[(0x5000, 1, 0x6003)], &[(0x5000, 1, 0x6003)], true),
-        (&[(0x4000, 0, 0x5005)], &[], false),
-        (&[(0x4000, 1, 0x7002)], &[(0x4000, 1, 0x7000)], true),
-        (&[(0x2000, 1, 0x7002)], &[(0x2000, 1, 0x7000)], true),
-        (&[(0x4000, 1, 0x81)], &[(0x4000, 1, 0x83)], false),
-        (&[(0x5000, 2, 0x7002)], &[(0x5000, 2, 0x7000)], false),
-        (&[(0x1000, 510, 0x1003)], &[], false),
-    ];
     let index = PageTableIndex::new(510);
-    for (direct, recursive, expected) in rows {
+    for (direct, recursive, expected) in DIFFERENCES {
         let one = memory_of(rt.alloc(), &DIRECT, direct)?;
         let other = memory_of(rt.alloc(), &RECURSIVE, recursive)?;
         let shifted = ShiftMapping::new(3);

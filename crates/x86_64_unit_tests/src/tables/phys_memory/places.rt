@@ -36,17 +36,18 @@ fn check_places(
     Ok(())
 }
 
+const REFUSED: [&[u64]; 6] = [
+    &[1, 1],
+    &[2, 1],
+    &[0, 1, 2, 2],
+    &[0, 2, 1, 3],
+    &[u64::MAX, 0],
+    &[u64::MAX, u64::MAX],
+];
+
 #[test]
 fn places_rise(rt: HostRuntime) -> Result<(), Fail> {
-    let rows: [&[u64]; 6] = [
-        &[1, 1],
-        &[2, 1],
-        &[0, 1, 2, 2],
-        &[0, 2, 1, 3],
-        &[u64::MAX, 0],
-        &[u64::MAX, u64::MAX],
-    ];
-    for places in rows {
+    for places in REFUSED {
         let refusal = PhysMemory::with_places(rt.alloc(), places).err();
         assert_equal_in(rt, places, refusal, Some(PlacesRefusal::NotIncreasing));
     }
@@ -57,23 +58,24 @@ fn places_rise(rt: HostRuntime) -> Result<(), Fail> {
     Ok(())
 }
 
+const PLACES: [(&[u64], &[u64]); 9] = [
+    (&[], &[0, 1, u64::MAX]),
+    (&[0], &[1, u64::MAX]),
+    (&[0, 1, 2], &[3, u64::MAX]),
+    (&[0, 1, 3], &[2, 4]),
+    (&[7], &[0, 6, 8, u64::MAX]),
+    (&[u64::MAX], &[0, 1, u64::MAX - 1]),
+    (&[0, u64::MAX], &[1, u64::MAX - 1]),
+    (
+        &[1, 2, 0x8_0000, 0x8_0001],
+        &[0, 3, 4, 0x7_ffff, 0x8_0002, 0x1_0000_0001],
+    ),
+    (&[2, 4, 6, 8, 1 << 39], &[0, 1, 3, 5, 7, 9, 10, 1 << 40]),
+];
+
 #[test]
 fn memory_has_the_places_of_a_list(rt: HostRuntime) -> Result<(), Fail> {
-    let rows: [(&[u64], &[u64]); 9] = [
-        (&[], &[0, 1, u64::MAX]),
-        (&[0], &[1, u64::MAX]),
-        (&[0, 1, 2], &[3, u64::MAX]),
-        (&[0, 1, 3], &[2, 4]),
-        (&[7], &[0, 6, 8, u64::MAX]),
-        (&[u64::MAX], &[0, 1, u64::MAX - 1]),
-        (&[0, u64::MAX], &[1, u64::MAX - 1]),
-        (
-            &[1, 2, 0x8_0000, 0x8_0001],
-            &[0, 3, 4, 0x7_ffff, 0x8_0002, 0x1_0000_0001],
-        ),
-        (&[2, 4, 6, 8, 1 << 39], &[0, 1, 3, 5, 7, 9, 10, 1 << 40]),
-    ];
-    for (places, others) in rows {
+    for (places, others) in PLACES {
         let memory = memory_at(rt.alloc(), places)?;
         check_places(rt, &memory, places, others)?;
     }
@@ -163,18 +165,19 @@ fn hierarchies_are_valid_after_gaps(rt: HostRuntime) -> Result<(), Fail> {
     Ok(())
 }
 
+const POOLS: [(u64, &[u64], bool); 5] = [
+    (0x8_0002, &[0x3000, 0x8000_1000], true),
+    (0x8_0002, &[0x2000], false),
+    (0x8_0002, &[0x8000_0000], false),
+    (0x8_0003, &[0x8000_2000], false),
+    (0x8_0000, &[0x3000], false),
+];
+
 #[test]
 fn pools_fit_after_gaps(rt: HostRuntime) -> Result<(), Fail> {
     let mut memory = memory_at(rt.alloc(), &[1, 3, 0x8_0000, 0x8_0001])?;
     set_word(&mut memory, 0x1000, 0, 0x8000_0003)?;
-    let rows: [(u64, &[u64], bool); 5] = [
-        (0x8_0002, &[0x3000, 0x8000_1000], true),
-        (0x8_0002, &[0x2000], false),
-        (0x8_0002, &[0x8000_0000], false),
-        (0x8_0003, &[0x8000_2000], false),
-        (0x8_0000, &[0x3000], false),
-    ];
-    for (limit, frames, expected) in rows {
+    for (limit, frames, expected) in POOLS {
         let fits = fits(rt.alloc(), &memory, limit, frames)?;
         assert_equal_in(rt, (frames, limit), fits, expected);
     }

@@ -7,9 +7,7 @@ use std::test::Fail;
 use x86_64_addr::addr::{PhysAddr, VirtAddr};
 use x86_64_addr::index::PageTableIndex;
 use x86_64_tables::page_table::{PageTable, PageTableFlags};
-use x86_64_tables::phys_memory::{
-    ActiveMemory, FramePlace, PhysMemory, is_valid_recursive, pool_fits_recursive,
-};
+use x86_64_tables::phys_memory::{ActiveMemory, FramePlace, PhysMemory, pool_fits_recursive};
 
 /// The window of the root where the recursive index is 510.
 const ROOT_WINDOW: u64 = 0xffff_ff7f_bfdf_e000;
@@ -44,20 +42,21 @@ pub fn address_of(table: Option<&PageTable>) -> Option<u64> {
     Some(table[511].addr().as_u64())
 }
 
+const SELF_ENTRIES: [(u64, u16, u64, u64, bool); 9] = [
+    (0x1000, 510, 0x1003, 0x1000, true),
+    (0x1000, 510, 0xfff0_0000_0000_1f7f, 0x1000, true),
+    (0x1000, 510, 0x1002, 0x1000, false),
+    (0x1000, 510, 0x1083, 0x1000, false),
+    (0x1000, 510, 0x2003, 0x1000, false),
+    (0x1000, 509, 0x1003, 0x1000, false),
+    (0x1000, 510, 0x1003, 0x2000, false),
+    (0x2000, 510, 0x1003, 0x2000, false),
+    (0x1000, 510, 0x1003, 0x8000, false),
+];
+
 #[test]
 fn roots_have_self_entries(rt: HostRuntime) -> Result<(), Fail> {
-    let rows: [(u64, u16, u64, u64, bool); 9] = [
-        (0x1000, 510, 0x1003, 0x1000, true),
-        (0x1000, 510, 0xfff0_0000_0000_1f7f, 0x1000, true),
-        (0x1000, 510, 0x1002, 0x1000, false),
-        (0x1000, 510, 0x1083, 0x1000, false),
-        (0x1000, 510, 0x2003, 0x1000, false),
-        (0x1000, 509, 0x1003, 0x1000, false),
-        (0x1000, 510, 0x1003, 0x2000, false),
-        (0x2000, 510, 0x1003, 0x2000, false),
-        (0x1000, 510, 0x1003, 0x8000, false),
-    ];
-    for (frame, index, word, cr3, expected) in rows {
+    for (frame, index, word, cr3, expected) in SELF_ENTRIES {
         let mut memory = memory_with(rt.alloc(), &[(frame, index, word)])?;
         let active = ActiveMemory::new(&mut memory, frame_at(cr3));
         assert_equal(rt, active.cr3(), frame_at(cr3));
@@ -67,24 +66,25 @@ fn roots_have_self_entries(rt: HostRuntime) -> Result<(), Fail> {
     Ok(())
 }
 
+const LENT: [(u64, Option<u64>); 13] = [
+    (0x1000, Some(0x5000)),
+    (0x1abc, None),
+    (0x2000, None),
+    (0x3000, None),
+    (0x4000, None),
+    (0x20_6000, Some(0x6000)),
+    (0x20_6800, None),
+    (0x20_8000, None),
+    (ROOT_WINDOW, Some(0x1000)),
+    (0xffff_ff7f_bfc0_0000, Some(0x2000)),
+    (0xffff_ff7f_8000_0000, Some(0x3000)),
+    (0xffff_ff00_0000_0000, Some(0x4000)),
+    (0xffff_ff00_0000_1000, Some(0x0)),
+];
+
 #[test]
 fn tables_are_lent_where_walks_arrive(rt: HostRuntime) -> Result<(), Fail> {
-    let rows: [(u64, Option<u64>); 13] = [
-        (0x1000, Some(0x5000)),
-        (0x1abc, None),
-        (0x2000, None),
-        (0x3000, None),
-        (0x4000, None),
-        (0x20_6000, Some(0x6000)),
-        (0x20_6800, None),
-        (0x20_8000, None),
-        (ROOT_WINDOW, Some(0x1000)),
-        (0xffff_ff7f_bfc0_0000, Some(0x2000)),
-        (0xffff_ff7f_8000_0000, Some(0x3000)),
-        (0xffff_ff00_0000_0000, Some(0x4000)),
-        (0xffff_ff00_0000_1000, Some(0x0)),
-    ];
-    for (addr, expected) in rows {
+    for (addr, expected) in LENT {
         let mut memory = memory_with_windows(rt.alloc())?;
         let mut active = ActiveMemory::new(&mut memory, frame_at(0x1000));
         let addr = VirtAddr::new_truncate(addr);
@@ -120,46 +120,16 @@ fn walks_go_through_the_words_of_the_moment(rt: HostRuntime) -> Result<(), Fail>
     Ok(())
 }
 
-#[test]
-fn hierarchies_are_valid_for_an_index(rt: HostRuntime) -> Result<(), Fail> {
-    let rows: [(&[(u64, u16, u64)], bool); 10] = [
-        (&[(0x1000, 510, 0x1003)], true),
-        (
-            &[
-                (0x1000, 510, 0x1001),
-                (0x1000, 0, 0x2003),
-                (0x2000, 0, 0x3002),
-                (0x3000, 0, 0x4003),
-                (0x4000, 0, 0x1003),
-            ],
-            true,
-        ),
-        (&[], false),
-        (&[(0x1000, 510, 0x1002)], false),
-        (&[(0x1000, 510, 0x1083)], false),
-        (&[(0x1000, 510, 0x2003)], false),
-        (&[(0x1000, 511, 0x1003)], false),
-        (&[(0x1000, 510, 0x1003), (0x1000, 511, 0x1003)], false),
-        (&[(0x1000, 510, 0x1003), (0x1000, 0, 0x80)], false),
-        (
-            &[
-                (0x1000, 510, 0x1003),
-                (0x1000, 0, 0x2003),
-                (0x1000, 1, 0x2002),
-            ],
-            false,
-        ),
-    ];
-    let index = PageTableIndex::new(510);
-    for (words, expected) in rows {
-        let memory = memory_with(rt.alloc(), words)?;
-        let is_valid = is_valid_recursive(rt.alloc(), &memory, frame_at(0x1000), index)?;
-        assert_equal_in(rt, words, is_valid, expected);
-    }
-    let small = PhysMemory::new(rt.alloc(), 1)?;
-    assert!(rt; !is_valid_recursive(rt.alloc(), &small, frame_at(0x1000), index)?);
-    Ok(())
-}
+const POOLS: [(u16, u64, &[u64], bool); 8] = [
+    (510, 8, &[0x7000, 0x4000], true),
+    (510, 4, &[], true),
+    (510, 3, &[], false),
+    (510, 8, &[0x1000], false),
+    (510, 8, &[0x4000, 0x3000], false),
+    (510, 9, &[0x8000], false),
+    (509, 8, &[0x4000], false),
+    (0, 8, &[], false),
+];
 
 #[test]
 fn pools_fit_for_an_index(rt: HostRuntime) -> Result<(), Fail> {
@@ -168,18 +138,8 @@ fn pools_fit_for_an_index(rt: HostRuntime) -> Result<(), Fail> {
         (0x1000, 0, 0x2003),
         (0x2000, 0, 0x3002),
     ];
-    let rows: [(u16, u64, &[u64], bool); 8] = [
-        (510, 8, &[0x7000, 0x4000], true),
-        (510, 4, &[], true),
-        (510, 3, &[], false),
-        (510, 8, &[0x1000], false),
-        (510, 8, &[0x4000, 0x3000], false),
-        (510, 9, &[0x8000], false),
-        (509, 8, &[0x4000], false),
-        (0, 8, &[], false),
-    ];
     let memory = memory_with(rt.alloc(), &words)?;
-    for (index, limit, frames, expected) in rows {
+    for (index, limit, frames, expected) in POOLS {
         let index = PageTableIndex::new_truncate(index);
         let pool = pool_with(rt.alloc(), limit, frames)?;
         let fits = pool_fits_recursive(rt.alloc(), &memory, frame_at(0x1000), index, &pool)?;
