@@ -1,5 +1,5 @@
-//! Tests of the public calls of mappers, of lists of calls and of the loader, one module a crate. They stand here and not in the
-//! crates, so that each crate is proved once.
+//! Tests of what mappers have of their own, and of the loader, one module a crate. They stand here and not in the crates, so that each
+//! crate is proved once.
 #![tactic(auto)]
 
 #[cfg(test)]
@@ -8,5 +8,3 @@ mod assertions;
 mod loader;
 #[cfg(test)]
 mod mappers;
-#[cfg(test)]
-mod runs;

@@ -1,15 +1,11 @@
 //! Calls by the direct mapper of five levels of tables.
-ghost use Rattle.x86_64_model.specs.Marks.{serves_below};
 ghost use Rattle.x86_64_model.specs.MapperCalls.{IsReady};
-ghost use Rattle.x86_64_model.specs.Call.{Unmap};
-ghost use Rattle.x86_64_model.specs.Owned.{May, MayCleanUp, path_of};
 
-use super::clean_up::check_left;
-use super::map::{check_words, pool_of};
-use super::{image, small};
+use super::{check_words, image, small, word_of};
 use crate::assertions::assert_equal;
 use bitflags::Flags;
-use std::alloc::Global;
+use std::alloc::{AllocError, Global};
+use std::fmt::Debug;
 use std::process::Abort;
 use std::test::Fail;
 use x86_64_addr::addr::{PhysAddr, VirtAddr57};
@@ -18,8 +14,8 @@ use x86_64_page::frame::PhysFrame;
 use x86_64_page::page::{Page57, PageSize, Size2MiB, Size4KiB};
 use x86_64_tables::frame_alloc::FramePool;
 use x86_64_tables::mapper::{
-    CleanUp57, FlagUpdateError, FlushItem, FlushRecorder, MapToError, Mapper57, MapperFlush57,
-    MapperFlushAll, Translate57, UnmapError, parent_flags,
+    FlagUpdateError, FlushItem, FlushRecorder, MapToError, Mapper57, MapperFlush57, MapperFlushAll,
+    Translate57, parent_flags,
 };
 use x86_64_tables::page_table::PageTableFlags;
 use x86_64_tables::phys_memory::{
@@ -41,23 +37,22 @@ pub fn page<S: PageSize>(address: u64) -> Page57<S> {
 }
 
 /// Maps a page by any mapper, and records the flush.
-pub fn map_by<S: PageSize, M: Mapper57<S>>(
+fn map_by<S: PageSize, M: Mapper57<S>>(
     rt: impl Abort + Copy,
-    alloc: Global,
     mapper: &mut M,
-    page: Page57<S>,
-    frame: PhysFrame<S>,
+    both: (Page57<S>, PhysFrame<S>),
     flags: PageTableFlags,
     pool: &mut FramePool,
-) -> Result<FlushRecorder, MapToError<S>>
+    recorder: &mut FlushRecorder,
+) -> Result<(), MapToError<S>>
     requires { IsReady (M.hierarchy mapper.old).layout (M.hierarchy mapper.old).memory pool.old.frames }
 {
+    let (page, frame) = both;
     assert!(rt; mapper.map_allowed(page, flags, parent_flags(flags)));
     let flush = mapper.map_to(page, frame, flags, pool)?;
-    let mut recorder = FlushRecorder::new(alloc);
-    let flushed = flush.flush(&mut recorder).map_err(MapperFlush57::ignore);
+    let flushed = flush.flush(recorder).map_err(MapperFlush57::ignore);
     assert_equal(rt, flushed, Ok(()));
-    Ok(recorder)
+    Ok(())
 }
 
 /// Maps the page of a size at an address to the frame at another, in a memory with the root in frame 0x1000, and records the flush.
@@ -65,19 +60,77 @@ pub fn map_by<S: PageSize, M: Mapper57<S>>(
 fn map<S: PageSize>(
     rt: impl Abort + Copy,
     alloc: Global,
-    memory: &mut PhysMemory,
-    pool: &mut FramePool,
-    addresses: [u64; 2],
-    flags: u64,
-) -> Result<Result<FlushRecorder, MapToError<S>>, Fail> {
-    let [start, frame] = addresses;
+    (memory, pool): (&mut PhysMemory, &mut FramePool),
+    (start, frame, flags): (u64, u64, u64),
+    recorder: &mut FlushRecorder,
+) -> Result<Result<(), MapToError<S>>, Fail> {
     let root = small(0x1000);
     assert!(rt; pool_fits_57(alloc, memory, &IdentityMapping, root, pool)?);
     let mut mapper = MappedPageTable57::new(memory, root, IdentityMapping);
     let frame = PhysFrame::containing_address(PhysAddr::new_truncate(frame));
     let flags = PageTableFlags::from_bits_retain(flags);
-    let page = page::<S>(start);
-    Ok(map_by(rt, alloc, &mut mapper, page, frame, flags, pool))
+    let both = (page::<S>(start), frame);
+    Ok(map_by(rt, &mut mapper, both, flags, pool, recorder))
+}
+
+/// Makes a pool of these frames, below the number 8.
+fn pool_of(alloc: Global, frames: &[u64]) -> Result<FramePool, Fail> {
+    let mut pool = FramePool::new(alloc, 8)?;
+    for frame in frames {
+        pool.try_add(small(*frame)).map_err(|_| "a frame")?;
+    }
+    Ok(pool)
+}
+
+/// What is left of a map in an empty hierarchy: the words that aren't 0, how many frames are free, and the flushes.
+#[derive(Drop)]
+struct Left<'a> {
+    words: &'a [(u64, u16, u64)],
+    free: usize,
+    flushed: &'a [FlushItem],
+}
+
+/// Compares what is left of a map: words, how many frames are free, and the flushes.
+fn check_left(
+    rt: impl Abort + Copy,
+    memory: &PhysMemory,
+    pool: &FramePool,
+    recorder: &FlushRecorder,
+    left: &Left<'_>,
+) -> Result<(), Fail> {
+    assert_equal(rt, recorder.items(), left.flushed);
+    assert_equal(rt, pool.len(), left.free);
+    check_words(rt, memory, left.words)
+}
+
+/// Tells whether the hierarchy with the root in frame 0x1000 is valid, and so does its mapper.
+fn is_valid(alloc: Global, memory: &mut PhysMemory) -> Result<bool, AllocError> {
+    let root = small(0x1000);
+    if !is_valid_hierarchy_57(alloc, memory, &IdentityMapping, root)? {
+        return Ok(false);
+    }
+    let mapper = MappedPageTable57::new(memory, root, IdentityMapping);
+    mapper.is_valid(alloc)
+}
+
+/// Maps the page of a size at an address to the frame at another, with flags, in an empty hierarchy that has these free frames, and
+/// compares the answer and what is left.
+fn check_map<S: PageSize + Debug>(
+    rt: impl Abort + Copy,
+    alloc: Global,
+    frames: &[u64],
+    call: (u64, u64, u64),
+    answer: Result<(), MapToError<S>>,
+    left: &Left<'_>,
+) -> Result<(), Fail> {
+    let mut memory = image(alloc, &[])?;
+    let mut pool = pool_of(alloc, frames)?;
+    let mut recorder = FlushRecorder::new(alloc);
+    let lent = (&mut memory, &mut pool);
+    let mapped = map::<S>(rt, alloc, lent, call, &mut recorder)?;
+    assert_equal(rt, mapped, answer);
+    assert_equal(rt, is_valid(alloc, &mut memory)?, true);
+    check_left(rt, &memory, &pool, &recorder, left)
 }
 
 /// Sets the flags of the entry of level five or four on the path of the page of 4KiB at an address, by a mapper that is dropped then.
@@ -104,35 +157,6 @@ fn set_table_flags(
     Ok(changed.map(MapperFlushAll::ignore))
 }
 
-/// Unmaps a page by any mapper, whose path is not in the window.
-pub fn unmap_by<S: PageSize, M: Mapper57<S>>(
-    mapper: &mut M,
-    page: Page57<S>,
-) -> Result<PhysFrame<S>, UnmapError>
-    requires { May (M.hierarchy mapper.old) (Unmap (path_of (M.hierarchy mapper.old) S.LEVEL page)) }
-{
-    match mapper.unmap(page) {
-        Ok((frame, flush)) => {
-            flush.ignore();
-            Ok(frame)
-        }
-        Err(why) => Err(why),
-    }
-}
-
-/// Unmaps the page of a size at an address, by a mapper that is dropped then.
-fn unmap<S: PageSize>(
-    rt: impl Abort + Copy,
-    alloc: Global,
-    memory: &mut PhysMemory,
-    address: u64,
-) -> Result<Result<PhysFrame<S>, UnmapError>, Fail> {
-    let root = small(0x1000);
-    assert!(rt; is_valid_hierarchy_57(alloc, memory, &IdentityMapping, root)?);
-    let mut mapper = MappedPageTable57::new(memory, root, IdentityMapping);
-    Ok(unmap_by(&mut mapper, page::<S>(address)))
-}
-
 /// Gives the address that an address is mapped to.
 fn translate(
     rt: impl Abort + Copy,
@@ -146,110 +170,77 @@ fn translate(
     Ok(mapper.translate_addr(VirtAddr57::new_truncate(address)))
 }
 
-/// Cleans up all tables by any mapper.
-pub fn clean_up_by<M: CleanUp57>(mapper: &mut M, pool: &mut FramePool)
-    requires { MayCleanUp (M.hierarchy mapper.old) (serves_below pool.old.limit) pool.old.frames }
-{
-    mapper.clean_up(pool);
-}
-
-/// Cleans up all tables, by a mapper that is dropped then.
-fn clean_up(
-    rt: impl Abort + Copy,
-    alloc: Global,
-    memory: &mut PhysMemory,
-    pool: &mut FramePool,
-) -> Result<(), Fail> {
-    let root = small(0x1000);
-    assert!(rt; pool_fits_57(alloc, memory, &IdentityMapping, root, pool)?);
-    let mut mapper = MappedPageTable57::new(memory, root, IdentityMapping);
-    clean_up_by(&mut mapper, pool);
-    Ok(())
-}
-
 #[test]
 fn pages_of_57_bits_are_mapped(rt: HostRuntime) -> Result<(), Fail> {
-    let alloc = rt.alloc();
-    let mut memory = image(alloc, &[])?;
-    let mut pool = pool_of(alloc, &[0x2000, 0x3000, 0x4000, 0x5000])?;
-    let mapped = map::<Size4KiB>(rt, alloc, &mut memory, &mut pool, [0x1000, 0x6000], 3)?;
-    let recorder = mapped.map_err(|_| "mapped")?;
     let start = VirtAddr57::new(0x1000);
-    assert_equal(
-        rt,
-        recorder.items(),
-        [FlushItem::Page57 { start, size: 4096 }].as_slice(),
-    );
-    assert_equal(rt, pool.len(), 0);
-    check_words(rt, &memory, &MAPPED)?;
-    let found = translate(rt, alloc, &mut memory, 0x1abc)?;
-    assert_equal(rt, found, Some(PhysAddr::new(0x6abc)));
-    let found = translate(rt, alloc, &mut memory, 0xff00_0000_0000_1abc)?;
-    assert_equal(rt, found, None);
-    Ok(())
-}
-
-#[test]
-fn maps_of_57_bits_need_four_frames(rt: HostRuntime) -> Result<(), Fail> {
-    let alloc = rt.alloc();
-    let mut memory = image(alloc, &[])?;
-    let mut pool = pool_of(alloc, &[0x2000, 0x3000, 0x4000])?;
-    let mapped = map::<Size4KiB>(rt, alloc, &mut memory, &mut pool, [0x1000, 0x6000], 3)?;
-    assert_equal(rt, mapped.err(), Some(MapToError::FrameAllocationFailed));
-    assert_equal(rt, pool.len(), 0);
-    check_words(rt, &memory, &MAPPED[..3])
-}
-
-#[test]
-fn large_pages_of_57_bits_come_and_go(rt: HostRuntime) -> Result<(), Fail> {
-    let alloc = rt.alloc();
+    let left = Left {
+        words: &MAPPED,
+        free: 0,
+        flushed: &[FlushItem::Page57 { start, size: 4096 }],
+    };
     let frames = [0x2000, 0x3000, 0x4000, 0x5000];
-    let mut memory = image(alloc, &[])?;
-    let mut pool = pool_of(alloc, &frames)?;
-    let mapped = map::<Size2MiB>(rt, alloc, &mut memory, &mut pool, [0x20_0000, 0x40_0000], 1)?;
-    let recorder = mapped.map_err(|_| "mapped")?;
+    let call = (0x1000, 0x6000, 0x3);
+    check_map::<Size4KiB>(rt, rt.alloc(), &frames, call, Ok(()), &left)?;
+    let left = Left {
+        words: &MAPPED[..3],
+        free: 0,
+        flushed: &[],
+    };
+    let refused = Err(MapToError::FrameAllocationFailed);
+    check_map::<Size4KiB>(rt, rt.alloc(), &frames[..3], call, refused, &left)
+}
+
+#[test]
+fn large_pages_of_57_bits_are_mapped(rt: HostRuntime) -> Result<(), Fail> {
     let start = VirtAddr57::new(0x20_0000);
-    assert_equal(
-        rt,
-        recorder.items(),
-        [FlushItem::Page57 {
-            start,
-            size: 2_097_152,
-        }]
-        .as_slice(),
-    );
-    check_left(
-        rt,
-        &memory,
-        &pool,
-        &[0x5000],
-        &[
+    let left = Left {
+        words: &[
             (1, 0, 0x2001),
             (2, 0, 0x3001),
             (3, 0, 0x4001),
             (4, 1, 0x40_0081),
         ],
-    )?;
-    let frame = unmap::<Size2MiB>(rt, alloc, &mut memory, 0x20_0000)?;
-    assert_equal(
-        rt,
-        frame.map(|frame| frame.start_address().as_u64()),
-        Ok(0x40_0000),
-    );
-    clean_up(rt, alloc, &mut memory, &mut pool)?;
-    check_left(rt, &memory, &pool, &frames, &[])
+        free: 1,
+        flushed: &[FlushItem::Page57 {
+            start,
+            size: 2_097_152,
+        }],
+    };
+    let frames = [0x2000, 0x3000, 0x4000, 0x5000];
+    let call = (0x20_0000, 0x40_0000, 0x1);
+    check_map::<Size2MiB>(rt, rt.alloc(), &frames, call, Ok(()), &left)
+}
+
+#[test]
+fn pages_of_57_bits_are_translated(rt: HostRuntime) -> Result<(), Fail> {
+    let mut memory = image(rt.alloc(), &MAPPED)?;
+    let found = translate(rt, rt.alloc(), &mut memory, 0x1abc)?;
+    assert_equal(rt, found, Some(PhysAddr::new(0x6abc)));
+    let found = translate(rt, rt.alloc(), &mut memory, 0xff00_0000_0000_1abc)?;
+    assert_equal(rt, found, None);
+    Ok(())
+}
+
+/// Level, flags, and what comes of setting them on the path of the page 0x1000.
+const FLAGS: [(u64, u64, Result<(), FlagUpdateError>); 3] = [
+    (4, 0x1, Ok(())),
+    (5, 0x2, Ok(())),
+    (4, 0x3, Err(FlagUpdateError::PageNotMapped)),
+];
+
+/// Sets flags one after the other, and compares what comes of it.
+fn check_flags(rt: impl Abort + Copy, alloc: Global, memory: &mut PhysMemory) -> Result<(), Fail> {
+    for (level, flags, wanted) in FLAGS {
+        let changed = set_table_flags(rt, alloc, memory, level, 0x1000, flags)?;
+        assert_equal(rt, changed, wanted);
+    }
+    Ok(())
 }
 
 #[test]
 fn flags_of_level_five_are_changed(rt: HostRuntime) -> Result<(), Fail> {
-    let alloc = rt.alloc();
-    let mut memory = image(alloc, &MAPPED)?;
-    let changed = set_table_flags(rt, alloc, &mut memory, 4, 0x1000, 0x1)?;
-    assert_equal(rt, changed, Ok(()));
-    let changed = set_table_flags(rt, alloc, &mut memory, 5, 0x1000, 0x2)?;
-    assert_equal(rt, changed, Ok(()));
-    let changed = set_table_flags(rt, alloc, &mut memory, 4, 0x1000, 0x3)?;
-    assert_equal(rt, changed, Err(FlagUpdateError::PageNotMapped));
+    let mut memory = image(rt.alloc(), &MAPPED)?;
+    check_flags(rt, rt.alloc(), &mut memory)?;
     let words = [
         (1, 0, 0x2002),
         (2, 0, 0x3001),
@@ -258,4 +249,16 @@ fn flags_of_level_five_are_changed(rt: HostRuntime) -> Result<(), Fail> {
         (5, 1, 0x6003),
     ];
     check_words(rt, &memory, &words)
+}
+
+#[test]
+fn root_tables_are_lent(rt: HostRuntime) -> Result<(), Fail> {
+    let mut memory = image(rt.alloc(), &MAPPED)?;
+    let root = small(0x1000);
+    assert!(rt; is_valid_hierarchy_57(rt.alloc(), &memory, &IdentityMapping, root)?);
+    let mut mapper = MappedPageTable57::new(&mut memory, root, IdentityMapping);
+    assert_equal(rt, word_of(&mapper.level_5_table()[0]), 0x2003);
+    mapper.level_5_table_mut().zero();
+    drop(mapper);
+    check_words(rt, &memory, &MAPPED[1..])
 }

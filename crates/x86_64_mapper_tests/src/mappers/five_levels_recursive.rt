@@ -7,13 +7,10 @@ ghost use Rattle.x86_64_tables.specs.PageTable.{zero_words};
 ghost use Rattle.x86_64_mappers.specs.InvalidPageTables.{refuses_57};
 ghost use Rattle.x86_64_mappers.specs.Recursive.{recursive_now_57};
 
-use super::clean_up::check_left;
-use super::five_levels::{clean_up_by, map_by, page, unmap_by};
-use super::map::{check_words, pool_of};
+use super::five_levels::page;
 use super::recursive::{SELF_ENTRY, recursive_index};
-use super::{image, mapped, small, word_of};
-use crate::assertions::{assert_equal, assert_equal_at};
-use bitflags::Flags;
+use super::{check_words, image, small, word_of};
+use crate::assertions::assert_equal;
 use std::alloc::Global;
 use std::process::Abort;
 use std::test::Fail;
@@ -24,32 +21,12 @@ use x86_64_mappers::recursive_page_table::{
 };
 use x86_64_page::frame::PhysFrame;
 use x86_64_page::page::{Page57, Size1GiB, Size2MiB, Size4KiB};
-use x86_64_tables::frame_alloc::FramePool;
-use x86_64_tables::mapper::{
-    FlushRecorder, MapToError, MappedFrame, Translate57, TranslateResult, UnmapError,
-};
-use x86_64_tables::page_table::PageTableFlags;
 use x86_64_tables::phys_memory::{
     ActiveMemory57, IdentityMapping, PhysMemory, is_valid_recursive_57, page_walk_57,
-    pool_fits_recursive_57,
 };
 
 /// The address of the root's window.
 const ROOT_WINDOW: u64 = 0xfffe_ff7f_bfdf_e000;
-
-/// Translates an address by a mapper that is dropped then. The owner knows that the memory is as it was.
-fn look_up(
-    memory: &mut PhysMemory,
-    root: PhysFrame<Size4KiB>,
-    index: PageTableIndex,
-    addr: VirtAddr57,
-) -> TranslateResult
-    requires { Valid (recursive_now_57 memory.old root index) memory.old }
-    ensures { memory.new ≡ memory.old }
-{
-    let mapper = RecursivePageTable57::new_unchecked(ActiveMemory57::new(memory, root), index);
-    mapper.translate(addr)
-}
 
 /// Makes a mapper of a table at an address unless it is refused. The owner knows that the memory is as it was.
 fn make(
@@ -72,121 +49,6 @@ fn make(
         Ok(_mapper) => Ok(()),
         Err(why) => Err(why),
     }
-}
-
-/// Maps the page of 4KiB at an address to the frame at another through windows, and records the flush.
-#[tactic(auto, using(x86_64_model::proofs::Lemmas::Machines::Fitting::ready_of_fits))]
-fn map(
-    rt: impl Abort + Copy,
-    alloc: Global,
-    memory: &mut PhysMemory,
-    pool: &mut FramePool,
-    addresses: [u64; 2],
-    flags: u64,
-) -> Result<Result<FlushRecorder, MapToError<Size4KiB>>, Fail> {
-    let [start, frame] = addresses;
-    let (root, index) = (small(0x1000), recursive_index());
-    assert!(rt; pool_fits_recursive_57(alloc, memory, root, index, pool)?);
-    let active = ActiveMemory57::new(memory, root);
-    let mut mapper = RecursivePageTable57::new_unchecked(active, index);
-    let (page, frame) = (page::<Size4KiB>(start), small(frame));
-    let flags = PageTableFlags::from_bits_retain(flags);
-    Ok(map_by(rt, alloc, &mut mapper, page, frame, flags, pool))
-}
-
-/// Unmaps the page of 4KiB at an address through windows.
-fn unmap(
-    rt: impl Abort + Copy,
-    alloc: Global,
-    memory: &mut PhysMemory,
-    address: u64,
-) -> Result<Result<PhysFrame<Size4KiB>, UnmapError>, Fail> {
-    let (root, index) = (small(0x1000), recursive_index());
-    assert!(rt; is_valid_recursive_57(alloc, memory, root, index)?);
-    let page = page::<Size4KiB>(address);
-    assert!(rt; page.p5_index() != index);
-    let active = ActiveMemory57::new(memory, root);
-    let mut mapper = RecursivePageTable57::new_unchecked(active, index);
-    Ok(unmap_by(&mut mapper, page))
-}
-
-/// Cleans up through windows.
-fn clean_up(
-    rt: impl Abort + Copy,
-    alloc: Global,
-    memory: &mut PhysMemory,
-    pool: &mut FramePool,
-) -> Result<(), Fail> {
-    let (root, index) = (small(0x1000), recursive_index());
-    assert!(rt; pool_fits_recursive_57(alloc, memory, root, index, pool)?);
-    let active = ActiveMemory57::new(memory, root);
-    let mut mapper = RecursivePageTable57::new_unchecked(active, index);
-    clean_up_by(&mut mapper, pool);
-    Ok(())
-}
-
-/// Compares what an address is mapped to.
-fn check(
-    rt: impl Abort + Copy,
-    alloc: Global,
-    memory: &mut PhysMemory,
-    addr: u64,
-    expected: TranslateResult,
-) -> Result<(), Fail> {
-    let (root, index) = (small(0x1000), recursive_index());
-    assert!(rt; is_valid_recursive_57(alloc, memory, root, index)?);
-    let found = look_up(memory, root, index, VirtAddr57::new_truncate(addr));
-    assert_equal_at(rt, addr, found, expected);
-    Ok(())
-}
-
-#[test]
-fn tables_of_five_levels_are_made_through_their_windows(rt: HostRuntime) -> Result<(), Fail> {
-    let alloc = rt.alloc();
-    let words = [SELF_ENTRY, (2, 5, u64::MAX), (5, 7, 0x81)];
-    let mut memory = image(alloc, &words)?;
-    let mut pool = pool_of(alloc, &[0x2000, 0x3000, 0x4000, 0x5000])?;
-    let mapped_to = map(rt, alloc, &mut memory, &mut pool, [0x1000, 0x6000], 1)?;
-    assert!(rt; mapped_to.is_ok());
-    let words = [
-        SELF_ENTRY,
-        (1, 0, 0x2003),
-        (2, 0, 0x3003),
-        (3, 0, 0x4003),
-        (4, 0, 0x5003),
-        (5, 1, 0x6001),
-    ];
-    check_left(rt, &memory, &pool, &[], &words)?;
-    let rows = [
-        (0x1abc, 0x6000, 0xabc, 0x1),
-        (0xfffe_0000_0000_0000, 0x5000, 0, 0x3),
-        (0xfffe_ff00_0000_0000, 0x4000, 0, 0x3),
-        (0xfffe_ff7f_8000_0000, 0x3000, 0, 0x3),
-        (0xfffe_ff7f_bfc0_0000, 0x2000, 0, 0x3),
-        (ROOT_WINDOW, 0x1000, 0, 0x3),
-    ];
-    for (addr, frame, offset, flags) in rows {
-        let expected = mapped(MappedFrame::Size4KiB(small(frame)), offset, flags);
-        check(rt, alloc, &mut memory, addr, expected)?;
-    }
-    Ok(())
-}
-
-#[test]
-fn clean_ups_of_five_levels_leave_the_recursive_index(rt: HostRuntime) -> Result<(), Fail> {
-    let alloc = rt.alloc();
-    let mut memory = image(alloc, &[SELF_ENTRY])?;
-    let mut pool = pool_of(alloc, &[0x2000, 0x3000, 0x4000, 0x5000])?;
-    let mapped_to = map(rt, alloc, &mut memory, &mut pool, [0x1000, 0x6000], 1)?;
-    assert!(rt; mapped_to.is_ok());
-    let frame = unmap(rt, alloc, &mut memory, 0x1000)?;
-    assert_equal(rt, frame, Ok(small(0x6000)));
-    clean_up(rt, alloc, &mut memory, &mut pool)?;
-    let back = [0x2000, 0x3000, 0x4000, 0x5000];
-    check_left(rt, &memory, &pool, &back, &[SELF_ENTRY])?;
-    let (root, index) = (small(0x1000), recursive_index());
-    assert!(rt; is_valid_recursive_57(alloc, &memory, root, index)?);
-    Ok(())
 }
 
 /// Compares whether a mapper is refused, for a table that the walk of an address is to arrive at.
@@ -282,30 +144,32 @@ fn windows_of_pages_of_57_bits(rt: HostRuntime) -> Result<(), Fail> {
     Ok(())
 }
 
+/// The tables on the way to a page of 4KiB at 0x1000, and words of other kinds beside them.
+const WORDS: [(u64, u16, u64); 7] = [
+    SELF_ENTRY,
+    (1, 0, 0x2003),
+    (2, 0, 0x3003),
+    (3, 0, 0x4003),
+    (4, 0, 0x5003),
+    (5, 0, 0x1fff),
+    (5, 510, 0x80),
+];
+
 #[test]
 fn windows_of_57_bits_are_walked_to_their_tables(rt: HostRuntime) -> Result<(), Fail> {
-    let words = [
-        SELF_ENTRY,
-        (1, 0, 0x2003),
-        (2, 0, 0x3003),
-        (3, 0, 0x4003),
-        (4, 0, 0x5003),
-        (5, 0, 0x1fff),
-        (5, 510, 0x80),
-    ];
-    let memory = image(rt.alloc(), &words)?;
+    let memory = image(rt.alloc(), &WORDS)?;
     let (index, page) = (recursive_index(), page::<Size4KiB>(0x1000));
-    let rows = [
-        (p4_window_57(page, index), 0x2000),
-        (p3_window_57(page, index), 0x3000),
-        (p2_window_57(page, index), 0x4000),
-        (p1_window_57(page, index), 0x5000),
+    let windows = [
+        p4_window_57(page, index),
+        p3_window_57(page, index),
+        p2_window_57(page, index),
+        p1_window_57(page, index),
     ];
-    for (window, table) in rows {
+    for (window, table) in windows.into_iter().zip([0x2000, 0x3000, 0x4000, 0x5000]) {
         let addr = window.start_address();
         let walked = page_walk_57(&memory, &IdentityMapping, small(0x1000), addr);
-        let walked = walked.ok_or("no table")?;
-        assert_equal(rt, walked.address.as_u64(), table);
+        let address = walked.map(|walked| walked.address.as_u64());
+        assert_equal(rt, address, Some(table));
     }
     Ok(())
 }

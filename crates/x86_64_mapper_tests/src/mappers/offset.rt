@@ -1,34 +1,57 @@
 //! A mapper of a memory that stands at an offset.
 use super::{image, mapped, small, word_of};
 use crate::assertions::{assert_equal, assert_equal_at};
+use std::alloc::Global;
+use std::process::Abort;
 use std::test::Fail;
 use x86_64_addr::addr::VirtAddr;
 use x86_64_mappers::offset_page_table::OffsetPageTable;
 use x86_64_page::page::{Page, Size4KiB};
-use x86_64_tables::mapper::{MappedFrame, Mapper, Tables, Translate, TranslateResult};
+use x86_64_tables::mapper::{MappedFrame, Mapper, Tables, Translate};
 use x86_64_tables::phys_memory::{IdentityMapping, PhysMemory, is_valid_hierarchy};
+
+/// Offsets, and whether they fit a memory of 8 places.
+const OFFSETS: [(u64, bool); 10] = [
+    (0xffff_8000_0000_0000, true),
+    (0x7fff_ffff_8000, true),
+    (0x7fff_ffff_8fff, true),
+    (0x7fff_ffff_9000, false),
+    (0x7fff_ffff_f000, false),
+    (0xffff_ffff_ffff_8000, true),
+    (0xffff_ffff_ffff_8fff, true),
+    (0xffff_ffff_ffff_9000, false),
+    (0xffff_ffff_ffff_f000, false),
+    (0x123, true),
+];
 
 #[test]
 fn offsets_fit_where_each_place_is_reached(rt: HostRuntime) -> Result<(), Fail> {
     let memory = PhysMemory::new(rt.alloc(), 8)?;
-    let rows = [
-        (0xffff_8000_0000_0000, true),
-        (0x7fff_ffff_8000, true),
-        (0x7fff_ffff_8fff, true),
-        (0x7fff_ffff_9000, false),
-        (0x7fff_ffff_f000, false),
-        (0xffff_ffff_ffff_8000, true),
-        (0xffff_ffff_ffff_8fff, true),
-        (0xffff_ffff_ffff_9000, false),
-        (0xffff_ffff_ffff_f000, false),
-        (0x123, true),
-    ];
-    for (offset, expected) in rows {
+    for (offset, expected) in OFFSETS {
         let fits = OffsetPageTable::offset_fits(&memory, VirtAddr::new_truncate(offset));
         assert_equal_at(rt, offset, fits, expected);
     }
     let none = PhysMemory::new(rt.alloc(), 0)?;
     assert!(rt; OffsetPageTable::offset_fits(&none, VirtAddr::new_truncate(u64::MAX)));
+    Ok(())
+}
+
+/// Asks a mapper of its tables, and has it change them.
+fn check_mapper(rt: impl Abort + Copy, alloc: Global, memory: &mut PhysMemory) -> Result<(), Fail> {
+    let root = small(0x1000);
+    let offset = VirtAddr::new(0xffff_8000_0000_0000);
+    assert!(rt; is_valid_hierarchy(alloc, memory, &IdentityMapping, root)?);
+    assert!(rt; OffsetPageTable::offset_fits(memory, offset));
+    let mut mapper = OffsetPageTable::new(memory, root, offset);
+    assert_equal(rt, mapper.phys_offset(), offset);
+    assert_equal(rt, mapper.recursive_index(), None);
+    assert_equal(rt, word_of(&mapper.level_4_table()[0]), 0x2003);
+    let expected = mapped(MappedFrame::Size4KiB(small(0x5000)), 0xabc, 3);
+    assert_equal(rt, mapper.translate(VirtAddr::new(0x1abc)), expected);
+    let page: Page<Size4KiB> = Page::containing_address(VirtAddr::new(0x1000));
+    assert_equal(rt, mapper.translate_page(page), Ok(small(0x5000)));
+    mapper.level_4_table_mut().zero();
+    assert_equal(rt, mapper.level_4_table()[0].is_unused(), true);
     Ok(())
 }
 
@@ -41,26 +64,5 @@ fn mappers_at_an_offset_find_their_tables(rt: HostRuntime) -> Result<(), Fail> {
         (4, 1, 0x5003),
     ];
     let mut memory = image(rt.alloc(), &words)?;
-    let root = small(0x1000);
-    let offset = VirtAddr::new(0xffff_8000_0000_0000);
-    assert!(rt; is_valid_hierarchy(rt.alloc(), &memory, &IdentityMapping, root)?);
-    assert!(rt; OffsetPageTable::offset_fits(&memory, offset));
-    let mut mapper = OffsetPageTable::new(&mut memory, root, offset);
-    assert_equal(rt, mapper.phys_offset(), offset);
-    assert_equal(rt, mapper.recursive_index(), None);
-    assert_equal(rt, word_of(&mapper.level_4_table()[0]), 0x2003);
-    let expected = mapped(MappedFrame::Size4KiB(small(0x5000)), 0xabc, 3);
-    assert_equal(rt, mapper.translate(VirtAddr::new(0x1abc)), expected);
-    let page: Page<Size4KiB> = Page::containing_address(VirtAddr::new(0x1000));
-    assert_equal(rt, mapper.translate_page(page), Ok(small(0x5000)));
-    let unmapped = mapper.unmap(page).map(|(frame, flush)| {
-        flush.ignore();
-        frame
-    });
-    assert_equal(rt, unmapped, Ok(small(0x5000)));
-    let translated = mapper.translate(VirtAddr::new(0x1abc));
-    assert_equal(rt, translated, TranslateResult::NotMapped);
-    mapper.level_4_table_mut().zero();
-    assert!(rt; mapper.level_4_table()[0].is_unused());
-    Ok(())
+    check_mapper(rt, rt.alloc(), &mut memory)
 }

@@ -32,33 +32,31 @@ fn windows_of_large_pages(rt: HostRuntime) -> Result<(), Fail> {
     Ok(())
 }
 
+/// The tables on the way to a page of 4KiB at 0x1000, and words of other kinds beside them.
+const WORDS: [(u64, u16, u64); 6] = [
+    (1, 510, 0x1003),
+    (1, 0, 0x2003),
+    (2, 0, 0x3003),
+    (3, 0, 0x4003),
+    (4, 0, 0x1fff),
+    (4, 510, 0x80),
+];
+
 #[test]
 fn windows_are_walked_to_their_tables(rt: HostRuntime) -> Result<(), Fail> {
-    let words = [
-        (1, 510, 0x1003),
-        (1, 0, 0x2003),
-        (2, 0, 0x3003),
-        (3, 0, 0x4003),
-        (4, 0, 0x1fff),
-        (4, 510, 0x80),
-    ];
-    let memory = image(rt.alloc(), &words)?;
+    let memory = image(rt.alloc(), &WORDS)?;
     let index = PageTableIndex::new(510);
     let page: Page<Size4KiB> = page(0x1000);
-    let rows = [
-        (p3_window(page, index), 0x2000),
-        (p2_window(page, index), 0x3000),
-        (p1_window(page, index), 0x4000),
+    let windows = [
+        p3_window(page, index),
+        p2_window(page, index),
+        p1_window(page, index),
     ];
-    for (window, table) in rows {
-        let walked = page_walk(
-            &memory,
-            &IdentityMapping,
-            small(0x1000),
-            window.start_address(),
-        );
-        let walked = walked.ok_or("no table")?;
-        assert_equal(rt, walked.address.as_u64(), table);
+    for (window, table) in windows.into_iter().zip([0x2000, 0x3000, 0x4000]) {
+        let addr = window.start_address();
+        let walked = page_walk(&memory, &IdentityMapping, small(0x1000), addr);
+        let address = walked.map(|walked| walked.address.as_u64());
+        assert_equal(rt, address, Some(table));
     }
     Ok(())
 }
