@@ -1,9 +1,9 @@
 //! Calls on pages, as lines write them.
-ghost use Rattle.std.specs.Prelude.{◌≡◌, ◌↔◌, IsSome, IfSome};
+ghost use Rattle.std.specs.Prelude.{◌≡◌, ◌↔◌, Some, IsSome, IfSome};
 ghost use Rattle.x86_64_addr.specs.Position.{raw};
 ghost use Rattle.x86_64.specs.Calls.{size_asks, size_asks_57};
 ghost use Rattle.pagetab_engine.specs.Starts.{IsPageStart, IsFrameStart};
-ghost use Rattle.pagetab_engine.specs.PageCalls.{IsPageCall, bytes_of, call_written, call_57_written, page_call_name, page_call_numbers};
+ghost use Rattle.pagetab_engine.specs.PageCalls.{IsPageCall, bytes_of, call_written, call_57_written, fields_of, page_call_name, page_call_numbers};
 
 use crate::fields::{Name, Size};
 use bitflags::Flags;
@@ -15,9 +15,7 @@ use x86_64::{Call, Call57, PhysAddr, SizeCall, SizeCall57, VirtAddr, VirtAddr57}
 /// Answers `None` exactly where the name isn't that of such a call, or the numbers aren't its.
 pub fn parse_call(name: Name, size: Size, numbers: &[u64]) -> Option<Call>
     ensures accepted { IsSome result ↔ IsPageCall 4 (bytes_of size) name numbers.now }
-    ensures name { IfSome result (λ call. (call_written call).name ≡ name) }
-    ensures size { IfSome result (λ call. (call_written call).size ≡ Some size) }
-    ensures numbers { IfSome result (λ call. (call_written call).numbers ≡ numbers.now) }
+    ensures written { IfSome result (λ call. call_written call ≡ fields_of name (Some size) numbers.now) }
 {
     Some(match size {
         Size::Size4KiB => Call::Of4KiB(parse_size_call(name, numbers)?),
@@ -29,9 +27,7 @@ pub fn parse_call(name: Name, size: Size, numbers: &[u64]) -> Option<Call>
 /// Does what [`parse_call`] does, where there are five levels.
 pub fn parse_call_57(name: Name, size: Size, numbers: &[u64]) -> Option<Call57>
     ensures accepted { IsSome result ↔ IsPageCall 5 (bytes_of size) name numbers.now }
-    ensures name { IfSome result (λ call. (call_57_written call).name ≡ name) }
-    ensures size { IfSome result (λ call. (call_57_written call).size ≡ Some size) }
-    ensures numbers { IfSome result (λ call. (call_57_written call).numbers ≡ numbers.now) }
+    ensures written { IfSome result (λ call. call_57_written call ≡ fields_of name (Some size) numbers.now) }
 {
     Some(match size {
         Size::Size4KiB => Call57::Of4KiB(parse_size_call_57(name, numbers)?),
@@ -97,8 +93,8 @@ macro_rules! size_call {
 /// Does what [`parse_call`] does, for one size.
 fn parse_size_call<S: PageSize>(name: Name, numbers: &[u64]) -> Option<SizeCall<S>>
     ensures accepted { IsSome result ↔ IsPageCall 4 S.SIZE name numbers.now }
-    ensures name { IfSome result (λ call. page_call_name (size_asks call) ≡ name) }
-    ensures numbers { IfSome result (λ call. page_call_numbers 4 (size_asks call) ≡ numbers.now) }
+    ensures written { IfSome result (λ call. let asked = size_asks call in
+        (page_call_name asked ≡ name) × (page_call_numbers 4 asked ≡ numbers.now)) }
 {
     size_call!(SizeCall, page_at, name, numbers)
 }
@@ -106,8 +102,8 @@ fn parse_size_call<S: PageSize>(name: Name, numbers: &[u64]) -> Option<SizeCall<
 /// Does what [`parse_call_57`] does, for one size.
 fn parse_size_call_57<S: PageSize>(name: Name, numbers: &[u64]) -> Option<SizeCall57<S>>
     ensures accepted { IsSome result ↔ IsPageCall 5 S.SIZE name numbers.now }
-    ensures name { IfSome result (λ call. page_call_name (size_asks_57 call) ≡ name) }
-    ensures numbers { IfSome result (λ call. page_call_numbers 5 (size_asks_57 call) ≡ numbers.now) }
+    ensures written { IfSome result (λ call. let asked = size_asks_57 call in
+        (page_call_name asked ≡ name) × (page_call_numbers 5 asked ≡ numbers.now)) }
 {
     size_call!(SizeCall57, page_57_at, name, numbers, SetFlagsP5)
 }

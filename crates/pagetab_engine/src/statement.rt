@@ -1,7 +1,8 @@
 //! What lines say.
-ghost use Rattle.std.specs.Prelude.{◌≡◌, ◌↔◌, ℕ, Option, List, Some, None, IsSome, IfSome, IfNone};
+ghost use Rattle.std.specs.Prelude.{◌≡◌, ◌↔◌, ℕ, Option, List, IsSome, IfSome, IfNone};
 ghost use Rattle.pagetab_engine.specs.Fields.{Says};
 ghost use Rattle.pagetab_engine.specs.Arguments.{levels_of};
+ghost use Rattle.pagetab_engine.specs.PageCalls.{fields_of, without_size};
 ghost use Rattle.pagetab_engine.specs.Statements.{IsOnAddresses, IsPlain, IsStatement, IsAccepted, SaysStatement, CommandHas, HasLevels};
 ghost use Rattle.pagetab_engine.specs.Statements.{levels_in, command_written, written};
 ghost use Rattle.pagetab_engine.specs.declared.arguments.Levels.TheVariants.{Four, Five};
@@ -67,9 +68,7 @@ impl Statement {
         arguments: &Arguments,
     ) -> Option<Statement>
         ensures accepted { IsSome result ↔ IsStatement arguments.now name size numbers.now }
-        ensures name { IfSome result (λ statement. (written statement).name ≡ name) }
-        ensures size { IfSome result (λ statement. (written statement).size ≡ size) }
-        ensures numbers { IfSome result (λ statement. (written statement).numbers ≡ numbers.now) }
+        ensures written { IfSome result (λ statement. written statement ≡ fields_of name size numbers.now) }
         ensures levels { IfSome result (λ statement. HasLevels (levels_of arguments.now.mode) statement) }
     {
         match size {
@@ -88,9 +87,7 @@ impl Statement {
     fn from_plain_fields(name: Name, numbers: &[u64], arguments: &Arguments) -> Option<Statement>
         ensures accepted { let about = arguments.now in
             IsSome result ↔ IsPlain about.places (levels_in about) name numbers.now }
-        ensures name { IfSome result (λ statement. (written statement).name ≡ name) }
-        ensures size { IfSome result (λ statement. (written statement).size ≡ None) }
-        ensures numbers { IfSome result (λ statement. (written statement).numbers ≡ numbers.now) }
+        ensures written { IfSome result (λ statement. written statement ≡ without_size name numbers.now) }
         ensures levels { IfSome result (λ statement. HasLevels (levels_of arguments.now.mode) statement) }
     {
         let places = arguments.places;
@@ -123,9 +120,7 @@ impl Command {
     /// Gives the command on addresses of 48 bits that fields without SIZE write, or `None` exactly where there is none.
     fn at_48_bits(name: Name, numbers: &[u64]) -> Option<Command>
         ensures accepted { IsSome result ↔ IsOnAddresses 4 name numbers.now }
-        ensures name { IfSome result (λ command. (command_written command).name ≡ name) }
-        ensures size { IfSome result (λ command. (command_written command).size ≡ None) }
-        ensures numbers { IfSome result (λ command. (command_written command).numbers ≡ numbers.now) }
+        ensures written { IfSome result (λ command. command_written command ≡ without_size name numbers.now) }
         ensures levels { IfSome result (CommandHas Four) }
     {
         match (name, numbers) {
@@ -153,9 +148,7 @@ impl Command {
     /// Does what [`at_48_bits`](Self::at_48_bits) does, for addresses of 57 bits.
     fn at_57_bits(name: Name, numbers: &[u64]) -> Option<Command>
         ensures accepted { IsSome result ↔ IsOnAddresses 5 name numbers.now }
-        ensures name { IfSome result (λ command. (command_written command).name ≡ name) }
-        ensures size { IfSome result (λ command. (command_written command).size ≡ None) }
-        ensures numbers { IfSome result (λ command. (command_written command).numbers ≡ numbers.now) }
+        ensures written { IfSome result (λ command. command_written command ≡ without_size name numbers.now) }
         ensures levels { IfSome result (CommandHas Five) }
     {
         match (name, numbers) {

@@ -1,21 +1,19 @@
 //! Two hierarchies that are alike, of which the second one has a recursive index, and lists of calls by both mappers at once.
 ghost use Rattle.std.specs.Prelude.{◌≡◌, false, IfOk, IsTrue};
 ghost use Rattle.std.specs.List.{AllByRecursion};
-ghost use Rattle.x86_64_mappers.specs.Offsets.{OffsetFits};
 ghost use Rattle.x86_64.specs.Calls.{names, names_57};
 ghost use Rattle.x86_64_tests.specs.Pairs.{IsPair};
 
 use std::alloc::{AllocError, Global};
 use x86_64::structures::paging::{
-    MappedPageTable, MappedPageTable57, OffsetPageTable, PageTableIndex, PhysFrame,
-    RecursivePageTable, RecursivePageTable57, Size4KiB,
+    MappedPageTable, MappedPageTable57, PageTableIndex, PhysFrame, RecursivePageTable,
+    RecursivePageTable57, Size4KiB,
 };
 use x86_64::{
     ActiveMemory, ActiveMemory57, Call, Call57, FramePool, IdentityMapping, PhysMemory, Reply,
-    Reply57, VirtAddr, pool_fits, pool_fits_57, pool_fits_recursive, pool_fits_recursive_57,
-    run_pair, run_pair_57, tables_alike, tables_alike_57,
+    Reply57, pool_fits, pool_fits_57, pool_fits_recursive, pool_fits_recursive_57, run_pair,
+    run_pair_57, tables_alike, tables_alike_57,
 };
-use x86_64_mappers::laws::offset_has_the_tables_of_the_identity;
 
 /// Tells whether two hierarchies are valid, the second one for a recursive index, their pools fit them, the path maps are
 /// alike, and the free frames the same.
@@ -133,34 +131,4 @@ pub fn run_pair_57_on(
     let active = ActiveMemory57::new(walked, root);
     let mut recursive = RecursivePageTable57::new_unchecked(active, index);
     run_pair_57(alloc, &mut direct, pool, &mut recursive, walked_pool, calls)
-}
-
-/// Answers calls as [`run_pair_on`] does, the first memory's by the mapper of a memory that stands at an offset.
-pub fn run_pair_at_offset(
-    alloc: Global,
-    root: PhysFrame<Size4KiB>,
-    phys_offset: VirtAddr,
-    index: PageTableIndex,
-    memory: &mut PhysMemory,
-    pool: &mut FramePool,
-    walked: &mut PhysMemory,
-    walked_pool: &mut FramePool,
-    calls: &[Call],
-) -> Result<Vec<Reply>, AllocError>
-    requires pair { IsPair 4 root index memory.old pool.old walked.old walked_pool.old }
-    requires offset { OffsetFits memory.old phys_offset }
-    requires unnamed { AllByRecursion (λ call. names call index ≡ false) calls.now }
-{
-    offset_has_the_tables_of_the_identity(memory, phys_offset);
-    let mut at_offset = OffsetPageTable::new(memory, root, phys_offset);
-    let active = ActiveMemory::new(walked, root);
-    let mut recursive = RecursivePageTable::new_unchecked(active, index);
-    run_pair(
-        alloc,
-        &mut at_offset,
-        pool,
-        &mut recursive,
-        walked_pool,
-        calls,
-    )
 }

@@ -52,7 +52,7 @@ fn run_failing(
 }
 
 /// Gives the words of a text.
-fn words_of(alloc: Global, text: &str) -> Result<Vec<String>, AllocError> {
+pub fn words_of(alloc: Global, text: &str) -> Result<Vec<String>, AllocError> {
     let mut words = Vec::new(alloc);
     for word in text.split_whitespace() {
         words.push(String::from_str(alloc, word)?)?;
@@ -106,6 +106,20 @@ fn assert_run(
     Ok(())
 }
 
+/// Those but the recursive mapper's.
+const NOT_RECURSIVE: [(&str, &str); 3] = [
+    ("direct 8", ""),
+    ("offset 8 0xffff800000000000", ""),
+    ("pair 8 510", SELF_ENTRY),
+];
+
+/// Modes, an image, and commands on it, each beside its reply, which is the same in these modes.
+pub type Session = (
+    &'static [(&'static str, &'static str)],
+    &'static str,
+    &'static [(&'static str, &'static str)],
+);
+
 /// The words of four tables, which map the page 0x1000 of 4KiB to the frame 0x5000.
 const FIRST: &str =
     "word 0x1000 0 0x2003\nword 0x2000 0 0x3003\nword 0x3000 0 0x4003\nword 0x4000 1 0x5003\n";
@@ -120,7 +134,7 @@ const INVALID: &str = "word 0x1000 0 0x2003\nword 0x1000 1 0x2003\n";
 const POOL: &str = "free 0x2000\nfree 0x3000\nfree 0x4000\n";
 
 /// Adds a line to a text.
-fn push_line(text: &mut String, line: &str) -> Result<(), AllocError> {
+pub fn push_line(text: &mut String, line: &str) -> Result<(), AllocError> {
     text.push_str(line)?;
     text.push('\n')
 }
@@ -154,6 +168,36 @@ fn assert_replies_in(
         let whole = format!(in alloc; "{first}{image}")?;
         let input = (whole.as_str(), lines.as_bytes());
         assert_run(rt, alloc, arguments, input, Ending::Done, &replies)?;
+    }
+    Ok(())
+}
+
+/// Asserts the replies to the commands of each of some sessions.
+fn assert_sessions(rt: impl Abort + Copy, alloc: Global, sessions: &[Session]) -> Result<(), Fail> {
+    for (modes, image, exchanges) in sessions {
+        assert_replies_in(rt, alloc, modes, image, exchanges)?;
+    }
+    Ok(())
+}
+
+#[test]
+fn commands_are_answered(rt: HostRuntime) -> Result<(), Fail> {
+    let tables: [&[Session]; 12] = [
+        &reads::IMAGES,
+        &reads::LEVEL_3_WORDS,
+        &reads::FORMS,
+        &reads::FREE_FRAMES,
+        &maps::SESSIONS,
+        &flags::SESSIONS,
+        &clean_ups::SESSIONS,
+        &recursive::NEW_TABLES,
+        &recursive::WINDOWS,
+        &recursive::PAIRS,
+        &recursive::CORNERS,
+        &five_levels::SESSIONS,
+    ];
+    for sessions in tables {
+        assert_sessions(rt, rt.alloc(), sessions)?;
     }
     Ok(())
 }

@@ -1,4 +1,5 @@
 //! Tests in which memory is refused. They fill the address space.
+mod attempts;
 mod five_levels;
 mod hoard;
 mod library;

@@ -1,12 +1,12 @@
 //! Replies of the plain program as those of `run`.
-use crate::images::{flags_of, frame_at, page_57_at, page_at};
+use crate::images::{flags_of, frame_at, page_at};
 use crate::turns::{PageTurn, Turn, call_of};
 use x86_64::structures::paging::mapper::{
     FlagUpdateError, MapToError, MappedFrame, MapperFlush, TranslateError, TranslateResult,
     UnmapError,
 };
-use x86_64::structures::paging::{Page, Page57, PageSize, PhysFrame, Size1GiB, Size2MiB, Size4KiB};
-use x86_64::{Call, MapperReply, PageReply, PhysAddr, Reply, Reply57};
+use x86_64::structures::paging::{Page, PageSize, PhysFrame};
+use x86_64::{Call, PhysAddr, Reply, SizeReply};
 use x86_64_plain::{Answer, PlainReply, Refusal, Translated};
 
 /// Spends a token, and gives its page.
@@ -16,11 +16,11 @@ pub fn page_of<S: PageSize>(flush: MapperFlush<S>) -> Page<S> {
     page
 }
 
-/// Gives what the plain program's answer to a map of a page, of whichever type, is as an answer of a mapper.
-pub fn map_result<S: PageSize, P: Drop>(
-    page: P,
+/// Gives what the plain program's answer to a map of a page is as an answer of a mapper.
+fn map_result<S: PageSize>(
+    page: Page<S>,
     answer: Answer,
-) -> Option<Result<P, MapToError<S>>> {
+) -> Option<Result<Page<S>, MapToError<S>>> {
     match answer {
         Answer::Done(_) => Some(Ok(page)),
         Answer::Refused(Refusal::FrameAllocationFailed) => Some(Err(
@@ -35,10 +35,10 @@ pub fn map_result<S: PageSize, P: Drop>(
 }
 
 /// The same of an unmap.
-pub fn unmap_result<S: PageSize, P: Drop>(
-    page: P,
+fn unmap_result<S: PageSize>(
+    page: Page<S>,
     answer: Answer,
-) -> Option<Result<(PhysFrame<S>, P), UnmapError>> {
+) -> Option<Result<(PhysFrame<S>, Page<S>), UnmapError>> {
     match answer {
         Answer::Done(frame) => Some(Ok((frame_at(frame), page))),
         Answer::Refused(Refusal::PageNotMapped) => Some(Err(UnmapError::PageNotMapped)),
@@ -52,7 +52,7 @@ pub fn unmap_result<S: PageSize, P: Drop>(
 }
 
 /// The same of flags that were to be set.
-pub fn flags_result(answer: Answer) -> Option<Result<(), FlagUpdateError>> {
+fn flags_result(answer: Answer) -> Option<Result<(), FlagUpdateError>> {
     match answer {
         Answer::Done(_) => Some(Ok(())),
         Answer::Refused(Refusal::PageNotMapped) => Some(Err(FlagUpdateError::PageNotMapped)),
@@ -104,40 +104,20 @@ pub fn translate_result(translated: Translated) -> TranslateResult {
     }
 }
 
-/// A page of a size, of either number of levels.
-pub trait PageAt: Drop {
-    /// Gives the page that contains an address.
-    fn page_at(address: u64) -> Self;
-}
-
-impl<S: PageSize> PageAt for Page<S> {
-    fn page_at(address: u64) -> Page<S> {
-        page_at(address)
-    }
-}
-
-impl<S: PageSize> PageAt for Page57<S> {
-    fn page_at(address: u64) -> Page57<S> {
-        page_57_at(address)
-    }
-}
-
 /// The same of a call on a page.
-fn page_reply<P: PageAt, S: PageSize>(turn: PageTurn, answer: Answer) -> Option<PageReply<P, S>> {
+fn page_reply<S: PageSize>(turn: PageTurn, answer: Answer) -> Option<SizeReply<S>> {
     Some(match turn {
         PageTurn::MapTo(page, ..)
         | PageTurn::MapToWithTableFlags(page, ..)
-        | PageTurn::IdentityMap(page, _) => PageReply::Map(map_result(P::page_at(page), answer)?),
-        PageTurn::Unmap(page) => PageReply::Unmap(unmap_result(P::page_at(page), answer)?),
-        PageTurn::UpdateFlags(page, _) => PageReply::Update(match flags_result(answer)? {
-            Ok(()) => Ok(P::page_at(page)),
-            Err(why) => Err(why),
-        }),
-        PageTurn::SetFlagsP5(..)
-        | PageTurn::SetFlagsP4(..)
-        | PageTurn::SetFlagsP3(..)
-        | PageTurn::SetFlagsP2(..) => PageReply::TableFlags(flags_result(answer)?),
-        PageTurn::TranslatePage(_) => PageReply::Frame(frame_result(answer)?),
+        | PageTurn::IdentityMap(page, _) => SizeReply::Map(map_result(page_at(page), answer)?),
+        PageTurn::Unmap(page) => SizeReply::Unmap(unmap_result(page_at(page), answer)?),
+        PageTurn::UpdateFlags(page, _) => {
+            SizeReply::Update(flags_result(answer)?.map(|()| page_at(page)))
+        }
+        PageTurn::SetFlagsP4(..) | PageTurn::SetFlagsP3(..) | PageTurn::SetFlagsP2(..) => {
+            SizeReply::TableFlags(flags_result(answer)?)
+        }
+        PageTurn::TranslatePage(_) => SizeReply::Frame(frame_result(answer)?),
     })
 }
 
@@ -151,50 +131,33 @@ pub struct Wanted {
 /// Gives a call for `run` that the plain program replies to so, and what that reply is, or `None` where it
 /// fits no such call.
 pub fn wanted_of(turn: Turn, plain: PlainReply) -> Option<Wanted> {
-    let reply = reply_to::<Page<Size4KiB>, Page<Size2MiB>, Page<Size1GiB>>(turn, plain)?;
+    let reply = reply_to(turn, plain)?;
     Some(Wanted {
-        call: call_of(turn)?,
+        call: call_of(turn),
         reply,
     })
 }
 
-/// Gives the reply of `run_57` to a call that the plain program replies to so, or `None` where it fits no such call.
-pub fn reply_57_to(turn: Turn, plain: PlainReply) -> Option<Reply57> {
-    reply_to::<Page57<Size4KiB>, Page57<Size2MiB>, Page57<Size1GiB>>(turn, plain)
-}
-
-/// The reply to a call, whatever its pages are.
-type AnyReply<P, Q, R> = MapperReply<
-    PageReply<P, Size4KiB>,
-    PageReply<Q, Size2MiB>,
-    PageReply<R, Size1GiB>,
->;
-
-/// Gives the reply to a call that the plain program replies to so, where its pages are of these types.
-fn reply_to<P: PageAt, Q: PageAt, R: PageAt>(
-    turn: Turn,
-    plain: PlainReply,
-) -> Option<AnyReply<P, Q, R>> {
+/// Gives the reply of `run` to a call that the plain program replies to so, or `None` where it fits no such call.
+fn reply_to(turn: Turn, plain: PlainReply) -> Option<Reply> {
     match (plain, turn) {
-        (PlainReply::NotAllowed, _) => Some(MapperReply::NotAllowed),
+        (PlainReply::NotAllowed, _) => Some(Reply::NotAllowed),
         (PlainReply::Answered(answer), Turn::Small(turn)) => {
-            Some(MapperReply::Of4KiB(page_reply(turn, answer)?))
+            Some(Reply::Of4KiB(page_reply(turn, answer)?))
         }
         (PlainReply::Answered(answer), Turn::Large(turn)) => {
-            Some(MapperReply::Of2MiB(page_reply(turn, answer)?))
+            Some(Reply::Of2MiB(page_reply(turn, answer)?))
         }
         (PlainReply::Answered(answer), Turn::Giant(turn)) => {
-            Some(MapperReply::Of1GiB(page_reply(turn, answer)?))
+            Some(Reply::Of1GiB(page_reply(turn, answer)?))
         }
         (PlainReply::Position(translated), Turn::Translate(_)) => {
-            Some(MapperReply::Translate(translate_result(translated)))
+            Some(Reply::Translate(translate_result(translated)))
         }
-        (PlainReply::Address(address), Turn::TranslateAddr(_)) => Some(MapperReply::Address(
-            address.map(PhysAddr::new_truncate),
-        )),
-        (PlainReply::Cleaned, Turn::CleanUp | Turn::CleanUpRange(..)) => {
-            Some(MapperReply::Cleaned)
+        (PlainReply::Address(address), Turn::TranslateAddr(_)) => {
+            Some(Reply::Address(address.map(PhysAddr::new_truncate)))
         }
+        (PlainReply::Cleaned, Turn::CleanUp | Turn::CleanUpRange(..)) => Some(Reply::Cleaned),
         _ => None,
     }
 }

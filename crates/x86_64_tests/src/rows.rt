@@ -12,14 +12,13 @@ mod hierarchies;
 mod layers;
 mod mappings;
 mod maps;
-mod pools;
+mod names;
 mod recursive;
 mod single;
 mod sparse;
 mod supplies;
 mod tokens;
 mod walks;
-mod windows;
 
 use crate::assertions::assert_equal_in;
 use crate::images::{
@@ -66,7 +65,7 @@ struct Row<'a> {
 }
 
 /// The mappers that answer the calls.
-#[derive(Clone, Copy, Debug)]
+#[derive(Clone, Copy)]
 pub enum By {
     /// The one over the identity mapping.
     Identity,
@@ -79,11 +78,13 @@ pub enum By {
 }
 
 impl By {
-    /// Gives the recursive index, if there is one.
-    pub fn recursive_index(self) -> Option<PageTableIndex> {
+    /// Gives what messages call it.
+    fn name(self) -> &'static str {
         match self {
-            By::Identity | By::Reference | By::Offset => None,
-            By::Recursive(index) => Some(PageTableIndex::new_truncate(index)),
+            By::Identity => "the identity mapping",
+            By::Reference => "a reference to it",
+            By::Offset => "an offset",
+            By::Recursive(_) => "windows",
         }
     }
 }
@@ -185,10 +186,12 @@ fn wanted_word(row: &Row<'_>, frame: u64, index: u16) -> u64 {
     if row.full.contains(&frame) {
         return u64::MAX;
     }
-    row.words
-        .iter()
-        .find(|(at, i, _)| *at == frame && *i == index)
-        .map_or(0, |(_, _, word)| *word)
+    for (at, i, word) in row.words {
+        if *at == frame && *i == index {
+            return *word;
+        }
+    }
+    0
 }
 
 /// Compares the free frames of a pool with these.
@@ -318,11 +321,6 @@ fn add_exchanges(
     Ok(())
 }
 
-/// Answers the calls of rows by each of the mappers, and compares what comes of them.
-fn check(rt: impl Abort + Copy, alloc: Global, rows: &[Row<'_>]) -> Result<(), Fail> {
-    check_by(rt, alloc, rows, &EACH)
-}
-
 /// Answers the calls of rows by each of these mappers, and compares what comes of them.
 fn check_by(
     rt: impl Abort + Copy,
@@ -346,7 +344,7 @@ fn check_row(
     mappers: &[By],
 ) -> Result<(), Fail> {
     for by in mappers {
-        let title = format!(in alloc; "row {number}, {by:?}")?;
+        let title = format!(in alloc; "row {number}, by {}", by.name())?;
         let (mut memory, pool) = answer_row(rt, alloc, row, *by, &title)?;
         compare_walks(rt, &memory, walks, &title);
         check_fits(rt, alloc, *by, (&mut memory, &pool), &title)?;
@@ -512,4 +510,26 @@ fn check_fits(
     let mapper = MappedPageTable::new(memory, root, IdentityMapping);
     assert!(rt; mapper.is_valid(alloc)?, "{title}");
     Ok(())
+}
+
+/// Answers the calls of all rows of tables by each of these mappers.
+fn check_tables(
+    rt: impl Abort + Copy,
+    alloc: Global,
+    tables: &[&[Row<'_>]],
+    mappers: &[By],
+) -> Result<(), Fail> {
+    for rows in tables {
+        check_by(rt, alloc, rows, mappers)?;
+    }
+    Ok(())
+}
+
+#[test]
+fn calls_leave_what_their_rows_say(rt: HostRuntime) -> Result<(), Fail> {
+    check_tables(rt, rt.alloc(), &maps::TABLES, &EACH)?;
+    check_tables(rt, rt.alloc(), &flags::TABLES, &EACH)?;
+    check_tables(rt, rt.alloc(), &clean_ups::TABLES, &EACH)?;
+    check_tables(rt, rt.alloc(), &supplies::TABLES, &EACH)?;
+    check_tables(rt, rt.alloc(), &recursive::TABLES, &[RECURSIVE])
 }

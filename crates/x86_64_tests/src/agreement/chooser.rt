@@ -1,17 +1,13 @@
-//! Calls that a fixed rule chooses.
+//! Calls that a fixed rule chooses, as lines for the program and as calls of the plain one.
 ghost use Rattle.std.specs.Prelude.{◌≤◌, length};
 
-use super::levels::Levels;
-use super::outcomes::{Action, PageAction};
-use crate::images::frame_at;
-use crate::turns::{PageTurn, Turn};
+use super::modes::Levels;
 use std::alloc::{AllocError, Global};
-use x86_64::structures::paging::{PageSize, PhysFrame, Size1GiB, Size2MiB, Size4KiB};
 use x86_64_plain::PlainCall;
 use x86_64_plain::positions::page_path;
 
-/// The indices of level five that calls choose from, where there is one. Frames lie below that of index 1.
-const LEVEL_5_INDICES: [u64; 5] = [0, 0, 0, 0, 511];
+/// The indices of level five that calls choose from, where there is one. Frames lie below that of index 2.
+const LEVEL_5_INDICES: [u64; 10] = [0, 0, 0, 0, 0, 0, 0, 0, 1, 511];
 
 /// The indices of the other levels that calls choose from, level four first. Where 1 is the recursive index, the entries of a level
 /// are also read with the indices of a lower one.
@@ -22,7 +18,7 @@ const INDICES: [&[u64]; 4] = [
     &[0, 1, 3, 511],
 ];
 
-/// The addresses in the frames that calls choose from. The last two are too high for identity maps.
+/// The addresses in the frames that calls choose from. The last two are too high for identity maps with four levels.
 const FRAMES: [u64; 8] = [
     0x0,
     0x5000,
@@ -51,6 +47,46 @@ const FLAGS: [u64; 12] = [
     0x8000_0000_0000_0001,
 ];
 
+/// What a call on a page does.
+#[derive(Clone, Copy)]
+enum PageAction {
+    Map,
+    MapWith,
+    Identity,
+    Unmap,
+    Update,
+    SetFlags(usize),
+    TranslatePage,
+}
+
+/// What a call does.
+#[derive(Clone, Copy)]
+enum Action {
+    OnPage(PageAction),
+    Translate,
+    Addr,
+    CleanUp,
+    CleanUpRange,
+}
+
+/// All that calls do. The last one is of five levels alone.
+const ACTIONS: [Action; 14] = [
+    Action::OnPage(PageAction::Map),
+    Action::OnPage(PageAction::MapWith),
+    Action::OnPage(PageAction::Identity),
+    Action::OnPage(PageAction::Unmap),
+    Action::OnPage(PageAction::Update),
+    Action::OnPage(PageAction::SetFlags(4)),
+    Action::OnPage(PageAction::SetFlags(3)),
+    Action::OnPage(PageAction::SetFlags(2)),
+    Action::OnPage(PageAction::TranslatePage),
+    Action::Translate,
+    Action::Addr,
+    Action::CleanUp,
+    Action::CleanUpRange,
+    Action::OnPage(PageAction::SetFlags(5)),
+];
+
 /// What a third of the calls choose from, so that tables become empty and go back.
 const EMPTYING: [Action; 4] = [
     Action::OnPage(PageAction::Unmap),
@@ -59,24 +95,50 @@ const EMPTYING: [Action; 4] = [
     Action::CleanUpRange,
 ];
 
-/// A call, for `run` and for the plain program.
+/// A size of pages: its level, its name and its bytes.
+type Size = (usize, &'static str, u64);
+
+/// The sizes that calls choose from.
+const SIZES: [Size; 4] = [
+    (1, "4KiB", 0x1000),
+    (1, "4KiB", 0x1000),
+    (2, "2MiB", 0x20_0000),
+    (3, "1GiB", 0x4000_0000),
+];
+
+/// A call, for the program and for the plain program.
 #[derive(Drop)]
 pub struct Choice {
-    /// What the call does.
-    pub action: Action,
-    /// The level of the page's entry, 0 for a call on no page.
-    pub level: u64,
-    /// The call for `run`, which has pages as their positions.
-    pub turn: Turn,
-    /// The call for the plain program, which has a page as its indices.
+    /// The command's name, and the size where it is on a page of one.
+    pub command: String,
+    /// The whole line.
+    pub line: String,
+    /// The call for the plain program.
     pub plain: PlainCall,
 }
 
+/// Makes a choice of a command, the numbers on its line, and the call for the plain program.
+fn choice_of(
+    alloc: Global,
+    command: String,
+    numbers: &[u64],
+    plain: PlainCall,
+) -> Result<Choice, AllocError> {
+    let mut line = String::from_str(alloc, &command)?;
+    for number in numbers {
+        line = format!(in alloc; "{line} {number:#x}")?;
+    }
+    Ok(Choice {
+        command,
+        line,
+        plain,
+    })
+}
+
 /// Says what a call on a page is about.
-#[derive(Drop)]
+#[derive(Clone, Copy)]
 struct Subject {
-    position: u64,
-    path: Vec<u64>,
+    page: u64,
     frame: u64,
     flags: u64,
     parent_flags: u64,
@@ -106,7 +168,7 @@ impl Chooser {
         items[(self.state >> 33) as usize % items.len()]
     }
 
-    /// Chooses indices, the highest level first, and gives the position of the page that has them.
+    /// Chooses indices, the highest level first, and gives the position of the 4KiB page that has them.
     fn position(&mut self) -> u64 {
         let mut position = match self.levels {
             Levels::Four => 0,
@@ -118,149 +180,154 @@ impl Chooser {
         position << 12
     }
 
-    /// Chooses a page, and what else a call needs.
-    fn subject(&mut self, alloc: Global) -> Result<Subject, AllocError> {
-        let position = self.position();
-        Ok(Subject {
-            position,
-            path: page_path(alloc, self.levels.count(), position)?,
-            frame: self.choose(&FRAMES),
-            flags: self.choose(&FLAGS),
-            parent_flags: self.choose(&FLAGS),
-        })
-    }
-
     /// Chooses what a call does.
     fn action(&mut self) -> Action {
         if self.choose(&[true, false, false]) {
-            self.choose(&EMPTYING)
-        } else {
-            self.choose(self.levels.actions())
+            return self.choose(&EMPTYING);
+        }
+        match self.levels {
+            Levels::Four => self.choose(&ACTIONS[..13]),
+            Levels::Five => self.choose(&ACTIONS),
         }
     }
 
     /// Chooses a call.
     pub fn choice(&mut self, alloc: Global) -> Result<Choice, AllocError> {
-        let subject = self.subject(alloc)?;
-        let position = subject.position;
-        let action = self.action();
-        Ok(match action {
-            Action::OnPage(action) => self.page_choice(action, subject),
-            Action::Translate => Choice {
-                action,
-                level: 0,
-                turn: Turn::Translate(position),
-                plain: PlainCall::Translate { position },
-            },
-            Action::TranslateAddr => Choice {
-                action,
-                level: 0,
-                turn: Turn::TranslateAddr(position),
-                plain: PlainCall::TranslateAddress { position },
-            },
-            Action::CleanUp => Choice {
-                action,
-                level: 0,
-                turn: Turn::CleanUp,
-                plain: PlainCall::CleanUp {
-                    low: 0,
-                    high: self.levels.last_position(),
-                },
-            },
-            Action::CleanUpRange => self.clean_up_from(position),
-        })
+        let position = self.position();
+        let address = self.levels.address_at(position);
+        match self.action() {
+            Action::OnPage(action) => self.page_choice(alloc, action, position),
+            Action::Translate => {
+                let command = String::from_str(alloc, "translate")?;
+                choice_of(
+                    alloc,
+                    command,
+                    &[address],
+                    PlainCall::Translate { position },
+                )
+            }
+            Action::Addr => {
+                let command = String::from_str(alloc, "addr")?;
+                choice_of(
+                    alloc,
+                    command,
+                    &[address],
+                    PlainCall::TranslateAddress { position },
+                )
+            }
+            Action::CleanUp => {
+                let command = String::from_str(alloc, "cleanup")?;
+                let high = self.levels.last_position();
+                choice_of(alloc, command, &[], PlainCall::CleanUp { low: 0, high })
+            }
+            Action::CleanUpRange => self.clean_up_from(alloc, position),
+        }
     }
 
     /// Chooses the last page of a clean up, which may lie below the first one.
-    fn clean_up_from(&mut self, first: u64) -> Choice {
+    fn clean_up_from(&mut self, alloc: Global, first: u64) -> Result<Choice, AllocError> {
         let last = self.position();
-        Choice {
-            action: Action::CleanUpRange,
-            level: 0,
-            turn: Turn::CleanUpRange(first, last),
-            plain: PlainCall::CleanUp {
-                low: first,
-                high: last | 0xfff,
-            },
-        }
+        let command = String::from_str(alloc, "cleanup-range")?;
+        let ends = [self.levels.address_at(first), self.levels.address_at(last)];
+        let high = last | 0xfff;
+        choice_of(
+            alloc,
+            command,
+            &ends,
+            PlainCall::CleanUp { low: first, high },
+        )
     }
 
-    /// Chooses the size of a call on a page.
-    fn page_choice(&mut self, action: PageAction, subject: Subject) -> Choice {
-        let level = self.choose(&[1, 1, 2, 3]);
-        let levels = self.levels;
-        let turn = page_turn(action, &subject);
-        let (turn, plain) = match level {
-            1 => (
-                Turn::Small(turn),
-                plain_call::<Size4KiB>(levels, action, subject),
-            ),
-            2 => (
-                Turn::Large(turn),
-                plain_call::<Size2MiB>(levels, action, subject),
-            ),
-            _ => (
-                Turn::Giant(turn),
-                plain_call::<Size1GiB>(levels, action, subject),
-            ),
+    /// Chooses the size of a call on a page, and what else it needs.
+    fn page_choice(
+        &mut self,
+        alloc: Global,
+        action: PageAction,
+        position: u64,
+    ) -> Result<Choice, AllocError> {
+        let (level, name, bytes) = self.choose(&SIZES);
+        let subject = Subject {
+            page: self.levels.address_at(position) & bytes.wrapping_neg(),
+            frame: self.choose(&FRAMES) & bytes.wrapping_neg(),
+            flags: self.choose(&FLAGS),
+            parent_flags: self.choose(&FLAGS),
         };
-        Choice {
-            action: Action::OnPage(action),
-            level,
-            turn,
-            plain,
-        }
+        let count = self.levels.count();
+        let mut path = page_path(alloc, count, position)?;
+        path.truncate((count + 1).saturating_sub(level));
+        let command = format!(in alloc; "{} {name}", name_of(action))?;
+        let numbers = numbers_of(alloc, action, subject)?;
+        choice_of(
+            alloc,
+            command,
+            &numbers,
+            plain_call(action, level, path, subject),
+        )
     }
 }
 
-/// Makes the call for `run`, in numbers.
-fn page_turn(action: PageAction, subject: &Subject) -> PageTurn {
-    let page = subject.position;
-    let frame = subject.frame;
-    let flags = subject.flags;
+/// Gives the name of a command on a page.
+fn name_of(action: PageAction) -> &'static str {
     match action {
-        PageAction::MapTo => PageTurn::MapTo(page, frame, flags),
-        PageAction::MapToWithTableFlags => {
-            PageTurn::MapToWithTableFlags(page, frame, flags, subject.parent_flags)
-        }
-        PageAction::IdentityMap => PageTurn::IdentityMap(frame, flags),
-        PageAction::Unmap => PageTurn::Unmap(page),
-        PageAction::UpdateFlags => PageTurn::UpdateFlags(page, flags),
-        PageAction::SetFlagsP5 => PageTurn::SetFlagsP5(page, flags),
-        PageAction::SetFlagsP4 => PageTurn::SetFlagsP4(page, flags),
-        PageAction::SetFlagsP3 => PageTurn::SetFlagsP3(page, flags),
-        PageAction::SetFlagsP2 => PageTurn::SetFlagsP2(page, flags),
-        PageAction::TranslatePage => PageTurn::TranslatePage(page),
+        PageAction::Map => "map",
+        PageAction::MapWith => "map-with",
+        PageAction::Identity => "identity",
+        PageAction::Unmap => "unmap",
+        PageAction::Update => "update",
+        PageAction::SetFlags(5) => "p5",
+        PageAction::SetFlags(4) => "p4",
+        PageAction::SetFlags(3) => "p3",
+        PageAction::SetFlags(_) => "p2",
+        PageAction::TranslatePage => "translate-page",
     }
 }
 
-/// Makes the call for the plain program.
-fn plain_call<S: PageSize>(levels: Levels, action: PageAction, subject: Subject) -> PlainCall {
-    let mut page = subject.path;
-    page.truncate((levels.count() + 1).saturating_sub(S::LEVEL as usize));
-    let frame: PhysFrame<S> = frame_at(subject.frame);
-    let frame = frame.start_address().as_u64();
-    let flags = subject.flags;
-    let set_flags = |level, page| PlainCall::SetFlags { level, page, flags };
+/// Gives the numbers on its line.
+fn numbers_of(alloc: Global, action: PageAction, subject: Subject) -> Result<Vec<u64>, AllocError> {
+    let Subject {
+        page,
+        frame,
+        flags,
+        parent_flags,
+    } = subject;
     match action {
-        PageAction::MapTo => PlainCall::MapTo { page, frame, flags },
-        PageAction::MapToWithTableFlags => PlainCall::MapToWithTableFlags {
+        PageAction::Map => Vec::from_slice(alloc, &[page, frame, flags]),
+        PageAction::MapWith => Vec::from_slice(alloc, &[page, frame, flags, parent_flags]),
+        PageAction::Identity => Vec::from_slice(alloc, &[frame, flags]),
+        PageAction::Unmap | PageAction::TranslatePage => Vec::from_slice(alloc, &[page]),
+        PageAction::Update | PageAction::SetFlags(_) => Vec::from_slice(alloc, &[page, flags]),
+    }
+}
+
+/// Makes the call for the plain program, on the page of a path.
+fn plain_call(
+    action: PageAction,
+    size_level: usize,
+    page: Vec<u64>,
+    subject: Subject,
+) -> PlainCall {
+    let Subject {
+        frame,
+        flags,
+        parent_flags,
+        ..
+    } = subject;
+    match action {
+        PageAction::Map => PlainCall::MapTo { page, frame, flags },
+        PageAction::MapWith => PlainCall::MapToWithTableFlags {
             page,
             frame,
             flags,
-            parent_flags: subject.parent_flags,
+            parent_flags,
         },
-        PageAction::IdentityMap => PlainCall::IdentityMap {
-            level: S::LEVEL as usize,
+        PageAction::Identity => PlainCall::IdentityMap {
+            level: size_level,
             frame,
             flags,
         },
         PageAction::Unmap => PlainCall::Unmap { page },
-        PageAction::UpdateFlags => PlainCall::UpdateFlags { page, flags },
-        PageAction::SetFlagsP5 => set_flags(5, page),
-        PageAction::SetFlagsP4 => set_flags(4, page),
-        PageAction::SetFlagsP3 => set_flags(3, page),
-        PageAction::SetFlagsP2 => set_flags(2, page),
+        PageAction::Update => PlainCall::UpdateFlags { page, flags },
+        PageAction::SetFlags(level) => PlainCall::SetFlags { level, page, flags },
         PageAction::TranslatePage => PlainCall::TranslatePage { page },
     }
 }

@@ -1,185 +1,206 @@
-//! What calls do and what comes of them, without their values.
-use x86_64_plain::{Answer, PlainReply, Refusal, Translated};
+//! Replies of the plain program as the program writes them, and which ones a command can have.
+use std::alloc::{AllocError, Global};
+use std::process::Abort;
+use x86_64_plain::{Answer, PlainCall, PlainReply, Refusal, Translated};
 
-/// What a call on a page does.
-#[derive(Clone, Copy, Debug, PartialEq)]
-pub enum PageAction {
-    MapTo,
-    MapToWithTableFlags,
-    IdentityMap,
-    Unmap,
-    UpdateFlags,
-    SetFlagsP5,
-    SetFlagsP4,
-    SetFlagsP3,
-    SetFlagsP2,
-    TranslatePage,
+/// The kind of a reply that is a number.
+const NUMBER: &str = "a number";
+
+/// The outcome of a clean up that gave tables back.
+pub const TABLES_GO_BACK: &str = "tables go back";
+
+/// Gives the kind of a reply: its text without the numbers.
+pub fn kind_of(call: &PlainCall, reply: PlainReply) -> &'static str {
+    match reply {
+        PlainReply::NotAllowed => "not allowed",
+        PlainReply::Cleaned => "ok",
+        PlainReply::Address(None) => "none",
+        PlainReply::Address(Some(_)) => NUMBER,
+        PlainReply::Position(Translated::NotMapped) => "not mapped",
+        PlainReply::Position(Translated::Mapped { size: 0x1000, .. }) => "mapped 4KiB",
+        PlainReply::Position(
+            Translated::Mapped {
+                size: 0x20_0000,
+                ..
+            },
+        ) => "mapped 2MiB",
+        PlainReply::Position(Translated::Mapped { .. }) => "mapped 1GiB",
+        PlainReply::Answered(Answer::Refused(why)) => refusal_kind(why),
+        PlainReply::Answered(Answer::Done(_)) => match call {
+            PlainCall::Unmap { .. } | PlainCall::TranslatePage { .. } => NUMBER,
+            _ => "ok",
+        },
+    }
 }
 
-/// What a call does.
-#[derive(Clone, Copy, Debug, PartialEq)]
-pub enum Action {
-    OnPage(PageAction),
-    Translate,
-    TranslateAddr,
-    CleanUp,
-    CleanUpRange,
+/// Gives the kind of a refusal.
+fn refusal_kind(why: Refusal) -> &'static str {
+    match why {
+        Refusal::FrameAllocationFailed => "frame allocation failed",
+        Refusal::ParentEntryHugePage => "parent entry huge page",
+        Refusal::PageAlreadyMapped(_) => "page already mapped",
+        Refusal::PageNotMapped => "page not mapped",
+        Refusal::InvalidFrameAddress(_) => "invalid frame address",
+    }
 }
 
-/// All that calls do. Those of four levels come first.
-pub const ACTIONS: [Action; 14] = [
-    Action::OnPage(PageAction::MapTo),
-    Action::OnPage(PageAction::MapToWithTableFlags),
-    Action::OnPage(PageAction::IdentityMap),
-    Action::OnPage(PageAction::Unmap),
-    Action::OnPage(PageAction::UpdateFlags),
-    Action::OnPage(PageAction::SetFlagsP4),
-    Action::OnPage(PageAction::SetFlagsP3),
-    Action::OnPage(PageAction::SetFlagsP2),
-    Action::OnPage(PageAction::TranslatePage),
-    Action::Translate,
-    Action::TranslateAddr,
-    Action::CleanUp,
-    Action::CleanUpRange,
-    Action::OnPage(PageAction::SetFlagsP5),
-];
-
-/// What comes of a call.
-#[derive(Clone, Copy, Debug, PartialEq)]
-pub enum Outcome {
-    Done,
-    NotAllowed,
-    NotMapped,
-    HugeParent,
-    InvalidFrame,
-    AlreadyMapped,
-    NoFrame,
-    NoEmptyTable,
+/// Gives the text of a reply of a kind.
+pub fn text_of(alloc: Global, kind: &str, reply: PlainReply) -> Result<String, AllocError> {
+    match reply {
+        PlainReply::Position(
+            Translated::Mapped {
+                frame,
+                offset,
+                flags,
+                ..
+            },
+        ) => format!(in alloc; "{kind} {frame:#x} {offset:#x} {flags:#x}"),
+        PlainReply::Answered(
+            Answer::Refused(
+                Refusal::PageAlreadyMapped(frame) | Refusal::InvalidFrameAddress(frame),
+            ),
+        ) => format!(in alloc; "{kind} {frame:#x}"),
+        PlainReply::Address(Some(number)) | PlainReply::Answered(Answer::Done(number)) => {
+            if kind == NUMBER {
+                format!(in alloc; "{number:#x}")
+            } else {
+                String::from_str(alloc, kind)
+            }
+        }
+        _ => String::from_str(alloc, kind),
+    }
 }
 
-use Outcome::{
-    AlreadyMapped, Done, HugeParent, InvalidFrame, NoEmptyTable, NoFrame, NotAllowed, NotMapped,
-};
+/// Commands, and kinds of replies that each of them can have.
+pub type Outcomes = (&'static [&'static str], &'static [&'static str]);
 
-/// All that comes of calls.
-pub const OUTCOMES: [Outcome; 8] = [
-    Done,
-    NotAllowed,
-    NotMapped,
-    HugeParent,
-    InvalidFrame,
-    AlreadyMapped,
-    NoFrame,
-    NoEmptyTable,
-];
-
-/// Gives all that can come of a call on a page whose entry is of a level, or of another call that ends at an
-/// entry of a level, 0 where it ends at none, where the call names the recursive index or doesn't.
+/// The commands of four levels, and all that they can have, but `not allowed` inside the window.
 ///
 /// No entry above level three has `HUGE_PAGE`, so no page of 1GiB lies below one that has it.
-pub fn possible_outcomes(action: Action, level: u64, in_window: bool) -> &'static [Outcome] {
-    match (action, level) {
-        _ if in_window => window_outcomes(action, level),
-        (Action::OnPage(action), 1) => small_outcomes(action),
-        (Action::OnPage(action), 2) => large_outcomes(action),
-        (Action::OnPage(action), 3) => giant_outcomes(action),
-        (Action::Translate, 0) => &[NotMapped],
-        (Action::Translate, 1 | 2 | 3) => &[Done],
-        (Action::TranslateAddr, 0) => &[Done, NotMapped],
-        (Action::CleanUp | Action::CleanUpRange, 0) => &[Done, NoEmptyTable],
-        _ => &[],
-    }
+pub const OUTCOMES: [Outcomes; 11] = [
+    (
+        &[
+            "map 4KiB",
+            "map-with 4KiB",
+            "identity 4KiB",
+            "map 2MiB",
+            "map-with 2MiB",
+            "identity 2MiB",
+        ],
+        &[
+            "ok",
+            "not allowed",
+            "parent entry huge page",
+            "page already mapped",
+            "frame allocation failed",
+        ],
+    ),
+    (
+        &["map 1GiB", "map-with 1GiB", "identity 1GiB"],
+        &[
+            "ok",
+            "not allowed",
+            "page already mapped",
+            "frame allocation failed",
+        ],
+    ),
+    (
+        &["unmap 4KiB", "translate-page 4KiB"],
+        &[NUMBER, "page not mapped", "parent entry huge page"],
+    ),
+    (
+        &["unmap 2MiB", "unmap 1GiB", "translate-page 2MiB"],
+        &[
+            NUMBER,
+            "page not mapped",
+            "parent entry huge page",
+            "invalid frame address",
+        ],
+    ),
+    (
+        &["translate-page 1GiB"],
+        &[NUMBER, "page not mapped", "invalid frame address"],
+    ),
+    (
+        &["update 4KiB", "update 2MiB", "p2 4KiB"],
+        &[
+            "ok",
+            "not allowed",
+            "page not mapped",
+            "parent entry huge page",
+        ],
+    ),
+    (
+        &[
+            "update 1GiB",
+            "p3 4KiB",
+            "p3 2MiB",
+            "p4 4KiB",
+            "p4 2MiB",
+            "p4 1GiB",
+        ],
+        &["ok", "not allowed", "page not mapped"],
+    ),
+    (
+        &["p2 2MiB", "p2 1GiB", "p3 1GiB"],
+        &["not allowed", "parent entry huge page"],
+    ),
+    (
+        &["translate"],
+        &["not mapped", "mapped 4KiB", "mapped 2MiB", "mapped 1GiB"],
+    ),
+    (&["addr"], &[NUMBER, "none"]),
+    (&["cleanup", "cleanup-range"], &["ok", TABLES_GO_BACK]),
+];
+
+/// The command of five levels alone, and all that it can have.
+pub const OUTCOMES_OF_LEVEL_5: [Outcomes; 1] = [(
+    &["p5 4KiB", "p5 2MiB", "p5 1GiB"],
+    &["ok", "not allowed", "page not mapped"],
+)];
+
+/// The commands that were answered, each with a kind of reply.
+#[derive(Drop)]
+pub struct Met {
+    alloc: Global,
+    outcomes: Vec<String>,
 }
 
-/// Gives all that can come of a call that names the recursive index. It changes nothing, and an entry is read as
-/// one of a lower level; so none that is read as one of level three has `HUGE_PAGE`. Clean ups name no index.
-fn window_outcomes(action: Action, level: u64) -> &'static [Outcome] {
-    match (action, level) {
-        (Action::OnPage(PageAction::TranslatePage), 1) => &[Done, NotMapped, HugeParent],
-        (Action::OnPage(PageAction::TranslatePage), 2) => &[Done, NotMapped, InvalidFrame],
-        (Action::OnPage(PageAction::TranslatePage), 3) => &[NotMapped, InvalidFrame],
-        (Action::OnPage(_), 1 | 2 | 3) => &[NotAllowed],
-        (Action::Translate, 0) => &[NotMapped],
-        (Action::Translate, 1 | 2) => &[Done],
-        (Action::TranslateAddr, 0) => &[Done, NotMapped],
-        _ => &[],
-    }
-}
-
-/// Gives all that can come of a call on a 4KiB page.
-fn small_outcomes(action: PageAction) -> &'static [Outcome] {
-    match action {
-        PageAction::MapTo | PageAction::MapToWithTableFlags | PageAction::IdentityMap => {
-            &[Done, NotAllowed, HugeParent, AlreadyMapped, NoFrame]
-        }
-        PageAction::Unmap | PageAction::TranslatePage => &[Done, NotMapped, HugeParent],
-        PageAction::UpdateFlags | PageAction::SetFlagsP2 => {
-            &[Done, NotAllowed, NotMapped, HugeParent]
-        }
-        PageAction::SetFlagsP5 | PageAction::SetFlagsP4 | PageAction::SetFlagsP3 => {
-            &[Done, NotAllowed, NotMapped]
+impl Met {
+    /// Makes one without commands.
+    pub fn new(alloc: Global) -> Met {
+        Met {
+            alloc,
+            outcomes: Vec::new(alloc),
         }
     }
-}
 
-/// Gives all that can come of a call on a 2MiB page.
-fn large_outcomes(action: PageAction) -> &'static [Outcome] {
-    match action {
-        PageAction::MapTo | PageAction::MapToWithTableFlags | PageAction::IdentityMap => {
-            &[Done, NotAllowed, HugeParent, AlreadyMapped, NoFrame]
+    /// Tells whether a command had a reply of a kind.
+    fn has(&self, command: &str, kind: &str) -> bool {
+        for outcome in &self.outcomes {
+            if outcome.strip_prefix(command) == Some(kind) {
+                return true;
+            }
         }
-        PageAction::Unmap | PageAction::TranslatePage => {
-            &[Done, NotMapped, HugeParent, InvalidFrame]
-        }
-        PageAction::UpdateFlags => &[Done, NotAllowed, NotMapped, HugeParent],
-        PageAction::SetFlagsP5 | PageAction::SetFlagsP4 | PageAction::SetFlagsP3 => {
-            &[Done, NotAllowed, NotMapped]
-        }
-        PageAction::SetFlagsP2 => &[NotAllowed, HugeParent],
+        false
     }
-}
 
-/// Gives all that can come of a call on a 1GiB page.
-fn giant_outcomes(action: PageAction) -> &'static [Outcome] {
-    match action {
-        PageAction::MapTo | PageAction::MapToWithTableFlags | PageAction::IdentityMap => {
-            &[Done, NotAllowed, AlreadyMapped, NoFrame]
+    /// Adds a command's reply of a kind.
+    pub fn add(&mut self, command: &str, kind: &str) -> Result<(), AllocError> {
+        if self.has(command, kind) {
+            return Ok(());
         }
-        PageAction::Unmap => &[Done, NotMapped, HugeParent, InvalidFrame],
-        PageAction::TranslatePage => &[Done, NotMapped, InvalidFrame],
-        PageAction::UpdateFlags | PageAction::SetFlagsP5 | PageAction::SetFlagsP4 => {
-            &[Done, NotAllowed, NotMapped]
+        let outcome = format!(in self.alloc; "{command}{kind}")?;
+        self.outcomes.push(outcome)?;
+        Ok(())
+    }
+
+    /// Asserts that each of some commands had a reply of each of some kinds.
+    pub fn assert_each(&self, rt: impl Abort + Copy, commands: &[&str], kinds: &[&str]) {
+        for command in commands {
+            for kind in kinds {
+                assert!(rt; self.has(command, kind), "{command}: {kind}");
+            }
         }
-        PageAction::SetFlagsP3 | PageAction::SetFlagsP2 => &[NotAllowed, HugeParent],
-    }
-}
-
-/// Gives what a reply says, with the level of the entry that a translation ends at. A clean up is done where it
-/// gave tables back.
-pub fn outcome_of(reply: PlainReply, gave_back: bool) -> (u64, Outcome) {
-    match reply {
-        PlainReply::Answered(answer) => (0, answer_outcome(answer)),
-        PlainReply::Position(Translated::Mapped { size, .. }) => match size {
-            0x1000 => (1, Done),
-            0x20_0000 => (2, Done),
-            _ => (3, Done),
-        },
-        PlainReply::Position(Translated::NotMapped) => (0, NotMapped),
-        PlainReply::Address(Some(_)) => (0, Done),
-        PlainReply::Address(None) => (0, NotMapped),
-        PlainReply::Cleaned => (0, if gave_back { Done } else { NoEmptyTable }),
-        PlainReply::NotAllowed => (0, NotAllowed),
-    }
-}
-
-/// The same of a call on a page.
-fn answer_outcome(answer: Answer) -> Outcome {
-    match answer {
-        Answer::Done(_) => Done,
-        Answer::Refused(Refusal::FrameAllocationFailed) => NoFrame,
-        Answer::Refused(Refusal::PageAlreadyMapped(_)) => AlreadyMapped,
-        Answer::Refused(Refusal::ParentEntryHugePage) => HugeParent,
-        Answer::Refused(Refusal::PageNotMapped) => NotMapped,
-        Answer::Refused(Refusal::InvalidFrameAddress(_)) => InvalidFrame,
     }
 }

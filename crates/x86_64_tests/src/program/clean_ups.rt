@@ -1,6 +1,5 @@
 //! Clean ups.
-use super::{FIRST, POOL, assert_replies};
-use std::test::Fail;
+use super::{FIRST, MODES, POOL, Session};
 
 const ALL_PAGES: [(&str, &str); 13] = [
     ("map 4KiB 0x1000 0x5000 0x3", "ok"),
@@ -26,12 +25,6 @@ const WITHOUT_PRESENT: [(&str, &str); 6] = [
     ("show 0x1000 0", "0x2003"),
     ("addr 0x1abc", "0x5abc"),
 ];
-
-#[test]
-fn tables_go_back(rt: HostRuntime) -> Result<(), Fail> {
-    assert_replies(rt, rt.alloc(), POOL, &ALL_PAGES)?;
-    assert_replies(rt, rt.alloc(), FIRST, &WITHOUT_PRESENT)
-}
 
 /// The tables are those of the image, and were never free.
 const RANGES: [(&str, &str); 8] = [
@@ -62,8 +55,10 @@ const AT_THE_GAP: [(&str, &str); 9] = [
     ("pool", "pool 0x2000 0x3000 0x4000 0x5000 0x6000 0x7000"),
 ];
 
-#[test]
-fn tables_of_ranges_go_back(rt: HostRuntime) -> Result<(), Fail> {
-    assert_replies(rt, rt.alloc(), FIRST, &RANGES)?;
-    assert_replies(rt, rt.alloc(), SIX_FREE, &AT_THE_GAP)
-}
+/// Commands, each list after an image in some modes.
+pub const SESSIONS: [Session; 4] = [
+    (&MODES, POOL, &ALL_PAGES),
+    (&MODES, FIRST, &WITHOUT_PRESENT),
+    (&MODES, FIRST, &RANGES),
+    (&MODES, SIX_FREE, &AT_THE_GAP),
+];

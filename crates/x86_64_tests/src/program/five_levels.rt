@@ -1,5 +1,5 @@
 //! Runs with five levels: the direct mapper, the recursive one, and both beside each other.
-use super::{SELF_ENTRY, assert_replies_in, assert_run};
+use super::{SELF_ENTRY, Session, assert_run};
 use pagetab_engine::ending::{Ending, Fault};
 use std::process::Abort;
 use std::test::Fail;
@@ -11,6 +11,12 @@ const MODES: [(&str, &str); 3] = [
     ("pair5 8 510", SELF_ENTRY),
     ("recursive5 8 510", SELF_ENTRY),
 ];
+
+/// The mode of the recursive mapper.
+const RECURSIVE: [(&str, &str); 1] = [("recursive5 8 510", SELF_ENTRY)];
+
+/// The mode of both mappers.
+const PAIR: [(&str, &str); 1] = [("pair5 8 510", SELF_ENTRY)];
 
 /// Four free frames, below an empty root.
 const POOL: &str = "free 0x2000\nfree 0x3000\nfree 0x4000\nfree 0x5000\n";
@@ -47,10 +53,15 @@ const CALLS: [(&str, &str); 25] = [
     ("pool", "pool 0x2000 0x3000 0x4000 0x5000"),
 ];
 
-#[test]
-fn tables_of_five_levels_are_made_and_taken_away(rt: HostRuntime) -> Result<(), Fail> {
-    assert_replies_in(rt, rt.alloc(), &MODES, POOL, &CALLS)
-}
+/// A page of 2MiB takes three frames.
+const LARGE_PAGE: [(&str, &str); 6] = [
+    ("map 2MiB 0x200000 0x400000 0x1", "ok"),
+    ("show 0x4000 1", "0x400081"),
+    ("pool", "pool 0x5000"),
+    ("unmap 2MiB 0x200000", "0x400000"),
+    ("cleanup", "ok"),
+    ("pool", "pool 0x2000 0x3000 0x4000 0x5000"),
+];
 
 /// Tables are read in the window, and the entry for the root itself stays.
 const WINDOWS: [(&str, &str); 15] = [
@@ -71,11 +82,6 @@ const WINDOWS: [(&str, &str); 15] = [
     ("show 0x1000 510", "0x1003"),
 ];
 
-#[test]
-fn the_recursive_mapper_of_five_levels_answers(rt: HostRuntime) -> Result<(), Fail> {
-    assert_replies_in(rt, rt.alloc(), &MODES[2..], POOL, &WINDOWS)
-}
-
 /// Calls that name the recursive index are not allowed.
 const PAIRS: [(&str, &str); 6] = [
     ("map 4KiB 0x1000 0x6000 0x1", "ok"),
@@ -86,10 +92,13 @@ const PAIRS: [(&str, &str); 6] = [
     ("pool", "pool"),
 ];
 
-#[test]
-fn both_mappers_of_five_levels_answer_at_once(rt: HostRuntime) -> Result<(), Fail> {
-    assert_replies_in(rt, rt.alloc(), &MODES[1..2], POOL, &PAIRS)
-}
+/// Commands, each list after an image in some modes.
+pub const SESSIONS: [Session; 4] = [
+    (&MODES, POOL, &CALLS),
+    (&MODES, POOL, &LARGE_PAGE),
+    (&RECURSIVE, POOL, &WINDOWS),
+    (&PAIR, POOL, &PAIRS),
+];
 
 /// Images in which the entry of level five or four has HUGE_PAGE, and in which one table stands at two places or at
 /// two levels.

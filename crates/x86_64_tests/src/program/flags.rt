@@ -1,6 +1,5 @@
 //! Flags of entries, and the frames that pages have.
-use super::{FIRST, LARGE, assert_replies};
-use std::test::Fail;
+use super::{FIRST, LARGE, MODES, Session};
 
 /// The words of three tables, in which the entry of the page 0x200000 of 2MiB names an address that isn't a
 /// multiple of its size.
@@ -33,13 +32,6 @@ const LARGE_PAGE_FLAGS: [(&str, &str); 5] = [
     ("update 1GiB 0x0 0x1", "page not mapped"),
     ("show 0x2000 0", "0x3001"),
 ];
-
-#[test]
-fn pages_get_flags(rt: HostRuntime) -> Result<(), Fail> {
-    assert_replies(rt, rt.alloc(), FIRST, &WITHOUT_PRESENT)?;
-    assert_replies(rt, rt.alloc(), FIRST, &WITH_BIT_7)?;
-    assert_replies(rt, rt.alloc(), LARGE, &LARGE_PAGE_FLAGS)
-}
 
 const LEVEL_4_FLAGS: [(&str, &str); 9] = [
     ("p4 4KiB 0x1000 0x2", "ok"),
@@ -74,13 +66,6 @@ const FLAGS_AT_A_LARGE_PAGE: [(&str, &str); 4] = [
     ("unmap 4KiB 0x200000", "parent entry huge page"),
 ];
 
-#[test]
-fn tables_get_flags(rt: HostRuntime) -> Result<(), Fail> {
-    assert_replies(rt, rt.alloc(), FIRST, &LEVEL_4_FLAGS)?;
-    assert_replies(rt, rt.alloc(), FIRST, &LOWER_FLAGS)?;
-    assert_replies(rt, rt.alloc(), LARGE, &FLAGS_AT_A_LARGE_PAGE)
-}
-
 const SMALL_FRAMES: [(&str, &str); 3] = [
     ("translate-page 4KiB 0x1000", "0x5000"),
     ("translate-page 4KiB 0x2000", "page not mapped"),
@@ -102,9 +87,15 @@ const ASKEW_FRAMES: [(&str, &str); 4] = [
     ("translate 0x234567", "mapped 2MiB 0x400000 0x34567 0x81"),
 ];
 
-#[test]
-fn pages_have_frames(rt: HostRuntime) -> Result<(), Fail> {
-    assert_replies(rt, rt.alloc(), FIRST, &SMALL_FRAMES)?;
-    assert_replies(rt, rt.alloc(), LARGE, &LARGE_FRAMES)?;
-    assert_replies(rt, rt.alloc(), ASKEW, &ASKEW_FRAMES)
-}
+/// Commands, each list after an image in some modes.
+pub const SESSIONS: [Session; 9] = [
+    (&MODES, FIRST, &WITHOUT_PRESENT),
+    (&MODES, FIRST, &WITH_BIT_7),
+    (&MODES, LARGE, &LARGE_PAGE_FLAGS),
+    (&MODES, FIRST, &LEVEL_4_FLAGS),
+    (&MODES, FIRST, &LOWER_FLAGS),
+    (&MODES, LARGE, &FLAGS_AT_A_LARGE_PAGE),
+    (&MODES, FIRST, &SMALL_FRAMES),
+    (&MODES, LARGE, &LARGE_FRAMES),
+    (&MODES, ASKEW, &ASKEW_FRAMES),
+];

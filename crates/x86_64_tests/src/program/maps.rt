@@ -1,6 +1,9 @@
 //! Maps and unmaps.
-use super::{FIRST, LARGE, MODES, POOL, assert_replies, assert_replies_in};
-use std::test::Fail;
+use super::{FIRST, LARGE, MODES, NOT_RECURSIVE, POOL, Session};
+
+/// Free frames with words, which are cleared.
+const FULL: &str = "free 0x2000\nfree 0x3000\nword 0x2000 1 0xffffffffffffffff\n\
+    word 0x3000 511 0xffffffffffffffff\nword 0x4000 0 0xffffffffffffffff\nfree 0x4000\n";
 
 const FIRST_PAGE: [(&str, &str); 14] = [
     ("pool", "pool 0x2000 0x3000 0x4000"),
@@ -19,6 +22,7 @@ const FIRST_PAGE: [(&str, &str); 14] = [
     ("addr 0x2abc", "none"),
 ];
 
+/// The upper half of the addresses, and flags in decimal.
 const LAST_PAGE: [(&str, &str); 4] = [
     ("map 4KiB 0xfffffffffffff000 0x6000 1", "ok"),
     ("show 0x1000 511", "0x2001"),
@@ -26,16 +30,7 @@ const LAST_PAGE: [(&str, &str); 4] = [
     ("addr 0xffffffffffffffff", "0x6fff"),
 ];
 
-#[test]
-fn pages_are_mapped(rt: HostRuntime) -> Result<(), Fail> {
-    // The words that the free frames hold are cleared.
-    let image = "free 0x2000\nfree 0x3000\nword 0x2000 1 0xffffffffffffffff\n\
-        word 0x3000 511 0xffffffffffffffff\nword 0x4000 0 0xffffffffffffffff\nfree 0x4000\n";
-    assert_replies(rt, rt.alloc(), image, &FIRST_PAGE)?;
-    // The upper half of the addresses, and flags in decimal.
-    assert_replies_in(rt, rt.alloc(), &MODES[..3], POOL, &LAST_PAGE)
-}
-
+/// Frame 0 without flags leaves the page's entry unused.
 const LATER_MAPS: [(&str, &str); 16] = [
     ("map 4KiB 0x1000 0x5000 0x3", "ok"),
     ("map 4KiB 0x2000 0x0 0x0", "ok"),
@@ -55,12 +50,6 @@ const LATER_MAPS: [(&str, &str); 16] = [
     ("addr 0x3fff", "0xfffffffffffff"),
 ];
 
-#[test]
-fn later_maps_add_flags_to_parents(rt: HostRuntime) -> Result<(), Fail> {
-    // Frame 0 without flags leaves the page's entry unused.
-    assert_replies(rt, rt.alloc(), POOL, &LATER_MAPS)
-}
-
 const PARENT_FLAGS: [(&str, &str); 11] = [
     ("map-with 4KiB 0x1000 0x5000 0x3 0x1", "ok"),
     ("show 0x1000 0", "0x2001"),
@@ -77,11 +66,6 @@ const PARENT_FLAGS: [(&str, &str); 11] = [
         "frame allocation failed",
     ),
 ];
-
-#[test]
-fn parents_get_flags_of_their_own(rt: HostRuntime) -> Result<(), Fail> {
-    assert_replies_in(rt, rt.alloc(), &MODES[..3], POOL, &PARENT_FLAGS)
-}
 
 const LARGE_PAGES: [(&str, &str); 16] = [
     ("map 2MiB 0x200000 0x400000 0x1", "ok"),
@@ -113,12 +97,6 @@ const GIANT_PAGES: [(&str, &str); 8] = [
     ("addr 0x40123456", "none"),
 ];
 
-#[test]
-fn larger_pages_are_mapped(rt: HostRuntime) -> Result<(), Fail> {
-    assert_replies_in(rt, rt.alloc(), &MODES[..3], POOL, &LARGE_PAGES)?;
-    assert_replies(rt, rt.alloc(), POOL, &GIANT_PAGES)
-}
-
 const IDENTITY_MAPS: [(&str, &str); 11] = [
     ("identity 4KiB 0x800000000000 0x1", "not allowed"),
     ("identity 4KiB 0x5000 0x3", "ok"),
@@ -136,11 +114,6 @@ const IDENTITY_MAPS: [(&str, &str); 11] = [
     ),
 ];
 
-#[test]
-fn identity_maps_name_the_page_at_the_frame(rt: HostRuntime) -> Result<(), Fail> {
-    assert_replies(rt, rt.alloc(), POOL, &IDENTITY_MAPS)
-}
-
 const MAPPED_ALREADY: [(&str, &str); 6] = [
     ("map 4KiB 0x1000 0x5000 0x3", "ok"),
     ("map 4KiB 0x1000 0x9000 0x1", "page already mapped 0x9000"),
@@ -149,6 +122,9 @@ const MAPPED_ALREADY: [(&str, &str); 6] = [
     ("show 0x3000 0", "0x4003"),
     ("show 0x4000 1", "0x5003"),
 ];
+
+/// Two free frames.
+const FEW: &str = "free 0x2000\nfree 0x3000\nword 0x3000 5 0xffffffffffffffff\n";
 
 const TOO_FEW_FRAMES: [(&str, &str); 6] = [
     ("map 4KiB 0x1000 0x5000 0x3", "frame allocation failed"),
@@ -159,6 +135,7 @@ const TOO_FEW_FRAMES: [(&str, &str); 6] = [
     ("pool", "pool"),
 ];
 
+/// No parent would have PRESENT, HUGE_PAGE in a 4KiB page's flags, address bits in flags.
 const NOT_ALLOWED: [(&str, &str); 5] = [
     ("map 4KiB 0x1000 0x5000 0x0", "not allowed"),
     ("map 4KiB 0x1000 0x5000 0x81", "not allowed"),
@@ -166,15 +143,6 @@ const NOT_ALLOWED: [(&str, &str); 5] = [
     ("show 0x1000 0", "0x0"),
     ("pool", "pool 0x2000 0x3000 0x4000"),
 ];
-
-#[test]
-fn maps_are_refused(rt: HostRuntime) -> Result<(), Fail> {
-    assert_replies(rt, rt.alloc(), POOL, &MAPPED_ALREADY)?;
-    let few = "free 0x2000\nfree 0x3000\nword 0x3000 5 0xffffffffffffffff\n";
-    assert_replies(rt, rt.alloc(), few, &TOO_FEW_FRAMES)?;
-    // No parent would have PRESENT, HUGE_PAGE in a 4KiB page's flags, address bits in flags.
-    assert_replies(rt, rt.alloc(), POOL, &NOT_ALLOWED)
-}
 
 const UNMAPS: [(&str, &str); 13] = [
     ("map 4KiB 0x1000 0x5000 0x3", "ok"),
@@ -197,12 +165,6 @@ const UNMAPS_BELOW_A_LARGE_PAGE: [(&str, &str); 2] = [
     ("show 0x3000 1", "0x400081"),
 ];
 
-#[test]
-fn pages_are_unmapped(rt: HostRuntime) -> Result<(), Fail> {
-    assert_replies(rt, rt.alloc(), POOL, &UNMAPS)?;
-    assert_replies(rt, rt.alloc(), LARGE, &UNMAPS_BELOW_A_LARGE_PAGE)
-}
-
 const LARGER_PAGES_AT_TABLES: [(&str, &str); 8] = [
     ("unmap 2MiB 0x0", "parent entry huge page"),
     ("translate-page 2MiB 0x0", "invalid frame address 0x4000"),
@@ -214,7 +176,19 @@ const LARGER_PAGES_AT_TABLES: [(&str, &str); 8] = [
     ("show 0x4000 1", "0x5003"),
 ];
 
-#[test]
-fn tables_are_no_larger_pages(rt: HostRuntime) -> Result<(), Fail> {
-    assert_replies(rt, rt.alloc(), FIRST, &LARGER_PAGES_AT_TABLES)
-}
+/// Commands, each list after an image in some modes.
+pub const SESSIONS: [Session; 13] = [
+    (&MODES, FULL, &FIRST_PAGE),
+    (&NOT_RECURSIVE, POOL, &LAST_PAGE),
+    (&MODES, POOL, &LATER_MAPS),
+    (&NOT_RECURSIVE, POOL, &PARENT_FLAGS),
+    (&NOT_RECURSIVE, POOL, &LARGE_PAGES),
+    (&MODES, POOL, &GIANT_PAGES),
+    (&MODES, POOL, &IDENTITY_MAPS),
+    (&MODES, POOL, &MAPPED_ALREADY),
+    (&MODES, FEW, &TOO_FEW_FRAMES),
+    (&MODES, POOL, &NOT_ALLOWED),
+    (&MODES, POOL, &UNMAPS),
+    (&MODES, LARGE, &UNMAPS_BELOW_A_LARGE_PAGE),
+    (&MODES, FIRST, &LARGER_PAGES_AT_TABLES),
+];

@@ -1,10 +1,10 @@
 //! Images, and commands that read them.
-use super::{FIRST, INVALID, LARGE, assert_replies};
-use std::test::Fail;
+use super::{FIRST, INVALID, LARGE, MODES, Session};
 
 /// Images, with commands and their replies.
-const IMAGES: [(&str, &[(&str, &str)]); 4] = [
+pub const IMAGES: [Session; 4] = [
     (
+        &MODES,
         FIRST,
         &[
             ("translate 0x1abc", "mapped 4KiB 0x5000 0xabc 0x3"),
@@ -13,30 +13,24 @@ const IMAGES: [(&str, &[(&str, &str)]); 4] = [
         ],
     ),
     (
+        &MODES,
         LARGE,
         &[
             ("translate 0x234567", "mapped 2MiB 0x400000 0x34567 0x81"),
             ("walk 0x234567", "0x434567 write=0 user=0"),
         ],
     ),
-    (FIRST, &[]),
-    ("", &[("show 0x1000 0", "0x0")]),
+    (&MODES, FIRST, &[]),
+    (&MODES, "", &[("show 0x1000 0", "0x0")]),
 ];
-
-#[test]
-fn images_are_read(rt: HostRuntime) -> Result<(), Fail> {
-    for (image, exchanges) in IMAGES {
-        assert_replies(rt, rt.alloc(), image, exchanges)?;
-    }
-    Ok(())
-}
 
 /// The root's last word names the table in frame 0x2000, which maps the last 1GiB of addresses.
 const LAST: &str = "word 0x1000 511 0x2007\nword 0x2000 511 0x8000000000000087\n";
 
 /// Images, with commands and their replies.
-const LEVEL_3_WORDS: [(&str, &[(&str, &str)]); 3] = [
+pub const LEVEL_3_WORDS: [Session; 3] = [
     (
+        &MODES,
         "word 0x1000 0 0x2003\nword 0x2000 1 0x80000083\n",
         &[(
             "translate 0x40123456",
@@ -44,10 +38,12 @@ const LEVEL_3_WORDS: [(&str, &[(&str, &str)]); 3] = [
         )],
     ),
     (
+        &MODES,
         "word 0x1000 0 0x2003\nword 0x2000 0 0x3080\n",
         &[("translate 0x0", "not mapped"), ("walk 0x0", "none")],
     ),
     (
+        &MODES,
         LAST,
         &[
             (
@@ -59,20 +55,17 @@ const LEVEL_3_WORDS: [(&str, &[(&str, &str)]); 3] = [
     ),
 ];
 
-#[test]
-fn words_of_level_three_are_read(rt: HostRuntime) -> Result<(), Fail> {
-    for (image, exchanges) in LEVEL_3_WORDS {
-        assert_replies(rt, rt.alloc(), image, exchanges)?;
-    }
-    Ok(())
-}
-
 /// Images, with commands and their replies.
-const FORMS: [(&str, &[(&str, &str)]); 3] = [
+pub const FORMS: [Session; 3] = [
     // A later word takes the place of an earlier one.
-    (INVALID, &[("word 0x1000 1 0\nshow 0x1000 0", "0x2003")]),
+    (
+        &MODES,
+        INVALID,
+        &[("word 0x1000 1 0\nshow 0x1000 0", "0x2003")],
+    ),
     // Numbers may be decimal, have leading zeros and digits of either case, and spaces may surround fields.
     (
+        &MODES,
         "  word   28672 00511   0x00ABCdef \n\n   \n",
         &[
             (" show 0x7000 0x1fF  \n", "0xabcdef"),
@@ -80,27 +73,19 @@ const FORMS: [(&str, &[(&str, &str)]); 3] = [
         ],
     ),
     (
+        &MODES,
         "word 0x7000 0 18446744073709551615\n",
         &[("show 0x7000 0", "0xffffffffffffffff"), ("show 0 0", "0x0")],
     ),
 ];
 
-#[test]
-fn numbers_and_fields_have_many_forms(rt: HostRuntime) -> Result<(), Fail> {
-    for (image, exchanges) in FORMS {
-        assert_replies(rt, rt.alloc(), image, exchanges)?;
-    }
-    Ok(())
-}
-
-#[test]
-fn free_frames_are_listed_in_order(rt: HostRuntime) -> Result<(), Fail> {
-    assert_replies(rt, rt.alloc(), "", &[("pool", "pool")])?;
-    assert_replies(rt, rt.alloc(), FIRST, &[("pool", "pool")])?;
-    assert_replies(
-        rt,
-        rt.alloc(),
+/// Images, with commands and their replies: free frames, in order.
+pub const FREE_FRAMES: [Session; 3] = [
+    (&MODES, "", &[("pool", "pool")]),
+    (&MODES, FIRST, &[("pool", "pool")]),
+    (
+        &MODES,
         "free 0x7000\nfree 8192\nfree 0x0005000\n",
         &[("pool", "pool 0x7000 0x2000 0x5000")],
-    )
-}
+    ),
+];

@@ -15,10 +15,7 @@ use std::alloc::Global;
 use std::process::Abort;
 use std::test::Fail;
 use x86_64::structures::paging::{PageTableFlags, PageTableIndex};
-use x86_64::{
-    Call57, IdentityMapping, PhysMemory, SizeCall57, is_valid_hierarchy_57, is_valid_recursive_57,
-    pool_fits_57, pool_fits_recursive_57,
-};
+use x86_64::{Call57, IdentityMapping, PhysMemory, SizeCall57, pool_fits_57};
 
 /// Makes a call that maps a page of 2MiB, which is done the first time alone.
 fn map_of_a_page() -> Call57 {
@@ -27,43 +24,6 @@ fn map_of_a_page() -> Call57 {
         frame: frame_at(0x40_0000),
         flags: PageTableFlags::PRESENT,
     })
-}
-
-#[test]
-fn hierarchies_of_five_levels_are_tested_once_there_is_room(rt: HostRuntime) -> Result<(), Fail> {
-    let alloc = rt.alloc();
-    let (root, index) = (frame_at(ROOT), PageTableIndex::new(INDEX));
-    let mut memory = PhysMemory::new(alloc, 4096)?;
-    let pool = pool_of(alloc, 4096, &FREE)?;
-    let identity = &IdentityMapping;
-    assert!(rt;
-        answer_at_last(
-            rt,
-            alloc,
-            || is_valid_hierarchy_57(alloc, &memory, identity, root)
-        )?
-    );
-    assert!(rt;
-        answer_at_last(
-            rt,
-            alloc,
-            || pool_fits_57(alloc, &memory, identity, root, &pool)
-        )?
-    );
-    set_word(&mut memory, ROOT, INDEX, 0x1003)?;
-    assert!(rt;
-        answer_at_last(
-            rt,
-            alloc,
-            || is_valid_recursive_57(alloc, &memory, root, index)
-        )?
-    );
-    assert!(rt;
-        answer_at_last(rt, alloc, || {
-            pool_fits_recursive_57(alloc, &memory, root, index, &pool)
-        })?
-    );
-    Ok(())
 }
 
 #[test]

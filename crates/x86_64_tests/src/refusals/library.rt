@@ -4,17 +4,16 @@ ghost use Rattle.x86_64_model.specs.Memory.{identity_places};
 ghost use Rattle.x86_64_mappers.specs.Layouts.{direct};
 ghost use Rattle.x86_64.specs.Runs.{FitsPool};
 
-use super::hoard::{answer_at_last, answer_past};
+use super::hoard::answer_at_last;
 use crate::assertions::assert_equal;
-use crate::images::{ROOT, frame_at, page_at, pool_of, run_flushed_on, run_on, set_word};
-use std::alloc::{AllocError, Global};
+use crate::images::{ROOT, frame_at, page_at, pool_of, run_flushed_on, run_on};
+use std::alloc::Global;
 use std::process::Abort;
 use std::test::Fail;
-use x86_64::structures::paging::{MappedPageTable, PageTableFlags, PageTableIndex};
+use x86_64::structures::paging::{PageTable, PageTableFlags};
 use x86_64::{
-    Call, FlushItem, FlushRecorder, FramePlace, FramePool, IdentityMapping, PhysMemory,
-    PlacesRefusal, Reply, SizeCall, SizeReply, VirtAddr, is_valid_hierarchy, is_valid_recursive,
-    pool_fits, pool_fits_recursive,
+    Call, FlushItem, FlushRecorder, FramePlace, FramePool, IdentityMapping, PhysMemory, Reply,
+    SizeCall, SizeReply, VirtAddr, pool_fits,
 };
 
 /// The addresses of the frames that are free at first.
@@ -23,101 +22,23 @@ pub const FREE: [u64; 3] = [0x2000, 0x3000, 0x4000];
 /// A reply from before a list.
 const EARLIER: Reply = Reply::NotAllowed;
 
-/// Places of a memory that has gaps.
-const PLACES: [u64; 16] = [
-    1, 2, 3, 5, 8, 13, 21, 34, 55, 89, 144, 233, 377, 610, 987, 0x8_0000,
-];
-
-/// Room for no growth of a memory of sixteen places, and for the first: that of their numbers.
-const MEMORY_ROOMS: [&[usize]; 2] = [&[], &[16 * 8]];
-
-#[test]
-fn memories_are_made_once_there_is_room(rt: HostRuntime) -> Result<(), Fail> {
-    let alloc = rt.alloc();
-    assert_equal(rt, PhysMemory::new(alloc, u64::MAX).err(), Some(AllocError));
-    for room in MEMORY_ROOMS {
-        let memory = answer_past(rt, alloc, room, || PhysMemory::new(alloc, 16))?;
-        assert_equal(rt, memory.len(), 16);
-    }
-    Ok(())
-}
-
-#[test]
-fn memories_with_gaps_are_made_once_there_is_room(rt: HostRuntime) -> Result<(), Fail> {
-    let alloc = rt.alloc();
-    let mut is_want = true;
-    for room in MEMORY_ROOMS {
-        let memory = answer_past(rt, alloc, room, || {
-            PhysMemory::with_places(alloc, &PLACES).map_err(|refusal| {
-                is_want = is_want && refusal == PlacesRefusal::Alloc(AllocError);
-                AllocError
-            })
-        })?;
-        assert_equal(rt, memory.len(), 16);
-    }
-    assert!(rt; is_want);
-    Ok(())
-}
-
-/// Room for no growth of a pool that serves frames with numbers below 4096, and for the first: that of the free frames.
-const POOL_ROOMS: [&[usize]; 2] = [&[], &[4096 * 8]];
-
-#[test]
-fn pools_are_made_once_there_is_room(rt: HostRuntime) -> Result<(), Fail> {
-    let alloc = rt.alloc();
-    assert_equal(rt, FramePool::new(alloc, u64::MAX).err(), Some(AllocError));
-    for room in POOL_ROOMS {
-        let mut pool = answer_past(rt, alloc, room, || FramePool::new(alloc, 4096))?;
-        assert_equal(rt, pool.try_add(frame_at(0xfff_000)), Ok(()));
-    }
-    Ok(())
-}
-
-#[test]
-fn hierarchies_and_pools_are_tested_once_there_is_room(rt: HostRuntime) -> Result<(), Fail> {
-    let alloc = rt.alloc();
-    let root = frame_at(ROOT);
-    let mut memory = PhysMemory::new(alloc, 4096)?;
-    let pool = pool_of(alloc, 4096, &FREE)?;
-    let is_valid = answer_at_last(rt, alloc, || {
-        is_valid_hierarchy(alloc, &memory, &IdentityMapping, root)
-    })?;
-    assert!(rt; is_valid);
-    let fits = answer_at_last(rt, alloc, || {
-        pool_fits(alloc, &memory, &IdentityMapping, root, &pool)
-    })?;
-    assert!(rt; fits);
-    assert!(rt; is_valid_hierarchy(alloc, &memory, &IdentityMapping, root)?);
-    let mapper = MappedPageTable::new(&mut memory, root, IdentityMapping);
-    assert!(rt; answer_at_last(rt, alloc, || mapper.is_valid(alloc))?);
-    Ok(())
-}
-
-#[test]
-fn recursive_hierarchies_are_tested_once_there_is_room(rt: HostRuntime) -> Result<(), Fail> {
-    let alloc = rt.alloc();
-    let (root, index) = (frame_at(ROOT), PageTableIndex::new(510));
-    let mut memory = PhysMemory::new(alloc, 4096)?;
-    set_word(&mut memory, ROOT, 510, 0x1003)?;
-    let pool = pool_of(alloc, 4096, &FREE)?;
-    let is_valid = answer_at_last(rt, alloc, || {
-        is_valid_recursive(alloc, &memory, root, index)
-    })?;
-    assert!(rt; is_valid);
-    let fits = answer_at_last(rt, alloc, || {
-        pool_fits_recursive(alloc, &memory, root, index, &pool)
-    })?;
-    assert!(rt; fits);
-    Ok(())
-}
-
 /// Gives how many entries of a memory of five places are used.
 pub fn used_entries(memory: &PhysMemory) -> usize {
     let mut count: usize = 0;
     for place in 0..5 {
         if let Some(table) = memory.table(FramePlace::new(place)) {
-            let used = table.iter().filter(|entry| !entry.is_unused()).count();
-            count = count.saturating_add(used);
+            count = count.saturating_add(used_in(table));
+        }
+    }
+    count
+}
+
+/// Gives how many entries of a table are used.
+fn used_in(table: &PageTable) -> usize {
+    let mut count: usize = 0;
+    for entry in table.iter() {
+        if !entry.is_unused() {
+            count = count.saturating_add(1);
         }
     }
     count
@@ -125,8 +46,12 @@ pub fn used_entries(memory: &PhysMemory) -> usize {
 
 /// Tells whether a pool has the frames that are free at first.
 pub fn is_full(pool: &FramePool) -> bool {
-    let is_free = (0..3).all(|n| pool.frame_at(n) == FREE.get(n).map(|frame| frame_at(*frame)));
-    is_free && pool.len() == 3
+    for (n, frame) in FREE.iter().enumerate() {
+        if pool.frame_at(n) != Some(frame_at(*frame)) {
+            return false;
+        }
+    }
+    pool.len() == FREE.len()
 }
 
 /// Tells whether the memory has unused entries alone, the pool has the frames that are free at first, and the replies are

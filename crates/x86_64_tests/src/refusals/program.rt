@@ -5,7 +5,6 @@ use crate::streams::{Comparison, Source};
 use pagetab_engine::ending::{Ending, Fault};
 use pagetab_engine::engine::run;
 use std::alloc::{AllocError, Global};
-use std::io::{self, Read, Write};
 use std::process::Abort;
 use std::test::Fail;
 
@@ -25,9 +24,6 @@ const FIRST_REPLIES: [&[u8]; 8] = [
     b"0x5000\n",
     b"ok\n",
 ];
-
-/// How many replies there are.
-const REPLY_COUNT: usize = 9;
 
 /// The free frames at the end.
 const FREE_AT_END: &[u8] = b"pool 0x2000 0x3000 0x4000\n";
@@ -122,114 +118,6 @@ fn run_at_last(rt: impl Abort + Copy, alloc: Global, mode: Mode) -> Result<(), F
 fn the_program_wants_memory_until_there_is_room(rt: HostRuntime) -> Result<(), Fail> {
     for mode in MODES {
         run_at_last(rt, rt.alloc(), mode)?;
-    }
-    Ok(())
-}
-
-/// Hands reads and writes on, and takes all memory at the call of a number, counted from 1.
-#[derive(Drop)]
-struct Hoarding<S: Drop> {
-    stream: S,
-    alloc: Global,
-    calls: usize,
-    hoards_at: usize,
-    blocks: Vec<Vec<u8>>,
-}
-
-impl<S: Drop> Hoarding<S> {
-    /// Makes one that never takes memory where the number is 0.
-    fn new(alloc: Global, stream: S, hoards_at: usize) -> Hoarding<S> {
-        Hoarding {
-            stream,
-            alloc,
-            calls: 0,
-            hoards_at,
-            blocks: Vec::new(alloc),
-        }
-    }
-
-    /// Counts a call.
-    fn count_call(&mut self) -> Result<(), AllocError> {
-        self.calls = self.calls.saturating_add(1);
-        if self.calls == self.hoards_at {
-            self.blocks = hoard(self.alloc)?;
-        }
-        Ok(())
-    }
-}
-
-impl<S: Read + Drop> Read for Hoarding<S> {
-    fn read(&mut self, buf: &mut [u8]) -> io::Result<usize> {
-        self.count_call()?;
-        self.stream.read(buf)
-    }
-}
-
-impl<S: Write + Drop> Write for Hoarding<S> {
-    fn write(&mut self, buf: &[u8]) -> io::Result<usize> {
-        self.count_call()?;
-        self.stream.write(buf)
-    }
-
-    fn flush(&mut self) -> io::Result<()> {
-        self.stream.flush()
-    }
-}
-
-/// Tells whether so many bytes are those of the last replies, with at least the first `least` before them.
-fn are_last_replies((_, _, last): Mode, bytes: usize, least: usize) -> bool {
-    if bytes == 0 {
-        return true;
-    }
-    let mut left: usize = last.len();
-    for (n, reply) in FIRST_REPLIES.iter().enumerate().rev() {
-        if n + 1 >= least && left == bytes {
-            return true;
-        }
-        left = left.saturating_add(reply.len());
-    }
-    least == 0 && left == bytes
-}
-
-/// Runs the program where a read or a write takes all memory, and compares that whole replies are written, so many at least, and
-/// all unless memory was refused. What a reply gives back may be room enough for the next one.
-fn assert_starved(
-    rt: impl Abort + Copy,
-    alloc: Global,
-    mode: Mode,
-    (read, write): (usize, usize),
-) -> Result<Ending, Fail> {
-    let (words, input) = start(alloc, mode)?;
-    let replies = replies_in(alloc, mode)?;
-    let mut source = Hoarding::new(alloc, Source::new(&input, 0), read);
-    let mut sink = Hoarding::new(alloc, Comparison::new(&replies), write);
-    let ending = run(alloc, words.as_slice(), &mut source, &mut sink);
-    source.blocks.clear();
-    sink.blocks.clear();
-    let left = sink.stream.rest.len();
-    assert!(rt; sink.stream.agrees, "write {write}");
-    if ending == Ending::Stopped(Fault::OutOfMemory) {
-        assert!(rt; are_last_replies(mode, left, write), "write {write}");
-    } else {
-        assert_equal_in(rt, write, (ending, left), (Ending::Done, 0));
-    }
-    Ok(ending)
-}
-
-/// Takes all memory at the first read, so that the image can't be tested, and at each write in turn.
-fn assert_each_starved(rt: impl Abort + Copy, alloc: Global, mode: Mode) -> Result<(), Fail> {
-    let ending = assert_starved(rt, alloc, mode, (1, 0))?;
-    assert_equal(rt, ending, Ending::Stopped(Fault::OutOfMemory));
-    for write in 1..=REPLY_COUNT {
-        assert_starved(rt, alloc, mode, (0, write))?;
-    }
-    Ok(())
-}
-
-#[test]
-fn replies_stay_where_the_next_one_finds_no_room(rt: HostRuntime) -> Result<(), Fail> {
-    for mode in MODES {
-        assert_each_starved(rt, rt.alloc(), mode)?;
     }
     Ok(())
 }

@@ -1,8 +1,7 @@
 //! Clean ups.
-use super::{CLEANED, Exchange, FIRST, LEVEL_1, LEVEL_2, LEVEL_3, LEVEL_4, MAPPED, Row, check};
+use super::{CLEANED, Exchange, FIRST, LEVEL_1, LEVEL_2, LEVEL_3, LEVEL_4, MAPPED, Row};
 use crate::turns::PageTurn::{MapTo, SetFlagsP4, Unmap};
 use crate::turns::Turn::{CleanUp, CleanUpRange, Small, Translate, TranslateAddr};
-use std::test::Fail;
 use x86_64_plain::Answer::{Done, Refused};
 use x86_64_plain::PlainReply::{Address, Answered, Cleaned, Position};
 use x86_64_plain::Refusal::PageAlreadyMapped;
@@ -30,11 +29,6 @@ const EMPTY_TABLES: [Row<'static>; 3] = [
         ..MAPPED
     },
 ];
-
-#[test]
-fn empty_tables_go_back_children_first(rt: HostRuntime) -> Result<(), Fail> {
-    check(rt, rt.alloc(), &EMPTY_TABLES)
-}
 
 /// Takes `PRESENT` from the entry of level four above the page 0x1000.
 const HIDE: Exchange = (Small(SetFlagsP4(0x1000, 0x2)), Answered(Done(0x2000)));
@@ -69,11 +63,6 @@ const USED_TABLES: [Row<'static>; 3] = [
         ..MAPPED
     },
 ];
-
-#[test]
-fn tables_of_used_entries_stay(rt: HostRuntime) -> Result<(), Fail> {
-    check(rt, rt.alloc(), &USED_TABLES)
-}
 
 /// Maps the page 0x200000, whose table of level one alone is another than that of the page 0x1000.
 const SECOND: Exchange = (Small(MapTo(0x20_0000, 0x8000, 0x3)), Answered(Done(0x8000)));
@@ -110,11 +99,6 @@ const RANGES: [Row<'static>; 3] = [
         left: &[0x4000, 0x7000],
     },
 ];
-
-#[test]
-fn ranges_name_the_tables_that_go_back(rt: HostRuntime) -> Result<(), Fail> {
-    check(rt, rt.alloc(), &RANGES)
-}
 
 /// The frames for the tables above two pages that have no table in common.
 const SIX_FREE: [u64; 6] = [0x2000, 0x3000, 0x4000, 0x5000, 0x6000, 0x7000];
@@ -168,7 +152,5 @@ const PAGES_AT_THE_GAP: [Row<'static>; 2] = [
     },
 ];
 
-#[test]
-fn ranges_go_on_after_the_gap(rt: HostRuntime) -> Result<(), Fail> {
-    check(rt, rt.alloc(), &PAGES_AT_THE_GAP)
-}
+/// All rows.
+pub const TABLES: [&[Row<'static>]; 4] = [&EMPTY_TABLES, &USED_TABLES, &RANGES, &PAGES_AT_THE_GAP];

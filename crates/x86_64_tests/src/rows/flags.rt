@@ -1,11 +1,10 @@
 //! Flags of entries on the paths of pages.
 use super::{
     FIRST, FIRST_LARGE, LARGE_LEVEL_3, LARGE_LEVEL_4, LARGE_MAPPED, LEVEL_1, LEVEL_2, LEVEL_3,
-    LEVEL_4, MAPPED, Row, check,
+    LEVEL_4, MAPPED, Row,
 };
 use crate::turns::PageTurn::{MapTo, SetFlagsP2, SetFlagsP3, SetFlagsP4, Unmap, UpdateFlags};
 use crate::turns::Turn::{Giant, Large, Small, Translate, TranslateAddr};
-use std::test::Fail;
 use x86_64_plain::Answer::{Done, Refused};
 use x86_64_plain::PlainReply;
 use x86_64_plain::PlainReply::{Address, Answered, NotAllowed, Position};
@@ -57,11 +56,6 @@ const PAGE_FLAGS: [Row<'static>; 2] = [
     },
 ];
 
-#[test]
-fn pages_get_flags(rt: HostRuntime) -> Result<(), Fail> {
-    check(rt, rt.alloc(), &PAGE_FLAGS)
-}
-
 /// Rows in which the entry of level four above the page 0x1000 loses `PRESENT`.
 const HIDDEN_TABLES: [Row<'static>; 2] = [
     Row {
@@ -87,11 +81,6 @@ const HIDDEN_TABLES: [Row<'static>; 2] = [
     },
 ];
 
-#[test]
-fn tables_lose_flags_and_get_them_back(rt: HostRuntime) -> Result<(), Fail> {
-    check(rt, rt.alloc(), &HIDDEN_TABLES)
-}
-
 /// The lower levels come first, since below an entry without `PRESENT` there is none.
 const FLAGS_OF_EACH_LEVEL: [Row<'static>; 1] = [Row {
     calls: &[
@@ -108,11 +97,6 @@ const FLAGS_OF_EACH_LEVEL: [Row<'static>; 1] = [Row {
     ],
     ..MAPPED
 }];
-
-#[test]
-fn each_level_has_an_entry_on_the_path(rt: HostRuntime) -> Result<(), Fail> {
-    check(rt, rt.alloc(), &FLAGS_OF_EACH_LEVEL)
-}
 
 const FLAGS_OF_A_LARGE_PAGE: [Row<'static>; 1] = [Row {
     calls: &[
@@ -135,11 +119,6 @@ const FLAGS_OF_A_LARGE_PAGE: [Row<'static>; 1] = [Row {
     ..LARGE_MAPPED
 }];
 
-#[test]
-fn flags_keep_the_size_of_a_page(rt: HostRuntime) -> Result<(), Fail> {
-    check(rt, rt.alloc(), &FLAGS_OF_A_LARGE_PAGE)
-}
-
 const HUGE: PlainReply = Answered(Refused(ParentEntryHugePage));
 
 const FLAGS_BELOW_LARGER_PAGES: [Row<'static>; 1] = [Row {
@@ -154,11 +133,6 @@ const FLAGS_BELOW_LARGER_PAGES: [Row<'static>; 1] = [Row {
     ..MAPPED
 }];
 
-#[test]
-fn larger_pages_have_no_entries_above_them_there(rt: HostRuntime) -> Result<(), Fail> {
-    check(rt, rt.alloc(), &FLAGS_BELOW_LARGER_PAGES)
-}
-
 /// An address bit, and `HUGE_PAGE` where the entry lacks it.
 const FLAGS_NOT_ALLOWED: [Row<'static>; 1] = [Row {
     calls: &[
@@ -172,7 +146,12 @@ const FLAGS_NOT_ALLOWED: [Row<'static>; 1] = [Row {
     ..MAPPED
 }];
 
-#[test]
-fn flags_that_are_not_allowed_change_nothing(rt: HostRuntime) -> Result<(), Fail> {
-    check(rt, rt.alloc(), &FLAGS_NOT_ALLOWED)
-}
+/// All rows.
+pub const TABLES: [&[Row<'static>]; 6] = [
+    &PAGE_FLAGS,
+    &HIDDEN_TABLES,
+    &FLAGS_OF_EACH_LEVEL,
+    &FLAGS_OF_A_LARGE_PAGE,
+    &FLAGS_BELOW_LARGER_PAGES,
+    &FLAGS_NOT_ALLOWED,
+];

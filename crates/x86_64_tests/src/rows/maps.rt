@@ -1,11 +1,10 @@
 //! Maps and unmaps.
 use super::{
     FIRST, FIRST_LARGE, FREE, LARGE_LEVEL_3, LARGE_LEVEL_4, LARGE_MAPPED, LEVEL_2, LEVEL_3,
-    LEVEL_4, MAPPED, Row, UNTOUCHED, WORDS, check,
+    LEVEL_4, MAPPED, Row, UNTOUCHED, WORDS,
 };
 use crate::turns::PageTurn::{IdentityMap, MapTo, TranslatePage, Unmap, UpdateFlags};
 use crate::turns::Turn::{Giant, Large, Small, Translate, TranslateAddr};
-use std::test::Fail;
 use x86_64_plain::Answer::{Done, Refused};
 use x86_64_plain::PlainReply::{Address, Answered, NotAllowed, Position};
 use x86_64_plain::Refusal::{
@@ -38,11 +37,6 @@ const TABLES_ARE_TAKEN: [Row<'static>; 3] = [
     },
 ];
 
-#[test]
-fn maps_take_tables_from_the_front_of_the_pool(rt: HostRuntime) -> Result<(), Fail> {
-    check(rt, rt.alloc(), &TABLES_ARE_TAKEN)
-}
-
 const LARGER_PAGES: [Row<'static>; 2] = [
     Row {
         calls: &[
@@ -65,11 +59,6 @@ const LARGER_PAGES: [Row<'static>; 2] = [
         left: &[0x3000, 0x4000],
     },
 ];
-
-#[test]
-fn larger_pages_want_fewer_tables(rt: HostRuntime) -> Result<(), Fail> {
-    check(rt, rt.alloc(), &LARGER_PAGES)
-}
 
 const IDENTITY_MAPS: [Row<'static>; 3] = [
     Row {
@@ -95,11 +84,6 @@ const IDENTITY_MAPS: [Row<'static>; 3] = [
     },
 ];
 
-#[test]
-fn identity_maps_name_the_page_at_the_frame(rt: HostRuntime) -> Result<(), Fail> {
-    check(rt, rt.alloc(), &IDENTITY_MAPS)
-}
-
 const REFUSED_MAPS: [Row<'static>; 2] = [
     // The frame of the reply is the one asked for.
     Row {
@@ -123,11 +107,6 @@ const REFUSED_MAPS: [Row<'static>; 2] = [
     },
 ];
 
-#[test]
-fn refused_maps_leave_what_they_did(rt: HostRuntime) -> Result<(), Fail> {
-    check(rt, rt.alloc(), &REFUSED_MAPS)
-}
-
 /// Parent flags without `PRESENT`, `HUGE_PAGE` on a 4KiB page, an address bit.
 const MAPS_NOT_ALLOWED: [Row<'static>; 1] = [Row {
     calls: &[
@@ -137,11 +116,6 @@ const MAPS_NOT_ALLOWED: [Row<'static>; 1] = [Row {
     ],
     ..UNTOUCHED
 }];
-
-#[test]
-fn maps_that_are_not_allowed_change_nothing(rt: HostRuntime) -> Result<(), Fail> {
-    check(rt, rt.alloc(), &MAPS_NOT_ALLOWED)
-}
 
 const UNMAPS: [Row<'static>; 3] = [
     Row {
@@ -171,11 +145,6 @@ const UNMAPS: [Row<'static>; 3] = [
     },
 ];
 
-#[test]
-fn unmaps_leave_the_tables(rt: HostRuntime) -> Result<(), Fail> {
-    check(rt, rt.alloc(), &UNMAPS)
-}
-
 const LARGER_PAGES_AT_TABLES: [Row<'static>; 1] = [Row {
     calls: &[
         FIRST,
@@ -196,7 +165,13 @@ const LARGER_PAGES_AT_TABLES: [Row<'static>; 1] = [Row {
     ..MAPPED
 }];
 
-#[test]
-fn tables_are_no_larger_pages(rt: HostRuntime) -> Result<(), Fail> {
-    check(rt, rt.alloc(), &LARGER_PAGES_AT_TABLES)
-}
+/// All rows.
+pub const TABLES: [&[Row<'static>]; 7] = [
+    &TABLES_ARE_TAKEN,
+    &LARGER_PAGES,
+    &IDENTITY_MAPS,
+    &REFUSED_MAPS,
+    &MAPS_NOT_ALLOWED,
+    &UNMAPS,
+    &LARGER_PAGES_AT_TABLES,
+];

@@ -1,24 +1,12 @@
 //! Calls of the recursive mapper alone, on pages inside the window and outside.
-ghost use Rattle.x86_64_model.specs.Marks.{serves_below};
-ghost use Rattle.x86_64_mappers.specs.Recursive.{recursive_now};
-ghost use Rattle.x86_64.specs.Runs.{FitsPool};
-
 use super::{
-    CLEANED, Exchange, FIRST_LARGE, LARGE_MAPPED, LEVEL_2, LEVEL_3, LEVEL_4, MAPPED, RECURSIVE,
-    RECURSIVE_INDEX, Row, Word, add_exchanges, assert_fits_recursive, begin_by, check_by,
-    compare_by,
+    CLEANED, Exchange, FIRST_LARGE, LARGE_MAPPED, LEVEL_2, LEVEL_3, LEVEL_4, MAPPED, Row, Word,
 };
-use crate::assertions::assert_equal;
-use crate::images::{ROOT, frame_at, run_recursive_on};
 use crate::turns::PageTurn::{
     MapTo, MapToWithTableFlags, SetFlagsP2, SetFlagsP3, SetFlagsP4, TranslatePage, Unmap,
     UpdateFlags,
 };
 use crate::turns::Turn::{CleanUp, CleanUpRange, Giant, Large, Small, Translate};
-use std::alloc::AllocError;
-use std::test::Fail;
-use x86_64::structures::paging::{PageTableIndex, PhysFrame, Size4KiB};
-use x86_64::{Call, FramePool, PhysMemory, Reply};
 use x86_64_plain::Answer::Done;
 use x86_64_plain::PlainReply::{Answered, Cleaned, NotAllowed, Position};
 use x86_64_plain::Translated::Mapped;
@@ -91,11 +79,6 @@ const TABLES_ARE_PAGES: [Row<'static>; 2] = [
     },
 ];
 
-#[test]
-fn tables_are_pages_of_the_window(rt: HostRuntime) -> Result<(), Fail> {
-    check_by(rt, rt.alloc(), &TABLES_ARE_PAGES, &[RECURSIVE])
-}
-
 const CLEAN_UPS: [Row<'static>; 4] = [
     Row {
         calls: &[MAP, UNMAP, CLEAN_UP],
@@ -126,11 +109,6 @@ const CLEAN_UPS: [Row<'static>; 4] = [
     },
 ];
 
-#[test]
-fn clean_ups_leave_the_window(rt: HostRuntime) -> Result<(), Fail> {
-    check_by(rt, rt.alloc(), &CLEAN_UPS, &[RECURSIVE])
-}
-
 /// Each call that writes, on pages of each size.
 const WRITES: [Row<'static>; 1] = [Row {
     calls: &[
@@ -157,49 +135,5 @@ const WRITES: [Row<'static>; 1] = [Row {
     ..MAPPED
 }];
 
-#[test]
-fn pages_of_the_window_are_not_changed(rt: HostRuntime) -> Result<(), Fail> {
-    check_by(rt, rt.alloc(), &WRITES, &[RECURSIVE])
-}
-
-/// Answers two lists of calls, each by a mapper of its own. After the first list its owner knows of the memory what
-/// the second one wants.
-fn run_both(
-    memory: &mut PhysMemory,
-    root: PhysFrame<Size4KiB>,
-    index: PageTableIndex,
-    pool: &mut FramePool,
-    lists: (&[Call], &[Call]),
-    replies: &mut Vec<Reply>,
-) -> Result<(), AllocError>
-    requires { let layout = recursive_now memory.old root index in
-        FitsPool layout memory.old (serves_below pool.old.limit) pool.old.frames }
-    ensures { let layout = recursive_now memory.new root index in
-        FitsPool layout memory.new (serves_below pool.new.limit) pool.new.frames }
-{
-    run_recursive_on(memory, root, index, pool, lists.0, replies)?;
-    run_recursive_on(memory, root, index, pool, lists.1, replies)
-}
-
-#[test]
-fn lists_go_on_where_others_ended(rt: HostRuntime) -> Result<(), Fail> {
-    let [row, ..] = &CLEAN_UPS;
-    let (mut memory, mut pool) = begin_by(rt.alloc(), RECURSIVE, row.free)?;
-    let mut calls = Vec::new(rt.alloc());
-    let mut wanted = Vec::new(rt.alloc());
-    add_exchanges(row, &mut calls, &mut wanted)?;
-    let (root, index) = (frame_at(ROOT), PageTableIndex::new(RECURSIVE_INDEX));
-    assert_fits_recursive(rt, rt.alloc(), &memory, root, index, &pool)?;
-    let mut replies = Vec::new(rt.alloc());
-    let lists = calls.split_at(calls.len().min(1));
-    run_both(&mut memory, root, index, &mut pool, lists, &mut replies)?;
-    assert_equal(rt, replies, wanted);
-    compare_by(
-        rt,
-        rt.alloc(),
-        RECURSIVE,
-        (&memory, &pool),
-        row,
-        "two lists",
-    )
-}
+/// All rows.
+pub const TABLES: [&[Row<'static>]; 3] = [&TABLES_ARE_PAGES, &CLEAN_UPS, &WRITES];

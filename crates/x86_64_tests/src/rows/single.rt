@@ -301,7 +301,7 @@ fn set_table_flags<M: MapperAllSizes, A: FrameAllocator<Size4KiB>>(
 }
 
 /// Calls of a mapper itself.
-#[derive(Clone, Copy, Debug)]
+#[derive(Clone, Copy)]
 enum Script {
     MapAndUnmap,
     SetPageFlags,
@@ -337,8 +337,7 @@ fn check_direct(
     let mut mapper = MappedPageTable::new(&mut memory, root, IdentityMapping);
     play(rt, script, &mut mapper, &mut pool);
     drop(mapper);
-    let title = format!(in alloc; "{script:?} by the direct mapper")?;
-    compare(rt, &memory, &pool, row, &title)
+    compare(rt, &memory, &pool, row, "by the direct mapper")
 }
 
 /// Makes the calls of a script through windows, and compares what is left: the entry for the root itself besides.
@@ -361,8 +360,7 @@ fn check_recursive(
         words: &words,
         ..*row
     };
-    let title = format!(in alloc; "{script:?} through windows")?;
-    compare(rt, &memory, &pool, &left, &title)
+    compare(rt, &memory, &pool, &left, "through windows")
 }
 
 /// Scripts, and what is left of them by the direct mapper and through windows, where new tables are writable.

@@ -73,7 +73,7 @@ fn compare_tables(
 fn tables_are_made_past_a_gap(rt: HostRuntime) -> Result<(), Fail> {
     let alloc = rt.alloc();
     for by in EACH {
-        let title = format!(in alloc; "past a gap, {by:?}")?;
+        let title = format!(in alloc; "past a gap, by {}", by.name())?;
         let (mut memory, mut pool) = begin(alloc, by)?;
         answer_exchanges(
             rt,

@@ -70,11 +70,6 @@ const TWO_MAPS: [(Row<'static>, &[Walk]); 1] = [(
     ],
 )];
 
-#[test]
-fn accepted_maps_arrive_with_the_rights_asked_for(rt: HostRuntime) -> Result<(), Fail> {
-    check_walks(rt, rt.alloc(), &TWO_MAPS, &EACH)
-}
-
 /// Before a refused map and after it.
 const WIDER_RIGHTS: [(Row<'static>, &[Walk]); 2] = [
     (
@@ -104,11 +99,7 @@ const WIDER_RIGHTS: [(Row<'static>, &[Walk]); 2] = [
     ),
 ];
 
-#[test]
-fn refused_maps_widen_rights_of_walks_on_their_way(rt: HostRuntime) -> Result<(), Fail> {
-    check_walks(rt, rt.alloc(), &WIDER_RIGHTS, &EACH)
-}
-
+/// A map whose parent flags lack WRITABLE.
 const PARENT_FLAGS: Row<'static> = Row {
     calls: &[(
         Small(MapToWithTableFlags(0x1000, 0x5000, 0x3, 0x1)),
@@ -122,18 +113,6 @@ const PARENT_FLAGS: Row<'static> = Row {
     ],
     ..MAPPED
 };
-
-#[test]
-fn parent_flags_of_a_map_bound_its_rights(rt: HostRuntime) -> Result<(), Fail> {
-    let walks: [Walk; 1] = [(0x1abc, Some((0x5abc, false, false)))];
-    check_row(rt, rt.alloc(), 0, &PARENT_FLAGS, &walks, &DIRECT)
-}
-
-#[test]
-fn new_tables_are_writable_through_windows(rt: HostRuntime) -> Result<(), Fail> {
-    let walks: [Walk; 1] = [(0x1abc, Some((0x5abc, true, false)))];
-    check_row(rt, rt.alloc(), 0, &PARENT_FLAGS, &walks, &[RECURSIVE])
-}
 
 const PAGE_FLAGS: [(Row<'static>, &[Walk]); 3] = [
     (
@@ -175,7 +154,25 @@ const PAGE_FLAGS: [(Row<'static>, &[Walk]); 3] = [
     ),
 ];
 
+/// Rows, each beside its walks, and the mappers that answer their calls. The recursive one makes writable tables.
+const TABLES: [(&[By], &[(Row<'static>, &[Walk])]); 5] = [
+    (&EACH, &TWO_MAPS),
+    (&EACH, &WIDER_RIGHTS),
+    (&EACH, &PAGE_FLAGS),
+    (
+        &DIRECT,
+        &[(PARENT_FLAGS, &[(0x1abc, Some((0x5abc, false, false)))])],
+    ),
+    (
+        &[RECURSIVE],
+        &[(PARENT_FLAGS, &[(0x1abc, Some((0x5abc, true, false)))])],
+    ),
+];
+
 #[test]
-fn walks_follow_the_flags_of_pages(rt: HostRuntime) -> Result<(), Fail> {
-    check_walks(rt, rt.alloc(), &PAGE_FLAGS, &EACH)
+fn walks_arrive_with_the_rights_of_entries(rt: HostRuntime) -> Result<(), Fail> {
+    for (mappers, rows) in TABLES {
+        check_walks(rt, rt.alloc(), rows, mappers)?;
+    }
+    Ok(())
 }

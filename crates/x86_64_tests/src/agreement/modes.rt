@@ -1,0 +1,109 @@
+//! The modes of the program, and the plain machines that answer as they do.
+ghost use Rattle.std.specs.Prelude.{◌≤◌};
+
+use crate::rows::SELF_ENTRY;
+use x86_64::{VirtAddr, VirtAddr57};
+use x86_64_plain::{PlainMachine, PlainWindow};
+
+/// How many levels of tables a hierarchy has.
+#[derive(Clone, Copy)]
+pub enum Levels {
+    Four,
+    Five,
+}
+
+impl Levels {
+    /// Gives the number.
+    pub fn count(self) -> usize
+        ensures { result ≤ 5 }
+    {
+        match self {
+            Levels::Four => 4,
+            Levels::Five => 5,
+        }
+    }
+
+    /// Gives the address at a position.
+    pub fn address_at(self, position: u64) -> u64 {
+        match self {
+            Levels::Four => VirtAddr::new_truncate(position).as_u64(),
+            Levels::Five => VirtAddr57::new_truncate(position).as_u64(),
+        }
+    }
+
+    /// Gives the last position.
+    pub fn last_position(self) -> u64 {
+        match self {
+            Levels::Four => 0xffff_ffff_ffff,
+            Levels::Five => 0x01ff_ffff_ffff_ffff,
+        }
+    }
+
+    /// Gives the index of the highest level at a position.
+    pub fn highest_index(self, position: u64) -> u64 {
+        match self {
+            Levels::Four => position >> 39,
+            Levels::Five => position >> 48,
+        }
+    }
+}
+
+/// How the program finds tables: in frames that lie at the places of their numbers, in a memory at an offset, through the root's
+/// entry for itself, or in both the first and the third way at once.
+#[derive(Clone, Copy)]
+pub enum Way {
+    Direct,
+    Offset,
+    Recursive,
+    Pair,
+}
+
+impl Way {
+    /// All of them.
+    pub const ALL: [Way; 4] = [Way::Direct, Way::Offset, Way::Recursive, Way::Pair];
+}
+
+/// The recursive index, which commands choose among others.
+pub const RECURSIVE_INDEX: u64 = 1;
+
+/// A mode of the program, with a memory of 16 places.
+#[derive(Clone, Copy)]
+pub struct Mode {
+    pub way: Way,
+    pub levels: Levels,
+}
+
+impl Mode {
+    /// Makes one.
+    pub fn new(way: Way, levels: Levels) -> Mode {
+        Mode { way, levels }
+    }
+
+    /// Gives the arguments of the program.
+    pub fn arguments(self) -> &'static str {
+        match (self.way, self.levels) {
+            (Way::Direct, Levels::Four) => "direct 16",
+            (Way::Direct, Levels::Five) => "direct5 16",
+            (Way::Offset, _) => "offset 16 0xffff800000000000",
+            (Way::Recursive, Levels::Four) => "recursive 16 1",
+            (Way::Recursive, Levels::Five) => "recursive5 16 1",
+            (Way::Pair, Levels::Four) => "pair 16 1",
+            (Way::Pair, Levels::Five) => "pair5 16 1",
+        }
+    }
+
+    /// Gives the plain machine. That of a pair is the first mapper's, which has no recursive index.
+    pub fn machine(self) -> PlainMachine
+        ensures { result.levels ≤ 5 }
+    {
+        let is_recursive = matches!(self.way, Way::Recursive);
+        PlainMachine {
+            levels: self.levels.count(),
+            window: is_recursive.then_some(PlainWindow {
+                index: RECURSIVE_INDEX,
+                self_entry: SELF_ENTRY,
+            }),
+            added_flags: if is_recursive { 0x3 } else { 0x0 },
+        }
+    }
+}

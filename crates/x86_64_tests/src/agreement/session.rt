@@ -1,0 +1,266 @@
+//! One hierarchy, answered plainly, and what the program is to read and to write of it.
+use super::chooser::Choice;
+use super::modes::{Levels, Mode, RECURSIVE_INDEX, Way};
+use super::outcomes::{Met, TABLES_GO_BACK, kind_of, text_of};
+use crate::assertions::assert_equal_in;
+use crate::images::ROOT;
+use crate::program::{push_line, words_of};
+use crate::rows::{SELF_ENTRY, Word};
+use crate::streams::Comparison;
+use pagetab_engine::ending::Ending;
+use pagetab_engine::engine::run;
+use std::alloc::{AllocError, Global};
+use std::process::Abort;
+use std::test::Fail;
+use x86_64_plain::words::{address, is_huge};
+use x86_64_plain::{PathEntries, PlainCall, PlainReply, PlainState};
+
+/// How many places the memory has.
+const PLACES: u64 = 16;
+
+/// How many words a table has.
+const WORD_COUNT: u64 = 512;
+
+/// The frames that are free at first, of which a state gets the first few.
+const FREE: [u64; 7] = [0x4000, 0x2000, 0x8000, 0x3000, 0x7000, 0x6000, 0xa000];
+
+/// A frame that is full of ones, and neither a table nor free.
+const STRANGER: u64 = 0x9000;
+
+/// Holds a hierarchy and its free frames plainly, the lines that the program is to read, and its replies.
+#[derive(Drop)]
+pub struct Session {
+    mode: Mode,
+    state: PlainState,
+    /// How many of the free frames, the last ones, were never handed out. Their words are full of ones; those of
+    /// the others, which clean ups gave back, are 0.
+    untouched: usize,
+    input: String,
+    replies: String,
+}
+
+impl Session {
+    /// Makes one of the entries at first, as words, each after those above it, and at most so many free frames, which
+    /// are full of ones, as the stranger is.
+    pub fn new(
+        alloc: Global,
+        mode: Mode,
+        words: &[Word],
+        count: usize,
+    ) -> Result<Session, AllocError> {
+        let pool = free_frames(alloc, words, count)?;
+        let paths = paths_of(alloc, mode.levels, words)?;
+        let untouched = pool.len();
+        let state = PlainState { paths, pool };
+        let mut session = Session {
+            mode,
+            state,
+            untouched,
+            input: String::new(alloc),
+            replies: String::new(alloc),
+        };
+        session.load(alloc)?;
+        Ok(session)
+    }
+
+    /// Adds the lines of the image.
+    fn load(&mut self, alloc: Global) -> Result<(), AllocError> {
+        let way = self.mode.way;
+        let words = self.words(alloc, matches!(way, Way::Pair))?;
+        for (n, word) in words.iter().enumerate() {
+            if *word != 0 {
+                let (frame, index) = slot_of(n);
+                let line = format!(in alloc; "word {frame:#x} {index} {word:#x}")?;
+                push_line(&mut self.input, &line)?;
+            }
+        }
+        for frame in &self.state.pool {
+            let line = format!(in alloc; "free {frame:#x}")?;
+            push_line(&mut self.input, &line)?;
+        }
+        Ok(())
+    }
+
+    /// Gives the words of all frames. Where there are two memories they are those of the first one, whose root has no entry for
+    /// itself, unless they are those of the image.
+    fn words(&self, alloc: Global, is_image: bool) -> Result<Vec<u64>, AllocError> {
+        let mut words = vec![in alloc; 0; (PLACES * WORD_COUNT) as usize]?;
+        let pool = self.state.pool.as_slice();
+        let (_, untouched) = pool.split_at(pool.len().saturating_sub(self.untouched));
+        for frame in untouched {
+            fill(&mut words, *frame);
+        }
+        fill(&mut words, STRANGER);
+        for item in self.state.paths.items.iter() {
+            let Some((index, parents)) = item.path.split_last() else {
+                continue;
+            };
+            let frame = if parents.is_empty() {
+                ROOT
+            } else {
+                address(self.state.paths.entry(parents))
+            };
+            set(&mut words, frame, *index, item.word);
+        }
+        let way = self.mode.way;
+        if is_image || matches!(way, Way::Recursive) {
+            set(&mut words, ROOT, RECURSIVE_INDEX, SELF_ENTRY);
+        }
+        Ok(words)
+    }
+
+    /// Adds a line, and the reply to it.
+    fn ask(&mut self, line: &str, reply: &str) -> Result<(), AllocError> {
+        push_line(&mut self.input, line)?;
+        push_line(&mut self.replies, reply)
+    }
+
+    /// Asks for every word, and for the free frames.
+    pub fn show(&mut self, alloc: Global) -> Result<(), AllocError> {
+        let words = self.words(alloc, false)?;
+        for (n, word) in words.iter().enumerate() {
+            let (frame, index) = slot_of(n);
+            let line = format!(in alloc; "show {frame:#x} {index}")?;
+            let reply = format!(in alloc; "{word:#x}")?;
+            self.ask(&line, &reply)?;
+        }
+        let mut reply = String::from_str(alloc, "pool")?;
+        for frame in &self.state.pool {
+            reply = format!(in alloc; "{reply} {frame:#x}")?;
+        }
+        self.ask("pool", &reply)
+    }
+
+    /// Answers a call plainly.
+    fn step(&mut self, call: &PlainCall) -> Result<PlainReply, AllocError> {
+        let index = named_index(self.mode.levels, call);
+        let way = self.mode.way;
+        if matches!(way, Way::Pair) && index == Some(RECURSIVE_INDEX) {
+            return Ok(PlainReply::NotAllowed);
+        }
+        let reply = self.mode.machine().step(&mut self.state, call)?;
+        self.untouched = self.untouched.min(self.state.pool.len());
+        Ok(reply)
+    }
+
+    /// Answers a call plainly, and adds its line and the reply. Keeps what comes of it.
+    pub fn answer(
+        &mut self,
+        alloc: Global,
+        choice: &Choice,
+        met: &mut Met,
+    ) -> Result<(), AllocError> {
+        let free = self.state.pool.len();
+        let reply = self.step(&choice.plain)?;
+        let kind = kind_of(&choice.plain, reply);
+        let goes_back = free < self.state.pool.len();
+        met.add(
+            &choice.command,
+            if goes_back { TABLES_GO_BACK } else { kind },
+        )?;
+        let text = text_of(alloc, kind, reply)?;
+        self.ask(&choice.line, &text)
+    }
+
+    /// Runs the program on all lines, and compares what it writes.
+    pub fn compare(&self, rt: impl Abort + Copy, alloc: Global) -> Result<(), Fail> {
+        let arguments = self.mode.arguments();
+        let words = words_of(alloc, arguments)?;
+        let mut source = self.input.as_bytes();
+        let mut sink = Comparison::new(self.replies.as_bytes());
+        let ending = run(alloc, &words, &mut source, &mut sink);
+        assert_equal_in(rt, arguments, ending, Ending::Done);
+        let left = sink.rest.get(..sink.rest.len().min(40)).map(str::from_utf8);
+        assert!(rt;
+            sink.agrees && sink.rest.is_empty(),
+            "{arguments}: before {left:?}"
+        );
+        Ok(())
+    }
+}
+
+/// Gives the frame and the index of a word, all words counted.
+fn slot_of(n: usize) -> (usize, usize) {
+    ((n / 512).saturating_mul(0x1000), n % 512)
+}
+
+/// Sets the word at an index of a frame.
+fn set(words: &mut [u64], frame: u64, index: u64, word: u64) {
+    let n = (frame / 0x1000 * WORD_COUNT).saturating_add(index);
+    if let Some(slot) = words.get_mut(n as usize) {
+        *slot = word;
+    }
+}
+
+/// Makes all words of a frame full of ones.
+fn fill(words: &mut [u64], frame: u64) {
+    for index in 0..WORD_COUNT {
+        set(words, frame, index, u64::MAX);
+    }
+}
+
+/// Gives the index of the highest level that a call names, if it names one.
+fn named_index(levels: Levels, call: &PlainCall) -> Option<u64> {
+    match call {
+        PlainCall::MapTo { page, .. }
+        | PlainCall::MapToWithTableFlags { page, .. }
+        | PlainCall::Unmap { page }
+        | PlainCall::UpdateFlags { page, .. }
+        | PlainCall::SetFlags { page, .. }
+        | PlainCall::TranslatePage { page } => page.first().copied(),
+        PlainCall::IdentityMap { frame, .. } => {
+            let is_low = *frame <= levels.last_position() / 2;
+            is_low.then_some(levels.highest_index(*frame))
+        }
+        PlainCall::Translate { position } | PlainCall::TranslateAddress { position } => {
+            Some(levels.highest_index(*position))
+        }
+        PlainCall::CleanUp { .. } => None,
+    }
+}
+
+/// Gives the path map of words of so many levels, each after those above it.
+fn paths_of(alloc: Global, levels: Levels, words: &[Word]) -> Result<PathEntries, AllocError> {
+    let mut paths = PathEntries::new(alloc);
+    let mut tables = vec![in alloc; (ROOT, Vec::new(alloc))]?;
+    for (frame, index, word) in words {
+        let mut path = path_to(alloc, &tables, *frame)?;
+        path.push(u64::from(*index))?;
+        paths.put(&path, *word)?;
+        if path.len() < levels.count() && !is_huge(*word) {
+            tables.push((address(*word), path))?;
+        }
+    }
+    Ok(paths)
+}
+
+/// Gives the path of the table in a frame, of those whose paths are known.
+fn path_to(alloc: Global, tables: &[(u64, Vec<u64>)], frame: u64) -> Result<Vec<u64>, AllocError> {
+    for (at, path) in tables {
+        if *at == frame {
+            return Vec::from_slice(alloc, path);
+        }
+    }
+    Ok(Vec::new(alloc))
+}
+
+/// Tells whether some of these words stand in a frame.
+fn is_table(words: &[Word], frame: u64) -> bool {
+    for (at, ..) in words {
+        if *at == frame {
+            return true;
+        }
+    }
+    false
+}
+
+/// Gives at most so many free frames, none of which is a table of these words.
+fn free_frames(alloc: Global, words: &[Word], count: usize) -> Result<Vec<u64>, AllocError> {
+    let mut free = Vec::new(alloc);
+    for frame in FREE {
+        if free.len() < count && !is_table(words, frame) {
+            free.push(frame)?;
+        }
+    }
+    Ok(free)
+}

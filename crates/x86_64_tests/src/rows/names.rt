@@ -1,0 +1,32 @@
+//! The index of level four that a call names.
+use crate::assertions::assert_equal_in;
+use crate::turns::PageTurn::{IdentityMap, MapTo, Unmap, UpdateFlags};
+use crate::turns::Turn::{CleanUp, CleanUpRange, Giant, Large, Small, Translate, TranslateAddr};
+use crate::turns::{Turn, call_of};
+use std::test::Fail;
+use x86_64::structures::paging::PageTableIndex;
+
+/// Calls, and the index of level four that each names, if it names one.
+const INDICES: [(Turn, Option<u16>); 9] = [
+    (Small(MapTo(0xffff_8000_0000_0000, 0x5000, 0x1)), Some(256)),
+    (Small(Unmap(0x7fff_ffff_f000)), Some(255)),
+    (Large(UpdateFlags(0xffff_ff80_0000_0000, 0x1)), Some(511)),
+    (Giant(IdentityMap(0x7fff_c000_0000, 0x1)), Some(255)),
+    (Small(IdentityMap(0x8000_0000_0000, 0x1)), None),
+    (Translate(u64::MAX), Some(511)),
+    (TranslateAddr(0x7f_ffff_ffff), Some(0)),
+    (CleanUp, None),
+    (CleanUpRange(0x1000, 0x2000), None),
+];
+
+#[test]
+fn calls_name_an_index_of_level_four(rt: HostRuntime) -> Result<(), Fail> {
+    for (turn, index) in INDICES {
+        let call = call_of(turn);
+        for other in 0..512 {
+            let names = call.names(PageTableIndex::new(other));
+            assert_equal_in(rt, (call, other), names, index == Some(other));
+        }
+    }
+    Ok(())
+}
