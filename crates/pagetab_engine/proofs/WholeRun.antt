@@ -4,7 +4,7 @@ use Rattle.std.specs.Option.{option_map}
 use Rattle.pagetab_engine.specs.Arguments.{Says}
 use Rattle.pagetab_engine.specs.Hierarchy.{FitsImage, IsReached}
 use Rattle.pagetab_engine.specs.Lines.{Numbered, lines_of, numbered_from}
-use Rattle.pagetab_engine.specs.Program.{IsEmpty, IsFirst, IsLeft, IsRead, IsRun, IsWritten, LoadsImage, Reads, Runs, Served, Serves}
+use Rattle.pagetab_engine.specs.Program.{IsEmpty, IsFirst, IsLeft, IsRead, IsRun, IsWritten, LoadsImage, Reads, Runs, RunsFrom, Served, Serves}
 use Rattle.pagetab_engine.specs.Program.IsRun.{usage, unreached, reads, gives_up}
 use Rattle.pagetab_engine.specs.Program.Reads.{unfit, fits as fits_then, gives_up as gives_up_in_image}
 use Rattle.pagetab_engine.specs.Program.Serves.{ends}
@@ -54,54 +54,63 @@ module _ (words : List (List ℕ)) (known : Option (List ℕ)) (old : Option (Li
     pub not_reached : ¬ (IsReached empty.mode empty.frames.memory) → IfSome known (λ input. Runs words input old old (Stopped Usage))
     not_reached never = stops Usage (λ input. unreached arguments empty says is_empty never)
 
-    module _ (reached : IsReached empty.mode empty.frames.memory) where
-      -- a run that stops in the image
-      pub stops_in_image : (fault : Fault) → IfSome (lines_in known) (λ lines. Reads arguments lines empty (Stopped fault) []) → IfSome known (λ input. Runs words input old old (Stopped fault))
-      stops_in_image fault = by known
+    -- a run that reads
+    pub goes_on : IsReached empty.mode empty.frames.memory → (ending : Ending) (new : Option (List ℕ))
+        → IfSome known (λ input. RunsFrom arguments empty input old new ending) → IfSome known (λ input. Runs words input old new ending)
+    goes_on reached ending new = by known
+      where
+        by : (known : Option (List ℕ)) → IfSome known (λ input. RunsFrom arguments empty input old new ending) → IfSome known (λ input. Runs words input old new ending)
+        by None from = tt
+        by (Some input) from = (from.0, reads arguments empty ending from.0 says is_empty reached from.1, from.2)
+
+module _ (known : Option (List ℕ)) (old : Option (List ℕ)) (arguments : Arguments) (empty : Hierarchy) where
+  -- a run that stops in the image
+  pub stops_in_image : (fault : Fault) → IfSome (lines_in known) (λ lines. Reads arguments lines empty (Stopped fault) []) → IfSome known (λ input. RunsFrom arguments empty input old old (Stopped fault))
+  stops_in_image fault = by known
+    where
+      by : (known : Option (List ℕ)) → IfSome (lines_in known) (λ lines. Reads arguments lines empty (Stopped fault) []) → IfSome known (λ input. RunsFrom arguments empty input old old (Stopped fault))
+      by None told = tt
+      by (Some input) told = ([], told, unwritten old fault)
+
+  module _ (image : Hierarchy) (first : Option Command) (behind : Option (List Numbered))
+      (loaded : IfSome (lines_in known) (λ lines. LoadsImage arguments lines empty first behind image)) where
+    -- a run that goes on after the image
+    after_image : (ending : Ending) (new : Option (List ℕ))
+        → ((left : List Numbered) → IsLeft arguments first behind left → (replies : List Reply) × Reads arguments left image ending replies × IsWritten old new ending replies)
+        → IfSome known (λ input. RunsFrom arguments empty input old new ending)
+    after_image ending new tail = by known loaded
+      where
+        by : (known : Option (List ℕ)) → IfSome (lines_in known) (λ lines. LoadsImage arguments lines empty first behind image) → IfSome known (λ input. RunsFrom arguments empty input old new ending)
+        by None loaded = tt
+        by (Some input) loaded =
+            let rest = tail loaded.0 loaded.1 in
+            (rest.0, loaded.2 ending rest.0 rest.1, rest.2)
+
+    is_read : (first : Option Command) (behind : Option (List Numbered)) (left : List Numbered) → IsLeft arguments first behind left → IsRead arguments left
+    is_read None behind left is = subst (λ left. IsRead arguments left) (sym is) tt
+    is_read (Some command) None left is = absurd is
+    is_read (Some command) (Some behind) left is = subst (λ left. IsRead arguments left) (sym is.2) (command, is.1)
+
+    pub not_tested : IfSome known (λ input. RunsFrom arguments empty input old old (Stopped OutOfMemory))
+    not_tested = after_image (Stopped OutOfMemory) old (λ left is. ([], gives_up_in_image left image OutOfMemory tt, appends_nothing old))
+
+    pub not_fitting : ¬ (FitsImage image) → IfSome known (λ input. RunsFrom arguments empty input old old (Stopped InvalidHierarchy))
+    not_fitting never = after_image (Stopped InvalidHierarchy) old (λ left is. ([], unfit left image (is_read first behind left is) never, appends_nothing old))
+
+    module _ (fits : FitsImage image) (ready : Hierarchy) (is_first : IsFirst image ready) where
+      pub no_commands : first ≡ None → IfSome known (λ input. RunsFrom arguments empty input old old Done)
+      no_commands none = after_image Done old (λ left is.
+          let over : left ≡ [] = subst (λ first. IsLeft arguments first behind left) none is in
+          ([], fits_then left image ready Done [] (is_read first behind left is) fits is_first (subst (λ left. Serves arguments left ready Done []) (sym over) (ends ready)), appends_nothing old))
+
+      pub commands : (command : Command) (ending : Ending) (new : Option (List ℕ)) → first ≡ Some command
+          → IfSome behind (λ behind. Served arguments command behind ready old new ending) → IfSome known (λ input. RunsFrom arguments empty input old new ending)
+      commands command ending new asked served = after_image ending new (λ left is. by behind left (subst (λ first. IsLeft arguments first behind left) asked is) (is_read first behind left is) served)
         where
-          by : (known : Option (List ℕ)) → IfSome (lines_in known) (λ lines. Reads arguments lines empty (Stopped fault) []) → IfSome known (λ input. Runs words input old old (Stopped fault))
-          by None told = tt
-          by (Some input) told = ([], reads arguments empty (Stopped fault) [] says is_empty reached told, unwritten old fault)
-
-      module _ (image : Hierarchy) (first : Option Command) (behind : Option (List Numbered))
-          (loaded : IfSome (lines_in known) (λ lines. LoadsImage arguments lines empty first behind image)) where
-        -- a run that goes on after the image
-        goes_on : (ending : Ending) (new : Option (List ℕ))
-            → ((left : List Numbered) → IsLeft arguments first behind left → (replies : List Reply) × Reads arguments left image ending replies × IsWritten old new ending replies)
-            → IfSome known (λ input. Runs words input old new ending)
-        goes_on ending new tail = by known loaded
-          where
-            by : (known : Option (List ℕ)) → IfSome (lines_in known) (λ lines. LoadsImage arguments lines empty first behind image) → IfSome known (λ input. Runs words input old new ending)
-            by None loaded = tt
-            by (Some input) loaded =
-                let rest = tail loaded.0 loaded.1 in
-                (rest.0, reads arguments empty ending rest.0 says is_empty reached (loaded.2 ending rest.0 rest.1), rest.2)
-
-        is_read : (first : Option Command) (behind : Option (List Numbered)) (left : List Numbered) → IsLeft arguments first behind left → IsRead arguments left
-        is_read None behind left is = subst (λ left. IsRead arguments left) (sym is) tt
-        is_read (Some command) None left is = absurd is
-        is_read (Some command) (Some behind) left is = subst (λ left. IsRead arguments left) (sym is.2) (command, is.1)
-
-        pub not_tested : IfSome known (λ input. Runs words input old old (Stopped OutOfMemory))
-        not_tested = goes_on (Stopped OutOfMemory) old (λ left is. ([], gives_up_in_image left image OutOfMemory tt, appends_nothing old))
-
-        pub not_fitting : ¬ (FitsImage image) → IfSome known (λ input. Runs words input old old (Stopped InvalidHierarchy))
-        not_fitting never = goes_on (Stopped InvalidHierarchy) old (λ left is. ([], unfit left image (is_read first behind left is) never, appends_nothing old))
-
-        module _ (fits : FitsImage image) (ready : Hierarchy) (is_first : IsFirst image ready) where
-          pub no_commands : first ≡ None → IfSome known (λ input. Runs words input old old Done)
-          no_commands none = goes_on Done old (λ left is.
-              let over : left ≡ [] = subst (λ first. IsLeft arguments first behind left) none is in
-              ([], fits_then left image ready Done [] (is_read first behind left is) fits is_first (subst (λ left. Serves arguments left ready Done []) (sym over) (ends ready)), appends_nothing old))
-
-          pub commands : (command : Command) (ending : Ending) (new : Option (List ℕ)) → first ≡ Some command
-              → IfSome behind (λ behind. Served arguments command behind ready old new ending) → IfSome known (λ input. Runs words input old new ending)
-          commands command ending new asked served = goes_on ending new (λ left is. by behind left (subst (λ first. IsLeft arguments first behind left) asked is) (is_read first behind left is) served)
-            where
-              by : (behind : Option (List Numbered)) (left : List Numbered) → IsLeft arguments (Some command) behind left → IsRead arguments left
-                  → IfSome behind (λ behind. Served arguments command behind ready old new ending)
-                  → (replies : List Reply) × Reads arguments left image ending replies × IsWritten old new ending replies
-              by None left is tested served = absurd is
-              by (Some behind) left is tested served =
-                  let told = served is.0 is.1 in
-                  (told.0, fits_then left image ready ending told.0 tested fits is_first (subst (λ left. Serves arguments left ready ending told.0) (sym is.2) told.1), told.2)
+          by : (behind : Option (List Numbered)) (left : List Numbered) → IsLeft arguments (Some command) behind left → IsRead arguments left
+              → IfSome behind (λ behind. Served arguments command behind ready old new ending)
+              → (replies : List Reply) × Reads arguments left image ending replies × IsWritten old new ending replies
+          by None left is tested served = absurd is
+          by (Some behind) left is tested served =
+              let told = served is.0 is.1 in
+              (told.0, fits_then left image ready ending told.0 tested fits is_first (subst (λ left. Serves arguments left ready ending told.0) (sym is.2) told.1), told.2)

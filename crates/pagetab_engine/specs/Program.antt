@@ -121,6 +121,11 @@ Runs words input before after ending = (replies : List Reply) × IsRun words inp
 
 -- ---- the parts of a run
 
+-- the input is read into this hierarchy, and the replies are written
+abbrev pub RunsFrom : (arguments : Arguments) → Hierarchy → (input : List ℕ) → (before after : Option (List ℕ)) → Ending → Type 0
+RunsFrom arguments hierarchy input before after ending =
+    (replies : List Reply) × Reads arguments (numbered_from 1 (lines_of input)) hierarchy ending replies × IsWritten before after ending replies
+
 abbrev pub ending_of : Result (Unit {0}) Fault → Ending
 ending_of (Ok done) = Done
 ending_of (Err fault) = Stopped fault

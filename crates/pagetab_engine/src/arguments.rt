@@ -11,7 +11,7 @@ use x86_64::VirtAddr;
 use x86_64::structures::paging::PageTableIndex;
 
 /// Says how many levels of page tables there are.
-#[derive(Clone, Copy, Debug, PartialEq)]
+#[derive(Clone, Copy)]
 pub enum Levels {
     /// Four, for addresses of 48 bits.
     Four,
@@ -45,7 +45,7 @@ impl Levels {
 }
 
 /// Says how tables are found in the memory, and how many levels there are.
-#[derive(Clone, Copy, Debug, PartialEq)]
+#[derive(Clone, Copy)]
 pub enum Mode {
     /// Each frame lies at the place of its number.
     Direct(Levels),
@@ -85,7 +85,7 @@ impl Mode {
 }
 
 /// Says what the arguments say.
-#[derive(Clone, Copy, Debug, PartialEq)]
+#[derive(Clone, Copy)]
 pub struct Arguments {
     /// How tables are found, and how many levels there are.
     pub mode: Mode,

@@ -2,7 +2,7 @@
 ghost use Rattle.std.specs.Prelude.{◌≡◌, [], map, string_bytes, IfOk, IfErr, IfSome, OnOk, OnErr};
 ghost use Rattle.pagetab_engine.specs.Hierarchy.{state_of, HasCopy, IsHierarchy, IsReached, Keeps, KeepsFree};
 ghost use Rattle.pagetab_engine.specs.Lines.{lines_left};
-ghost use Rattle.pagetab_engine.specs.Program.{LoadsImage, Reads, Replies, Runs, Served, StopsAt, ending_of};
+ghost use Rattle.pagetab_engine.specs.Program.{LoadsImage, Reads, Replies, Runs, RunsFrom, Served, StopsAt, ending_of};
 ghost use Rattle.pagetab_engine.specs.Reply.{IsReply, OnlyReads, back_of, state_after};
 ghost use Rattle.pagetab_engine.specs.declared.ending.Ending.TheVariants.{Stopped};
 
@@ -61,20 +61,32 @@ fn serve<R: Read, W: Write>(
     if !hierarchy.is_reached() {
         return Err(Fault::Usage);
     }
+    serve_lines(alloc, &arguments, &mut hierarchy, reader, writer)
+}
+
+/// Loads the image into a hierarchy, and answers the commands that follow.
+fn serve_lines<R: Read, W: Write>(
+    alloc: Global,
+    arguments: &Arguments,
+    hierarchy: &mut Hierarchy,
+    reader: &mut R,
+    writer: &mut W,
+) -> Result<(), Fault>
+    requires copy { HasCopy hierarchy.old }
+    requires reached { IsReached hierarchy.old.mode hierarchy.old.frames.memory }
+    ensures { let old = W.contents writer.old in let new = W.contents writer.new in
+        IfSome (R.remaining reader.old) (λ input.
+        RunsFrom arguments.now hierarchy.old input old new (ending_of result)) }
+{
     let mut lines = Lines::new(reader);
-    let first = read_image(&mut lines, &mut hierarchy, &arguments)?;
+    let first = read_image(&mut lines, hierarchy, arguments)?;
     if !hierarchy.end_image(alloc)? {
         return Err(Fault::InvalidHierarchy);
     }
     match first {
-        Some(command) => answer_commands(
-            alloc,
-            &mut lines,
-            &mut hierarchy,
-            &arguments,
-            command,
-            writer,
-        ),
+        Some(command) => {
+            answer_commands(alloc, &mut lines, hierarchy, arguments, command, writer)
+        }
         None => Ok(()),
     }
 }

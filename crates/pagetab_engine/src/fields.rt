@@ -8,7 +8,7 @@ use crate::number;
 const MOST_NUMBERS: usize = 4;
 
 /// The first field of a line, which says what the numbers are of.
-#[derive(Clone, Copy, Debug, PartialEq)]
+#[derive(Clone, Copy)]
 pub enum Name {
     /// `word`.
     Word,
@@ -116,7 +116,7 @@ impl Name {
 }
 
 /// The size of a page, as a line names it.
-#[derive(Clone, Copy, Debug, PartialEq)]
+#[derive(Clone, Copy)]
 pub enum Size {
     /// `4KiB`.
     Size4KiB,

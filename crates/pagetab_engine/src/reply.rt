@@ -19,7 +19,7 @@ const PAGE_NOT_MAPPED: &str = "page not mapped";
 const PARENT_ENTRY_HUGE_PAGE: &str = "parent entry huge page";
 
 /// Answers a command.
-#[derive(Debug, Drop)]
+#[derive(Drop)]
 pub enum Reply {
     /// What the mapper answers to a call.
     Answered(Answer),

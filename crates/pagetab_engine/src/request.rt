@@ -7,7 +7,7 @@ use x86_64::structures::paging::PageTableIndex;
 use x86_64::{Call, Call57, Reply, Reply57, VirtAddr, VirtAddr57};
 
 /// A call of a mapper.
-#[derive(Clone, Copy, Debug, PartialEq)]
+#[derive(Clone, Copy)]
 pub enum Request {
     /// A call where there are four levels.
     Four(Call),
@@ -38,7 +38,7 @@ impl Request {
 }
 
 /// The answer of a mapper to a call.
-#[derive(Clone, Copy, Debug, PartialEq)]
+#[derive(Clone, Copy)]
 pub enum Answer {
     /// The reply where there are four levels.
     Four(Reply),
@@ -47,7 +47,7 @@ pub enum Answer {
 }
 
 /// An address to which the processor walks.
-#[derive(Clone, Copy, Debug, PartialEq)]
+#[derive(Clone, Copy)]
 pub enum Address {
     /// An address of 48 bits, to which it walks through four levels.
     Four(VirtAddr),

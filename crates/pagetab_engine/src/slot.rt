@@ -9,7 +9,7 @@ use x86_64::structures::paging::{PageSize, PhysFrame, Size4KiB};
 use x86_64::{FramePlace, PhysAddr, PhysMemory};
 
 /// Names a word in memory: the place of a table and an index in it.
-#[derive(Clone, Copy, Debug, PartialEq)]
+#[derive(Clone, Copy)]
 pub struct Slot {
     place: FramePlace,
     index: PageTableIndex,

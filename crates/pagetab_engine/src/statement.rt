@@ -16,7 +16,7 @@ use x86_64::structures::paging::{Page, Page57, PhysFrame, Size4KiB};
 use x86_64::{Call, Call57, VirtAddr, VirtAddr57};
 
 /// Asks something of the hierarchy.
-#[derive(Clone, Copy, Debug, PartialEq)]
+#[derive(Clone, Copy)]
 pub enum Command {
     /// `translate ADDR`, `addr ADDR`, `cleanup`, `cleanup-range FIRST LAST`, or a command on a page of a size: a call of the
     /// mapper.
@@ -30,7 +30,7 @@ pub enum Command {
 }
 
 /// Says what the image has.
-#[derive(Clone, Copy, Debug, PartialEq)]
+#[derive(Clone, Copy)]
 pub enum ImageLine {
     /// `word FRAME INDEX VALUE`: the value in the slot.
     Word { slot: Slot, value: u64 },
@@ -39,7 +39,7 @@ pub enum ImageLine {
 }
 
 /// Says what a line says.
-#[derive(Clone, Copy, Debug, PartialEq)]
+#[derive(Clone, Copy)]
 pub enum Statement {
     /// A line of the image.
     Image(ImageLine),

@@ -6,7 +6,9 @@ ghost use Rattle.x86_64_model.specs.Layout.{Valid};
 ghost use Rattle.x86_64_model.specs.Memory.{identity_places};
 ghost use Rattle.x86_64_mappers.specs.Layouts.{direct};
 
+mod clean_up;
 mod five_levels;
+mod five_levels_pages;
 mod five_levels_recursive;
 mod offset;
 mod recursive;

@@ -1,10 +1,13 @@
 //! Commands that a fixed rule makes, answered by the program in each of its modes and by the plain slow program side by side.
 //!
-//! The reply to each command is compared; after the last one so are the free frames, in order, and every word of the memory:
-//! those of the root and of each table with the plain state's entries at their paths, or with the root's entry for itself; those of
-//! free frames, which are 0 where a clean up gave the frame back, and else what they were; and those of the other frames with what
-//! they were. At the end each kind of reply that a command of four levels can have was met, and of the one of five levels alone.
+//! The reply to each command is compared; after the last one so are the free frames, in order, and every word of the memory (of a
+//! pair, of the first one, which the program shows): those of the root and of each table with the plain state's entries at their
+//! paths, or with the root's entry for itself; those of free frames, which are 0 where a clean up gave the frame back, and else what
+//! they were; and those of the other frames with what they were. At the end each kind of reply that a command of four levels can
+//! have was met, and of the one of five levels alone.
+mod calls57;
 mod chooser;
+mod lists;
 mod modes;
 mod outcomes;
 mod session;

@@ -4,7 +4,7 @@ ghost use Rattle.x86_64_model.specs.Marks.{serves_below};
 ghost use Rattle.x86_64_model.specs.Memory.{identity_places};
 ghost use Rattle.x86_64_mappers.specs.Layouts.{direct, direct_at};
 ghost use Rattle.x86_64_mappers.specs.Offsets.{offset_places, OffsetFits};
-ghost use Rattle.x86_64_mappers.specs.Recursive.{recursive_now};
+ghost use Rattle.x86_64_mappers.specs.Recursive.{recursive_now, recursive_now_57};
 ghost use Rattle.x86_64.specs.Runs.{FitsPool};
 
 use bitflags::Flags;
@@ -13,11 +13,12 @@ use std::test::Fail;
 use x86_64::structures::paging::mapper::PageTableFrameMapping;
 use x86_64::structures::paging::{
     MappedPageTable, MappedPageTable57, OffsetPageTable, Page, Page57, PageSize, PageTableFlags,
-    PageTableIndex, PhysFrame, RecursivePageTable, Size4KiB,
+    PageTableIndex, PhysFrame, RecursivePageTable, RecursivePageTable57, Size4KiB,
 };
 use x86_64::{
-    ActiveMemory, Call, Call57, FlushRecorder, FramePlace, FramePool, IdentityMapping, PhysAddr,
-    PhysMemory, Reply, Reply57, VirtAddr, VirtAddr57, run, run_57, run_flushed,
+    ActiveMemory, ActiveMemory57, Call, Call57, FlushRecorder, FramePlace, FramePool,
+    IdentityMapping, PhysAddr, PhysMemory, Reply, Reply57, VirtAddr, VirtAddr57, run, run_57,
+    run_flushed,
 };
 use x86_64_mappers::laws::offset_has_the_tables_of_the_identity;
 
@@ -178,6 +179,25 @@ pub fn run_57_on(
         FitsPool layout memory.new (serves_below pool.new.limit) pool.new.frames }
 {
     let mut mapper = MappedPageTable57::new(memory, root, IdentityMapping);
+    run_57(&mut mapper, pool, calls, replies)
+}
+
+/// Answers calls by a mapper of five levels that reaches tables through the root's entry for itself, as [`run_over`] does.
+pub fn run_57_recursive_on(
+    memory: &mut PhysMemory,
+    root: PhysFrame<Size4KiB>,
+    index: PageTableIndex,
+    pool: &mut FramePool,
+    calls: &[Call57],
+    replies: &mut Vec<Reply57>,
+) -> Result<(), AllocError>
+    requires { let layout = recursive_now_57 memory.old root index in
+        FitsPool layout memory.old (serves_below pool.old.limit) pool.old.frames }
+    ensures { let layout = recursive_now_57 memory.new root index in
+        FitsPool layout memory.new (serves_below pool.new.limit) pool.new.frames }
+{
+    let active = ActiveMemory57::new(memory, root);
+    let mut mapper = RecursivePageTable57::new_unchecked(active, index);
     run_57(&mut mapper, pool, calls, replies)
 }
 

@@ -16,11 +16,11 @@ pub fn page_of<S: PageSize>(flush: MapperFlush<S>) -> Page<S> {
     page
 }
 
-/// Gives what the plain program's answer to a map of a page is as an answer of a mapper.
-fn map_result<S: PageSize>(
-    page: Page<S>,
+/// Gives what the plain program's answer to a map of a page, of whichever type, is as an answer of a mapper.
+pub fn map_result<S: PageSize, P: Drop>(
+    page: P,
     answer: Answer,
-) -> Option<Result<Page<S>, MapToError<S>>> {
+) -> Option<Result<P, MapToError<S>>> {
     match answer {
         Answer::Done(_) => Some(Ok(page)),
         Answer::Refused(Refusal::FrameAllocationFailed) => Some(Err(
@@ -35,10 +35,10 @@ fn map_result<S: PageSize>(
 }
 
 /// The same of an unmap.
-fn unmap_result<S: PageSize>(
-    page: Page<S>,
+pub fn unmap_result<S: PageSize, P: Drop>(
+    page: P,
     answer: Answer,
-) -> Option<Result<(PhysFrame<S>, Page<S>), UnmapError>> {
+) -> Option<Result<(PhysFrame<S>, P), UnmapError>> {
     match answer {
         Answer::Done(frame) => Some(Ok((frame_at(frame), page))),
         Answer::Refused(Refusal::PageNotMapped) => Some(Err(UnmapError::PageNotMapped)),
@@ -52,7 +52,7 @@ fn unmap_result<S: PageSize>(
 }
 
 /// The same of flags that were to be set.
-fn flags_result(answer: Answer) -> Option<Result<(), FlagUpdateError>> {
+pub fn flags_result(answer: Answer) -> Option<Result<(), FlagUpdateError>> {
     match answer {
         Answer::Done(_) => Some(Ok(())),
         Answer::Refused(Refusal::PageNotMapped) => Some(Err(FlagUpdateError::PageNotMapped)),

@@ -23,7 +23,7 @@ use x86_64_tables::phys_memory::{
 };
 
 /// The words of the tables on the way to a page of 4KiB at 0x1000, which is mapped to the frame at 0x6000.
-const MAPPED: [(u64, u16, u64); 5] = [
+pub const MAPPED: [(u64, u16, u64); 5] = [
     (1, 0, 0x2003),
     (2, 0, 0x3003),
     (3, 0, 0x4003),
@@ -74,7 +74,7 @@ fn map<S: PageSize>(
 }
 
 /// Makes a pool of these frames, below the number 8.
-fn pool_of(alloc: Global, frames: &[u64]) -> Result<FramePool, Fail> {
+pub fn pool_of(alloc: Global, frames: &[u64]) -> Result<FramePool, Fail> {
     let mut pool = FramePool::new(alloc, 8)?;
     for frame in frames {
         pool.try_add(small(*frame)).map_err(|_| "a frame")?;

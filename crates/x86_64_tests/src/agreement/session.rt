@@ -16,7 +16,7 @@ use x86_64_plain::words::{address, is_huge};
 use x86_64_plain::{PathEntries, PlainCall, PlainReply, PlainState};
 
 /// How many places the memory has.
-const PLACES: u64 = 16;
+pub const PLACES: u64 = 16;
 
 /// How many words a table has.
 const WORD_COUNT: u64 = 512;
@@ -83,7 +83,7 @@ impl Session {
 
     /// Gives the words of all frames. Where there are two memories they are those of the first one, whose root has no entry for
     /// itself, unless they are those of the image.
-    fn words(&self, alloc: Global, is_image: bool) -> Result<Vec<u64>, AllocError> {
+    pub fn words(&self, alloc: Global, is_image: bool) -> Result<Vec<u64>, AllocError> {
         let mut words = vec![in alloc; 0; (PLACES * WORD_COUNT) as usize]?;
         let pool = self.state.pool.as_slice();
         let (_, untouched) = pool.split_at(pool.len().saturating_sub(self.untouched));
@@ -109,6 +109,11 @@ impl Session {
         Ok(words)
     }
 
+    /// Gives the addresses of the free frames.
+    pub fn free_frames(&self) -> &[u64] {
+        &self.state.pool
+    }
+
     /// Adds a line, and the reply to it.
     fn ask(&mut self, line: &str, reply: &str) -> Result<(), AllocError> {
         push_line(&mut self.input, line)?;
@@ -132,7 +137,7 @@ impl Session {
     }
 
     /// Answers a call plainly.
-    fn step(&mut self, call: &PlainCall) -> Result<PlainReply, AllocError> {
+    pub fn step(&mut self, call: &PlainCall) -> Result<PlainReply, AllocError> {
         let index = named_index(self.mode.levels, call);
         let way = self.mode.way;
         if matches!(way, Way::Pair) && index == Some(RECURSIVE_INDEX) {
@@ -180,8 +185,8 @@ impl Session {
 }
 
 /// Gives the frame and the index of a word, all words counted.
-fn slot_of(n: usize) -> (usize, usize) {
-    ((n / 512).saturating_mul(0x1000), n % 512)
+pub fn slot_of(n: usize) -> (u64, u16) {
+    ((n / 512).saturating_mul(0x1000) as u64, (n % 512) as u16)
 }
 
 /// Sets the word at an index of a frame.
