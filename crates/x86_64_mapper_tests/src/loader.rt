@@ -1,9 +1,8 @@
 //! Loads of small programs into empty hierarchies.
-use crate::assertions::{assert_equal, assert_equal_at};
+use crate::assertions::{assert_equal, assert_equal_at, unwrap};
 use bitflags::Flags;
 use std::alloc::Global;
 use std::process::Abort;
-use std::test::Fail;
 use x86_64::structures::paging::mapper::MapToError;
 use x86_64::structures::paging::{MappedPageTable, Page, PageTableFlags, PhysFrame, Size4KiB};
 use x86_64::{
@@ -61,35 +60,34 @@ struct Machine {
 }
 
 impl Machine {
-    fn new(alloc: Global) -> Result<Machine, Fail> {
-        let memory = PhysMemory::new(alloc, PLACES)?;
-        let mut pool = FramePool::new(alloc, PLACES)?;
+    fn new(rt: impl Abort + Copy, alloc: Global) -> Machine {
+        let memory = unwrap(rt, PhysMemory::new(alloc, PLACES));
+        let mut pool = unwrap(rt, FramePool::new(alloc, PLACES));
         for number in 2..PLACES {
-            pool.try_add(frame(number * 0x1000)).or(Err("a frame"))?;
+            unwrap(rt, pool.try_add(frame(number * 0x1000)));
         }
-        Ok(Machine { memory, pool })
+        Machine { memory, pool }
     }
 
     /// Loads a program, or answers `None` where it isn't allowed.
     fn load(
         &mut self,
+        rt: impl Abort + Copy,
         alloc: Global,
         way: Way,
         segments: &[Segment],
-    ) -> Result<Option<Result<(), LoadError>>, Fail> {
+    ) -> Option<Result<(), LoadError>> {
         let (memory, pool) = (&mut self.memory, &mut self.pool);
         let root = frame(0x1000);
-        if !pool_fits(alloc, memory, &IdentityMapping, root, pool)? {
-            return Err("the pool doesn't fit".into());
-        }
+        assert!(rt; unwrap(rt, pool_fits(alloc, memory, &IdentityMapping, root, pool)));
         let mut mapper = MappedPageTable::new(memory, root, IdentityMapping);
         if !segments_allowed(&mapper, segments) {
-            return Ok(None);
+            return None;
         }
-        Ok(Some(match way {
+        Some(match way {
             Way::Small => load(&mut mapper, pool, segments),
             Way::Large => load_large(&mut mapper, pool, segments),
-        }))
+        })
     }
 
     /// Says where the processor arrives from an address, and whether it may write and a user may use it.
@@ -128,74 +126,73 @@ const WALKS: [(u64, Option<(u64, bool, bool)>); 8] = [
 
 /// Loads the program in one way, and compares where the processor arrives, and how many frames are left. Of 30 frames the
 /// tables take eight, of which one is for pages of 4KiB where one of 2MiB fits.
-fn check_program(rt: impl Abort + Copy, alloc: Global, way: Way, left: usize) -> Result<(), Fail> {
-    let mut machine = Machine::new(alloc)?;
-    let loaded = machine.load(alloc, way, &program())?;
+fn check_program(rt: impl Abort + Copy, alloc: Global, way: Way, left: usize) {
+    let mut machine = Machine::new(rt, alloc);
+    let loaded = machine.load(rt, alloc, way, &program());
     assert_equal(rt, loaded, Some(Ok(())));
     for (address, wanted) in WALKS {
         assert_equal_at(rt, address, machine.walk(address), wanted);
     }
     assert_equal(rt, machine.pool.len(), left);
-    Ok(())
 }
 
 #[test]
-fn programs_are_loaded_by_pages_of_4kib(rt: HostRuntime) -> Result<(), Fail> {
+fn programs_are_loaded_by_pages_of_4kib(rt: HostRuntime) {
     check_program(rt, rt.alloc(), Way::Small, 22)
 }
 
 #[test]
-fn programs_are_loaded_by_pages_of_2mib_where_they_fit(rt: HostRuntime) -> Result<(), Fail> {
+fn programs_are_loaded_by_pages_of_2mib_where_they_fit(rt: HostRuntime) {
     check_program(rt, rt.alloc(), Way::Large, 23)
 }
 
-#[test]
-fn segments_that_overlap_are_refused(rt: HostRuntime) -> Result<(), Fail> {
+/// Loads two segments that overlap in one way, and compares where the load stops, and where the processor arrives.
+fn check_overlap(rt: impl Abort + Copy, alloc: Global, way: Way) {
     let segments = [
         segment(0x40_0000, 0x80_0000, 4, read()),
         segment(0x3f_e000, 0x9f_e000, 3, write()),
     ];
+    let mut machine = Machine::new(rt, alloc);
+    let loaded = machine.load(rt, alloc, way, &segments);
     let wanted = LoadError {
         segment: 1,
         page: page(0x40_0000),
         mapped: 2,
         why: MapToError::PageAlreadyMapped(frame(0xa0_0000)),
     };
-    for way in [Way::Small, Way::Large] {
-        let mut machine = Machine::new(rt.alloc())?;
-        assert_equal(
-            rt,
-            machine.load(rt.alloc(), way, &segments)?,
-            Some(Err(wanted)),
-        );
-        assert_equal(rt, machine.walk(0x40_0000), Some((0x80_0000, false, true)));
-        assert_equal(rt, machine.walk(0x3f_ffff), Some((0x9f_ffff, true, true)));
-    }
-    Ok(())
-}
-
-/// Finds that a segment isn't allowed.
-fn check_refused(rt: impl Abort + Copy, alloc: Global, segment: Segment) -> Result<(), Fail> {
-    let mut machine = Machine::new(alloc)?;
-    let loaded = machine.load(alloc, Way::Small, &[segment])?;
-    assert_equal(rt, loaded, None);
-    Ok(())
+    assert_equal(rt, loaded, Some(Err(wanted)));
+    assert_equal(rt, machine.walk(0x40_0000), Some((0x80_0000, false, true)));
+    assert_equal(rt, machine.walk(0x3f_ffff), Some((0x9f_ffff, true, true)));
 }
 
 #[test]
-fn segments_are_allowed_as_their_pages_are(rt: HostRuntime) -> Result<(), Fail> {
+fn segments_that_overlap_are_refused(rt: HostRuntime) {
+    for way in [Way::Small, Way::Large] {
+        check_overlap(rt, rt.alloc(), way);
+    }
+}
+
+/// Finds that a segment isn't allowed.
+fn check_refused(rt: impl Abort + Copy, alloc: Global, segment: Segment) {
+    let mut machine = Machine::new(rt, alloc);
+    let loaded = machine.load(rt, alloc, Way::Small, &[segment]);
+    assert_equal(rt, loaded, None);
+}
+
+#[test]
+fn segments_are_allowed_as_their_pages_are(rt: HostRuntime) {
     let (page, frame) = (0x40_0000, 0x80_0000);
     let huge = read().union(PageTableFlags::HUGE_PAGE);
     check_refused(
         rt,
         rt.alloc(),
         segment(page, frame, 1, PageTableFlags::WRITABLE),
-    )?;
-    check_refused(rt, rt.alloc(), segment(page, frame, 1, huge))?;
+    );
+    check_refused(rt, rt.alloc(), segment(page, frame, 1, huge));
     check_refused(
         rt,
         rt.alloc(),
         segment(0xffff_ffff_ffff_f000, frame, 2, read()),
-    )?;
+    );
     check_refused(rt, rt.alloc(), segment(page, 0xf_ffff_ffff_f000, 2, read()))
 }

@@ -15,11 +15,10 @@ mod recursive;
 mod unmap;
 mod windows;
 
-use crate::assertions::{assert_equal, assert_equal_in};
+use crate::assertions::{assert_equal, assert_equal_in, unwrap, unwrap_some};
 use bitflags::Flags;
 use std::alloc::Global;
 use std::process::Abort;
-use std::test::Fail;
 use x86_64_addr::addr::{PhysAddr, VirtAddr};
 use x86_64_addr::index::PageTableIndex;
 use x86_64_mappers::mapped_page_table::MappedPageTable;
@@ -39,25 +38,21 @@ fn address_by<M: Translate>(mapper: &M, addr: VirtAddr) -> Option<PhysAddr>
 }
 
 /// Makes a memory of 8 places with these words: each has the number of its frame, its index and its value.
-fn image(alloc: Global, words: &[(u64, u16, u64)]) -> Result<PhysMemory, Fail> {
-    let mut memory = PhysMemory::new(alloc, 8)?;
+fn image(rt: impl Abort + Copy, alloc: Global, words: &[(u64, u16, u64)]) -> PhysMemory {
+    let mut memory = unwrap(rt, PhysMemory::new(alloc, 8));
     for (place, index, word) in words {
-        let table = memory.table_mut(FramePlace::new(*place)).ok_or("a place")?;
+        let table = unwrap_some(rt, memory.table_mut(FramePlace::new(*place)));
         let frame = small(*word);
         let flags = PageTableFlags::from_bits_truncate(*word);
         table[PageTableIndex::new_truncate(*index)].set_addr(frame.start_address(), flags);
     }
-    Ok(memory)
+    memory
 }
 
 /// Compares the words of the tables at the places from 1 on: each is 0 but for these.
-fn check_words(
-    rt: impl Abort + Copy,
-    memory: &PhysMemory,
-    words: &[(u64, u16, u64)],
-) -> Result<(), Fail> {
+fn check_words(rt: impl Abort + Copy, memory: &PhysMemory, words: &[(u64, u16, u64)]) {
     for place in 1..memory.len() as u64 {
-        let table = memory.table(FramePlace::new(place)).ok_or("a place")?;
+        let table = unwrap_some(rt, memory.table(FramePlace::new(place)));
         for index in 0..512 {
             let is_it = |word: &&(u64, u16, u64)| word.0 == place && word.1 == index;
             let expected = words.iter().find(is_it).map_or(0, |word| word.2);
@@ -65,7 +60,6 @@ fn check_words(
             assert_equal_in(rt, (place, index), word_of(entry), expected);
         }
     }
-    Ok(())
 }
 
 /// Gives the 4KiB frame that contains an address.
@@ -89,11 +83,16 @@ fn mapped(frame: MappedFrame, offset: u64, flags: u64) -> TranslateResult {
 }
 
 /// Asks a mapper of its tables.
-fn check_mapper(rt: impl Abort + Copy, alloc: Global, memory: &mut PhysMemory) -> Result<(), Fail> {
+fn check_mapper(rt: impl Abort + Copy, alloc: Global, memory: &mut PhysMemory) {
     let root = small(0x1000);
-    assert!(rt; is_valid_hierarchy(alloc, memory, &IdentityMapping, root)?);
+    assert!(rt;
+        unwrap(
+            rt,
+            is_valid_hierarchy(alloc, memory, &IdentityMapping, root)
+        )
+    );
     let mapper = MappedPageTable::new(memory, root, IdentityMapping);
-    assert!(rt; mapper.is_valid(alloc)?);
+    assert!(rt; unwrap(rt, mapper.is_valid(alloc)));
     assert_equal(rt, mapper.recursive_index(), None);
     assert_equal(rt, word_of(&mapper.level_4_table()[0]), 0x2003);
     let place = mapper.page_table_frame_mapping().frame_to_pointer(root);
@@ -106,28 +105,26 @@ fn check_mapper(rt: impl Abort + Copy, alloc: Global, memory: &mut PhysMemory) -
         result,
         mapped(MappedFrame::Size4KiB(small(0x5000)), 0xabc, 3),
     );
-    Ok(())
 }
 
 #[test]
-fn mappers_tell_of_their_tables(rt: HostRuntime) -> Result<(), Fail> {
-    let mut memory = image(rt.alloc(), &WORDS)?;
+fn mappers_tell_of_their_tables(rt: HostRuntime) {
+    let mut memory = image(rt, rt.alloc(), &WORDS);
     check_mapper(rt, rt.alloc(), &mut memory)
 }
 
 #[test]
-fn frames_of_translations_have_a_size(rt: HostRuntime) -> Result<(), Fail> {
+fn frames_of_translations_have_a_size(rt: HostRuntime) {
     let frame = MappedFrame::Size4KiB(small(0x5000));
     assert_equal(rt, frame.start_address(), PhysAddr::new(0x5000));
     assert_equal(rt, frame.size(), 0x1000);
     let result = mapped(frame, 0xabc, 3);
-    let text = format!(in rt.alloc(); "{result:?}")?;
+    let text = unwrap(rt, format!(in rt.alloc(); "{result:?}"));
     assert_equal(
         rt,
         text.as_str(),
         "Mapped { frame: Size4KiB(PhysFrame[4KiB](0x5000)), offset: 2748, flags: PageTableFlags(0x3) }",
     );
-    Ok(())
 }
 
 /// Makes the entries of the root unused. The owner knows what the memory holds then.
@@ -148,10 +145,15 @@ const WORDS: [(u64, u16, u64); 4] = [
 ];
 
 #[test]
-fn root_tables_are_lent(rt: HostRuntime) -> Result<(), Fail> {
-    let mut memory = image(rt.alloc(), &WORDS)?;
+fn root_tables_are_lent(rt: HostRuntime) {
+    let mut memory = image(rt, rt.alloc(), &WORDS);
     let root = small(0x1000);
-    assert!(rt; is_valid_hierarchy(rt.alloc(), &memory, &IdentityMapping, root)?);
+    assert!(rt;
+        unwrap(
+            rt,
+            is_valid_hierarchy(rt.alloc(), &memory, &IdentityMapping, root)
+        )
+    );
     clear_root(&mut memory, root);
     check_words(rt, &memory, &WORDS[1..])
 }

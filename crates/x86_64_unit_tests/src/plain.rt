@@ -1,9 +1,8 @@
 ghost use Rattle.std.specs.Prelude.{◌≤◌};
 
-use crate::assertions::{assert_equal, assert_equal_in};
-use std::alloc::{AllocError, Global};
+use crate::assertions::{assert_equal, assert_equal_in, unwrap};
+use std::alloc::Global;
 use std::process::Abort;
-use std::test::Fail;
 use x86_64_plain::{
     Answer, PathEntries, PlainCall, PlainMachine, PlainReply, PlainState, PlainWindow, Refusal,
     Translated,
@@ -29,11 +28,11 @@ const WINDOW: PlainWindow = PlainWindow {
 };
 
 /// Makes a state without entries.
-fn state_of(alloc: Global, pool: &[u64]) -> Result<PlainState, AllocError> {
-    Ok(PlainState {
+fn state_of(rt: impl Abort + Copy, alloc: Global, pool: &[u64]) -> PlainState {
+    PlainState {
         paths: PathEntries::new(alloc),
-        pool: Vec::from_slice(alloc, pool)?,
-    })
+        pool: unwrap(rt, Vec::from_slice(alloc, pool)),
+    }
 }
 
 /// A call of a table's row, with a page by the indices of its path.
@@ -52,16 +51,16 @@ enum Turn<'a> {
 }
 
 /// Makes the call.
-fn call_of(alloc: Global, turn: Turn) -> Result<PlainCall, AllocError> {
-    Ok(match turn {
+fn call_of(rt: impl Abort + Copy, alloc: Global, turn: Turn) -> PlainCall {
+    match turn {
         Turn::MapTo(page, frame, flags) => PlainCall::MapTo {
-            page: Vec::from_slice(alloc, page)?,
+            page: unwrap(rt, Vec::from_slice(alloc, page)),
             frame,
             flags,
         },
         Turn::MapToWithTableFlags(page, frame, flags, parent_flags) => {
             PlainCall::MapToWithTableFlags {
-                page: Vec::from_slice(alloc, page)?,
+                page: unwrap(rt, Vec::from_slice(alloc, page)),
                 frame,
                 flags,
                 parent_flags,
@@ -73,24 +72,24 @@ fn call_of(alloc: Global, turn: Turn) -> Result<PlainCall, AllocError> {
             flags,
         },
         Turn::Unmap(page) => PlainCall::Unmap {
-            page: Vec::from_slice(alloc, page)?,
+            page: unwrap(rt, Vec::from_slice(alloc, page)),
         },
         Turn::UpdateFlags(page, flags) => PlainCall::UpdateFlags {
-            page: Vec::from_slice(alloc, page)?,
+            page: unwrap(rt, Vec::from_slice(alloc, page)),
             flags,
         },
         Turn::SetFlags(level, page, flags) => PlainCall::SetFlags {
             level,
-            page: Vec::from_slice(alloc, page)?,
+            page: unwrap(rt, Vec::from_slice(alloc, page)),
             flags,
         },
         Turn::TranslatePage(page) => PlainCall::TranslatePage {
-            page: Vec::from_slice(alloc, page)?,
+            page: unwrap(rt, Vec::from_slice(alloc, page)),
         },
         Turn::Translate(position) => PlainCall::Translate { position },
         Turn::TranslateAddress(position) => PlainCall::TranslateAddress { position },
         Turn::CleanUp(low, high) => PlainCall::CleanUp { low, high },
-    })
+    }
 }
 
 /// Frames for the three tables above a page.
@@ -117,21 +116,15 @@ struct Case<'a> {
 }
 
 /// Makes the calls of each case, and compares the replies and what is left.
-fn check_cases(
-    rt: impl Abort + Copy,
-    alloc: Global,
-    machine: &PlainMachine,
-    cases: &[Case],
-) -> Result<(), Fail>
+fn check_cases(rt: impl Abort + Copy, alloc: Global, machine: &PlainMachine, cases: &[Case])
     requires { machine.now.levels ≤ 5 }
 {
     for case in cases {
-        let mut state = state_of(alloc, case.pool)?;
-        check_rows(rt, alloc, machine, &mut state, case.name, case.first)?;
-        check_rows(rt, alloc, machine, &mut state, case.name, case.rows)?;
+        let mut state = state_of(rt, alloc, case.pool);
+        check_rows(rt, alloc, machine, &mut state, case.name, case.first);
+        check_rows(rt, alloc, machine, &mut state, case.name, case.rows);
         check_state(rt, &state, case);
     }
-    Ok(())
 }
 
 /// Makes the calls of rows, and compares the replies.
@@ -142,14 +135,18 @@ fn check_rows(
     state: &mut PlainState,
     name: &str,
     rows: &[Row],
-) -> Result<(), Fail>
+)
     requires { machine.now.levels ≤ 5 }
 {
     for (number, (turn, reply)) in rows.iter().enumerate() {
-        let call = call_of(alloc, *turn)?;
-        assert_equal_in(rt, (name, number), machine.step(state, &call)?, *reply);
+        let call = call_of(rt, alloc, *turn);
+        assert_equal_in(
+            rt,
+            (name, number),
+            unwrap(rt, machine.step(state, &call)),
+            *reply,
+        );
     }
-    Ok(())
 }
 
 /// Compares a state with the entries of a case, beside which there are no others, and with its pool.
@@ -163,11 +160,11 @@ fn check_state(rt: impl Abort + Copy, state: &PlainState, case: &Case) {
 
 /// So many calls over some dozen entries take seconds at most.
 #[test]
-fn many_calls(rt: HostRuntime) -> Result<(), Fail> {
+fn many_calls(rt: HostRuntime) {
     let alloc = rt.alloc();
-    let mut state = state_of(alloc, &[])?;
+    let mut state = state_of(rt, alloc, &[]);
     for number in 1..40u64 {
-        state.pool.push(number * 0x1000)?;
+        unwrap(rt, state.pool.push(number * 0x1000));
     }
     for turn in 0..12u64 {
         let frame = 0x100_0000 + turn * 0x1000;
@@ -179,8 +176,7 @@ fn many_calls(rt: HostRuntime) -> Result<(), Fail> {
             ),
             (Turn::CleanUp(0, LAST), PlainReply::Cleaned),
         ];
-        check_rows(rt, alloc, &FOUR_LEVELS, &mut state, "many calls", &rows)?;
+        check_rows(rt, alloc, &FOUR_LEVELS, &mut state, "many calls", &rows);
     }
     assert_equal(rt, state.pool.len(), 39 - 4 - 12 - 12);
-    Ok(())
 }

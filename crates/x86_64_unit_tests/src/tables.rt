@@ -6,9 +6,8 @@ mod mapper;
 mod page_table;
 mod phys_memory;
 
-use crate::assertions::{assert_equal, assert_equal_at};
+use crate::assertions::{assert_equal, assert_equal_at, unwrap, unwrap_some};
 use bitflags::Flags;
-use std::test::Fail;
 use x86_64_addr::addr::{PhysAddr, VirtAddr};
 use x86_64_page::frame::PhysFrame;
 use x86_64_page::page::{Page, Size2MiB, Size4KiB};
@@ -24,7 +23,7 @@ pub(crate) fn frame_at(address: u64) -> PhysFrame<Size4KiB>
 }
 
 #[test]
-fn flags_have_parts(rt: HostRuntime) -> Result<(), Fail> {
+fn flags_have_parts(rt: HostRuntime) {
     let parts = [
         (0x0, 0x0, false),
         (0x3, 0x3, false),
@@ -38,42 +37,38 @@ fn flags_have_parts(rt: HostRuntime) -> Result<(), Fail> {
         assert_equal_at(rt, bits, parent_flags(flags).bits(), parents);
         assert_equal_at(rt, bits, flags.has_address_bits(), has_address);
     }
-    Ok(())
 }
 
 #[test]
-fn tokens_name_pages(rt: HostRuntime) -> Result<(), Fail> {
+fn tokens_name_pages(rt: HostRuntime) {
     let page = Page::<Size2MiB>::containing_address(VirtAddr::new(0x20_0000));
     let flush = MapperFlush::new(page);
     assert_equal(rt, flush.page(), page);
     flush.ignore();
     MapperFlushAll::new().ignore();
-    Ok(())
 }
 
 #[test]
-fn memory_has_tables_at_places(rt: HostRuntime) -> Result<(), Fail> {
-    let mut memory = PhysMemory::new(rt.alloc(), 8)?;
+fn memory_has_tables_at_places(rt: HostRuntime) {
+    let mut memory = unwrap(rt, PhysMemory::new(rt.alloc(), 8));
     let frame = frame_at(0x7000);
     assert!(rt; IdentityMapping.covers(frame));
     let place = IdentityMapping.frame_to_pointer(frame);
     assert_equal(rt, place.number(), 7);
-    let table = memory.table_mut(place).ok_or("the last place")?;
+    let table = unwrap_some(rt, memory.table_mut(place));
     table[3].set_addr(PhysAddr::new(0x1000), PageTableFlags::PRESENT);
-    let table = memory.table(place).ok_or("the last place")?;
+    let table = unwrap_some(rt, memory.table(place));
     assert_equal(rt, table[3].addr(), PhysAddr::new(0x1000));
     assert_equal(rt, table[3].flags(), PageTableFlags::PRESENT);
     assert_equal(rt, memory.table_mut(FramePlace::new(8)).is_none(), true);
-    Ok(())
 }
 
 #[test]
-fn memory_is_indexed_by_places(rt: HostRuntime) -> Result<(), Fail> {
-    let mut memory = PhysMemory::new(rt.alloc(), 8)?;
+fn memory_is_indexed_by_places(rt: HostRuntime) {
+    let mut memory = unwrap(rt, PhysMemory::new(rt.alloc(), 8));
     let place = FramePlace::new(7);
     assert!(rt; memory[place].is_empty());
     memory[place][3].set_addr(PhysAddr::new(0x1000), PageTableFlags::PRESENT);
-    let table = memory.table(place).ok_or("the last place")?;
+    let table = unwrap_some(rt, memory.table(place));
     assert_equal(rt, table[3].addr(), PhysAddr::new(0x1000));
-    Ok(())
 }

@@ -5,10 +5,9 @@ ghost use Rattle.x86_64_model.specs.Owned.{MayCleanUp};
 use super::five_levels::{page as page_57, pool_of};
 use super::unmap::page;
 use super::{check_words, image, small};
-use crate::assertions::{assert_equal, assert_equal_in};
+use crate::assertions::{assert_equal, assert_equal_in, unwrap};
 use std::alloc::Global;
 use std::process::Abort;
-use std::test::Fail;
 use x86_64_mappers::mapped_page_table::{MappedPageTable, MappedPageTable57};
 use x86_64_page::page::{Page, Page57};
 use x86_64_tables::frame_alloc::FramePool;
@@ -47,12 +46,11 @@ fn clean_up(
     memory: &mut PhysMemory,
     pool: &mut FramePool,
     range: Option<(u64, u64)>,
-) -> Result<(), Fail> {
+) {
     let root = small(0x1000);
-    assert!(rt; pool_fits(alloc, memory, &IdentityMapping, root, pool)?);
+    assert!(rt; unwrap(rt, pool_fits(alloc, memory, &IdentityMapping, root, pool)));
     let mut mapper = MappedPageTable::new(memory, root, IdentityMapping);
     clean_up_by(&mut mapper, pool, range);
-    Ok(())
 }
 
 /// The same with five levels of tables.
@@ -62,12 +60,16 @@ fn clean_up_57(
     memory: &mut PhysMemory,
     pool: &mut FramePool,
     range: Option<(u64, u64)>,
-) -> Result<(), Fail> {
+) {
     let root = small(0x1000);
-    assert!(rt; pool_fits_57(alloc, memory, &IdentityMapping, root, pool)?);
+    assert!(rt;
+        unwrap(
+            rt,
+            pool_fits_57(alloc, memory, &IdentityMapping, root, pool)
+        )
+    );
     let mut mapper = MappedPageTable57::new(memory, root, IdentityMapping);
     clean_up_57_by(&mut mapper, pool, range);
-    Ok(())
 }
 
 /// Compares the frames of a pool and the words of a memory with those that a clean up left.
@@ -77,7 +79,7 @@ fn check_left(
     pool: &FramePool,
     frames: &[u64],
     words: &[(u64, u16, u64)],
-) -> Result<(), Fail> {
+) {
     assert_equal(rt, pool.len(), frames.len());
     for (n, frame) in frames.iter().enumerate() {
         assert_equal_in(rt, n, pool.frame_at(n), Some(small(*frame)));
@@ -95,15 +97,15 @@ const TABLES: [(u64, u16, u64); 5] = [
 ];
 
 #[test]
-fn empty_tables_go_back(rt: HostRuntime) -> Result<(), Fail> {
+fn empty_tables_go_back(rt: HostRuntime) {
     let alloc = rt.alloc();
-    let mut memory = image(alloc, &TABLES)?;
-    let mut pool = pool_of(alloc, &[])?;
+    let mut memory = image(rt, alloc, &TABLES);
+    let mut pool = pool_of(rt, alloc, &[]);
     let first_of_upper = 0xffff_8000_0000_0000;
     let range = Some((first_of_upper, first_of_upper));
-    clean_up(rt, alloc, &mut memory, &mut pool, range)?;
-    check_left(rt, &memory, &pool, &[0x5000, 0x6000], &TABLES[..3])?;
-    clean_up(rt, alloc, &mut memory, &mut pool, None)?;
+    clean_up(rt, alloc, &mut memory, &mut pool, range);
+    check_left(rt, &memory, &pool, &[0x5000, 0x6000], &TABLES[..3]);
+    clean_up(rt, alloc, &mut memory, &mut pool, None);
     let frames = [0x2000, 0x3000, 0x4000, 0x5000, 0x6000];
     check_left(rt, &memory, &pool, &frames, &[])
 }
@@ -119,15 +121,15 @@ const TABLES_57: [(u64, u16, u64); 6] = [
 ];
 
 #[test]
-fn empty_tables_of_five_levels_go_back(rt: HostRuntime) -> Result<(), Fail> {
+fn empty_tables_of_five_levels_go_back(rt: HostRuntime) {
     let alloc = rt.alloc();
-    let mut memory = image(alloc, &TABLES_57)?;
-    let mut pool = pool_of(alloc, &[])?;
+    let mut memory = image(rt, alloc, &TABLES_57);
+    let mut pool = pool_of(rt, alloc, &[]);
     let first_of_upper = 0xff00_0000_0000_0000;
     let range = Some((first_of_upper, first_of_upper));
-    clean_up_57(rt, alloc, &mut memory, &mut pool, range)?;
-    check_left(rt, &memory, &pool, &[0x6000, 0x7000], &TABLES_57[..4])?;
-    clean_up_57(rt, alloc, &mut memory, &mut pool, None)?;
+    clean_up_57(rt, alloc, &mut memory, &mut pool, range);
+    check_left(rt, &memory, &pool, &[0x6000, 0x7000], &TABLES_57[..4]);
+    clean_up_57(rt, alloc, &mut memory, &mut pool, None);
     let frames = [0x2000, 0x3000, 0x4000, 0x5000, 0x6000, 0x7000];
     check_left(rt, &memory, &pool, &frames, &[])
 }

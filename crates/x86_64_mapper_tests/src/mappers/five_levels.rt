@@ -2,12 +2,11 @@
 ghost use Rattle.x86_64_model.specs.MapperCalls.{IsReady};
 
 use super::{check_words, image, small, word_of};
-use crate::assertions::assert_equal;
+use crate::assertions::{assert_equal, unwrap};
 use bitflags::Flags;
-use std::alloc::{AllocError, Global};
+use std::alloc::Global;
 use std::fmt::Debug;
 use std::process::Abort;
-use std::test::Fail;
 use x86_64_addr::addr::{PhysAddr, VirtAddr57};
 use x86_64_mappers::mapped_page_table::MappedPageTable57;
 use x86_64_page::frame::PhysFrame;
@@ -63,23 +62,28 @@ fn map<S: PageSize>(
     (memory, pool): (&mut PhysMemory, &mut FramePool),
     (start, frame, flags): (u64, u64, u64),
     recorder: &mut FlushRecorder,
-) -> Result<Result<(), MapToError<S>>, Fail> {
+) -> Result<(), MapToError<S>> {
     let root = small(0x1000);
-    assert!(rt; pool_fits_57(alloc, memory, &IdentityMapping, root, pool)?);
+    assert!(rt;
+        unwrap(
+            rt,
+            pool_fits_57(alloc, memory, &IdentityMapping, root, pool)
+        )
+    );
     let mut mapper = MappedPageTable57::new(memory, root, IdentityMapping);
     let frame = PhysFrame::containing_address(PhysAddr::new_truncate(frame));
     let flags = PageTableFlags::from_bits_retain(flags);
     let both = (page::<S>(start), frame);
-    Ok(map_by(rt, &mut mapper, both, flags, pool, recorder))
+    map_by(rt, &mut mapper, both, flags, pool, recorder)
 }
 
 /// Makes a pool of these frames, below the number 8.
-pub fn pool_of(alloc: Global, frames: &[u64]) -> Result<FramePool, Fail> {
-    let mut pool = FramePool::new(alloc, 8)?;
+pub fn pool_of(rt: impl Abort + Copy, alloc: Global, frames: &[u64]) -> FramePool {
+    let mut pool = unwrap(rt, FramePool::new(alloc, 8));
     for frame in frames {
-        pool.try_add(small(*frame)).map_err(|_| "a frame")?;
+        unwrap(rt, pool.try_add(small(*frame)));
     }
-    Ok(pool)
+    pool
 }
 
 /// What is left of a map in an empty hierarchy: the words that aren't 0, how many frames are free, and the flushes.
@@ -97,20 +101,23 @@ fn check_left(
     pool: &FramePool,
     recorder: &FlushRecorder,
     left: &Left<'_>,
-) -> Result<(), Fail> {
+) {
     assert_equal(rt, recorder.items(), left.flushed);
     assert_equal(rt, pool.len(), left.free);
     check_words(rt, memory, left.words)
 }
 
 /// Tells whether the hierarchy with the root in frame 0x1000 is valid, and so does its mapper.
-fn is_valid(alloc: Global, memory: &mut PhysMemory) -> Result<bool, AllocError> {
+fn is_valid(rt: impl Abort + Copy, alloc: Global, memory: &mut PhysMemory) -> bool {
     let root = small(0x1000);
-    if !is_valid_hierarchy_57(alloc, memory, &IdentityMapping, root)? {
-        return Ok(false);
+    if !unwrap(
+        rt,
+        is_valid_hierarchy_57(alloc, memory, &IdentityMapping, root),
+    ) {
+        return false;
     }
     let mapper = MappedPageTable57::new(memory, root, IdentityMapping);
-    mapper.is_valid(alloc)
+    unwrap(rt, mapper.is_valid(alloc))
 }
 
 /// Maps the page of a size at an address to the frame at another, with flags, in an empty hierarchy that has these free frames, and
@@ -122,14 +129,14 @@ fn check_map<S: PageSize + Debug>(
     call: (u64, u64, u64),
     answer: Result<(), MapToError<S>>,
     left: &Left<'_>,
-) -> Result<(), Fail> {
-    let mut memory = image(alloc, &[])?;
-    let mut pool = pool_of(alloc, frames)?;
+) {
+    let mut memory = image(rt, alloc, &[]);
+    let mut pool = pool_of(rt, alloc, frames);
     let mut recorder = FlushRecorder::new(alloc);
     let lent = (&mut memory, &mut pool);
-    let mapped = map::<S>(rt, alloc, lent, call, &mut recorder)?;
+    let mapped = map::<S>(rt, alloc, lent, call, &mut recorder);
     assert_equal(rt, mapped, answer);
-    assert_equal(rt, is_valid(alloc, &mut memory)?, true);
+    assert_equal(rt, is_valid(rt, alloc, &mut memory), true);
     check_left(rt, &memory, &pool, &recorder, left)
 }
 
@@ -142,9 +149,14 @@ fn set_table_flags(
     level: u64,
     address: u64,
     flags: u64,
-) -> Result<Result<(), FlagUpdateError>, Fail> {
+) -> Result<(), FlagUpdateError> {
     let root = small(0x1000);
-    assert!(rt; is_valid_hierarchy_57(alloc, memory, &IdentityMapping, root)?);
+    assert!(rt;
+        unwrap(
+            rt,
+            is_valid_hierarchy_57(alloc, memory, &IdentityMapping, root)
+        )
+    );
     let mut mapper = MappedPageTable57::new(memory, root, IdentityMapping);
     let page = page::<Size4KiB>(address);
     let flags = PageTableFlags::from_bits_retain(flags);
@@ -154,7 +166,7 @@ fn set_table_flags(
     } else {
         mapper.set_flags_p4_entry(page, flags)
     };
-    Ok(changed.map(MapperFlushAll::ignore))
+    changed.map(MapperFlushAll::ignore)
 }
 
 /// Gives the address that an address is mapped to.
@@ -163,15 +175,20 @@ fn translate(
     alloc: Global,
     memory: &mut PhysMemory,
     address: u64,
-) -> Result<Option<PhysAddr>, Fail> {
+) -> Option<PhysAddr> {
     let root = small(0x1000);
-    assert!(rt; is_valid_hierarchy_57(alloc, memory, &IdentityMapping, root)?);
+    assert!(rt;
+        unwrap(
+            rt,
+            is_valid_hierarchy_57(alloc, memory, &IdentityMapping, root)
+        )
+    );
     let mapper = MappedPageTable57::new(memory, root, IdentityMapping);
-    Ok(mapper.translate_addr(VirtAddr57::new_truncate(address)))
+    mapper.translate_addr(VirtAddr57::new_truncate(address))
 }
 
 #[test]
-fn pages_of_57_bits_are_mapped(rt: HostRuntime) -> Result<(), Fail> {
+fn pages_of_57_bits_are_mapped(rt: HostRuntime) {
     let start = VirtAddr57::new(0x1000);
     let left = Left {
         words: &MAPPED,
@@ -180,7 +197,7 @@ fn pages_of_57_bits_are_mapped(rt: HostRuntime) -> Result<(), Fail> {
     };
     let frames = [0x2000, 0x3000, 0x4000, 0x5000];
     let call = (0x1000, 0x6000, 0x3);
-    check_map::<Size4KiB>(rt, rt.alloc(), &frames, call, Ok(()), &left)?;
+    check_map::<Size4KiB>(rt, rt.alloc(), &frames, call, Ok(()), &left);
     let left = Left {
         words: &MAPPED[..3],
         free: 0,
@@ -191,7 +208,7 @@ fn pages_of_57_bits_are_mapped(rt: HostRuntime) -> Result<(), Fail> {
 }
 
 #[test]
-fn large_pages_of_57_bits_are_mapped(rt: HostRuntime) -> Result<(), Fail> {
+fn large_pages_of_57_bits_are_mapped(rt: HostRuntime) {
     let start = VirtAddr57::new(0x20_0000);
     let left = Left {
         words: &[
@@ -212,13 +229,12 @@ fn large_pages_of_57_bits_are_mapped(rt: HostRuntime) -> Result<(), Fail> {
 }
 
 #[test]
-fn pages_of_57_bits_are_translated(rt: HostRuntime) -> Result<(), Fail> {
-    let mut memory = image(rt.alloc(), &MAPPED)?;
-    let found = translate(rt, rt.alloc(), &mut memory, 0x1abc)?;
+fn pages_of_57_bits_are_translated(rt: HostRuntime) {
+    let mut memory = image(rt, rt.alloc(), &MAPPED);
+    let found = translate(rt, rt.alloc(), &mut memory, 0x1abc);
     assert_equal(rt, found, Some(PhysAddr::new(0x6abc)));
-    let found = translate(rt, rt.alloc(), &mut memory, 0xff00_0000_0000_1abc)?;
+    let found = translate(rt, rt.alloc(), &mut memory, 0xff00_0000_0000_1abc);
     assert_equal(rt, found, None);
-    Ok(())
 }
 
 /// Level, flags, and what comes of setting them on the path of the page 0x1000.
@@ -229,18 +245,17 @@ const FLAGS: [(u64, u64, Result<(), FlagUpdateError>); 3] = [
 ];
 
 /// Sets flags one after the other, and compares what comes of it.
-fn check_flags(rt: impl Abort + Copy, alloc: Global, memory: &mut PhysMemory) -> Result<(), Fail> {
+fn check_flags(rt: impl Abort + Copy, alloc: Global, memory: &mut PhysMemory) {
     for (level, flags, wanted) in FLAGS {
-        let changed = set_table_flags(rt, alloc, memory, level, 0x1000, flags)?;
+        let changed = set_table_flags(rt, alloc, memory, level, 0x1000, flags);
         assert_equal(rt, changed, wanted);
     }
-    Ok(())
 }
 
 #[test]
-fn flags_of_level_five_are_changed(rt: HostRuntime) -> Result<(), Fail> {
-    let mut memory = image(rt.alloc(), &MAPPED)?;
-    check_flags(rt, rt.alloc(), &mut memory)?;
+fn flags_of_level_five_are_changed(rt: HostRuntime) {
+    let mut memory = image(rt, rt.alloc(), &MAPPED);
+    check_flags(rt, rt.alloc(), &mut memory);
     let words = [
         (1, 0, 0x2002),
         (2, 0, 0x3001),
@@ -252,10 +267,15 @@ fn flags_of_level_five_are_changed(rt: HostRuntime) -> Result<(), Fail> {
 }
 
 #[test]
-fn root_tables_are_lent(rt: HostRuntime) -> Result<(), Fail> {
-    let mut memory = image(rt.alloc(), &MAPPED)?;
+fn root_tables_are_lent(rt: HostRuntime) {
+    let mut memory = image(rt, rt.alloc(), &MAPPED);
     let root = small(0x1000);
-    assert!(rt; is_valid_hierarchy_57(rt.alloc(), &memory, &IdentityMapping, root)?);
+    assert!(rt;
+        unwrap(
+            rt,
+            is_valid_hierarchy_57(rt.alloc(), &memory, &IdentityMapping, root)
+        )
+    );
     let mut mapper = MappedPageTable57::new(&mut memory, root, IdentityMapping);
     assert_equal(rt, word_of(&mapper.level_5_table()[0]), 0x2003);
     mapper.level_5_table_mut().zero();

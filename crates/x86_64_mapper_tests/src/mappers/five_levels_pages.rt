@@ -5,10 +5,9 @@ ghost use Rattle.x86_64_model.specs.Owned.{Valid};
 
 use super::five_levels::{MAPPED, page, pool_of};
 use super::{check_words, image, mapped, small};
-use crate::assertions::assert_equal;
+use crate::assertions::{assert_equal, unwrap};
 use std::alloc::Global;
 use std::process::Abort;
-use std::test::Fail;
 use x86_64::is_outside_window_57;
 use x86_64_addr::addr::VirtAddr57;
 use x86_64_mappers::mapped_page_table::MappedPageTable57;
@@ -75,21 +74,25 @@ fn unmap<M: Mapper57<Size4KiB>>(rt: impl Abort + Copy, mapper: &mut M, page: Pag
 }
 
 /// Makes these calls by the direct mapper, which is dropped then.
-fn check_page(rt: impl Abort + Copy, alloc: Global, memory: &mut PhysMemory) -> Result<(), Fail> {
+fn check_page(rt: impl Abort + Copy, alloc: Global, memory: &mut PhysMemory) {
     let root = small(0x1000);
-    assert!(rt; is_valid_hierarchy_57(alloc, memory, &IdentityMapping, root)?);
+    assert!(rt;
+        unwrap(
+            rt,
+            is_valid_hierarchy_57(alloc, memory, &IdentityMapping, root)
+        )
+    );
     let mut mapper = MappedPageTable57::new(memory, root, IdentityMapping);
     let page = page(0x1000);
     translate(rt, &mapper, page);
     make_read_only(rt, &mut mapper, page);
     unmap(rt, &mut mapper, page);
-    Ok(())
 }
 
 #[test]
-fn pages_of_57_bits_are_changed(rt: HostRuntime) -> Result<(), Fail> {
-    let mut memory = image(rt.alloc(), &MAPPED)?;
-    check_page(rt, rt.alloc(), &mut memory)?;
+fn pages_of_57_bits_are_changed(rt: HostRuntime) {
+    let mut memory = image(rt, rt.alloc(), &MAPPED);
+    check_page(rt, rt.alloc(), &mut memory);
     let words = [
         (1, 0, 0x2003),
         (2, 0, 0x3003),
@@ -135,30 +138,27 @@ fn map_identity<M: Mapper57<Size4KiB>>(
 
 /// Maps two pages by the direct mapper, which is dropped then.
 #[tactic(auto, using(x86_64_model::proofs::Lemmas::Machines::Fitting::ready_of_fits))]
-fn map(
-    rt: impl Abort + Copy,
-    alloc: Global,
-    memory: &mut PhysMemory,
-    pool: &mut FramePool,
-) -> Result<(), Fail> {
+fn map(rt: impl Abort + Copy, alloc: Global, memory: &mut PhysMemory, pool: &mut FramePool) {
     let root = small(0x1000);
-    assert!(rt; pool_fits_57(alloc, memory, &IdentityMapping, root, pool)?);
+    assert!(rt;
+        unwrap(
+            rt,
+            pool_fits_57(alloc, memory, &IdentityMapping, root, pool)
+        )
+    );
     let mut mapper = MappedPageTable57::new(memory, root, IdentityMapping);
     map_with(rt, &mut mapper, page(0x1000), pool);
     let frame = small(0x6000);
     let start = VirtAddr57::new_truncate(frame.start_address().as_u64());
-    let page = Page57::from_start_address(start).or(Err("no page starts there"))?;
+    let page = unwrap(rt, Page57::from_start_address(start));
     map_identity(rt, &mut mapper, page, frame, pool);
-    Ok(())
 }
 
 #[test]
-fn pages_of_57_bits_are_mapped_with_parent_flags_and_at_their_own_address(
-    rt: HostRuntime,
-) -> Result<(), Fail> {
-    let mut memory = image(rt.alloc(), &[])?;
-    let mut pool = pool_of(rt.alloc(), &[0x2000, 0x3000, 0x4000, 0x5000])?;
-    map(rt, rt.alloc(), &mut memory, &mut pool)?;
+fn pages_of_57_bits_are_mapped_with_parent_flags_and_at_their_own_address(rt: HostRuntime) {
+    let mut memory = image(rt, rt.alloc(), &[]);
+    let mut pool = pool_of(rt, rt.alloc(), &[0x2000, 0x3000, 0x4000, 0x5000]);
+    map(rt, rt.alloc(), &mut memory, &mut pool);
     let words = [
         (1, 0, 0x2001),
         (2, 0, 0x3001),

@@ -10,10 +10,9 @@ ghost use Rattle.x86_64_mappers.specs.Recursive.{recursive_now_57};
 use super::five_levels::page;
 use super::recursive::{SELF_ENTRY, recursive_index};
 use super::{check_words, image, small, word_of};
-use crate::assertions::assert_equal;
+use crate::assertions::{assert_equal, unwrap};
 use std::alloc::Global;
 use std::process::Abort;
-use std::test::Fail;
 use x86_64_addr::addr::VirtAddr57;
 use x86_64_addr::index::PageTableIndex;
 use x86_64_mappers::recursive_page_table::{
@@ -58,22 +57,24 @@ fn check_made(
     memory: &mut PhysMemory,
     [cr3, table, virt]: [u64; 3],
     expected: Result<(), InvalidPageTable>,
-) -> Result<(), Fail> {
+) {
     let (cr3, table) = (small(cr3), small(table));
     let virt = VirtAddr57::new_truncate(virt);
-    if is_valid_recursive_57(alloc, memory, cr3, virt.p5_index())? {
+    if unwrap(
+        rt,
+        is_valid_recursive_57(alloc, memory, cr3, virt.p5_index()),
+    ) {
         assert_equal(rt, make(memory, cr3, table, virt), expected);
     } else {
         let active = ActiveMemory57::new(memory, cr3);
         let refusal = RecursivePageTable57::refusal(&active, table, virt);
         assert_equal(rt, refusal, expected.err());
     }
-    Ok(())
 }
 
 #[test]
-fn mappers_of_other_tables_of_level_five_are_refused(rt: HostRuntime) -> Result<(), Fail> {
-    let mut memory = image(rt.alloc(), &[SELF_ENTRY])?;
+fn mappers_of_other_tables_of_level_five_are_refused(rt: HostRuntime) {
+    let mut memory = image(rt, rt.alloc(), &[SELF_ENTRY]);
     let not_recursive = Err(InvalidPageTable::NotRecursive);
     let not_active = Err(InvalidPageTable::NotActive);
     let rows = [
@@ -87,9 +88,8 @@ fn mappers_of_other_tables_of_level_five_are_refused(rt: HostRuntime) -> Result<
         ([0x1000, 0x1000, 0xffff_ffff_ffff_f000], not_active),
     ];
     for (addresses, expected) in rows {
-        check_made(rt, rt.alloc(), &mut memory, addresses, expected)?;
+        check_made(rt, rt.alloc(), &mut memory, addresses, expected);
     }
-    Ok(())
 }
 
 /// Gives the word at an index of the root's table, which the mapper lends.
@@ -115,19 +115,19 @@ fn clear_root(memory: &mut PhysMemory, root: PhysFrame<Size4KiB>, index: PageTab
 }
 
 #[test]
-fn root_tables_of_level_five_are_lent(rt: HostRuntime) -> Result<(), Fail> {
+fn root_tables_of_level_five_are_lent(rt: HostRuntime) {
     let (root, index) = (small(0x1000), recursive_index());
-    let mut memory = image(rt.alloc(), &[SELF_ENTRY, (1, 0, 0x2003)])?;
-    assert!(rt; is_valid_recursive_57(rt.alloc(), &memory, root, index)?);
+    let mut memory = image(rt, rt.alloc(), &[SELF_ENTRY, (1, 0, 0x2003)]);
+    assert!(rt; unwrap(rt, is_valid_recursive_57(rt.alloc(), &memory, root, index)));
     let word = root_word(&mut memory, root, index, PageTableIndex::new(0));
     assert_equal(rt, word, 0x2003);
-    assert!(rt; is_valid_recursive_57(rt.alloc(), &memory, root, index)?);
+    assert!(rt; unwrap(rt, is_valid_recursive_57(rt.alloc(), &memory, root, index)));
     clear_root(&mut memory, root, index);
     check_words(rt, &memory, &[])
 }
 
 #[test]
-fn windows_of_pages_of_57_bits(rt: HostRuntime) -> Result<(), Fail> {
+fn windows_of_pages_of_57_bits(rt: HostRuntime) {
     let index = recursive_index();
     let first: Page57<Size4KiB> = page(0);
     assert_equal(rt, p4_window_57(first, index), page(0xfffe_ff7f_bfc0_0000));
@@ -141,7 +141,6 @@ fn windows_of_pages_of_57_bits(rt: HostRuntime) -> Result<(), Fail> {
     assert_equal(rt, p2_window_57(large, index), page(0xfffe_ff00_0020_1000));
     let small: Page57<Size4KiB> = page(0x80_4020_0000);
     assert_equal(rt, p1_window_57(small, index), page(0xfffe_0000_4020_1000));
-    Ok(())
 }
 
 /// The tables on the way to a page of 4KiB at 0x1000, and words of other kinds beside them.
@@ -156,8 +155,8 @@ const WORDS: [(u64, u16, u64); 7] = [
 ];
 
 #[test]
-fn windows_of_57_bits_are_walked_to_their_tables(rt: HostRuntime) -> Result<(), Fail> {
-    let memory = image(rt.alloc(), &WORDS)?;
+fn windows_of_57_bits_are_walked_to_their_tables(rt: HostRuntime) {
+    let memory = image(rt, rt.alloc(), &WORDS);
     let (index, page) = (recursive_index(), page::<Size4KiB>(0x1000));
     let windows = [
         p4_window_57(page, index),
@@ -171,5 +170,4 @@ fn windows_of_57_bits_are_walked_to_their_tables(rt: HostRuntime) -> Result<(), 
         let address = walked.map(|walked| walked.address.as_u64());
         assert_equal(rt, address, Some(table));
     }
-    Ok(())
 }

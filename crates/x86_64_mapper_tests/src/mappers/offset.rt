@@ -1,9 +1,8 @@
 //! A mapper of a memory that stands at an offset.
 use super::{image, mapped, small, word_of};
-use crate::assertions::{assert_equal, assert_equal_at};
+use crate::assertions::{assert_equal, assert_equal_at, unwrap};
 use std::alloc::Global;
 use std::process::Abort;
-use std::test::Fail;
 use x86_64_addr::addr::VirtAddr;
 use x86_64_mappers::offset_page_table::OffsetPageTable;
 use x86_64_page::page::{Page, Size4KiB};
@@ -25,22 +24,26 @@ const OFFSETS: [(u64, bool); 10] = [
 ];
 
 #[test]
-fn offsets_fit_where_each_place_is_reached(rt: HostRuntime) -> Result<(), Fail> {
-    let memory = PhysMemory::new(rt.alloc(), 8)?;
+fn offsets_fit_where_each_place_is_reached(rt: HostRuntime) {
+    let memory = unwrap(rt, PhysMemory::new(rt.alloc(), 8));
     for (offset, expected) in OFFSETS {
         let fits = OffsetPageTable::offset_fits(&memory, VirtAddr::new_truncate(offset));
         assert_equal_at(rt, offset, fits, expected);
     }
-    let none = PhysMemory::new(rt.alloc(), 0)?;
+    let none = unwrap(rt, PhysMemory::new(rt.alloc(), 0));
     assert!(rt; OffsetPageTable::offset_fits(&none, VirtAddr::new_truncate(u64::MAX)));
-    Ok(())
 }
 
 /// Asks a mapper of its tables, and has it change them.
-fn check_mapper(rt: impl Abort + Copy, alloc: Global, memory: &mut PhysMemory) -> Result<(), Fail> {
+fn check_mapper(rt: impl Abort + Copy, alloc: Global, memory: &mut PhysMemory) {
     let root = small(0x1000);
     let offset = VirtAddr::new(0xffff_8000_0000_0000);
-    assert!(rt; is_valid_hierarchy(alloc, memory, &IdentityMapping, root)?);
+    assert!(rt;
+        unwrap(
+            rt,
+            is_valid_hierarchy(alloc, memory, &IdentityMapping, root)
+        )
+    );
     assert!(rt; OffsetPageTable::offset_fits(memory, offset));
     let mut mapper = OffsetPageTable::new(memory, root, offset);
     assert_equal(rt, mapper.phys_offset(), offset);
@@ -52,17 +55,16 @@ fn check_mapper(rt: impl Abort + Copy, alloc: Global, memory: &mut PhysMemory) -
     assert_equal(rt, mapper.translate_page(page), Ok(small(0x5000)));
     mapper.level_4_table_mut().zero();
     assert_equal(rt, mapper.level_4_table()[0].is_unused(), true);
-    Ok(())
 }
 
 #[test]
-fn mappers_at_an_offset_find_their_tables(rt: HostRuntime) -> Result<(), Fail> {
+fn mappers_at_an_offset_find_their_tables(rt: HostRuntime) {
     let words = [
         (1, 0, 0x2003),
         (2, 0, 0x3003),
         (3, 0, 0x4003),
         (4, 1, 0x5003),
     ];
-    let mut memory = image(rt.alloc(), &words)?;
+    let mut memory = image(rt, rt.alloc(), &words);
     check_mapper(rt, rt.alloc(), &mut memory)
 }

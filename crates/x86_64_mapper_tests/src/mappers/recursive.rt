@@ -6,10 +6,9 @@ ghost use Rattle.x86_64_mappers.specs.InvalidPageTables.{refuses};
 ghost use Rattle.x86_64_mappers.specs.Recursive.{recursive_now};
 
 use super::{image, small};
-use crate::assertions::assert_equal;
+use crate::assertions::{assert_equal, unwrap};
 use std::alloc::Global;
 use std::process::Abort;
-use std::test::Fail;
 use x86_64_addr::addr::VirtAddr;
 use x86_64_addr::index::PageTableIndex;
 use x86_64_mappers::recursive_page_table::{InvalidPageTable, RecursivePageTable};
@@ -55,22 +54,21 @@ fn check_made(
     memory: &mut PhysMemory,
     [cr3, table, virt]: [u64; 3],
     expected: Result<(), InvalidPageTable>,
-) -> Result<(), Fail> {
+) {
     let (cr3, table) = (small(cr3), small(table));
     let virt = VirtAddr::new_truncate(virt);
-    if is_valid_recursive(alloc, memory, cr3, virt.p4_index())? {
+    if unwrap(rt, is_valid_recursive(alloc, memory, cr3, virt.p4_index())) {
         assert_equal(rt, make(memory, cr3, table, virt), expected);
     } else {
         let active = ActiveMemory::new(memory, cr3);
         let refusal = RecursivePageTable::refusal(&active, table, virt);
         assert_equal(rt, refusal, expected.err());
     }
-    Ok(())
 }
 
 #[test]
-fn mappers_of_other_tables_are_refused(rt: HostRuntime) -> Result<(), Fail> {
-    let mut memory = image(rt.alloc(), &[SELF_ENTRY])?;
+fn mappers_of_other_tables_are_refused(rt: HostRuntime) {
+    let mut memory = image(rt, rt.alloc(), &[SELF_ENTRY]);
     let rows = [
         ([0x1000, 0x1000, 0xffff_ff7f_bfdf_e000], Ok(())),
         (
@@ -95,24 +93,28 @@ fn mappers_of_other_tables_are_refused(rt: HostRuntime) -> Result<(), Fail> {
         ),
     ];
     for (addresses, expected) in rows {
-        check_made(rt, rt.alloc(), &mut memory, addresses, expected)?;
+        check_made(rt, rt.alloc(), &mut memory, addresses, expected);
     }
-    Ok(())
 }
 
 #[test]
-fn refusals_have_texts(rt: HostRuntime) -> Result<(), Fail> {
-    let text = format!(in rt.alloc(); "{}", InvalidPageTable::NotRecursive)?;
+fn refusals_have_texts(rt: HostRuntime) {
+    let text = unwrap(
+        rt,
+        format!(in rt.alloc(); "{}", InvalidPageTable::NotRecursive),
+    );
     assert_equal(
         rt,
         text.as_str(),
         "given page table address is not recursive",
     );
-    let text = format!(in rt.alloc(); "{}", InvalidPageTable::NotActive)?;
+    let text = unwrap(
+        rt,
+        format!(in rt.alloc(); "{}", InvalidPageTable::NotActive),
+    );
     assert_equal(
         rt,
         text.as_str(),
         "given page table is not active on the CPU",
     );
-    Ok(())
 }

@@ -7,8 +7,7 @@ ghost use Rattle.x86_64_mappers.specs.Layouts.{direct, owned};
 ghost use Rattle.x86_64_tables.specs.MapperAnswers.{frame_answer};
 
 use super::{WORDS, check_words, image, small};
-use crate::assertions::assert_equal;
-use std::test::Fail;
+use crate::assertions::{assert_equal, unwrap};
 use x86_64_addr::addr::VirtAddr;
 use x86_64_mappers::mapped_page_table::MappedPageTable;
 use x86_64_page::frame::PhysFrame;
@@ -50,11 +49,16 @@ pub fn page<S: PageSize>(address: u64) -> Page<S> {
 }
 
 #[test]
-fn pages_are_unmapped_once(rt: HostRuntime) -> Result<(), Fail> {
-    let mut memory = image(rt.alloc(), &WORDS)?;
+fn pages_are_unmapped_once(rt: HostRuntime) {
+    let mut memory = image(rt, rt.alloc(), &WORDS);
     let root = small(0x1000);
     for wanted in [Ok(small(0x5000)), Err(UnmapError::PageNotMapped)] {
-        assert!(rt; is_valid_hierarchy(rt.alloc(), &memory, &IdentityMapping, root)?);
+        assert!(rt;
+            unwrap(
+                rt,
+                is_valid_hierarchy(rt.alloc(), &memory, &IdentityMapping, root)
+            )
+        );
         let answer = unmap::<Size4KiB>(&mut memory, root, page(0x1000));
         assert_equal(rt, answer, wanted);
     }

@@ -2,14 +2,13 @@
 use super::unmap::page;
 use super::{image, small};
 use crate::assertions::assert_equal;
-use std::test::Fail;
 use x86_64_addr::index::PageTableIndex;
 use x86_64_mappers::recursive_page_table::{p1_window, p2_window, p3_window};
 use x86_64_page::page::{Page, Size1GiB, Size2MiB, Size4KiB};
 use x86_64_tables::phys_memory::{IdentityMapping, page_walk};
 
 #[test]
-fn windows_of_small_pages(rt: HostRuntime) -> Result<(), Fail> {
+fn windows_of_small_pages(rt: HostRuntime) {
     let index = PageTableIndex::new(510);
     let first = page::<Size4KiB>(0);
     assert_equal(rt, p3_window(first, index), page(0xffff_ff7f_bfc0_0000));
@@ -18,18 +17,16 @@ fn windows_of_small_pages(rt: HostRuntime) -> Result<(), Fail> {
     let second = page::<Size4KiB>(0x4000_0000);
     assert_equal(rt, p2_window(second, index), page(0xffff_ff7f_8000_1000));
     assert_equal(rt, p1_window(second, index), page(0xffff_ff00_0020_0000));
-    Ok(())
 }
 
 #[test]
-fn windows_of_large_pages(rt: HostRuntime) -> Result<(), Fail> {
+fn windows_of_large_pages(rt: HostRuntime) {
     let index = PageTableIndex::new(510);
     let giant = page::<Size1GiB>(0x4000_0000);
     assert_equal(rt, p3_window(giant, index), page(0xffff_ff7f_bfc0_0000));
     let large = page::<Size2MiB>(0x4000_0000);
     assert_equal(rt, p3_window(large, index), page(0xffff_ff7f_bfc0_0000));
     assert_equal(rt, p2_window(large, index), page(0xffff_ff7f_8000_1000));
-    Ok(())
 }
 
 /// The tables on the way to a page of 4KiB at 0x1000, and words of other kinds beside them.
@@ -43,8 +40,8 @@ const WORDS: [(u64, u16, u64); 6] = [
 ];
 
 #[test]
-fn windows_are_walked_to_their_tables(rt: HostRuntime) -> Result<(), Fail> {
-    let memory = image(rt.alloc(), &WORDS)?;
+fn windows_are_walked_to_their_tables(rt: HostRuntime) {
+    let memory = image(rt, rt.alloc(), &WORDS);
     let index = PageTableIndex::new(510);
     let page: Page<Size4KiB> = page(0x1000);
     let windows = [
@@ -58,5 +55,4 @@ fn windows_are_walked_to_their_tables(rt: HostRuntime) -> Result<(), Fail> {
         let address = walked.map(|walked| walked.address.as_u64());
         assert_equal(rt, address, Some(table));
     }
-    Ok(())
 }

@@ -2,7 +2,6 @@ use super::Answer::Done;
 use super::PlainReply::{Answered, Cleaned};
 use super::Turn::{CleanUp, MapTo, Unmap};
 use super::{Case, FOUR_LEVELS, FREE, LAST, MAP_SMALL_PAGE, Row, check_cases};
-use std::test::Fail;
 
 /// The 4KiB page 0x1000 is mapped and unmapped.
 const UNMAPPED: [Row<'static>; 2] = [
@@ -91,11 +90,11 @@ static PAGES_AT_THE_GAP: [Case<'static>; 2] = [
 ];
 
 #[test]
-fn small_pages(rt: HostRuntime) -> Result<(), Fail> {
+fn small_pages(rt: HostRuntime) {
     check_cases(rt, rt.alloc(), &FOUR_LEVELS, &SMALL_PAGES)
 }
 
 #[test]
-fn pages_at_the_gap(rt: HostRuntime) -> Result<(), Fail> {
+fn pages_at_the_gap(rt: HostRuntime) {
     check_cases(rt, rt.alloc(), &FOUR_LEVELS, &PAGES_AT_THE_GAP)
 }

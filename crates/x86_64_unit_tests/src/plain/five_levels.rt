@@ -4,7 +4,6 @@ use super::Refusal::{FrameAllocationFailed, PageNotMapped};
 use super::Translated::Mapped;
 use super::Turn::{CleanUp, MapTo, SetFlags, Translate, TranslateAddress, Unmap};
 use super::{Case, PlainMachine, Row, WINDOW, check_cases};
-use std::test::Fail;
 
 const FIVE_LEVELS: PlainMachine = PlainMachine {
     levels: 5,
@@ -187,11 +186,11 @@ static WINDOWS: [Case<'static>; 2] = [
 ];
 
 #[test]
-fn pages(rt: HostRuntime) -> Result<(), Fail> {
+fn pages(rt: HostRuntime) {
     check_cases(rt, rt.alloc(), &FIVE_LEVELS, &PAGES)
 }
 
 #[test]
-fn windows(rt: HostRuntime) -> Result<(), Fail> {
+fn windows(rt: HostRuntime) {
     check_cases(rt, rt.alloc(), &RECURSIVE, &WINDOWS)
 }

@@ -12,7 +12,6 @@ use super::Turn::{
 use super::{
     Case, FOUR_LEVELS, FREE, LAST, MAP_SMALL_PAGE, PlainMachine, Row, WINDOW, check_cases,
 };
-use std::test::Fail;
 
 const RECURSIVE: PlainMachine = PlainMachine {
     levels: 4,
@@ -308,21 +307,21 @@ static WINDOWS: [Case<'static>; 1] = [Case {
 }];
 
 #[test]
-fn small_pages(rt: HostRuntime) -> Result<(), Fail> {
+fn small_pages(rt: HostRuntime) {
     check_cases(rt, rt.alloc(), &FOUR_LEVELS, &SMALL_PAGES)
 }
 
 #[test]
-fn flags(rt: HostRuntime) -> Result<(), Fail> {
+fn flags(rt: HostRuntime) {
     check_cases(rt, rt.alloc(), &FOUR_LEVELS, &FLAGS)
 }
 
 #[test]
-fn large_pages(rt: HostRuntime) -> Result<(), Fail> {
+fn large_pages(rt: HostRuntime) {
     check_cases(rt, rt.alloc(), &FOUR_LEVELS, &LARGE_PAGES)
 }
 
 #[test]
-fn windows(rt: HostRuntime) -> Result<(), Fail> {
+fn windows(rt: HostRuntime) {
     check_cases(rt, rt.alloc(), &RECURSIVE, &WINDOWS)
 }

@@ -2,9 +2,8 @@
 ghost use Rattle.std.specs.Prelude.{◌≡◌, drop, slice_get, IfSome};
 ghost use Rattle.x86_64_model.specs.Lists.{EachOnce};
 
-use crate::assertions::assert_equal;
+use crate::assertions::{assert_equal, unwrap};
 use crate::tables::frame_at;
-use std::test::Fail;
 use x86_64_page::frame::PhysFrame;
 use x86_64_page::page::Size4KiB;
 use x86_64_tables::frame_alloc::{
@@ -12,8 +11,8 @@ use x86_64_tables::frame_alloc::{
 };
 
 #[test]
-fn pool_refuses_what_it_cannot_serve(rt: HostRuntime) -> Result<(), Fail> {
-    let mut pool = FramePool::new(rt.alloc(), 8)?;
+fn pool_refuses_what_it_cannot_serve(rt: HostRuntime) {
+    let mut pool = unwrap(rt, FramePool::new(rt.alloc(), 8));
     assert_equal(rt, pool.len(), 0);
     assert_equal(rt, pool.try_add(frame_at(0x0)), Err(PoolRefusal::Zero));
     assert_equal(
@@ -35,14 +34,13 @@ fn pool_refuses_what_it_cannot_serve(rt: HostRuntime) -> Result<(), Fail> {
     assert_equal(rt, pool.frame_at(0), Some(frame_at(0x2000)));
     assert_equal(rt, pool.frame_at(1), Some(frame_at(0x7000)));
     assert_equal(rt, pool.frame_at(2), None);
-    let text = format!(in rt.alloc(); "{:?}", PoolRefusal::OutOfRange)?;
+    let text = unwrap(rt, format!(in rt.alloc(); "{:?}", PoolRefusal::OutOfRange));
     assert_equal(rt, text.as_str(), "OutOfRange");
-    Ok(())
 }
 
 #[test]
-fn limits_may_be_any(rt: HostRuntime) -> Result<(), Fail> {
-    let mut pool = FramePool::new(rt.alloc(), 0)?;
+fn limits_may_be_any(rt: HostRuntime) {
+    let mut pool = unwrap(rt, FramePool::new(rt.alloc(), 0));
     assert_equal(rt, pool.try_add(frame_at(0x0)), Err(PoolRefusal::Zero));
     assert_equal(
         rt,
@@ -51,13 +49,12 @@ fn limits_may_be_any(rt: HostRuntime) -> Result<(), Fail> {
     );
     assert_equal(rt, pool.allocate_frame(), None);
     assert!(rt; FramePool::new(rt.alloc(), u64::MAX).is_err());
-    Ok(())
 }
 
 #[test]
-fn frames_come_back_to_the_front(rt: HostRuntime) -> Result<(), Fail> {
+fn frames_come_back_to_the_front(rt: HostRuntime) {
     let (first, second) = (frame_at(0x2000), frame_at(0x3000));
-    let mut pool = FramePool::new(rt.alloc(), 8)?;
+    let mut pool = unwrap(rt, FramePool::new(rt.alloc(), 8));
     assert!(rt; pool.try_add(first).is_ok());
     assert!(rt; pool.try_add(second).is_ok());
     assert_equal(rt, take_and_put_back(&mut pool), Some(first));
@@ -69,13 +66,12 @@ fn frames_come_back_to_the_front(rt: HostRuntime) -> Result<(), Fail> {
     assert_equal(rt, pool.frame_at(0), Some(second));
     assert_equal(rt, pool.frame_at(1), Some(first));
     assert_equal(rt, pool.len(), 2);
-    Ok(())
 }
 
 #[test]
-fn pools_are_equal_as_lists(rt: HostRuntime) -> Result<(), Fail> {
-    let mut one = FramePool::new(rt.alloc(), 8)?;
-    let mut other = FramePool::new(rt.alloc(), 16)?;
+fn pools_are_equal_as_lists(rt: HostRuntime) {
+    let mut one = unwrap(rt, FramePool::new(rt.alloc(), 8));
+    let mut other = unwrap(rt, FramePool::new(rt.alloc(), 16));
     assert!(rt; one == other);
     assert_equal(rt, one.try_add(frame_at(0x2000)), Ok(()));
     assert!(rt; one != other);
@@ -86,7 +82,6 @@ fn pools_are_equal_as_lists(rt: HostRuntime) -> Result<(), Fail> {
     assert_equal(rt, one.try_add(frame_at(0x4000)), Ok(()));
     assert_equal(rt, other.try_add(frame_at(0x3000)), Ok(()));
     assert!(rt; one != other);
-    Ok(())
 }
 
 /// Takes the first frame of a store and puts it back.

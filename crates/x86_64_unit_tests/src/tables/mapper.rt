@@ -1,7 +1,6 @@
 //! Tests of flushes.
 use crate::assertions::{assert_equal, assert_equal_in};
 use std::process::Abort;
-use std::test::Fail;
 use x86_64_addr::addr::{VirtAddr, VirtAddr57};
 use x86_64_page::page::{Page, Page57, PageSize, Size1GiB, Size2MiB, Size4KiB};
 use x86_64_tables::mapper::{FlushItem, FlushRecorder, MapperFlush, MapperFlush57, MapperFlushAll};
@@ -28,7 +27,7 @@ fn item(start: u64, size: u64) -> FlushItem {
 }
 
 #[test]
-fn flushes_are_recorded_in_order(rt: HostRuntime) -> Result<(), Fail> {
+fn flushes_are_recorded_in_order(rt: HostRuntime) {
     let items = [
         item(0x1000, 4096),
         FlushItem::All,
@@ -52,11 +51,10 @@ fn flushes_are_recorded_in_order(rt: HostRuntime) -> Result<(), Fail> {
         flush_page::<Size4KiB>(rt, &mut recorder, 0xffff_8000_0000_0000);
         assert_equal_in(rt, room, recorder.items(), items.as_slice());
     }
-    Ok(())
 }
 
 #[test]
-fn flushes_of_pages_of_57_bits_are_recorded(rt: HostRuntime) -> Result<(), Fail> {
+fn flushes_of_pages_of_57_bits_are_recorded(rt: HostRuntime) {
     for start in [0x20_0000, 0xff00_0000_0000_0000] {
         let start = VirtAddr57::new_truncate(start);
         let mut recorder = FlushRecorder::new(rt.alloc());
@@ -69,5 +67,4 @@ fn flushes_of_pages_of_57_bits_are_recorded(rt: HostRuntime) -> Result<(), Fail>
         let items = [FlushItem::Page57 { start, size }];
         assert_equal(rt, recorder.items(), items.as_slice());
     }
-    Ok(())
 }

@@ -1,9 +1,9 @@
 //! Tests of flags, entries and tables.
-use crate::assertions::{assert_equal, assert_equal_at};
+use crate::assertions::{assert_equal, assert_equal_at, unwrap, unwrap_some};
 use crate::tables::frame_at;
 use bitflags::Flags;
-use std::alloc::{AllocError, Global};
-use std::test::Fail;
+use std::alloc::Global;
+use std::process::Abort;
 use x86_64_addr::addr::PhysAddr;
 use x86_64_addr::index::PageTableIndex;
 use x86_64_tables::page_table::{FrameError, PageTable, PageTableEntry, PageTableFlags};
@@ -111,7 +111,7 @@ fn flags_change_in_place(rt: HostRuntime) {
 }
 
 #[test]
-fn flags_are_asked(rt: HostRuntime) -> Result<(), Fail> {
+fn flags_are_asked(rt: HostRuntime) {
     let low = PageTableFlags::PRESENT | PageTableFlags::WRITABLE;
     // The bits; whether both low flags are among them, whether one is, whether none is set, whether all known ones are.
     let rows = [
@@ -135,11 +135,10 @@ fn flags_are_asked(rt: HostRuntime) -> Result<(), Fail> {
         let read = PageTableFlags::from_bits(bits);
         assert_equal(rt, read, if known { Some(flags) } else { None });
         assert_equal(rt, flags.contains_unknown_bits(), !known);
-        let text = format!(in rt.alloc(); "{flags:?}")?;
-        let expected = format!(in rt.alloc(); "PageTableFlags({bits:#x})")?;
+        let text = unwrap(rt, format!(in rt.alloc(); "{flags:?}"));
+        let expected = unwrap(rt, format!(in rt.alloc(); "PageTableFlags({bits:#x})"));
         assert_equal(rt, text.as_str(), expected.as_str());
     }
-    Ok(())
 }
 
 /// Gives the word of an entry.
@@ -188,18 +187,18 @@ fn entries_are_words(rt: HostRuntime) {
 
 #[tactic(auto, unfolding(x86_64_model::specs::Entry::has))]
 #[test]
-fn entries_are_changed(rt: HostRuntime) -> Result<(), Fail> {
+fn entries_are_changed(rt: HostRuntime) {
     let mut entry = PageTableEntry::default();
     assert!(rt; entry.is_unused());
     let low = PageTableFlags::PRESENT.union(PageTableFlags::WRITABLE);
     assert!(rt; !low.contains(PageTableFlags::HUGE_PAGE));
     entry.set_frame(frame_at(0x6000), low);
-    let copy = entry.clone()?;
+    let copy = unwrap(rt, entry.clone());
     entry.set_flags(PageTableFlags::NO_EXECUTE);
     assert_equal(rt, word_of(&entry), 0x8000_0000_0000_6000);
     assert_equal(rt, word_of(&copy), 0x6003);
     assert_equal(rt, copy.frame(), Ok(frame_at(0x6000)));
-    let text = format!(in rt.alloc(); "{copy:?}")?;
+    let text = unwrap(rt, format!(in rt.alloc(); "{copy:?}"));
     assert_equal(
         rt,
         text.as_str(),
@@ -208,13 +207,12 @@ fn entries_are_changed(rt: HostRuntime) -> Result<(), Fail> {
     entry.set_unused();
     assert!(rt; entry.is_unused());
     let errors = [FrameError::FrameNotPresent, FrameError::HugeFrame];
-    let text = format!(in rt.alloc(); "{errors:?}")?;
+    let text = unwrap(rt, format!(in rt.alloc(); "{errors:?}"));
     assert_equal(rt, text.as_str(), "[FrameNotPresent, HugeFrame]");
-    Ok(())
 }
 
 #[test]
-fn tables_are_lists_of_words(rt: HostRuntime) -> Result<(), Fail> {
+fn tables_are_lists_of_words(rt: HostRuntime) {
     let mut table = PageTable::default();
     assert!(rt; table.is_empty());
     table[1].set_addr(PhysAddr::new(0x5000), PageTableFlags::PRESENT);
@@ -223,27 +221,26 @@ fn tables_are_lists_of_words(rt: HostRuntime) -> Result<(), Fail> {
     assert_equal(rt, word_of(&table[PageTableIndex::new(1)]), 0x5001);
     assert_equal(rt, word_of(&table[511]), 0x6002);
     assert!(rt; table[2].is_unused());
-    let copy = table.clone()?;
+    let copy = unwrap(rt, table.clone());
     table.zero();
     assert!(rt; table.is_empty());
     assert_equal(rt, word_of(&copy[511]), 0x6002);
-    let text = format!(in rt.alloc(); "{copy:?}")?;
-    let expected = text_of(&copy, rt.alloc())?;
+    let text = unwrap(rt, format!(in rt.alloc(); "{copy:?}"));
+    let expected = text_of(rt, &copy, rt.alloc());
     assert_equal(rt, text.as_str(), expected.as_str());
-    Ok(())
 }
 
 /// Gives the texts of all entries, parted by commas, in brackets.
-fn text_of(table: &PageTable, alloc: Global) -> Result<String<Global>, AllocError> {
-    let mut text = format!(in alloc; "[{:?}", table[0])?;
+fn text_of(rt: impl Abort + Copy, table: &PageTable, alloc: Global) -> String {
+    let mut text = unwrap(rt, format!(in alloc; "[{:?}", table[0]));
     for index in 1..512 {
-        text = format!(in alloc; "{text}, {:?}", table[index])?;
+        text = unwrap(rt, format!(in alloc; "{text}, {:?}", table[index]));
     }
-    format!(in alloc; "{text}]")
+    unwrap(rt, format!(in alloc; "{text}]"))
 }
 
 #[test]
-fn entries_come_in_order(rt: HostRuntime) -> Result<(), Fail> {
+fn entries_come_in_order(rt: HostRuntime) {
     let mut table = PageTable::new();
     for (index, entry) in table.iter_mut().enumerate() {
         entry.set_flags(PageTableFlags::from_bits_retain(index as u64));
@@ -251,7 +248,7 @@ fn entries_come_in_order(rt: HostRuntime) -> Result<(), Fail> {
     let mut entries = table.iter();
     assert_equal(rt, entries.size_hint(), (512, Some(512)));
     for index in 0..512 {
-        let entry = entries.next().ok_or("an entry")?;
+        let entry = unwrap_some(rt, entries.next());
         assert_equal(rt, word_of(entry), index as u64);
         assert_equal(rt, word_of(&table[index]), index as u64);
     }
@@ -259,16 +256,15 @@ fn entries_come_in_order(rt: HostRuntime) -> Result<(), Fail> {
     assert!(rt; entries.next().is_none());
     assert!(rt; entries.next().is_none());
     assert_equal(rt, table.iter().count(), 512);
-    Ok(())
 }
 
 #[test]
-fn entries_are_lent_in_order(rt: HostRuntime) -> Result<(), Fail> {
+fn entries_are_lent_in_order(rt: HostRuntime) {
     let mut table = PageTable::new();
     let mut entries = table.iter_mut();
     assert_equal(rt, entries.size_hint(), (512, Some(512)));
     for index in 0..512 {
-        let entry = entries.next().ok_or("an entry")?;
+        let entry = unwrap_some(rt, entries.next());
         assert!(rt; entry.is_unused());
         entry.set_flags(PageTableFlags::from_bits_retain(index));
     }
@@ -277,5 +273,4 @@ fn entries_are_lent_in_order(rt: HostRuntime) -> Result<(), Fail> {
     assert!(rt; entries.next().is_none());
     assert_equal(rt, word_of(&table[0]), 0x0);
     assert_equal(rt, word_of(&table[511]), 0x1ff);
-    Ok(())
 }

@@ -5,11 +5,11 @@ mod five_levels_recursive;
 mod places;
 mod recursive;
 
-use crate::assertions::{assert_equal, assert_equal_at, assert_equal_in};
+use crate::assertions::{assert_equal, assert_equal_at, assert_equal_in, unwrap, unwrap_some};
 use crate::tables::frame_at;
 use bitflags::Flags;
 use std::alloc::Global;
-use std::test::Fail;
+use std::process::Abort;
 use x86_64_addr::addr::{PhysAddr, VirtAddr};
 use x86_64_addr::index::PageTableIndex;
 use x86_64_tables::frame_alloc::FramePool;
@@ -22,52 +22,61 @@ use x86_64_tables::phys_memory::{
 const FLAGS_MASK: u64 = 0xfff0_0000_0000_0fff;
 
 /// Sets the word at an index of the table in a frame.
-fn set_word(memory: &mut PhysMemory, frame: u64, index: u16, word: u64) -> Result<(), Fail> {
-    let table = memory
-        .table_mut(FramePlace::new(frame / 0x1000))
-        .ok_or("a place")?;
+fn set_word(rt: impl Abort + Copy, memory: &mut PhysMemory, frame: u64, index: u16, word: u64) {
+    let table = unwrap_some(rt, memory.table_mut(FramePlace::new(frame / 0x1000)));
     let flags = PageTableFlags::from_bits_retain(word & FLAGS_MASK);
     let entry = &mut table[PageTableIndex::new_truncate(index)];
     entry.set_addr(frame_at(word).start_address(), flags);
-    Ok(())
 }
 
 /// Makes a memory of 8 places with words, each given by its frame, its index and itself.
-fn memory_with(alloc: Global, words: &[(u64, u16, u64)]) -> Result<PhysMemory, Fail> {
-    let mut memory = PhysMemory::new(alloc, 8)?;
+fn memory_with(rt: impl Abort + Copy, alloc: Global, words: &[(u64, u16, u64)]) -> PhysMemory {
+    let mut memory = unwrap(rt, PhysMemory::new(alloc, 8));
     for (frame, index, word) in words {
-        set_word(&mut memory, *frame, *index, *word)?;
+        set_word(rt, &mut memory, *frame, *index, *word);
     }
-    Ok(memory)
+    memory
 }
 
 /// Makes the same memory, where all words of the table in frame 0x2000 are ones.
-fn memory_of_ones(alloc: Global, words: &[(u64, u16, u64)]) -> Result<PhysMemory, Fail> {
-    let mut memory = memory_with(alloc, words)?;
+fn memory_of_ones(rt: impl Abort + Copy, alloc: Global, words: &[(u64, u16, u64)]) -> PhysMemory {
+    let mut memory = memory_with(rt, alloc, words);
     for index in 0..512 {
-        set_word(&mut memory, 0x2000, index, u64::MAX)?;
+        set_word(rt, &mut memory, 0x2000, index, u64::MAX);
     }
-    Ok(memory)
+    memory
 }
 
 /// Makes a pool of a limit with frames, each given by its start address.
-fn pool_with(alloc: Global, limit: u64, frames: &[u64]) -> Result<FramePool, Fail> {
-    let mut pool = FramePool::new(alloc, limit)?;
+fn pool_with(rt: impl Abort + Copy, alloc: Global, limit: u64, frames: &[u64]) -> FramePool {
+    let mut pool = unwrap(rt, FramePool::new(alloc, limit));
     for frame in frames {
-        pool.try_add(frame_at(*frame)).ok().ok_or("a free frame")?;
+        unwrap(rt, pool.try_add(frame_at(*frame)));
     }
-    Ok(pool)
+    pool
 }
 
 /// Tells whether a pool fits the hierarchy below the root in frame 0x1000.
-fn fits(alloc: Global, memory: &PhysMemory, limit: u64, frames: &[u64]) -> Result<bool, Fail> {
-    let pool = pool_with(alloc, limit, frames)?;
-    Ok(pool_fits(alloc, memory, &IdentityMapping, frame_at(0x1000), &pool)?)
+fn fits(
+    rt: impl Abort + Copy,
+    alloc: Global,
+    memory: &PhysMemory,
+    limit: u64,
+    frames: &[u64],
+) -> bool {
+    let pool = pool_with(rt, alloc, limit, frames);
+    unwrap(
+        rt,
+        pool_fits(alloc, memory, &IdentityMapping, frame_at(0x1000), &pool),
+    )
 }
 
 /// Tells whether words are a valid hierarchy below the root in frame 0x1000.
-fn is_valid(alloc: Global, memory: &PhysMemory) -> Result<bool, Fail> {
-    Ok(is_valid_hierarchy(alloc, memory, &IdentityMapping, frame_at(0x1000))?)
+fn is_valid(rt: impl Abort + Copy, alloc: Global, memory: &PhysMemory) -> bool {
+    unwrap(
+        rt,
+        is_valid_hierarchy(alloc, memory, &IdentityMapping, frame_at(0x1000)),
+    )
 }
 
 /// Walks from the root in frame 0x1000.
@@ -129,15 +138,14 @@ const WALKS: [Walk; 7] = [
 ];
 
 #[test]
-fn walks_arrive(rt: HostRuntime) -> Result<(), Fail> {
+fn walks_arrive(rt: HostRuntime) {
     for (words, addr, wanted) in WALKS {
-        let memory = memory_with(rt.alloc(), words)?;
+        let memory = memory_with(rt, rt.alloc(), words);
         assert_equal_at(rt, addr, walk(&memory, addr), arrival(wanted));
     }
-    let memory = memory_of_ones(rt.alloc(), &[(0x1000, 0, 0x2003)])?;
+    let memory = memory_of_ones(rt, rt.alloc(), &[(0x1000, 0, 0x2003)]);
     let wanted = arrival(Some((0x000f_ffff_c000_0000, true)));
     assert_equal(rt, walk(&memory, 0), wanted);
-    Ok(())
 }
 
 const ROOT_POOLS: [(&[(u64, u16, u64)], u64, &[u64], bool); 11] = [
@@ -160,15 +168,14 @@ const ROOT_POOLS: [(&[(u64, u16, u64)], u64, &[u64], bool); 11] = [
 ];
 
 #[test]
-fn pools_fit_a_root(rt: HostRuntime) -> Result<(), Fail> {
+fn pools_fit_a_root(rt: HostRuntime) {
     for (words, limit, frames, expected) in ROOT_POOLS {
-        let memory = memory_with(rt.alloc(), words)?;
-        let fits = fits(rt.alloc(), &memory, limit, frames)?;
+        let memory = memory_with(rt, rt.alloc(), words);
+        let fits = fits(rt, rt.alloc(), &memory, limit, frames);
         assert_equal_in(rt, (frames, limit, words), fits, expected);
     }
-    let small = PhysMemory::new(rt.alloc(), 1)?;
-    assert!(rt; !fits(rt.alloc(), &small, 8, &[])?);
-    Ok(())
+    let small = unwrap(rt, PhysMemory::new(rt.alloc(), 1));
+    assert!(rt; !fits(rt, rt.alloc(), &small, 8, &[]));
 }
 
 const POOLS: [(u64, &[u64], bool); 7] = [
@@ -182,7 +189,7 @@ const POOLS: [(u64, &[u64], bool); 7] = [
 ];
 
 #[test]
-fn pools_fit_tables(rt: HostRuntime) -> Result<(), Fail> {
+fn pools_fit_tables(rt: HostRuntime) {
     let words = [
         (0x1000, 0, 0x2003),
         (0x2000, 0, 0x3003),
@@ -190,13 +197,12 @@ fn pools_fit_tables(rt: HostRuntime) -> Result<(), Fail> {
         (0x3000, 1, 0x5083),
         (0x4000, 0, 0x6003),
     ];
-    let memory = memory_with(rt.alloc(), &words)?;
+    let memory = memory_with(rt, rt.alloc(), &words);
     for (limit, frames, expected) in POOLS {
-        let fits = fits(rt.alloc(), &memory, limit, frames)?;
+        let fits = fits(rt, rt.alloc(), &memory, limit, frames);
         assert_equal_in(rt, (frames, limit), fits, expected);
     }
-    let memory = memory_of_ones(rt.alloc(), &[(0x1000, 0, 0x2003)])?;
-    assert!(rt; fits(rt.alloc(), &memory, 8, &[0x3000])?);
-    assert!(rt; !fits(rt.alloc(), &memory, 8, &[0x2000])?);
-    Ok(())
+    let memory = memory_of_ones(rt, rt.alloc(), &[(0x1000, 0, 0x2003)]);
+    assert!(rt; fits(rt, rt.alloc(), &memory, 8, &[0x3000]));
+    assert!(rt; !fits(rt, rt.alloc(), &memory, 8, &[0x2000]));
 }

@@ -10,7 +10,7 @@ use super::{memory_with, set_word};
 use crate::assertions::assert_equal_in;
 use crate::tables::frame_at;
 use std::alloc::Global;
-use std::test::Fail;
+use std::process::Abort;
 use x86_64_addr::index::PageTableIndex;
 use x86_64_page::frame::PhysFrame;
 use x86_64_page::page::Size4KiB;
@@ -35,15 +35,16 @@ const RECURSIVE: [(u64, u16, u64); 5] = [
 
 /// Makes a memory of 8 places with words, and then with more words.
 pub fn memory_of(
+    rt: impl Abort + Copy,
     alloc: Global,
     words: &[(u64, u16, u64)],
     more: &[(u64, u16, u64)],
-) -> Result<PhysMemory, Fail> {
-    let mut memory = memory_with(alloc, words)?;
+) -> PhysMemory {
+    let mut memory = memory_with(rt, alloc, words);
     for (frame, index, word) in more {
-        set_word(&mut memory, *frame, *index, *word)?;
+        set_word(rt, &mut memory, *frame, *index, *word);
     }
-    Ok(memory)
+    memory
 }
 
 /// Tells whether a hierarchy and one with a recursive index are alike, whatever mapping stands beside the index.
@@ -90,28 +91,27 @@ const DIFFERENCES: [(&[(u64, u16, u64)], &[(u64, u16, u64)], bool); 14] = [
 ];
 
 #[test]
-fn hierarchies_are_alike_but_for_writable_tables(rt: HostRuntime) -> Result<(), Fail> {
+fn hierarchies_are_alike_but_for_writable_tables(rt: HostRuntime) {
     let index = PageTableIndex::new(510);
     for (direct, recursive, expected) in DIFFERENCES {
-        let one = memory_of(rt.alloc(), &DIRECT, direct)?;
-        let other = memory_of(rt.alloc(), &RECURSIVE, recursive)?;
+        let one = memory_of(rt, rt.alloc(), &DIRECT, direct);
+        let other = memory_of(rt, rt.alloc(), &RECURSIVE, recursive);
         let shifted = ShiftMapping::new(3);
         let alike = alike_by_index(&one, &other, &shifted, frame_at(0x1000), index);
         assert_equal_in(rt, (direct, recursive), alike, expected);
     }
-    Ok(())
 }
 
 #[test]
-fn hierarchies_are_alike_by_their_own_mappings(rt: HostRuntime) -> Result<(), Fail> {
+fn hierarchies_are_alike_by_their_own_mappings(rt: HostRuntime) {
     let shifted = [
         (0x0, 0, 0x2003),
         (0x1000, 0, 0x3003),
         (0x2000, 0, 0x4003),
         (0x3000, 1, 0x5001),
     ];
-    let one = memory_with(rt.alloc(), &DIRECT)?;
-    let other = memory_with(rt.alloc(), &shifted)?;
+    let one = memory_with(rt, rt.alloc(), &DIRECT);
+    let other = memory_with(rt, rt.alloc(), &shifted);
     let root = frame_at(0x1000);
     for (first, expected) in [(1, true), (0, false), (2, false)] {
         let mapping = ShiftMapping::new(first);
@@ -127,12 +127,11 @@ fn hierarchies_are_alike_by_their_own_mappings(rt: HostRuntime) -> Result<(), Fa
         );
         assert_equal_in(rt, first, alike, expected);
     }
-    Ok(())
 }
 
 #[test]
-fn words_that_name_their_own_table_are_alike(rt: HostRuntime) -> Result<(), Fail> {
-    let memory = memory_with(rt.alloc(), &RECURSIVE)?;
+fn words_that_name_their_own_table_are_alike(rt: HostRuntime) {
+    let memory = memory_with(rt, rt.alloc(), &RECURSIVE);
     let root = frame_at(0x1000);
     for (index, expected) in [(None, true), (Some(PageTableIndex::new(510)), false)] {
         let alike = tables_alike(
@@ -147,5 +146,4 @@ fn words_that_name_their_own_table_are_alike(rt: HostRuntime) -> Result<(), Fail
         );
         assert_eq!(rt; alike, expected, "for {index:?}");
     }
-    Ok(())
 }

@@ -1,17 +1,20 @@
 //! Tests of walks, of hierarchies and of pools that fit them, where there are five levels of tables.
 use super::{Walk, arrival, is_valid, memory_with, pool_with};
-use crate::assertions::{assert_equal_at, assert_equal_in};
+use crate::assertions::{assert_equal_at, assert_equal_in, unwrap};
 use crate::tables::frame_at;
 use std::alloc::Global;
-use std::test::Fail;
+use std::process::Abort;
 use x86_64_addr::addr::VirtAddr57;
 use x86_64_tables::phys_memory::{
     IdentityMapping, PhysMemory, Walked, is_valid_hierarchy_57, page_walk_57, pool_fits_57,
 };
 
 /// Tells whether words are a valid hierarchy of five levels below the root in frame 0x1000.
-fn is_valid_57(alloc: Global, memory: &PhysMemory) -> Result<bool, Fail> {
-    Ok(is_valid_hierarchy_57(alloc, memory, &IdentityMapping, frame_at(0x1000))?)
+fn is_valid_57(rt: impl Abort + Copy, alloc: Global, memory: &PhysMemory) -> bool {
+    unwrap(
+        rt,
+        is_valid_hierarchy_57(alloc, memory, &IdentityMapping, frame_at(0x1000)),
+    )
 }
 
 /// Walks from the root of level five in frame 0x1000.
@@ -51,12 +54,11 @@ const WALKS: [Walk; 5] = [
 ];
 
 #[test]
-fn walks_of_five_levels_arrive(rt: HostRuntime) -> Result<(), Fail> {
+fn walks_of_five_levels_arrive(rt: HostRuntime) {
     for (words, addr, wanted) in WALKS {
-        let memory = memory_with(rt.alloc(), words)?;
+        let memory = memory_with(rt, rt.alloc(), words);
         assert_equal_at(rt, addr, walk_57(&memory, addr), arrival(wanted));
     }
-    Ok(())
 }
 
 const HIERARCHIES: [(&[(u64, u16, u64)], bool, bool); 4] = [
@@ -76,13 +78,12 @@ const HIERARCHIES: [(&[(u64, u16, u64)], bool, bool); 4] = [
 ];
 
 #[test]
-fn hierarchies_are_valid_with_as_many_levels(rt: HostRuntime) -> Result<(), Fail> {
+fn hierarchies_are_valid_with_as_many_levels(rt: HostRuntime) {
     for (words, five, four) in HIERARCHIES {
-        let memory = memory_with(rt.alloc(), words)?;
-        assert_equal_in(rt, words, is_valid_57(rt.alloc(), &memory)?, five);
-        assert_equal_in(rt, words, is_valid(rt.alloc(), &memory)?, four);
+        let memory = memory_with(rt, rt.alloc(), words);
+        assert_equal_in(rt, words, is_valid_57(rt, rt.alloc(), &memory), five);
+        assert_equal_in(rt, words, is_valid(rt, rt.alloc(), &memory), four);
     }
-    Ok(())
 }
 
 const POOLS: [(u64, &[u64], bool); 5] = [
@@ -94,7 +95,7 @@ const POOLS: [(u64, &[u64], bool); 5] = [
 ];
 
 #[test]
-fn pools_fit_tables_of_five_levels(rt: HostRuntime) -> Result<(), Fail> {
+fn pools_fit_tables_of_five_levels(rt: HostRuntime) {
     let words = [
         (0x1000, 0, 0x2003),
         (0x2000, 0, 0x3003),
@@ -102,12 +103,14 @@ fn pools_fit_tables_of_five_levels(rt: HostRuntime) -> Result<(), Fail> {
         (0x4000, 0, 0x5002),
         (0x5000, 0, 0x6003),
     ];
-    let memory = memory_with(rt.alloc(), &words)?;
+    let memory = memory_with(rt, rt.alloc(), &words);
     for (limit, frames, expected) in POOLS {
-        let pool = pool_with(rt.alloc(), limit, frames)?;
+        let pool = pool_with(rt, rt.alloc(), limit, frames);
         let root = frame_at(0x1000);
-        let fits = pool_fits_57(rt.alloc(), &memory, &IdentityMapping, root, &pool)?;
+        let fits = unwrap(
+            rt,
+            pool_fits_57(rt.alloc(), &memory, &IdentityMapping, root, &pool),
+        );
         assert_equal_in(rt, (frames, limit), fits, expected);
     }
-    Ok(())
 }

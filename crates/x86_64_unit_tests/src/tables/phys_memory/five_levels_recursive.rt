@@ -9,9 +9,8 @@ ghost use Rattle.x86_64_tables.specs.SelfEntries.{window_at};
 use super::alike::memory_of;
 use super::recursive::address_of;
 use super::{memory_with, pool_with};
-use crate::assertions::assert_equal_in;
+use crate::assertions::{assert_equal_in, unwrap, unwrap_some};
 use crate::tables::frame_at;
-use std::test::Fail;
 use x86_64_addr::addr::{PhysAddr, VirtAddr57};
 use x86_64_addr::index::PageTableIndex;
 use x86_64_page::frame::PhysFrame;
@@ -64,9 +63,9 @@ const LENT: [(u64, Option<u64>); 9] = [
 ];
 
 #[test]
-fn tables_of_five_levels_are_lent_where_walks_arrive(rt: HostRuntime) -> Result<(), Fail> {
+fn tables_of_five_levels_are_lent_where_walks_arrive(rt: HostRuntime) {
     for (addr, expected) in LENT {
-        let mut memory = memory_of(rt.alloc(), &RECURSIVE, &OWN_ADDRESSES)?;
+        let mut memory = memory_of(rt, rt.alloc(), &RECURSIVE, &OWN_ADDRESSES);
         let mut active = ActiveMemory57::new(&mut memory, frame_at(0x1000));
         let addr = VirtAddr57::new_truncate(addr);
         assert_equal_in(rt, addr, address_of(active.table(addr)), expected);
@@ -75,12 +74,11 @@ fn tables_of_five_levels_are_lent_where_walks_arrive(rt: HostRuntime) -> Result<
         }
         drop(active);
         for number in 0..8 {
-            let table = memory.table(FramePlace::new(number)).ok_or("a place")?;
+            let table = unwrap_some(rt, memory.table(FramePlace::new(number)));
             let is_changed = expected == Some(number * 0x1000);
             assert_equal_in(rt, (number, addr), !table[7].is_unused(), is_changed);
         }
     }
-    Ok(())
 }
 
 const HIERARCHIES: [(&[(u64, u16, u64)], bool); 9] = [
@@ -103,16 +101,23 @@ const HIERARCHIES: [(&[(u64, u16, u64)], bool); 9] = [
 ];
 
 #[test]
-fn hierarchies_of_five_levels_are_valid_for_an_index(rt: HostRuntime) -> Result<(), Fail> {
+fn hierarchies_of_five_levels_are_valid_for_an_index(rt: HostRuntime) {
     let index = PageTableIndex::new(510);
     for (words, expected) in HIERARCHIES {
-        let memory = memory_with(rt.alloc(), words)?;
-        let is_valid = is_valid_recursive_57(rt.alloc(), &memory, frame_at(0x1000), index)?;
+        let memory = memory_with(rt, rt.alloc(), words);
+        let is_valid = unwrap(
+            rt,
+            is_valid_recursive_57(rt.alloc(), &memory, frame_at(0x1000), index),
+        );
         assert_equal_in(rt, words, is_valid, expected);
     }
-    let small = PhysMemory::new(rt.alloc(), 1)?;
-    assert!(rt; !is_valid_recursive_57(rt.alloc(), &small, frame_at(0x1000), index)?);
-    Ok(())
+    let small = unwrap(rt, PhysMemory::new(rt.alloc(), 1));
+    assert!(rt;
+        !unwrap(
+            rt,
+            is_valid_recursive_57(rt.alloc(), &small, frame_at(0x1000), index)
+        )
+    );
 }
 
 const MORE_WORDS: [(&[(u64, u16, u64)], bool, bool); 9] = [
@@ -129,18 +134,17 @@ const MORE_WORDS: [(&[(u64, u16, u64)], bool, bool); 9] = [
 ];
 
 #[test]
-fn hierarchies_are_valid_for_an_index_with_as_many_levels(rt: HostRuntime) -> Result<(), Fail> {
+fn hierarchies_are_valid_for_an_index_with_as_many_levels(rt: HostRuntime) {
     // Each of these is written over the tables of a valid hierarchy of five levels.
     let index = PageTableIndex::new(510);
     let root = frame_at(0x1000);
     for (more, five, four) in MORE_WORDS {
-        let memory = memory_of(rt.alloc(), &RECURSIVE, more)?;
-        let is_valid = is_valid_recursive_57(rt.alloc(), &memory, root, index)?;
+        let memory = memory_of(rt, rt.alloc(), &RECURSIVE, more);
+        let is_valid = unwrap(rt, is_valid_recursive_57(rt.alloc(), &memory, root, index));
         assert_equal_in(rt, more, is_valid, five);
-        let is_valid = is_valid_recursive(rt.alloc(), &memory, root, index)?;
+        let is_valid = unwrap(rt, is_valid_recursive(rt.alloc(), &memory, root, index));
         assert_equal_in(rt, more, is_valid, four);
     }
-    Ok(())
 }
 
 const POOLS: [(u16, u64, &[u64], bool); 8] = [
@@ -155,16 +159,18 @@ const POOLS: [(u16, u64, &[u64], bool); 8] = [
 ];
 
 #[test]
-fn pools_fit_tables_of_five_levels_for_an_index(rt: HostRuntime) -> Result<(), Fail> {
-    let memory = memory_with(rt.alloc(), &RECURSIVE)?;
+fn pools_fit_tables_of_five_levels_for_an_index(rt: HostRuntime) {
+    let memory = memory_with(rt, rt.alloc(), &RECURSIVE);
     for (index, limit, frames, expected) in POOLS {
         let index = PageTableIndex::new_truncate(index);
-        let pool = pool_with(rt.alloc(), limit, frames)?;
+        let pool = pool_with(rt, rt.alloc(), limit, frames);
         let root = frame_at(0x1000);
-        let fits = pool_fits_recursive_57(rt.alloc(), &memory, root, index, &pool)?;
+        let fits = unwrap(
+            rt,
+            pool_fits_recursive_57(rt.alloc(), &memory, root, index, &pool),
+        );
         assert_equal_in(rt, (frames, limit, index), fits, expected);
     }
-    Ok(())
 }
 
 /// Tells whether a hierarchy and one with a recursive index are alike, whatever mapping stands beside the index.
@@ -206,16 +212,13 @@ const DIFFERENCES: [(&[(u64, u16, u64)], &[(u64, u16, u64)], bool); 9] = [
 ];
 
 #[test]
-fn hierarchies_of_five_levels_are_alike_but_for_writable_tables(
-    rt: HostRuntime,
-) -> Result<(), Fail> {
+fn hierarchies_of_five_levels_are_alike_but_for_writable_tables(rt: HostRuntime) {
     let index = PageTableIndex::new(510);
     for (direct, recursive, expected) in DIFFERENCES {
-        let one = memory_of(rt.alloc(), &DIRECT, direct)?;
-        let other = memory_of(rt.alloc(), &RECURSIVE, recursive)?;
+        let one = memory_of(rt, rt.alloc(), &DIRECT, direct);
+        let other = memory_of(rt, rt.alloc(), &RECURSIVE, recursive);
         let shifted = ShiftMapping::new(3);
         let alike = alike_by_index(&one, &other, &shifted, frame_at(0x1000), index);
         assert_equal_in(rt, (direct, recursive), alike, expected);
     }
-    Ok(())
 }

@@ -1,9 +1,9 @@
 //! Tests of tables that are reached through themselves, and of hierarchies with a recursive index.
 use super::{memory_with, pool_with};
-use crate::assertions::{assert_equal, assert_equal_in};
+use crate::assertions::{assert_equal, assert_equal_in, unwrap, unwrap_some};
 use crate::tables::frame_at;
 use std::alloc::Global;
-use std::test::Fail;
+use std::process::Abort;
 use x86_64_addr::addr::{PhysAddr, VirtAddr};
 use x86_64_addr::index::PageTableIndex;
 use x86_64_tables::page_table::{PageTable, PageTableFlags};
@@ -14,7 +14,7 @@ const ROOT_WINDOW: u64 = 0xffff_ff7f_bfdf_e000;
 
 /// Makes a memory where the root in frame 0x1000 names itself at index 510, and leads to a 4KiB page in each kind of
 /// place and to a 2MiB page at 0. Word 511 of each table has the table's own address, without `PRESENT`.
-fn memory_with_windows(alloc: Global) -> Result<PhysMemory, Fail> {
+fn memory_with_windows(rt: impl Abort + Copy, alloc: Global) -> PhysMemory {
     let words = [
         (0x1000, 510, 0x1003),
         (0x1000, 0, 0x2003),
@@ -33,7 +33,7 @@ fn memory_with_windows(alloc: Global) -> Result<PhysMemory, Fail> {
         (0x6000, 511, 0x6002),
         (0x7000, 511, 0x7002),
     ];
-    memory_with(alloc, &words)
+    memory_with(rt, alloc, &words)
 }
 
 /// Gives the address of a table of such a memory.
@@ -55,15 +55,14 @@ const SELF_ENTRIES: [(u64, u16, u64, u64, bool); 9] = [
 ];
 
 #[test]
-fn roots_have_self_entries(rt: HostRuntime) -> Result<(), Fail> {
+fn roots_have_self_entries(rt: HostRuntime) {
     for (frame, index, word, cr3, expected) in SELF_ENTRIES {
-        let mut memory = memory_with(rt.alloc(), &[(frame, index, word)])?;
+        let mut memory = memory_with(rt, rt.alloc(), &[(frame, index, word)]);
         let active = ActiveMemory::new(&mut memory, frame_at(cr3));
         assert_equal(rt, active.cr3(), frame_at(cr3));
         let found = active.self_entry(PageTableIndex::new(510));
         assert_equal_in(rt, (word, index, cr3), found, expected);
     }
-    Ok(())
 }
 
 const LENT: [(u64, Option<u64>); 13] = [
@@ -83,9 +82,9 @@ const LENT: [(u64, Option<u64>); 13] = [
 ];
 
 #[test]
-fn tables_are_lent_where_walks_arrive(rt: HostRuntime) -> Result<(), Fail> {
+fn tables_are_lent_where_walks_arrive(rt: HostRuntime) {
     for (addr, expected) in LENT {
-        let mut memory = memory_with_windows(rt.alloc())?;
+        let mut memory = memory_with_windows(rt, rt.alloc());
         let mut active = ActiveMemory::new(&mut memory, frame_at(0x1000));
         let addr = VirtAddr::new_truncate(addr);
         assert_equal_in(rt, addr, address_of(active.table(addr)), expected);
@@ -94,30 +93,28 @@ fn tables_are_lent_where_walks_arrive(rt: HostRuntime) -> Result<(), Fail> {
         }
         drop(active);
         for number in 0..8 {
-            let table = memory.table(FramePlace::new(number)).ok_or("a place")?;
+            let table = unwrap_some(rt, memory.table(FramePlace::new(number)));
             let is_changed = expected == Some(number * 0x1000);
             assert_equal_in(rt, (number, addr), !table[7].is_unused(), is_changed);
         }
     }
-    Ok(())
 }
 
 #[test]
-fn walks_go_through_the_words_of_the_moment(rt: HostRuntime) -> Result<(), Fail> {
-    let mut memory = memory_with_windows(rt.alloc())?;
+fn walks_go_through_the_words_of_the_moment(rt: HostRuntime) {
+    let mut memory = memory_with_windows(rt, rt.alloc());
     let mut active = ActiveMemory::new(&mut memory, frame_at(0x1000));
     let root = VirtAddr::new(ROOT_WINDOW);
     let window = VirtAddr::new(0xffff_ff7f_bfc0_1000);
     assert_equal(rt, address_of(active.table(window)), None);
-    let table = active.table_mut(root).ok_or("the root")?;
+    let table = unwrap_some(rt, active.table_mut(root));
     table[1].set_addr(PhysAddr::new(0x6000), PageTableFlags::PRESENT);
     assert_equal(rt, address_of(active.table(window)), Some(0x6000));
-    let table = active.table_mut(root).ok_or("the root")?;
+    let table = unwrap_some(rt, active.table_mut(root));
     table[510].set_unused();
     assert_equal(rt, address_of(active.table(root)), None);
     assert_equal(rt, address_of(active.table(window)), None);
     assert!(rt; !active.self_entry(PageTableIndex::new(510)));
-    Ok(())
 }
 
 const POOLS: [(u16, u64, &[u64], bool); 8] = [
@@ -132,18 +129,20 @@ const POOLS: [(u16, u64, &[u64], bool); 8] = [
 ];
 
 #[test]
-fn pools_fit_for_an_index(rt: HostRuntime) -> Result<(), Fail> {
+fn pools_fit_for_an_index(rt: HostRuntime) {
     let words = [
         (0x1000, 510, 0x1003),
         (0x1000, 0, 0x2003),
         (0x2000, 0, 0x3002),
     ];
-    let memory = memory_with(rt.alloc(), &words)?;
+    let memory = memory_with(rt, rt.alloc(), &words);
     for (index, limit, frames, expected) in POOLS {
         let index = PageTableIndex::new_truncate(index);
-        let pool = pool_with(rt.alloc(), limit, frames)?;
-        let fits = pool_fits_recursive(rt.alloc(), &memory, frame_at(0x1000), index, &pool)?;
+        let pool = pool_with(rt, rt.alloc(), limit, frames);
+        let fits = unwrap(
+            rt,
+            pool_fits_recursive(rt.alloc(), &memory, frame_at(0x1000), index, &pool),
+        );
         assert_equal_in(rt, (frames, limit, index), fits, expected);
     }
-    Ok(())
 }
