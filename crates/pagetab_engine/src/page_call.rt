@@ -115,8 +115,10 @@ pub fn page_at<S: PageSize>(start: u64) -> Option<Page<S>>
     ensures fits { IsSome result ↔ IsPageStart 4 S.SIZE start }
     ensures start { IfSome result (λ page. raw 4 page ≡ start) }
 {
-    let address = VirtAddr::try_new(start).ok()?;
-    Page::from_start_address(address).ok()
+    match VirtAddr::try_new(start) {
+        Ok(address) => Page::from_start_address(address).ok(),
+        Err(_) => None,
+    }
 }
 
 /// Does what [`page_at`] does, where there are five levels.
@@ -124,8 +126,10 @@ pub fn page_57_at<S: PageSize>(start: u64) -> Option<Page57<S>>
     ensures fits { IsSome result ↔ IsPageStart 5 S.SIZE start }
     ensures start { IfSome result (λ page. raw 5 page ≡ start) }
 {
-    let address = VirtAddr57::try_new(start).ok()?;
-    Page57::from_start_address(address).ok()
+    match VirtAddr57::try_new(start) {
+        Ok(address) => Page57::from_start_address(address).ok(),
+        Err(_) => None,
+    }
 }
 
 /// Gives the frame that starts at an address.
@@ -135,6 +139,8 @@ fn frame_at<S: PageSize>(start: u64) -> Option<PhysFrame<S>>
     ensures fits { IsSome result ↔ IsFrameStart S.SIZE start }
     ensures start { IfSome result (λ frame. frame ≡ start) }
 {
-    let address = PhysAddr::try_new(start).ok()?;
-    PhysFrame::from_start_address(address).ok()
+    match PhysAddr::try_new(start) {
+        Ok(address) => PhysFrame::from_start_address(address).ok(),
+        Err(_) => None,
+    }
 }
