@@ -12,6 +12,7 @@ mod modes;
 mod outcomes;
 mod session;
 
+use crate::assertions::unwrap;
 use crate::hostile::IMAGES;
 use crate::images::ROOT;
 use crate::rows::Word;
@@ -19,9 +20,8 @@ use chooser::Chooser;
 use modes::{Levels, Mode, Way};
 use outcomes::{Met, OUTCOMES, OUTCOMES_OF_LEVEL_5, Outcomes};
 use session::Session;
-use std::alloc::{AllocError, Global};
+use std::alloc::Global;
 use std::process::Abort;
-use std::test::Fail;
 
 /// How many commands are answered on one memory.
 const COMMANDS: usize = 200;
@@ -51,15 +51,18 @@ const LEVEL_4: u64 = 0xf000;
 const LEVEL_5: Word = (ROOT, 0, 0xf003);
 
 /// Gives the entries at first. Those of five levels are those of four below one entry more.
-fn entries(alloc: Global, levels: Levels) -> Result<Vec<Word>, AllocError> {
+fn entries(rt: impl Abort + Copy, alloc: Global, levels: Levels) -> Vec<Word> {
     if matches!(levels, Levels::Four) {
-        return Vec::from_slice(alloc, &ENTRIES);
+        return unwrap(rt, Vec::from_slice(alloc, &ENTRIES));
     }
-    let mut words = vec![in alloc; LEVEL_5]?;
+    let mut words = unwrap(rt, vec![in alloc; LEVEL_5]);
     for (frame, index, word) in ENTRIES {
-        words.push((if frame == ROOT { LEVEL_4 } else { frame }, index, word))?;
+        unwrap(
+            rt,
+            words.push((if frame == ROOT { LEVEL_4 } else { frame }, index, word)),
+        );
     }
-    Ok(words)
+    words
 }
 
 /// How many frames are free at most.
@@ -73,12 +76,12 @@ fn check_commands(
     (words, free): (&[Word], usize),
     chooser: &mut Chooser,
     met: &mut Met,
-) -> Result<(), Fail> {
-    let mut session = Session::new(alloc, mode, words, free)?;
+) {
+    let mut session = Session::new(rt, alloc, mode, words, free);
     for _ in 0..COMMANDS {
-        session.answer(alloc, &chooser.choice(alloc)?, met)?;
+        session.answer(rt, alloc, &chooser.choice(rt, alloc), met);
     }
-    session.show(alloc)?;
+    session.show(rt, alloc);
     session.compare(rt, alloc)
 }
 
@@ -89,42 +92,41 @@ fn check_ways(
     ways: &[Way],
     levels: Levels,
     outcomes: &[Outcomes],
-) -> Result<(), Fail> {
+) {
     let mut chooser = Chooser::new(levels, 1);
     let mut met = Met::new(alloc);
-    let words = entries(alloc, levels)?;
+    let words = entries(rt, alloc, levels);
     for way in ways {
         for free in 0..=MOST_FREE {
             let mode = Mode::new(*way, levels);
-            check_commands(rt, alloc, mode, (&words, free), &mut chooser, &mut met)?;
+            check_commands(rt, alloc, mode, (&words, free), &mut chooser, &mut met);
         }
     }
     for (commands, kinds) in outcomes {
         met.assert_each(rt, commands, kinds);
     }
-    Ok(())
 }
 
 #[test]
-fn the_program_agrees_with_the_plain_one(rt: HostRuntime) -> Result<(), Fail> {
+fn the_program_agrees_with_the_plain_one(rt: HostRuntime) {
     check_ways(rt, rt.alloc(), &Way::ALL, Levels::Four, &OUTCOMES)
 }
 
 #[test]
-fn the_program_agrees_with_the_plain_one_in_five_levels(rt: HostRuntime) -> Result<(), Fail> {
+fn the_program_agrees_with_the_plain_one_in_five_levels(rt: HostRuntime) {
     let ways = [Way::Direct, Way::Recursive, Way::Pair];
     check_ways(rt, rt.alloc(), &ways, Levels::Five, &OUTCOMES_OF_LEVEL_5)
 }
 
 #[test]
-fn they_agree_on_images_that_nobody_vouches_for(rt: HostRuntime) -> Result<(), Fail> {
+fn they_agree_on_images_that_nobody_vouches_for(rt: HostRuntime) {
     let mut chooser = Chooser::new(Levels::Four, 1);
     let mut met = Met::new(rt.alloc());
     for image in &IMAGES {
         if image.replies.is_none() {
             continue;
         }
-        let words = image.words(rt.alloc())?;
+        let words = image.words(rt, rt.alloc());
         for way in Way::ALL {
             let mode = Mode::new(way, Levels::Four);
             check_commands(
@@ -134,8 +136,7 @@ fn they_agree_on_images_that_nobody_vouches_for(rt: HostRuntime) -> Result<(), F
                 (&words, MOST_FREE),
                 &mut chooser,
                 &mut met,
-            )?;
+            );
         }
     }
-    Ok(())
 }

@@ -1,10 +1,9 @@
 //! Images that nobody vouches for, and which of them are valid: by the tests of hierarchies, and by walks.
-use crate::assertions::assert_equal_in;
+use crate::assertions::{assert_equal_in, unwrap};
 use crate::images::{ROOT, WORD_COUNT, frame_at, set_word};
 use crate::rows::{SELF_ENTRY, Word};
 use std::alloc::{AllocError, Global};
 use std::process::Abort;
-use std::test::Fail;
 use x86_64::structures::paging::PageTableIndex;
 use x86_64::{IdentityMapping, PhysMemory, is_valid_hierarchy, is_valid_recursive};
 
@@ -24,14 +23,14 @@ pub struct Image {
 
 impl Image {
     /// Gives the words that aren't 0, each after those above it.
-    pub fn words(&self, alloc: Global) -> Result<Vec<Word>, AllocError> {
-        let mut words = Vec::from_slice(alloc, self.words)?;
+    pub fn words(&self, rt: impl Abort + Copy, alloc: Global) -> Vec<Word> {
+        let mut words = unwrap(rt, Vec::from_slice(alloc, self.words));
         if let Some(frame) = self.full {
             for index in 0..WORD_COUNT {
-                words.push((frame, index, u64::MAX))?;
+                unwrap(rt, words.push((frame, index, u64::MAX)));
             }
         }
-        Ok(words)
+        words
     }
 }
 
@@ -132,12 +131,12 @@ pub const IMAGES: [Image; 16] = [
 ];
 
 /// Makes a memory with words.
-fn memory_of(alloc: Global, words: &[Word]) -> Result<PhysMemory, Fail> {
-    let mut memory = PhysMemory::new(alloc, PLACES)?;
+fn memory_of(rt: impl Abort + Copy, alloc: Global, words: &[Word]) -> PhysMemory {
+    let mut memory = unwrap(rt, PhysMemory::new(alloc, PLACES));
     for (frame, index, word) in words {
-        set_word(&mut memory, *frame, *index, *word)?;
+        set_word(rt, &mut memory, *frame, *index, *word);
     }
-    Ok(memory)
+    memory
 }
 
 /// Asserts whether a hierarchy is valid, without a recursive index and with one.
@@ -148,31 +147,35 @@ fn assert_validity(
     index: Option<u16>,
     is_valid: bool,
     title: &str,
-) -> Result<(), Fail> {
+) {
     let root = frame_at(ROOT);
     let answer = match index {
         Some(index) => {
-            is_valid_recursive(alloc, memory, root, PageTableIndex::new_truncate(index))?
+            unwrap(
+                rt,
+                is_valid_recursive(alloc, memory, root, PageTableIndex::new_truncate(index)),
+            )
         }
-        None => is_valid_hierarchy(alloc, memory, &IdentityMapping, root)?,
+        None => unwrap(
+            rt,
+            is_valid_hierarchy(alloc, memory, &IdentityMapping, root),
+        ),
     };
     assert_equal_in(rt, (title, index), answer, is_valid);
-    Ok(())
 }
 
 #[test]
-fn hierarchies_are_valid_or_not(rt: HostRuntime) -> Result<(), Fail> {
+fn hierarchies_are_valid_or_not(rt: HostRuntime) {
     let alloc = rt.alloc();
     for image in &IMAGES {
-        let mut memory = memory_of(alloc, &image.words(alloc)?)?;
+        let mut memory = memory_of(rt, alloc, &image.words(rt, alloc));
         let is_valid = image.replies.is_some();
-        let title = format!(in alloc; "{:?}", image.words)?;
-        assert_validity(rt, alloc, &memory, None, is_valid, &title)?;
-        set_word(&mut memory, ROOT, 510, SELF_ENTRY)?;
-        assert_validity(rt, alloc, &memory, Some(510), is_valid, &title)?;
-        assert_validity(rt, alloc, &memory, None, false, &title)?;
+        let title = unwrap(rt, format!(in alloc; "{:?}", image.words));
+        assert_validity(rt, alloc, &memory, None, is_valid, &title);
+        set_word(rt, &mut memory, ROOT, 510, SELF_ENTRY);
+        assert_validity(rt, alloc, &memory, Some(510), is_valid, &title);
+        assert_validity(rt, alloc, &memory, None, false, &title);
     }
-    Ok(())
 }
 
 /// Words of the root, recursive indices, and whether the hierarchy is valid for them.
@@ -189,20 +192,19 @@ const INDICES: [(&[Word], u16, bool); 9] = [
 ];
 
 #[test]
-fn hierarchies_are_valid_for_one_index(rt: HostRuntime) -> Result<(), Fail> {
+fn hierarchies_are_valid_for_one_index(rt: HostRuntime) {
     let alloc = rt.alloc();
     for (words, index, is_valid) in INDICES {
-        let memory = memory_of(alloc, words)?;
-        let title = format!(in alloc; "{words:?}")?;
-        assert_validity(rt, alloc, &memory, Some(index), is_valid, &title)?;
+        let memory = memory_of(rt, alloc, words);
+        let title = unwrap(rt, format!(in alloc; "{words:?}"));
+        assert_validity(rt, alloc, &memory, Some(index), is_valid, &title);
     }
-    Ok(())
 }
 
 #[test]
-fn roots_past_the_memory_are_not_valid(rt: HostRuntime) -> Result<(), Fail> {
+fn roots_past_the_memory_are_not_valid(rt: HostRuntime) {
     let alloc = rt.alloc();
-    let memory = PhysMemory::new(alloc, 1)?;
-    assert_validity(rt, alloc, &memory, None, false, "one place")?;
+    let memory = unwrap(rt, PhysMemory::new(alloc, 1));
+    assert_validity(rt, alloc, &memory, None, false, "one place");
     assert_validity(rt, alloc, &memory, Some(510), false, "one place")
 }

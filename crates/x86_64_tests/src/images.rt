@@ -7,9 +7,10 @@ ghost use Rattle.x86_64_mappers.specs.Offsets.{offset_places, OffsetFits};
 ghost use Rattle.x86_64_mappers.specs.Recursive.{recursive_now, recursive_now_57};
 ghost use Rattle.x86_64.specs.Runs.{FitsPool};
 
+use crate::assertions::{unwrap, unwrap_some};
 use bitflags::Flags;
 use std::alloc::{AllocError, Global};
-use std::test::Fail;
+use std::process::Abort;
 use x86_64::structures::paging::mapper::PageTableFrameMapping;
 use x86_64::structures::paging::{
     MappedPageTable, MappedPageTable57, OffsetPageTable, Page, Page57, PageSize, PageTableFlags,
@@ -52,41 +53,34 @@ pub fn flags_of(bits: u64) -> PageTableFlags {
 }
 
 /// Sets the word at an index of the table in a frame.
-pub fn set_word(memory: &mut PhysMemory, frame: u64, index: u16, word: u64) -> Result<(), Fail> {
-    let table = memory
-        .table_mut(FramePlace::new(frame / 0x1000))
-        .ok_or("no table in the frame")?;
+pub fn set_word(rt: impl Abort + Copy, memory: &mut PhysMemory, frame: u64, index: u16, word: u64) {
+    let table = unwrap_some(rt, memory.table_mut(FramePlace::new(frame / 0x1000)));
     let entry = &mut table[PageTableIndex::new_truncate(index)];
     let frame = frame_at::<Size4KiB>(word);
     entry.set_addr(frame.start_address(), flags_of(word & FLAGS_MASK));
-    Ok(())
 }
 
 /// Makes all words of the table in a frame full of ones.
-pub fn fill(memory: &mut PhysMemory, frame: u64) -> Result<(), Fail> {
+pub fn fill(rt: impl Abort + Copy, memory: &mut PhysMemory, frame: u64) {
     for index in 0..WORD_COUNT {
-        set_word(memory, frame, index, u64::MAX)?;
+        set_word(rt, memory, frame, index, u64::MAX);
     }
-    Ok(())
 }
 
 /// Gives the word at an index of the table in a frame.
-pub fn word_at(memory: &PhysMemory, frame: u64, index: u16) -> Result<u64, Fail> {
-    let table = memory
-        .table(FramePlace::new(frame / 0x1000))
-        .ok_or("no table in the frame")?;
+pub fn word_at(rt: impl Abort + Copy, memory: &PhysMemory, frame: u64, index: u16) -> u64 {
+    let table = unwrap_some(rt, memory.table(FramePlace::new(frame / 0x1000)));
     let entry = &table[PageTableIndex::new_truncate(index)];
-    Ok(entry.addr().as_u64() | entry.flags().bits())
+    entry.addr().as_u64() | entry.flags().bits()
 }
 
 /// Makes a pool of free frames, with numbers below a limit.
-pub fn pool_of(alloc: Global, limit: u64, frames: &[u64]) -> Result<FramePool, Fail> {
-    let mut pool = FramePool::new(alloc, limit)?;
+pub fn pool_of(rt: impl Abort + Copy, alloc: Global, limit: u64, frames: &[u64]) -> FramePool {
+    let mut pool = unwrap(rt, FramePool::new(alloc, limit));
     for frame in frames {
-        pool.try_add(frame_at(*frame))
-            .or(Err("the pool refuses a frame"))?;
+        unwrap(rt, pool.try_add(frame_at(*frame)));
     }
-    Ok(pool)
+    pool
 }
 
 /// Answers calls by a mapper over a frame mapping. The mapper is dropped then, and the owner of the memory

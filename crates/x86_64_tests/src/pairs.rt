@@ -1,10 +1,12 @@
 //! Two hierarchies that are alike, of which the second one has a recursive index, and lists of calls by both mappers at once.
-ghost use Rattle.std.specs.Prelude.{◌≡◌, false, IfOk, IsTrue};
+ghost use Rattle.std.specs.Prelude.{◌≡◌, false, IsTrue};
 ghost use Rattle.std.specs.List.{AllByRecursion};
 ghost use Rattle.x86_64.specs.Calls.{names, names_57};
 ghost use Rattle.x86_64_tests.specs.Pairs.{IsPair};
 
+use crate::assertions::unwrap;
 use std::alloc::{AllocError, Global};
+use std::process::Abort;
 use x86_64::structures::paging::{
     MappedPageTable, MappedPageTable57, PageTableIndex, PhysFrame, RecursivePageTable,
     RecursivePageTable57, Size4KiB,
@@ -18,6 +20,7 @@ use x86_64::{
 /// Tells whether two hierarchies are valid, the second one for a recursive index, their pools fit them, the path maps are
 /// alike, and the free frames the same.
 pub fn is_pair(
+    rt: impl Abort + Copy,
     alloc: Global,
     root: PhysFrame<Size4KiB>,
     index: PageTableIndex,
@@ -25,13 +28,15 @@ pub fn is_pair(
     pool: &FramePool,
     walked: &PhysMemory,
     walked_pool: &FramePool,
-) -> Result<bool, AllocError>
-    ensures { IfOk result (λ is_pair.
-        IsTrue is_pair → IsPair 4 root index memory.now pool.now walked.now walked_pool.now) }
+) -> bool
+    ensures { IsTrue result → IsPair 4 root index memory.now pool.now walked.now walked_pool.now }
 {
     let identity = &IdentityMapping;
-    let fits = pool_fits(alloc, memory, identity, root, pool)?;
-    let walked_fits = pool_fits_recursive(alloc, walked, root, index, walked_pool)?;
+    let fits = unwrap(rt, pool_fits(alloc, memory, identity, root, pool));
+    let walked_fits = unwrap(
+        rt,
+        pool_fits_recursive(alloc, walked, root, index, walked_pool),
+    );
     let alike = tables_alike(
         memory,
         identity,
@@ -43,7 +48,7 @@ pub fn is_pair(
         Some(index),
     );
     let same_free = *pool == *walked_pool;
-    Ok(fits & walked_fits & alike & same_free)
+    fits & walked_fits & alike & same_free
 }
 
 /// Tells whether no call names an index of level four.
@@ -77,6 +82,7 @@ pub fn run_pair_on(
 
 /// Tells what [`is_pair`] tells, of two hierarchies of five levels.
 pub fn is_pair_57(
+    rt: impl Abort + Copy,
     alloc: Global,
     root: PhysFrame<Size4KiB>,
     index: PageTableIndex,
@@ -84,13 +90,15 @@ pub fn is_pair_57(
     pool: &FramePool,
     walked: &PhysMemory,
     walked_pool: &FramePool,
-) -> Result<bool, AllocError>
-    ensures { IfOk result (λ is_pair.
-        IsTrue is_pair → IsPair 5 root index memory.now pool.now walked.now walked_pool.now) }
+) -> bool
+    ensures { IsTrue result → IsPair 5 root index memory.now pool.now walked.now walked_pool.now }
 {
     let identity = &IdentityMapping;
-    let fits = pool_fits_57(alloc, memory, identity, root, pool)?;
-    let walked_fits = pool_fits_recursive_57(alloc, walked, root, index, walked_pool)?;
+    let fits = unwrap(rt, pool_fits_57(alloc, memory, identity, root, pool));
+    let walked_fits = unwrap(
+        rt,
+        pool_fits_recursive_57(alloc, walked, root, index, walked_pool),
+    );
     let alike = tables_alike_57(
         memory,
         identity,
@@ -102,7 +110,7 @@ pub fn is_pair_57(
         Some(index),
     );
     let same_free = *pool == *walked_pool;
-    Ok(fits & walked_fits & alike & same_free)
+    fits & walked_fits & alike & same_free
 }
 
 /// Tells whether no call names an index of level five.

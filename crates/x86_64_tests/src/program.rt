@@ -10,13 +10,12 @@ mod maps;
 mod reads;
 mod recursive;
 
-use crate::assertions::assert_equal_in;
+use crate::assertions::{assert_equal_in, unwrap};
 use crate::streams::{Sink, Source};
 use pagetab_engine::ending::Ending;
 use pagetab_engine::engine::run;
-use std::alloc::{AllocError, Global};
+use std::alloc::Global;
 use std::process::Abort;
-use std::test::Fail;
 
 /// Tells how a run ended, what it wrote, and how often it read and wrote.
 #[derive(Drop)]
@@ -30,34 +29,35 @@ struct Outcome {
 /// Runs the engine on arguments that a space parts, and on an image and lines after it. The read and the write
 /// of these numbers fail, where they aren't 0.
 fn run_failing(
+    rt: impl Abort + Copy,
     alloc: Global,
     arguments: &str,
     image: &str,
     lines: &[u8],
     failing_read: u64,
     failing_write: u64,
-) -> Result<Outcome, AllocError> {
-    let words = words_of(alloc, arguments)?;
-    let mut input = Vec::from_slice(alloc, image.as_bytes())?;
-    input.extend_from_slice(lines)?;
+) -> Outcome {
+    let words = words_of(rt, alloc, arguments);
+    let mut input = unwrap(rt, Vec::from_slice(alloc, image.as_bytes()));
+    unwrap(rt, input.extend_from_slice(lines));
     let mut source = Source::new(&input, failing_read);
     let mut sink = Sink::new(Vec::new(alloc), failing_write);
     let ending = run(alloc, &words, &mut source, &mut sink);
-    Ok(Outcome {
+    Outcome {
         ending,
         written: sink.bytes,
         reads: source.calls,
         writes: sink.calls,
-    })
+    }
 }
 
 /// Gives the words of a text.
-pub fn words_of(alloc: Global, text: &str) -> Result<Vec<String>, AllocError> {
+pub fn words_of(rt: impl Abort + Copy, alloc: Global, text: &str) -> Vec<String> {
     let mut words = Vec::new(alloc);
     for word in text.split_whitespace() {
-        words.push(String::from_str(alloc, word)?)?;
+        unwrap(rt, words.push(unwrap(rt, String::from_str(alloc, word))));
     }
-    Ok(words)
+    words
 }
 
 /// Asserts how a run ended and what it wrote.
@@ -98,12 +98,11 @@ fn assert_run(
     (image, lines): (&str, &[u8]),
     ending: Ending,
     written: &str,
-) -> Result<(), Fail> {
-    let outcome = run_failing(alloc, arguments, image, lines, 0, 0)?;
+) {
+    let outcome = run_failing(rt, alloc, arguments, image, lines, 0, 0);
     let text = str::from_utf8(lines);
-    let title = format!(in alloc; "{arguments}: {image}{text:?}")?;
+    let title = unwrap(rt, format!(in alloc; "{arguments}: {image}{text:?}"));
     assert_outcome(rt, &outcome, ending, written, &title);
-    Ok(())
 }
 
 /// Those but the recursive mapper's.
@@ -134,19 +133,14 @@ const INVALID: &str = "word 0x1000 0 0x2003\nword 0x1000 1 0x2003\n";
 const POOL: &str = "free 0x2000\nfree 0x3000\nfree 0x4000\n";
 
 /// Adds a line to a text.
-pub fn push_line(text: &mut String, line: &str) -> Result<(), AllocError> {
-    text.push_str(line)?;
-    text.push('\n')
+pub fn push_line(rt: impl Abort + Copy, text: &mut String, line: &str) {
+    unwrap(rt, text.push_str(line));
+    unwrap(rt, text.push('\n'))
 }
 
 /// Asserts the replies to commands on an image, each beside its command. They are the same however tables are
 /// found.
-fn assert_replies(
-    rt: impl Abort + Copy,
-    alloc: Global,
-    image: &str,
-    exchanges: &[(&str, &str)],
-) -> Result<(), Fail> {
+fn assert_replies(rt: impl Abort + Copy, alloc: Global, image: &str, exchanges: &[(&str, &str)]) {
     assert_replies_in(rt, alloc, &MODES, image, exchanges)
 }
 
@@ -157,31 +151,29 @@ fn assert_replies_in(
     modes: &[(&str, &str)],
     image: &str,
     exchanges: &[(&str, &str)],
-) -> Result<(), Fail> {
+) {
     let mut lines = String::new(alloc);
     let mut replies = String::new(alloc);
     for (line, reply) in exchanges {
-        push_line(&mut lines, line)?;
-        push_line(&mut replies, reply)?;
+        push_line(rt, &mut lines, line);
+        push_line(rt, &mut replies, reply);
     }
     for (arguments, first) in modes {
-        let whole = format!(in alloc; "{first}{image}")?;
+        let whole = unwrap(rt, format!(in alloc; "{first}{image}"));
         let input = (whole.as_str(), lines.as_bytes());
-        assert_run(rt, alloc, arguments, input, Ending::Done, &replies)?;
+        assert_run(rt, alloc, arguments, input, Ending::Done, &replies);
     }
-    Ok(())
 }
 
 /// Asserts the replies to the commands of each of some sessions.
-fn assert_sessions(rt: impl Abort + Copy, alloc: Global, sessions: &[Session]) -> Result<(), Fail> {
+fn assert_sessions(rt: impl Abort + Copy, alloc: Global, sessions: &[Session]) {
     for (modes, image, exchanges) in sessions {
-        assert_replies_in(rt, alloc, modes, image, exchanges)?;
+        assert_replies_in(rt, alloc, modes, image, exchanges);
     }
-    Ok(())
 }
 
 #[test]
-fn commands_are_answered(rt: HostRuntime) -> Result<(), Fail> {
+fn commands_are_answered(rt: HostRuntime) {
     let tables: [&[Session]; 12] = [
         &reads::IMAGES,
         &reads::LEVEL_3_WORDS,
@@ -197,7 +189,6 @@ fn commands_are_answered(rt: HostRuntime) -> Result<(), Fail> {
         &five_levels::SESSIONS,
     ];
     for sessions in tables {
-        assert_sessions(rt, rt.alloc(), sessions)?;
+        assert_sessions(rt, rt.alloc(), sessions);
     }
-    Ok(())
 }

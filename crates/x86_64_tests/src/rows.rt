@@ -1,5 +1,4 @@
 //! Calls on an empty root, as tables: the replies, and every word and free frame that they leave.
-ghost use Rattle.std.specs.Prelude.{OnOk};
 ghost use Rattle.x86_64_model.specs.Marks.{serves_below};
 ghost use Rattle.x86_64_mappers.specs.Layouts.{direct};
 ghost use Rattle.x86_64_mappers.specs.Recursive.{recursive_now};
@@ -20,7 +19,7 @@ mod supplies;
 mod tokens;
 mod walks;
 
-use crate::assertions::assert_equal_in;
+use crate::assertions::{assert_equal_in, unwrap, unwrap_some};
 use crate::images::{
     ROOT, WORD_COUNT, fill, frame_at, pool_of, run_at_offset, run_on, run_over, run_recursive_on,
     set_word, word_at,
@@ -29,9 +28,8 @@ use crate::replies::wanted_of;
 use crate::turns::PageTurn::MapTo;
 use crate::turns::Turn;
 use crate::turns::Turn::{Large, Small};
-use std::alloc::{AllocError, Global};
+use std::alloc::Global;
 use std::process::Abort;
-use std::test::Fail;
 use walks::{Walk, compare_walks};
 use x86_64::structures::paging::mapper::PageTableFrameMapping;
 use x86_64::structures::paging::{
@@ -208,10 +206,9 @@ pub fn compare_word(
     memory: &PhysMemory,
     (frame, index, wanted): Word,
     title: &str,
-) -> Result<(), Fail> {
-    let word = word_at(memory, frame, index)?;
+) {
+    let word = word_at(rt, memory, frame, index);
     assert_equal_in(rt, (title, index, frame), word, wanted);
-    Ok(())
 }
 
 /// Compares every word of a memory of so many places with what a row wants.
@@ -221,15 +218,14 @@ fn compare_words(
     places: u32,
     row: &Row<'_>,
     title: &str,
-) -> Result<(), Fail> {
+) {
     for place in 0..places {
         let frame = u64::from(place) * 0x1000;
         for index in 0..WORD_COUNT {
             let wanted = wanted_word(row, frame, index);
-            compare_word(rt, memory, (frame, index, wanted), title)?;
+            compare_word(rt, memory, (frame, index, wanted), title);
         }
     }
-    Ok(())
 }
 
 /// Compares every word of the memory and the free frames with what a row wants.
@@ -239,32 +235,36 @@ fn compare(
     pool: &FramePool,
     row: &Row<'_>,
     title: &str,
-) -> Result<(), Fail> {
-    compare_words(rt, memory, PLACES, row, title)?;
+) {
+    compare_words(rt, memory, PLACES, row, title);
     compare_pool(rt, pool, row.left, title);
-    Ok(())
 }
 
 /// Makes an empty root in a memory of so many places, and free frames that are full of ones.
-pub fn begin_in(alloc: Global, places: u64, free: &[u64]) -> Result<(PhysMemory, FramePool), Fail> {
-    let mut memory = PhysMemory::new(alloc, places)?;
+pub fn begin_in(
+    rt: impl Abort + Copy,
+    alloc: Global,
+    places: u64,
+    free: &[u64],
+) -> (PhysMemory, FramePool) {
+    let mut memory = unwrap(rt, PhysMemory::new(alloc, places));
     for frame in free {
-        fill(&mut memory, *frame)?;
+        fill(rt, &mut memory, *frame);
     }
-    let pool = pool_of(alloc, places, free)?;
-    Ok((memory, pool))
+    let pool = pool_of(rt, alloc, places, free);
+    (memory, pool)
 }
 
 /// Does so in a memory of as many places as rows have.
-fn begin(alloc: Global, free: &[u64]) -> Result<(PhysMemory, FramePool), Fail> {
-    begin_in(alloc, u64::from(PLACES), free)
+fn begin(rt: impl Abort + Copy, alloc: Global, free: &[u64]) -> (PhysMemory, FramePool) {
+    begin_in(rt, alloc, u64::from(PLACES), free)
 }
 
 /// Does so, and puts in the root's entry for itself where the mapper reaches tables through it.
-fn begin_by(alloc: Global, by: By, free: &[u64]) -> Result<(PhysMemory, FramePool), Fail> {
-    let (mut memory, pool) = begin(alloc, free)?;
-    put_self_entry(&mut memory, by)?;
-    Ok((memory, pool))
+fn begin_by(rt: impl Abort + Copy, alloc: Global, by: By, free: &[u64]) -> (PhysMemory, FramePool) {
+    let (mut memory, pool) = begin(rt, alloc, free);
+    put_self_entry(rt, &mut memory, by);
+    (memory, pool)
 }
 
 /// Asserts that a hierarchy is valid and a pool fits it.
@@ -275,12 +275,11 @@ pub fn assert_fits<P: PageTableFrameMapping>(
     mapping: &P,
     root: PhysFrame<Size4KiB>,
     pool: &FramePool,
-) -> Result<(), AllocError>
+)
     ensures { let layout = direct (P.places mapping.now) root in
-        OnOk result (FitsPool layout memory.now (serves_below pool.now.limit) pool.now.frames) }
+        FitsPool layout memory.now (serves_below pool.now.limit) pool.now.frames }
 {
-    assert!(rt; pool_fits(alloc, memory, mapping, root, pool)?);
-    Ok(())
+    assert!(rt; unwrap(rt, pool_fits(alloc, memory, mapping, root, pool)));
 }
 
 /// Asserts that a hierarchy is valid for a recursive index and a pool fits it.
@@ -291,47 +290,40 @@ pub fn assert_fits_recursive(
     root: PhysFrame<Size4KiB>,
     index: PageTableIndex,
     pool: &FramePool,
-) -> Result<(), AllocError>
+)
     ensures { let layout = recursive_now memory.now root index in
-        OnOk result (FitsPool layout memory.now (serves_below pool.now.limit) pool.now.frames) }
+        FitsPool layout memory.now (serves_below pool.now.limit) pool.now.frames }
 {
-    assert!(rt; pool_fits_recursive(alloc, memory, root, index, pool)?);
-    Ok(())
+    assert!(rt; unwrap(rt, pool_fits_recursive(alloc, memory, root, index, pool)));
 }
 
 /// Puts the root's entry for itself into a root, where the mapper reaches tables through it.
-pub fn put_self_entry(memory: &mut PhysMemory, by: By) -> Result<(), Fail> {
+pub fn put_self_entry(rt: impl Abort + Copy, memory: &mut PhysMemory, by: By) {
     match by {
-        By::Identity | By::Reference | By::Offset => Ok(()),
-        By::Recursive(index) => set_word(memory, ROOT, index, SELF_ENTRY),
+        By::Identity | By::Reference | By::Offset => (),
+        By::Recursive(index) => set_word(rt, memory, ROOT, index, SELF_ENTRY),
     }
 }
 
 /// Adds the calls of a row to a list, and the replies that it wants to another one.
 fn add_exchanges(
+    rt: impl Abort + Copy,
     row: &Row<'_>,
     calls: &mut Vec<Call>,
     replies: &mut Vec<Reply>,
-) -> Result<(), Fail> {
+) {
     for (turn, reply) in row.calls {
-        let wanted = wanted_of(*turn, *reply).ok_or("a reply that fits no such call")?;
-        calls.push(wanted.call)?;
-        replies.push(wanted.reply)?;
+        let wanted = unwrap_some(rt, wanted_of(*turn, *reply));
+        unwrap(rt, calls.push(wanted.call));
+        unwrap(rt, replies.push(wanted.reply));
     }
-    Ok(())
 }
 
 /// Answers the calls of rows by each of these mappers, and compares what comes of them.
-fn check_by(
-    rt: impl Abort + Copy,
-    alloc: Global,
-    rows: &[Row<'_>],
-    mappers: &[By],
-) -> Result<(), Fail> {
+fn check_by(rt: impl Abort + Copy, alloc: Global, rows: &[Row<'_>], mappers: &[By]) {
     for (number, row) in rows.iter().enumerate() {
-        check_row(rt, alloc, number, row, &[], mappers)?;
+        check_row(rt, alloc, number, row, &[], mappers);
     }
-    Ok(())
 }
 
 /// Answers the calls of a row by each of these mappers, and compares what comes of them and where walks arrive.
@@ -342,33 +334,35 @@ fn check_row(
     row: &Row<'_>,
     walks: &[Walk],
     mappers: &[By],
-) -> Result<(), Fail> {
+) {
     for by in mappers {
-        let title = format!(in alloc; "row {number}, by {}", by.name())?;
-        let (mut memory, pool) = answer_row(rt, alloc, row, *by, &title)?;
+        let title = unwrap(rt, format!(in alloc; "row {number}, by {}", by.name()));
+        let (mut memory, pool) = answer_row(rt, alloc, row, *by, &title);
         compare_walks(rt, &memory, walks, &title);
-        check_fits(rt, alloc, *by, (&mut memory, &pool), &title)?;
+        check_fits(rt, alloc, *by, (&mut memory, &pool), &title);
     }
-    Ok(())
 }
 
 /// Gives the words that aren't 0 after a row's calls by a mapper. In a hierarchy with a recursive index the root
 /// has its entry for itself too, and the entries of new tables have `WRITABLE` whatever the parent flags are. No
 /// row that is compared so takes it from them.
-fn words_by(alloc: Global, row: &Row<'_>, by: By) -> Result<Vec<Word>, AllocError> {
+fn words_by(rt: impl Abort + Copy, alloc: Global, row: &Row<'_>, by: By) -> Vec<Word> {
     let By::Recursive(self_index) = by else {
-        return Vec::from_slice(alloc, row.words);
+        return unwrap(rt, Vec::from_slice(alloc, row.words));
     };
-    let mut words = vec![in alloc; (ROOT, self_index, SELF_ENTRY)]?;
+    let mut words = unwrap(rt, vec![in alloc; (ROOT, self_index, SELF_ENTRY)]);
     for (frame, index, word) in row.words {
         let names_a_table = row.free.contains(&address(*word));
-        words.push((
-            *frame,
-            *index,
-            if names_a_table { *word | 0x2 } else { *word },
-        ))?;
+        unwrap(
+            rt,
+            words.push((
+                *frame,
+                *index,
+                if names_a_table { *word | 0x2 } else { *word },
+            )),
+        );
     }
-    Ok(words)
+    words
 }
 
 /// Compares every word of the memory and the free frames with what a row wants by a mapper.
@@ -379,8 +373,8 @@ fn compare_by(
     (memory, pool): (&PhysMemory, &FramePool),
     row: &Row<'_>,
     title: &str,
-) -> Result<(), Fail> {
-    let words = words_by(alloc, row, by)?;
+) {
+    let words = words_by(rt, alloc, row, by);
     let left = Row {
         words: &words,
         ..*row
@@ -396,30 +390,38 @@ pub fn answer(
     (memory, pool): (&mut PhysMemory, &mut FramePool),
     calls: &[Call],
     replies: &mut Vec<Reply>,
-) -> Result<(), Fail> {
+) {
     let root = frame_at(ROOT);
     match by {
         By::Identity => {
-            assert_fits(rt, alloc, memory, &IdentityMapping, root, pool)?;
-            run_on(memory, root, pool, calls, replies)?;
+            assert_fits(rt, alloc, memory, &IdentityMapping, root, pool);
+            unwrap(rt, run_on(memory, root, pool, calls, replies));
         }
         By::Reference => {
-            assert_fits(rt, alloc, memory, &IdentityMapping, root, pool)?;
-            run_over(memory, root, &IdentityMapping, pool, calls, replies)?;
+            assert_fits(rt, alloc, memory, &IdentityMapping, root, pool);
+            unwrap(
+                rt,
+                run_over(memory, root, &IdentityMapping, pool, calls, replies),
+            );
         }
         By::Offset => {
             let offset = VirtAddr::new_truncate(OFFSET);
-            assert_fits(rt, alloc, memory, &IdentityMapping, root, pool)?;
+            assert_fits(rt, alloc, memory, &IdentityMapping, root, pool);
             assert!(rt; OffsetPageTable::offset_fits(memory, offset));
-            run_at_offset(memory, root, offset, pool, calls, replies)?;
+            unwrap(
+                rt,
+                run_at_offset(memory, root, offset, pool, calls, replies),
+            );
         }
         By::Recursive(index) => {
             let index = PageTableIndex::new_truncate(index);
-            assert_fits_recursive(rt, alloc, memory, root, index, pool)?;
-            run_recursive_on(memory, root, index, pool, calls, replies)?;
+            assert_fits_recursive(rt, alloc, memory, root, index, pool);
+            unwrap(
+                rt,
+                run_recursive_on(memory, root, index, pool, calls, replies),
+            );
         }
     }
-    Ok(())
 }
 
 /// Answers a row's calls by the mapper of a root over a frame mapping, where the image and the pool fit, and
@@ -431,16 +433,18 @@ fn answer_over<P: PageTableFrameMapping + Drop>(
     (root, mapping): (u64, P),
     (memory, pool): (&mut PhysMemory, &mut FramePool),
     title: &str,
-) -> Result<(), Fail> {
+) {
     let mut calls = Vec::new(alloc);
     let mut wanted = Vec::new(alloc);
-    add_exchanges(row, &mut calls, &mut wanted)?;
+    add_exchanges(rt, row, &mut calls, &mut wanted);
     let mut replies = Vec::new(alloc);
     let root = frame_at(root);
-    assert_fits(rt, alloc, memory, &mapping, root, pool)?;
-    run_over(memory, root, mapping, pool, &calls, &mut replies)?;
+    assert_fits(rt, alloc, memory, &mapping, root, pool);
+    unwrap(
+        rt,
+        run_over(memory, root, mapping, pool, &calls, &mut replies),
+    );
     assert_equal_in(rt, title, replies, wanted);
-    Ok(())
 }
 
 /// Answers a row's calls by `run`, the first in a list of its own, after an earlier reply, and compares the
@@ -452,11 +456,11 @@ fn answer_exchanges(
     by: By,
     (memory, pool): (&mut PhysMemory, &mut FramePool),
     title: &str,
-) -> Result<(), Fail> {
+) {
     let mut calls = Vec::new(alloc);
-    let mut wanted = vec![in alloc; Reply::Address(None)]?;
-    add_exchanges(row, &mut calls, &mut wanted)?;
-    let mut replies = vec![in alloc; Reply::Address(None)]?;
+    let mut wanted = unwrap(rt, vec![in alloc; Reply::Address(None)]);
+    add_exchanges(rt, row, &mut calls, &mut wanted);
+    let mut replies = unwrap(rt, vec![in alloc; Reply::Address(None)]);
     let (first, others) = calls.split_at(calls.len().min(1));
     for list in [first, others] {
         answer(
@@ -466,10 +470,9 @@ fn answer_exchanges(
             (&mut *memory, &mut *pool),
             list,
             &mut replies,
-        )?;
+        );
     }
     assert_equal_in(rt, title, replies, wanted);
-    Ok(())
 }
 
 /// Answers a row's calls, compares what comes of them, and gives the memory and the pool.
@@ -479,11 +482,11 @@ fn answer_row(
     row: &Row<'_>,
     by: By,
     title: &str,
-) -> Result<(PhysMemory, FramePool), Fail> {
-    let (mut memory, mut pool) = begin_by(alloc, by, row.free)?;
-    answer_exchanges(rt, alloc, row, by, (&mut memory, &mut pool), title)?;
-    compare_by(rt, alloc, by, (&memory, &pool), row, title)?;
-    Ok((memory, pool))
+) -> (PhysMemory, FramePool) {
+    let (mut memory, mut pool) = begin_by(rt, alloc, by, row.free);
+    answer_exchanges(rt, alloc, row, by, (&mut memory, &mut pool), title);
+    compare_by(rt, alloc, by, (&memory, &pool), row, title);
+    (memory, pool)
 }
 
 /// Tests that the hierarchy is valid and the pool fits it again.
@@ -493,43 +496,36 @@ fn check_fits(
     by: By,
     (memory, pool): (&mut PhysMemory, &FramePool),
     title: &str,
-) -> Result<(), Fail> {
+) {
     let root = frame_at(ROOT);
     if let By::Recursive(index) = by {
         let index = PageTableIndex::new_truncate(index);
         assert!(rt;
-            pool_fits_recursive(alloc, memory, root, index, pool)?,
+            unwrap(rt, pool_fits_recursive(alloc, memory, root, index, pool)),
             "{title}"
         );
-        return Ok(());
+        return;
     }
     assert!(rt;
-        pool_fits(alloc, memory, &IdentityMapping, root, pool)?,
+        unwrap(rt, pool_fits(alloc, memory, &IdentityMapping, root, pool)),
         "{title}"
     );
     let mapper = MappedPageTable::new(memory, root, IdentityMapping);
-    assert!(rt; mapper.is_valid(alloc)?, "{title}");
-    Ok(())
+    assert!(rt; unwrap(rt, mapper.is_valid(alloc)), "{title}");
 }
 
 /// Answers the calls of all rows of tables by each of these mappers.
-fn check_tables(
-    rt: impl Abort + Copy,
-    alloc: Global,
-    tables: &[&[Row<'_>]],
-    mappers: &[By],
-) -> Result<(), Fail> {
+fn check_tables(rt: impl Abort + Copy, alloc: Global, tables: &[&[Row<'_>]], mappers: &[By]) {
     for rows in tables {
-        check_by(rt, alloc, rows, mappers)?;
+        check_by(rt, alloc, rows, mappers);
     }
-    Ok(())
 }
 
 #[test]
-fn calls_leave_what_their_rows_say(rt: HostRuntime) -> Result<(), Fail> {
-    check_tables(rt, rt.alloc(), &maps::TABLES, &EACH)?;
-    check_tables(rt, rt.alloc(), &flags::TABLES, &EACH)?;
-    check_tables(rt, rt.alloc(), &clean_ups::TABLES, &EACH)?;
-    check_tables(rt, rt.alloc(), &supplies::TABLES, &EACH)?;
+fn calls_leave_what_their_rows_say(rt: HostRuntime) {
+    check_tables(rt, rt.alloc(), &maps::TABLES, &EACH);
+    check_tables(rt, rt.alloc(), &flags::TABLES, &EACH);
+    check_tables(rt, rt.alloc(), &clean_ups::TABLES, &EACH);
+    check_tables(rt, rt.alloc(), &supplies::TABLES, &EACH);
     check_tables(rt, rt.alloc(), &recursive::TABLES, &[RECURSIVE])
 }

@@ -2,7 +2,9 @@
 ghost use Rattle.std.specs.Prelude.{◌≤◌, length};
 
 use super::modes::Levels;
+use crate::assertions::unwrap;
 use std::alloc::{AllocError, Global};
+use std::process::Abort;
 use x86_64_plain::PlainCall;
 use x86_64_plain::positions::page_path;
 
@@ -119,20 +121,21 @@ pub struct Choice {
 
 /// Makes a choice of a command, the numbers on its line, and the call for the plain program.
 fn choice_of(
+    rt: impl Abort + Copy,
     alloc: Global,
     command: String,
     numbers: &[u64],
     plain: PlainCall,
-) -> Result<Choice, AllocError> {
-    let mut line = String::from_str(alloc, &command)?;
+) -> Choice {
+    let mut line = unwrap(rt, String::from_str(alloc, &command));
     for number in numbers {
-        line = format!(in alloc; "{line} {number:#x}")?;
+        line = unwrap(rt, format!(in alloc; "{line} {number:#x}"));
     }
-    Ok(Choice {
+    Choice {
         command,
         line,
         plain,
-    })
+    }
 }
 
 /// Says what a call on a page is about.
@@ -192,14 +195,15 @@ impl Chooser {
     }
 
     /// Chooses a call.
-    pub fn choice(&mut self, alloc: Global) -> Result<Choice, AllocError> {
+    pub fn choice(&mut self, rt: impl Abort + Copy, alloc: Global) -> Choice {
         let position = self.position();
         let address = self.levels.address_at(position);
         match self.action() {
-            Action::OnPage(action) => self.page_choice(alloc, action, position),
+            Action::OnPage(action) => self.page_choice(rt, alloc, action, position),
             Action::Translate => {
-                let command = String::from_str(alloc, "translate")?;
+                let command = unwrap(rt, String::from_str(alloc, "translate"));
                 choice_of(
+                    rt,
                     alloc,
                     command,
                     &[address],
@@ -207,8 +211,9 @@ impl Chooser {
                 )
             }
             Action::Addr => {
-                let command = String::from_str(alloc, "addr")?;
+                let command = unwrap(rt, String::from_str(alloc, "addr"));
                 choice_of(
+                    rt,
                     alloc,
                     command,
                     &[address],
@@ -216,21 +221,22 @@ impl Chooser {
                 )
             }
             Action::CleanUp => {
-                let command = String::from_str(alloc, "cleanup")?;
+                let command = unwrap(rt, String::from_str(alloc, "cleanup"));
                 let high = self.levels.last_position();
-                choice_of(alloc, command, &[], PlainCall::CleanUp { low: 0, high })
+                choice_of(rt, alloc, command, &[], PlainCall::CleanUp { low: 0, high })
             }
-            Action::CleanUpRange => self.clean_up_from(alloc, position),
+            Action::CleanUpRange => self.clean_up_from(rt, alloc, position),
         }
     }
 
     /// Chooses the last page of a clean up, which may lie below the first one.
-    fn clean_up_from(&mut self, alloc: Global, first: u64) -> Result<Choice, AllocError> {
+    fn clean_up_from(&mut self, rt: impl Abort + Copy, alloc: Global, first: u64) -> Choice {
         let last = self.position();
-        let command = String::from_str(alloc, "cleanup-range")?;
+        let command = unwrap(rt, String::from_str(alloc, "cleanup-range"));
         let ends = [self.levels.address_at(first), self.levels.address_at(last)];
         let high = last | 0xfff;
         choice_of(
+            rt,
             alloc,
             command,
             &ends,
@@ -241,10 +247,11 @@ impl Chooser {
     /// Chooses the size of a call on a page, and what else it needs.
     fn page_choice(
         &mut self,
+        rt: impl Abort + Copy,
         alloc: Global,
         action: PageAction,
         position: u64,
-    ) -> Result<Choice, AllocError> {
+    ) -> Choice {
         let (level, name, bytes) = self.choose(&SIZES);
         let subject = Subject {
             page: self.levels.address_at(position) & bytes.wrapping_neg(),
@@ -253,11 +260,12 @@ impl Chooser {
             parent_flags: self.choose(&FLAGS),
         };
         let count = self.levels.count();
-        let mut path = page_path(alloc, count, position)?;
+        let mut path = unwrap(rt, page_path(alloc, count, position));
         path.truncate((count + 1).saturating_sub(level));
-        let command = format!(in alloc; "{} {name}", name_of(action))?;
-        let numbers = numbers_of(alloc, action, subject)?;
+        let command = unwrap(rt, format!(in alloc; "{} {name}", name_of(action)));
+        let numbers = unwrap(rt, numbers_of(alloc, action, subject));
         choice_of(
+            rt,
             alloc,
             command,
             &numbers,

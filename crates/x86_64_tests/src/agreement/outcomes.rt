@@ -1,4 +1,5 @@
 //! Replies of the plain program as the program writes them, and which ones a command can have.
+use crate::assertions::unwrap;
 use std::alloc::{AllocError, Global};
 use std::process::Abort;
 use x86_64_plain::{Answer, PlainCall, PlainReply, Refusal, Translated};
@@ -186,13 +187,12 @@ impl Met {
     }
 
     /// Adds a command's reply of a kind.
-    pub fn add(&mut self, command: &str, kind: &str) -> Result<(), AllocError> {
+    pub fn add(&mut self, rt: impl Abort + Copy, command: &str, kind: &str) {
         if self.has(command, kind) {
-            return Ok(());
+            return;
         }
-        let outcome = format!(in self.alloc; "{command}{kind}")?;
-        self.outcomes.push(outcome)?;
-        Ok(())
+        let outcome = unwrap(rt, format!(in self.alloc; "{command}{kind}"));
+        unwrap(rt, self.outcomes.push(outcome));
     }
 
     /// Asserts that each of some commands had a reply of each of some kinds.

@@ -2,7 +2,7 @@
 use super::chooser::Choice;
 use super::modes::{Levels, Mode, RECURSIVE_INDEX, Way};
 use super::outcomes::{Met, TABLES_GO_BACK, kind_of, text_of};
-use crate::assertions::assert_equal_in;
+use crate::assertions::{assert_equal_in, unwrap};
 use crate::images::ROOT;
 use crate::program::{push_line, words_of};
 use crate::rows::{SELF_ENTRY, Word};
@@ -43,13 +43,14 @@ impl Session {
     /// Makes one of the entries at first, as words, each after those above it, and at most so many free frames, which
     /// are full of ones, as the stranger is.
     pub fn new(
+        rt: impl Abort + Copy,
         alloc: Global,
         mode: Mode,
         words: &[Word],
         count: usize,
-    ) -> Result<Session, AllocError> {
-        let pool = free_frames(alloc, words, count)?;
-        let paths = paths_of(alloc, mode.levels, words)?;
+    ) -> Session {
+        let pool = free_frames(rt, alloc, words, count);
+        let paths = paths_of(rt, alloc, mode.levels, words);
         let untouched = pool.len();
         let state = PlainState { paths, pool };
         let mut session = Session {
@@ -59,32 +60,31 @@ impl Session {
             input: String::new(alloc),
             replies: String::new(alloc),
         };
-        session.load(alloc)?;
-        Ok(session)
+        session.load(rt, alloc);
+        session
     }
 
     /// Adds the lines of the image.
-    fn load(&mut self, alloc: Global) -> Result<(), AllocError> {
+    fn load(&mut self, rt: impl Abort + Copy, alloc: Global) {
         let way = self.mode.way;
-        let words = self.words(alloc, matches!(way, Way::Pair))?;
+        let words = self.words(rt, alloc, matches!(way, Way::Pair));
         for (n, word) in words.iter().enumerate() {
             if *word != 0 {
                 let (frame, index) = slot_of(n);
-                let line = format!(in alloc; "word {frame:#x} {index} {word:#x}")?;
-                push_line(&mut self.input, &line)?;
+                let line = unwrap(rt, format!(in alloc; "word {frame:#x} {index} {word:#x}"));
+                push_line(rt, &mut self.input, &line);
             }
         }
         for frame in &self.state.pool {
-            let line = format!(in alloc; "free {frame:#x}")?;
-            push_line(&mut self.input, &line)?;
+            let line = unwrap(rt, format!(in alloc; "free {frame:#x}"));
+            push_line(rt, &mut self.input, &line);
         }
-        Ok(())
     }
 
     /// Gives the words of all frames. Where there are two memories they are those of the first one, whose root has no entry for
     /// itself, unless they are those of the image.
-    pub fn words(&self, alloc: Global, is_image: bool) -> Result<Vec<u64>, AllocError> {
-        let mut words = vec![in alloc; 0; (PLACES * WORD_COUNT) as usize]?;
+    pub fn words(&self, rt: impl Abort + Copy, alloc: Global, is_image: bool) -> Vec<u64> {
+        let mut words = unwrap(rt, vec![in alloc; 0; (PLACES * WORD_COUNT) as usize]);
         let pool = self.state.pool.as_slice();
         let (_, untouched) = pool.split_at(pool.len().saturating_sub(self.untouched));
         for frame in untouched {
@@ -106,7 +106,7 @@ impl Session {
         if is_image || matches!(way, Way::Recursive) {
             set(&mut words, ROOT, RECURSIVE_INDEX, SELF_ENTRY);
         }
-        Ok(words)
+        words
     }
 
     /// Gives the addresses of the free frames.
@@ -115,62 +115,58 @@ impl Session {
     }
 
     /// Adds a line, and the reply to it.
-    fn ask(&mut self, line: &str, reply: &str) -> Result<(), AllocError> {
-        push_line(&mut self.input, line)?;
-        push_line(&mut self.replies, reply)
+    fn ask(&mut self, rt: impl Abort + Copy, line: &str, reply: &str) {
+        push_line(rt, &mut self.input, line);
+        push_line(rt, &mut self.replies, reply)
     }
 
     /// Asks for every word, and for the free frames.
-    pub fn show(&mut self, alloc: Global) -> Result<(), AllocError> {
-        let words = self.words(alloc, false)?;
+    pub fn show(&mut self, rt: impl Abort + Copy, alloc: Global) {
+        let words = self.words(rt, alloc, false);
         for (n, word) in words.iter().enumerate() {
             let (frame, index) = slot_of(n);
-            let line = format!(in alloc; "show {frame:#x} {index}")?;
-            let reply = format!(in alloc; "{word:#x}")?;
-            self.ask(&line, &reply)?;
+            let line = unwrap(rt, format!(in alloc; "show {frame:#x} {index}"));
+            let reply = unwrap(rt, format!(in alloc; "{word:#x}"));
+            self.ask(rt, &line, &reply);
         }
-        let mut reply = String::from_str(alloc, "pool")?;
+        let mut reply = unwrap(rt, String::from_str(alloc, "pool"));
         for frame in &self.state.pool {
-            reply = format!(in alloc; "{reply} {frame:#x}")?;
+            reply = unwrap(rt, format!(in alloc; "{reply} {frame:#x}"));
         }
-        self.ask("pool", &reply)
+        self.ask(rt, "pool", &reply)
     }
 
     /// Answers a call plainly.
-    pub fn step(&mut self, call: &PlainCall) -> Result<PlainReply, AllocError> {
+    pub fn step(&mut self, rt: impl Abort + Copy, call: &PlainCall) -> PlainReply {
         let index = named_index(self.mode.levels, call);
         let way = self.mode.way;
         if matches!(way, Way::Pair) && index == Some(RECURSIVE_INDEX) {
-            return Ok(PlainReply::NotAllowed);
+            return PlainReply::NotAllowed;
         }
-        let reply = self.mode.machine().step(&mut self.state, call)?;
+        let reply = unwrap(rt, self.mode.machine().step(&mut self.state, call));
         self.untouched = self.untouched.min(self.state.pool.len());
-        Ok(reply)
+        reply
     }
 
     /// Answers a call plainly, and adds its line and the reply. Keeps what comes of it.
-    pub fn answer(
-        &mut self,
-        alloc: Global,
-        choice: &Choice,
-        met: &mut Met,
-    ) -> Result<(), AllocError> {
+    pub fn answer(&mut self, rt: impl Abort + Copy, alloc: Global, choice: &Choice, met: &mut Met) {
         let free = self.state.pool.len();
-        let reply = self.step(&choice.plain)?;
+        let reply = self.step(rt, &choice.plain);
         let kind = kind_of(&choice.plain, reply);
         let goes_back = free < self.state.pool.len();
         met.add(
+            rt,
             &choice.command,
             if goes_back { TABLES_GO_BACK } else { kind },
-        )?;
-        let text = text_of(alloc, kind, reply)?;
-        self.ask(&choice.line, &text)
+        );
+        let text = unwrap(rt, text_of(alloc, kind, reply));
+        self.ask(rt, &choice.line, &text)
     }
 
     /// Runs the program on all lines, and compares what it writes.
-    pub fn compare(&self, rt: impl Abort + Copy, alloc: Global) -> Result<(), Fail> {
+    pub fn compare(&self, rt: impl Abort + Copy, alloc: Global) {
         let arguments = self.mode.arguments();
-        let words = words_of(alloc, arguments)?;
+        let words = words_of(rt, alloc, arguments);
         let mut source = self.input.as_bytes();
         let mut sink = Comparison::new(self.replies.as_bytes());
         let ending = run(alloc, &words, &mut source, &mut sink);
@@ -180,7 +176,6 @@ impl Session {
             sink.agrees && sink.rest.is_empty(),
             "{arguments}: before {left:?}"
         );
-        Ok(())
     }
 }
 
@@ -225,28 +220,33 @@ fn named_index(levels: Levels, call: &PlainCall) -> Option<u64> {
 }
 
 /// Gives the path map of words of so many levels, each after those above it.
-fn paths_of(alloc: Global, levels: Levels, words: &[Word]) -> Result<PathEntries, AllocError> {
+fn paths_of(rt: impl Abort + Copy, alloc: Global, levels: Levels, words: &[Word]) -> PathEntries {
     let mut paths = PathEntries::new(alloc);
-    let mut tables = vec![in alloc; (ROOT, Vec::new(alloc))]?;
+    let mut tables = unwrap(rt, vec![in alloc; (ROOT, Vec::new(alloc))]);
     for (frame, index, word) in words {
-        let mut path = path_to(alloc, &tables, *frame)?;
-        path.push(u64::from(*index))?;
-        paths.put(&path, *word)?;
+        let mut path = path_to(rt, alloc, &tables, *frame);
+        unwrap(rt, path.push(u64::from(*index)));
+        unwrap(rt, paths.put(&path, *word));
         if path.len() < levels.count() && !is_huge(*word) {
-            tables.push((address(*word), path))?;
+            unwrap(rt, tables.push((address(*word), path)));
         }
     }
-    Ok(paths)
+    paths
 }
 
 /// Gives the path of the table in a frame, of those whose paths are known.
-fn path_to(alloc: Global, tables: &[(u64, Vec<u64>)], frame: u64) -> Result<Vec<u64>, AllocError> {
+fn path_to(
+    rt: impl Abort + Copy,
+    alloc: Global,
+    tables: &[(u64, Vec<u64>)],
+    frame: u64,
+) -> Vec<u64> {
     for (at, path) in tables {
         if *at == frame {
-            return Vec::from_slice(alloc, path);
+            return unwrap(rt, Vec::from_slice(alloc, path));
         }
     }
-    Ok(Vec::new(alloc))
+    Vec::new(alloc)
 }
 
 /// Tells whether some of these words stand in a frame.
@@ -260,12 +260,12 @@ fn is_table(words: &[Word], frame: u64) -> bool {
 }
 
 /// Gives at most so many free frames, none of which is a table of these words.
-fn free_frames(alloc: Global, words: &[Word], count: usize) -> Result<Vec<u64>, AllocError> {
+fn free_frames(rt: impl Abort + Copy, alloc: Global, words: &[Word], count: usize) -> Vec<u64> {
     let mut free = Vec::new(alloc);
     for frame in FREE {
         if free.len() < count && !is_table(words, frame) {
-            free.push(frame)?;
+            unwrap(rt, free.push(frame));
         }
     }
-    Ok(free)
+    free
 }

@@ -1,9 +1,9 @@
 //! Lines that can't be read.
 use super::{FIRST, INVALID, assert_run};
+use crate::assertions::unwrap;
 use pagetab_engine::ending::{Ending, Fault};
 use std::alloc::Global;
 use std::process::Abort;
-use std::test::Fail;
 
 /// Numbers, spaces and names that are none.
 const FORMS: [&str; 18] = [
@@ -154,24 +154,23 @@ const CLEAN_UPS: [&str; 15] = [
 ];
 
 /// Asserts that each line is bad as the first one, whether a line feed ends it or not, and that nothing is written.
-fn assert_bad(rt: impl Abort + Copy, alloc: Global, lines: &[&str]) -> Result<(), Fail> {
+fn assert_bad(rt: impl Abort + Copy, alloc: Global, lines: &[&str]) {
     for line in lines {
         for end in ["", "\n"] {
-            let whole = format!(in alloc; "{line}{end}")?;
+            let whole = unwrap(rt, format!(in alloc; "{line}{end}"));
             let bad = Ending::Stopped(Fault::BadLine(1));
-            assert_run(rt, alloc, "direct 8", ("", whole.as_bytes()), bad, "")?;
+            assert_run(rt, alloc, "direct 8", ("", whole.as_bytes()), bad, "");
         }
     }
-    Ok(())
 }
 
 #[test]
-fn bad_lines_end_the_run(rt: HostRuntime) -> Result<(), Fail> {
-    assert_bad(rt, rt.alloc(), &FORMS)?;
-    assert_bad(rt, rt.alloc(), &IMAGES)?;
-    assert_bad(rt, rt.alloc(), &READS)?;
-    assert_bad(rt, rt.alloc(), &MAPS)?;
-    assert_bad(rt, rt.alloc(), &CHANGES)?;
+fn bad_lines_end_the_run(rt: HostRuntime) {
+    assert_bad(rt, rt.alloc(), &FORMS);
+    assert_bad(rt, rt.alloc(), &IMAGES);
+    assert_bad(rt, rt.alloc(), &READS);
+    assert_bad(rt, rt.alloc(), &MAPS);
+    assert_bad(rt, rt.alloc(), &CHANGES);
     assert_bad(rt, rt.alloc(), &CLEAN_UPS)
 }
 
@@ -202,10 +201,9 @@ const COUNTED: [(&str, &[u8], u64, &str); 13] = [
 ];
 
 #[test]
-fn bad_lines_are_counted(rt: HostRuntime) -> Result<(), Fail> {
+fn bad_lines_are_counted(rt: HostRuntime) {
     for (image, lines, number, replies) in COUNTED {
         let bad = Ending::Stopped(Fault::BadLine(number));
-        assert_run(rt, rt.alloc(), "direct 8", (image, lines), bad, replies)?;
+        assert_run(rt, rt.alloc(), "direct 8", (image, lines), bad, replies);
     }
-    Ok(())
 }

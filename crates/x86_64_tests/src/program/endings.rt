@@ -1,10 +1,9 @@
 //! How runs end.
 use super::{FIRST, MODES, Outcome, SELF_ENTRY, assert_outcome, assert_run, run_failing};
-use crate::assertions::{assert_equal, assert_equal_in};
+use crate::assertions::{assert_equal, assert_equal_in, unwrap};
 use pagetab_engine::ending::{Ending, Fault};
-use std::alloc::{AllocError, Global};
+use std::alloc::Global;
 use std::process::Abort;
-use std::test::Fail;
 
 const USAGE: &str =
     "usage: pagetab direct N | offset N OFF | recursive N R | pair N R | direct5 N | recursive5 N R | pair5 N R";
@@ -53,13 +52,12 @@ const ARGUMENTS: [(&str, Ending); 36] = [
 ];
 
 #[test]
-fn arguments_are_a_mode_and_its_numbers(rt: HostRuntime) -> Result<(), Fail> {
+fn arguments_are_a_mode_and_its_numbers(rt: HostRuntime) {
     for (arguments, ending) in ARGUMENTS {
         let written = if ending == USED_WRONGLY { "" } else { "0x0\n" };
         let input = ("", b"show 0x1000 0\n".as_slice());
-        assert_run(rt, rt.alloc(), arguments, input, ending, written)?;
+        assert_run(rt, rt.alloc(), arguments, input, ending, written);
     }
-    Ok(())
 }
 
 /// Arguments with a recursive index, and the image that has an entry for the root there.
@@ -72,12 +70,11 @@ const INDICES: [(&str, &str); 5] = [
 ];
 
 #[test]
-fn arguments_have_a_recursive_index(rt: HostRuntime) -> Result<(), Fail> {
+fn arguments_have_a_recursive_index(rt: HostRuntime) {
     for (arguments, image) in INDICES {
         let input = (image, b"show 0x1000 1\n".as_slice());
-        assert_run(rt, rt.alloc(), arguments, input, Ending::Done, "0x0\n")?;
+        assert_run(rt, rt.alloc(), arguments, input, Ending::Done, "0x0\n");
     }
-    Ok(())
 }
 
 /// Lines after the image of the words of the page 0x1000.
@@ -107,13 +104,14 @@ const UNWRITTEN: Ending = Ending::Stopped(Fault::Output);
 /// Runs the engine on these lines, in a mode and with the line that its image needs besides. The read and the write of these
 /// numbers fail, where they aren't 0.
 fn run_lines(
+    rt: impl Abort + Copy,
     alloc: Global,
     (arguments, first): (&str, &str),
     read: u64,
     write: u64,
-) -> Result<Outcome, AllocError> {
-    let image = format!(in alloc; "{first}{FIRST}")?;
-    run_failing(alloc, arguments, &image, LINES, read, write)
+) -> Outcome {
+    let image = unwrap(rt, format!(in alloc; "{first}{FIRST}"));
+    run_failing(rt, alloc, arguments, &image, LINES, read, write)
 }
 
 /// Asserts that a failed read ends the run, which has written a front part of the replies by then.
@@ -127,51 +125,39 @@ fn assert_failed_read(rt: impl Abort + Copy, outcome: &Outcome, read: u64, whole
 }
 
 /// Lets each read fail in turn.
-fn assert_failed_reads(
-    rt: impl Abort + Copy,
-    alloc: Global,
-    mode: (&str, &str),
-) -> Result<(), Fail> {
-    let whole = run_lines(alloc, mode, 0, 0)?;
+fn assert_failed_reads(rt: impl Abort + Copy, alloc: Global, mode: (&str, &str)) {
+    let whole = run_lines(rt, alloc, mode, 0, 0);
     assert_equal(rt, whole.ending, Ending::Done);
     for read in 1..=whole.reads {
-        let outcome = run_lines(alloc, mode, read, 0)?;
+        let outcome = run_lines(rt, alloc, mode, read, 0);
         assert_failed_read(rt, &outcome, read, &whole.written);
     }
-    Ok(())
 }
 
 #[test]
-fn failed_reads_end_the_run(rt: HostRuntime) -> Result<(), Fail> {
+fn failed_reads_end_the_run(rt: HostRuntime) {
     for mode in MODES {
-        assert_failed_reads(rt, rt.alloc(), mode)?;
+        assert_failed_reads(rt, rt.alloc(), mode);
     }
-    Ok(())
 }
 
 /// Lets each write fail in turn.
-fn assert_failed_writes(
-    rt: impl Abort + Copy,
-    alloc: Global,
-    mode: (&str, &str),
-) -> Result<(), Fail> {
-    let whole = run_lines(alloc, mode, 0, 0)?;
+fn assert_failed_writes(rt: impl Abort + Copy, alloc: Global, mode: (&str, &str)) {
+    let whole = run_lines(rt, alloc, mode, 0, 0);
     assert_equal(rt, whole.writes, 4);
     let mut earlier = String::new(alloc);
     for (write, reply) in (1..).zip(REPLIES).take(4) {
-        earlier.push_str(reply)?;
-        let outcome = run_lines(alloc, mode, 0, write)?;
+        unwrap(rt, earlier.push_str(reply));
+        let outcome = run_lines(rt, alloc, mode, 0, write);
         assert_outcome(rt, &outcome, UNWRITTEN, &earlier, "a failed write");
     }
-    Ok(())
 }
 
 #[test]
-fn failed_writes_end_the_run(rt: HostRuntime) -> Result<(), Fail> {
+fn failed_writes_end_the_run(rt: HostRuntime) {
     for mode in MODES {
-        assert_failed_writes(rt, rt.alloc(), mode)?;
+        assert_failed_writes(rt, rt.alloc(), mode);
     }
-    Ok(())
 }
 
 /// Faults, each with its status and its text.
@@ -185,12 +171,11 @@ const FAULTS: [(Fault, u8, &str); 6] = [
 ];
 
 #[test]
-fn faults_have_a_status_and_a_text(rt: HostRuntime) -> Result<(), Fail> {
+fn faults_have_a_status_and_a_text(rt: HostRuntime) {
     assert_equal(rt, Ending::Done.status(), 0);
     for (fault, status, text) in FAULTS {
         assert_equal(rt, Ending::Stopped(fault).status(), status);
-        let told = format!(in rt.alloc(); "{fault}")?;
+        let told = unwrap(rt, format!(in rt.alloc(); "{fault}"));
         assert_equal(rt, told.as_str(), text);
     }
-    Ok(())
 }

@@ -1,8 +1,8 @@
 //! Runs with five levels: the direct mapper, the recursive one, and both beside each other.
 use super::{SELF_ENTRY, Session, assert_run};
+use crate::assertions::unwrap;
 use pagetab_engine::ending::{Ending, Fault};
 use std::process::Abort;
-use std::test::Fail;
 
 /// Arguments for a memory of 8 places, one for each way to find tables there, with the line that an image needs
 /// besides. The recursive mapper is the last one: it adds flags to the entries of new tables.
@@ -110,16 +110,15 @@ const INVALID: [&str; 4] = [
 ];
 
 #[test]
-fn images_of_five_levels_are_tested(rt: HostRuntime) -> Result<(), Fail> {
+fn images_of_five_levels_are_tested(rt: HostRuntime) {
     for (arguments, first) in MODES {
         for image in INVALID {
-            let whole = format!(in rt.alloc(); "{first}{image}")?;
+            let whole = unwrap(rt, format!(in rt.alloc(); "{first}{image}"));
             let input = (whole.as_str(), &b"walk 0\n"[..]);
             let invalid = Ending::Stopped(Fault::InvalidHierarchy);
-            assert_run(rt, rt.alloc(), arguments, input, invalid, "")?;
+            assert_run(rt, rt.alloc(), arguments, input, invalid, "");
         }
     }
-    Ok(())
 }
 
 /// Arguments, and a line that says no command there: an address or a page that isn't canonical for them, and a
@@ -135,16 +134,15 @@ const BAD_LINES: [(&str, &str); 7] = [
 ];
 
 #[test]
-fn lines_are_read_by_the_levels(rt: HostRuntime) -> Result<(), Fail> {
+fn lines_are_read_by_the_levels(rt: HostRuntime) {
     for (arguments, line) in BAD_LINES {
         let bad = Ending::Stopped(Fault::BadLine(1));
-        assert_run(rt, rt.alloc(), arguments, ("", line.as_bytes()), bad, "")?;
+        assert_run(rt, rt.alloc(), arguments, ("", line.as_bytes()), bad, "");
     }
-    Ok(())
 }
 
 #[test]
-fn there_is_no_offset_with_five_levels(rt: HostRuntime) -> Result<(), Fail> {
+fn there_is_no_offset_with_five_levels(rt: HostRuntime) {
     for arguments in [
         "offset5 8 0",
         "direct5",
@@ -153,7 +151,6 @@ fn there_is_no_offset_with_five_levels(rt: HostRuntime) -> Result<(), Fail> {
         "recursive5 8 512",
     ] {
         let usage = Ending::Stopped(Fault::Usage);
-        assert_run(rt, rt.alloc(), arguments, ("", b""), usage, "")?;
+        assert_run(rt, rt.alloc(), arguments, ("", b""), usage, "");
     }
-    Ok(())
 }

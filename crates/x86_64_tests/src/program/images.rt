@@ -1,60 +1,52 @@
 //! Images that are tested before the first command is answered.
 use super::{MODES, SELF_ENTRY, assert_replies, assert_run, push_line};
+use crate::assertions::unwrap;
 use crate::hostile::{IMAGES, Image};
 use pagetab_engine::ending::{Ending, Fault};
-use std::alloc::{AllocError, Global};
+use std::alloc::Global;
 use std::process::Abort;
-use std::test::Fail;
 
 /// Asserts that an image is refused, whatever lines come after it.
-fn assert_invalid(
-    rt: impl Abort + Copy,
-    alloc: Global,
-    arguments: &str,
-    image: &str,
-) -> Result<(), Fail> {
+fn assert_invalid(rt: impl Abort + Copy, alloc: Global, arguments: &str, image: &str) {
     for lines in ["", "show 0 0\n", "\n walk 0\nfoo\n"] {
         let input = (image, lines.as_bytes());
         let invalid = Ending::Stopped(Fault::InvalidHierarchy);
-        assert_run(rt, alloc, arguments, input, invalid, "")?;
+        assert_run(rt, alloc, arguments, input, invalid, "");
     }
-    Ok(())
 }
 
 /// Asserts that an image is refused however tables are found.
-fn assert_invalid_in_each(rt: impl Abort + Copy, alloc: Global, image: &str) -> Result<(), Fail> {
+fn assert_invalid_in_each(rt: impl Abort + Copy, alloc: Global, image: &str) {
     for (arguments, first) in MODES {
-        let whole = format!(in alloc; "{first}{image}")?;
-        assert_invalid(rt, alloc, arguments, whole.as_str())?;
+        let whole = unwrap(rt, format!(in alloc; "{first}{image}"));
+        assert_invalid(rt, alloc, arguments, whole.as_str());
     }
-    Ok(())
 }
 
 /// Gives the lines of an image's words.
-fn lines_of(alloc: Global, image: &Image) -> Result<String, AllocError> {
+fn lines_of(rt: impl Abort + Copy, alloc: Global, image: &Image) -> String {
     let mut lines = String::new(alloc);
-    for (frame, index, word) in image.words(alloc)? {
-        let line = format!(in alloc; "word {frame:#x} {index} {word:#x}")?;
-        push_line(&mut lines, &line)?;
+    for (frame, index, word) in image.words(rt, alloc) {
+        let line = unwrap(rt, format!(in alloc; "word {frame:#x} {index} {word:#x}"));
+        push_line(rt, &mut lines, &line);
     }
-    Ok(lines)
+    lines
 }
 
 #[test]
-fn images_are_valid_or_refused(rt: HostRuntime) -> Result<(), Fail> {
+fn images_are_valid_or_refused(rt: HostRuntime) {
     for image in &IMAGES {
-        let lines = lines_of(rt.alloc(), image)?;
+        let lines = lines_of(rt, rt.alloc(), image);
         match image.replies {
             Some((translation, arrival)) => assert_replies(
                 rt,
                 rt.alloc(),
                 &lines,
                 &[("translate 0", translation), ("walk 0", arrival)],
-            )?,
-            None => assert_invalid_in_each(rt, rt.alloc(), &lines)?,
+            ),
+            None => assert_invalid_in_each(rt, rt.alloc(), &lines),
         }
     }
-    Ok(())
 }
 
 /// Images whose root is free, or a table.
@@ -64,11 +56,10 @@ const FREE_TABLES: [&str; 2] = [
 ];
 
 #[test]
-fn images_whose_tables_are_free_are_refused(rt: HostRuntime) -> Result<(), Fail> {
+fn images_whose_tables_are_free_are_refused(rt: HostRuntime) {
     for image in FREE_TABLES {
-        assert_invalid_in_each(rt, rt.alloc(), image)?;
+        assert_invalid_in_each(rt, rt.alloc(), image);
     }
-    Ok(())
 }
 
 /// Images in which the root has no entry for itself at the index 510: no word, one at another index, one without
@@ -83,18 +74,16 @@ const NOT_RECURSIVE: [&str; 6] = [
 ];
 
 #[test]
-fn images_without_a_self_entry_are_refused(rt: HostRuntime) -> Result<(), Fail> {
+fn images_without_a_self_entry_are_refused(rt: HostRuntime) {
     for image in NOT_RECURSIVE {
-        assert_invalid(rt, rt.alloc(), "recursive 8 510", image)?;
-        assert_invalid(rt, rt.alloc(), "pair 8 510", image)?;
+        assert_invalid(rt, rt.alloc(), "recursive 8 510", image);
+        assert_invalid(rt, rt.alloc(), "pair 8 510", image);
     }
-    Ok(())
 }
 
 #[test]
-fn images_with_a_self_entry_alone_need_the_index(rt: HostRuntime) -> Result<(), Fail> {
+fn images_with_a_self_entry_alone_need_the_index(rt: HostRuntime) {
     for arguments in ["direct 8", "offset 8 0", "recursive 8 0", "pair 8 511"] {
-        assert_invalid(rt, rt.alloc(), arguments, SELF_ENTRY)?;
+        assert_invalid(rt, rt.alloc(), arguments, SELF_ENTRY);
     }
-    Ok(())
 }

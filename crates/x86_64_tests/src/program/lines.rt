@@ -1,12 +1,11 @@
 //! Lines that are long, and input that goes on for ever.
 use super::{assert_outcome, assert_run, words_of};
-use crate::assertions::{assert_equal, assert_equal_in};
+use crate::assertions::{assert_equal, assert_equal_in, unwrap};
 use crate::streams::{Endless, Sink};
 use pagetab_engine::ending::{Ending, Fault};
 use pagetab_engine::engine::run;
-use std::alloc::{AllocError, Global};
+use std::alloc::Global;
 use std::process::Abort;
-use std::test::Fail;
 
 /// The end of a run whose first line is bad.
 const BAD: Ending = Ending::Stopped(Fault::BadLine(1));
@@ -24,25 +23,24 @@ const LENGTHS: [(&str, usize, Ending, &str); 8] = [
 ];
 
 /// Gives a line of so many bytes, spaces after its front, and its end.
-fn spaced(alloc: Global, front: &str, length: usize, end: &str) -> Result<String, AllocError> {
-    let mut line = String::from_str(alloc, front)?;
+fn spaced(rt: impl Abort + Copy, alloc: Global, front: &str, length: usize, end: &str) -> String {
+    let mut line = unwrap(rt, String::from_str(alloc, front));
     for _ in front.len()..length {
-        line.push(' ')?;
+        unwrap(rt, line.push(' '));
     }
-    line.push_str(end)?;
-    Ok(line)
+    unwrap(rt, line.push_str(end));
+    line
 }
 
 #[test]
-fn lines_have_at_most_256_bytes(rt: HostRuntime) -> Result<(), Fail> {
+fn lines_have_at_most_256_bytes(rt: HostRuntime) {
     for (front, length, ending, written) in LENGTHS {
         for end in ["", "\n"] {
-            let line = spaced(rt.alloc(), front, length, end)?;
+            let line = spaced(rt, rt.alloc(), front, length, end);
             let input = ("", line.as_bytes());
-            assert_run(rt, rt.alloc(), "direct 8", input, ending, written)?;
+            assert_run(rt, rt.alloc(), "direct 8", input, ending, written);
         }
     }
-    Ok(())
 }
 
 /// How many bytes the program reads at once.
@@ -124,13 +122,8 @@ const ENDLESS: [EndlessRow; 7] = [
 
 /// Runs the program on a row's input, and compares how the run ends, what it writes, and how much it reads: at most one
 /// buffer past the fault.
-fn assert_endless(
-    rt: impl Abort + Copy,
-    alloc: Global,
-    arguments: &str,
-    row: &EndlessRow,
-) -> Result<(), Fail> {
-    let words = words_of(alloc, arguments)?;
+fn assert_endless(rt: impl Abort + Copy, alloc: Global, arguments: &str, row: &EndlessRow) {
+    let words = words_of(rt, alloc, arguments);
     let mut source = Endless::new(row.front.as_bytes(), row.again);
     let mut sink = Sink::new(Vec::new(alloc), row.failing_write);
     let ending = run(alloc, &words, &mut source, &mut sink);
@@ -138,24 +131,21 @@ fn assert_endless(
     assert_equal(rt, str::from_utf8(sink.bytes.as_slice()), Ok(row.written));
     assert!(rt; source.given >= row.fault_at, "{:?}", row.front);
     assert!(rt; source.given - row.fault_at < BUFFER, "{:?}", row.front);
-    Ok(())
 }
 
 #[test]
-fn input_without_end_is_read_up_to_its_fault(rt: HostRuntime) -> Result<(), Fail> {
+fn input_without_end_is_read_up_to_its_fault(rt: HostRuntime) {
     for row in &ENDLESS {
-        assert_endless(rt, rt.alloc(), "direct 8", row)?;
+        assert_endless(rt, rt.alloc(), "direct 8", row);
     }
-    Ok(())
 }
 
 #[test]
-fn wrong_arguments_read_nothing(rt: HostRuntime) -> Result<(), Fail> {
-    let words = words_of(rt.alloc(), "direct 1")?;
+fn wrong_arguments_read_nothing(rt: HostRuntime) {
+    let words = words_of(rt, rt.alloc(), "direct 1");
     let mut source = Endless::new(b"", b'\n');
     let mut sink = Sink::new(Vec::new(rt.alloc()), 0);
     let ending = run(rt.alloc(), &words, &mut source, &mut sink);
     assert_equal(rt, ending, Ending::Stopped(Fault::Usage));
     assert_equal(rt, source.given, 0);
-    Ok(())
 }

@@ -1,10 +1,9 @@
 //! Calls of the library that take memory and change nothing.
 use super::hoard::answer_past;
 use super::library::FREE;
-use crate::assertions::assert_equal;
+use crate::assertions::{assert_equal, unwrap};
 use crate::images::{ROOT, frame_at, pool_of, set_word};
 use std::alloc::{AllocError, Global};
-use std::test::Fail;
 use x86_64::structures::paging::PageTableIndex;
 use x86_64::{
     FramePool, IdentityMapping, PhysMemory, PlacesRefusal, is_valid_hierarchy,
@@ -92,22 +91,21 @@ fn make(
 }
 
 #[test]
-fn memories_and_pools_are_made_and_tested_once_there_is_room(rt: HostRuntime) -> Result<(), Fail> {
+fn memories_and_pools_are_made_and_tested_once_there_is_room(rt: HostRuntime) {
     let alloc = rt.alloc();
-    let memory = PhysMemory::new(alloc, 4096)?;
-    let mut walked = PhysMemory::new(alloc, 4096)?;
-    set_word(&mut walked, ROOT, 510, 0x1003)?;
-    let pool = pool_of(alloc, 4096, &FREE)?;
+    let memory = unwrap(rt, PhysMemory::new(alloc, 4096));
+    let mut walked = unwrap(rt, PhysMemory::new(alloc, 4096));
+    set_word(rt, &mut walked, ROOT, 510, 0x1003);
+    let pool = pool_of(rt, alloc, 4096, &FREE);
     for (kind, room) in ATTEMPTS {
         let answer = answer_past(
             rt,
             alloc,
             room,
             || make(alloc, kind, &memory, &walked, &pool),
-        )?;
+        );
         assert_equal(rt, answer, true);
     }
-    Ok(())
 }
 
 #[test]

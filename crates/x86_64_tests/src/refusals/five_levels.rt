@@ -8,12 +8,11 @@ ghost use Rattle.x86_64_tests.specs.Pairs.{IsPair};
 use super::hoard::{answer_at_last, answer_past};
 use super::library::{FREE, is_full, used_entries};
 use super::pairs::{CALL_COUNT, INDEX, ROOMS, are_untouched};
-use crate::assertions::assert_equal;
+use crate::assertions::{assert_equal, unwrap};
 use crate::images::{ROOT, frame_at, page_57_at, pool_of, run_57_on, set_word};
 use crate::pairs::{is_pair_57, none_names_57, run_pair_57_on};
 use std::alloc::Global;
 use std::process::Abort;
-use std::test::Fail;
 use x86_64::structures::paging::{PageTableFlags, PageTableIndex};
 use x86_64::{Call57, IdentityMapping, PhysMemory, SizeCall57, pool_fits_57};
 
@@ -27,20 +26,25 @@ fn map_of_a_page() -> Call57 {
 }
 
 #[test]
-fn lists_of_five_levels_change_nothing_until_there_is_room(rt: HostRuntime) -> Result<(), Fail> {
+fn lists_of_five_levels_change_nothing_until_there_is_room(rt: HostRuntime) {
     let alloc = rt.alloc();
     let root = frame_at(ROOT);
-    let mut memory = PhysMemory::new(alloc, 5)?;
-    let mut pool = pool_of(alloc, 5, &FREE)?;
+    let mut memory = unwrap(rt, PhysMemory::new(alloc, 5));
+    let mut pool = pool_of(rt, alloc, 5, &FREE);
     let call = Call57::Of2MiB(SizeCall57::MapTo {
         page: page_57_at(0x20_0000),
         frame: frame_at(0x40_0000),
         flags: PageTableFlags::PRESENT,
     });
-    let calls = vec![in alloc; call; CALL_COUNT]?;
+    let calls = unwrap(rt, vec![in alloc; call; CALL_COUNT]);
     let mut replies = Vec::new(alloc);
     let mut is_kept = true;
-    assert!(rt; pool_fits_57(alloc, &memory, &IdentityMapping, root, &pool)?);
+    assert!(rt;
+        unwrap(
+            rt,
+            pool_fits_57(alloc, &memory, &IdentityMapping, root, &pool)
+        )
+    );
     answer_at_last(
         rt,
         alloc,
@@ -56,25 +60,35 @@ fn lists_of_five_levels_change_nothing_until_there_is_room(rt: HostRuntime) -> R
             }
             answer
         },
-    )?;
+    );
     assert!(rt; is_kept);
     assert_equal(rt, replies.len(), CALL_COUNT);
     assert_equal(rt, pool.len(), 0);
-    Ok(())
 }
 
 /// Answers a list by both mappers once there is room, where blocks of these sizes have room from the start, and compares that
 /// neither memory and neither pool changed before.
-fn run_pair_at_last(rt: impl Abort + Copy, alloc: Global, room: &[usize]) -> Result<(), Fail> {
+fn run_pair_at_last(rt: impl Abort + Copy, alloc: Global, room: &[usize]) {
     let (root, index) = (frame_at(ROOT), PageTableIndex::new(INDEX));
-    let mut memory = PhysMemory::new(alloc, 5)?;
-    let mut pool = pool_of(alloc, 5, &FREE)?;
-    let mut walked = PhysMemory::new(alloc, 5)?;
-    set_word(&mut walked, ROOT, INDEX, 0x1003)?;
-    let mut walked_pool = pool_of(alloc, 5, &FREE)?;
-    let calls = vec![in alloc; map_of_a_page(); CALL_COUNT]?;
+    let mut memory = unwrap(rt, PhysMemory::new(alloc, 5));
+    let mut pool = pool_of(rt, alloc, 5, &FREE);
+    let mut walked = unwrap(rt, PhysMemory::new(alloc, 5));
+    set_word(rt, &mut walked, ROOT, INDEX, 0x1003);
+    let mut walked_pool = pool_of(rt, alloc, 5, &FREE);
+    let calls = unwrap(rt, vec![in alloc; map_of_a_page(); CALL_COUNT]);
     let mut is_kept = true;
-    assert!(rt; is_pair_57(alloc, root, index, &memory, &pool, &walked, &walked_pool)?);
+    assert!(rt;
+        is_pair_57(
+            rt,
+            alloc,
+            root,
+            index,
+            &memory,
+            &pool,
+            &walked,
+            &walked_pool
+        )
+    );
     let replies = answer_past(
         rt,
         alloc,
@@ -99,19 +113,15 @@ fn run_pair_at_last(rt: impl Abort + Copy, alloc: Global, room: &[usize]) -> Res
             }
             answer
         },
-    )?;
+    );
     assert!(rt; is_kept);
     assert_equal(rt, replies.len(), CALL_COUNT);
     assert_equal(rt, [pool.len(), walked_pool.len()], [0, 0]);
-    Ok(())
 }
 
 #[test]
-fn lists_of_pairs_of_five_levels_change_nothing_until_there_is_room(
-    rt: HostRuntime,
-) -> Result<(), Fail> {
+fn lists_of_pairs_of_five_levels_change_nothing_until_there_is_room(rt: HostRuntime) {
     for room in ROOMS {
-        run_pair_at_last(rt, rt.alloc(), room)?;
+        run_pair_at_last(rt, rt.alloc(), room);
     }
-    Ok(())
 }

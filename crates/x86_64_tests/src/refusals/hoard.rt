@@ -1,7 +1,7 @@
 //! Calls while there is no memory.
+use crate::assertions::unwrap;
 use std::alloc::{AllocError, Global};
 use std::process::Abort;
-use std::test::Fail;
 
 /// How many blocks are taken at most.
 const BLOCK_COUNT: usize = 100_000;
@@ -40,7 +40,7 @@ pub fn answer_at_last<T: Drop, F: FnMut() -> Result<T, AllocError>>(
     rt: impl Abort + Copy,
     alloc: Global,
     call: F,
-) -> Result<T, Fail>
+) -> T
     requires { F.IsAlwaysCallable call }
 {
     answer_past(rt, alloc, &[], call)
@@ -53,24 +53,27 @@ pub fn answer_past<T: Drop, F: FnMut() -> Result<T, AllocError>>(
     alloc: Global,
     room: &[usize],
     mut call: F,
-) -> Result<T, Fail>
+) -> T
     requires { F.IsAlwaysCallable call }
 {
     let mut spared: Vec<Vec<u8>> = Vec::new(alloc);
     for size in room {
-        spared.push(Vec::with_capacity(alloc, *size)?)?;
+        unwrap(
+            rt,
+            spared.push(unwrap(rt, Vec::with_capacity(alloc, *size))),
+        );
     }
-    let mut blocks = hoard(alloc)?;
+    let mut blocks = unwrap(rt, hoard(alloc));
     spared.clear();
     for refusals in 0..=BLOCK_COUNT {
         if let Ok(answer) = call() {
             drop(blocks);
             assert!(rt; refusals > 0);
-            return Ok(answer);
+            return answer;
         }
         if blocks.pop().is_none() {
             break;
         }
     }
-    Err(Fail::from("refused with all memory given back"))
+    panic!(rt; "refused with all memory given back")
 }

@@ -5,11 +5,10 @@ ghost use Rattle.x86_64_mappers.specs.Layouts.{direct};
 ghost use Rattle.x86_64.specs.Runs.{FitsPool};
 
 use super::hoard::answer_at_last;
-use crate::assertions::assert_equal;
+use crate::assertions::{assert_equal, unwrap};
 use crate::images::{ROOT, frame_at, page_at, pool_of, run_flushed_on, run_on};
 use std::alloc::Global;
 use std::process::Abort;
-use std::test::Fail;
 use x86_64::structures::paging::{PageTable, PageTableFlags};
 use x86_64::{
     Call, FlushItem, FlushRecorder, FramePlace, FramePool, IdentityMapping, PhysMemory, Reply,
@@ -74,22 +73,17 @@ pub fn map_of_a_page() -> Call {
 
 /// Answers a list whose flushes are recorded once there is room, where so many replies and so many items have room from the start,
 /// and compares that nothing changed before.
-fn record_at_last(
-    rt: impl Abort + Copy,
-    alloc: Global,
-    reply_room: usize,
-    item_room: usize,
-) -> Result<(), Fail> {
+fn record_at_last(rt: impl Abort + Copy, alloc: Global, reply_room: usize, item_room: usize) {
     let root = frame_at(ROOT);
-    let mut memory = PhysMemory::new(alloc, 5)?;
-    let mut pool = pool_of(alloc, 5, &FREE)?;
-    let calls = vec![in alloc; map_of_a_page(); CALL_COUNT]?;
-    let mut replies = vec![in alloc; EARLIER]?;
-    replies.reserve(reply_room)?;
+    let mut memory = unwrap(rt, PhysMemory::new(alloc, 5));
+    let mut pool = pool_of(rt, alloc, 5, &FREE);
+    let calls = unwrap(rt, vec![in alloc; map_of_a_page(); CALL_COUNT]);
+    let mut replies = unwrap(rt, vec![in alloc; EARLIER]);
+    unwrap(rt, replies.reserve(reply_room));
     let mut recorder = FlushRecorder::new(alloc);
-    recorder.reserve(item_room)?;
+    unwrap(rt, recorder.reserve(item_room));
     let mut is_kept = true;
-    assert!(rt; pool_fits(alloc, &memory, &IdentityMapping, root, &pool)?);
+    assert!(rt; unwrap(rt, pool_fits(alloc, &memory, &IdentityMapping, root, &pool)));
     answer_at_last(
         rt,
         alloc,
@@ -113,7 +107,7 @@ fn record_at_last(
             }
             answer
         },
-    )?;
+    );
     assert!(rt; is_kept);
     assert_equal(rt, replies.len(), CALL_COUNT + 1);
     let item = FlushItem::Page {
@@ -121,32 +115,31 @@ fn record_at_last(
         size: 4096,
     };
     assert_equal(rt, recorder.items(), [item].as_slice());
-    Ok(())
 }
 
 #[test]
-fn recorded_lists_change_nothing_until_there_is_room(rt: HostRuntime) -> Result<(), Fail> {
-    record_at_last(rt, rt.alloc(), 0, 0)?;
-    record_at_last(rt, rt.alloc(), CALL_COUNT, 0)?;
+fn recorded_lists_change_nothing_until_there_is_room(rt: HostRuntime) {
+    record_at_last(rt, rt.alloc(), 0, 0);
+    record_at_last(rt, rt.alloc(), CALL_COUNT, 0);
     record_at_last(rt, rt.alloc(), 0, CALL_COUNT)
 }
 
 #[test]
-fn lists_change_nothing_until_there_is_room(rt: HostRuntime) -> Result<(), Fail> {
+fn lists_change_nothing_until_there_is_room(rt: HostRuntime) {
     let alloc = rt.alloc();
     let root = frame_at(ROOT);
-    let mut memory = PhysMemory::new(alloc, 5)?;
-    let mut pool = pool_of(alloc, 5, &FREE)?;
+    let mut memory = unwrap(rt, PhysMemory::new(alloc, 5));
+    let mut pool = pool_of(rt, alloc, 5, &FREE);
     let page = page_at(0x1000);
     let call = Call::Of4KiB(SizeCall::MapTo {
         page,
         frame: frame_at(0x5000),
         flags: PageTableFlags::PRESENT,
     });
-    let calls = vec![in alloc; call; CALL_COUNT]?;
-    let mut replies = vec![in alloc; EARLIER]?;
+    let calls = unwrap(rt, vec![in alloc; call; CALL_COUNT]);
+    let mut replies = unwrap(rt, vec![in alloc; EARLIER]);
     let mut is_kept = true;
-    assert!(rt; pool_fits(alloc, &memory, &IdentityMapping, root, &pool)?);
+    assert!(rt; unwrap(rt, pool_fits(alloc, &memory, &IdentityMapping, root, &pool)));
     answer_at_last(
         rt,
         alloc,
@@ -161,7 +154,7 @@ fn lists_change_nothing_until_there_is_room(rt: HostRuntime) -> Result<(), Fail>
             }
             answer
         },
-    )?;
+    );
     assert!(rt; is_kept);
     assert_equal(rt, replies.len(), CALL_COUNT + 1);
     assert_equal(
@@ -170,5 +163,4 @@ fn lists_change_nothing_until_there_is_room(rt: HostRuntime) -> Result<(), Fail>
         Some(&Reply::Of4KiB(SizeReply::Map(Ok(page)))),
     );
     assert_equal(rt, pool.len(), 0);
-    Ok(())
 }

@@ -1,12 +1,11 @@
 //! Runs of the program `pagetab`.
 use super::hoard::{answer_at_last, hoard};
-use crate::assertions::{assert_equal, assert_equal_in};
+use crate::assertions::{assert_equal, assert_equal_in, unwrap};
 use crate::streams::{Comparison, Source};
 use pagetab_engine::ending::{Ending, Fault};
 use pagetab_engine::engine::run;
 use std::alloc::{AllocError, Global};
 use std::process::Abort;
-use std::test::Fail;
 
 /// An image of which the table in frame 0x2000 is a part, and commands of each kind.
 const INPUT: &[u8] = b"word 0x1000 0 0x2003\nfree 0x3000\nfree 0x4000\n\
@@ -65,39 +64,43 @@ const MODES: [Mode; 7] = [
 ];
 
 /// Gives the words of arguments.
-fn words_of(alloc: Global, arguments: &[&str]) -> Result<Vec<String>, AllocError> {
+fn words_of(rt: impl Abort + Copy, alloc: Global, arguments: &[&str]) -> Vec<String> {
     let mut words = Vec::new(alloc);
     for argument in arguments {
-        words.push(String::from_str(alloc, argument)?)?;
+        unwrap(
+            rt,
+            words.push(unwrap(rt, String::from_str(alloc, argument))),
+        );
     }
-    Ok(words)
+    words
 }
 
 /// Gives the words of a mode's arguments, and its input.
 fn start(
+    rt: impl Abort + Copy,
     alloc: Global,
     (arguments, first_lines, _): Mode,
-) -> Result<(Vec<String>, Vec<u8>), AllocError> {
-    let words = words_of(alloc, arguments)?;
-    let mut input = Vec::from_slice(alloc, first_lines)?;
-    input.extend_from_slice(INPUT)?;
-    Ok((words, input))
+) -> (Vec<String>, Vec<u8>) {
+    let words = words_of(rt, alloc, arguments);
+    let mut input = unwrap(rt, Vec::from_slice(alloc, first_lines));
+    unwrap(rt, input.extend_from_slice(INPUT));
+    (words, input)
 }
 
 /// Gives all replies.
-fn replies_in(alloc: Global, (_, _, last): Mode) -> Result<Vec<u8>, AllocError> {
+fn replies_in(rt: impl Abort + Copy, alloc: Global, (_, _, last): Mode) -> Vec<u8> {
     let mut replies = Vec::new(alloc);
     for reply in FIRST_REPLIES {
-        replies.extend_from_slice(reply)?;
+        unwrap(rt, replies.extend_from_slice(reply));
     }
-    replies.extend_from_slice(last)?;
-    Ok(replies)
+    unwrap(rt, replies.extend_from_slice(last));
+    replies
 }
 
 /// Runs the program until there is room, and compares the replies and the ending.
-fn run_at_last(rt: impl Abort + Copy, alloc: Global, mode: Mode) -> Result<(), Fail> {
-    let (words, input) = start(alloc, mode)?;
-    let replies = replies_in(alloc, mode)?;
+fn run_at_last(rt: impl Abort + Copy, alloc: Global, mode: Mode) {
+    let (words, input) = start(rt, alloc, mode);
+    let replies = replies_in(rt, alloc, mode);
     let mut agrees = true;
     let answer = answer_at_last(rt, alloc, || {
         let mut source = Source::new(&input, 0);
@@ -108,18 +111,16 @@ fn run_at_last(rt: impl Abort + Copy, alloc: Global, mode: Mode) -> Result<(), F
             Ending::Stopped(Fault::OutOfMemory) => Err(AllocError),
             _ => Ok((ending, sink.rest.len())),
         }
-    })?;
+    });
     assert_equal(rt, answer, (Ending::Done, 0));
     assert!(rt; agrees);
-    Ok(())
 }
 
 #[test]
-fn the_program_wants_memory_until_there_is_room(rt: HostRuntime) -> Result<(), Fail> {
+fn the_program_wants_memory_until_there_is_room(rt: HostRuntime) {
     for mode in MODES {
-        run_at_last(rt, rt.alloc(), mode)?;
+        run_at_last(rt, rt.alloc(), mode);
     }
-    Ok(())
 }
 
 /// Arguments that are refused before memory is taken: numbers out of range, an offset that isn't canonical, and a mode that is
@@ -141,26 +142,24 @@ fn run_alone(alloc: Global, words: &[String]) -> Ending {
 }
 
 #[test]
-fn wrong_arguments_want_no_memory(rt: HostRuntime) -> Result<(), Fail> {
+fn wrong_arguments_want_no_memory(rt: HostRuntime) {
     let alloc = rt.alloc();
     for arguments in REFUSED {
-        let words = words_of(alloc, arguments)?;
-        let blocks = hoard(alloc)?;
+        let words = words_of(rt, alloc, arguments);
+        let blocks = unwrap(rt, hoard(alloc));
         let ending = run_alone(alloc, &words);
         drop(blocks);
         assert_equal_in(rt, arguments, ending, Ending::Stopped(Fault::Usage));
     }
-    Ok(())
 }
 
 #[test]
-fn offsets_are_tested_once_the_memory_is_made(rt: HostRuntime) -> Result<(), Fail> {
+fn offsets_are_tested_once_the_memory_is_made(rt: HostRuntime) {
     let alloc = rt.alloc();
-    let words = words_of(alloc, &["offset", "4096", "0x7ffffffff000"])?;
+    let words = words_of(rt, alloc, &["offset", "4096", "0x7ffffffff000"]);
     let ending = answer_at_last(rt, alloc, || match run_alone(alloc, &words) {
         Ending::Stopped(Fault::OutOfMemory) => Err(AllocError),
         ending => Ok(ending),
-    })?;
+    });
     assert_equal(rt, ending, Ending::Stopped(Fault::Usage));
-    Ok(())
 }

@@ -1,9 +1,9 @@
 //! Flushes.
 use super::hoard::answer_at_last;
-use crate::assertions::assert_equal;
+use crate::assertions::{assert_equal, unwrap};
 use crate::images::page_at;
 use std::alloc::{AllocError, Global};
-use std::test::Fail;
+use std::process::Abort;
 use x86_64::structures::paging::mapper::{MapperFlush, MapperFlushAll};
 use x86_64::structures::paging::{Page, Size4KiB};
 use x86_64::{FlushItem, FlushRecorder};
@@ -23,13 +23,13 @@ fn flush_all(recorder: &mut FlushRecorder) -> Result<(), AllocError> {
 }
 
 /// Makes a recorder whose items fill the room that was reserved.
-fn full_recorder(alloc: Global) -> Result<FlushRecorder, Fail> {
+fn full_recorder(rt: impl Abort + Copy, alloc: Global) -> FlushRecorder {
     let mut recorder = FlushRecorder::new(alloc);
-    recorder.reserve(ITEM_COUNT)?;
+    unwrap(rt, recorder.reserve(ITEM_COUNT));
     for _ in 0..ITEM_COUNT {
-        flush_all(&mut recorder)?;
+        unwrap(rt, flush_all(&mut recorder));
     }
-    Ok(recorder)
+    recorder
 }
 
 /// Tells whether the recorder has the items that fill it, and no more.
@@ -39,10 +39,10 @@ fn is_untouched(recorder: &FlushRecorder) -> bool {
 }
 
 #[test]
-fn pages_are_flushed_once_there_is_room(rt: HostRuntime) -> Result<(), Fail> {
+fn pages_are_flushed_once_there_is_room(rt: HostRuntime) {
     let alloc = rt.alloc();
     let page: Page<Size4KiB> = page_at(0x1000);
-    let mut recorder = full_recorder(alloc)?;
+    let mut recorder = full_recorder(rt, alloc);
     let mut is_kept = true;
     answer_at_last(
         rt,
@@ -55,7 +55,7 @@ fn pages_are_flushed_once_there_is_room(rt: HostRuntime) -> Result<(), Fail> {
                 Err(AllocError)
             }
         },
-    )?;
+    );
     assert!(rt; is_kept);
     let item = FlushItem::Page {
         start: page.start_address(),
@@ -66,13 +66,12 @@ fn pages_are_flushed_once_there_is_room(rt: HostRuntime) -> Result<(), Fail> {
         recorder.items().get(ITEM_COUNT..),
         Some([item].as_slice()),
     );
-    Ok(())
 }
 
 #[test]
-fn all_pages_are_flushed_once_there_is_room(rt: HostRuntime) -> Result<(), Fail> {
+fn all_pages_are_flushed_once_there_is_room(rt: HostRuntime) {
     let alloc = rt.alloc();
-    let mut recorder = full_recorder(alloc)?;
+    let mut recorder = full_recorder(rt, alloc);
     let mut is_kept = true;
     answer_at_last(rt, alloc, || {
         let answer = flush_all(&mut recorder);
@@ -80,28 +79,26 @@ fn all_pages_are_flushed_once_there_is_room(rt: HostRuntime) -> Result<(), Fail>
             is_kept = is_kept && is_untouched(&recorder);
         }
         answer
-    })?;
+    });
     assert!(rt; is_kept);
     assert_equal(
         rt,
         recorder.items().get(ITEM_COUNT..),
         Some([FlushItem::All].as_slice()),
     );
-    Ok(())
 }
 
 #[test]
-fn room_for_flushes_is_made_once_there_is_memory(rt: HostRuntime) -> Result<(), Fail> {
+fn room_for_flushes_is_made_once_there_is_memory(rt: HostRuntime) {
     let alloc = rt.alloc();
-    let mut recorder = full_recorder(alloc)?;
+    let mut recorder = full_recorder(rt, alloc);
     let mut is_kept = true;
     answer_at_last(rt, alloc, || {
         let answer = recorder.reserve(ITEM_COUNT);
         is_kept = is_kept && is_untouched(&recorder);
         answer
-    })?;
+    });
     assert!(rt; is_kept);
-    flush_all(&mut recorder)?;
+    unwrap(rt, flush_all(&mut recorder));
     assert_equal(rt, recorder.items().len(), ITEM_COUNT + 1);
-    Ok(())
 }

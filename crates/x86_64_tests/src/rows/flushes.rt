@@ -3,13 +3,12 @@ use super::{
     CLEANED, FIRST, FIRST_LARGE, LARGE_LEVEL_3, LARGE_LEVEL_4, LARGE_MAPPED, LEVEL_2, LEVEL_3,
     LEVEL_4, MAPPED, Row, add_exchanges, assert_fits, begin, compare,
 };
-use crate::assertions::{assert_equal, assert_equal_in};
+use crate::assertions::{assert_equal, assert_equal_in, unwrap};
 use crate::images::{ROOT, frame_at, run_flushed_on};
 use crate::turns::PageTurn::{SetFlagsP4, Unmap, UpdateFlags};
 use crate::turns::Turn::{CleanUp, CleanUpRange, Large, Small};
 use std::alloc::Global;
 use std::process::Abort;
-use std::test::Fail;
 use x86_64::{FlushItem, FlushRecorder, FramePool, IdentityMapping, PhysMemory};
 use x86_64_plain::Answer::{Done, Refused};
 use x86_64_plain::PlainReply::{Answered, Cleaned};
@@ -43,16 +42,18 @@ fn answer_flushed(
     row: &Row<'_>,
     (memory, pool): (&mut PhysMemory, &mut FramePool),
     recorder: &mut FlushRecorder,
-) -> Result<(), Fail> {
+) {
     let mut calls = Vec::new(alloc);
     let mut wanted = Vec::new(alloc);
-    add_exchanges(row, &mut calls, &mut wanted)?;
+    add_exchanges(rt, row, &mut calls, &mut wanted);
     let mut replies = Vec::new(alloc);
     let root = frame_at(ROOT);
-    assert_fits(rt, alloc, memory, &IdentityMapping, root, pool)?;
-    run_flushed_on(memory, root, pool, &calls, &mut replies, recorder)?;
+    assert_fits(rt, alloc, memory, &IdentityMapping, root, pool);
+    unwrap(
+        rt,
+        run_flushed_on(memory, root, pool, &calls, &mut replies, recorder),
+    );
     assert_equal(rt, replies, wanted);
-    Ok(())
 }
 
 /// Answers the calls of a row where so many items have room, and compares what comes of them and what is
@@ -63,11 +64,11 @@ fn check_flushes(
     row: &Row<'_>,
     flushed: &[Flushed],
     room: usize,
-) -> Result<(), Fail> {
-    let (mut memory, mut pool) = begin(alloc, row.free)?;
+) {
+    let (mut memory, mut pool) = begin(rt, alloc, row.free);
     let mut recorder = FlushRecorder::new(alloc);
-    recorder.reserve(room)?;
-    answer_flushed(rt, alloc, row, (&mut memory, &mut pool), &mut recorder)?;
+    unwrap(rt, recorder.reserve(room));
+    answer_flushed(rt, alloc, row, (&mut memory, &mut pool), &mut recorder);
     compare_flushes(rt, &recorder, flushed);
     compare(rt, &memory, &pool, row, "recorded")
 }
@@ -89,10 +90,10 @@ const LARGE_PAGE: Row<'static> = Row {
 };
 
 #[test]
-fn accepted_calls_are_recorded_and_no_others(rt: HostRuntime) -> Result<(), Fail> {
+fn accepted_calls_are_recorded_and_no_others(rt: HostRuntime) {
     let page = Some((0x20_0000, 0x20_0000));
     let flushed = [page, page, None, page];
-    check_flushes(rt, rt.alloc(), &LARGE_PAGE, &flushed, 0)?;
+    check_flushes(rt, rt.alloc(), &LARGE_PAGE, &flushed, 0);
     check_flushes(rt, rt.alloc(), &LARGE_PAGE, &flushed, 64)
 }
 
@@ -103,7 +104,7 @@ const SMALL_PAGE: Row<'static> = Row {
 };
 
 #[test]
-fn pages_of_4kib_are_recorded_with_their_size(rt: HostRuntime) -> Result<(), Fail> {
+fn pages_of_4kib_are_recorded_with_their_size(rt: HostRuntime) {
     let page = Some((0x1000, 0x1000));
     check_flushes(rt, rt.alloc(), &SMALL_PAGE, &[page, page], 0)
 }
@@ -120,7 +121,7 @@ const TABLES_GO_BACK: Row<'static> = Row {
 };
 
 #[test]
-fn clean_ups_are_not_recorded(rt: HostRuntime) -> Result<(), Fail> {
+fn clean_ups_are_not_recorded(rt: HostRuntime) {
     let page = Some((0x1000, 0x1000));
     check_flushes(rt, rt.alloc(), &TABLES_GO_BACK, &[page, page], 0)
 }

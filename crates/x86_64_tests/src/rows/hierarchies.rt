@@ -1,11 +1,11 @@
 //! Two hierarchies in one memory, which take their tables from one pool.
 use super::{Row, Word, answer_over, assert_fits, begin_in, compare_pool, compare_words};
+use crate::assertions::unwrap;
 use crate::images::frame_at;
 use crate::turns::PageTurn::{MapTo, Unmap};
 use crate::turns::Turn::{CleanUp, Small};
 use std::alloc::Global;
 use std::process::Abort;
-use std::test::Fail;
 use x86_64::{FramePool, IdentityMapping, PhysMemory};
 use x86_64_plain::Answer::Done;
 use x86_64_plain::PlainReply::{Answered, Cleaned};
@@ -103,23 +103,17 @@ const STEPS: [(u64, Row<'static>); 4] = [
 ];
 
 /// Asserts that both hierarchies are valid and the pool fits each.
-fn assert_fits_both(
-    rt: impl Abort + Copy,
-    alloc: Global,
-    memory: &PhysMemory,
-    pool: &FramePool,
-) -> Result<(), Fail> {
+fn assert_fits_both(rt: impl Abort + Copy, alloc: Global, memory: &PhysMemory, pool: &FramePool) {
     for root in ROOTS {
-        assert_fits(rt, alloc, memory, &IdentityMapping, frame_at(root), pool)?;
+        assert_fits(rt, alloc, memory, &IdentityMapping, frame_at(root), pool);
     }
-    Ok(())
 }
 
 #[test]
-fn hierarchies_take_tables_from_one_pool(rt: HostRuntime) -> Result<(), Fail> {
-    let (mut memory, mut pool) = begin_in(rt.alloc(), u64::from(PLACES), &FREE)?;
+fn hierarchies_take_tables_from_one_pool(rt: HostRuntime) {
+    let (mut memory, mut pool) = begin_in(rt, rt.alloc(), u64::from(PLACES), &FREE);
     for (number, (root, row)) in STEPS.iter().enumerate() {
-        let title = format!(in rt.alloc(); "step {number}")?;
+        let title = unwrap(rt, format!(in rt.alloc(); "step {number}"));
         answer_over(
             rt,
             rt.alloc(),
@@ -127,10 +121,9 @@ fn hierarchies_take_tables_from_one_pool(rt: HostRuntime) -> Result<(), Fail> {
             (*root, IdentityMapping),
             (&mut memory, &mut pool),
             &title,
-        )?;
-        compare_words(rt, &memory, PLACES, row, &title)?;
+        );
+        compare_words(rt, &memory, PLACES, row, &title);
         compare_pool(rt, &pool, row.left, &title);
-        assert_fits_both(rt, rt.alloc(), &memory, &pool)?;
+        assert_fits_both(rt, rt.alloc(), &memory, &pool);
     }
-    Ok(())
 }

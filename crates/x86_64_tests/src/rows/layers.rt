@@ -5,14 +5,13 @@ ghost use Rattle.x86_64_mappers.specs.Layouts.{direct};
 ghost use Rattle.x86_64.specs.Runs.{FitsPool};
 
 use super::{CLEANED, FIRST, Row, add_exchanges, assert_fits, begin, compare};
-use crate::assertions::assert_equal;
+use crate::assertions::{assert_equal, unwrap};
 use crate::counting::Counting;
 use crate::images::{ROOT, frame_at};
 use crate::turns::PageTurn::{Unmap, UpdateFlags};
 use crate::turns::Turn::{CleanUp, Small, Translate};
-use std::alloc::{AllocError, Global};
+use std::alloc::Global;
 use std::process::Abort;
-use std::test::Fail;
 use x86_64::structures::paging::{MappedPageTable, PhysFrame, Size4KiB};
 use x86_64::{Call, FramePool, IdentityMapping, PhysMemory, Reply, run};
 use x86_64_plain::Answer::Done;
@@ -41,18 +40,19 @@ const ROW: Row<'static> = Row {
 
 /// Answers calls by a mapper that counts those that write, and gives their number.
 fn run_counted(
+    rt: impl Abort + Copy,
     memory: &mut PhysMemory,
     root: PhysFrame<Size4KiB>,
     pool: &mut FramePool,
     calls: &[Call],
     replies: &mut Vec<Reply>,
-) -> Result<u64, AllocError>
+) -> u64
     requires { let layout = direct identity_places root in
         FitsPool layout memory.old (serves_below pool.old.limit) pool.old.frames }
 {
     let mut mapper = Counting::new(MappedPageTable::new(memory, root, IdentityMapping));
-    run(&mut mapper, pool, calls, replies)?;
-    Ok(mapper.count())
+    unwrap(rt, run(&mut mapper, pool, calls, replies));
+    mapper.count()
 }
 
 /// Answers the calls, and compares the replies and the number of those that write.
@@ -60,22 +60,21 @@ fn answer_counted(
     rt: impl Abort + Copy,
     alloc: Global,
     (memory, pool): (&mut PhysMemory, &mut FramePool),
-) -> Result<(), Fail> {
+) {
     let mut calls = Vec::new(alloc);
     let mut wanted = Vec::new(alloc);
-    add_exchanges(&ROW, &mut calls, &mut wanted)?;
+    add_exchanges(rt, &ROW, &mut calls, &mut wanted);
     let mut replies = Vec::new(alloc);
     let root = frame_at(ROOT);
-    assert_fits(rt, alloc, memory, &IdentityMapping, root, pool)?;
-    let count = run_counted(memory, root, pool, &calls, &mut replies)?;
+    assert_fits(rt, alloc, memory, &IdentityMapping, root, pool);
+    let count = run_counted(rt, memory, root, pool, &calls, &mut replies);
     assert_equal(rt, replies, wanted);
     assert_equal(rt, count, 4);
-    Ok(())
 }
 
 #[test]
-fn layers_over_mappers_run_lists(rt: HostRuntime) -> Result<(), Fail> {
-    let (mut memory, mut pool) = begin(rt.alloc(), ROW.free)?;
-    answer_counted(rt, rt.alloc(), (&mut memory, &mut pool))?;
+fn layers_over_mappers_run_lists(rt: HostRuntime) {
+    let (mut memory, mut pool) = begin(rt, rt.alloc(), ROW.free);
+    answer_counted(rt, rt.alloc(), (&mut memory, &mut pool));
     compare(rt, &memory, &pool, &ROW, "counted")
 }

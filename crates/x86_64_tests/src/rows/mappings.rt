@@ -1,8 +1,7 @@
 //! Frames that lie elsewhere than at the places of their numbers.
 use super::{FIRST, Row, answer_over, compare_pool, compare_words};
-use crate::assertions::assert_equal;
+use crate::assertions::{assert_equal, unwrap};
 use crate::images::{frame_at, pool_of};
-use std::test::Fail;
 use x86_64::structures::paging::mapper::PageTableFrameMapping;
 use x86_64::{PhysMemory, ShiftMapping};
 
@@ -33,9 +32,9 @@ fn mappings_cover_frames_from_a_first_one_on(rt: HostRuntime) {
 }
 
 #[test]
-fn frames_lie_from_a_first_one_on(rt: HostRuntime) -> Result<(), Fail> {
-    let mut memory = PhysMemory::new(rt.alloc(), 4)?;
-    let mut pool = pool_of(rt.alloc(), 0x104, ROW.free)?;
+fn frames_lie_from_a_first_one_on(rt: HostRuntime) {
+    let mut memory = unwrap(rt, PhysMemory::new(rt.alloc(), 4));
+    let mut pool = pool_of(rt, rt.alloc(), 0x104, ROW.free);
     let mapping = ShiftMapping::new(0x100);
     answer_over(
         rt,
@@ -44,8 +43,7 @@ fn frames_lie_from_a_first_one_on(rt: HostRuntime) -> Result<(), Fail> {
         (ROOT, mapping),
         (&mut memory, &mut pool),
         "shifted",
-    )?;
-    compare_words(rt, &memory, 4, &ROW, "shifted")?;
+    );
+    compare_words(rt, &memory, 4, &ROW, "shifted");
     compare_pool(rt, &pool, &[], "shifted");
-    Ok(())
 }

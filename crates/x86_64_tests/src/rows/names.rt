@@ -3,7 +3,6 @@ use crate::assertions::assert_equal_in;
 use crate::turns::PageTurn::{IdentityMap, MapTo, Unmap, UpdateFlags};
 use crate::turns::Turn::{CleanUp, CleanUpRange, Giant, Large, Small, Translate, TranslateAddr};
 use crate::turns::{Turn, call_of};
-use std::test::Fail;
 use x86_64::structures::paging::PageTableIndex;
 
 /// Calls, and the index of level four that each names, if it names one.
@@ -20,7 +19,7 @@ const INDICES: [(Turn, Option<u16>); 9] = [
 ];
 
 #[test]
-fn calls_name_an_index_of_level_four(rt: HostRuntime) -> Result<(), Fail> {
+fn calls_name_an_index_of_level_four(rt: HostRuntime) {
     for (turn, index) in INDICES {
         let call = call_of(turn);
         for other in 0..512 {
@@ -28,5 +27,4 @@ fn calls_name_an_index_of_level_four(rt: HostRuntime) -> Result<(), Fail> {
             assert_equal_in(rt, (call, other), names, index == Some(other));
         }
     }
-    Ok(())
 }

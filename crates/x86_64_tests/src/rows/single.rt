@@ -6,13 +6,12 @@ use super::{
     LARGE_LEVEL_3, LARGE_LEVEL_4, LARGE_MAPPED, LEVEL_2, LEVEL_3, LEVEL_4, MAPPED, RECURSIVE,
     RECURSIVE_INDEX, Row, SELF_ENTRY, assert_fits, assert_fits_recursive, begin, begin_by, compare,
 };
-use crate::assertions::assert_equal_in;
+use crate::assertions::{assert_equal_in, unwrap};
 use crate::images::{ROOT, flags_of, frame_at, page_at};
 use crate::replies::page_of;
 use std::alloc::Global;
 use std::fmt::Debug;
 use std::process::Abort;
-use std::test::Fail;
 use x86_64::structures::paging::mapper::{
     FlagUpdateError, MapToError, MapperAllSizes, MapperFlushAll, TranslateError, UnmapError,
 };
@@ -325,15 +324,10 @@ fn play<M: MapperAllSizes, A: FrameAllocator<Size4KiB>>(
 }
 
 /// Makes the calls of a script by the direct mapper, and compares what is left.
-fn check_direct(
-    rt: impl Abort + Copy,
-    alloc: Global,
-    script: Script,
-    row: &Row<'_>,
-) -> Result<(), Fail> {
-    let (mut memory, mut pool) = begin(alloc, row.free)?;
+fn check_direct(rt: impl Abort + Copy, alloc: Global, script: Script, row: &Row<'_>) {
+    let (mut memory, mut pool) = begin(rt, alloc, row.free);
     let root = frame_at(ROOT);
-    assert_fits(rt, alloc, &memory, &IdentityMapping, root, &pool)?;
+    assert_fits(rt, alloc, &memory, &IdentityMapping, root, &pool);
     let mut mapper = MappedPageTable::new(&mut memory, root, IdentityMapping);
     play(rt, script, &mut mapper, &mut pool);
     drop(mapper);
@@ -341,21 +335,16 @@ fn check_direct(
 }
 
 /// Makes the calls of a script through windows, and compares what is left: the entry for the root itself besides.
-fn check_recursive(
-    rt: impl Abort + Copy,
-    alloc: Global,
-    script: Script,
-    row: &Row<'_>,
-) -> Result<(), Fail> {
-    let (mut memory, mut pool) = begin_by(alloc, RECURSIVE, row.free)?;
+fn check_recursive(rt: impl Abort + Copy, alloc: Global, script: Script, row: &Row<'_>) {
+    let (mut memory, mut pool) = begin_by(rt, alloc, RECURSIVE, row.free);
     let (root, index) = (frame_at(ROOT), PageTableIndex::new(RECURSIVE_INDEX));
-    assert_fits_recursive(rt, alloc, &memory, root, index, &pool)?;
+    assert_fits_recursive(rt, alloc, &memory, root, index, &pool);
     let active = ActiveMemory::new(&mut memory, root);
     let mut mapper = RecursivePageTable::new_unchecked(active, index);
     play(rt, script, &mut mapper, &mut pool);
     drop(mapper);
-    let mut words = vec![in alloc; (ROOT, RECURSIVE_INDEX, SELF_ENTRY)]?;
-    words.extend_from_slice(row.words)?;
+    let mut words = unwrap(rt, vec![in alloc; (ROOT, RECURSIVE_INDEX, SELF_ENTRY)]);
+    unwrap(rt, words.extend_from_slice(row.words));
     let left = Row {
         words: &words,
         ..*row
@@ -371,10 +360,9 @@ const SCRIPTS: [(Script, Row<'static>, Row<'static>); 3] = [
 ];
 
 #[test]
-fn mappers_answer_single_calls(rt: HostRuntime) -> Result<(), Fail> {
+fn mappers_answer_single_calls(rt: HostRuntime) {
     for (script, direct, recursive) in &SCRIPTS {
-        check_direct(rt, rt.alloc(), *script, direct)?;
-        check_recursive(rt, rt.alloc(), *script, recursive)?;
+        check_direct(rt, rt.alloc(), *script, direct);
+        check_recursive(rt, rt.alloc(), *script, recursive);
     }
-    Ok(())
 }

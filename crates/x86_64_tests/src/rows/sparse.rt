@@ -3,11 +3,10 @@ use super::{
     By, EACH, FIRST, Row, answer_exchanges, check_fits, compare_pool, compare_word, put_self_entry,
     wanted_word, words_by,
 };
-use crate::assertions::assert_equal;
+use crate::assertions::{assert_equal, unwrap, unwrap_some};
 use crate::images::{ROOT, WORD_COUNT, fill, frame_at, page_at, pool_of, set_word};
 use std::alloc::Global;
 use std::process::Abort;
-use std::test::Fail;
 use x86_64::structures::paging::{MappedPageTable, Mapper, Size4KiB, Translate};
 use x86_64::{
     FramePlace, FramePool, IdentityMapping, PhysAddr, PhysMemory, VirtAddr, is_valid_hierarchy,
@@ -31,31 +30,25 @@ const PAST_THE_GAP: Row<'static> = Row {
 };
 
 /// Makes a memory of numbered places.
-fn memory_at(alloc: Global, places: &[u64]) -> Result<PhysMemory, Fail> {
+fn memory_at(rt: impl Abort + Copy, alloc: Global, places: &[u64]) -> PhysMemory {
     let memory = PhysMemory::with_places(alloc, places).ok();
-    Ok(memory.ok_or("places that rise")?)
+    unwrap_some(rt, memory)
 }
 
 /// Makes an empty root in the memory, and free frames that are full of ones.
-fn begin(alloc: Global, by: By) -> Result<(PhysMemory, FramePool), Fail> {
-    let mut memory = memory_at(alloc, &PLACES)?;
+fn begin(rt: impl Abort + Copy, alloc: Global, by: By) -> (PhysMemory, FramePool) {
+    let mut memory = memory_at(rt, alloc, &PLACES);
     for frame in PAST_THE_GAP.free {
-        fill(&mut memory, *frame)?;
+        fill(rt, &mut memory, *frame);
     }
-    put_self_entry(&mut memory, by)?;
-    let pool = pool_of(alloc, 0x8_0002, PAST_THE_GAP.free)?;
-    Ok((memory, pool))
+    put_self_entry(rt, &mut memory, by);
+    let pool = pool_of(rt, alloc, 0x8_0002, PAST_THE_GAP.free);
+    (memory, pool)
 }
 
 /// Compares every word of the memory with what the row wants by a mapper.
-fn compare_tables(
-    rt: impl Abort + Copy,
-    alloc: Global,
-    memory: &PhysMemory,
-    by: By,
-    title: &str,
-) -> Result<(), Fail> {
-    let words = words_by(alloc, &PAST_THE_GAP, by)?;
+fn compare_tables(rt: impl Abort + Copy, alloc: Global, memory: &PhysMemory, by: By, title: &str) {
+    let words = words_by(rt, alloc, &PAST_THE_GAP, by);
     let row = Row {
         words: &words,
         ..PAST_THE_GAP
@@ -63,18 +56,17 @@ fn compare_tables(
     for place in PLACES {
         for index in 0..WORD_COUNT {
             let wanted = wanted_word(&row, place * 0x1000, index);
-            compare_word(rt, memory, (place * 0x1000, index, wanted), title)?;
+            compare_word(rt, memory, (place * 0x1000, index, wanted), title);
         }
     }
-    Ok(())
 }
 
 #[test]
-fn tables_are_made_past_a_gap(rt: HostRuntime) -> Result<(), Fail> {
+fn tables_are_made_past_a_gap(rt: HostRuntime) {
     let alloc = rt.alloc();
     for by in EACH {
-        let title = format!(in alloc; "past a gap, by {}", by.name())?;
-        let (mut memory, mut pool) = begin(alloc, by)?;
+        let title = unwrap(rt, format!(in alloc; "past a gap, by {}", by.name()));
+        let (mut memory, mut pool) = begin(rt, alloc, by);
         answer_exchanges(
             rt,
             alloc,
@@ -82,14 +74,13 @@ fn tables_are_made_past_a_gap(rt: HostRuntime) -> Result<(), Fail> {
             by,
             (&mut memory, &mut pool),
             &title,
-        )?;
-        compare_tables(rt, alloc, &memory, by, &title)?;
+        );
+        compare_tables(rt, alloc, &memory, by, &title);
         compare_pool(rt, &pool, &[], &title);
-        check_fits(rt, alloc, by, (&mut memory, &pool), &title)?;
+        check_fits(rt, alloc, by, (&mut memory, &pool), &title);
         assert_equal(rt, memory.len(), 4);
         assert!(rt; memory.table(FramePlace::new(3)).is_none());
     }
-    Ok(())
 }
 
 /// Places of frames up to the highest one, and the words of tables there that map the page 0x1000.
@@ -103,14 +94,19 @@ const FAR_WORDS: [(u64, u16, u64); 4] = [
 ];
 
 #[test]
-fn tables_lie_as_far_apart_as_frames(rt: HostRuntime) -> Result<(), Fail> {
+fn tables_lie_as_far_apart_as_frames(rt: HostRuntime) {
     let alloc = rt.alloc();
-    let mut memory = memory_at(alloc, &FAR_PLACES)?;
+    let mut memory = memory_at(rt, alloc, &FAR_PLACES);
     for (frame, index, word) in FAR_WORDS {
-        set_word(&mut memory, frame, index, word)?;
+        set_word(rt, &mut memory, frame, index, word);
     }
     let root = frame_at(ROOT);
-    assert!(rt; is_valid_hierarchy(alloc, &memory, &IdentityMapping, root)?);
+    assert!(rt;
+        unwrap(
+            rt,
+            is_valid_hierarchy(alloc, &memory, &IdentityMapping, root)
+        )
+    );
     let mut mapper = MappedPageTable::new(&mut memory, root, IdentityMapping);
     assert_equal(
         rt,

@@ -3,11 +3,10 @@ use super::{
     EACH, Exchange, FIRST, LEVEL_1, LEVEL_2, LEVEL_3, LEVEL_4, MAPPED, Row, WORDS,
     answer_exchanges, answer_row, compare_by,
 };
-use crate::assertions::assert_equal;
+use crate::assertions::{assert_equal, unwrap};
 use crate::images::{fill, frame_at};
 use crate::turns::PageTurn::MapTo;
 use crate::turns::Turn::Small;
-use std::test::Fail;
 use x86_64_plain::Answer::Refused;
 use x86_64_plain::PlainReply::Answered;
 use x86_64_plain::Refusal::FrameAllocationFailed;
@@ -62,17 +61,19 @@ const TWO_MORE: Row<'static> = Row {
 };
 
 #[test]
-fn maps_go_on_once_there_are_frames(rt: HostRuntime) -> Result<(), Fail> {
+fn maps_go_on_once_there_are_frames(rt: HostRuntime) {
     let alloc = rt.alloc();
     for by in EACH {
-        let title = format!(in alloc; "one frame, then two more, by {}", by.name())?;
-        let (mut memory, mut pool) = answer_row(rt, alloc, &ONE_FRAME, by, &title)?;
+        let title = unwrap(
+            rt,
+            format!(in alloc; "one frame, then two more, by {}", by.name()),
+        );
+        let (mut memory, mut pool) = answer_row(rt, alloc, &ONE_FRAME, by, &title);
         for frame in TWO_MORE.free {
-            fill(&mut memory, *frame)?;
+            fill(rt, &mut memory, *frame);
             assert_equal(rt, pool.try_add(frame_at(*frame)), Ok(()));
         }
-        answer_exchanges(rt, alloc, &TWO_MORE, by, (&mut memory, &mut pool), &title)?;
-        compare_by(rt, alloc, by, (&memory, &pool), &TWO_MORE, &title)?;
+        answer_exchanges(rt, alloc, &TWO_MORE, by, (&mut memory, &mut pool), &title);
+        compare_by(rt, alloc, by, (&memory, &pool), &TWO_MORE, &title);
     }
-    Ok(())
 }
