@@ -14,7 +14,7 @@ clean_up_57_by-requires g c =
     let serves = serves_below pool.limit in
     let words_then = words_of c.args.memory.now identity_places in
     let tested = subst (λ r. IfOk r (λ b. IsTrue b ↔ Fits 5 None words_then root (paths_of 5 words_then root) serves pool.frames))
-        c.unwrap.ensures c.pool_fits_57.ensures in
+    c.unwrap.ensures c.pool_fits_57.ensures in
     let holds : c.unwrap.result ≡ true = search rules in
     may_clean_up _ serves pool.frames
     (subst₂ (λ (l : Layout) m. Fits l.levels l.window (words l m) l.root (paths l m) serves pool.frames)
