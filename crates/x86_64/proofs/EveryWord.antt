@@ -10,12 +10,13 @@ use Rattle.x86_64_model.specs.Memory.{Memory, Words, IsMapping, word, set_word}
 use Rattle.x86_64_model.specs.PathMap.{PathMap, entry, table_at}
 use Rattle.x86_64_model.specs.Pool.{IsOwn, IsTable}
 use Rattle.x86_64_model.specs.Window.{Window, IsValidFor}
+use Rattle.x86_64_model.proofs.Lemmas.Hierarchies.Elsewhere.{same_word}
 use Rattle.x86_64_model.proofs.Lemmas.Hierarchies.Held.{word-set_frame, word-set_index}
 use Rattle.x86_64_model.proofs.Lemmas.Hierarchies.Memories.{covered}
 use Rattle.x86_64_model.proofs.Lemmas.Machines.Fitting.{own_there}
 use Rattle.x86_64.specs.EveryWord.{EveryWordIsDecided, IsLeft}
 use Rattle.x86_64.specs.Runs.{state_of}
-use Rattle.x86_64.proofs.FreeFrames.{in_or_not, same_word}
+use Rattle.x86_64.proofs.FreeFrames.{in_or_not}
 
 -- numbers that can't differ are equal
 stable : (a b : ℕ) → ((a ≡ b → ⊥) → ⊥) → a ≡ b

@@ -1,12 +1,13 @@
 -- What calls leave of the words of free frames.
-use Rattle.std.proofs.Common.{◌≡◌, ◌⊎◌, inl, inr, ⊎_elim, ℕ, ◌==◌, Bool, true, false, cond, nat_lt, List, [], ◌∷◌, ◌++◌, Option, None, refl, sym, ap, ◌∙◌, subst, append-nil, append_assoc, eqb-true}
+use Rattle.std.proofs.Common.{◌≡◌, ◌⊎◌, inl, inr, ⊎_elim, ℕ, ◌==◌, Bool, true, false, cond, List, [], ◌∷◌, ◌++◌, None, refl, sym, ap, ◌∙◌, subst, append-nil, append_assoc, eqb-true}
 use Rattle.std.proofs.lemmas.Bool.{eqb-false}
 use Rattle.x86_64_model.specs.Layout.{Layout, words, paths}
 use Rattle.x86_64_model.specs.Lists.{In}
 use Rattle.x86_64_model.specs.MapperCalls.{Owns, KeepsOthers}
-use Rattle.x86_64_model.specs.Memory.{Memory, IsMapping, Words, word, word_in}
+use Rattle.x86_64_model.specs.Memory.{Memory, IsMapping, word}
 use Rattle.x86_64_model.specs.Pool.{IsTable, IsGiving, given_back}
 use Rattle.x86_64_model.proofs.Lemmas.CleanUps.Trees.{given_frames}
+use Rattle.x86_64_model.proofs.Lemmas.Hierarchies.Elsewhere.{same_word}
 use Rattle.x86_64_model.proofs.Lemmas.Hierarchies.Memories.{covered}
 use Rattle.x86_64_model.proofs.Lemmas.Lists.Members.{in_left, in_right, in_append}
 use Rattle.x86_64_model.proofs.Lemmas.Machines.Fitting.{own_there}
@@ -79,10 +80,6 @@ in_or_not (g ∷ fs) f = by (g == f) refl (in_or_not fs f)
     by : (b : Bool) → (g == f) ≡ b → In fs f ⊎ (In fs f → ⊥) → In (g ∷ fs) f ⊎ (In (g ∷ fs) f → ⊥)
     by true is further = inl (inl (eqb-true g f is))
     by false is further = ⊎_elim (λ i. inl (inr i)) (λ none. inr (λ i. ⊎_elim (eqb-false g f is) none i)) further
-
-pub same_word : (T U : Words) (f i : ℕ) → U f ≡ T f → word U f i ≡ word T f i
-unfolding word
-same_word T U f i same = ap (λ (table : Option (List ℕ)). cond (nat_lt i 512) (word_in table i) 0) same
 
 module _ (l : Layout) (m n o : Memory) (pool rest last back more : List ℕ) (one : KeepsFree l m pool back n rest) (next : KeepsFree l n rest more o last) where
   apart : (f : ℕ) → (In (back ++ more) f → ⊥) → (In back f → ⊥) × (In more f → ⊥)

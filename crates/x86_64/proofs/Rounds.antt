@@ -1,5 +1,6 @@
 -- One more call of a list: what is left to be done after it, with what is done, is what was left before it.
 use Rattle.std.proofs.Common.{zero, suc, ◌≡◌, ◌+◌, ◌<◌, ◌≤◌, ◌++◌, ℕ, Bool, true, false, refl, List, [], ◌∷◌, length, map, drop, get_or, Option, Some, ap, sym, ◌∙◌, subst, append_assoc, add-one, drop-cons, arith}
+use Rattle.std.proofs.Math.Nat.{le_refl}
 use Rattle.std.proofs.Math.Seq.{drop-append_seam}
 use Rattle.std.proofs.lemmas.List.{append-nil, drop_all, drop-append-le, drop-map, length-append, length-map, map-append}
 use Rattle.std.specs.List.{AllByRecursion}
@@ -95,14 +96,11 @@ appended_told before after told e =
 
 -- where none was appended no item is recorded
 pub items_first : {R : Type 0} (items_of : R → List FlushItem) (b : Bool) (before : List R) (held : List FlushItem) → held ≡ held ++ recorded b (items_by items_of (appended before before))
-items_first items_of b before held = sym (ap (λ told. held ++ recorded b (items_by items_of told)) (drop_all (length before) before (leq_refl (length before))) ∙ ap (λ xs. held ++ xs) (recorded_none b) ∙ append-nil held)
+items_first items_of b before held = sym (ap (λ told. held ++ recorded b (items_by items_of told)) (drop_all (length before) before (le_refl (length before))) ∙ ap (λ xs. held ++ xs) (recorded_none b) ∙ append-nil held)
   where
     recorded_none : (b : Bool) → recorded b [] ≡ []
     recorded_none true = refl
     recorded_none false = refl
-
-    leq_refl : (n : ℕ) → n ≤ n
-    leq_refl n = omega arith
 
 -- with room for some there is room for one
 pub room_for_one : (has_room : ℕ → Type 0) → ((n : ℕ) → has_room (n + 1) → has_room n) → (k : ℕ) → has_room (k + 1) → has_room 1

@@ -2,7 +2,7 @@
 use crate::assertions::{assert_equal_in, unwrap};
 use crate::images::{ROOT, WORD_COUNT, frame_at, set_word};
 use crate::rows::{SELF_ENTRY, Word};
-use std::alloc::{AllocError, Global};
+use std::alloc::Global;
 use std::process::Abort;
 use x86_64::structures::paging::PageTableIndex;
 use x86_64::{IdentityMapping, PhysMemory, is_valid_hierarchy, is_valid_recursive};

@@ -2,7 +2,7 @@
 ghost use Rattle.std.specs.Prelude.{◌≡◌, ◌<◌, ◌↔◌, IsTrue};
 ghost use Rattle.x86_64_addr.specs.Levels.{level_number};
 
-use crate::assertions::{assert_equal, assert_equal_at};
+use crate::assertions::{assert_equal, assert_equal_at, unwrap};
 use x86_64_addr::addr::{PhysAddr, PhysAddrNotValid, VirtAddr, VirtAddrNotValid};
 use x86_64_addr::index::{PageOffset, PageTableIndex, PageTableLevel};
 
@@ -140,7 +140,7 @@ fn indices_and_offsets_are_numbers(rt: HostRuntime) {
 fn addresses_have_texts(rt: HostRuntime) {
     let address = VirtAddr::new(0x1000);
     let high = VirtAddr::new_truncate(1 << 47);
-    let text = format!(in rt.alloc(); "{address:?} {high:?}").expect(&rt, "memory");
+    let text = unwrap(rt, format!(in rt.alloc(); "{address:?} {high:?}"));
     assert_equal(
         rt,
         text.as_str(),
@@ -148,12 +148,12 @@ fn addresses_have_texts(rt: HostRuntime) {
     );
     let frame = PhysAddr::new(0x1000);
     let zero = PhysAddr::zero();
-    let text = format!(in rt.alloc(); "{frame:?} {zero:?}").expect(&rt, "memory");
+    let text = unwrap(rt, format!(in rt.alloc(); "{frame:?} {zero:?}"));
     assert_equal(rt, text.as_str(), "PhysAddr(0x1000) PhysAddr(0x0)");
     let error = VirtAddrNotValid(0x8000_0000_0000);
-    let text = format!(in rt.alloc(); "{error:?}").expect(&rt, "memory");
+    let text = unwrap(rt, format!(in rt.alloc(); "{error:?}"));
     assert_equal(rt, text.as_str(), "VirtAddrNotValid(0x800000000000)");
     let error = PhysAddrNotValid(1 << 52);
-    let text = format!(in rt.alloc(); "{error:?}").expect(&rt, "memory");
+    let text = unwrap(rt, format!(in rt.alloc(); "{error:?}"));
     assert_equal(rt, text.as_str(), "PhysAddrNotValid(0x10000000000000)");
 }

@@ -4,7 +4,7 @@ ghost use Rattle.std.specs.Prelude.{◌≡◌, ◌<◌, ◌↔◌, IsTrue};
 mod five_levels;
 mod ranges;
 
-use crate::assertions::{assert_equal, assert_equal_in};
+use crate::assertions::{assert_equal, assert_equal_in, unwrap};
 use std::hash::{DefaultHasher, Hash, Hasher};
 use std::process::Abort;
 use x86_64_addr::addr::{PhysAddr, VirtAddr};
@@ -74,14 +74,14 @@ fn frames_have_texts(rt: HostRuntime) {
     let small = PhysFrame::<Size4KiB>::containing_address(address);
     let large = PhysFrame::<Size2MiB>::containing_address(PhysAddr::new(0x20_0000));
     let giant = PhysFrame::<Size1GiB>::containing_address(address);
-    let text = format!(in rt.alloc(); "{small:?} {large:?} {giant:?}").expect(&rt, "memory");
+    let text = unwrap(rt, format!(in rt.alloc(); "{small:?} {large:?} {giant:?}"));
     assert_equal(
         rt,
         text.as_str(),
         "PhysFrame[4KiB](0x40201000) PhysFrame[2MiB](0x200000) PhysFrame[1GiB](0x40000000)",
     );
     let error = AddressNotAligned;
-    let text = format!(in rt.alloc(); "{error}").expect(&rt, "memory");
+    let text = unwrap(rt, format!(in rt.alloc(); "{error}"));
     assert_equal(
         rt,
         text.as_str(),
@@ -150,7 +150,7 @@ fn pages_have_texts(rt: HostRuntime) {
     let small = Page::<Size4KiB>::containing_address(address);
     let large = Page::<Size2MiB>::containing_address(address);
     let giant = Page::<Size1GiB>::containing_address(address);
-    let text = format!(in rt.alloc(); "{small:?} {large:?} {giant:?}").expect(&rt, "memory");
+    let text = unwrap(rt, format!(in rt.alloc(); "{small:?} {large:?} {giant:?}"));
     assert_equal(
         rt,
         text.as_str(),
@@ -332,7 +332,7 @@ fn frames_have_numbers(rt: HostRuntime) {
         PhysFrame::<Size1GiB>::try_from_pfn(u64::MAX),
         Err(PfnNotValid(u64::MAX)),
     );
-    let text = format!(in rt.alloc(); "{past}").expect(&rt, "memory");
+    let text = unwrap(rt, format!(in rt.alloc(); "{past}"));
     assert_equal(rt, text.as_str(), "PfnNotValid(0x10000000000)");
 }
 

@@ -13,7 +13,6 @@ use crate::pairs::{is_pair_57, none_names_57, run_pair_57_on};
 use crate::rows::{Word, compare_pool};
 use std::alloc::Global;
 use std::process::Abort;
-use std::test::Fail;
 use x86_64::structures::paging::PageTableIndex;
 use x86_64::{
     Call57, FramePool, IdentityMapping, PhysMemory, Reply57, pool_fits_57, pool_fits_recursive_57,

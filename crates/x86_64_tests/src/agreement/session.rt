@@ -9,9 +9,8 @@ use crate::rows::{SELF_ENTRY, Word};
 use crate::streams::Comparison;
 use pagetab_engine::ending::Ending;
 use pagetab_engine::engine::run;
-use std::alloc::{AllocError, Global};
+use std::alloc::Global;
 use std::process::Abort;
-use std::test::Fail;
 use x86_64_plain::words::{address, is_huge};
 use x86_64_plain::{PathEntries, PlainCall, PlainReply, PlainState};
 

@@ -2,7 +2,6 @@
 use super::{SELF_ENTRY, Session, assert_run};
 use crate::assertions::unwrap;
 use pagetab_engine::ending::{Ending, Fault};
-use std::process::Abort;
 
 /// Arguments for a memory of 8 places, one for each way to find tables there, with the line that an image needs
 /// besides. The recursive mapper is the last one: it adds flags to the entries of new tables.

@@ -1,5 +1,5 @@
 //! Lines that are long, and input that goes on for ever.
-use super::{assert_outcome, assert_run, words_of};
+use super::{assert_run, words_of};
 use crate::assertions::{assert_equal, assert_equal_in, unwrap};
 use crate::streams::{Endless, Sink};
 use pagetab_engine::ending::{Ending, Fault};

@@ -1,5 +1,5 @@
 //! Addresses of 57 bits, and levels where there are five.
-use crate::assertions::{assert_equal, assert_equal_at, assert_equal_in};
+use crate::assertions::{assert_equal, assert_equal_at, assert_equal_in, unwrap};
 use x86_64_addr::addr::{VirtAddr57, VirtAddr57NotValid};
 use x86_64_addr::index::{PageOffset, PageTableLevel57};
 
@@ -136,7 +136,7 @@ fn levels_have_neighbours_and_alignments(rt: HostRuntime) {
 fn addresses_have_texts(rt: HostRuntime) {
     let (low, high) = (VirtAddr57::new(0x1000), VirtAddr57::new(FIRST_HIGH));
     let error = VirtAddr57NotValid(1 << 56);
-    let text = format!(in rt.alloc(); "{low:?} {high:?} {error:?}").expect(&rt, "memory");
+    let text = unwrap(rt, format!(in rt.alloc(); "{low:?} {high:?} {error:?}"));
     assert_equal(
         rt,
         text.as_str(),

@@ -1,5 +1,5 @@
 //! Pages of 57 bits, and ranges of them.
-use crate::assertions::assert_equal;
+use crate::assertions::{assert_equal, unwrap};
 use std::hash::{BuildHasher, BuildHasherDefault, DefaultHasher, Hash};
 use std::process::Abort;
 use x86_64_addr::addr::VirtAddr57;
@@ -108,7 +108,7 @@ fn pages_and_ranges_have_texts(rt: HostRuntime) {
     let large = page::<Size2MiB>(UPPER_FIRST);
     let (start, end) = (page::<Size4KiB>(0), page(0x1000));
     let pages = Page57::range_inclusive(start, end);
-    let text = format!(in rt.alloc(); "{large:?} {pages:?}").expect(&rt, "memory");
+    let text = unwrap(rt, format!(in rt.alloc(); "{large:?} {pages:?}"));
     assert_equal(
         rt,
         text.as_str(),

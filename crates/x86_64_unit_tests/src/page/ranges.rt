@@ -1,5 +1,5 @@
 //! Values from outside: lists of pages and of frames from both ends, and the texts.
-use crate::assertions::{assert_equal, assert_equal_at, assert_equal_in};
+use crate::assertions::{assert_equal, assert_equal_at, assert_equal_in, unwrap};
 use std::fmt::Debug;
 use std::hash::{BuildHasher, BuildHasherDefault, DefaultHasher, Hash};
 use std::process::Abort;
@@ -227,7 +227,7 @@ fn ranges_have_texts(rt: HostRuntime) {
     let (start, end) = (page::<Size4KiB>(0), page::<Size4KiB>(0x1000));
     let pages = Page::range(start, end);
     let closed = Page::range_inclusive(start, end);
-    let text = format!(in rt.alloc(); "{pages:?} {closed:?}").expect(&rt, "memory");
+    let text = unwrap(rt, format!(in rt.alloc(); "{pages:?} {closed:?}"));
     assert_equal(
         rt,
         text.as_str(),
@@ -237,7 +237,7 @@ fn ranges_have_texts(rt: HostRuntime) {
     let (start, end) = (frame::<Size2MiB>(0), frame::<Size2MiB>(0x20_0000));
     let frames = PhysFrame::range(start, end);
     let closed = PhysFrame::range_inclusive(start, end);
-    let text = format!(in rt.alloc(); "{frames:?} {closed:?}").expect(&rt, "memory");
+    let text = unwrap(rt, format!(in rt.alloc(); "{frames:?} {closed:?}"));
     assert_equal(
         rt,
         text.as_str(),

@@ -27,7 +27,7 @@ same_outside : (w : Window) (root : ℕ) (T U : Words) (f : ℕ) → U f ≡ T f
 unfolding set_word
 same_outside w root T U f same = ap (λ o. cond (f == root) (option_map (λ words. set words w.index 0) o) o) same
 
-same_word : (T U : Words) (f i : ℕ) → U f ≡ T f → word U f i ≡ word T f i
+pub same_word : (T U : Words) (f i : ℕ) → U f ≡ T f → word U f i ≡ word T f i
 unfolding word
 same_word T U f i same = ap (λ o. cond (nat_lt i 512) (word_in o i) 0) same
 
