@@ -16,7 +16,7 @@ const PLACES: u64 = 0x20;
 const OFFSET: u64 = 0xabc;
 
 /// Says by which call a program is loaded.
-#[derive(Clone, Copy, Debug, PartialEq)]
+#[derive(Clone, Copy)]
 pub enum Way {
     /// By pages of 4KiB alone.
     Small,

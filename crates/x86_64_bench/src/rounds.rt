@@ -28,7 +28,7 @@ const RECURSIVE_INDEX: u16 = 511;
 const ROOT: u64 = 1;
 
 /// Says by which mapper a round is done.
-#[derive(Clone, Copy, Debug, PartialEq)]
+#[derive(Clone, Copy)]
 pub enum Access {
     /// By the one that reaches tables by their frames.
     Direct,
@@ -133,7 +133,7 @@ fn translate_once<S: PageSize, M: Subject<S>>(mapper: &M, workload: Workload, or
 }
 
 /// Names an operation that is measured.
-#[derive(Clone, Copy, Debug, PartialEq)]
+#[derive(Clone, Copy)]
 pub enum Operation {
     /// The maps of all pages.
     Map,
@@ -166,7 +166,7 @@ impl Operation {
 }
 
 /// Says how often an operation was done, and how long all of these took.
-#[derive(Clone, Copy, Debug)]
+#[derive(Clone, Copy)]
 pub struct Part {
     /// How often the operation was done and succeeded.
     pub count: u64,
@@ -175,7 +175,7 @@ pub struct Part {
 }
 
 /// Says what a round did.
-#[derive(Clone, Copy, Debug)]
+#[derive(Clone, Copy)]
 pub struct Round {
     calls: Calls,
     clean_up: Part,
@@ -196,7 +196,7 @@ impl Round {
 }
 
 /// Says what the calls on pages did.
-#[derive(Clone, Copy, Debug)]
+#[derive(Clone, Copy)]
 struct Calls {
     map: Part,
     translate: Part,

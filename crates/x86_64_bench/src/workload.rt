@@ -12,7 +12,7 @@ const SCATTERED_PAGES: u64 = 1 << 22;
 const FIRST_FRAME: u64 = 1 << 20;
 
 /// Says which pages are mapped.
-#[derive(Clone, Copy, Debug, PartialEq)]
+#[derive(Clone, Copy)]
 pub enum Pattern {
     /// Page after page, from page 0 on.
     Contiguous,
@@ -21,7 +21,7 @@ pub enum Pattern {
 }
 
 /// Names pages and frames of any size, by the order in which they are mapped.
-#[derive(Clone, Copy, Debug)]
+#[derive(Clone, Copy)]
 pub struct Workload {
     /// How many pages are mapped.
     pub pages: u32,

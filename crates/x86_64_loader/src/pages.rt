@@ -13,7 +13,7 @@ use x86_64::structures::paging::{
 };
 
 /// Says where a run of pages was stopped.
-#[derive(Clone, Copy, Debug, PartialEq)]
+#[derive(Clone, Copy)]
 pub(crate) struct Stopped<S: PageSize> {
     /// How many pages were mapped before the one that was refused.
     pub(crate) mapped: u64,

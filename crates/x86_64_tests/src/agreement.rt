@@ -4,7 +4,8 @@
 //! pair, of the first one, which the program shows): those of the root and of each table with the plain state's entries at their
 //! paths, or with the root's entry for itself; those of free frames, which are 0 where a clean up gave the frame back, and else what
 //! they were; and those of the other frames with what they were. At the end each kind of reply that a command of four levels can
-//! have was met, and of the one of five levels alone.
+//! have was met, and of the one of five levels alone. There each call is a list of one; in [`lists`] lists of many calls by the same
+//! rule are answered by the library, with five levels.
 mod calls57;
 mod chooser;
 mod lists;
