@@ -32,8 +32,12 @@ abbrev pub lines_in : Option (List ℕ) → Option (List Numbered)
 lines_in known = option_map (λ input. numbered_from 1 (lines_of input)) known
 
 -- what a reader has left whose lines are not read yet
-pub first_left : (number : ℕ) (left remaining : Option (List ℕ)) → number ≡ 0 → left ≡ remaining → option_map (λ bytes. numbered_from (suc number) (lines_of bytes)) left ≡ lines_in remaining
+first_left : (number : ℕ) (left remaining : Option (List ℕ)) → number ≡ 0 → left ≡ remaining → option_map (λ bytes. numbered_from (suc number) (lines_of bytes)) left ≡ lines_in remaining
 first_left number left remaining none same = ap (λ n. option_map (λ bytes. numbered_from (suc n) (lines_of bytes)) left) none ∙ ap lines_in same
+
+-- what is so of all lines is so of those of the input
+pub of_input : (P : List Numbered → Type 0) (number : ℕ) (left remaining : Option (List ℕ)) → number ≡ 0 → left ≡ remaining → IfSome (option_map (λ bytes. numbered_from (suc number) (lines_of bytes)) left) P → IfSome (lines_in remaining) P
+of_input P number left remaining none same = subst (λ (lines : Option (List Numbered)). IfSome lines P) (first_left number left remaining none same)
 
 module _ (words : List (List ℕ)) (known : Option (List ℕ)) (old : Option (List ℕ)) where
   -- a run that stops before it reads

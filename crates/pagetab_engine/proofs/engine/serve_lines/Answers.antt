@@ -1,10 +1,10 @@
-use Rattle.std.proofs.Common.{rules, ◌≡◌, List, [], Option, Some, None, Err, IfSome, subst}
+use Rattle.std.proofs.Common.{rules, ◌≡◌, [], Some, None, Err}
 use Rattle.pagetab_engine.specs.Hierarchy.{FitsImage}
-use Rattle.pagetab_engine.specs.Lines.{Numbered, lines_left}
+use Rattle.pagetab_engine.specs.Lines.{lines_left}
 use Rattle.pagetab_engine.specs.Program.{IsFirst, LoadsImage, Reads, ending_of}
 use Rattle.pagetab_engine.specs.declared.ending.Ending.TheVariants.{Stopped}
 use Rattle.pagetab_engine.specs.declared.ending.Fault.TheVariants.{OutOfMemory}
-use Rattle.pagetab_engine.proofs.WholeRun.{first_left, stops_in_image, not_tested, not_fitting, no_commands, commands}
+use Rattle.pagetab_engine.proofs.WholeRun.{of_input, stops_in_image, not_tested, not_fitting, no_commands, commands}
 use Rattle.pagetab_engine.proofs.engine.serve_lines.Goals as goal
 
 pub returns-in_err-first : goal.returns-in_err-first
@@ -14,8 +14,8 @@ returns-in_err-first g c =
     let arguments = c.args.arguments.now in
     let empty = c.args.hierarchy.now in
     let fault = c.in_err-first.field-0.0 in
-    let lines = first_left c.new-lines.result.number _ _ c.new-lines.ensures.number c.new-lines.ensures.bytes in
-    let reads = subst (λ (left : Option (List Numbered)). IfSome left (λ lines. Reads arguments lines empty (Stopped fault) [])) lines c.in_err-first.ensures.stopped in
+    let reads = of_input (λ lines. Reads arguments lines empty (Stopped fault) []) c.new-lines.result.number _ _
+    c.new-lines.ensures.number c.new-lines.ensures.bytes c.in_err-first.ensures.stopped in
     let told : c.from_residual.result ≡ Err fault = search rules in
     rw told (stops_in_image known held arguments empty fault reads)
 
@@ -27,8 +27,8 @@ returns-in_err-end_image g c =
     let empty = c.args.hierarchy.now in
     let left = lines_left g.R.Read.remaining c.read_image.new.lines in
     let image = c.read_image.new.hierarchy in
-    let lines = first_left c.new-lines.result.number _ _ c.new-lines.ensures.number c.new-lines.ensures.bytes in
-    let loaded = subst (λ (known : Option (List Numbered)). IfSome known (λ lines. LoadsImage arguments lines empty c.in_ok-first.first left image)) lines c.in_ok-first.ensures.read in
+    let loaded = of_input (λ lines. LoadsImage arguments lines empty c.in_ok-first.first left image) c.new-lines.result.number _ _
+    c.new-lines.ensures.number c.new-lines.ensures.bytes c.in_ok-first.ensures.read in
     let told : c.from_residual-in_err-end_image.result ≡ Err OutOfMemory = search rules in
     rw told (not_tested known held arguments empty image c.in_ok-first.first left loaded)
 
@@ -40,8 +40,8 @@ returns-then-not-branch g c =
     let empty = c.args.hierarchy.now in
     let left = lines_left g.R.Read.remaining c.read_image.new.lines in
     let image = c.read_image.new.hierarchy in
-    let lines = first_left c.new-lines.result.number _ _ c.new-lines.ensures.number c.new-lines.ensures.bytes in
-    let loaded = subst (λ (known : Option (List Numbered)). IfSome known (λ lines. LoadsImage arguments lines empty c.in_ok-first.first left image)) lines c.in_ok-first.ensures.read in
+    let loaded = of_input (λ lines. LoadsImage arguments lines empty c.in_ok-first.first left image) c.new-lines.result.number _ _
+    c.new-lines.ensures.number c.new-lines.ensures.bytes c.in_ok-first.ensures.read in
     let never : ¬ (FitsImage image) = search rules in
     not_fitting known held arguments empty image c.in_ok-first.first left loaded never
 
@@ -53,8 +53,8 @@ returns-in-Some g c =
     let empty = c.args.hierarchy.now in
     let left = lines_left g.R.Read.remaining c.read_image.new.lines in
     let image = c.read_image.new.hierarchy in
-    let lines = first_left c.new-lines.result.number _ _ c.new-lines.ensures.number c.new-lines.ensures.bytes in
-    let loaded = subst (λ (known : Option (List Numbered)). IfSome known (λ lines. LoadsImage arguments lines empty c.in_ok-first.first left image)) lines c.in_ok-first.ensures.read in
+    let loaded = of_input (λ lines. LoadsImage arguments lines empty c.in_ok-first.first left image) c.new-lines.result.number _ _
+    c.new-lines.ensures.number c.new-lines.ensures.bytes c.in_ok-first.ensures.read in
     let fits : FitsImage image = search rules in
     let ready = c.end_image.new.self in
     let is_first : IsFirst image ready = search rules in
@@ -70,8 +70,8 @@ returns-in-None g c =
     let empty = c.args.hierarchy.now in
     let left = lines_left g.R.Read.remaining c.read_image.new.lines in
     let image = c.read_image.new.hierarchy in
-    let lines = first_left c.new-lines.result.number _ _ c.new-lines.ensures.number c.new-lines.ensures.bytes in
-    let loaded = subst (λ (known : Option (List Numbered)). IfSome known (λ lines. LoadsImage arguments lines empty c.in_ok-first.first left image)) lines c.in_ok-first.ensures.read in
+    let loaded = of_input (λ lines. LoadsImage arguments lines empty c.in_ok-first.first left image) c.new-lines.result.number _ _
+    c.new-lines.ensures.number c.new-lines.ensures.bytes c.in_ok-first.ensures.read in
     let fits : FitsImage image = search rules in
     let ready = c.end_image.new.self in
     let is_first : IsFirst image ready = search rules in
