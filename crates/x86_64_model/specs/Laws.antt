@@ -3,6 +3,7 @@ pub mod Successors
 pub mod Hierarchies
 pub mod Walks
 pub mod Maps
+pub mod PageMappings
 pub mod Standing
 pub mod CleanUps
 pub mod Steps

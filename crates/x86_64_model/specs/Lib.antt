@@ -14,6 +14,7 @@ pub mod Translation
 pub mod WrittenOut
 pub mod Refusal
 pub mod MapRule
+pub mod PageMappings
 pub mod PageRules
 pub mod CleanUp
 pub mod Pool

@@ -3,6 +3,7 @@
 pub mod clean_ups;
 pub mod hierarchies;
 pub mod maps;
+pub mod page_mappings;
 pub mod pairs;
 pub mod pools;
 pub mod positions;

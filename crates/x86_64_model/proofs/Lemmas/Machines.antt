@@ -8,9 +8,12 @@ pub mod Fitting
 pub mod Flushes
 pub mod Giving
 pub mod Laws
+pub mod MappedPages
 pub mod Owners
+pub mod PageMappings
 pub mod Refused
 pub mod RunWalks
+pub mod Runs
 pub mod Spares
 pub mod Standing
 pub mod States

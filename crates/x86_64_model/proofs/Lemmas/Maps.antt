@@ -6,6 +6,7 @@ pub mod Flags
 pub mod Frames
 pub mod Leaves
 pub mod Mapped
+pub mod Missing
 pub mod PageCalls
 pub mod Rights
 pub mod Standing

@@ -1,4 +1,5 @@
 pub mod Addresses
+pub mod Apart
 pub mod Begins
 pub mod Pages
 pub mod Puts

@@ -8,9 +8,9 @@ use Rattle.x86_64_model.specs.Hierarchy.{IsValid}
 use Rattle.x86_64_model.specs.Window.{Window, entry_at}
 use Rattle.x86_64_model.specs.PageWalk.{page_walk}
 use Rattle.x86_64_model.specs.Translation.{translate, Mapped}
-use Rattle.x86_64_model.specs.Refusal.{Done, Refused, ParentEntryHugePage, FrameAllocationFailed}
+use Rattle.x86_64_model.specs.Refusal.{Done, Refused, PageNotMapped, ParentEntryHugePage, FrameAllocationFailed}
 use Rattle.x86_64_model.specs.MapRule.{map_call}
-use Rattle.x86_64_model.specs.PageRules.{update_flags}
+use Rattle.x86_64_model.specs.PageRules.{unmap, update_flags, translate_page, set_flags}
 use Rattle.x86_64_model.specs.Pool.{Fits}
 use Rattle.x86_64_model.specs.Alike.{Alike}
 
@@ -105,6 +105,42 @@ huge_memory = insert (insert (empty {X = List ℕ} {R = nat_cmp}) 1 (0x2003 ∷ 
 pub record HugeBelowTheRoot : Type 0 where
   pub four_levels : page_walk 4 (words_of huge_memory identity_places) 0x1000 0x1abc ≡ Some (record { address = 0x1abc; write = true; user = false })
   pub five_levels : page_walk 5 (words_of huge_memory identity_places) 0x1000 0x1abc ≡ None
+
+-- ---- where several refusals hold, the first in order is answered, and nothing changes
+
+-- the 4KiB page 0x1000, whose entry has HUGE_PAGE and lacks PRESENT
+unfoldable pub huge_page_absent : PathMap
+huge_page_absent = put three_tables (0 ∷ 0 ∷ 0 ∷ 1 ∷ []) 0x5080
+
+-- a huge entry of level three, below a table that the root names without PRESENT
+unfoldable pub huge_below_absent : PathMap
+huge_below_absent = put (put nothing_mapped (0 ∷ []) 0x2002) (0 ∷ 0 ∷ []) 0x4000_0083
+
+-- a huge entry of level three without PRESENT, below a table
+unfoldable pub huge_absent : PathMap
+huge_absent = put (put nothing_mapped (0 ∷ []) 0x2003) (0 ∷ 0 ∷ []) 0x4000_0080
+
+pub record FirstRefusals : Type 0 where
+  -- a page without PRESENT isn't mapped, also with HUGE_PAGE
+  pub unmap_absent : unmap 4 (entry_at None huge_page_absent) huge_page_absent (0 ∷ 0 ∷ 0 ∷ 1 ∷ [])
+      ≡ record { paths = huge_page_absent; answer = Refused PageNotMapped }
+  -- a table in the place of a 2MiB page is refused as one, whatever its address
+  pub unmap_table : unmap 4 (entry_at None three_tables) three_tables (0 ∷ 0 ∷ 0 ∷ [])
+      ≡ record { paths = three_tables; answer = Refused ParentEntryHugePage }
+  -- an unused 2MiB page isn't mapped, and has no address that could be refused
+  pub translate_unused : translate_page 4 (entry_at None three_tables) (0 ∷ 0 ∷ 1 ∷ []) ≡ Refused PageNotMapped
+  -- a parent refuses before the page's own entry does: a 4KiB page below a huge one of 2MiB
+  pub parent_first : unmap 4 (entry_at None large_mapped) large_mapped (0 ∷ 0 ∷ 1 ∷ 1 ∷ [])
+      ≡ record { paths = large_mapped; answer = Refused ParentEntryHugePage }
+  -- of the parents the shortest one refuses
+  pub shortest_parent : unmap 4 (entry_at None huge_below_absent) huge_below_absent (0 ∷ 0 ∷ 0 ∷ [])
+      ≡ record { paths = huge_below_absent; answer = Refused PageNotMapped }
+  -- below a parent without PRESENT nothing is mapped, also with HUGE_PAGE
+  pub absent_parent : unmap 4 (entry_at None huge_absent) huge_absent (0 ∷ 0 ∷ 0 ∷ [])
+      ≡ record { paths = huge_absent; answer = Refused PageNotMapped }
+  -- a level that isn't above the page's own is refused, also where nothing is mapped
+  pub level_first : set_flags 4 (entry_at None nothing_mapped) nothing_mapped 2 (0 ∷ 0 ∷ 0 ∷ []) 3
+      ≡ record { paths = nothing_mapped; answer = Refused ParentEntryHugePage }
 
 -- ---- path maps that differ in WRITABLE
 

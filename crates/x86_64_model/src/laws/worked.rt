@@ -1,5 +1,5 @@
 // Worked examples: what the definitions say of a few small hierarchies.
-ghost use Rattle.x86_64_model.specs.Laws.Worked.{SmallMap, PageWithoutPresent, LargeMap, MapBelowHuge, SharedTableIsInvalid, SmallMapFive, LargeMapFive, HugeBelowTheRoot, AlikeButForTables, SomePoolFits};
+ghost use Rattle.x86_64_model.specs.Laws.Worked.{SmallMap, PageWithoutPresent, LargeMap, MapBelowHuge, SharedTableIsInvalid, SmallMapFive, LargeMapFive, HugeBelowTheRoot, FirstRefusals, AlikeButForTables, SomePoolFits};
 
 /// The first map of a 4KiB page: what it leaves, and where `translate` and the walk then find an address.
 #[tactic(auto, using(crate::proofs::Lemmas::Worked::FourLevels::small))]
@@ -47,6 +47,12 @@ pub fn first_map_of_a_2mib_page_with_five_levels()
 #[tactic(auto, using(crate::proofs::Lemmas::Worked::FiveLevels::huge_below_root))]
 pub fn huge_entries_above_level_three_lead_nowhere()
     ensures { HugeBelowTheRoot }
+{}
+
+/// Where several refusals hold of a page's entry or of its parents, the first in order is answered.
+#[tactic(auto, using(crate::proofs::Lemmas::Worked::Refusals::first_refusals))]
+pub fn the_first_refusal_is_answered()
+    ensures { FirstRefusals }
 {}
 
 /// Path maps that differ in WRITABLE of table entries are alike, and those that differ in WRITABLE of a page's own entry are not.

@@ -1,5 +1,5 @@
 -- What holds of every element of a list.
-use Rattle.std.proofs.Common.{◌≡◌, ◌&&◌, ◌||◌, inl, inr, Bool, true, false, cond, List, [], ◌∷◌, filter, map, refl, sym, ap, ap₂, ◌∙◌}
+use Rattle.std.proofs.Common.{◌≡◌, ◌&&◌, ◌||◌, inl, inr, Bool, true, false, cond, List, [], ◌∷◌, filter, map, refl, sym, ap, ap₂, ◌∙◌, subst}
 use Rattle.std.specs.List.{list_all, list_any, AllByRecursion}
 use Rattle.std.proofs.lemmas.Bool.{and_parts}
 use Rattle.x86_64_model.specs.Lists.{In}
@@ -11,6 +11,11 @@ every P h (x ∷ xs) = (h x, every P h xs)
 pub every_in : {X : Type 0} (P : X → Type 0) (xs : List X) → ((x : X) → In xs x → P x) → AllByRecursion P xs
 every_in P [] h = tt
 every_in P (x ∷ xs) h = (h x (inl refl), every_in P xs (λ y i. h y (inr i)))
+
+pub at_member : {X : Type 0} (P : X → Type 0) (xs : List X) → AllByRecursion P xs → (x : X) → In xs x → P x
+at_member P [] h x i = absurd i
+at_member P (y ∷ ys) h x (inl is) = subst P is h.0
+at_member P (y ∷ ys) h x (inr i) = at_member P ys h.1 x i
 
 pub all_mapped : {X : Type 0} (P Q : X → Type 0) → ((x : X) → P x → Q x) → (xs : List X) → AllByRecursion P xs → AllByRecursion Q xs
 all_mapped P Q f [] h = tt

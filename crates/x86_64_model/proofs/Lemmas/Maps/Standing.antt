@@ -15,7 +15,7 @@ use Rattle.x86_64_model.proofs.Lemmas.Entries.Bits.{has_or, unused_zero, used_pr
 use Rattle.x86_64_model.proofs.Lemmas.Hierarchies.Changes.{zero_not_huge}
 use Rattle.x86_64_model.proofs.Lemmas.Hierarchies.Trees.{tree_of_holds}
 use Rattle.x86_64_model.proofs.Lemmas.Machines.Spares.{length_path}
-use Rattle.x86_64_model.proofs.Lemmas.Lists.All.{all_both, all_mapped}
+use Rattle.x86_64_model.proofs.Lemmas.Lists.All.{all_both, all_mapped, at_member}
 use Rattle.x86_64_model.proofs.Lemmas.Lists.Members.{in_map}
 use Rattle.x86_64_model.proofs.Lemmas.Maps.Accepted.{map_ind, map_makes, added_there}
 use Rattle.x86_64_model.proofs.Lemmas.Maps.Arrives.{asks_map_to, part_is_flags, parents_lead}
@@ -130,11 +130,6 @@ front_is_parent (i ∷ j ∷ t) (suc zero) (suc (suc n)) low less fits = inl ref
 front_is_parent (i ∷ j ∷ t) (suc (suc k)) (suc (suc n)) low less fits =
     inr (in_map (λ p. i ∷ p) _ _ (front_is_parent (j ∷ t) (suc k) (suc n) (omega arith) (omega (arith, less)) (omega (arith, fits))))
 
-at : {X : Type 0} (P : X → Type 0) (xs : List X) → AllByRecursion P xs → (x : X) → In xs x → P x
-at P [] h x i = absurd i
-at P (y ∷ ys) h x (inl is) = subst P is h.0
-at P (y ∷ ys) h x (inr i) = at P ys h.1 x i
-
 module _ (more added : ℕ) (q : List ℕ) (e frame : ℕ) where
   -- an accepted map finds its page unused, and no page above it
   abbrev Fresh : PathMap → List ℕ → List (List ℕ) → AfterMap → Type 0
@@ -165,12 +160,12 @@ standing_refuses L level T root M supply more added q frame given holds nonempty
       | inl lower ↦
           let inside : In (parents q) page = subst₂ (λ q r. In (parents q) r) front_q front_page (front_is_parent path (length page) (length q) stands.asks.nonempty lower (omega (arith, whole, short))) in
           let large = own_huge L level M page f flags stands (ne_eqb (length page) L (λ is. omega (arith, is, lower, short))) in
-          let t : true ≡ false = sym (ap₂ (λ u h. u && h) own large) ∙ at _ (parents q) fresh.1 page inside in cc
+          let t : true ≡ false = sym (ap₂ (λ u h. u && h) own large) ∙ at_member _ (parents q) fresh.1 page inside in cc
       | inr not_lower ↦ elim (cases_lt (length q) (length page)) [
         | inl higher ↦
             let fits : length page ≤ L = let l = stands.asks.at_level in let low = stands.asks.low in omega (arith, l, low) in
             let inside : In (parents page) q = subst₂ (λ q r. In (parents q) r) front_page front_q (front_is_parent path (length q) (length page) nonempty higher (omega (arith, whole, fits))) in
-            let parent : IsParent (parent_part flags) (entry M q) = at _ (parents page) stands.below q inside in
+            let parent : IsParent (parent_part flags) (entry M q) = at_member _ (parents page) stands.below q inside in
             let t : true ≡ false = sym (and_parts _ _ parent.is_table).0 ∙ fresh.0 in cc
         | inr not_higher ↦
             let same : length page ≡ length q = omega (arith, not_lower, not_higher) in

@@ -1,0 +1,80 @@
+-- Laws of pages that are mapped one after the other.
+use Rattle.std.specs.Prelude.{◌≡◌, ◌<◌, ◌≤◌, ◌%◌, ℕ, Bool, true, false, List, [], ◌∷◌, None, length, map}
+use Rattle.std.specs.List.{AllByRecursion}
+use Rattle.x86_64_model.specs.Allowed.{allowed}
+use Rattle.x86_64_model.specs.Arrivals.{Asks}
+use Rattle.x86_64_model.specs.Call.{Answered}
+use Rattle.x86_64_model.specs.Entry.{used, present}
+use Rattle.x86_64_model.specs.Laws.Steps.{FitsState}
+use Rattle.x86_64_model.specs.Laws.Worked.{nothing_mapped, four_frames}
+use Rattle.x86_64_model.specs.Lists.{In}
+use Rattle.x86_64_model.specs.Machine.{Machine, IsMachine, State, replies_of, state_after}
+use Rattle.x86_64_model.specs.Memory.{Words}
+use Rattle.x86_64_model.specs.PageMappings.{PageMapping, IsUnmapped, EachApart, entry_path, map_call_of, map_calls, accepted}
+use Rattle.x86_64_model.specs.Path.{parents}
+use Rattle.x86_64_model.specs.PathMap.{PathMap, entry}
+use Rattle.x86_64_model.specs.Position.{span, position_count}
+use Rattle.x86_64_model.specs.Refusal.{Done}
+use Rattle.x86_64_model.specs.Standing.{StandsAt}
+
+-- the page starts at a position that is a multiple of its size, may be mapped with PRESENT, and is not mapped
+pub record IsMappable (m : Machine) (paths : PathMap) (x : PageMapping) : Type 0 where
+  pub low : 1 ≤ x.level
+  pub high : x.level ≤ 3
+  pub levels : x.level ≤ m.levels
+  pub multiple : x.page % span x.level ≡ 0
+  pub inside : x.page < position_count m.levels
+  pub is_present : present x.flags ≡ true
+  pub unmapped : IsUnmapped paths (entry_path m.levels x)
+  pub allowed : allowed m.levels m.window paths (map_call_of m.levels x) ≡ true
+
+-- each parent of the page that has no entry is among these paths
+abbrev pub HasMissing : (L : ℕ) → PathMap → (tables : List (List ℕ)) → PageMapping → Type 0
+HasMissing L paths tables x = AllByRecursion (λ p. used (entry paths p) ≡ false → In tables p) (parents (entry_path L x))
+
+-- Pages that may be mapped with PRESENT, none of which is mapped, and which lie apart from each other, are all mapped if the pool has a frame
+-- for each table that is missing on their ways.
+abbrev pub MappingsSucceed : Type 0
+MappingsSucceed = (m : Machine) → IsMachine m → (T : Words) (root : ℕ) (serves : ℕ → Bool) (s : State) → FitsState m T root serves s
+    → (xs : List PageMapping) → AllByRecursion (IsMappable m s.paths) xs → EachApart xs
+    → (tables : List (List ℕ)) → AllByRecursion (HasMissing m.levels s.paths tables) xs → length tables ≤ length s.pool
+    → replies_of m s (map_calls m.levels xs) ≡ map accepted xs
+
+-- ---- pages that stand
+
+-- what the page's `map_to` asks for: flags with PRESENT, and a frame of the page's size
+abbrev pub AsksFor : (L : ℕ) → PageMapping → Type 0
+AsksFor L x = Asks L x.level (entry_path L x) x.frame x.flags
+
+-- After pages that are all mapped with PRESENT each of them stands, and so does each that stood before.
+abbrev pub MappingsStand : Type 0
+MappingsStand = (m : Machine) → IsMachine m → (T : Words) (root : ℕ) (serves : ℕ → Bool) (s : State) → FitsState m T root serves s
+    → (xs : List PageMapping) → AllByRecursion (AsksFor m.levels) xs → replies_of m s (map_calls m.levels xs) ≡ map accepted xs
+    → let after = (state_after m s (map_calls m.levels xs)).paths in
+    AllByRecursion (λ x. StandsAt m.levels x.level after (entry_path m.levels x) x.frame x.flags) xs
+    × ((level : ℕ) (page : List ℕ) (frame flags : ℕ) → StandsAt m.levels level s.paths page frame flags → StandsAt m.levels level after page frame flags)
+
+-- ---- two pages, with four levels, from an empty root and four free frames
+
+abbrev pub four_levels : Machine
+four_levels = record { levels = 4; window = None; added_flags = 0; give = λ held f. f ∷ held }
+
+abbrev pub nothing_yet : State
+nothing_yet = record { paths = nothing_mapped; pool = four_frames }
+
+-- a 4KiB page and a 2MiB page
+abbrev pub two_pages : List PageMapping
+two_pages = record { level = 1; page = 0x1000; frame = 0x6000; flags = 3 } ∷ record { level = 2; page = 0x20_0000; frame = 0x40_0000; flags = 1 } ∷ []
+
+abbrev pub their_tables : List (List ℕ)
+their_tables = (0 ∷ []) ∷ (0 ∷ 0 ∷ []) ∷ (0 ∷ 0 ∷ 0 ∷ []) ∷ []
+
+-- they meet the premises of the laws, and are mapped
+pub record TwoPagesMapped : Type 0 where
+  pub machine : IsMachine four_levels
+  pub fits : (T : Words) × FitsState four_levels T 0x1000 (λ f. true) nothing_yet
+  pub mappable : AllByRecursion (IsMappable four_levels nothing_mapped) two_pages
+  pub apart : EachApart two_pages
+  pub tables : AllByRecursion (HasMissing 4 nothing_mapped their_tables) two_pages
+  pub asks : AllByRecursion (AsksFor 4) two_pages
+  pub replies : replies_of four_levels nothing_yet (map_calls 4 two_pages) ≡ Answered (Done 0x6000) ∷ Answered (Done 0x40_0000) ∷ []
