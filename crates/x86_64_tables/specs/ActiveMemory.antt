@@ -1,12 +1,13 @@
 -- A memory that was lent, whose tables are reached where walks arrive.
-use Rattle.std.specs.Prelude.{◌==◌, ◌%◌, ◌/◌, ◌-◌, ◌^◌, ℕ, cond, List, [], Option, Some, None, option_and_then, unwrap_or}
-use Rattle.std.specs.Borrow.{LendsIf, MutBor, Fml, GName, RattleType}
+use Rattle.std.specs.Prelude.{◌≡◌, ◌==◌, ◌%◌, ◌/◌, ◌-◌, ◌^◌, ℕ, Bool, true, false, cond, List, [], Option, Some, None, option_and_then, unwrap_or}
+use Rattle.std.specs.Borrow.{LendsIf, RestsIfNone, MutBor, Fml, GName, RattleType}
 use Rattle.std.specs.FinMap.{insert}
 use mir.Syntax.{named}
 use Rattle.x86_64_model.specs.Memory.{Memory, Words, identity_places, words_of}
 use Rattle.x86_64_model.specs.PageWalk.{Walked, page_walk}
 use Rattle.x86_64_tables.specs.declared.phys_memory.active.Active.{Active}
 use Rattle.x86_64_tables.specs.contracts.phys_memory.active.Active.{the_row as active_row}
+use Rattle.x86_64_tables.specs.contracts.phys_memory.PhysMemory.{the_row as memory_row}
 use Rattle.x86_64_tables.specs.contracts.page_table.table.PageTable.{the_row as table_row}
 
 -- which memory was lent
@@ -48,3 +49,12 @@ LendsFrame L s frame r = LendsIf (active_row (record { mir = named 1; lft = [] }
 -- it ends with the last table behind r where the walk of the position arrives, and as it was where nothing is lent
 abbrev pub LendsWalked : (L : RattleType) → (levels : ℕ) → MutBor (Active L.Denot) → (position : ℕ) → Option (MutBor (List ℕ)) → Fml
 LendsWalked L levels s p r = LendsFrame L s (unwrap_or (walked_frame levels (words_in s.now) (cr3_of s.now) p) 0) r
+
+-- the memory that was lent, where it is kept
+abbrev pub kept_of : {L : Type 0} → Active L → (kept : Bool) → Option (Active L)
+kept_of active true = Some active
+kept_of active false = None
+
+-- r holds the memory that was lent, or the memory ends as it is
+abbrev pub RestsUnlessKept : {L : Type 0} → Active L → Option (Active L) → Fml
+RestsUnlessKept active r = RestsIfNone memory_row active.memory lent r (λ memory. memory ≡ active.memory.now)

@@ -1,5 +1,5 @@
 //! Physical memory that consists of page tables, and where frames lie in it.
-ghost use Rattle.std.specs.Prelude.{◌≡◌, ◌==◌, ◌/◌, ◌↔◌, ℕ, true, length, Some, IsSome, IfOk, OnOk, Err, nat_lt, if◌then◌else◌};
+ghost use Rattle.std.specs.Prelude.{◌≡◌, ◌==◌, ◌/◌, ◌↔◌, ℕ, true, length, Some, IsSome, IfOk, OnOk, OnErr, Err, ◌<◌, nat_lt, if◌then◌else◌};
 ghost use Rattle.std.specs.Option.{option_copied, option_copied_mut};
 ghost use Rattle.std.specs.Borrow.{sem};
 ghost use Rattle.std.specs.FinMap as map;
@@ -118,10 +118,11 @@ impl PhysMemory {
     ///
     /// # Errors
     ///
-    /// `AllocError` where memory is refused.
+    /// `AllocError` where memory is refused. A memory without places needs none.
     pub fn new(alloc: Global, n: u64) -> Result<PhysMemory, AllocError>
-        ensures { IfOk result (λ memory.
+        ensures made { IfOk result (λ memory.
             (place : ℕ) → map.get memory place ≡ (if nat_lt place n then Some zero_words else None)) }
+        ensures needs_memory { OnErr result (0 < n) }
     {
         let mut numbers = Vec::with_capacity(alloc, n as usize)?;
         for number in 0..n {
@@ -134,13 +135,15 @@ impl PhysMemory {
     ///
     /// # Errors
     ///
-    /// `NotIncreasing` where a number isn't below the next, else `Alloc` where memory is refused.
+    /// `NotIncreasing` where a number isn't below the next, else `Alloc` where memory is refused. A memory without places
+    /// needs none.
     pub fn with_places(alloc: Global, places: &[u64]) -> Result<PhysMemory, PlacesRefusal>
         ensures made { IfOk result (λ memory. (place : ℕ) → map.get memory place
             ≡ (if list_any (λ number. place == number) places.now then Some zero_words else None)) }
         ensures increasing { OnOk result (IsStrictlyIncreasing places.now) }
         ensures not_increasing { (result ≡ Err PlacesRefusal.NotIncreasing)
             ↔ (¬ IsStrictlyIncreasing places.now) }
+        ensures needs_memory { OnErr result (0 < length places.now) }
     {
         if !is_increasing(places) {
             return Err(PlacesRefusal::NotIncreasing);
@@ -251,7 +254,8 @@ impl PhysMemory {
 /// Makes a memory with places, given by their numbers, where all words are 0.
 fn zero_memory(alloc: Global, numbers: Vec<u64>) -> Result<PhysMemory, AllocError>
     requires { IsStrictlyIncreasing numbers.items }
-    ensures { IfOk result (λ memory. memory ≡ zero_tables_at numbers.items) }
+    ensures made { IfOk result (λ memory. memory ≡ zero_tables_at numbers.items) }
+    ensures needs_memory { OnErr result (0 < length numbers.items) }
 {
     let n = numbers.len();
     let mut tables = Vec::with_capacity(alloc, n)?;

@@ -3,7 +3,7 @@ ghost use Rattle.std.specs.Prelude.{◌≡◌, ◌/◌, true};
 ghost use Rattle.std.specs.Borrow.{sem};
 ghost use Rattle.std.specs.Option.{option_copied, option_copied_mut};
 ghost use Rattle.x86_64_model.specs.Entry.{is_frame};
-ghost use Rattle.x86_64_tables.specs.ActiveMemory.{lent, memory_of, words_in, cr3_of, walked_frame, walked_table, LendsWalked, LendsFrame};
+ghost use Rattle.x86_64_tables.specs.ActiveMemory.{lent, memory_of, words_in, cr3_of, walked_frame, walked_table, kept_of, LendsWalked, LendsFrame, RestsUnlessKept};
 ghost use Rattle.x86_64_tables.specs.SelfEntries.{has_self_entry};
 
 use super::image::has_self_entry;
@@ -103,6 +103,50 @@ impl<'a, L: LevelCount> Active<'a, L> {
     {
         let place = place_of(frame);
         self.memory.table_mut(place)
+    }
+}
+
+impl<'a> Active<'a, FourLevels> {
+    /// Keeps the memory, or ends the loan with no word changed.
+    pub fn kept_if(self, kept: bool) -> Option<Self>
+        ensures* unchanged { sem 𝓛 (RestsUnlessKept self.entry result) }
+        ensures value { result ≡ kept_of self.entry kept }
+    {
+        let Active {
+            memory,
+            cr3,
+            levels: _,
+        } = self;
+        if kept {
+            return Some(Active {
+                memory,
+                cr3,
+                levels: PhantomData,
+            });
+        }
+        None
+    }
+}
+
+impl<'a> Active<'a, FiveLevels> {
+    /// Keeps the memory, or ends the loan with no word changed.
+    pub fn kept_if(self, kept: bool) -> Option<Self>
+        ensures* unchanged { sem 𝓛 (RestsUnlessKept self.entry result) }
+        ensures value { result ≡ kept_of self.entry kept }
+    {
+        let Active {
+            memory,
+            cr3,
+            levels: _,
+        } = self;
+        if kept {
+            return Some(Active {
+                memory,
+                cr3,
+                levels: PhantomData,
+            });
+        }
+        None
     }
 }
 

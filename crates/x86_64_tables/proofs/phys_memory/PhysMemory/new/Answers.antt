@@ -20,9 +20,9 @@ loop-number-preserved c =
 pub zero_memory-requires : goal.zero_memory-requires
 zero_memory-requires c = rw c.loop-number.invariant.numbers (range_rises c.loop-number.number)
 
-pub returns : goal.returns
-returns c =
+pub returns-clause-made : goal.returns-clause-made
+returns-clause-made c =
     let made : c.loop-number.number ≡ c.args.n = omega (arith, c.loop-number-test.false, c.loop-number.auto.number-end) in
     let numbers = c.loop-number.invariant.numbers ∙ ap (range_with_len 0) made in
     IfOk-weaker c.zero_memory.result _ _ (λ memory is place.
-    ap (λ m. map.get m place) (is ∙ ap zero_tables_at numbers) ∙ get-zero_range c.args.n place) c.zero_memory.ensures
+    ap (λ m. map.get m place) (is ∙ ap zero_tables_at numbers) ∙ get-zero_range c.args.n place) c.zero_memory.ensures.made
