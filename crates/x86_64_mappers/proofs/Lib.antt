@@ -41,3 +41,4 @@ pub mod Visited
 pub mod Windows
 pub mod Words
 pub mod Written
+pub mod WalkedCalls

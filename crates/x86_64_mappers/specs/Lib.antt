@@ -15,6 +15,7 @@ pub mod OwnedSteps
 pub mod PageCalls
 pub mod Reached
 pub mod Recursive
+pub mod RefusedMappers
 pub mod Results
 pub mod Stops
 pub mod TableFlags

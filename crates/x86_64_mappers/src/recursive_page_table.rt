@@ -7,13 +7,16 @@ ghost use Rattle.x86_64_model.specs.Owned.{Valid};
 ghost use Rattle.x86_64_tables.specs.PageTableFlags.{bits_of};
 ghost use Rattle.x86_64_mappers.specs.InvalidPageTables.{is_root_window};
 ghost use Rattle.x86_64_mappers.specs.Layouts.{root_table};
+ghost use Rattle.x86_64_mappers.specs.RefusedMappers.{RestsUnlessMade};
 ghost use Rattle.x86_64_mappers.specs.Recursive.{recursive_now_at};
 
+mod made;
 mod walked_tables;
 mod windows;
 
 use crate::access::{TableAccess, change, clean_up, condition, map, translate};
 use bitflags::Flags;
+use made::{made, made_57};
 use std::fmt::{Display, Formatter, Result as FmtResult, Write};
 use std::marker::PhantomData;
 pub use walked_tables::WalkedTables;
@@ -81,7 +84,7 @@ impl<'a> Recursive<ActiveMemory<'a>, FourLevels> {
 
     /// Makes a mapper of the hierarchy whose root is the table in a frame, which the walk of an address arrives at.
     ///
-    /// Where it is refused no word changes; an owner of the memory that asks [`refusal`](Self::refusal) first knows so.
+    /// Where it is refused no word changes.
     ///
     /// Condition: unless [`refusal`](Self::refusal) tells why not, the hierarchy is valid for the index of the address, whose
     /// four indices are one then.
@@ -97,6 +100,7 @@ impl<'a> Recursive<ActiveMemory<'a>, FourLevels> {
         requires { let memory = memory_of active in let cr3 = cr3_of active in
             let now = recursive_now memory cr3 (index 4 virt) in
             refuses memory cr3 table virt ≡ None → ValidIn now memory }
+        ensures* unchanged { sem 𝓛 (RestsUnlessMade active.entry result) }
         ensures active { IfOk result (λ mapper. active_in mapper ≡ active.entry) }
         ensures layout { let memory = memory_of active.entry in let cr3 = cr3_of active.entry in
             let now = recursive_now memory cr3 (index 4 virt) in
@@ -106,7 +110,11 @@ impl<'a> Recursive<ActiveMemory<'a>, FourLevels> {
         ensures refused { let why_not = refuses (memory_of active.entry) (cr3_of active.entry) table virt in
             IfErr result (λ why. why_not ≡ Some why) }
     {
-        Self::unless_refused(active, table, virt)
+        let refusal = Self::refusal(&active, table, virt);
+        let index = FourLevels::root_index(virt);
+        let self_flags = Self::flags_unless(refusal, &active, index);
+        let why = refusal.unwrap_or(InvalidPageTable::NotActive);
+        made(active, refusal.is_none(), index, self_flags, why)
     }
 }
 
@@ -119,7 +127,7 @@ impl<'a> Recursive<ActiveMemory57<'a>, FiveLevels> {
 
     /// Makes a mapper of the hierarchy whose root is the table in a frame, which the walk of an address arrives at.
     ///
-    /// Where it is refused no word changes; an owner of the memory that asks [`refusal`](Self::refusal) first knows so.
+    /// Where it is refused no word changes.
     ///
     /// Condition: unless [`refusal`](Self::refusal) tells why not, the hierarchy is valid for the index of the address, whose
     /// five indices are one then.
@@ -135,6 +143,7 @@ impl<'a> Recursive<ActiveMemory57<'a>, FiveLevels> {
         requires { let memory = memory_of active in let cr3 = cr3_of active in
             let now = recursive_now_57 memory cr3 (index 5 virt) in
             refuses_57 memory cr3 table virt ≡ None → ValidIn now memory }
+        ensures* unchanged { sem 𝓛 (RestsUnlessMade active.entry result) }
         ensures active { IfOk result (λ mapper. active_in mapper ≡ active.entry) }
         ensures layout { let memory = memory_of active.entry in let cr3 = cr3_of active.entry in
             let now = recursive_now_57 memory cr3 (index 5 virt) in
@@ -145,13 +154,16 @@ impl<'a> Recursive<ActiveMemory57<'a>, FiveLevels> {
             let why_not = refuses_57 memory cr3 table virt in
             IfErr result (λ why. why_not ≡ Some why) }
     {
-        Self::unless_refused(active, table, virt)
+        let refusal = Self::refusal(&active, table, virt);
+        let index = FiveLevels::root_index(virt);
+        let self_flags = Self::flags_unless(refusal, &active, index);
+        let why = refusal.unwrap_or(InvalidPageTable::NotActive);
+        made_57(active, refusal.is_none(), index, self_flags, why)
     }
 }
 
 impl<A: WalkedTables<L>, L: LevelCount> Recursive<A, L> {
-    ghost use Rattle.std.specs.Prelude.{◌↔◌, None, IsOk, IfOk, IfErr};
-    ghost use Rattle.x86_64_model.specs.Position.{index};
+    ghost use Rattle.std.specs.Prelude.{None};
     ghost use Rattle.x86_64_mappers.specs.InvalidPageTables.{refuses_at};
     ghost use Rattle.x86_64_mappers.specs.Recursive.{active_in};
 
@@ -193,31 +205,20 @@ impl<A: WalkedTables<L>, L: LevelCount> Recursive<A, L> {
         }
     }
 
-    /// Makes a mapper unless [`refusal`](Self::refusal) tells why not.
-    fn unless_refused(
-        active: A,
-        table: PhysFrame<Size4KiB>,
-        virt: L::Addr,
-    ) -> Result<Self, InvalidPageTable>
-    where
-        A: Drop,
-        requires { let memory = A.memory active in let root = A.root active in
-            let now = recursive_now_at L.LEVELS memory root (index L.LEVELS (L.position virt)) in
-            refuses_at L.LEVELS memory root table (L.position virt) ≡ None → ValidIn now memory }
-        ensures active { IfOk result (λ mapper. active_in mapper ≡ active) }
-        ensures layout { let r = index L.LEVELS (L.position virt) in
-            let now = recursive_now_at L.LEVELS (A.memory active) (A.root active) r in
-            IfOk result (λ mapper. (⟦<Self as Tables>⟧.hierarchy mapper).layout ≡ now) }
-        ensures made { let root = A.root active in
-            let why_not = refuses_at L.LEVELS (A.memory active) root table (L.position virt) in
-            IsOk result ↔ (why_not ≡ None) }
-        ensures refused { let root = A.root active in
-            let why_not = refuses_at L.LEVELS (A.memory active) root table (L.position virt) in
-            IfErr result (λ why. why_not ≡ Some why) }
+    /// Gives the flags of the root's entry at an index, or none where the mapper is refused.
+    fn flags_unless(
+        refusal: Option<InvalidPageTable>,
+        active: &A,
+        index: PageTableIndex,
+    ) -> PageTableFlags
+        requires { let memory = A.memory active.now in refusal ≡ None →
+            ValidIn (recursive_now_at L.LEVELS memory (A.root active.now) index) memory }
+        ensures { let root = A.root active.now in let T = words_of (A.memory active.now) identity_places in
+            refusal ≡ None → bit_or root (bits_of result) ≡ word T root index }
     {
-        match Self::refusal(&active, table, virt) {
-            Some(why) => Err(why),
-            None => Ok(Self::new_unchecked(active, L::root_index(virt))),
+        match refusal {
+            Some(_) => PageTableFlags::empty(),
+            None => self_flags::<A, L>(active, index),
         }
     }
 }
