@@ -1,5 +1,5 @@
 -- A second hierarchy beside the calls of a first one.
-use Rattle.std.proofs.Common.{◌≡◌, ◌<◌, inl, ⊎_elim, ℕ, Bool, true, List, Some, None, Option, IsSome, cond, sym, ap, ◌∷◌, subst}
+use Rattle.std.proofs.Common.{◌≡◌, ◌<◌, inl, inr, ⊎_elim, ℕ, Bool, true, List, Some, None, Option, IsSome, cond, sym, ap, ◌∷◌, subst}
 use Rattle.x86_64_model.specs.Layout.{Layout, words, paths, Valid}
 use Rattle.x86_64_model.specs.MapperCalls.{Owns}
 use Rattle.x86_64_model.specs.Memory.{Memory, Words, IsMapping, Places, words_of}
@@ -43,7 +43,10 @@ module _ (first second : Layout) (mapping : IsMapping first.places) (some_levels
   valid_after : Valid second n
   valid_after = subst (IsValidFor second.levels second.window (words second n) second.root) same_paths still
 
-  pub stays : Stays second serves m pool n rest
+  table_before : (f : ℕ) → IsTable second.levels second.root (paths second n) f → IsTable second.levels second.root (paths second m) f
+  table_before f table = subst (λ M. IsTable second.levels second.root M f) (sym same_paths) table
+
+  pub stays : Stays first second serves m pool n rest
   stays = record {
     valid = valid_after;
     paths = sym same_paths;
@@ -53,9 +56,19 @@ module _ (first second : Layout) (mapping : IsMapping first.places) (some_levels
       in_memory = λ f i. subst (λ places. IsSome (words_of n places f)) (sym is.places) (keeps.fits.in_memory f i);
       are_frames = keeps.fits.are_frames;
       not_zero = keeps.fits.not_zero;
-      no_table = λ f i table. is.apart f (subst (λ M. IsTable second.levels second.root M f) (sym same_paths) table) ((keeps.conserved f).1 (inl i));
+      no_table = λ f i table. is.apart f (table_before f table) ((keeps.conserved f).1 (inl i));
       serves_pool = keeps.fits.serves_pool;
       serves_tables = λ i q f leads. before.serves_tables i q f (subst (λ M. table_at second.levels second.root M (i ∷ q) ≡ Some f) (sym same_paths) leads);
+    };
+    is_second = record {
+      places = is.places;
+      valid = valid_after;
+      apart = λ f table own. is.apart f (table_before f table) ((keeps.conserved f).1 own);
+    };
+    first_is_second = record {
+      places = sym is.places;
+      valid = keeps.fits.valid;
+      apart = λ f table. ⊎_elim (λ i. keeps.fits.no_table f i table) (λ t. is.apart f (table_before f t) ((keeps.conserved f).1 (inr table)));
     };
   }
 

@@ -8,8 +8,10 @@ pub mod FreeFrames
 pub mod EveryWord
 pub mod Telling
 pub mod Moved
+pub mod PlacesStay
 pub mod Offsets
 pub mod Beside
+pub mod EmptyRoots
 pub mod CleanUpSteps
 pub mod Named
 pub mod Pairs

@@ -1,46 +1,18 @@
 -- What a list of calls leaves in a memory at an offset is what it leaves where each frame lies at the place of its number.
-use Rattle.std.specs.Prelude.{◌≡◌, ◌≢◌, ◌↔◌, ◌+◌, ◌/◌, ◌*◌, ◌&&◌, ℕ, Bool, true, false, cond, List, Option, None, IsSome}
-use Rattle.std.specs.FinMap.{get}
-use Rattle.std.proofs.Common.{arith, refl, sym, ap, ◌∙◌, subst, eqb-true, true≢false}
-use Rattle.std.proofs.lemmas.Bool.{and_parts}
-use Rattle.x86_64_model.specs.Entry.{is_frame}
+use Rattle.std.specs.Prelude.{◌≡◌, ◌↔◌, ℕ, Bool, List, None}
+use Rattle.std.proofs.Common.{sym, ap, ◌∙◌, subst}
 use Rattle.x86_64_model.specs.Hierarchy.{paths_of}
-use Rattle.x86_64_model.specs.Layout.{words, paths}
-use Rattle.x86_64_model.proofs.Lemmas.Entries.Words.{address_aligned}
-use Rattle.x86_64_model.proofs.Lemmas.Machines.Fitting.{own_there}
+use Rattle.x86_64_model.specs.Layout.{paths}
 use Rattle.x86_64_model.specs.MapperCalls.{Owns}
 use Rattle.x86_64_model.specs.Memory.{Memory, Words, identity_places, word}
 use Rattle.x86_64_model.specs.PathMap.{PathMap}
 use Rattle.x86_64_model.specs.Pool.{IsOwn}
-use Rattle.x86_64_model.specs.Position.{IsCanonical, raw}
 use Rattle.x86_64_model.specs.Window.{outside_window}
 use Rattle.x86_64_mappers.specs.Layouts.{direct}
-use Rattle.x86_64_mappers.proofs.OffsetTables.{canonical_from_reached, offset_words, offset_fits}
-use Rattle.x86_64_mappers.specs.Offsets.{OffsetFits, is_reached, offset_places}
+use Rattle.x86_64_mappers.proofs.OffsetTables.{offset_words, offset_fits}
+use Rattle.x86_64_mappers.specs.Offsets.{OffsetFits, offset_places}
 use Rattle.x86_64.specs.FreeFrames.{KeepsFree}
-use Rattle.x86_64.specs.Runs.{FitsPool, Keeps, state_of}
-
--- a frame that has a table is covered
-covered : (c : Bool) (table : Option (List ℕ)) → IsSome (cond c table None) → c ≡ true
-covered true table there = refl
-covered false table there = cc there
-
--- The places are reached still: those of free and table frames were, and no other was made.
-pub still_reached : (offset root : ℕ) (serves : ℕ → Bool) (m n : Memory) (pool rest : List ℕ) → OffsetFits m offset → FitsPool (direct (offset_places offset) root) m serves pool
-    → Keeps (direct (offset_places offset) root) serves m pool n rest → OffsetFits n offset
-still_reached offset root serves m n pool rest reached fit kept place there = by (is_frame (place * 4096) && is_reached offset (place * 4096)) refl
-  where
-    none : (is_frame (place * 4096) && is_reached offset (place * 4096)) ≡ false → (f : ℕ) → Owns (direct (offset_places offset) root) m pool f → f / 4096 ≢ place
-    none is f own e =
-        let layout = direct (offset_places offset) root in
-        let here = own_there 4 None (words layout m) root serves (state_of layout m pool) fit f own in
-        let both = covered (is_frame f && is_reached offset f) (get m (f / 4096)) here in
-        let number : f ≡ place * 4096 = omega (arith, address_aligned f, eqb-true _ f (and_parts (is_frame f) (is_reached offset f) both).0, e) in
-        true≢false (sym (subst (λ k. (is_frame k && is_reached offset k) ≡ true) number both) ∙ is)
-
-    by : (b : Bool) → (is_frame (place * 4096) && is_reached offset (place * 4096)) ≡ b → IsCanonical 4 (raw 4 offset + place * 4096)
-    by true is = canonical_from_reached offset (place * 4096) (and_parts (is_frame (place * 4096)) (is_reached offset (place * 4096)) is).1
-    by false is = reached place (subst IsSome (kept.others place (none is)) there)
+use Rattle.x86_64.specs.Runs.{Keeps, state_of}
 
 same_paths : (offset root : ℕ) (m : Memory) → OffsetFits m offset → paths (direct (offset_places offset) root) m ≡ paths (direct identity_places root) m
 same_paths offset root m reached = ap (λ tables. paths_of 4 (outside_window None root tables) root) (offset_words m offset reached)

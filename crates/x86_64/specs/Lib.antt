@@ -8,6 +8,7 @@ pub mod Pairs
 pub mod Flushes
 pub mod ToldReplies
 pub mod SecondHierarchies
+pub mod PlacesStay
 pub mod AskedCalls
 pub mod Private
 pub use Rattle.x86_64_model.specs.Machine

@@ -1,9 +1,10 @@
 -- A second hierarchy in the memory of a first one, each with tables of its own.
-use Rattle.std.specs.Prelude.{◌≡◌, ◌<◌, ℕ, Bool, List}
-use Rattle.x86_64_model.specs.Layout.{Layout, paths, Valid}
+use Rattle.std.specs.Prelude.{◌≡◌, ◌<◌, ℕ, Bool, true, List, [], ◌∷◌}
+use Rattle.x86_64_model.specs.Layout.{Layout, words, paths, Valid}
 use Rattle.x86_64_model.specs.MapperCalls.{Owns}
-use Rattle.x86_64_model.specs.Memory.{Memory, IsMapping}
+use Rattle.x86_64_model.specs.Memory.{Memory, IsMapping, word, identity_places}
 use Rattle.x86_64_model.specs.Pool.{IsTable}
+use Rattle.x86_64_mappers.specs.Layouts.{direct_at, HasRoot}
 use Rattle.x86_64.specs.Runs.{FitsPool, Keeps}
 
 -- A second hierarchy is valid in the memory by the same mapping, and its root and tables are none of the frames of the first one and its pool.
@@ -12,13 +13,32 @@ pub record IsSecond (first : Layout) (m : Memory) (pool : List ℕ) (second : La
   pub valid : Valid second m
   pub apart : (f : ℕ) → IsTable second.levels second.root (paths second m) f → Owns first m pool f → ⊥
 
--- It stays valid, with its path map, where the memory m became n, and if the pool fitted it, the rest does.
-pub record Stays (second : Layout) (serves : ℕ → Bool) (m : Memory) (pool : List ℕ) (n : Memory) (rest : List ℕ) : Type 0 where
+-- It stays valid, with its path map, where the memory m became n, and if the pool fitted it, the rest does. It is still a second one beside the
+-- first, and the first beside it, so that the calls that follow may be of either.
+pub record Stays (first second : Layout) (serves : ℕ → Bool) (m : Memory) (pool : List ℕ) (n : Memory) (rest : List ℕ) : Type 0 where
   pub valid : Valid second n
   pub paths : paths second n ≡ paths second m
   pub fits : FitsPool second m serves pool → FitsPool second n serves rest
+  pub is_second : IsSecond first n rest second
+  pub first_is_second : IsSecond second n rest first
 
 -- What calls of a first hierarchy keep, whose pool fits it, is enough for every second one to stay.
 abbrev pub SecondHierarchiesStay : Type 0
 SecondHierarchiesStay = (first second : Layout) → IsMapping first.places → 0 < second.levels → (serves : ℕ → Bool) (m n : Memory) (pool rest : List ℕ)
-    → FitsPool first m serves pool → Keeps first serves m pool n rest → IsSecond first m pool second → Stays second serves m pool n rest
+    → FitsPool first m serves pool → Keeps first serves m pool n rest → IsSecond first m pool second → Stays first second serves m pool n rest
+
+-- A frame that is none of a first hierarchy and its pool, and whose words are all 0, is the root of a second one, in which nothing is mapped.
+abbrev pub EmptyRootsAreSecond : Type 0
+EmptyRootsAreSecond = (first : Layout) (m : Memory) (pool : List ℕ) (levels root : ℕ) → 0 < levels → HasRoot first.places root m
+    → ((i : ℕ) → word (words first m) root i ≡ 0) → (Owns first m pool root → ⊥) → IsSecond first m pool (direct_at levels first.places root)
+
+-- two hierarchies of one memory that a pool fits
+pub record Share (first second : Layout) (serves : ℕ → Bool) (m : Memory) (pool : List ℕ) : Type 0 where
+  pub first_fits : FitsPool first m serves pool
+  pub second_fits : FitsPool second m serves pool
+  pub is_second : IsSecond first m pool second
+
+-- there are such: two empty roots, and a free frame
+abbrev pub SomeShare : Type 0
+SomeShare = (levels : ℕ) → 0 < levels
+    → (m : Memory) × Share (direct_at levels identity_places 0x1000) (direct_at levels identity_places 0x2000) (λ f. true) m (0x3000 ∷ [])

@@ -1,5 +1,5 @@
 //! Lists of calls whose flushes are recorded.
-ghost use Rattle.std.specs.Prelude.{◌≡◌, ◌+◌, ◌<◌, ◌⊎◌, length, OnOk, OnErr, vec_len};
+ghost use Rattle.std.specs.Prelude.{◌≡◌, ◌+◌, ◌<◌, ◌≤◌, ◌⊎◌, length, OnOk, OnErr, vec_len};
 ghost use Rattle.std.specs.Vec.{vec_capacity};
 ghost use Rattle.x86_64_model.specs.Owned.{PoolFits};
 ghost use Rattle.x86_64.specs.Flushes.{Flushed};
@@ -19,7 +19,8 @@ use x86_64_tables::mapper::{CleanUp, FlushRecorder, MapperAllSizes, Tables, Tran
 ///
 /// # Errors
 ///
-/// `AllocError` where the room for the replies or for the items is refused; then nothing changes.
+/// `AllocError` where the room for the replies or for the items is refused. Then nothing changes, but that the list of replies
+/// keeps the room for a reply to each call where the room for the items is what was refused.
 pub fn run_flushed<M: MapperAllSizes + Translate + CleanUp, F: FrameStore>(
     mapper: &mut M,
     frames: &mut F,
@@ -37,6 +38,10 @@ pub fn run_flushed<M: MapperAllSizes + Translate + CleanUp, F: FrameStore>(
     ensures unchanged { OnErr result (
         (replies.new.items ≡ replies.old.items) × (recorder.new ≡ recorder.old)
         × (mapper.new ≡ mapper.old) × (frames.new ≡ frames.old)) }
+    ensures capacity { let room = vec_capacity replies.new in OnErr result (
+        (room ≡ vec_capacity replies.old)
+        ⊎ ((recorder.old.room < length calls.now)
+        × (vec_capacity replies.old < room) × (vec_len replies.old + length calls.now ≤ room))) }
     ensures needs_room { OnErr result (
         (vec_capacity replies.old < vec_len replies.old + length calls.now)
         ⊎ (recorder.old.room < length calls.now)) }

@@ -1,0 +1,42 @@
+-- Calls keep which places a memory has: frames of the hierarchy and its pool are in the memory before and after, and all other places stay.
+use Rattle.std.specs.Prelude.{◌≡◌, ◌≢◌, ℕ, Bool, true, false, cond, List, Option, Some, None, IsSome}
+use Rattle.std.specs.FinMap.{get}
+use Rattle.std.proofs.Common.{refl, sym, ap, ◌∙◌, subst}
+use Rattle.x86_64_model.specs.Layout.{Layout, words}
+use Rattle.x86_64_model.specs.MapperCalls.{Owns}
+use Rattle.x86_64_model.specs.Memory.{Memory}
+use Rattle.x86_64_model.proofs.Lemmas.Machines.Fitting.{own_there}
+use Rattle.x86_64.specs.PlacesStay.{PlacesStay, OffsetsFitStill}
+use Rattle.x86_64.specs.Runs.{FitsPool, state_of}
+
+-- a frame that has a table lies at a place that is there
+there_if : (c : Bool) (table : Option (List ℕ)) → IsSome (cond c table None) → IsSome table
+there_if true table there = there
+there_if false table there = cc there
+
+-- the place of a frame of the hierarchy or its pool is there
+own_place : (l : Layout) (serves : ℕ → Bool) (m : Memory) (pool : List ℕ) → FitsPool l m serves pool → (f : ℕ) → Owns l m pool f → IsSome (get m (l.places.place f))
+own_place l serves m pool fits f own =
+    there_if (l.places.covers f) (get m (l.places.place f)) (own_there l.levels l.window (words l m) l.root serves (state_of l m pool) fits f own)
+
+-- a place is there where it would be the same one if it weren't
+there_by : {X : Type 0} (t u : Option X) → IsSome u → (t ≡ None → t ≡ u) → IsSome t
+there_by (Some x) u there same = cc
+there_by None u there same = subst IsSome (sym (same refl)) there
+
+-- what isn't there is no place of a frame that is
+no_own : (place at : ℕ) (m : Memory) → get m place ≡ None → IsSome (get m at) → at ≢ place
+no_own place at m none there same = let gone : IsSome {T = List ℕ} None = subst IsSome (ap (get m) same ∙ none) there in cc gone
+
+pub places_stay : PlacesStay
+places_stay l serves m n pool rest fits kept place = (before, after)
+  where
+    before : IsSome (get n place) → IsSome (get m place)
+    before there = there_by (get m place) (get n place) there (λ none. sym (kept.others place (λ f own. no_own place (l.places.place f) m none (own_place l serves m pool fits f own))))
+
+    after : IsSome (get m place) → IsSome (get n place)
+    after there =
+        there_by (get n place) (get m place) there (λ none. kept.others place (λ f own. no_own place (l.places.place f) n none (own_place l serves n rest kept.fits f ((kept.conserved f).0 own))))
+
+pub offsets_fit_still : OffsetsFitStill
+offsets_fit_still l serves m n pool rest fits kept offset reached place there = reached place ((places_stay l serves m n pool rest fits kept place).0 there)
