@@ -14,7 +14,8 @@ use Rattle.x86_64_model.proofs.Lemmas.Machines.Standing.{arrives_where_stands}
 use Rattle.x86_64_model.specs.MapRule.{parent_part}
 use Rattle.x86_64_model.specs.Owned.{paths}
 use Rattle.x86_64_loader.specs.Held.{IsHeld, AreHeld}
-use Rattle.x86_64_loader.specs.Pages.{IsFree, Kept, Leaves, MayBeMapped, RunStands}
+use Rattle.x86_64_loader.specs.Maps.{Kept}
+use Rattle.x86_64_loader.specs.Pages.{IsFree, Leaves, MayBeMapped, RunStands}
 use Rattle.x86_64_loader.specs.Segments.{ReachesAt}
 use Rattle.x86_64_loader.specs.declared.segment.Segment.{Segment}
 use Rattle.x86_64_loader.proofs.Runs.{no_worse_then}
@@ -65,7 +66,7 @@ module _ {Lent : Type 0} (h : Hierarchy Lent) (p to given : ℕ) (held : IsHeld 
       ∙ ap (λ a. Some (record { address = a; write = writable given; user = user given })) there
 
   -- stays so through later maps
-  pub held_still : (after : Hierarchy Lent) (rest : List ℕ) → Leaves 3 h after rest → IsHeld after p to given
+  pub held_still : {supply : List ℕ} (after : Hierarchy Lent) (rest : List ℕ) → Leaves 3 h supply after rest → IsHeld after p to given
   held_still after rest left = record {
     level = held.level;
     page = held.page;
@@ -87,6 +88,6 @@ module _ {Lent : Type 0} (h : Hierarchy Lent) (p to given : ℕ) (held : IsHeld 
   held_reached valid = (record { address = to; write = writable given; user = user given }, held_arrives valid, record { same_place = refl; write_kept = λ a. a; user_kept = λ a. a })
 
 -- where the processor arrived as it should, it is still so after maps
-pub reached_after : {Lent : Type 0} (h after : Hierarchy Lent) (rest : List ℕ) (s : Segment) (o : ℕ) → Kept h after rest → ReachesAt h s o → ReachesAt after s o
+pub reached_after : {Lent : Type 0} {supply : List ℕ} (h after : Hierarchy Lent) (rest : List ℕ) (s : Segment) (o : ℕ) → Kept h supply after rest → ReachesAt h s o → ReachesAt after s o
 reached_after h after rest s o kept before =
     let now = kept.walks (s.page + o) before.0 before.1 in (now.0, now.1, no_worse_then _ before.0 now.0 before.2 now.2)

@@ -1,6 +1,12 @@
+mod Listed
+mod Made
 mod OneMap
 mod Runs
 mod Holding
 mod SizedParts
 mod Sequences
 mod Segments
+mod Windows
+mod Ascending
+mod Frames
+mod Succeeding

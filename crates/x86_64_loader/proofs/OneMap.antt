@@ -1,14 +1,18 @@
 -- What one `map_to` leaves.
-use Rattle.std.proofs.Common.{◌≡◌, ◌≢◌, ◌⊎◌, inl, inr, ◌<◌, ◌≤◌, ◌+◌, ◌-◌, ◌%◌, ◌^◌, ℕ, true, List, refl, sym, ap, ◌∙◌, subst, arith}
+use Rattle.std.proofs.Common.{◌≡◌, ◌≢◌, ◌⊎◌, inl, inr, ◌<◌, ◌≤◌, ◌+◌, ◌-◌, ◌%◌, ◌^◌, ℕ, true, List, Result, refl, sym, ap, ◌∙◌, subst, arith}
+use Rattle.std.specs.Result.{IfOk}
 use Rattle.x86_64_model.specs.Call.{MapTo}
 use Rattle.x86_64_model.specs.Entry.{IsParentFlags, present}
-use Rattle.x86_64_model.specs.MapRule.{parent_part}
+use Rattle.x86_64_model.specs.Memory.{IsMapping}
 use Rattle.x86_64_model.specs.Owned.{Hierarchy, MayMap, DoesMap, Stands, path_of}
 use Rattle.x86_64_model.specs.Position.{span}
 use Rattle.x86_64_model.specs.Refusal.{Answer, Done, Refused, ParentEntryHugePage}
 use Rattle.x86_64_model.proofs.Lemmas.Machines.Standing.{map_to_stands, stands_after, stands_refuses}
+use Rattle.x86_64_tables.specs.MapperAnswers.{map_answer}
+use Rattle.x86_64_tables.specs.declared.mapper.MapToError.{MapToError}
 use Rattle.x86_64_tables.proofs.MapArrivals.{frame_address, small_multiple}
 use Rattle.x86_64_loader.specs.Pages.{IsFree, Leaves}
+use Rattle.x86_64_loader.proofs.Made.{kept_one}
 
 module _ {Lent : Type 0} (h after : Hierarchy Lent) (supply rest : List ℕ) (level size page frame given : ℕ) (spans : size ≡ span level) (low : 1 ≤ level) (high : level ≤ 3) (some : 3 < h.layout.levels)
     (may : MayMap h supply (MapTo (path_of h level page) frame given)) where
@@ -28,17 +32,16 @@ module _ {Lent : Type 0} (h after : Hierarchy Lent) (supply rest : List ℕ) (le
       stands_refuses h after supply rest level page frame given (Done frame) low fits_in may does l q f g (ap (λ s. page % s) (sym spans) ∙ aligned) multiple stands
       (p - page) (p - q) (let below : p < page + span level = subst (λ s. p < page + s) spans to in omega (arith, below, from)) (omega (arith, its_from, its_to)) (omega (arith, from, its_from)) refl
 
-  pub leaves : (answer : Answer) (highest : ℕ) → (highest ≤ level) ⊎ (answer ≢ Refused ParentEntryHugePage) → Does answer → Leaves highest h after rest
-  leaves answer highest spared does = record {
-    kept = record {
-      fits = does.fits;
-      walks = λ p w is. let v = does.walks (parent_part given) refl p w is in (v.0, v.1, v.2.no_worse);
-      layout = does.layout;
-      lent = does.lent;
-    };
-    pages = λ l q f g up stands. stands_after h after supply rest level page frame given answer low fits_in may does l q f g (as_high l up spared) stands;
+  pub leaves : {S : Type 0} (result : Result ℕ (MapToError S)) (highest : ℕ) → IfOk result (λ flush. flush ≡ page) → (highest ≤ level) ⊎ (map_answer frame result ≢ Refused ParentEntryHugePage)
+      → IsParentFlags h.layout.added_flags → IsMapping h.layout.places → Does (map_answer frame result) → Leaves highest h supply after rest
+  leaves result highest same spared adds mapping does = record {
+    kept = kept_one h after supply rest level page frame given low high some adds mapping result same may does;
+    pages = λ l q f g up stands. stands_after h after supply rest level page frame given (map_answer frame result) low fits_in may does l q f g (as_high l up spared) stands;
   }
     where
-      as_high : (l : ℕ) → l ≤ highest → (highest ≤ level) ⊎ (answer ≢ Refused ParentEntryHugePage) → (l ≤ level) ⊎ (answer ≢ Refused ParentEntryHugePage)
+      as_high : (l : ℕ) → l ≤ highest → (highest ≤ level) ⊎ (map_answer frame result ≢ Refused ParentEntryHugePage) → (l ≤ level) ⊎ (map_answer frame result ≢ Refused ParentEntryHugePage)
       as_high l up (inl le) = inl (omega (arith, up, le))
       as_high l up (inr not) = inr not
+
+pub done_not_refused : (frame : ℕ) → Done frame ≢ Refused ParentEntryHugePage
+done_not_refused frame is = cc

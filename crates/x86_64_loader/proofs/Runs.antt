@@ -1,20 +1,26 @@
 -- Runs of pages, page by page.
-use Rattle.std.proofs.Common.{◌≡◌, inl, inr, ◌<◌, ◌≤◌, ◌+◌, ◌*◌, ℕ, ◌&&◌, ◌||◌, not, Bool, true, List, Option, find, refl, sym, ap, ◌∙◌, subst, arith}
+use Rattle.std.proofs.Common.{◌≡◌, inl, inr, ◌<◌, ◌≤◌, ◌+◌, ◌*◌, ℕ, true, List, [], refl, sym, ap, ◌∙◌, subst, arith}
 use Rattle.std.proofs.Math.Nat.{add-mul, one-mul}
 use Rattle.std.proofs.lemmas.Bool.{cases_lt}
-use Rattle.x86_64_model.specs.Allowed.{map_allowed, parents_present, none_absent}
+use Rattle.x86_64_model.specs.Allowed.{map_allowed}
 use Rattle.x86_64_model.specs.Arrivals.{NoWorse}
 use Rattle.x86_64_model.specs.Call.{MapTo}
-use Rattle.x86_64_model.specs.Entry.{present, huge, no_address}
+use Rattle.x86_64_model.specs.Entry.{present}
 use Rattle.x86_64_model.specs.Layout.{Layout}
 use Rattle.x86_64_model.specs.MapRule.{parent_part}
 use Rattle.x86_64_model.specs.Owned.{Hierarchy, MayMap, Stands, paths, path_of}
+use Rattle.x86_64_model.specs.PageMappings.{PageMapping}
 use Rattle.x86_64_model.specs.PageWalk.{Walked}
-use Rattle.x86_64_model.specs.Path.{is_small, parents, path_at}
-use Rattle.x86_64_model.specs.PathMap.{PathMap, entry}
-use Rattle.x86_64_model.specs.Window.{Window, begins_with}
-use Rattle.x86_64_model.proofs.Lemmas.Maps.Arrives.{part_has}
-use Rattle.x86_64_loader.specs.Pages.{IsFree, Kept, Leaves, MayBeMapped, RunStands}
+use Rattle.x86_64_model.specs.Path.{path_at}
+use Rattle.x86_64_model.proofs.Lemmas.Lists.All.{all_mapped}
+use Rattle.x86_64_model.proofs.Lemmas.Machines.PageMappings.{allowed_again}
+use Rattle.x86_64.specs.FreeFrames.{KeepsFree}
+use Rattle.x86_64.specs.Runs.{FitsPool}
+use Rattle.x86_64.proofs.FreeFrames as frees
+use Rattle.x86_64.proofs.Rounds as rounds
+use Rattle.x86_64_loader.specs.Maps.{Kept}
+use Rattle.x86_64_loader.specs.Pages.{IsFree, Leaves, MayBeMapped, RunStands}
+use Rattle.x86_64_loader.specs.Segments.{AllStand}
 
 -- what holds up to a number and of it
 pub one_more : (P : ℕ → Type 0) (k : ℕ) → ((j : ℕ) → j < k → P j) → P k → (j : ℕ) → j < k + 1 → P j
@@ -31,9 +37,14 @@ no_worse_then w v x one two = record {
 }
 
 -- maps after maps
-pub kept_then : {Lent : Type 0} (h now after : Hierarchy Lent) (between rest : List ℕ) → Kept h now between → Kept now after rest → Kept h after rest
-kept_then h now after between rest one two = record {
+pub kept_then : {Lent : Type 0} {supply : List ℕ} (h now after : Hierarchy Lent) (between rest : List ℕ) → Kept h supply now between → Kept now between after rest → Kept h supply after rest
+kept_then {supply = supply} h now after between rest one two = record {
   fits = two.fits;
+  keeps = λ serves fits. let first = one.keeps serves fits in
+      rounds.kept_then h now after serves serves refl supply between rest first
+      (two.keeps serves (subst (λ (l : Layout). FitsPool l now.memory serves between) (sym one.layout) first.keeps.fits));
+  free = frees.free_then h.layout h.memory now.memory after.memory supply between rest [] [] one.free
+      (subst (λ (l : Layout). KeepsFree l now.memory between [] after.memory rest) one.layout two.free);
   walks = λ p w is.
       let v = one.walks p w is in let x = two.walks p v.0 v.1 in
       (x.0, x.1, no_worse_then w v.0 x.0 v.2 x.2);
@@ -41,28 +52,14 @@ kept_then h now after between rest one two = record {
   lent = two.lent ∙ one.lent;
 }
 
-pub leaves_then : {Lent : Type 0} (h now after : Hierarchy Lent) (between rest : List ℕ) (first second highest : ℕ) → highest ≤ first → highest ≤ second
-    → Leaves first h now between → Leaves second now after rest → Leaves highest h after rest
+pub leaves_then : {Lent : Type 0} {supply : List ℕ} (h now after : Hierarchy Lent) (between rest : List ℕ) (first second highest : ℕ) → highest ≤ first → highest ≤ second
+    → Leaves first h supply now between → Leaves second now between after rest → Leaves highest h supply after rest
 leaves_then h now after between rest first second highest in_first in_second one two = record {
   kept = kept_then h now after between rest one.kept two.kept;
   pages = λ level page frame given low stands. two.pages level page frame given (omega (arith, low, in_second)) (one.pages level page frame given (omega (arith, low, in_first)) stands);
 }
 
--- a map's condition, where its parents are as they have to be or not
-abbrev with_parents : (L : ℕ) → Option Window → List ℕ → (given : ℕ) → (parents : Bool) → Bool
-with_parents L window q given parents =
-    no_address given && no_address (parent_part given) && not (huge (parent_part given)) && (not (is_small L q) || not (huge given)) && parents && not (begins_with window q)
-
-pub will_be_present : (paths : PathMap) (q : List ℕ) (given : ℕ) → present given ≡ true → parents_present paths (parent_part given) q ≡ true
-will_be_present paths q given is_present =
-    ap (λ b. b || none_absent paths (find (λ p. not (present (entry paths p)) || huge (entry paths p)) (parents q))) (part_has given 1 refl ∙ is_present)
-
--- with PRESENT it doesn't depend on what is mapped
-allowed_again : (L : ℕ) (window : Option Window) (M N : PathMap) (q : List ℕ) (given : ℕ) → present given ≡ true
-    → map_allowed L window M q given (parent_part given) ≡ true → map_allowed L window N q given (parent_part given) ≡ true
-allowed_again L window M N q given is_present allowed = ap (with_parents L window q given) (will_be_present N q given is_present ∙ sym (will_be_present M q given is_present)) ∙ allowed
-
-pub may_now : {Lent : Type 0} (h now : Hierarchy Lent) (rest : List ℕ) (level size page frame given k : ℕ) → present given ≡ true → Leaves 3 h now rest
+pub may_now : {Lent : Type 0} {supply : List ℕ} (h now : Hierarchy Lent) (rest : List ℕ) (level size page frame given k : ℕ) → present given ≡ true → Leaves 3 h supply now rest
     → MayBeMapped h level size page frame given k → MayMap now rest (MapTo (path_of now level (page + k * size)) (frame + k * size) given)
 may_now h now rest level size page frame given k is_present left may = record {
   fits = left.kept.fits;
@@ -74,19 +71,24 @@ pub one_more_page : (k size : ℕ) → (k + 1) * size ≡ k * size + size
 one_more_page k size = add-mul k 1 size ∙ ap (λ n. k * size + n) (one-mul size)
 
 -- positions that were free, and then others
-pub free_then : {Lent : Type 0} (h now : Hierarchy Lent) (between : List ℕ) (a m b n start size : ℕ) → a ≤ start → b ≤ a + m → start + size ≤ b + n
-    → IsFree h a m → Leaves 3 h now between → IsFree now b n → IsFree h start size
+pub free_then : {Lent : Type 0} {supply : List ℕ} (h now : Hierarchy Lent) (between : List ℕ) (a m b n start size : ℕ) → a ≤ start → b ≤ a + m → start + size ≤ b + n
+    → IsFree h a m → Leaves 3 h supply now between → IsFree now b n → IsFree h start size
 free_then h now between a m b n start size from meet to free left this l q f g multiple stands p starts ends its_from its_to = elim (cases_lt p (a + m)) [
   | inl before ↦ free l q f g multiple stands p (omega (arith, from, starts)) before its_from its_to
   | inr not_before ↦ this l q f g multiple (left.pages l q f g stands.asks.high stands) p (omega (arith, not_before, meet)) (omega (arith, ends, to)) its_from its_to
 ]
 
 module _ {Lent : Type 0} (h now after : Hierarchy Lent) (rest : List ℕ) (level size page frame given k : ℕ) where
-  pub one_more_stands : level ≤ 3 → RunStands now level size page frame given k → Leaves 3 now after rest → Stands after level (page + k * size) (frame + k * size) given
+  pub one_more_stands : {between : List ℕ} → level ≤ 3 → RunStands now level size page frame given k → Leaves 3 now between after rest → Stands after level (page + k * size) (frame + k * size) given
       → RunStands after level size page frame given (k + 1)
   one_more_stands high stand left this = one_more (λ j. Stands after level (page + j * size) (frame + j * size) given) k
       (λ j before. left.pages level (page + j * size) (frame + j * size) given high (stand j before)) this
 
-  pub one_more_free : (between : List ℕ) → IsFree h page (k * size) → Leaves 3 h now between → IsFree now (page + k * size) size → IsFree h page ((k + 1) * size)
+  pub one_more_free : {supply : List ℕ} (between : List ℕ) → IsFree h page (k * size) → Leaves 3 h supply now between → IsFree now (page + k * size) size → IsFree h page ((k + 1) * size)
   one_more_free between free left this = let more = one_more_page k size in
       free_then h now between page (k * size) (page + k * size) size page ((k + 1) * size) (omega arith) (omega arith) (omega (arith, more)) free left this
+
+-- pages that stand do so after maps
+pub still_stand : {Lent : Type 0} (h after : Hierarchy Lent) (supply rest : List ℕ) → Leaves 3 h supply after rest → (pages : List PageMapping) → AllStand h pages → AllStand after pages
+still_stand h after supply rest left pages =
+    all_mapped (λ x. Stands h x.level x.page x.frame x.flags) (λ x. Stands after x.level x.page x.frame x.flags) (λ x stands. left.pages x.level x.page x.frame x.flags stands.asks.high stands) pages

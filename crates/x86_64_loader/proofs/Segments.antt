@@ -1,21 +1,27 @@
 -- Loads of segments, one after the other.
-use Rattle.std.proofs.Common.{◌≡◌, ◌<◌, ◌+◌, ◌-◌, ◌*◌, ℕ, List, length, get_or, inl, inr, refl, sym, ap, ◌∙◌, subst, arith}
+use Rattle.std.proofs.Common.{◌≡◌, ◌<◌, ◌+◌, ◌-◌, ◌*◌, ◌++◌, ℕ, List, [], ◌∷◌, length, take, flat_map, get_or, inl, inr, refl, sym, ap, ◌∙◌, subst, arith}
 use Rattle.std.proofs.lemmas.Bool.{cases_lt}
+use Rattle.std.proofs.lemmas.Grind.{flat_map-append}
+use Rattle.std.proofs.lemmas.List.{append-nil, take_more}
+use Rattle.std.proofs.lemmas.List.Concat.{flat_map-cons}
 use Rattle.std.proofs.lemmas.Option.{slice_get_read, get_or_from_slice_get}
 use Rattle.std.specs.List.{All}
 use Rattle.x86_64_model.specs.Owned.{Hierarchy, Valid}
+use Rattle.x86_64_model.specs.PageMappings.{PageMapping}
 use Rattle.x86_64_tables.specs.MapperAnswers.{map_refusal}
 use Rattle.x86_64_tables.specs.PageTableFlags.{bits_of}
 use Rattle.x86_64_loader.specs.Loads.{HoldsSegment, IsHalted}
-use Rattle.x86_64_loader.specs.Pages.{IsFree, Leaves, WasRefused}
-use Rattle.x86_64_loader.specs.Segments.{AreApart, Has, IsAllowed, IsLoaded, IsRefused, size_of}
+use Rattle.x86_64_loader.specs.Maps.{Accepts, Refuses}
+use Rattle.x86_64_loader.specs.Pages.{IsFree, Leaves}
+use Rattle.x86_64_loader.specs.Segments.{AllStand, AreApart, Has, IsAllowed, IsLoaded, IsRefused, size_of}
 use Rattle.x86_64_loader.specs.declared.segment.LoadError.{LoadError}
 use Rattle.x86_64_loader.specs.declared.segment.Segment.{Segment}
 use Rattle.x86_64_loader.proofs.Holding.{held_arrives, held_not_free, held_reached, held_still, reached_after}
+use Rattle.x86_64_loader.proofs.Made.{refuses_then}
 use Rattle.x86_64_loader.proofs.Runs.{may_now, one_more}
 
 -- a segment that may be loaded still may after maps
-pub still_allowed : {Lent : Type 0} (h now : Hierarchy Lent) (rest : List ℕ) (s : Segment) → Leaves 3 h now rest → IsAllowed h s → IsAllowed now s
+pub still_allowed : {Lent : Type 0} {supply : List ℕ} (h now : Hierarchy Lent) (rest : List ℕ) (s : Segment) → Leaves 3 h supply now rest → IsAllowed h s → IsAllowed now s
 still_allowed h now rest s left allowed = record {
   is_present = allowed.is_present;
   each_page = λ k within. let may = allowed.each_page k within in record {
@@ -26,8 +32,11 @@ still_allowed h now rest s left allowed = record {
 }
 
 -- what is held is loaded
-pub held_is_loaded : {Lent : Type 0} (h : Hierarchy Lent) (s : Segment) → Valid h → HoldsSegment h s → IsLoaded h s
-held_is_loaded h s valid held o within = held_arrives h (s.page + o) (s.frame + o) (bits_of s.flags) (held o (omega arith) within) valid
+pub held_is_loaded : {Lent : Type 0} (pages_of : Segment → List PageMapping) (h : Hierarchy Lent) (s : Segment) → Valid h → AllStand h (pages_of s) → HoldsSegment h s → IsLoaded pages_of h s
+held_is_loaded pages_of h s valid stand held = record {
+  stand = stand;
+  arrives = λ o within. held_arrives h (s.page + o) (s.frame + o) (bits_of s.flags) (held o (omega arith) within) valid;
+}
 
 module _ (segments : List Segment) (i : ℕ) (s : Segment) (here : i < length segments) (item : s ≡ get_or segments i s) where
   -- the element, whatever stands for one that is missing
@@ -42,7 +51,7 @@ module _ (segments : List Segment) (i : ℕ) (s : Segment) (here : i < length se
   allowed_at h all = subst (IsAllowed h) (is_at s) (all i s here)
 
   module _ {Lent : Type 0} (now after : Hierarchy Lent) (rest : List ℕ) (held : (j : ℕ) (d : Segment) → j < i → HoldsSegment now (get_or segments j d)) where
-    pub held_next : Leaves 3 now after rest → HoldsSegment after s → (j : ℕ) (d : Segment) → j < i + 1 → HoldsSegment after (get_or segments j d)
+    pub held_next : {between : List ℕ} → Leaves 3 now between after rest → HoldsSegment after s → (j : ℕ) (d : Segment) → j < i + 1 → HoldsSegment after (get_or segments j d)
     held_next left = next_too (HoldsSegment after)
         (λ j d before o low fits. let t = get_or segments j d in held_still now (t.page + o) (t.frame + o) (bits_of t.flags) (held j d before o low fits) after rest left)
 
@@ -59,21 +68,32 @@ module _ (segments : List Segment) (i : ℕ) (s : Segment) (here : i < length se
           s.page (size_of s) free (let from = in_this.0 in omega (arith, from, at)) (let to = in_this.1 in omega (arith, to, at))
     ]
 
-    pub refused_here : (largest : ℕ) (h : Hierarchy Lent) (between : List ℕ) (e : LoadError) → Leaves 3 h now between → e.segment ≡ i → e.page ≡ s.page + e.mapped * 0x1000
-        → IsHalted now s largest 0 e.mapped (map_refusal e.why) after rest → IsRefused largest segments e after rest
-    refused_here largest h between e left at page halted = (
+    pub refused_here : (pages_of : Segment → List PageMapping) (h : Hierarchy Lent) (supply between : List ℕ) (e : LoadError) → Leaves 3 h supply now between → e.segment ≡ i → e.page ≡ s.page + e.mapped * 0x1000
+        → Accepts h supply (flat_map pages_of (take i segments)) now between → IsHalted now between s (pages_of s) 0 e.mapped (map_refusal e.why) after rest → IsRefused pages_of h supply segments e after rest
+    refused_here pages_of h supply between e left at page accepted halted = (
       s,
       record {
         there = subst (λ n. n < length segments) (sym at) here;
         is_segment = item ∙ ap (λ n. get_or segments n s) (sym at);
+        before = halted.before;
+        next = halted.next;
+        left = halted.left;
+        pages = halted.cut;
+        page = page ∙ sym halted.page;
+        mapped = halted.page;
+        within = halted.within;
+        refused = subst (λ n. Refuses h supply (flat_map pages_of (take n segments) ++ halted.before) halted.next (map_refusal e.why) after rest) (sym at)
+            (refuses_then h now after supply between rest (flat_map pages_of (take i segments)) halted.before left.kept.layout halted.next (map_refusal e.why) accepted halted.refused);
         segments_before = λ j d before o within. let t = get_or segments j d in
             reached_after now after rest t o halted.kept
             (held_reached now (t.page + o) (t.frame + o) (bits_of t.flags) (held j d (subst (λ n. j < n) at before) o (omega arith) within) left.kept.fits.valid);
         pages_before = λ o within. halted.pages_before o (omega arith) within;
-        within = halted.within;
-        page = page;
-        level = halted.level;
-        fits = halted.fits;
-        refused = subst (λ p. WasRefused halted.level p (s.frame + e.mapped * 0x1000) (bits_of s.flags) (map_refusal e.why) after rest) (sym page) halted.refused;
       },
     )
+
+  -- the pages of the segments up to and with it
+  pub pages_next : (pages_of : Segment → List PageMapping) → flat_map pages_of (take (i + 1) segments) ≡ flat_map pages_of (take i segments) ++ pages_of s
+  pages_next pages_of =
+      ap (flat_map pages_of) (take_more segments i s here ∙ ap (λ t. take i segments ++ t ∷ []) (is_at s))
+      ∙ flat_map-append pages_of (take i segments) (s ∷ [])
+      ∙ ap (λ xs. flat_map pages_of (take i segments) ++ xs) (flat_map-cons pages_of s [] ∙ append-nil (pages_of s))

@@ -1,37 +1,41 @@
 -- Parts of a segment, one after the other.
-use Rattle.std.proofs.Common.{◌≤◌, ◌+◌, ℕ, List, inl, inr, arith}
+use Rattle.std.proofs.Common.{◌≡◌, ◌≤◌, ◌+◌, ◌++◌, ℕ, List, inl, inr, subst, arith}
 use Rattle.std.proofs.lemmas.Bool.{cases_lt}
-use Rattle.x86_64_model.specs.Owned.{Hierarchy}
+use Rattle.x86_64_model.specs.Owned.{Hierarchy, Stands}
+use Rattle.x86_64_model.specs.PageMappings.{PageMapping}
 use Rattle.x86_64_model.specs.Refusal.{Refusal}
 use Rattle.x86_64_tables.specs.PageTableFlags.{bits_of}
 use Rattle.x86_64_loader.specs.Loads.{IsHalted, IsMapped}
 use Rattle.x86_64_loader.specs.declared.segment.Segment.{Segment}
 use Rattle.x86_64_loader.proofs.Holding.{held_reached, held_still, reached_after}
-use Rattle.x86_64_loader.proofs.Runs.{free_then, kept_then, leaves_then}
+use Rattle.x86_64_loader.proofs.Listed.{all_both_lists, cut_before, cut_behind}
+use Rattle.x86_64_loader.proofs.Made.{accepts_then, refuses_then}
+use Rattle.x86_64_loader.proofs.Runs.{free_then, kept_then, leaves_then, still_stand}
 
--- a load that was refused at a page that fits where pages up to a level are used was refused at one that fits where larger ones are too
-pub halted_larger : {Lent : Type 0} (h after : Hierarchy Lent) (rest : List ℕ) (s : Segment) (largest larger low mapped : ℕ) (why : Refusal) → largest ≤ larger
-    → IsHalted h s largest low mapped why after rest → IsHalted h s larger low mapped why after rest
-halted_larger h after rest s largest larger low mapped why up halted = record {
+pub halted_as : {Lent : Type 0} (h after : Hierarchy Lent) (supply rest : List ℕ) (s : Segment) (pages others : List PageMapping) (low mapped : ℕ) (why : Refusal)
+    → pages ≡ others → IsHalted h supply s pages low mapped why after rest → IsHalted h supply s others low mapped why after rest
+halted_as h after supply rest s pages others low mapped why same = subst (λ pages. IsHalted h supply s pages low mapped why after rest) same
+
+-- a load of pages that was halted is one of more pages behind them
+pub halted_behind : {Lent : Type 0} (h after : Hierarchy Lent) (supply rest : List ℕ) (s : Segment) (pages more : List PageMapping) (low mapped : ℕ) (why : Refusal)
+    → IsHalted h supply s pages low mapped why after rest → IsHalted h supply s (pages ++ more) low mapped why after rest
+halted_behind h after supply rest s pages more low mapped why halted = record {
   above = halted.above;
   within = halted.within;
   pages_before = halted.pages_before;
   kept = halted.kept;
-  level = halted.level;
-  fits = record {
-    from_one = halted.fits.from_one;
-    to_largest = let high = halted.fits.to_largest in omega (arith, up, high);
-    page_aligned = halted.fits.page_aligned;
-    frame_aligned = halted.fits.frame_aligned;
-    is_left = halted.fits.is_left;
-  };
+  before = halted.before;
+  next = halted.next;
+  left = halted.left ++ more;
+  cut = cut_behind pages more halted.before halted.left halted.next halted.cut;
+  page = halted.page;
   refused = halted.refused;
 }
 
-module _ {Lent : Type 0} (h now after : Hierarchy Lent) (between rest : List ℕ) (s : Segment) (first size next low : ℕ) (meet : next ≤ first + size) (from : first ≤ low)
-    (one : IsMapped h s first size now between) where
+module _ {Lent : Type 0} (h now after : Hierarchy Lent) (supply between rest : List ℕ) (s : Segment) (pages others : List PageMapping) (first size next low : ℕ) (meet : next ≤ first + size) (from : first ≤ low)
+    (one : IsMapped h supply s pages first size now between) where
   -- what was mapped, and what is mapped after it
-  pub mapped_then : (more total : ℕ) → low + total ≤ next + more → IsMapped now s next more after rest → IsMapped h s low total after rest
+  pub mapped_then : (more total : ℕ) → low + total ≤ next + more → IsMapped now between s others next more after rest → IsMapped h supply s (pages ++ others) low total after rest
   mapped_then more total to two = record {
     held = λ o starts ends. elim (cases_lt o (first + size)) [
       | inl before ↦ held_still now (s.page + o) (s.frame + o) (bits_of s.flags) (one.held o (omega (arith, from, starts)) before) after rest two.leaves
@@ -40,11 +44,13 @@ module _ {Lent : Type 0} (h now after : Hierarchy Lent) (between rest : List ℕ
     were_free = free_then h now between (s.page + first) size (s.page + next) more (s.page + low) total (omega (arith, from)) (omega (arith, meet)) (omega (arith, to))
         one.were_free one.leaves two.were_free;
     leaves = leaves_then h now after between rest 3 3 3 (omega arith) (omega arith) one.leaves two.leaves;
+    stand = all_both_lists (λ x. Stands after x.level x.page x.frame x.flags) pages others (still_stand now after between rest two.leaves pages one.stand) two.stand;
+    accepted = accepts_then h now after supply between rest pages others one.leaves.kept.layout one.accepted two.accepted;
   }
 
   -- what was mapped, where the load was refused after it
-  pub halted_then : (largest mapped : ℕ) (why : Refusal) → low ≤ next → IsHalted now s largest next mapped why after rest → IsHalted h s largest low mapped why after rest
-  halted_then largest mapped why after_low halted = record {
+  pub halted_then : (mapped : ℕ) (why : Refusal) → low ≤ next → IsHalted now between s others next mapped why after rest → IsHalted h supply s (pages ++ others) low mapped why after rest
+  halted_then mapped why after_low halted = record {
     above = let above = halted.above in omega (arith, above, after_low);
     within = halted.within;
     pages_before = λ o starts ends. elim (cases_lt o (first + size)) [
@@ -53,7 +59,10 @@ module _ {Lent : Type 0} (h now after : Hierarchy Lent) (between rest : List ℕ
       | inr not_before ↦ halted.pages_before o (omega (arith, not_before, meet)) ends
     ];
     kept = kept_then h now after between rest one.leaves.kept halted.kept;
-    level = halted.level;
-    fits = halted.fits;
-    refused = halted.refused;
+    before = pages ++ halted.before;
+    next = halted.next;
+    left = halted.left;
+    cut = cut_before pages others halted.before halted.left halted.next halted.cut;
+    page = halted.page;
+    refused = refuses_then h now after supply between rest pages halted.before one.leaves.kept.layout halted.next why one.accepted halted.refused;
   }

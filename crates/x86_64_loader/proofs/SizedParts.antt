@@ -1,26 +1,29 @@
 -- Parts of a segment, mapped by pages of one size.
-use Rattle.std.proofs.Common.{zero, suc, ◌≡◌, ◌<◌, ◌≤◌, ◌+◌, ◌-◌, ◌*◌, ◌/◌, ◌%◌, ◌^◌, ℕ, ◌||◌, not, Bool, true, false, List, [], ◌∷◌, take, Option, Some, None, refl, sym, ap, ◌∙◌, subst, subst₂, arith, eq-eqb, pow_pos}
-use Rattle.std.proofs.Math.Nat.{add-mul-mod_self_right, mul_assoc, mul-le-mul_right}
-use Rattle.std.proofs.lemmas.Bool.{and_from, and_parts, not-true}
+use Rattle.std.proofs.Common.{zero, suc, ◌≡◌, ◌<◌, ◌≤◌, ◌+◌, ◌-◌, ◌*◌, ◌/◌, ◌%◌, ◌^◌, ℕ, ◌||◌, not, Bool, true, false, List, [], ◌∷◌, drop, take, Option, Some, None, refl, sym, ap, ◌∙◌, subst, subst₂, arith, eq-eqb, pow_pos}
+use Rattle.std.proofs.Math.Nat.{mul_assoc, mul-le-mul_right}
+use Rattle.std.proofs.lemmas.Bool.{and_from, and_parts}
 use Rattle.x86_64_model.specs.Allowed.{map_allowed}
 use Rattle.x86_64_model.specs.Entry.{present, huge}
 use Rattle.x86_64_model.specs.MapRule.{parent_part}
-use Rattle.x86_64_model.specs.Owned.{Hierarchy, paths}
+use Rattle.x86_64_model.specs.Owned.{Hierarchy, Stands, paths}
 use Rattle.x86_64_model.specs.Path.{is_small, path_at}
 use Rattle.x86_64_model.specs.PathMap.{PathMap}
 use Rattle.x86_64_model.specs.Position.{span, page_path}
 use Rattle.x86_64_model.specs.Refusal.{Refusal}
 use Rattle.x86_64_model.specs.Window.{Window, begins_with}
+use Rattle.x86_64_model.proofs.Lemmas.Machines.Effects.{map_may}
 use Rattle.x86_64_model.proofs.Lemmas.Maps.Arrives.{first_alone}
 use Rattle.x86_64_model.proofs.Lemmas.Paths.Pages.{length_taken}
 use Rattle.x86_64_tables.specs.PageTableFlags.{bits_of}
 use Rattle.x86_64_loader.specs.Held.{IsHeld}
-use Rattle.x86_64_loader.specs.Loads.{HoldsPart, IsHalted}
-use Rattle.x86_64_loader.specs.Pages.{IsStopped, MayBeMapped, RunStands, WasRefused}
-use Rattle.x86_64_loader.specs.Segments.{IsAllowed, size_of}
+use Rattle.x86_64_loader.specs.Loads.{HoldsPart, IsHalted, IsStopped}
+use Rattle.x86_64_loader.specs.Pages.{MayBeMapped, RunStands}
+use Rattle.x86_64_loader.specs.Segments.{AllStand, IsAllowed, mapping_of, part_of, size_of}
 use Rattle.x86_64_loader.specs.declared.segment.Segment.{Segment}
 use Rattle.x86_64_loader.proofs.Holding.{held_reached, run_is_held, run_outside}
-use Rattle.x86_64_loader.proofs.Runs.{one_more_page, will_be_present}
+use Rattle.x86_64_model.proofs.Lemmas.Machines.PageMappings.{will_be_present}
+use Rattle.x86_64_loader.proofs.Listed.{all_in_run, run_cut}
+use Rattle.x86_64_loader.proofs.Runs.{one_more_page}
 
 -- ---- where a page of 4KiB may be mapped, a larger one may be
 
@@ -42,13 +45,19 @@ or_is : (b c : Bool) → b ≡ false → (b || c) ≡ true → c ≡ true
 or_is true c h e = cc
 or_is false c h e = e
 
+-- with PRESENT, where a page of 4KiB may be mapped, one of any size outside the window may be
+pub elsewhere_allowed : (L : ℕ) (window : Option Window) (M : PathMap) (p given : ℕ) (q : List ℕ) → present given ≡ true
+    → map_allowed L window M (path_at L 1 p) given (parent_part given) ≡ true → begins_with window q ≡ false → map_allowed L window M q given (parent_part given) ≡ true
+elsewhere_allowed L window M p given q is_present allowed outside =
+    let p5 = and_parts _ _ allowed in let p4 = and_parts _ _ p5.0 in let p3 = and_parts _ _ p4.0 in
+    let plain : not (huge given) ≡ true = or_is _ _ (ap not (small_at_one L p)) p3.1 in
+    and_from _ _ (and_from _ _ (and_from _ _ p3.0 (or_true (not (is_small L q)) _ plain)) (will_be_present M q given is_present)) (ap not outside)
+
 larger_allowed : (L : ℕ) (window : Option Window) (M : PathMap) (level p given : ℕ) → 1 ≤ level → level ≤ L → present given ≡ true
     → map_allowed L window M (path_at L 1 p) given (parent_part given) ≡ true → map_allowed L window M (path_at L level p) given (parent_part given) ≡ true
 larger_allowed L window M level p given low high is_present allowed =
-    let p5 = and_parts _ _ allowed in let p4 = and_parts _ _ p5.0 in let p3 = and_parts _ _ p4.0 in
-    let plain : not (huge given) ≡ true = or_is _ _ (ap not (small_at_one L p)) p3.1 in
-    and_from _ _ (and_from _ _ (and_from _ _ p3.0 (or_true (not (is_small L (path_at L level p))) _ plain)) (will_be_present M (path_at L level p) given is_present))
-    (ap not (outside_alike window (L + 1 - 1) (L + 1 - level) (page_path L p) (omega (arith, low, high)) (omega (arith, low, high)) (not-true _ p5.1)))
+    elsewhere_allowed L window M p given (path_at L level p) is_present allowed
+    (outside_alike window (L + 1 - 1) (L + 1 - level) (page_path L p) (omega (arith, low, high)) (omega (arith, low, high)) (map_may L window M (path_at L 1 p) given (parent_part given) allowed).outside)
 
 -- ---- the pages of a part
 
@@ -105,9 +114,6 @@ module _ {Lent : Type 0} (h : Hierarchy Lent) (s : Segment) (level size first co
             (larger_allowed h.layout.levels h.layout.window (paths h) level _ (bits_of s.flags) low levels allowed.is_present may.allowed);
       }
 
-  multiple : (start k : ℕ) → (start + first * 0x1000) % size ≡ 0 → (start + (first + k * (size / 0x1000)) * 0x1000) % span level ≡ 0
-  multiple start k aligned = subst₂ (λ p z. p % z ≡ 0) (moved start k) spans (add-mul-mod_self_right (start + first * 0x1000) k size ∙ aligned)
-
   module _ (after : Hierarchy Lent) (rest : List ℕ) (levels : level ≤ h.layout.levels) (aligned : (s.page + first * 0x1000) % size ≡ 0) where
     -- so many of its pages that stand hold as much of the segment
     pub part_held : (n : ℕ) → n ≤ count → after.layout ≡ h.layout → RunStands after level size (s.page + first * 0x1000) (s.frame + first * 0x1000) (bits_of s.flags) n
@@ -120,23 +126,25 @@ module _ {Lent : Type 0} (h : Hierarchy Lent) (s : Segment) (level size first co
         (λ k less. run_outside h after level size (s.page + first * 0x1000) (s.frame + first * 0x1000) (bits_of s.flags) k (part_may levels k (omega (arith, less, few))) layout)
         (o - first * 0x1000) (omega (arith, from, to)))
 
-    pub part_halted : (s.frame + first * 0x1000) % size ≡ 0 → (mapped : ℕ) (why : Refusal)
-        → IsStopped h level size (s.page + first * 0x1000) (s.frame + first * 0x1000) (bits_of s.flags) count mapped why after rest
-        → IsHalted h s level (first * 0x1000) (first + mapped * (size / 0x1000)) why after rest
-    part_halted frame_aligned mapped why stopped =
+    -- and they stand
+    pub part_stand : (n : ℕ) → RunStands after level size (s.page + first * 0x1000) (s.frame + first * 0x1000) (bits_of s.flags) n → AllStand after (part_of level s first n)
+    part_stand n stand = all_in_run level (s.page + first * 0x1000) (s.frame + first * 0x1000) (bits_of s.flags) (λ x. Stands after x.level x.page x.frame x.flags) n
+        (λ k below. subst (λ z. Stands after level (s.page + first * 0x1000 + k * z) (s.frame + first * 0x1000 + k * z) (bits_of s.flags)) spans (stand k below))
+
+    pub part_halted : (supply : List ℕ) (mapped : ℕ) (why : Refusal)
+        → IsStopped h supply level size (s.page + first * 0x1000) (s.frame + first * 0x1000) (bits_of s.flags) count mapped why after rest
+        → IsHalted h supply s (part_of level s first count) (first * 0x1000) (first + mapped * (size / 0x1000)) why after rest
+    part_halted supply mapped why stopped =
         let is = in_small mapped in let kept = stopped.leaves.kept in record {
           above = omega arith;
           within = below mapped stopped.within;
           pages_before = λ o from to. held_reached after (s.page + o) (s.frame + o) (bits_of s.flags)
               (part_held mapped (let end = stopped.within in omega (arith, end)) kept.layout stopped.stand o from (omega (arith, to, is))) kept.fits.valid;
           kept = kept;
-          level = level;
-          fits = record {
-            from_one = low;
-            to_largest = omega arith;
-            page_aligned = multiple s.page mapped aligned;
-            frame_aligned = multiple s.frame mapped frame_aligned;
-            is_left = subst (λ z. (first + mapped * (size / 0x1000)) * 0x1000 + z ≤ size_of s) spans (room mapped stopped.within);
-          };
-          refused = subst₂ (λ p f. WasRefused level p f (bits_of s.flags) why after rest) (moved s.page mapped) (moved s.frame mapped) stopped.refused;
+          before = part_of level s first mapped;
+          next = mapping_of level (s.page + first * 0x1000 + mapped * span level) (s.frame + first * 0x1000 + mapped * span level) (bits_of s.flags);
+          left = drop (suc mapped) (part_of level s first count);
+          cut = run_cut level (s.page + first * 0x1000) (s.frame + first * 0x1000) (bits_of s.flags) mapped count stopped.within;
+          page = ap (λ z. s.page + first * 0x1000 + mapped * z) (sym spans) ∙ moved s.page mapped;
+          refused = stopped.refused;
         }

@@ -1,4 +1,6 @@
+pub mod Maps
 pub mod Pages
 pub mod Held
 pub mod Segments
 pub mod Loads
+pub mod Windows

@@ -1,6 +1,8 @@
--- Words of private contracts: what a load of one segment leaves.
-use Rattle.std.specs.Prelude.{◌+◌, ◌*◌, ◌<◌, ◌≤◌, ℕ, List, Result, Ok, Err}
+-- Words of private contracts: what the load of one segment leaves.
+use Rattle.std.specs.Prelude.{◌≡◌, ◌+◌, ◌*◌, ◌<◌, ◌≤◌, ℕ, List, ◌∷◌, ◌++◌, Result, Ok, Err}
 use Rattle.x86_64_model.specs.Owned.{Hierarchy}
+use Rattle.x86_64_model.specs.PageMappings.{PageMapping}
+use Rattle.x86_64_model.specs.Position.{span}
 use Rattle.x86_64_model.specs.Refusal.{Refusal}
 use Rattle.x86_64_tables.specs.MapperAnswers.{map_refusal}
 use Rattle.x86_64_tables.specs.PageTableFlags.{bits_of}
@@ -9,13 +11,22 @@ use Rattle.x86_64_loader.specs.declared.loader.Sizes.TheVariants as sizes
 use Rattle.x86_64_loader.specs.declared.pages.Stopped.{Stopped}
 use Rattle.x86_64_loader.specs.declared.segment.Segment.{Segment}
 use Rattle.x86_64_loader.specs.Held.{IsHeld}
-use Rattle.x86_64_loader.specs.Pages.{IsFree, Kept, Leaves, WasRefused}
-use Rattle.x86_64_loader.specs.Segments.{PageFits, ReachesAt, size_of}
+use Rattle.x86_64_loader.specs.Maps.{Accepts, Refuses, Kept}
+use Rattle.x86_64_loader.specs.Pages.{IsFree, Leaves, RunStands}
+use Rattle.x86_64_loader.specs.Segments.{AllStand, ReachesAt, large_pages, mapping_of, run_of, size_of, small_pages}
 
--- the level of the largest pages that are used
-abbrev pub largest_level : Sizes → ℕ
-largest_level sizes.Small = 1
-largest_level sizes.Large = 2
+-- by which pages a segment is mapped
+abbrev pub pages_by : Sizes → Segment → List PageMapping
+pages_by sizes.Small = small_pages
+pages_by sizes.Large = large_pages
+
+-- A run was stopped at the page after so many, which was refused for this reason: those before it stand, and so do the pages up to its level
+-- that stood.
+pub record IsStopped {Lent : Type 0} (h : Hierarchy Lent) (supply : List ℕ) (level size page frame flags count mapped : ℕ) (why : Refusal) (after : Hierarchy Lent) (rest : List ℕ) : Type 0 where
+  pub within : mapped < count
+  pub stand : RunStands after level size page frame flags mapped
+  pub leaves : Leaves level h supply after rest
+  pub refused : Refuses h supply (run_of level page frame flags mapped) (mapping_of level (page + mapped * span level) (frame + mapped * span level) flags) why after rest
 
 -- the positions of the segment from an offset up to before another are held, mapped as they should
 abbrev pub HoldsPart : {Lent : Type 0} → Hierarchy Lent → Segment → (low high : ℕ) → Type 0
@@ -25,25 +36,30 @@ HoldsPart h s low high = (offset : ℕ) → low ≤ offset → offset < high →
 abbrev pub HoldsSegment : {Lent : Type 0} → Hierarchy Lent → Segment → Type 0
 HoldsSegment h s = HoldsPart h s 0 (size_of s)
 
--- the load of a segment by pages up to a level, from an offset on, was refused at the page after so many, for this reason: those before it are
--- reached, and the page that was refused fits there
-pub record IsHalted {Lent : Type 0} (h : Hierarchy Lent) (s : Segment) (largest low mapped : ℕ) (why : Refusal) (after : Hierarchy Lent) (rest : List ℕ) : Type 0 where
+-- the load of these pages of a segment, from an offset on, was refused at the page after so many, for this reason: those before it are reached
+pub record IsHalted {Lent : Type 0} (h : Hierarchy Lent) (supply : List ℕ) (s : Segment) (pages : List PageMapping) (low mapped : ℕ) (why : Refusal) (after : Hierarchy Lent) (rest : List ℕ) : Type 0 where
   pub above : low ≤ mapped * 0x1000
   pub within : mapped < s.pages
   pub pages_before : (offset : ℕ) → low ≤ offset → offset < mapped * 0x1000 → ReachesAt after s offset
-  pub kept : Kept h after rest
-  pub level : ℕ
-  pub fits : PageFits s largest mapped level
-  pub refused : WasRefused level (s.page + mapped * 0x1000) (s.frame + mapped * 0x1000) (bits_of s.flags) why after rest
+  pub kept : Kept h supply after rest
+  pub before : List PageMapping
+  pub next : PageMapping
+  pub left : List PageMapping
+  pub cut : pages ≡ before ++ next ∷ left
+  pub page : next.page ≡ s.page + mapped * 0x1000
+  pub refused : Refuses h supply before next why after rest
 
--- so many bytes of the segment, from an offset on, were mapped: they are held, no page that stood had a position of theirs, and what stood stands
-pub record IsMapped {Lent : Type 0} (h : Hierarchy Lent) (s : Segment) (low size : ℕ) (after : Hierarchy Lent) (rest : List ℕ) : Type 0 where
+-- these pages, which are so many bytes of the segment from an offset on, were mapped: they are held, no page that stood had a position of theirs, and
+-- what stood stands
+pub record IsMapped {Lent : Type 0} (h : Hierarchy Lent) (supply : List ℕ) (s : Segment) (pages : List PageMapping) (low size : ℕ) (after : Hierarchy Lent) (rest : List ℕ) : Type 0 where
   pub held : HoldsPart after s low (low + size)
   pub were_free : IsFree h (s.page + low) size
-  pub leaves : Leaves 3 h after rest
+  pub leaves : Leaves 3 h supply after rest
+  pub stand : AllStand after pages
+  pub accepted : Accepts h supply pages after rest
 
--- what a load of so many bytes of the segment, from an offset on, by pages up to a level, leaves by its result
-abbrev pub LoadsPart : {Lent Value Size : Type 0} → Hierarchy Lent → Segment → (largest low size : ℕ) → Result Value (Stopped Size) → (after : Hierarchy Lent)
-    → (rest : List ℕ) → Type 0
-LoadsPart h s largest low size (Ok _) after rest = IsMapped h s low size after rest
-LoadsPart h s largest low size (Err stopped) after rest = IsHalted h s largest low stopped.mapped (map_refusal stopped.why) after rest
+-- what a load of these pages, so many bytes of the segment from an offset on, leaves by its result
+abbrev pub LoadsPart : {Lent Value Size : Type 0} → Hierarchy Lent → (supply : List ℕ) → Segment → List PageMapping → (low size : ℕ) → Result Value (Stopped Size)
+    → (after : Hierarchy Lent) → (rest : List ℕ) → Type 0
+LoadsPart h supply s pages low size (Ok _) after rest = IsMapped h supply s pages low size after rest
+LoadsPart h supply s pages low size (Err stopped) after rest = IsHalted h supply s pages low stopped.mapped (map_refusal stopped.why) after rest

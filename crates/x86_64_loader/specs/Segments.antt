@@ -1,15 +1,18 @@
 -- Segments of a program, and what it is for them to be loaded: pages of 4KiB one after the other, mapped to frames one after the other.
-use Rattle.std.specs.Prelude.{◌≡◌, ◌+◌, ◌*◌, ◌%◌, ◌<◌, ◌≤◌, ℕ, true, List, length, get_or, Some}
+use Rattle.std.specs.Prelude.{◌≡◌, ◌+◌, ◌-◌, ◌*◌, ◌/◌, ◌%◌, ◌^◌, ◌<◌, ◌≤◌, ◌==◌, nat_lt, ℕ, true, cond, List, ◌∷◌, ◌++◌, length, map, take, flat_map, get_or, Some}
+use Rattle.std.specs.List.{All, AllByRecursion, range_with_len, sum_by}
 use Rattle.x86_64_model.specs.Arrivals.{NoWorse}
 use Rattle.x86_64_model.specs.Entry.{present, writable, user}
-use Rattle.x86_64_model.specs.Owned.{Hierarchy, ArrivesIn, walk}
+use Rattle.x86_64_model.specs.Owned.{Hierarchy, ArrivesIn, Stands, paths, walk}
+use Rattle.x86_64_model.specs.PageMappings.{PageMapping, IsUnmapped, entry_path}
 use Rattle.x86_64_model.specs.PageWalk.{Walked}
 use Rattle.x86_64_model.specs.Position.{span}
 use Rattle.x86_64_tables.specs.MapperAnswers.{map_refusal}
 use Rattle.x86_64_tables.specs.PageTableFlags.{bits_of}
 use Rattle.x86_64_loader.specs.declared.segment.Segment.{Segment}
 use Rattle.x86_64_loader.specs.declared.segment.LoadError.{LoadError}
-use Rattle.x86_64_loader.specs.Pages.{MayBeMapped, WasRefused}
+use Rattle.x86_64_loader.specs.Maps.{Refuses}
+use Rattle.x86_64_loader.specs.Pages.{MayBeMapped}
 
 -- how many bytes a segment has
 abbrev pub size_of : Segment → ℕ
@@ -20,9 +23,9 @@ pub record IsAllowed {Lent : Type 0} (h : Hierarchy Lent) (s : Segment) : Type 0
   pub is_present : present (bits_of s.flags) ≡ true
   pub each_page : (k : ℕ) → k < s.pages → MayBeMapped h 1 0x1000 s.page s.frame (bits_of s.flags) k
 
--- from each address of the segment the processor arrives as far from the start of its first frame, with just the rights of its flags
-abbrev pub IsLoaded : {Lent : Type 0} → Hierarchy Lent → Segment → Type 0
-IsLoaded h s = ArrivesIn h (size_of s) s.page s.frame (bits_of s.flags)
+-- the segment's last page of 4KiB is there, if it has one
+abbrev pub IsInside : Segment → Type 0
+IsInside s = 0 < s.pages → s.page + (s.pages - 1) * 0x1000 < 2 ^ 48
 
 -- whether a position is one of the segment's
 abbrev pub Has : Segment → (position : ℕ) → Type 0
@@ -36,7 +39,49 @@ AreApart segments n = (i j : ℕ) (d : Segment) → i < j → j < n → (p : ℕ
 abbrev pub Disjoint : List Segment → Type 0
 Disjoint segments = AreApart segments (length segments)
 
--- ---- where a load was refused
+-- ---- by which pages a segment is mapped
+
+-- a page of a level, to be mapped to a frame with these flags
+abbrev pub mapping_of : (level page frame flags : ℕ) → PageMapping
+mapping_of level page frame given = record { level = level; page = page; frame = frame; flags = given }
+
+-- so many of them from a page on, to the frames from a frame on, with the same flags
+abbrev pub run_of : (level page frame flags count : ℕ) → List PageMapping
+run_of level page frame given count = map (λ k. mapping_of level (page + k * span level) (frame + k * span level) given) (range_with_len 0 count)
+
+-- so many pages of a level from the segment's page of 4KiB with a number on
+abbrev pub part_of : (level : ℕ) → Segment → (first count : ℕ) → List PageMapping
+part_of level s first count = run_of level (s.page + first * 0x1000) (s.frame + first * 0x1000) (bits_of s.flags) count
+
+-- pages of 4KiB alone
+abbrev pub small_pages : Segment → List PageMapping
+small_pages s = part_of 1 s 0 s.pages
+
+-- how many pages of 4KiB there are before the first of 2MiB: all, if page and frame lie at different offsets in theirs of 2MiB
+abbrev pub count_before : Segment → ℕ
+count_before s = let number = s.page / 0x1000 % 512 in let before = (512 - number) % 512 in
+    cond (s.frame / 0x1000 % 512 == number) (cond (nat_lt before s.pages) before s.pages) s.pages
+
+-- how many of 2MiB there are
+abbrev pub count_large : Segment → ℕ
+count_large s = (s.pages - count_before s) / 512
+
+-- pages of 2MiB where page and frame start at a multiple of it and enough of the segment is left, and of 4KiB before and after these
+abbrev pub large_pages : Segment → List PageMapping
+large_pages s = let first = count_before s in let behind = first + count_large s * 512 in
+    part_of 1 s 0 first ++ (part_of 2 s first (count_large s) ++ part_of 1 s behind (s.pages - behind))
+
+-- ---- what a load leaves
+
+-- each of these pages stands
+abbrev pub AllStand : {Lent : Type 0} → Hierarchy Lent → List PageMapping → Type 0
+AllStand h pages = AllByRecursion (λ x. Stands h x.level x.page x.frame x.flags) pages
+
+-- The segment's pages stand, so each with all of its flags. From each address of it the processor arrives as far from the start of its first frame,
+-- with just the rights of its flags.
+pub record IsLoaded {Lent : Type 0} (pages_of : Segment → List PageMapping) (h : Hierarchy Lent) (s : Segment) : Type 0 where
+  pub stand : AllStand h (pages_of s)
+  pub arrives : ArrivesIn h (size_of s) s.page s.frame (bits_of s.flags)
 
 -- from this offset in the segment the processor arrives where it should, and no right is missing
 abbrev pub ReachesAt : {Lent : Type 0} → Hierarchy Lent → Segment → (offset : ℕ) → Type 0
@@ -47,27 +92,41 @@ ReachesAt h s o = (walked : Walked) × (walk h (s.page + o) ≡ Some walked)
 abbrev pub IsReached : {Lent : Type 0} → Hierarchy Lent → Segment → (size : ℕ) → Type 0
 IsReached h s size = (offset : ℕ) → offset < size → ReachesAt h s offset
 
--- a page of this level may map a segment from the page of 4KiB after so many on: the level is at most the largest one that is used, the page and
--- its frame start at a multiple of its size, and as much of the segment is left
-pub record PageFits (s : Segment) (largest mapped level : ℕ) : Type 0 where
-  pub from_one : 1 ≤ level
-  pub to_largest : level ≤ largest
-  pub page_aligned : (s.page + mapped * 0x1000) % span level ≡ 0
-  pub frame_aligned : (s.frame + mapped * 0x1000) % span level ≡ 0
-  pub is_left : mapped * 0x1000 + span level ≤ size_of s
-
--- The segments before are reached, and of this one the pages before the one that was refused; that was the next, and its last map was refused
--- for this reason: the map of a page that fits there, of a level up to the largest one that is used.
-pub record IsRefusedAt {Lent : Type 0} (largest : ℕ) (segments : List Segment) (error : LoadError) (after : Hierarchy Lent) (rest : List ℕ) (s : Segment) : Type 0 where
+-- The load was refused at a page of the segment, the next one after those before it: all pages before were accepted, and the last map was its own,
+-- which was refused for the reason told. The segments before are reached, and so are the pages of this one before the page.
+pub record IsRefusedAt {Lent : Type 0} (pages_of : Segment → List PageMapping) (h : Hierarchy Lent) (supply : List ℕ) (segments : List Segment) (error : LoadError) (after : Hierarchy Lent) (rest : List ℕ) (s : Segment) : Type 0 where
   pub there : error.segment < length segments
   pub is_segment : s ≡ get_or segments error.segment s
+  pub before : List PageMapping
+  pub next : PageMapping
+  pub left : List PageMapping
+  pub pages : pages_of s ≡ before ++ next ∷ left
+  pub page : error.page ≡ next.page
+  pub mapped : next.page ≡ s.page + error.mapped * 0x1000
+  pub within : error.mapped < s.pages
+  pub refused : Refuses h supply (flat_map pages_of (take error.segment segments) ++ before) next (map_refusal error.why) after rest
   pub segments_before : (i : ℕ) (d : Segment) → i < error.segment → IsReached after (get_or segments i d) (size_of (get_or segments i d))
   pub pages_before : IsReached after s (error.mapped * 0x1000)
-  pub within : error.mapped < s.pages
-  pub page : error.page ≡ s.page + error.mapped * 0x1000
-  pub level : ℕ
-  pub fits : PageFits s largest error.mapped level
-  pub refused : WasRefused level error.page (s.frame + error.mapped * 0x1000) (bits_of s.flags) (map_refusal error.why) after rest
 
-abbrev pub IsRefused : {Lent : Type 0} → (largest : ℕ) → List Segment → LoadError → (after : Hierarchy Lent) → (rest : List ℕ) → Type 0
-IsRefused largest segments error after rest = (s : Segment) × IsRefusedAt largest segments error after rest s
+abbrev pub IsRefused : {Lent : Type 0} → (pages_of : Segment → List PageMapping) → Hierarchy Lent → (supply : List ℕ) → List Segment → LoadError → (after : Hierarchy Lent) → (rest : List ℕ) → Type 0
+IsRefused pages_of h supply segments error after rest = (s : Segment) × IsRefusedAt pages_of h supply segments error after rest s
+
+-- ---- how many frames suffice
+
+-- how many entries of a level lie on the ways to the segment's pages of 4KiB, if it has some
+abbrev pub entries_of : Segment → (level : ℕ) → ℕ
+entries_of s level = (s.page + (s.pages - 1) * 0x1000) / span level - s.page / span level + 1
+
+-- how many tables they name, with four levels
+abbrev pub tables_of : Segment → ℕ
+tables_of s = cond (s.pages == 0) 0 (entries_of s 4 + entries_of s 3 + entries_of s 2)
+
+-- a frame for each table
+abbrev pub frames_for : List Segment → ℕ
+frames_for segments = sum_by tables_of segments
+
+-- nothing is mapped where the pages are to be, no two segments overlap, and there are as many frames
+pub record Suffices {Lent : Type 0} (pages_of : Segment → List PageMapping) (h : Hierarchy Lent) (supply : List ℕ) (segments : List Segment) : Type 0 where
+  pub unmapped : All (λ s. AllByRecursion (λ x. IsUnmapped (paths h) (entry_path h.layout.levels x)) (pages_of s)) segments
+  pub disjoint : Disjoint segments
+  pub frames : frames_for segments ≤ length supply

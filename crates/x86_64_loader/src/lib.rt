@@ -1,5 +1,5 @@
-//! A program loader: it maps the segments of a program by any mapper. It is a client of the library, proved from its public
-//! contracts and laws alone.
+//! A program loader: it maps the segments of a program by any mapper. It is a client of the library, and calls its public items
+//! alone.
 #![tactic(auto)]
 
 mod loader;
@@ -8,4 +8,4 @@ mod parts;
 mod segment;
 
 pub use loader::{load, load_large};
-pub use segment::{LoadError, Segment, segments_allowed};
+pub use segment::{LoadError, Segment, frames_needed, segments_allowed};

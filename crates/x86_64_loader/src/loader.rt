@@ -1,9 +1,9 @@
 //! Loads of segments.
-ghost use Rattle.std.specs.Prelude.{◌≡◌, OnOk, IfErr};
+ghost use Rattle.std.specs.Prelude.{◌≡◌, ◌%◌, flat_map, IsOk, OnOk, IfErr};
 ghost use Rattle.std.specs.List.{All};
-ghost use Rattle.x86_64_loader.specs.Loads.{LoadsPart, largest_level};
-ghost use Rattle.x86_64_loader.specs.Pages.{Kept};
-ghost use Rattle.x86_64_loader.specs.Segments.{Disjoint, IsAllowed, IsLoaded, IsRefused, size_of};
+ghost use Rattle.x86_64_loader.specs.Loads.{LoadsPart, pages_by};
+ghost use Rattle.x86_64_loader.specs.Maps.{Accepts, Kept};
+ghost use Rattle.x86_64_loader.specs.Segments.{Disjoint, IsAllowed, IsLoaded, IsRefused, Suffices, large_pages, size_of, small_pages};
 ghost use Rattle.x86_64_model.specs.Owned.{SupplyFits};
 
 use crate::pages::{Stopped, page_after};
@@ -14,12 +14,18 @@ use x86_64::structures::paging::{FrameAllocator, Size2MiB, Size4KiB};
 
 /// Maps the pages of segments to their frames, one segment after the other, by pages of 4KiB.
 ///
-/// Where it succeeds, the processor arrives from each address of a segment at the one as far from the start of the first
-/// frame, with the right to write exactly if `WRITABLE`, and that of a user exactly if `USER_ACCESSIBLE`, is among its flags.
-/// No two segments have an address in common.
+/// It makes the call [`map_to`](x86_64::structures::paging::Mapper::map_to) for each page in order, up to and with the first one
+/// that is refused, and no other.
+///
+/// If it succeeds, each page is mapped with all of its flags. From each address of a segment the processor arrives at the one as far
+/// from the start of the first frame, with the right to write exactly if `WRITABLE`, and that of a user exactly if
+/// `USER_ACCESSIBLE`, is among its flags. No two segments have an address in common.
+///
+/// It succeeds if no page of a segment has a used entry or lies in a larger page, no two segments have an address in common, and the
+/// allocator has as many frames as [`frames_needed`](crate::frames_needed) tells.
 ///
 /// In any case an address where the processor arrived before still leads to the same place, with no right lost. The hierarchy
-/// is valid, and the allocator's frames are as in a pool that fits it.
+/// is valid, a pool that fitted it fits it again, and frames are conserved, as after a list of calls by [`run`](x86_64::run).
 ///
 /// The tokens of the maps are spent without a flush: nothing was mapped before where a page is mapped.
 ///
@@ -29,8 +35,8 @@ use x86_64::structures::paging::{FrameAllocator, Size2MiB, Size4KiB};
 /// # Errors
 ///
 /// The segment and its first page that was refused as one of 4KiB, and why: the page or a part of it was mapped before, also by
-/// this load where segments overlap, or a table was missing and there was no frame for it. The segments before, and the pages
-/// of this one before the page, are mapped: the processor arrives in them as it should, with no right missing.
+/// this load if segments overlap, or a table was missing and there was no frame for it. The segments before, and the pages of this
+/// one before the page, are mapped: the processor arrives in them as it should, with no right missing.
 pub fn load<M: MapperAllSizes, A: FrameAllocator<Size4KiB>>(
     mapper: &mut M,
     frames: &mut A,
@@ -38,11 +44,20 @@ pub fn load<M: MapperAllSizes, A: FrameAllocator<Size4KiB>>(
 ) -> Result<(), LoadError>
     requires fits { SupplyFits (M.hierarchy mapper.old) (A.supply frames.old) }
     requires allowed { All (IsAllowed (M.hierarchy mapper.old)) segments.now }
-    ensures loaded { OnOk result (All (IsLoaded (M.hierarchy mapper.new)) segments.now) }
+    ensures accepted { let h = M.hierarchy mapper.old in let supply = A.supply frames.old in
+        let after = M.hierarchy mapper.new in let pages = flat_map small_pages segments.now in
+        OnOk result (Accepts h supply pages after (A.supply frames.new)) }
+    ensures loaded { let after = M.hierarchy mapper.new in
+        OnOk result (All (IsLoaded small_pages after) segments.now) }
     ensures disjoint { OnOk result (Disjoint segments.now) }
-    ensures refused { let after = M.hierarchy mapper.new in
-        IfErr result (λ error. IsRefused 1 segments.now error after (A.supply frames.new)) }
-    ensures kept { Kept (M.hierarchy mapper.old) (M.hierarchy mapper.new) (A.supply frames.new) }
+    ensures refused { let h = M.hierarchy mapper.old in let supply = A.supply frames.old in
+        let after = M.hierarchy mapper.new in let rest = A.supply frames.new in
+        IfErr result (λ error. IsRefused small_pages h supply segments.now error after rest) }
+    ensures succeeds { let h = M.hierarchy mapper.old in
+        Suffices small_pages h (A.supply frames.old) segments.now → IsOk result }
+    ensures kept { let h = M.hierarchy mapper.old in let supply = A.supply frames.old in
+        Kept h supply (M.hierarchy mapper.new) (A.supply frames.new) }
+    ensures serves { A.serves frames.new ≡ A.serves frames.old }
 {
     load_each(mapper, frames, segments, Sizes::Small)
 }
@@ -50,8 +65,8 @@ pub fn load<M: MapperAllSizes, A: FrameAllocator<Size4KiB>>(
 /// Maps the pages of segments as [`load`] does, but by pages of 2MiB where a page and its frame both start at a multiple of it
 /// and enough of the segment is left.
 ///
-/// The conditions are those of [`load`], and so are the errors, but that pages of 2MiB are refused too, where they fit; such a
-/// page is named by the first one of 4KiB in it.
+/// The conditions are those of [`load`], and so are the errors, but a page of 2MiB is refused too if a table stands where it is to be
+/// mapped; such a page is named by the first one of 4KiB in it. So it succeeds as [`load`] does if no such table stands there.
 pub fn load_large<M: MapperAllSizes, A: FrameAllocator<Size4KiB>>(
     mapper: &mut M,
     frames: &mut A,
@@ -59,11 +74,20 @@ pub fn load_large<M: MapperAllSizes, A: FrameAllocator<Size4KiB>>(
 ) -> Result<(), LoadError>
     requires fits { SupplyFits (M.hierarchy mapper.old) (A.supply frames.old) }
     requires allowed { All (IsAllowed (M.hierarchy mapper.old)) segments.now }
-    ensures loaded { OnOk result (All (IsLoaded (M.hierarchy mapper.new)) segments.now) }
+    ensures accepted { let h = M.hierarchy mapper.old in let supply = A.supply frames.old in
+        let after = M.hierarchy mapper.new in let pages = flat_map large_pages segments.now in
+        OnOk result (Accepts h supply pages after (A.supply frames.new)) }
+    ensures loaded { let after = M.hierarchy mapper.new in
+        OnOk result (All (IsLoaded large_pages after) segments.now) }
     ensures disjoint { OnOk result (Disjoint segments.now) }
-    ensures refused { let after = M.hierarchy mapper.new in
-        IfErr result (λ error. IsRefused 2 segments.now error after (A.supply frames.new)) }
-    ensures kept { Kept (M.hierarchy mapper.old) (M.hierarchy mapper.new) (A.supply frames.new) }
+    ensures refused { let h = M.hierarchy mapper.old in let supply = A.supply frames.old in
+        let after = M.hierarchy mapper.new in let rest = A.supply frames.new in
+        IfErr result (λ error. IsRefused large_pages h supply segments.now error after rest) }
+    ensures succeeds { let h = M.hierarchy mapper.old in
+        Suffices large_pages h (A.supply frames.old) segments.now → IsOk result }
+    ensures kept { let h = M.hierarchy mapper.old in let supply = A.supply frames.old in
+        Kept h supply (M.hierarchy mapper.new) (A.supply frames.new) }
+    ensures serves { A.serves frames.new ≡ A.serves frames.old }
 {
     load_each(mapper, frames, segments, Sizes::Large)
 }
@@ -86,14 +110,23 @@ fn load_each<M: MapperAllSizes, A: FrameAllocator<Size4KiB>>(
 ) -> Result<(), LoadError>
     requires fits { SupplyFits (M.hierarchy mapper.old) (A.supply frames.old) }
     requires allowed { All (IsAllowed (M.hierarchy mapper.old)) segments.now }
-    ensures loaded { OnOk result (All (IsLoaded (M.hierarchy mapper.new)) segments.now) }
+    ensures accepted { let h = M.hierarchy mapper.old in let supply = A.supply frames.old in
+        let after = M.hierarchy mapper.new in let pages = flat_map (pages_by sizes) segments.now in
+        OnOk result (Accepts h supply pages after (A.supply frames.new)) }
+    ensures loaded { let after = M.hierarchy mapper.new in
+        OnOk result (All (IsLoaded (pages_by sizes) after) segments.now) }
     ensures disjoint { OnOk result (Disjoint segments.now) }
-    ensures refused { let after = M.hierarchy mapper.new in let rest = A.supply frames.new in
-        IfErr result (λ error. IsRefused (largest_level sizes) segments.now error after rest) }
-    ensures kept { Kept (M.hierarchy mapper.old) (M.hierarchy mapper.new) (A.supply frames.new) }
+    ensures refused { let h = M.hierarchy mapper.old in let supply = A.supply frames.old in
+        let after = M.hierarchy mapper.new in let rest = A.supply frames.new in
+        IfErr result (λ error. IsRefused (pages_by sizes) h supply segments.now error after rest) }
+    ensures succeeds { let h = M.hierarchy mapper.old in
+        Suffices (pages_by sizes) h (A.supply frames.old) segments.now → IsOk result }
+    ensures kept { let h = M.hierarchy mapper.old in let supply = A.supply frames.old in
+        Kept h supply (M.hierarchy mapper.new) (A.supply frames.new) }
+    ensures serves { A.serves frames.new ≡ A.serves frames.old }
 {
     for (index, segment) in segments.iter().enumerate() {
-        if let Err(stopped) = load_segment(mapper, frames, segment, sizes) {
+        if let Err(stopped) = load_segment(mapper, frames, *segment, sizes) {
             return Err(LoadError {
                 segment: index,
                 page: page_after(segment.page, stopped.mapped),
@@ -109,18 +142,20 @@ fn load_each<M: MapperAllSizes, A: FrameAllocator<Size4KiB>>(
 fn load_segment<M: MapperAllSizes, A: FrameAllocator<Size4KiB>>(
     mapper: &mut M,
     frames: &mut A,
-    segment: &Segment,
+    segment: Segment,
     sizes: Sizes,
 ) -> Result<(), Stopped<Size4KiB>>
     requires fits { SupplyFits (M.hierarchy mapper.old) (A.supply frames.old) }
-    requires allowed { IsAllowed (M.hierarchy mapper.old) segment.now }
-    ensures { let h = M.hierarchy mapper.old in let s = segment.now in
-        let after = M.hierarchy mapper.new in let rest = A.supply frames.new in
-        LoadsPart h s (largest_level sizes) 0 (size_of s) result after rest }
+    requires allowed { IsAllowed (M.hierarchy mapper.old) segment }
+    ensures loads { let h = M.hierarchy mapper.old in let supply = A.supply frames.old in
+        let s = segment in let after = M.hierarchy mapper.new in let rest = A.supply frames.new in
+        LoadsPart h supply s (pages_by sizes s) 0 (size_of s) result after rest }
+    ensures serves { A.serves frames.new ≡ A.serves frames.old }
+    ensures aligned { segment.page % 0x1000 ≡ 0 }
 {
     match sizes {
-        Sizes::Small => load_small_pages(mapper, frames, segment),
-        Sizes::Large => load_large_pages(mapper, frames, segment),
+        Sizes::Small => load_small_pages(mapper, frames, &segment),
+        Sizes::Large => load_large_pages(mapper, frames, &segment),
     }
 }
 
@@ -132,9 +167,10 @@ fn load_small_pages<M: MapperAllSizes, A: FrameAllocator<Size4KiB>>(
 ) -> Result<(), Stopped<Size4KiB>>
     requires fits { SupplyFits (M.hierarchy mapper.old) (A.supply frames.old) }
     requires allowed { IsAllowed (M.hierarchy mapper.old) segment.now }
-    ensures { let h = M.hierarchy mapper.old in let s = segment.now in
-        let after = M.hierarchy mapper.new in let rest = A.supply frames.new in
-        LoadsPart h s 1 0 (size_of s) result after rest }
+    ensures loads { let h = M.hierarchy mapper.old in let supply = A.supply frames.old in
+        let s = segment.now in let after = M.hierarchy mapper.new in let rest = A.supply frames.new in
+        LoadsPart h supply s (small_pages s) 0 (size_of s) result after rest }
+    ensures serves { A.serves frames.new ≡ A.serves frames.old }
 {
     map_part::<Size4KiB, M, A>(mapper, frames, segment, 0, segment.pages)
 }
@@ -147,9 +183,10 @@ fn load_large_pages<M: MapperAllSizes, A: FrameAllocator<Size4KiB>>(
 ) -> Result<(), Stopped<Size4KiB>>
     requires fits { SupplyFits (M.hierarchy mapper.old) (A.supply frames.old) }
     requires allowed { IsAllowed (M.hierarchy mapper.old) segment.now }
-    ensures { let h = M.hierarchy mapper.old in let s = segment.now in
-        let after = M.hierarchy mapper.new in let rest = A.supply frames.new in
-        LoadsPart h s 2 0 (size_of s) result after rest }
+    ensures loads { let h = M.hierarchy mapper.old in let supply = A.supply frames.old in
+        let s = segment.now in let after = M.hierarchy mapper.new in let rest = A.supply frames.new in
+        LoadsPart h supply s (large_pages s) 0 (size_of s) result after rest }
+    ensures serves { A.serves frames.new ≡ A.serves frames.old }
 {
     let head = pages_before_large(segment);
     let large = (segment.pages - head) / 512;

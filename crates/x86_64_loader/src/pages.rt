@@ -1,9 +1,12 @@
 //! Maps of runs of pages of one size.
-ghost use Rattle.std.specs.Prelude.{◌≡◌, ◌+◌, ◌*◌, ◌%◌, ◌^◌, ◌<◌, ℕ, true, OnOk, OnErr, IfErr};
-ghost use Rattle.x86_64_loader.specs.Pages.{MayBeMapped, RunStands, IsFree, Leaves, IsStopped};
-ghost use Rattle.x86_64_model.specs.Call.{MapTo};
+ghost use Rattle.std.specs.Prelude.{◌≡◌, ◌+◌, ◌*◌, ◌%◌, ◌^◌, ◌<◌, [], ◌∷◌, ℕ, true, OnOk, OnErr, IfErr};
+ghost use Rattle.x86_64_loader.specs.Loads.{IsStopped};
+ghost use Rattle.x86_64_loader.specs.Maps.{Accepts, Made};
+ghost use Rattle.x86_64_loader.specs.Pages.{MayBeMapped, RunStands, IsFree, Leaves};
+ghost use Rattle.x86_64_loader.specs.Segments.{mapping_of, run_of};
+ghost use Rattle.x86_64_model.specs.Call.{Answered, MapTo};
 ghost use Rattle.x86_64_model.specs.Entry.{present};
-ghost use Rattle.x86_64_model.specs.Owned.{SupplyFits, MayMap, DoesMap, Stands, path_of};
+ghost use Rattle.x86_64_model.specs.Owned.{SupplyFits, MayMap, Stands, path_of};
 ghost use Rattle.x86_64_tables.specs.MapperAnswers.{map_answer, map_refusal};
 ghost use Rattle.x86_64_tables.specs.PageTableFlags.{bits_of};
 
@@ -43,16 +46,17 @@ pub(crate) fn map_page<S: PageSize, M: Mapper<S>, A: FrameAllocator<Size4KiB>>(
     requires is_present { present (bits_of flags) ≡ true }
     requires may { let h = M.hierarchy mapper.old in
         MayMap h (A.supply frames.old) (MapTo (path_of h S.LEVEL page) frame (bits_of flags)) }
-    ensures does { let h = M.hierarchy mapper.old in
-        let call = MapTo (path_of h S.LEVEL page) frame (bits_of flags) in
-        let after = M.hierarchy mapper.new in
-        DoesMap h (A.supply frames.old) call (map_answer frame result) after (A.supply frames.new) }
+    ensures made { let h = M.hierarchy mapper.old in let supply = A.supply frames.old in
+        let this = mapping_of S.LEVEL page frame (bits_of flags) in
+        let answer = Answered (map_answer frame result) in
+        Made h supply (this ∷ []) (answer ∷ []) (M.hierarchy mapper.new) (A.supply frames.new) }
     ensures stands { OnOk result (Stands (M.hierarchy mapper.new) S.LEVEL page frame (bits_of flags)) }
     ensures was_free { OnOk result (IsFree (M.hierarchy mapper.old) page S.SIZE) }
-    ensures leaves_all { OnOk result (
-        Leaves 3 (M.hierarchy mapper.old) (M.hierarchy mapper.new) (A.supply frames.new)) }
-    ensures leaves_small { OnErr result (
-        Leaves S.LEVEL (M.hierarchy mapper.old) (M.hierarchy mapper.new) (A.supply frames.new)) }
+    ensures leaves_all { let h = M.hierarchy mapper.old in let supply = A.supply frames.old in
+        OnOk result (Leaves 3 h supply (M.hierarchy mapper.new) (A.supply frames.new)) }
+    ensures leaves_small { let h = M.hierarchy mapper.old in let supply = A.supply frames.old in
+        OnErr result (Leaves S.LEVEL h supply (M.hierarchy mapper.new) (A.supply frames.new)) }
+    ensures serves { A.serves frames.new ≡ A.serves frames.old }
 {
     mapper.map_to(page, frame, flags, frames)?.ignore();
     Ok(())
@@ -74,12 +78,16 @@ pub(crate) fn map_pages<S: PageSize, M: Mapper<S>, A: FrameAllocator<Size4KiB>>(
     ensures stand { OnOk result (
         RunStands (M.hierarchy mapper.new) S.LEVEL S.SIZE page frame (bits_of flags) count) }
     ensures were_free { OnOk result (IsFree (M.hierarchy mapper.old) page (count * S.SIZE)) }
-    ensures leaves { OnOk result (
-        Leaves 3 (M.hierarchy mapper.old) (M.hierarchy mapper.new) (A.supply frames.new)) }
+    ensures leaves { let h = M.hierarchy mapper.old in let supply = A.supply frames.old in
+        OnOk result (Leaves 3 h supply (M.hierarchy mapper.new) (A.supply frames.new)) }
+    ensures accepted { let h = M.hierarchy mapper.old in let supply = A.supply frames.old in
+        let pages = run_of S.LEVEL page frame (bits_of flags) count in
+        OnOk result (Accepts h supply pages (M.hierarchy mapper.new) (A.supply frames.new)) }
     ensures stopped { let h = M.hierarchy mapper.old in let after = M.hierarchy mapper.new in
-        let rest = A.supply frames.new in let given = bits_of flags in
+        let supply = A.supply frames.old in let rest = A.supply frames.new in let given = bits_of flags in
         IfErr result (λ stopped. let why = map_refusal stopped.why in
-        IsStopped h S.LEVEL S.SIZE page frame given count stopped.mapped why after rest) }
+        IsStopped h supply S.LEVEL S.SIZE page frame given count stopped.mapped why after rest) }
+    ensures serves { A.serves frames.new ≡ A.serves frames.old }
     ensures page_aligned { page % S.SIZE ≡ 0 }
     ensures frame_aligned { frame % S.SIZE ≡ 0 }
 {

@@ -1,7 +1,7 @@
 //! Maps of parts of a segment by pages of one size.
 ghost use Rattle.std.specs.Prelude.{◌≡◌, ◌+◌, ◌*◌, ◌%◌, ◌<◌, ◌≤◌};
 ghost use Rattle.x86_64_loader.specs.Loads.{LoadsPart};
-ghost use Rattle.x86_64_loader.specs.Segments.{IsAllowed, size_of};
+ghost use Rattle.x86_64_loader.specs.Segments.{IsAllowed, count_before, part_of, size_of};
 ghost use Rattle.x86_64_model.specs.Owned.{SupplyFits};
 ghost use Rattle.x86_64_tables.specs.MapperAnswers.{map_refusal};
 
@@ -24,9 +24,11 @@ pub(crate) fn map_part<S: PageSize, M: Mapper<S>, A: FrameAllocator<Size4KiB>>(
     requires page_aligned { 0 < count → 1 < S.LEVEL → (segment.now.page + first * 0x1000) % S.SIZE ≡ 0 }
     requires frame_aligned { 0 < count → 1 < S.LEVEL → (segment.now.frame + first * 0x1000) % S.SIZE ≡ 0 }
     requires within { first * 0x1000 + count * S.SIZE ≤ size_of segment.now }
-    ensures { let h = M.hierarchy mapper.old in let s = segment.now in
-        let after = M.hierarchy mapper.new in let rest = A.supply frames.new in
-        LoadsPart h s S.LEVEL (first * 0x1000) (count * S.SIZE) result after rest }
+    ensures loads { let h = M.hierarchy mapper.old in let supply = A.supply frames.old in
+        let s = segment.now in let after = M.hierarchy mapper.new in let rest = A.supply frames.new in
+        let pages = part_of S.LEVEL s first count in
+        LoadsPart h supply s pages (first * 0x1000) (count * S.SIZE) result after rest }
+    ensures serves { A.serves frames.new ≡ A.serves frames.old }
 {
     if count == 0 {
         return Ok(());
@@ -62,6 +64,7 @@ fn in_4kib<S: PageSize>(why: MapToError<S>) -> MapToError<Size4KiB>
 /// the first frame lie at different offsets in theirs of 2MiB.
 #[tactic(auto, unfolding(x86_64_model::specs::Position::index))]
 pub(crate) fn pages_before_large(segment: &Segment) -> u64
+    ensures counts { result ≡ count_before segment.now }
     ensures within { result ≤ segment.now.pages }
     ensures page { result < segment.now.pages
         → (segment.now.page + result * 0x1000) % 0x20_0000 ≡ 0 }

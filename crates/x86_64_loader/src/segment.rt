@@ -1,16 +1,17 @@
 //! Segments, the test of them, and why they are not loaded.
-ghost use Rattle.std.specs.Prelude.{◌≡◌, ◌+◌, ◌*◌, ◌^◌, ◌<◌, ◌↔◌, ℕ, IsTrue};
+ghost use Rattle.std.specs.Prelude.{◌≡◌, ◌+◌, ◌-◌, ◌*◌, ◌/◌, ◌^◌, ◌<◌, ◌≤◌, ◌↔◌, ℕ, true, None, IsTrue, IfSome};
 ghost use Rattle.std.specs.List.{All};
-ghost use Rattle.x86_64_addr.specs.Successor.{forward};
 ghost use Rattle.x86_64_loader.specs.Pages.{MayBeMapped};
-ghost use Rattle.x86_64_loader.specs.Segments.{IsAllowed};
+ghost use Rattle.x86_64_loader.specs.Segments.{IsAllowed, IsInside, frames_for, tables_of};
+ghost use Rattle.x86_64_loader.specs.Windows.{AreOutside};
+ghost use Rattle.x86_64_model.specs.Entry.{present};
 ghost use Rattle.x86_64_model.specs.Owned.{Valid};
 ghost use Rattle.x86_64_tables.specs.PageTableFlags.{bits_of};
 
 use bitflags::Flags;
-use x86_64::parent_flags;
-use x86_64::structures::paging::mapper::MapToError;
+use x86_64::structures::paging::mapper::{MapToError, Tables};
 use x86_64::structures::paging::{Mapper, Page, PageTableFlags, PhysFrame, Size4KiB};
+use x86_64::{VirtAddr, parent_flags};
 
 /// Says which pages are mapped to which frames: so many pages from the first one on, in the order of their positions, each to
 /// the frame as far from the first.
@@ -42,10 +43,14 @@ pub struct LoadError {
 /// Tells whether segments may be loaded: the flags of each have `PRESENT`, each of its pages and frames is there, and each page
 /// may be mapped with its flags, as [`map_allowed`](Mapper::map_allowed) tells.
 ///
+/// It looks at each segment once, however many pages it has: with `PRESENT` among the flags, which pages may be mapped depends on
+/// the flags and on the recursive index alone.
+///
 /// Condition: the hierarchy is valid.
 pub fn segments_allowed<M: Mapper<Size4KiB>>(mapper: &M, segments: &[Segment]) -> bool
     requires { Valid (M.hierarchy mapper.now) }
-    ensures { IsTrue result ↔ All (IsAllowed (M.hierarchy mapper.now)) segments.now }
+    ensures allowed { IsTrue result ↔ All (IsAllowed (M.hierarchy mapper.now)) segments.now }
+    ensures inside { IsTrue result → All IsInside segments.now }
 {
     for segment in segments {
         if !segment_allowed(mapper, segment) {
@@ -64,25 +69,44 @@ fn segment_allowed<M: Mapper<Size4KiB>>(mapper: &M, segment: &Segment) -> bool
     if !segment.flags.contains(PageTableFlags::PRESENT) {
         return false;
     }
-    for k in 0..segment.pages {
-        if !page_allowed(mapper, segment, k) {
-            return false;
-        }
+    if segment.pages == 0 {
+        return true;
     }
-    true
+    pages_allowed(mapper, segment, segment.pages - 1)
 }
 
-/// Tells whether page `k` of a segment may be mapped to its frame.
-fn page_allowed<M: Mapper<Size4KiB>>(mapper: &M, segment: &Segment, k: u64) -> bool
-    requires { Valid (M.hierarchy mapper.now) }
-    ensures { let h = M.hierarchy mapper.now in let s = segment.now in
-        IsTrue result ↔ MayBeMapped h 1 0x1000 s.page s.frame (bits_of s.flags) k }
+/// Tells whether the pages of a segment up to that of a number may be mapped to their frames, where its flags have `PRESENT`.
+fn pages_allowed<M: Mapper<Size4KiB>>(mapper: &M, segment: &Segment, last: u64) -> bool
+    requires valid { Valid (M.hierarchy mapper.now) }
+    requires is_present { present (bits_of segment.now.flags) ≡ true }
+    ensures allowed { let h = M.hierarchy mapper.now in let s = segment.now in
+        IsTrue result ↔ ((k : ℕ) → k ≤ last → MayBeMapped h 1 0x1000 s.page s.frame (bits_of s.flags) k) }
 {
-    let Some(page) = Page::forward_checked(segment.page, k as usize) else {
+    let Some(end) = Page::forward_checked(segment.page, last as usize) else {
         return false;
     };
-    frame_is_there(segment.frame, k)
-        && mapper.map_allowed(page, segment.flags, parent_flags(segment.flags))
+    let there = frame_is_there(segment.frame, last);
+    let allowed = mapper.map_allowed(segment.page, segment.flags, parent_flags(segment.flags));
+    let outside = are_outside_window(mapper, segment.page, end);
+    there & allowed & outside
+}
+
+/// Tells whether each page from a first to a last one lies outside the recursive index.
+fn are_outside_window<M: Mapper<Size4KiB>>(
+    mapper: &M,
+    first: Page<Size4KiB>,
+    last: Page<Size4KiB>,
+) -> bool
+    requires { first ≤ last }
+    ensures { let h = M.hierarchy mapper.now in
+        IsTrue result ↔ AreOutside h first last }
+{
+    let Some(index) = mapper.recursive_index() else {
+        return true;
+    };
+    let index = u16::from(index);
+    let (first, last) = (u16::from(first.p4_index()), u16::from(last.p4_index()));
+    (index < first) | (last < index)
 }
 
 /// Tells whether there is a frame so many frames after one.
@@ -93,4 +117,48 @@ fn frame_is_there(frame: PhysFrame<Size4KiB>, count: u64) -> bool
         Some(number) => PhysFrame::<Size4KiB>::try_from_pfn(number).is_ok(),
         None => false,
     }
+}
+
+/// Gives a number of frames that are enough to load segments: one for each table on the ways to their pages, as if none were there
+/// and no two segments had one in common. It is `None` if the number has more than 64 bits.
+///
+/// [`load`](crate::load) and [`load_large`](crate::load_large) tell what else they need to succeed.
+///
+/// Condition: the last page of each segment is there, as [`segments_allowed`] tells.
+pub fn frames_needed(segments: &[Segment]) -> Option<u64>
+    requires { All IsInside segments.now }
+    ensures count { IfSome result (λ count. count ≡ frames_for segments.now) }
+    ensures too_many { result ≡ None → 2 ^ 64 ≤ frames_for segments.now }
+{
+    let mut count = 0u64;
+    for segment in segments {
+        count = count.checked_add(tables_needed(segment))?;
+    }
+    Some(count)
+}
+
+/// Counts the tables on the ways to the pages of a segment.
+fn tables_needed(segment: &Segment) -> u64
+    requires { IsInside segment.now }
+    ensures { result ≡ tables_of segment.now }
+{
+    if segment.pages == 0 {
+        return 0;
+    }
+    let (start, _) = VirtAddr::steps_between(&VirtAddr::zero(), &segment.page.start_address());
+    let first = start as u64;
+    let last = first + (segment.pages - 1) * 0x1000;
+    entries_between(first, last, 0x80_0000_0000)
+        + entries_between(first, last, 0x4000_0000)
+        + entries_between(first, last, 0x20_0000)
+}
+
+/// Counts the entries, each of so many positions, that lie on the ways to positions from a first to a last one.
+fn entries_between(first: u64, last: u64, span: u64) -> u64
+    requires some { 0 < span }
+    requires ordered { first ≤ last }
+    requires room { last < 2 ^ 48 }
+    ensures { result ≡ last / span - first / span + 1 }
+{
+    last / span - first / span + 1
 }

@@ -1,8 +1,27 @@
-use Rattle.std.proofs.Common.{refl, arith}
-use Rattle.x86_64_loader.specs.Loads.{largest_level}
-use Rattle.x86_64_loader.proofs.Runs.{kept_then, leaves_then}
-use Rattle.x86_64_loader.proofs.Segments.{allowed_at, apart_next, held_is_loaded, held_next, refused_here, still_allowed}
+use Rattle.std.proofs.Common.{◌≡◌, ◌∙◌, ◌%◌, flat_map, take, get_or, rules, refl, sym, subst, arith}
+use Rattle.std.proofs.lemmas.List.{take_all}
+use Rattle.x86_64_loader.specs.Loads.{pages_by}
+use Rattle.x86_64_loader.specs.Maps.{Accepts}
+use Rattle.x86_64_loader.specs.Segments.{AllStand}
+use Rattle.x86_64_loader.proofs.Made.{accepts_none, accepts_then, kept_none}
+use Rattle.x86_64_loader.proofs.Runs.{kept_then, leaves_then, still_stand}
+use Rattle.x86_64_loader.proofs.Segments.{allowed_at, apart_next, held_is_loaded, held_next, next_too, pages_next, refused_here, still_allowed}
+use Rattle.x86_64_loader.proofs.Succeeding.{cannot_be_refused}
 use Rattle.x86_64_loader.proofs.loader.load_each.Goals as goal
+
+pub loop-index-init : goal.loop-index-init
+loop-index-init g c =
+    let h = g.M.Tables.hierarchy c.args.mapper.now in
+    let supply = g.A.FrameAllocator.supply c.args.frames.now in
+    record {
+      held = λ j d before. absurd (omega (arith, before));
+      stand = λ j d before. absurd (omega (arith, before));
+      aligned = λ j d before. absurd (omega (arith, before));
+      apart = λ i j d less within. absurd (omega (arith, within));
+      leaves = record { kept = kept_none h supply c.requires.fits; pages = λ l q f given up stands. stands };
+      accepted = accepts_none h supply;
+      serves = search rules;
+    }
 
 pub load_segment-requires-clause-allowed : goal.load_segment-requires-clause-allowed
 load_segment-requires-clause-allowed g c =
@@ -16,39 +35,66 @@ returns-in-Err-clause-refused g c =
     let now = g.M.Tables.hierarchy c.loop-index.mapper in
     let inv = c.loop-index.invariant in
     refused_here c.args.segments.now c.loop-index.index c.index-segments-index.result c.loop-index-test.true c.index-segments-index.is
-    now (g.M.Tables.hierarchy c.load_segment.new.mapper) (g.A.FrameAllocator.supply c.load_segment.new.frames) inv.held (largest_level c.args.sizes)
-    (g.M.Tables.hierarchy c.args.mapper.now) (g.A.FrameAllocator.supply c.loop-index.frames)
+    now (g.M.Tables.hierarchy c.load_segment.new.mapper) (g.A.FrameAllocator.supply c.load_segment.new.frames) inv.held (pages_by c.args.sizes)
+    (g.M.Tables.hierarchy c.args.mapper.now) (g.A.FrameAllocator.supply c.args.frames.now) (g.A.FrameAllocator.supply c.loop-index.frames)
     (record { segment = c.loop-index.index; page = c.page_after.result; mapped = c.in-Err.stopped.mapped; why = c.in-Err.stopped.why })
-    inv.leaves refl c.page_after.ensures c.in-Err.ensures
+    inv.leaves refl c.page_after.ensures inv.accepted c.in-Err.ensures.loads
+
+pub returns-in-Err-clause-succeeds : goal.returns-in-Err-clause-succeeds
+returns-in-Err-clause-succeeds g c suffices =
+    let segments = c.args.segments.now in
+    let here = c.loop-index-test.true in
+    let item = c.index-segments-index.is in
+    absurd (cannot_be_refused (g.M.Tables.hierarchy c.args.mapper.now) (g.A.FrameAllocator.supply c.args.frames.now) c.args.sizes segments (g.met.M.PageTables.four_levels c.args.mapper.now)
+    (g.M.Tables.added_flags c.args.mapper.now).adds c.requires.fits c.requires.allowed suffices
+    (record { segment = c.loop-index.index; page = c.page_after.result; mapped = c.in-Err.stopped.mapped; why = c.in-Err.stopped.why })
+    (g.M.Tables.hierarchy c.load_segment.new.mapper) (g.A.FrameAllocator.supply c.load_segment.new.frames)
+    (next_too segments c.loop-index.index c.index-segments-index.result here item (λ t. t.page % 0x1000 ≡ 0) c.loop-index.invariant.aligned c.in-Err.ensures.aligned)
+    (returns-in-Err-clause-refused g c))
 
 pub returns-in-Err-clause-kept : goal.returns-in-Err-clause-kept
 returns-in-Err-clause-kept g c =
     kept_then (g.M.Tables.hierarchy c.args.mapper.now) (g.M.Tables.hierarchy c.loop-index.mapper) (g.M.Tables.hierarchy c.load_segment.new.mapper)
-    (g.A.FrameAllocator.supply c.loop-index.frames) (g.A.FrameAllocator.supply c.load_segment.new.frames) c.loop-index.invariant.leaves.kept c.in-Err.ensures.kept
+    (g.A.FrameAllocator.supply c.loop-index.frames) (g.A.FrameAllocator.supply c.load_segment.new.frames) c.loop-index.invariant.leaves.kept c.in-Err.ensures.loads.kept
 
 pub loop-index-preserved : goal.loop-index-preserved
 loop-index-preserved g c =
     let h = g.M.Tables.hierarchy c.args.mapper.now in
+    let supply = g.A.FrameAllocator.supply c.args.frames.now in
     let now = g.M.Tables.hierarchy c.loop-index.mapper in
+    let between = g.A.FrameAllocator.supply c.loop-index.frames in
     let after = g.M.Tables.hierarchy c.load_segment.new.mapper in
     let rest = g.A.FrameAllocator.supply c.load_segment.new.frames in
     let segments = c.args.segments.now in
     let s = c.index-segments-index.result in
+    let i = c.loop-index.index in
     let here = c.loop-index-test.true in
     let item = c.index-segments-index.is in
     let inv = c.loop-index.invariant in
-    let done = c.in_default.ensures in
+    let done = c.in_default.ensures.loads in
+    let cut = pages_by c.args.sizes in
     record {
-      held = held_next segments c.loop-index.index s here item now after rest inv.held done.leaves (λ o starts ends. done.held o starts (omega (arith, ends)));
-      apart = apart_next segments c.loop-index.index s here item now after rest inv.held inv.apart
+      held = held_next segments i s here item now after rest inv.held done.leaves (λ o starts ends. done.held o starts (omega (arith, ends)));
+      stand = next_too segments i s here item (λ t. AllStand after (cut t)) (λ j d before. still_stand now after between rest done.leaves (cut (get_or segments j d)) (inv.stand j d before)) done.stand;
+      aligned = next_too segments i s here item (λ t. t.page % 0x1000 ≡ 0) inv.aligned c.in_default.ensures.aligned;
+      apart = apart_next segments i s here item now after rest inv.held inv.apart
           (λ l q f g multiple stands p starts ends. done.were_free l q f g multiple stands p (omega (arith, starts)) (omega (arith, ends)));
-      leaves = leaves_then h now after (g.A.FrameAllocator.supply c.loop-index.frames) rest 3 3 3 (omega arith) (omega arith) inv.leaves done.leaves;
+      leaves = leaves_then h now after between rest 3 3 3 (omega arith) (omega arith) inv.leaves done.leaves;
+      accepted = subst (λ pages. Accepts h supply pages after rest) (sym (pages_next segments i s here item cut))
+          (accepts_then h now after supply between rest (flat_map cut (take i segments)) (cut s) inv.leaves.kept.layout inv.accepted done.accepted);
+      serves = c.in_default.ensures.serves ∙ inv.serves;
     }
+
+pub returns-clause-accepted : goal.returns-clause-accepted
+returns-clause-accepted g c =
+    let segments = c.args.segments.now in
+    subst (λ these. Accepts (g.M.Tables.hierarchy c.args.mapper.now) (g.A.FrameAllocator.supply c.args.frames.now) (flat_map (pages_by c.args.sizes) these) (g.M.Tables.hierarchy c.loop-index.mapper) (g.A.FrameAllocator.supply c.loop-index.frames))
+    (take_all c.loop-index.index segments (omega arith)) c.loop-index.invariant.accepted
 
 pub returns-clause-loaded : goal.returns-clause-loaded
 returns-clause-loaded g c =
     let inv = c.loop-index.invariant in
-    λ k d within. held_is_loaded (g.M.Tables.hierarchy c.loop-index.mapper) _ inv.leaves.kept.fits.valid (inv.held k d (omega arith))
+    λ k d within. held_is_loaded (pages_by c.args.sizes) (g.M.Tables.hierarchy c.loop-index.mapper) _ inv.leaves.kept.fits.valid (inv.stand k d (omega arith)) (inv.held k d (omega arith))
 
 pub returns-clause-disjoint : goal.returns-clause-disjoint
 returns-clause-disjoint g c = λ i j d less within. c.loop-index.invariant.apart i j d less (omega arith)

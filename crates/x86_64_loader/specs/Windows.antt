@@ -1,0 +1,8 @@
+-- Words of private contracts: pages outside the recursive index.
+use Rattle.std.specs.Prelude.{◌≡◌, ◌%◌, ◌≤◌, ℕ, false}
+use Rattle.x86_64_model.specs.Owned.{Hierarchy, path_of}
+use Rattle.x86_64_model.specs.Window.{begins_with}
+
+-- each page of 4KiB from a first to a last one lies outside the recursive index
+abbrev pub AreOutside : {Lent : Type 0} → Hierarchy Lent → (first last : ℕ) → Type 0
+AreOutside h first last = (p : ℕ) → first ≤ p → p ≤ last → p % 0x1000 ≡ 0 → begins_with h.layout.window (path_of h 1 p) ≡ false
