@@ -1,26 +1,34 @@
 //! Runs the engine on the program's arguments, standard input and standard output.
 #![tactic(auto)]
 
-ghost use Rattle.std.specs.Prelude.{◌≡◌};
+ghost use Rattle.std.specs.Prelude.{◌≡◌, ◌⊎◌, map, string_bytes};
 ghost use Rattle.std.specs.Process.{exit_status};
+ghost use Rattle.pagetab.specs.Exit.{EndsRun};
 ghost use Rattle.pagetab_engine.specs.Ending.{status_of};
+ghost use Rattle.pagetab_engine.specs.declared.ending.Ending.TheVariants.{Stopped};
+ghost use Rattle.pagetab_engine.specs.declared.ending.Fault.TheVariants.{Output};
 
 use pagetab_engine::ending::{Ending, Fault};
 use pagetab_engine::engine;
+use std::io::ErrorKind;
 use std::process::ExitCode;
 use std::{env, io};
 
 fn main(rt: HostRuntime) -> ExitCode {
-    let ending = match arguments(&rt) {
-        Ok(words) => {
-            let mut reader = rt.reader();
-            let mut writer = io::writer(&rt);
-            engine::run(rt.alloc(), words.as_slice(), &mut reader, &mut writer)
-        }
-        // The arguments are there: only the memory to list them can be wanting.
-        Err(_) => Ending::Stopped(Fault::OutOfMemory),
-    };
-    report(&rt, ending)
+    match arguments(&rt) {
+        Ok(words) => run(&rt, words.as_slice()),
+        Err(error) => report(&rt, Ending::Stopped(fault_of(&error))),
+    }
+}
+
+/// Runs the engine on words, standard input and standard output, and reports how the run ended.
+fn run(rt: &HostRuntime, words: &[String]) -> ExitCode
+    ensures { EndsRun (map string_bytes words.now) result }
+{
+    let mut reader = rt.reader();
+    let mut writer = io::writer(rt);
+    let ending = engine::run(rt.alloc(), words, &mut reader, &mut writer);
+    report(rt, ending)
 }
 
 /// Gives the words after the program's name.
@@ -32,8 +40,19 @@ fn arguments(rt: &HostRuntime) -> io::Result<Vec<String>> {
     Ok(words)
 }
 
-/// Writes the text of a fault to standard error, and gives the exit status.
-fn report(rt: &impl Eprint, ending: Ending) -> ExitCode {
+/// Says why the arguments can't be listed: memory was refused, or one of them is no text.
+fn fault_of(error: &io::Error) -> Fault {
+    if error.kind() == ErrorKind::OutOfMemory {
+        Fault::OutOfMemory
+    } else {
+        Fault::Usage
+    }
+}
+
+/// Writes the text of a fault to standard error, and gives the exit code: that of a failed write where this fails.
+fn report(rt: &impl Eprint, ending: Ending) -> ExitCode
+    ensures { (exit_status result ≡ status_of ending) ⊎ (exit_status result ≡ status_of (Stopped Output)) }
+{
     let told = match ending {
         Ending::Done => Ok(()),
         Ending::Stopped(fault) => eprintln!(rt; "{fault}"),

@@ -10,7 +10,8 @@ use Rattle.x86_64_mappers.specs.Layouts.{direct}
 use Rattle.x86_64_mappers.proofs.OffsetTables.{offset_fits}
 use Rattle.x86_64_mappers.specs.Offsets.{OffsetFits, offset_places}
 use Rattle.x86_64.proofs.Moved.{moved}
-use Rattle.x86_64.proofs.Offsets.{same_state, still_reached, same_kept, same_free}
+use Rattle.x86_64.proofs.Offsets.{same_state, same_kept, same_free}
+use Rattle.x86_64.proofs.PlacesStay.{offsets_fit_still}
 use Rattle.x86_64.specs.FreeFrames.{KeepsFree}
 use Rattle.x86_64.specs.Runs as runs
 use Rattle.x86_64.specs.Replies.{Reply}
@@ -45,7 +46,7 @@ module _ (offset limit : ℕ) (m : Memory) (free rest : List ℕ) (reached : Off
 
   -- so the places are reached still
   pub reached_after : (l : Layout) (before after n : Memory) → n ≡ after → l ≡ layout_at offset → before ≡ m → runs.Keeps l (serves_below limit) before free after rest → OffsetFits n offset
-  reached_after l before after n last is first kept = still_reached offset 0x1000 (serves_below limit) m n free rest reached (at_offset offset m limit free reached fits) (kept_at l before after n last is first kept)
+  reached_after l before after n last is first kept = offsets_fit_still (layout_at offset) (serves_below limit) m n free rest (at_offset offset m limit free reached fits) (kept_at l before after n last is first kept) offset reached
 
   -- and what is kept at the offset is kept
   pub kept_after : (l : Layout) (before after n : Memory) → n ≡ after → l ≡ layout_at offset → before ≡ m → runs.Keeps l (serves_below limit) before free after rest → runs.Keeps (direct_layout Four) (serves_below limit) m free n rest

@@ -1,10 +1,10 @@
 -- Line feeds break the input into lines.
-use Rattle.std.proofs.Common.{◌≡◌, ◌≤◌, ◌<◌, ℕ, refl, arith, sym, ap, ◌∙◌, subst, Bool, true, false, cond, List, [], ◌∷◌, ◌++◌, length, Option, Some, None, IfSome, append-nil, append_assoc, length-append}
+use Rattle.std.proofs.Common.{◌≡◌, ◌≤◌, ◌<◌, ℕ, refl, arith, sym, ap, ◌∙◌, subst, Bool, true, false, cond, List, [], ◌∷◌, ◌++◌, length, Option, Some, None, append-nil, append_assoc, length-append}
 use Rattle.std.specs.Io.KnownBytes.{Consumes}
 use Rattle.std.specs.List.{All, slice_split, onto_first}
 use Rattle.std.proofs.lemmas.List.Elements.{All-nil, All-cons, All-head, All-tail, All-append}
 use Rattle.std.proofs.lemmas.List.Splits.{slice_split_none, slice_split_at, slice_split-cons_no}
-use Rattle.pagetab_engine.specs.Lines.{is_line_feed, without_empty_last, lines_of, BeginsTooLong, TakesByte, TakesLine}
+use Rattle.pagetab_engine.specs.Lines.{is_line_feed, without_empty_last, lines_of, BeginsTooLong, IsInput, TakesByte, TakesLine, TracesBack}
 
 abbrev pub HasNoFeed : List ℕ → Type 0
 HasNoFeed text = All (λ byte. is_line_feed byte ≡ false) text
@@ -58,32 +58,39 @@ lines_too_long text rest long none =
     subst (λ (ps : List (List ℕ)). BeginsTooLong (without_empty_last ps)) (sym is) (long_first (text ++ part) parts (λ few. absurd (omega (arith, length-append text part))))
 
 -- where the bytes of a text were taken and then none is left, there was no line, or the text was the last one
-pub ends_empty : (old left new : Option (List ℕ)) → Consumes old left [] → TakesByte left new None → IfSome old (λ bytes. lines_of bytes ≡ [])
-ends_empty None left new taken next = tt
+pub ends_empty : (old left new : Option (List ℕ)) → Consumes old left [] → TakesByte left new None → TracesBack (IsInput old) (IsInput new) (λ bytes rest. lines_of bytes ≡ [])
+ends_empty None left new taken next = λ rest may. ([], tt, lines_empty)
 ends_empty (Some bytes) None new taken next = absurd taken
-ends_empty (Some bytes) (Some rest) new taken next = ap lines_of (taken ∙ next.0) ∙ lines_empty
+ends_empty (Some bytes) (Some rest) new taken next = λ more may. (bytes, refl, ap lines_of (taken ∙ next.0) ∙ lines_empty)
 
-pub ends_last : (old left new : Option (List ℕ)) (text : List ℕ) → Consumes old left text → TakesByte left new None → 0 < length text → HasNoFeed text → IfSome old (λ bytes. TakesLine bytes text new)
-ends_last None left new text taken next some none = tt
+pub ends_last : (old left new : Option (List ℕ)) (text : List ℕ) → Consumes old left text → TakesByte left new None → 0 < length text → HasNoFeed text
+    → TracesBack (IsInput old) (IsInput new) (λ bytes rest. TakesLine bytes text rest)
+ends_last None left new text taken next some none = λ rest may. (text ++ 10 ∷ rest, tt, lines_first text rest none)
 ends_last (Some bytes) None new text taken next some none = absurd taken
 ends_last (Some bytes) (Some rest) None text taken next some none = absurd next.1
-ends_last (Some bytes) (Some rest) (Some more) text taken next some none =
-    ap lines_of (taken ∙ ap (λ end. text ++ end) next.0 ∙ append-nil text) ∙ lines_last text some none ∙ ap (λ end. text ∷ lines_of end) (sym (next.1 ∙ next.0))
+ends_last (Some bytes) (Some rest) (Some more) text taken next some none = λ end may.
+    (bytes, refl, ap lines_of (taken ∙ ap (λ end. text ++ end) next.0 ∙ append-nil text) ∙ lines_last text some none ∙ ap (λ end. text ∷ lines_of end) (sym (may ∙ next.1 ∙ next.0)))
 
 -- where a line feed is next, the text was a line
-pub ends_at_feed : (old left new : Option (List ℕ)) (text : List ℕ) → Consumes old left text → TakesByte left new (Some 10) → HasNoFeed text → IfSome old (λ bytes. TakesLine bytes text new)
-ends_at_feed None left new text taken next none = tt
+pub ends_at_feed : (old left new : Option (List ℕ)) (text : List ℕ) → Consumes old left text → TakesByte left new (Some 10) → HasNoFeed text
+    → TracesBack (IsInput old) (IsInput new) (λ bytes rest. TakesLine bytes text rest)
+ends_at_feed None left new text taken next none = λ rest may. (text ++ 10 ∷ rest, tt, lines_first text rest none)
 ends_at_feed (Some bytes) None new text taken next none = absurd taken
 ends_at_feed (Some bytes) (Some rest) None text taken next none = absurd next
-ends_at_feed (Some bytes) (Some rest) (Some more) text taken next none = ap lines_of (taken ∙ ap (λ end. text ++ end) next) ∙ lines_first text more none
+ends_at_feed (Some bytes) (Some rest) (Some more) text taken next none = λ end may.
+    (bytes, refl, ap lines_of (taken ∙ ap (λ end. text ++ end) next) ∙ lines_first text more none ∙ ap (λ end. text ∷ lines_of end) (sym may))
+
+-- more than 256 bytes without a line feed begin with a line that is too long, whatever comes behind them
+long_text : (text rest : List ℕ) (byte : ℕ) → is_line_feed byte ≡ false → 256 ≤ length text → HasNoFeed text → BeginsTooLong (lines_of ((text ++ byte ∷ []) ++ rest))
+long_text text rest byte other long none = lines_too_long (text ++ byte ∷ []) rest (omega (arith, length-append text (byte ∷ [])))
+    (All-append (λ b. is_line_feed b ≡ false) text (byte ∷ []) none (All-cons (λ b. is_line_feed b ≡ false) byte [] other (All-nil (λ b. is_line_feed b ≡ false))))
 
 -- where another byte comes after 256 bytes, the line is too long
 pub ends_too_long : (old left new : Option (List ℕ)) (text : List ℕ) (byte : ℕ) → Consumes old left text → TakesByte left new (Some byte) → is_line_feed byte ≡ false → 256 ≤ length text → HasNoFeed text
-    → IfSome old (λ bytes. BeginsTooLong (lines_of bytes))
-ends_too_long None left new text byte taken next other long none = tt
+    → TracesBack (IsInput old) (IsInput new) (λ bytes rest. BeginsTooLong (lines_of bytes))
+ends_too_long None left new text byte taken next other long none = λ rest may. ((text ++ byte ∷ []) ++ rest, tt, long_text text rest byte other long none)
 ends_too_long (Some bytes) None new text byte taken next other long none = absurd taken
 ends_too_long (Some bytes) (Some rest) None text byte taken next other long none = absurd next
 ends_too_long (Some bytes) (Some rest) (Some more) text byte taken next other long none =
     let is : bytes ≡ (text ++ byte ∷ []) ++ more = taken ∙ ap (λ end. text ++ end) next ∙ sym (append_assoc text (byte ∷ []) more) in
-    subst (λ (bs : List ℕ). BeginsTooLong (lines_of bs)) (sym is) (lines_too_long (text ++ byte ∷ []) more (omega (arith, length-append text (byte ∷ [])))
-    (All-append (λ b. is_line_feed b ≡ false) text (byte ∷ []) none (All-cons (λ b. is_line_feed b ≡ false) byte [] other (All-nil (λ b. is_line_feed b ≡ false)))))
+    λ end may. (bytes, refl, subst (λ (bs : List ℕ). BeginsTooLong (lines_of bs)) (sym is) (long_text text more byte other long none))

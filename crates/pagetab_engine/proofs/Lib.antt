@@ -17,6 +17,7 @@ pub mod SameWalks
 pub mod SameCommands
 pub mod SameImages
 pub mod Decided
+pub mod DecidedBytes
 pub mod ServedCommands
 pub mod Splitting
 pub mod Uniqueness

@@ -1,31 +1,45 @@
 -- Lines are counted as they are read, and blank ones passed over.
-use Rattle.std.proofs.Common.{◌≡◌, ◌≤◌, ℕ, sym, ap, subst, ◌∙◌, suc, Bool, true, false, cond, List, ◌∷◌, length, Option, Some, None, IfSome, option_map, arith}
+use Rattle.std.proofs.Common.{◌≡◌, ◌≤◌, ℕ, refl, sym, ap, subst, ◌∙◌, suc, Bool, true, false, cond, List, [], ◌∷◌, length, Option, Some, None, arith}
+use Rattle.std.specs.Bool.{⊤}
 use Rattle.std.proofs.lemmas.Bool.Decides.{nat_tests}
 use Rattle.std.specs.List.{list_all}
 use Rattle.pagetab_engine.specs.Fields.{is_space}
-use Rattle.pagetab_engine.specs.Lines.{Numbered, numbered_from, is_blank, lines_of, TakesLine, TakesStatement, BeginsBad, IsBad, SaysAccepted}
+use Rattle.pagetab_engine.specs.Lines.{Numbered, numbered_from, is_blank, lines_of, BeginsBad, BeginsTooLong, ForSome, IsBad, IsInput, SaysAccepted, TakesLine, TakesStatement, TracesBack}
 use Rattle.pagetab_engine.specs.declared.arguments.Arguments.{Arguments}
 use Rattle.pagetab_engine.specs.declared.statement.Statement.{Statement}
 
--- the lines that are left behind so many lines
-abbrev pub numbered_left : (number : ℕ) → Option (List ℕ) → Option (List Numbered)
-numbered_left number known = option_map (λ bytes. numbered_from (suc number) (lines_of bytes)) known
+-- lines with numbers that may be left behind so many lines
+abbrev pub MayFollow : (number : ℕ) (known : Option (List ℕ)) → List Numbered → Type 0
+MayFollow number known numbered = (bytes : List ℕ) × IsInput known bytes × (numbered ≡ numbered_from (suc number) (lines_of bytes))
 
--- what holds of the lines that are left holds of those that were, where only blank ones were passed over
-pub behind_blank : (old now : Option (List Numbered)) (P : List Numbered → Type 0) → IfSome old (λ lines. now ≡ Some lines) → IfSome now P → IfSome old P
-behind_blank None now P same so = tt
-behind_blank (Some lines) now P same so = let Q : Option (List Numbered) → Type 0 = λ known. IfSome known P in subst Q same so
+-- some may always be left
+pub some_input : (known : Option (List ℕ)) → ForSome (IsInput known) (λ input. ⊤)
+some_input None = ([], tt, tt)
+some_input (Some known) = (known, refl, tt)
+
+pub some_lines : (number : ℕ) (known : Option (List ℕ)) → ForSome (MayFollow number known) (λ numbered. ⊤)
+some_lines number known = let some = some_input known in (numbered_from (suc number) (lines_of some.0), (some.0, some.1, refl), tt)
+
+-- what was passed over was blank: lines that may be left now may have been left before
+abbrev pub PassesBlank : (old now : List Numbered → Type 0) → Type 0
+PassesBlank old now = (lines : List Numbered) → now lines → old lines
+
+pub behind_blank : (old now new : List Numbered → Type 0) (P : List Numbered → List Numbered → Type 0) → PassesBlank old now → TracesBack now new P → TracesBack old new P
+behind_blank old now new P passed next = λ rest may. let lines = next rest may in (lines.0, passed lines.0 lines.1, lines.2)
+
+pub begins_behind : (old now : List Numbered → Type 0) (P : List Numbered → Type 0) → PassesBlank old now → ForSome now P → ForSome old P
+begins_behind old now P passed some = (some.0, passed some.0 some.1, some.2)
 
 -- a blank line is passed over
-pub blank_passed : (number next : ℕ) (old new : Option (List ℕ)) (line : List ℕ) → next ≡ suc number → is_blank line ≡ true → IfSome old (λ bytes. TakesLine bytes line new)
-    → IfSome (numbered_left number old) (λ lines. numbered_left next new ≡ Some lines)
-blank_passed number next None new line counted blank takes = tt
-blank_passed number next (Some bytes) None line counted blank takes = absurd takes
-blank_passed number next (Some bytes) (Some rest) line counted blank takes =
-    let numbered : numbered_from (suc number) (lines_of bytes) ≡ numbered_from (suc (suc number)) (lines_of rest) =
-    ap (numbered_from (suc number)) takes
+pub blank_passed : (number next : ℕ) (old new : Option (List ℕ)) (line : List ℕ) → next ≡ suc number → is_blank line ≡ true → TracesBack (IsInput old) (IsInput new) (λ bytes rest. TakesLine bytes line rest)
+    → PassesBlank (MayFollow number old) (MayFollow next new)
+blank_passed number next old new line counted blank takes = λ lines may.
+    let rest = may.0 in
+    let bytes = takes rest may.1 in
+    let numbered : numbered_from (suc number) (lines_of bytes.0) ≡ numbered_from (suc (suc number)) (lines_of rest) =
+    ap (numbered_from (suc number)) bytes.2
     ∙ ap (λ b. cond b (numbered_from (suc (suc number)) (lines_of rest)) (record { number = suc number; line = line } ∷ numbered_from (suc (suc number)) (lines_of rest))) blank in
-    ap Some (ap (λ n. numbered_from (suc n) (lines_of rest)) counted ∙ sym numbered)
+    (bytes.0, bytes.1, may.2 ∙ ap (λ n. numbered_from (suc n) (lines_of rest)) counted ∙ sym numbered)
 
 -- another line is the first one
 line_next : (number : ℕ) (bytes line rest : List ℕ) → is_blank line ≡ false → lines_of bytes ≡ line ∷ lines_of rest
@@ -34,19 +48,58 @@ line_next number bytes line rest some takes =
     ap (numbered_from (suc number)) takes
     ∙ ap (λ b. cond b (numbered_from (suc (suc number)) (lines_of rest)) (record { number = suc number; line = line } ∷ numbered_from (suc (suc number)) (lines_of rest))) some
 
-pub statement_taken : (arguments : Arguments) (number next : ℕ) (old new : Option (List ℕ)) (line : List ℕ) (statement : Statement) → next ≡ suc number → is_blank line ≡ false → IfSome old (λ bytes. TakesLine bytes line new)
-    → SaysAccepted arguments line statement → IfSome (numbered_left number old) (λ lines. TakesStatement arguments lines next (numbered_left next new) statement)
-statement_taken arguments number next None new line statement counted some takes says = tt
-statement_taken arguments number next (Some bytes) None line statement counted some takes says = absurd takes
-statement_taken arguments number next (Some bytes) (Some rest) line statement counted some takes says =
-    (line, line_next number bytes line rest some takes ∙ ap (λ n. record { number = n; line = line } ∷ numbered_from (suc n) (lines_of rest)) (sym counted), says)
+pub statement_taken : (arguments : Arguments) (number next : ℕ) (old new : Option (List ℕ)) (line : List ℕ) (statement : Statement) → next ≡ suc number → is_blank line ≡ false
+    → TracesBack (IsInput old) (IsInput new) (λ bytes rest. TakesLine bytes line rest) → SaysAccepted arguments line statement
+    → TracesBack (MayFollow number old) (MayFollow next new) (λ lines rest. TakesStatement arguments lines next rest statement)
+statement_taken arguments number next old new line statement counted some takes says = λ lines may.
+    let rest = may.0 in
+    let bytes = takes rest may.1 in (
+      numbered_from (suc number) (lines_of bytes.0),
+      (bytes.0, bytes.1, refl),
+      (
+        line,
+        line_next number bytes.0 line rest some bytes.2 ∙ ap (λ n. record { number = n; line = line } ∷ numbered_from (suc n) (lines_of rest)) (sym counted)
+            ∙ ap (λ more. record { number = next; line = line } ∷ more) (sym may.2),
+        says,
+      ),
+    )
 
-pub bad_taken : (arguments : Arguments) (number next : ℕ) (old new : Option (List ℕ)) (line : List ℕ) → next ≡ suc number → is_blank line ≡ false → IfSome old (λ bytes. TakesLine bytes line new)
-    → IsBad arguments line → IfSome (numbered_left number old) (λ lines. BeginsBad arguments lines next)
-bad_taken arguments number next None new line counted some takes bad = tt
-bad_taken arguments number next (Some bytes) None line counted some takes bad = absurd takes
-bad_taken arguments number next (Some bytes) (Some rest) line counted some takes bad =
-    subst (λ (lines : List Numbered). BeginsBad arguments lines next) (sym (line_next number bytes line rest some takes)) (sym counted, bad)
+pub bad_taken : (arguments : Arguments) (number next : ℕ) (old new : Option (List ℕ)) (line : List ℕ) → next ≡ suc number → is_blank line ≡ false
+    → TracesBack (IsInput old) (IsInput new) (λ bytes rest. TakesLine bytes line rest) → IsBad arguments line
+    → ForSome (MayFollow number old) (λ lines. BeginsBad arguments lines next)
+bad_taken arguments number next old new line counted some takes bad =
+    let rest = some_input new in
+    let bytes = takes rest.0 rest.1 in (
+      numbered_from (suc number) (lines_of bytes.0),
+      (bytes.0, bytes.1, refl),
+      subst (λ (lines : List Numbered). BeginsBad arguments lines next) (sym (line_next number bytes.0 line rest.0 some bytes.2)) (sym counted, bad),
+    )
+
+-- a line that is too long is not blank
+long_line : (line : List ℕ) → ¬ (length line ≤ 256) → is_blank line ≡ false
+long_line line long = grind (arith, nat_tests)
+
+-- where the first line is too long, it is bad
+pub long_taken : (arguments : Arguments) (number next : ℕ) (old new : Option (List ℕ)) → next ≡ suc number → TracesBack (IsInput old) (IsInput new) (λ bytes rest. BeginsTooLong (lines_of bytes))
+    → ForSome (MayFollow number old) (λ lines. BeginsBad arguments lines next)
+long_taken arguments number next old new counted long =
+    let rest = some_input new in
+    let bytes = long rest.0 rest.1 in
+    (numbered_from (suc number) (lines_of bytes.0), (bytes.0, bytes.1, refl), begins (lines_of bytes.0) bytes.2)
+  where
+    begins : (lines : List (List ℕ)) → BeginsTooLong lines → BeginsBad arguments (numbered_from (suc number) lines) next
+    begins [] too_long = absurd too_long
+    begins (line ∷ lines) too_long =
+        let first : numbered_from (suc number) (line ∷ lines) ≡ record { number = suc number; line = line } ∷ numbered_from (suc (suc number)) lines =
+        ap (λ b. cond b (numbered_from (suc (suc number)) lines) (record { number = suc number; line = line } ∷ numbered_from (suc (suc number)) lines)) (long_line line too_long) in
+        subst (λ (numbered : List Numbered). BeginsBad arguments numbered next) (sym first) (sym counted, λ fits. absurd (too_long fits))
+
+-- where there is no line, none is left
+pub none_taken : (number next : ℕ) (old new : Option (List ℕ)) → TracesBack (IsInput old) (IsInput new) (λ bytes rest. lines_of bytes ≡ [])
+    → TracesBack (MayFollow number old) (MayFollow next new) (λ lines rest. lines ≡ [])
+none_taken number next old new none = λ lines may.
+    let bytes = none may.0 may.1 in
+    (numbered_from (suc number) (lines_of bytes.0), (bytes.0, bytes.1, refl), ap (numbered_from (suc number)) bytes.2)
 
 -- a line that fits is blank exactly where it has spaces alone
 pub blank_line : (line : List ℕ) (spaces : Bool) → length line ≤ 256 → spaces ≡ list_all is_space line → is_blank line ≡ spaces

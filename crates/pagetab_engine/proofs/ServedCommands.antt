@@ -1,10 +1,11 @@
 -- How commands are served, line by line.
-use Rattle.std.proofs.Common.{◌≡◌, ℕ, List, [], ◌∷◌, ◌++◌, Option, Some, None, IfSome, sym, ap, ◌∙◌, subst, append-nil, append_assoc}
+use Rattle.std.proofs.Common.{◌≡◌, ℕ, List, [], ◌∷◌, ◌++◌, Option, refl, sym, ap, ◌∙◌, subst, append-nil, append_assoc}
+use Rattle.std.specs.Bool.{⊤}
 use Rattle.std.proofs.lemmas.Grind.{flat_map-append}
 use Rattle.std.specs.Io.KnownBytes.{Appends}
 use Rattle.std.specs.List.{flat_map}
-use Rattle.pagetab_engine.specs.Lines.{Numbered, TakesStatement, ExplainsRead}
-use Rattle.pagetab_engine.specs.Program.{IsWritten, Replies, Served, ServedUntil, Serves, StopsAt}
+use Rattle.pagetab_engine.specs.Lines.{Numbered, ExplainsRead, ForSome, TakesStatement, TracesBack}
+use Rattle.pagetab_engine.specs.Program.{IsWritten, Replies, SaysCommand, Served, ServedUntil, Serves, StopsAt}
 use Rattle.pagetab_engine.specs.Program.Serves.{ends, answers, bad_line, late_image, gives_up}
 use Rattle.pagetab_engine.specs.Texts.{reply_line}
 use Rattle.pagetab_engine.specs.declared.arguments.Arguments.{Arguments}
@@ -19,107 +20,125 @@ use Rattle.pagetab_engine.specs.declared.statement.ImageLine.{ImageLine}
 use Rattle.pagetab_engine.specs.declared.statement.Statement.TheVariants as says
 use Rattle.pagetab_engine.proofs.Written.{appends_both}
 
--- what was written stays where the program stops after it
-written_then : (old between new : Option (List ℕ)) (replies : List Reply) (fault : Fault) → Appends old between (flat_map reply_line replies) → StopsAt between new fault
-    → IsWritten old new (Stopped fault) replies
-written_then old between new replies fault one stops = by fault stops
-  where
-    both : Appends between new [] → Appends old new (flat_map reply_line replies)
-    both next = subst (λ bytes. Appends old new bytes) (append-nil (flat_map reply_line replies)) (appends_both old between new (flat_map reply_line replies) [] one next)
-
-    by : (fault : Fault) → StopsAt between new fault → IsWritten old new (Stopped fault) replies
-    by OutOfMemory stops = both stops.1
-    by Input stops = both stops.1
-    by Output stops = tt
-    by (BadLine number) stops = absurd stops.0
-    by InvalidHierarchy stops = absurd stops.0
-    by Usage stops = absurd stops.0
-
-module _ (arguments : Arguments) (first : Command) (before : Hierarchy) (old : Option (List ℕ)) where
-  -- the first command can't be answered
-  pub first_stops : (known : Option (List Numbered)) (new : Option (List ℕ)) (fault : Fault) → StopsAt old new fault → IfSome known (λ behind. Served arguments first behind before old new (Stopped fault))
-  first_stops None new fault stops = tt
-  first_stops (Some behind) new fault stops = λ line says. ([], gives_up (line ∷ behind) before fault stops.0, stops.1)
+module _ (arguments : Arguments) (first : Command) (before : Hierarchy) (old : Option (List ℕ)) (start : List Numbered → Type 0) where
+  -- the program stops at the first command
+  pub first_stops : ForSome start (λ behind. ⊤) → (after : Hierarchy) (new : Option (List ℕ)) (fault : Fault) → StopsAt first before after old new fault
+      → ForSome start (λ behind. Served arguments first behind before old new (Stopped fault))
+  first_stops some after new fault stops = (some.0, some.1, λ line says. by some.0 line says fault stops)
+    where
+      by : (behind : List Numbered) (line : Numbered) → SaysCommand arguments line first → (fault : Fault) → StopsAt first before after old new fault
+          → (replies : List Reply) × Serves arguments (line ∷ behind) before (Stopped fault) replies × IsWritten old new (Stopped fault) replies
+      by behind line says OutOfMemory stops = ([], gives_up (line ∷ behind) before OutOfMemory tt, stops)
+      by behind line says Output stops = (
+        stops.0 ∷ [],
+        answers line behind first before stops.0 after (Stopped Output) [] says stops.1 (gives_up behind after Output tt),
+        ([], stops.0, stops.2.0, refl, stops.2.1, stops.2.2),
+      )
+      by behind line says (BadLine number) stops = absurd stops
+      by behind line says InvalidHierarchy stops = absurd stops
+      by behind line says Input stops = absurd stops
+      by behind line says Usage stops = absurd stops
 
   -- the first command is answered
-  pub first_served : (known : Option (List Numbered)) (after : Hierarchy) (new : Option (List ℕ)) → Replies first before after old new
-      → IfSome known (λ behind. ServedUntil arguments first behind before old new known after)
-  first_served None after new replied = tt
-  first_served (Some behind) after new replied = λ line says. (
-    replied.0 ∷ [],
-    subst (λ bytes. Appends old new bytes) (sym (append-nil (reply_line replied.0))) replied.2,
-    λ ending more serves. answers line behind first before replied.0 after ending more says replied.1 serves,
+  pub first_served : (after : Hierarchy) (new : Option (List ℕ)) → Replies first before after old new
+      → TracesBack start start (λ behind left. ServedUntil arguments first behind before old new left after)
+  first_served after new replied = λ behind may. (
+    behind,
+    may,
+    λ line says. (
+      replied.0 ∷ [],
+      subst (λ bytes. Appends old new bytes) (sym (append-nil (reply_line replied.0))) replied.2,
+      λ ending more serves. answers line behind first before replied.0 after ending more says replied.1 serves,
+    ),
   )
 
-  module _ (between : Hierarchy) (held : Option (List ℕ)) where
+  module _ (between : Hierarchy) (held : Option (List ℕ)) (left : List Numbered → Type 0)
+      (served : TracesBack start left (λ behind lines. ServedUntil arguments first behind before old held lines between)) where
     -- the next one is answered
-    pub next_served : (known left next : Option (List Numbered)) (number : ℕ) (command : Command) (after : Hierarchy) (new : Option (List ℕ))
-        → IfSome known (λ behind. ServedUntil arguments first behind before old held left between) → IfSome left (λ lines. TakesStatement arguments lines number next (says.Command command))
-        → Replies command between after held new → IfSome known (λ behind. ServedUntil arguments first behind before old new next after)
-    next_served None left next number command after new served takes replied = tt
-    next_served (Some behind) None next number command after new served takes replied = absurd (served_nothing behind served)
-      where
-        served_nothing : (behind : List Numbered) → ServedUntil arguments first behind before old held None between → ⊥
-        served_nothing behind never = never
-    next_served (Some behind) (Some lines) None number command after new served takes replied = absurd takes
-    next_served (Some behind) (Some lines) (Some rest) number command after new served takes replied = λ line says.
-        let until = served line says in
-        let here : Numbered = record { number = number; line = takes.0 } in (
-          until.0 ++ replied.0 ∷ [],
-          subst (λ bytes. Appends old new bytes) (sym (ap (λ bytes. flat_map reply_line until.0 ++ bytes) (append-nil (reply_line replied.0))) ∙ sym (flat_map-append reply_line until.0 (replied.0 ∷ [])))
-              (appends_both old held new (flat_map reply_line until.0) (reply_line replied.0) until.1 replied.2),
-          λ ending more serves. subst (λ replies. Serves arguments (line ∷ behind) before ending replies) (sym (append_assoc until.0 (replied.0 ∷ []) more))
-              (until.2 ending (replied.0 ∷ more) (subst (λ lines. Serves arguments lines between ending (replied.0 ∷ more)) (sym takes.1)
-              (answers here rest command between replied.0 after ending more takes.2 replied.1 serves))),
+    pub next_served : (next : List Numbered → Type 0) (number : ℕ) (command : Command) (after : Hierarchy) (new : Option (List ℕ))
+        → TracesBack left next (λ lines rest. TakesStatement arguments lines number rest (says.Command command)) → Replies command between after held new
+        → TracesBack start next (λ behind rest. ServedUntil arguments first behind before old new rest after)
+    next_served next number command after new takes replied = λ rest may.
+        let lines = takes rest may in let all = served lines.0 lines.1 in (
+          all.0,
+          all.1,
+          λ line says.
+              let until = all.2 line says in
+              let here : Numbered = record { number = number; line = lines.2.0 } in (
+                until.0 ++ replied.0 ∷ [],
+                subst (λ bytes. Appends old new bytes) (sym (ap (λ bytes. flat_map reply_line until.0 ++ bytes) (append-nil (reply_line replied.0))) ∙ sym (flat_map-append reply_line until.0 (replied.0 ∷ [])))
+                    (appends_both old held new (flat_map reply_line until.0) (reply_line replied.0) until.1 replied.2),
+                λ ending more serves. subst (λ replies. Serves arguments (line ∷ all.0) before ending replies) (sym (append_assoc until.0 (replied.0 ∷ []) more))
+                    (until.2 ending (replied.0 ∷ more) (subst (λ lines. Serves arguments lines between ending (replied.0 ∷ more)) (sym lines.2.1)
+                    (answers here rest command between replied.0 after ending more lines.2.2 replied.1 serves))),
+              ),
         )
 
     -- a run that ends at the lines that are left
-    ended : (behind lines : List Numbered) (ending : Ending) (new : Option (List ℕ)) → ServedUntil arguments first behind before old held (Some lines) between → Serves arguments lines between ending []
-        → ((replies : List Reply) → Appends old held (flat_map reply_line replies) → IsWritten old new ending replies) → Served arguments first behind before old new ending
-    ended behind lines ending new served serves written = λ line says.
-        let until = served line says in
-        (until.0, subst (λ replies. Serves arguments (line ∷ behind) before ending replies) (append-nil until.0) (until.2 ending [] serves), written until.0 until.1)
+    ended : (lines : List Numbered) → left lines → (ending : Ending) (new : Option (List ℕ)) → Serves arguments lines between ending []
+        → ((replies : List Reply) → Appends old held (flat_map reply_line replies) → IsWritten old new ending replies) → ForSome start (λ behind. Served arguments first behind before old new ending)
+    ended lines may ending new serves written =
+        let all = served lines may in (
+          all.0,
+          all.1,
+          λ line says.
+              let until = all.2 line says in
+              (until.0, subst (λ replies. Serves arguments (line ∷ all.0) before ending replies) (append-nil until.0) (until.2 ending [] serves), written until.0 until.1),
+        )
 
-    -- the next one can't be answered
-    pub next_stops : (known left next : Option (List Numbered)) (number : ℕ) (command : Command) (new : Option (List ℕ)) (fault : Fault)
-        → IfSome known (λ behind. ServedUntil arguments first behind before old held left between) → IfSome left (λ lines. TakesStatement arguments lines number next (says.Command command))
-        → StopsAt held new fault → IfSome known (λ behind. Served arguments first behind before old new (Stopped fault))
-    next_stops None left next number command new fault served takes stops = tt
-    next_stops (Some behind) None next number command new fault served takes stops = absurd served
-    next_stops (Some behind) (Some lines) next number command new fault served takes stops =
-        ended behind lines (Stopped fault) new served (gives_up lines between fault stops.0) (λ replies written. written_then old held new replies fault written stops)
+    -- the program stops at the next one
+    pub next_stops : (next : List Numbered → Type 0) → ForSome next (λ rest. ⊤) → (number : ℕ) (command : Command) (after : Hierarchy) (new : Option (List ℕ)) (fault : Fault)
+        → TracesBack left next (λ lines rest. TakesStatement arguments lines number rest (says.Command command)) → StopsAt command between after held new fault
+        → ForSome start (λ behind. Served arguments first behind before old new (Stopped fault))
+    next_stops next some number command after new fault takes stops = by fault stops
+      where
+        by : (fault : Fault) → StopsAt command between after held new fault → ForSome start (λ behind. Served arguments first behind before old new (Stopped fault))
+        by OutOfMemory stops =
+            let lines = takes some.0 some.1 in
+            ended lines.0 lines.1 (Stopped OutOfMemory) new (gives_up lines.0 between OutOfMemory tt)
+            (λ replies written. subst (λ bytes. Appends old new bytes) (append-nil (flat_map reply_line replies)) (appends_both old held new (flat_map reply_line replies) [] written stops))
+        by Output stops =
+            let lines = takes some.0 some.1 in let all = served lines.0 lines.1 in (
+              all.0,
+              all.1,
+              λ line says.
+                  let until = all.2 line says in
+                  let here : Numbered = record { number = number; line = lines.2.0 } in (
+                    until.0 ++ stops.0 ∷ [],
+                    until.2 (Stopped Output) (stops.0 ∷ []) (subst (λ lines. Serves arguments lines between (Stopped Output) (stops.0 ∷ [])) (sym lines.2.1)
+                        (answers here some.0 command between stops.0 after (Stopped Output) [] lines.2.2 stops.1 (gives_up some.0 after Output tt))),
+                    (until.0, stops.0, stops.2.0, refl, stops.2.1, appends_both old held new (flat_map reply_line until.0) stops.2.0 until.1 stops.2.2),
+                  ),
+            )
+        by (BadLine number) stops = absurd stops
+        by InvalidHierarchy stops = absurd stops
+        by Input stops = absurd stops
+        by Usage stops = absurd stops
 
     -- no line is left
-    pub all_served : (known left : Option (List Numbered)) → IfSome known (λ behind. ServedUntil arguments first behind before old held left between) → IfSome left (λ lines. lines ≡ [])
-        → IfSome known (λ behind. Served arguments first behind before old held Done)
-    all_served None left served none = tt
-    all_served (Some behind) None served none = absurd served
-    all_served (Some behind) (Some lines) served none =
-        ended behind lines Done held served (subst (λ lines. Serves arguments lines between Done []) (sym none) (ends between)) (λ replies written. written)
+    pub all_served : (next : List Numbered → Type 0) → ForSome next (λ rest. ⊤) → TracesBack left next (λ lines rest. lines ≡ []) → ForSome start (λ behind. Served arguments first behind before old held Done)
+    all_served next some none =
+        let lines = none some.0 some.1 in
+        ended lines.0 lines.1 Done held (subst (λ lines. Serves arguments lines between Done []) (sym lines.2) (ends between)) (λ replies written. written)
 
     -- a line says one of an image
-    pub image_too_late : (known left next : Option (List Numbered)) (number : ℕ) (image : ImageLine) → IfSome known (λ behind. ServedUntil arguments first behind before old held left between)
-        → IfSome left (λ lines. TakesStatement arguments lines number next (says.Image image)) → IfSome known (λ behind. Served arguments first behind before old held (Stopped (BadLine number)))
-    image_too_late None left next number image served takes = tt
-    image_too_late (Some behind) None next number image served takes = absurd served
-    image_too_late (Some behind) (Some lines) None number image served takes = absurd takes
-    image_too_late (Some behind) (Some lines) (Some rest) number image served takes =
-        ended behind lines (Stopped (BadLine number)) held served (subst (λ lines. Serves arguments lines between (Stopped (BadLine number)) []) (sym takes.1)
-        (late_image (record { number = number; line = takes.0 }) rest image between takes.2)) (λ replies written. written)
+    pub image_too_late : (next : List Numbered → Type 0) → ForSome next (λ rest. ⊤) → (number : ℕ) (image : ImageLine)
+        → TracesBack left next (λ lines rest. TakesStatement arguments lines number rest (says.Image image)) → ForSome start (λ behind. Served arguments first behind before old held (Stopped (BadLine number)))
+    image_too_late next some number image takes =
+        let lines = takes some.0 some.1 in
+        ended lines.0 lines.1 (Stopped (BadLine number)) held (subst (λ lines. Serves arguments lines between (Stopped (BadLine number)) []) (sym lines.2.1)
+        (late_image (record { number = number; line = lines.2.0 }) some.0 image between lines.2.2)) (λ replies written. written)
 
     -- a line is bad, or a read failed
-    pub unread : (known left : Option (List Numbered)) (fault : Fault) → IfSome known (λ behind. ServedUntil arguments first behind before old held left between)
-        → IfSome left (λ lines. ExplainsRead arguments lines fault) → IfSome known (λ behind. Served arguments first behind before old held (Stopped fault))
-    unread None left fault served why = tt
-    unread (Some behind) None fault served why = absurd served
-    unread (Some behind) (Some lines) fault served why = stops lines fault served why
+    pub unread : (fault : Fault) → ForSome left (λ lines. ExplainsRead arguments lines fault) → ForSome start (λ behind. Served arguments first behind before old held (Stopped fault))
+    unread fault why = stops why.0 fault why.1 why.2
       where
-        stops : (lines : List Numbered) (fault : Fault) → ServedUntil arguments first behind before old held (Some lines) between → ExplainsRead arguments lines fault → Served arguments first behind before old held (Stopped fault)
-        stops [] (BadLine number) served why = absurd why
-        stops (line ∷ lines) (BadLine number) served why = ended behind (line ∷ lines) (Stopped (BadLine number)) held served
+        stops : (lines : List Numbered) (fault : Fault) → left lines → ExplainsRead arguments lines fault → ForSome start (λ behind. Served arguments first behind before old held (Stopped fault))
+        stops [] (BadLine number) may why = absurd why
+        stops (line ∷ lines) (BadLine number) may why = ended (line ∷ lines) may (Stopped (BadLine number)) held
             (subst (λ number. Serves arguments (line ∷ lines) between (Stopped (BadLine number)) []) why.0 (bad_line line lines between why.1)) (λ replies written. written)
-        stops lines Input served why = ended behind lines (Stopped Input) held served (gives_up lines between Input tt) (λ replies written. written)
-        stops lines InvalidHierarchy served why = absurd why
-        stops lines OutOfMemory served why = absurd why
-        stops lines Output served why = absurd why
-        stops lines Usage served why = absurd why
+        stops lines Input may why = ended lines may (Stopped Input) held (gives_up lines between Input tt) (λ replies written. written)
+        stops lines InvalidHierarchy may why = absurd why
+        stops lines OutOfMemory may why = absurd why
+        stops lines Output may why = absurd why
+        stops lines Usage may why = absurd why

@@ -1,6 +1,6 @@
 -- That the arguments and the input decide what is written and how the program ends.
-use Rattle.std.specs.Prelude.{◌≡◌, ◌⊎◌, List, ℕ, ◌++◌, map}
-use Rattle.pagetab_engine.specs.Program.{IsForced, IsRun}
+use Rattle.std.specs.Prelude.{◌≡◌, ◌⊎◌, List, [], ℕ, ◌++◌, map, Some}
+use Rattle.pagetab_engine.specs.Program.{IsForced, IsRun, Runs}
 use Rattle.pagetab_engine.specs.Texts.{reply_line}
 use Rattle.pagetab_engine.specs.declared.ending.Ending.{Ending}
 use Rattle.pagetab_engine.specs.declared.ending.Ending.TheVariants.{Done, Stopped}
@@ -29,3 +29,20 @@ Decides ending other replies others =
 abbrev pub RunsAreDecided : (words : List (List ℕ)) (input : List ℕ) → Type 0
 RunsAreDecided words input =
     (ending other : Ending) (replies others : List Reply) → IsRun words input ending replies → IsRun words input other others → Decides ending other replies others
+
+-- ---- bytes
+
+-- these bytes are the first ones of the others
+abbrev pub IsFrontOf : (bytes others : List ℕ) → Type 0
+IsFrontOf bytes others = (left : List ℕ) × (others ≡ bytes ++ left)
+
+-- Of two runs the first was forced to stop, and its bytes are the first ones of the second's; or the other way round; or both wrote the same,
+-- and end alike.
+abbrev pub DecidesBytes : (ending other : Ending) (bytes others : List ℕ) → Type 0
+DecidesBytes ending other bytes others =
+    (IsForcedEnd ending × IsFrontOf bytes others) ⊎ (IsForcedEnd other × IsFrontOf others bytes) ⊎ ((ending ≡ other) × (bytes ≡ others))
+
+-- any two runs by the same arguments and input are so, where nothing was written before
+abbrev pub BytesAreDecided : (words : List (List ℕ)) (input : List ℕ) → Type 0
+BytesAreDecided words input =
+    (ending other : Ending) (bytes others : List ℕ) → Runs words input (Some []) (Some bytes) ending → Runs words input (Some []) (Some others) other → DecidesBytes ending other bytes others

@@ -1,5 +1,5 @@
 -- The hierarchy that the program reads, in a pair two of one image, and the machine that it is.
-use Rattle.std.specs.Prelude.{◌≡◌, ◌↔◌, ℕ, ⊤, cond, List, [], Some}
+use Rattle.std.specs.Prelude.{◌≡◌, ◌↔◌, ℕ, ⊤, cond, false, List, [], Some}
 use Rattle.x86_64_model.specs.Alike.{Alike}
 use Rattle.x86_64_model.specs.Layout.{Layout, paths}
 use Rattle.x86_64_model.specs.Machine.{Machine, State}
@@ -13,7 +13,7 @@ use Rattle.x86_64.specs.Replies.{Reply}
 use Rattle.x86_64.specs.Runs.{AfterStep}
 use Rattle.x86_64.specs.declared.calls.MapperReply.TheVariants.{NotAllowed}
 use Rattle.pagetab_engine.specs.Arguments.{count}
-use Rattle.pagetab_engine.specs.Calls.{machine_by, request_back, request_step}
+use Rattle.pagetab_engine.specs.Calls.{machine_by, request_back, request_step, IsAnswered}
 use Rattle.pagetab_engine.specs.Frames.{direct_layout, recursive_layout, FitsBy, without_self_entry}
 use Rattle.pagetab_engine.specs.Requests.{is_refused}
 use Rattle.pagetab_engine.specs.declared.arguments.Levels.{Levels}
@@ -80,6 +80,19 @@ call_back hierarchy request = cond (is_refused hierarchy.mode request) [] (reque
 -- the words of free frames are those of before, or 0 where the frames came back
 abbrev pub KeepsFree : (before : Hierarchy) → (back : List ℕ) → (after : Hierarchy) → Type 0
 KeepsFree before back after = KeepsFreeFrames (layout_of before) before.frames.memory before.frames.pool.frames back after.frames.memory after.frames.pool.frames
+
+-- The recursive mapper of a pair answers a call in its own frames, by this reply: the reply and the state that it leaves are its machine's, the
+-- free frames fit its hierarchy again, and no other word changes.
+pub record TwinAnswers (levels : Levels) (index : ℕ) (before : Frames) (request : Request) (after : Frames) (reply : Reply) : Type 0 where
+  pub answered : IsAnswered (recursive_layout levels before.memory index) before.memory before.pool.frames request after.memory after.pool.frames reply
+  pub layout : recursive_layout levels after.memory index ≡ recursive_layout levels before.memory index
+  pub serves : serves_below after.pool.limit ≡ serves_below before.pool.limit
+  pub keeps : runs.Keeps (recursive_layout levels before.memory index) (serves_below before.pool.limit) before.memory before.pool.frames after.memory after.pool.frames
+
+-- in a pair the recursive mapper gives this reply too, where mappers are asked
+abbrev pub BothAnswer : Mode → Request → Reply → (before after : Frames) → Type 0
+BothAnswer (Pair levels index) request reply before after = is_refused (Pair levels index) request ≡ false → TwinAnswers levels index before request after reply
+BothAnswer mode request reply before after = ⊤
 
 -- the mapper reaches each place of the memory
 abbrev pub IsReached : Mode → Memory → Type 0

@@ -1,5 +1,5 @@
 -- The lines of the input, what is left of them, and what is read of one.
-use Rattle.std.specs.Prelude.{◌≡◌, ◌≤◌, ◌<◌, ◌^◌, ◌==◌, ◌&&◌, ℕ, ⊤, suc, nat_le, take, slice_range, cond, Bool, List, [], ◌∷◌, length, option_map, Option, Some, None}
+use Rattle.std.specs.Prelude.{◌≡◌, ◌≤◌, ◌<◌, ◌^◌, ◌==◌, ◌&&◌, ℕ, ⊤, suc, nat_le, take, slice_range, cond, Bool, List, [], ◌∷◌, length, Option, Some, None}
 use Rattle.std.specs.Io.KnownBytes.{Consumes, IsAtEnd, Keeps, prepend_known}
 use Rattle.std.specs.List.{list_all, slice_split}
 use Rattle.pagetab_engine.specs.Fields.{is_space, has_bytes, Says}
@@ -47,9 +47,22 @@ numbered_from number (line ∷ lines) =
 abbrev pub bytes_left : {R : Type 0} → (remaining : R → Option (List ℕ)) → Lines R → Option (List ℕ)
 bytes_left remaining lines = prepend_known (slice_range lines.buffer lines.at lines.end) (remaining lines.reader.now)
 
--- the lines that are left and aren't blank, with their numbers, where they are known
-abbrev pub lines_left : {R : Type 0} → (remaining : R → Option (List ℕ)) → Lines R → Option (List Numbered)
-lines_left remaining lines = option_map (λ bytes. numbered_from (suc lines.number) (lines_of bytes)) (bytes_left remaining lines)
+-- bytes that an input may have: the known ones, or any where none are known
+abbrev pub IsInput : (known : Option (List ℕ)) → (bytes : List ℕ) → Type 0
+IsInput None bytes = ⊤
+IsInput (Some known) bytes = bytes ≡ known
+
+-- lines that may be left and aren't blank, with their numbers
+abbrev pub MayBeLeft : {R : Type 0} → (remaining : R → Option (List ℕ)) → Lines R → List Numbered → Type 0
+MayBeLeft remaining lines numbered = (bytes : List ℕ) × IsInput (bytes_left remaining lines) bytes × (numbered ≡ numbered_from (suc lines.number) (lines_of bytes))
+
+-- this is so of some that may be there
+abbrev pub ForSome : {A : Type 0} → (may_be : A → Type 0) → (A → Type 0) → Type 0
+ForSome may_be P = (all : _) × may_be all × P all
+
+-- whatever may be left after, there may have been some before of which this is so
+abbrev pub TracesBack : {A : Type 0} → (before after : A → Type 0) → (A → A → Type 0) → Type 0
+TracesBack before after P = (rest : _) → after rest → ForSome before (λ all. P all rest)
 
 -- a byte was taken off the front of known bytes, or there was none to take
 abbrev pub TakesByte : (old new : Option (List ℕ)) → Option ℕ → Type 0
@@ -63,9 +76,8 @@ FitsLine TooLong = ⊤
 FitsLine End = ⊤
 
 -- the first line is this one, and the bytes behind it are left
-abbrev pub TakesLine : (bytes line : List ℕ) (rest : Option (List ℕ)) → Type 0
-TakesLine bytes line None = ⊥
-TakesLine bytes line (Some rest) = lines_of bytes ≡ line ∷ lines_of rest
+abbrev pub TakesLine : (bytes line rest : List ℕ) → Type 0
+TakesLine bytes line rest = lines_of bytes ≡ line ∷ lines_of rest
 
 -- the first line has more than 256 bytes
 abbrev pub BeginsTooLong : List (List ℕ) → Type 0
@@ -73,7 +85,7 @@ BeginsTooLong [] = ⊥
 BeginsTooLong (line ∷ lines) = ¬ (length line ≤ 256)
 
 -- what was read of the next line of these bytes, where `line` begins with its text
-abbrev pub ReadsLine : (bytes : List ℕ) (rest : Option (List ℕ)) (line : List ℕ) → Line → Type 0
+abbrev pub ReadsLine : (bytes rest line : List ℕ) → Line → Type 0
 ReadsLine bytes rest line (Text length) = TakesLine bytes (take length line) rest
 ReadsLine bytes rest line TooLong = BeginsTooLong (lines_of bytes)
 ReadsLine bytes rest line End = lines_of bytes ≡ []
@@ -88,13 +100,12 @@ IsBad arguments line =
     (length line ≤ 256) → (name : Name) (size : Option Size) (numbers : List ℕ) → Says line name size numbers → ¬ (IsStatement arguments name size numbers)
 
 -- the first line has this number and says this statement, and the lines behind it are left
-abbrev pub TakesStatement : (arguments : Arguments) (lines : List Numbered) (number : ℕ) (rest : Option (List Numbered)) → Statement → Type 0
-TakesStatement arguments lines number None statement = ⊥
-TakesStatement arguments lines number (Some rest) statement =
+abbrev pub TakesStatement : (arguments : Arguments) (lines : List Numbered) (number : ℕ) (rest : List Numbered) → Statement → Type 0
+TakesStatement arguments lines number rest statement =
     (line : List ℕ) × (lines ≡ record { number = number; line = line } ∷ rest) × SaysAccepted arguments line statement
 
 -- what was read of these lines: the statement of the first one, of this number; or that there is none
-abbrev pub ReadsStatement : (arguments : Arguments) (lines : List Numbered) (number : ℕ) (rest : Option (List Numbered)) → Option Statement → Type 0
+abbrev pub ReadsStatement : (arguments : Arguments) (lines : List Numbered) (number : ℕ) (rest : List Numbered) → Option Statement → Type 0
 ReadsStatement arguments lines number rest (Some statement) = TakesStatement arguments lines number rest statement
 ReadsStatement arguments lines number rest None = lines ≡ []
 

@@ -7,7 +7,7 @@ use Rattle.pagetab_engine.specs.Arguments.{Says}
 use Rattle.pagetab_engine.specs.Frames.{IsLoadable, memory_after, free_after}
 use Rattle.pagetab_engine.specs.Hierarchy.{state_of, first_memory, FitsImage, HasCopy, IsReached, Keeps, KeepsFree}
 use Rattle.pagetab_engine.specs.Lines.{Numbered, numbered_from, lines_of, SaysAccepted, IsBad}
-use Rattle.pagetab_engine.specs.Reply.{IsReply, OnlyReads, back_of, state_after}
+use Rattle.pagetab_engine.specs.Reply.{IsReply, IsToldByBoth, OnlyReads, back_of, state_after}
 use Rattle.pagetab_engine.specs.Texts.{reply_line}
 use Rattle.pagetab_engine.specs.declared.arguments.Arguments.{Arguments}
 use Rattle.pagetab_engine.specs.declared.ending.Ending.{Ending}
@@ -37,13 +37,14 @@ SaysCommand arguments line command = SaysAccepted arguments line.line (says.Comm
 abbrev pub SaysImage : (arguments : Arguments) → Numbered → ImageLine → Type 0
 SaysImage arguments line image = SaysAccepted arguments line.line (says.Image image)
 
--- The reply to a command, and what it leaves of the hierarchy.
+-- The reply to a command, and what it leaves of the hierarchy, in a pair of both.
 pub record Answers (command : Command) (before : Hierarchy) (answer : Reply) (after : Hierarchy) : Type 0 where
   pub reply : IsReply before command answer
   pub state : state_of after ≡ state_after before command
   pub reads : OnlyReads before command → after ≡ before
   pub free : KeepsFree before (back_of before command) after
   pub keeps : Keeps before after
+  pub both : IsToldByBoth before command answer after
 
 -- Where the image is read, each line that says a command is answered, and the first other one is bad.
 pub data Serves (arguments : Arguments) : (lines : List Numbered) → Hierarchy → Ending → (replies : List Reply) → Type 0 where
@@ -110,9 +111,22 @@ pub data IsRun (words : List (List ℕ)) (input : List ℕ) : Ending → (replie
       → Reads arguments (numbered_from 1 (lines_of input)) hierarchy ending replies → IsRun words input ending replies
   gives_up : (fault : Fault) → IsForced fault → IsRun words input (Stopped fault) []
 
--- the replies are written in order, each in a line, and nothing else is; after a write that failed nothing is known
+-- a front part of a line, and not all of it
+abbrev pub IsFrontPart : (front line : List ℕ) → Type 0
+IsFrontPart front line = (byte : ℕ) × (left : List ℕ) × (line ≡ front ++ byte ∷ left)
+
+-- of a line that was to be written a front part alone was
+abbrev pub AppendsFront : (before after : Option (List ℕ)) → (line : List ℕ) → Type 0
+AppendsFront before after line = (front : List ℕ) × IsFrontPart front line × Appends before after front
+
+-- the replies before the last are written, each in a line, and of the last one's line a front part alone
+abbrev pub IsCutShort : (before after : Option (List ℕ)) → (replies : List Reply) → Type 0
+IsCutShort before after replies = (whole : List Reply) × (last : Reply) × (front : List ℕ)
+    × (replies ≡ whole ++ last ∷ []) × IsFrontPart front (reply_line last) × Appends before after (flat_map reply_line whole ++ front)
+
+-- The replies are written in order, each in a line, and nothing else is. Where a write failed it was that of the last one.
 abbrev pub IsWritten : (before after : Option (List ℕ)) → Ending → (replies : List Reply) → Type 0
-IsWritten before after (Stopped Output) replies = ⊤
+IsWritten before after (Stopped Output) replies = IsCutShort before after replies
 IsWritten before after ending replies = Appends before after (flat_map reply_line replies)
 
 -- the replies that say what a run does and how it ends are written
@@ -134,28 +148,39 @@ ending_of (Err fault) = Stopped fault
 abbrev pub Follows : (arguments : Arguments) (lines : List Numbered) (before : Hierarchy) (left : List Numbered) (after : Hierarchy) → Type 0
 Follows arguments lines before left after = (ending : Ending) (replies : List Reply) → Reads arguments left after ending replies → Reads arguments lines before ending replies
 
--- the same, where the lines that are left are known
-abbrev pub FollowsKnown : (arguments : Arguments) (lines : List Numbered) (before : Hierarchy) (left : Option (List Numbered)) (after : Hierarchy) → Type 0
-FollowsKnown arguments lines before None after = ⊥
-FollowsKnown arguments lines before (Some left) after = Follows arguments lines before left after
-
 -- what is left after an image: the line of the first command and those behind it, or no line
-abbrev pub IsLeft : (arguments : Arguments) → (first : Option Command) → (behind : Option (List Numbered)) → (left : List Numbered) → Type 0
+abbrev pub IsLeft : (arguments : Arguments) → (first : Option Command) → (behind left : List Numbered) → Type 0
 IsLeft arguments None behind left = left ≡ []
-IsLeft arguments (Some command) None left = ⊥
-IsLeft arguments (Some command) (Some behind) left = (line : Numbered) × SaysCommand arguments line command × (left ≡ line ∷ behind)
+IsLeft arguments (Some command) behind left = (line : Numbered) × SaysCommand arguments line command × (left ≡ line ∷ behind)
 
 -- the lines begin with an image, which was loaded
-abbrev pub LoadsImage : (arguments : Arguments) → (lines : List Numbered) → (before : Hierarchy) → (first : Option Command) → (behind : Option (List Numbered)) → (after : Hierarchy) → Type 0
+abbrev pub LoadsImage : (arguments : Arguments) → (lines : List Numbered) → (before : Hierarchy) → (first : Option Command) → (behind : List Numbered) → (after : Hierarchy) → Type 0
 LoadsImage arguments lines before first behind after = (left : List Numbered) × IsLeft arguments first behind left × Follows arguments lines before left after
+
+-- a line was bad, or a read failed
+abbrev pub IsUnread : Fault → Type 0
+IsUnread (BadLine number) = ⊤
+IsUnread Input = ⊤
+IsUnread fault = ⊥
+
+-- the image ends at a bad line, or at a read that failed
+abbrev pub StopsInImage : (arguments : Arguments) (lines : List Numbered) → Hierarchy → Fault → Type 0
+StopsInImage arguments lines before fault = IsUnread fault × Reads arguments lines before (Stopped fault) []
 
 -- a command was answered, and the reply written
 abbrev pub Replies : Command → (before after : Hierarchy) → (old new : Option (List ℕ)) → Type 0
 Replies command before after old new = (reply : Reply) × Answers command before reply after × Appends old new (reply_line reply)
 
--- the program was forced to stop, and nothing more is written
-abbrev pub StopsAt : (old new : Option (List ℕ)) → Fault → Type 0
-StopsAt old new fault = IsForced fault × IsWritten old new (Stopped fault) []
+-- a command was answered, and the write of the reply failed
+abbrev pub IsUnwritten : Command → (before after : Hierarchy) → (old new : Option (List ℕ)) → Type 0
+IsUnwritten command before after old new =
+    (reply : Reply) × Answers command before reply after × AppendsFront old new (reply_line reply)
+
+-- the program was forced to stop at a command: memory was refused, and nothing more is written, or a write failed
+abbrev pub StopsAt : Command → (before after : Hierarchy) → (old new : Option (List ℕ)) → Fault → Type 0
+StopsAt command before after old new OutOfMemory = Appends old new []
+StopsAt command before after old new Output = IsUnwritten command before after old new
+StopsAt command before after old new fault = ⊥
 
 -- where a line says the first command, it and the lines behind it were served
 abbrev pub Served : (arguments : Arguments) → (first : Command) → (behind : List Numbered) → Hierarchy → (old new : Option (List ℕ)) → Ending → Type 0
@@ -163,8 +188,7 @@ Served arguments first behind before old new ending = (line : Numbered) → Says
     → (replies : List Reply) × Serves arguments (line ∷ behind) before ending replies × IsWritten old new ending replies
 
 -- where a line says the first command, it and the lines up to those that are left were served
-abbrev pub ServedUntil : (arguments : Arguments) → (first : Command) → (behind : List Numbered) → (before : Hierarchy) → (old new : Option (List ℕ)) → (left : Option (List Numbered)) → (after : Hierarchy) → Type 0
-ServedUntil arguments first behind before old new None after = ⊥
-ServedUntil arguments first behind before old new (Some left) after = (line : Numbered) → SaysCommand arguments line first
+abbrev pub ServedUntil : (arguments : Arguments) → (first : Command) → (behind : List Numbered) → (before : Hierarchy) → (old new : Option (List ℕ)) → (left : List Numbered) → (after : Hierarchy) → Type 0
+ServedUntil arguments first behind before old new left after = (line : Numbered) → SaysCommand arguments line first
     → (replies : List Reply) × Appends old new (flat_map reply_line replies)
     × ((ending : Ending) (more : List Reply) → Serves arguments left after ending more → Serves arguments (line ∷ behind) before ending (replies ++ more))

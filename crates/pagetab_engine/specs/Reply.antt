@@ -3,7 +3,7 @@ use Rattle.std.specs.Prelude.{◌≡◌, ℕ, ⊤, true, List, [], Some, option_
 use Rattle.x86_64_model.specs.Machine.{State}
 use Rattle.x86_64_model.specs.Memory.{words_of, identity_places}
 use Rattle.x86_64_tables.specs.Walks.{walked_of}
-use Rattle.pagetab_engine.specs.Hierarchy.{call_back, call_step, state_of}
+use Rattle.pagetab_engine.specs.Hierarchy.{call_back, call_step, state_of, BothAnswer}
 use Rattle.pagetab_engine.specs.Requests.{is_refused, reply_in, walk_to}
 use Rattle.pagetab_engine.specs.Slot.{word_in}
 use Rattle.pagetab_engine.specs.declared.hierarchy.Hierarchy.{Hierarchy}
@@ -34,3 +34,8 @@ state_after hierarchy asked = state_of hierarchy
 abbrev pub back_of : Hierarchy → Command → List ℕ
 back_of hierarchy (command.Call call) = call_back hierarchy call
 back_of hierarchy asked = []
+
+-- in a pair both mappers give the reply to a call, where they are asked
+abbrev pub IsToldByBoth : (before : Hierarchy) → Command → Reply → (after : Hierarchy) → Type 0
+IsToldByBoth before (command.Call call) (reply.Answered answer) after = BothAnswer before.mode call (reply_in answer) before.twin after.twin
+IsToldByBoth before asked told after = ⊤

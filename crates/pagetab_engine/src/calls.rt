@@ -7,7 +7,7 @@ ghost use Rattle.x86_64.specs.Calls.{names};
 ghost use Rattle.x86_64.specs.Runs.{FitsPool, Keeps as KeepsPool, Kept};
 ghost use Rattle.pagetab_engine.specs.Calls.{IsAnswered};
 ghost use Rattle.pagetab_engine.specs.Frames.{direct_layout, recursive_layout};
-ghost use Rattle.pagetab_engine.specs.Hierarchy.{IsTwin};
+ghost use Rattle.pagetab_engine.specs.Hierarchy.{IsTwin, TwinAnswers};
 ghost use Rattle.pagetab_engine.specs.declared.arguments.Levels.TheVariants.{Four};
 ghost use Rattle.pagetab_engine.specs.declared.request.Request.TheVariants.{Four as four};
 
@@ -162,6 +162,7 @@ pub fn answer_by_both(
         KeepsPool (direct_layout Four) serves memory.old pool.old.frames memory.new pool.new.frames }
     ensures serves { serves_below pool.new.limit ≡ serves_below pool.old.limit }
     ensures twin { IsTwin Four index memory.new pool.new.frames twin.new }
+    ensures both { IfOk result (TwinAnswers Four index twin.old (four call) twin.new) }
 {
     let calls = [call];
     let mut direct = MappedPageTable::new(memory, root(), IdentityMapping);

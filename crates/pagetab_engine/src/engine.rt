@@ -1,10 +1,11 @@
 //! The run of the program.
-ghost use Rattle.std.specs.Prelude.{◌≡◌, [], map, string_bytes, IfOk, IfErr, IfSome, OnOk, OnErr};
+ghost use Rattle.std.specs.Prelude.{◌≡◌, ◌<◌, ℕ, List, length, map, string_bytes, IfOk, IfErr, OnOk, OnErr};
+ghost use Rattle.std.specs.Io.KnownBytes.{Appends};
 ghost use Rattle.pagetab_engine.specs.Hierarchy.{state_of, HasCopy, IsHierarchy, IsReached, Keeps, KeepsFree};
-ghost use Rattle.pagetab_engine.specs.Lines.{lines_left};
-ghost use Rattle.pagetab_engine.specs.Program.{LoadsImage, Reads, Replies, Runs, RunsFrom, Served, StopsAt, ending_of};
-ghost use Rattle.pagetab_engine.specs.Reply.{IsReply, OnlyReads, back_of, state_after};
-ghost use Rattle.pagetab_engine.specs.declared.ending.Ending.TheVariants.{Stopped};
+ghost use Rattle.pagetab_engine.specs.Lines.{ForSome, IsInput, MayBeLeft, TracesBack};
+ghost use Rattle.pagetab_engine.specs.Program.{AppendsFront, LoadsImage, Replies, Runs, RunsFrom, Served, StopsAt, StopsInImage, ending_of};
+ghost use Rattle.pagetab_engine.specs.Reply.{IsReply, IsToldByBoth, OnlyReads, back_of, state_after};
+ghost use Rattle.pagetab_engine.specs.declared.ending.Fault.TheVariants.{Output};
 
 use crate::arguments::Arguments;
 use crate::ending::{Ending, Fault};
@@ -13,7 +14,7 @@ use crate::lines::Lines;
 use crate::reply::Reply;
 use crate::statement::{Command, Statement};
 use std::alloc::{AllocError, Global};
-use std::io::{Read, Write};
+use std::io::{ErrorKind, Read, Write};
 
 /// Runs the program on its arguments: reads an image and commands from `reader`, and writes a reply to each command.
 ///
@@ -27,16 +28,21 @@ use std::io::{Read, Write};
 ///   `walk`, `show` and `pool` look at the memory and the free frames of the first one.
 /// - `direct5 N`, `recursive5 N R`, `pair5 N R`: the same with five levels of page tables, where addresses have 57 bits.
 ///
-/// Each reply is a line, written by one `write_all`. The arguments and the input alone decide the replies and the ending, unless
-/// memory is refused, or a read or a write fails: then the replies given so far are whole, but for the one whose write failed.
+/// Each reply is a line, written by one call of `write` where the writer takes it whole. The arguments and the input alone decide
+/// the replies and the ending, unless memory is refused, or a read or a write fails: then the replies given so far are whole, but
+/// for the one whose write failed, of which a front part is written.
+///
+/// The input is what the reader has left, where that is known, as of bytes in memory. Of a file or a terminal it is not: there the
+/// contract says that the run is one of some input.
 pub fn run<R: Read, W: Write>(
     alloc: Global,
     words: &[String],
     reader: &mut R,
     writer: &mut W,
 ) -> Ending
-    ensures { IfSome (R.remaining reader.old) (λ input. let words = map string_bytes words.now in
-        Runs words input (W.contents writer.old) (W.contents writer.new) result) }
+    ensures { let words = map string_bytes words.now in
+        (input : List ℕ) × IsInput (R.remaining reader.old) input
+        × Runs words input (W.contents writer.old) (W.contents writer.new) result }
 {
     match serve(alloc, words, reader, writer) {
         Ok(()) => Ending::Done,
@@ -51,7 +57,8 @@ fn serve<R: Read, W: Write>(
     reader: &mut R,
     writer: &mut W,
 ) -> Result<(), Fault>
-    ensures { IfSome (R.remaining reader.old) (λ input. let words = map string_bytes words.now in
+    ensures { let words = map string_bytes words.now in
+        ForSome (IsInput (R.remaining reader.old)) (λ input.
         Runs words input (W.contents writer.old) (W.contents writer.new) (ending_of result)) }
 {
     let Some(arguments) = Arguments::parse(words) else {
@@ -75,7 +82,7 @@ fn serve_lines<R: Read, W: Write>(
     requires copy { HasCopy hierarchy.old }
     requires reached { IsReached hierarchy.old.mode hierarchy.old.frames.memory }
     ensures { let old = W.contents writer.old in let new = W.contents writer.new in
-        IfSome (R.remaining reader.old) (λ input.
+        ForSome (IsInput (R.remaining reader.old)) (λ input.
         RunsFrom arguments.now hierarchy.old input old new (ending_of result)) }
 {
     let mut lines = Lines::new(reader);
@@ -99,10 +106,12 @@ fn read_image<R: Read>(
 ) -> Result<Option<Command>, Fault>
     requires copy { HasCopy hierarchy.old }
     requires reached { IsReached hierarchy.old.mode hierarchy.old.frames.memory }
-    ensures read { IfOk result (λ first. IfSome (lines_left R.remaining lines.old) (λ known.
-        LoadsImage arguments.now known hierarchy.old first (lines_left R.remaining lines.new) hierarchy.new)) }
-    ensures stopped { IfErr result (λ fault. IfSome (lines_left R.remaining lines.old) (λ known.
-        Reads arguments.now known hierarchy.old (Stopped fault) [])) }
+    ensures read { let before = MayBeLeft R.remaining lines.old in
+        let after = MayBeLeft R.remaining lines.new in
+        IfOk result (λ first. TracesBack before after (λ all behind.
+        LoadsImage arguments.now all hierarchy.old first behind hierarchy.new)) }
+    ensures stopped { IfErr result (λ fault. ForSome (MayBeLeft R.remaining lines.old) (λ all.
+        StopsInImage arguments.now all hierarchy.old fault)) }
     ensures copy { HasCopy hierarchy.new }
     ensures reached { IsReached hierarchy.new.mode hierarchy.new.frames.memory }
 {
@@ -130,7 +139,7 @@ fn answer_commands<R: Read, W: Write>(
 ) -> Result<(), Fault>
     requires { IsHierarchy hierarchy.old }
     ensures { let old = W.contents writer.old in let new = W.contents writer.new in
-        IfSome (lines_left R.remaining lines.old) (λ behind.
+        ForSome (MayBeLeft R.remaining lines.old) (λ behind.
         Served arguments.now first behind hierarchy.old old new (ending_of result)) }
 {
     write_reply(alloc, hierarchy, first, writer)?;
@@ -153,12 +162,42 @@ fn write_reply<W: Write>(
     requires { IsHierarchy hierarchy.old }
     ensures answered { OnOk result (
         Replies command hierarchy.old hierarchy.new (W.contents writer.old) (W.contents writer.new)) }
-    ensures stopped { IfErr result (StopsAt (W.contents writer.old) (W.contents writer.new)) }
+    ensures stopped { IfErr result (
+        StopsAt command hierarchy.old hierarchy.new (W.contents writer.old) (W.contents writer.new)) }
     ensures keeps { Keeps hierarchy.old hierarchy.new }
 {
     let reply = answer(alloc, hierarchy, command)?;
     let text = format!(in alloc; "{reply}\n")?;
-    writer.write_all(text.as_bytes()).map_err(|_| Fault::Output)
+    write_line(text.as_bytes(), writer)
+}
+
+/// Writes a line, in one call of `write` where the writer takes it whole. A call that is interrupted is made again.
+///
+/// Condition: the line is not empty.
+///
+/// # Errors
+///
+/// `Fault::Output` where a write fails, or takes no byte; then a front part of the line is written, and not all of it.
+fn write_line<W: Write>(line: &[u8], writer: &mut W) -> Result<(), Fault>
+    requires { 0 < length line.now }
+    ensures whole { OnOk result (Appends (W.contents writer.old) (W.contents writer.new) line.now) }
+    ensures cut { IfErr result (λ fault. (fault ≡ Output)
+        × AppendsFront (W.contents writer.old) (W.contents writer.new) line.now) }
+{
+    let mut rest = line;
+    for _ in 0..u64::MAX {
+        match writer.write(rest) {
+            Ok(0) => return Err(Fault::Output),
+            Ok(count) if count == rest.len() => return Ok(()),
+            Ok(count) => rest = &rest[count..],
+            Err(error) => {
+                if error.kind() != ErrorKind::Interrupted {
+                    return Err(Fault::Output);
+                }
+            }
+        }
+    }
+    Err(Fault::Output)
 }
 
 /// Answers a command.
@@ -171,6 +210,7 @@ fn answer(alloc: Global, hierarchy: &mut Hierarchy, command: Command) -> Result<
     ensures reply { IfOk result (IsReply hierarchy.old command) }
     ensures state { OnOk result (state_of hierarchy.new ≡ state_after hierarchy.old command) }
     ensures free { OnOk result (KeepsFree hierarchy.old (back_of hierarchy.old command) hierarchy.new) }
+    ensures both { IfOk result (λ reply. IsToldByBoth hierarchy.old command reply hierarchy.new) }
     ensures reads { OnlyReads hierarchy.old command → hierarchy.new ≡ hierarchy.old }
     ensures unchanged { OnErr result (hierarchy.new ≡ hierarchy.old) }
     ensures keeps { Keeps hierarchy.old hierarchy.new }

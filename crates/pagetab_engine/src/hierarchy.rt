@@ -3,7 +3,7 @@ ghost use Rattle.std.specs.Prelude.{◌≡◌, ◌↔◌, [], ℕ, if◌then◌e
 ghost use Rattle.std.specs.FinMap as map;
 ghost use Rattle.x86_64_tables.specs.PageTable.{zero_words};
 ghost use Rattle.pagetab_engine.specs.Frames.{IsLoadable, IsRefusedFor, memory_after, free_after};
-ghost use Rattle.pagetab_engine.specs.Hierarchy.{state_of, call_back, call_step, first_memory, FitsImage, HasCopy, IsReached, IsHierarchy, Keeps, KeepsFree};
+ghost use Rattle.pagetab_engine.specs.Hierarchy.{state_of, call_back, call_step, first_memory, BothAnswer, FitsImage, HasCopy, IsReached, IsHierarchy, Keeps, KeepsFree};
 ghost use Rattle.pagetab_engine.specs.Requests.{is_named, is_refused, reply_in};
 ghost use Rattle.pagetab_engine.specs.declared.request.Request.TheVariants.{Four as four, Five as five};
 
@@ -162,6 +162,8 @@ impl Hierarchy {
         ensures answer { IfOk result (λ answer. Some (reply_in answer) ≡ (call_step self.old request).reply) }
         ensures state { OnOk result (state_of self.new ≡ (call_step self.old request).state) }
         ensures free { OnOk result (KeepsFree self.old (call_back self.old request) self.new) }
+        ensures both { IfOk result (λ answer.
+            BothAnswer self.old.mode request (reply_in answer) self.old.twin self.new.twin) }
         ensures refused { is_refused self.old.mode request ≡ true → self.new ≡ self.old }
         ensures unchanged { OnErr result (self.new ≡ self.old) }
         ensures keeps { Keeps self.old self.new }
@@ -182,6 +184,8 @@ impl Hierarchy {
         ensures answer { IfOk result (λ reply. Some reply ≡ (call_step self.old (four call)).reply) }
         ensures state { OnOk result (state_of self.new ≡ (call_step self.old (four call)).state) }
         ensures free { OnOk result (KeepsFree self.old (call_back self.old (four call)) self.new) }
+        ensures both { IfOk result (λ reply.
+            BothAnswer self.old.mode (four call) reply self.old.twin self.new.twin) }
         ensures refused { is_refused self.old.mode (four call) ≡ true → self.new ≡ self.old }
         ensures unchanged { OnErr result (self.new ≡ self.old) }
         ensures keeps { Keeps self.old self.new }
@@ -212,6 +216,8 @@ impl Hierarchy {
         ensures answer { IfOk result (λ reply. Some reply ≡ (call_step self.old (five call)).reply) }
         ensures state { OnOk result (state_of self.new ≡ (call_step self.old (five call)).state) }
         ensures free { OnOk result (KeepsFree self.old (call_back self.old (five call)) self.new) }
+        ensures both { IfOk result (λ reply.
+            BothAnswer self.old.mode (five call) reply self.old.twin self.new.twin) }
         ensures refused { is_refused self.old.mode (five call) ≡ true → self.new ≡ self.old }
         ensures unchanged { OnErr result (self.new ≡ self.old) }
         ensures keeps { Keeps self.old self.new }

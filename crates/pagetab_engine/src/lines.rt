@@ -58,7 +58,7 @@ impl<'a, R: Read> Lines<'a, R> {
 }
 
 impl<R: Read> Lines<'_, R> {
-    ghost use Rattle.pagetab_engine.specs.Lines.{bytes_left, lines_left, ExplainsRead, FitsLine, IsCounted, IsReadFault, ReadsLine, ReadsStatement, TakesByte};
+    ghost use Rattle.pagetab_engine.specs.Lines.{bytes_left, ExplainsRead, FitsLine, ForSome, IsCounted, IsInput, IsReadFault, MayBeLeft, ReadsLine, ReadsStatement, TakesByte, TracesBack};
 
     /// Reads the next statement about what the arguments say, or `None` at the end. Empty lines are passed over.
     ///
@@ -67,12 +67,14 @@ impl<R: Read> Lines<'_, R> {
     /// `Fault::BadLine` where the line can't be read, and `Fault::Input` where the reader fails or has more lines than a
     /// `u64` counts.
     pub fn next_statement(&mut self, arguments: &Arguments) -> Result<Option<Statement>, Fault>
-        ensures next { IfOk result (λ next. IfSome (lines_left R.remaining self.old) (λ lines.
-            ReadsStatement arguments.now lines self.new.number (lines_left R.remaining self.new) next)) }
+        ensures next { let before = MayBeLeft R.remaining self.old in
+            let after = MayBeLeft R.remaining self.new in
+            IfOk result (λ next. TracesBack before after (λ lines rest.
+            ReadsStatement arguments.now lines self.new.number rest next)) }
         ensures accepted { IfOk result (λ next.
             IfSome next (λ statement. IsAccepted arguments.now statement)) }
         ensures counted { IfOk result (λ next. IfSome next (λ _. IsCounted self.old.number self.new.number)) }
-        ensures why { IfErr result (λ fault. IfSome (lines_left R.remaining self.old) (λ lines.
+        ensures why { IfErr result (λ fault. ForSome (MayBeLeft R.remaining self.old) (λ lines.
             ExplainsRead arguments.now lines fault)) }
         ensures fault { IfErr result (IsReadFault self.new.number) }
     {
@@ -105,8 +107,9 @@ impl<R: Read> Lines<'_, R> {
     /// Reads the next line into the front of `line`.
     fn next_line(&mut self, line: &mut [u8; LONGEST]) -> io::Result<Line>
         ensures fits { IfOk result FitsLine }
-        ensures line { IfOk result (λ told. IfSome (bytes_left R.remaining self.old) (λ bytes.
-            ReadsLine bytes (bytes_left R.remaining self.new) line.new told)) }
+        ensures line { let before = IsInput (bytes_left R.remaining self.old) in
+            let after = IsInput (bytes_left R.remaining self.new) in
+            IfOk result (λ told. TracesBack before after (λ bytes rest. ReadsLine bytes rest line.new told)) }
         ensures number { self.new.number ≡ self.old.number }
     {
         for length in 0..LONGEST {

@@ -6,7 +6,7 @@ ghost use Rattle.x86_64.specs.Calls.{names_57};
 ghost use Rattle.x86_64.specs.Runs.{FitsPool, Keeps as KeepsPool, Kept};
 ghost use Rattle.pagetab_engine.specs.Calls.{IsAnswered};
 ghost use Rattle.pagetab_engine.specs.Frames.{direct_layout, recursive_layout};
-ghost use Rattle.pagetab_engine.specs.Hierarchy.{IsTwin};
+ghost use Rattle.pagetab_engine.specs.Hierarchy.{IsTwin, TwinAnswers};
 ghost use Rattle.pagetab_engine.specs.declared.arguments.Levels.TheVariants.{Five};
 ghost use Rattle.pagetab_engine.specs.declared.request.Request.TheVariants.{Five as five};
 
@@ -131,6 +131,7 @@ pub fn answer_by_both_57(
         KeepsPool (direct_layout Five) serves memory.old pool.old.frames memory.new pool.new.frames }
     ensures serves { serves_below pool.new.limit ≡ serves_below pool.old.limit }
     ensures twin { IsTwin Five index memory.new pool.new.frames twin.new }
+    ensures both { IfOk result (TwinAnswers Five index twin.old (five call) twin.new) }
 {
     let calls = [call];
     let mut direct = MappedPageTable57::new(memory, root(), IdentityMapping);

@@ -1,25 +1,37 @@
-use Rattle.std.proofs.Common.{rules, arith, IfSome}
+use Rattle.std.proofs.Common.{rules, arith, ◌≡◌, [], Some, None, Ok, Err}
 use Rattle.pagetab_engine.specs.Frames.{IsLoadable}
-use Rattle.pagetab_engine.specs.Lines.{lines_left, IsCounted, TakesStatement}
+use Rattle.pagetab_engine.specs.Lines.{bytes_left, IsCounted, MayBeLeft, TakesStatement, TracesBack}
 use Rattle.pagetab_engine.specs.Program.{Loads}
 use Rattle.pagetab_engine.specs.declared.statement.Statement.TheVariants as says
-use Rattle.pagetab_engine.proofs.LoadedImages.{goes_on, command_follows, unread, not_loaded}
+use Rattle.pagetab_engine.proofs.LoadedImages.{begins, goes_on, command_follows, nothing_follows, unread, not_loaded}
+use Rattle.pagetab_engine.proofs.Numbering.{some_lines}
 use Rattle.pagetab_engine.proofs.engine.read_image.Goals as goal
+
+pub loop-statement-init : goal.loop-statement-init
+loop-statement-init g c = record {
+  copy = c.requires.copy;
+  reached = c.requires.reached;
+  follows = begins c.args.arguments.now c.args.hierarchy.now (MayBeLeft g.R.Read.remaining c.args.lines.now);
+}
 
 pub returns-in_err-statement-clause-stopped : goal.returns-in_err-statement-clause-stopped
 returns-in_err-statement-clause-stopped g c =
-    let left = lines_left g.R.Read.remaining in
-    let stops = unread c.args.arguments.now c.args.hierarchy.now c.loop-statement.hierarchy (left c.args.lines.now) (left c.loop-statement.lines) c.in_err-statement.field-0.0 c.loop-statement.invariant.follows c.in_err-statement.ensures.why in
-    search (rules, stops)
+    let may = MayBeLeft g.R.Read.remaining in
+    let stops = unread c.args.arguments.now c.args.hierarchy.now (may c.args.lines.now) c.loop-statement.hierarchy (may c.loop-statement.lines) c.loop-statement.invariant.follows
+    c.in_err-statement.field-0.0 c.in_err-statement.ensures.why in
+    let told : c.from_residual.result ≡ Err c.in_err-statement.field-0.0 = search rules in
+    rw told stops
 
 pub returns-then-is_err-clause-stopped : goal.returns-then-is_err-clause-stopped
 returns-then-is_err-clause-stopped g c =
-    let left = lines_left g.R.Read.remaining in
-    let takes : IfSome (left c.loop-statement.lines) (λ lines. TakesStatement c.args.arguments.now lines c.next_statement.new.self.number (left c.next_statement.new.self) (says.Image c.in-Image.line)) = search rules in
+    let may = MayBeLeft g.R.Read.remaining in
+    let next = c.next_statement.new.self in
+    let read : c.next_statement.result ≡ Ok (Some (says.Image c.in-Image.line)) = search rules in
+    let takes : TracesBack (may c.loop-statement.lines) (may next) (λ lines rest. TakesStatement c.args.arguments.now lines next.number rest (says.Image c.in-Image.line)) = rw read at c.next_statement.ensures.next in
     let never : ¬ (IsLoadable c.loop-statement.hierarchy.frames c.in-Image.line) = search rules in
-    let stops = not_loaded c.args.arguments.now c.args.hierarchy.now c.loop-statement.hierarchy (left c.args.lines.now) (left c.loop-statement.lines) (left c.next_statement.new.self)
-    c.next_statement.new.self.number c.in-Image.line c.loop-statement.invariant.follows takes never in
-    search (rules, stops)
+    let stops = not_loaded c.args.arguments.now c.args.hierarchy.now (may c.args.lines.now) c.loop-statement.hierarchy (may c.loop-statement.lines) c.loop-statement.invariant.follows
+    (may next) next.number c.in-Image.line (some_lines next.number (bytes_left g.R.Read.remaining next)) takes never in
+    rw c.fault.ensures stops
 
 pub loop-statement-smaller : goal.loop-statement-smaller
 loop-statement-smaller g c =
@@ -28,19 +40,31 @@ loop-statement-smaller g c =
 
 pub loop-statement-preserved : goal.loop-statement-preserved
 loop-statement-preserved g c =
-    let left = lines_left g.R.Read.remaining in
-    let takes : IfSome (left c.loop-statement.lines) (λ lines. TakesStatement c.args.arguments.now lines c.next_statement.new.self.number (left c.next_statement.new.self) (says.Image c.in-Image.line)) = search rules in
+    let may = MayBeLeft g.R.Read.remaining in
+    let next = c.next_statement.new.self in
+    let read : c.next_statement.result ≡ Ok (Some (says.Image c.in-Image.line)) = search rules in
+    let takes : TracesBack (may c.loop-statement.lines) (may next) (λ lines rest. TakesStatement c.args.arguments.now lines next.number rest (says.Image c.in-Image.line)) = rw read at c.next_statement.ensures.next in
     let loaded : Loads c.in-Image.line c.loop-statement.hierarchy c.load.new.self = search rules in
     record {
       copy = c.load.ensures.copy;
       reached = c.load.ensures.reached c.loop-statement.invariant.reached;
-      follows = goes_on c.args.arguments.now c.args.hierarchy.now c.loop-statement.hierarchy (left c.args.lines.now) (left c.loop-statement.lines) (left c.next_statement.new.self)
-          c.next_statement.new.self.number c.in-Image.line c.load.new.self c.loop-statement.invariant.follows takes loaded;
+      follows = goes_on c.args.arguments.now c.args.hierarchy.now (may c.args.lines.now) c.loop-statement.hierarchy (may c.loop-statement.lines) c.loop-statement.invariant.follows
+          (may next) next.number c.in-Image.line c.load.new.self takes loaded;
     }
 
 pub returns-in-Command-clause-read : goal.returns-in-Command-clause-read
 returns-in-Command-clause-read g c =
-    let left = lines_left g.R.Read.remaining in
-    let takes : IfSome (left c.loop-statement.lines) (λ lines. TakesStatement c.args.arguments.now lines c.next_statement.new.self.number (left c.next_statement.new.self) (says.Command c.in-Command.command)) = search rules in
-    command_follows c.args.arguments.now c.args.hierarchy.now c.loop-statement.hierarchy (left c.args.lines.now) (left c.loop-statement.lines) (left c.next_statement.new.self)
-    c.next_statement.new.self.number c.in-Command.command c.loop-statement.invariant.follows takes
+    let may = MayBeLeft g.R.Read.remaining in
+    let next = c.next_statement.new.self in
+    let read : c.next_statement.result ≡ Ok (Some (says.Command c.in-Command.command)) = search rules in
+    let takes : TracesBack (may c.loop-statement.lines) (may next) (λ lines rest. TakesStatement c.args.arguments.now lines next.number rest (says.Command c.in-Command.command)) = rw read at c.next_statement.ensures.next in
+    command_follows c.args.arguments.now c.args.hierarchy.now (may c.args.lines.now) c.loop-statement.hierarchy (may c.loop-statement.lines) c.loop-statement.invariant.follows
+    (may next) next.number c.in-Command.command takes
+
+pub returns-clause-read : goal.returns-clause-read
+returns-clause-read g c =
+    let may = MayBeLeft g.R.Read.remaining in
+    let next = c.next_statement.new.self in
+    let read : c.next_statement.result ≡ Ok None = search rules in
+    let none : TracesBack (may c.loop-statement.lines) (may next) (λ lines rest. lines ≡ []) = rw read at c.next_statement.ensures.next in
+    nothing_follows c.args.arguments.now c.args.hierarchy.now (may c.args.lines.now) c.loop-statement.hierarchy (may c.loop-statement.lines) c.loop-statement.invariant.follows (may next) none

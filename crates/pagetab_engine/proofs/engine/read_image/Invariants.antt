@@ -1,17 +1,16 @@
 use Rattle.std.proofs.Common.{◌^◌, ◌-◌}
-use Rattle.std.specs.Option.{IfSome}
 use Rattle.pagetab_engine.specs.Hierarchy.{HasCopy, IsReached}
-use Rattle.pagetab_engine.specs.Lines.{lines_left}
-use Rattle.pagetab_engine.specs.Program.{FollowsKnown}
+use Rattle.pagetab_engine.specs.Lines.{MayBeLeft, TracesBack}
+use Rattle.pagetab_engine.specs.Program.{Follows}
 use Rattle.pagetab_engine.proofs.engine.read_image.Given as goal
 
 abbrev pub invariant-loop-statement : goal.invariant-loop-statement
 invariant-loop-statement g l =
-    let left = lines_left g.R.Read.remaining in
+    let may = MayBeLeft g.R.Read.remaining in
     record {
       copy : HasCopy l.hierarchy;
       reached : IsReached l.hierarchy.mode l.hierarchy.frames.memory;
-      follows : IfSome (left l.fn.lines) (λ known. FollowsKnown l.arguments known l.fn.hierarchy (left l.lines) l.hierarchy);
+      follows : TracesBack (may l.fn.lines) (may l.lines) (λ all left. Follows l.arguments all l.fn.hierarchy left l.hierarchy);
     }
 
 abbrev pub decreases-loop-statement : goal.decreases-loop-statement
