@@ -5,6 +5,8 @@
 #[cfg(test)]
 mod assertions;
 #[cfg(test)]
+mod beside;
+#[cfg(test)]
 mod loader;
 #[cfg(test)]
 mod mappers;

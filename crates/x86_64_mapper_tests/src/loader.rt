@@ -1,14 +1,20 @@
-//! Loads of small programs into empty hierarchies.
+//! Loads of small programs into empty hierarchies, and a caller whose load can't be refused.
+ghost use Rattle.std.specs.Prelude.{IsTrue};
+ghost use Rattle.std.specs.List.{All, AllByRecursion};
+ghost use Rattle.x86_64_loader.specs.Segments.{Disjoint, IsAllowed, IsInside, IsLoaded, small_pages};
+ghost use Rattle.x86_64_model.specs.Owned.{SupplyFits, paths};
+ghost use Rattle.x86_64_model.specs.PageMappings.{IsUnmapped, entry_path};
+
 use crate::assertions::{assert_equal, assert_equal_at, unwrap};
 use bitflags::Flags;
 use std::alloc::Global;
 use std::process::Abort;
-use x86_64::structures::paging::mapper::MapToError;
+use x86_64::structures::paging::mapper::{MapToError, MapperAllSizes};
 use x86_64::structures::paging::{MappedPageTable, Page, PageTableFlags, PhysFrame, Size4KiB};
 use x86_64::{
     FramePool, IdentityMapping, PhysAddr, PhysMemory, VirtAddr, Walked, page_walk, pool_fits,
 };
-use x86_64_loader::{LoadError, Segment, load, load_large, segments_allowed};
+use x86_64_loader::{LoadError, Segment, frames_needed, load, load_large, segments_allowed};
 
 /// The number of places, and the limit of pools.
 const PLACES: u64 = 0x20;
@@ -42,6 +48,33 @@ fn segment(start: u64, to: u64, pages: u64, flags: PageTableFlags) -> Segment {
         frame: frame(to),
         pages,
         flags,
+    }
+}
+
+/// Loads segments that do not overlap, where nothing is mapped, if there are as many frames as are needed, and tells whether there
+/// are. Then no map is refused.
+pub fn load_unmapped<M: MapperAllSizes>(
+    mapper: &mut M,
+    pool: &mut FramePool,
+    segments: &[Segment],
+) -> bool
+    requires fits { SupplyFits (M.hierarchy mapper.old) pool.old.frames }
+    requires allowed { All (IsAllowed (M.hierarchy mapper.old)) segments.now }
+    requires inside { All IsInside segments.now }
+    requires unmapped { let h = M.hierarchy mapper.old in
+        All (λ s. AllByRecursion (λ x. IsUnmapped (paths h) (entry_path h.layout.levels x)) (small_pages s)) segments.now }
+    requires disjoint { Disjoint segments.now }
+    ensures { IsTrue result → All (IsLoaded small_pages (M.hierarchy mapper.new)) segments.now }
+{
+    let Some(needed) = frames_needed(segments) else {
+        return false;
+    };
+    if (pool.len() as u64) < needed {
+        return false;
+    }
+    match load(mapper, pool, segments) {
+        Ok(()) => true,
+        Err(_) => unreachable!(),
     }
 }
 
@@ -90,6 +123,23 @@ impl Machine {
         })
     }
 
+    /// Gives how many frames are enough for a program, or `None` where it isn't allowed.
+    fn frames_needed(
+        &mut self,
+        rt: impl Abort + Copy,
+        alloc: Global,
+        segments: &[Segment],
+    ) -> Option<u64> {
+        let (memory, pool) = (&mut self.memory, &self.pool);
+        let root = frame(0x1000);
+        assert!(rt; unwrap(rt, pool_fits(alloc, memory, &IdentityMapping, root, pool)));
+        let mapper = MappedPageTable::new(memory, root, IdentityMapping);
+        if !segments_allowed(&mapper, segments) {
+            return None;
+        }
+        frames_needed(segments)
+    }
+
     /// Says where the processor arrives from an address, and whether it may write and a user may use it.
     fn walk(&self, address: u64) -> Option<(u64, bool, bool)> {
         let address = VirtAddr::new_truncate(address);
@@ -128,6 +178,7 @@ const WALKS: [(u64, Option<(u64, bool, bool)>); 8] = [
 /// tables take eight, of which one is for pages of 4KiB where one of 2MiB fits.
 fn check_program(rt: impl Abort + Copy, alloc: Global, way: Way, left: usize) {
     let mut machine = Machine::new(rt, alloc);
+    assert_equal(rt, machine.frames_needed(rt, alloc, &program()), Some(11));
     let loaded = machine.load(rt, alloc, way, &program());
     assert_equal(rt, loaded, Some(Ok(())));
     for (address, wanted) in WALKS {

@@ -40,14 +40,25 @@ fn make(
     ensures made { IfOk result (λ _. refuses_57 memory.old cr3 table virt ≡ None) }
     ensures refused { IfErr result (λ why. refuses_57 memory.old cr3 table virt ≡ Some why) }
 {
-    let active = ActiveMemory57::new(memory, cr3);
-    if let Some(why) = RecursivePageTable57::refusal(&active, table, virt) {
-        return Err(why);
-    }
-    match RecursivePageTable57::new(active, table, virt) {
+    match RecursivePageTable57::new(ActiveMemory57::new(memory, cr3), table, virt) {
         Ok(_mapper) => Ok(()),
         Err(why) => Err(why),
     }
+}
+
+/// The same by `?`.
+fn try_make(
+    memory: &mut PhysMemory,
+    cr3: PhysFrame<Size4KiB>,
+    table: PhysFrame<Size4KiB>,
+    virt: VirtAddr57,
+) -> Result<(), InvalidPageTable>
+    requires { refuses_57 memory.old cr3 table virt ≡ None →
+        Valid (recursive_now_57 memory.old cr3 (index 5 virt)) memory.old }
+    ensures { memory.new ≡ memory.old }
+{
+    let _mapper = RecursivePageTable57::new(ActiveMemory57::new(memory, cr3), table, virt)?;
+    Ok(())
 }
 
 /// Compares whether a mapper is refused, for a table that the walk of an address is to arrive at.
@@ -65,6 +76,7 @@ fn check_made(
         is_valid_recursive_57(alloc, memory, cr3, virt.p5_index()),
     ) {
         assert_equal(rt, make(memory, cr3, table, virt), expected);
+        assert_equal(rt, try_make(memory, cr3, table, virt), expected);
     } else {
         let active = ActiveMemory57::new(memory, cr3);
         let refusal = RecursivePageTable57::refusal(&active, table, virt);

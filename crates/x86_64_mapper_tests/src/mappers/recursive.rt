@@ -37,14 +37,25 @@ fn make(
     ensures made { IfOk result (λ _. refuses memory.old cr3 table virt ≡ None) }
     ensures refused { IfErr result (λ why. refuses memory.old cr3 table virt ≡ Some why) }
 {
-    let active = ActiveMemory::new(memory, cr3);
-    if let Some(why) = RecursivePageTable::refusal(&active, table, virt) {
-        return Err(why);
-    }
-    match RecursivePageTable::new(active, table, virt) {
+    match RecursivePageTable::new(ActiveMemory::new(memory, cr3), table, virt) {
         Ok(_mapper) => Ok(()),
         Err(why) => Err(why),
     }
+}
+
+/// The same by `?`.
+fn try_make(
+    memory: &mut PhysMemory,
+    cr3: PhysFrame<Size4KiB>,
+    table: PhysFrame<Size4KiB>,
+    virt: VirtAddr,
+) -> Result<(), InvalidPageTable>
+    requires { refuses memory.old cr3 table virt ≡ None →
+        Valid (recursive_now memory.old cr3 (index 4 virt)) memory.old }
+    ensures { memory.new ≡ memory.old }
+{
+    let _mapper = RecursivePageTable::new(ActiveMemory::new(memory, cr3), table, virt)?;
+    Ok(())
 }
 
 /// Compares whether a mapper is refused, for a table that the walk of an address is to arrive at.
@@ -59,6 +70,7 @@ fn check_made(
     let virt = VirtAddr::new_truncate(virt);
     if unwrap(rt, is_valid_recursive(alloc, memory, cr3, virt.p4_index())) {
         assert_equal(rt, make(memory, cr3, table, virt), expected);
+        assert_equal(rt, try_make(memory, cr3, table, virt), expected);
     } else {
         let active = ActiveMemory::new(memory, cr3);
         let refusal = RecursivePageTable::refusal(&active, table, virt);
