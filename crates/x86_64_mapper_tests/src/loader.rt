@@ -1,7 +1,7 @@
 //! Loads of small programs into empty hierarchies, and a caller whose load can't be refused.
-ghost use Rattle.std.specs.Prelude.{IsTrue};
+ghost use Rattle.std.specs.Prelude.{◌≤◌, ◌↔◌, length, IsTrue};
 ghost use Rattle.std.specs.List.{All, AllByRecursion};
-ghost use Rattle.x86_64_loader.specs.Segments.{Disjoint, IsAllowed, IsInside, IsLoaded, small_pages};
+ghost use Rattle.x86_64_loader.specs.Segments.{Disjoint, IsAllowed, IsInside, IsLoaded, frames_for, small_pages};
 ghost use Rattle.x86_64_model.specs.Owned.{SupplyFits, paths};
 ghost use Rattle.x86_64_model.specs.PageMappings.{IsUnmapped, entry_path};
 
@@ -64,12 +64,14 @@ pub fn load_unmapped<M: MapperAllSizes>(
     requires unmapped { let h = M.hierarchy mapper.old in
         All (λ s. AllByRecursion (λ x. IsUnmapped (paths h) (entry_path h.layout.levels x)) (small_pages s)) segments.now }
     requires disjoint { Disjoint segments.now }
-    ensures { IsTrue result → All (IsLoaded small_pages (M.hierarchy mapper.new)) segments.now }
+    ensures enough { IsTrue result ↔ (frames_for segments.now ≤ length pool.old.frames) }
+    ensures loaded { IsTrue result → All (IsLoaded small_pages (M.hierarchy mapper.new)) segments.now }
 {
+    let free = pool.len() as u64;
     let Some(needed) = frames_needed(segments) else {
         return false;
     };
-    if (pool.len() as u64) < needed {
+    if free < needed {
         return false;
     }
     match load(mapper, pool, segments) {

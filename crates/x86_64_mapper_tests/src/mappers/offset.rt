@@ -6,7 +6,7 @@ ghost use Rattle.x86_64_mappers.specs.Offsets.{OffsetFits};
 ghost use Rattle.x86_64.specs.Runs.{FitsPool};
 
 use super::five_levels::pool_of;
-use super::{image, mapped, small, word_of};
+use super::{WORDS, image, mapped, small, word_of};
 use crate::assertions::{assert_equal, assert_equal_at, unwrap};
 use std::alloc::{AllocError, Global};
 use std::process::Abort;
@@ -19,14 +19,6 @@ use x86_64_page::page::{Page, Size4KiB};
 use x86_64_tables::frame_alloc::FramePool;
 use x86_64_tables::mapper::{MappedFrame, Mapper, Tables, Translate};
 use x86_64_tables::phys_memory::{IdentityMapping, PhysMemory, is_valid_hierarchy, pool_fits};
-
-/// The words of a hierarchy that maps a page.
-const WORDS: [(u64, u16, u64); 4] = [
-    (1, 0, 0x2003),
-    (2, 0, 0x3003),
-    (3, 0, 0x4003),
-    (4, 1, 0x5003),
-];
 
 /// Offsets, and whether they fit a memory of 8 places.
 const OFFSETS: [(u64, bool); 10] = [
