@@ -8,14 +8,10 @@
 mod align;
 mod phys_addr;
 mod phys_operators;
-mod positions;
 mod steps;
 mod virt_addr;
-mod virt_addr57;
 mod virt_operators;
-mod virt_operators57;
 
 pub use align::{align_down, align_up};
 pub use phys_addr::{PhysAddr, PhysAddrNotValid};
-pub use virt_addr::{VirtAddr, VirtAddrNotValid};
-pub use virt_addr57::{VirtAddr57, VirtAddr57NotValid};
+pub use virt_addr::{VirtAddr, VirtAddr57, VirtAddr57NotValid, VirtAddrIn, VirtAddrNotValid};

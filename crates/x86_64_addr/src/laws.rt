@@ -9,16 +9,20 @@ ghost use Rattle.x86_64_addr.specs.Levels.{level_number};
 ghost use Rattle.x86_64_addr.specs.Levels57.{level_number_57};
 ghost use Rattle.x86_64_model.specs.Position.{raw};
 
-use crate::addr::{PhysAddr, VirtAddr, VirtAddr57};
+use crate::addr::{PhysAddr, VirtAddrIn};
 use crate::index::{PageOffset, PageTableIndex, PageTableLevel, PageTableLevel57};
+use crate::level_count::LevelCount;
 use std::hash::Hash;
 
 /// Virtual addresses are equal and ordered as their positions are, and hashed by their raw values.
-pub fn virtual_addresses_are_ordered_by_position(left: VirtAddr, right: VirtAddr)
-    ensures equality { ⟦<VirtAddr as PartialEq>⟧.eq left right ≡ (left == right) }
-    ensures order { ⟦<VirtAddr as Ord>⟧.cmp left right ≡ nat_cmp left right }
-    ensures partial_order { ⟦<VirtAddr as PartialOrd>⟧.partial_cmp left right ≡ Some (nat_cmp left right) }
-    ensures hash { ⟦<VirtAddr as Hash>⟧.hash_input left ≡ fed.u64 (raw 4 left) }
+pub fn virtual_addresses_are_ordered_by_position<L: LevelCount>(
+    left: VirtAddrIn<L>,
+    right: VirtAddrIn<L>,
+)
+    ensures equality { ⟦<VirtAddrIn<L> as PartialEq>⟧.eq left right ≡ (left == right) }
+    ensures order { ⟦<VirtAddrIn<L> as Ord>⟧.cmp left right ≡ nat_cmp left right }
+    ensures partial_order { ⟦<VirtAddrIn<L> as PartialOrd>⟧.partial_cmp left right ≡ Some (nat_cmp left right) }
+    ensures hash { ⟦<VirtAddrIn<L> as Hash>⟧.hash_input left ≡ fed.u64 (raw L.LEVELS left) }
 {}
 
 /// Physical addresses are equal, ordered and hashed as numbers.
@@ -55,14 +59,6 @@ pub fn levels_are_ordered_by_number(left: PageTableLevel, right: PageTableLevel)
     ensures partial_order { ⟦<PageTableLevel as PartialOrd>⟧.partial_cmp left right
         ≡ Some (nat_cmp (level_number left) (level_number right)) }
     ensures hash { ⟦<PageTableLevel as Hash>⟧.hash_input left ≡ fed.isize (pos (level_number left)) }
-{}
-
-/// Virtual addresses of 57 bits are equal and ordered as their positions are, and hashed by their raw values.
-pub fn virtual_addresses_57_are_ordered_by_position(left: VirtAddr57, right: VirtAddr57)
-    ensures equality { ⟦<VirtAddr57 as PartialEq>⟧.eq left right ≡ (left == right) }
-    ensures order { ⟦<VirtAddr57 as Ord>⟧.cmp left right ≡ nat_cmp left right }
-    ensures partial_order { ⟦<VirtAddr57 as PartialOrd>⟧.partial_cmp left right ≡ Some (nat_cmp left right) }
-    ensures hash { ⟦<VirtAddr57 as Hash>⟧.hash_input left ≡ fed.u64 (raw 5 left) }
 {}
 
 /// Levels where there are five are equal, ordered and hashed as their numbers are.

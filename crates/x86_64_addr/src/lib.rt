@@ -4,3 +4,4 @@
 pub mod addr;
 pub mod index;
 pub mod laws;
+pub mod level_count;

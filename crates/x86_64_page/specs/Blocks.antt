@@ -1,7 +1,8 @@
 -- Pages and frames as blocks of memory: each is named by where it starts, a page by its position and a frame by its address.
 use Rattle.std.specs.Prelude.{zero, suc, ◌≡◌, ◌⊎◌, ℕ, ◌+◌, ◌-◌, ◌*◌, ◌/◌, ◌^◌, ◌≤◌, nat_lt, nat_le, cond, min, List, [], ◌∷◌, length}
 use Rattle.std.proofs.Common.{inl, inr, arith}
-use Rattle.x86_64_addr.specs.Position.{span}
+use Rattle.x86_64_addr.specs.Levels.{IsLevelCount}
+use Rattle.x86_64_addr.specs.Position.{position_count, span}
 
 -- a block has one of the three sizes
 abbrev pub IsBlockSize : (size : ℕ) → Type 0
@@ -18,6 +19,11 @@ size_of_level z (suc (suc (suc (suc l)))) low high e = absurd (omega arith)
 -- positions of pages end before 2^48, addresses of frames before 2^52, positions of pages with five levels of tables before 2^57
 abbrev pub IsLimit : (limit : ℕ) → Type 0
 IsLimit limit = (limit ≡ 2 ^ 48) ⊎ (limit ≡ 2 ^ 52) ⊎ (limit ≡ 2 ^ 57)
+
+-- the number of positions is one of them
+pub limit_of_levels : (levels limit : ℕ) → IsLevelCount levels → limit ≡ position_count levels → IsLimit limit
+limit_of_levels levels limit (inl four) e = inl (rw four at e)
+limit_of_levels levels limit (inr five) e = inr (inr (rw five at e))
 
 -- so many blocks of a size, from a start on
 abbrev pub blocks_from : (size start count : ℕ) → List ℕ

@@ -1,5 +1,6 @@
 -- The laws of steps along the pages of a size.
-use Rattle.std.specs.Prelude.{◌≡◌, ℕ, ◌+◌, ◌*◌, ◌^◌, ◌<◌, Some}
+use Rattle.std.specs.Prelude.{◌≡◌, ℕ, ◌+◌, ◌*◌, ◌<◌, Some}
+use Rattle.x86_64_addr.specs.Position.{position_count}
 use Rattle.x86_64_model.specs.Successor.{forward, backward}
 use Rattle.x86_64_page.specs.Steps.{pages_between}
 
@@ -13,10 +14,6 @@ pub record AreStepsBelow (limit size : ℕ) : Type 0 where
   pub redone : (start n end : ℕ) → start < limit → backward start (n * size) ≡ Some end → forward limit end (n * size) ≡ Some start
   pub counted : (start n end : ℕ) → forward limit start (n * size) ≡ Some end → pages_between size start end ≡ (n, Some n)
 
--- along pages, which lie below 2^48
-abbrev pub ArePageSteps : (size : ℕ) → Type 0
-ArePageSteps size = AreStepsBelow (2 ^ 48) size
-
--- with five levels of tables, where pages lie below 2^57
-abbrev pub ArePageSteps57 : (size : ℕ) → Type 0
-ArePageSteps57 size = AreStepsBelow (2 ^ 57) size
+-- along pages, which lie below the number of positions where there are L levels of tables
+abbrev pub ArePageSteps : (L size : ℕ) → Type 0
+ArePageSteps L size = AreStepsBelow (position_count L) size

@@ -96,6 +96,7 @@ impl<S: PageSize> PhysFrame<S> {
 impl<S: PageSize> Debug for PhysFrame<S> {
     fn fmt<W: Write>(&self, f: &mut Formatter<W>) -> FmtResult {
         let start = self.start_address.as_u64();
-        write_block::<S, W>(f, "PhysFrame", start)
+        f.write_str("PhysFrame")?;
+        write_block::<S, W>(f, start)
     }
 }

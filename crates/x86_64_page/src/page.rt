@@ -3,22 +3,22 @@
 //! Intel SDM vol. 3A, "4-Level Paging and 5-Level Paging"; AMD APM vol. 2, "Long-Mode Page Translation".
 ghost use Rattle.std.specs.Prelude.{◌≡◌, ℕ, ◌-◌, ◌%◌, ◌^◌, ◌<◌, ◌≤◌, ◌↔◌, IsOk, IfOk};
 ghost use Rattle.x86_64_addr.specs.Levels.{level_number};
+ghost use Rattle.x86_64_addr.specs.Levels57.{level_number_57};
 ghost use Rattle.x86_64_addr.specs.Position.{span, index};
 
 use crate::range::places;
 use std::fmt::{Debug, Display, Formatter, Result as FmtResult, Write};
 use std::marker::{Model, PhantomData};
-use x86_64_addr::addr::VirtAddr;
-use x86_64_addr::index::{PageTableIndex, PageTableLevel};
+use x86_64_addr::addr::VirtAddrIn;
+use x86_64_addr::index::{PageTableIndex, PageTableLevel, PageTableLevel57};
+use x86_64_addr::level_count::{FiveLevels, FourLevels, LevelCount};
 
 mod indices;
 mod operators;
-mod page57;
 mod ranges;
 mod steps;
 
-pub use page57::{Page57, PageRangeInclusive57};
-pub use ranges::{PageRange, PageRangeInclusive};
+pub use ranges::{PageRange, PageRangeInclusive, PageRangeInclusive57};
 
 mod sealed {
     /// Keeps other crates from adding sizes.
@@ -154,62 +154,71 @@ impl Display for AddressNotAligned {
     }
 }
 
-/// A page of a size: it starts at a multiple of the size.
+/// A page of a size, with as many levels of page tables as `L` says: it starts at a multiple of the size.
 ///
 /// Contracts see it as the position of its start address. Equality, order and hash are those of the start address, and so
 /// those of the position.
-#[derive(Clone, Copy, PartialEq, Eq, PartialOrd, Ord, Hash)]
-pub struct Page<S: PageSize> {
-    start_address: VirtAddr,
+#[derive(Clone, Copy)]
+#[derive_where(PartialEq, Eq, PartialOrd, Ord, Hash)]
+pub struct PageIn<S: PageSize, L: LevelCount> {
+    start_address: VirtAddrIn<L>,
     size: PhantomData<S>,
 }
 
-impl<S: PageSize> Model for Page<S> {
-    ghost use Rattle.std.specs.Prelude.{◌≡◌, ℕ, ◌%◌, ◌^◌, ◌<◌};
+/// A page of a size, with four levels of page tables.
+pub type Page<S> = PageIn<S, FourLevels>;
+
+/// A page of a size, with five levels of page tables.
+pub type Page57<S> = PageIn<S, FiveLevels>;
+
+impl<S: PageSize, L: LevelCount> Model for PageIn<S, L> {
+    ghost use Rattle.std.specs.Prelude.{◌≡◌, ℕ, ◌%◌, ◌<◌};
+    ghost use Rattle.x86_64_addr.specs.Position.{position_count};
 
     ghost Value = { ℕ };
 
     ghost view = { λ page. page.start_address };
 
-    ghost invariant = { λ page. (page.start_address < 2 ^ 48) × (page.start_address % S.SIZE ≡ 0) };
+    ghost invariant = { λ page. (page.start_address < position_count L.LEVELS)
+        × (page.start_address % S.SIZE ≡ 0) };
 
     ghost inverse = { λ n. record { start_address = n; size = record {} } };
 }
 
-impl<S: PageSize> Page<S> {
+impl<S: PageSize, L: LevelCount> PageIn<S, L> {
     /// Gives the page that starts at an address.
     ///
     /// Answers `AddressNotAligned` exactly where the address isn't a multiple of the size.
-    pub fn from_start_address(address: VirtAddr) -> Result<Self, AddressNotAligned>
+    pub fn from_start_address(address: VirtAddrIn<L>) -> Result<Self, AddressNotAligned>
         ensures aligned { IsOk result ↔ (address % S.SIZE ≡ 0) }
         ensures value { IfOk result (λ page. page ≡ address) }
     {
-        places::starting_at(position(address))
+        places::starting_at(address.position())
     }
 
     /// Gives the page that starts at an address, which must be a multiple of the size. Test that by
-    /// [`from_start_address`](Self::from_start_address), or by [`VirtAddr::is_aligned`].
-    pub fn from_start_address_unchecked(start_address: VirtAddr) -> Self
+    /// [`from_start_address`](Self::from_start_address), or by [`VirtAddrIn::is_aligned`].
+    pub fn from_start_address_unchecked(start_address: VirtAddrIn<L>) -> Self
         requires { start_address % S.SIZE ≡ 0 }
         ensures { result ≡ start_address }
     {
-        // Each position is below 2^48, as each page has to be.
+        // Each position is below the number of positions, as each page has to be.
         let _raw = start_address.as_u64();
-        Page {
+        PageIn {
             start_address,
             size: PhantomData,
         }
     }
 
     /// Gives the page that contains an address: its start is the address rounded down to the size.
-    pub fn containing_address(address: VirtAddr) -> Self
+    pub fn containing_address(address: VirtAddrIn<L>) -> Self
         ensures { result ≡ address - address % S.SIZE }
     {
-        places::containing(position(address))
+        places::containing(address.position())
     }
 
     /// Gives the start address.
-    pub fn start_address(self) -> VirtAddr
+    pub fn start_address(self) -> VirtAddrIn<L>
         ensures value { result ≡ self }
         ensures aligned { self % S.SIZE ≡ 0 }
     {
@@ -237,6 +246,16 @@ impl<S: PageSize> Page<S> {
         self.start_address.p3_index()
     }
 
+    /// Returns the index of a level, by its number, which must be one of the levels that there are.
+    pub fn table_index(self, level: u64) -> PageTableIndex
+        requires { (1 ≤ level) × (level ≤ L.LEVELS) }
+        ensures { result ≡ index level self }
+    {
+        self.start_address.table_index(level)
+    }
+}
+
+impl<S: PageSize> Page<S> {
     /// Gives the index of a level.
     pub fn page_table_index(self, level: PageTableLevel) -> PageTableIndex
         ensures { result ≡ index (level_number level) self }
@@ -245,7 +264,23 @@ impl<S: PageSize> Page<S> {
     }
 }
 
-impl<S: NotGiantPageSize> Page<S> {
+impl<S: PageSize> Page57<S> {
+    /// Gives the index of a level.
+    pub fn page_table_index(self, level: PageTableLevel57) -> PageTableIndex
+        ensures { result ≡ index (level_number_57 level) self }
+    {
+        self.start_address.page_table_index(level)
+    }
+
+    /// Gives the index of level five.
+    pub fn p5_index(self) -> PageTableIndex
+        ensures { result ≡ index 5 self }
+    {
+        self.start_address.p5_index()
+    }
+}
+
+impl<S: NotGiantPageSize, L: LevelCount> PageIn<S, L> {
     /// Gives the index of level two.
     pub fn p2_index(self) -> PageTableIndex
         ensures { result ≡ index 2 self }
@@ -254,7 +289,7 @@ impl<S: NotGiantPageSize> Page<S> {
     }
 }
 
-impl Page<Size4KiB> {
+impl<L: LevelCount> PageIn<Size4KiB, L> {
     /// Gives the index of level one.
     pub fn p1_index(self) -> PageTableIndex
         ensures { result ≡ index 1 self }
@@ -263,27 +298,16 @@ impl Page<Size4KiB> {
     }
 }
 
-impl<S: PageSize> Debug for Page<S> {
+impl<S: PageSize, L: LevelCount> Debug for PageIn<S, L> {
     fn fmt<W: Write>(&self, f: &mut Formatter<W>) -> FmtResult {
         let start = self.start_address.as_u64();
-        write_block::<S, W>(f, "Page", start)
+        write!(f, "Page{}", L::SUFFIX)?;
+        write_block::<S, W>(f, start)
     }
 }
 
-/// Gives the position of an address: the raw value modulo 2^48.
-fn position(address: VirtAddr) -> u64
-    ensures value { result ≡ address }
-    ensures below { result < 2 ^ 48 }
-{
-    address.as_u64() & 0x0000_ffff_ffff_ffff
-}
-
-/// Writes what a page or a frame is, its size and its start, as in `Page[4KiB](0x1000)`.
-pub(crate) fn write_block<S: PageSize, W: Write>(
-    f: &mut Formatter<W>,
-    name: &str,
-    start: u64,
-) -> FmtResult {
+/// Writes the size and the start of a page or a frame, as in `[4KiB](0x1000)`.
+pub(crate) fn write_block<S: PageSize, W: Write>(f: &mut Formatter<W>, start: u64) -> FmtResult {
     let size = S::DEBUG_STR;
-    write!(f, "{name}[{size}]({start:#x})")
+    write!(f, "[{size}]({start:#x})")
 }

@@ -7,8 +7,9 @@ ghost use Rattle.std.specs.Iterator.SizeHint.{IsWithinCount};
 ghost use Rattle.x86_64_page.specs.Blocks.{IsBlockSize, IsLimit, blocks, ends, front_taken, back_taken};
 
 use crate::frame::PhysFrame;
-use crate::page::{Page, Page57, PageSize};
+use crate::page::{PageIn, PageSize};
 use std::fmt::{Debug, Formatter, Result as FmtResult, Write};
+use x86_64_addr::level_count::LevelCount;
 
 mod inclusive;
 pub(crate) mod places;
@@ -16,14 +17,12 @@ pub(crate) mod places;
 pub use inclusive::BlockRangeInclusive;
 
 mod sealed {
-    use super::{Page, Page57, PageSize, PhysFrame};
+    use super::{LevelCount, PageIn, PageSize, PhysFrame};
 
     /// Keeps other crates from adding blocks.
     pub trait Sealed {}
 
-    impl<S: PageSize> Sealed for Page<S> {}
-
-    impl<S: PageSize> Sealed for Page57<S> {}
+    impl<S: PageSize, L: LevelCount> Sealed for PageIn<S, L> {}
 
     impl<S: PageSize> Sealed for PhysFrame<S> {}
 }

@@ -1,10 +1,11 @@
 //! Addresses rounded down and up to a multiple of a power of two.
 ghost use Rattle.std.specs.Prelude.{◌≡◌, ◌-◌, ◌%◌, ◌^◌, ◌<◌, ◌↔◌, IsTrue};
 ghost use Rattle.std.specs.Int.{is_power_of_two, next_multiple_of};
-ghost use Rattle.x86_64_model.specs.Position.{raw};
+ghost use Rattle.x86_64_model.specs.Position.{raw, position_count};
 ghost use Rattle.x86_64_model.specs.Alignment.{IsGreatestMultiple, IsLeastMultiple};
 
-use crate::addr::{PhysAddr, VirtAddr, positions};
+use crate::addr::{PhysAddr, VirtAddrIn};
+use crate::level_count::LevelCount;
 
 /// Gives the greatest multiple of `align` that isn't above `addr`.
 ///
@@ -40,7 +41,7 @@ pub fn align_up(addr: u64, align: u64) -> u64
 ///
 /// `align` must be a power of two.
 #[tactic(auto, using(crate::proofs::Alignments::masked, crate::proofs::Alignments::positive, crate::proofs::Alignments::remainder_below))]
-pub(super) fn remainder(addr: u64, align: u64) -> u64
+fn remainder(addr: u64, align: u64) -> u64
     requires { IsTrue (is_power_of_two align) }
     ensures value { result ≡ addr % align }
     ensures below { addr % align < align }
@@ -48,39 +49,40 @@ pub(super) fn remainder(addr: u64, align: u64) -> u64
     addr & (align - 1)
 }
 
-impl VirtAddr {
+impl<L: LevelCount> VirtAddrIn<L> {
     /// Gives the address at the position of the raw value aligned up by [`align_up`], which is the position aligned up.
     ///
-    /// By 2^48 and more that is the address 0. `align` must be a power of two, and the raw value aligned up below 2^64: test
-    /// that by [`u64::is_power_of_two`] and [`u64::checked_next_multiple_of`].
-    pub fn align_up(self, align: u64) -> VirtAddr
+    /// By 2^48 and more that is the address 0, by 2^57 and more where there are five levels. `align` must be a power of two,
+    /// and the raw value aligned up below 2^64: test that by [`u64::is_power_of_two`] and [`u64::checked_next_multiple_of`].
+    pub fn align_up(self, align: u64) -> Self
         requires power { IsTrue (is_power_of_two align) }
-        requires fits { next_multiple_of (raw 4 self) align < 2 ^ 64 }
-        ensures value { result ≡ next_multiple_of (raw 4 self) align % 2 ^ 48 }
-        ensures position { result ≡ next_multiple_of self align % 2 ^ 48 }
+        requires fits { next_multiple_of (raw L.LEVELS self) align < 2 ^ 64 }
+        ensures value { result ≡ next_multiple_of (raw L.LEVELS self) align % position_count L.LEVELS }
+        ensures position { result ≡ next_multiple_of self align % position_count L.LEVELS }
     {
-        positions::aligned_up(self, align)
+        Self::new_truncate(align_up(self.as_u64(), align))
     }
 
     /// Gives the address at the position of the raw value aligned down by [`align_down`], which is the position aligned down.
     ///
     /// `align` must be a power of two: test that by [`u64::is_power_of_two`].
-    pub fn align_down(self, align: u64) -> VirtAddr
+    pub fn align_down(self, align: u64) -> Self
         requires { IsTrue (is_power_of_two align) }
-        ensures value { result ≡ (raw 4 self - raw 4 self % align) % 2 ^ 48 }
+        ensures value { let raw = raw L.LEVELS self in result ≡ (raw - raw % align) % position_count L.LEVELS }
         ensures position { result ≡ self - self % align }
     {
-        positions::aligned_down(self, align)
+        Self::new_truncate(align_down(self.as_u64(), align))
     }
 
-    /// Tells whether the position is a multiple of `align`. From 2^48 on that is the address 0 alone.
+    /// Tells whether the position is a multiple of `align`. From 2^48 on that is the address 0 alone, from 2^57 on where there
+    /// are five levels.
     ///
     /// `align` must be a power of two: test that by [`u64::is_power_of_two`].
     pub fn is_aligned(self, align: u64) -> bool
         requires { IsTrue (is_power_of_two align) }
         ensures { IsTrue result ↔ (self % align ≡ 0) }
     {
-        positions::is_aligned(self, align)
+        remainder(self.position(), align) == 0
     }
 }
 

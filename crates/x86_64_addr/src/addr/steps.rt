@@ -1,34 +1,55 @@
 //! Steps along the virtual addresses, in order of their positions: they go on after the gap in the middle of the address space.
 ghost use Rattle.std.specs.Prelude.{◌≡◌, ◌%◌, ◌^◌, ◌<◌};
+ghost use Rattle.x86_64_model.specs.Position.{position_count};
 ghost use Rattle.x86_64_model.specs.Successor.{forward, backward, steps_between};
 
-use crate::addr::{VirtAddr, positions};
+use crate::addr::VirtAddrIn;
+use crate::level_count::LevelCount;
 
-impl VirtAddr {
+impl<L: LevelCount> VirtAddrIn<L> {
     /// Gives the address so many bytes on.
     ///
-    /// Answers `None` exactly where there is none: where the sum of the position and the count isn't below 2^48.
-    pub fn forward_checked(start: VirtAddr, count: usize) -> Option<VirtAddr>
-        ensures { result ≡ forward (2 ^ 48) start count }
+    /// Answers `None` exactly where there is none: where the sum of the position and the count isn't below the number of
+    /// positions, 2^48 or 2^57.
+    pub fn forward_checked(start: Self, count: usize) -> Option<Self>
+        ensures { result ≡ forward (position_count L.LEVELS) start count }
     {
-        positions::forward_checked(start, count)
+        let position = start.position();
+        let count = count as u64;
+        if count < L::POSITION_COUNT - position {
+            Some(Self::new_truncate(position + count))
+        } else {
+            None
+        }
     }
 
     /// Gives the address so many bytes before.
     ///
     /// Answers `None` exactly where there is none: where the count is above the position.
-    pub fn backward_checked(start: VirtAddr, count: usize) -> Option<VirtAddr>
+    pub fn backward_checked(start: Self, count: usize) -> Option<Self>
         ensures { result ≡ backward start count }
     {
-        positions::backward_checked(start, count)
+        let position = start.position();
+        let count = count as u64;
+        if count <= position {
+            Some(Self::new_truncate(position - count))
+        } else {
+            None
+        }
     }
 
     /// Counts the bytes from one address up to another, as a lower and an upper bound, which are equal.
     ///
     /// Answers `(0, None)` where the second is below the first.
-    pub fn steps_between(start: &VirtAddr, end: &VirtAddr) -> (usize, Option<usize>)
+    pub fn steps_between(start: &Self, end: &Self) -> (usize, Option<usize>)
         ensures { result ≡ steps_between start.now end.now }
     {
-        positions::steps_between(*start, *end)
+        let (start, end) = (start.position(), end.position());
+        if start <= end {
+            let count = (end - start) as usize;
+            (count, Some(count))
+        } else {
+            (0, None)
+        }
     }
 }

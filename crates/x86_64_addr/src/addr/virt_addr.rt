@@ -1,58 +1,44 @@
 //! Virtual addresses.
-ghost use Rattle.std.specs.Prelude.{◌≡◌, ℕ, ◌%◌, ◌^◌, ◌<◌, ◌↔◌, IsTrue, IsOk, IfOk, IfErr};
-ghost use Rattle.x86_64_model.specs.Position.{raw, IsCanonical, index};
+ghost use Rattle.std.specs.Prelude.{◌≡◌, ℕ, ◌%◌, ◌^◌, ◌<◌, ◌≤◌, ◌↔◌, IsTrue, IsOk, IfOk, IfErr, IsSome, IfSome};
 ghost use Rattle.x86_64_addr.specs.Levels.{level_number};
+ghost use Rattle.x86_64_addr.specs.Levels57.{level_number_57};
+ghost use Rattle.x86_64_model.specs.Position.{raw, IsCanonical, position_count, index};
 
-use crate::addr::positions::{self, CanonicalAddress};
-use crate::index::{PageOffset, PageTableIndex, PageTableLevel};
+use crate::index::{PageOffset, PageTableIndex, PageTableLevel, PageTableLevel57};
+use crate::level_count::{FiveLevels, FourLevels, LevelCount};
 use std::fmt::{Debug, Formatter, Result as FmtResult, Write};
-use std::marker::Model;
+use std::marker::{Model, PhantomData};
 
-/// A canonical virtual address.
+/// A canonical virtual address, with as many levels of page tables as `L` says.
 ///
-/// Equality, order and hash are those of the raw value, and so those of the position.
-#[derive(Clone, Copy, PartialEq, Eq, PartialOrd, Ord, Hash)]
-pub struct VirtAddr(u64);
+/// Contracts see it as its position. Equality, order and hash are those of the raw value, and so those of the position.
+#[derive(Clone, Copy)]
+#[derive_where(PartialEq, Eq, PartialOrd, Ord, Hash)]
+pub struct VirtAddrIn<L: LevelCount> {
+    value: u64,
+    levels: PhantomData<L>,
+}
 
-impl Model for VirtAddr {
-    ghost use Rattle.std.specs.Prelude.{◌≡◌, ℕ, ◌%◌, ◌^◌};
+/// A canonical virtual address of 48 bits, with four levels of page tables.
+pub type VirtAddr = VirtAddrIn<FourLevels>;
+
+/// A canonical virtual address of 57 bits, with five levels of page tables.
+pub type VirtAddr57 = VirtAddrIn<FiveLevels>;
+
+impl<L: LevelCount> Model for VirtAddrIn<L> {
+    ghost use Rattle.std.specs.Prelude.{◌≡◌, ℕ, ◌%◌};
     ghost use Rattle.std.proofs.Common.{ap};
-    ghost use Rattle.x86_64_model.specs.Position.{raw};
+    ghost use Rattle.x86_64_model.specs.Position.{raw, position_count};
 
     ghost Value = { ℕ };
 
-    ghost view = { λ a. a.0 % 2 ^ 48 };
+    ghost view = { λ a. a.value % position_count L.LEVELS };
 
-    ghost invariant = { λ a. raw 4 (a.0 % 2 ^ 48) ≡ a.0 };
+    ghost invariant = { λ a. raw L.LEVELS (a.value % position_count L.LEVELS) ≡ a.value };
 
-    ghost inverse = { λ p. record { 0 = raw 4 p } };
+    ghost inverse = { λ p. record { value = raw L.LEVELS p; levels = record {} } };
 
-    ghost inverse_ok = { λ a h. ap (λ n. record { 0 = n }) h };
-}
-
-impl CanonicalAddress for VirtAddr {
-    ghost use Rattle.std.proofs.Common.{inl, refl};
-    ghost use Rattle.std.specs.Prelude.{◌^◌};
-
-    ghost LEVELS = { 4 };
-
-    ghost POSITION_COUNT = { 0x1_0000_0000_0000 };
-
-    ghost position = { λ address. address };
-
-    const POSITION_COUNT: u64 = 0x1_0000_0000_0000;
-
-    fn of_raw(value: u64) -> Self {
-        VirtAddr(value)
-    }
-
-    fn to_raw(self) -> u64 {
-        self.0
-    }
-
-    ghost known_levels = { inl refl };
-
-    ghost known_count = { refl };
+    ghost inverse_ok = { λ a h. ap (λ n. record { value = n; levels = record {} }) h };
 }
 
 /// A value was not a canonical virtual address: bits 48 to 63 were not copies of bit 47.
@@ -68,57 +54,93 @@ impl Debug for VirtAddrNotValid {
     }
 }
 
-impl VirtAddr {
-    /// Makes an address of its raw value, which must be canonical. Test that by [`try_new`](Self::try_new).
-    pub fn new(addr: u64) -> VirtAddr
-        requires { IsCanonical 4 addr }
-        ensures position { result ≡ addr % 2 ^ 48 }
-        ensures value { raw 4 result ≡ addr }
+/// A value was not a canonical virtual address of 57 bits: bits 57 to 63 were not copies of bit 56.
+///
+/// Contains the value.
+#[derive(PartialEq, Drop)]
+pub struct VirtAddr57NotValid(pub u64);
+
+impl Debug for VirtAddr57NotValid {
+    fn fmt<W: Write>(&self, f: &mut Formatter<W>) -> FmtResult {
+        let VirtAddr57NotValid(value) = self;
+        write!(f, "VirtAddr57NotValid({value:#x})")
+    }
+}
+
+impl<L: LevelCount> VirtAddrIn<L> {
+    /// Makes an address of its raw value, which must be canonical. Test that by [`try_new`](VirtAddr::try_new).
+    #[tactic(auto, using(crate::proofs::Canonical::raw_of_canonical))]
+    pub fn new(addr: u64) -> Self
+        requires { IsCanonical L.LEVELS addr }
+        ensures position { result ≡ addr % position_count L.LEVELS }
+        ensures value { raw L.LEVELS result ≡ addr }
     {
-        VirtAddr(addr)
+        VirtAddrIn {
+            value: addr,
+            levels: PhantomData,
+        }
     }
 
-    /// Makes an address of its raw value.
-    ///
-    /// Answers `VirtAddrNotValid` with the value exactly where it isn't canonical.
-    pub fn try_new(addr: u64) -> Result<VirtAddr, VirtAddrNotValid>
-        ensures canonical { IsOk result ↔ IsCanonical 4 addr }
-        ensures position { IfOk result (λ a. a ≡ addr % 2 ^ 48) }
-        ensures value { IfOk result (λ a. raw 4 a ≡ addr) }
-        ensures error { IfErr result (λ e. e.0 ≡ addr) }
+    /// Makes the address whose position is a value modulo the number of positions, 2^48 or 2^57: the highest bit of the
+    /// position is copied to the bits above it.
+    pub fn new_truncate(addr: u64) -> Self
+        ensures { result ≡ addr % position_count L.LEVELS }
     {
-        positions::canonical(addr).ok_or(VirtAddrNotValid(addr))
+        let position = addr % L::POSITION_COUNT;
+        if position < L::POSITION_COUNT / 2 {
+            Self::new(position)
+        } else {
+            Self::new(position.wrapping_sub(L::POSITION_COUNT))
+        }
     }
 
-    /// Makes the address whose position is a value modulo 2^48: bit 47 is copied to the bits above it.
-    pub fn new_truncate(addr: u64) -> VirtAddr
-        ensures { result ≡ addr % 2 ^ 48 }
+    /// Makes an address of its raw value, or returns `None` exactly if it isn't canonical.
+    pub fn checked_new(addr: u64) -> Option<Self>
+        ensures canonical { IsSome result ↔ IsCanonical L.LEVELS addr }
+        ensures position { IfSome result (λ a. a ≡ addr % position_count L.LEVELS) }
+        ensures value { IfSome result (λ a. raw L.LEVELS a ≡ addr) }
     {
-        positions::truncated(addr)
+        let address = Self::new_truncate(addr);
+        if address.value == addr {
+            Some(address)
+        } else {
+            None
+        }
     }
 
     /// Makes an address of its raw value, which must be canonical, as [`new`](Self::new) does.
-    pub fn new_unsafe(addr: u64) -> VirtAddr
-        requires { IsCanonical 4 addr }
-        ensures position { result ≡ addr % 2 ^ 48 }
-        ensures value { raw 4 result ≡ addr }
+    pub fn new_unsafe(addr: u64) -> Self
+        requires { IsCanonical L.LEVELS addr }
+        ensures position { result ≡ addr % position_count L.LEVELS }
+        ensures value { raw L.LEVELS result ≡ addr }
     {
         Self::new(addr)
     }
 
     /// Gives the address 0.
-    pub fn zero() -> VirtAddr
+    pub fn zero() -> Self
         ensures { result ≡ 0 }
     {
-        VirtAddr(0)
+        VirtAddrIn {
+            value: 0,
+            levels: PhantomData,
+        }
     }
 
     /// Gives the raw value.
     pub fn as_u64(self) -> u64
-        ensures value { result ≡ raw 4 self }
-        ensures position { self < 2 ^ 48 }
+        ensures value { result ≡ raw L.LEVELS self }
+        ensures position { self < position_count L.LEVELS }
     {
-        self.0
+        self.value
+    }
+
+    /// Gives the position: the raw value modulo the number of positions.
+    pub fn position(self) -> u64
+        ensures value { result ≡ self }
+        ensures below { result < position_count L.LEVELS }
+    {
+        self.value % L::POSITION_COUNT
     }
 
     /// Tells whether the address is 0.
@@ -132,48 +154,105 @@ impl VirtAddr {
     pub fn page_offset(self) -> PageOffset
         ensures { result ≡ self % 4096 }
     {
-        positions::page_offset(self)
+        PageOffset::new((self.position() % 4096) as u16)
+    }
+
+    /// Gives the index in the root's table.
+    pub fn root_index(self) -> PageTableIndex
+        ensures { result ≡ index L.LEVELS self }
+    {
+        self.table_index(L::LEVELS)
     }
 
     /// Gives the index of level one, bits 12 to 20.
     pub fn p1_index(self) -> PageTableIndex
         ensures { result ≡ index 1 self }
     {
-        positions::table_index(self, 1)
+        self.table_index(1)
     }
 
     /// Gives the index of level two, bits 21 to 29.
     pub fn p2_index(self) -> PageTableIndex
         ensures { result ≡ index 2 self }
     {
-        positions::table_index(self, 2)
+        self.table_index(2)
     }
 
     /// Gives the index of level three, bits 30 to 38.
     pub fn p3_index(self) -> PageTableIndex
         ensures { result ≡ index 3 self }
     {
-        positions::table_index(self, 3)
+        self.table_index(3)
     }
 
     /// Gives the index of level four, bits 39 to 47.
     pub fn p4_index(self) -> PageTableIndex
         ensures { result ≡ index 4 self }
     {
-        positions::table_index(self, 4)
+        self.table_index(4)
+    }
+
+    /// Returns the index of a level, by its number, which must be one of the levels that there are.
+    pub fn table_index(self, level: u64) -> PageTableIndex
+        requires { (1 ≤ level) × (level ≤ L.LEVELS) }
+        ensures { result ≡ index level self }
+    {
+        PageTableIndex::new(((self.as_u64() >> (9 * level + 3)) % 512) as u16)
+    }
+}
+
+impl VirtAddr {
+    /// Makes an address of its raw value.
+    ///
+    /// Answers `VirtAddrNotValid` with the value exactly where it isn't canonical.
+    pub fn try_new(addr: u64) -> Result<VirtAddr, VirtAddrNotValid>
+        ensures canonical { IsOk result ↔ IsCanonical 4 addr }
+        ensures position { IfOk result (λ a. a ≡ addr % 2 ^ 48) }
+        ensures value { IfOk result (λ a. raw 4 a ≡ addr) }
+        ensures error { IfErr result (λ e. e.0 ≡ addr) }
+    {
+        Self::checked_new(addr).ok_or(VirtAddrNotValid(addr))
     }
 
     /// Gives the index of a level.
     pub fn page_table_index(self, level: PageTableLevel) -> PageTableIndex
         ensures { result ≡ index (level_number level) self }
     {
-        positions::table_index(self, level.number())
+        self.table_index(level.number())
     }
 }
 
-impl Debug for VirtAddr {
+impl VirtAddr57 {
+    /// Makes an address of its raw value.
+    ///
+    /// Answers `VirtAddr57NotValid` with the value exactly where it isn't canonical.
+    pub fn try_new(addr: u64) -> Result<VirtAddr57, VirtAddr57NotValid>
+        ensures canonical { IsOk result ↔ IsCanonical 5 addr }
+        ensures position { IfOk result (λ a. a ≡ addr % 2 ^ 57) }
+        ensures value { IfOk result (λ a. raw 5 a ≡ addr) }
+        ensures error { IfErr result (λ e. e.0 ≡ addr) }
+    {
+        Self::checked_new(addr).ok_or(VirtAddr57NotValid(addr))
+    }
+
+    /// Gives the index of a level.
+    pub fn page_table_index(self, level: PageTableLevel57) -> PageTableIndex
+        ensures { result ≡ index (level_number_57 level) self }
+    {
+        self.table_index(level.number())
+    }
+
+    /// Gives the index of level five, bits 48 to 56.
+    pub fn p5_index(self) -> PageTableIndex
+        ensures { result ≡ index 5 self }
+    {
+        self.table_index(5)
+    }
+}
+
+impl<L: LevelCount> Debug for VirtAddrIn<L> {
     fn fmt<W: Write>(&self, f: &mut Formatter<W>) -> FmtResult {
-        let value = self.as_u64();
-        write!(f, "VirtAddr({value:#x})")
+        let (suffix, value) = (L::SUFFIX, self.as_u64());
+        write!(f, "VirtAddr{suffix}({value:#x})")
     }
 }

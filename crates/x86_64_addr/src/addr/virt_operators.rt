@@ -1,29 +1,31 @@
 //! Sums and differences of virtual addresses, over raw values: they don't go over the gap in the middle of the address space,
-//! as [`VirtAddr::forward_checked`] and [`VirtAddr::backward_checked`] do.
+//! as [`VirtAddrIn::forward_checked`] and [`VirtAddrIn::backward_checked`] do.
 ghost use Rattle.std.specs.Prelude.{◌≡◌, ◌+◌, ◌-◌, ◌≤◌};
 ghost use Rattle.x86_64_model.specs.Position.{raw, IsCanonical};
 
-use crate::addr::VirtAddr;
+use crate::addr::VirtAddrIn;
+use crate::level_count::LevelCount;
 use std::ops::{Add, AddAssign, Sub, SubAssign};
 
-impl Add<u64> for VirtAddr {
-    type Output = VirtAddr;
+impl<L: LevelCount> Add<u64> for VirtAddrIn<L> {
+    type Output = Self;
 
-    ghost can_add = { λ address count. IsCanonical 4 (raw 4 address + count) };
+    ghost can_add = { λ address count. IsCanonical L.LEVELS (raw L.LEVELS address + count) };
 
-    ghost add_gives = { λ address count sum. raw 4 sum ≡ raw 4 address + count };
+    ghost add_gives = { λ address count sum. raw L.LEVELS sum ≡ raw L.LEVELS address + count };
 
     /// Gives the address whose raw value is the sum, which must be canonical, and so below 2^64: test that by
-    /// [`u64::checked_add`] and [`VirtAddr::try_new`].
-    fn add(self, rhs: u64) -> VirtAddr {
-        VirtAddr::new(self.as_u64() + rhs)
+    /// [`u64::checked_add`] and [`try_new`](crate::addr::VirtAddr::try_new).
+    #[tactic(auto, using(crate::proofs::Canonical::canonical_below))]
+    fn add(self, rhs: u64) -> Self {
+        Self::new(self.as_u64() + rhs)
     }
 }
 
-impl AddAssign<u64> for VirtAddr {
-    ghost can_add_assign = { λ address count. IsCanonical 4 (raw 4 address + count) };
+impl<L: LevelCount> AddAssign<u64> for VirtAddrIn<L> {
+    ghost can_add_assign = { λ address count. IsCanonical L.LEVELS (raw L.LEVELS address + count) };
 
-    ghost add_assign_gives = { λ address count sum. raw 4 sum ≡ raw 4 address + count };
+    ghost add_assign_gives = { λ address count sum. raw L.LEVELS sum ≡ raw L.LEVELS address + count };
 
     /// Adds to the raw value. The sum must be canonical, as for `+`.
     fn add_assign(&mut self, rhs: u64) {
@@ -31,25 +33,26 @@ impl AddAssign<u64> for VirtAddr {
     }
 }
 
-impl Sub<u64> for VirtAddr {
-    type Output = VirtAddr;
+impl<L: LevelCount> Sub<u64> for VirtAddrIn<L> {
+    type Output = Self;
 
-    ghost can_sub = { λ address count. (count ≤ raw 4 address) × IsCanonical 4 (raw 4 address - count) };
+    ghost can_sub = { λ address count. (count ≤ raw L.LEVELS address)
+        × IsCanonical L.LEVELS (raw L.LEVELS address - count) };
 
-    ghost sub_gives = { λ address count rest. raw 4 rest ≡ raw 4 address - count };
+    ghost sub_gives = { λ address count rest. raw L.LEVELS rest ≡ raw L.LEVELS address - count };
 
     /// Gives the address whose raw value is the difference, which must be canonical and not below 0: test that by
-    /// [`u64::checked_sub`] and [`VirtAddr::try_new`].
-    fn sub(self, rhs: u64) -> VirtAddr {
-        VirtAddr::new(self.as_u64() - rhs)
+    /// [`u64::checked_sub`] and [`try_new`](crate::addr::VirtAddr::try_new).
+    fn sub(self, rhs: u64) -> Self {
+        Self::new(self.as_u64() - rhs)
     }
 }
 
-impl SubAssign<u64> for VirtAddr {
-    ghost can_sub_assign = { λ address count. (count ≤ raw 4 address)
-        × IsCanonical 4 (raw 4 address - count) };
+impl<L: LevelCount> SubAssign<u64> for VirtAddrIn<L> {
+    ghost can_sub_assign = { λ address count. (count ≤ raw L.LEVELS address)
+        × IsCanonical L.LEVELS (raw L.LEVELS address - count) };
 
-    ghost sub_assign_gives = { λ address count rest. raw 4 rest ≡ raw 4 address - count };
+    ghost sub_assign_gives = { λ address count rest. raw L.LEVELS rest ≡ raw L.LEVELS address - count };
 
     /// Subtracts from the raw value. The difference must be canonical and not below 0, as for `-`.
     fn sub_assign(&mut self, rhs: u64) {
@@ -57,16 +60,16 @@ impl SubAssign<u64> for VirtAddr {
     }
 }
 
-impl Sub<VirtAddr> for VirtAddr {
+impl<L: LevelCount> Sub<VirtAddrIn<L>> for VirtAddrIn<L> {
     type Output = u64;
 
-    ghost can_sub = { λ address other. raw 4 other ≤ raw 4 address };
+    ghost can_sub = { λ address other. raw L.LEVELS other ≤ raw L.LEVELS address };
 
-    ghost sub_gives = { λ address other count. count ≡ raw 4 address - raw 4 other };
+    ghost sub_gives = { λ address other count. count ≡ raw L.LEVELS address - raw L.LEVELS other };
 
     /// Gives the difference of the raw values, which must not be below 0: test that by `<=` of the addresses. It counts the
     /// gap, where that lies between.
-    fn sub(self, rhs: VirtAddr) -> u64 {
+    fn sub(self, rhs: VirtAddrIn<L>) -> u64 {
         self.as_u64() - rhs.as_u64()
     }
 }

@@ -1,9 +1,10 @@
 //! Ranges of pages.
 ghost use Rattle.std.specs.Prelude.{◌≡◌, ℕ, ◌%◌};
 
-use crate::page::{Page, PageSize, Size2MiB, Size4KiB, position};
+use crate::page::{Page, Page57, PageIn, PageSize, Size2MiB, Size4KiB};
 use crate::range::{Block, BlockRange, BlockRangeInclusive};
-use x86_64_addr::addr::VirtAddr;
+use x86_64_addr::addr::VirtAddrIn;
+use x86_64_addr::level_count::LevelCount;
 
 /// The pages from `start` up to `end`, which is left out, by position.
 pub type PageRange<S> = BlockRange<Page<S>>;
@@ -11,36 +12,45 @@ pub type PageRange<S> = BlockRange<Page<S>>;
 /// The pages from `start` to `end`, which is among them, by position.
 pub type PageRangeInclusive<S> = BlockRangeInclusive<Page<S>>;
 
-impl<S: PageSize> Block for Page<S> {
-    ghost use Rattle.std.proofs.Common.{inl, refl};
-    ghost use Rattle.std.specs.Prelude.{◌^◌};
-    ghost use Rattle.x86_64_page.specs.Blocks.{size_of_level};
+/// The pages from `start` to `end`, which is among them, by position, where there are five levels of tables.
+pub type PageRangeInclusive57<S> = BlockRangeInclusive<Page57<S>>;
+
+impl<S: PageSize, L: LevelCount> Block for PageIn<S, L> {
+    ghost use Rattle.x86_64_page.specs.Blocks.{limit_of_levels, size_of_level};
 
     ghost SIZE = { S.SIZE };
 
-    ghost LIMIT = { 0x1_0000_0000_0000 };
+    ghost LIMIT = { L.POSITION_COUNT };
 
     ghost place = { λ page. page };
 
     const SIZE: u64 = S::SIZE;
 
-    const LIMIT: u64 = 0x1_0000_0000_0000;
+    const LIMIT: u64 = L::POSITION_COUNT;
 
-    const RANGE: &'static str = "PageRange";
+    const RANGE: &'static str = if L::LEVELS == 4 {
+        "PageRange"
+    } else {
+        "PageRange57"
+    };
 
-    const RANGE_INCLUSIVE: &'static str = "PageRangeInclusive";
+    const RANGE_INCLUSIVE: &'static str = if L::LEVELS == 4 {
+        "PageRangeInclusive"
+    } else {
+        "PageRangeInclusive57"
+    };
 
     fn place(&self) -> u64 {
-        position(self.start_address)
+        self.start_address.position()
     }
 
     fn at(start: u64) -> Self {
-        Page::from_start_address_unchecked(VirtAddr::new_truncate(start))
+        PageIn::from_start_address_unchecked(VirtAddrIn::new_truncate(start))
     }
 
     ghost known_size = { size_of_level S.SIZE S.LEVEL S.low S.high S.size };
 
-    ghost known_limit = { inl refl };
+    ghost known_limit = { limit_of_levels L.LEVELS L.POSITION_COUNT L.known_levels L.known_count };
 }
 
 impl<S: PageSize> Page<S> {
@@ -51,13 +61,15 @@ impl<S: PageSize> Page<S> {
     {
         PageRange { start, end }
     }
+}
 
+impl<S: PageSize, L: LevelCount> PageIn<S, L> {
     /// Gives the pages from one to another, which is among them.
-    pub fn range_inclusive(start: Self, end: Self) -> PageRangeInclusive<S>
+    pub fn range_inclusive(start: Self, end: Self) -> BlockRangeInclusive<Self>
         ensures start { result.start ≡ start }
         ensures end { result.end ≡ end }
     {
-        PageRangeInclusive { start, end }
+        BlockRangeInclusive { start, end }
     }
 }
 

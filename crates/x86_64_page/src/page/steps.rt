@@ -1,17 +1,20 @@
 //! Steps along the pages of a size, in order of their positions: they go on after the gap in the middle of the address space.
-ghost use Rattle.std.specs.Prelude.{◌≡◌, ◌*◌, ◌^◌};
+ghost use Rattle.std.specs.Prelude.{◌≡◌, ◌*◌};
+ghost use Rattle.x86_64_addr.specs.Position.{position_count};
 ghost use Rattle.x86_64_addr.specs.Successor.{forward, backward};
 ghost use Rattle.x86_64_page.specs.Steps.{pages_between};
 
-use crate::page::{Page, PageSize};
+use crate::page::{PageIn, PageSize};
 use crate::range::places;
+use x86_64_addr::level_count::LevelCount;
 
-impl<S: PageSize> Page<S> {
+impl<S: PageSize, L: LevelCount> PageIn<S, L> {
     /// Gives the page so many pages on.
     ///
-    /// Answers `None` exactly where there is none: where the position that it would have isn't below 2^48.
+    /// Answers `None` exactly where there is none: where the position that it would have isn't below the number of
+    /// positions, 2^48 or 2^57.
     pub fn forward_checked(start: Self, count: usize) -> Option<Self>
-        ensures { result ≡ forward (2 ^ 48) start (count * S.SIZE) }
+        ensures { result ≡ forward (position_count L.LEVELS) start (count * S.SIZE) }
     {
         places::forward_checked(start, count)
     }

@@ -1,0 +1,93 @@
+//! How many levels of page tables there are.
+ghost use Rattle.std.specs.Prelude.{◌≡◌, ◌<◌, ◌≤◌, ℕ};
+ghost use Rattle.x86_64_addr.specs.Levels.{IsLevelCount};
+ghost use Rattle.x86_64_model.specs.Position.{position_count};
+
+mod sealed {
+    /// Keeps other crates from adding numbers.
+    pub trait Sealed {}
+
+    impl Sealed for super::FourLevels {}
+
+    impl Sealed for super::FiveLevels {}
+}
+
+/// A number of levels of tables. There are two of them, those of 4-level and of 5-level paging.
+///
+/// Intel SDM vol. 3A, "Linear-Address Translation with 4-Level Paging and 5-Level Paging".
+pub trait LevelCount: Copy + sealed::Sealed {
+    ghost LEVELS: { ℕ };
+
+    ghost POSITION_COUNT: { ℕ };
+
+    /// The number.
+    const LEVELS: u64;
+
+    /// How many positions there are.
+    const POSITION_COUNT: u64;
+
+    /// What the names of addresses and pages end in, where texts name them.
+    const SUFFIX: &'static str;
+
+    ghost known_levels: { IsLevelCount LEVELS };
+
+    // There is a level above those of pages, which are the levels one to three.
+    ghost some_levels: { 3 < LEVELS };
+
+    // Processors know no more.
+    ghost most_levels: { LEVELS ≤ 5 };
+
+    ghost known_count: { POSITION_COUNT ≡ position_count LEVELS };
+}
+
+/// Four levels of tables, as with 4-level paging.
+#[derive(Clone, Copy, Debug, PartialEq)]
+pub struct FourLevels;
+
+impl LevelCount for FourLevels {
+    ghost use Rattle.std.proofs.Common.{inl, lit≤, refl};
+
+    ghost LEVELS = { 4 };
+
+    ghost POSITION_COUNT = { 0x1_0000_0000_0000 };
+
+    const LEVELS: u64 = 4;
+
+    const POSITION_COUNT: u64 = 0x1_0000_0000_0000;
+
+    const SUFFIX: &'static str = "";
+
+    ghost known_levels = { inl refl };
+
+    ghost some_levels = { lit≤ tt };
+
+    ghost most_levels = { lit≤ tt };
+
+    ghost known_count = { refl };
+}
+
+/// Five levels of tables, as with 5-level paging.
+#[derive(Clone, Copy, Debug, PartialEq)]
+pub struct FiveLevels;
+
+impl LevelCount for FiveLevels {
+    ghost use Rattle.std.proofs.Common.{inr, lit≤, refl};
+
+    ghost LEVELS = { 5 };
+
+    ghost POSITION_COUNT = { 0x200_0000_0000_0000 };
+
+    const LEVELS: u64 = 5;
+
+    const POSITION_COUNT: u64 = 0x200_0000_0000_0000;
+
+    const SUFFIX: &'static str = "57";
+
+    ghost known_levels = { inr refl };
+
+    ghost some_levels = { lit≤ tt };
+
+    ghost most_levels = { lit≤ tt };
+
+    ghost known_count = { refl };
+}
