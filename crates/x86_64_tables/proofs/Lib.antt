@@ -1,4 +1,3 @@
-pub mod MapArrivals
 pub mod Places
 pub mod PageTableEntries
 pub mod WalkSteps
@@ -6,6 +5,5 @@ pub mod PlacesInOrder
 pub mod WordsSeen
 pub mod ImageMarks
 pub mod AlikeSteps
-pub mod Translations
 pub mod Pools
-pub mod PagePaths
+pub mod Tested

@@ -17,7 +17,7 @@ use Rattle.std.specs.FinMap.{get, keys, find, is_sorted, from_sorted, entries-fr
 use Rattle.x86_64_model.proofs.Lemmas.Hierarchies.Memories.{same_key, other_key}
 use Rattle.x86_64_model.specs.Memory.{Memory}
 use Rattle.x86_64_tables.specs.PhysMemory.{tables_at}
-use Rattle.x86_64_tables.specs.SortedPlaces.{HasRun}
+use Rattle.x86_64_tables.specs.private.SortedPlaces.{HasRun}
 use Rattle.x86_64_tables.proofs.Places.{rank, there, gone, found_there}
 
 -- the tables with their places

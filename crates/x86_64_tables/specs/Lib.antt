@@ -1,11 +1,9 @@
 pub mod PageTableFlags
 pub mod PageTableEntry
 pub mod PageTable
-pub mod SortedPlaces
 pub mod PhysMemory
 pub mod Lending
 pub mod Walks
-pub mod Images
 pub mod SelfEntries
 pub mod PathsSeen
 pub mod ActiveMemory
@@ -14,6 +12,7 @@ pub mod MapperAnswers
 pub mod FramePool
 pub mod Shifted
 pub mod FlushRecorder
+pub mod private
 pub use Rattle.x86_64_model.specs.Entry
 pub use Rattle.x86_64_model.specs.Memory
 pub use Rattle.x86_64_model.specs.Hierarchy

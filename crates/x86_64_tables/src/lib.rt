@@ -3,7 +3,6 @@
 
 pub mod frame_alloc;
 pub mod laws;
-pub mod level_count;
 pub mod mapper;
 pub mod page_table;
 pub mod phys_memory;

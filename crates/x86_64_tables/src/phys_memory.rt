@@ -10,7 +10,7 @@ ghost use Rattle.x86_64_model.specs.Memory.{Places, IsMapping, identity_places};
 ghost use Rattle.x86_64_tables.specs.PageTable.{zero_words};
 ghost use Rattle.x86_64_tables.specs.PhysMemory.{zero_tables_at};
 ghost use Rattle.x86_64_tables.specs.Lending.{LendsTable, LendsTableAt};
-ghost use Rattle.x86_64_tables.specs.SortedPlaces.{HasRun};
+ghost use Rattle.x86_64_tables.specs.private.SortedPlaces.{HasRun};
 
 mod active;
 mod alike;
@@ -32,7 +32,7 @@ pub use validity::{
     is_valid_hierarchy, is_valid_hierarchy_57, is_valid_recursive, is_valid_recursive_57,
     pool_fits, pool_fits_57, pool_fits_recursive, pool_fits_recursive_57,
 };
-pub use walk::{Walked, page_walk, page_walk_57};
+pub use walk::{Walked, page_walk, page_walk as page_walk_57};
 use x86_64_page::frame::PhysFrame;
 use x86_64_page::page::{PageSize, Size4KiB};
 

@@ -2,21 +2,29 @@
 //!
 //! Intel SDM vol. 3A, "Invalidation of TLBs and Paging-Structure Caches".
 ghost use Rattle.std.specs.Prelude.{◌≡◌, ◌-◌, ◌<◌, [], ◌∷◌, ◌++◌, IsOk, IfErr, OnOk, OnErr};
+ghost use Rattle.x86_64_tables.specs.FlushRecorder.{page_item};
 
 use super::recorder::{FlushItem, FlushRecorder};
+use std::fmt::{Debug, Formatter, Result as FmtResult, Write};
 use std::marker::Model;
-use x86_64_page::page::{Page, PageSize};
+use x86_64_addr::level_count::{FiveLevels, FourLevels, LevelCount};
+use x86_64_page::page::{PageIn, PageSize};
 
 /// Stands for a change to the mapping of a page, which the TLB may not have seen yet.
 ///
 /// It must be spent, by [`flush`](Self::flush) or [`ignore`](Self::ignore): letting it go is a compile error.
 #[must_use]
-#[derive(Debug)]
-pub struct MapperFlush<S: PageSize> {
-    page: Page<S>,
+pub struct MapperFlushIn<S: PageSize, L: LevelCount> {
+    page: PageIn<S, L>,
 }
 
-impl<S: PageSize> Model for MapperFlush<S> {
+/// The token of a page with four levels of tables.
+pub type MapperFlush<S> = MapperFlushIn<S, FourLevels>;
+
+/// The token of a page with five levels of tables.
+pub type MapperFlush57<S> = MapperFlushIn<S, FiveLevels>;
+
+impl<S: PageSize, L: LevelCount> Model for MapperFlushIn<S, L> {
     ghost use Rattle.std.specs.Prelude.{ℕ};
 
     ghost Value = { ℕ };
@@ -24,16 +32,16 @@ impl<S: PageSize> Model for MapperFlush<S> {
     ghost view = { λ flush. flush.page };
 }
 
-impl<S: PageSize> MapperFlush<S> {
+impl<S: PageSize, L: LevelCount> MapperFlushIn<S, L> {
     /// Makes a token for a page.
-    pub fn new(page: Page<S>) -> Self
+    pub fn new(page: PageIn<S, L>) -> Self
         ensures { result ≡ page }
     {
-        MapperFlush { page }
+        MapperFlushIn { page }
     }
 
     /// Gives the page.
-    pub fn page(&self) -> Page<S>
+    pub fn page(&self) -> PageIn<S, L>
         ensures { result ≡ self.now }
     {
         self.page
@@ -41,23 +49,20 @@ impl<S: PageSize> MapperFlush<S> {
 
     /// Spends the token, and records that the mapping of its page is flushed: the page's start address and size.
     ///
-    /// Where the recorder has room it takes no memory, succeeds, and lowers the room by one.
+    /// If the recorder has room it takes no memory, succeeds, and lowers the room by one.
     ///
     /// # Errors
     ///
-    /// The token itself where memory is refused. Then the recorder stays as it is.
+    /// The token itself if memory is refused. Then the recorder stays as it is.
     pub fn flush(self, recorder: &mut FlushRecorder) -> Result<(), Self>
         ensures items { OnOk result (recorder.new.items
-            ≡ recorder.old.items ++ FlushItem.Page self S.SIZE ∷ []) }
+            ≡ recorder.old.items ++ page_item L.LEVELS self S.SIZE ∷ []) }
         ensures room { OnOk result (recorder.new.room ≡ recorder.old.room - 1) }
         ensures succeeds { 0 < recorder.old.room → IsOk result }
         ensures token { IfErr result (λ token. token ≡ self) }
         ensures unchanged { OnErr result (recorder.new ≡ recorder.old) }
     {
-        let item = FlushItem::Page {
-            start: self.page.start_address(),
-            size: S::SIZE,
-        };
+        let item = FlushItem::of_page(self.page.start_address(), S::SIZE);
         if recorder.record(item).is_err() {
             return Err(self);
         }
@@ -67,7 +72,14 @@ impl<S: PageSize> MapperFlush<S> {
 
     /// Spends the token without a flush.
     pub fn ignore(self) {
-        let MapperFlush { page: _ } = self;
+        let MapperFlushIn { page: _ } = self;
+    }
+}
+
+impl<S: PageSize, L: LevelCount> Debug for MapperFlushIn<S, L> {
+    fn fmt<W: Write>(&self, f: &mut Formatter<W>) -> FmtResult {
+        let (suffix, page) = (L::SUFFIX, self.page);
+        write!(f, "MapperFlush{suffix} {{ page: {page:?} }}")
     }
 }
 

@@ -3,7 +3,8 @@ ghost use Rattle.std.specs.Prelude.{◌≡◌, ◌-◌, ◌<◌, ◌≤◌, [], 
 
 use std::alloc::{AllocError, Global};
 use std::marker::Model;
-use x86_64_addr::addr::{VirtAddr, VirtAddr57};
+use x86_64_addr::addr::{VirtAddr, VirtAddr57, VirtAddrIn};
+use x86_64_addr::level_count::LevelCount;
 
 /// Says what the TLB is to forget.
 #[derive(Clone, Copy, Debug, PartialEq)]
@@ -24,6 +25,28 @@ pub enum FlushItem {
     },
     /// All mappings. Intel SDM vol. 3A, "Operations that Invalidate TLBs and Paging-Structure Caches": a write of Cr3.
     All,
+}
+
+impl FlushItem {
+    ghost use Rattle.x86_64_tables.specs.FlushRecorder.{page_item};
+
+    /// Returns the item of a page, by its start address and its size in bytes.
+    pub(super) fn of_page<L: LevelCount>(start: VirtAddrIn<L>, size: u64) -> FlushItem
+        ensures { result ≡ page_item L.LEVELS start size }
+    {
+        let position = start.position();
+        if L::LEVELS == 4 {
+            FlushItem::Page {
+                start: VirtAddr::new_truncate(position),
+                size,
+            }
+        } else {
+            FlushItem::Page57 {
+                start: VirtAddr57::new_truncate(position),
+                size,
+            }
+        }
+    }
 }
 
 /// Records flushes, seen as the items so far, in order, and the room: how many more flushes take no memory.

@@ -7,13 +7,13 @@ ghost use Rattle.x86_64_tables.specs.ActiveMemory.{lent, memory_of, words_in, cr
 ghost use Rattle.x86_64_tables.specs.SelfEntries.{has_self_entry};
 
 use super::image::has_self_entry;
-use super::walk::walk_at;
+use super::walk::page_walk;
 use super::{FramePlace, IdentityMapping, PhysMemory};
-use crate::level_count::{FiveLevels, FourLevels, LevelCount};
 use crate::page_table::PageTable;
 use std::marker::PhantomData;
-use x86_64_addr::addr::PhysAddr;
+use x86_64_addr::addr::{PhysAddr, VirtAddrIn};
 use x86_64_addr::index::PageTableIndex;
+use x86_64_addr::level_count::{FiveLevels, FourLevels, LevelCount};
 use x86_64_page::frame::PhysFrame;
 use x86_64_page::page::{PageSize, Size4KiB};
 
@@ -67,9 +67,9 @@ impl<'a, L: LevelCount> Active<'a, L> {
 
     /// Gives the table at an address, or `None` where the walk of the address from CR3 arrives nowhere, not at a
     /// multiple of 4096, or at no table in the memory. It may arrive inside a huge page.
-    pub fn table(&self, addr: L::Addr) -> Option<&PageTable>
+    pub fn table(&self, addr: VirtAddrIn<L>) -> Option<&PageTable>
         ensures { let words = words_in self.now in
-            option_copied result ≡ walked_table L.LEVELS words (cr3_of self.now) (L.position addr) }
+            option_copied result ≡ walked_table L.LEVELS words (cr3_of self.now) addr }
     {
         let frame = self.arrive(addr)?;
         self.memory.table(place_of(frame))
@@ -77,10 +77,10 @@ impl<'a, L: LevelCount> Active<'a, L> {
 
     /// Lends the table at an address to be changed, or gives `None` where [`table`](Active::table) does. All
     /// other tables stay. What is written may change where later walks arrive.
-    pub fn table_mut(&mut self, addr: L::Addr) -> Option<&mut PageTable>
-        ensures* writes_back { sem 𝓛 (LendsWalked L.row L.LEVELS self.entry (L.position addr) result) }
+    pub fn table_mut(&mut self, addr: VirtAddrIn<L>) -> Option<&mut PageTable>
+        ensures* writes_back { sem 𝓛 (LendsWalked L.row L.LEVELS self.entry addr result) }
         ensures value { let words = words_in self.old in
-            option_copied_mut result ≡ walked_table L.LEVELS words (cr3_of self.old) (L.position addr) }
+            option_copied_mut result ≡ walked_table L.LEVELS words (cr3_of self.old) addr }
     {
         match self.arrive(addr) {
             Some(frame) => self.table_in(frame),
@@ -89,10 +89,10 @@ impl<'a, L: LevelCount> Active<'a, L> {
     }
 
     /// Gives the frame that starts where the walk of an address arrives.
-    fn arrive(&self, addr: L::Addr) -> Option<PhysFrame<Size4KiB>>
-        ensures { result ≡ walked_frame L.LEVELS (words_in self.now) (cr3_of self.now) (L.position addr) }
+    fn arrive(&self, addr: VirtAddrIn<L>) -> Option<PhysFrame<Size4KiB>>
+        ensures { result ≡ walked_frame L.LEVELS (words_in self.now) (cr3_of self.now) addr }
     {
-        let walked = walk_at::<_, L>(self.memory, &IdentityMapping, self.cr3(), addr)?;
+        let walked = page_walk(self.memory, &IdentityMapping, self.cr3(), addr)?;
         PhysFrame::from_start_address(walked.address).ok()
     }
 

@@ -1,7 +1,7 @@
 //! The test of two hierarchies: whether their path maps are alike.
 ghost use Rattle.std.specs.Prelude.{◌≡◌, ◌==◌, ◌↔◌, IsTrue, suc};
 ghost use Rattle.x86_64_model.specs.Alike.{Alike, without_writable};
-ghost use Rattle.x86_64_tables.specs.Images.{seen};
+ghost use Rattle.x86_64_tables.specs.private.Images.{seen};
 ghost use Rattle.x86_64_tables.specs.PathsSeen.{AlikeFrom, paths_seen, paths_seen_57, paths_seen_at, places_for};
 
 use super::image::Image;

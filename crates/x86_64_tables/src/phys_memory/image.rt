@@ -4,7 +4,7 @@ ghost use Rattle.std.specs.Option.{option_copied};
 ghost use Rattle.x86_64_model.specs.Entry.{huge};
 ghost use Rattle.x86_64_model.specs.Memory.{word, words_of};
 ghost use Rattle.x86_64_model.specs.Tables.{NoneHuge};
-ghost use Rattle.x86_64_tables.specs.Images.{seen, below_word};
+ghost use Rattle.x86_64_tables.specs.private.Images.{seen, below_word};
 ghost use Rattle.x86_64_tables.specs.SelfEntries.{has_self_entry, names_frame};
 
 use super::walk::{entry_at, has_flag};

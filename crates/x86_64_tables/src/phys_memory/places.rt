@@ -3,7 +3,7 @@ ghost use Rattle.std.specs.Prelude.{◌≡◌, ◌↔◌, true, Some, IsSome, le
 ghost use Rattle.std.specs.List.{position};
 ghost use Rattle.std.specs.List.Sorted.{IsStrictlyIncreasing};
 ghost use Rattle.std.specs.Ordering.{nat_cmp, eq_by_cmp};
-ghost use Rattle.x86_64_tables.specs.SortedPlaces.{HasRun};
+ghost use Rattle.x86_64_tables.specs.private.SortedPlaces.{HasRun};
 
 use std::marker::Model;
 
@@ -22,7 +22,7 @@ pub(super) struct SortedPlaces {
 impl Model for SortedPlaces {
     ghost use Rattle.std.specs.Prelude.{◌≡◌, true, List, ℕ, length};
     ghost use Rattle.std.specs.List.Sorted.{IsStrictlyIncreasing};
-    ghost use Rattle.x86_64_tables.specs.SortedPlaces.{HasRun};
+    ghost use Rattle.x86_64_tables.specs.private.SortedPlaces.{HasRun};
 
     ghost Value = { List ℕ };
 

@@ -8,7 +8,8 @@ ghost use Rattle.x86_64_model.specs.Window.{outside_window, IsValidFor};
 ghost use Rattle.x86_64_model.specs.Pool.{Fits};
 ghost use Rattle.x86_64_model.specs.Tables.{tables_from, SoundTables};
 ghost use Rattle.x86_64_model.specs.Marks.{serves_below, mark_one, mark_all};
-ghost use Rattle.x86_64_tables.specs.Images.{seen, free_in, mark_slot, IsSound};
+ghost use Rattle.x86_64_tables.specs.private.Images.{seen, free_in, mark_slot, IsSound};
+ghost use Rattle.x86_64_tables.specs.private.HierarchyTests.{limit_of, Passes};
 ghost use Rattle.x86_64_tables.specs.SelfEntries.{window_at};
 
 use super::image::{Image, has_self_entry};
@@ -40,7 +41,7 @@ pub fn is_valid_hierarchy<P: PageTableFrameMapping>(
     ensures { let words = words_of memory.now (P.places mapping.now) in
         IfOk result (λ b. IsTrue b ↔ IsValid 4 words root (paths_of 4 words root)) }
 {
-    is_valid_through(alloc, memory, mapping, root, 3)
+    passes(alloc, memory, mapping, root, None, None, 3)
 }
 
 /// Tells whether the words below the root are a valid hierarchy of five levels.
@@ -61,35 +62,7 @@ pub fn is_valid_hierarchy_57<P: PageTableFrameMapping>(
     ensures { let words = words_of memory.now (P.places mapping.now) in
         IfOk result (λ b. IsTrue b ↔ IsValid 5 words root (paths_of 5 words root)) }
 {
-    is_valid_through(alloc, memory, mapping, root, 4)
-}
-
-/// Tells whether the words below the root are a valid hierarchy with so many levels of tables below the root.
-///
-/// # Errors
-///
-/// `AllocError` where memory is refused.
-fn is_valid_through<P: PageTableFrameMapping>(
-    alloc: Global,
-    memory: &PhysMemory,
-    mapping: &P,
-    root: PhysFrame<Size4KiB>,
-    levels: u8,
-) -> Result<bool, AllocError>
-    ensures { let words = words_of memory.now (P.places mapping.now) in
-        IfOk result (λ b. IsTrue b ↔ IsValid (suc levels) words root (paths_of (suc levels) words root)) }
-{
-    let image = Image {
-        memory,
-        mapping,
-        root,
-        recursive: None,
-    };
-    let survey = Survey {
-        image,
-        limit: FRAME_COUNT,
-    };
-    survey.is_sound(alloc, levels, None)
+    passes(alloc, memory, mapping, root, None, None, 4)
 }
 
 /// Tells whether the words below the root are a valid hierarchy of four levels for a recursive index, where each frame
@@ -113,7 +86,7 @@ pub fn is_valid_recursive(
         let paths = paths_of 4 (outside_window window root words) root in
         IfOk result (λ b. IsTrue b ↔ IsValidFor 4 window words root paths) }
 {
-    is_valid_recursive_through(alloc, memory, root, index, 3)
+    passes(alloc, memory, &IdentityMapping, root, Some(index), None, 3)
 }
 
 /// Tells whether the words below the root are a valid hierarchy of five levels for a recursive index, where each frame
@@ -136,38 +109,7 @@ pub fn is_valid_recursive_57(
         let paths = paths_of 5 (outside_window window root words) root in
         IfOk result (λ b. IsTrue b ↔ IsValidFor 5 window words root paths) }
 {
-    is_valid_recursive_through(alloc, memory, root, index, 4)
-}
-
-/// Tells whether the words below the root are a valid hierarchy for a recursive index, with so many levels of tables below
-/// the root.
-///
-/// # Errors
-///
-/// `AllocError` where memory is refused.
-fn is_valid_recursive_through(
-    alloc: Global,
-    memory: &PhysMemory,
-    root: PhysFrame<Size4KiB>,
-    index: PageTableIndex,
-    levels: u8,
-) -> Result<bool, AllocError>
-    ensures { let words = words_of memory.now identity_places in
-        let window = Some (window_at words root index) in
-        let paths = paths_of (suc levels) (outside_window window root words) root in
-        IfOk result (λ b. IsTrue b ↔ IsValidFor (suc levels) window words root paths) }
-{
-    let image = Image {
-        memory,
-        mapping: IdentityMapping,
-        root,
-        recursive: Some(index),
-    };
-    let survey = Survey {
-        image,
-        limit: FRAME_COUNT,
-    };
-    survey.is_sound(alloc, levels, None)
+    passes(alloc, memory, &IdentityMapping, root, Some(index), None, 4)
 }
 
 /// Tells whether the words below the root are a valid hierarchy of four levels, and a pool fits it.
@@ -190,7 +132,7 @@ pub fn pool_fits<P: PageTableFrameMapping>(
         let serves = serves_below pool.now.limit in
         IfOk result (λ b. IsTrue b ↔ Fits 4 None words root (paths_of 4 words root) serves pool.now.frames) }
 {
-    fits_through(alloc, memory, mapping, root, pool, 3)
+    passes(alloc, memory, mapping, root, None, Some(pool), 3)
 }
 
 /// Tells whether the words below the root are a valid hierarchy of five levels, and a pool fits it.
@@ -212,38 +154,7 @@ pub fn pool_fits_57<P: PageTableFrameMapping>(
         let serves = serves_below pool.now.limit in
         IfOk result (λ b. IsTrue b ↔ Fits 5 None words root (paths_of 5 words root) serves pool.now.frames) }
 {
-    fits_through(alloc, memory, mapping, root, pool, 4)
-}
-
-/// Tells whether the words below the root are a valid hierarchy with so many levels of tables below the root, and a pool
-/// fits it.
-///
-/// # Errors
-///
-/// `AllocError` where memory is refused.
-fn fits_through<P: PageTableFrameMapping>(
-    alloc: Global,
-    memory: &PhysMemory,
-    mapping: &P,
-    root: PhysFrame<Size4KiB>,
-    pool: &FramePool,
-    levels: u8,
-) -> Result<bool, AllocError>
-    ensures { let words = words_of memory.now (P.places mapping.now) in
-        let serves = serves_below pool.now.limit in let paths = paths_of (suc levels) words root in
-        IfOk result (λ b. IsTrue b ↔ Fits (suc levels) None words root paths serves pool.now.frames) }
-{
-    let image = Image {
-        memory,
-        mapping,
-        root,
-        recursive: None,
-    };
-    let survey = Survey {
-        image,
-        limit: pool.limit(),
-    };
-    survey.is_sound(alloc, levels, Some(pool))
+    passes(alloc, memory, mapping, root, None, Some(pool), 4)
 }
 
 /// Tells whether the words below the root are a valid hierarchy of four levels for a recursive index, and a pool fits
@@ -267,7 +178,15 @@ pub fn pool_fits_recursive(
         let paths = paths_of 4 (outside_window window root words) root in
         IfOk result (λ b. IsTrue b ↔ Fits 4 window words root paths serves pool.now.frames) }
 {
-    fits_recursive_through(alloc, memory, root, index, pool, 3)
+    passes(
+        alloc,
+        memory,
+        &IdentityMapping,
+        root,
+        Some(index),
+        Some(pool),
+        3,
+    )
 }
 
 /// Tells whether the words below the root are a valid hierarchy of five levels for a recursive index, and a pool fits
@@ -291,39 +210,53 @@ pub fn pool_fits_recursive_57(
         let paths = paths_of 5 (outside_window window root words) root in
         IfOk result (λ b. IsTrue b ↔ Fits 5 window words root paths serves pool.now.frames) }
 {
-    fits_recursive_through(alloc, memory, root, index, pool, 4)
+    passes(
+        alloc,
+        memory,
+        &IdentityMapping,
+        root,
+        Some(index),
+        Some(pool),
+        4,
+    )
 }
 
-/// Tells whether the words below the root are a valid hierarchy for a recursive index, with so many levels of tables below
-/// the root, and a pool fits it.
+/// Tells whether the words below the root are a valid hierarchy, with so many levels of tables below the root, past the root's
+/// word at the recursive index if there is one, and whether a pool fits it, if there is one.
 ///
 /// # Errors
 ///
-/// `AllocError` where memory is refused.
-fn fits_recursive_through(
+/// `AllocError` if memory is refused.
+fn passes<P: PageTableFrameMapping>(
     alloc: Global,
     memory: &PhysMemory,
+    mapping: &P,
     root: PhysFrame<Size4KiB>,
-    index: PageTableIndex,
-    pool: &FramePool,
+    recursive: Option<PageTableIndex>,
+    pool: Option<&FramePool>,
     levels: u8,
 ) -> Result<bool, AllocError>
-    ensures { let words = words_of memory.now identity_places in
-        let window = Some (window_at words root index) in let serves = serves_below pool.now.limit in
-        let paths = paths_of (suc levels) (outside_window window root words) root in
-        IfOk result (λ b. IsTrue b ↔ Fits (suc levels) window words root paths serves pool.now.frames) }
+    ensures { let words = words_of memory.now (P.places mapping.now) in
+        IfOk result (λ b. IsTrue b ↔ Passes (suc levels) words root recursive (option_copied pool.entry)) }
 {
     let image = Image {
         memory,
-        mapping: IdentityMapping,
+        mapping,
         root,
-        recursive: Some(index),
+        recursive,
     };
-    let survey = Survey {
-        image,
-        limit: pool.limit(),
-    };
-    survey.is_sound(alloc, levels, Some(pool))
+    let limit = limit_of(pool);
+    Survey { image, limit }.is_sound(alloc, levels, pool)
+}
+
+/// Returns the number that those of frames are below: the limit of the pool, if there is one.
+fn limit_of(pool: Option<&FramePool>) -> u64
+    ensures { result ≡ limit_of (option_copied pool.entry) }
+{
+    match pool {
+        Some(pool) => pool.limit(),
+        None => FRAME_COUNT,
+    }
 }
 
 /// Holds a hierarchy to be tested. The frames of its tables, but for the root, and those of a pool have numbers from 1

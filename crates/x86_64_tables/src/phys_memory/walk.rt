@@ -9,10 +9,10 @@ ghost use Rattle.x86_64_tables.specs.PageTableFlags.{bits_of};
 ghost use Rattle.x86_64_tables.specs.Walks.{walked_of, arrival, ends};
 
 use super::{PageTableFrameMapping, PhysMemory};
-use crate::level_count::{FiveLevels, FourLevels, LevelCount};
 use crate::page_table::{PageTableEntry, PageTableFlags};
 use bitflags::Flags;
-use x86_64_addr::addr::{PhysAddr, VirtAddr, VirtAddr57};
+use x86_64_addr::addr::{PhysAddr, VirtAddrIn};
+use x86_64_addr::level_count::LevelCount;
 use x86_64_page::frame::PhysFrame;
 use x86_64_page::page::{PageSize, Size1GiB, Size2MiB, Size4KiB};
 
@@ -27,53 +27,28 @@ pub struct Walked {
     pub user: bool,
 }
 
-/// Walks the tables below the root as the processor does, or gives `None` where the walk arrives nowhere.
+/// Walks the tables below the root as the processor does, or returns `None` if the walk arrives nowhere.
 ///
-/// Each level is one word of a table. A word without `PRESENT` ends the walk with `None`, and so does a table whose frame
-/// is not covered by the mapping, or lies at a place that the memory lacks. With `HUGE_PAGE` a word of level two or three
-/// maps a page, and one of level four ends the walk; at level one it is no such bit. The tables may be any words. Intel SDM
-/// vol. 3A, "Linear-Address Translation with 4-Level Paging and 5-Level Paging"; AMD APM vol. 2, "Long-Mode Page
+/// It goes down as many levels as the address has: the root's table is of level four for a [`VirtAddr`] and of level five for a
+/// [`VirtAddr57`]. At each level it reads one word of a table. A word without `PRESENT` ends the walk with `None`, and so does a
+/// table whose frame is not covered by the mapping, or lies at a place that the memory lacks. With `HUGE_PAGE` a word of level two
+/// or three maps a page, and one of a higher level ends the walk; at level one it is no such bit. The tables may be any words.
+///
+/// Intel SDM vol. 3A, "Linear-Address Translation with 4-Level Paging and 5-Level Paging"; AMD APM vol. 2, "Long-Mode Page
 /// Translation".
-pub fn page_walk<P: PageTableFrameMapping>(
-    memory: &PhysMemory,
-    mapping: &P,
-    root: PhysFrame<Size4KiB>,
-    addr: VirtAddr,
-) -> Option<Walked>
-    ensures { let tables = words_of memory.now (P.places mapping.now) in
-        option_map walked_of result ≡ page_walk_of 4 tables root addr }
-{
-    walk_at::<P, FourLevels>(memory, mapping, root, addr)
-}
-
-/// Walks the tables of five levels below the root as the processor does, or gives `None` where the walk arrives nowhere.
 ///
-/// It is the walk of [`page_walk`] with one more level above: a word of level five is read first, and ends the walk with
-/// `HUGE_PAGE` as one of level four does. Intel SDM vol. 3A, "Linear-Address Translation with 4-Level Paging and 5-Level
-/// Paging"; AMD APM vol. 2, "Long-Mode Page Translation".
-pub fn page_walk_57<P: PageTableFrameMapping>(
+/// [`VirtAddr`]: x86_64_addr::addr::VirtAddr
+/// [`VirtAddr57`]: x86_64_addr::addr::VirtAddr57
+pub fn page_walk<P: PageTableFrameMapping, L: LevelCount>(
     memory: &PhysMemory,
     mapping: &P,
     root: PhysFrame<Size4KiB>,
-    addr: VirtAddr57,
+    addr: VirtAddrIn<L>,
 ) -> Option<Walked>
     ensures { let tables = words_of memory.now (P.places mapping.now) in
-        option_map walked_of result ≡ page_walk_of 5 tables root addr }
+        option_map walked_of result ≡ page_walk_of L.LEVELS tables root addr }
 {
-    walk_at::<P, FiveLevels>(memory, mapping, root, addr)
-}
-
-/// Walks the tables of so many levels below the root.
-pub(super) fn walk_at<P: PageTableFrameMapping, L: LevelCount>(
-    memory: &PhysMemory,
-    mapping: &P,
-    root: PhysFrame<Size4KiB>,
-    addr: L::Addr,
-) -> Option<Walked>
-    ensures { let tables = words_of memory.now (P.places mapping.now) in
-        option_map walked_of result ≡ page_walk_of L.LEVELS tables root (L.position addr) }
-{
-    walk_from(memory, mapping, L::LEVELS, root, L::position_of(addr))
+    walk_from(memory, mapping, L::LEVELS, root, addr.position())
 }
 
 /// Says what the entries on the way so far allow.

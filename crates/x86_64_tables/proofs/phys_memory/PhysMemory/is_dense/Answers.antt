@@ -1,6 +1,6 @@
 use Rattle.std.proofs.Common.{sym, subst, ap, length, ◌∙◌, ℕ, List}
 use Rattle.std.specs.FinMap as map
-use Rattle.x86_64_tables.specs.SortedPlaces.{HasRun}
+use Rattle.x86_64_tables.specs.private.SortedPlaces.{HasRun}
 use Rattle.x86_64_tables.proofs.PlacesInOrder.{keys-tables}
 use Rattle.x86_64_tables.proofs.phys_memory.PhysMemory.is_dense.Goals as goal
 

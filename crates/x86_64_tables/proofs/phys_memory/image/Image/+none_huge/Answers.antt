@@ -2,7 +2,7 @@ use Rattle.std.proofs.Common.{sym, ◌∙◌, subst, ◌≡◌, ◌-◌, refl, t
 use Rattle.x86_64_model.specs.Memory.{word}
 use Rattle.x86_64_model.specs.Tables.{NoneHuge}
 use Rattle.x86_64_model.proofs.Lemmas.Tables.Huge.{few_levels, all_words, one_word}
-use Rattle.x86_64_tables.specs.Images.{seen}
+use Rattle.x86_64_tables.specs.private.Images.{seen}
 use Rattle.x86_64_tables.proofs.WordsSeen.{is_named, named_at}
 use Rattle.x86_64_tables.proofs.phys_memory.image.Image.+none_huge.Goals as goal
 

@@ -1,7 +1,7 @@
 use Rattle.std.proofs.Common.{◌<◌, ◌-◌, ℕ}
 use Rattle.x86_64_model.specs.Memory.{word}
 use Rattle.x86_64_model.proofs.Lemmas.Tables.Huge.{NotHuge}
-use Rattle.x86_64_tables.specs.Images.{seen}
+use Rattle.x86_64_tables.specs.private.Images.{seen}
 use Rattle.x86_64_tables.proofs.phys_memory.image.Image.+none_huge.Given as goal
 
 abbrev pub decreases-none_huge : goal.decreases-none_huge

@@ -1,5 +1,5 @@
 use Rattle.std.proofs.Common.{◌∙◌, ap}
-use Rattle.x86_64_tables.specs.Images.{below_word}
+use Rattle.x86_64_tables.specs.private.Images.{below_word}
 use Rattle.x86_64_tables.proofs.WordsSeen.{zero_names_none}
 use Rattle.x86_64_tables.proofs.phys_memory.image.Image.table_below.Goals as goal
 

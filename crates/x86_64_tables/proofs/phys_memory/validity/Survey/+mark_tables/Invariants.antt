@@ -1,7 +1,7 @@
 use Rattle.std.proofs.Common.{◌≡◌, ◌-◌}
 use Rattle.x86_64_model.specs.Marks.{mark_all}
 use Rattle.x86_64_model.proofs.Lemmas.Tables.MarkSteps.{rest}
-use Rattle.x86_64_tables.specs.Images.{seen, mark_slot}
+use Rattle.x86_64_tables.specs.private.Images.{seen, mark_slot}
 use Rattle.x86_64_tables.proofs.phys_memory.validity.Survey.+mark_tables.Given as goal
 
 abbrev pub decreases-mark_tables : goal.decreases-mark_tables

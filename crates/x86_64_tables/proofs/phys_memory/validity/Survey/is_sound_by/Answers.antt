@@ -1,7 +1,7 @@
 use Rattle.std.proofs.Common.{refl, [], true}
 use Rattle.std.specs.Option.{option_copied}
 use Rattle.x86_64_model.specs.Marks.{mark_all}
-use Rattle.x86_64_tables.specs.Images.{free_in}
+use Rattle.x86_64_tables.specs.private.Images.{free_in}
 use Rattle.x86_64_tables.proofs.ImageMarks.{refused, accepted}
 use Rattle.x86_64_tables.proofs.phys_memory.validity.Survey.is_sound_by.Goals as goal
 

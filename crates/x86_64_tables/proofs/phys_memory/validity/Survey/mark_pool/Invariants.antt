@@ -1,6 +1,6 @@
 use Rattle.std.proofs.Common.{◌≡◌, drop}
 use Rattle.x86_64_model.specs.Marks.{mark_all}
-use Rattle.x86_64_tables.specs.Images.{mark_slot}
+use Rattle.x86_64_tables.specs.private.Images.{mark_slot}
 use Rattle.x86_64_tables.proofs.phys_memory.validity.Survey.mark_pool.Given as goal
 
 -- the frames still to mark, from the marks of the iteration

@@ -1,0 +1,22 @@
+-- What the tests of a hierarchy tell, all of them as one.
+use Rattle.std.specs.Prelude.{ℕ, ◌^◌, Option, Some, None}
+use Rattle.x86_64_model.specs.Hierarchy.{IsValid, paths_of}
+use Rattle.x86_64_model.specs.Marks.{serves_below}
+use Rattle.x86_64_model.specs.Memory.{Words}
+use Rattle.x86_64_model.specs.Pool.{Fits}
+use Rattle.x86_64_model.specs.Window.{IsValidFor, outside_window}
+use Rattle.x86_64_tables.specs.FramePool.{FreeFrames}
+use Rattle.x86_64_tables.specs.SelfEntries.{window_at, window_in}
+
+-- the hierarchy is valid, for the recursive index if there is one, and the pool fits it, if there is one
+abbrev pub Passes : (L : ℕ) → Words → (root : ℕ) → (recursive : Option ℕ) → Option FreeFrames → Type 0
+Passes L T root None None = IsValid L T root (paths_of L T root)
+Passes L T root (Some r) None = let window = Some (window_at T root r) in
+    IsValidFor L window T root (paths_of L (outside_window window root T) root)
+Passes L T root recursive (Some pool) = let window = window_in T root recursive in
+    Fits L window T root (paths_of L (outside_window window root T) root) (serves_below pool.limit) pool.frames
+
+-- the number that those of frames are below: the limit of the pool, or what entries have room for
+abbrev pub limit_of : Option FreeFrames → ℕ
+limit_of None = 2 ^ 40
+limit_of (Some pool) = pool.limit
