@@ -3,6 +3,7 @@ use Rattle.std.specs.Prelude.{◌≡◌, ℕ, List, Some, IsSome}
 use Rattle.x86_64_model.specs.Arrivals.{leads}
 use Rattle.x86_64_model.specs.Layout.{Layout, words}
 use Rattle.x86_64_model.specs.Memory.{Memory}
+use Rattle.x86_64_model.specs.Owned.{Hierarchy}
 use Rattle.x86_64_model.specs.Window.{SelfEntry}
 
 -- the root is there too, and its self-entry where there is a recursive index
@@ -11,3 +12,7 @@ pub record IsReached (l : Layout) (m : Memory) (path : List ℕ) (frame : ℕ) :
   pub there : IsSome (words l m frame)
   pub root_there : IsSome (words l m l.root)
   pub self : SelfEntry (words l m) l.root l.window
+
+-- the words of a hierarchy lead along a path to the table in a frame
+abbrev pub Reaches : {Lent : Type 0} → Hierarchy Lent → (path : List ℕ) → (frame : ℕ) → Type 0
+Reaches h path frame = IsReached h.layout h.memory path frame

@@ -6,8 +6,8 @@ use Rattle.x86_64_model.specs.Memory.{Memory, identity_places, words_of}
 use Rattle.x86_64_model.specs.Owned.{Hierarchy}
 use Rattle.x86_64_model.specs.Window.{Window}
 use Rattle.x86_64_tables.specs.SelfEntries.{window_at}
-use Rattle.x86_64_tables.specs.contracts.level_count.FiveLevels as five
-use Rattle.x86_64_tables.specs.contracts.level_count.FourLevels as four
+use Rattle.x86_64_addr.specs.contracts.level_count.FiveLevels as five
+use Rattle.x86_64_addr.specs.contracts.level_count.FourLevels as four
 use Rattle.x86_64_tables.specs.contracts.page_table.table.PageTable.{the_row as table_row}
 use Rattle.x86_64_mappers.specs.contracts.recursive_page_table.Recursive.{the_row as recursive_row}
 use Rattle.x86_64_mappers.specs.declared.recursive_page_table.Recursive.{Recursive}

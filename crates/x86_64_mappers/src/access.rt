@@ -4,7 +4,8 @@ ghost use Rattle.std.specs.Borrow.{sem};
 ghost use Rattle.x86_64_model.specs.Memory.{word};
 ghost use Rattle.x86_64_model.specs.Owned.{words};
 ghost use Rattle.x86_64_mappers.specs.AccessLending.{LendsTableBy, LendsEntryBy, table_in, put_table};
-ghost use Rattle.x86_64_mappers.specs.OwnedSteps.{Reaches, SetsWord};
+ghost use Rattle.x86_64_mappers.specs.private.OwnedSteps.{SetsWord};
+ghost use Rattle.x86_64_mappers.specs.Reached.{Reaches};
 ghost use Rattle.x86_64_tables.specs.PageTableFlags.{bits_of};
 
 pub mod change;
@@ -13,6 +14,7 @@ pub mod condition;
 pub mod find;
 pub mod leaf;
 pub mod map;
+pub mod path;
 pub mod translate;
 
 use x86_64_addr::index::PageTableIndex;

@@ -3,31 +3,37 @@ ghost use Rattle.std.specs.Prelude.{◌≡◌, ◌↔◌, ℕ, Bool, List, None}
 ghost use Rattle.x86_64_model.specs.Layout.{Valid, words, paths};
 ghost use Rattle.x86_64_model.specs.Memory.{identity_places, words_of};
 ghost use Rattle.x86_64_model.specs.Pool.{Fits};
-ghost use Rattle.x86_64_mappers.specs.Layouts.{direct};
+ghost use Rattle.x86_64_mappers.specs.Layouts.{direct_at};
 ghost use Rattle.x86_64_mappers.specs.Offsets.{offset_places, OffsetFits};
 ghost use Rattle.x86_64_mappers.specs.Windows.{WindowsShowTables};
 
-use x86_64_addr::addr::VirtAddr;
+use x86_64_addr::addr::VirtAddrIn;
+use x86_64_addr::level_count::LevelCount;
 use x86_64_tables::phys_memory::PhysMemory;
 
 /// In a memory that an offset fits, each frame has the table at the offset that it has by the identity mapping: the same
 /// hierarchies are valid, and the same pools fit them.
-#[tactic(auto, using(crate::proofs::OffsetTables::offset_words))]
-pub fn offset_has_the_tables_of_the_identity(memory: &PhysMemory, phys_offset: VirtAddr)
-    requires { OffsetFits memory.now phys_offset }
-    ensures tables { words_of memory.now (offset_places phys_offset) ≡ words_of memory.now identity_places }
-    ensures valid { let identity = direct identity_places in
-        let offset = direct (offset_places phys_offset) in
+#[tactic(auto, using(crate::proofs::Memory::OffsetTables::offset_words))]
+pub fn offset_has_the_tables_of_the_identity<L: LevelCount>(
+    memory: &PhysMemory,
+    phys_offset: VirtAddrIn<L>,
+)
+    requires { OffsetFits L.LEVELS memory.now phys_offset }
+    ensures tables { let places = offset_places L.LEVELS phys_offset in
+        words_of memory.now places ≡ words_of memory.now identity_places }
+    ensures valid { let identity = direct_at L.LEVELS identity_places in
+        let offset = direct_at L.LEVELS (offset_places L.LEVELS phys_offset) in
         (root : ℕ) → Valid (identity root) memory.now ↔ Valid (offset root) memory.now }
-    ensures fits { let identity = direct identity_places in let offset = direct (offset_places phys_offset) in
+    ensures fits { let identity = direct_at L.LEVELS identity_places in
+        let offset = direct_at L.LEVELS (offset_places L.LEVELS phys_offset) in
         (root : ℕ) (serves : ℕ → Bool) (pool : List ℕ) →
-        Fits 4 None (words (identity root) memory.now) root (paths (identity root) memory.now) serves pool
-        ↔ Fits 4 None (words (offset root) memory.now) root (paths (offset root) memory.now) serves pool }
+        Fits L.LEVELS None (words (identity root) memory.now) root (paths (identity root) memory.now) serves pool
+        ↔ Fits L.LEVELS None (words (offset root) memory.now) root (paths (offset root) memory.now) serves pool }
 {}
 
 /// Where an entry of the root names the root itself, the walk of a window arrives at the table that it is for, whatever all
 /// other words hold.
-#[tactic(auto, using(crate::proofs::Windows::windows_show_tables))]
+#[tactic(auto, using(crate::proofs::Window::Windows::windows_show_tables))]
 pub fn windows_show_their_tables()
     ensures { WindowsShowTables }
 {}

@@ -4,5 +4,6 @@
 mod access;
 pub mod laws;
 pub mod mapped_page_table;
+pub mod mapper;
 pub mod offset_page_table;
 pub mod recursive_page_table;

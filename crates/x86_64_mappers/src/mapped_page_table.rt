@@ -4,26 +4,22 @@ ghost use Rattle.x86_64_model.specs.Layout.{Valid as ValidIn};
 ghost use Rattle.x86_64_model.specs.Owned.{Valid};
 ghost use Rattle.x86_64_mappers.specs.Layouts.{direct_at, root_table, HasRoot};
 
-use crate::access::{TableAccess, change, clean_up, condition, map, translate};
+use crate::access::TableAccess;
 use bitflags::Flags;
 use std::alloc::{AllocError, Global};
-use std::marker::PhantomData;
+use std::marker::{Model, PhantomData};
 use x86_64_addr::addr::{VirtAddr, VirtAddr57};
 use x86_64_addr::index::PageTableIndex;
+use x86_64_addr::level_count::{FiveLevels, FourLevels, LevelCount};
 use x86_64_page::frame::PhysFrame;
 use x86_64_page::page::{PageSize, Size4KiB};
-use x86_64_tables::frame_alloc::{FrameAllocator, FrameDeallocator};
-use x86_64_tables::level_count::{FiveLevels, FourLevels, LevelCount};
-use x86_64_tables::mapper::{
-    CleanUp, CleanUp57, FlagUpdateError, MapToError, Mapper, Mapper57, PageTables, PageTables57,
-    PathCalls, Tables, Translate, Translate57, TranslateError, TranslateResult, UnmapError,
-};
+use x86_64_tables::mapper::{Tables, TablesIn};
 use x86_64_tables::page_table::{PageTable, PageTableFlags};
 use x86_64_tables::phys_memory::{
-    PageTableFrameMapping, PhysMemory, is_valid_hierarchy, is_valid_hierarchy_57,
+    FramePlace, PageTableFrameMapping, PhysMemory, is_valid_hierarchy, is_valid_hierarchy_57,
 };
 
-/// Maps pages in a hierarchy of so many levels of tables, which it finds in a memory by a frame mapping.
+/// Maps pages in a hierarchy of `L` levels of tables, which it finds in a memory by a frame mapping.
 ///
 /// It has the memory lent until it is dropped. Its hierarchy has no recursive index.
 pub struct Direct<'a, P: PageTableFrameMapping, L: LevelCount> {
@@ -34,11 +30,41 @@ pub struct Direct<'a, P: PageTableFrameMapping, L: LevelCount> {
     ghost has_root: { HasRoot (P.places mapping) root memory.now },
 }
 
-/// The mapper of four levels of tables.
-pub type MappedPageTable<'a, P> = Direct<'a, P, FourLevels>;
+/// The frame mapping that a caller gives.
+///
+/// It is a type of its own so that [`MappedPageTable::new`] and [`OffsetPageTable::new`] are apart, which take another argument each.
+///
+/// [`OffsetPageTable::new`]: crate::offset_page_table::OffsetPageTable
+#[derive(Drop)]
+pub struct GivenMapping<P> {
+    mapping: P,
+}
+
+impl<P> Model for GivenMapping<P> {
+    ghost Value = { P };
+
+    ghost view = { λ given. given.mapping };
+}
+
+impl<P: PageTableFrameMapping> PageTableFrameMapping for GivenMapping<P> {
+    ghost places = { P.places };
+
+    fn frame_to_pointer(&self, frame: PhysFrame<Size4KiB>) -> FramePlace {
+        self.mapping.frame_to_pointer(frame)
+    }
+
+    fn covers(&self, frame: PhysFrame<Size4KiB>) -> bool {
+        self.mapping.covers(frame)
+    }
+
+    ghost is_mapping = { P.is_mapping };
+}
+
+/// The mapper of a hierarchy of four levels of tables.
+pub type MappedPageTable<'a, P> = Direct<'a, GivenMapping<P>, FourLevels>;
 
 /// The mapper of five levels of tables.
-pub type MappedPageTable57<'a, P> = Direct<'a, P, FiveLevels>;
+pub type MappedPageTable57<'a, P> = Direct<'a, GivenMapping<P>, FiveLevels>;
 
 impl<'a, P: PageTableFrameMapping + Drop, L: LevelCount> Drop for Direct<'a, P, L> {
     fn drop(self)
@@ -58,7 +84,7 @@ impl<'a, P: PageTableFrameMapping, L: LevelCount> Direct<'a, P, L> {
     ///
     /// Condition: the hierarchy is valid. Test that by
     /// [`is_valid_hierarchy`](x86_64_tables::phys_memory::is_valid_hierarchy) with the same mapping.
-    pub fn new(memory: &'a mut PhysMemory, root: PhysFrame<Size4KiB>, mapping: P) -> Self
+    pub(crate) fn over(memory: &'a mut PhysMemory, root: PhysFrame<Size4KiB>, mapping: P) -> Self
         requires { ValidIn (direct_at L.LEVELS (P.places mapping) root) memory.old }
         ensures lent { (⟦<Self as Tables>⟧.hierarchy result).lent ≡ (memory.entry.ghost_name, mapping) }
         ensures memory { (⟦<Self as Tables>⟧.hierarchy result).memory ≡ memory.old }
@@ -73,12 +99,36 @@ impl<'a, P: PageTableFrameMapping, L: LevelCount> Direct<'a, P, L> {
         }
     }
 
+    /// Gives what finds frames.
+    pub(crate) fn mapping(&self) -> &P
+        ensures mapping { result.now ≡ (⟦<Self as Tables>⟧.hierarchy self.now).lent.1 }
+        ensures places { P.places result.now ≡ (⟦<Self as Tables>⟧.hierarchy self.now).layout.places }
+    {
+        &self.mapping
+    }
+}
+
+impl<'a, P: PageTableFrameMapping, L: LevelCount> Direct<'a, GivenMapping<P>, L> {
+    /// Makes a mapper of the hierarchy that starts at a root, in a memory where the mapping says where frames lie.
+    ///
+    /// Condition: the hierarchy is valid. Test that by
+    /// [`is_valid_hierarchy`](x86_64_tables::phys_memory::is_valid_hierarchy) with the same mapping.
+    pub fn new(memory: &'a mut PhysMemory, root: PhysFrame<Size4KiB>, mapping: P) -> Self
+        requires { ValidIn (direct_at L.LEVELS (P.places mapping) root) memory.old }
+        ensures lent { (⟦<Self as Tables>⟧.hierarchy result).lent ≡ (memory.entry.ghost_name, mapping) }
+        ensures memory { (⟦<Self as Tables>⟧.hierarchy result).memory ≡ memory.old }
+        ensures layout { let layout = (⟦<Self as Tables>⟧.hierarchy result).layout in
+            layout ≡ direct_at L.LEVELS (P.places mapping) root }
+    {
+        Direct::over(memory, root, GivenMapping { mapping })
+    }
+
     /// Gives the frame mapping that the mapper was made with.
     pub fn page_table_frame_mapping(&self) -> &P
         ensures mapping { result.now ≡ (⟦<Self as Tables>⟧.hierarchy self.now).lent.1 }
         ensures places { P.places result.now ≡ (⟦<Self as Tables>⟧.hierarchy self.now).layout.places }
     {
-        &self.mapping
+        &self.mapping.mapping
     }
 }
 
@@ -150,7 +200,7 @@ impl<'a, P: PageTableFrameMapping> Direct<'a, P, FiveLevels> {
 
 impl<'a, P: PageTableFrameMapping, L: LevelCount> Tables for Direct<'a, P, L> {
     ghost use Rattle.std.specs.Borrow.{GName};
-    ghost use Rattle.x86_64_mappers.specs.ImplLaws.{no_flags};
+    ghost use Rattle.x86_64_mappers.specs.private.ImplLaws.{no_flags};
     ghost use Rattle.x86_64_mappers.specs.Layouts.{owned_at};
 
     ghost Lent = { GName × P };
@@ -171,16 +221,10 @@ impl<'a, P: PageTableFrameMapping, L: LevelCount> Tables for Direct<'a, P, L> {
     ghost is_mapping = { λ mapper. P.is_mapping mapper.mapping };
 }
 
-impl<'a, P: PageTableFrameMapping> PageTables for Direct<'a, P, FourLevels> {
+impl<'a, P: PageTableFrameMapping, L: LevelCount> TablesIn<L> for Direct<'a, P, L> {
     ghost use Rattle.std.proofs.Common.{refl};
 
-    ghost four_levels = { λ _. refl };
-}
-
-impl<'a, P: PageTableFrameMapping> PageTables57 for Direct<'a, P, FiveLevels> {
-    ghost use Rattle.std.proofs.Common.{refl};
-
-    ghost five_levels = { λ _. refl };
+    ghost level_count = { λ _. refl };
 }
 
 impl<'a, P: PageTableFrameMapping, L: LevelCount> TableAccess for Direct<'a, P, L> {
@@ -221,94 +265,3 @@ impl<'a, P: PageTableFrameMapping, L: LevelCount> TableAccess for Direct<'a, P, 
 
     ghost keeps_lent = { λ mapper frame table. refl };
 }
-
-impl<'a, P: PageTableFrameMapping> Translate for Direct<'a, P, FourLevels> {
-    fn translate(&self, addr: VirtAddr) -> TranslateResult {
-        translate::translate(self, addr)
-    }
-}
-
-impl<'a, P: PageTableFrameMapping> Translate57 for Direct<'a, P, FiveLevels> {
-    fn translate(&self, addr: VirtAddr57) -> TranslateResult {
-        translate::translate_57(self, addr)
-    }
-}
-
-impl<'a, P: PageTableFrameMapping, L: LevelCount> PathCalls for Direct<'a, P, L> {
-    fn map_path<S: PageSize, A: FrameAllocator<Size4KiB>>(
-        &mut self,
-        path: &[PageTableIndex],
-        frame: PhysFrame<S>,
-        flags: PageTableFlags,
-        parent_flags: PageTableFlags,
-        frame_allocator: &mut A,
-    ) -> Result<(), MapToError<S>> {
-        map::map_path(self, path, frame, flags, parent_flags, frame_allocator)
-    }
-
-    fn path_allowed<S: PageSize>(
-        &self,
-        path: &[PageTableIndex],
-        flags: PageTableFlags,
-        parent_flags: PageTableFlags,
-    ) -> bool {
-        condition::path_allowed::<S, _>(self, path, flags, parent_flags)
-    }
-
-    fn unmap_path<S: PageSize>(
-        &mut self,
-        path: &[PageTableIndex],
-    ) -> Result<PhysFrame<S>, UnmapError> {
-        change::unmap_path(self, path)
-    }
-
-    fn update_path<S: PageSize>(
-        &mut self,
-        path: &[PageTableIndex],
-        flags: PageTableFlags,
-    ) -> Result<(), FlagUpdateError> {
-        change::update_path::<S, _>(self, path, flags)
-    }
-
-    fn set_table_flags<S: PageSize>(
-        &mut self,
-        path: &[PageTableIndex],
-        level: u64,
-        flags: PageTableFlags,
-    ) -> Result<(), FlagUpdateError> {
-        change::set_table_flags::<S, _>(self, path, level, flags)
-    }
-
-    fn table_flags_allowed<S: PageSize>(
-        &self,
-        path: &[PageTableIndex],
-        level: u64,
-        flags: PageTableFlags,
-    ) -> bool {
-        condition::table_flags_allowed::<S, _>(self, path, level, flags)
-    }
-
-    fn translate_path<S: PageSize>(
-        &self,
-        path: &[PageTableIndex],
-    ) -> Result<PhysFrame<S>, TranslateError> {
-        translate::translate_path(self, path)
-    }
-
-    fn clean_up_paths<D: FrameDeallocator<Size4KiB>>(
-        &mut self,
-        first: &[PageTableIndex],
-        last: &[PageTableIndex],
-        frame_deallocator: &mut D,
-    ) {
-        clean_up::clean_up_paths(self, first, last, frame_deallocator)
-    }
-}
-
-impl<'a, P: PageTableFrameMapping, S: PageSize> Mapper<S> for Direct<'a, P, FourLevels> {}
-
-impl<'a, P: PageTableFrameMapping, S: PageSize> Mapper57<S> for Direct<'a, P, FiveLevels> {}
-
-impl<'a, P: PageTableFrameMapping> CleanUp for Direct<'a, P, FourLevels> {}
-
-impl<'a, P: PageTableFrameMapping> CleanUp57 for Direct<'a, P, FiveLevels> {}

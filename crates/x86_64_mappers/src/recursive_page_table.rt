@@ -14,7 +14,7 @@ mod made;
 mod walked_tables;
 mod windows;
 
-use crate::access::{TableAccess, change, clean_up, condition, map, translate};
+use crate::access::TableAccess;
 use bitflags::Flags;
 use made::{made, made_57};
 use std::fmt::{Display, Formatter, Result as FmtResult, Write};
@@ -22,18 +22,15 @@ use std::marker::PhantomData;
 pub use walked_tables::WalkedTables;
 use windows::{window, window_position};
 pub use windows::{
-    p1_window, p1_window_57, p2_window, p2_window_57, p3_window, p3_window_57, p4_window_57,
+    p1_window, p1_window as p1_window_57, p2_window, p2_window as p2_window_57, p3_window,
+    p3_window as p3_window_57, p4_window_57,
 };
-use x86_64_addr::addr::{VirtAddr, VirtAddr57};
+use x86_64_addr::addr::{VirtAddr, VirtAddr57, VirtAddrIn};
 use x86_64_addr::index::PageTableIndex;
+use x86_64_addr::level_count::{FiveLevels, FourLevels, LevelCount};
 use x86_64_page::frame::PhysFrame;
 use x86_64_page::page::{PageSize, Size4KiB};
-use x86_64_tables::frame_alloc::{FrameAllocator, FrameDeallocator};
-use x86_64_tables::level_count::{FiveLevels, FourLevels, LevelCount};
-use x86_64_tables::mapper::{
-    CleanUp, CleanUp57, FlagUpdateError, MapToError, Mapper, Mapper57, PageTables, PageTables57,
-    PathCalls, Tables, Translate, Translate57, TranslateError, TranslateResult, UnmapError,
-};
+use x86_64_tables::mapper::{Tables, TablesIn};
 use x86_64_tables::page_table::{PageTable, PageTableFlags};
 use x86_64_tables::phys_memory::{ActiveMemory, ActiveMemory57};
 
@@ -55,12 +52,12 @@ impl Display for InvalidPageTable {
     }
 }
 
-/// Maps pages in a hierarchy of so many levels of tables. It is handed no memory: each table is reached at its window, by a walk
+/// Maps pages in a hierarchy of `L` levels of tables. It is handed no memory: each table is reached at its window, by a walk
 /// through the tables as they are at that moment, which goes through the root's entry for itself.
 ///
 /// A new table's entry gets `PRESENT` and `WRITABLE` beside the parent flags, since the table is reached only once it is named.
-/// Of an address that begins with the recursive index, [`translate`](Translate::translate) and
-/// [`translate_page`](Mapper::translate_page) tell what the rest of its path says, as the processor does.
+/// Of an address that begins with the recursive index, [`translate`](crate::mapper::Translate::translate) and
+/// [`translate_page`](crate::mapper::Mapper::translate_page) tell what the rest of its path says, as the processor does.
 #[derive(Drop)]
 pub struct Recursive<A, L> {
     active: A,
@@ -111,7 +108,7 @@ impl<'a> Recursive<ActiveMemory<'a>, FourLevels> {
             IfErr result (λ why. why_not ≡ Some why) }
     {
         let refusal = Self::refusal(&active, table, virt);
-        let index = FourLevels::root_index(virt);
+        let index = virt.root_index();
         let self_flags = Self::flags_unless(refusal, &active, index);
         let why = refusal.unwrap_or(InvalidPageTable::NotActive);
         made(active, refusal.is_none(), index, self_flags, why)
@@ -155,7 +152,7 @@ impl<'a> Recursive<ActiveMemory57<'a>, FiveLevels> {
             IfErr result (λ why. why_not ≡ Some why) }
     {
         let refusal = Self::refusal(&active, table, virt);
-        let index = FiveLevels::root_index(virt);
+        let index = virt.root_index();
         let self_flags = Self::flags_unless(refusal, &active, index);
         let why = refusal.unwrap_or(InvalidPageTable::NotActive);
         made_57(active, refusal.is_none(), index, self_flags, why)
@@ -171,15 +168,15 @@ impl<A: WalkedTables<L>, L: LevelCount> Recursive<A, L> {
     pub fn refusal(
         active: &A,
         table: PhysFrame<Size4KiB>,
-        virt: L::Addr,
+        virt: VirtAddrIn<L>,
     ) -> Option<InvalidPageTable>
         ensures { let memory = A.memory active.now in
-            result ≡ refuses_at L.LEVELS memory (A.root active.now) table (L.position virt) }
+            result ≡ refuses_at L.LEVELS memory (A.root active.now) table virt }
     {
         if !is_root_window::<L>(virt) {
             return Some(InvalidPageTable::NotRecursive);
         }
-        let index = L::root_index(virt);
+        let index = virt.root_index();
         if table != active.cr3() || !active.self_entry(index) {
             return Some(InvalidPageTable::NotActive);
         }
@@ -223,6 +220,29 @@ impl<A: WalkedTables<L>, L: LevelCount> Recursive<A, L> {
     }
 }
 
+impl<A: WalkedTables<L>, L: LevelCount> Recursive<A, L> {
+    ghost use Rattle.x86_64_mappers.specs.Recursive.{LendsRootWindowAt};
+
+    /// Returns the root's table, through its window.
+    fn root_window(&self) -> &PageTable
+        requires { Valid (⟦<Self as Tables>⟧.hierarchy self.now) }
+        ensures { root_table (⟦<Self as Tables>⟧.hierarchy self.now) ≡ Some result.now }
+    {
+        self.table(&[], self.active.cr3())
+    }
+
+    /// Lends the root's table to be changed, through its window.
+    fn root_window_mut(&mut self) -> &mut PageTable
+        requires { Valid (⟦<Self as Tables>⟧.hierarchy self.old) }
+        ensures* lends { let root = A.root self.old.active in
+            sem 𝓛 (LendsRootWindowAt A.row L.row A.with_table self.entry root result) }
+        ensures value { root_table (⟦<Self as Tables>⟧.hierarchy self.old) ≡ Some result.now }
+    {
+        let root = self.active.cr3();
+        self.table_mut(&[], root)
+    }
+}
+
 impl<A: WalkedTables<FourLevels>> Recursive<A, FourLevels> {
     ghost use Rattle.x86_64_mappers.specs.Recursive.{LendsRootWindow};
 
@@ -233,7 +253,7 @@ impl<A: WalkedTables<FourLevels>> Recursive<A, FourLevels> {
         requires { Valid (⟦<Self as Tables>⟧.hierarchy self.now) }
         ensures { root_table (⟦<Self as Tables>⟧.hierarchy self.now) ≡ Some result.now }
     {
-        self.table(&[], self.active.cr3())
+        self.root_window()
     }
 
     /// Lends the table of level four to be changed, through its window.
@@ -245,8 +265,7 @@ impl<A: WalkedTables<FourLevels>> Recursive<A, FourLevels> {
             sem 𝓛 (LendsRootWindow A.row A.with_table self.entry root result) }
         ensures value { root_table (⟦<Self as Tables>⟧.hierarchy self.old) ≡ Some result.now }
     {
-        let root = self.active.cr3();
-        self.table_mut(&[], root)
+        self.root_window_mut()
     }
 }
 
@@ -260,7 +279,7 @@ impl<A: WalkedTables<FiveLevels>> Recursive<A, FiveLevels> {
         requires { Valid (⟦<Self as Tables>⟧.hierarchy self.now) }
         ensures { root_table (⟦<Self as Tables>⟧.hierarchy self.now) ≡ Some result.now }
     {
-        self.table(&[], self.active.cr3())
+        self.root_window()
     }
 
     /// Lends the table of level five to be changed, through its window.
@@ -272,16 +291,15 @@ impl<A: WalkedTables<FiveLevels>> Recursive<A, FiveLevels> {
             sem 𝓛 (LendsRootWindow57 A.row A.with_table self.entry root result) }
         ensures value { root_table (⟦<Self as Tables>⟧.hierarchy self.old) ≡ Some result.now }
     {
-        let root = self.active.cr3();
-        self.table_mut(&[], root)
+        self.root_window_mut()
     }
 }
 
 /// Tells whether an address is the root's window: its indices are one, and its page offset is 0.
-fn is_root_window<L: LevelCount>(addr: L::Addr) -> bool
-    ensures { result ≡ is_root_window L.LEVELS (L.position addr) }
+fn is_root_window<L: LevelCount>(addr: VirtAddrIn<L>) -> bool
+    ensures { result ≡ is_root_window L.LEVELS addr }
 {
-    L::position_of(addr) == window_position::<L>(L::root_index(addr), &[])
+    addr.position() == window_position::<L>(addr.root_index(), &[])
 }
 
 /// Gives the flags of the root's entry for itself.
@@ -294,12 +312,12 @@ fn self_flags<A: WalkedTables<L>, L: LevelCount>(
     ensures { let words = words_of (A.memory active.now) identity_places in let root = A.root active.now in
         bit_or root (bits_of result) ≡ word words root index }
 {
-    let table = active.table(window::<L>(index, &[])).unwrap();
+    let table = active.table(window::<L>(index, &[]).position()).unwrap();
     table[usize::from(index)].flags()
 }
 
 impl<A: WalkedTables<L>, L: LevelCount> Tables for Recursive<A, L> {
-    ghost use Rattle.x86_64_mappers.specs.ImplLaws.{present_writable, numbers_are_mapping};
+    ghost use Rattle.x86_64_mappers.specs.private.ImplLaws.{present_writable, numbers_are_mapping};
     ghost use Rattle.x86_64_mappers.specs.Recursive.{owned_by, window_with};
 
     ghost Lent = { GName };
@@ -320,16 +338,10 @@ impl<A: WalkedTables<L>, L: LevelCount> Tables for Recursive<A, L> {
     ghost is_mapping = { λ _. numbers_are_mapping };
 }
 
-impl<A: WalkedTables<FourLevels>> PageTables for Recursive<A, FourLevels> {
+impl<A: WalkedTables<L>, L: LevelCount> TablesIn<L> for Recursive<A, L> {
     ghost use Rattle.std.proofs.Common.{refl};
 
-    ghost four_levels = { λ _. refl };
-}
-
-impl<A: WalkedTables<FiveLevels>> PageTables57 for Recursive<A, FiveLevels> {
-    ghost use Rattle.std.proofs.Common.{refl};
-
-    ghost five_levels = { λ _. refl };
+    ghost level_count = { λ _. refl };
 }
 
 impl<A: WalkedTables<L>, L: LevelCount> TableAccess for Recursive<A, L> {
@@ -347,7 +359,9 @@ impl<A: WalkedTables<L>, L: LevelCount> TableAccess for Recursive<A, L> {
     }
 
     fn table(&self, path: &[PageTableIndex], _frame: PhysFrame<Size4KiB>) -> &PageTable {
-        self.active.table(window::<L>(self.index, path)).unwrap()
+        self.active
+            .table(window::<L>(self.index, path).position())
+            .unwrap()
     }
 
     fn table_mut(
@@ -356,7 +370,8 @@ impl<A: WalkedTables<L>, L: LevelCount> TableAccess for Recursive<A, L> {
         _frame: PhysFrame<Size4KiB>,
     ) -> &mut PageTable {
         let addr = window::<L>(self.index, path);
-        self.active.table_mut(addr).unwrap()
+        let position = addr.position();
+        self.active.table_mut(position).unwrap()
     }
 
     ghost puts = { λ mapper frame table. A.puts mapper.active frame table };
@@ -366,94 +381,3 @@ impl<A: WalkedTables<L>, L: LevelCount> TableAccess for Recursive<A, L> {
 
     ghost keeps_lent = { λ mapper frame table. A.keeps_lent mapper.active frame table };
 }
-
-impl<A: WalkedTables<FourLevels>> Translate for Recursive<A, FourLevels> {
-    fn translate(&self, addr: VirtAddr) -> TranslateResult {
-        translate::translate(self, addr)
-    }
-}
-
-impl<A: WalkedTables<FiveLevels>> Translate57 for Recursive<A, FiveLevels> {
-    fn translate(&self, addr: VirtAddr57) -> TranslateResult {
-        translate::translate_57(self, addr)
-    }
-}
-
-impl<A: WalkedTables<L>, L: LevelCount> PathCalls for Recursive<A, L> {
-    fn map_path<S: PageSize, F: FrameAllocator<Size4KiB>>(
-        &mut self,
-        path: &[PageTableIndex],
-        frame: PhysFrame<S>,
-        flags: PageTableFlags,
-        parent_flags: PageTableFlags,
-        frame_allocator: &mut F,
-    ) -> Result<(), MapToError<S>> {
-        map::map_path(self, path, frame, flags, parent_flags, frame_allocator)
-    }
-
-    fn path_allowed<S: PageSize>(
-        &self,
-        path: &[PageTableIndex],
-        flags: PageTableFlags,
-        parent_flags: PageTableFlags,
-    ) -> bool {
-        condition::path_allowed::<S, _>(self, path, flags, parent_flags)
-    }
-
-    fn unmap_path<S: PageSize>(
-        &mut self,
-        path: &[PageTableIndex],
-    ) -> Result<PhysFrame<S>, UnmapError> {
-        change::unmap_path(self, path)
-    }
-
-    fn update_path<S: PageSize>(
-        &mut self,
-        path: &[PageTableIndex],
-        flags: PageTableFlags,
-    ) -> Result<(), FlagUpdateError> {
-        change::update_path::<S, _>(self, path, flags)
-    }
-
-    fn set_table_flags<S: PageSize>(
-        &mut self,
-        path: &[PageTableIndex],
-        level: u64,
-        flags: PageTableFlags,
-    ) -> Result<(), FlagUpdateError> {
-        change::set_table_flags::<S, _>(self, path, level, flags)
-    }
-
-    fn table_flags_allowed<S: PageSize>(
-        &self,
-        path: &[PageTableIndex],
-        level: u64,
-        flags: PageTableFlags,
-    ) -> bool {
-        condition::table_flags_allowed::<S, _>(self, path, level, flags)
-    }
-
-    fn translate_path<S: PageSize>(
-        &self,
-        path: &[PageTableIndex],
-    ) -> Result<PhysFrame<S>, TranslateError> {
-        translate::translate_path(self, path)
-    }
-
-    fn clean_up_paths<D: FrameDeallocator<Size4KiB>>(
-        &mut self,
-        first: &[PageTableIndex],
-        last: &[PageTableIndex],
-        frame_deallocator: &mut D,
-    ) {
-        clean_up::clean_up_paths(self, first, last, frame_deallocator)
-    }
-}
-
-impl<A: WalkedTables<FourLevels>, S: PageSize> Mapper<S> for Recursive<A, FourLevels> {}
-
-impl<A: WalkedTables<FiveLevels>, S: PageSize> Mapper57<S> for Recursive<A, FiveLevels> {}
-
-impl<A: WalkedTables<FourLevels>> CleanUp for Recursive<A, FourLevels> {}
-
-impl<A: WalkedTables<FiveLevels>> CleanUp57 for Recursive<A, FiveLevels> {}

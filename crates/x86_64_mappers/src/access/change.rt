@@ -4,10 +4,10 @@ ghost use Rattle.std.specs.Fn.{FnOnceReturnsAtMut};
 ghost use Rattle.x86_64_model.specs.Call.{Unmap, UpdateFlags, SetFlags};
 ghost use Rattle.x86_64_model.specs.Owned.{Valid, May, Does, named};
 ghost use Rattle.x86_64_model.specs.Refusal.{refusal_of};
-ghost use Rattle.x86_64_mappers.specs.EntryCalls.{IsChangedAt, answer_said, word_said};
-ghost use Rattle.x86_64_mappers.specs.PageCalls.{unmap_says, update_says};
-ghost use Rattle.x86_64_mappers.specs.Results.{walk_result};
-ghost use Rattle.x86_64_mappers.specs.TableFlags.{flags_say};
+ghost use Rattle.x86_64_mappers.specs.private.EntryCalls.{IsChangedAt, answer_said, word_said};
+ghost use Rattle.x86_64_mappers.specs.private.PageCalls.{unmap_says, update_says};
+ghost use Rattle.x86_64_mappers.specs.private.Results.{walk_result};
+ghost use Rattle.x86_64_mappers.specs.private.TableFlags.{flags_say};
 ghost use Rattle.x86_64_tables.specs.MapperAnswers.{frame_answer, flags_answer, flags_refusal};
 ghost use Rattle.x86_64_tables.specs.PageTableFlags.{bits_of};
 

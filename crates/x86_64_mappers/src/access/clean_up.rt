@@ -1,21 +1,24 @@
 //! Clean up: tables that are empty are taken away, those below a table first.
-ghost use Rattle.std.specs.Prelude.{◌≡◌, ◌<◌, ◌≤◌, ◌+◌, ◌*◌, ◌++◌, ◌∷◌, [], true, false, cond, length, take, get_or};
+ghost use Rattle.std.specs.Prelude.{◌≡◌, ◌<◌, ◌≤◌, ◌+◌, ◌-◌, ◌*◌, ◌++◌, ◌∷◌, [], true, false, cond, length, take, get_or};
 ghost use Rattle.x86_64_model.proofs.Lemmas.CleanUps.Below.{cleaned_below, back_below};
 ghost use Rattle.x86_64_model.specs.CleanUp.{meets};
 ghost use Rattle.x86_64_model.specs.Owned.{MayCleanUp, CleansUp, paths};
 ghost use Rattle.x86_64_model.specs.Path.{AllBelow, begins, span_start};
+ghost use Rattle.x86_64_model.specs.Position.{position_count};
 ghost use Rattle.x86_64_model.specs.Window.{begins_with};
-ghost use Rattle.x86_64_mappers.specs.CleaningUp.{span_end, IsPageRange, IsVisited, IsCleaned, IsCleanedAt};
+ghost use Rattle.x86_64_mappers.specs.private.CleaningUp.{span_end, IsPageRange, IsVisited, IsCleaned, IsCleanedAt};
 
 use super::find::next_table;
+use super::path::{MOST_LEVELS, path_of_address};
 use super::{TableAccess, entry_mut};
+use x86_64_addr::addr::VirtAddrIn;
 use x86_64_addr::index::PageTableIndex;
+use x86_64_addr::level_count::LevelCount;
 use x86_64_page::frame::PhysFrame;
-use x86_64_page::page::Size4KiB;
+use x86_64_page::page::{PageIn, Size4KiB};
+use x86_64_page::range::BlockRangeInclusive;
 use x86_64_tables::frame_alloc::FrameDeallocator;
-
-/// How many indices the longest path has: one for each level of tables that a processor knows.
-pub const MOST_LEVELS: usize = 5;
+use x86_64_tables::mapper::TablesIn;
 
 /// Holds the paths of the first and of the last page of a range, which have an index for each level of tables.
 #[derive(Drop)]
@@ -24,8 +27,35 @@ struct PathRange<'a> {
     last: &'a [PageTableIndex],
 }
 
+/// Returns the range of all pages, in both halves of the address space.
+pub fn all_pages<L: LevelCount>() -> BlockRangeInclusive<PageIn<Size4KiB, L>>
+    ensures first { result.start ≡ 0 }
+    ensures last { result.end ≡ position_count L.LEVELS - 0x1000 }
+{
+    let last = PageIn::containing_address(VirtAddrIn::new_truncate(u64::MAX));
+    PageIn::range_inclusive(PageIn::containing_address(VirtAddrIn::zero()), last)
+}
+
+/// Takes away the empty tables on the way to the pages of a range, and gives their frames back.
+pub fn clean_up_range<M: TableAccess + TablesIn<L>, L: LevelCount, D: FrameDeallocator<Size4KiB>>(
+    mapper: &mut M,
+    range: BlockRangeInclusive<PageIn<Size4KiB, L>>,
+    frame_deallocator: &mut D,
+)
+    requires { let serves = D.serves frame_deallocator.old in
+        MayCleanUp (M.hierarchy mapper.old) serves (D.held frame_deallocator.old) }
+    ensures cleans { let held = D.held frame_deallocator.old in let after = M.hierarchy mapper.new in
+        let rest = D.held frame_deallocator.new in let high = range.end + 0xfff in
+        CleansUp (M.hierarchy mapper.old) D.put held range.start high after rest }
+    ensures serves { D.serves frame_deallocator.new ≡ D.serves frame_deallocator.old }
+{
+    let first = path_of_address(mapper, range.start.start_address());
+    let last = path_of_address(mapper, range.end.start_address());
+    clean_up_paths(mapper, first.indices(), last.indices(), frame_deallocator);
+}
+
 /// Takes away the empty tables on the way to the pages from one path to another, and gives their frames back.
-pub fn clean_up_paths<M: TableAccess, D: FrameDeallocator<Size4KiB>>(
+fn clean_up_paths<M: TableAccess, D: FrameDeallocator<Size4KiB>>(
     mapper: &mut M,
     first: &[PageTableIndex],
     last: &[PageTableIndex],

@@ -3,9 +3,9 @@ ghost use Rattle.std.specs.Prelude.{◌≡◌, ◌<◌, ◌≤◌, ◌+◌, ◌=
 ghost use Rattle.x86_64_model.specs.Call.{SetFlags};
 ghost use Rattle.x86_64_model.specs.Owned.{Valid, allows, allows_map, paths, read_entry};
 ghost use Rattle.x86_64_model.specs.Window.{begins_with};
-ghost use Rattle.x86_64_mappers.specs.MapConditions.{flags_allowed, are_present, meets_none_absent};
-ghost use Rattle.x86_64_mappers.specs.Results.{walk_result};
-ghost use Rattle.x86_64_mappers.specs.TableFlags.{keeps_huge};
+ghost use Rattle.x86_64_mappers.specs.private.MapConditions.{flags_allowed, are_present, meets_none_absent};
+ghost use Rattle.x86_64_mappers.specs.private.Results.{walk_result};
+ghost use Rattle.x86_64_mappers.specs.private.TableFlags.{keeps_huge};
 ghost use Rattle.x86_64_tables.specs.PageTableFlags.{bits_of};
 
 use super::find::{PageTableWalkError, find_table, path_to_level};

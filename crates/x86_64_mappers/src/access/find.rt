@@ -2,9 +2,10 @@
 ghost use Rattle.std.specs.Prelude.{◌≡◌, ◌<◌, ◌+◌, ◌-◌, length, take, IfOk};
 ghost use Rattle.x86_64_model.specs.Memory.{word};
 ghost use Rattle.x86_64_model.specs.Owned.{Valid, words};
-ghost use Rattle.x86_64_mappers.specs.OwnedSteps.{Reaches, Finds};
-ghost use Rattle.x86_64_mappers.specs.Results.{walk_refusal, walk_result};
-ghost use Rattle.x86_64_mappers.specs.Stops.{table_below};
+ghost use Rattle.x86_64_mappers.specs.private.OwnedSteps.{Finds};
+ghost use Rattle.x86_64_mappers.specs.Reached.{Reaches};
+ghost use Rattle.x86_64_mappers.specs.private.Results.{walk_refusal, walk_result};
+ghost use Rattle.x86_64_mappers.specs.private.Stops.{table_below};
 ghost use Rattle.x86_64_tables.specs.MapperAnswers.{unmap_refusal, update_refusal, translate_refusal};
 
 use super::{TableAccess, entry};

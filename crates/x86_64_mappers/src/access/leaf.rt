@@ -1,7 +1,7 @@
 //! What the entries of pages say.
 ghost use Rattle.std.specs.Prelude.{◌≡◌, ◌==◌, if◌then◌else◌, bit_or};
-ghost use Rattle.x86_64_mappers.specs.LeafFrames.{leaf_frame, maps_page, named_frame};
-ghost use Rattle.x86_64_mappers.specs.Results.{translate_result, unmap_result};
+ghost use Rattle.x86_64_mappers.specs.private.LeafFrames.{leaf_frame, maps_page, named_frame};
+ghost use Rattle.x86_64_mappers.specs.private.Results.{translate_result, unmap_result};
 ghost use Rattle.x86_64_tables.specs.PageTableFlags.{bits_of};
 
 use bitflags::Flags;

@@ -5,11 +5,12 @@ ghost use Rattle.x86_64_model.specs.Entry.{address, huge, IsParentFlags};
 ghost use Rattle.x86_64_model.specs.Owned.{SupplyFits, MayMap, DoesMap, paths};
 ghost use Rattle.x86_64_model.specs.Refusal.{ParentEntryHugePage};
 ghost use Rattle.x86_64_model.specs.Window.{begins_with};
-ghost use Rattle.x86_64_mappers.specs.Linked.{MayLink};
-ghost use Rattle.x86_64_mappers.specs.OpenWay.{WillBePresent, IsOpenWay};
-ghost use Rattle.x86_64_mappers.specs.OwnedSteps.{Reaches, LinksTable, MakesTable, MakesTables, SetsLeaf};
-ghost use Rattle.x86_64_mappers.specs.PageCalls.{page_word};
-ghost use Rattle.x86_64_mappers.specs.Results.{create_refusal, create_result};
+ghost use Rattle.x86_64_mappers.specs.private.Linked.{MayLink};
+ghost use Rattle.x86_64_mappers.specs.private.OpenWay.{WillBePresent, IsOpenWay};
+ghost use Rattle.x86_64_mappers.specs.private.OwnedSteps.{LinksTable, MakesTable, MakesTables, SetsLeaf};
+ghost use Rattle.x86_64_mappers.specs.Reached.{Reaches};
+ghost use Rattle.x86_64_mappers.specs.private.PageCalls.{page_word};
+ghost use Rattle.x86_64_mappers.specs.private.Results.{create_refusal, create_result};
 ghost use Rattle.x86_64_tables.specs.MapperAnswers.{map_answer};
 ghost use Rattle.x86_64_tables.specs.PageTableFlags.{bits_of};
 

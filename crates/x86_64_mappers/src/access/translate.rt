@@ -1,24 +1,23 @@
 //! Translations of pages and of addresses.
-ghost use Rattle.std.specs.Prelude.{◌≡◌, ◌≤◌, ◌+◌, ◌%◌, length, Some, option_map};
+ghost use Rattle.std.specs.Prelude.{◌≡◌, ◌≤◌, ◌+◌, ◌%◌, length, Some, option_and_then, option_map};
 ghost use Rattle.x86_64_model.specs.Entry.{flags};
 ghost use Rattle.x86_64_model.specs.Owned.{Valid, page_translation, translation, walk};
 ghost use Rattle.x86_64_model.specs.PageWalk.{page_start};
 ghost use Rattle.x86_64_model.specs.Position.{span, page_path};
-ghost use Rattle.x86_64_model.specs.Translation.{Mapped};
+ghost use Rattle.x86_64_model.specs.Translation.{Mapped, address_of};
 ghost use Rattle.x86_64_tables.specs.MapperAnswers.{translate_answer};
-ghost use Rattle.x86_64_tables.specs.Translations.{translation_of, reaches, frame_start, frame_size};
+ghost use Rattle.x86_64_tables.specs.Translations.{translation_of, reaches, frame_start, frame_size, StaysBelow};
 
 use super::find::find_table;
 use super::leaf::named_frame;
+use super::path::path_of_address;
 use super::{TableAccess, entry};
-use x86_64_addr::addr::{VirtAddr, VirtAddr57};
+use x86_64_addr::addr::{PhysAddr, VirtAddrIn};
 use x86_64_addr::index::PageTableIndex;
+use x86_64_addr::level_count::LevelCount;
 use x86_64_page::frame::PhysFrame;
 use x86_64_page::page::PageSize;
-use x86_64_tables::level_count::{FiveLevels, FourLevels, LevelCount};
-use x86_64_tables::mapper::{
-    MappedFrame, PageTables, PageTables57, TranslateError, TranslateResult,
-};
+use x86_64_tables::mapper::{MappedFrame, TablesIn, TranslateError, TranslateResult};
 use x86_64_tables::page_table::{FrameError, PageTableEntry};
 
 /// Gives the frame of the page of a path.
@@ -41,56 +40,41 @@ pub fn translate_path<S: PageSize, M: TableAccess>(
 }
 
 /// Tells where an address is mapped to.
-pub fn translate<M: TableAccess + PageTables>(mapper: &M, addr: VirtAddr) -> TranslateResult
+pub fn translate<M: TableAccess + TablesIn<L>, L: LevelCount>(
+    mapper: &M,
+    addr: VirtAddrIn<L>,
+) -> TranslateResult
     requires { Valid (M.hierarchy mapper.now) }
     ensures answer { translation_of result ≡ Some (translation (M.hierarchy mapper.now) addr) }
     ensures walk { let arrival = walk (M.hierarchy mapper.now) addr in
         reaches result ≡ option_map (λ walked. walked.address) arrival }
 {
-    translate_position(
-        mapper,
-        &address_indices(addr),
-        FourLevels::position_of(addr),
-    )
+    let path = path_of_address(mapper, addr);
+    translate_position(mapper, path.indices(), addr.position())
 }
 
-/// Tells where an address of 57 bits is mapped to.
-pub fn translate_57<M: TableAccess + PageTables57>(mapper: &M, addr: VirtAddr57) -> TranslateResult
+/// Returns the physical address that an address is mapped to, if it is mapped: the frame's start plus the offset.
+pub fn translate_addr<M: TableAccess + TablesIn<L>, L: LevelCount>(
+    mapper: &M,
+    addr: VirtAddrIn<L>,
+) -> Option<PhysAddr>
     requires { Valid (M.hierarchy mapper.now) }
-    ensures answer { translation_of result ≡ Some (translation (M.hierarchy mapper.now) addr) }
-    ensures walk { let arrival = walk (M.hierarchy mapper.now) addr in
-        reaches result ≡ option_map (λ walked. walked.address) arrival }
+    ensures { result ≡ address_of (translation (M.hierarchy mapper.now) addr) }
 {
-    translate_position(
-        mapper,
-        &address_indices_57(addr),
-        FiveLevels::position_of(addr),
-    )
+    physical_address(translate(mapper, addr))
 }
 
-/// Gives the indices of an address, from level four down to level one.
-fn address_indices(addr: VirtAddr) -> [PageTableIndex; 4]
-    ensures { result ≡ page_path 4 addr }
+/// Returns the physical address that a translation names, if it names one.
+fn physical_address(translation: TranslateResult) -> Option<PhysAddr>
+    requires { StaysBelow (translation_of translation) }
+    ensures { result ≡ option_and_then address_of (translation_of translation) }
 {
-    [
-        addr.p4_index(),
-        addr.p3_index(),
-        addr.p2_index(),
-        addr.p1_index(),
-    ]
-}
-
-/// Gives the indices of an address of 57 bits, from level five down to level one.
-fn address_indices_57(addr: VirtAddr57) -> [PageTableIndex; 5]
-    ensures { result ≡ page_path 5 addr }
-{
-    [
-        addr.p5_index(),
-        addr.p4_index(),
-        addr.p3_index(),
-        addr.p2_index(),
-        addr.p1_index(),
-    ]
+    match translation {
+        TranslateResult::Mapped { frame, offset, .. } => {
+            Some(PhysAddr::new(frame.start_address().as_u64() + offset))
+        }
+        TranslateResult::NotMapped | TranslateResult::InvalidFrameAddress(_) => None,
+    }
 }
 
 /// Tells where a position is mapped to, by its indices from the root's level down to level one, as the walk does.

@@ -3,37 +3,49 @@ ghost use Rattle.std.specs.Prelude.{◌≡◌, ◌↔◌, ◌+◌, ◌*◌, IsTr
 ghost use Rattle.x86_64_model.specs.Position.{raw, IsCanonical};
 ghost use Rattle.x86_64_mappers.specs.Offsets.{offset_places};
 
-use x86_64_addr::addr::VirtAddr;
+use std::marker::Model;
+use x86_64_addr::addr::VirtAddrIn;
+use x86_64_addr::level_count::LevelCount;
 use x86_64_page::frame::PhysFrame;
 use x86_64_page::page::{PageSize, Size4KiB};
 use x86_64_tables::phys_memory::{FramePlace, PageTableFrameMapping};
 
-/// Finds each 4KiB frame at the address that is an offset plus the frame's own. Frames where that isn't canonical aren't covered.
+/// Finds each 4KiB frame at the address that is an offset plus the frame's own. Frames are covered if that sum is canonical.
 #[derive(Clone, Copy)]
-pub struct PhysOffset {
-    offset: VirtAddr,
+pub struct PhysOffset<L: LevelCount> {
+    offset: VirtAddrIn<L>,
 }
 
-impl PhysOffset {
+impl<L: LevelCount> Model for PhysOffset<L> {
+    ghost use Rattle.std.specs.Prelude.{ℕ};
+
+    ghost Value = { ℕ };
+
+    ghost view = { λ mapping. mapping.offset };
+
+    ghost inverse = { λ offset. record { offset = offset } };
+}
+
+impl<L: LevelCount> PhysOffset<L> {
     /// Makes the mapping of a memory that stands at an offset.
-    pub fn new(offset: VirtAddr) -> PhysOffset
-        ensures { result.offset ≡ offset }
+    pub fn new(offset: VirtAddrIn<L>) -> PhysOffset<L>
+        ensures { result ≡ offset }
     {
         PhysOffset { offset }
     }
 
     /// Gives the offset.
-    pub fn offset(&self) -> VirtAddr
-        ensures { result ≡ self.now.offset }
+    pub fn offset(&self) -> VirtAddrIn<L>
+        ensures { result ≡ self.now }
     {
         self.offset
     }
 }
 
-impl PageTableFrameMapping for PhysOffset {
-    ghost use Rattle.x86_64_mappers.specs.ImplLaws.{offset_is_mapping};
+impl<L: LevelCount> PageTableFrameMapping for PhysOffset<L> {
+    ghost use Rattle.x86_64_mappers.specs.private.ImplLaws.{offset_is_mapping};
 
-    ghost places = { λ mapping. offset_places mapping.offset };
+    ghost places = { offset_places L.LEVELS };
 
     fn frame_to_pointer(&self, frame: PhysFrame<Size4KiB>) -> FramePlace {
         let address = self.offset + frame.start_address().as_u64();
@@ -44,22 +56,22 @@ impl PageTableFrameMapping for PhysOffset {
         reaches(self.offset, frame.start_address().as_u64())
     }
 
-    ghost is_mapping = { λ mapping. offset_is_mapping mapping.offset };
+    ghost is_mapping = { offset_is_mapping L.LEVELS };
 }
 
 /// Tells whether the address at an offset of the frame that starts at a number is canonical.
-pub fn reaches(phys_offset: VirtAddr, start: u64) -> bool
-    ensures { IsTrue result ↔ IsCanonical 4 (raw 4 phys_offset + start) }
+pub fn reaches<L: LevelCount>(phys_offset: VirtAddrIn<L>, start: u64) -> bool
+    ensures { IsTrue result ↔ IsCanonical L.LEVELS (raw L.LEVELS phys_offset + start) }
 {
     match phys_offset.as_u64().checked_add(start) {
-        Some(address) => VirtAddr::try_new(address).is_ok(),
+        Some(address) => VirtAddrIn::<L>::checked_new(address).is_some(),
         None => false,
     }
 }
 
 /// Tells whether the address at an offset of the frame of a place is canonical.
-pub fn reaches_place(phys_offset: VirtAddr, place: FramePlace) -> bool
-    ensures { IsTrue result ↔ IsCanonical 4 (raw 4 phys_offset + place * 4096) }
+pub fn reaches_place<L: LevelCount>(phys_offset: VirtAddrIn<L>, place: FramePlace) -> bool
+    ensures { IsTrue result ↔ IsCanonical L.LEVELS (raw L.LEVELS phys_offset + place * 4096) }
 {
     match place.number().checked_mul(Size4KiB::SIZE) {
         Some(start) => reaches(phys_offset, start),

@@ -6,7 +6,7 @@ ghost use Rattle.x86_64_mappers.specs.RefusedMappers.{made_of, wrapped_of, Rests
 use super::{InvalidPageTable, Recursive};
 use std::marker::PhantomData;
 use x86_64_addr::index::PageTableIndex;
-use x86_64_tables::level_count::{FiveLevels, FourLevels};
+use x86_64_addr::level_count::{FiveLevels, FourLevels};
 use x86_64_tables::page_table::PageTableFlags;
 use x86_64_tables::phys_memory::{ActiveMemory, ActiveMemory57};
 

@@ -1,17 +1,19 @@
 //! Tables that are reached at virtual addresses.
-ghost use Rattle.std.specs.Prelude.{◌≡◌, ℕ, List, unwrap_or};
+ghost use Rattle.std.specs.Prelude.{◌≡◌, ◌<◌, ℕ, List, unwrap_or};
 ghost use Rattle.std.specs.Borrow.{sem, GName};
 ghost use Rattle.std.specs.FinMap.{insert};
 ghost use Rattle.std.specs.Option.{option_copied, option_copied_mut};
 ghost use Rattle.x86_64_model.specs.Memory.{Memory, words_of, identity_places};
+ghost use Rattle.x86_64_model.specs.Position.{position_count};
 ghost use Rattle.x86_64_tables.specs.ActiveMemory.{walked_frame, walked_table};
 ghost use Rattle.x86_64_tables.specs.SelfEntries.{has_self_entry};
 ghost use Rattle.x86_64_mappers.specs.AccessLending.{LendsTableIfBy};
 
+use x86_64_addr::addr::VirtAddrIn;
 use x86_64_addr::index::PageTableIndex;
+use x86_64_addr::level_count::LevelCount;
 use x86_64_page::frame::PhysFrame;
 use x86_64_page::page::Size4KiB;
-use x86_64_tables::level_count::LevelCount;
 use x86_64_tables::page_table::PageTable;
 use x86_64_tables::phys_memory::Active;
 
@@ -39,17 +41,19 @@ pub trait WalkedTables<L: LevelCount> {
             result ≡ has_self_entry words (Self.root self.now) index };
 
     /// Gives the table where the walk of an address arrives.
-    fn table(&self, addr: L::Addr) -> Option<&PageTable>
+    fn table(&self, position: u64) -> Option<&PageTable>
+        requires { position < position_count L.LEVELS }
         ensures { let words = words_of (Self.memory self.now) identity_places in
-            option_copied result ≡ walked_table L.LEVELS words (Self.root self.now) (L.position addr) };
+            option_copied result ≡ walked_table L.LEVELS words (Self.root self.now) position };
 
     /// Lends the table where the walk of an address arrives.
-    fn table_mut(&mut self, addr: L::Addr) -> Option<&mut PageTable>
+    fn table_mut(&mut self, position: u64) -> Option<&mut PageTable>
+        requires { position < position_count L.LEVELS }
         ensures* lends { let words = words_of (Self.memory self.old) identity_places in
-            let frame = unwrap_or (walked_frame L.LEVELS words (Self.root self.old) (L.position addr)) 0 in
+            let frame = unwrap_or (walked_frame L.LEVELS words (Self.root self.old) position) 0 in
             sem 𝓛 (LendsTableIfBy Self.row self.entry result (Self.with_table self.old frame)) }
         ensures value { let words = words_of (Self.memory self.old) identity_places in
-            option_copied_mut result ≡ walked_table L.LEVELS words (Self.root self.old) (L.position addr) };
+            option_copied_mut result ≡ walked_table L.LEVELS words (Self.root self.old) position };
 
     ghost puts: { (s : Self) (f : ℕ) (t : List ℕ) →
         memory (with_table s f t) ≡ insert (memory s) (identity_places.place f) t };
@@ -79,12 +83,12 @@ impl<'a, L: LevelCount> WalkedTables<L> for Active<'a, L> {
         Active::self_entry(self, index)
     }
 
-    fn table(&self, addr: L::Addr) -> Option<&PageTable> {
-        Active::table(self, addr)
+    fn table(&self, position: u64) -> Option<&PageTable> {
+        Active::table(self, VirtAddrIn::new_truncate(position))
     }
 
-    fn table_mut(&mut self, addr: L::Addr) -> Option<&mut PageTable> {
-        Active::table_mut(self, addr)
+    fn table_mut(&mut self, position: u64) -> Option<&mut PageTable> {
+        Active::table_mut(self, VirtAddrIn::new_truncate(position))
     }
 
     ghost puts = { λ s f t. refl };

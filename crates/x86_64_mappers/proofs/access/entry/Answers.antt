@@ -1,6 +1,6 @@
 use Rattle.std.proofs.Common.{◌∙◌, ap, slice_index}
 use Rattle.x86_64_model.specs.Layout.{words}
-use Rattle.x86_64_mappers.proofs.Words.{entry_is_word}
+use Rattle.x86_64_mappers.proofs.Memory.Words.{entry_is_word}
 use Rattle.x86_64_mappers.proofs.access.entry.Goals as goal
 
 pub returns-clause-value : goal.returns-clause-value

@@ -3,7 +3,7 @@ use Rattle.std.specs.FinMap.{insert}
 use Rattle.std.specs.Option.{unwrap_or}
 use Rattle.x86_64_model.specs.Layout.{words}
 use Rattle.x86_64_mappers.specs.AccessLending.{table_in}
-use Rattle.x86_64_mappers.proofs.Words.{entry_is_word}
+use Rattle.x86_64_mappers.proofs.Memory.Words.{entry_is_word}
 use Rattle.x86_64_mappers.proofs.access.entry_mut.Goals as goal
 
 pub returns : goal.returns

@@ -3,8 +3,8 @@ use Rattle.std.specs.Fn.{FnOnceReturnsAtMut}
 use Rattle.x86_64_model.specs.Layout.{words}
 use Rattle.x86_64_model.specs.Memory.{word}
 use Rattle.x86_64_mappers.specs.AccessLending.{table_in}
-use Rattle.x86_64_mappers.specs.Writes.{IsSet}
-use Rattle.x86_64_mappers.proofs.Paths.{has_last_index, last_item}
+use Rattle.x86_64_mappers.specs.private.Writes.{IsSet}
+use Rattle.x86_64_mappers.proofs.Way.Paths.{has_last_index, last_item}
 use Rattle.x86_64_mappers.proofs.access.change.change_entry.Goals as goal
 
 pub returns-clause-changed : goal.returns-clause-changed

@@ -7,16 +7,16 @@ use Rattle.x86_64_model.specs.Path.{front_at}
 use Rattle.x86_64_model.specs.Refusal.{Refused, ParentEntryHugePage, refusal_of}
 use Rattle.x86_64_tables.specs.MapperAnswers.{flags_refusal}
 use Rattle.x86_64_tables.specs.PageTableFlags.{bits_of}
-use Rattle.x86_64_mappers.proofs.EntryRules.{Ends}
-use Rattle.x86_64_mappers.specs.EntryCalls.{word_said, answer_said}
-use Rattle.x86_64_mappers.specs.Results.{walk_refusal}
-use Rattle.x86_64_mappers.specs.Stops.{IsFound}
-use Rattle.x86_64_mappers.proofs.TableFlagConditions.{front_length}
-use Rattle.x86_64_mappers.proofs.TableFlagRules.{flags_too_low, flags_stopped, flags_ended}
-use Rattle.x86_64_mappers.specs.TableFlags.{flags_say}
-use Rattle.x86_64_mappers.specs.Writes.{IsSet}
-use Rattle.x86_64_mappers.proofs.Paths.{has_last_index}
-use Rattle.x86_64_mappers.proofs.EntryEnds.{ends_set_flags}
+use Rattle.x86_64_mappers.proofs.Entry.EntryRules.{Ends}
+use Rattle.x86_64_mappers.specs.private.EntryCalls.{word_said, answer_said}
+use Rattle.x86_64_mappers.specs.private.Results.{walk_refusal}
+use Rattle.x86_64_mappers.specs.private.Stops.{IsFound}
+use Rattle.x86_64_mappers.proofs.Entry.TableFlagConditions.{front_length}
+use Rattle.x86_64_mappers.proofs.Entry.TableFlagRules.{flags_too_low, flags_stopped, flags_ended}
+use Rattle.x86_64_mappers.specs.private.TableFlags.{flags_say}
+use Rattle.x86_64_mappers.specs.private.Writes.{IsSet}
+use Rattle.x86_64_mappers.proofs.Way.Paths.{has_last_index}
+use Rattle.x86_64_mappers.proofs.Entry.EntryEnds.{ends_set_flags}
 use Rattle.x86_64_mappers.proofs.access.change.set_table_flags.Given.{Over}
 use Rattle.x86_64_mappers.proofs.access.change.set_table_flags.Goals as goal
 

@@ -5,14 +5,14 @@ use Rattle.x86_64_model.specs.MapperCalls.{after_unmap}
 use Rattle.x86_64_model.specs.Memory.{word}
 use Rattle.x86_64_model.specs.Refusal.{Refused}
 use Rattle.x86_64_tables.specs.MapperAnswers.{frame_answer}
-use Rattle.x86_64_mappers.proofs.EntryRules.{Ends, stopped, ended}
-use Rattle.x86_64_mappers.specs.EntryCalls.{word_said, answer_said}
-use Rattle.x86_64_mappers.proofs.PageCallRules.{unmap_rule, unmap_changes, unmap_outside}
-use Rattle.x86_64_mappers.specs.PageCalls.{unmap_says}
-use Rattle.x86_64_mappers.specs.Results.{walk_refusal}
-use Rattle.x86_64_mappers.specs.Writes.{IsSet}
-use Rattle.x86_64_mappers.proofs.Paths.{has_last_index, some_index_of, page_below_root, positive_levels}
-use Rattle.x86_64_mappers.proofs.EntryEnds.{ends_unmap}
+use Rattle.x86_64_mappers.proofs.Entry.EntryRules.{Ends, stopped, ended}
+use Rattle.x86_64_mappers.specs.private.EntryCalls.{word_said, answer_said}
+use Rattle.x86_64_mappers.proofs.Entry.PageCallRules.{unmap_rule, unmap_changes, unmap_outside}
+use Rattle.x86_64_mappers.specs.private.PageCalls.{unmap_says}
+use Rattle.x86_64_mappers.specs.private.Results.{walk_refusal}
+use Rattle.x86_64_mappers.specs.private.Writes.{IsSet}
+use Rattle.x86_64_mappers.proofs.Way.Paths.{has_last_index, some_index_of, page_below_root, positive_levels}
+use Rattle.x86_64_mappers.proofs.Entry.EntryEnds.{ends_unmap}
 use Rattle.x86_64_mappers.proofs.access.change.unmap_path.Given.{Over}
 use Rattle.x86_64_mappers.proofs.access.change.unmap_path.Goals as goal
 

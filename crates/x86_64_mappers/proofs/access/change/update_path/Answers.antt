@@ -5,14 +5,14 @@ use Rattle.x86_64_model.specs.MapperCalls.{after_update}
 use Rattle.x86_64_model.specs.Memory.{word}
 use Rattle.x86_64_model.specs.Refusal.{Refused, refusal_of}
 use Rattle.x86_64_tables.specs.MapperAnswers.{flags_refusal}
-use Rattle.x86_64_mappers.proofs.EntryRules.{Ends, stopped, ended}
-use Rattle.x86_64_mappers.specs.EntryCalls.{word_said, answer_said}
-use Rattle.x86_64_mappers.proofs.PageCallRules.{update_rule, update_changes, update_outside}
-use Rattle.x86_64_mappers.specs.PageCalls.{update_says}
-use Rattle.x86_64_mappers.specs.Results.{walk_refusal}
-use Rattle.x86_64_mappers.specs.Writes.{IsSet}
-use Rattle.x86_64_mappers.proofs.Paths.{has_last_index, some_index_of, page_below_root, positive_levels}
-use Rattle.x86_64_mappers.proofs.EntryEnds.{ends_update}
+use Rattle.x86_64_mappers.proofs.Entry.EntryRules.{Ends, stopped, ended}
+use Rattle.x86_64_mappers.specs.private.EntryCalls.{word_said, answer_said}
+use Rattle.x86_64_mappers.proofs.Entry.PageCallRules.{update_rule, update_changes, update_outside}
+use Rattle.x86_64_mappers.specs.private.PageCalls.{update_says}
+use Rattle.x86_64_mappers.specs.private.Results.{walk_refusal}
+use Rattle.x86_64_mappers.specs.private.Writes.{IsSet}
+use Rattle.x86_64_mappers.proofs.Way.Paths.{has_last_index, some_index_of, page_below_root, positive_levels}
+use Rattle.x86_64_mappers.proofs.Entry.EntryEnds.{ends_update}
 use Rattle.x86_64_mappers.proofs.access.change.update_path.Given.{Over}
 use Rattle.x86_64_mappers.proofs.access.change.update_path.Goals as goal
 

@@ -5,19 +5,19 @@ use Rattle.x86_64_model.specs.CleanUp.{meets}
 use Rattle.x86_64_model.specs.Layout.{Layout, words}
 use Rattle.x86_64_model.specs.Owned.{MayCleanUp, paths}
 use Rattle.x86_64_model.specs.Path.{span_start}
-use Rattle.x86_64_mappers.proofs.EntriesInRange.{next_visited, refused_out, recursive_out}
-use Rattle.x86_64_mappers.proofs.Cleaned.{may_still, may_give}
-use Rattle.x86_64_mappers.proofs.EntryCleaned.{below_cleaned, entry_stays, entry_kept, entry_gone}
-use Rattle.x86_64_mappers.proofs.EntryEnds.{with_memory}
-use Rattle.x86_64_mappers.proofs.Paths.{positive_levels}
-use Rattle.x86_64_mappers.proofs.TableCleaned.{met_between, out_before, out_after, before_first, before_last, before_next, level_one}
-use Rattle.x86_64_mappers.proofs.Words.{empty_words, words_empty}
-use Rattle.x86_64_mappers.proofs.Visited.{visited_reached, still_before}
+use Rattle.x86_64_mappers.proofs.CleanUp.EntriesInRange.{next_visited, refused_out, recursive_out}
+use Rattle.x86_64_mappers.proofs.CleanUp.Cleaned.{may_still, may_give}
+use Rattle.x86_64_mappers.proofs.CleanUp.EntryCleaned.{below_cleaned, entry_stays, entry_kept, entry_gone}
+use Rattle.x86_64_mappers.proofs.Entry.EntryEnds.{with_memory}
+use Rattle.x86_64_mappers.proofs.Way.Paths.{positive_levels}
+use Rattle.x86_64_mappers.proofs.CleanUp.TableCleaned.{met_between, out_before, out_after, before_first, before_last, before_next, level_one}
+use Rattle.x86_64_mappers.proofs.Memory.Words.{empty_words, words_empty}
+use Rattle.x86_64_mappers.proofs.CleanUp.Visited.{visited_reached, still_before}
 use Rattle.x86_64_mappers.specs.AccessLending.{table_in}
-use Rattle.x86_64_mappers.specs.CleaningUp.{span_end, IsPageRange, IsVisited, IsCleanedAt}
+use Rattle.x86_64_mappers.specs.private.CleaningUp.{span_end, IsPageRange, IsVisited, IsCleanedAt}
 use Rattle.x86_64_mappers.specs.Reached.{IsReached}
-use Rattle.x86_64_mappers.specs.Results.{walk_refusal}
-use Rattle.x86_64_mappers.specs.Writes.{IsSet}
+use Rattle.x86_64_mappers.specs.private.Results.{walk_refusal}
+use Rattle.x86_64_mappers.specs.private.Writes.{IsSet}
 use Rattle.x86_64_mappers.proofs.access.clean_up.+clean_up.Goals as goal
 
 -- ---- an entry

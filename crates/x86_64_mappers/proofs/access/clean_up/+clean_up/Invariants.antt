@@ -2,7 +2,7 @@ use Rattle.std.proofs.Common.{◌≡◌, ◌≤◌, ◌+◌, ◌-◌, ◌*◌, l
 use Rattle.x86_64_model.proofs.Lemmas.CleanUps.Below.{cleaned_before, back_before}
 use Rattle.x86_64_model.specs.Owned.{paths}
 use Rattle.x86_64_model.specs.Path.{span_start}
-use Rattle.x86_64_mappers.specs.CleaningUp.{span_end, IsCleaned}
+use Rattle.x86_64_mappers.specs.private.CleaningUp.{span_end, IsCleaned}
 use Rattle.x86_64_mappers.proofs.access.clean_up.+clean_up.Given as goal
 
 -- each call of the two is at an entry, or at the table below it

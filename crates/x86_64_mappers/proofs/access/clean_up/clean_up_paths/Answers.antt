@@ -1,9 +1,9 @@
 use Rattle.std.proofs.Common.{◌≡◌, ◌<◌, ◌*◌, ap, subst, ◌∙◌, arith}
 use Rattle.x86_64_model.specs.Owned.{CleansUp}
 use Rattle.x86_64_model.specs.Path.{span_start}
-use Rattle.x86_64_mappers.proofs.CleanUpEnds.{ends_whole, ends_empty}
-use Rattle.x86_64_mappers.proofs.EntryEnds.{with_memory}
-use Rattle.x86_64_mappers.specs.CleaningUp.{span_end}
+use Rattle.x86_64_mappers.proofs.CleanUp.CleanUpEnds.{ends_whole, ends_empty}
+use Rattle.x86_64_mappers.proofs.Entry.EntryEnds.{with_memory}
+use Rattle.x86_64_mappers.specs.private.CleaningUp.{span_end}
 use Rattle.x86_64_mappers.proofs.access.clean_up.clean_up_paths.Goals as goal
 
 pub returns-then-page_number-clause-cleans : goal.returns-then-page_number-clause-cleans

@@ -1,6 +1,6 @@
 use Rattle.std.proofs.Common.{length, get_or, cond, refl, sym, ap, ◌∙◌}
 use Rattle.std.proofs.lemmas.List.{get_or_read}
-use Rattle.x86_64_mappers.proofs.Paths.{begins_from}
+use Rattle.x86_64_mappers.proofs.Way.Paths.{begins_from}
 use Rattle.x86_64_mappers.proofs.access.clean_up.index_in_table.Goals as goal
 
 pub returns-then-starts_with-clause-index : goal.returns-then-starts_with-clause-index

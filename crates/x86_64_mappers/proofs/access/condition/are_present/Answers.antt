@@ -1,6 +1,6 @@
 use Rattle.std.proofs.Common.{◌∙◌}
-use Rattle.x86_64_mappers.proofs.PresentParents.{found_present}
-use Rattle.x86_64_mappers.specs.Results.{walk_result}
+use Rattle.x86_64_mappers.proofs.Way.PresentParents.{found_present}
+use Rattle.x86_64_mappers.specs.private.Results.{walk_result}
 use Rattle.x86_64_mappers.proofs.access.condition.are_present.Goals as goal
 
 pub returns : goal.returns

@@ -5,10 +5,10 @@ use Rattle.x86_64_model.specs.Entry.{has, used, huge}
 use Rattle.x86_64_model.specs.Layout.{words}
 use Rattle.x86_64_model.specs.Memory.{word}
 use Rattle.x86_64_tables.specs.PageTableFlags.{bits_of}
-use Rattle.x86_64_mappers.specs.Results.{walk_refusal}
-use Rattle.x86_64_mappers.proofs.TableFlagConditions.{stopped_keeps, found_keeps}
-use Rattle.x86_64_mappers.proofs.Flags.{tested}
-use Rattle.x86_64_mappers.proofs.Paths.{has_last_index, last_item}
+use Rattle.x86_64_mappers.specs.private.Results.{walk_refusal}
+use Rattle.x86_64_mappers.proofs.Entry.TableFlagConditions.{stopped_keeps, found_keeps}
+use Rattle.x86_64_mappers.proofs.Entry.Flags.{tested}
+use Rattle.x86_64_mappers.proofs.Way.Paths.{has_last_index, last_item}
 use Rattle.x86_64_mappers.proofs.access.condition.keeps_huge.Goals as goal
 
 as_both : (a b : Bool) → beq a b ≡ both_or_none b a

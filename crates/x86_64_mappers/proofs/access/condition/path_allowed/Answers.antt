@@ -5,9 +5,9 @@ use Rattle.x86_64_model.specs.Entry.{has, present}
 use Rattle.x86_64_model.specs.Layout.{paths}
 use Rattle.x86_64_model.specs.Window.{begins_with}
 use Rattle.x86_64_tables.specs.PageTableFlags.{bits_of}
-use Rattle.x86_64_mappers.specs.MapConditions.{flags_allowed, are_present}
-use Rattle.x86_64_mappers.proofs.Pages.{path_parted, small_page}
-use Rattle.x86_64_mappers.proofs.Paths.{has_last_index, some_index_of, page_below_root}
+use Rattle.x86_64_mappers.specs.private.MapConditions.{flags_allowed, are_present}
+use Rattle.x86_64_mappers.proofs.Way.Pages.{path_parted, small_page}
+use Rattle.x86_64_mappers.proofs.Way.Paths.{has_last_index, some_index_of, page_below_root}
 use Rattle.x86_64_mappers.proofs.access.condition.path_allowed.Goals as goal
 
 -- the flags are allowed, and the page isn't in the window

@@ -5,8 +5,8 @@ use Rattle.x86_64_model.specs.Layout.{paths, read_entry}
 use Rattle.x86_64_model.specs.Path.{front_at}
 use Rattle.x86_64_model.specs.Window.{begins_with}
 use Rattle.x86_64_tables.specs.PageTableFlags.{bits_of}
-use Rattle.x86_64_mappers.proofs.TableFlagConditions.{low_flags_rule}
-use Rattle.x86_64_mappers.specs.TableFlags.{keeps_huge}
+use Rattle.x86_64_mappers.proofs.Entry.TableFlagConditions.{low_flags_rule}
+use Rattle.x86_64_mappers.specs.private.TableFlags.{keeps_huge}
 use Rattle.x86_64_mappers.proofs.access.condition.table_flags_allowed.Goals as goal
 
 -- the two tests that come first

@@ -3,10 +3,10 @@ use Rattle.std.proofs.lemmas.List.{get_or_read}
 use Rattle.std.proofs.lemmas.Result.{err_from_is_err_and}
 use Rattle.x86_64_model.specs.Layout.{words}
 use Rattle.x86_64_model.specs.Memory.{word}
-use Rattle.x86_64_mappers.proofs.Finds.{find_stop, find_end}
-use Rattle.x86_64_mappers.proofs.ReachedSteps.{IsHere, here_first, here_next}
-use Rattle.x86_64_mappers.specs.Results.{walk_refusal}
-use Rattle.x86_64_mappers.specs.Stops.{table_below}
+use Rattle.x86_64_mappers.proofs.Way.Finds.{find_stop, find_end}
+use Rattle.x86_64_mappers.proofs.Way.ReachedSteps.{IsHere, here_first, here_next}
+use Rattle.x86_64_mappers.specs.private.Results.{walk_refusal}
+use Rattle.x86_64_mappers.specs.private.Stops.{table_below}
 use Rattle.x86_64_mappers.proofs.access.find.find_table.Goals as goal
 
 pub loop-k-init : goal.loop-k-init

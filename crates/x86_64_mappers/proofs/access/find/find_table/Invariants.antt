@@ -1,4 +1,4 @@
-use Rattle.x86_64_mappers.proofs.ReachedSteps.{IsHere}
+use Rattle.x86_64_mappers.proofs.Way.ReachedSteps.{IsHere}
 use Rattle.x86_64_mappers.proofs.access.find.find_table.Given as goal
 
 abbrev pub invariant-loop-k : goal.invariant-loop-k

@@ -1,8 +1,8 @@
 use Rattle.std.proofs.Common.{◌%◌, not, nat_lt, Ok, Err, refl, sym, ap, ap₂, ◌∙◌}
 use Rattle.std.proofs.Math.Bool.{beq}
 use Rattle.x86_64_model.specs.Refusal.{InvalidFrameAddress}
-use Rattle.x86_64_mappers.proofs.Flags.{tested}
-use Rattle.x86_64_mappers.proofs.LeafEntries.{absent_leaf, wrong_leaf, aligned_leaf, unaligned_leaf}
+use Rattle.x86_64_mappers.proofs.Entry.Flags.{tested}
+use Rattle.x86_64_mappers.proofs.Entry.LeafEntries.{absent_leaf, wrong_leaf, aligned_leaf, unaligned_leaf}
 use Rattle.x86_64_mappers.proofs.access.leaf.leaf_frame.Goals as goal
 
 pub returns-then-not-contains : goal.returns-then-not-contains

@@ -1,6 +1,6 @@
 use Rattle.std.proofs.Common.{◌≡◌, ◌&&◌, ◌||◌, true, refl, sym, ◌∙◌, ne_eqb, arith}
 use Rattle.x86_64_model.specs.Entry.{used}
-use Rattle.x86_64_mappers.proofs.Flags.{tested}
+use Rattle.x86_64_mappers.proofs.Entry.Flags.{tested}
 use Rattle.x86_64_mappers.proofs.access.leaf.maps_page.Goals as goal
 
 pub returns-else-LEVEL-eq1 : goal.returns-else-LEVEL-eq1

@@ -3,9 +3,9 @@ use Rattle.std.proofs.lemmas.List.{get_or_read}
 use Rattle.x86_64_model.specs.Entry.{used}
 use Rattle.x86_64_model.specs.Layout.{Layout, words}
 use Rattle.x86_64_model.specs.Memory.{word}
-use Rattle.x86_64_mappers.proofs.EntryWrites.{unchanged, supply_first, supply_empty}
-use Rattle.x86_64_mappers.proofs.Linking.{may_still, taken_linked}
-use Rattle.x86_64_mappers.proofs.OpenWays.{open_reached, may_link}
+use Rattle.x86_64_mappers.proofs.Memory.EntryWrites.{unchanged, supply_first, supply_empty}
+use Rattle.x86_64_mappers.proofs.Map.Linking.{may_still, taken_linked}
+use Rattle.x86_64_mappers.proofs.Map.OpenWays.{open_reached, may_link}
 use Rattle.x86_64_mappers.proofs.access.map.create_next_table.Goals as goal
 
 pub entry_mut-entry-requires-clause-reached : goal.entry_mut-entry-requires-clause-reached

@@ -1,8 +1,8 @@
 use Rattle.std.proofs.Common.{Ok, refl, ◌∙◌, arith, get_or}
 use Rattle.std.proofs.lemmas.Result.{err_from_is_err_and}
-use Rattle.x86_64_mappers.proofs.Down.{made, turn, stop}
-use Rattle.x86_64_mappers.specs.Results.{create_refusal}
-use Rattle.x86_64_mappers.proofs.OpenWays.{open_end, open_next}
+use Rattle.x86_64_mappers.proofs.Map.Down.{made, turn, stop}
+use Rattle.x86_64_mappers.specs.private.Results.{create_refusal}
+use Rattle.x86_64_mappers.proofs.Map.OpenWays.{open_end, open_next}
 use Rattle.x86_64_mappers.proofs.access.map.create_tables.Goals as goal
 
 pub returns-in_err-table-clause-down : goal.returns-in_err-table-clause-down

@@ -1,6 +1,6 @@
 use Rattle.std.proofs.Common.{◌≡◌, ◌≤◌, length, take, drop}
-use Rattle.x86_64_mappers.specs.MapSteps.{IsAt}
-use Rattle.x86_64_mappers.specs.OpenWay.{IsOpenWay}
+use Rattle.x86_64_mappers.specs.private.MapSteps.{IsAt}
+use Rattle.x86_64_mappers.specs.private.OpenWay.{IsOpenWay}
 use Rattle.x86_64_tables.specs.PageTableFlags.{bits_of}
 use Rattle.x86_64_mappers.proofs.access.map.create_tables.Given as goal
 

@@ -4,14 +4,14 @@ use Rattle.std.proofs.Math.Seq.{take-suc}
 use Rattle.std.specs.FinMap.{insert}
 use Rattle.x86_64_model.specs.Layout.{Layout}
 use Rattle.x86_64_mappers.specs.AccessLending.{table_in}
-use Rattle.x86_64_mappers.proofs.Changed.{set_keeps}
-use Rattle.x86_64_mappers.specs.Linked.{IsClearedFirst}
-use Rattle.x86_64_mappers.proofs.Linking.{cleared_first, linked_reached}
+use Rattle.x86_64_mappers.proofs.Memory.Changed.{set_keeps}
+use Rattle.x86_64_mappers.specs.private.Linked.{IsClearedFirst}
+use Rattle.x86_64_mappers.proofs.Map.Linking.{cleared_first, linked_reached}
 use Rattle.x86_64_mappers.specs.Reached.{IsReached}
-use Rattle.x86_64_mappers.specs.Linked.{Beside}
+use Rattle.x86_64_mappers.specs.private.Linked.{Beside}
 use Rattle.x86_64_model.proofs.Lemmas.Hierarchies.Memories.{covered}
-use Rattle.x86_64_mappers.specs.Writes.{IsSet}
-use Rattle.x86_64_mappers.proofs.EntryWrites.{parents_not_huge}
+use Rattle.x86_64_mappers.specs.private.Writes.{IsSet}
+use Rattle.x86_64_mappers.proofs.Memory.EntryWrites.{parents_not_huge}
 use Rattle.x86_64_mappers.proofs.access.map.link_table.Goals as goal
 
 pub set_frame-requires : goal.set_frame-requires

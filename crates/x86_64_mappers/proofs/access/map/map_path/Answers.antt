@@ -3,13 +3,13 @@ use Rattle.std.proofs.lemmas.Result.{err_from_is_err_and}
 use Rattle.x86_64_model.specs.Allowed.{parents_present}
 use Rattle.x86_64_model.specs.Layout.{paths}
 use Rattle.x86_64_model.proofs.Lemmas.Machines.Effects.{map_may}
-use Rattle.x86_64_mappers.proofs.PageMaps.{page_stopped, page_mapped}
-use Rattle.x86_64_mappers.proofs.Pages.{path_parted}
-use Rattle.x86_64_mappers.specs.Results.{create_refusal}
+use Rattle.x86_64_mappers.proofs.Map.PageMaps.{page_stopped, page_mapped}
+use Rattle.x86_64_mappers.proofs.Way.Pages.{path_parted}
+use Rattle.x86_64_mappers.specs.private.Results.{create_refusal}
 use Rattle.x86_64_tables.specs.MapperAnswers.{map_answer}
-use Rattle.x86_64_mappers.proofs.OpenWays.{will_be_present}
-use Rattle.x86_64_mappers.proofs.MapEnds.{ends_map, map_is_allowed, outside_front}
-use Rattle.x86_64_mappers.proofs.Paths.{has_last_index, last_item, some_index_of, page_below_root}
+use Rattle.x86_64_mappers.proofs.Map.OpenWays.{will_be_present}
+use Rattle.x86_64_mappers.proofs.Map.MapEnds.{ends_map, map_is_allowed, outside_front}
+use Rattle.x86_64_mappers.proofs.Way.Paths.{has_last_index, last_item, some_index_of, page_below_root}
 use Rattle.x86_64_mappers.proofs.access.map.map_path.Goals as goal
 
 pub create_tables-requires-clause-flags : goal.create_tables-requires-clause-flags

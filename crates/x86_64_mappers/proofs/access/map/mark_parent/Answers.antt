@@ -3,7 +3,7 @@ use Rattle.x86_64_model.specs.Entry.{address}
 use Rattle.x86_64_model.proofs.Lemmas.Entries.Bits.{flags_added}
 use Rattle.x86_64_model.proofs.Lemmas.Entries.Words.{address_aligned}
 use Rattle.x86_64_model.specs.Refusal.{ParentEntryHugePage}
-use Rattle.x86_64_mappers.proofs.EntryWrites.{tested_huge}
+use Rattle.x86_64_mappers.proofs.Memory.EntryWrites.{tested_huge}
 use Rattle.x86_64_mappers.proofs.access.map.mark_parent.Goals as goal
 
 pub from_start_address_unchecked-next-requires : goal.from_start_address_unchecked-next-requires

@@ -1,6 +1,6 @@
 use Rattle.std.proofs.Common.{◌≡◌, refl, sym, ap, ◌∙◌, true, arith}
 use Rattle.x86_64_model.specs.Entry.{used}
-use Rattle.x86_64_mappers.proofs.EntryWrites.{unchanged}
+use Rattle.x86_64_mappers.proofs.Memory.EntryWrites.{unchanged}
 use Rattle.x86_64_mappers.proofs.access.map.set_leaf.Goals as goal
 
 pub returns-then-not-is_unused-clause-set : goal.returns-then-not-is_unused-clause-set

@@ -4,11 +4,11 @@ use Rattle.x86_64_model.specs.Layout.{words}
 use Rattle.x86_64_model.specs.Memory.{word}
 use Rattle.x86_64_tables.specs.MapperAnswers.{translate_answer}
 use Rattle.x86_64_tables.specs.declared.mapper.TranslateError.{TranslateError}
-use Rattle.x86_64_mappers.specs.LeafFrames.{named_frame}
-use Rattle.x86_64_mappers.proofs.PageCallRules.{translate_stopped, translate_told}
-use Rattle.x86_64_mappers.proofs.PageCallRules.{answer_of}
-use Rattle.x86_64_mappers.specs.Results.{walk_refusal, translate_result}
-use Rattle.x86_64_mappers.proofs.Paths.{has_last_index, last_item, some_index_of, page_below_root}
+use Rattle.x86_64_mappers.specs.private.LeafFrames.{named_frame}
+use Rattle.x86_64_mappers.proofs.Entry.PageCallRules.{translate_stopped, translate_told}
+use Rattle.x86_64_mappers.proofs.Entry.PageCallRules.{answer_of}
+use Rattle.x86_64_mappers.specs.private.Results.{walk_refusal, translate_result}
+use Rattle.x86_64_mappers.proofs.Way.Paths.{has_last_index, last_item, some_index_of, page_below_root}
 use Rattle.x86_64_mappers.proofs.access.translate.translate_path.Goals as goal
 
 same_answer : (r : Result ℕ TranslateError) → translate_answer r ≡ answer_of (translate_result r)

@@ -1,4 +1,4 @@
-use Rattle.x86_64_mappers.proofs.Translations.{leads_where_the_walk_does}
+use Rattle.x86_64_mappers.proofs.Translate.Translations.{leads_where_the_walk_does}
 use Rattle.x86_64_mappers.proofs.access.translate.translate_position.Goals as goal
 
 pub returns-clause-walk : goal.returns-clause-walk

@@ -2,8 +2,8 @@ use Rattle.std.proofs.Common.{refl, sym, ap, ◌∙◌, ◌≡◌}
 use Rattle.std.specs.FinMap.{get, insert}
 use Rattle.x86_64_mappers.specs.Lending.{root_stays}
 use Rattle.x86_64_model.proofs.Lemmas.Hierarchies.Memories.{covered}
-use Rattle.x86_64_mappers.proofs.Stored.{there_is}
-use Rattle.x86_64_mappers.proofs.RootTables.{alike}
+use Rattle.x86_64_mappers.proofs.Memory.Stored.{there_is}
+use Rattle.x86_64_mappers.proofs.Memory.RootTables.{alike}
 use Rattle.x86_64_mappers.proofs.mapped_page_table.DirectTableAccess.table_mut.Goals as goal
 
 pub invariant_of-self-lent : goal.invariant_of-self-lent

@@ -33,10 +33,10 @@ use Rattle.std.specs.contracts.result.Result as Res
 use Rattle.std.proofs.result.Result.TheLaws as result_laws
 use Rattle.x86_64_tables.specs.ActiveMemory.{kept_of, RestsUnlessKept}
 use Rattle.x86_64_tables.specs.contracts.phys_memory.active.Active as Active
-use Rattle.x86_64_tables.specs.contracts.level_count.FiveLevels as Levels
+use Rattle.x86_64_addr.specs.contracts.level_count.FiveLevels as Levels
 use Rattle.x86_64_tables.specs.contracts.phys_memory.active.Active+FiveLevels.kept_if as keeps
 use Rattle.x86_64_tables.proofs.phys_memory.active.Active.TheLaws as active_laws
-use Rattle.x86_64_tables.proofs.level_count.FiveLevels.TheLaws as level_laws
+use Rattle.x86_64_addr.proofs.level_count.FiveLevels.TheLaws as level_laws
 use Rattle.x86_64_tables.proofs.phys_memory.active.Active+FiveLevels.kept_if.Met as keeps_met
 use Rattle.x86_64_mappers.specs.RefusedMappers.{wrapped_of, made_of, RestsUnlessMade}
 use Rattle.x86_64_mappers.specs.contracts.recursive_page_table.InvalidPageTable as Invalid
@@ -53,7 +53,7 @@ use Rattle.x86_64_addr.specs.contracts.index.PageTableIndex as Index
 use Rattle.x86_64_addr.proofs.index.PageTableIndex.TheLaws as index_laws
 use Rattle.x86_64_tables.specs.contracts.page_table.flags.PageTableFlags as Flags
 use Rattle.x86_64_tables.proofs.page_table.flags.PageTableFlags.TheLaws as flags_laws
-use Rattle.x86_64_mappers.proofs.WalkedCalls.{goes_blank, one, nth_type}
+use Rattle.x86_64_mappers.proofs.Window.WalkedCalls.{goes_blank, one, nth_type}
 
 module _ (N : NamedLft) where
   abbrev A : RattleType

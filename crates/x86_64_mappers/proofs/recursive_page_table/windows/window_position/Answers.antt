@@ -1,6 +1,6 @@
 use Rattle.std.proofs.Common.{◌≡◌, ◌<◌, ◌-◌, ℕ, List, ◌++◌, length, take, replicate, ap, ◌∙◌, arith}
 use Rattle.std.proofs.lemmas.List.{length-append, length-replicate}
-use Rattle.x86_64_mappers.proofs.Windows.{number_path, number_inside, few_positions}
+use Rattle.x86_64_mappers.proofs.Window.Windows.{number_path, number_inside, few_positions}
 use Rattle.x86_64_mappers.proofs.recursive_page_table.windows.window_position.Goals as goal
 
 long : (levels r : ℕ) (path : List ℕ) → length path < levels → length (replicate (levels - length path) r ++ path) ≡ levels
@@ -27,5 +27,5 @@ returns-clause-inside g c =
 pub overflow_mul-result : goal.overflow_mul-result
 overflow_mul-result g c =
     let inside = returns-clause-inside g c in
-    let few = few_positions g.L.LevelCount.LEVELS g.met.L.LevelCount.most_levels in
+    let few = few_positions g.L.LevelCount.LEVELS g.L.LevelCount.most_levels in
     omega (arith, inside, few)

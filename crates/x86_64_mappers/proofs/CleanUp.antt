@@ -1,0 +1,6 @@
+pub mod CleanUpEnds
+pub mod Cleaned
+pub mod EntriesInRange
+pub mod EntryCleaned
+pub mod TableCleaned
+pub mod Visited

@@ -1,0 +1,140 @@
+-- Clean ups one after the other: nothing, one after another, and the end of a table that is empty.
+use Rattle.std.proofs.Common.{◌≡◌, ◌≢◌, ⊎_elim, ◌<◌, ℕ, Bool, true, false, cond, nat_lt, List, [], ◌∷◌, ◌++◌, Option, Some, None, IsSome, refl, sym, ap, ◌∙◌, subst}
+use Rattle.x86_64_model.proofs.Lemmas.CleanUps.Trees.{given_frames}
+use Rattle.x86_64_model.proofs.Lemmas.CleanUps.Writes.{removed_written, left_table, not_removed}
+use Rattle.x86_64_model.proofs.Lemmas.Hierarchies.Exists.{held_is_paths_of}
+use Rattle.x86_64_model.proofs.Lemmas.Hierarchies.Held.{word-set_frame}
+use Rattle.x86_64_model.proofs.Lemmas.Lists.Members.{in_append}
+use Rattle.x86_64_model.proofs.Lemmas.Machines.Writes.{word_is_entry}
+use Rattle.x86_64_model.proofs.Lemmas.Paths.Puts.{append_longer}
+use Rattle.x86_64_model.specs.Entry.{used}
+use Rattle.x86_64_model.specs.Layout.{Layout, Valid, words, paths}
+use Rattle.x86_64_model.specs.Lists.{In}
+use Rattle.x86_64_model.specs.Memory.{Memory, Distinct, Words, word, word_in, set_word}
+use Rattle.x86_64_model.specs.Owned.{Hierarchy, MayCleanUp}
+use Rattle.x86_64_model.specs.PathMap.{PathMap, entry, put, table_at}
+use Rattle.x86_64_model.specs.Pool.{IsTable, IsGiving, given_back}
+use Rattle.x86_64_model.specs.Window.{Window, IsValidFor, begins_with}
+use Rattle.x86_64_mappers.proofs.Memory.Changed.{set_is, set_others, set_keeps}
+use Rattle.x86_64_mappers.specs.private.CleaningUp.{IsCleaned}
+use Rattle.x86_64_mappers.proofs.Memory.Seen.{seen, there_seen}
+use Rattle.x86_64_model.proofs.Lemmas.Hierarchies.Memories.{covered}
+use Rattle.x86_64_mappers.specs.private.Writes.{IsSet}
+
+word_same : (T U : Words) (f i : ℕ) → U f ≡ T f → word U f i ≡ word T f i
+unfolding word
+word_same T U f i e = ap (λ o. cond (nat_lt i 512) (word_in o i) 0) e
+
+given_more : (give : List ℕ → ℕ → List ℕ) (held xs ys : List ℕ) → given_back give held (xs ++ ys) ≡ given_back give (given_back give held xs) ys
+given_more give held [] ys = refl
+given_more give held (x ∷ xs) ys = given_more give (give held x) xs ys
+
+-- a table's frame is there
+table_there : (l : Layout) (m : Memory) → Valid l m → (f : ℕ) → IsTable l.levels l.root (paths l m) f → IsSome (words l m f)
+table_there l m valid f t = there_seen l.window l.root (words l m) f (valid.valid.holds.in_memory t.0 f t.1)
+
+-- what is below a path outside the recursive index is outside it
+pub outside_more : (window : Option Window) (q : List ℕ) (i j : ℕ) → begins_with window (q ++ i ∷ []) ≡ false → begins_with window ((q ++ i ∷ []) ++ j ∷ []) ≡ false
+outside_more None q i j out = refl
+outside_more (Some w) [] i j out = out
+outside_more (Some w) (k ∷ q) i j out = out
+
+module _ (l : Layout) (give : List ℕ → ℕ → List ℕ) where
+  pub cleaned_nothing : (m : Memory) → Valid l m → (held : List ℕ) → IsCleaned l give m held (paths l m) [] m held
+  cleaned_nothing m valid held = record {
+    meant = refl;
+    valid = valid;
+    given = refl;
+    left = λ q f t. t;
+    were = λ f h. absurd h;
+    gone = λ f h. absurd h;
+    empty = λ f h. absurd h;
+    there = λ f h. h;
+    others = λ k h. refl;
+  }
+
+  module _ (apart : Distinct l.places) where
+    -- one after another
+    module _ (m : Memory) (valid : Valid l m) (held : List ℕ) (N : PathMap) (back : List ℕ) (n : Memory) (rest : List ℕ) (a : IsCleaned l give m held N back n rest)
+        (O : PathMap) (more : List ℕ) (o : Memory) (left : List ℕ) (b : IsCleaned l give n rest O more o left) where
+      was_table : (f : ℕ) → IsTable l.levels l.root (paths l n) f → IsTable l.levels l.root (paths l m) f
+      was_table f t = (t.0, a.left t.0 f t.1)
+
+      -- the words of a frame that was there and is no table any more stay
+      kept : (f : ℕ) → IsSome (words l n f) → (IsTable l.levels l.root (paths l n) f → ⊥) → words l o f ≡ words l n f
+      kept f there none = ap (λ w. cond (l.places.covers f) w None) (b.others (l.places.place f) (λ g t e.
+          none (subst (IsTable l.levels l.root (paths l n)) (apart g f (covered n l.places g (table_there l n a.valid g t)) (covered n l.places f there) e) t)))
+
+      pub cleaned_then : IsCleaned l give m held O (back ++ more) o left
+      cleaned_then = record {
+        meant = b.meant;
+        valid = b.valid;
+        given = b.given ∙ ap (λ held. given_back give held more) a.given ∙ sym (given_more give held back more);
+        left = λ q f t. a.left q f (b.left q f t);
+        were = λ f h. ⊎_elim (a.were f) (λ h. was_table f (b.were f h)) (in_append back more f h);
+        gone = λ f h t. ⊎_elim (λ h. a.gone f h (t.0, b.left t.0 f t.1)) (λ h. b.gone f h t) (in_append back more f h);
+        empty = λ f h i. ⊎_elim
+            (λ h. word_same (words l n) (words l o) f i (kept f (a.there f (table_there l m valid f (a.were f h))) (a.gone f h)) ∙ a.empty f h i)
+            (λ h. b.empty f h i) (in_append back more f h);
+        there = λ f h. b.there f (a.there f h);
+        others = λ k h. b.others k (λ f t. h f (was_table f t)) ∙ a.others k h;
+      }
+
+    -- the entry of a table whose words are all 0 goes, and its frame comes back
+    module _ (some_levels : 0 < l.levels) (m : Memory) (valid : Valid l m) (held : List ℕ) (q : List ℕ) (i f : ℕ) (leads : table_at l.levels l.root (paths l m) q ≡ Some f) (small : i < 512)
+        (outside : begins_with l.window (q ++ i ∷ []) ≡ false) (g : ℕ) (names : table_at l.levels l.root (paths l m) (q ++ i ∷ []) ≡ Some g) (in_use : used (entry (paths l m) (q ++ i ∷ [])) ≡ true)
+        (empty : (j : ℕ) → word (words l m) g j ≡ 0) (n : Memory) (set : IsSet l.places m f i 0 n) where
+      abbrev M : PathMap
+      M = paths l m
+
+      abbrev r : List ℕ
+      r = q ++ i ∷ []
+
+      set_words : words l n ≡ set_word (words l m) f i 0
+      set_words = set_is l.places apart m f i 0 n set
+
+      valid_put : IsValidFor l.levels l.window (words l n) l.root (put M r 0)
+      valid_put = subst (λ T. IsValidFor l.levels l.window T l.root (put M r 0)) (sym set_words)
+          (removed_written l.levels l.window (words l m) l.root M valid q i f leads small outside in_use
+          (λ j inside. sym (word_is_entry l.levels l.window (words l m) l.root M valid r j g names inside (outside_more l.window q i j outside)) ∙ empty j))
+
+      is : put M r 0 ≡ paths l n
+      is = held_is_paths_of l.levels (seen l n) l.root some_levels (put M r 0) valid_put.valid.holds
+
+      before : (p : List ℕ) (h : ℕ) → table_at l.levels l.root (paths l n) p ≡ Some h → table_at l.levels l.root (put M r 0) p ≡ Some h
+      before p h t = ap (λ N. table_at l.levels l.root N p) is ∙ t
+
+      apart_frames : g ≢ f
+      apart_frames e = append_longer q i [] (valid.valid.own_frames r q f (names ∙ ap Some e) leads)
+
+      pub cleaned_removed : IsCleaned l give m held (put M r 0) (g ∷ []) n (give held g)
+      cleaned_removed = record {
+        meant = sym is;
+        valid = subst (IsValidFor l.levels l.window (words l n) l.root) is valid_put;
+        given = refl;
+        left = λ p h t. left_table l.levels l.window (words l m) l.root M valid q i p h (before p h t);
+        were = λ h. ⊎_elim (λ e. (r, names ∙ ap Some e)) (λ none. absurd none);
+        gone = λ h. ⊎_elim (λ e t. not_removed l.levels l.window (words l m) l.root M valid q i t.0 h (before t.0 h t.1) (names ∙ ap Some e)) (λ none. absurd none);
+        empty = λ h. ⊎_elim (λ e j. ap (λ T. word T h j) set_words ∙ ap (λ h. word (set_word (words l m) f i 0) h j) (sym e) ∙ word-set_frame (words l m) f i 0 g j apart_frames ∙ empty j) (λ none. absurd none);
+        there = set_keeps l.places apart m f i 0 n set;
+        others = λ k h. set_others l.places apart m f i 0 n set k (λ e. h f (q, leads) (sym e));
+      }
+
+-- ---- a clean up may go on
+
+pub may_still : {Lent : Type 0} (h : Hierarchy Lent) (give : List ℕ → ℕ → List ℕ) → IsGiving give → (serves : ℕ → Bool) (held : List ℕ) → MayCleanUp h serves held
+    → (N : PathMap) (back : List ℕ) (n : Memory) (rest : List ℕ) → IsCleaned h.layout give h.memory held N back n rest → MayCleanUp (record h { memory = n }) serves rest
+may_still h give gives serves held may N back n rest c = record {
+  valid = c.valid;
+  serves_tables = λ i q f t. may.serves_tables i q f (c.left (i ∷ q) f t);
+  none_held = λ i q f t h. ⊎_elim
+      (λ came. c.gone f came (i ∷ q, t))
+      (λ was. may.none_held i q f (c.left (i ∷ q) f t) was)
+      (in_append back held f ((given_frames give gives held back f).0 (subst (λ fs. In fs f) c.given h)));
+}
+
+-- and a table but the root may come back
+pub may_give : {Lent : Type 0} (h : Hierarchy Lent) (serves : ℕ → Bool) (held : List ℕ) → MayCleanUp h serves held → (q : List ℕ) (i f : ℕ)
+    → table_at h.layout.levels h.layout.root (paths h.layout h.memory) (q ++ i ∷ []) ≡ Some f → (serves f ≡ true) × (In held f → ⊥)
+may_give h serves held may [] i f t = (may.serves_tables i [] f t, may.none_held i [] f t)
+may_give h serves held may (k ∷ q) i f t = (may.serves_tables k (q ++ i ∷ []) f t, may.none_held k (q ++ i ∷ []) f t)

@@ -1,0 +1,103 @@
+-- A call on one entry: what it answers and what the memory is then, from the way down to the entry's table, what the entry's word says, and the write.
+use Rattle.std.proofs.Common.{◌≡◌, ◌<◌, ◌+◌, ℕ, false, List, [], ◌∷◌, ◌++◌, length, take, get_or, Option, Some, None, Result, Ok, Err, refl, sym, ap, ◌∙◌, subst}
+use Rattle.x86_64_model.specs.Layout.{Layout, words, paths, read_entry, Valid}
+use Rattle.x86_64_model.proofs.Lemmas.Machines.Changes.{IsChange}
+use Rattle.x86_64_model.proofs.Lemmas.Maps.Arrives.{first_alone, entry_outside}
+use Rattle.x86_64_model.specs.MapperCalls.{IsChanged}
+use Rattle.x86_64_model.specs.Memory.{Memory, Distinct, word}
+use Rattle.x86_64_model.specs.PageRules.{AfterChange, refused_or}
+use Rattle.x86_64_model.specs.PathMap.{PathMap, put, table_of, table_at}
+use Rattle.x86_64_model.specs.Refusal.{Refusal, Answer, Done, Refused, first_stop}
+use Rattle.x86_64_model.specs.Window.{begins_with}
+use Rattle.x86_64_mappers.specs.private.Stops.{table_read, IsFound}
+use Rattle.x86_64_mappers.specs.private.Writes.{IsSet}
+use Rattle.x86_64_mappers.specs.private.EntryCalls.{word_said, answer_said}
+use Rattle.x86_64_mappers.proofs.Memory.Changed.{set_same}
+use Rattle.x86_64_mappers.proofs.Memory.EntryChanges.{entry_changed}
+use Rattle.x86_64_mappers.proofs.Way.Pages.{path_parted}
+
+-- what holds where an answer is a refusal
+abbrev pub IfRefused : Answer → Type 0 → Type 0
+IfRefused (Done frame) P = Unit {0}
+IfRefused (Refused why) P = P
+
+-- what a call answers that a rule gives, and what it leaves
+pub record Ends (l : Layout) (m : Memory) (after : AfterChange) (answer : Answer) (n : Memory) : Type 0 where
+  pub answers : after.answer ≡ answer
+  pub changed : IsChanged l m after n
+  pub unchanged : IfRefused answer (n ≡ m)
+
+-- the rule of a call, where the entry says which word it becomes and which frame is answered, or why the call is refused
+abbrev pub after_entry : PathMap → List ℕ → (says : Result (ℕ × ℕ) Refusal) → AfterChange
+after_entry M q (Ok done) = record { paths = put M q done.0; answer = Done done.1 }
+after_entry M q (Err why) = record { paths = M; answer = Refused why }
+
+-- a refusal changes nothing
+pub unchanged_ends : (l : Layout) (m : Memory) → Valid l m → (after : AfterChange) (why : Refusal) → after ≡ record { paths = paths l m; answer = Refused why } → Ends l m after (Refused why) m
+unchanged_ends l m valid after why is = record {
+  answers = ap (λ (a : AfterChange). a.answer) is;
+  changed = record { meant = ap (λ (a : AfterChange). a.paths) is; valid = valid; ready = λ s r. r; others = λ k none. refl };
+  unchanged = refl;
+}
+
+-- a call whose rule this is, on the entry at a path of n + 1 indices: nothing changes if a parent stops it or the entry refuses it
+module _ (l : Layout) (m : Memory) (valid : Valid l m) (q : List ℕ) (n : ℕ) (long : length q ≡ n + 1) (says : ℕ → Result (ℕ × ℕ) Refusal) (after : AfterChange)
+    (rule : after ≡ refused_or (paths l m) (first_stop (read_entry l m) q) (after_entry (paths l m) q (says (read_entry l m q)))) where
+  abbrev M : PathMap
+  M = paths l m
+
+  abbrev path : List ℕ
+  path = take n q
+
+  abbrev last : ℕ
+  last = get_or q n 0
+
+  parted : path ++ last ∷ [] ≡ q
+  parted = path_parted q n long
+
+  stop_is : (stop : Option Refusal) → first_stop (read_entry l m) (path ++ last ∷ []) ≡ stop → after ≡ refused_or M stop (after_entry M q (says (read_entry l m q)))
+  stop_is stop is = rule ∙ ap (λ s. refused_or M s (after_entry M q (says (read_entry l m q)))) (ap (first_stop (read_entry l m)) (sym parted) ∙ is)
+
+  -- a parent stops it
+  pub stopped : (why : Refusal) → IsFound l m path (Err why) → Ends l m after (Refused why) m
+  stopped why found = unchanged_ends l m valid after why (stop_is (Some why) (found last))
+
+  module _ (g : ℕ) (found : IsFound l m path (Ok g)) where
+    -- the entry is the word in the table
+    pub word_is : read_entry l m q ≡ word (words l m) g last
+    word_is = ap (read_entry l m) (sym parted) ∙ found.0.entries last
+
+    said : (r : Result (ℕ × ℕ) Refusal) → says (word (words l m) g last) ≡ r → after ≡ after_entry M q r
+    said r is = stop_is None (found.1 last) ∙ ap (λ e. after_entry M q (says e)) word_is ∙ ap (after_entry M q) is
+
+    -- the entry refuses it
+    pub refused : (why : Refusal) → says (word (words l m) g last) ≡ Err why → Ends l m after (Refused why) m
+    refused why is = unchanged_ends l m valid after why (said (Err why) is)
+
+    -- its word was set
+    pub changed : Distinct l.places → 0 < l.levels → (w frame : ℕ) → says (word (words l m) g last) ≡ Ok (w, frame) → IsChange l.levels l.window M q w
+        → (o : Memory) → IsSet l.places m g last w o → Ends l m after (Done frame) o
+    changed apart some_levels w frame is change o set =
+        let after_is = said (Ok (w, frame)) is in
+        let done = entry_changed l apart some_levels m valid path last w (subst (λ q. IsChange l.levels l.window M q w) (sym parted) change) g (same_table path last (ap (begins_with l.window) parted ∙ change.outside) found.0.table) o set in record {
+          answers = ap (λ (a : AfterChange). a.answer) after_is;
+          changed = record { meant = ap (λ (a : AfterChange). a.paths) after_is ∙ ap (λ q. put M q w) (sym parted) ∙ done.meant; valid = done.valid; ready = done.ready; others = done.others };
+          unchanged = tt;
+        }
+      where
+        -- outside the window the path leads to the table in the path map
+        same_table : (path : List ℕ) (last : ℕ) → begins_with l.window (path ++ last ∷ []) ≡ false → table_read l.levels l.root (read_entry l m) path ≡ Some g → table_at l.levels l.root M path ≡ Some g
+        same_table [] z out is = is
+        same_table (i ∷ p) z out is = ap (table_of l.levels (i ∷ p)) (sym (entry_outside l.window M i p (first_alone l.window i (p ++ z ∷ []) p out))) ∙ is
+
+    -- its word is what it says
+    pub ended : Distinct l.places → 0 < l.levels → last < 512 → ((w frame : ℕ) → says (read_entry l m q) ≡ Ok (w, frame) → IsChange l.levels l.window M q w)
+        → (o : Memory) → let e = word (words l m) g last in IsSet l.places m g last (word_said e (says e)) o → Ends l m after (answer_said (says e)) o
+    ended apart some_levels small change o set = by (says e) refl set
+      where
+        e : ℕ
+        e = word (words l m) g last
+
+        by : (r : Result (ℕ × ℕ) Refusal) → says e ≡ r → IsSet l.places m g last (word_said e r) o → Ends l m after (answer_said r) o
+        by (Ok done) is set = changed apart some_levels done.0 done.1 is (change done.0 done.1 (ap says word_is ∙ is)) o set
+        by (Err why) is set = subst (Ends l m after (Refused why)) (sym (set_same l.places apart m g last o small set)) (refused why is)

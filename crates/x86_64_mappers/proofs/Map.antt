@@ -1,0 +1,11 @@
+pub mod Down
+pub mod Goes
+pub mod Linking
+pub mod MapArrivals
+pub mod MapEnds
+pub mod Marked
+pub mod NewTables
+pub mod OpenWays
+pub mod PageMaps
+pub mod StepOutcomes
+pub mod Steps

@@ -1,0 +1,10 @@
+pub mod Words
+pub mod Changed
+pub mod EntryChanges
+pub mod EntryWrites
+pub mod Stored
+pub mod Written
+pub mod Seen
+pub mod Lent
+pub mod RootTables
+pub mod OffsetTables

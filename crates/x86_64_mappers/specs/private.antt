@@ -1,0 +1,14 @@
+pub mod CleaningUp
+pub mod EntryCalls
+pub mod ImplLaws
+pub mod LeafFrames
+pub mod Linked
+pub mod MapConditions
+pub mod MapSteps
+pub mod OpenWay
+pub mod OwnedSteps
+pub mod PageCalls
+pub mod Results
+pub mod Stops
+pub mod TableFlags
+pub mod Writes

@@ -1,0 +1,31 @@
+-- Proofs of laws that impls of mappers give. A `ghost use` names no file of proofs/.
+use Rattle.std.proofs.Common.{inl, inr, refl}
+use Rattle.std.proofs.lemmas.Bool.{and_parts}
+use Rattle.std.specs.Prelude.{ℕ}
+use Rattle.x86_64_model.specs.Entry.{address, is_frame}
+use Rattle.x86_64_model.specs.Laws.Pairs.{IsAdded}
+use Rattle.x86_64_model.proofs.Lemmas.Entries.Bits.{same_frame}
+use Rattle.x86_64_model.proofs.Lemmas.Hierarchies.Memories.{identity_is_mapping}
+use Rattle.x86_64_model.specs.Memory.{IsMapping, identity_places}
+use Rattle.x86_64_mappers.specs.Offsets.{is_reached, offset_places}
+
+-- a mapper may add no flags to a new table entry
+pub no_flags : IsAdded 0
+unfolding address
+no_flags = record { adds = record { no_address = refl; not_huge = refl }; few = inl refl }
+
+-- or PRESENT and WRITABLE
+pub present_writable : IsAdded 3
+unfolding address
+present_writable = record { adds = record { no_address = refl; not_huge = refl }; few = inr refl }
+
+-- the places of numbers are those of a frame mapping
+pub numbers_are_mapping : IsMapping identity_places
+numbers_are_mapping = identity_is_mapping
+
+-- places at an offset are those of a frame mapping
+pub offset_is_mapping : (L offset : ℕ) → IsMapping (offset_places L offset)
+offset_is_mapping L offset = record {
+  frames = λ f h. (and_parts (is_frame f) (is_reached L offset f) h).0;
+  distinct = λ f g a b e. same_frame f g (and_parts (is_frame f) (is_reached L offset f) a).0 (and_parts (is_frame g) (is_reached L offset g) b).0 e;
+}

@@ -1,0 +1,318 @@
+//! Maps of pages of 57 bits.
+ghost use Rattle.std.specs.Prelude.{◌≡◌, ◌<◌, ℕ, true, IfOk};
+ghost use Rattle.x86_64_model.specs.Owned.{Valid};
+ghost use Rattle.x86_64_tables.specs.PageTableFlags.{bits_of};
+
+use super::table_flags::{flags_allowed, set_flags};
+use crate::access::path::path_of_page;
+use crate::access::{TableAccess, change, condition, map, translate};
+use x86_64_addr::addr::VirtAddr57;
+use x86_64_page::frame::PhysFrame;
+use x86_64_page::page::{Page57, PageSize, Size1GiB, Size2MiB, Size4KiB};
+use x86_64_tables::frame_alloc::FrameAllocator;
+use x86_64_tables::mapper::{
+    FlagUpdateError, MapToError, MapperFlush57, MapperFlushAll, PageTables57, TranslateError,
+    UnmapError, parent_flags,
+};
+use x86_64_tables::page_table::PageTableFlags;
+
+/// Maps and unmaps pages of a size of 57 bits, and changes the flags of the entries on their paths.
+///
+/// It is [`Mapper`](super::Mapper) with one more level: a map takes at most four frames.
+///
+/// The parents of a page are the entries on its path from the root down to the one above its own.
+pub trait Mapper57<S: PageSize>: TableAccess + PageTables57 {
+    ghost use Rattle.x86_64_model.specs.Call.{MapTo, MapToWithTableFlags, IdentityMap, Unmap, UpdateFlags, SetFlags};
+    ghost use Rattle.x86_64_model.specs.Entry.{present};
+    ghost use Rattle.x86_64_model.specs.Owned.{path_of, page_translation, allows, allows_map, May, MayMap, Does, DoesMap, ArrivesIn, named};
+    ghost use Rattle.x86_64_tables.specs.MapperAnswers.{map_answer, unmap_answer, flags_answer, translate_answer};
+
+    /// Maps a page to a frame with these flags, as [`Mapper::map_to_with_table_flags`](super::Mapper::map_to_with_table_flags) does.
+    ///
+    /// Conditions: the hierarchy is valid, the allocator's frames are as in a pool that fits it, and
+    /// [`map_allowed`](Self::map_allowed) holds.
+    ///
+    /// # Errors
+    ///
+    /// Those of [`Mapper::map_to_with_table_flags`](super::Mapper::map_to_with_table_flags).
+    final fn map_to_with_table_flags<A: FrameAllocator<Size4KiB>>(
+        &mut self,
+        page: Page57<S>,
+        frame: PhysFrame<S>,
+        flags: PageTableFlags,
+        parent_flags: PageTableFlags,
+        frame_allocator: &mut A,
+    ) -> Result<MapperFlush57<S>, MapToError<S>>
+        requires { let h = Self.hierarchy self.old in let path = path_of h S.LEVEL page in
+            let call = MapToWithTableFlags path frame (bits_of flags) (bits_of parent_flags) in
+            MayMap h (A.supply frame_allocator.old) call }
+        ensures does { let h = Self.hierarchy self.old in let path = path_of h S.LEVEL page in
+            let call = MapToWithTableFlags path frame (bits_of flags) (bits_of parent_flags) in
+            let supply = A.supply frame_allocator.old in let rest = A.supply frame_allocator.new in
+            DoesMap h supply call (map_answer frame result) (Self.hierarchy self.new) rest }
+        ensures page { IfOk result (λ flush. flush ≡ page) }
+        ensures serves { A.serves frame_allocator.new ≡ A.serves frame_allocator.old }
+    {
+        let path = path_of_page(self, page);
+        map::map_path(
+            self,
+            path.indices(),
+            frame,
+            flags,
+            parent_flags,
+            frame_allocator,
+        )?;
+        Ok(MapperFlush57::new(page))
+    }
+
+    /// Maps a page as [`map_to_with_table_flags`](Self::map_to_with_table_flags) does, with the parent flags of
+    /// [`Mapper::map_to`](super::Mapper::map_to).
+    final fn map_to<A: FrameAllocator<Size4KiB>>(
+        &mut self,
+        page: Page57<S>,
+        frame: PhysFrame<S>,
+        flags: PageTableFlags,
+        frame_allocator: &mut A,
+    ) -> Result<MapperFlush57<S>, MapToError<S>>
+        requires { let h = Self.hierarchy self.old in
+            let call = MapTo (path_of h S.LEVEL page) frame (bits_of flags) in
+            MayMap h (A.supply frame_allocator.old) call }
+        ensures does { let h = Self.hierarchy self.old in
+            let call = MapTo (path_of h S.LEVEL page) frame (bits_of flags) in
+            let supply = A.supply frame_allocator.old in let rest = A.supply frame_allocator.new in
+            DoesMap h supply call (map_answer frame result) (Self.hierarchy self.new) rest }
+        ensures page { IfOk result (λ flush. flush ≡ page) }
+        ensures arrives { let h = Self.hierarchy self.new in let given = bits_of flags in
+            IfOk result (λ _. present given ≡ true → ArrivesIn h S.SIZE page frame given) }
+        ensures serves { A.serves frame_allocator.new ≡ A.serves frame_allocator.old }
+    {
+        let parent_flags = parent_flags(flags);
+        self.map_to_with_table_flags(page, frame, flags, parent_flags, frame_allocator)
+    }
+
+    /// Maps the page that starts at a frame's own address to the frame, as [`map_to`](Self::map_to) does.
+    ///
+    /// Conditions: those of [`map_to`](Self::map_to) for this page. Every frame lies below 2^52, and so in the
+    /// lower half of the address space.
+    final fn identity_map<A: FrameAllocator<Size4KiB>>(
+        &mut self,
+        frame: PhysFrame<S>,
+        flags: PageTableFlags,
+        frame_allocator: &mut A,
+    ) -> Result<MapperFlush57<S>, MapToError<S>>
+        requires { let h = Self.hierarchy self.old in
+            let call = MapTo (path_of h S.LEVEL frame) frame (bits_of flags) in
+            MayMap h (A.supply frame_allocator.old) call }
+        ensures does { let h = Self.hierarchy self.old in
+            let call = IdentityMap S.LEVEL frame (bits_of flags) in
+            let supply = A.supply frame_allocator.old in let rest = A.supply frame_allocator.new in
+            DoesMap h supply call (map_answer frame result) (Self.hierarchy self.new) rest }
+        ensures page { IfOk result (λ flush. flush ≡ frame) }
+        ensures arrives { let h = Self.hierarchy self.new in let given = bits_of flags in
+            IfOk result (λ _. present given ≡ true → ArrivesIn h S.SIZE frame frame given) }
+        ensures serves { A.serves frame_allocator.new ≡ A.serves frame_allocator.old }
+    {
+        let page = Page57::containing_address(VirtAddr57::new(frame.start_address().as_u64()));
+        self.map_to(page, frame, flags, frame_allocator)
+    }
+
+    /// Tells whether a page may be mapped with these flags and parent flags, as
+    /// [`Mapper::map_allowed`](super::Mapper::map_allowed) does. The page's index of level five isn't the recursive index.
+    ///
+    /// Condition: the hierarchy is valid.
+    final fn map_allowed(
+        &self,
+        page: Page57<S>,
+        flags: PageTableFlags,
+        parent_flags: PageTableFlags,
+    ) -> bool
+        requires { Valid (Self.hierarchy self.now) }
+        ensures { let h = Self.hierarchy self.now in
+            result ≡ allows_map h (path_of h S.LEVEL page) (bits_of flags) (bits_of parent_flags) }
+    {
+        let path = path_of_page(self, page);
+        condition::path_allowed::<S, _>(self, path.indices(), flags, parent_flags)
+    }
+
+    /// Unmaps a page, and returns the frame that it was mapped to, as [`Mapper::unmap`](super::Mapper::unmap) does.
+    ///
+    /// Conditions: the hierarchy is valid, and the page's index of level five isn't the recursive index.
+    ///
+    /// # Errors
+    ///
+    /// Those of [`Mapper::unmap`](super::Mapper::unmap).
+    final fn unmap(
+        &mut self,
+        page: Page57<S>,
+    ) -> Result<(PhysFrame<S>, MapperFlush57<S>), UnmapError>
+        requires { let h = Self.hierarchy self.old in
+            May h (Unmap (path_of h S.LEVEL page)) }
+        ensures does { let h = Self.hierarchy self.old in
+            Does h (Unmap (path_of h S.LEVEL page)) (unmap_answer result) (Self.hierarchy self.new) }
+        ensures page { IfOk result (λ unmapped. unmapped.1 ≡ page) }
+    {
+        let path = path_of_page(self, page);
+        let frame = change::unmap_path(self, path.indices())?;
+        Ok((frame, MapperFlush57::new(page)))
+    }
+
+    /// Sets the flags of a page's own entry, as [`Mapper::update_flags`](super::Mapper::update_flags) does.
+    ///
+    /// Conditions: the hierarchy is valid, the flags have no address bits, and the page's index of level five isn't the
+    /// recursive index.
+    ///
+    /// # Errors
+    ///
+    /// Those of [`Mapper::update_flags`](super::Mapper::update_flags).
+    final fn update_flags(
+        &mut self,
+        page: Page57<S>,
+        flags: PageTableFlags,
+    ) -> Result<MapperFlush57<S>, FlagUpdateError>
+        requires { let h = Self.hierarchy self.old in
+            May h (UpdateFlags (path_of h S.LEVEL page) (bits_of flags)) }
+        ensures does { let h = Self.hierarchy self.old in
+            let call = UpdateFlags (path_of h S.LEVEL page) (bits_of flags) in
+            Does h call (flags_answer (named h call) result) (Self.hierarchy self.new) }
+        ensures page { IfOk result (λ flush. flush ≡ page) }
+    {
+        let path = path_of_page(self, page);
+        change::update_path::<S, _>(self, path.indices(), flags)?;
+        Ok(MapperFlush57::new(page))
+    }
+
+    /// Sets the flags of the entry of level five on a page's path, and keeps its address.
+    ///
+    /// Conditions: the hierarchy is valid, the flags have no address bits and no `HUGE_PAGE`, and the page's index of level five
+    /// isn't the recursive index.
+    ///
+    /// # Errors
+    ///
+    /// `PageNotMapped` where the entry is unused. A refusal changes nothing.
+    final fn set_flags_p5_entry(
+        &mut self,
+        page: Page57<S>,
+        flags: PageTableFlags,
+    ) -> Result<MapperFlushAll, FlagUpdateError>
+        requires { let h = Self.hierarchy self.old in
+            May h (SetFlags 5 (path_of h S.LEVEL page) (bits_of flags)) }
+        ensures { let h = Self.hierarchy self.old in
+            let call = SetFlags 5 (path_of h S.LEVEL page) (bits_of flags) in
+            Does h call (flags_answer (named h call) result) (Self.hierarchy self.new) }
+    {
+        set_flags(self, page, 5, flags)
+    }
+
+    /// Sets the flags of the entry of level four on a page's path, and keeps its address.
+    ///
+    /// Conditions: the hierarchy is valid, the flags have no address bits and no `HUGE_PAGE`, and the page's index of level five
+    /// isn't the recursive index.
+    ///
+    /// # Errors
+    ///
+    /// `PageNotMapped` where the parent lacks `PRESENT`, or the entry is unused. A refusal changes nothing.
+    final fn set_flags_p4_entry(
+        &mut self,
+        page: Page57<S>,
+        flags: PageTableFlags,
+    ) -> Result<MapperFlushAll, FlagUpdateError>
+        requires { let h = Self.hierarchy self.old in
+            May h (SetFlags 4 (path_of h S.LEVEL page) (bits_of flags)) }
+        ensures { let h = Self.hierarchy self.old in
+            let call = SetFlags 4 (path_of h S.LEVEL page) (bits_of flags) in
+            Does h call (flags_answer (named h call) result) (Self.hierarchy self.new) }
+    {
+        set_flags(self, page, 4, flags)
+    }
+
+    /// Sets the flags of the entry of level three on a page's path, and keeps its address.
+    ///
+    /// Conditions: the hierarchy is valid, and [`p3_flags_allowed`](Self::p3_flags_allowed) holds.
+    ///
+    /// # Errors
+    ///
+    /// `ParentEntryHugePage` for a 1GiB page, whose own entry this is; else `PageNotMapped` where a parent lacks `PRESENT`,
+    /// or the entry is unused. A refusal changes nothing.
+    final fn set_flags_p3_entry(
+        &mut self,
+        page: Page57<S>,
+        flags: PageTableFlags,
+    ) -> Result<MapperFlushAll, FlagUpdateError>
+        requires { let h = Self.hierarchy self.old in
+            May h (SetFlags 3 (path_of h S.LEVEL page) (bits_of flags)) }
+        ensures { let h = Self.hierarchy self.old in
+            let call = SetFlags 3 (path_of h S.LEVEL page) (bits_of flags) in
+            Does h call (flags_answer (named h call) result) (Self.hierarchy self.new) }
+    {
+        set_flags(self, page, 3, flags)
+    }
+
+    /// Sets the flags of the entry of level two on a page's path, and keeps its address.
+    ///
+    /// Conditions: the hierarchy is valid, and [`p2_flags_allowed`](Self::p2_flags_allowed) holds.
+    ///
+    /// # Errors
+    ///
+    /// `ParentEntryHugePage` for a 2MiB or 1GiB page; else `PageNotMapped` or `ParentEntryHugePage` where a parent lacks
+    /// `PRESENT` or has `HUGE_PAGE`; else `PageNotMapped` where the entry is unused. A refusal changes nothing.
+    final fn set_flags_p2_entry(
+        &mut self,
+        page: Page57<S>,
+        flags: PageTableFlags,
+    ) -> Result<MapperFlushAll, FlagUpdateError>
+        requires { let h = Self.hierarchy self.old in
+            May h (SetFlags 2 (path_of h S.LEVEL page) (bits_of flags)) }
+        ensures { let h = Self.hierarchy self.old in
+            let call = SetFlags 2 (path_of h S.LEVEL page) (bits_of flags) in
+            Does h call (flags_answer (named h call) result) (Self.hierarchy self.new) }
+    {
+        set_flags(self, page, 2, flags)
+    }
+
+    /// Tells whether the flags of the entry of level three on a page's path may be set to these, as
+    /// [`Mapper::p3_flags_allowed`](super::Mapper::p3_flags_allowed) does. The page's index of level five isn't the recursive index.
+    ///
+    /// Condition: the hierarchy is valid.
+    final fn p3_flags_allowed(&self, page: Page57<S>, flags: PageTableFlags) -> bool
+        requires { Valid (Self.hierarchy self.now) }
+        ensures { let h = Self.hierarchy self.now in
+            result ≡ allows h (SetFlags 3 (path_of h S.LEVEL page) (bits_of flags)) }
+    {
+        flags_allowed(self, page, 3, flags)
+    }
+
+    /// Tells whether the flags of the entry of level two on a page's path may be set to these, as
+    /// [`Mapper::p2_flags_allowed`](super::Mapper::p2_flags_allowed) does. The page's index of level five isn't the recursive index.
+    ///
+    /// Condition: the hierarchy is valid.
+    final fn p2_flags_allowed(&self, page: Page57<S>, flags: PageTableFlags) -> bool
+        requires { Valid (Self.hierarchy self.now) }
+        ensures { let h = Self.hierarchy self.now in
+            result ≡ allows h (SetFlags 2 (path_of h S.LEVEL page) (bits_of flags)) }
+    {
+        flags_allowed(self, page, 2, flags)
+    }
+
+    /// Returns the frame that a page's entry names, as [`Mapper::translate_page`](super::Mapper::translate_page) does.
+    ///
+    /// Condition: the hierarchy is valid.
+    ///
+    /// # Errors
+    ///
+    /// Those of [`Mapper::translate_page`](super::Mapper::translate_page).
+    final fn translate_page(&self, page: Page57<S>) -> Result<PhysFrame<S>, TranslateError>
+        requires { Valid (Self.hierarchy self.now) }
+        ensures { let h = Self.hierarchy self.now in
+            translate_answer result ≡ page_translation h (path_of h S.LEVEL page) }
+    {
+        let path = path_of_page(self, page);
+        translate::translate_path(self, path.indices())
+    }
+}
+
+impl<M: TableAccess + PageTables57, S: PageSize> Mapper57<S> for M {}
+
+/// Maps pages of all three sizes.
+pub trait MapperAllSizes57: Mapper57<Size4KiB> + Mapper57<Size2MiB> + Mapper57<Size1GiB> {}
+
+impl<M: Mapper57<Size4KiB> + Mapper57<Size2MiB> + Mapper57<Size1GiB>> MapperAllSizes57 for M {}
