@@ -7,7 +7,7 @@ use Rattle.x86_64_model.specs.Machine.{State}
 use Rattle.x86_64_model.specs.Marks.{serves_below}
 use Rattle.x86_64_model.specs.Memory.{Memory}
 use Rattle.x86_64_mappers.specs.Layouts.{direct}
-use Rattle.x86_64_mappers.proofs.OffsetTables.{offset_fits}
+use Rattle.x86_64_mappers.proofs.Memory.OffsetTables.{offset_fits}
 use Rattle.x86_64_mappers.specs.Offsets.{OffsetFits, offset_places}
 use Rattle.x86_64.proofs.Moved.{moved}
 use Rattle.x86_64.proofs.Offsets.{same_state, same_kept, same_free}
@@ -22,10 +22,10 @@ use Rattle.pagetab_engine.specs.declared.request.Request.{Request}
 
 -- the layout at the offset
 abbrev pub layout_at : (offset : ℕ) → Layout
-layout_at offset = direct (offset_places offset) 0x1000
+layout_at offset = direct (offset_places 4 offset) 0x1000
 
 -- what is answered at an offset is answered
-pub answered_alike : (offset : ℕ) (before : Memory) (free : List ℕ) (call : Request) (after : Memory) (rest : List ℕ) (reply : Reply) → OffsetFits before offset → OffsetFits after offset
+pub answered_alike : (offset : ℕ) (before : Memory) (free : List ℕ) (call : Request) (after : Memory) (rest : List ℕ) (reply : Reply) → OffsetFits 4 before offset → OffsetFits 4 after offset
     → IsAnswered (layout_at offset) before free call after rest reply → IsAnswered (direct_layout Four) before free call after rest reply
 answered_alike offset before free call after rest reply first last answered =
     let same = same_state offset 0x1000 before free first in
@@ -36,16 +36,16 @@ answered_alike offset before free call after rest reply first last answered =
     }
 
 -- the free frames fit at the offset
-pub at_offset : (offset : ℕ) (m : Memory) (limit : ℕ) (free : List ℕ) → OffsetFits m offset → runs.FitsPool (direct_layout Four) m (serves_below limit) free → runs.FitsPool (layout_at offset) m (serves_below limit) free
-at_offset offset m limit free reached fits = (offset_fits m offset reached 0x1000 (serves_below limit) free).0 fits
+pub at_offset : (offset : ℕ) (m : Memory) (limit : ℕ) (free : List ℕ) → OffsetFits 4 m offset → runs.FitsPool (direct_layout Four) m (serves_below limit) free → runs.FitsPool (layout_at offset) m (serves_below limit) free
+at_offset offset m limit free reached fits = (offset_fits 4 m offset reached 0x1000 (serves_below limit) free).0 fits
 
-module _ (offset limit : ℕ) (m : Memory) (free rest : List ℕ) (reached : OffsetFits m offset) (fits : runs.FitsPool (direct_layout Four) m (serves_below limit) free) where
+module _ (offset limit : ℕ) (m : Memory) (free rest : List ℕ) (reached : OffsetFits 4 m offset) (fits : runs.FitsPool (direct_layout Four) m (serves_below limit) free) where
   -- what is kept at the offset, by the mapper's layout and by its memory before and after
   kept_at : (l : Layout) (before after n : Memory) → n ≡ after → l ≡ layout_at offset → before ≡ m → runs.Keeps l (serves_below limit) before free after rest → runs.Keeps (layout_at offset) (serves_below limit) m free n rest
   kept_at l before after n last is first = moved (λ (l : Layout) (m n : Memory). runs.Keeps l (serves_below limit) m free n rest) l (layout_at offset) before m after n is first last
 
   -- so the places are reached still
-  pub reached_after : (l : Layout) (before after n : Memory) → n ≡ after → l ≡ layout_at offset → before ≡ m → runs.Keeps l (serves_below limit) before free after rest → OffsetFits n offset
+  pub reached_after : (l : Layout) (before after n : Memory) → n ≡ after → l ≡ layout_at offset → before ≡ m → runs.Keeps l (serves_below limit) before free after rest → OffsetFits 4 n offset
   reached_after l before after n last is first kept = offsets_fit_still (layout_at offset) (serves_below limit) m n free rest (at_offset offset m limit free reached fits) (kept_at l before after n last is first kept) offset reached
 
   -- and what is kept at the offset is kept

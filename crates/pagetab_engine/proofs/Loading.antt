@@ -3,7 +3,7 @@ use Rattle.std.proofs.Common.{◌≡◌, ◌==◌, ℕ, Bool, true, false, List,
 use Rattle.std.proofs.lemmas.Bool.{eqb-false}
 use Rattle.std.specs.FinMap.{get}
 use Rattle.x86_64_model.specs.Memory.{Memory}
-use Rattle.x86_64_mappers.proofs.Stored.{get-put}
+use Rattle.x86_64_mappers.proofs.Memory.Stored.{get-put}
 use Rattle.pagetab_engine.specs.Hierarchy.{IsReached}
 use Rattle.pagetab_engine.specs.Frames.{memory_after}
 use Rattle.pagetab_engine.specs.Slot.{stored, stored_in}

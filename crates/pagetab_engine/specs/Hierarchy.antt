@@ -96,7 +96,7 @@ BothAnswer mode request reply before after = ⊤
 
 -- the mapper reaches each place of the memory
 abbrev pub IsReached : Mode → Memory → Type 0
-IsReached (Offset offset) memory = OffsetFits memory offset
+IsReached (Offset offset) memory = OffsetFits 4 memory offset
 IsReached mode memory = ⊤
 
 -- The recursive mapper's hierarchy is valid for the index, its free frames fit it and are those of the other one, and the path maps are alike.

@@ -92,13 +92,13 @@ pub fn answer_at_offset(
     call: Call,
 ) -> Result<Reply, AllocError>
     requires pool { FitsPool (direct_layout Four) memory.old (serves_below pool.old.limit) pool.old.frames }
-    requires offset { OffsetFits memory.old phys_offset }
+    requires offset { OffsetFits 4 memory.old phys_offset }
     ensures answered { IfOk result (
         IsAnswered (direct_layout Four) memory.old pool.old.frames (four call) memory.new pool.new.frames) }
     ensures unchanged { OnErr result ((memory.new ≡ memory.old) × (pool.new ≡ pool.old)) }
     ensures keeps { let serves = serves_below pool.old.limit in
         KeepsPool (direct_layout Four) serves memory.old pool.old.frames memory.new pool.new.frames }
-    ensures offset { OffsetFits memory.new phys_offset }
+    ensures offset { OffsetFits 4 memory.new phys_offset }
     ensures serves { serves_below pool.new.limit ≡ serves_below pool.old.limit }
 {
     let mut mapper = OffsetPageTable::new(memory, root(), phys_offset);

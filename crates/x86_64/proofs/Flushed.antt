@@ -1,5 +1,5 @@
 -- What is recorded of calls is what the machine records of its calls, so it suffices.
-use Rattle.std.proofs.Common.{zero, suc, ◌≡◌, ◌++◌, ℕ, Bool, List, [], ◌∷◌, map, take, drop, Option, Some, None, option_map, Result, Err, refl, sym, ap, ap₂, ◌∙◌, subst}
+use Rattle.std.proofs.Common.{zero, suc, inl, inr, ◌≡◌, ◌++◌, ℕ, Bool, List, [], ◌∷◌, map, take, drop, Option, Some, None, option_map, Result, Err, refl, sym, ap, ap₂, ◌∙◌, subst}
 use Rattle.std.proofs.lemmas.List.{map-append, take-map, drop-map}
 use Rattle.x86_64_model.specs.Call as machine
 use Rattle.x86_64_model.specs.Entry.{IsParentFlags}
@@ -13,30 +13,28 @@ use Rattle.x86_64_model.specs.Refusal.{Refusal, Done, Refused}
 use Rattle.x86_64_model.specs.Window.{IsValidFor}
 use Rattle.x86_64_model.specs.Laws.Steps.{AllCalls, NoneCovers as NoItemCovers}
 use Rattle.x86_64_model.proofs.Lemmas.Machines.Flushes.{flushes_suffice}
+use Rattle.x86_64_addr.specs.Levels.{IsLevelCount}
+use Rattle.x86_64_tables.specs.FlushRecorder.{page_item}
 use Rattle.x86_64_tables.specs.declared.mapper.recorder.FlushItem.{FlushItem}
-use Rattle.x86_64_tables.specs.declared.mapper.recorder.FlushItem.TheVariants.{Page}
-use Rattle.x86_64.specs.declared.calls.Call.{Call}
 use Rattle.x86_64.specs.declared.calls.PageReply.TheVariants as size_reply
 use Rattle.x86_64.specs.declared.calls.MapperReply.TheVariants as reply
-use Rattle.x86_64.specs.Asked.{PageCall, MapTo, MapToWithTableFlags, IdentityMap, Unmap, UpdateFlags, SetFlags, TranslatePage, MapperCall, Of4KiB, Of2MiB, Of1GiB, Translate, TranslateAddr, CleanUp, page_call, machine_call}
-use Rattle.x86_64.specs.Calls.{asks, call_of, calls_of}
+use Rattle.x86_64.specs.Asked.{PageCall, MapTo, MapToWithTableFlags, IdentityMap, Unmap, UpdateFlags, SetFlags, TranslatePage, Kind, MapperCall, Of4KiB, Of2MiB, Of1GiB, Translate, TranslateAddr, CleanUp, page_call, machine_call, calls_by}
 use Rattle.x86_64_tables.specs.declared.mapper.TranslateResult.{TranslateResult}
-use Rattle.x86_64.specs.Flushes.{size_items, items_of, items_told, item_of, NoneCovers, FlushesSuffice}
-use Rattle.x86_64.specs.Private.{items_where}
-use Rattle.x86_64.specs.Replies.{SizeReply, Reply, map_error, unmap_error, update_error, translate_error, sized, size_answer, translate_result, reply_of}
-use Rattle.x86_64.specs.Runs.{machine_of, state_of, FitsPool, call_step, replies_to}
-use Rattle.x86_64.specs.AskedCalls.{is_call}
+use Rattle.x86_64.specs.Flushes.{size_items, items_of, items_told, level_of_size, item_of, NoneCovers, FlushesSuffice}
+use Rattle.x86_64.specs.private.Served.{items_where}
+use Rattle.x86_64.specs.Replies.{SizeReply, Reply, map_error, unmap_error, update_error, translate_error, sized, size_answer, translate_result, reply_of, changes_nothing}
+use Rattle.x86_64.specs.Runs.{machine_of, state_of, FitsPool, step_as, replies_as}
 
 -- ---- of one call
 
 -- the items of a reply to a call on a page, none where there is no such reply
-abbrev told_items : {S : Type 0} → (size : ℕ) → Option (Option (SizeReply S)) → List FlushItem
-told_items size None = []
-told_items size (Some answer) = items_where size answer
+abbrev told_items : {S : Type 0} → (levels size : ℕ) → Option (Option (SizeReply S)) → List FlushItem
+told_items levels size None = []
+told_items levels size (Some answer) = items_where levels size answer
 
-module _ (S : Type 0) (size level : ℕ) (is : (page : ℕ) → item_of (Page page size) ≡ flush.OnePage (path_at 4 level page)) where
+module _ (S : Type 0) (L size level : ℕ) (is : (page : ℕ) → item_of (page_item L page size) ≡ flush.OnePage (path_at L level page)) where
   abbrev AreItems : PageCall → machine.Reply → Type 0
-  AreItems call r = map item_of (told_items {S = S} size (size_answer call r)) ≡ flush.items_of 4 (page_call 4 level call) r
+  AreItems call r = map item_of (told_items {S = S} L size (size_answer call r)) ≡ flush.items_of L (page_call L level call) r
 
   done : (call : PageCall) (frame : ℕ) → AreItems call (machine.Answered (Done frame))
   done (MapTo page frame flags) f = ap (λ i. i ∷ []) (is page)
@@ -46,7 +44,7 @@ module _ (S : Type 0) (size level : ℕ) (is : (page : ℕ) → item_of (Page pa
   done (UpdateFlags page flags) f = ap (λ i. i ∷ []) (is page)
   done call f = refl
 
-  no_item : (call : PageCall) (r : machine.Reply) → ((item : flush.Item) → flush.if_done r item ≡ []) → flush.items_of 4 (page_call 4 level call) r ≡ []
+  no_item : (call : PageCall) (r : machine.Reply) → ((item : flush.Item) → flush.if_done r item ≡ []) → flush.items_of L (page_call L level call) r ≡ []
   no_item (MapTo page frame flags) r none = none _
   no_item (MapToWithTableFlags page frame flags more) r none = none _
   no_item (IdentityMap frame flags) r none = none _
@@ -55,11 +53,11 @@ module _ (S : Type 0) (size level : ℕ) (is : (page : ℕ) → item_of (Page pa
   no_item (SetFlags at page flags) r none = none _
   no_item (TranslatePage page) r none = refl
 
-  no_error : {X E : Type 0} (wrap : Result X E → SizeReply S) → ((why : E) → size_items size (wrap (Err why)) ≡ []) → (error : Option E) → told_items size (option_map Some (option_map wrap (option_map Err error))) ≡ []
+  no_error : {X E : Type 0} (wrap : Result X E → SizeReply S) → ((why : E) → size_items L size (wrap (Err why)) ≡ []) → (error : Option E) → told_items L size (option_map Some (option_map wrap (option_map Err error))) ≡ []
   no_error wrap none None = refl
   no_error wrap none (Some why) = none why
 
-  none_refused : (call : PageCall) (why : Refusal) → told_items {S = S} size (size_answer call (machine.Answered (Refused why))) ≡ []
+  none_refused : (call : PageCall) (why : Refusal) → told_items {S = S} L size (size_answer call (machine.Answered (Refused why))) ≡ []
   none_refused (MapTo page frame flags) why = no_error size_reply.Map (λ w. refl) (map_error why)
   none_refused (MapToWithTableFlags page frame flags more) why = no_error size_reply.Map (λ w. refl) (map_error why)
   none_refused (IdentityMap frame flags) why = no_error size_reply.Map (λ w. refl) (map_error why)
@@ -76,90 +74,102 @@ module _ (S : Type 0) (size level : ℕ) (is : (page : ℕ) → item_of (Page pa
   size_items_are call (machine.Address a) = sym (no_item call (machine.Address a) (λ item. refl))
   size_items_are call machine.Cleaned = sym (no_item call machine.Cleaned (λ item. refl))
 
+-- the item of a page of a size
+item_is : (L size page : ℕ) → IsLevelCount L → item_of (page_item L page size) ≡ flush.OnePage (path_at L (level_of_size size) page)
+item_is L size page (inl four) = rw four refl
+item_is L size page (inr five) = rw five refl
+
 -- the items of a reply, none where there is none
-abbrev reply_items : Option Reply → List FlushItem
-reply_items None = []
-reply_items (Some answer) = items_of answer
+abbrev reply_items : (levels : ℕ) → Option Reply → List FlushItem
+reply_items levels None = []
+reply_items levels (Some answer) = items_of levels answer
 
-sized_items : {S : Type 0} (size : ℕ) (wrap : SizeReply S → Reply) → ((r : SizeReply S) → items_of (wrap r) ≡ items_where size (Some r)) → (o : Option (Option (SizeReply S))) → reply_items (option_map (sized wrap) o) ≡ told_items size o
-sized_items size wrap is None = refl
-sized_items size wrap is (Some None) = refl
-sized_items size wrap is (Some (Some r)) = is r
+sized_items : {S : Type 0} (L size : ℕ) (wrap : SizeReply S → Reply) → ((r : SizeReply S) → items_of L (wrap r) ≡ items_where L size (Some r)) → (o : Option (Option (SizeReply S))) → reply_items L (option_map (sized wrap) o) ≡ told_items L size o
+sized_items L size wrap is None = refl
+sized_items L size wrap is (Some None) = refl
+sized_items L size wrap is (Some (Some r)) = is r
 
-none_translated : (o : Option TranslateResult) → reply_items (option_map reply.Translate o) ≡ []
-none_translated None = refl
-none_translated (Some result) = refl
+none_translated : (L : ℕ) (o : Option TranslateResult) → reply_items L (option_map reply.Translate o) ≡ []
+none_translated L None = refl
+none_translated L (Some result) = refl
 
-items_are : (call : MapperCall) (r : machine.Reply) → map item_of (reply_items (reply_of call r)) ≡ flush.items_of 4 (machine_call 4 call) r
-items_are (Of4KiB call) r = ap (λ xs. map item_of xs) (sized_items 0x1000 reply.Of4KiB (λ r. refl) (size_answer call r)) ∙ size_items_are _ 0x1000 1 (λ page. refl) call r
-items_are (Of2MiB call) r = ap (λ xs. map item_of xs) (sized_items 0x20_0000 reply.Of2MiB (λ r. refl) (size_answer call r)) ∙ size_items_are _ 0x20_0000 2 (λ page. refl) call r
-items_are (Of1GiB call) r = ap (λ xs. map item_of xs) (sized_items 0x4000_0000 reply.Of1GiB (λ r. refl) (size_answer call r)) ∙ size_items_are _ 0x4000_0000 3 (λ page. refl) call r
-items_are (Translate addr) machine.NotAllowed = refl
-items_are (Translate addr) (machine.Answered a) = refl
-items_are (Translate addr) (machine.Position t) = ap (λ xs. map item_of xs) (none_translated (translate_result t))
-items_are (Translate addr) (machine.Address a) = refl
-items_are (Translate addr) machine.Cleaned = refl
-items_are (TranslateAddr addr) machine.NotAllowed = refl
-items_are (TranslateAddr addr) (machine.Answered a) = refl
-items_are (TranslateAddr addr) (machine.Position t) = refl
-items_are (TranslateAddr addr) (machine.Address a) = refl
-items_are (TranslateAddr addr) machine.Cleaned = refl
-items_are (CleanUp low high) machine.NotAllowed = refl
-items_are (CleanUp low high) (machine.Answered a) = refl
-items_are (CleanUp low high) (machine.Position t) = refl
-items_are (CleanUp low high) (machine.Address a) = refl
-items_are (CleanUp low high) machine.Cleaned = refl
+items_are : (L : ℕ) → IsLevelCount L → (call : MapperCall) (r : machine.Reply) → map item_of (reply_items L (reply_of call r)) ≡ flush.items_of L (machine_call L call) r
+items_are L known (Of4KiB call) r = ap (λ xs. map item_of xs) (sized_items L 0x1000 reply.Of4KiB (λ r. refl) (size_answer call r)) ∙ size_items_are _ L 0x1000 1 (λ page. item_is L 0x1000 page known) call r
+items_are L known (Of2MiB call) r = ap (λ xs. map item_of xs) (sized_items L 0x20_0000 reply.Of2MiB (λ r. refl) (size_answer call r)) ∙ size_items_are _ L 0x20_0000 2 (λ page. item_is L 0x20_0000 page known) call r
+items_are L known (Of1GiB call) r = ap (λ xs. map item_of xs) (sized_items L 0x4000_0000 reply.Of1GiB (λ r. refl) (size_answer call r)) ∙ size_items_are _ L 0x4000_0000 3 (λ page. item_is L 0x4000_0000 page known) call r
+items_are L known (Translate addr) machine.NotAllowed = refl
+items_are L known (Translate addr) (machine.Answered a) = refl
+items_are L known (Translate addr) (machine.Position t) = ap (λ xs. map item_of xs) (none_translated L (translate_result t))
+items_are L known (Translate addr) (machine.Address a) = refl
+items_are L known (Translate addr) machine.Cleaned = refl
+items_are L known (TranslateAddr addr) machine.NotAllowed = refl
+items_are L known (TranslateAddr addr) (machine.Answered a) = refl
+items_are L known (TranslateAddr addr) (machine.Position t) = refl
+items_are L known (TranslateAddr addr) (machine.Address a) = refl
+items_are L known (TranslateAddr addr) machine.Cleaned = refl
+items_are L known (CleanUp low high) machine.NotAllowed = refl
+items_are L known (CleanUp low high) (machine.Answered a) = refl
+items_are L known (CleanUp low high) (machine.Position t) = refl
+items_are L known (CleanUp low high) (machine.Address a) = refl
+items_are L known (CleanUp low high) machine.Cleaned = refl
 
 -- ---- of a list
 
-all_items_are : (m : Machine) → m.levels ≡ 4 → (s : State) (calls : List Call) (told : List Reply) → map Some told ≡ replies_to m s calls → map item_of (items_told told) ≡ flush.all_items m s (calls_of m.levels calls)
-all_items_are m four s [] [] is = refl
-all_items_are m four s [] (x ∷ told) is = cc
-all_items_are m four s (call ∷ calls) [] is = cc
-all_items_are m four s (call ∷ calls) (x ∷ told) is =
-    let r = (step m s (call_of m.levels call)).reply in
-    let t = (step m s (call_of m.levels call)).state in
-    let first : Some x ≡ reply_of (asks call) r = cc in
-    let next : map Some told ≡ replies_to m t calls = cc in
-    map-append item_of (items_of x) (items_told told)
-    ∙ ap₂ (λ xs ys. xs ++ ys) (subst (λ L. map item_of (items_of x) ≡ flush.items_of L (call_of L call) r) (sym four) (ap (λ o. map item_of (reply_items o)) first ∙ items_are (asks call) r)) (all_items_are m four t calls told next)
+module _ {C : Type 0} (asks : C → MapperCall) (L : ℕ) (known : IsLevelCount L) where
+  -- the calls that ask so
+  abbrev asking : Kind C Reply
+  asking = record { levels = L; asks = asks; tells = reply_of; changes_nothing = changes_nothing }
 
--- the replies to the calls after the first k
-late_told : (m : Machine) (s : State) (k : ℕ) (calls : List Call) (told : List Reply) → map Some told ≡ replies_to m s calls
-    → map Some (drop k told) ≡ replies_to m (state_after m s (calls_of m.levels (take k calls))) (drop k calls)
-late_told m s zero calls told is = is
-late_told m s (suc k) [] [] is = refl
-late_told m s (suc k) [] (x ∷ told) is = cc
-late_told m s (suc k) (call ∷ calls) [] is = cc
-late_told m s (suc k) (call ∷ calls) (x ∷ told) is =
-    let next : map Some told ≡ replies_to m (call_step m s call).state calls = cc in
-    late_told m (call_step m s call).state k calls told next
+  all_items_are : (m : Machine) → m.levels ≡ L → (s : State) (calls : List C) (told : List Reply) → map Some told ≡ replies_as asking m s calls
+      → map item_of (items_told L told) ≡ flush.all_items m s (calls_by asks m.levels calls)
+  all_items_are m levels s [] [] is = refl
+  all_items_are m levels s [] (x ∷ told) is = cc
+  all_items_are m levels s (call ∷ calls) [] is = cc
+  all_items_are m levels s (call ∷ calls) (x ∷ told) is =
+      let after = step m s (machine_call m.levels (asks call)) in
+      let first : Some x ≡ reply_of (asks call) after.reply = cc in
+      let next : map Some told ≡ replies_as asking m after.state calls = cc in
+      map-append item_of (items_of L x) (items_told L told)
+      ∙ ap₂ (λ xs ys. xs ++ ys) (subst (λ n. map item_of (items_of L x) ≡ flush.items_of n (machine_call n (asks call)) after.reply) (sym levels) (ap (λ o. map item_of (reply_items L o)) first ∙ items_are L known (asks call) after.reply))
+      (all_items_are m levels after.state calls told next)
 
-covers_none : (items : List FlushItem) (p : ℕ) → NoneCovers items p → NoItemCovers 4 (map item_of items) p
-covers_none [] p none = tt
-covers_none (item ∷ items) p none = (none.0, covers_none items p none.1)
+  -- the replies to the calls after the first k
+  late_told : (m : Machine) (s : State) (k : ℕ) (calls : List C) (told : List Reply) → map Some told ≡ replies_as asking m s calls
+      → map Some (drop k told) ≡ replies_as asking m (state_after m s (calls_by asks m.levels (take k calls))) (drop k calls)
+  late_told m s zero calls told is = is
+  late_told m s (suc k) [] [] is = refl
+  late_told m s (suc k) [] (x ∷ told) is = cc
+  late_told m s (suc k) (call ∷ calls) [] is = cc
+  late_told m s (suc k) (call ∷ calls) (x ∷ told) is =
+      let next : map Some told ≡ replies_as asking m (step_as asking m s call).state calls = cc in
+      late_told m (step_as asking m s call).state k calls told next
 
--- ---- stale walks
+  covers_none : (items : List FlushItem) (p : ℕ) → NoneCovers L items p → NoItemCovers L (map item_of items) p
+  covers_none [] p none = tt
+  covers_none (item ∷ items) p none = (none.0, covers_none items p none.1)
 
-are_calls : (calls : List Call) → AllCalls 4 (calls_of 4 calls)
-are_calls [] = tt
-are_calls (call ∷ calls) = (is_call call, are_calls calls)
+  -- ---- stale walks
 
-pub flushed : (l : Layout) → l.levels ≡ 4 → IsParentFlags l.added_flags → (put : List ℕ → ℕ → List ℕ) → IsGiving put → (serves : ℕ → Bool) (m : Memory) (pool : List ℕ) → FitsPool l m serves pool
-    → (calls : List Call) (n : Memory) (rest : List ℕ) → IsValidFor l.levels l.window (words l n) l.root (state_of l n rest).paths
-    → state_of l n rest ≡ state_after (machine_of l put) (state_of l m pool) (calls_of l.levels calls)
-    → (told : List Reply) → map Some told ≡ replies_to (machine_of l put) (state_of l m pool) calls → FlushesSuffice l put (state_of l m pool) calls told (words l n)
-flushed l four adds put gives serves m pool fits calls n rest valid is told tells k V p first out none =
-    let runs = machine_of l put in
-    let start = state_of l m pool in
-    let then = state_after runs start (calls_of l.levels (take k calls)) in
-    let early : take k (calls_of l.levels calls) ≡ calls_of l.levels (take k calls) = take-map (λ c. call_of l.levels c) k calls in
-    let late : drop k (calls_of l.levels calls) ≡ calls_of l.levels (drop k calls) = drop-map (λ c. call_of l.levels c) k calls in
-    flushes_suffice l.levels l.window (words l m) V (words l n) l.root serves l.added_flags adds put gives start (calls_of l.levels calls)
-    (subst (λ L. AllCalls L (calls_of L calls)) (sym four) (are_calls calls)) fits k
-    (subst (λ (cs : List machine.Call). IsValidFor l.levels l.window V l.root (state_after runs start cs).paths) (sym early) first)
-    (subst (λ (s : State). IsValidFor l.levels l.window (words l n) l.root s.paths) is valid) p out
-    (subst (λ (cs : List machine.Call). NoItemCovers l.levels (flush.all_items runs (state_after runs start cs) (drop k (calls_of l.levels calls))) p) (sym early)
-    (subst (λ (cs : List machine.Call). NoItemCovers l.levels (flush.all_items runs then cs) p) (sym late)
-    (subst (λ items. NoItemCovers l.levels items p) (all_items_are runs four then (drop k calls) (drop k told) (late_told runs start k calls told tells))
-    (subst (λ L. NoItemCovers L (map item_of (items_told (drop k told))) p) (sym four) (covers_none (items_told (drop k told)) p none)))))
+  module _ (is_call : (call : C) → machine.IsCall L (machine_call L (asks call))) where
+    are_calls : (calls : List C) → AllCalls L (calls_by asks L calls)
+    are_calls [] = tt
+    are_calls (call ∷ calls) = (is_call call, are_calls calls)
+
+    pub flushed : (l : Layout) → l.levels ≡ L → IsParentFlags l.added_flags → (put : List ℕ → ℕ → List ℕ) → IsGiving put → (serves : ℕ → Bool) (m : Memory) (pool : List ℕ) → FitsPool l m serves pool
+        → (calls : List C) (n : Memory) (rest : List ℕ) → IsValidFor l.levels l.window (words l n) l.root (state_of l n rest).paths
+        → state_of l n rest ≡ state_after (machine_of l put) (state_of l m pool) (calls_by asks l.levels calls)
+        → (told : List Reply) → map Some told ≡ replies_as asking (machine_of l put) (state_of l m pool) calls → FlushesSuffice asking l put (state_of l m pool) calls told (words l n)
+    flushed l levels adds put gives serves m pool fits calls n rest valid is told tells k V p first out none =
+        let runs = machine_of l put in
+        let start = state_of l m pool in
+        let then = state_after runs start (calls_by asks l.levels (take k calls)) in
+        let early : take k (calls_by asks l.levels calls) ≡ calls_by asks l.levels (take k calls) = take-map (λ c. machine_call l.levels (asks c)) k calls in
+        let late : drop k (calls_by asks l.levels calls) ≡ calls_by asks l.levels (drop k calls) = drop-map (λ c. machine_call l.levels (asks c)) k calls in
+        flushes_suffice l.levels l.window (words l m) V (words l n) l.root serves l.added_flags adds put gives start (calls_by asks l.levels calls)
+        (subst (λ n. AllCalls n (calls_by asks n calls)) (sym levels) (are_calls calls)) fits k
+        (subst (λ (cs : List machine.Call). IsValidFor l.levels l.window V l.root (state_after runs start cs).paths) (sym early) first)
+        (subst (λ (s : State). IsValidFor l.levels l.window (words l n) l.root s.paths) is valid) p out
+        (subst (λ (cs : List machine.Call). NoItemCovers l.levels (flush.all_items runs (state_after runs start cs) (drop k (calls_by asks l.levels calls))) p) (sym early)
+        (subst (λ (cs : List machine.Call). NoItemCovers l.levels (flush.all_items runs then cs) p) (sym late)
+        (subst (λ items. NoItemCovers l.levels items p) (all_items_are runs levels then (drop k calls) (drop k told) (late_told runs start k calls told tells))
+        (subst (λ n. NoItemCovers n (map item_of (items_told L (drop k told))) p) (sym levels) (covers_none (items_told L (drop k told)) p none)))))

@@ -9,28 +9,28 @@ use Rattle.x86_64_model.specs.PathMap.{PathMap}
 use Rattle.x86_64_model.specs.Pool.{IsOwn}
 use Rattle.x86_64_model.specs.Window.{outside_window}
 use Rattle.x86_64_mappers.specs.Layouts.{direct}
-use Rattle.x86_64_mappers.proofs.OffsetTables.{offset_words, offset_fits}
+use Rattle.x86_64_mappers.proofs.Memory.OffsetTables.{offset_words, offset_fits}
 use Rattle.x86_64_mappers.specs.Offsets.{OffsetFits, offset_places}
 use Rattle.x86_64.specs.FreeFrames.{KeepsFree}
 use Rattle.x86_64.specs.Runs.{Keeps, state_of}
 
-same_paths : (offset root : ℕ) (m : Memory) → OffsetFits m offset → paths (direct (offset_places offset) root) m ≡ paths (direct identity_places root) m
-same_paths offset root m reached = ap (λ tables. paths_of 4 (outside_window None root tables) root) (offset_words m offset reached)
+same_paths : (offset root : ℕ) (m : Memory) → OffsetFits 4 m offset → paths (direct (offset_places 4 offset) root) m ≡ paths (direct identity_places root) m
+same_paths offset root m reached = ap (λ tables. paths_of 4 (outside_window None root tables) root) (offset_words 4 m offset reached)
 
 -- the words mean the same state
-pub same_state : (offset root : ℕ) (m : Memory) (pool : List ℕ) → OffsetFits m offset → state_of (direct (offset_places offset) root) m pool ≡ state_of (direct identity_places root) m pool
+pub same_state : (offset root : ℕ) (m : Memory) (pool : List ℕ) → OffsetFits 4 m offset → state_of (direct (offset_places 4 offset) root) m pool ≡ state_of (direct identity_places root) m pool
 same_state offset root m pool reached = ap (λ (M : PathMap). record { paths = M; pool = pool }) (same_paths offset root m reached)
 
-same_own : (offset root : ℕ) (m : Memory) (pool : List ℕ) → OffsetFits m offset → (f : ℕ) → Owns (direct (offset_places offset) root) m pool f ↔ Owns (direct identity_places root) m pool f
+same_own : (offset root : ℕ) (m : Memory) (pool : List ℕ) → OffsetFits 4 m offset → (f : ℕ) → Owns (direct (offset_places 4 offset) root) m pool f ↔ Owns (direct identity_places root) m pool f
 same_own offset root m pool reached f =
     let same = same_paths offset root m reached in
     (subst (λ (M : PathMap). IsOwn 4 root M pool f) same, subst (λ (M : PathMap). IsOwn 4 root M pool f) (sym same))
 
 -- and what is kept is the same
-pub same_kept : (offset root : ℕ) (serves : ℕ → Bool) (m n : Memory) (pool rest : List ℕ) → OffsetFits m offset → OffsetFits n offset
-    → Keeps (direct (offset_places offset) root) serves m pool n rest → Keeps (direct identity_places root) serves m pool n rest
+pub same_kept : (offset root : ℕ) (serves : ℕ → Bool) (m n : Memory) (pool rest : List ℕ) → OffsetFits 4 m offset → OffsetFits 4 n offset
+    → Keeps (direct (offset_places 4 offset) root) serves m pool n rest → Keeps (direct identity_places root) serves m pool n rest
 same_kept offset root serves m n pool rest before after kept = record {
-  fits = (offset_fits n offset after root serves rest).1 kept.fits;
+  fits = (offset_fits 4 n offset after root serves rest).1 kept.fits;
   conserved = λ f.
       let first = same_own offset root m pool before f in
       let last = same_own offset root n rest after f in
@@ -39,11 +39,11 @@ same_kept offset root serves m n pool rest before after kept = record {
 }
 
 -- and so are the words of free frames
-pub same_free : (offset root : ℕ) (m n : Memory) (pool back rest : List ℕ) → OffsetFits m offset → OffsetFits n offset
-    → KeepsFree (direct (offset_places offset) root) m pool back n rest → KeepsFree (direct identity_places root) m pool back n rest
+pub same_free : (offset root : ℕ) (m n : Memory) (pool back rest : List ℕ) → OffsetFits 4 m offset → OffsetFits 4 n offset
+    → KeepsFree (direct (offset_places 4 offset) root) m pool back n rest → KeepsFree (direct identity_places root) m pool back n rest
 same_free offset root m n pool back rest before after keeps =
-    let first = offset_words m offset before in
-    let last = offset_words n offset after in
+    let first = offset_words 4 m offset before in
+    let last = offset_words 4 n offset after in
     record {
       came_back = λ f left came i. subst (λ (T : Words). word T f i ≡ 0) last (keeps.came_back f left came i);
       was_free = keeps.was_free;

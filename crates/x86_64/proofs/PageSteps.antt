@@ -30,7 +30,7 @@ use Rattle.x86_64.specs.declared.calls.PageReply.TheVariants as reply
 use Rattle.x86_64.specs.Replies.{SizeReply, map_error, unmap_error, update_error, translate_error, result_of, size_reply, size_answer, is_refused, size_changes_nothing}
 use Rattle.x86_64.specs.FreeFrames.{KeepsFree}
 use Rattle.x86_64.specs.Runs.{machine_of, state_of, FitsPool, Keeps}
-use Rattle.x86_64.specs.Private.{size_step}
+use Rattle.x86_64.specs.private.Served.{size_step}
 use Rattle.x86_64_model.proofs.Lemmas.Machines.Fitting.{ready_of_fits, sound_of_fits}
 use Rattle.x86_64_model.proofs.Lemmas.Maps.Takes.{map_takes}
 use Rattle.x86_64.proofs.FreeFrames.{map_keeps_free, change_keeps_free, nothing_keeps_free}

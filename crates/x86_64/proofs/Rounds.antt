@@ -10,7 +10,7 @@ use Rattle.x86_64_model.specs.Machine.{Machine, State, state_after}
 use Rattle.x86_64_model.specs.Owned.{Hierarchy}
 use Rattle.x86_64_tables.specs.declared.mapper.recorder.FlushItem.{FlushItem}
 use Rattle.x86_64.specs.Flushes.{items_by}
-use Rattle.x86_64.specs.Private.{recorded}
+use Rattle.x86_64.specs.private.Served.{recorded}
 use Rattle.x86_64.specs.Asked.{Kind, MapperCall, machine_call, calls_by}
 use Rattle.x86_64.specs.FreeFrames.{KeepsFree, back_by, all_back}
 use Rattle.x86_64.specs.Runs.{machine_of, state_of, Keeps, Kept, AfterStep, step_as, replies_as, appended, UnchangedAs}

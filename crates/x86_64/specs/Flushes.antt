@@ -13,21 +13,23 @@ use Rattle.x86_64_model.specs.Position.{page_path}
 use Rattle.x86_64_model.specs.Window.{begins_with, IsValidFor}
 use Rattle.x86_64_tables.specs.declared.mapper.recorder.FlushItem.{FlushItem}
 use Rattle.x86_64_tables.specs.declared.mapper.recorder.FlushItem.TheVariants.{Page, Page57, All}
-use Rattle.x86_64.specs.Calls.{calls_of}
-use Rattle.x86_64.specs.Runs.{machine_of, state_of}
+use Rattle.x86_64_tables.specs.FlushRecorder.{page_item}
+use Rattle.x86_64.specs.Asked.{Kind, calls_by}
+use Rattle.x86_64.specs.Runs.{four, five, machine_of, state_of}
 use Rattle.x86_64.specs.declared.calls.Call.{Call}
+use Rattle.x86_64.specs.declared.calls.call57.Call57.{Call57}
 use Rattle.x86_64.specs.Replies.{SizeReply, Reply}
 use Rattle.x86_64.specs.declared.calls.PageReply.TheVariants.{Map, Unmap, Update, TableFlags, Frame}
 use Rattle.x86_64.specs.declared.calls.MapperReply.TheVariants as reply
 
 -- the item of a page of a size, where the call was accepted
-abbrev pub page_items : {E : Type 0} → (size : ℕ) → Result ℕ E → List FlushItem
-page_items size (Ok page) = Page page size ∷ []
-page_items size (Err why) = []
+abbrev pub page_items : {E : Type 0} → (levels size : ℕ) → Result ℕ E → List FlushItem
+page_items levels size (Ok page) = page_item levels page size ∷ []
+page_items levels size (Err why) = []
 
-abbrev pub unmapped_items : {E : Type 0} → (size : ℕ) → Result (ℕ × ℕ) E → List FlushItem
-unmapped_items size (Ok unmapped) = Page unmapped.1 size ∷ []
-unmapped_items size (Err why) = []
+abbrev pub unmapped_items : {E : Type 0} → (levels size : ℕ) → Result (ℕ × ℕ) E → List FlushItem
+unmapped_items levels size (Ok unmapped) = page_item levels unmapped.1 size ∷ []
+unmapped_items levels size (Err why) = []
 
 -- a change to a table entry: all pages
 abbrev pub all_items : {X E : Type 0} → Result X E → List FlushItem
@@ -35,30 +37,30 @@ all_items (Ok done) = All ∷ []
 all_items (Err why) = []
 
 -- the items of a call on a page of a size that has this reply
-abbrev pub size_items : {S : Type 0} → (size : ℕ) → SizeReply S → List FlushItem
-size_items size (Map mapped) = page_items size mapped
-size_items size (Unmap unmapped) = unmapped_items size unmapped
-size_items size (Update updated) = page_items size updated
-size_items size (TableFlags done) = all_items done
-size_items size (Frame frame) = []
+abbrev pub size_items : {S : Type 0} → (levels size : ℕ) → SizeReply S → List FlushItem
+size_items levels size (Map mapped) = page_items levels size mapped
+size_items levels size (Unmap unmapped) = unmapped_items levels size unmapped
+size_items levels size (Update updated) = page_items levels size updated
+size_items levels size (TableFlags done) = all_items done
+size_items levels size (Frame frame) = []
 
 -- the items of a call that has this reply
-abbrev pub items_of : Reply → List FlushItem
-items_of (reply.Of4KiB answer) = size_items 0x1000 answer
-items_of (reply.Of2MiB answer) = size_items 0x20_0000 answer
-items_of (reply.Of1GiB answer) = size_items 0x4000_0000 answer
-items_of (reply.Translate result) = []
-items_of (reply.Address address) = []
-items_of reply.Cleaned = []
-items_of reply.NotAllowed = []
+abbrev pub items_of : (levels : ℕ) → Reply → List FlushItem
+items_of levels (reply.Of4KiB answer) = size_items levels 0x1000 answer
+items_of levels (reply.Of2MiB answer) = size_items levels 0x20_0000 answer
+items_of levels (reply.Of1GiB answer) = size_items levels 0x4000_0000 answer
+items_of levels (reply.Translate result) = []
+items_of levels (reply.Address address) = []
+items_of levels reply.Cleaned = []
+items_of levels reply.NotAllowed = []
 
 -- the items of calls that have these replies, one after another
 abbrev pub items_by : {R : Type 0} → (items_of : R → List FlushItem) → List R → List FlushItem
 items_by items_of [] = []
 items_by items_of (answer ∷ answers) = items_of answer ++ items_by items_of answers
 
-abbrev pub items_told : List Reply → List FlushItem
-items_told answers = items_by items_of answers
+abbrev pub items_told : (levels : ℕ) → List Reply → List FlushItem
+items_told levels answers = items_by (items_of levels) answers
 
 -- the level of pages of this size
 abbrev pub level_of_size : (size : ℕ) → ℕ
@@ -70,19 +72,27 @@ item_of (Page start size) = flush.OnePage (path_at 4 (level_of_size size) start)
 item_of (Page57 start size) = flush.OnePage (path_at 5 (level_of_size size) start)
 item_of All = flush.Everything
 
-abbrev pub NoneCovers : List FlushItem → (position : ℕ) → Type 0
-NoneCovers items p = AllByRecursion (λ item. flush.covers 4 (item_of item) p ≡ false) items
+abbrev pub NoneCovers : (levels : ℕ) → List FlushItem → (position : ℕ) → Type 0
+NoneCovers levels items p = AllByRecursion (λ item. flush.covers levels (item_of item) p ≡ false) items
 
 -- The walks that a cache may still hold after calls that have these replies: where the processor arrives, from a position outside the recursive
 -- index, in words that mean the state after the first k calls, and no item of a later call covers the position, there it arrives in words that mean
 -- the last state too, at the same address, with no right lost.
-abbrev pub FlushesSuffice : Layout → (put : List ℕ → ℕ → List ℕ) → State → List Call → List Reply → Words → Type 0
-FlushesSuffice l put start calls replies U =
-    (k : ℕ) (V : Words) (p : ℕ) → let then = state_after (machine_of l put) start (calls_of l.levels (take k calls)) in
-    IsValidFor l.levels l.window V l.root then.paths → begins_with l.window (page_path l.levels p) ≡ false → NoneCovers (items_told (drop k replies)) p
+abbrev pub FlushesSuffice : {C : Type 0} → Kind C Reply → Layout → (put : List ℕ → ℕ → List ℕ) → State → List C → List Reply → Words → Type 0
+FlushesSuffice kind l put start calls replies U =
+    (k : ℕ) (V : Words) (p : ℕ) → let then = state_after (machine_of l put) start (calls_by kind.asks l.levels (take k calls)) in
+    IsValidFor l.levels l.window V l.root then.paths → begins_with l.window (page_path l.levels p) ≡ false → NoneCovers kind.levels (items_told kind.levels (drop k replies)) p
     → Keeps (page_walk l.levels V l.root p) (page_walk l.levels U l.root p)
 
--- What is recorded of calls: after the items of before one for each accepted call, and these suffice.
-pub record Flushed {Lent : Type 0} (put : List ℕ → ℕ → List ℕ) (h : Hierarchy Lent) (pool : List ℕ) (calls : List Call) (told : List Reply) (before now : List FlushItem) (after : Hierarchy Lent) : Type 0 where
-  pub items : now ≡ before ++ items_told told
-  pub suffice : FlushesSuffice h.layout put (state_of h.layout h.memory pool) calls told (words h.layout after.memory)
+-- What is recorded of calls of a kind: after the items of before one for each accepted call, and these suffice.
+pub record FlushedAs {C Lent : Type 0} (kind : Kind C Reply) (put : List ℕ → ℕ → List ℕ) (h : Hierarchy Lent) (pool : List ℕ) (calls : List C) (told : List Reply) (before now : List FlushItem) (after : Hierarchy Lent) : Type 0 where
+  pub items : now ≡ before ++ items_told kind.levels told
+  pub suffice : FlushesSuffice kind h.layout put (state_of h.layout h.memory pool) calls told (words h.layout after.memory)
+
+-- with four levels
+abbrev pub Flushed : {Lent : Type 0} → (put : List ℕ → ℕ → List ℕ) → (h : Hierarchy Lent) → (pool : List ℕ) → (calls : List Call) → (told : List Reply) → (before now : List FlushItem) → (after : Hierarchy Lent) → Type 0
+Flushed put h pool calls told before now after = FlushedAs four put h pool calls told before now after
+
+-- with five levels
+abbrev pub Flushed57 : {Lent : Type 0} → (put : List ℕ → ℕ → List ℕ) → (h : Hierarchy Lent) → (pool : List ℕ) → (calls : List Call57) → (told : List Reply) → (before now : List FlushItem) → (after : Hierarchy Lent) → Type 0
+Flushed57 put h pool calls told before now after = FlushedAs five put h pool calls told before now after

@@ -14,19 +14,20 @@ pub use calls::{
     SizeReply57,
 };
 pub use runs::{
-    is_outside_window, is_outside_window_57, run, run_57, run_flushed, run_pair, run_pair_57,
+    is_outside_window, is_outside_window_57, run, run_57, run_flushed, run_flushed_57, run_pair,
+    run_pair_57,
 };
 pub use x86_64_addr::addr;
 pub use x86_64_addr::addr::{PhysAddr, VirtAddr, VirtAddr57};
+pub use x86_64_addr::level_count::{FiveLevels, FourLevels, LevelCount};
 pub use x86_64_mappers::recursive_page_table::{
     WalkedTables, p1_window, p1_window_57, p2_window, p2_window_57, p3_window, p3_window_57,
     p4_window_57,
 };
 pub use x86_64_page::range::Block;
 pub use x86_64_tables::frame_alloc::{FrameKeeper, FramePool, FrameStore, PoolRefusal};
-pub use x86_64_tables::level_count::{FiveLevels, FourLevels, LevelCount};
 pub use x86_64_tables::mapper::{
-    FlushItem, FlushRecorder, PageTables, PageTables57, Tables, parent_flags,
+    FlushItem, FlushRecorder, PageTables, PageTables57, Tables, TablesIn, parent_flags,
 };
 pub use x86_64_tables::phys_memory::{
     ActiveMemory, ActiveMemory57, FramePlace, IdentityMapping, PhysMemory, PlacesRefusal,

@@ -10,7 +10,7 @@ ghost use Rattle.x86_64.specs.Calls.{size_asks};
 ghost use Rattle.x86_64.specs.Flushes.{items_by};
 ghost use Rattle.x86_64.specs.FreeFrames.{KeepsFree};
 ghost use Rattle.x86_64.specs.Runs.{machine_of, state_of, Kept, Ran, RanAs, appended};
-ghost use Rattle.x86_64.specs.Private.{recorded, items_where, changes_nothing_where, size_step};
+ghost use Rattle.x86_64.specs.private.Served.{recorded, items_where, changes_nothing_where, size_step};
 
 mod five_levels;
 mod flushed;
@@ -21,14 +21,15 @@ mod tokens;
 use crate::calls::{Call, Reply, SizeCall, SizeReply, identity_page};
 use bitflags::Flags;
 pub use five_levels::{is_outside_window_57, run_57};
-pub use flushed::run_flushed;
+pub use flushed::{run_flushed, run_flushed_57};
 pub use pair::{run_pair, run_pair_57};
 use served::{Asked, Served};
 use std::alloc::AllocError;
 use tokens::{Ignored, Tokens, take, take_all, take_unmapped};
+use x86_64_mappers::mapper::{CleanUp, Mapper, MapperAllSizes, Translate};
 use x86_64_page::page::{Page, PageSize, Size1GiB, Size2MiB, Size4KiB};
 use x86_64_tables::frame_alloc::FrameStore;
-use x86_64_tables::mapper::{CleanUp, Mapper, MapperAllSizes, Tables, Translate, parent_flags};
+use x86_64_tables::mapper::{Tables, parent_flags};
 use x86_64_tables::page_table::PageTableFlags;
 
 /// Answers calls in order, and appends a reply for each.
@@ -93,7 +94,7 @@ fn serve_all<C: Served<M, K, R>, R, M: Tables, F: FrameStore, K: Tokens>(
 
 impl Asked<Reply> for Call {
     ghost use Rattle.x86_64.specs.Runs.{four};
-    ghost use Rattle.x86_64.specs.AskedCalls.{is_call};
+    ghost use Rattle.x86_64.specs.private.AskedCalls.{is_call};
 
     ghost kind = { four };
 
@@ -103,9 +104,9 @@ impl Asked<Reply> for Call {
 impl<M: MapperAllSizes + Translate + CleanUp, K: Tokens> Served<M, K, Reply> for Call {
     ghost use Rattle.x86_64.specs.Flushes.{items_of};
 
-    ghost items_of = { items_of };
+    ghost items_of = { items_of 4 };
 
-    ghost levels = { M.four_levels };
+    ghost levels = { M.level_count };
 
     fn serve<F: FrameStore>(self, mapper: &mut M, frames: &mut F, tokens: &mut K) -> Reply {
         match self {
@@ -163,7 +164,7 @@ fn serve_page<S: PageSize, M: Mapper<S>, F: FrameStore, K: Tokens>(
         Kept h (F.serves frames.old) (F.supply frames.old) (M.hierarchy mapper.new) (F.supply frames.new) }
     ensures serves { F.serves frames.new ≡ F.serves frames.old }
     ensures items { K.items tokens.new ≡ K.items tokens.old
-        ++ recorded K.records (items_where S.SIZE result) }
+        ++ recorded K.records (items_where 4 S.SIZE result) }
     ensures room { (n : ℕ) → K.has_room tokens.old (n + 1) → K.has_room tokens.new n }
 {
     if !is_allowed(mapper, &call) {

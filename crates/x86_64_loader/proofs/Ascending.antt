@@ -9,7 +9,7 @@ use Rattle.x86_64_model.specs.PageMappings.{PageMapping, AreApart, EachApart}
 use Rattle.x86_64_model.specs.Position.{span}
 use Rattle.x86_64_model.proofs.Lemmas.Lists.All.{all_mapped}
 use Rattle.x86_64_tables.specs.PageTableFlags.{bits_of}
-use Rattle.x86_64_loader.specs.Loads.{pages_by}
+use Rattle.x86_64_loader.specs.private.Loads.{pages_by}
 use Rattle.x86_64_loader.specs.Segments.{IsAllowed, count_before, count_large, large_pages, mapping_of, part_of, run_of, size_of, small_pages}
 use Rattle.x86_64_loader.specs.declared.loader.Sizes.{Sizes}
 use Rattle.x86_64_loader.specs.declared.loader.Sizes.TheVariants as sizes

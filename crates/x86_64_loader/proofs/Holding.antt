@@ -13,7 +13,7 @@ use Rattle.x86_64_model.proofs.Lemmas.Machines.Effects.{map_may}
 use Rattle.x86_64_model.proofs.Lemmas.Machines.Standing.{arrives_where_stands}
 use Rattle.x86_64_model.specs.MapRule.{parent_part}
 use Rattle.x86_64_model.specs.Owned.{paths}
-use Rattle.x86_64_loader.specs.Held.{IsHeld, AreHeld}
+use Rattle.x86_64_loader.specs.private.Held.{IsHeld, AreHeld}
 use Rattle.x86_64_loader.specs.Maps.{Kept}
 use Rattle.x86_64_loader.specs.Pages.{IsFree, Leaves, MayBeMapped, RunStands}
 use Rattle.x86_64_loader.specs.Segments.{ReachesAt}

@@ -10,7 +10,7 @@ use Rattle.x86_64_model.specs.Refusal.{Answer, Done, Refused, ParentEntryHugePag
 use Rattle.x86_64_model.proofs.Lemmas.Machines.Standing.{map_to_stands, stands_after, stands_refuses}
 use Rattle.x86_64_tables.specs.MapperAnswers.{map_answer}
 use Rattle.x86_64_tables.specs.declared.mapper.MapToError.{MapToError}
-use Rattle.x86_64_tables.proofs.MapArrivals.{frame_address, small_multiple}
+use Rattle.x86_64_mappers.proofs.Map.MapArrivals.{frame_address, small_multiple}
 use Rattle.x86_64_loader.specs.Pages.{IsFree, Leaves}
 use Rattle.x86_64_loader.proofs.Made.{kept_one}
 

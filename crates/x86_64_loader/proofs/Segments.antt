@@ -10,7 +10,7 @@ use Rattle.x86_64_model.specs.Owned.{Hierarchy, Valid}
 use Rattle.x86_64_model.specs.PageMappings.{PageMapping}
 use Rattle.x86_64_tables.specs.MapperAnswers.{map_refusal}
 use Rattle.x86_64_tables.specs.PageTableFlags.{bits_of}
-use Rattle.x86_64_loader.specs.Loads.{HoldsSegment, IsHalted}
+use Rattle.x86_64_loader.specs.private.Loads.{HoldsSegment, IsHalted}
 use Rattle.x86_64_loader.specs.Maps.{Accepts, Refuses}
 use Rattle.x86_64_loader.specs.Pages.{IsFree, Leaves}
 use Rattle.x86_64_loader.specs.Segments.{AllStand, AreApart, Has, IsAllowed, IsLoaded, IsRefused, size_of}

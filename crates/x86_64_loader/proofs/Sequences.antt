@@ -5,7 +5,7 @@ use Rattle.x86_64_model.specs.Owned.{Hierarchy, Stands}
 use Rattle.x86_64_model.specs.PageMappings.{PageMapping}
 use Rattle.x86_64_model.specs.Refusal.{Refusal}
 use Rattle.x86_64_tables.specs.PageTableFlags.{bits_of}
-use Rattle.x86_64_loader.specs.Loads.{IsHalted, IsMapped}
+use Rattle.x86_64_loader.specs.private.Loads.{IsHalted, IsMapped}
 use Rattle.x86_64_loader.specs.declared.segment.Segment.{Segment}
 use Rattle.x86_64_loader.proofs.Holding.{held_reached, held_still, reached_after}
 use Rattle.x86_64_loader.proofs.Listed.{all_both_lists, cut_before, cut_behind}

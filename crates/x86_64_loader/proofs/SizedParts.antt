@@ -15,8 +15,8 @@ use Rattle.x86_64_model.proofs.Lemmas.Machines.Effects.{map_may}
 use Rattle.x86_64_model.proofs.Lemmas.Maps.Arrives.{first_alone}
 use Rattle.x86_64_model.proofs.Lemmas.Paths.Pages.{length_taken}
 use Rattle.x86_64_tables.specs.PageTableFlags.{bits_of}
-use Rattle.x86_64_loader.specs.Held.{IsHeld}
-use Rattle.x86_64_loader.specs.Loads.{HoldsPart, IsHalted, IsStopped}
+use Rattle.x86_64_loader.specs.private.Held.{IsHeld}
+use Rattle.x86_64_loader.specs.private.Loads.{HoldsPart, IsHalted, IsStopped}
 use Rattle.x86_64_loader.specs.Pages.{MayBeMapped, RunStands}
 use Rattle.x86_64_loader.specs.Segments.{AllStand, IsAllowed, mapping_of, part_of, size_of}
 use Rattle.x86_64_loader.specs.declared.segment.Segment.{Segment}

@@ -19,7 +19,7 @@ use Rattle.x86_64_model.proofs.Lemmas.Lists.Members.{in_flat_map}
 use Rattle.x86_64_model.proofs.Lemmas.Machines.PageMappings.{covers_missing, mappings_succeed}
 use Rattle.x86_64_tables.specs.MapperAnswers.{map_refusal}
 use Rattle.x86_64.specs.Pairs.{put_first}
-use Rattle.x86_64_loader.specs.Loads.{pages_by}
+use Rattle.x86_64_loader.specs.private.Loads.{pages_by}
 use Rattle.x86_64_loader.specs.Maps.{Refuses}
 use Rattle.x86_64_loader.specs.Segments.{Disjoint, Has, IsAllowed, IsRefused, Suffices, size_of}
 use Rattle.x86_64_loader.specs.declared.loader.Sizes.{Sizes}

@@ -11,7 +11,7 @@ use Rattle.x86_64_model.specs.Window.{Window, begins_with}
 use Rattle.x86_64_model.proofs.Lemmas.Machines.Effects.{map_may}
 use Rattle.x86_64.proofs.FirstIndex.{first_index, is_index}
 use Rattle.x86_64_loader.specs.Pages.{MayBeMapped}
-use Rattle.x86_64_loader.specs.Windows.{AreOutside}
+use Rattle.x86_64_loader.specs.private.Windows.{AreOutside}
 use Rattle.x86_64_loader.proofs.SizedParts.{elsewhere_allowed}
 
 -- the index of level four rises with the position

@@ -1,6 +1,4 @@
 pub mod Maps
 pub mod Pages
-pub mod Held
 pub mod Segments
-pub mod Loads
-pub mod Windows
+pub mod private

@@ -1,7 +1,7 @@
 //! Loads of segments.
 ghost use Rattle.std.specs.Prelude.{◌≡◌, ◌%◌, flat_map, IsOk, OnOk, IfErr};
 ghost use Rattle.std.specs.List.{All};
-ghost use Rattle.x86_64_loader.specs.Loads.{LoadsPart, pages_by};
+ghost use Rattle.x86_64_loader.specs.private.Loads.{LoadsPart, pages_by};
 ghost use Rattle.x86_64_loader.specs.Maps.{Accepts, Kept};
 ghost use Rattle.x86_64_loader.specs.Segments.{Disjoint, IsAllowed, IsLoaded, IsRefused, Suffices, large_pages, size_of, small_pages};
 ghost use Rattle.x86_64_model.specs.Owned.{SupplyFits};

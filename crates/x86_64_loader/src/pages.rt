@@ -1,6 +1,6 @@
 //! Maps of runs of pages of one size.
 ghost use Rattle.std.specs.Prelude.{◌≡◌, ◌+◌, ◌*◌, ◌%◌, ◌^◌, ◌<◌, [], ◌∷◌, ℕ, true, OnOk, OnErr, IfErr};
-ghost use Rattle.x86_64_loader.specs.Loads.{IsStopped};
+ghost use Rattle.x86_64_loader.specs.private.Loads.{IsStopped};
 ghost use Rattle.x86_64_loader.specs.Maps.{Accepts, Made};
 ghost use Rattle.x86_64_loader.specs.Pages.{MayBeMapped, RunStands, IsFree, Leaves};
 ghost use Rattle.x86_64_loader.specs.Segments.{mapping_of, run_of};

@@ -1,6 +1,6 @@
 //! Maps of parts of a segment by pages of one size.
 ghost use Rattle.std.specs.Prelude.{◌≡◌, ◌+◌, ◌*◌, ◌%◌, ◌<◌, ◌≤◌};
-ghost use Rattle.x86_64_loader.specs.Loads.{LoadsPart};
+ghost use Rattle.x86_64_loader.specs.private.Loads.{LoadsPart};
 ghost use Rattle.x86_64_loader.specs.Segments.{IsAllowed, count_before, part_of, size_of};
 ghost use Rattle.x86_64_model.specs.Owned.{SupplyFits};
 ghost use Rattle.x86_64_tables.specs.MapperAnswers.{map_refusal};

@@ -3,7 +3,7 @@ ghost use Rattle.std.specs.Prelude.{◌≡◌, ◌+◌, ◌-◌, ◌*◌, ◌/�
 ghost use Rattle.std.specs.List.{All};
 ghost use Rattle.x86_64_loader.specs.Pages.{MayBeMapped};
 ghost use Rattle.x86_64_loader.specs.Segments.{IsAllowed, IsInside, frames_for, tables_of};
-ghost use Rattle.x86_64_loader.specs.Windows.{AreOutside};
+ghost use Rattle.x86_64_loader.specs.private.Windows.{AreOutside};
 ghost use Rattle.x86_64_model.specs.Entry.{present};
 ghost use Rattle.x86_64_model.specs.Owned.{Valid};
 ghost use Rattle.x86_64_tables.specs.PageTableFlags.{bits_of};

@@ -1,24 +1,23 @@
 //! Lists of calls of a mapper of five levels.
-ghost use Rattle.std.specs.Prelude.{◌≡◌, ◌+◌, ◌<◌, [], true, not, length, Some, OnOk, OnErr, vec_len};
+ghost use Rattle.std.specs.Prelude.{◌≡◌, ◌+◌, ◌<◌, ◌++◌, [], ℕ, true, not, length, Some, OnOk, OnErr, vec_len};
 ghost use Rattle.std.specs.Vec.{vec_capacity};
 ghost use Rattle.x86_64_model.specs.Owned.{Valid, PoolFits, allows, path_of};
 ghost use Rattle.x86_64_model.specs.Window.{begins_with};
 ghost use Rattle.x86_64.specs.Asked.{page_call};
 ghost use Rattle.x86_64.specs.Calls.{size_asks_57};
-ghost use Rattle.x86_64.specs.Private.{changes_nothing_where, size_step};
+ghost use Rattle.x86_64.specs.private.Served.{recorded, items_where, changes_nothing_where, size_step};
 ghost use Rattle.x86_64.specs.FreeFrames.{KeepsFree};
 ghost use Rattle.x86_64.specs.Runs.{machine_of, state_of, Kept, Ran57};
 
 use super::served::{Asked, Served};
-use super::tokens::{Ignored, ignore_page, ignore_unmapped, take_all};
+use super::tokens::{Ignored, Tokens, take, take_all, take_unmapped};
 use super::{fit_high_entry, serve_all};
 use crate::calls::{Call57, Reply57, SizeCall57, SizeReply57, identity_page_57};
 use std::alloc::AllocError;
+use x86_64_mappers::mapper::{CleanUp57, Mapper57, MapperAllSizes57, Translate57};
 use x86_64_page::page::{Page57, PageSize, Size1GiB, Size2MiB, Size4KiB};
 use x86_64_tables::frame_alloc::FrameStore;
-use x86_64_tables::mapper::{
-    CleanUp57, Mapper57, MapperAllSizes57, Tables, Translate57, parent_flags,
-};
+use x86_64_tables::mapper::{Tables, parent_flags};
 
 /// Answers calls of five levels in order, and appends a reply for each, as [`run`](super::run) does for four.
 ///
@@ -57,39 +56,39 @@ pub fn run_57<M: MapperAllSizes57 + Translate57 + CleanUp57, F: FrameStore>(
 
 impl Asked<Reply57> for Call57 {
     ghost use Rattle.x86_64.specs.Runs.{five};
-    ghost use Rattle.x86_64.specs.AskedCalls.{is_call_57};
+    ghost use Rattle.x86_64.specs.private.AskedCalls.{is_call_57};
 
     ghost kind = { five };
 
     ghost is_call = { is_call_57 };
 }
 
-/// The tokens of calls of five levels are ignored, so none is recorded.
-impl<M: MapperAllSizes57 + Translate57 + CleanUp57> Served<M, Ignored, Reply57> for Call57 {
-    ghost use Rattle.std.specs.Prelude.{[]};
+impl<M: MapperAllSizes57 + Translate57 + CleanUp57, K: Tokens> Served<M, K, Reply57> for Call57 {
+    ghost use Rattle.x86_64.specs.Flushes.{items_of};
 
-    ghost items_of = { λ reply. [] };
+    ghost items_of = { items_of 5 };
 
-    ghost levels = { M.five_levels };
+    ghost levels = { M.level_count };
 
-    fn serve<F: FrameStore>(
-        self,
-        mapper: &mut M,
-        frames: &mut F,
-        _tokens: &mut Ignored,
-    ) -> Reply57 {
+    fn serve<F: FrameStore>(self, mapper: &mut M, frames: &mut F, tokens: &mut K) -> Reply57 {
         match self {
             Call57::Of4KiB(call) => {
-                let reply = serve_page_57::<Size4KiB, M, F>(mapper, frames, call);
-                reply.map_or(Reply57::NotAllowed, Reply57::Of4KiB)
+                match serve_page_57::<Size4KiB, M, F, K>(mapper, frames, call, tokens) {
+                    Some(reply) => Reply57::Of4KiB(reply),
+                    None => Reply57::NotAllowed,
+                }
             }
             Call57::Of2MiB(call) => {
-                let reply = serve_page_57::<Size2MiB, M, F>(mapper, frames, call);
-                reply.map_or(Reply57::NotAllowed, Reply57::Of2MiB)
+                match serve_page_57::<Size2MiB, M, F, K>(mapper, frames, call, tokens) {
+                    Some(reply) => Reply57::Of2MiB(reply),
+                    None => Reply57::NotAllowed,
+                }
             }
             Call57::Of1GiB(call) => {
-                let reply = serve_page_57::<Size1GiB, M, F>(mapper, frames, call);
-                reply.map_or(Reply57::NotAllowed, Reply57::Of1GiB)
+                match serve_page_57::<Size1GiB, M, F, K>(mapper, frames, call, tokens) {
+                    Some(reply) => Reply57::Of1GiB(reply),
+                    None => Reply57::NotAllowed,
+                }
             }
             Call57::Translate(addr) => Reply57::Translate(mapper.translate(addr)),
             Call57::TranslateAddr(addr) => Reply57::Address(mapper.translate_addr(addr)),
@@ -106,12 +105,14 @@ impl<M: MapperAllSizes57 + Translate57 + CleanUp57> Served<M, Ignored, Reply57> 
 }
 
 /// Answers a call on a page, or gives `None` where it is not allowed.
-fn serve_page_57<S: PageSize, M: Mapper57<S>, F: FrameStore>(
+fn serve_page_57<S: PageSize, M: Mapper57<S>, F: FrameStore, K: Tokens>(
     mapper: &mut M,
     frames: &mut F,
     call: SizeCall57<S>,
+    tokens: &mut K,
 ) -> Option<SizeReply57<S>>
-    requires { PoolFits (M.hierarchy mapper.old) (F.serves frames.old) (F.supply frames.old) }
+    requires room { K.has_room tokens.old 1 }
+    requires fits { PoolFits (M.hierarchy mapper.old) (F.serves frames.old) (F.supply frames.old) }
     ensures step { let layout = (M.hierarchy mapper.old).layout in
         let start = state_of layout (M.hierarchy mapper.old).memory (F.supply frames.old) in
         let after = state_of layout (M.hierarchy mapper.new).memory (F.supply frames.new) in
@@ -124,13 +125,16 @@ fn serve_page_57<S: PageSize, M: Mapper57<S>, F: FrameStore>(
     ensures keeps { let h = M.hierarchy mapper.old in
         Kept h (F.serves frames.old) (F.supply frames.old) (M.hierarchy mapper.new) (F.supply frames.new) }
     ensures serves { F.serves frames.new ≡ F.serves frames.old }
+    ensures items { K.items tokens.new ≡ K.items tokens.old
+        ++ recorded K.records (items_where 5 S.SIZE result) }
+    ensures room { (n : ℕ) → K.has_room tokens.old (n + 1) → K.has_room tokens.new n }
 {
     if !is_allowed_57(mapper, &call) {
         return None;
     }
     Some(match call {
         SizeCall57::MapTo { page, frame, flags } => {
-            SizeReply57::Map(ignore_page(mapper.map_to(page, frame, flags, frames)))
+            SizeReply57::Map(take(tokens, mapper.map_to(page, frame, flags, frames)))
         }
         SizeCall57::MapToWithTableFlags {
             page,
@@ -139,26 +143,26 @@ fn serve_page_57<S: PageSize, M: Mapper57<S>, F: FrameStore>(
             parent_flags,
         } => {
             let mapped = mapper.map_to_with_table_flags(page, frame, flags, parent_flags, frames);
-            SizeReply57::Map(ignore_page(mapped))
+            SizeReply57::Map(take(tokens, mapped))
         }
         SizeCall57::IdentityMap { frame, flags } => {
-            SizeReply57::Map(ignore_page(mapper.identity_map(frame, flags, frames)))
+            SizeReply57::Map(take(tokens, mapper.identity_map(frame, flags, frames)))
         }
-        SizeCall57::Unmap { page } => SizeReply57::Unmap(ignore_unmapped(mapper.unmap(page))),
+        SizeCall57::Unmap { page } => SizeReply57::Unmap(take_unmapped(tokens, mapper.unmap(page))),
         SizeCall57::UpdateFlags { page, flags } => {
-            SizeReply57::Update(ignore_page(mapper.update_flags(page, flags)))
+            SizeReply57::Update(take(tokens, mapper.update_flags(page, flags)))
         }
         SizeCall57::SetFlagsP5 { page, flags } => {
-            SizeReply57::TableFlags(take_all(&mut Ignored, mapper.set_flags_p5_entry(page, flags)))
+            SizeReply57::TableFlags(take_all(tokens, mapper.set_flags_p5_entry(page, flags)))
         }
         SizeCall57::SetFlagsP4 { page, flags } => {
-            SizeReply57::TableFlags(take_all(&mut Ignored, mapper.set_flags_p4_entry(page, flags)))
+            SizeReply57::TableFlags(take_all(tokens, mapper.set_flags_p4_entry(page, flags)))
         }
         SizeCall57::SetFlagsP3 { page, flags } => {
-            SizeReply57::TableFlags(take_all(&mut Ignored, mapper.set_flags_p3_entry(page, flags)))
+            SizeReply57::TableFlags(take_all(tokens, mapper.set_flags_p3_entry(page, flags)))
         }
         SizeCall57::SetFlagsP2 { page, flags } => {
-            SizeReply57::TableFlags(take_all(&mut Ignored, mapper.set_flags_p2_entry(page, flags)))
+            SizeReply57::TableFlags(take_all(tokens, mapper.set_flags_p2_entry(page, flags)))
         }
         SizeCall57::TranslatePage { page } => SizeReply57::Frame(mapper.translate_page(page)),
     })

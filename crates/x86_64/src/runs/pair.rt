@@ -11,10 +11,11 @@ use super::served::{Asked, Served};
 use super::tokens::Ignored;
 use crate::calls::{Call, Call57, Reply, Reply57};
 use std::alloc::{AllocError, Global};
-use x86_64_tables::frame_alloc::FramePool;
-use x86_64_tables::mapper::{
-    CleanUp, CleanUp57, MapperAllSizes, MapperAllSizes57, Tables, Translate, Translate57,
+use x86_64_mappers::mapper::{
+    CleanUp, CleanUp57, MapperAllSizes, MapperAllSizes57, Translate, Translate57,
 };
+use x86_64_tables::frame_alloc::FramePool;
+use x86_64_tables::mapper::Tables;
 
 /// Answers calls in order by two mappers, and gives the one list that is the replies of both. Each mapper and its pool are
 /// left as [`run`](super::run) leaves them.

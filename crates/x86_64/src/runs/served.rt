@@ -5,7 +5,7 @@ ghost use Rattle.x86_64_model.specs.Owned.{PoolFits};
 ghost use Rattle.x86_64_tables.specs.declared.mapper.recorder.FlushItem.{FlushItem as Item};
 ghost use Rattle.x86_64.specs.Asked.{Kind, machine_call};
 ghost use Rattle.x86_64.specs.FreeFrames.{KeepsFree, back_by};
-ghost use Rattle.x86_64.specs.Private.{recorded};
+ghost use Rattle.x86_64.specs.private.Served.{recorded};
 ghost use Rattle.x86_64.specs.Runs.{machine_of, state_of, Kept, step_as};
 
 use super::tokens::Tokens;

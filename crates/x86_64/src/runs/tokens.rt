@@ -1,15 +1,16 @@
 //! What becomes of the tokens of calls: they are ignored, or flushed into a recorder.
 ghost use Rattle.std.specs.Prelude.{◌≡◌, ◌+◌, ◌++◌, [], ◌∷◌, ℕ, Bool, List};
 ghost use Rattle.x86_64_tables.specs.declared.mapper.recorder.FlushItem.{FlushItem as Item};
+ghost use Rattle.x86_64_tables.specs.FlushRecorder.{page_item};
 ghost use Rattle.x86_64_tables.specs.MapperAnswers.{flags_refusal};
 ghost use Rattle.x86_64.specs.Flushes.{page_items, unmapped_items, all_items};
-ghost use Rattle.x86_64.specs.Private.{recorded};
+ghost use Rattle.x86_64.specs.private.Served.{recorded};
 
+use x86_64_addr::level_count::LevelCount;
 use x86_64_page::frame::PhysFrame;
-use x86_64_page::page::{Page, Page57, PageSize};
+use x86_64_page::page::{PageIn, PageSize};
 use x86_64_tables::mapper::{
-    FlagUpdateError, FlushItem, FlushRecorder, MapperFlush, MapperFlush57, MapperFlushAll,
-    UnmapError,
+    FlagUpdateError, FlushItem, FlushRecorder, MapperFlushAll, MapperFlushIn, UnmapError,
 };
 
 /// Takes the tokens of calls that were accepted.
@@ -26,10 +27,10 @@ pub trait Tokens {
     ghost fewer: { (tokens : Self) (n : ℕ) → has_room tokens (n + 1) → has_room tokens n };
 
     /// Takes the token of a page.
-    fn page<S: PageSize>(&mut self, flush: MapperFlush<S>)
+    fn page<S: PageSize, L: LevelCount>(&mut self, flush: MapperFlushIn<S, L>)
         requires { Self.has_room self.old 1 }
         ensures items { Self.items self.new ≡ Self.items self.old
-            ++ recorded Self.records (FlushItem.Page flush S.SIZE ∷ []) }
+            ++ recorded Self.records (page_item L.LEVELS flush S.SIZE ∷ []) }
         ensures room { (n : ℕ) → Self.has_room self.old (n + 1) → Self.has_room self.new n };
 
     /// Takes the token of all pages.
@@ -53,7 +54,7 @@ impl Tokens for Ignored {
 
     ghost has_room = { λ _ _. ⊤ };
 
-    fn page<S: PageSize>(&mut self, flush: MapperFlush<S>) {
+    fn page<S: PageSize, L: LevelCount>(&mut self, flush: MapperFlushIn<S, L>) {
         flush.ignore();
     }
 
@@ -67,7 +68,7 @@ impl Tokens for Ignored {
 /// Flushes each token. Where there is room no memory is asked for, so no token comes back.
 impl Tokens for FlushRecorder {
     ghost use Rattle.std.specs.Prelude.{true, ◌≤◌};
-    ghost use Rattle.x86_64.specs.Private.{less_room};
+    ghost use Rattle.x86_64.specs.private.Served.{less_room};
 
     ghost records = { true };
 
@@ -75,7 +76,7 @@ impl Tokens for FlushRecorder {
 
     ghost has_room = { λ recorder n. n ≤ recorder.room };
 
-    fn page<S: PageSize>(&mut self, flush: MapperFlush<S>) {
+    fn page<S: PageSize, L: LevelCount>(&mut self, flush: MapperFlushIn<S, L>) {
         if let Err(flush) = flush.flush(self) {
             flush.ignore();
         }
@@ -91,14 +92,14 @@ impl Tokens for FlushRecorder {
 }
 
 /// Hands on the token of a call that was accepted, and gives its page.
-pub fn take<S: PageSize, E, K: Tokens>(
+pub fn take<S: PageSize, L: LevelCount, E, K: Tokens>(
     tokens: &mut K,
-    flushed: Result<MapperFlush<S>, E>,
-) -> Result<Page<S>, E>
+    flushed: Result<MapperFlushIn<S, L>, E>,
+) -> Result<PageIn<S, L>, E>
     requires { K.has_room tokens.old 1 }
     ensures result { result ≡ flushed }
     ensures items { K.items tokens.new ≡ K.items tokens.old
-        ++ recorded K.records (page_items S.SIZE result) }
+        ++ recorded K.records (page_items L.LEVELS S.SIZE result) }
     ensures room { (n : ℕ) → K.has_room tokens.old (n + 1) → K.has_room tokens.new n }
 {
     let flush = flushed?;
@@ -108,14 +109,14 @@ pub fn take<S: PageSize, E, K: Tokens>(
 }
 
 /// Hands on the token of an unmap that was accepted, and gives its page beside the frame.
-pub fn take_unmapped<S: PageSize, K: Tokens>(
+pub fn take_unmapped<S: PageSize, L: LevelCount, K: Tokens>(
     tokens: &mut K,
-    unmapped: Result<(PhysFrame<S>, MapperFlush<S>), UnmapError>,
-) -> Result<(PhysFrame<S>, Page<S>), UnmapError>
+    unmapped: Result<(PhysFrame<S>, MapperFlushIn<S, L>), UnmapError>,
+) -> Result<(PhysFrame<S>, PageIn<S, L>), UnmapError>
     requires { K.has_room tokens.old 1 }
     ensures result { result ≡ unmapped }
     ensures items { K.items tokens.new ≡ K.items tokens.old
-        ++ recorded K.records (unmapped_items S.SIZE result) }
+        ++ recorded K.records (unmapped_items L.LEVELS S.SIZE result) }
     ensures room { (n : ℕ) → K.has_room tokens.old (n + 1) → K.has_room tokens.new n }
 {
     let (frame, flush) = unmapped?;
@@ -136,26 +137,4 @@ pub fn take_all<K: Tokens>(
 {
     tokens.all(flushed?);
     Ok(())
-}
-
-/// Ignores the token of a call on a page of 57 bits that was accepted, and gives the page.
-pub fn ignore_page<S: PageSize, E>(flushed: Result<MapperFlush57<S>, E>) -> Result<Page57<S>, E>
-    ensures { result ≡ flushed }
-{
-    let flush = flushed?;
-    let page = flush.page();
-    flush.ignore();
-    Ok(page)
-}
-
-/// Ignores the token of an unmap of a page of 57 bits that was accepted, and gives the page beside the frame.
-pub fn ignore_unmapped<S: PageSize>(
-    unmapped: Result<(PhysFrame<S>, MapperFlush57<S>), UnmapError>,
-) -> Result<(PhysFrame<S>, Page57<S>), UnmapError>
-    ensures { result ≡ unmapped }
-{
-    let (frame, flush) = unmapped?;
-    let page = flush.page();
-    flush.ignore();
-    Ok((frame, page))
 }

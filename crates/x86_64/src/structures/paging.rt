@@ -3,8 +3,8 @@ pub mod mapper;
 pub mod page_table;
 
 pub use mapper::{
-    MappedPageTable, MappedPageTable57, Mapper, Mapper57, OffsetPageTable, RecursivePageTable,
-    RecursivePageTable57, Translate, Translate57,
+    MappedPageTable, MappedPageTable57, Mapper, Mapper57, OffsetPageTable, OffsetPageTable57,
+    RecursivePageTable, RecursivePageTable57, Translate, Translate57,
 };
 pub use page_table::{PageOffset, PageTable, PageTableFlags, PageTableIndex};
 pub use x86_64_page::frame::PhysFrame;

@@ -4,7 +4,7 @@ use Rattle.x86_64_model.specs.Machine.{Machine, State, state_after}
 use Rattle.x86_64.specs.Asked.{calls_by}
 use Rattle.x86_64.specs.Flushes.{items_by}
 use Rattle.x86_64.specs.FreeFrames.{all_back}
-use Rattle.x86_64.specs.Private.{recorded}
+use Rattle.x86_64.specs.private.Served.{recorded}
 use Rattle.x86_64.specs.Runs.{machine_of, state_of, Kept, replies_as, appended, UnchangedAs}
 use Rattle.x86_64.proofs.FreeFrames.{FreeSoFar}
 use Rattle.x86_64.proofs.runs.serve_all.Given as goal

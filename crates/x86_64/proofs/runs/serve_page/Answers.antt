@@ -20,7 +20,7 @@ is_served g c =
       low = g.S.PageSize.low;
       high = g.S.PageSize.high;
     } in
-    let at_most : (at : ℕ) → at ≤ 4 → at ≤ (g.M.Tables.hierarchy mapper).layout.levels = λ at below. subst (λ L. at ≤ L) (sym (g.met.M.PageTables.four_levels mapper)) below in
+    let at_most : (at : ℕ) → at ≤ 4 → at ≤ (g.M.Tables.hierarchy mapper).layout.levels = λ at below. subst (λ L. at ≤ L) (sym (g.met.M.TablesIn.level_count mapper)) below in
     elim c.match-call.branch [
       | in-MapTo w ↦ rw (w.in-MapTo.is, w.mapper-is, w.frames-is, w.result-is)
           (map_to_served (g.M.Tables.hierarchy mapper) start w.in-MapTo.page w.in-MapTo.frame (bits_of w.in-MapTo.flags) w.map_to.result _ _ w.map_to.ensures.does w.map_to.ensures.page w.take.result w.take.ensures.result)

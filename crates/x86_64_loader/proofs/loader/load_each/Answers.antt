@@ -1,6 +1,6 @@
 use Rattle.std.proofs.Common.{◌≡◌, ◌∙◌, ◌%◌, flat_map, take, get_or, rules, refl, sym, subst, arith}
 use Rattle.std.proofs.lemmas.List.{take_all}
-use Rattle.x86_64_loader.specs.Loads.{pages_by}
+use Rattle.x86_64_loader.specs.private.Loads.{pages_by}
 use Rattle.x86_64_loader.specs.Maps.{Accepts}
 use Rattle.x86_64_loader.specs.Segments.{AllStand}
 use Rattle.x86_64_loader.proofs.Made.{accepts_none, accepts_then, kept_none}
@@ -45,7 +45,7 @@ returns-in-Err-clause-succeeds g c suffices =
     let segments = c.args.segments.now in
     let here = c.loop-index-test.true in
     let item = c.index-segments-index.is in
-    absurd (cannot_be_refused (g.M.Tables.hierarchy c.args.mapper.now) (g.A.FrameAllocator.supply c.args.frames.now) c.args.sizes segments (g.met.M.PageTables.four_levels c.args.mapper.now)
+    absurd (cannot_be_refused (g.M.Tables.hierarchy c.args.mapper.now) (g.A.FrameAllocator.supply c.args.frames.now) c.args.sizes segments (g.met.M.TablesIn.level_count c.args.mapper.now)
     (g.M.Tables.added_flags c.args.mapper.now).adds c.requires.fits c.requires.allowed suffices
     (record { segment = c.loop-index.index; page = c.page_after.result; mapped = c.in-Err.stopped.mapped; why = c.in-Err.stopped.why })
     (g.M.Tables.hierarchy c.load_segment.new.mapper) (g.A.FrameAllocator.supply c.load_segment.new.frames)

@@ -1,5 +1,5 @@
 use Rattle.std.proofs.Common.{◌≡◌, ℕ, ◌<◌, ◌%◌, flat_map, take, get_or}
-use Rattle.x86_64_loader.specs.Loads.{HoldsSegment, pages_by}
+use Rattle.x86_64_loader.specs.private.Loads.{HoldsSegment, pages_by}
 use Rattle.x86_64_loader.specs.Maps.{Accepts}
 use Rattle.x86_64_loader.specs.Pages.{Leaves}
 use Rattle.x86_64_loader.specs.Segments.{AllStand, AreApart}

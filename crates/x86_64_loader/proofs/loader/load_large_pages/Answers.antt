@@ -1,6 +1,6 @@
 use Rattle.std.proofs.Common.{◌≡◌, ◌+◌, ◌-◌, ◌*◌, ◌/◌, ◌++◌, ℕ, ap, subst, arith}
 use Rattle.std.proofs.lemmas.Result.{err_from_is_err_and}
-use Rattle.x86_64_loader.specs.Loads.{IsMapped}
+use Rattle.x86_64_loader.specs.private.Loads.{IsMapped}
 use Rattle.x86_64_loader.specs.Segments.{count_before, large_pages, part_of, size_of}
 use Rattle.x86_64_loader.specs.declared.segment.Segment.{Segment}
 use Rattle.x86_64_loader.proofs.Runs.{leaves_then}

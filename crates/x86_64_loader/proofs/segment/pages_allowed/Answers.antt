@@ -1,5 +1,5 @@
 use Rattle.std.proofs.Common.{◌≡◌, ◌+◌, ◌*◌, ◌^◌, ◌<◌, ◌↔◌, IsTrue, rules}
-use Rattle.x86_64_loader.specs.Windows.{AreOutside}
+use Rattle.x86_64_loader.specs.private.Windows.{AreOutside}
 use Rattle.x86_64_loader.proofs.Windows.{each_tested}
 use Rattle.x86_64_loader.proofs.segment.pages_allowed.Goals as goal
 
@@ -11,6 +11,6 @@ returns g c =
     let there : s.page + c.args.last * 0x1000 < 2 ^ 48 = search rules in
     let outside : IsTrue c.are_outside_window-outside.result ↔ AreOutside h s.page (s.page + c.args.last * 0x1000) = rw end at c.are_outside_window-outside.ensures in
     record {
-      allowed = each_tested h (g.met.M.PageTables.four_levels c.args.mapper.now) s.page s.frame s.flags.0 c.args.last c.requires.is_present (search rules) _ _ _ there
+      allowed = each_tested h (g.met.M.TablesIn.level_count c.args.mapper.now) s.page s.frame s.flags.0 c.args.last c.requires.is_present (search rules) _ _ _ there
           c.frame_is_there-there.ensures (rw c.parent_flags.ensures at c.map_allowed-allowed.ensures) outside;
     }

@@ -14,7 +14,7 @@ returns-in-IdentityMap g c =
     let given = bits_of c.in-IdentityMap.flags in
     let more = bits_of c.parent_flags-in-IdentityMap.result in
     let frame = c.in-IdentityMap.frame in
-    let low : nat_lt frame (lower_half h.layout.levels) ≡ true = subst (λ L. nat_lt frame (lower_half L) ≡ true) (sym (g.met.M.PageTables57.five_levels c.args.mapper.now)) c.identity_page_57.ensures.low in
+    let low : nat_lt frame (lower_half h.layout.levels) ≡ true = subst (λ L. nat_lt frame (lower_half L) ≡ true) (sym (g.met.M.TablesIn.level_count c.args.mapper.now)) c.identity_page_57.ensures.low in
     c.map_allowed-in-IdentityMap.ensures
     ∙ ap₂ (λ p more. allows_map h (path_of h level p) given more) c.identity_page_57.ensures.value c.parent_flags-in-IdentityMap.ensures
     ∙ ap (λ b. b && allows_map h (path_of h level frame) given (parent_part given)) (sym low)

@@ -16,23 +16,23 @@ is_served g c =
       adds = (g.M.Tables.added_flags mapper).adds;
       gives = giving_from _ g.met.F.FrameDeallocator.put_rearranges;
       mapping = g.met.M.Tables.is_mapping mapper;
-      fits = c.requires;
+      fits = c.requires.fits;
       low = g.S.PageSize.low;
       high = g.S.PageSize.high;
     } in
-    let at_most : (at : ℕ) → at ≤ 5 → at ≤ (g.M.Tables.hierarchy mapper).layout.levels = λ at below. subst (λ L. at ≤ L) (sym (g.met.M.PageTables57.five_levels mapper)) below in
+    let at_most : (at : ℕ) → at ≤ 5 → at ≤ (g.M.Tables.hierarchy mapper).layout.levels = λ at below. subst (λ L. at ≤ L) (sym (g.met.M.TablesIn.level_count mapper)) below in
     elim c.match-call.branch [
       | in-MapTo w ↦ rw (w.in-MapTo.is, w.mapper-is, w.frames-is, w.result-is)
-          (map_to_served (g.M.Tables.hierarchy mapper) start w.in-MapTo.page w.in-MapTo.frame (bits_of w.in-MapTo.flags) w.map_to.result _ _ w.map_to.ensures.does w.map_to.ensures.page w.ignore_page.result w.ignore_page.ensures)
+          (map_to_served (g.M.Tables.hierarchy mapper) start w.in-MapTo.page w.in-MapTo.frame (bits_of w.in-MapTo.flags) w.map_to.result _ _ w.map_to.ensures.does w.map_to.ensures.page w.take.result w.take.ensures.result)
       | in-MapToWithTableFlags w ↦ rw (w.in-MapToWithTableFlags.is, w.mapper-is, w.frames-is, w.result-is)
           (map_with_flags_served (g.M.Tables.hierarchy mapper) start w.in-MapToWithTableFlags.page w.in-MapToWithTableFlags.frame (bits_of w.in-MapToWithTableFlags.flags) (bits_of w.in-MapToWithTableFlags.parent_flags) w.map_to_with_table_flags-mapped.result _ _
-          w.map_to_with_table_flags-mapped.ensures.does w.map_to_with_table_flags-mapped.ensures.page w.ignore_page-in-MapToWithTableFlags.result w.ignore_page-in-MapToWithTableFlags.ensures)
+          w.map_to_with_table_flags-mapped.ensures.does w.map_to_with_table_flags-mapped.ensures.page w.take-in-MapToWithTableFlags.result w.take-in-MapToWithTableFlags.ensures.result)
       | in-IdentityMap w ↦ rw (w.in-IdentityMap.is, w.mapper-is, w.frames-is, w.result-is)
-          (identity_map_served (g.M.Tables.hierarchy mapper) start w.in-IdentityMap.frame (bits_of w.in-IdentityMap.flags) w.identity_map.result _ _ w.identity_map.ensures.does w.identity_map.ensures.page w.ignore_page-in-IdentityMap.result w.ignore_page-in-IdentityMap.ensures)
+          (identity_map_served (g.M.Tables.hierarchy mapper) start w.in-IdentityMap.frame (bits_of w.in-IdentityMap.flags) w.identity_map.result _ _ w.identity_map.ensures.does w.identity_map.ensures.page w.take-in-IdentityMap.result w.take-in-IdentityMap.ensures.result)
       | in-Unmap w ↦ rw (w.in-Unmap.is, w.mapper-is, w.frames-is, w.result-is)
-          (unmap_served (g.M.Tables.hierarchy mapper) start w.in-Unmap.page w.unmap.result _ w.unmap.ensures.does w.unmap.ensures.page w.ignore_unmapped.result w.ignore_unmapped.ensures)
+          (unmap_served (g.M.Tables.hierarchy mapper) start w.in-Unmap.page w.unmap.result _ w.unmap.ensures.does w.unmap.ensures.page w.take_unmapped.result w.take_unmapped.ensures.result)
       | in-UpdateFlags w ↦ rw (w.in-UpdateFlags.is, w.mapper-is, w.frames-is, w.result-is)
-          (update_served (g.M.Tables.hierarchy mapper) start w.in-UpdateFlags.page (bits_of w.in-UpdateFlags.flags) _ w.update_flags.result _ w.update_flags.ensures.does w.update_flags.ensures.page w.ignore_page-in-UpdateFlags.result w.ignore_page-in-UpdateFlags.ensures)
+          (update_served (g.M.Tables.hierarchy mapper) start w.in-UpdateFlags.page (bits_of w.in-UpdateFlags.flags) _ w.update_flags.result _ w.update_flags.ensures.does w.update_flags.ensures.page w.take-in-UpdateFlags.result w.take-in-UpdateFlags.ensures.result)
       | in-SetFlagsP5 w ↦ rw (w.in-SetFlagsP5.is, w.mapper-is, w.frames-is, w.result-is)
           (set_flags_served (g.M.Tables.hierarchy mapper) start 5 w.in-SetFlagsP5.page (bits_of w.in-SetFlagsP5.flags) (lit≤ tt) (at_most 5 (lit≤ tt))
           _ w.set_flags_p5_entry.result _ w.set_flags_p5_entry.ensures w.take_all.result w.take_all.ensures.result)

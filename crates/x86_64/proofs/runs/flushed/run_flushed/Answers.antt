@@ -1,5 +1,7 @@
-use Rattle.std.proofs.Common.{rules}
+use Rattle.std.proofs.Common.{rules, inl, refl}
 use Rattle.x86_64_model.proofs.Lemmas.Machines.Giving.{giving_from}
+use Rattle.x86_64.specs.private.AskedCalls.{is_call}
+use Rattle.x86_64.specs.Calls.{asks}
 use Rattle.x86_64.proofs.Flushed.{flushed}
 use Rattle.x86_64.proofs.Rounds.{appended_told}
 use Rattle.x86_64.proofs.runs.flushed.run_flushed.Goals as goal
@@ -11,7 +13,7 @@ returns-clause-flushed g c =
     let ran = c.serve_all.ensures.ran in
     record {
       items = search rules;
-      suffice = flushed h.layout (g.met.M.PageTables.four_levels mapper) (g.M.Tables.added_flags mapper).adds g.F.FrameDeallocator.put (giving_from _ g.met.F.FrameDeallocator.put_rearranges)
+      suffice = flushed asks 4 (inl refl) is_call h.layout (g.met.M.TablesIn.level_count mapper) (g.M.Tables.added_flags mapper).adds g.F.FrameDeallocator.put (giving_from _ g.met.F.FrameDeallocator.put_rearranges)
           (g.F.FrameKeeper.serves c.args.frames.now) h.memory (g.F.FrameAllocator.supply c.args.frames.now) c.requires c.args.calls.now _ (g.F.FrameAllocator.supply c.serve_all.new.frames)
           c.serve_all.ensures.keeps.keeps.fits.valid ran.state _ (appended_told c.args.replies.now.items c.serve_all.new.replies.items _ (search rules));
     }

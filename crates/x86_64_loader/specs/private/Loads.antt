@@ -1,4 +1,4 @@
--- Words of private contracts: what the load of one segment leaves.
+-- What the load of one segment leaves.
 use Rattle.std.specs.Prelude.{◌≡◌, ◌+◌, ◌*◌, ◌<◌, ◌≤◌, ℕ, List, ◌∷◌, ◌++◌, Result, Ok, Err}
 use Rattle.x86_64_model.specs.Owned.{Hierarchy}
 use Rattle.x86_64_model.specs.PageMappings.{PageMapping}
@@ -10,7 +10,7 @@ use Rattle.x86_64_loader.specs.declared.loader.Sizes.{Sizes}
 use Rattle.x86_64_loader.specs.declared.loader.Sizes.TheVariants as sizes
 use Rattle.x86_64_loader.specs.declared.pages.Stopped.{Stopped}
 use Rattle.x86_64_loader.specs.declared.segment.Segment.{Segment}
-use Rattle.x86_64_loader.specs.Held.{IsHeld}
+use Rattle.x86_64_loader.specs.private.Held.{IsHeld}
 use Rattle.x86_64_loader.specs.Maps.{Accepts, Refuses, Kept}
 use Rattle.x86_64_loader.specs.Pages.{IsFree, Leaves, RunStands}
 use Rattle.x86_64_loader.specs.Segments.{AllStand, ReachesAt, large_pages, mapping_of, run_of, size_of, small_pages}

@@ -1,4 +1,4 @@
--- Words of private contracts: pages outside the recursive index.
+-- Pages outside the recursive index.
 use Rattle.std.specs.Prelude.{◌≡◌, ◌%◌, ◌≤◌, ℕ, false}
 use Rattle.x86_64_model.specs.Owned.{Hierarchy, path_of}
 use Rattle.x86_64_model.specs.Window.{begins_with}

@@ -3,7 +3,7 @@ use Rattle.x86_64_model.proofs.Lemmas.Machines.Giving.{giving_from}
 use Rattle.x86_64.specs.Calls.{asks_57}
 use Rattle.x86_64.proofs.CallSteps.{translate_served, address_served}
 use Rattle.x86_64.proofs.CleanUpSteps.{held_may_clean_up, kept_cleaned, free_cleaned}
-use Rattle.x86_64.proofs.runs.five_levels.Call57ServedIgnoredReply57.serve.Goals as goal
+use Rattle.x86_64.proofs.runs.five_levels.Call57ServedReply57.serve.Goals as goal
 
 pub returns-in-Translate-clause-step : goal.returns-in-Translate-clause-step
 returns-in-Translate-clause-step g c = translate_served _ _ _ _ _ _ (ap asks_57 c.in-Translate.is) _ c.translate.ensures.answer

@@ -1,4 +1,4 @@
--- For private contracts: words of calls on pages, and of what becomes of their tokens.
+-- Words of calls on pages, and of what becomes of their tokens.
 use Rattle.std.specs.Prelude.{◌≤◌, ◌+◌, ℕ, Bool, true, false, List, [], Option, Some, None}
 use Rattle.std.proofs.Common.{arith}
 use Rattle.x86_64_model.specs.Machine.{Machine, State, step}
@@ -17,9 +17,9 @@ pub less_room : (n room : ℕ) → n + 1 ≤ room → n ≤ room
 less_room n room h = omega arith
 
 -- the items of a reply to a call on a page of a size, none where the call isn't allowed
-abbrev pub items_where : {S : Type 0} → (size : ℕ) → Option (SizeReply S) → List FlushItem
-items_where size None = []
-items_where size (Some answer) = size_items size answer
+abbrev pub items_where : {S : Type 0} → (levels size : ℕ) → Option (SizeReply S) → List FlushItem
+items_where levels size None = []
+items_where levels size (Some answer) = size_items levels size answer
 
 -- whether a reply to a call on a page says that nothing changed, as one does that isn't allowed
 abbrev pub changes_nothing_where : {S : Type 0} → Option (SizeReply S) → Bool

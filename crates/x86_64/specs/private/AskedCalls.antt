@@ -1,4 +1,4 @@
--- For private contracts: what a call of a list asks is a call of the machine.
+-- What a call of a list asks is a call of the machine.
 use Rattle.std.proofs.Common.{◌≤◌, ℕ, lit≤, arith}
 use Rattle.std.specs.Prelude.{⊤}
 use Rattle.x86_64_model.specs.Call as machine
