@@ -2,20 +2,23 @@
 use Rattle.std.proofs.Common.{◌≡◌, ℕ, Bool, List, sym, subst}
 use Rattle.x86_64_model.specs.Layout.{Layout}
 use Rattle.x86_64_model.specs.Memory.{Memory, identity_places}
-use Rattle.x86_64_mappers.specs.Layouts.{direct}
+use Rattle.x86_64_mappers.specs.Layouts.{direct_at}
 use Rattle.x86_64_mappers.specs.Offsets.{OffsetFits, offset_places}
-use Rattle.x86_64_mappers.proofs.OffsetTables.{offset_fits}
+use Rattle.x86_64_mappers.proofs.Memory.OffsetTables.{offset_fits}
 use Rattle.x86_64.proofs.Moved.{moved}
-use Rattle.x86_64.proofs.PlacesStay.{offsets_fit_still}
+use Rattle.x86_64.proofs.PlacesStay.{places_stay}
 use Rattle.x86_64.specs.Runs.{FitsPool, Keeps}
 
-module _ (root offset : ℕ) (serves : ℕ → Bool) (m : Memory) (free rest : List ℕ) (reached : OffsetFits m offset) (fits : FitsPool (direct identity_places root) m serves free)
-    (l : Layout) (before after n : Memory) (is : l ≡ direct (offset_places offset) root) (first : before ≡ m) (last : n ≡ after) (kept : Keeps l serves before free after rest) where
-  kept_at : Keeps (direct (offset_places offset) root) serves m free n rest
-  kept_at = moved (λ (l : Layout) (m n : Memory). Keeps l serves m free n rest) l (direct (offset_places offset) root) before m after n is first last kept
+module _ (L root offset : ℕ) (serves : ℕ → Bool) (m : Memory) (free rest : List ℕ) (reached : OffsetFits L m offset) (fits : FitsPool (direct_at L identity_places root) m serves free)
+    (l : Layout) (before after n : Memory) (is : l ≡ direct_at L (offset_places L offset) root) (first : before ≡ m) (last : n ≡ after) (kept : Keeps l serves before free after rest) where
+  abbrev layout_at : Layout
+  layout_at = direct_at L (offset_places L offset) root
 
-  pub fits_still : OffsetFits n offset
-  fits_still = offsets_fit_still (direct (offset_places offset) root) serves m n free rest ((offset_fits m offset reached root serves free).0 fits) kept_at offset reached
+  kept_at : Keeps layout_at serves m free n rest
+  kept_at = moved (λ (l : Layout) (m n : Memory). Keeps l serves m free n rest) l layout_at before m after n is first last kept
 
-  pub pool_fits_again : (served : ℕ → Bool) → served ≡ serves → FitsPool (direct identity_places root) n served rest
-  pool_fits_again served same = subst (λ (s : ℕ → Bool). FitsPool (direct identity_places root) n s rest) (sym same) ((offset_fits n offset fits_still root serves rest).1 kept_at.fits)
+  pub fits_still : OffsetFits L n offset
+  fits_still = λ place there. reached place ((places_stay layout_at serves m n free rest ((offset_fits L m offset reached root serves free).0 fits) kept_at place).0 there)
+
+  pub pool_fits_again : (served : ℕ → Bool) → served ≡ serves → FitsPool (direct_at L identity_places root) n served rest
+  pool_fits_again served same = subst (λ (s : ℕ → Bool). FitsPool (direct_at L identity_places root) n s rest) (sym same) ((offset_fits L n offset fits_still root serves rest).1 kept_at.fits)

@@ -8,6 +8,8 @@ ghost use Rattle.x86_64_mappers.specs.Layouts.{direct};
 
 mod clean_up;
 mod five_levels;
+mod five_levels_flushes;
+mod five_levels_offset;
 mod five_levels_pages;
 mod five_levels_recursive;
 mod offset;
@@ -22,9 +24,10 @@ use std::process::Abort;
 use x86_64_addr::addr::{PhysAddr, VirtAddr};
 use x86_64_addr::index::PageTableIndex;
 use x86_64_mappers::mapped_page_table::MappedPageTable;
+use x86_64_mappers::mapper::Translate;
 use x86_64_page::frame::PhysFrame;
 use x86_64_page::page::Size4KiB;
-use x86_64_tables::mapper::{MappedFrame, Tables, Translate, TranslateResult};
+use x86_64_tables::mapper::{MappedFrame, Tables, TranslateResult};
 use x86_64_tables::page_table::{PageTableEntry, PageTableFlags};
 use x86_64_tables::phys_memory::{
     FramePlace, IdentityMapping, PageTableFrameMapping, PhysMemory, is_valid_hierarchy,

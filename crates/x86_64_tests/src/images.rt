@@ -129,8 +129,8 @@ pub fn run_at_offset(
 ) -> Result<(), AllocError>
     requires pool { let layout = direct identity_places root in
         FitsPool layout memory.old (serves_below pool.old.limit) pool.old.frames }
-    requires offset { OffsetFits memory.old phys_offset }
-    ensures { let layout = direct (offset_places phys_offset) root in
+    requires offset { OffsetFits 4 memory.old phys_offset }
+    ensures { let layout = direct (offset_places 4 phys_offset) root in
         FitsPool layout memory.new (serves_below pool.new.limit) pool.new.frames }
 {
     offset_has_the_tables_of_the_identity(memory, phys_offset);

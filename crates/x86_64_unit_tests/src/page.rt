@@ -9,6 +9,7 @@ use std::hash::{DefaultHasher, Hash, Hasher};
 use std::process::Abort;
 use x86_64_addr::addr::{PhysAddr, VirtAddr};
 use x86_64_addr::index::{PageTableIndex, PageTableLevel};
+use x86_64_addr::level_count::FourLevels;
 use x86_64_page::frame::{PfnNotValid, PhysFrame};
 use x86_64_page::laws::{
     frames_are_ordered_by_address, page_steps_are_counted, pages_are_ordered_by_position,
@@ -348,7 +349,7 @@ fn check_laws<S: PageSize + Hash>(rt: impl Abort + Copy) {
     assert_equal(rt, first.finish(), second.finish());
     pages_are_ordered_by_position(page, page);
     frames_are_ordered_by_address(frame, frame);
-    page_steps_are_counted::<S>();
+    page_steps_are_counted::<S, FourLevels>();
 }
 
 #[test]

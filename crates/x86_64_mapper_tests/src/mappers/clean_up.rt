@@ -9,9 +9,9 @@ use crate::assertions::{assert_equal, assert_equal_in, unwrap};
 use std::alloc::Global;
 use std::process::Abort;
 use x86_64_mappers::mapped_page_table::{MappedPageTable, MappedPageTable57};
+use x86_64_mappers::mapper::{CleanUp, CleanUp57};
 use x86_64_page::page::{Page, Page57};
 use x86_64_tables::frame_alloc::FramePool;
-use x86_64_tables::mapper::{CleanUp, CleanUp57};
 use x86_64_tables::phys_memory::{IdentityMapping, PhysMemory, pool_fits, pool_fits_57};
 
 /// Cleans up by any mapper: the pages from the one at an address to the one at another, or all.

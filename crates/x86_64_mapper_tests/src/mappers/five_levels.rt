@@ -9,12 +9,13 @@ use std::fmt::Debug;
 use std::process::Abort;
 use x86_64_addr::addr::{PhysAddr, VirtAddr57};
 use x86_64_mappers::mapped_page_table::MappedPageTable57;
+use x86_64_mappers::mapper::{Mapper57, Translate57};
 use x86_64_page::frame::PhysFrame;
 use x86_64_page::page::{Page57, PageSize, Size2MiB, Size4KiB};
 use x86_64_tables::frame_alloc::FramePool;
 use x86_64_tables::mapper::{
-    FlagUpdateError, FlushItem, FlushRecorder, MapToError, Mapper57, MapperFlush57, MapperFlushAll,
-    Translate57, parent_flags,
+    FlagUpdateError, FlushItem, FlushRecorder, MapToError, MapperFlush57, MapperFlushAll,
+    parent_flags,
 };
 use x86_64_tables::page_table::PageTableFlags;
 use x86_64_tables::phys_memory::{
@@ -36,7 +37,7 @@ pub fn page<S: PageSize>(address: u64) -> Page57<S> {
 }
 
 /// Maps a page by any mapper, and records the flush.
-fn map_by<S: PageSize, M: Mapper57<S>>(
+pub fn map_by<S: PageSize, M: Mapper57<S>>(
     rt: impl Abort + Copy,
     mapper: &mut M,
     both: (Page57<S>, PhysFrame<S>),

@@ -11,10 +11,11 @@ use std::process::Abort;
 use x86_64::is_outside_window_57;
 use x86_64_addr::addr::VirtAddr57;
 use x86_64_mappers::mapped_page_table::MappedPageTable57;
+use x86_64_mappers::mapper::{Mapper57, Translate57};
 use x86_64_page::frame::PhysFrame;
 use x86_64_page::page::{Page57, Size4KiB};
 use x86_64_tables::frame_alloc::FramePool;
-use x86_64_tables::mapper::{MappedFrame, Mapper57, MapperFlush57, MapperFlushAll, Translate57};
+use x86_64_tables::mapper::{MappedFrame, MapperFlush57, MapperFlushAll};
 use x86_64_tables::page_table::PageTableFlags;
 use x86_64_tables::phys_memory::{
     IdentityMapping, PhysMemory, is_valid_hierarchy_57, pool_fits_57,

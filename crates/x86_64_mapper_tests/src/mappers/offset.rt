@@ -13,11 +13,12 @@ use std::process::Abort;
 use x86_64::{Call, Reply, run};
 use x86_64_addr::addr::{PhysAddr, VirtAddr};
 use x86_64_mappers::laws::offset_has_the_tables_of_the_identity;
+use x86_64_mappers::mapper::{Mapper, Translate};
 use x86_64_mappers::offset_page_table::OffsetPageTable;
 use x86_64_page::frame::PhysFrame;
 use x86_64_page::page::{Page, Size4KiB};
 use x86_64_tables::frame_alloc::FramePool;
-use x86_64_tables::mapper::{MappedFrame, Mapper, Tables, Translate};
+use x86_64_tables::mapper::{MappedFrame, Tables};
 use x86_64_tables::phys_memory::{IdentityMapping, PhysMemory, is_valid_hierarchy, pool_fits};
 
 /// Offsets, and whether they fit a memory of 8 places.
@@ -85,10 +86,10 @@ fn run_at_offset(
 ) -> Result<(), AllocError>
     requires pool { let layout = direct identity_places root in
         FitsPool layout memory.old (serves_below pool.old.limit) pool.old.frames }
-    requires offset { OffsetFits memory.old phys_offset }
+    requires offset { OffsetFits 4 memory.old phys_offset }
     ensures pool { let layout = direct identity_places root in
         FitsPool layout memory.new (serves_below pool.new.limit) pool.new.frames }
-    ensures offset { OffsetFits memory.new phys_offset }
+    ensures offset { OffsetFits 4 memory.new phys_offset }
 {
     offset_has_the_tables_of_the_identity(memory, phys_offset);
     let mut mapper = OffsetPageTable::new(memory, root, phys_offset);

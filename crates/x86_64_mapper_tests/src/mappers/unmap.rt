@@ -10,9 +10,10 @@ use super::{WORDS, check_words, image, small};
 use crate::assertions::{assert_equal, unwrap};
 use x86_64_addr::addr::VirtAddr;
 use x86_64_mappers::mapped_page_table::MappedPageTable;
+use x86_64_mappers::mapper::Mapper;
 use x86_64_page::frame::PhysFrame;
 use x86_64_page::page::{Page, PageSize, Size4KiB};
-use x86_64_tables::mapper::{Mapper, UnmapError};
+use x86_64_tables::mapper::UnmapError;
 use x86_64_tables::phys_memory::{IdentityMapping, PhysMemory, is_valid_hierarchy};
 
 /// Unmaps a page by any mapper, whose path is not in the window.

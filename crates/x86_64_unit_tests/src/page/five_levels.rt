@@ -4,7 +4,8 @@ use std::hash::{BuildHasher, BuildHasherDefault, DefaultHasher, Hash};
 use std::process::Abort;
 use x86_64_addr::addr::VirtAddr57;
 use x86_64_addr::index::{PageTableIndex, PageTableLevel57};
-use x86_64_page::laws::{page_57_steps_are_counted, pages_57_are_ordered_by_position};
+use x86_64_addr::level_count::FiveLevels;
+use x86_64_page::laws::{page_steps_are_counted, pages_are_ordered_by_position};
 use x86_64_page::page::{AddressNotAligned, Page57, PageSize, Size1GiB, Size2MiB, Size4KiB};
 
 /// The last page of the lower half of the address space.
@@ -40,8 +41,8 @@ fn check_highest_page<S: PageSize + Hash>(rt: impl Abort + Copy, start: u64) {
     let hasher = BuildHasherDefault::<DefaultHasher>::default();
     let copy = page;
     assert_equal(rt, hasher.hash_one(copy), hasher.hash_one(page));
-    pages_57_are_ordered_by_position(copy, page);
-    page_57_steps_are_counted::<S>();
+    pages_are_ordered_by_position(copy, page);
+    page_steps_are_counted::<S, FiveLevels>();
 }
 
 #[test]

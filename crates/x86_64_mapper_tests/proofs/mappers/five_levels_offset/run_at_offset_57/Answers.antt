@@ -1,0 +1,16 @@
+use Rattle.std.proofs.Common.{rules}
+use Rattle.x86_64_model.specs.Marks.{serves_below}
+use Rattle.x86_64_mapper_tests.proofs.AgainAtOffset.{fits_still, pool_fits_again}
+use Rattle.x86_64_mapper_tests.proofs.mappers.five_levels_offset.run_at_offset_57.Goals as goal
+
+pub returns-clause-pool : goal.returns-clause-pool
+returns-clause-pool c =
+    let pool = c.args.pool.now in
+    pool_fits_again 5 c.args.root c.args.phys_offset (serves_below pool.limit) c.args.memory.now pool.frames c.run_57.new.frames.frames c.requires.offset c.requires.pool
+    _ _ _ _ c.new-mapper.ensures.layout c.new-mapper.ensures.memory (search rules) c.run_57.ensures.keeps.keeps (serves_below c.run_57.new.frames.limit) c.run_57.ensures.serves
+
+pub returns-clause-offset : goal.returns-clause-offset
+returns-clause-offset c =
+    let pool = c.args.pool.now in
+    fits_still 5 c.args.root c.args.phys_offset (serves_below pool.limit) c.args.memory.now pool.frames c.run_57.new.frames.frames c.requires.offset c.requires.pool
+    _ _ _ _ c.new-mapper.ensures.layout c.new-mapper.ensures.memory (search rules) c.run_57.ensures.keeps.keeps
