@@ -69,7 +69,8 @@ impl<'a, L: LevelCount> Direct<'a, PhysOffset<L>, L> {
     /// Gives the offset that the mapper was made with.
     pub fn phys_offset(&self) -> VirtAddrIn<L>
         ensures offset { result ≡ (⟦<Self as Tables>⟧.hierarchy self.now).lent.1 }
-        ensures places { (⟦<Self as Tables>⟧.hierarchy self.now).layout.places ≡ offset_places L.LEVELS result }
+        ensures places { let places = (⟦<Self as Tables>⟧.hierarchy self.now).layout.places in
+            places ≡ offset_places L.LEVELS result }
     {
         self.mapping().offset()
     }

@@ -68,7 +68,7 @@ impl<L: LevelCount> VirtAddrIn<L> {
     /// `align` must be a power of two: test that by [`u64::is_power_of_two`].
     pub fn align_down(self, align: u64) -> Self
         requires { IsTrue (is_power_of_two align) }
-        ensures value { let raw = raw L.LEVELS self in result ≡ (raw - raw % align) % position_count L.LEVELS }
+        ensures value { let n = raw L.LEVELS self in result ≡ (n - n % align) % position_count L.LEVELS }
         ensures position { result ≡ self - self % align }
     {
         Self::new_truncate(align_down(self.as_u64(), align))

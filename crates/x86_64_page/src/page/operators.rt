@@ -40,7 +40,7 @@ impl<S: PageSize, L: LevelCount> Sub<u64> for PageIn<S, L> {
     ghost can_sub = { λ page count. (count * S.SIZE ≤ raw L.LEVELS page)
         × IsCanonical L.LEVELS (raw L.LEVELS page - count * S.SIZE) };
 
-    ghost sub_gives = { λ page count difference. raw L.LEVELS difference ≡ raw L.LEVELS page - count * S.SIZE };
+    ghost sub_gives = { λ page count rest. raw L.LEVELS rest ≡ raw L.LEVELS page - count * S.SIZE };
 
     /// Gives the page whose raw start is so many pages below. The raw start must be canonical, and not negative: test that
     /// by [`u64::checked_mul`], [`u64::checked_sub`] and [`try_new`](x86_64_addr::addr::VirtAddr::try_new).
@@ -53,7 +53,7 @@ impl<S: PageSize, L: LevelCount> SubAssign<u64> for PageIn<S, L> {
     ghost can_sub_assign = { λ page count. (count * S.SIZE ≤ raw L.LEVELS page)
         × IsCanonical L.LEVELS (raw L.LEVELS page - count * S.SIZE) };
 
-    ghost sub_assign_gives = { λ page count difference. raw L.LEVELS difference ≡ raw L.LEVELS page - count * S.SIZE };
+    ghost sub_assign_gives = { λ page count rest. raw L.LEVELS rest ≡ raw L.LEVELS page - count * S.SIZE };
 
     /// Moves down by so many pages, as `-` does.
     fn sub_assign(&mut self, rhs: u64) {
