@@ -1,3 +1,4 @@
+pub mod AllPages
 pub mod CleanUpEnds
 pub mod Cleaned
 pub mod EntriesInRange

@@ -2,6 +2,7 @@
 #![tactic(auto)]
 
 mod access;
+pub mod calls;
 pub mod laws;
 pub mod mapped_page_table;
 pub mod mapper;

@@ -7,16 +7,13 @@ ghost use Rattle.x86_64_tables.specs.PageTableFlags.{bits_of};
 mod clean_up;
 mod clean_up57;
 mod mapper57;
-mod table_flags;
 mod translate57;
 
-pub use crate::access::TableAccess;
-use crate::access::path::path_of_page;
-use crate::access::{change, condition, map, translate};
+use crate::calls;
+pub use crate::calls::TableAccess;
 pub use clean_up::CleanUp;
 pub use clean_up57::CleanUp57;
 pub use mapper57::{Mapper57, MapperAllSizes57};
-use table_flags::{flags_allowed, set_flags};
 pub use translate57::Translate57;
 use x86_64_addr::addr::{PhysAddr, VirtAddr};
 use x86_64_page::frame::PhysFrame;
@@ -24,7 +21,7 @@ use x86_64_page::page::{Page, PageSize, Size1GiB, Size2MiB, Size4KiB};
 use x86_64_tables::frame_alloc::FrameAllocator;
 use x86_64_tables::mapper::{
     FlagUpdateError, MapToError, MapperFlush, MapperFlushAll, PageTables, TranslateError,
-    TranslateResult, UnmapError, parent_flags,
+    TranslateResult, UnmapError,
 };
 use x86_64_tables::page_table::PageTableFlags;
 
@@ -48,7 +45,7 @@ pub trait Translate: TableAccess + PageTables {
         ensures walk { let walked = walk (Self.hierarchy self.now) addr in
             reaches result ≡ option_map (λ walked. walked.address) walked }
     {
-        translate::translate(self, addr)
+        calls::translate(self, addr)
     }
 
     /// Gives the physical address that an address is mapped to, `PRESENT` or not: the frame's start plus the offset. It is
@@ -59,7 +56,7 @@ pub trait Translate: TableAccess + PageTables {
         requires { Valid (Self.hierarchy self.now) }
         ensures { result ≡ address_of (translation (Self.hierarchy self.now) addr) }
     {
-        translate::translate_addr(self, addr)
+        calls::translate_addr(self, addr)
     }
 }
 
@@ -110,16 +107,7 @@ pub trait Mapper<S: PageSize>: TableAccess + PageTables {
         ensures page { IfOk result (λ flush. flush ≡ page) }
         ensures serves { A.serves frame_allocator.new ≡ A.serves frame_allocator.old }
     {
-        let path = path_of_page(self, page);
-        map::map_path(
-            self,
-            path.indices(),
-            frame,
-            flags,
-            parent_flags,
-            frame_allocator,
-        )?;
-        Ok(MapperFlush::new(page))
+        calls::map_to_with_table_flags(self, page, frame, flags, parent_flags, frame_allocator)
     }
 
     /// Maps a page as [`map_to_with_table_flags`](Self::map_to_with_table_flags) does, where the parent flags are those of
@@ -147,8 +135,7 @@ pub trait Mapper<S: PageSize>: TableAccess + PageTables {
             IfOk result (λ _. present given ≡ true → ArrivesIn h S.SIZE page frame given) }
         ensures serves { A.serves frame_allocator.new ≡ A.serves frame_allocator.old }
     {
-        let parent_flags = parent_flags(flags);
-        self.map_to_with_table_flags(page, frame, flags, parent_flags, frame_allocator)
+        calls::map_to(self, page, frame, flags, frame_allocator)
     }
 
     /// Maps the page that starts at a frame's own address to the frame, as [`map_to`](Self::map_to) does.
@@ -173,8 +160,7 @@ pub trait Mapper<S: PageSize>: TableAccess + PageTables {
             IfOk result (λ _. present given ≡ true → ArrivesIn h S.SIZE frame frame given) }
         ensures serves { A.serves frame_allocator.new ≡ A.serves frame_allocator.old }
     {
-        let page = Page::containing_address(VirtAddr::new(frame.start_address().as_u64()));
-        self.map_to(page, frame, flags, frame_allocator)
+        calls::identity_map(self, frame, flags, frame_allocator)
     }
 
     /// Tells whether a page may be mapped with these flags and parent flags.
@@ -194,8 +180,7 @@ pub trait Mapper<S: PageSize>: TableAccess + PageTables {
         ensures { let h = Self.hierarchy self.now in
             result ≡ allows_map h (path_of h S.LEVEL page) (bits_of flags) (bits_of parent_flags) }
     {
-        let path = path_of_page(self, page);
-        condition::path_allowed::<S, _>(self, path.indices(), flags, parent_flags)
+        calls::map_allowed(self, page, flags, parent_flags)
     }
 
     /// Unmaps a page, and gives the frame that it was mapped to. No table is taken away.
@@ -215,9 +200,7 @@ pub trait Mapper<S: PageSize>: TableAccess + PageTables {
             Does h (Unmap (path_of h S.LEVEL page)) (unmap_answer result) (Self.hierarchy self.new) }
         ensures page { IfOk result (λ unmapped. unmapped.1 ≡ page) }
     {
-        let path = path_of_page(self, page);
-        let frame = change::unmap_path(self, path.indices())?;
-        Ok((frame, MapperFlush::new(page)))
+        calls::unmap(self, page)
     }
 
     /// Sets the flags of a page's own entry, with `HUGE_PAGE` for 2MiB and 1GiB, and keeps its frame.
@@ -241,9 +224,7 @@ pub trait Mapper<S: PageSize>: TableAccess + PageTables {
             Does h call (flags_answer (named h call) result) (Self.hierarchy self.new) }
         ensures page { IfOk result (λ flush. flush ≡ page) }
     {
-        let path = path_of_page(self, page);
-        change::update_path::<S, _>(self, path.indices(), flags)?;
-        Ok(MapperFlush::new(page))
+        calls::update_flags(self, page, flags)
     }
 
     /// Sets the flags of the entry of level four on a page's path, and keeps its address.
@@ -265,7 +246,7 @@ pub trait Mapper<S: PageSize>: TableAccess + PageTables {
             let call = SetFlags 4 (path_of h S.LEVEL page) (bits_of flags) in
             Does h call (flags_answer (named h call) result) (Self.hierarchy self.new) }
     {
-        set_flags(self, page, 4, flags)
+        calls::set_table_flags(self, page, 4, flags)
     }
 
     /// Sets the flags of the entry of level three on a page's path, and keeps its address.
@@ -287,7 +268,7 @@ pub trait Mapper<S: PageSize>: TableAccess + PageTables {
             let call = SetFlags 3 (path_of h S.LEVEL page) (bits_of flags) in
             Does h call (flags_answer (named h call) result) (Self.hierarchy self.new) }
     {
-        set_flags(self, page, 3, flags)
+        calls::set_table_flags(self, page, 3, flags)
     }
 
     /// Sets the flags of the entry of level two on a page's path, and keeps its address.
@@ -309,7 +290,7 @@ pub trait Mapper<S: PageSize>: TableAccess + PageTables {
             let call = SetFlags 2 (path_of h S.LEVEL page) (bits_of flags) in
             Does h call (flags_answer (named h call) result) (Self.hierarchy self.new) }
     {
-        set_flags(self, page, 2, flags)
+        calls::set_table_flags(self, page, 2, flags)
     }
 
     /// Tells whether the flags of the entry of level three on a page's path may be set to these: they have no address bits, the
@@ -322,7 +303,7 @@ pub trait Mapper<S: PageSize>: TableAccess + PageTables {
         ensures { let h = Self.hierarchy self.now in
             result ≡ allows h (SetFlags 3 (path_of h S.LEVEL page) (bits_of flags)) }
     {
-        flags_allowed(self, page, 3, flags)
+        calls::table_flags_allowed(self, page, 3, flags)
     }
 
     /// Tells whether the flags of the entry of level two on a page's path may be set to these: they have no address bits, the
@@ -335,7 +316,7 @@ pub trait Mapper<S: PageSize>: TableAccess + PageTables {
         ensures { let h = Self.hierarchy self.now in
             result ≡ allows h (SetFlags 2 (path_of h S.LEVEL page) (bits_of flags)) }
     {
-        flags_allowed(self, page, 2, flags)
+        calls::table_flags_allowed(self, page, 2, flags)
     }
 
     /// Gives the frame that a page's entry names, `PRESENT` or not.
@@ -352,8 +333,7 @@ pub trait Mapper<S: PageSize>: TableAccess + PageTables {
         ensures { let h = Self.hierarchy self.now in
             translate_answer result ≡ page_translation h (path_of h S.LEVEL page) }
     {
-        let path = path_of_page(self, page);
-        translate::translate_path(self, path.indices())
+        calls::translate_page(self, page)
     }
 }
 

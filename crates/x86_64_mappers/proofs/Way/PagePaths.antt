@@ -1,12 +1,13 @@
 -- The path of a page, as the first of its indices, and where it starts.
-use Rattle.std.proofs.Common.{◌≡◌, ◌↔◌, ◌+◌, ◌-◌, ◌*◌, ◌%◌, ◌<◌, ◌≤◌, ℕ, true, List, fold, length, take, refl, ap, ap₂, ◌∙◌, subst, arith}
+use Rattle.std.proofs.Common.{◌≡◌, ◌↔◌, ◌+◌, ◌-◌, ◌*◌, ◌%◌, ◌<◌, ◌≤◌, ℕ, true, List, fold, length, take, inl, inr, refl, ap, ap₂, sym, ◌∙◌, subst, arith}
 use Rattle.std.proofs.lemmas.List.{take_all}
+use Rattle.x86_64_addr.specs.Levels.{IsLevelCount}
 use Rattle.x86_64_model.proofs.Lemmas.Paths.Begins.{begins_itself}
 use Rattle.x86_64_model.proofs.Lemmas.Machines.Effects.{below_taken}
 use Rattle.x86_64_model.proofs.Lemmas.Machines.Spares.{length_path}
 use Rattle.x86_64_model.proofs.Lemmas.Paths.Spans.{spans_are_intervals}
 use Rattle.x86_64_model.specs.Path.{AllBelow, begins, path_at, span_size, span_start}
-use Rattle.x86_64_model.specs.Position.{page_path, position_count, span}
+use Rattle.x86_64_model.specs.Position.{page_path, position_count, lower_half, span}
 
 pub taken : (L levels level page n : ℕ) (indices : List ℕ) → levels ≡ L → n ≡ L + 1 - level → indices ≡ page_path L page → take n indices ≡ path_at levels level page
 taken L levels level page n indices known length is = rw (known, length, is) refl
@@ -47,3 +48,14 @@ pub starts_there : (frame size position page : ℕ) → frame % size ≡ 0 → p
 starts_there frame size position page aligned here page_is =
     let page_at : page ≡ frame - frame % size = page_is ∙ ap (λ n. n - n % size) here in
     omega (arith, page_at, aligned)
+
+at_four : (address : ℕ) → address < lower_half 4 → address % position_count 4 ≡ address
+at_four address low = omega (arith, low)
+
+at_five : (address : ℕ) → address < lower_half 5 → address % position_count 5 ≡ address
+at_five address low = omega (arith, low)
+
+-- an address of the lower half is its own position
+pub own_position : (L address : ℕ) → IsLevelCount L → address < lower_half L → address % position_count L ≡ address
+own_position L address (inl four) = subst (λ L. address < lower_half L → address % position_count L ≡ address) (sym four) (at_four address)
+own_position L address (inr five) = subst (λ L. address < lower_half L → address % position_count L ≡ address) (sym five) (at_five address)

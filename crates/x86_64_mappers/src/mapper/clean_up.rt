@@ -1,7 +1,7 @@
 //! Clean up of page tables.
 ghost use Rattle.std.specs.Prelude.{◌≡◌, ◌+◌};
 
-use crate::access::{TableAccess, clean_up};
+use crate::calls::{self, TableAccess};
 use x86_64_page::page::{PageRangeInclusive, Size4KiB};
 use x86_64_tables::frame_alloc::FrameDeallocator;
 use x86_64_tables::mapper::PageTables;
@@ -24,7 +24,7 @@ pub trait CleanUp: TableAccess + PageTables {
             CleansUp (Self.hierarchy self.old) D.put held 0 0xffff_ffff_ffff after rest }
         ensures serves { D.serves frame_deallocator.new ≡ D.serves frame_deallocator.old }
     {
-        self.clean_up_addr_range(clean_up::all_pages(), frame_deallocator);
+        calls::clean_up(self, frame_deallocator);
     }
 
     /// Takes away the empty tables of a range of pages, and gives their frames back, with all words 0.
@@ -46,7 +46,7 @@ pub trait CleanUp: TableAccess + PageTables {
             CleansUp (Self.hierarchy self.old) D.put held range.start high after rest }
         ensures serves { D.serves frame_deallocator.new ≡ D.serves frame_deallocator.old }
     {
-        clean_up::clean_up_range(self, range, frame_deallocator);
+        calls::clean_up_range(self, range, frame_deallocator);
     }
 }
 

@@ -3,16 +3,13 @@ ghost use Rattle.std.specs.Prelude.{◌≡◌, ◌<◌, ℕ, true, IfOk};
 ghost use Rattle.x86_64_model.specs.Owned.{Valid};
 ghost use Rattle.x86_64_tables.specs.PageTableFlags.{bits_of};
 
-use super::table_flags::{flags_allowed, set_flags};
-use crate::access::path::path_of_page;
-use crate::access::{TableAccess, change, condition, map, translate};
-use x86_64_addr::addr::VirtAddr57;
+use crate::calls::{self, TableAccess};
 use x86_64_page::frame::PhysFrame;
 use x86_64_page::page::{Page57, PageSize, Size1GiB, Size2MiB, Size4KiB};
 use x86_64_tables::frame_alloc::FrameAllocator;
 use x86_64_tables::mapper::{
     FlagUpdateError, MapToError, MapperFlush57, MapperFlushAll, PageTables57, TranslateError,
-    UnmapError, parent_flags,
+    UnmapError,
 };
 use x86_64_tables::page_table::PageTableFlags;
 
@@ -53,16 +50,7 @@ pub trait Mapper57<S: PageSize>: TableAccess + PageTables57 {
         ensures page { IfOk result (λ flush. flush ≡ page) }
         ensures serves { A.serves frame_allocator.new ≡ A.serves frame_allocator.old }
     {
-        let path = path_of_page(self, page);
-        map::map_path(
-            self,
-            path.indices(),
-            frame,
-            flags,
-            parent_flags,
-            frame_allocator,
-        )?;
-        Ok(MapperFlush57::new(page))
+        calls::map_to_with_table_flags(self, page, frame, flags, parent_flags, frame_allocator)
     }
 
     /// Maps a page as [`map_to_with_table_flags`](Self::map_to_with_table_flags) does, with the parent flags of
@@ -86,8 +74,7 @@ pub trait Mapper57<S: PageSize>: TableAccess + PageTables57 {
             IfOk result (λ _. present given ≡ true → ArrivesIn h S.SIZE page frame given) }
         ensures serves { A.serves frame_allocator.new ≡ A.serves frame_allocator.old }
     {
-        let parent_flags = parent_flags(flags);
-        self.map_to_with_table_flags(page, frame, flags, parent_flags, frame_allocator)
+        calls::map_to(self, page, frame, flags, frame_allocator)
     }
 
     /// Maps the page that starts at a frame's own address to the frame, as [`map_to`](Self::map_to) does.
@@ -112,8 +99,7 @@ pub trait Mapper57<S: PageSize>: TableAccess + PageTables57 {
             IfOk result (λ _. present given ≡ true → ArrivesIn h S.SIZE frame frame given) }
         ensures serves { A.serves frame_allocator.new ≡ A.serves frame_allocator.old }
     {
-        let page = Page57::containing_address(VirtAddr57::new(frame.start_address().as_u64()));
-        self.map_to(page, frame, flags, frame_allocator)
+        calls::identity_map(self, frame, flags, frame_allocator)
     }
 
     /// Tells whether a page may be mapped with these flags and parent flags, as
@@ -130,8 +116,7 @@ pub trait Mapper57<S: PageSize>: TableAccess + PageTables57 {
         ensures { let h = Self.hierarchy self.now in
             result ≡ allows_map h (path_of h S.LEVEL page) (bits_of flags) (bits_of parent_flags) }
     {
-        let path = path_of_page(self, page);
-        condition::path_allowed::<S, _>(self, path.indices(), flags, parent_flags)
+        calls::map_allowed(self, page, flags, parent_flags)
     }
 
     /// Unmaps a page, and returns the frame that it was mapped to, as [`Mapper::unmap`](super::Mapper::unmap) does.
@@ -151,9 +136,7 @@ pub trait Mapper57<S: PageSize>: TableAccess + PageTables57 {
             Does h (Unmap (path_of h S.LEVEL page)) (unmap_answer result) (Self.hierarchy self.new) }
         ensures page { IfOk result (λ unmapped. unmapped.1 ≡ page) }
     {
-        let path = path_of_page(self, page);
-        let frame = change::unmap_path(self, path.indices())?;
-        Ok((frame, MapperFlush57::new(page)))
+        calls::unmap(self, page)
     }
 
     /// Sets the flags of a page's own entry, as [`Mapper::update_flags`](super::Mapper::update_flags) does.
@@ -176,9 +159,7 @@ pub trait Mapper57<S: PageSize>: TableAccess + PageTables57 {
             Does h call (flags_answer (named h call) result) (Self.hierarchy self.new) }
         ensures page { IfOk result (λ flush. flush ≡ page) }
     {
-        let path = path_of_page(self, page);
-        change::update_path::<S, _>(self, path.indices(), flags)?;
-        Ok(MapperFlush57::new(page))
+        calls::update_flags(self, page, flags)
     }
 
     /// Sets the flags of the entry of level five on a page's path, and keeps its address.
@@ -200,7 +181,7 @@ pub trait Mapper57<S: PageSize>: TableAccess + PageTables57 {
             let call = SetFlags 5 (path_of h S.LEVEL page) (bits_of flags) in
             Does h call (flags_answer (named h call) result) (Self.hierarchy self.new) }
     {
-        set_flags(self, page, 5, flags)
+        calls::set_table_flags(self, page, 5, flags)
     }
 
     /// Sets the flags of the entry of level four on a page's path, and keeps its address.
@@ -222,7 +203,7 @@ pub trait Mapper57<S: PageSize>: TableAccess + PageTables57 {
             let call = SetFlags 4 (path_of h S.LEVEL page) (bits_of flags) in
             Does h call (flags_answer (named h call) result) (Self.hierarchy self.new) }
     {
-        set_flags(self, page, 4, flags)
+        calls::set_table_flags(self, page, 4, flags)
     }
 
     /// Sets the flags of the entry of level three on a page's path, and keeps its address.
@@ -244,7 +225,7 @@ pub trait Mapper57<S: PageSize>: TableAccess + PageTables57 {
             let call = SetFlags 3 (path_of h S.LEVEL page) (bits_of flags) in
             Does h call (flags_answer (named h call) result) (Self.hierarchy self.new) }
     {
-        set_flags(self, page, 3, flags)
+        calls::set_table_flags(self, page, 3, flags)
     }
 
     /// Sets the flags of the entry of level two on a page's path, and keeps its address.
@@ -266,7 +247,7 @@ pub trait Mapper57<S: PageSize>: TableAccess + PageTables57 {
             let call = SetFlags 2 (path_of h S.LEVEL page) (bits_of flags) in
             Does h call (flags_answer (named h call) result) (Self.hierarchy self.new) }
     {
-        set_flags(self, page, 2, flags)
+        calls::set_table_flags(self, page, 2, flags)
     }
 
     /// Tells whether the flags of the entry of level three on a page's path may be set to these, as
@@ -278,7 +259,7 @@ pub trait Mapper57<S: PageSize>: TableAccess + PageTables57 {
         ensures { let h = Self.hierarchy self.now in
             result ≡ allows h (SetFlags 3 (path_of h S.LEVEL page) (bits_of flags)) }
     {
-        flags_allowed(self, page, 3, flags)
+        calls::table_flags_allowed(self, page, 3, flags)
     }
 
     /// Tells whether the flags of the entry of level two on a page's path may be set to these, as
@@ -290,7 +271,7 @@ pub trait Mapper57<S: PageSize>: TableAccess + PageTables57 {
         ensures { let h = Self.hierarchy self.now in
             result ≡ allows h (SetFlags 2 (path_of h S.LEVEL page) (bits_of flags)) }
     {
-        flags_allowed(self, page, 2, flags)
+        calls::table_flags_allowed(self, page, 2, flags)
     }
 
     /// Returns the frame that a page's entry names, as [`Mapper::translate_page`](super::Mapper::translate_page) does.
@@ -305,8 +286,7 @@ pub trait Mapper57<S: PageSize>: TableAccess + PageTables57 {
         ensures { let h = Self.hierarchy self.now in
             translate_answer result ≡ page_translation h (path_of h S.LEVEL page) }
     {
-        let path = path_of_page(self, page);
-        translate::translate_path(self, path.indices())
+        calls::translate_page(self, page)
     }
 }
 

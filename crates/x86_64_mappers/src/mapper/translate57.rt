@@ -3,7 +3,7 @@ ghost use Rattle.std.specs.Prelude.{◌≡◌, Some, option_map};
 ghost use Rattle.x86_64_model.specs.Owned.{Valid, walk, translation};
 ghost use Rattle.x86_64_model.specs.Translation.{address_of};
 
-use crate::access::{TableAccess, translate};
+use crate::calls::{self, TableAccess};
 use x86_64_addr::addr::{PhysAddr, VirtAddr57};
 use x86_64_tables::mapper::{PageTables57, TranslateResult};
 
@@ -23,7 +23,7 @@ pub trait Translate57: TableAccess + PageTables57 {
         ensures walk { let walked = walk (Self.hierarchy self.now) addr in
             reaches result ≡ option_map (λ walked. walked.address) walked }
     {
-        translate::translate(self, addr)
+        calls::translate(self, addr)
     }
 
     /// Gives the physical address that an address is mapped to, `PRESENT` or not: the frame's start plus the offset. It is
@@ -34,7 +34,7 @@ pub trait Translate57: TableAccess + PageTables57 {
         requires { Valid (Self.hierarchy self.now) }
         ensures { result ≡ address_of (translation (Self.hierarchy self.now) addr) }
     {
-        translate::translate_addr(self, addr)
+        calls::translate_addr(self, addr)
     }
 }
 

@@ -1,0 +1,241 @@
+//! The calls of mappers, over any number of levels: those of [`Mapper`](crate::mapper::Mapper) and its kin, and of five levels, are
+//! these.
+ghost use Rattle.std.specs.Prelude.{◌≡◌, ◌<◌, ◌≤◌, ◌-◌, ℕ, true, IfOk};
+ghost use Rattle.x86_64_model.specs.Call.{MapTo, MapToWithTableFlags, IdentityMap, Unmap, UpdateFlags, SetFlags};
+ghost use Rattle.x86_64_model.specs.Entry.{present};
+ghost use Rattle.x86_64_model.specs.Owned.{Valid, path_of, page_translation, allows, allows_map, May, MayMap, MayCleanUp, Does, DoesMap, CleansUp, ArrivesIn, named};
+ghost use Rattle.x86_64_model.specs.Position.{lower_half, position_count};
+ghost use Rattle.x86_64_tables.specs.MapperAnswers.{map_answer, unmap_answer, flags_answer, translate_answer};
+ghost use Rattle.x86_64_tables.specs.PageTableFlags.{bits_of};
+
+pub use crate::access::TableAccess;
+use crate::access::clean_up::all_pages;
+pub use crate::access::clean_up::clean_up_range;
+use crate::access::path::path_of_page;
+pub use crate::access::translate::{translate, translate_addr};
+use crate::access::{change, condition, map, translate as translations};
+use x86_64_addr::addr::VirtAddrIn;
+use x86_64_addr::level_count::LevelCount;
+use x86_64_page::frame::PhysFrame;
+use x86_64_page::page::{PageIn, PageSize, Size4KiB};
+use x86_64_tables::frame_alloc::{FrameAllocator, FrameDeallocator};
+use x86_64_tables::mapper::{
+    FlagUpdateError, MapToError, MapperFlushAll, MapperFlushIn, TablesIn, TranslateError,
+    UnmapError, parent_flags,
+};
+use x86_64_tables::page_table::PageTableFlags;
+
+/// Maps a page to a frame, and gives the entries above it the parent flags.
+pub fn map_to_with_table_flags<
+    S: PageSize,
+    L: LevelCount,
+    M: TableAccess + TablesIn<L>,
+    A: FrameAllocator<Size4KiB>,
+>(
+    mapper: &mut M,
+    page: PageIn<S, L>,
+    frame: PhysFrame<S>,
+    flags: PageTableFlags,
+    parent_flags: PageTableFlags,
+    frame_allocator: &mut A,
+) -> Result<MapperFlushIn<S, L>, MapToError<S>>
+    requires { let h = M.hierarchy mapper.old in let path = path_of h S.LEVEL page in
+        let call = MapToWithTableFlags path frame (bits_of flags) (bits_of parent_flags) in
+        MayMap h (A.supply frame_allocator.old) call }
+    ensures does { let h = M.hierarchy mapper.old in let path = path_of h S.LEVEL page in
+        let call = MapToWithTableFlags path frame (bits_of flags) (bits_of parent_flags) in
+        let supply = A.supply frame_allocator.old in let rest = A.supply frame_allocator.new in
+        DoesMap h supply call (map_answer frame result) (M.hierarchy mapper.new) rest }
+    ensures page { IfOk result (λ flush. flush ≡ page) }
+    ensures serves { A.serves frame_allocator.new ≡ A.serves frame_allocator.old }
+{
+    let path = path_of_page(mapper, page);
+    map::map_path(
+        mapper,
+        path.indices(),
+        frame,
+        flags,
+        parent_flags,
+        frame_allocator,
+    )?;
+    Ok(MapperFlushIn::new(page))
+}
+
+/// Maps a page to a frame, and gives the entries above it those of `PRESENT`, `WRITABLE` and `USER_ACCESSIBLE` that are among the
+/// flags.
+pub fn map_to<
+    S: PageSize,
+    L: LevelCount,
+    M: TableAccess + TablesIn<L>,
+    A: FrameAllocator<Size4KiB>,
+>(
+    mapper: &mut M,
+    page: PageIn<S, L>,
+    frame: PhysFrame<S>,
+    flags: PageTableFlags,
+    frame_allocator: &mut A,
+) -> Result<MapperFlushIn<S, L>, MapToError<S>>
+    requires { let h = M.hierarchy mapper.old in
+        let call = MapTo (path_of h S.LEVEL page) frame (bits_of flags) in
+        MayMap h (A.supply frame_allocator.old) call }
+    ensures does { let h = M.hierarchy mapper.old in
+        let call = MapTo (path_of h S.LEVEL page) frame (bits_of flags) in
+        let supply = A.supply frame_allocator.old in let rest = A.supply frame_allocator.new in
+        DoesMap h supply call (map_answer frame result) (M.hierarchy mapper.new) rest }
+    ensures page { IfOk result (λ flush. flush ≡ page) }
+    ensures arrives { let h = M.hierarchy mapper.new in let given = bits_of flags in
+        IfOk result (λ _. present given ≡ true → ArrivesIn h S.SIZE page frame given) }
+    ensures serves { A.serves frame_allocator.new ≡ A.serves frame_allocator.old }
+{
+    let parent_flags = parent_flags(flags);
+    map_to_with_table_flags(mapper, page, frame, flags, parent_flags, frame_allocator)
+}
+
+/// Maps the page that starts at a frame's own address, which lies in the lower half of the address space, to the frame.
+pub fn identity_map<
+    S: PageSize,
+    L: LevelCount,
+    M: TableAccess + TablesIn<L>,
+    A: FrameAllocator<Size4KiB>,
+>(
+    mapper: &mut M,
+    frame: PhysFrame<S>,
+    flags: PageTableFlags,
+    frame_allocator: &mut A,
+) -> Result<MapperFlushIn<S, L>, MapToError<S>>
+    requires low { frame < lower_half L.LEVELS }
+    requires may { let h = M.hierarchy mapper.old in
+        let call = MapTo (path_of h S.LEVEL frame) frame (bits_of flags) in
+        MayMap h (A.supply frame_allocator.old) call }
+    ensures does { let h = M.hierarchy mapper.old in
+        let call = IdentityMap S.LEVEL frame (bits_of flags) in
+        let supply = A.supply frame_allocator.old in let rest = A.supply frame_allocator.new in
+        DoesMap h supply call (map_answer frame result) (M.hierarchy mapper.new) rest }
+    ensures page { IfOk result (λ flush. flush ≡ frame) }
+    ensures arrives { let h = M.hierarchy mapper.new in let given = bits_of flags in
+        IfOk result (λ _. present given ≡ true → ArrivesIn h S.SIZE frame frame given) }
+    ensures serves { A.serves frame_allocator.new ≡ A.serves frame_allocator.old }
+{
+    let start = VirtAddrIn::new(frame.start_address().as_u64());
+    map_to(
+        mapper,
+        PageIn::containing_address(start),
+        frame,
+        flags,
+        frame_allocator,
+    )
+}
+
+/// Tells whether a page may be mapped with these flags and parent flags.
+pub fn map_allowed<S: PageSize, L: LevelCount, M: TableAccess + TablesIn<L>>(
+    mapper: &M,
+    page: PageIn<S, L>,
+    flags: PageTableFlags,
+    parent_flags: PageTableFlags,
+) -> bool
+    requires { Valid (M.hierarchy mapper.now) }
+    ensures { let h = M.hierarchy mapper.now in
+        result ≡ allows_map h (path_of h S.LEVEL page) (bits_of flags) (bits_of parent_flags) }
+{
+    let path = path_of_page(mapper, page);
+    condition::path_allowed::<S, _>(mapper, path.indices(), flags, parent_flags)
+}
+
+/// Unmaps a page, and returns the frame that it was mapped to.
+pub fn unmap<S: PageSize, L: LevelCount, M: TableAccess + TablesIn<L>>(
+    mapper: &mut M,
+    page: PageIn<S, L>,
+) -> Result<(PhysFrame<S>, MapperFlushIn<S, L>), UnmapError>
+    requires { let h = M.hierarchy mapper.old in
+        May h (Unmap (path_of h S.LEVEL page)) }
+    ensures does { let h = M.hierarchy mapper.old in
+        Does h (Unmap (path_of h S.LEVEL page)) (unmap_answer result) (M.hierarchy mapper.new) }
+    ensures page { IfOk result (λ unmapped. unmapped.1 ≡ page) }
+{
+    let path = path_of_page(mapper, page);
+    let frame = change::unmap_path(mapper, path.indices())?;
+    Ok((frame, MapperFlushIn::new(page)))
+}
+
+/// Sets the flags of a page's own entry.
+pub fn update_flags<S: PageSize, L: LevelCount, M: TableAccess + TablesIn<L>>(
+    mapper: &mut M,
+    page: PageIn<S, L>,
+    flags: PageTableFlags,
+) -> Result<MapperFlushIn<S, L>, FlagUpdateError>
+    requires { let h = M.hierarchy mapper.old in
+        May h (UpdateFlags (path_of h S.LEVEL page) (bits_of flags)) }
+    ensures does { let h = M.hierarchy mapper.old in
+        let call = UpdateFlags (path_of h S.LEVEL page) (bits_of flags) in
+        Does h call (flags_answer (named h call) result) (M.hierarchy mapper.new) }
+    ensures page { IfOk result (λ flush. flush ≡ page) }
+{
+    let path = path_of_page(mapper, page);
+    change::update_path::<S, _>(mapper, path.indices(), flags)?;
+    Ok(MapperFlushIn::new(page))
+}
+
+/// Sets the flags of the entry of a level from two up on a page's path.
+pub fn set_table_flags<S: PageSize, L: LevelCount, M: TableAccess + TablesIn<L>>(
+    mapper: &mut M,
+    page: PageIn<S, L>,
+    level: u64,
+    flags: PageTableFlags,
+) -> Result<MapperFlushAll, FlagUpdateError>
+    requires low { 2 ≤ level }
+    requires high { level ≤ L.LEVELS }
+    requires may { let h = M.hierarchy mapper.old in
+        May h (SetFlags level (path_of h S.LEVEL page) (bits_of flags)) }
+    ensures { let h = M.hierarchy mapper.old in
+        let call = SetFlags level (path_of h S.LEVEL page) (bits_of flags) in
+        Does h call (flags_answer (named h call) result) (M.hierarchy mapper.new) }
+{
+    let path = path_of_page(mapper, page);
+    change::set_table_flags::<S, _>(mapper, path.indices(), level, flags)?;
+    Ok(MapperFlushAll::new())
+}
+
+/// Tells whether the flags of the entry of level three or two on a page's path may be set to these.
+pub fn table_flags_allowed<S: PageSize, L: LevelCount, M: TableAccess + TablesIn<L>>(
+    mapper: &M,
+    page: PageIn<S, L>,
+    level: u64,
+    flags: PageTableFlags,
+) -> bool
+    requires low { 2 ≤ level }
+    requires high { level ≤ 3 }
+    requires valid { Valid (M.hierarchy mapper.now) }
+    ensures { let h = M.hierarchy mapper.now in
+        result ≡ allows h (SetFlags level (path_of h S.LEVEL page) (bits_of flags)) }
+{
+    let path = path_of_page(mapper, page);
+    condition::table_flags_allowed::<S, _>(mapper, path.indices(), level, flags)
+}
+
+/// Returns the frame that a page's entry names, `PRESENT` or not.
+pub fn translate_page<S: PageSize, L: LevelCount, M: TableAccess + TablesIn<L>>(
+    mapper: &M,
+    page: PageIn<S, L>,
+) -> Result<PhysFrame<S>, TranslateError>
+    requires { Valid (M.hierarchy mapper.now) }
+    ensures { let h = M.hierarchy mapper.now in
+        translate_answer result ≡ page_translation h (path_of h S.LEVEL page) }
+{
+    let path = path_of_page(mapper, page);
+    translations::translate_path(mapper, path.indices())
+}
+
+/// Takes away the empty tables of the whole address space, and gives their frames back.
+pub fn clean_up<L: LevelCount, M: TableAccess + TablesIn<L>, D: FrameDeallocator<Size4KiB>>(
+    mapper: &mut M,
+    frame_deallocator: &mut D,
+)
+    requires { let serves = D.serves frame_deallocator.old in
+        MayCleanUp (M.hierarchy mapper.old) serves (D.held frame_deallocator.old) }
+    ensures cleans { let held = D.held frame_deallocator.old in let after = M.hierarchy mapper.new in
+        let rest = D.held frame_deallocator.new in
+        CleansUp (M.hierarchy mapper.old) D.put held 0 (position_count L.LEVELS - 1) after rest }
+    ensures serves { D.serves frame_deallocator.new ≡ D.serves frame_deallocator.old }
+{
+    clean_up_range(mapper, all_pages::<L>(), frame_deallocator);
+}
