@@ -37,13 +37,13 @@ module _ (levels : Levels) (m : Memory) (r : ℕ) where
       by (Some table) is = words_of-insert m identity_places 0x1000 r 0 table identity_distinct refl is
       by None is = no_root is
 
-  pub cleared_paths : paths (direct_layout levels) (without_self_entry r m) ≡ paths (recursive_layout levels m r) m
+  pub cleared_paths : paths (direct_layout (count levels)) (without_self_entry r m) ≡ paths (recursive_layout (count levels) m r) m
   cleared_paths = ap (λ (T : Words). paths_of (count levels) T 0x1000) cleared_words
 
-  pub cleared_alike : Alike (count levels) (paths (direct_layout levels) (without_self_entry r m)) (paths (recursive_layout levels m r) m)
+  pub cleared_alike : Alike (count levels) (paths (direct_layout (count levels)) (without_self_entry r m)) (paths (recursive_layout (count levels) m r) m)
   cleared_alike = λ q. inl (ap (λ (M : PathMap). entry M q) cleared_paths)
 
-  pub cleared_fits : (serves : ℕ → Bool) (free : List ℕ) → FitsPool (recursive_layout levels m r) m serves free → FitsPool (direct_layout levels) (without_self_entry r m) serves free
+  pub cleared_fits : (serves : ℕ → Bool) (free : List ℕ) → FitsPool (recursive_layout (count levels) m r) m serves free → FitsPool (direct_layout (count levels)) (without_self_entry r m) serves free
   cleared_fits serves free fits = record {
     valid = record { valid = subst (λ (T : Words). IsValid (count levels) T 0x1000 (paths_of (count levels) T 0x1000)) (sym cleared_words) fits.valid.valid; self = tt };
     each_once = fits.each_once;

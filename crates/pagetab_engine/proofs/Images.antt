@@ -40,13 +40,13 @@ fits_at_end (Offset offset) frames twin copied = (λ fits. record { fits = fits.
 fits_at_end (Recursive levels index) frames twin copied = (λ fits. record { fits = fits.0; reached = tt; twin = tt }, λ is. (is.fits, tt))
 fits_at_end (Pair levels index) frames twin copied = (
   λ fits. record {
-    fits = subst₂ (λ (free : List ℕ) limit. FitsPool (direct_layout levels) (without_self_entry index frames.memory) (serves_below limit) free) copied.1 copied.2
-        (subst (λ (m : Memory). FitsPool (direct_layout levels) (without_self_entry index m) (serves_below twin.pool.limit) twin.pool.frames) copied.0
+    fits = subst₂ (λ (free : List ℕ) limit. FitsPool (direct_layout (count levels)) (without_self_entry index frames.memory) (serves_below limit) free) copied.1 copied.2
+        (subst (λ (m : Memory). FitsPool (direct_layout (count levels)) (without_self_entry index m) (serves_below twin.pool.limit) twin.pool.frames) copied.0
         (cleared_fits levels twin.memory index (serves_below twin.pool.limit) twin.pool.frames fits.0));
     reached = tt;
     twin = record {
       fits = fits.0;
-      alike = subst (λ (m : Memory). Alike (count levels) (paths (direct_layout levels) (without_self_entry index m)) (paths (recursive_layout levels twin.memory index) twin.memory)) copied.0 (cleared_alike levels twin.memory index);
+      alike = subst (λ (m : Memory). Alike (count levels) (paths (direct_layout (count levels)) (without_self_entry index m)) (paths (recursive_layout (count levels) twin.memory index) twin.memory)) copied.0 (cleared_alike levels twin.memory index);
       same_free = sym copied.1;
     };
   },

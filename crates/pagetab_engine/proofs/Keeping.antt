@@ -1,17 +1,14 @@
 -- What no command changes, and so no commands one after another.
-use Rattle.std.proofs.Common.{◌≡◌, ◌↔◌, ◌||◌, ℕ, true, false, not, cond, List, [], refl, sym, ap, ap₂, ◌∙◌, subst, subst₂}
+use Rattle.std.proofs.Common.{◌≡◌, ◌↔◌, ℕ, true, cond, List, [], refl, sym, ap, ◌∙◌, subst, subst₂}
 use Rattle.x86_64_model.specs.Layout.{Layout}
 use Rattle.x86_64_model.specs.MapperCalls.{Owns, KeepsOthers}
 use Rattle.x86_64_model.specs.Marks.{serves_below}
 use Rattle.x86_64_model.specs.Memory.{Memory, Places, identity_places}
-use Rattle.x86_64.specs.FreeFrames.{KeepsFree as KeepsFreeFrames}
-use Rattle.x86_64.specs.Replies.{Reply}
 use Rattle.x86_64.specs.Runs as runs
 use Rattle.x86_64.proofs.FreeFrames.{nothing_keeps_free}
-use Rattle.pagetab_engine.specs.Arguments.{levels_of}
-use Rattle.pagetab_engine.specs.Calls.{machine_by, request_back, IsAnswered}
+use Rattle.pagetab_engine.specs.Calls.{asked_back}
 use Rattle.pagetab_engine.specs.Hierarchy.{layout, layout_of, machine_of, state_of, call_back, IsReached, HasTwin, IsHierarchy, Keeps, KeepsFree}
-use Rattle.pagetab_engine.specs.Requests.{has_levels, is_named, is_refused}
+use Rattle.pagetab_engine.specs.Requests.{asked, is_refused}
 use Rattle.pagetab_engine.specs.declared.arguments.Mode.{Mode}
 use Rattle.pagetab_engine.specs.declared.arguments.Mode.TheVariants.{Direct, Offset, Recursive, Pair}
 use Rattle.pagetab_engine.specs.declared.hierarchy.Hierarchy.{Hierarchy}
@@ -77,15 +74,4 @@ free_itself hierarchy back none = subst (λ back. KeepsFree hierarchy back hiera
 
 -- a call that no mapper is asked gives no frame back
 pub none_back : (hierarchy : Hierarchy) (request : Request) → is_refused hierarchy.mode request ≡ true → call_back hierarchy request ≡ []
-none_back hierarchy request refused = ap (λ b. cond b [] (request_back (machine_of hierarchy) (state_of hierarchy) request)) refused
-
--- what a mapper leaves of them is left, where it is the mode's and is asked
-pub free_by : (before : Hierarchy) (mode : Mode) → before.mode ≡ mode → (request : Request) → has_levels (levels_of mode) request ≡ true → is_named before.mode request ≡ false → {n : Memory} {rest : List ℕ} (reply : Reply)
-    → IsAnswered (layout mode before.frames.memory) before.frames.memory before.frames.pool.frames request n rest reply
-    → KeepsFreeFrames (layout_of before) before.frames.memory before.frames.pool.frames (call_back before request) n rest
-free_by before mode is request has unnamed {n} {rest} reply answered =
-    let m = before.frames.memory in let free = before.frames.pool.frames in
-    let asked : is_refused before.mode request ≡ false = ap₂ (λ has named. not has || named) (ap (λ mode. has_levels (levels_of mode) request) is ∙ has) unnamed in
-    let back : call_back before request ≡ request_back (machine_by (layout mode m)) (runs.state_of (layout mode m) m free) request =
-    ap (λ b. cond b [] (request_back (machine_of before) (state_of before) request)) asked ∙ ap (λ mode. request_back (machine_by (layout mode m)) (runs.state_of (layout mode m) m free) request) is in
-    subst₂ (λ (l : Layout) back. KeepsFreeFrames l m free back n rest) (sym (ap (λ mode. layout mode m) is)) (sym back) answered.free_words
+none_back hierarchy request refused = ap (λ b. cond b [] (asked_back (machine_of hierarchy) (state_of hierarchy) (asked request))) refused

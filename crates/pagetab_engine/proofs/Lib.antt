@@ -1,3 +1,4 @@
+mod ByMode
 pub mod Alignment
 pub mod AtOffset
 pub mod Breaking

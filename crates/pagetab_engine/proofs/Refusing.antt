@@ -1,12 +1,12 @@
 -- What a call leaves that no mapper is asked.
 use Rattle.std.proofs.Common.{◌≡◌, ◌||◌, Bool, true, false, not, cond, Some, refl, ap, ◌∙◌}
 use Rattle.x86_64.specs.Replies.{Reply}
+use Rattle.x86_64.specs.Runs as runs
 use Rattle.x86_64.specs.Runs.{AfterStep}
 use Rattle.x86_64.specs.declared.calls.MapperReply.TheVariants.{NotAllowed}
 use Rattle.pagetab_engine.specs.Arguments.{levels_of}
-use Rattle.pagetab_engine.specs.Calls.{request_step}
 use Rattle.pagetab_engine.specs.Hierarchy.{call_step, machine_of, state_of}
-use Rattle.pagetab_engine.specs.Requests.{has_levels, is_named, is_refused}
+use Rattle.pagetab_engine.specs.Requests.{asked, has_levels, is_named, is_refused}
 use Rattle.pagetab_engine.specs.declared.arguments.Mode.{Mode}
 use Rattle.pagetab_engine.specs.declared.hierarchy.Hierarchy.{Hierarchy}
 use Rattle.pagetab_engine.specs.declared.request.Request.{Request}
@@ -25,4 +25,4 @@ named_refused mode request named = let others = not (has_levels (levels_of mode)
 -- so it is not allowed, and changes nothing
 pub named_step : (hierarchy : Hierarchy) (request : Request) → is_named hierarchy.mode request ≡ true → call_step hierarchy request ≡ refused hierarchy
 named_step hierarchy request named =
-    ap (λ b. cond b (refused hierarchy) (request_step (machine_of hierarchy) (state_of hierarchy) request)) (named_refused hierarchy.mode request named)
+    ap (λ b. cond b (refused hierarchy) (runs.step_by (machine_of hierarchy) (state_of hierarchy) (asked request))) (named_refused hierarchy.mode request named)

@@ -10,15 +10,16 @@ use Rattle.x86_64_tables.specs.Walks.{walked_of}
 use Rattle.x86_64_tables.specs.declared.phys_memory.walk.Walked.{Walked}
 use Rattle.x86_64.specs.EveryWord.{IsLeft, SameWords}
 use Rattle.x86_64.specs.Replies.{Reply as CallReply}
+use Rattle.x86_64.specs.Runs as runs
 use Rattle.x86_64.specs.Runs.{AfterStep}
 use Rattle.x86_64.specs.declared.calls.MapperReply.TheVariants.{NotAllowed}
 use Rattle.x86_64.proofs.EveryWord.{every_word_is_decided}
-use Rattle.pagetab_engine.specs.Calls.{machine_by, request_back, request_step}
+use Rattle.pagetab_engine.specs.Calls.{machine_by, asked_back}
 use Rattle.pagetab_engine.specs.Hierarchy.{call_step, layout_of, state_of}
 use Rattle.pagetab_engine.specs.Lines.{Numbered}
 use Rattle.pagetab_engine.specs.Program.{Answers, SaysCommand}
 use Rattle.pagetab_engine.specs.Reply.{IsReply, back_of, state_after}
-use Rattle.pagetab_engine.specs.Requests.{is_refused, walk_to}
+use Rattle.pagetab_engine.specs.Requests.{asked, is_refused, walk_to}
 use Rattle.pagetab_engine.specs.Slot.{word_in}
 use Rattle.pagetab_engine.specs.Texts.{call_text, hexadecimal, pool_text, reply_line, walked_text}
 use Rattle.pagetab_engine.specs.declared.arguments.Arguments.{Arguments}
@@ -78,10 +79,10 @@ told_pool h told is = absurd is
 
 -- what a call leaves, by mode, layout and state
 abbrev step_by : Mode → Layout → State → Request → AfterStep CallReply
-step_by mode l s call = cond (is_refused mode call) (record { state = s; reply = Some NotAllowed }) (request_step (machine_by l) s call)
+step_by mode l s call = cond (is_refused mode call) (record { state = s; reply = Some NotAllowed }) (runs.step_by (machine_by l) s (asked call))
 
 abbrev back_by : Mode → Layout → State → Request → List ℕ
-back_by mode l s call = cond (is_refused mode call) [] (request_back (machine_by l) s call)
+back_by mode l s call = cond (is_refused mode call) [] (asked_back (machine_by l) s (asked call))
 
 module _ (h k : Hierarchy) (same : IsSame h k) where
   same_step : (call : Request) → call_step h call ≡ call_step k call

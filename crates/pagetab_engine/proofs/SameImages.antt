@@ -7,12 +7,12 @@ use Rattle.x86_64_model.specs.Lists.{In}
 use Rattle.x86_64_model.specs.Marks.{serves_below}
 use Rattle.x86_64_model.specs.Memory.{Memory, identity_places, words_of, word}
 use Rattle.x86_64.specs.Runs as runs
+use Rattle.pagetab_engine.specs.Arguments.{count}
 use Rattle.pagetab_engine.specs.Frames.{FitsBy, IsLoadable, direct_layout, free_after, memory_after, recursive_layout}
 use Rattle.pagetab_engine.specs.Hierarchy.{FitsImage, FitsIn, HasCopy, IsCopy, IsReached, first_memory, layout}
 use Rattle.pagetab_engine.specs.Program.{IsEmpty, IsFirst, Loads}
 use Rattle.pagetab_engine.specs.Slot.{stored}
 use Rattle.pagetab_engine.specs.declared.arguments.Arguments.{Arguments}
-use Rattle.pagetab_engine.specs.declared.arguments.Levels.TheVariants.{Four}
 use Rattle.pagetab_engine.specs.declared.arguments.Mode.{Mode}
 use Rattle.pagetab_engine.specs.declared.arguments.Mode.TheVariants.{Direct, Offset, Recursive, Pair}
 use Rattle.pagetab_engine.specs.declared.frames.Frames.{Frames}
@@ -77,10 +77,10 @@ fits_by : (by : Memory → Layout) (f g : Frames) → SameFrames f g → FitsBy 
 fits_by by f g same = subst (λ (at : Memory × ℕ × List ℕ). runs.FitsPool (by at.0) at.0 (serves_below at.1) at.2) (λ i. (same.memory i, same.limit i, same.free i))
 
 fits_in : (mode : Mode) (f c g d : Frames) → SameFrames f g → IsCopy mode f c → IsCopy mode g d → FitsIn mode f c → FitsIn mode g d
-fits_in (Direct levels) f c g d same copy other fits = fits_by (λ m. direct_layout levels) f g same fits
-fits_in (Offset offset) f c g d same copy other fits = fits_by (λ m. direct_layout Four) f g same fits
-fits_in (Recursive levels index) f c g d same copy other fits = fits_by (λ m. recursive_layout levels m index) f g same fits
-fits_in (Pair levels index) f c g d same copy other fits = fits_by (λ m. recursive_layout levels m index) c d (record {
+fits_in (Direct levels) f c g d same copy other fits = fits_by (λ m. direct_layout (count levels)) f g same fits
+fits_in (Offset offset) f c g d same copy other fits = fits_by (λ m. direct_layout 4) f g same fits
+fits_in (Recursive levels index) f c g d same copy other fits = fits_by (λ m. recursive_layout (count levels) m index) f g same fits
+fits_in (Pair levels index) f c g d same copy other fits = fits_by (λ m. recursive_layout (count levels) m index) c d (record {
   memory = copy.0 ∙ same.memory ∙ sym other.0;
   free = copy.1 ∙ same.free ∙ sym other.1;
   limit = copy.2 ∙ same.limit ∙ sym other.2;

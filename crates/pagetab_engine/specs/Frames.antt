@@ -9,20 +9,18 @@ use Rattle.x86_64_tables.specs.declared.frame_alloc.pool.PoolRefusal.TheVariants
 use Rattle.x86_64_mappers.specs.Layouts.{direct_at}
 use Rattle.x86_64_mappers.specs.Recursive.{recursive_now_at}
 use Rattle.x86_64.specs.Runs.{FitsPool}
-use Rattle.pagetab_engine.specs.Arguments.{count}
 use Rattle.pagetab_engine.specs.Slot.{stored}
-use Rattle.pagetab_engine.specs.declared.arguments.Levels.{Levels}
 use Rattle.pagetab_engine.specs.declared.frames.Frames.{Frames}
 use Rattle.pagetab_engine.specs.declared.statement.ImageLine.{ImageLine}
 use Rattle.pagetab_engine.specs.declared.statement.ImageLine.TheVariants.{Word, Free}
 
 -- each frame lies at the place of its number
-abbrev pub direct_layout : Levels → Layout
-direct_layout levels = direct_at (count levels) identity_places 0x1000
+abbrev pub direct_layout : (levels : ℕ) → Layout
+direct_layout levels = direct_at levels identity_places 0x1000
 
 -- the same with a recursive index, and the self-entry that is the root's word there now
-abbrev pub recursive_layout : Levels → Memory → (index : ℕ) → Layout
-recursive_layout levels memory index = recursive_now_at (count levels) memory 0x1000 index
+abbrev pub recursive_layout : (levels : ℕ) → Memory → (index : ℕ) → Layout
+recursive_layout levels memory index = recursive_now_at levels memory 0x1000 index
 
 -- the hierarchy is valid, and the free frames fit it
 abbrev pub FitsBy : Layout → Frames → Type 0

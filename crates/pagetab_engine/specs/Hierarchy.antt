@@ -7,17 +7,16 @@ use Rattle.x86_64_model.specs.MapperCalls.{Owns, KeepsOthers}
 use Rattle.x86_64_model.specs.Marks.{serves_below}
 use Rattle.x86_64_model.specs.Memory.{Memory, identity_places}
 use Rattle.x86_64_mappers.specs.Offsets.{OffsetFits}
+use Rattle.x86_64.specs.Asked.{MapperCall}
 use Rattle.x86_64.specs.FreeFrames.{KeepsFree as KeepsFreeFrames}
 use Rattle.x86_64.specs.Runs as runs
 use Rattle.x86_64.specs.Replies.{Reply}
 use Rattle.x86_64.specs.Runs.{AfterStep}
 use Rattle.x86_64.specs.declared.calls.MapperReply.TheVariants.{NotAllowed}
 use Rattle.pagetab_engine.specs.Arguments.{count}
-use Rattle.pagetab_engine.specs.Calls.{machine_by, request_back, request_step, IsAnswered}
+use Rattle.pagetab_engine.specs.Calls.{machine_by, asked_back, IsAnswered}
 use Rattle.pagetab_engine.specs.Frames.{direct_layout, recursive_layout, FitsBy, without_self_entry}
-use Rattle.pagetab_engine.specs.Requests.{is_refused}
-use Rattle.pagetab_engine.specs.declared.arguments.Levels.{Levels}
-use Rattle.pagetab_engine.specs.declared.arguments.Levels.TheVariants.{Four}
+use Rattle.pagetab_engine.specs.Requests.{asked, is_refused}
 use Rattle.pagetab_engine.specs.declared.arguments.Mode.{Mode}
 use Rattle.pagetab_engine.specs.declared.arguments.Mode.TheVariants.{Direct, Offset, Recursive, Pair}
 use Rattle.pagetab_engine.specs.declared.frames.Frames.{Frames}
@@ -36,10 +35,10 @@ HasCopy hierarchy = IsCopy hierarchy.mode hierarchy.frames hierarchy.twin
 
 -- the hierarchy is valid, and the free frames fit it; in a pair the recursive mapper's
 abbrev pub FitsIn : Mode → (frames copy : Frames) → Type 0
-FitsIn (Direct levels) frames copy = FitsBy (direct_layout levels) frames
-FitsIn (Offset offset) frames copy = FitsBy (direct_layout Four) frames
-FitsIn (Recursive levels index) frames copy = FitsBy (recursive_layout levels frames.memory index) frames
-FitsIn (Pair levels index) frames copy = FitsBy (recursive_layout levels copy.memory index) copy
+FitsIn (Direct levels) frames copy = FitsBy (direct_layout (count levels)) frames
+FitsIn (Offset offset) frames copy = FitsBy (direct_layout 4) frames
+FitsIn (Recursive levels index) frames copy = FitsBy (recursive_layout (count levels) frames.memory index) frames
+FitsIn (Pair levels index) frames copy = FitsBy (recursive_layout (count levels) copy.memory index) copy
 
 abbrev pub FitsImage : Hierarchy → Type 0
 FitsImage hierarchy = FitsIn hierarchy.mode hierarchy.frames hierarchy.twin
@@ -52,10 +51,10 @@ first_memory mode memory = memory
 -- ---- the commands
 
 abbrev pub layout : Mode → Memory → Layout
-layout (Direct levels) memory = direct_layout levels
-layout (Offset offset) memory = direct_layout Four
-layout (Recursive levels index) memory = recursive_layout levels memory index
-layout (Pair levels index) memory = direct_layout levels
+layout (Direct levels) memory = direct_layout (count levels)
+layout (Offset offset) memory = direct_layout 4
+layout (Recursive levels index) memory = recursive_layout (count levels) memory index
+layout (Pair levels index) memory = direct_layout (count levels)
 
 abbrev pub layout_of : Hierarchy → Layout
 layout_of hierarchy = layout hierarchy.mode hierarchy.frames.memory
@@ -71,11 +70,11 @@ state_of hierarchy = runs.state_of (layout_of hierarchy) hierarchy.frames.memory
 abbrev pub call_step : Hierarchy → Request → AfterStep Reply
 call_step hierarchy request = cond (is_refused hierarchy.mode request)
     (record { state = state_of hierarchy; reply = Some NotAllowed })
-    (request_step (machine_of hierarchy) (state_of hierarchy) request)
+    (runs.step_by (machine_of hierarchy) (state_of hierarchy) (asked request))
 
 -- the frames that a call gives back, where a mapper is asked: those of the tables that a clean up takes away
 abbrev pub call_back : Hierarchy → Request → List ℕ
-call_back hierarchy request = cond (is_refused hierarchy.mode request) [] (request_back (machine_of hierarchy) (state_of hierarchy) request)
+call_back hierarchy request = cond (is_refused hierarchy.mode request) [] (asked_back (machine_of hierarchy) (state_of hierarchy) (asked request))
 
 -- the words of free frames are those of before, or 0 where the frames came back
 abbrev pub KeepsFree : (before : Hierarchy) → (back : List ℕ) → (after : Hierarchy) → Type 0
@@ -83,16 +82,20 @@ KeepsFree before back after = KeepsFreeFrames (layout_of before) before.frames.m
 
 -- The recursive mapper of a pair answers a call in its own frames, by this reply: the reply and the state that it leaves are its machine's, the
 -- free frames fit its hierarchy again, and no other word changes.
-pub record TwinAnswers (levels : Levels) (index : ℕ) (before : Frames) (request : Request) (after : Frames) (reply : Reply) : Type 0 where
-  pub answered : IsAnswered (recursive_layout levels before.memory index) before.memory before.pool.frames request after.memory after.pool.frames reply
+pub record TwinAnswers (levels index : ℕ) (before : Frames) (asked : MapperCall) (after : Frames) (reply : Reply) : Type 0 where
+  pub answered : IsAnswered (recursive_layout levels before.memory index) before.memory before.pool.frames asked after.memory after.pool.frames reply
   pub layout : recursive_layout levels after.memory index ≡ recursive_layout levels before.memory index
   pub serves : serves_below after.pool.limit ≡ serves_below before.pool.limit
   pub keeps : runs.Keeps (recursive_layout levels before.memory index) (serves_below before.pool.limit) before.memory before.pool.frames after.memory after.pool.frames
 
--- in a pair the recursive mapper gives this reply too, where mappers are asked
+-- in a pair the recursive mapper gives this reply too
+abbrev pub TwinTells : Mode → (asked : MapperCall) → (before after : Frames) → Reply → Type 0
+TwinTells (Pair levels index) asked before after reply = TwinAnswers (count levels) index before asked after reply
+TwinTells mode asked before after reply = ⊤
+
+-- where mappers are asked
 abbrev pub BothAnswer : Mode → Request → Reply → (before after : Frames) → Type 0
-BothAnswer (Pair levels index) request reply before after = is_refused (Pair levels index) request ≡ false → TwinAnswers levels index before request after reply
-BothAnswer mode request reply before after = ⊤
+BothAnswer mode request reply before after = is_refused mode request ≡ false → TwinTells mode (asked request) before after reply
 
 -- the mapper reaches each place of the memory
 abbrev pub IsReached : Mode → Memory → Type 0
@@ -100,14 +103,14 @@ IsReached (Offset offset) memory = OffsetFits 4 memory offset
 IsReached mode memory = ⊤
 
 -- The recursive mapper's hierarchy is valid for the index, its free frames fit it and are those of the other one, and the path maps are alike.
-pub record IsTwin (levels : Levels) (index : ℕ) (memory : Memory) (free : List ℕ) (twin : Frames) : Type 0 where
+pub record IsTwin (levels index : ℕ) (memory : Memory) (free : List ℕ) (twin : Frames) : Type 0 where
   pub fits : FitsBy (recursive_layout levels twin.memory index) twin
-  pub alike : Alike (count levels) (paths (direct_layout levels) memory) (paths (recursive_layout levels twin.memory index) twin.memory)
+  pub alike : Alike levels (paths (direct_layout levels) memory) (paths (recursive_layout levels twin.memory index) twin.memory)
   pub same_free : free ≡ twin.pool.frames
 
 -- in a pair the two are alike
 abbrev pub HasTwin : Mode → (frames twin : Frames) → Type 0
-HasTwin (Pair levels index) frames twin = IsTwin levels index frames.memory frames.pool.frames twin
+HasTwin (Pair levels index) frames twin = IsTwin (count levels) index frames.memory frames.pool.frames twin
 HasTwin mode frames twin = ⊤
 
 -- the hierarchy is valid, the free frames fit it, and the mapper reaches each place; in a pair both are so, alike

@@ -15,3 +15,4 @@ pub mod Ending
 pub mod Texts
 pub mod Program
 pub mod Decided
+pub mod private

@@ -1,13 +1,12 @@
 -- How lines write calls: a name, a size where they are on a page of a size, and numbers.
 use Rattle.std.specs.Prelude.{◌≡◌, ◌==◌, cond, ℕ, List, [], ◌∷◌, Option, Some, None}
 use Rattle.x86_64_addr.specs.Position.{raw}
+use Rattle.x86_64_tables.specs.PageTableFlags.{bits_of}
 use Rattle.x86_64.specs.Asked.{PageCall}
 use Rattle.x86_64.specs.Asked as asked
-use Rattle.x86_64.specs.Calls.{size_asks, size_asks_57}
-use Rattle.x86_64.specs.declared.calls.Call.{Call}
-use Rattle.x86_64.specs.declared.calls.Call.TheVariants.{Of4KiB, Of2MiB, Of1GiB, Translate, TranslateAddr, CleanUp, CleanUpRange}
-use Rattle.x86_64.specs.declared.calls.call57.Call57.{Call57}
-use Rattle.x86_64.specs.declared.calls.call57.Call57.TheVariants as call_57
+use Rattle.x86_64.specs.Calls.{size_asks, no_bits}
+use Rattle.x86_64.specs.declared.calls.CallIn.{CallIn}
+use Rattle.x86_64.specs.declared.calls.CallIn.TheVariants.{Of4KiB, Of2MiB, Of1GiB, Translate, TranslateAddr, CleanUp, CleanUpRange}
 use Rattle.pagetab_engine.specs.Starts.{IsPageStart, IsFrameStart}
 use Rattle.pagetab_engine.specs.declared.fields.Name.{Name}
 use Rattle.pagetab_engine.specs.declared.fields.Name.TheVariants as name
@@ -78,26 +77,16 @@ page_written levels size call = fields_of (page_call_name call) (Some size) (pag
 
 -- ---- calls
 
--- of four levels
-abbrev pub call_written : Call → Written
-call_written (Of4KiB call) = page_written 4 Size4KiB (size_asks call)
-call_written (Of2MiB call) = page_written 4 Size2MiB (size_asks call)
-call_written (Of1GiB call) = page_written 4 Size1GiB (size_asks call)
-call_written (Translate addr) = without_size name.Translate (raw 4 addr ∷ [])
-call_written (TranslateAddr addr) = without_size name.Addr (raw 4 addr ∷ [])
-call_written CleanUp = without_size name.CleanUp []
-call_written (CleanUpRange range) = without_size name.CleanUpRange (raw 4 range.start ∷ raw 4 range.end ∷ [])
-
--- of five
-abbrev pub call_57_written : Call57 → Written
-call_57_written (call_57.Of4KiB call) = page_written 5 Size4KiB (size_asks_57 call)
-call_57_written (call_57.Of2MiB call) = page_written 5 Size2MiB (size_asks_57 call)
-call_57_written (call_57.Of1GiB call) = page_written 5 Size1GiB (size_asks_57 call)
-call_57_written (call_57.Translate addr) = without_size name.Translate (raw 5 addr ∷ [])
-call_57_written (call_57.TranslateAddr addr) = without_size name.Addr (raw 5 addr ∷ [])
-call_57_written call_57.CleanUp = without_size name.CleanUp []
-call_57_written (call_57.CleanUpRange range) = without_size name.CleanUpRange (raw 5 range.start ∷ raw 5 range.end ∷ [])
+-- with any number of levels, where the flags of level five have these bits
+abbrev pub call_written : {L P5 : Type 0} → (levels : ℕ) → (bits : P5 → ℕ) → CallIn L P5 → Written
+call_written levels bits (Of4KiB call) = page_written levels Size4KiB (size_asks bits call)
+call_written levels bits (Of2MiB call) = page_written levels Size2MiB (size_asks bits call)
+call_written levels bits (Of1GiB call) = page_written levels Size1GiB (size_asks bits call)
+call_written levels bits (Translate addr) = without_size name.Translate (raw levels addr ∷ [])
+call_written levels bits (TranslateAddr addr) = without_size name.Addr (raw levels addr ∷ [])
+call_written levels bits CleanUp = without_size name.CleanUp []
+call_written levels bits (CleanUpRange range) = without_size name.CleanUpRange (raw levels range.start ∷ raw levels range.end ∷ [])
 
 abbrev pub request_written : Request → Written
-request_written (Four call) = call_written call
-request_written (Five call) = call_57_written call
+request_written (Four call) = call_written 4 no_bits call
+request_written (Five call) = call_written 5 bits_of call

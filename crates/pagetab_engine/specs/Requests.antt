@@ -2,7 +2,9 @@
 use Rattle.std.specs.Prelude.{ℕ, ◌||◌, Bool, true, false, not, Option}
 use Rattle.x86_64_model.specs.Memory.{Words}
 use Rattle.x86_64_model.specs.PageWalk.{Walked, page_walk}
-use Rattle.x86_64.specs.Calls.{names, names_57}
+use Rattle.x86_64_tables.specs.PageTableFlags.{bits_of}
+use Rattle.x86_64.specs.Asked.{MapperCall}
+use Rattle.x86_64.specs.Calls.{asks, no_bits, names}
 use Rattle.x86_64.specs.Replies.{Reply}
 use Rattle.pagetab_engine.specs.Arguments.{levels_of}
 use Rattle.pagetab_engine.specs.declared.arguments.Levels.{Levels}
@@ -22,15 +24,24 @@ has_levels levels.Four (Four call) = true
 has_levels levels.Five (Five call) = true
 has_levels other request = false
 
+-- what a call asks of a mapper
+abbrev pub asked : Request → MapperCall
+asked (Four call) = asks no_bits call
+asked (Five call) = asks bits_of call
+
 -- whether a call's page or address has this index of the highest level, which a clean up has not
 abbrev pub request_names : Request → (index : ℕ) → Bool
-request_names (Four call) index = names call index
-request_names (Five call) index = names_57 call index
+request_names (Four call) index = names 4 no_bits call index
+request_names (Five call) index = names 5 bits_of call index
+
+-- whether the recursive index of a pair is one that is named
+abbrev pub is_index_named : Mode → (names : ℕ → Bool) → Bool
+is_index_named (Pair levels index) names = names index
+is_index_named mode names = false
 
 -- whether a call names the recursive index of a pair
 abbrev pub is_named : Mode → Request → Bool
-is_named (Pair levels index) request = request_names request index
-is_named mode request = false
+is_named mode request = is_index_named mode (request_names request)
 
 -- whether no mapper is asked: the call is one of another number of levels, or names the recursive index of a pair
 abbrev pub is_refused : Mode → Request → Bool

@@ -3,25 +3,25 @@ ghost use Rattle.std.specs.Prelude.{◌≡◌, false, IfOk, OnErr};
 ghost use Rattle.x86_64_model.specs.Marks.{serves_below};
 ghost use Rattle.x86_64_model.specs.Owned.{PoolFits};
 ghost use Rattle.x86_64_mappers.specs.Offsets.{OffsetFits};
-ghost use Rattle.x86_64.specs.Calls.{names};
+ghost use Rattle.x86_64.specs.Calls.{asks, names};
 ghost use Rattle.x86_64.specs.Runs.{FitsPool, Keeps as KeepsPool, Kept};
 ghost use Rattle.pagetab_engine.specs.Calls.{IsAnswered};
 ghost use Rattle.pagetab_engine.specs.Frames.{direct_layout, recursive_layout};
 ghost use Rattle.pagetab_engine.specs.Hierarchy.{IsTwin, TwinAnswers};
-ghost use Rattle.pagetab_engine.specs.declared.arguments.Levels.TheVariants.{Four};
-ghost use Rattle.pagetab_engine.specs.declared.request.Request.TheVariants.{Four as four};
-
-pub mod five_levels;
 
 use crate::frames::{Frames, root};
 use std::alloc::{AllocError, Global};
-use x86_64::structures::paging::mapper::{CleanUp, MapperAllSizes, Tables};
-use x86_64::structures::paging::{
-    MappedPageTable, OffsetPageTable, PageTableIndex, RecursivePageTable, Translate,
-};
+use x86_64::structures::paging::PageTableIndex;
+use x86_64::structures::paging::mapper::{TableAccess, Tables};
 use x86_64::{
-    ActiveMemory, Call, FramePool, IdentityMapping, PhysMemory, Reply, VirtAddr, run, run_pair,
+    CallIn, FramePool, IdentityMapping, LevelCount, LevelFiveFlags, PhysMemory, ReplyIn, TablesIn,
+    run, run_pair,
 };
+use x86_64_addr::addr::VirtAddrIn;
+use x86_64_mappers::mapped_page_table::MappedPageTableIn;
+use x86_64_mappers::offset_page_table::OffsetPageTableIn;
+use x86_64_mappers::recursive_page_table::RecursivePageTableIn;
+use x86_64_tables::phys_memory::Active;
 
 /// Runs the list of one call by a mapper, and gives the reply.
 ///
@@ -30,23 +30,24 @@ use x86_64::{
 /// # Errors
 ///
 /// `AllocError` where memory is refused; then nothing changes.
-fn answer_by<M: MapperAllSizes + Translate + CleanUp>(
+fn answer_by<L: LevelCount, P5: LevelFiveFlags<L>, M: TableAccess + TablesIn<L>>(
     alloc: Global,
     mapper: &mut M,
     pool: &mut FramePool,
-    call: Call,
-) -> Result<Reply, AllocError>
+    call: CallIn<L, P5>,
+) -> Result<ReplyIn<L>, AllocError>
     requires { PoolFits (M.hierarchy mapper.old) (serves_below pool.old.limit) pool.old.frames }
     ensures answered { let h = M.hierarchy mapper.old in
         let memory = (M.hierarchy mapper.new).memory in
-        IfOk result (IsAnswered h.layout h.memory pool.old.frames (four call) memory pool.new.frames) }
+        IfOk result (IsAnswered h.layout h.memory pool.old.frames (asks P5.bits call) memory pool.new.frames) }
     ensures unchanged { OnErr result (
         ((M.hierarchy mapper.new).memory ≡ (M.hierarchy mapper.old).memory) × (pool.new ≡ pool.old)) }
     ensures keeps { let h = M.hierarchy mapper.old in
         Kept h (serves_below pool.old.limit) pool.old.frames (M.hierarchy mapper.new) pool.new.frames }
     ensures serves { serves_below pool.new.limit ≡ serves_below pool.old.limit }
 {
-    let calls = [call];
+    let mut calls = Vec::with_capacity(alloc, 1)?;
+    calls.push_reserved(call);
     let mut replies = Vec::with_capacity(alloc, 1)?;
     run(mapper, pool, &calls, &mut replies)?;
     Ok(replies[0])
@@ -59,21 +60,21 @@ fn answer_by<M: MapperAllSizes + Translate + CleanUp>(
 /// # Errors
 ///
 /// `AllocError` where memory is refused; then nothing changes.
-pub fn answer_direct(
+pub fn answer_direct<L: LevelCount, P5: LevelFiveFlags<L>>(
     alloc: Global,
     memory: &mut PhysMemory,
     pool: &mut FramePool,
-    call: Call,
-) -> Result<Reply, AllocError>
-    requires { FitsPool (direct_layout Four) memory.old (serves_below pool.old.limit) pool.old.frames }
+    call: CallIn<L, P5>,
+) -> Result<ReplyIn<L>, AllocError>
+    requires { FitsPool (direct_layout L.LEVELS) memory.old (serves_below pool.old.limit) pool.old.frames }
     ensures answered { IfOk result (
-        IsAnswered (direct_layout Four) memory.old pool.old.frames (four call) memory.new pool.new.frames) }
+        IsAnswered (direct_layout L.LEVELS) memory.old pool.old.frames (asks P5.bits call) memory.new pool.new.frames) }
     ensures unchanged { OnErr result ((memory.new ≡ memory.old) × (pool.new ≡ pool.old)) }
     ensures keeps { let serves = serves_below pool.old.limit in
-        KeepsPool (direct_layout Four) serves memory.old pool.old.frames memory.new pool.new.frames }
+        KeepsPool (direct_layout L.LEVELS) serves memory.old pool.old.frames memory.new pool.new.frames }
     ensures serves { serves_below pool.new.limit ≡ serves_below pool.old.limit }
 {
-    let mut mapper = MappedPageTable::new(memory, root(), IdentityMapping);
+    let mut mapper = MappedPageTableIn::<IdentityMapping, L>::new(memory, root(), IdentityMapping);
     answer_by(alloc, &mut mapper, pool, call)
 }
 
@@ -84,24 +85,24 @@ pub fn answer_direct(
 /// # Errors
 ///
 /// `AllocError` where memory is refused; then nothing changes.
-pub fn answer_at_offset(
+pub fn answer_at_offset<L: LevelCount, P5: LevelFiveFlags<L>>(
     alloc: Global,
     memory: &mut PhysMemory,
-    phys_offset: VirtAddr,
+    phys_offset: VirtAddrIn<L>,
     pool: &mut FramePool,
-    call: Call,
-) -> Result<Reply, AllocError>
-    requires pool { FitsPool (direct_layout Four) memory.old (serves_below pool.old.limit) pool.old.frames }
-    requires offset { OffsetFits 4 memory.old phys_offset }
+    call: CallIn<L, P5>,
+) -> Result<ReplyIn<L>, AllocError>
+    requires pool { FitsPool (direct_layout L.LEVELS) memory.old (serves_below pool.old.limit) pool.old.frames }
+    requires offset { OffsetFits L.LEVELS memory.old phys_offset }
     ensures answered { IfOk result (
-        IsAnswered (direct_layout Four) memory.old pool.old.frames (four call) memory.new pool.new.frames) }
+        IsAnswered (direct_layout L.LEVELS) memory.old pool.old.frames (asks P5.bits call) memory.new pool.new.frames) }
     ensures unchanged { OnErr result ((memory.new ≡ memory.old) × (pool.new ≡ pool.old)) }
     ensures keeps { let serves = serves_below pool.old.limit in
-        KeepsPool (direct_layout Four) serves memory.old pool.old.frames memory.new pool.new.frames }
-    ensures offset { OffsetFits 4 memory.new phys_offset }
+        KeepsPool (direct_layout L.LEVELS) serves memory.old pool.old.frames memory.new pool.new.frames }
+    ensures offset { OffsetFits L.LEVELS memory.new phys_offset }
     ensures serves { serves_below pool.new.limit ≡ serves_below pool.old.limit }
 {
-    let mut mapper = OffsetPageTable::new(memory, root(), phys_offset);
+    let mut mapper = OffsetPageTableIn::<L>::new(memory, root(), phys_offset);
     answer_by(alloc, &mut mapper, pool, call)
 }
 
@@ -112,26 +113,26 @@ pub fn answer_at_offset(
 /// # Errors
 ///
 /// `AllocError` where memory is refused; then nothing changes.
-pub fn answer_recursively(
+pub fn answer_recursively<L: LevelCount, P5: LevelFiveFlags<L>>(
     alloc: Global,
     memory: &mut PhysMemory,
     index: PageTableIndex,
     pool: &mut FramePool,
-    call: Call,
-) -> Result<Reply, AllocError>
-    requires { let layout = recursive_layout Four memory.old index in
+    call: CallIn<L, P5>,
+) -> Result<ReplyIn<L>, AllocError>
+    requires { let layout = recursive_layout L.LEVELS memory.old index in
         FitsPool layout memory.old (serves_below pool.old.limit) pool.old.frames }
-    ensures answered { let layout = recursive_layout Four memory.old index in IfOk result (
-        IsAnswered layout memory.old pool.old.frames (four call) memory.new pool.new.frames) }
+    ensures answered { let layout = recursive_layout L.LEVELS memory.old index in IfOk result (
+        IsAnswered layout memory.old pool.old.frames (asks P5.bits call) memory.new pool.new.frames) }
     ensures unchanged { OnErr result ((memory.new ≡ memory.old) × (pool.new ≡ pool.old)) }
-    ensures keeps { let layout = recursive_layout Four memory.old index in
+    ensures keeps { let layout = recursive_layout L.LEVELS memory.old index in
         let serves = serves_below pool.old.limit in
         KeepsPool layout serves memory.old pool.old.frames memory.new pool.new.frames }
-    ensures layout { recursive_layout Four memory.new index ≡ recursive_layout Four memory.old index }
+    ensures layout { recursive_layout L.LEVELS memory.new index ≡ recursive_layout L.LEVELS memory.old index }
     ensures serves { serves_below pool.new.limit ≡ serves_below pool.old.limit }
 {
-    let active = ActiveMemory::new(memory, root());
-    let mut mapper = RecursivePageTable::new_unchecked(active, index);
+    let active = Active::<L>::new(memory, root());
+    let mut mapper = RecursivePageTableIn::<L>::new_unchecked(active, index);
     answer_by(alloc, &mut mapper, pool, call)
 }
 
@@ -143,31 +144,32 @@ pub fn answer_recursively(
 /// # Errors
 ///
 /// `AllocError` where memory is refused; then nothing changes.
-pub fn answer_by_both(
+pub fn answer_by_both<L: LevelCount, P5: LevelFiveFlags<L>>(
     alloc: Global,
     memory: &mut PhysMemory,
     pool: &mut FramePool,
     twin: &mut Frames,
     index: PageTableIndex,
-    call: Call,
-) -> Result<Reply, AllocError>
-    requires fits { FitsPool (direct_layout Four) memory.old (serves_below pool.old.limit) pool.old.frames }
-    requires twin { IsTwin Four index memory.old pool.old.frames twin.old }
-    requires unnamed { names call index ≡ false }
+    call: CallIn<L, P5>,
+) -> Result<ReplyIn<L>, AllocError>
+    requires fits { FitsPool (direct_layout L.LEVELS) memory.old (serves_below pool.old.limit) pool.old.frames }
+    requires twin { IsTwin L.LEVELS index memory.old pool.old.frames twin.old }
+    requires unnamed { names L.LEVELS P5.bits call index ≡ false }
     ensures answered { IfOk result (
-        IsAnswered (direct_layout Four) memory.old pool.old.frames (four call) memory.new pool.new.frames) }
+        IsAnswered (direct_layout L.LEVELS) memory.old pool.old.frames (asks P5.bits call) memory.new pool.new.frames) }
     ensures unchanged { OnErr result (
         (memory.new ≡ memory.old) × (pool.new ≡ pool.old) × (twin.new ≡ twin.old)) }
     ensures keeps { let serves = serves_below pool.old.limit in
-        KeepsPool (direct_layout Four) serves memory.old pool.old.frames memory.new pool.new.frames }
+        KeepsPool (direct_layout L.LEVELS) serves memory.old pool.old.frames memory.new pool.new.frames }
     ensures serves { serves_below pool.new.limit ≡ serves_below pool.old.limit }
-    ensures twin { IsTwin Four index memory.new pool.new.frames twin.new }
-    ensures both { IfOk result (TwinAnswers Four index twin.old (four call) twin.new) }
+    ensures twin { IsTwin L.LEVELS index memory.new pool.new.frames twin.new }
+    ensures both { IfOk result (TwinAnswers L.LEVELS index twin.old (asks P5.bits call) twin.new) }
 {
-    let calls = [call];
-    let mut direct = MappedPageTable::new(memory, root(), IdentityMapping);
-    let active = ActiveMemory::new(&mut twin.memory, root());
-    let mut recursive = RecursivePageTable::new_unchecked(active, index);
+    let mut calls = Vec::with_capacity(alloc, 1)?;
+    calls.push_reserved(call);
+    let mut direct = MappedPageTableIn::<IdentityMapping, L>::new(memory, root(), IdentityMapping);
+    let active = Active::<L>::new(&mut twin.memory, root());
+    let mut recursive = RecursivePageTableIn::<L>::new_unchecked(active, index);
     let replies = run_pair(
         alloc,
         &mut direct,

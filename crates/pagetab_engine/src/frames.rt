@@ -4,6 +4,7 @@ ghost use Rattle.std.specs.FinMap as map;
 ghost use Rattle.x86_64_model.specs.Memory.{words_of, identity_places};
 ghost use Rattle.x86_64_tables.specs.PageTable.{zero_words};
 ghost use Rattle.x86_64_tables.specs.Walks.{walked_of};
+ghost use Rattle.pagetab_engine.specs.Arguments.{count};
 ghost use Rattle.pagetab_engine.specs.Frames.{direct_layout, recursive_layout, FitsBy, IsLoadable, IsRefusedFor, memory_after, free_after, without_self_entry};
 ghost use Rattle.pagetab_engine.specs.Requests.{walk_to};
 ghost use Rattle.pagetab_engine.specs.Slot.{word_in};
@@ -15,8 +16,8 @@ use crate::statement::ImageLine;
 use std::alloc::{AllocError, Global};
 use x86_64::structures::paging::{PageTableIndex, PhysFrame, Size4KiB};
 use x86_64::{
-    FramePool, IdentityMapping, PhysAddr, PhysMemory, PoolRefusal, Walked, page_walk, page_walk_57,
-    pool_fits, pool_fits_57, pool_fits_recursive, pool_fits_recursive_57,
+    FramePool, IdentityMapping, PhysAddr, PhysMemory, PoolRefusal, Walked, page_walk, pool_fits,
+    pool_fits_57, pool_fits_recursive, pool_fits_recursive_57,
 };
 
 /// Holds page tables in a memory, and the frames that are free for new ones.
@@ -82,7 +83,7 @@ impl Frames {
     ///
     /// `AllocError` where memory is refused.
     pub fn fits(&self, alloc: Global, levels: Levels) -> Result<bool, AllocError>
-        ensures { IfOk result (λ fits. IsTrue fits ↔ FitsBy (direct_layout levels) self.now) }
+        ensures { IfOk result (λ fits. IsTrue fits ↔ FitsBy (direct_layout (count levels)) self.now) }
     {
         let (memory, pool) = (&self.memory, &self.pool);
         match levels {
@@ -103,7 +104,7 @@ impl Frames {
         index: PageTableIndex,
     ) -> Result<bool, AllocError>
         ensures { IfOk result (λ fits.
-            IsTrue fits ↔ FitsBy (recursive_layout levels self.now.memory index) self.now) }
+            IsTrue fits ↔ FitsBy (recursive_layout (count levels) self.now.memory index) self.now) }
     {
         let (memory, pool) = (&self.memory, &self.pool);
         match levels {
@@ -126,7 +127,7 @@ impl Frames {
     {
         match address {
             Address::Four(addr) => page_walk(&self.memory, &IdentityMapping, root(), addr),
-            Address::Five(addr) => page_walk_57(&self.memory, &IdentityMapping, root(), addr),
+            Address::Five(addr) => page_walk(&self.memory, &IdentityMapping, root(), addr),
         }
     }
 

@@ -2,20 +2,22 @@
 ghost use Rattle.std.specs.Prelude.{◌≡◌, ◌↔◌, [], ℕ, if◌then◌else◌, IsOk, IfOk, IfErr, OnOk, OnErr, IsTrue, true, false, Some, None, nat_lt};
 ghost use Rattle.std.specs.FinMap as map;
 ghost use Rattle.x86_64_tables.specs.PageTable.{zero_words};
+ghost use Rattle.x86_64.specs.Calls.{asks, names};
+ghost use Rattle.pagetab_engine.specs.Arguments.{count, levels_of};
+ghost use Rattle.pagetab_engine.specs.Calls.{IsAnswered};
 ghost use Rattle.pagetab_engine.specs.Frames.{IsLoadable, IsRefusedFor, memory_after, free_after};
-ghost use Rattle.pagetab_engine.specs.Hierarchy.{state_of, call_back, call_step, first_memory, BothAnswer, FitsImage, HasCopy, IsReached, IsHierarchy, Keeps, KeepsFree};
-ghost use Rattle.pagetab_engine.specs.Requests.{is_named, is_refused, reply_in};
-ghost use Rattle.pagetab_engine.specs.declared.request.Request.TheVariants.{Four as four, Five as five};
+ghost use Rattle.pagetab_engine.specs.Hierarchy.{state_of, call_back, call_step, first_memory, layout_of, BothAnswer, FitsImage, HasCopy, IsReached, IsHierarchy, Keeps, KeepsFree, TwinTells};
+ghost use Rattle.pagetab_engine.specs.Requests.{is_index_named, is_refused, reply_in};
 
 use crate::arguments::{Arguments, Levels, Mode};
-use crate::calls::five_levels::{answer_by_both_57, answer_direct_57, answer_recursively_57};
 use crate::calls::{answer_at_offset, answer_by_both, answer_direct, answer_recursively};
 use crate::frames::Frames;
 use crate::request::{Answer, Request};
 use crate::statement::ImageLine;
 use std::alloc::{AllocError, Global};
 use x86_64::structures::paging::OffsetPageTable;
-use x86_64::{Call, Call57, PoolRefusal, Reply, Reply57};
+use x86_64::{CallIn, LevelCount, LevelFiveFlags, PoolRefusal, ReplyIn};
+use x86_64_addr::addr::VirtAddrIn;
 
 /// Holds the frames of a hierarchy, and says by which mapper calls are answered.
 ///
@@ -171,73 +173,46 @@ impl Hierarchy {
         if self.mode.is_named(&request) {
             return Ok(request.refusal());
         }
-        match request {
-            Request::Four(call) => Ok(Answer::Four(self.answer(alloc, call)?)),
-            Request::Five(call) => Ok(Answer::Five(self.answer_57(alloc, call)?)),
+        match (request, self.mode.levels()) {
+            (Request::Four(call), Levels::Four) => Ok(Answer::Four(self.answer(alloc, call)?)),
+            (Request::Five(call), Levels::Five) => Ok(Answer::Five(self.answer(alloc, call)?)),
+            (Request::Four(_), Levels::Five) | (Request::Five(_), Levels::Four) => {
+                Ok(request.refusal())
+            }
         }
     }
 
-    /// Does what [`answer_call`](Self::answer_call) does, where there are four levels, for a call that doesn't name the index of a pair.
-    fn answer(&mut self, alloc: Global, call: Call) -> Result<Reply, AllocError>
+    /// Runs the list of one call, for as many levels as the hierarchy has, by the mapper of the mode, and returns the reply.
+    ///
+    /// # Errors
+    ///
+    /// `AllocError` if memory is refused; then nothing changes.
+    fn answer<L: LevelCount, P5: LevelFiveFlags<L>>(
+        &mut self,
+        alloc: Global,
+        call: CallIn<L, P5>,
+    ) -> Result<ReplyIn<L>, AllocError>
         requires fits { IsHierarchy self.old }
-        requires unnamed { is_named self.old.mode (four call) ≡ false }
-        ensures answer { IfOk result (λ reply. Some reply ≡ (call_step self.old (four call)).reply) }
-        ensures state { OnOk result (state_of self.new ≡ (call_step self.old (four call)).state) }
-        ensures free { OnOk result (KeepsFree self.old (call_back self.old (four call)) self.new) }
-        ensures both { IfOk result (λ reply.
-            BothAnswer self.old.mode (four call) reply self.old.twin self.new.twin) }
-        ensures refused { is_refused self.old.mode (four call) ≡ true → self.new ≡ self.old }
+        requires levels { count (levels_of self.old.mode) ≡ L.LEVELS }
+        requires unnamed { is_index_named self.old.mode (names L.LEVELS P5.bits call) ≡ false }
+        ensures answered { let before = self.old.frames in let after = self.new.frames in
+            IfOk result (IsAnswered (layout_of self.old) before.memory before.pool.frames (asks P5.bits call)
+            after.memory after.pool.frames) }
+        ensures both { IfOk result (
+            TwinTells self.old.mode (asks P5.bits call) self.old.twin self.new.twin) }
         ensures unchanged { OnErr result (self.new ≡ self.old) }
         ensures keeps { Keeps self.old self.new }
     {
         let (mode, twin) = (self.mode, &mut self.twin);
         let (memory, pool) = (&mut self.frames.memory, &mut self.frames.pool);
         match mode {
-            Mode::Direct(levels) => match levels {
-                Levels::Four => answer_direct(alloc, memory, pool, call),
-                Levels::Five => Ok(Reply::NotAllowed),
-            },
-            Mode::Offset(offset) => answer_at_offset(alloc, memory, offset, pool, call),
-            Mode::Recursive(levels, index) => match levels {
-                Levels::Four => answer_recursively(alloc, memory, index, pool, call),
-                Levels::Five => Ok(Reply::NotAllowed),
-            },
-            Mode::Pair(levels, index) => match levels {
-                Levels::Four => answer_by_both(alloc, memory, pool, twin, index, call),
-                Levels::Five => Ok(Reply::NotAllowed),
-            },
-        }
-    }
-
-    /// Does what [`answer_call`](Self::answer_call) does, where there are five levels, for a call that doesn't name the index of a pair.
-    fn answer_57(&mut self, alloc: Global, call: Call57) -> Result<Reply57, AllocError>
-        requires fits { IsHierarchy self.old }
-        requires unnamed { is_named self.old.mode (five call) ≡ false }
-        ensures answer { IfOk result (λ reply. Some reply ≡ (call_step self.old (five call)).reply) }
-        ensures state { OnOk result (state_of self.new ≡ (call_step self.old (five call)).state) }
-        ensures free { OnOk result (KeepsFree self.old (call_back self.old (five call)) self.new) }
-        ensures both { IfOk result (λ reply.
-            BothAnswer self.old.mode (five call) reply self.old.twin self.new.twin) }
-        ensures refused { is_refused self.old.mode (five call) ≡ true → self.new ≡ self.old }
-        ensures unchanged { OnErr result (self.new ≡ self.old) }
-        ensures keeps { Keeps self.old self.new }
-    {
-        let (mode, twin) = (self.mode, &mut self.twin);
-        let (memory, pool) = (&mut self.frames.memory, &mut self.frames.pool);
-        match mode {
-            Mode::Direct(levels) => match levels {
-                Levels::Four => Ok(Reply57::NotAllowed),
-                Levels::Five => answer_direct_57(alloc, memory, pool, call),
-            },
-            Mode::Offset(_) => Ok(Reply57::NotAllowed),
-            Mode::Recursive(levels, index) => match levels {
-                Levels::Four => Ok(Reply57::NotAllowed),
-                Levels::Five => answer_recursively_57(alloc, memory, index, pool, call),
-            },
-            Mode::Pair(levels, index) => match levels {
-                Levels::Four => Ok(Reply57::NotAllowed),
-                Levels::Five => answer_by_both_57(alloc, memory, pool, twin, index, call),
-            },
+            Mode::Direct(_) => answer_direct(alloc, memory, pool, call),
+            Mode::Offset(offset) => {
+                let offset = VirtAddrIn::new(offset.as_u64());
+                answer_at_offset(alloc, memory, offset, pool, call)
+            }
+            Mode::Recursive(_, index) => answer_recursively(alloc, memory, index, pool, call),
+            Mode::Pair(_, index) => answer_by_both(alloc, memory, pool, twin, index, call),
         }
     }
 }

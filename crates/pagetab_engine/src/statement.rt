@@ -1,19 +1,24 @@
 //! What lines say.
 ghost use Rattle.std.specs.Prelude.{◌≡◌, ◌↔◌, ℕ, Option, List, IsSome, IfSome, IfNone};
+ghost use Rattle.x86_64_tables.specs.PageTableFlags.{bits_of};
+ghost use Rattle.x86_64.specs.Calls.{no_bits};
 ghost use Rattle.pagetab_engine.specs.Fields.{Says};
 ghost use Rattle.pagetab_engine.specs.Arguments.{levels_of};
 ghost use Rattle.pagetab_engine.specs.PageCalls.{fields_of, without_size};
 ghost use Rattle.pagetab_engine.specs.Statements.{IsOnAddresses, IsPlain, IsStatement, IsAccepted, SaysStatement, CommandHas, HasLevels};
 ghost use Rattle.pagetab_engine.specs.Statements.{levels_in, command_written, written};
 ghost use Rattle.pagetab_engine.specs.declared.arguments.Levels.TheVariants.{Four, Five};
+ghost use Rattle.pagetab_engine.specs.private.AddressCommands.{address_command_written};
 
 use crate::arguments::{Arguments, Levels};
 use crate::fields::{Fields, Name, Size};
-use crate::page_call::{page_57_at, page_at, parse_call, parse_call_57};
+use crate::page_call::{page_at, parse_call};
 use crate::request::{Address, Request};
 use crate::slot::{Slot, frame_at, slot_at};
-use x86_64::structures::paging::{Page, Page57, PhysFrame, Size4KiB};
-use x86_64::{Call, Call57, VirtAddr, VirtAddr57};
+use x86_64::structures::paging::{PageTableFlags, PhysFrame, Size4KiB};
+use x86_64::{CallIn, FiveLevels, FourLevels, LevelCount, LevelFiveFlags, NoLevelFive};
+use x86_64_addr::addr::VirtAddrIn;
+use x86_64_page::page::PageIn;
 
 /// Asks something of the hierarchy.
 #[derive(Clone, Copy)]
@@ -75,7 +80,7 @@ impl Statement {
             Some(size) => {
                 let request = match arguments.mode.levels() {
                     Levels::Four => Request::Four(parse_call(name, size, numbers)?),
-                    Levels::Five => Request::Five(parse_call_57(name, size, numbers)?),
+                    Levels::Five => Request::Five(parse_call(name, size, numbers)?),
                 };
                 Some(Statement::Command(Command::Call(request)))
             }
@@ -107,8 +112,8 @@ impl Statement {
             (Name::Pool, []) => Some(Statement::Command(Command::Pool)),
             _ => {
                 let command = match arguments.mode.levels() {
-                    Levels::Four => Command::at_48_bits(name, numbers)?,
-                    Levels::Five => Command::at_57_bits(name, numbers)?,
+                    Levels::Four => Command::of_four_levels(AddressCommand::parse(name, numbers)?),
+                    Levels::Five => Command::of_five_levels(AddressCommand::parse(name, numbers)?),
                 };
                 Some(Statement::Command(command))
             }
@@ -117,57 +122,57 @@ impl Statement {
 }
 
 impl Command {
-    /// Gives the command on addresses of 48 bits that fields without SIZE write, or `None` exactly where there is none.
-    fn at_48_bits(name: Name, numbers: &[u64]) -> Option<Command>
-        ensures accepted { IsSome result ↔ IsOnAddresses 4 name numbers.now }
-        ensures written { IfSome result (λ command. command_written command ≡ without_size name numbers.now) }
-        ensures levels { IfSome result (CommandHas Four) }
+    /// Returns the command with four levels.
+    fn of_four_levels(command: AddressCommand<FourLevels, NoLevelFive>) -> Command
+        ensures written { command_written result ≡ address_command_written 4 no_bits command }
+        ensures levels { CommandHas Four result }
     {
-        match (name, numbers) {
-            (Name::Walk, [addr]) => {
-                let addr = VirtAddr::try_new(*addr).ok()?;
-                Some(Command::Walk(Address::Four(addr)))
-            }
-            (Name::Translate, [addr]) => {
-                let addr = VirtAddr::try_new(*addr).ok()?;
-                Some(Command::Call(Request::Four(Call::Translate(addr))))
-            }
-            (Name::Addr, [addr]) => {
-                let addr = VirtAddr::try_new(*addr).ok()?;
-                Some(Command::Call(Request::Four(Call::TranslateAddr(addr))))
-            }
-            (Name::CleanUp, []) => Some(Command::Call(Request::Four(Call::CleanUp))),
-            (Name::CleanUpRange, [first, last]) => {
-                let range = Page::range_inclusive(page_at(*first)?, page_at(*last)?);
-                Some(Command::Call(Request::Four(Call::CleanUpRange(range))))
-            }
-            _ => None,
+        match command {
+            AddressCommand::Call(call) => Command::Call(Request::Four(call)),
+            AddressCommand::Walk(addr) => Command::Walk(Address::Four(addr)),
         }
     }
 
-    /// Does what [`at_48_bits`](Self::at_48_bits) does, for addresses of 57 bits.
-    fn at_57_bits(name: Name, numbers: &[u64]) -> Option<Command>
-        ensures accepted { IsSome result ↔ IsOnAddresses 5 name numbers.now }
-        ensures written { IfSome result (λ command. command_written command ≡ without_size name numbers.now) }
-        ensures levels { IfSome result (CommandHas Five) }
+    /// Returns the command with five levels.
+    fn of_five_levels(command: AddressCommand<FiveLevels, PageTableFlags>) -> Command
+        ensures written { command_written result ≡ address_command_written 5 bits_of command }
+        ensures levels { CommandHas Five result }
+    {
+        match command {
+            AddressCommand::Call(call) => Command::Call(Request::Five(call)),
+            AddressCommand::Walk(addr) => Command::Walk(Address::Five(addr)),
+        }
+    }
+}
+
+/// Asks something about addresses: a call, or a walk.
+#[derive(Clone, Copy)]
+enum AddressCommand<L: LevelCount, P5: Copy> {
+    Call(CallIn<L, P5>),
+    Walk(VirtAddrIn<L>),
+}
+
+impl<L: LevelCount, P5: LevelFiveFlags<L>> AddressCommand<L, P5> {
+    /// Gives what a name and numbers without SIZE ask about addresses, or `None` exactly if they ask nothing.
+    fn parse(name: Name, numbers: &[u64]) -> Option<Self>
+        ensures accepted { IsSome result ↔ IsOnAddresses L.LEVELS name numbers.now }
+        ensures written { let fields = without_size name numbers.now in
+            IfSome result (λ command. address_command_written L.LEVELS P5.bits command ≡ fields) }
     {
         match (name, numbers) {
-            (Name::Walk, [addr]) => {
-                let addr = VirtAddr57::try_new(*addr).ok()?;
-                Some(Command::Walk(Address::Five(addr)))
-            }
+            (Name::Walk, [addr]) => Some(AddressCommand::Walk(VirtAddrIn::checked_new(*addr)?)),
             (Name::Translate, [addr]) => {
-                let addr = VirtAddr57::try_new(*addr).ok()?;
-                Some(Command::Call(Request::Five(Call57::Translate(addr))))
+                let addr = VirtAddrIn::checked_new(*addr)?;
+                Some(AddressCommand::Call(CallIn::Translate(addr)))
             }
             (Name::Addr, [addr]) => {
-                let addr = VirtAddr57::try_new(*addr).ok()?;
-                Some(Command::Call(Request::Five(Call57::TranslateAddr(addr))))
+                let addr = VirtAddrIn::checked_new(*addr)?;
+                Some(AddressCommand::Call(CallIn::TranslateAddr(addr)))
             }
-            (Name::CleanUp, []) => Some(Command::Call(Request::Five(Call57::CleanUp))),
+            (Name::CleanUp, []) => Some(AddressCommand::Call(CallIn::CleanUp)),
             (Name::CleanUpRange, [first, last]) => {
-                let range = Page57::range_inclusive(page_57_at(*first)?, page_57_at(*last)?);
-                Some(Command::Call(Request::Five(Call57::CleanUpRange(range))))
+                let range = PageIn::range_inclusive(page_at(*first)?, page_at(*last)?);
+                Some(AddressCommand::Call(CallIn::CleanUpRange(range)))
             }
             _ => None,
         }

@@ -3,16 +3,16 @@ use Rattle.std.proofs.Common.{◌≡◌, ℕ, List, Option, Some, option_map, re
 use Rattle.x86_64_model.specs.Memory.{Memory}
 use Rattle.x86_64_model.specs.Layout.{Layout, read_entry}
 use Rattle.x86_64_model.specs.Translation.{Translated, translate, address_of}
-use Rattle.x86_64_model.specs.Machine.{Machine, State, do_call, step}
+use Rattle.x86_64_model.specs.Machine.{do_call}
 use Rattle.x86_64_tables.specs.Translations.{translation_of}
 use Rattle.x86_64_tables.specs.declared.mapper.MappedFrame.TheVariants.{Size4KiB, Size2MiB, Size1GiB}
 use Rattle.x86_64_tables.specs.declared.mapper.TranslateResult.{TranslateResult}
 use Rattle.x86_64_tables.specs.declared.mapper.TranslateResult.TheVariants.{Mapped, NotMapped, InvalidFrameAddress}
 use Rattle.x86_64.specs.declared.calls.MapperReply.TheVariants as reply
 use Rattle.x86_64.specs.Asked as asked
-use Rattle.x86_64.specs.Asked.{MapperCall, machine_call}
-use Rattle.x86_64.specs.Replies.{Reply, translate_result, reply_of}
-use Rattle.x86_64.specs.Runs.{AfterStep, machine_of, state_of}
+use Rattle.x86_64.specs.Asked.{MapperCall}
+use Rattle.x86_64.specs.Replies.{translate_result}
+use Rattle.x86_64.specs.Runs.{machine_of, state_of, step_by}
 
 some_same : {t u : Translated} → Some t ≡ Some u → t ≡ u
 some_same e = cc
@@ -24,19 +24,13 @@ translation_back (Mapped (Size1GiB start) offset flags) t e = subst (λ t. Some 
 translation_back NotMapped t e = subst (λ t. Some NotMapped ≡ translate_result t) (some_same e) refl
 translation_back (InvalidFrameAddress address) t e = cc
 
--- the machine's step by what a call asks
-abbrev asked_step : Machine → State → MapperCall → AfterStep Reply
-asked_step machine state c =
-    let after = step machine state (machine_call machine.levels c) in
-    record { state = after.state; reply = reply_of c after.reply }
-
 module _ (l : Layout) (put : List ℕ → ℕ → List ℕ) (m : Memory) (pool : List ℕ) (c : MapperCall) (addr : ℕ) where
   pub translate_served : c ≡ asked.Translate addr → (r : TranslateResult) → translation_of r ≡ Some (translate l.levels (read_entry l m) addr)
-      → asked_step (machine_of l put) (state_of l m pool) c ≡ record { state = state_of l m pool; reply = Some (reply.Translate r) }
+      → step_by (machine_of l put) (state_of l m pool) c ≡ record { state = state_of l m pool; reply = Some (reply.Translate r) }
   unfolding do_call
-  translate_served is r e = ap (asked_step (machine_of l put) (state_of l m pool)) is ∙ ap (λ o. record { state = state_of l m pool; reply = option_map reply.Translate o }) (sym (translation_back r _ e))
+  translate_served is r e = ap (step_by (machine_of l put) (state_of l m pool)) is ∙ ap (λ o. record { state = state_of l m pool; reply = option_map reply.Translate o }) (sym (translation_back r _ e))
 
   pub address_served : c ≡ asked.TranslateAddr addr → (a : Option ℕ) → a ≡ address_of (translate l.levels (read_entry l m) addr)
-      → asked_step (machine_of l put) (state_of l m pool) c ≡ record { state = state_of l m pool; reply = Some (reply.Address a) }
+      → step_by (machine_of l put) (state_of l m pool) c ≡ record { state = state_of l m pool; reply = Some (reply.Address a) }
   unfolding do_call
-  address_served is a e = ap (asked_step (machine_of l put) (state_of l m pool)) is ∙ ap (λ a. record { state = state_of l m pool; reply = Some (reply.Address a) }) (sym e)
+  address_served is a e = ap (step_by (machine_of l put) (state_of l m pool)) is ∙ ap (λ a. record { state = state_of l m pool; reply = Some (reply.Address a) }) (sym e)

@@ -11,19 +11,20 @@ use Rattle.x86_64_model.specs.Path.{path_at}
 use Rattle.x86_64_model.specs.Pool.{IsGiving}
 use Rattle.x86_64_model.specs.Refusal.{Refusal, Done, Refused}
 use Rattle.x86_64_model.specs.Window.{IsValidFor}
-use Rattle.x86_64_model.specs.Laws.Steps.{AllCalls, NoneCovers as NoItemCovers}
+use Rattle.x86_64_model.specs.Laws.Steps.{NoneCovers as NoItemCovers}
 use Rattle.x86_64_model.proofs.Lemmas.Machines.Flushes.{flushes_suffice}
 use Rattle.x86_64_addr.specs.Levels.{IsLevelCount}
 use Rattle.x86_64_tables.specs.FlushRecorder.{page_item}
 use Rattle.x86_64_tables.specs.declared.mapper.recorder.FlushItem.{FlushItem}
 use Rattle.x86_64.specs.declared.calls.PageReply.TheVariants as size_reply
 use Rattle.x86_64.specs.declared.calls.MapperReply.TheVariants as reply
-use Rattle.x86_64.specs.Asked.{PageCall, MapTo, MapToWithTableFlags, IdentityMap, Unmap, UpdateFlags, SetFlags, TranslatePage, Kind, MapperCall, Of4KiB, Of2MiB, Of1GiB, Translate, TranslateAddr, CleanUp, page_call, machine_call, calls_by}
+use Rattle.x86_64.specs.Asked.{PageCall, MapTo, MapToWithTableFlags, IdentityMap, Unmap, UpdateFlags, SetFlags, TranslatePage, MapperCall, Of4KiB, Of2MiB, Of1GiB, Translate, TranslateAddr, CleanUp, CleanUpRange, page_call, machine_call, calls_by}
 use Rattle.x86_64_tables.specs.declared.mapper.TranslateResult.{TranslateResult}
 use Rattle.x86_64.specs.Flushes.{size_items, items_of, items_told, level_of_size, item_of, NoneCovers, FlushesSuffice}
 use Rattle.x86_64.specs.private.Served.{items_where}
-use Rattle.x86_64.specs.Replies.{SizeReply, Reply, map_error, unmap_error, update_error, translate_error, sized, size_answer, translate_result, reply_of, changes_nothing}
-use Rattle.x86_64.specs.Runs.{machine_of, state_of, FitsPool, step_as, replies_as}
+use Rattle.x86_64.specs.Replies.{SizeReply, Reply, map_error, unmap_error, update_error, translate_error, sized, size_answer, translate_result, reply_of}
+use Rattle.x86_64.specs.Runs.{machine_of, state_of, FitsPool, step_by, replies_to}
+use Rattle.x86_64.proofs.AskedCalls.{are_calls}
 
 -- ---- of one call
 
@@ -107,69 +108,64 @@ items_are L known (TranslateAddr addr) (machine.Answered a) = refl
 items_are L known (TranslateAddr addr) (machine.Position t) = refl
 items_are L known (TranslateAddr addr) (machine.Address a) = refl
 items_are L known (TranslateAddr addr) machine.Cleaned = refl
-items_are L known (CleanUp low high) machine.NotAllowed = refl
-items_are L known (CleanUp low high) (machine.Answered a) = refl
-items_are L known (CleanUp low high) (machine.Position t) = refl
-items_are L known (CleanUp low high) (machine.Address a) = refl
-items_are L known (CleanUp low high) machine.Cleaned = refl
+items_are L known CleanUp machine.NotAllowed = refl
+items_are L known CleanUp (machine.Answered a) = refl
+items_are L known CleanUp (machine.Position t) = refl
+items_are L known CleanUp (machine.Address a) = refl
+items_are L known CleanUp machine.Cleaned = refl
+items_are L known (CleanUpRange low high) machine.NotAllowed = refl
+items_are L known (CleanUpRange low high) (machine.Answered a) = refl
+items_are L known (CleanUpRange low high) (machine.Position t) = refl
+items_are L known (CleanUpRange low high) (machine.Address a) = refl
+items_are L known (CleanUpRange low high) machine.Cleaned = refl
 
 -- ---- of a list
 
-module _ {C : Type 0} (asks : C → MapperCall) (L : ℕ) (known : IsLevelCount L) where
-  -- the calls that ask so
-  abbrev asking : Kind C Reply
-  asking = record { levels = L; asks = asks; tells = reply_of; changes_nothing = changes_nothing }
+covers_none : (L : ℕ) (items : List FlushItem) (p : ℕ) → NoneCovers L items p → NoItemCovers L (map item_of items) p
+covers_none L [] p none = tt
+covers_none L (item ∷ items) p none = (none.0, covers_none L items p none.1)
 
-  all_items_are : (m : Machine) → m.levels ≡ L → (s : State) (calls : List C) (told : List Reply) → map Some told ≡ replies_as asking m s calls
-      → map item_of (items_told L told) ≡ flush.all_items m s (calls_by asks m.levels calls)
-  all_items_are m levels s [] [] is = refl
-  all_items_are m levels s [] (x ∷ told) is = cc
-  all_items_are m levels s (call ∷ calls) [] is = cc
-  all_items_are m levels s (call ∷ calls) (x ∷ told) is =
+module _ {C : Type 0} (asks : C → MapperCall) where
+  all_items_are : (m : Machine) → IsLevelCount m.levels → (s : State) (calls : List C) (told : List Reply) → map Some told ≡ replies_to asks m s calls
+      → map item_of (items_told m.levels told) ≡ flush.all_items m s (calls_by asks m.levels calls)
+  all_items_are m known s [] [] is = refl
+  all_items_are m known s [] (x ∷ told) is = cc
+  all_items_are m known s (call ∷ calls) [] is = cc
+  all_items_are m known s (call ∷ calls) (x ∷ told) is =
       let after = step m s (machine_call m.levels (asks call)) in
       let first : Some x ≡ reply_of (asks call) after.reply = cc in
-      let next : map Some told ≡ replies_as asking m after.state calls = cc in
-      map-append item_of (items_of L x) (items_told L told)
-      ∙ ap₂ (λ xs ys. xs ++ ys) (subst (λ n. map item_of (items_of L x) ≡ flush.items_of n (machine_call n (asks call)) after.reply) (sym levels) (ap (λ o. map item_of (reply_items L o)) first ∙ items_are L known (asks call) after.reply))
-      (all_items_are m levels after.state calls told next)
+      let next : map Some told ≡ replies_to asks m after.state calls = cc in
+      map-append item_of (items_of m.levels x) (items_told m.levels told)
+      ∙ ap₂ (λ xs ys. xs ++ ys) (ap (λ o. map item_of (reply_items m.levels o)) first ∙ items_are m.levels known (asks call) after.reply) (all_items_are m known after.state calls told next)
 
   -- the replies to the calls after the first k
-  late_told : (m : Machine) (s : State) (k : ℕ) (calls : List C) (told : List Reply) → map Some told ≡ replies_as asking m s calls
-      → map Some (drop k told) ≡ replies_as asking m (state_after m s (calls_by asks m.levels (take k calls))) (drop k calls)
+  late_told : (m : Machine) (s : State) (k : ℕ) (calls : List C) (told : List Reply) → map Some told ≡ replies_to asks m s calls
+      → map Some (drop k told) ≡ replies_to asks m (state_after m s (calls_by asks m.levels (take k calls))) (drop k calls)
   late_told m s zero calls told is = is
   late_told m s (suc k) [] [] is = refl
   late_told m s (suc k) [] (x ∷ told) is = cc
   late_told m s (suc k) (call ∷ calls) [] is = cc
   late_told m s (suc k) (call ∷ calls) (x ∷ told) is =
-      let next : map Some told ≡ replies_as asking m (step_as asking m s call).state calls = cc in
-      late_told m (step_as asking m s call).state k calls told next
-
-  covers_none : (items : List FlushItem) (p : ℕ) → NoneCovers L items p → NoItemCovers L (map item_of items) p
-  covers_none [] p none = tt
-  covers_none (item ∷ items) p none = (none.0, covers_none items p none.1)
+      let next : map Some told ≡ replies_to asks m (step_by m s (asks call)).state calls = cc in
+      late_told m (step_by m s (asks call)).state k calls told next
 
   -- ---- stale walks
 
-  module _ (is_call : (call : C) → machine.IsCall L (machine_call L (asks call))) where
-    are_calls : (calls : List C) → AllCalls L (calls_by asks L calls)
-    are_calls [] = tt
-    are_calls (call ∷ calls) = (is_call call, are_calls calls)
-
-    pub flushed : (l : Layout) → l.levels ≡ L → IsParentFlags l.added_flags → (put : List ℕ → ℕ → List ℕ) → IsGiving put → (serves : ℕ → Bool) (m : Memory) (pool : List ℕ) → FitsPool l m serves pool
+  module _ (l : Layout) (known : IsLevelCount l.levels) (is_call : (call : C) → machine.IsCall l.levels (machine_call l.levels (asks call))) where
+    pub flushed : IsParentFlags l.added_flags → (put : List ℕ → ℕ → List ℕ) → IsGiving put → (serves : ℕ → Bool) (m : Memory) (pool : List ℕ) → FitsPool l m serves pool
         → (calls : List C) (n : Memory) (rest : List ℕ) → IsValidFor l.levels l.window (words l n) l.root (state_of l n rest).paths
         → state_of l n rest ≡ state_after (machine_of l put) (state_of l m pool) (calls_by asks l.levels calls)
-        → (told : List Reply) → map Some told ≡ replies_as asking (machine_of l put) (state_of l m pool) calls → FlushesSuffice asking l put (state_of l m pool) calls told (words l n)
-    flushed l levels adds put gives serves m pool fits calls n rest valid is told tells k V p first out none =
+        → (told : List Reply) → map Some told ≡ replies_to asks (machine_of l put) (state_of l m pool) calls → FlushesSuffice asks l put (state_of l m pool) calls told (words l n)
+    flushed adds put gives serves m pool fits calls n rest valid is told tells k V p first out none =
         let runs = machine_of l put in
         let start = state_of l m pool in
         let then = state_after runs start (calls_by asks l.levels (take k calls)) in
         let early : take k (calls_by asks l.levels calls) ≡ calls_by asks l.levels (take k calls) = take-map (λ c. machine_call l.levels (asks c)) k calls in
         let late : drop k (calls_by asks l.levels calls) ≡ calls_by asks l.levels (drop k calls) = drop-map (λ c. machine_call l.levels (asks c)) k calls in
         flushes_suffice l.levels l.window (words l m) V (words l n) l.root serves l.added_flags adds put gives start (calls_by asks l.levels calls)
-        (subst (λ n. AllCalls n (calls_by asks n calls)) (sym levels) (are_calls calls)) fits k
+        (are_calls l.levels asks is_call calls) fits k
         (subst (λ (cs : List machine.Call). IsValidFor l.levels l.window V l.root (state_after runs start cs).paths) (sym early) first)
         (subst (λ (s : State). IsValidFor l.levels l.window (words l n) l.root s.paths) is valid) p out
         (subst (λ (cs : List machine.Call). NoItemCovers l.levels (flush.all_items runs (state_after runs start cs) (drop k (calls_by asks l.levels calls))) p) (sym early)
         (subst (λ (cs : List machine.Call). NoItemCovers l.levels (flush.all_items runs then cs) p) (sym late)
-        (subst (λ items. NoItemCovers l.levels items p) (all_items_are runs levels then (drop k calls) (drop k told) (late_told runs start k calls told tells))
-        (subst (λ n. NoItemCovers n (map item_of (items_told L (drop k told))) p) (sym levels) (covers_none (items_told L (drop k told)) p none)))))
+        (subst (λ items. NoItemCovers l.levels items p) (all_items_are runs known then (drop k calls) (drop k told) (late_told runs start k calls told tells)) (covers_none l.levels (items_told l.levels (drop k told)) p none))))

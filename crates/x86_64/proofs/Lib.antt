@@ -1,3 +1,4 @@
+pub mod AskedCalls
 pub mod CallSteps
 pub mod FirstIndex
 pub mod Keeping

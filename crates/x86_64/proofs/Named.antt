@@ -4,8 +4,8 @@ use Rattle.x86_64_model.specs.Alike.{names_index}
 use Rattle.x86_64_model.specs.Laws.Pairs as machine
 use Rattle.x86_64_model.specs.Position.{lower_half}
 use Rattle.x86_64_model.specs.Window.{Window}
-use Rattle.x86_64.specs.Asked.{PageCall, MapTo, MapToWithTableFlags, IdentityMap, Unmap, UpdateFlags, SetFlags, TranslatePage, MapperCall, Of4KiB, Of2MiB, Of1GiB, Translate, TranslateAddr, CleanUp, Kind, page_call, machine_call, calls_by, page_names, names_by}
-use Rattle.x86_64.specs.Pairs.{NoneNamesAs}
+use Rattle.x86_64.specs.Asked.{PageCall, MapTo, MapToWithTableFlags, IdentityMap, Unmap, UpdateFlags, SetFlags, TranslatePage, MapperCall, Of4KiB, Of2MiB, Of1GiB, Translate, TranslateAddr, CleanUp, CleanUpRange, page_call, machine_call, calls_by, page_names, names_by}
+use Rattle.x86_64.specs.Pairs.{NoneNames}
 use Rattle.x86_64.proofs.FirstIndex.{first_index, first_of_all}
 
 module _ (L : ℕ) (some : 3 < L) where
@@ -27,7 +27,8 @@ module _ (L : ℕ) (some : 3 < L) where
     named (Of1GiB call) = page_named 3 (lit≤ tt) call
     named (Translate position) = first_of_all (Some w) L position some
     named (TranslateAddr position) = first_of_all (Some w) L position some
-    named (CleanUp low high) = refl
+    named CleanUp = refl
+    named (CleanUpRange low high) = refl
 
   -- ---- without one
 
@@ -47,9 +48,9 @@ module _ (L : ℕ) (some : 3 < L) where
 
 -- ---- of a list
 
-module _ {C R : Type 0} (kind : Kind C R) (some : 3 < kind.levels) where
-  pub none_named : (window : Option Window) (calls : List C) → NoneNamesAs kind window calls → machine.NoneNames kind.levels window (calls_by kind.asks kind.levels calls)
+module _ {C : Type 0} (asks : C → MapperCall) (L : ℕ) (some : 3 < L) where
+  pub none_named : (window : Option Window) (calls : List C) → NoneNames asks L window calls → machine.NoneNames L window (calls_by asks L calls)
   none_named None [] none = tt
-  none_named None (call ∷ calls) none = (unnamed kind.levels some (kind.asks call), none_named None calls tt)
+  none_named None (call ∷ calls) none = (unnamed L some (asks call), none_named None calls tt)
   none_named (Some w) [] none = tt
-  none_named (Some w) (call ∷ calls) none = (named kind.levels some w (kind.asks call) ∙ none.0, none_named (Some w) calls none.1)
+  none_named (Some w) (call ∷ calls) none = (named L some w (asks call) ∙ none.0, none_named (Some w) calls none.1)

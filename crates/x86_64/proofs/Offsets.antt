@@ -8,42 +8,42 @@ use Rattle.x86_64_model.specs.Memory.{Memory, Words, identity_places, word}
 use Rattle.x86_64_model.specs.PathMap.{PathMap}
 use Rattle.x86_64_model.specs.Pool.{IsOwn}
 use Rattle.x86_64_model.specs.Window.{outside_window}
-use Rattle.x86_64_mappers.specs.Layouts.{direct}
+use Rattle.x86_64_mappers.specs.Layouts.{direct_at}
 use Rattle.x86_64_mappers.proofs.Memory.OffsetTables.{offset_words, offset_fits}
 use Rattle.x86_64_mappers.specs.Offsets.{OffsetFits, offset_places}
 use Rattle.x86_64.specs.FreeFrames.{KeepsFree}
 use Rattle.x86_64.specs.Runs.{Keeps, state_of}
 
-same_paths : (offset root : ℕ) (m : Memory) → OffsetFits 4 m offset → paths (direct (offset_places 4 offset) root) m ≡ paths (direct identity_places root) m
-same_paths offset root m reached = ap (λ tables. paths_of 4 (outside_window None root tables) root) (offset_words 4 m offset reached)
+same_paths : (levels offset root : ℕ) (m : Memory) → OffsetFits levels m offset → paths (direct_at levels (offset_places levels offset) root) m ≡ paths (direct_at levels identity_places root) m
+same_paths levels offset root m reached = ap (λ tables. paths_of levels (outside_window None root tables) root) (offset_words levels m offset reached)
 
 -- the words mean the same state
-pub same_state : (offset root : ℕ) (m : Memory) (pool : List ℕ) → OffsetFits 4 m offset → state_of (direct (offset_places 4 offset) root) m pool ≡ state_of (direct identity_places root) m pool
-same_state offset root m pool reached = ap (λ (M : PathMap). record { paths = M; pool = pool }) (same_paths offset root m reached)
+pub same_state : (levels offset root : ℕ) (m : Memory) (pool : List ℕ) → OffsetFits levels m offset → state_of (direct_at levels (offset_places levels offset) root) m pool ≡ state_of (direct_at levels identity_places root) m pool
+same_state levels offset root m pool reached = ap (λ (M : PathMap). record { paths = M; pool = pool }) (same_paths levels offset root m reached)
 
-same_own : (offset root : ℕ) (m : Memory) (pool : List ℕ) → OffsetFits 4 m offset → (f : ℕ) → Owns (direct (offset_places 4 offset) root) m pool f ↔ Owns (direct identity_places root) m pool f
-same_own offset root m pool reached f =
-    let same = same_paths offset root m reached in
-    (subst (λ (M : PathMap). IsOwn 4 root M pool f) same, subst (λ (M : PathMap). IsOwn 4 root M pool f) (sym same))
+same_own : (levels offset root : ℕ) (m : Memory) (pool : List ℕ) → OffsetFits levels m offset → (f : ℕ) → Owns (direct_at levels (offset_places levels offset) root) m pool f ↔ Owns (direct_at levels identity_places root) m pool f
+same_own levels offset root m pool reached f =
+    let same = same_paths levels offset root m reached in
+    (subst (λ (M : PathMap). IsOwn levels root M pool f) same, subst (λ (M : PathMap). IsOwn levels root M pool f) (sym same))
 
 -- and what is kept is the same
-pub same_kept : (offset root : ℕ) (serves : ℕ → Bool) (m n : Memory) (pool rest : List ℕ) → OffsetFits 4 m offset → OffsetFits 4 n offset
-    → Keeps (direct (offset_places 4 offset) root) serves m pool n rest → Keeps (direct identity_places root) serves m pool n rest
-same_kept offset root serves m n pool rest before after kept = record {
-  fits = (offset_fits 4 n offset after root serves rest).1 kept.fits;
+pub same_kept : (levels offset root : ℕ) (serves : ℕ → Bool) (m n : Memory) (pool rest : List ℕ) → OffsetFits levels m offset → OffsetFits levels n offset
+    → Keeps (direct_at levels (offset_places levels offset) root) serves m pool n rest → Keeps (direct_at levels identity_places root) serves m pool n rest
+same_kept levels offset root serves m n pool rest before after kept = record {
+  fits = (offset_fits levels n offset after root serves rest).1 kept.fits;
   conserved = λ f.
-      let first = same_own offset root m pool before f in
-      let last = same_own offset root n rest after f in
+      let first = same_own levels offset root m pool before f in
+      let last = same_own levels offset root n rest after f in
       (λ own. last.0 ((kept.conserved f).0 (first.1 own)), λ own. first.0 ((kept.conserved f).1 (last.1 own)));
-  others = λ place none. kept.others place (λ f own. none f ((same_own offset root m pool before f).0 own));
+  others = λ place none. kept.others place (λ f own. none f ((same_own levels offset root m pool before f).0 own));
 }
 
 -- and so are the words of free frames
-pub same_free : (offset root : ℕ) (m n : Memory) (pool back rest : List ℕ) → OffsetFits 4 m offset → OffsetFits 4 n offset
-    → KeepsFree (direct (offset_places 4 offset) root) m pool back n rest → KeepsFree (direct identity_places root) m pool back n rest
-same_free offset root m n pool back rest before after keeps =
-    let first = offset_words 4 m offset before in
-    let last = offset_words 4 n offset after in
+pub same_free : (levels offset root : ℕ) (m n : Memory) (pool back rest : List ℕ) → OffsetFits levels m offset → OffsetFits levels n offset
+    → KeepsFree (direct_at levels (offset_places levels offset) root) m pool back n rest → KeepsFree (direct_at levels identity_places root) m pool back n rest
+same_free levels offset root m n pool back rest before after keeps =
+    let first = offset_words levels m offset before in
+    let last = offset_words levels n offset after in
     record {
       came_back = λ f left came i. subst (λ (T : Words). word T f i ≡ 0) last (keeps.came_back f left came i);
       was_free = keeps.was_free;

@@ -11,25 +11,27 @@ use Rattle.x86_64_model.specs.Owned.{Hierarchy, PoolFits, paths, words}
 use Rattle.x86_64_model.specs.Pool.{IsGiving}
 use Rattle.x86_64_model.proofs.Lemmas.Machines.Giving.{giving_from}
 use Rattle.x86_64_model.proofs.Lemmas.Machines.Laws.{pairs_reply_alike}
-use Rattle.x86_64.specs.Asked.{Kind, machine_call, calls_by}
-use Rattle.x86_64.specs.Pairs.{NoneNamesAs, put_first}
-use Rattle.x86_64.specs.Runs.{machine_of, state_of, RanAs, replies_as}
+use Rattle.x86_64.specs.Asked.{MapperCall, machine_call, calls_by}
+use Rattle.x86_64.specs.Pairs.{NoneNames, put_first}
+use Rattle.x86_64.specs.Replies.{Reply, reply_of}
+use Rattle.x86_64.specs.Runs.{machine_of, state_of, Ran, replies_to}
+use Rattle.x86_64.proofs.AskedCalls.{are_calls}
 use Rattle.x86_64.proofs.Named.{none_named}
 
 -- ---- replies, read off the machine's
 
-abbrev answers : {C R : Type 0} → Kind C R → List C → List machine.Reply → List (Option R)
-answers kind [] rs = []
-answers kind (call ∷ calls) [] = []
-answers kind (call ∷ calls) (r ∷ rs) = kind.tells (kind.asks call) r ∷ answers kind calls rs
+abbrev answers : {C : Type 0} → (C → MapperCall) → List C → List machine.Reply → List (Option Reply)
+answers asks [] rs = []
+answers asks (call ∷ calls) [] = []
+answers asks (call ∷ calls) (r ∷ rs) = reply_of (asks call) r ∷ answers asks calls rs
 
-replies_are : {C R : Type 0} (kind : Kind C R) (m : Machine) (s : State) (calls : List C) → replies_as kind m s calls ≡ answers kind calls (replies_of m s (calls_by kind.asks m.levels calls))
-replies_are kind m s [] = refl
-replies_are kind m s (call ∷ calls) =
-    let after = step m s (machine_call m.levels (kind.asks call)) in
-    ap (λ told. kind.tells (kind.asks call) after.reply ∷ told) (replies_are kind m after.state calls)
+replies_are : {C : Type 0} (asks : C → MapperCall) (m : Machine) (s : State) (calls : List C) → replies_to asks m s calls ≡ answers asks calls (replies_of m s (calls_by asks m.levels calls))
+replies_are asks m s [] = refl
+replies_are asks m s (call ∷ calls) =
+    let after = step m s (machine_call m.levels (asks call)) in
+    ap (λ told. reply_of (asks call) after.reply ∷ told) (replies_are asks m after.state calls)
 
-all_some : {R : Type 0} (xs ys : List R) → map Some xs ≡ map Some ys → xs ≡ ys
+all_some : (xs ys : List Reply) → map Some xs ≡ map Some ys → xs ≡ ys
 all_some [] [] e = refl
 all_some [] (y ∷ ys) e = cc
 all_some (x ∷ xs) [] e = cc
@@ -44,46 +46,42 @@ gives_first : IsGiving put_first
 gives_first = giving_from put_first (λ held frame. IsPermutation-refl (frame ∷ held))
 
 -- before the calls
-pub record IsPair {C R : Type 0} (kind : Kind C R) {Lent Other : Type 0} (h : Hierarchy Lent) (serves : ℕ → Bool) (pool : List ℕ) (k : Hierarchy Other) (other_serves : ℕ → Bool) (others : List ℕ) (calls : List C) : Type 0 where
-  pub levels : h.layout.levels ≡ kind.levels
-  pub other_levels : k.layout.levels ≡ kind.levels
+pub record IsPair {C : Type 0} (asks : C → MapperCall) (L : ℕ) {Lent Other : Type 0} (h : Hierarchy Lent) (serves : ℕ → Bool) (pool : List ℕ) (k : Hierarchy Other) (other_serves : ℕ → Bool) (others : List ℕ) (calls : List C) : Type 0 where
+  pub levels : h.layout.levels ≡ L
+  pub other_levels : k.layout.levels ≡ L
   pub adds : IsAdded h.layout.added_flags
   pub other_adds : IsAdded k.layout.added_flags
   pub fits : PoolFits h serves pool
   pub other_fits : PoolFits k other_serves others
-  pub alike : Alike kind.levels (paths h) (paths k)
+  pub alike : Alike L (paths h) (paths k)
   pub pools : pool ≡ others
-  pub unnamed : NoneNamesAs kind h.layout.window calls
-  pub other_unnamed : NoneNamesAs kind k.layout.window calls
+  pub unnamed : NoneNames asks L h.layout.window calls
+  pub other_unnamed : NoneNames asks L k.layout.window calls
 
 -- after them, where the first has these replies: so has the second
-pub record IsPairAfter {C R : Type 0} (kind : Kind C R) {Lent Other : Type 0} (k : Hierarchy Other) (others : List ℕ) (calls : List C) (told : List R) (after : Hierarchy Lent) (rest : List ℕ) (other_after : Hierarchy Other) (other_rest : List ℕ) : Type 0 where
-  pub ran : RanAs kind put_first k others calls [] told other_after other_rest
-  pub alike : Alike kind.levels (paths after) (paths other_after)
+pub record IsPairAfter {C : Type 0} (asks : C → MapperCall) (L : ℕ) {Lent Other : Type 0} (k : Hierarchy Other) (others : List ℕ) (calls : List C) (told : List Reply) (after : Hierarchy Lent) (rest : List ℕ) (other_after : Hierarchy Other) (other_rest : List ℕ) : Type 0 where
+  pub ran : Ran asks put_first k others calls [] told other_after other_rest
+  pub alike : Alike L (paths after) (paths other_after)
   pub pools : rest ≡ other_rest
 
-module _ {C R : Type 0} (kind : Kind C R) (is_call : (call : C) → machine.IsCall kind.levels (machine_call kind.levels (kind.asks call))) (some : 3 < kind.levels) where
-  are_calls : (calls : List C) → AllCalls kind.levels (calls_by kind.asks kind.levels calls)
-  are_calls [] = tt
-  are_calls (call ∷ calls) = (is_call call, are_calls calls)
-
+module _ {C : Type 0} (asks : C → MapperCall) (L : ℕ) (is_call : (call : C) → machine.IsCall L (machine_call L (asks call))) (some : 3 < L) where
   abbrev asked : List C → List machine.Call
-  asked calls = calls_by kind.asks kind.levels calls
+  asked calls = calls_by asks L calls
 
   -- after the calls, as the machine of their levels leaves it
-  ends : {Lent : Type 0} (h after : Hierarchy Lent) (pool rest : List ℕ) (calls : List C) (told : List R) → h.layout.levels ≡ kind.levels → after.layout ≡ h.layout → RanAs kind put_first h pool calls [] told after rest
+  ends : {Lent : Type 0} (h after : Hierarchy Lent) (pool rest : List ℕ) (calls : List C) (told : List Reply) → h.layout.levels ≡ L → after.layout ≡ h.layout → Ran asks put_first h pool calls [] told after rest
       → state_of after.layout after.memory rest ≡ state_after (machine_of h.layout put_first) (state_of h.layout h.memory pool) (asked calls)
   ends h after pool rest calls told levels layout ran =
-      ap (λ (l : Layout). state_of l after.memory rest) layout ∙ ran.state ∙ ap (λ L. state_after (machine_of h.layout put_first) (state_of h.layout h.memory pool) (calls_by kind.asks L calls)) levels
+      ap (λ (l : Layout). state_of l after.memory rest) layout ∙ ran.state ∙ ap (λ L. state_after (machine_of h.layout put_first) (state_of h.layout h.memory pool) (calls_by asks L calls)) levels
 
-  told_by : {Lent : Type 0} (h after : Hierarchy Lent) (pool rest : List ℕ) (calls : List C) (told : List R) → h.layout.levels ≡ kind.levels → RanAs kind put_first h pool calls [] told after rest
-      → map Some told ≡ answers kind calls (replies_of (machine_of h.layout put_first) (state_of h.layout h.memory pool) (asked calls))
+  told_by : {Lent : Type 0} (h after : Hierarchy Lent) (pool rest : List ℕ) (calls : List C) (told : List Reply) → h.layout.levels ≡ L → Ran asks put_first h pool calls [] told after rest
+      → map Some told ≡ answers asks calls (replies_of (machine_of h.layout put_first) (state_of h.layout h.memory pool) (asked calls))
   told_by h after pool rest calls told levels ran =
       let runs = machine_of h.layout put_first in
       let start = state_of h.layout h.memory pool in
-      ran.replies ∙ replies_are kind runs start calls ∙ ap (λ L. answers kind calls (replies_of runs start (calls_by kind.asks L calls))) levels
+      ran.replies ∙ replies_are asks runs start calls ∙ ap (λ L. answers asks calls (replies_of runs start (calls_by asks L calls))) levels
 
-  module _ {Lent Other : Type 0} (h : Hierarchy Lent) (serves : ℕ → Bool) (pool : List ℕ) (k : Hierarchy Other) (other_serves : ℕ → Bool) (others : List ℕ) (calls : List C) (pair : IsPair kind h serves pool k other_serves others calls) where
+  module _ {Lent Other : Type 0} (h : Hierarchy Lent) (serves : ℕ → Bool) (pool : List ℕ) (k : Hierarchy Other) (other_serves : ℕ → Bool) (others : List ℕ) (calls : List C) (pair : IsPair asks L h serves pool k other_serves others calls) where
     abbrev first : Machine
     first = machine_of h.layout put_first
 
@@ -98,13 +96,13 @@ module _ {C R : Type 0} (kind : Kind C R) (is_call : (call : C) → machine.IsCa
 
     runs : AlikeRuns h.layout.levels (state_after first start (asked calls)) (state_after second other_start (asked calls)) (replies_of first start (asked calls)) (replies_of second other_start (asked calls))
     runs = pairs_reply_alike first second (pair.levels ∙ sym pair.other_levels) refl gives_first pair.adds pair.other_adds (words h) (words k) h.layout.root k.layout.root serves other_serves (asked calls)
-        (subst (λ L. AllCalls L (asked calls)) (sym pair.levels) (are_calls calls))
-        (subst (λ L. NoCallNames L h.layout.window (asked calls)) (sym pair.levels) (none_named kind some h.layout.window calls pair.unnamed))
-        (subst (λ L. NoCallNames L k.layout.window (asked calls)) (sym pair.other_levels) (none_named kind some k.layout.window calls pair.other_unnamed))
+        (subst (λ L. AllCalls L (asked calls)) (sym pair.levels) (are_calls L asks is_call calls))
+        (subst (λ L. NoCallNames L h.layout.window (asked calls)) (sym pair.levels) (none_named asks L some h.layout.window calls pair.unnamed))
+        (subst (λ L. NoCallNames L k.layout.window (asked calls)) (sym pair.other_levels) (none_named asks L some k.layout.window calls pair.other_unnamed))
         start other_start pair.fits pair.other_fits (subst (λ L. Alike L (paths h) (paths k)) (sym pair.levels) pair.alike) pair.pools
 
-    module _ (after : Hierarchy Lent) (rest : List ℕ) (told : List R) (layout : after.layout ≡ h.layout) (ran : RanAs kind put_first h pool calls [] told after rest)
-        (other_after : Hierarchy Other) (other_rest : List ℕ) (other_told : List R) (other_layout : other_after.layout ≡ k.layout) (other_ran : RanAs kind put_first k others calls [] other_told other_after other_rest) where
+    module _ (after : Hierarchy Lent) (rest : List ℕ) (told : List Reply) (layout : after.layout ≡ h.layout) (ran : Ran asks put_first h pool calls [] told after rest)
+        (other_after : Hierarchy Other) (other_rest : List ℕ) (other_told : List Reply) (other_layout : other_after.layout ≡ k.layout) (other_ran : Ran asks put_first k others calls [] other_told other_after other_rest) where
       one : state_of after.layout after.memory rest ≡ state_after first start (asked calls)
       one = ends h after pool rest calls told pair.levels layout ran
 
@@ -113,17 +111,17 @@ module _ {C R : Type 0} (kind : Kind C R) (is_call : (call : C) → machine.IsCa
 
       same_replies : other_told ≡ told
       same_replies =
-          all_some other_told told (told_by k other_after others other_rest calls other_told pair.other_levels other_ran ∙ ap (answers kind calls) (sym runs.replies) ∙ sym (told_by h after pool rest calls told pair.levels ran))
+          all_some other_told told (told_by k other_after others other_rest calls other_told pair.other_levels other_ran ∙ ap (answers asks calls) (sym runs.replies) ∙ sym (told_by h after pool rest calls told pair.levels ran))
 
-      pub still_pair : IsPairAfter kind k others calls told after rest other_after other_rest
+      pub still_pair : IsPairAfter asks L k others calls told after rest other_after other_rest
       still_pair = record {
-        ran = subst (λ told. RanAs kind put_first k others calls [] told other_after other_rest) same_replies other_ran;
-        alike = subst₂ (λ (s t : State). Alike kind.levels s.paths t.paths) (sym one) (sym other)
+        ran = subst (λ told. Ran asks put_first k others calls [] told other_after other_rest) same_replies other_ran;
+        alike = subst₂ (λ (s t : State). Alike L s.paths t.paths) (sym one) (sym other)
             (subst (λ L. Alike L (state_after first start (asked calls)).paths (state_after second other_start (asked calls)).paths) pair.levels runs.paths);
         pools = ap (λ (s : State). s.pool) one ∙ runs.pools ∙ sym (ap (λ (s : State). s.pool) other);
       }
 
 -- where there was none before
-pub from_none : {C R : Type 0} (kind : Kind C R) {Lent : Type 0} (h : Hierarchy Lent) (pool : List ℕ) (calls : List C) (before told : List R) (after : Hierarchy Lent) (rest : List ℕ) → before ≡ []
-    → RanAs kind put_first h pool calls before told after rest → RanAs kind put_first h pool calls [] told after rest
-from_none kind h pool calls before told after rest none ran = subst (λ before. RanAs kind put_first h pool calls before told after rest) none ran
+pub from_none : {C : Type 0} (asks : C → MapperCall) {Lent : Type 0} (h : Hierarchy Lent) (pool : List ℕ) (calls : List C) (before told : List Reply) (after : Hierarchy Lent) (rest : List ℕ) → before ≡ []
+    → Ran asks put_first h pool calls before told after rest → Ran asks put_first h pool calls [] told after rest
+from_none asks h pool calls before told after rest none ran = subst (λ before. Ran asks put_first h pool calls before told after rest) none ran

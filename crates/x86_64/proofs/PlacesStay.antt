@@ -39,4 +39,4 @@ places_stay l serves m n pool rest fits kept place = (before, after)
         there_by (get n place) (get m place) there (λ none. kept.others place (λ f own. no_own place (l.places.place f) n none (own_place l serves n rest kept.fits f ((kept.conserved f).0 own))))
 
 pub offsets_fit_still : OffsetsFitStill
-offsets_fit_still l serves m n pool rest fits kept offset reached place there = reached place ((places_stay l serves m n pool rest fits kept place).0 there)
+offsets_fit_still l serves m n pool rest fits kept levels offset reached place there = reached place ((places_stay l serves m n pool rest fits kept place).0 there)

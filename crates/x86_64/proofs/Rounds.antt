@@ -9,11 +9,12 @@ use Rattle.x86_64_model.specs.Layout.{Layout}
 use Rattle.x86_64_model.specs.Machine.{Machine, State, state_after}
 use Rattle.x86_64_model.specs.Owned.{Hierarchy}
 use Rattle.x86_64_tables.specs.declared.mapper.recorder.FlushItem.{FlushItem}
-use Rattle.x86_64.specs.Flushes.{items_by}
+use Rattle.x86_64.specs.Flushes.{items_of, items_told}
 use Rattle.x86_64.specs.private.Served.{recorded}
-use Rattle.x86_64.specs.Asked.{Kind, MapperCall, machine_call, calls_by}
+use Rattle.x86_64.specs.Asked.{MapperCall, machine_call, calls_by}
 use Rattle.x86_64.specs.FreeFrames.{KeepsFree, back_by, all_back}
-use Rattle.x86_64.specs.Runs.{machine_of, state_of, Keeps, Kept, AfterStep, step_as, replies_as, appended, UnchangedAs}
+use Rattle.x86_64.specs.Runs.{machine_of, state_of, Keeps, Kept, AfterStep, step_by, replies_to, appended, UnchangedIfRefused}
+use Rattle.x86_64.specs.Replies.{Reply, changes_nothing}
 use Rattle.x86_64.proofs.Keeping.{keeps_then}
 
 left : {C : Type 0} (calls : List C) (i : ℕ) (call : C) → i < length calls → call ≡ get_or calls i call → drop i calls ≡ call ∷ drop (i + 1) calls
@@ -23,71 +24,71 @@ recorded_both : (b : Bool) (xs ys : List FlushItem) → recorded b (xs ++ ys) �
 recorded_both true xs ys = refl
 recorded_both false xs ys = refl
 
-module _ {C R : Type 0} (kind : Kind C R) (m : Machine) (s t : State) (r : R) (calls : List C) (i : ℕ) (call : C) (here : i < length calls) (item : call ≡ get_or calls i call) (one : step_as kind m s call ≡ record { state = t; reply = Some r }) where
-  pub told_next : (items more : List R) (all : List (Option R)) → more ≡ items ++ r ∷ [] → map Some items ++ replies_as kind m s (drop i calls) ≡ all → map Some more ++ replies_as kind m t (drop (i + 1) calls) ≡ all
+module _ {C : Type 0} (asks : C → MapperCall) (m : Machine) (s t : State) (r : Reply) (calls : List C) (i : ℕ) (call : C) (here : i < length calls) (item : call ≡ get_or calls i call) (one : step_by m s (asks call) ≡ record { state = t; reply = Some r }) where
+  pub told_next : (items more : List Reply) (all : List (Option Reply)) → more ≡ items ++ r ∷ [] → map Some items ++ replies_to asks m s (drop i calls) ≡ all → map Some more ++ replies_to asks m t (drop (i + 1) calls) ≡ all
   told_next items more all e before =
       let rest = drop (i + 1) calls in
-      ap (λ xs. map Some xs ++ replies_as kind m t rest) e ∙ ap (λ xs. xs ++ replies_as kind m t rest) (map-append Some items (r ∷ [])) ∙ append_assoc (map Some items) (Some r ∷ []) (replies_as kind m t rest)
-      ∙ ap (λ (x : AfterStep R). map Some items ++ x.reply ∷ replies_as kind m x.state rest) (sym one) ∙ ap (λ cs. map Some items ++ replies_as kind m s cs) (sym (left calls i call here item)) ∙ before
+      ap (λ xs. map Some xs ++ replies_to asks m t rest) e ∙ ap (λ xs. xs ++ replies_to asks m t rest) (map-append Some items (r ∷ [])) ∙ append_assoc (map Some items) (Some r ∷ []) (replies_to asks m t rest)
+      ∙ ap (λ (x : AfterStep Reply). map Some items ++ x.reply ∷ replies_to asks m x.state rest) (sym one) ∙ ap (λ cs. map Some items ++ replies_to asks m s cs) (sym (left calls i call here item)) ∙ before
 
-  pub rest_next : (all : State) → state_after m s (calls_by kind.asks m.levels (drop i calls)) ≡ all → state_after m t (calls_by kind.asks m.levels (drop (i + 1) calls)) ≡ all
-  rest_next all before = ap (λ (x : AfterStep R). state_after m x.state (calls_by kind.asks m.levels (drop (i + 1) calls))) (sym one) ∙ ap (λ cs. state_after m s (calls_by kind.asks m.levels cs)) (sym (left calls i call here item)) ∙ before
+  pub rest_next : (all : State) → state_after m s (calls_by asks m.levels (drop i calls)) ≡ all → state_after m t (calls_by asks m.levels (drop (i + 1) calls)) ≡ all
+  rest_next all before = ap (λ (x : AfterStep Reply). state_after m x.state (calls_by asks m.levels (drop (i + 1) calls))) (sym one) ∙ ap (λ cs. state_after m s (calls_by asks m.levels cs)) (sym (left calls i call here item)) ∙ before
 
   -- the frames that come back from here on
-  pub back_next : all_back m s (calls_by kind.asks m.levels (drop i calls)) ≡ back_by m s (machine_call m.levels (kind.asks call)) ++ all_back m t (calls_by kind.asks m.levels (drop (i + 1) calls))
+  pub back_next : all_back m s (calls_by asks m.levels (drop i calls)) ≡ back_by m s (machine_call m.levels (asks call)) ++ all_back m t (calls_by asks m.levels (drop (i + 1) calls))
   back_next =
-      ap (λ cs. all_back m s (calls_by kind.asks m.levels cs)) (left calls i call here item)
-      ∙ ap (λ (x : AfterStep R). back_by m s (machine_call m.levels (kind.asks call)) ++ all_back m x.state (calls_by kind.asks m.levels (drop (i + 1) calls))) one
+      ap (λ cs. all_back m s (calls_by asks m.levels cs)) (left calls i call here item)
+      ∙ ap (λ (x : AfterStep Reply). back_by m s (machine_call m.levels (asks call)) ++ all_back m x.state (calls_by asks m.levels (drop (i + 1) calls))) one
 
 -- ---- the replies that were appended
 
-items_both : {R : Type 0} (items_of : R → List FlushItem) (xs ys : List R) → items_by items_of (xs ++ ys) ≡ items_by items_of xs ++ items_by items_of ys
-items_both items_of [] ys = refl
-items_both items_of (x ∷ xs) ys = ap (λ zs. items_of x ++ zs) (items_both items_of xs ys) ∙ sym (append_assoc (items_of x) (items_by items_of xs) (items_by items_of ys))
+items_both : (levels : ℕ) (xs ys : List Reply) → items_told levels (xs ++ ys) ≡ items_told levels xs ++ items_told levels ys
+items_both levels [] ys = refl
+items_both levels (x ∷ xs) ys = ap (λ zs. items_of levels x ++ zs) (items_both levels xs ys) ∙ sym (append_assoc (items_of levels x) (items_told levels xs) (items_told levels ys))
 
 all_parts : {X : Type 0} (P : X → Type 0) (xs : List X) (y : X) → AllByRecursion P (xs ++ y ∷ []) → AllByRecursion P xs × P y
 all_parts P [] y all = (tt, all.0)
 all_parts P (x ∷ xs) y all = let parts = all_parts P xs y all.1 in ((all.0, parts.0), parts.1)
 
-module _ {R : Type 0} (before items more : List R) (r : R) (longer : length before ≤ length items) (e : more ≡ items ++ r ∷ []) where
+module _ (before items more : List Reply) (r : Reply) (longer : length before ≤ length items) (e : more ≡ items ++ r ∷ []) where
   one_appended : appended before more ≡ appended before items ++ r ∷ []
   one_appended = ap (appended before) e ∙ drop-append-le (length before) items (r ∷ []) longer
 
   pub longer_next : length before ≤ length more
   longer_next = let long : length more ≡ length items + 1 = ap length e ∙ length-append items (r ∷ []) in omega (arith, longer, long)
 
-  pub items_next : (items_of : R → List FlushItem) (b : Bool) (start held next : List FlushItem) → next ≡ held ++ recorded b (items_of r) → held ≡ start ++ recorded b (items_by items_of (appended before items))
-      → next ≡ start ++ recorded b (items_by items_of (appended before more))
-  items_next items_of b start held next adds first =
-      adds ∙ ap (λ xs. xs ++ recorded b (items_of r)) first ∙ append_assoc start (recorded b (items_by items_of (appended before items))) (recorded b (items_of r))
-      ∙ ap (λ xs. start ++ xs) (sym (recorded_both b (items_by items_of (appended before items)) (items_of r)) ∙ ap (recorded b) (one_item ∙ ap (items_by items_of) (sym one_appended)))
+  pub items_next : (levels : ℕ) (b : Bool) (start held next : List FlushItem) → next ≡ held ++ recorded b (items_of levels r) → held ≡ start ++ recorded b (items_told levels (appended before items))
+      → next ≡ start ++ recorded b (items_told levels (appended before more))
+  items_next levels b start held next adds first =
+      adds ∙ ap (λ xs. xs ++ recorded b (items_of levels r)) first ∙ append_assoc start (recorded b (items_told levels (appended before items))) (recorded b (items_of levels r))
+      ∙ ap (λ xs. start ++ xs) (sym (recorded_both b (items_told levels (appended before items)) (items_of levels r)) ∙ ap (recorded b) (one_item ∙ ap (items_told levels) (sym one_appended)))
     where
-      one_item : items_by items_of (appended before items) ++ items_of r ≡ items_by items_of (appended before items ++ r ∷ [])
-      one_item = ap (λ xs. items_by items_of (appended before items) ++ xs) (sym (append-nil (items_of r))) ∙ sym (items_both items_of (appended before items) (r ∷ []))
+      one_item : items_told levels (appended before items) ++ items_of levels r ≡ items_told levels (appended before items ++ r ∷ [])
+      one_item = ap (λ xs. items_told levels (appended before items) ++ xs) (sym (append-nil (items_of levels r))) ∙ sym (items_both levels (appended before items) (r ∷ []))
 
-  pub still_next : (changes_nothing : R → Bool) (m n o : Memory) → UnchangedAs changes_nothing (appended before items) m n → (changes_nothing r ≡ true → o ≡ n) → UnchangedAs changes_nothing (appended before more) m o
-  still_next changes_nothing m n o first next all =
+  pub still_next : (m n o : Memory) → UnchangedIfRefused (appended before items) m n → (changes_nothing r ≡ true → o ≡ n) → UnchangedIfRefused (appended before more) m o
+  still_next m n o first next all =
       let parts = all_parts (λ reply. changes_nothing reply ≡ true) (appended before items) r (subst (AllByRecursion (λ reply. changes_nothing reply ≡ true)) one_appended all) in
       next parts.1 ∙ first parts.0
 
-replies_long : {C R : Type 0} (kind : Kind C R) (m : Machine) (s : State) (calls : List C) → length (replies_as kind m s calls) ≡ length calls
-replies_long kind m s [] = refl
-replies_long kind m s (call ∷ calls) = ap suc (replies_long kind m (step_as kind m s call).state calls)
+replies_long : {C : Type 0} (asks : C → MapperCall) (m : Machine) (s : State) (calls : List C) → length (replies_to asks m s calls) ≡ length calls
+replies_long asks m s [] = refl
+replies_long asks m s (call ∷ calls) = ap suc (replies_long asks m (step_by m s (asks call)).state calls)
 
 -- where no call is left
-pub told_last : {C R : Type 0} (kind : Kind C R) (m : Machine) (s : State) (calls : List C) (i : ℕ) → length calls ≤ i → (items : List R) (all : List (Option R)) → map Some items ++ replies_as kind m s (drop i calls) ≡ all → map Some items ≡ all
-told_last kind m s calls i past items all told = sym (append-nil (map Some items)) ∙ ap (λ cs. map Some items ++ replies_as kind m s cs) (sym (drop_all i calls past)) ∙ told
+pub told_last : {C : Type 0} (asks : C → MapperCall) (m : Machine) (s : State) (calls : List C) (i : ℕ) → length calls ≤ i → (items : List Reply) (all : List (Option Reply)) → map Some items ++ replies_to asks m s (drop i calls) ≡ all → map Some items ≡ all
+told_last asks m s calls i past items all told = sym (append-nil (map Some items)) ∙ ap (λ cs. map Some items ++ replies_to asks m s cs) (sym (drop_all i calls past)) ∙ told
 
-pub rest_last : {C R : Type 0} (kind : Kind C R) (m : Machine) (s : State) (calls : List C) (i : ℕ) → length calls ≤ i → (all : State) → state_after m s (calls_by kind.asks m.levels (drop i calls)) ≡ all → s ≡ all
-rest_last kind m s calls i past all rest = ap (λ cs. state_after m s (calls_by kind.asks m.levels cs)) (sym (drop_all i calls past)) ∙ rest
+pub rest_last : {C : Type 0} (asks : C → MapperCall) (m : Machine) (s : State) (calls : List C) (i : ℕ) → length calls ≤ i → (all : State) → state_after m s (calls_by asks m.levels (drop i calls)) ≡ all → s ≡ all
+rest_last asks m s calls i past all rest = ap (λ cs. state_after m s (calls_by asks m.levels cs)) (sym (drop_all i calls past)) ∙ rest
 
-pub back_last : {C R : Type 0} (kind : Kind C R) (m : Machine) (s : State) (calls : List C) (i : ℕ) → length calls ≤ i → all_back m s (calls_by kind.asks m.levels (drop i calls)) ≡ []
-back_last kind m s calls i past = ap (λ cs. all_back m s (calls_by kind.asks m.levels cs)) (drop_all i calls past)
+pub back_last : {C : Type 0} (asks : C → MapperCall) (m : Machine) (s : State) (calls : List C) (i : ℕ) → length calls ≤ i → all_back m s (calls_by asks m.levels (drop i calls)) ≡ []
+back_last asks m s calls i past = ap (λ cs. all_back m s (calls_by asks m.levels cs)) (drop_all i calls past)
 
 -- one for each call
-pub one_each : {C R : Type 0} (kind : Kind C R) (m : Machine) (s : State) (calls : List C) (before after : List R) → map Some after ≡ map Some before ++ replies_as kind m s calls → length after ≡ length before + length calls
-one_each kind m s calls before after told =
-    sym (length-map after Some) ∙ ap length told ∙ length-append (map Some before) (replies_as kind m s calls) ∙ ap (λ n. n + length (replies_as kind m s calls)) (length-map before Some) ∙ ap (λ n. length before + n) (replies_long kind m s calls)
+pub one_each : {C : Type 0} (asks : C → MapperCall) (m : Machine) (s : State) (calls : List C) (before after : List Reply) → map Some after ≡ map Some before ++ replies_to asks m s calls → length after ≡ length before + length calls
+one_each asks m s calls before after told =
+    sym (length-map after Some) ∙ ap length told ∙ length-append (map Some before) (replies_to asks m s calls) ∙ ap (λ n. n + length (replies_to asks m s calls)) (length-map before Some) ∙ ap (λ n. length before + n) (replies_long asks m s calls)
 
 -- they are the machine's
 pub appended_told : {R : Type 0} (before after : List R) (told : List (Option R)) → map Some after ≡ map Some before ++ told → map Some (appended before after) ≡ told
@@ -95,8 +96,8 @@ appended_told before after told e =
     sym (drop-map Some (length before) after) ∙ ap (drop (length before)) e ∙ ap (λ n. drop n (map Some before ++ told)) (sym (length-map before Some)) ∙ drop-append_seam (map Some before) told
 
 -- where none was appended no item is recorded
-pub items_first : {R : Type 0} (items_of : R → List FlushItem) (b : Bool) (before : List R) (held : List FlushItem) → held ≡ held ++ recorded b (items_by items_of (appended before before))
-items_first items_of b before held = sym (ap (λ told. held ++ recorded b (items_by items_of told)) (drop_all (length before) before (le_refl (length before))) ∙ ap (λ xs. held ++ xs) (recorded_none b) ∙ append-nil held)
+pub items_first : (levels : ℕ) (b : Bool) (before : List Reply) (held : List FlushItem) → held ≡ held ++ recorded b (items_told levels (appended before before))
+items_first levels b before held = sym (ap (λ told. held ++ recorded b (items_told levels told)) (drop_all (length before) before (le_refl (length before))) ∙ ap (λ xs. held ++ xs) (recorded_none b) ∙ append-nil held)
   where
     recorded_none : (b : Bool) → recorded b [] ≡ []
     recorded_none true = refl
@@ -112,8 +113,8 @@ room_for_one has_room fewer (suc k) room =
 -- ---- in the same layout, with the same frames served
 
 module _ (k l : Layout) (same : l ≡ k) (put : List ℕ → ℕ → List ℕ) (n o : Memory) (rest last : List ℕ) where
-  pub step_at : {C R : Type 0} (kind : Kind C R) (call : C) (r : R) → step_as kind (machine_of l put) (state_of l n rest) call ≡ record { state = state_of l o last; reply = Some r } → step_as kind (machine_of k put) (state_of k n rest) call ≡ record { state = state_of k o last; reply = Some r }
-  step_at kind call r = subst (λ l. step_as kind (machine_of l put) (state_of l n rest) call ≡ record { state = state_of l o last; reply = Some r }) same
+  pub step_at : (call : MapperCall) (r : Reply) → step_by (machine_of l put) (state_of l n rest) call ≡ record { state = state_of l o last; reply = Some r } → step_by (machine_of k put) (state_of k n rest) call ≡ record { state = state_of k o last; reply = Some r }
+  step_at call r = subst (λ l. step_by (machine_of l put) (state_of l n rest) call ≡ record { state = state_of l o last; reply = Some r }) same
 
   pub free_at : (call : MapperCall) → KeepsFree l n rest (back_by (machine_of l put) (state_of l n rest) (machine_call l.levels call)) o last → KeepsFree k n rest (back_by (machine_of k put) (state_of k n rest) (machine_call k.levels call)) o last
   free_at call = subst (λ l. KeepsFree l n rest (back_by (machine_of l put) (state_of l n rest) (machine_call l.levels call)) o last) same

@@ -14,12 +14,11 @@ use Rattle.x86_64_tables.specs.declared.mapper.MappedFrame.{MappedFrame}
 use Rattle.x86_64_tables.specs.declared.mapper.MappedFrame.TheVariants.{Size4KiB, Size2MiB, Size1GiB}
 use Rattle.x86_64_tables.specs.declared.mapper.TranslateResult.{TranslateResult}
 use Rattle.x86_64_tables.specs.declared.mapper.TranslateResult.TheVariants.{Mapped, NotMapped, InvalidFrameAddress}
-use Rattle.x86_64.specs.Asked.{PageCall, MapTo, MapToWithTableFlags, IdentityMap, UpdateFlags, SetFlags, TranslatePage, Unmap as UnmapPage, MapperCall, Of4KiB, Of2MiB, Of1GiB, Translate, TranslateAddr, CleanUp}
-use Rattle.x86_64.specs.Calls.{asks, asks_57}
+use Rattle.x86_64.specs.Asked.{PageCall, MapTo, MapToWithTableFlags, IdentityMap, UpdateFlags, SetFlags, TranslatePage, Unmap as UnmapPage, MapperCall, Of4KiB, Of2MiB, Of1GiB, Translate, TranslateAddr, CleanUp, CleanUpRange}
 use Rattle.x86_64.specs.declared.calls.PageReply.TheVariants.{Map, Unmap, Update, TableFlags, Frame}
 use Rattle.x86_64.specs.declared.calls.MapperReply.TheVariants as reply
 use Rattle.x86_64.specs.Replies.{SizeReply, Reply, map_error, unmap_error, update_error, translate_error, size_answer, translate_result, sized, reply_of}
-use Rattle.x86_64.specs.ToldReplies.{size_told, told, RepliesTell, RepliesTell57}
+use Rattle.x86_64.specs.ToldReplies.{size_told, told, RepliesTell}
 
 -- ---- errors
 
@@ -174,17 +173,19 @@ is_back (TranslateAddr position) machine.NotAllowed x e = cc
 is_back (TranslateAddr position) (machine.Answered a) x e = cc
 is_back (TranslateAddr position) (machine.Position t) x e = cc
 is_back (TranslateAddr position) machine.Cleaned x e = cc
-is_back (CleanUp low high) machine.Cleaned x e = ap back (same_Some _ _ e)
-is_back (CleanUp low high) machine.NotAllowed x e = cc
-is_back (CleanUp low high) (machine.Answered a) x e = cc
-is_back (CleanUp low high) (machine.Position t) x e = cc
-is_back (CleanUp low high) (machine.Address a) x e = cc
+is_back CleanUp machine.Cleaned x e = ap back (same_Some _ _ e)
+is_back CleanUp machine.NotAllowed x e = cc
+is_back CleanUp (machine.Answered a) x e = cc
+is_back CleanUp (machine.Position t) x e = cc
+is_back CleanUp (machine.Address a) x e = cc
+is_back (CleanUpRange low high) machine.Cleaned x e = ap back (same_Some _ _ e)
+is_back (CleanUpRange low high) machine.NotAllowed x e = cc
+is_back (CleanUpRange low high) (machine.Answered a) x e = cc
+is_back (CleanUpRange low high) (machine.Position t) x e = cc
+is_back (CleanUpRange low high) (machine.Address a) x e = cc
 
 tells_by : (call : MapperCall) (r s : machine.Reply) (x : Reply) → reply_of call r ≡ Some x → reply_of call s ≡ Some x → told call r ≡ told call s
 tells_by call r s x first second = is_back call r x first ∙ sym (is_back call s x second)
 
 pub replies_tell : RepliesTell
-replies_tell call = tells_by (asks call)
-
-pub replies_tell_57 : RepliesTell57
-replies_tell_57 call = tells_by (asks_57 call)
+replies_tell = tells_by

@@ -1,8 +1,8 @@
 -- What a call of a list asks, with four levels as with five: the call of the machine that it is, and which index of the highest level it names.
-use Rattle.std.specs.Prelude.{ℕ, ◌==◌, ◌&&◌, nat_lt, Bool, false, List, map, Option}
+use Rattle.std.specs.Prelude.{ℕ, ◌==◌, ◌-◌, ◌&&◌, nat_lt, Bool, false, List, map}
 use Rattle.x86_64_model.specs.Call as machine
 use Rattle.x86_64_model.specs.Path.{path_at}
-use Rattle.x86_64_model.specs.Position.{index, lower_half}
+use Rattle.x86_64_model.specs.Position.{index, lower_half, position_count}
 
 -- on a page, by its position; flags by their bits
 pub data PageCall : Type 0 where
@@ -22,8 +22,10 @@ pub data MapperCall : Type 0 where
   Of1GiB : PageCall → MapperCall
   Translate : (position : ℕ) → MapperCall
   TranslateAddr : (position : ℕ) → MapperCall
+  -- of all positions
+  CleanUp : MapperCall
   -- of the positions from low to high
-  CleanUp : (low high : ℕ) → MapperCall
+  CleanUpRange : (low high : ℕ) → MapperCall
 
 -- the call on a page that an entry of a level maps, where there are L levels
 abbrev pub page_call : (L level : ℕ) → PageCall → machine.Call
@@ -41,7 +43,8 @@ machine_call L (Of2MiB call) = page_call L 2 call
 machine_call L (Of1GiB call) = page_call L 3 call
 machine_call L (Translate position) = machine.Translate position
 machine_call L (TranslateAddr position) = machine.TranslateAddress position
-machine_call L (CleanUp low high) = machine.CleanUp low high
+machine_call L CleanUp = machine.CleanUp 0 (position_count L - 1)
+machine_call L (CleanUpRange low high) = machine.CleanUp low high
 
 -- of calls that ask so
 abbrev pub calls_by : {C : Type 0} → (asks : C → MapperCall) → (L : ℕ) → List C → List machine.Call
@@ -66,14 +69,5 @@ names_by L (Of2MiB call) i = page_names L call i
 names_by L (Of1GiB call) i = page_names L call i
 names_by L (Translate position) i = index L position == i
 names_by L (TranslateAddr position) i = index L position == i
-names_by L (CleanUp low high) i = false
-
--- ---- kinds of calls
-
--- A kind of calls C with replies R: for how many levels they are, what a call asks, the reply that tells of the machine's, none where a call never
--- gets such a reply of the machine, and whether a reply says that nothing changed.
-pub record Kind (C R : Type 0) : Type 0 where
-  pub levels : ℕ
-  pub asks : C → MapperCall
-  pub tells : MapperCall → machine.Reply → Option R
-  pub changes_nothing : R → Bool
+names_by L CleanUp i = false
+names_by L (CleanUpRange low high) i = false

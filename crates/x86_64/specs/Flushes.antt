@@ -14,10 +14,8 @@ use Rattle.x86_64_model.specs.Window.{begins_with, IsValidFor}
 use Rattle.x86_64_tables.specs.declared.mapper.recorder.FlushItem.{FlushItem}
 use Rattle.x86_64_tables.specs.declared.mapper.recorder.FlushItem.TheVariants.{Page, Page57, All}
 use Rattle.x86_64_tables.specs.FlushRecorder.{page_item}
-use Rattle.x86_64.specs.Asked.{Kind, calls_by}
-use Rattle.x86_64.specs.Runs.{four, five, machine_of, state_of}
-use Rattle.x86_64.specs.declared.calls.Call.{Call}
-use Rattle.x86_64.specs.declared.calls.call57.Call57.{Call57}
+use Rattle.x86_64.specs.Asked.{MapperCall, calls_by}
+use Rattle.x86_64.specs.Runs.{machine_of, state_of}
 use Rattle.x86_64.specs.Replies.{SizeReply, Reply}
 use Rattle.x86_64.specs.declared.calls.PageReply.TheVariants.{Map, Unmap, Update, TableFlags, Frame}
 use Rattle.x86_64.specs.declared.calls.MapperReply.TheVariants as reply
@@ -55,12 +53,9 @@ items_of levels reply.Cleaned = []
 items_of levels reply.NotAllowed = []
 
 -- the items of calls that have these replies, one after another
-abbrev pub items_by : {R : Type 0} → (items_of : R → List FlushItem) → List R → List FlushItem
-items_by items_of [] = []
-items_by items_of (answer ∷ answers) = items_of answer ++ items_by items_of answers
-
 abbrev pub items_told : (levels : ℕ) → List Reply → List FlushItem
-items_told levels answers = items_by (items_of levels) answers
+items_told levels [] = []
+items_told levels (answer ∷ answers) = items_of levels answer ++ items_told levels answers
 
 -- the level of pages of this size
 abbrev pub level_of_size : (size : ℕ) → ℕ
@@ -78,21 +73,13 @@ NoneCovers levels items p = AllByRecursion (λ item. flush.covers levels (item_o
 -- The walks that a cache may still hold after calls that have these replies: where the processor arrives, from a position outside the recursive
 -- index, in words that mean the state after the first k calls, and no item of a later call covers the position, there it arrives in words that mean
 -- the last state too, at the same address, with no right lost.
-abbrev pub FlushesSuffice : {C : Type 0} → Kind C Reply → Layout → (put : List ℕ → ℕ → List ℕ) → State → List C → List Reply → Words → Type 0
-FlushesSuffice kind l put start calls replies U =
-    (k : ℕ) (V : Words) (p : ℕ) → let then = state_after (machine_of l put) start (calls_by kind.asks l.levels (take k calls)) in
-    IsValidFor l.levels l.window V l.root then.paths → begins_with l.window (page_path l.levels p) ≡ false → NoneCovers kind.levels (items_told kind.levels (drop k replies)) p
+abbrev pub FlushesSuffice : {C : Type 0} → (asks : C → MapperCall) → Layout → (put : List ℕ → ℕ → List ℕ) → State → List C → List Reply → Words → Type 0
+FlushesSuffice asks l put start calls replies U =
+    (k : ℕ) (V : Words) (p : ℕ) → let then = state_after (machine_of l put) start (calls_by asks l.levels (take k calls)) in
+    IsValidFor l.levels l.window V l.root then.paths → begins_with l.window (page_path l.levels p) ≡ false → NoneCovers l.levels (items_told l.levels (drop k replies)) p
     → Keeps (page_walk l.levels V l.root p) (page_walk l.levels U l.root p)
 
--- What is recorded of calls of a kind: after the items of before one for each accepted call, and these suffice.
-pub record FlushedAs {C Lent : Type 0} (kind : Kind C Reply) (put : List ℕ → ℕ → List ℕ) (h : Hierarchy Lent) (pool : List ℕ) (calls : List C) (told : List Reply) (before now : List FlushItem) (after : Hierarchy Lent) : Type 0 where
-  pub items : now ≡ before ++ items_told kind.levels told
-  pub suffice : FlushesSuffice kind h.layout put (state_of h.layout h.memory pool) calls told (words h.layout after.memory)
-
--- with four levels
-abbrev pub Flushed : {Lent : Type 0} → (put : List ℕ → ℕ → List ℕ) → (h : Hierarchy Lent) → (pool : List ℕ) → (calls : List Call) → (told : List Reply) → (before now : List FlushItem) → (after : Hierarchy Lent) → Type 0
-Flushed put h pool calls told before now after = FlushedAs four put h pool calls told before now after
-
--- with five levels
-abbrev pub Flushed57 : {Lent : Type 0} → (put : List ℕ → ℕ → List ℕ) → (h : Hierarchy Lent) → (pool : List ℕ) → (calls : List Call57) → (told : List Reply) → (before now : List FlushItem) → (after : Hierarchy Lent) → Type 0
-Flushed57 put h pool calls told before now after = FlushedAs five put h pool calls told before now after
+-- What is recorded of calls: after the items of before one for each accepted call, and these suffice.
+pub record Flushed {C Lent : Type 0} (asks : C → MapperCall) (put : List ℕ → ℕ → List ℕ) (h : Hierarchy Lent) (pool : List ℕ) (calls : List C) (told : List Reply) (before now : List FlushItem) (after : Hierarchy Lent) : Type 0 where
+  pub items : now ≡ before ++ items_told h.layout.levels told
+  pub suffice : FlushesSuffice asks h.layout put (state_of h.layout h.memory pool) calls told (words h.layout after.memory)

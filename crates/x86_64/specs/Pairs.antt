@@ -2,21 +2,12 @@
 use Rattle.std.specs.Prelude.{◌≡◌, ℕ, ⊤, false, List, ◌∷◌, Option, Some, None}
 use Rattle.std.specs.List.{AllByRecursion}
 use Rattle.x86_64_model.specs.Window.{Window}
-use Rattle.x86_64.specs.Asked.{Kind, names_by}
-use Rattle.x86_64.specs.declared.calls.Call.{Call}
-use Rattle.x86_64.specs.declared.calls.call57.Call57.{Call57}
-use Rattle.x86_64.specs.Runs.{four, five}
+use Rattle.x86_64.specs.Asked.{MapperCall, names_by}
 
--- no call names the recursive index, where there is one
-abbrev pub NoneNamesAs : {C R : Type 0} → Kind C R → Option Window → List C → Type 0
-NoneNamesAs kind None calls = ⊤
-NoneNamesAs kind (Some window) calls = AllByRecursion (λ call. names_by kind.levels (kind.asks call) window.index ≡ false) calls
-
-abbrev pub NoneNames : Option Window → List Call → Type 0
-NoneNames window calls = NoneNamesAs four window calls
-
-abbrev pub NoneNames57 : Option Window → List Call57 → Type 0
-NoneNames57 window calls = NoneNamesAs five window calls
+-- no call, of those that ask so, names the recursive index, where there is one
+abbrev pub NoneNames : {C : Type 0} → (asks : C → MapperCall) → (levels : ℕ) → Option Window → List C → Type 0
+NoneNames asks levels None calls = ⊤
+NoneNames asks levels (Some window) calls = AllByRecursion (λ call. names_by levels (asks call) window.index ≡ false) calls
 
 -- a frame that comes back is the first of the free frames
 abbrev pub put_first : (held : List ℕ) → (frame : ℕ) → List ℕ

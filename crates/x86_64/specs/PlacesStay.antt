@@ -14,4 +14,4 @@ PlacesStay = (layout : Layout) (serves : ℕ → Bool) (m n : Memory) (pool rest
 -- So an offset that fits the memory fits it still.
 abbrev pub OffsetsFitStill : Type 0
 OffsetsFitStill = (layout : Layout) (serves : ℕ → Bool) (m n : Memory) (pool rest : List ℕ) → FitsPool layout m serves pool → Keeps layout serves m pool n rest
-    → (offset : ℕ) → OffsetFits 4 m offset → OffsetFits 4 n offset
+    → (levels offset : ℕ) → OffsetFits levels m offset → OffsetFits levels n offset

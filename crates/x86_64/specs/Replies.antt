@@ -19,7 +19,7 @@ use Rattle.x86_64_tables.specs.declared.mapper.TranslateResult.TheVariants.{Mapp
 use Rattle.x86_64_page.specs.declared.page.Size4KiB.{Size4KiB as Small}
 use Rattle.x86_64_page.specs.declared.page.Size2MiB.{Size2MiB as Large}
 use Rattle.x86_64_page.specs.declared.page.Size1GiB.{Size1GiB as Giant}
-use Rattle.x86_64.specs.Asked.{PageCall, MapTo, MapToWithTableFlags, IdentityMap, Unmap, UpdateFlags, SetFlags, TranslatePage, MapperCall, Of4KiB, Of2MiB, Of1GiB, Translate, TranslateAddr, CleanUp}
+use Rattle.x86_64.specs.Asked.{PageCall, MapTo, MapToWithTableFlags, IdentityMap, Unmap, UpdateFlags, SetFlags, TranslatePage, MapperCall, Of4KiB, Of2MiB, Of1GiB, Translate, TranslateAddr, CleanUp, CleanUpRange}
 use Rattle.x86_64.specs.declared.calls.PageReply.{PageReply}
 use Rattle.x86_64.specs.declared.calls.PageReply.TheVariants as page_reply
 use Rattle.x86_64.specs.declared.calls.MapperReply.{MapperReply}
@@ -102,8 +102,10 @@ reply_of (Translate position) (machine.Position translated) = option_map reply.T
 reply_of (Translate position) answer = None
 reply_of (TranslateAddr position) (machine.Address address) = Some (reply.Address address)
 reply_of (TranslateAddr position) answer = None
-reply_of (CleanUp low high) machine.Cleaned = Some reply.Cleaned
-reply_of (CleanUp low high) answer = None
+reply_of CleanUp machine.Cleaned = Some reply.Cleaned
+reply_of CleanUp answer = None
+reply_of (CleanUpRange low high) machine.Cleaned = Some reply.Cleaned
+reply_of (CleanUpRange low high) answer = None
 
 -- ---- replies of calls that change nothing
 

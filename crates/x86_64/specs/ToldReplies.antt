@@ -2,8 +2,8 @@
 use Rattle.std.specs.Prelude.{◌≡◌, Some}
 use Rattle.x86_64_model.specs.Call as machine
 use Rattle.x86_64_model.specs.Refusal.{Done, Refused}
-use Rattle.x86_64.specs.Asked.{PageCall, MapTo, MapToWithTableFlags, IdentityMap, Unmap, UpdateFlags, SetFlags, TranslatePage, MapperCall, Of4KiB, Of2MiB, Of1GiB, Translate, TranslateAddr, CleanUp, Kind}
-use Rattle.x86_64.specs.Runs.{four, five}
+use Rattle.x86_64.specs.Asked.{PageCall, MapTo, MapToWithTableFlags, IdentityMap, Unmap, UpdateFlags, SetFlags, TranslatePage, MapperCall, Of4KiB, Of2MiB, Of1GiB, Translate, TranslateAddr, CleanUp, CleanUpRange}
+use Rattle.x86_64.specs.Replies.{Reply, reply_of}
 
 -- frame 0 in place of the frame
 abbrev pub without_frame : machine.Reply → machine.Reply
@@ -30,14 +30,9 @@ told (Of2MiB call) r = size_told call r
 told (Of1GiB call) r = size_told call r
 told (Translate position) r = r
 told (TranslateAddr position) r = r
-told (CleanUp low high) r = r
+told CleanUp r = r
+told (CleanUpRange low high) r = r
 
 -- two of the machine's replies to a call that are told by one reply are told alike
-abbrev pub TellsAs : {C R : Type 0} → Kind C R → Type 0
-TellsAs {C = C} {R = R} kind = (call : C) (r s : machine.Reply) (reply : R) → kind.tells (kind.asks call) r ≡ Some reply → kind.tells (kind.asks call) s ≡ Some reply → told (kind.asks call) r ≡ told (kind.asks call) s
-
 abbrev pub RepliesTell : Type 0
-RepliesTell = TellsAs four
-
-abbrev pub RepliesTell57 : Type 0
-RepliesTell57 = TellsAs five
+RepliesTell = (call : MapperCall) (r s : machine.Reply) (reply : Reply) → reply_of call r ≡ Some reply → reply_of call s ≡ Some reply → told call r ≡ told call s

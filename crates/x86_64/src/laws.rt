@@ -2,13 +2,12 @@
 ghost use Rattle.x86_64.specs.EveryWord.{EveryWordIsDecided};
 ghost use Rattle.x86_64.specs.PlacesStay.{PlacesStay, OffsetsFitStill};
 ghost use Rattle.x86_64.specs.SecondHierarchies.{EmptyRootsAreSecond, SecondHierarchiesStay, SomeShare};
-ghost use Rattle.x86_64.specs.ToldReplies.{RepliesTell, RepliesTell57};
+ghost use Rattle.x86_64.specs.ToldReplies.{RepliesTell};
 
 /// A reply tells all of the machine's reply to its call, with four levels as with five, but which frame a map or a change of
 /// flags is done with.
 pub fn replies_lose_nothing()
-    ensures four_levels { RepliesTell }
-    ensures five_levels { RepliesTell57 }
+    ensures { RepliesTell }
 {}
 
 /// A second hierarchy of the memory and mapping of a first one, whose root and tables are none of the frames of the first one

@@ -60,11 +60,14 @@ impl<P: PageTableFrameMapping> PageTableFrameMapping for GivenMapping<P> {
     ghost is_mapping = { P.is_mapping };
 }
 
+/// The mapper of a hierarchy of any number of levels of tables.
+pub type MappedPageTableIn<'a, P, L> = Direct<'a, GivenMapping<P>, L>;
+
 /// The mapper of a hierarchy of four levels of tables.
-pub type MappedPageTable<'a, P> = Direct<'a, GivenMapping<P>, FourLevels>;
+pub type MappedPageTable<'a, P> = MappedPageTableIn<'a, P, FourLevels>;
 
 /// The mapper of five levels of tables.
-pub type MappedPageTable57<'a, P> = Direct<'a, GivenMapping<P>, FiveLevels>;
+pub type MappedPageTable57<'a, P> = MappedPageTableIn<'a, P, FiveLevels>;
 
 impl<'a, P: PageTableFrameMapping + Drop, L: LevelCount> Drop for Direct<'a, P, L> {
     fn drop(self)

@@ -17,14 +17,17 @@ use x86_64_page::page::Size4KiB;
 use x86_64_tables::mapper::Tables;
 use x86_64_tables::phys_memory::PhysMemory;
 
-/// Maps pages in a hierarchy of four levels of tables, which it finds in a memory that stands in the virtual address space
+/// Maps pages in a hierarchy of any number of levels of tables, which it finds in a memory that stands in the virtual address space
 /// from an address on, the offset.
 ///
 /// It has the memory lent until it is dropped. Its hierarchy has no recursive index.
-pub type OffsetPageTable<'a> = Direct<'a, PhysOffset<FourLevels>, FourLevels>;
+pub type OffsetPageTableIn<'a, L> = Direct<'a, PhysOffset<L>, L>;
 
-/// Maps pages in a hierarchy of five levels of tables, as [`OffsetPageTable`] does in one of four.
-pub type OffsetPageTable57<'a> = Direct<'a, PhysOffset<FiveLevels>, FiveLevels>;
+/// Maps pages in a hierarchy of four levels of tables, as [`OffsetPageTableIn`] does.
+pub type OffsetPageTable<'a> = OffsetPageTableIn<'a, FourLevels>;
+
+/// Maps pages in a hierarchy of five levels of tables, as [`OffsetPageTableIn`] does.
+pub type OffsetPageTable57<'a> = OffsetPageTableIn<'a, FiveLevels>;
 
 impl<'a, L: LevelCount> Direct<'a, PhysOffset<L>, L> {
     /// Makes a mapper of the hierarchy that starts at a root, in a memory that stands at an offset.

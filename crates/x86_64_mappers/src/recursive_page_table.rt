@@ -32,7 +32,7 @@ use x86_64_page::frame::PhysFrame;
 use x86_64_page::page::{PageSize, Size4KiB};
 use x86_64_tables::mapper::{Tables, TablesIn};
 use x86_64_tables::page_table::{PageTable, PageTableFlags};
-use x86_64_tables::phys_memory::{ActiveMemory, ActiveMemory57};
+use x86_64_tables::phys_memory::{Active, ActiveMemory, ActiveMemory57};
 
 /// Says why no mapper was made.
 #[derive(Clone, Copy, Debug, PartialEq)]
@@ -66,11 +66,14 @@ pub struct Recursive<A, L> {
     levels: PhantomData<L>,
 }
 
+/// The mapper of an active memory with any number of levels of tables.
+pub type RecursivePageTableIn<'a, L> = Recursive<Active<'a, L>, L>;
+
 /// The mapper of an active memory with four levels of tables.
-pub type RecursivePageTable<'a> = Recursive<ActiveMemory<'a>, FourLevels>;
+pub type RecursivePageTable<'a> = RecursivePageTableIn<'a, FourLevels>;
 
 /// The mapper of an active memory with five levels of tables.
-pub type RecursivePageTable57<'a> = Recursive<ActiveMemory57<'a>, FiveLevels>;
+pub type RecursivePageTable57<'a> = RecursivePageTableIn<'a, FiveLevels>;
 
 impl<'a> Recursive<ActiveMemory<'a>, FourLevels> {
     ghost use Rattle.std.specs.Prelude.{◌↔◌, None, IsOk, IfOk, IfErr};

@@ -1,8 +1,9 @@
 -- Words of calls on pages, and of what becomes of their tokens.
-use Rattle.std.specs.Prelude.{◌≤◌, ◌+◌, ℕ, Bool, true, false, List, [], Option, Some, None}
+use Rattle.std.specs.Prelude.{◌≡◌, ◌≤◌, ◌+◌, ℕ, Bool, true, false, List, [], Option, Some, None}
 use Rattle.std.proofs.Common.{arith}
 use Rattle.x86_64_model.specs.Machine.{Machine, State, step}
 use Rattle.x86_64_tables.specs.declared.mapper.recorder.FlushItem.{FlushItem}
+use Rattle.x86_64.specs.declared.calls.NoLevelFive.{NoLevelFive}
 use Rattle.x86_64.specs.Asked.{PageCall, page_call}
 use Rattle.x86_64.specs.Flushes.{size_items}
 use Rattle.x86_64.specs.Replies.{SizeReply, size_answer, size_changes_nothing}
@@ -31,3 +32,7 @@ abbrev pub size_step : {S : Type 0} → Machine → (level : ℕ) → State → 
 size_step machine level state call =
     let after = step machine state (page_call machine.levels level call) in
     record { state = after.state; reply = size_answer call after.reply }
+
+-- with four levels there are no flags of level five
+pub no_flags : (flags : NoLevelFive) → let four : ℕ = 4 in four ≡ 5
+no_flags none = elim none [ ]

@@ -3,19 +3,18 @@ ghost use Rattle.std.specs.Prelude.{◌≡◌, ◌<◌, [], length, IfOk, OnErr}
 ghost use Rattle.x86_64_model.specs.Alike.{Alike};
 ghost use Rattle.x86_64_model.specs.Marks.{serves_below};
 ghost use Rattle.x86_64_model.specs.Owned.{PoolFits, paths};
-ghost use Rattle.x86_64.specs.Pairs.{NoneNames, NoneNames57, NoneNamesAs, put_first};
-ghost use Rattle.x86_64.specs.Runs.{Kept, Ran, Ran57, RanAs};
+ghost use Rattle.x86_64.specs.Calls.{asks};
+ghost use Rattle.x86_64.specs.Pairs.{NoneNames, put_first};
+ghost use Rattle.x86_64.specs.Runs.{Kept, Ran};
 
 use super::serve_all;
-use super::served::{Asked, Served};
 use super::tokens::Ignored;
-use crate::calls::{Call, Call57, Reply, Reply57};
+use crate::calls::{CallIn, LevelFiveFlags, ReplyIn};
 use std::alloc::{AllocError, Global};
-use x86_64_mappers::mapper::{
-    CleanUp, CleanUp57, MapperAllSizes, MapperAllSizes57, Translate, Translate57,
-};
+use x86_64_addr::level_count::LevelCount;
+use x86_64_mappers::calls::TableAccess;
 use x86_64_tables::frame_alloc::FramePool;
-use x86_64_tables::mapper::Tables;
+use x86_64_tables::mapper::TablesIn;
 
 /// Answers calls in order by two mappers, and gives the one list that is the replies of both. Each mapper and its pool are
 /// left as [`run`](super::run) leaves them.
@@ -27,116 +26,38 @@ use x86_64_tables::mapper::Tables;
 ///
 /// Conditions: those of [`run`](super::run) for both; the path maps are alike, and the pools equal; no call names a
 /// recursive index of either. Test the path maps by [`tables_alike`](crate::tables_alike), the pools by `==` and the calls by
-/// [`Call::names`].
+/// [`names`](CallIn::names). With five levels its name is
+/// `run_pair_57`, too.
 ///
 /// # Errors
 ///
 /// `AllocError` where the room for the replies is refused; then nothing changes. An empty list needs no room.
-pub fn run_pair<A: MapperAllSizes + Translate + CleanUp, B: MapperAllSizes + Translate + CleanUp>(
-    alloc: Global,
-    a: &mut A,
-    pool_a: &mut FramePool,
-    b: &mut B,
-    pool_b: &mut FramePool,
-    calls: &[Call],
-) -> Result<Vec<Reply>, AllocError>
-    requires fits { PoolFits (A.hierarchy a.old) (serves_below pool_a.old.limit) pool_a.old.frames }
-    requires other_fits { PoolFits (B.hierarchy b.old) (serves_below pool_b.old.limit) pool_b.old.frames }
-    requires alike { Alike 4 (paths (A.hierarchy a.old)) (paths (B.hierarchy b.old)) }
-    requires pools { pool_a.old.frames ≡ pool_b.old.frames }
-    requires unnamed { NoneNames (A.hierarchy a.old).layout.window calls.now }
-    requires other_unnamed { NoneNames (B.hierarchy b.old).layout.window calls.now }
-    ensures ran { let h = A.hierarchy a.old in let after = A.hierarchy a.new in
-        let pool = pool_a.old.frames in let rest = pool_a.new.frames in
-        IfOk result (λ replies. Ran put_first h pool calls.now [] replies.items after rest) }
-    ensures other_ran { let h = B.hierarchy b.old in let after = B.hierarchy b.new in
-        let pool = pool_b.old.frames in let rest = pool_b.new.frames in
-        IfOk result (λ replies. Ran put_first h pool calls.now [] replies.items after rest) }
-    ensures alike { Alike 4 (paths (A.hierarchy a.new)) (paths (B.hierarchy b.new)) }
-    ensures pools { pool_a.new.frames ≡ pool_b.new.frames }
-    ensures needs_room { OnErr result (0 < length calls.now) }
-    ensures unchanged { OnErr result (
-        (a.new ≡ a.old) × (pool_a.new ≡ pool_a.old) × (b.new ≡ b.old) × (pool_b.new ≡ pool_b.old)) }
-    ensures keeps { let serves = serves_below pool_a.old.limit in
-        Kept (A.hierarchy a.old) serves pool_a.old.frames (A.hierarchy a.new) pool_a.new.frames }
-    ensures other_keeps { let serves = serves_below pool_b.old.limit in
-        Kept (B.hierarchy b.old) serves pool_b.old.frames (B.hierarchy b.new) pool_b.new.frames }
-    ensures serves { serves_below pool_a.new.limit ≡ serves_below pool_a.old.limit }
-    ensures other_serves { serves_below pool_b.new.limit ≡ serves_below pool_b.old.limit }
-{
-    run_both(alloc, a, pool_a, b, pool_b, calls)
-}
-
-/// Answers calls of five levels in order by two mappers, and gives the one list that is the replies of both, as
-/// [`run_pair`] does for four. Each mapper and its pool are left as [`run_57`](super::run_57) leaves them.
-///
-/// Conditions: those of [`run_57`](super::run_57) for both; the path maps are alike, and the pools equal; no call names a
-/// recursive index of either. Test the path maps by [`tables_alike_57`](crate::tables_alike_57), the pools by `==` and the
-/// calls by [`Call57::names`].
-///
-/// # Errors
-///
-/// `AllocError` where the room for the replies is refused; then nothing changes. An empty list needs no room.
-pub fn run_pair_57<
-    A: MapperAllSizes57 + Translate57 + CleanUp57,
-    B: MapperAllSizes57 + Translate57 + CleanUp57,
+pub fn run_pair<
+    L: LevelCount,
+    P5: LevelFiveFlags<L>,
+    A: TableAccess + TablesIn<L>,
+    B: TableAccess + TablesIn<L>,
 >(
     alloc: Global,
     a: &mut A,
     pool_a: &mut FramePool,
     b: &mut B,
     pool_b: &mut FramePool,
-    calls: &[Call57],
-) -> Result<Vec<Reply57>, AllocError>
+    calls: &[CallIn<L, P5>],
+) -> Result<Vec<ReplyIn<L>>, AllocError>
     requires fits { PoolFits (A.hierarchy a.old) (serves_below pool_a.old.limit) pool_a.old.frames }
     requires other_fits { PoolFits (B.hierarchy b.old) (serves_below pool_b.old.limit) pool_b.old.frames }
-    requires alike { Alike 5 (paths (A.hierarchy a.old)) (paths (B.hierarchy b.old)) }
+    requires alike { Alike L.LEVELS (paths (A.hierarchy a.old)) (paths (B.hierarchy b.old)) }
     requires pools { pool_a.old.frames ≡ pool_b.old.frames }
-    requires unnamed { NoneNames57 (A.hierarchy a.old).layout.window calls.now }
-    requires other_unnamed { NoneNames57 (B.hierarchy b.old).layout.window calls.now }
+    requires unnamed { NoneNames (asks P5.bits) L.LEVELS (A.hierarchy a.old).layout.window calls.now }
+    requires other_unnamed { NoneNames (asks P5.bits) L.LEVELS (B.hierarchy b.old).layout.window calls.now }
     ensures ran { let h = A.hierarchy a.old in let after = A.hierarchy a.new in
         let pool = pool_a.old.frames in let rest = pool_a.new.frames in
-        IfOk result (λ replies. Ran57 put_first h pool calls.now [] replies.items after rest) }
+        IfOk result (λ replies. Ran (asks P5.bits) put_first h pool calls.now [] replies.items after rest) }
     ensures other_ran { let h = B.hierarchy b.old in let after = B.hierarchy b.new in
         let pool = pool_b.old.frames in let rest = pool_b.new.frames in
-        IfOk result (λ replies. Ran57 put_first h pool calls.now [] replies.items after rest) }
-    ensures alike { Alike 5 (paths (A.hierarchy a.new)) (paths (B.hierarchy b.new)) }
-    ensures pools { pool_a.new.frames ≡ pool_b.new.frames }
-    ensures needs_room { OnErr result (0 < length calls.now) }
-    ensures unchanged { OnErr result (
-        (a.new ≡ a.old) × (pool_a.new ≡ pool_a.old) × (b.new ≡ b.old) × (pool_b.new ≡ pool_b.old)) }
-    ensures keeps { let serves = serves_below pool_a.old.limit in
-        Kept (A.hierarchy a.old) serves pool_a.old.frames (A.hierarchy a.new) pool_a.new.frames }
-    ensures other_keeps { let serves = serves_below pool_b.old.limit in
-        Kept (B.hierarchy b.old) serves pool_b.old.frames (B.hierarchy b.new) pool_b.new.frames }
-    ensures serves { serves_below pool_a.new.limit ≡ serves_below pool_a.old.limit }
-    ensures other_serves { serves_below pool_b.new.limit ≡ serves_below pool_b.old.limit }
-{
-    run_both(alloc, a, pool_a, b, pool_b, calls)
-}
-
-/// Answers calls in order by two mappers, and gives the one list that is the replies of both.
-fn run_both<C: Served<A, Ignored, R> + Served<B, Ignored, R>, R: Drop, A: Tables, B: Tables>(
-    alloc: Global,
-    a: &mut A,
-    pool_a: &mut FramePool,
-    b: &mut B,
-    pool_b: &mut FramePool,
-    calls: &[C],
-) -> Result<Vec<R>, AllocError>
-    requires fits { PoolFits (A.hierarchy a.old) (serves_below pool_a.old.limit) pool_a.old.frames }
-    requires other_fits { PoolFits (B.hierarchy b.old) (serves_below pool_b.old.limit) pool_b.old.frames }
-    requires alike { Alike C.kind.levels (paths (A.hierarchy a.old)) (paths (B.hierarchy b.old)) }
-    requires pools { pool_a.old.frames ≡ pool_b.old.frames }
-    requires unnamed { NoneNamesAs C.kind (A.hierarchy a.old).layout.window calls.now }
-    requires other_unnamed { NoneNamesAs C.kind (B.hierarchy b.old).layout.window calls.now }
-    ensures ran { let h = A.hierarchy a.old in let after = A.hierarchy a.new in
-        let pool = pool_a.old.frames in let rest = pool_a.new.frames in
-        IfOk result (λ replies. RanAs C.kind put_first h pool calls.now [] replies.items after rest) }
-    ensures other_ran { let h = B.hierarchy b.old in let after = B.hierarchy b.new in
-        let pool = pool_b.old.frames in let rest = pool_b.new.frames in
-        IfOk result (λ replies. RanAs C.kind put_first h pool calls.now [] replies.items after rest) }
-    ensures alike { Alike C.kind.levels (paths (A.hierarchy a.new)) (paths (B.hierarchy b.new)) }
+        IfOk result (λ replies. Ran (asks P5.bits) put_first h pool calls.now [] replies.items after rest) }
+    ensures alike { Alike L.LEVELS (paths (A.hierarchy a.new)) (paths (B.hierarchy b.new)) }
     ensures pools { pool_a.new.frames ≡ pool_b.new.frames }
     ensures needs_room { OnErr result (0 < length calls.now) }
     ensures unchanged { OnErr result (

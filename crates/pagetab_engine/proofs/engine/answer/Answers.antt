@@ -1,5 +1,7 @@
-use Rattle.std.proofs.Common.{◌≡◌, OnOk, Result, Ok, refl, subst, rules}
-use Rattle.pagetab_engine.specs.Hierarchy.{KeepsFree, call_back}
+use Rattle.std.proofs.Common.{◌≡◌, IfOk, OnOk, Result, Ok, refl, subst, rules}
+use Rattle.x86_64.specs.Replies.{Reply}
+use Rattle.pagetab_engine.specs.Hierarchy.{BothAnswer, KeepsFree, call_back}
+use Rattle.pagetab_engine.specs.Requests.{reply_in}
 use Rattle.pagetab_engine.proofs.Keeping.{keeps_itself, free_itself}
 use Rattle.pagetab_engine.proofs.engine.answer.Goals as goal
 use Rattle.pagetab_engine.proofs.engine.answer.Goals.{in-Call+in_ok-answer_call-in-Call, in-Walk, in-Show, in-Pool+in_ok-free_frames-in-Pool}
@@ -25,4 +27,16 @@ returns-clause-free c = elim c.match-command.branch [
   | in-Walk w ↦ rw (w.hierarchy-is, w.in-Walk.is) (free_itself c.args.hierarchy.now _ refl)
   | in-Show w ↦ rw (w.hierarchy-is, w.in-Show.is) (free_itself c.args.hierarchy.now _ refl)
   | in-Pool+in_ok-free_frames-in-Pool w ↦ rw (w.hierarchy-is, w.in-Pool.is) (free_itself c.args.hierarchy.now _ refl)
+]
+
+pub returns-clause-both : goal.returns-clause-both
+returns-clause-both c = elim c.match-command.branch [
+  | in-Call+in_ok-answer_call-in-Call w ↦ rw (w.hierarchy-is, w.in-Call.is, w.result-is)
+      (let is : w.answer_call.result ≡ Ok w.in_ok-answer_call-in-Call.field-0 = search rules in
+      let both : Reply → Type 0 = λ reply. BothAnswer c.args.hierarchy.now.mode w.in-Call.request reply c.args.hierarchy.now.twin w.answer_call.new.self.twin in
+      let told : IfOk w.answer_call.result (λ answer. both (reply_in answer)) = w.answer_call.ensures.both in
+      subst (λ r. IfOk r (λ answer. both (reply_in answer))) is told)
+  | in-Walk w ↦ rw w.in-Walk.is tt
+  | in-Show w ↦ rw w.in-Show.is tt
+  | in-Pool+in_ok-free_frames-in-Pool w ↦ rw w.in-Pool.is tt
 ]

@@ -2,10 +2,11 @@ use Rattle.std.proofs.Common.{◌≡◌, ◌+◌, ◌-◌, ◌≤◌, ◌++◌, 
 use Rattle.std.specs.Vec.{vec_capacity}
 use Rattle.x86_64_model.specs.Machine.{Machine, State, state_after}
 use Rattle.x86_64.specs.Asked.{calls_by}
-use Rattle.x86_64.specs.Flushes.{items_by}
+use Rattle.x86_64.specs.Calls.{asks}
+use Rattle.x86_64.specs.Flushes.{items_told}
 use Rattle.x86_64.specs.FreeFrames.{all_back}
 use Rattle.x86_64.specs.private.Served.{recorded}
-use Rattle.x86_64.specs.Runs.{machine_of, state_of, Kept, replies_as, appended, UnchangedAs}
+use Rattle.x86_64.specs.Runs.{machine_of, state_of, Kept, replies_to, appended, UnchangedIfRefused}
 use Rattle.x86_64.proofs.FreeFrames.{FreeSoFar}
 use Rattle.x86_64.proofs.runs.serve_all.Given as goal
 
@@ -16,15 +17,15 @@ invariant-loop-call g l =
     let start : State = state_of layout (g.M.Tables.hierarchy l.fn.mapper).memory (g.F.FrameAllocator.supply l.fn.frames) in
     let now : State = state_of layout (g.M.Tables.hierarchy l.mapper).memory (g.F.FrameAllocator.supply l.frames) in
     record {
-      told : map Some l.replies.items ++ replies_as g.C.Asked.kind machine now (drop l.call-index l.calls) ≡ map Some l.fn.replies.items ++ replies_as g.C.Asked.kind machine start l.calls;
+      told : map Some l.replies.items ++ replies_to (asks g.P5.LevelFiveFlags.bits) machine now (drop l.call-index l.calls) ≡ map Some l.fn.replies.items ++ replies_to (asks g.P5.LevelFiveFlags.bits) machine start l.calls;
       longer : length l.fn.replies.items ≤ length l.replies.items;
-      still : UnchangedAs g.C.Asked.kind.changes_nothing (appended l.fn.replies.items l.replies.items) (g.M.Tables.hierarchy l.fn.mapper).memory (g.M.Tables.hierarchy l.mapper).memory;
-      rest : state_after machine now (calls_by g.C.Asked.kind.asks layout.levels (drop l.call-index l.calls)) ≡ state_after machine start (calls_by g.C.Asked.kind.asks layout.levels l.calls);
-      free : FreeSoFar layout (g.M.Tables.hierarchy l.fn.mapper).memory (g.F.FrameAllocator.supply l.fn.frames) (all_back machine start (calls_by g.C.Asked.kind.asks layout.levels l.calls))
-          (all_back machine now (calls_by g.C.Asked.kind.asks layout.levels (drop l.call-index l.calls))) (g.M.Tables.hierarchy l.mapper).memory (g.F.FrameAllocator.supply l.frames);
+      still : UnchangedIfRefused (appended l.fn.replies.items l.replies.items) (g.M.Tables.hierarchy l.fn.mapper).memory (g.M.Tables.hierarchy l.mapper).memory;
+      rest : state_after machine now (calls_by (asks g.P5.LevelFiveFlags.bits) layout.levels (drop l.call-index l.calls)) ≡ state_after machine start (calls_by (asks g.P5.LevelFiveFlags.bits) layout.levels l.calls);
+      free : FreeSoFar layout (g.M.Tables.hierarchy l.fn.mapper).memory (g.F.FrameAllocator.supply l.fn.frames) (all_back machine start (calls_by (asks g.P5.LevelFiveFlags.bits) layout.levels l.calls))
+          (all_back machine now (calls_by (asks g.P5.LevelFiveFlags.bits) layout.levels (drop l.call-index l.calls))) (g.M.Tables.hierarchy l.mapper).memory (g.F.FrameAllocator.supply l.frames);
       room : vec_len l.replies + (length l.calls - l.call-index) ≤ vec_capacity l.replies;
       keeps : Kept (g.M.Tables.hierarchy l.fn.mapper) (g.F.FrameKeeper.serves l.fn.frames) (g.F.FrameAllocator.supply l.fn.frames) (g.M.Tables.hierarchy l.mapper) (g.F.FrameAllocator.supply l.frames);
-      items : g.K.Tokens.items l.tokens ≡ g.K.Tokens.items l.fn.tokens ++ recorded g.K.Tokens.records (items_by g.C.Served.items_of (appended l.fn.replies.items l.replies.items));
+      items : g.K.Tokens.items l.tokens ≡ g.K.Tokens.items l.fn.tokens ++ recorded g.K.Tokens.records (items_told g.L.LevelCount.LEVELS (appended l.fn.replies.items l.replies.items));
       tokens : g.K.Tokens.has_room l.tokens (length l.calls - l.call-index);
       serves : g.F.FrameKeeper.serves l.frames ≡ g.F.FrameKeeper.serves l.fn.frames;
     }

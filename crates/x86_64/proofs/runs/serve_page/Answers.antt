@@ -1,14 +1,18 @@
-use Rattle.std.proofs.Common.{◌≤◌, ℕ, refl, sym, ◌∙◌, subst, lit≤}
+use Rattle.std.proofs.Common.{◌≤◌, refl, sym, ◌∙◌, subst, lit≤, arith}
 use Rattle.x86_64_model.proofs.Lemmas.Machines.Giving.{giving_from}
+use Rattle.x86_64_model.specs.Call.{SetFlags}
+use Rattle.x86_64_model.specs.Owned.{Does, named}
+use Rattle.x86_64_model.specs.Path.{path_at}
+use Rattle.x86_64_tables.specs.MapperAnswers.{flags_answer}
 use Rattle.x86_64_tables.specs.PageTableFlags.{bits_of}
 use Rattle.x86_64.specs.Calls.{size_asks}
 use Rattle.x86_64.proofs.PageSteps.{Start, IsServed, map_to_served, map_with_flags_served, identity_map_served, unmap_served, update_served, set_flags_served, translate_served, IsKept, map_kept, change_kept}
 use Rattle.x86_64.proofs.runs.serve_page.Given.{Over}
 use Rattle.x86_64.proofs.runs.serve_page.Goals as goal
-use Rattle.x86_64.proofs.runs.serve_page.Goals.{in-MapTo, in-MapToWithTableFlags, in-IdentityMap, in-Unmap, in-UpdateFlags, in-SetFlagsP4, in-SetFlagsP3, in-SetFlagsP2, in-TranslatePage}
+use Rattle.x86_64.proofs.runs.serve_page.Goals.{in-MapTo, in-MapToWithTableFlags, in-IdentityMap, in-Unmap, in-UpdateFlags, in-SetFlagsP5, in-SetFlagsP4, in-SetFlagsP3, in-SetFlagsP2, in-TranslatePage}
 
 is_served : (g : Over) (c : goal.Joined-call g) → IsServed _ (g.M.Tables.hierarchy c.args.mapper.now).layout g.F.FrameDeallocator.put (g.F.FrameKeeper.serves c.args.frames.now) (g.M.Tables.hierarchy c.args.mapper.now).memory
-    (g.F.FrameAllocator.supply c.args.frames.now) g.S.PageSize.LEVEL (size_asks c.args.call) (g.M.Tables.hierarchy c.match-call.mapper).memory (g.F.FrameAllocator.supply c.match-call.frames) c.match-call.result
+    (g.F.FrameAllocator.supply c.args.frames.now) g.S.PageSize.LEVEL (size_asks g.P5.LevelFiveFlags.bits c.args.call) (g.M.Tables.hierarchy c.match-call.mapper).memory (g.F.FrameAllocator.supply c.match-call.frames) c.match-call.result
 is_served g c =
     let mapper = c.args.mapper.now in
     let start : Start (g.M.Tables.hierarchy mapper).layout g.F.FrameDeallocator.put (g.F.FrameKeeper.serves c.args.frames.now) (g.M.Tables.hierarchy mapper).memory (g.F.FrameAllocator.supply c.args.frames.now) g.S.PageSize.LEVEL = record {
@@ -20,7 +24,7 @@ is_served g c =
       low = g.S.PageSize.low;
       high = g.S.PageSize.high;
     } in
-    let at_most : (at : ℕ) → at ≤ 4 → at ≤ (g.M.Tables.hierarchy mapper).layout.levels = λ at below. subst (λ L. at ≤ L) (sym (g.met.M.TablesIn.level_count mapper)) below in
+    let some = g.met.M.Tables.some_levels mapper in
     elim c.match-call.branch [
       | in-MapTo w ↦ rw (w.in-MapTo.is, w.mapper-is, w.frames-is, w.result-is)
           (map_to_served (g.M.Tables.hierarchy mapper) start w.in-MapTo.page w.in-MapTo.frame (bits_of w.in-MapTo.flags) w.map_to.result _ _ w.map_to.ensures.does w.map_to.ensures.page w.take.result w.take.ensures.result)
@@ -33,15 +37,22 @@ is_served g c =
           (unmap_served (g.M.Tables.hierarchy mapper) start w.in-Unmap.page w.unmap.result _ w.unmap.ensures.does w.unmap.ensures.page w.take_unmapped.result w.take_unmapped.ensures.result)
       | in-UpdateFlags w ↦ rw (w.in-UpdateFlags.is, w.mapper-is, w.frames-is, w.result-is)
           (update_served (g.M.Tables.hierarchy mapper) start w.in-UpdateFlags.page (bits_of w.in-UpdateFlags.flags) _ w.update_flags.result _ w.update_flags.ensures.does w.update_flags.ensures.page w.take-in-UpdateFlags.result w.take-in-UpdateFlags.ensures.result)
+      | in-SetFlagsP5 w ↦ rw (w.in-SetFlagsP5.is, w.mapper-is, w.frames-is, w.result-is)
+          (let five = g.met.M.TablesIn.level_count mapper ∙ g.met.P5.LevelFiveFlags.five w.in-SetFlagsP5.flags in
+          let h = g.M.Tables.hierarchy mapper in
+          let path = path_at h.layout.levels g.S.PageSize.LEVEL w.in-SetFlagsP5.page in
+          set_flags_served h start 5 w.in-SetFlagsP5.page (g.P5.LevelFiveFlags.bits w.in-SetFlagsP5.flags) (lit≤ tt) (subst (λ n. 5 ≤ n) (sym five) (lit≤ tt))
+          _ w.set_table_flags-set.result _ (subst (λ given. Does h (SetFlags 5 path given) (flags_answer (named h (SetFlags 5 path given)) w.set_table_flags-set.result) (g.M.Tables.hierarchy w.set_table_flags-set.new.mapper)) w.page_table_flags-flags.ensures w.set_table_flags-set.ensures)
+          w.take_all.result w.take_all.ensures.result)
       | in-SetFlagsP4 w ↦ rw (w.in-SetFlagsP4.is, w.mapper-is, w.frames-is, w.result-is)
-          (set_flags_served (g.M.Tables.hierarchy mapper) start 4 w.in-SetFlagsP4.page (bits_of w.in-SetFlagsP4.flags) (lit≤ tt) (at_most 4 (lit≤ tt))
-          _ w.set_flags_p4_entry.result _ w.set_flags_p4_entry.ensures w.take_all.result w.take_all.ensures.result)
+          (set_flags_served (g.M.Tables.hierarchy mapper) start 4 w.in-SetFlagsP4.page (bits_of w.in-SetFlagsP4.flags) (lit≤ tt) some
+          _ w.set_table_flags-set-in-SetFlagsP4.result _ w.set_table_flags-set-in-SetFlagsP4.ensures w.take_all-in-SetFlagsP4.result w.take_all-in-SetFlagsP4.ensures.result)
       | in-SetFlagsP3 w ↦ rw (w.in-SetFlagsP3.is, w.mapper-is, w.frames-is, w.result-is)
-          (set_flags_served (g.M.Tables.hierarchy mapper) start 3 w.in-SetFlagsP3.page (bits_of w.in-SetFlagsP3.flags) (lit≤ tt) (at_most 3 (lit≤ tt))
-          _ w.set_flags_p3_entry.result _ w.set_flags_p3_entry.ensures w.take_all-in-SetFlagsP3.result w.take_all-in-SetFlagsP3.ensures.result)
+          (set_flags_served (g.M.Tables.hierarchy mapper) start 3 w.in-SetFlagsP3.page (bits_of w.in-SetFlagsP3.flags) (lit≤ tt) (omega (arith, some))
+          _ w.set_table_flags-set-in-SetFlagsP3.result _ w.set_table_flags-set-in-SetFlagsP3.ensures w.take_all-in-SetFlagsP3.result w.take_all-in-SetFlagsP3.ensures.result)
       | in-SetFlagsP2 w ↦ rw (w.in-SetFlagsP2.is, w.mapper-is, w.frames-is, w.result-is)
-          (set_flags_served (g.M.Tables.hierarchy mapper) start 2 w.in-SetFlagsP2.page (bits_of w.in-SetFlagsP2.flags) (lit≤ tt) (at_most 2 (lit≤ tt))
-          _ w.set_flags_p2_entry.result _ w.set_flags_p2_entry.ensures w.take_all-in-SetFlagsP2.result w.take_all-in-SetFlagsP2.ensures.result)
+          (set_flags_served (g.M.Tables.hierarchy mapper) start 2 w.in-SetFlagsP2.page (bits_of w.in-SetFlagsP2.flags) (lit≤ tt) (omega (arith, some))
+          _ w.set_table_flags-set-in-SetFlagsP2.result _ w.set_table_flags-set-in-SetFlagsP2.ensures w.take_all-in-SetFlagsP2.result w.take_all-in-SetFlagsP2.ensures.result)
       | in-TranslatePage w ↦ rw (w.in-TranslatePage.is, w.mapper-is, w.frames-is, w.result-is)
           (translate_served (g.M.Tables.hierarchy mapper) start w.in-TranslatePage.page w.translate_page.result w.translate_page.ensures)
     ]
@@ -58,9 +69,10 @@ kept g c =
       | in-IdentityMap w ↦ rw w.mapper-is (map_kept h w.identity_map.ensures.does)
       | in-Unmap w ↦ rw w.mapper-is (change_kept h w.unmap.ensures.does)
       | in-UpdateFlags w ↦ rw w.mapper-is (change_kept h w.update_flags.ensures.does)
-      | in-SetFlagsP4 w ↦ rw w.mapper-is (change_kept h w.set_flags_p4_entry.ensures)
-      | in-SetFlagsP3 w ↦ rw w.mapper-is (change_kept h w.set_flags_p3_entry.ensures)
-      | in-SetFlagsP2 w ↦ rw w.mapper-is (change_kept h w.set_flags_p2_entry.ensures)
+      | in-SetFlagsP5 w ↦ rw w.mapper-is (change_kept h w.set_table_flags-set.ensures)
+      | in-SetFlagsP4 w ↦ rw w.mapper-is (change_kept h w.set_table_flags-set-in-SetFlagsP4.ensures)
+      | in-SetFlagsP3 w ↦ rw w.mapper-is (change_kept h w.set_table_flags-set-in-SetFlagsP3.ensures)
+      | in-SetFlagsP2 w ↦ rw w.mapper-is (change_kept h w.set_table_flags-set-in-SetFlagsP2.ensures)
       | in-TranslatePage w ↦ rw w.mapper-is (refl, refl)
     ]
 

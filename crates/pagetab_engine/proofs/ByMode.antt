@@ -1,0 +1,86 @@
+-- The hierarchy of a mode as one of a number of levels, and what the mapper of the mode makes of it.
+use Rattle.std.proofs.Common.{◌≡◌, ◌||◌, ℕ, true, false, not, cond, List, [], Some, sym, ap, ap₂, ◌∙◌, subst}
+use Rattle.x86_64_model.specs.Alike.{Alike}
+use Rattle.x86_64_model.specs.Layout.{Layout, paths}
+use Rattle.x86_64_model.specs.Marks.{serves_below}
+use Rattle.x86_64_model.specs.Memory.{Memory}
+use Rattle.x86_64.specs.Asked.{MapperCall}
+use Rattle.x86_64.specs.Replies.{Reply}
+use Rattle.x86_64.specs.Runs as runs
+use Rattle.x86_64.specs.declared.calls.MapperReply.TheVariants.{NotAllowed}
+use Rattle.pagetab_engine.specs.Arguments.{count, levels_of}
+use Rattle.pagetab_engine.specs.Calls.{asked_back, IsAnswered}
+use Rattle.pagetab_engine.specs.Frames.{direct_layout, recursive_layout, FitsBy}
+use Rattle.pagetab_engine.specs.Hierarchy.{layout, layout_of, machine_of, state_of, call_back, call_step, IsReached, IsTwin, HasTwin, Keeps}
+use Rattle.pagetab_engine.specs.Requests.{asked, has_levels, is_named, is_refused}
+use Rattle.pagetab_engine.specs.declared.arguments.Mode.{Mode}
+use Rattle.pagetab_engine.specs.declared.arguments.Mode.TheVariants.{Direct, Offset, Recursive, Pair}
+use Rattle.pagetab_engine.specs.declared.frames.Frames.{Frames}
+use Rattle.pagetab_engine.specs.declared.hierarchy.Hierarchy.{Hierarchy}
+use Rattle.pagetab_engine.specs.declared.request.Request.{Request}
+use Rattle.pagetab_engine.proofs.Keeping.{kept_by}
+
+-- the layout of a mode with so many levels
+abbrev pub layout_in : Mode → (levels : ℕ) → Memory → Layout
+layout_in (Direct known) levels memory = direct_layout levels
+layout_in (Offset offset) levels memory = direct_layout levels
+layout_in (Recursive known index) levels memory = recursive_layout levels memory index
+layout_in (Pair known index) levels memory = direct_layout levels
+
+same_layout : (mode : Mode) (levels : ℕ) (memory : Memory) → count (levels_of mode) ≡ levels → layout mode memory ≡ layout_in mode levels memory
+same_layout (Direct known) levels memory same = ap direct_layout same
+same_layout (Offset offset) levels memory same = ap direct_layout same
+same_layout (Recursive known index) levels memory same = ap (λ n. recursive_layout n memory index) same
+same_layout (Pair known index) levels memory same = ap direct_layout same
+
+module _ (before : Hierarchy) (levels : ℕ) (known : count (levels_of before.mode) ≡ levels) (mode : Mode) (is : before.mode ≡ mode) where
+  pub here : count (levels_of mode) ≡ levels
+  here = ap (λ mode. count (levels_of mode)) (sym is) ∙ known
+
+  pub lies : layout_of before ≡ layout_in mode levels before.frames.memory
+  lies = ap (λ mode. layout mode before.frames.memory) is ∙ same_layout mode levels before.frames.memory here
+
+  pub fits_in : FitsBy (layout_of before) before.frames → FitsBy (layout_in mode levels before.frames.memory) before.frames
+  fits_in = subst (λ (l : Layout). FitsBy l before.frames) lies
+
+  pub answered_in : (call : MapperCall) (n : Memory) (rest : List ℕ) (reply : Reply) → IsAnswered (layout_in mode levels before.frames.memory) before.frames.memory before.frames.pool.frames call n rest reply
+      → IsAnswered (layout_of before) before.frames.memory before.frames.pool.frames call n rest reply
+  answered_in call n rest reply = subst (λ (l : Layout). IsAnswered l before.frames.memory before.frames.pool.frames call n rest reply) (sym lies)
+
+  pub kept_in : (after : Hierarchy) → after.mode ≡ before.mode → serves_below after.frames.pool.limit ≡ serves_below before.frames.pool.limit
+      → layout_in mode levels after.frames.memory ≡ layout_in mode levels before.frames.memory → IsReached mode after.frames.memory → HasTwin mode after.frames after.twin
+      → runs.Keeps (layout_in mode levels before.frames.memory) (serves_below before.frames.pool.limit) before.frames.memory before.frames.pool.frames after.frames.memory after.frames.pool.frames → Keeps before after
+  kept_in after same serves still reached twin kept =
+      let m = before.frames.memory in let n = after.frames.memory in
+      kept_by before after same serves mode is (same_layout mode levels n here ∙ still ∙ sym (same_layout mode levels m here)) reached twin
+      (subst (λ (l : Layout). runs.Keeps l (serves_below before.frames.pool.limit) m before.frames.pool.frames n after.frames.pool.frames) (sym (same_layout mode levels m here)) kept)
+
+-- ---- of a call that a mapper is asked
+
+-- it is one of as many levels, and doesn't name the recursive index of a pair
+pub is_asked : (mode : Mode) (request : Request) → has_levels (levels_of mode) request ≡ true → is_named mode request ≡ false → is_refused mode request ≡ false
+is_asked mode request has unnamed = ap₂ (λ has named. not has || named) has unnamed
+
+module _ (before : Hierarchy) (request : Request) (taken : is_refused before.mode request ≡ false) where
+  pub step_asked : call_step before request ≡ runs.step_by (machine_of before) (state_of before) (asked request)
+  step_asked = ap (λ b. cond b (record { state = state_of before; reply = Some NotAllowed }) (runs.step_by (machine_of before) (state_of before) (asked request))) taken
+
+  pub back_asked : call_back before request ≡ asked_back (machine_of before) (state_of before) (asked request)
+  back_asked = ap (λ b. cond b [] (asked_back (machine_of before) (state_of before) (asked request))) taken
+
+-- ---- of two hierarchies
+
+-- path maps are alike in the words of a pair
+pub alike_as_pair : (levels index : ℕ) (l k : Layout) (m n one other : Memory) → Alike levels (paths l m) (paths k n) → l ≡ direct_layout levels → k ≡ recursive_layout levels other index → m ≡ one → n ≡ other
+    → Alike levels (paths (direct_layout levels) one) (paths (recursive_layout levels other index) other)
+alike_as_pair levels index l k m n one other alike lies also here there =
+    let first = direct_layout levels in
+    let second = recursive_layout levels other index in
+    subst (λ (m : Memory). Alike levels (paths first m) (paths second other)) here
+    (subst (λ (n : Memory). Alike levels (paths first m) (paths second n)) there
+    (subst (λ (l : Layout). Alike levels (paths l m) (paths second n)) lies
+    (subst (λ (k : Layout). Alike levels (paths l m) (paths k n)) also alike)))
+
+-- the recursive mapper's of a pair, where the mode has so many levels
+pub twin_in : (known levels index : ℕ) (memory : Memory) (free : List ℕ) (twin : Frames) → known ≡ levels → IsTwin levels index memory free twin → IsTwin known index memory free twin
+twin_in known levels index memory free twin same = subst (λ n. IsTwin n index memory free twin) (sym same)
