@@ -1,7 +1,8 @@
 //! Two hierarchies that are alike, of which the second one has a recursive index, and lists of calls by both mappers at once.
 ghost use Rattle.std.specs.Prelude.{◌≡◌, false, IsTrue};
 ghost use Rattle.std.specs.List.{AllByRecursion};
-ghost use Rattle.x86_64.specs.Calls.{names, names_57};
+ghost use Rattle.x86_64_tables.specs.PageTableFlags.{bits_of};
+ghost use Rattle.x86_64.specs.Calls.{names, no_bits};
 ghost use Rattle.x86_64_tests.specs.Pairs.{IsPair};
 
 use crate::assertions::unwrap;
@@ -53,7 +54,7 @@ pub fn is_pair(
 
 /// Tells whether no call names an index of level four.
 pub fn none_names(calls: &[Call], index: PageTableIndex) -> bool
-    ensures { IsTrue result → AllByRecursion (λ call. names call index ≡ false) calls.now }
+    ensures { IsTrue result → AllByRecursion (λ call. names 4 no_bits call index ≡ false) calls.now }
 {
     calls.iter().all(|call| !call.names(index))
 }
@@ -71,7 +72,7 @@ pub fn run_pair_on(
     calls: &[Call],
 ) -> Result<Vec<Reply>, AllocError>
     requires pair { IsPair 4 root index memory.old pool.old walked.old walked_pool.old }
-    requires unnamed { AllByRecursion (λ call. names call index ≡ false) calls.now }
+    requires unnamed { AllByRecursion (λ call. names 4 no_bits call index ≡ false) calls.now }
     ensures { IsPair 4 root index memory.new pool.new walked.new walked_pool.new }
 {
     let mut direct = MappedPageTable::new(memory, root, IdentityMapping);
@@ -115,7 +116,7 @@ pub fn is_pair_57(
 
 /// Tells whether no call names an index of level five.
 pub fn none_names_57(calls: &[Call57], index: PageTableIndex) -> bool
-    ensures { IsTrue result → AllByRecursion (λ call. names_57 call index ≡ false) calls.now }
+    ensures { IsTrue result → AllByRecursion (λ call. names 5 bits_of call index ≡ false) calls.now }
 {
     calls.iter().all(|call| !call.names(index))
 }
@@ -132,7 +133,7 @@ pub fn run_pair_57_on(
     calls: &[Call57],
 ) -> Result<Vec<Reply57>, AllocError>
     requires pair { IsPair 5 root index memory.old pool.old walked.old walked_pool.old }
-    requires unnamed { AllByRecursion (λ call. names_57 call index ≡ false) calls.now }
+    requires unnamed { AllByRecursion (λ call. names 5 bits_of call index ≡ false) calls.now }
     ensures { IsPair 5 root index memory.new pool.new walked.new walked_pool.new }
 {
     let mut direct = MappedPageTable57::new(memory, root, IdentityMapping);
