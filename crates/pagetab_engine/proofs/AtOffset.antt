@@ -4,7 +4,7 @@ use Rattle.std.specs.Result.{IfOk}
 use Rattle.std.proofs.lemmas.Result.{IfOk-weaker}
 use Rattle.x86_64_model.specs.Layout.{Layout}
 use Rattle.x86_64_model.specs.Machine.{State}
-use Rattle.x86_64_model.specs.Marks.{serves_below}
+use Rattle.x86_64_model.specs.Pool.{serves_below}
 use Rattle.x86_64_model.specs.Memory.{Memory}
 use Rattle.x86_64_mappers.specs.Layouts.{direct_at}
 use Rattle.x86_64_mappers.proofs.Memory.OffsetTables.{offset_fits}

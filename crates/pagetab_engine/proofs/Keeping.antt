@@ -1,8 +1,8 @@
 -- What no command changes, and so no commands one after another.
 use Rattle.std.proofs.Common.{◌≡◌, ◌↔◌, ℕ, true, cond, List, [], refl, sym, ap, ◌∙◌, subst, subst₂}
 use Rattle.x86_64_model.specs.Layout.{Layout}
-use Rattle.x86_64_model.specs.MapperCalls.{Owns, KeepsOthers}
-use Rattle.x86_64_model.specs.Marks.{serves_below}
+use Rattle.x86_64_model.specs.Layout.{Owns, KeepsOthers}
+use Rattle.x86_64_model.specs.Pool.{serves_below}
 use Rattle.x86_64_model.specs.Memory.{Memory, Places, identity_places}
 use Rattle.x86_64.specs.Runs as runs
 use Rattle.x86_64.proofs.FreeFrames.{nothing_keeps_free}

@@ -3,7 +3,8 @@ use Rattle.std.proofs.Common.{◌≡◌, ℕ, List, [], ◌∷◌, None, Some, s
 use Rattle.std.specs.Bool.{⊤}
 use Rattle.pagetab_engine.specs.Frames.{IsLoadable}
 use Rattle.pagetab_engine.specs.Lines.{Numbered, ExplainsRead, ForSome, TakesStatement, TracesBack}
-use Rattle.pagetab_engine.specs.Program.{Follows, Loads, LoadsImage, Reads, StopsInImage}
+use Rattle.pagetab_engine.specs.Program.{Loads, Reads}
+use Rattle.pagetab_engine.specs.private.RunParts.{Follows, LoadsImage, StopsInImage}
 use Rattle.pagetab_engine.specs.Program.Reads.{loads, bad_line, refused, gives_up}
 use Rattle.pagetab_engine.specs.declared.arguments.Arguments.{Arguments}
 use Rattle.pagetab_engine.specs.declared.ending.Ending.TheVariants.{Stopped}

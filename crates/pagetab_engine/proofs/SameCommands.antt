@@ -2,7 +2,7 @@
 use Rattle.std.proofs.Common.{◌≡◌, ◌*◌, ℕ, cond, List, [], ◌∷◌, ◌++◌, Option, Some, None, option_map, refl, sym, ap, ◌∙◌, subst}
 use Rattle.x86_64_model.specs.Layout.{Layout, paths}
 use Rattle.x86_64_model.specs.Machine.{State}
-use Rattle.x86_64_model.specs.Marks.{serves_below}
+use Rattle.x86_64_model.specs.Pool.{serves_below}
 use Rattle.x86_64_model.specs.Memory.{IsMapping, Memory, Places, identity_places, words_of, word}
 use Rattle.x86_64_model.specs.PageWalk.{Walked as Arrival}
 use Rattle.x86_64_model.proofs.Lemmas.Hierarchies.Memories.{identity_is_mapping}

@@ -5,7 +5,8 @@ use Rattle.std.proofs.lemmas.Grind.{flat_map-append}
 use Rattle.std.specs.Io.KnownBytes.{Appends}
 use Rattle.std.specs.List.{flat_map}
 use Rattle.pagetab_engine.specs.Lines.{Numbered, ExplainsRead, ForSome, TakesStatement, TracesBack}
-use Rattle.pagetab_engine.specs.Program.{IsWritten, Replies, SaysCommand, Served, ServedUntil, Serves, StopsAt}
+use Rattle.pagetab_engine.specs.Program.{IsWritten, SaysCommand, Serves}
+use Rattle.pagetab_engine.specs.private.RunParts.{Replies, Served, ServedUntil, StopsAt}
 use Rattle.pagetab_engine.specs.Program.Serves.{ends, answers, bad_line, late_image, gives_up}
 use Rattle.pagetab_engine.specs.Texts.{reply_line}
 use Rattle.pagetab_engine.specs.declared.arguments.Arguments.{Arguments}

@@ -4,7 +4,8 @@ use Rattle.std.specs.Bool.{⊤}
 use Rattle.pagetab_engine.specs.Arguments.{Says}
 use Rattle.pagetab_engine.specs.Hierarchy.{FitsImage, IsReached}
 use Rattle.pagetab_engine.specs.Lines.{Numbered, ForSome, IsInput, TracesBack, lines_of, numbered_from}
-use Rattle.pagetab_engine.specs.Program.{IsEmpty, IsFirst, IsLeft, IsRead, IsRun, IsUnread, IsWritten, LoadsImage, Reads, Runs, RunsFrom, Served, Serves, StopsInImage}
+use Rattle.pagetab_engine.specs.Program.{IsEmpty, IsFirst, IsRead, IsRun, IsWritten, Reads, Runs, Serves}
+use Rattle.pagetab_engine.specs.private.RunParts.{IsLeft, IsUnread, LoadsImage, RunsFrom, Served, StopsInImage}
 use Rattle.pagetab_engine.specs.Program.IsRun.{usage, unreached, reads, gives_up}
 use Rattle.pagetab_engine.specs.Program.Reads.{unfit, fits as fits_then, gives_up as gives_up_in_image}
 use Rattle.pagetab_engine.specs.Program.Serves.{ends}

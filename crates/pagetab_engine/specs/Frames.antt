@@ -2,7 +2,7 @@
 use Rattle.std.specs.Prelude.{◌≡◌, ◌≢◌, ◌<◌, ◌≤◌, ◌/◌, ℕ, ⊤, List, [], ◌∷◌, ◌++◌}
 use Rattle.x86_64_model.specs.Layout.{Layout}
 use Rattle.x86_64_model.specs.Lists.{In}
-use Rattle.x86_64_model.specs.Marks.{serves_below}
+use Rattle.x86_64_model.specs.Pool.{serves_below}
 use Rattle.x86_64_model.specs.Memory.{Memory, identity_places}
 use Rattle.x86_64_tables.specs.declared.frame_alloc.pool.PoolRefusal.{PoolRefusal}
 use Rattle.x86_64_tables.specs.declared.frame_alloc.pool.PoolRefusal.TheVariants.{Zero, OutOfRange, AlreadyFree}

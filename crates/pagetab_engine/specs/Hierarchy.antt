@@ -3,8 +3,8 @@ use Rattle.std.specs.Prelude.{◌≡◌, ◌↔◌, ℕ, ⊤, cond, false, List,
 use Rattle.x86_64_model.specs.Alike.{Alike}
 use Rattle.x86_64_model.specs.Layout.{Layout, paths}
 use Rattle.x86_64_model.specs.Machine.{Machine, State}
-use Rattle.x86_64_model.specs.MapperCalls.{Owns, KeepsOthers}
-use Rattle.x86_64_model.specs.Marks.{serves_below}
+use Rattle.x86_64_model.specs.Layout.{Owns, KeepsOthers}
+use Rattle.x86_64_model.specs.Pool.{serves_below}
 use Rattle.x86_64_model.specs.Memory.{Memory, identity_places}
 use Rattle.x86_64_mappers.specs.Offsets.{OffsetFits}
 use Rattle.x86_64.specs.Asked.{MapperCall}

@@ -1,1 +1,2 @@
 pub mod AddressCommands
+pub mod RunParts

@@ -1,7 +1,7 @@
 //! Calls by the mappers, one at a time, and the replies to them.
 ghost use Rattle.std.specs.Prelude.{◌≡◌, false, IfOk, OnErr};
-ghost use Rattle.x86_64_model.specs.Marks.{serves_below};
-ghost use Rattle.x86_64_model.specs.Owned.{PoolFits};
+ghost use Rattle.x86_64_model.specs.Pool.{serves_below};
+ghost use Rattle.x86_64_model.specs.Mapper.{PoolFits};
 ghost use Rattle.x86_64_mappers.specs.Offsets.{OffsetFits};
 ghost use Rattle.x86_64.specs.Calls.{asks, names};
 ghost use Rattle.x86_64.specs.Runs.{FitsPool, Keeps as KeepsPool, Kept};

@@ -3,7 +3,8 @@ ghost use Rattle.std.specs.Prelude.{◌≡◌, ◌<◌, ℕ, List, length, map, 
 ghost use Rattle.std.specs.Io.KnownBytes.{Appends};
 ghost use Rattle.pagetab_engine.specs.Hierarchy.{state_of, HasCopy, IsHierarchy, IsReached, Keeps, KeepsFree};
 ghost use Rattle.pagetab_engine.specs.Lines.{ForSome, IsInput, MayBeLeft, TracesBack};
-ghost use Rattle.pagetab_engine.specs.Program.{AppendsFront, LoadsImage, Replies, Runs, RunsFrom, Served, StopsAt, StopsInImage, ending_of};
+ghost use Rattle.pagetab_engine.specs.Program.{AppendsFront, Runs};
+ghost use Rattle.pagetab_engine.specs.private.RunParts.{LoadsImage, Replies, RunsFrom, Served, StopsAt, StopsInImage, ending_of};
 ghost use Rattle.pagetab_engine.specs.Reply.{IsReply, IsToldByBoth, OnlyReads, back_of, state_after};
 ghost use Rattle.pagetab_engine.specs.declared.ending.Fault.TheVariants.{Output};
 

@@ -1,7 +1,7 @@
 -- A second hierarchy beside the calls of a first one.
 use Rattle.std.proofs.Common.{◌≡◌, ◌<◌, inl, inr, ⊎_elim, ℕ, Bool, true, List, Some, None, Option, IsSome, cond, sym, ap, ◌∷◌, subst}
 use Rattle.x86_64_model.specs.Layout.{Layout, words, paths, Valid}
-use Rattle.x86_64_model.specs.MapperCalls.{Owns}
+use Rattle.x86_64_model.specs.Layout.{Owns}
 use Rattle.x86_64_model.specs.Memory.{Memory, Words, IsMapping, Places, words_of}
 use Rattle.x86_64_model.specs.PathMap.{table_at}
 use Rattle.x86_64_model.specs.Pool.{IsTable}
@@ -18,7 +18,7 @@ there_with_it : (window : Option Window) (root : ℕ) (T : Words) (f : ℕ) → 
 there_with_it None root T f h = h
 there_with_it (Some w) root T f h = is_some-unset T root w.index 0 f h
 
-module _ (first second : Layout) (mapping : IsMapping first.places) (some_levels : 0 < second.levels) (serves : ℕ → Bool) (m n : Memory) (pool rest : List ℕ)
+module _ (first second : Layout) (mapping : IsMapping first.places) (at_least_four : 0 < second.levels) (serves : ℕ → Bool) (m n : Memory) (pool rest : List ℕ)
     (fits : FitsPool first m serves pool) (keeps : Keeps first serves m pool n rest) (is : IsSecond first m pool second) where
   owned_is_covered : (f : ℕ) → Owns first m pool f → first.places.covers f ≡ true
   owned_is_covered f own = covered m first.places f (⊎_elim (λ i. fits.in_memory f i)
@@ -38,7 +38,7 @@ module _ (first second : Layout) (mapping : IsMapping first.places) (some_levels
   still = valid_for_elsewhere second.levels second.window (words second m) (words second n) second.root (paths second m) same_words is.valid
 
   same_paths : paths second m ≡ paths second n
-  same_paths = held_is_paths_of second.levels (outside_window second.window second.root (words second n)) second.root some_levels (paths second m) still.valid.holds
+  same_paths = held_is_paths_of second.levels (outside_window second.window second.root (words second n)) second.root at_least_four (paths second m) still.valid.holds
 
   valid_after : Valid second n
   valid_after = subst (IsValidFor second.levels second.window (words second n) second.root) same_paths still
@@ -73,4 +73,4 @@ module _ (first second : Layout) (mapping : IsMapping first.places) (some_levels
   }
 
 pub second_hierarchies_stay : SecondHierarchiesStay
-second_hierarchies_stay first second mapping some_levels serves m n pool rest fits keeps is = stays first second mapping some_levels serves m n pool rest fits keeps is
+second_hierarchies_stay first second mapping at_least_four serves m n pool rest fits keeps is = stays first second mapping at_least_four serves m n pool rest fits keeps is

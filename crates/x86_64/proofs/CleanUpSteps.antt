@@ -4,9 +4,9 @@ use Rattle.x86_64_model.specs.Call as machine
 use Rattle.x86_64_model.specs.Entry.{IsParentFlags}
 use Rattle.x86_64_model.specs.Layout.{words as words_in}
 use Rattle.x86_64_model.specs.Machine.{AfterCall, do_call, step}
-use Rattle.x86_64_model.specs.MapperCalls.{IsReady}
+use Rattle.x86_64_model.specs.Layout.{IsReady}
 use Rattle.x86_64_model.specs.Memory.{IsMapping, word}
-use Rattle.x86_64_model.specs.Owned.{Hierarchy, PoolFits, MayCleanUp, CleansUp, back}
+use Rattle.x86_64_model.specs.Mapper.{Hierarchy, PoolFits, MayCleanUp, CleansUp, back}
 use Rattle.x86_64_model.specs.Pool.{IsGiving, given_back}
 use Rattle.x86_64_model.proofs.Lemmas.Machines.Fitting.{ready_of_fits, may_clean_up}
 use Rattle.x86_64.specs.FreeFrames.{KeepsFree}

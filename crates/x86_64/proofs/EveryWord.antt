@@ -5,7 +5,7 @@ use Rattle.std.specs.FinMap.{get}
 use Rattle.x86_64_model.specs.Hierarchy.{entry_in}
 use Rattle.x86_64_model.specs.Layout.{Layout, words, paths}
 use Rattle.x86_64_model.specs.Lists.{In}
-use Rattle.x86_64_model.specs.MapperCalls.{Owns}
+use Rattle.x86_64_model.specs.Layout.{Owns}
 use Rattle.x86_64_model.specs.Memory.{Memory, Words, IsMapping, word, set_word}
 use Rattle.x86_64_model.specs.PathMap.{PathMap, entry, table_at}
 use Rattle.x86_64_model.specs.Pool.{IsOwn, IsTable}

@@ -4,7 +4,7 @@ use Rattle.x86_64_model.specs.Entry.{IsParentFlags}
 use Rattle.x86_64_model.specs.Memory.{Memory}
 use Rattle.x86_64_model.specs.Layout.{Layout, words, paths}
 use Rattle.x86_64_model.specs.Pool.{IsGiving}
-use Rattle.x86_64_model.specs.MapperCalls.{IsReady, Owns, KeepsOthers}
+use Rattle.x86_64_model.specs.Layout.{IsReady, Owns, KeepsOthers}
 use Rattle.x86_64_model.specs.Call.{Call, IsCall}
 use Rattle.x86_64_model.specs.Machine.{State, step}
 use Rattle.x86_64_model.proofs.Lemmas.Maps.Frames.{Conserves}

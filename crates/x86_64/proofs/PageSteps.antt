@@ -13,8 +13,8 @@ use Rattle.x86_64_model.specs.Allowed.{allowed, refuses}
 use Rattle.x86_64_model.specs.Call as machine
 use Rattle.x86_64_model.specs.Call.{IsCall}
 use Rattle.x86_64_model.specs.Machine.{AfterCall, only_reply, do_call, step}
-use Rattle.x86_64_model.specs.MapperCalls.{IsReady, Owns, KeepsOthers}
-use Rattle.x86_64_model.specs.Owned.{Hierarchy, Steps, Does, DoesMap, page_translation}
+use Rattle.x86_64_model.specs.Layout.{IsReady, Owns, KeepsOthers}
+use Rattle.x86_64_model.specs.Mapper.{Hierarchy, Steps, Does, DoesMap, page_translation}
 use Rattle.x86_64_model.proofs.Lemmas.Machines.Effects.{page_at_level}
 use Rattle.x86_64_tables.specs.MapperAnswers.{map_answer, map_refusal, unmap_answer, unmap_refusal, flags_refusal, flags_answer, update_refusal, translate_answer, translate_refusal}
 use Rattle.x86_64_tables.specs.declared.mapper.MapToError.{MapToError}
@@ -99,7 +99,7 @@ flags_refuse frame (Err why) (Err same) tells refused = refl
 
 -- what a call on a page that an entry of the level maps begins with: a hierarchy of more than three levels and a pool that fits it
 pub record Start (l : Layout) (put : List ℕ → ℕ → List ℕ) (serves : ℕ → Bool) (m : Memory) (pool : List ℕ) (level : ℕ) : Type 0 where
-  pub some_levels : 3 < l.levels
+  pub at_least_four : 3 < l.levels
   pub adds : IsParentFlags l.added_flags
   pub gives : IsGiving put
   pub mapping : IsMapping l.places
@@ -115,7 +115,7 @@ pub record Serves (S : Type 0) (l : Layout) (put : List ℕ → ℕ → List ℕ
   pub still : size_changes_nothing answer ≡ true → n ≡ m
 
 is_page : {l : Layout} {put : List ℕ → ℕ → List ℕ} {serves : ℕ → Bool} {m : Memory} {pool : List ℕ} {level : ℕ} → Start l put serves m pool level → (page : ℕ) → IsPage l.levels (path_at l.levels level page)
-is_page {l = l} {level = level} start page = page_at_level l.levels level page start.low start.high (omega (arith, start.some_levels, start.high))
+is_page {l = l} {level = level} start page = page_at_level l.levels level page start.low start.high (omega (arith, start.at_least_four, start.high))
 
 -- that the call is served so if it is allowed
 abbrev pub IsServed : (S : Type 0) (l : Layout) (put : List ℕ → ℕ → List ℕ) (serves : ℕ → Bool) (m : Memory) (pool : List ℕ) (level : ℕ) (call : PageCall) (n : Memory) (rest : List ℕ) (answer : SizeReply S) → Type 0
@@ -192,7 +192,7 @@ module _ {Lent S : Type 0} (h : Hierarchy Lent) {put : List ℕ → ℕ → List
       → DoesMap h pool (page_call h.layout.levels level (IdentityMap frame flags)) (map_answer frame r) after rest → IfOk r (λ flush. flush ≡ frame)
       → (told : Result ℕ (MapToError S)) → told ≡ r → Is (IdentityMap frame flags) after.memory rest (reply.Map told)
   unfolding do_call
-  identity_map_served frame flags = map_served (IdentityMap frame flags) (start.low, start.high, omega (arith, start.some_levels, start.high))
+  identity_map_served frame flags = map_served (IdentityMap frame flags) (start.low, start.high, omega (arith, start.at_least_four, start.high))
       (taken_off h start (path_at h.layout.levels level frame) (is_page start frame) frame flags (parent_part flags)) frame frame (λ a. refl)
 
   -- ---- changes of one entry

@@ -7,7 +7,7 @@ use Rattle.x86_64_model.specs.Laws.Pairs.{IsAdded, AlikeRuns, NoneNames as NoCal
 use Rattle.x86_64_model.specs.Laws.Steps.{AllCalls}
 use Rattle.x86_64_model.specs.Layout.{Layout}
 use Rattle.x86_64_model.specs.Machine.{Machine, State, step, replies_of, state_after}
-use Rattle.x86_64_model.specs.Owned.{Hierarchy, PoolFits, paths, words}
+use Rattle.x86_64_model.specs.Mapper.{Hierarchy, PoolFits, paths, words}
 use Rattle.x86_64_model.specs.Pool.{IsGiving}
 use Rattle.x86_64_model.proofs.Lemmas.Machines.Giving.{giving_from}
 use Rattle.x86_64_model.proofs.Lemmas.Machines.Laws.{pairs_reply_alike}

@@ -7,7 +7,7 @@ use Rattle.std.specs.List.{AllByRecursion}
 use Rattle.x86_64_model.specs.Memory.{Memory}
 use Rattle.x86_64_model.specs.Layout.{Layout}
 use Rattle.x86_64_model.specs.Machine.{Machine, State, state_after}
-use Rattle.x86_64_model.specs.Owned.{Hierarchy}
+use Rattle.x86_64_model.specs.Mapper.{Hierarchy}
 use Rattle.x86_64_tables.specs.declared.mapper.recorder.FlushItem.{FlushItem}
 use Rattle.x86_64.specs.Flushes.{items_of, items_told}
 use Rattle.x86_64.specs.private.Served.{recorded}

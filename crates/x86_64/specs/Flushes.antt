@@ -4,7 +4,7 @@ use Rattle.std.specs.List.{AllByRecursion}
 use Rattle.x86_64_model.specs.Arrivals.{Keeps}
 use Rattle.x86_64_model.specs.Flush as flush
 use Rattle.x86_64_model.specs.Layout.{Layout, words}
-use Rattle.x86_64_model.specs.Owned.{Hierarchy}
+use Rattle.x86_64_model.specs.Mapper.{Hierarchy}
 use Rattle.x86_64_model.specs.Machine.{State, state_after}
 use Rattle.x86_64_model.specs.Memory.{Words}
 use Rattle.x86_64_model.specs.PageWalk.{page_walk}

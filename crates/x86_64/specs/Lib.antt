@@ -11,5 +11,5 @@ pub mod SecondHierarchies
 pub mod PlacesStay
 pub mod private
 pub use Rattle.x86_64_model.specs.Machine
-pub use Rattle.x86_64_model.specs.MapperCalls
+pub use Rattle.x86_64_model.specs.Layout
 pub use Rattle.x86_64_model.specs.Alike

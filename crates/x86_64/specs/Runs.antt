@@ -4,10 +4,10 @@ use Rattle.std.specs.List.{AllByRecursion}
 use Rattle.x86_64_model.specs.Memory.{Memory}
 use Rattle.x86_64_model.specs.Layout.{Layout, words, paths}
 use Rattle.x86_64_model.specs.Pool.{Fits}
-use Rattle.x86_64_model.specs.MapperCalls.{Owns, KeepsOthers}
+use Rattle.x86_64_model.specs.Layout.{Owns, KeepsOthers}
 use Rattle.x86_64_model.specs.Machine.{Machine, State, step, state_after}
-pub use Rattle.x86_64_model.specs.Owned.{machine_of}
-use Rattle.x86_64_model.specs.Owned.{Hierarchy}
+pub use Rattle.x86_64_model.specs.Mapper.{machine_of}
+use Rattle.x86_64_model.specs.Mapper.{Hierarchy}
 use Rattle.x86_64.specs.Asked.{MapperCall, machine_call, calls_by}
 use Rattle.x86_64.specs.FreeFrames.{KeepsFree, all_back}
 use Rattle.x86_64.specs.Replies.{Reply, reply_of, changes_nothing}

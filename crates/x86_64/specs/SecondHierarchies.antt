@@ -1,7 +1,7 @@
 -- A second hierarchy in the memory of a first one, each with tables of its own.
 use Rattle.std.specs.Prelude.{◌≡◌, ◌<◌, ℕ, Bool, true, List, [], ◌∷◌}
 use Rattle.x86_64_model.specs.Layout.{Layout, words, paths, Valid}
-use Rattle.x86_64_model.specs.MapperCalls.{Owns}
+use Rattle.x86_64_model.specs.Layout.{Owns}
 use Rattle.x86_64_model.specs.Memory.{Memory, IsMapping, word, identity_places}
 use Rattle.x86_64_model.specs.Pool.{IsTable}
 use Rattle.x86_64_mappers.specs.Layouts.{direct_at, HasRoot}

@@ -2,7 +2,7 @@
 ghost use Rattle.std.specs.Prelude.{◌≡◌, ◌+◌, ◌<◌, ◌≤◌, ◌++◌, ◌&&◌, [], ℕ, true, not, length, Some, OnOk, OnErr, vec_len};
 ghost use Rattle.std.specs.Vec.{vec_capacity};
 ghost use Rattle.x86_64_model.specs.Entry.{huge, no_address};
-ghost use Rattle.x86_64_model.specs.Owned.{Valid, PoolFits, allows, path_of};
+ghost use Rattle.x86_64_model.specs.Mapper.{Valid, PoolFits, allows, path_of};
 ghost use Rattle.x86_64_model.specs.Window.{begins_with};
 ghost use Rattle.x86_64_tables.specs.PageTableFlags.{bits_of};
 ghost use Rattle.x86_64.specs.Asked.{machine_call, page_call};

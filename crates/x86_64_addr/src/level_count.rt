@@ -32,10 +32,10 @@ pub trait LevelCount: Copy + sealed::Sealed {
     ghost known_levels: { IsLevelCount LEVELS };
 
     // There is a level above those of pages, which are the levels one to three.
-    ghost some_levels: { 3 < LEVELS };
+    ghost at_least_four: { 3 < LEVELS };
 
     // Processors know no more.
-    ghost most_levels: { LEVELS ≤ 5 };
+    ghost at_most_five: { LEVELS ≤ 5 };
 
     ghost known_count: { POSITION_COUNT ≡ position_count LEVELS };
 }
@@ -59,9 +59,9 @@ impl LevelCount for FourLevels {
 
     ghost known_levels = { inl refl };
 
-    ghost some_levels = { lit≤ tt };
+    ghost at_least_four = { lit≤ tt };
 
-    ghost most_levels = { lit≤ tt };
+    ghost at_most_five = { lit≤ tt };
 
     ghost known_count = { refl };
 }
@@ -85,9 +85,9 @@ impl LevelCount for FiveLevels {
 
     ghost known_levels = { inr refl };
 
-    ghost some_levels = { lit≤ tt };
+    ghost at_least_four = { lit≤ tt };
 
-    ghost most_levels = { lit≤ tt };
+    ghost at_most_five = { lit≤ tt };
 
     ghost known_count = { refl };
 }

@@ -3,7 +3,7 @@ use Rattle.std.proofs.Common.{◌≡◌, ℕ, Bool, List, sym, subst₂}
 use Rattle.x86_64_model.proofs.Lemmas.Machines.Fitting.{may_clean_up}
 use Rattle.x86_64_model.specs.Layout.{Layout, words, paths}
 use Rattle.x86_64_model.specs.Memory.{Memory}
-use Rattle.x86_64_model.specs.Owned.{Hierarchy, MayCleanUp}
+use Rattle.x86_64_model.specs.Mapper.{Hierarchy, MayCleanUp}
 use Rattle.x86_64_model.specs.Pool.{Fits}
 
 abbrev FitsIn : Layout → Memory → (serves : ℕ → Bool) → (pool : List ℕ) → Type 0

@@ -1,7 +1,7 @@
 //! One round: a new hierarchy in which all pages are mapped, translated and unmapped, and which is cleaned up.
 ghost use Rattle.std.specs.Prelude.{◌≡◌};
-ghost use Rattle.x86_64_model.specs.Marks.{serves_below};
-ghost use Rattle.x86_64_model.specs.Owned.{Valid, SupplyFits, MayCleanUp};
+ghost use Rattle.x86_64_model.specs.Pool.{serves_below};
+ghost use Rattle.x86_64_model.specs.Mapper.{Valid, SupplyFits, MayCleanUp};
 
 use crate::subject::Subject;
 use crate::workload::Workload;

@@ -1,7 +1,7 @@
 //! What is done to one page of a workload, by mappers of four levels and of five.
 ghost use Rattle.std.specs.Prelude.{◌≡◌};
-ghost use Rattle.x86_64_model.specs.Marks.{serves_below};
-ghost use Rattle.x86_64_model.specs.Owned.{Valid, SupplyFits, MayCleanUp};
+ghost use Rattle.x86_64_model.specs.Pool.{serves_below};
+ghost use Rattle.x86_64_model.specs.Mapper.{Valid, SupplyFits, MayCleanUp};
 
 use crate::workload::Workload;
 use bitflags::Flags;

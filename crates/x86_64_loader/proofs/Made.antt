@@ -8,11 +8,11 @@ use Rattle.x86_64_model.specs.Layout.{Layout}
 use Rattle.x86_64_model.specs.Machine.{AfterCall, State, only_reply, do_call, step, replies_of, state_after}
 use Rattle.x86_64_model.specs.MapRule.{parent_part}
 use Rattle.x86_64_model.specs.Memory.{IsMapping}
-use Rattle.x86_64_model.specs.Owned.{Hierarchy, DoesMap, MayMap, PoolFits, machine_of, state_of, path_of}
+use Rattle.x86_64_model.specs.Mapper.{Hierarchy, DoesMap, MayMap, PoolFits, machine_of, state_of, path_of}
 use Rattle.x86_64_model.specs.PageMappings.{PageMapping, accepted, map_calls, map_call_of}
 use Rattle.x86_64_model.specs.Pool.{IsGiving}
 use Rattle.x86_64_model.specs.Refusal.{Answer, Refusal, Refused}
-use Rattle.x86_64_model.proofs.Lemmas.Machines.Runs.{replies_append, state_append}
+use Rattle.x86_64_model.proofs.Lemmas.Runs.Runs.{replies_append, state_append}
 use Rattle.x86_64_tables.specs.MapperAnswers.{map_answer}
 use Rattle.x86_64_tables.specs.declared.mapper.MapToError.{MapToError}
 use Rattle.x86_64.specs.Asked as asked
@@ -105,7 +105,7 @@ kept_one {S = S} h after supply rest level page frame given low high some adds m
 }
   where
     start : (serves : ℕ → Bool) → PoolFits h serves supply → Start h.layout put_first serves h.memory supply level
-    start serves fits = record { some_levels = some; adds = adds; gives = gives_first; mapping = mapping; fits = fits; low = low; high = high }
+    start serves fits = record { at_least_four = some; adds = adds; gives = gives_first; mapping = mapping; fits = fits; low = low; high = high }
 
     served : (serves : ℕ → Bool) (fits : PoolFits h serves supply) → Serves S h.layout put_first serves h.memory supply level (asked.MapTo page frame given) after.memory rest (reply.Map result)
     served serves fits = map_to_served h (start serves fits) page frame given result after rest does same result refl may.allowed

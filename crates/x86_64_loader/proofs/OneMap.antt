@@ -4,7 +4,7 @@ use Rattle.std.specs.Result.{IfOk}
 use Rattle.x86_64_model.specs.Call.{MapTo}
 use Rattle.x86_64_model.specs.Entry.{IsParentFlags, present}
 use Rattle.x86_64_model.specs.Memory.{IsMapping}
-use Rattle.x86_64_model.specs.Owned.{Hierarchy, MayMap, DoesMap, Stands, path_of}
+use Rattle.x86_64_model.specs.Mapper.{Hierarchy, MayMap, DoesMap, Stands, path_of}
 use Rattle.x86_64_model.specs.Position.{span}
 use Rattle.x86_64_model.specs.Refusal.{Answer, Done, Refused, ParentEntryHugePage}
 use Rattle.x86_64_model.proofs.Lemmas.Machines.Standing.{map_to_stands, stands_after, stands_refuses}

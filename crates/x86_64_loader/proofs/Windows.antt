@@ -4,7 +4,7 @@ use Rattle.std.proofs.Math.Nat.{mod-eq_of_lt}
 use Rattle.std.proofs.lemmas.Bool.{and_from, and_parts, cases_lt, ltb-true, lt-ltb, true≢false}
 use Rattle.x86_64_model.specs.Entry.{present}
 use Rattle.x86_64_model.specs.MapRule.{parent_part}
-use Rattle.x86_64_model.specs.Owned.{Hierarchy, allows_map, path_of, paths}
+use Rattle.x86_64_model.specs.Mapper.{Hierarchy, allows_map, path_of, paths}
 use Rattle.x86_64_model.specs.Path.{path_at}
 use Rattle.x86_64_model.specs.Position.{index}
 use Rattle.x86_64_model.specs.Window.{Window, begins_with}

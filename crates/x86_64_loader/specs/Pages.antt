@@ -1,7 +1,7 @@
 -- Runs of pages of one size, which are mapped to a run of frames with the same flags, and what maps of them leave.
 use Rattle.std.specs.Prelude.{◌≡◌, ◌+◌, ◌*◌, ◌^◌, ◌%◌, ◌<◌, ◌≤◌, ℕ, true, List}
 use Rattle.x86_64_model.specs.Call.{MapTo}
-use Rattle.x86_64_model.specs.Owned.{Hierarchy, Stands, allows, path_of}
+use Rattle.x86_64_model.specs.Mapper.{Hierarchy, Stands, allows, path_of}
 use Rattle.x86_64_model.specs.Position.{span}
 use Rattle.x86_64_loader.specs.Maps.{Kept}
 

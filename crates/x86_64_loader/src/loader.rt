@@ -4,7 +4,7 @@ ghost use Rattle.std.specs.List.{All};
 ghost use Rattle.x86_64_loader.specs.private.Loads.{LoadsPart, pages_by};
 ghost use Rattle.x86_64_loader.specs.Maps.{Accepts, Kept};
 ghost use Rattle.x86_64_loader.specs.Segments.{Disjoint, IsAllowed, IsLoaded, IsRefused, Suffices, large_pages, size_of, small_pages};
-ghost use Rattle.x86_64_model.specs.Owned.{SupplyFits};
+ghost use Rattle.x86_64_model.specs.Mapper.{SupplyFits};
 
 use crate::pages::{Stopped, page_after};
 use crate::parts::{map_part, pages_before_large};

@@ -6,7 +6,7 @@ ghost use Rattle.x86_64_loader.specs.Pages.{MayBeMapped, RunStands, IsFree, Leav
 ghost use Rattle.x86_64_loader.specs.Segments.{mapping_of, run_of};
 ghost use Rattle.x86_64_model.specs.Call.{Answered, MapTo};
 ghost use Rattle.x86_64_model.specs.Entry.{present};
-ghost use Rattle.x86_64_model.specs.Owned.{SupplyFits, MayMap, Stands, path_of};
+ghost use Rattle.x86_64_model.specs.Mapper.{SupplyFits, MayMap, Stands, path_of};
 ghost use Rattle.x86_64_tables.specs.MapperAnswers.{map_answer, map_refusal};
 ghost use Rattle.x86_64_tables.specs.PageTableFlags.{bits_of};
 

@@ -5,7 +5,7 @@ ghost use Rattle.x86_64_loader.specs.Pages.{MayBeMapped};
 ghost use Rattle.x86_64_loader.specs.Segments.{IsAllowed, IsInside, frames_for, tables_of};
 ghost use Rattle.x86_64_loader.specs.private.Windows.{AreOutside};
 ghost use Rattle.x86_64_model.specs.Entry.{present};
-ghost use Rattle.x86_64_model.specs.Owned.{Valid};
+ghost use Rattle.x86_64_model.specs.Mapper.{Valid};
 ghost use Rattle.x86_64_tables.specs.PageTableFlags.{bits_of};
 
 use bitflags::Flags;

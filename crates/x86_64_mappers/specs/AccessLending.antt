@@ -4,7 +4,7 @@ use Rattle.std.specs.Borrow.{Lends, LendsIf, MutBor, Fml, RattleType}
 use Rattle.std.specs.FinMap.{insert}
 use Rattle.x86_64_model.specs.Layout.{Layout, words}
 use Rattle.x86_64_model.specs.Memory.{Memory}
-use Rattle.x86_64_model.specs.Owned.{Hierarchy}
+use Rattle.x86_64_model.specs.Mapper.{Hierarchy}
 use Rattle.x86_64_tables.specs.contracts.page_table.entry.PageTableEntry.{the_row as entry_row}
 use Rattle.x86_64_tables.specs.contracts.page_table.table.PageTable.{the_row as table_row}
 

@@ -2,7 +2,7 @@
 use Rattle.std.specs.Prelude.{ℕ, List, Option, None, IsSome}
 use Rattle.x86_64_model.specs.Layout.{Layout, words}
 use Rattle.x86_64_model.specs.Memory.{Memory, Places, words_of}
-use Rattle.x86_64_model.specs.Owned.{Hierarchy}
+use Rattle.x86_64_model.specs.Mapper.{Hierarchy}
 
 -- so many levels of tables from a root, without a recursive index: a new table entry gets the parent flags alone
 abbrev pub direct_at : (levels : ℕ) → Places → (root : ℕ) → Layout

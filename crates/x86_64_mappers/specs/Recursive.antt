@@ -3,7 +3,7 @@ use Rattle.std.specs.Prelude.{ℕ, List, Some, bit_or}
 use Rattle.std.specs.Borrow.{Lends, MutBor, Fml, GName, RattleType}
 use Rattle.x86_64_model.specs.Layout.{Layout}
 use Rattle.x86_64_model.specs.Memory.{Memory, identity_places, words_of}
-use Rattle.x86_64_model.specs.Owned.{Hierarchy}
+use Rattle.x86_64_model.specs.Mapper.{Hierarchy}
 use Rattle.x86_64_model.specs.Window.{Window}
 use Rattle.x86_64_tables.specs.SelfEntries.{window_at}
 use Rattle.x86_64_addr.specs.contracts.level_count.FiveLevels as five

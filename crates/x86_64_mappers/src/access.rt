@@ -2,7 +2,7 @@
 ghost use Rattle.std.specs.Prelude.{◌≡◌, ◌<◌, ℕ, List, length, slice_set, Some};
 ghost use Rattle.std.specs.Borrow.{sem};
 ghost use Rattle.x86_64_model.specs.Memory.{word};
-ghost use Rattle.x86_64_model.specs.Owned.{words};
+ghost use Rattle.x86_64_model.specs.Mapper.{words};
 ghost use Rattle.x86_64_mappers.specs.AccessLending.{LendsTableBy, LendsEntryBy, table_in, put_table};
 ghost use Rattle.x86_64_mappers.specs.private.OwnedSteps.{SetsWord};
 ghost use Rattle.x86_64_mappers.specs.Reached.{Reaches};

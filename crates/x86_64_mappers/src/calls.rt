@@ -3,7 +3,7 @@
 ghost use Rattle.std.specs.Prelude.{◌≡◌, ◌<◌, ◌≤◌, ◌-◌, ℕ, true, IfOk};
 ghost use Rattle.x86_64_model.specs.Call.{MapTo, MapToWithTableFlags, IdentityMap, Unmap, UpdateFlags, SetFlags};
 ghost use Rattle.x86_64_model.specs.Entry.{present};
-ghost use Rattle.x86_64_model.specs.Owned.{Valid, path_of, page_translation, allows, allows_map, May, MayMap, MayCleanUp, Does, DoesMap, CleansUp, ArrivesIn, named};
+ghost use Rattle.x86_64_model.specs.Mapper.{Valid, path_of, page_translation, allows, allows_map, May, MayMap, MayCleanUp, Does, DoesMap, CleansUp, ArrivesIn, named};
 ghost use Rattle.x86_64_model.specs.Position.{lower_half, position_count};
 ghost use Rattle.x86_64_tables.specs.MapperAnswers.{map_answer, unmap_answer, flags_answer, translate_answer};
 ghost use Rattle.x86_64_tables.specs.PageTableFlags.{bits_of};

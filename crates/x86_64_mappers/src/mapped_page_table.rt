@@ -1,7 +1,7 @@
 //! The mapper that finds tables by a frame mapping.
 ghost use Rattle.std.specs.Prelude.{◌≡◌, ◌↔◌, Some, IfOk, IsTrue};
 ghost use Rattle.x86_64_model.specs.Layout.{Valid as ValidIn};
-ghost use Rattle.x86_64_model.specs.Owned.{Valid};
+ghost use Rattle.x86_64_model.specs.Mapper.{Valid};
 ghost use Rattle.x86_64_mappers.specs.Layouts.{direct_at, root_table, HasRoot};
 
 use crate::access::TableAccess;
@@ -217,9 +217,9 @@ impl<'a, P: PageTableFrameMapping, L: LevelCount> Tables for Direct<'a, P, L> {
         None
     }
 
-    ghost some_levels = { λ _. L.some_levels };
+    ghost at_least_four = { λ _. L.at_least_four };
 
-    ghost most_levels = { λ _. L.most_levels };
+    ghost at_most_five = { λ _. L.at_most_five };
 
     ghost is_mapping = { λ mapper. P.is_mapping mapper.mapping };
 }

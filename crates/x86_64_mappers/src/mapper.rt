@@ -1,6 +1,6 @@
 //! Translations of addresses and maps of pages, over any mapper's access to its tables.
 ghost use Rattle.std.specs.Prelude.{◌≡◌, ◌<◌, ◌^◌, ℕ, true, Some, option_map, IfOk};
-ghost use Rattle.x86_64_model.specs.Owned.{Valid, walk, translation};
+ghost use Rattle.x86_64_model.specs.Mapper.{Valid, walk, translation};
 ghost use Rattle.x86_64_model.specs.Translation.{address_of};
 ghost use Rattle.x86_64_tables.specs.PageTableFlags.{bits_of};
 
@@ -68,7 +68,7 @@ impl<M: TableAccess + PageTables> Translate for M {}
 pub trait Mapper<S: PageSize>: TableAccess + PageTables {
     ghost use Rattle.x86_64_model.specs.Call.{MapTo, MapToWithTableFlags, IdentityMap, Unmap, UpdateFlags, SetFlags};
     ghost use Rattle.x86_64_model.specs.Entry.{present};
-    ghost use Rattle.x86_64_model.specs.Owned.{path_of, page_translation, allows, allows_map, May, MayMap, Does, DoesMap, ArrivesIn, named};
+    ghost use Rattle.x86_64_model.specs.Mapper.{path_of, page_translation, allows, allows_map, May, MayMap, Does, DoesMap, ArrivesIn, named};
     ghost use Rattle.x86_64_tables.specs.MapperAnswers.{map_answer, unmap_answer, flags_answer, translate_answer};
 
     /// Maps a page to a frame with these flags, and `HUGE_PAGE` for 2MiB and 1GiB.

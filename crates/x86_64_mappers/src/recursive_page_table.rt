@@ -3,7 +3,7 @@ ghost use Rattle.std.specs.Prelude.{◌≡◌, Some, bit_or};
 ghost use Rattle.std.specs.Borrow.{sem, GName};
 ghost use Rattle.x86_64_model.specs.Layout.{Valid as ValidIn};
 ghost use Rattle.x86_64_model.specs.Memory.{word, words_of, identity_places};
-ghost use Rattle.x86_64_model.specs.Owned.{Valid};
+ghost use Rattle.x86_64_model.specs.Mapper.{Valid};
 ghost use Rattle.x86_64_tables.specs.PageTableFlags.{bits_of};
 ghost use Rattle.x86_64_mappers.specs.InvalidPageTables.{is_root_window};
 ghost use Rattle.x86_64_mappers.specs.Layouts.{root_table};
@@ -334,9 +334,9 @@ impl<A: WalkedTables<L>, L: LevelCount> Tables for Recursive<A, L> {
         Some(self.index)
     }
 
-    ghost some_levels = { λ _. L.some_levels };
+    ghost at_least_four = { λ _. L.at_least_four };
 
-    ghost most_levels = { λ _. L.most_levels };
+    ghost at_most_five = { λ _. L.at_most_five };
 
     ghost is_mapping = { λ _. numbers_are_mapping };
 }

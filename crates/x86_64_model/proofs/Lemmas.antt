@@ -4,7 +4,9 @@ pub mod Hierarchies
 pub mod Lists
 pub mod Machines
 pub mod Maps
+pub mod Pairs
 pub mod Paths
+pub mod Runs
 pub mod Tables
 pub mod Walks
 pub mod Worked

@@ -1,9 +1,11 @@
 -- What a mapper is, beside the memory that it was lent: what none of its calls changes.
-use Rattle.std.specs.Prelude.{ℕ, List, Option}
+use Rattle.std.specs.Prelude.{◌≡◌, ◌≢◌, ℕ, true, List, Option}
+use Rattle.std.specs.FinMap.{get}
 use Rattle.x86_64_model.specs.PathMap.{PathMap}
 use Rattle.x86_64_model.specs.Memory.{Memory, Places, Words, words_of}
 use Rattle.x86_64_model.specs.Hierarchy.{paths_of}
 use Rattle.x86_64_model.specs.PageWalk.{Walked, page_walk}
+use Rattle.x86_64_model.specs.Pool.{IsOwn, Fits}
 use Rattle.x86_64_model.specs.Window.{Window, outside_window, entry_at, IsValidFor}
 
 -- how many levels of tables there are, where frames lie, the root's frame, the recursive index and the self-entry where there is one,
@@ -34,3 +36,15 @@ Valid l m = IsValidFor l.levels l.window (words l m) l.root (paths l m)
 -- where the processor arrives from a position
 abbrev pub walk : Layout → Memory → (position : ℕ) → Option Walked
 walk l m p = page_walk l.levels (words l m) l.root p
+
+-- the hierarchy is valid now, and the supply's frames are as in a pool that fits
+abbrev pub IsReady : Layout → Memory → (supply : List ℕ) → Type 0
+IsReady l m supply = Fits l.levels l.window (words l m) l.root (paths l m) (λ f. true) supply
+
+-- the root, a table, or a frame of the supply
+abbrev pub Owns : Layout → Memory → (supply : List ℕ) → (frame : ℕ) → Type 0
+Owns l m supply f = IsOwn l.levels l.root (paths l m) supply f
+
+-- the places where none of these frames lies keep their words
+abbrev pub KeepsOthers : Places → (frames : ℕ → Type 0) → Memory → Memory → Type 0
+KeepsOthers places frames m n = (k : ℕ) → ((f : ℕ) → frames f → places.place f ≢ k) → get n k ≡ get m k

@@ -24,12 +24,9 @@ pub mod Machine
 pub mod Flush
 pub mod Alike
 pub mod Layout
-pub mod Tables
-pub mod Marks
-pub mod MapperCalls
-pub mod Owned
+pub mod Mapper
 pub mod Conserved
 pub mod Arrivals
 pub mod Standing
-pub mod WalkDown
+pub mod private
 pub mod Laws

@@ -1,5 +1,5 @@
 -- Pools: lists of free frames, and what it is for one to fit a hierarchy.
-use Rattle.std.specs.Prelude.{◌≡◌, ◌⊎◌, ◌↔◌, ℕ, Bool, true, List, [], ◌∷◌, Option, Some, IsSome}
+use Rattle.std.specs.Prelude.{◌≡◌, ◌⊎◌, ◌↔◌, ◌/◌, ◌&&◌, nat_lt, ℕ, Bool, true, List, [], ◌∷◌, Option, Some, IsSome}
 use Rattle.x86_64_model.specs.Lists.{In, EachOnce}
 use Rattle.x86_64_model.specs.Entry.{is_frame}
 use Rattle.x86_64_model.specs.PathMap.{PathMap, table_at}
@@ -13,6 +13,10 @@ IsTable L root paths frame = (q : List ℕ) × (table_at L root paths q ≡ Some
 -- a frame that is free or a table
 abbrev pub IsOwn : (L root : ℕ) → PathMap → (pool : List ℕ) → (frame : ℕ) → Type 0
 IsOwn L root paths pool f = In pool f ⊎ IsTable L root paths f
+
+-- the frames with numbers 1 to limit - 1
+abbrev pub serves_below : (limit : ℕ) → (frame : ℕ) → Bool
+serves_below limit f = nat_lt 0 (f / 4096) && nat_lt (f / 4096) limit
 
 -- The hierarchy is valid, and the pool fits it: its frames are distinct, in the memory, none of them frame 0, the root or a table,
 -- and the pool serves them and every table frame.

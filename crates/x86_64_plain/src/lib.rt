@@ -2,7 +2,7 @@
 //! compare faster bodies with it.
 #![tactic(auto)]
 
-pub mod allowing;
+pub mod conditions;
 pub mod calls;
 pub mod changes;
 pub mod cleaning;

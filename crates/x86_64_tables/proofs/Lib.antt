@@ -3,7 +3,7 @@ pub mod PageTableEntries
 pub mod WalkSteps
 pub mod PlacesInOrder
 pub mod WordsSeen
-pub mod ImageMarks
+pub mod ViewMarks
 pub mod AlikeSteps
 pub mod Pools
 pub mod Tested

@@ -7,7 +7,7 @@ use Rattle.std.proofs.lemmas.Grind.{get_or-set_at}
 use Rattle.std.proofs.lemmas.Map.Steps.{length-le_from_distinct_below}
 use Rattle.std.specs.List.{AllByRecursion, IsDistinct, list_any}
 use Rattle.x86_64_model.specs.Lists.{In, EachOnce}
-use Rattle.x86_64_model.specs.Marks.{serves_below}
+use Rattle.x86_64_model.specs.Pool.{serves_below}
 use Rattle.x86_64_model.proofs.Lemmas.Lists.Members.{in_append, in_left, in_right, from_map}
 use Rattle.x86_64_model.proofs.Lemmas.Lists.Once.{once_append, once_map}
 use Rattle.x86_64_tables.specs.FramePool.{IsMarked}

@@ -1,12 +1,12 @@
 -- The tables and free frames of a hierarchy are sound exactly if the tests of it pass.
 use Rattle.std.proofs.Common.{◌↔◌, suc, ℕ, Option, Some, None}
-use Rattle.x86_64_model.specs.Marks.{serves_below}
+use Rattle.x86_64_model.specs.Pool.{serves_below}
 use Rattle.x86_64_model.specs.Memory.{Memory, Places, IsMapping, words_of}
 use Rattle.x86_64_model.specs.Window.{outside_window}
 use Rattle.x86_64_model.proofs.Lemmas.Hierarchies.Memories.{mappings_show_frames}
 use Rattle.x86_64_model.proofs.Lemmas.Tables.Meant.{valid_means, fits_means}
 use Rattle.x86_64_tables.specs.FramePool.{FreeFrames}
-use Rattle.x86_64_tables.specs.private.Images.{IsSound, free_in}
+use Rattle.x86_64_tables.specs.private.Views.{IsSound, free_in}
 use Rattle.x86_64_tables.specs.SelfEntries.{window_at}
 use Rattle.x86_64_tables.specs.private.HierarchyTests.{limit_of, Passes}
 

@@ -5,10 +5,10 @@ use Rattle.std.specs.Prelude.{unwrap_or}
 use Rattle.x86_64_model.specs.Entry.{has, used, address, names_table}
 use Rattle.x86_64_model.specs.Memory.{Words, word, word_in, set_word}
 use Rattle.x86_64_model.specs.PageWalk.{read}
-use Rattle.x86_64_model.specs.Tables.{without_word}
+use Rattle.x86_64_model.specs.private.Tables.{without_word}
 use Rattle.x86_64_model.proofs.Lemmas.Hierarchies.Held.{word-set_frame, word-set_index}
 use Rattle.x86_64_model.proofs.Lemmas.Hierarchies.Unset.{word_unset}
-use Rattle.x86_64_tables.specs.private.Images.{below_word}
+use Rattle.x86_64_tables.specs.private.Views.{below_word}
 use Rattle.x86_64_tables.specs.SelfEntries.{names_frame}
 
 -- a word that is read

@@ -1,7 +1,7 @@
 -- A pool of frames: those that are free, in the order in which they are handed out, and the limit of their numbers.
 use Rattle.std.specs.Prelude.{◌≡◌, ◌↔◌, ℕ, ◌*◌, ◌%◌, ◌<◌, Bool, true, false, List, length, slice_index_or}
 use Rattle.x86_64_model.specs.Lists.{In, EachOnce}
-use Rattle.x86_64_model.specs.Marks.{serves_below}
+use Rattle.x86_64_model.specs.Pool.{serves_below}
 
 -- the free frames, each with a number from 1 to limit - 1
 pub record FreeFrames : Type 0 where

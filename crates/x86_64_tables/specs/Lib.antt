@@ -18,7 +18,6 @@ pub use Rattle.x86_64_model.specs.Memory
 pub use Rattle.x86_64_model.specs.Hierarchy
 pub use Rattle.x86_64_model.specs.Alike
 pub use Rattle.x86_64_model.specs.Pool
-pub use Rattle.x86_64_model.specs.Marks
 pub use Rattle.x86_64_model.specs.PageWalk
 pub use Rattle.x86_64_model.specs.Layout
 pub use Rattle.x86_64_model.specs.Translation

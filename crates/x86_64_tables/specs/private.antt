@@ -1,3 +1,3 @@
-pub mod Images
+pub mod Views
 pub mod HierarchyTests
 pub mod SortedPlaces

@@ -3,7 +3,7 @@ ghost use Rattle.std.specs.Prelude.{◌≡◌, ◌<◌, ◌≤◌, option_map};
 ghost use Rattle.x86_64_model.specs.Laws.Pairs.{IsAdded};
 ghost use Rattle.x86_64_model.specs.Memory.{IsMapping};
 ghost use Rattle.x86_64_model.specs.MapRule.{parent_part};
-ghost use Rattle.x86_64_model.specs.Owned.{Hierarchy};
+ghost use Rattle.x86_64_model.specs.Mapper.{Hierarchy};
 ghost use Rattle.x86_64_tables.specs.PageTableFlags.{bits_of};
 
 mod flush;
@@ -91,10 +91,10 @@ pub trait Tables {
         ensures { result ≡ option_map (λ window. window.index) (Self.hierarchy self.now).layout.window };
 
     // There is a level above those of pages, which are the levels one to three.
-    ghost some_levels: { (tables : Self) → 3 < (hierarchy tables).layout.levels };
+    ghost at_least_four: { (tables : Self) → 3 < (hierarchy tables).layout.levels };
 
     // Processors know no more. So a path has room in five places.
-    ghost most_levels: { (tables : Self) → (hierarchy tables).layout.levels ≤ 5 };
+    ghost at_most_five: { (tables : Self) → (hierarchy tables).layout.levels ≤ 5 };
 
     ghost is_mapping: { (tables : Self) → IsMapping (hierarchy tables).layout.places };
 }

@@ -14,7 +14,7 @@ ghost use Rattle.x86_64_tables.specs.private.SortedPlaces.{HasRun};
 
 mod active;
 mod alike;
-mod image;
+mod hierarchy_view;
 mod places;
 mod shift_mapping;
 mod validity;

@@ -2,7 +2,7 @@
 use Rattle.std.specs.Prelude.{◌≡◌, ℕ}
 use Rattle.x86_64_model.specs.Alike.{Alike}
 use Rattle.x86_64_model.specs.Layout.{paths}
-use Rattle.x86_64_model.specs.Marks.{serves_below}
+use Rattle.x86_64_model.specs.Pool.{serves_below}
 use Rattle.x86_64_model.specs.Memory.{Memory, identity_places}
 use Rattle.x86_64_tables.specs.declared.frame_alloc.pool.FramePool.{FramePool}
 use Rattle.x86_64_mappers.specs.Layouts.{direct_at}

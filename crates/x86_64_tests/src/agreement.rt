@@ -14,7 +14,7 @@ mod outcomes;
 mod session;
 
 use crate::assertions::unwrap;
-use crate::hostile::IMAGES;
+use crate::untrusted_images::IMAGES;
 use crate::images::ROOT;
 use crate::rows::Word;
 use chooser::Chooser;

@@ -37,9 +37,9 @@ impl<M: Tables + Drop> Tables for Counting<M> {
         self.mapper.recursive_index()
     }
 
-    ghost some_levels = { λ counting. M.some_levels counting.mapper };
+    ghost at_least_four = { λ counting. M.at_least_four counting.mapper };
 
-    ghost most_levels = { λ counting. M.most_levels counting.mapper };
+    ghost at_most_five = { λ counting. M.at_most_five counting.mapper };
 
     ghost is_mapping = { λ counting. M.is_mapping counting.mapper };
 }

@@ -1,6 +1,6 @@
 //! Memories and pools that tests begin with, runs on them, and what they hold then.
 ghost use Rattle.std.specs.Prelude.{◌≡◌};
-ghost use Rattle.x86_64_model.specs.Marks.{serves_below};
+ghost use Rattle.x86_64_model.specs.Pool.{serves_below};
 ghost use Rattle.x86_64_model.specs.Memory.{identity_places};
 ghost use Rattle.x86_64_mappers.specs.Layouts.{direct, direct_at};
 ghost use Rattle.x86_64_mappers.specs.Offsets.{offset_places, OffsetFits};

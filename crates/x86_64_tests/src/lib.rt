@@ -8,7 +8,7 @@ mod assertions;
 #[cfg(test)]
 mod counting;
 #[cfg(test)]
-mod hostile;
+mod untrusted_images;
 #[cfg(test)]
 mod images;
 #[cfg(test)]
@@ -24,4 +24,4 @@ mod rows;
 #[cfg(test)]
 mod streams;
 #[cfg(test)]
-mod turns;
+mod call_rows;

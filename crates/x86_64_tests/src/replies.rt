@@ -1,6 +1,6 @@
 //! Replies of the plain program as those of `run`.
 use crate::images::{flags_of, frame_at, page_at};
-use crate::turns::{PageTurn, Turn, call_of};
+use crate::call_rows::{PageCallRow, CallRow, call_of};
 use x86_64::structures::paging::mapper::{
     FlagUpdateError, MapToError, MappedFrame, MapperFlush, TranslateError, TranslateResult,
     UnmapError,
@@ -105,19 +105,19 @@ pub fn translate_result(translated: Translated) -> TranslateResult {
 }
 
 /// The same of a call on a page.
-fn page_reply<S: PageSize>(turn: PageTurn, answer: Answer) -> Option<SizeReply<S>> {
-    Some(match turn {
-        PageTurn::MapTo(page, ..)
-        | PageTurn::MapToWithTableFlags(page, ..)
-        | PageTurn::IdentityMap(page, _) => SizeReply::Map(map_result(page_at(page), answer)?),
-        PageTurn::Unmap(page) => SizeReply::Unmap(unmap_result(page_at(page), answer)?),
-        PageTurn::UpdateFlags(page, _) => {
+fn page_reply<S: PageSize>(call_row: PageCallRow, answer: Answer) -> Option<SizeReply<S>> {
+    Some(match call_row {
+        PageCallRow::MapTo(page, ..)
+        | PageCallRow::MapToWithTableFlags(page, ..)
+        | PageCallRow::IdentityMap(page, _) => SizeReply::Map(map_result(page_at(page), answer)?),
+        PageCallRow::Unmap(page) => SizeReply::Unmap(unmap_result(page_at(page), answer)?),
+        PageCallRow::UpdateFlags(page, _) => {
             SizeReply::Update(flags_result(answer)?.map(|()| page_at(page)))
         }
-        PageTurn::SetFlagsP4(..) | PageTurn::SetFlagsP3(..) | PageTurn::SetFlagsP2(..) => {
+        PageCallRow::SetFlagsP4(..) | PageCallRow::SetFlagsP3(..) | PageCallRow::SetFlagsP2(..) => {
             SizeReply::TableFlags(flags_result(answer)?)
         }
-        PageTurn::TranslatePage(_) => SizeReply::Frame(frame_result(answer)?),
+        PageCallRow::TranslatePage(_) => SizeReply::Frame(frame_result(answer)?),
     })
 }
 
@@ -130,34 +130,34 @@ pub struct Wanted {
 
 /// Gives a call for `run` that the plain program replies to so, and what that reply is, or `None` where it
 /// fits no such call.
-pub fn wanted_of(turn: Turn, plain: PlainReply) -> Option<Wanted> {
-    let reply = reply_to(turn, plain)?;
+pub fn wanted_of(call_row: CallRow, plain: PlainReply) -> Option<Wanted> {
+    let reply = reply_to(call_row, plain)?;
     Some(Wanted {
-        call: call_of(turn),
+        call: call_of(call_row),
         reply,
     })
 }
 
 /// Gives the reply of `run` to a call that the plain program replies to so, or `None` where it fits no such call.
-fn reply_to(turn: Turn, plain: PlainReply) -> Option<Reply> {
-    match (plain, turn) {
+fn reply_to(call_row: CallRow, plain: PlainReply) -> Option<Reply> {
+    match (plain, call_row) {
         (PlainReply::NotAllowed, _) => Some(Reply::NotAllowed),
-        (PlainReply::Answered(answer), Turn::Small(turn)) => {
-            Some(Reply::Of4KiB(page_reply(turn, answer)?))
+        (PlainReply::Answered(answer), CallRow::Small(call_row)) => {
+            Some(Reply::Of4KiB(page_reply(call_row, answer)?))
         }
-        (PlainReply::Answered(answer), Turn::Large(turn)) => {
-            Some(Reply::Of2MiB(page_reply(turn, answer)?))
+        (PlainReply::Answered(answer), CallRow::Large(call_row)) => {
+            Some(Reply::Of2MiB(page_reply(call_row, answer)?))
         }
-        (PlainReply::Answered(answer), Turn::Giant(turn)) => {
-            Some(Reply::Of1GiB(page_reply(turn, answer)?))
+        (PlainReply::Answered(answer), CallRow::Giant(call_row)) => {
+            Some(Reply::Of1GiB(page_reply(call_row, answer)?))
         }
-        (PlainReply::Position(translated), Turn::Translate(_)) => {
+        (PlainReply::Position(translated), CallRow::Translate(_)) => {
             Some(Reply::Translate(translate_result(translated)))
         }
-        (PlainReply::Address(address), Turn::TranslateAddr(_)) => {
+        (PlainReply::Address(address), CallRow::TranslateAddr(_)) => {
             Some(Reply::Address(address.map(PhysAddr::new_truncate)))
         }
-        (PlainReply::Cleaned, Turn::CleanUp | Turn::CleanUpRange(..)) => Some(Reply::Cleaned),
+        (PlainReply::Cleaned, CallRow::CleanUp | CallRow::CleanUpRange(..)) => Some(Reply::Cleaned),
         _ => None,
     }
 }

@@ -1,5 +1,5 @@
 //! Calls on an empty root, as tables: the replies, and every word and free frame that they leave.
-ghost use Rattle.x86_64_model.specs.Marks.{serves_below};
+ghost use Rattle.x86_64_model.specs.Pool.{serves_below};
 ghost use Rattle.x86_64_mappers.specs.Layouts.{direct};
 ghost use Rattle.x86_64_mappers.specs.Recursive.{recursive_now};
 ghost use Rattle.x86_64.specs.Runs.{FitsPool};
@@ -25,9 +25,9 @@ use crate::images::{
     set_word, word_at,
 };
 use crate::replies::wanted_of;
-use crate::turns::PageTurn::MapTo;
-use crate::turns::Turn;
-use crate::turns::Turn::{Large, Small};
+use crate::call_rows::PageCallRow::MapTo;
+use crate::call_rows::CallRow;
+use crate::call_rows::CallRow::{Large, Small};
 use std::alloc::Global;
 use std::process::Abort;
 use walks::{Walk, compare_walks};
@@ -45,7 +45,7 @@ use x86_64_plain::{Answer, PlainReply};
 const PLACES: u32 = 8;
 
 /// A call, and the reply to it.
-type Exchange = (Turn, PlainReply);
+type Exchange = (CallRow, PlainReply);
 
 /// Calls on an empty root, where the free frames are full of ones, and what comes of them.
 #[derive(Drop)]
@@ -312,8 +312,8 @@ fn add_exchanges(
     calls: &mut Vec<Call>,
     replies: &mut Vec<Reply>,
 ) {
-    for (turn, reply) in row.calls {
-        let wanted = unwrap_some(rt, wanted_of(*turn, *reply));
+    for (call_row, reply) in row.calls {
+        let wanted = unwrap_some(rt, wanted_of(*call_row, *reply));
         unwrap(rt, calls.push(wanted.call));
         unwrap(rt, replies.push(wanted.reply));
     }

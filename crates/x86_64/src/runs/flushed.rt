@@ -1,7 +1,7 @@
 //! Lists of calls whose flushes are recorded.
 ghost use Rattle.std.specs.Prelude.{◌≡◌, ◌+◌, ◌<◌, ◌≤◌, ◌⊎◌, length, OnOk, OnErr, vec_len};
 ghost use Rattle.std.specs.Vec.{vec_capacity};
-ghost use Rattle.x86_64_model.specs.Owned.{PoolFits};
+ghost use Rattle.x86_64_model.specs.Mapper.{PoolFits};
 ghost use Rattle.x86_64.specs.Calls.{asks};
 ghost use Rattle.x86_64.specs.Flushes.{Flushed};
 ghost use Rattle.x86_64.specs.Runs.{Kept, Ran, appended};

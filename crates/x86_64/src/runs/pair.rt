@@ -1,8 +1,8 @@
 //! Lists of calls that two mappers answer alike.
 ghost use Rattle.std.specs.Prelude.{◌≡◌, ◌<◌, [], length, IfOk, OnErr};
 ghost use Rattle.x86_64_model.specs.Alike.{Alike};
-ghost use Rattle.x86_64_model.specs.Marks.{serves_below};
-ghost use Rattle.x86_64_model.specs.Owned.{PoolFits, paths};
+ghost use Rattle.x86_64_model.specs.Pool.{serves_below};
+ghost use Rattle.x86_64_model.specs.Mapper.{PoolFits, paths};
 ghost use Rattle.x86_64.specs.Calls.{asks};
 ghost use Rattle.x86_64.specs.Pairs.{NoneNames, put_first};
 ghost use Rattle.x86_64.specs.Runs.{Kept, Ran};

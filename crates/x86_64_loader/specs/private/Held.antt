@@ -1,6 +1,6 @@
 -- Positions held: by pages that stand and map them where they should be.
 use Rattle.std.specs.Prelude.{◌≡◌, ◌+◌, ◌%◌, ◌<◌, ◌≤◌, ℕ, false}
-use Rattle.x86_64_model.specs.Owned.{Hierarchy, Stands, path_of}
+use Rattle.x86_64_model.specs.Mapper.{Hierarchy, Stands, path_of}
 use Rattle.x86_64_model.specs.Position.{span}
 use Rattle.x86_64_model.specs.Window.{begins_with}
 

@@ -1,6 +1,6 @@
 -- Pages outside the recursive index.
 use Rattle.std.specs.Prelude.{◌≡◌, ◌%◌, ◌≤◌, ℕ, false}
-use Rattle.x86_64_model.specs.Owned.{Hierarchy, path_of}
+use Rattle.x86_64_model.specs.Mapper.{Hierarchy, path_of}
 use Rattle.x86_64_model.specs.Window.{begins_with}
 
 -- each page of 4KiB from a first to a last one lies outside the recursive index

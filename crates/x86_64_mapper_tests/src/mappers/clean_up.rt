@@ -1,6 +1,6 @@
 //! Clean ups by any mapper, of a range of pages and of all.
-ghost use Rattle.x86_64_model.specs.Marks.{serves_below};
-ghost use Rattle.x86_64_model.specs.Owned.{MayCleanUp};
+ghost use Rattle.x86_64_model.specs.Pool.{serves_below};
+ghost use Rattle.x86_64_model.specs.Mapper.{MayCleanUp};
 
 use super::five_levels::{page as page_57, pool_of};
 use super::unmap::page;

@@ -1,5 +1,5 @@
 //! Calls by the direct mapper of five levels of tables.
-ghost use Rattle.x86_64_model.specs.MapperCalls.{IsReady};
+ghost use Rattle.x86_64_model.specs.Layout.{IsReady};
 
 use super::{check_words, image, small, word_of};
 use crate::assertions::{assert_equal, unwrap};

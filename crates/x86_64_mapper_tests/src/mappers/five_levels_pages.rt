@@ -1,7 +1,7 @@
 //! Calls on one page of 57 bits by any mapper.
 ghost use Rattle.std.specs.Prelude.{◌≡◌};
-ghost use Rattle.x86_64_model.specs.MapperCalls.{IsReady};
-ghost use Rattle.x86_64_model.specs.Owned.{Valid};
+ghost use Rattle.x86_64_model.specs.Layout.{IsReady};
+ghost use Rattle.x86_64_model.specs.Mapper.{Valid};
 
 use super::five_levels::{MAPPED, page, pool_of};
 use super::{check_words, image, mapped, small};

@@ -1,5 +1,5 @@
 //! A mapper of a memory that stands at an offset.
-ghost use Rattle.x86_64_model.specs.Marks.{serves_below};
+ghost use Rattle.x86_64_model.specs.Pool.{serves_below};
 ghost use Rattle.x86_64_model.specs.Memory.{identity_places};
 ghost use Rattle.x86_64_mappers.specs.Layouts.{direct};
 ghost use Rattle.x86_64_mappers.specs.Offsets.{OffsetFits};

@@ -2,7 +2,7 @@
 ghost use Rattle.x86_64_model.specs.Call.{Unmap};
 ghost use Rattle.x86_64_model.specs.Layout.{Valid as ValidIn};
 ghost use Rattle.x86_64_model.specs.Memory.{identity_places};
-ghost use Rattle.x86_64_model.specs.Owned.{May, Does, path_of};
+ghost use Rattle.x86_64_model.specs.Mapper.{May, Does, path_of};
 ghost use Rattle.x86_64_mappers.specs.Layouts.{direct, owned};
 ghost use Rattle.x86_64_tables.specs.MapperAnswers.{frame_answer};
 

@@ -11,7 +11,7 @@ use Rattle.x86_64_model.specs.Entry.{used}
 use Rattle.x86_64_model.specs.Layout.{Layout, Valid, words, paths}
 use Rattle.x86_64_model.specs.Lists.{In}
 use Rattle.x86_64_model.specs.Memory.{Memory, Distinct, Words, word, word_in, set_word}
-use Rattle.x86_64_model.specs.Owned.{Hierarchy, MayCleanUp}
+use Rattle.x86_64_model.specs.Mapper.{Hierarchy, MayCleanUp}
 use Rattle.x86_64_model.specs.PathMap.{PathMap, entry, put, table_at}
 use Rattle.x86_64_model.specs.Pool.{IsTable, IsGiving, given_back}
 use Rattle.x86_64_model.specs.Window.{Window, IsValidFor, begins_with}
@@ -81,7 +81,7 @@ module _ (l : Layout) (give : List ℕ → ℕ → List ℕ) where
       }
 
     -- the entry of a table whose words are all 0 goes, and its frame comes back
-    module _ (some_levels : 0 < l.levels) (m : Memory) (valid : Valid l m) (held : List ℕ) (q : List ℕ) (i f : ℕ) (leads : table_at l.levels l.root (paths l m) q ≡ Some f) (small : i < 512)
+    module _ (at_least_four : 0 < l.levels) (m : Memory) (valid : Valid l m) (held : List ℕ) (q : List ℕ) (i f : ℕ) (leads : table_at l.levels l.root (paths l m) q ≡ Some f) (small : i < 512)
         (outside : begins_with l.window (q ++ i ∷ []) ≡ false) (g : ℕ) (names : table_at l.levels l.root (paths l m) (q ++ i ∷ []) ≡ Some g) (in_use : used (entry (paths l m) (q ++ i ∷ [])) ≡ true)
         (empty : (j : ℕ) → word (words l m) g j ≡ 0) (n : Memory) (set : IsSet l.places m f i 0 n) where
       abbrev M : PathMap
@@ -99,7 +99,7 @@ module _ (l : Layout) (give : List ℕ → ℕ → List ℕ) where
           (λ j inside. sym (word_is_entry l.levels l.window (words l m) l.root M valid r j g names inside (outside_more l.window q i j outside)) ∙ empty j))
 
       is : put M r 0 ≡ paths l n
-      is = held_is_paths_of l.levels (seen l n) l.root some_levels (put M r 0) valid_put.valid.holds
+      is = held_is_paths_of l.levels (seen l n) l.root at_least_four (put M r 0) valid_put.valid.holds
 
       before : (p : List ℕ) (h : ℕ) → table_at l.levels l.root (paths l n) p ≡ Some h → table_at l.levels l.root (put M r 0) p ≡ Some h
       before p h t = ap (λ N. table_at l.levels l.root N p) is ∙ t

@@ -83,10 +83,10 @@ module _ (l : Layout) (give : List ℕ → ℕ → List ℕ) (m : Memory) (valid
   -- none is, and the table goes
   pub entry_gone : Distinct l.places → 0 < l.levels → i < 512 → ((j : ℕ) → word (words l n) g j ≡ 0)
       → (o : Memory) → IsSet l.places n f i 0 o → (left : List ℕ) → left ≡ give rest g → IsCleanedAt l give m held low high r o left
-  entry_gone apart some_levels small empty o set left gives =
+  entry_gone apart at_least_four small empty o set left gives =
       let in_use : used (entry (paths l n) r) ≡ true =
       used_present _ (in_range_parts L (paths l n) low high r (visits_in_range L (paths l n) low high r b.there.visits (λ e. no_end q i (sym e)))).1 in
-      let removed = cleaned_removed l give apart some_levels n b.cleaned.valid rest q i f b.here.leads small b.there.outside g b.there.leads in_use empty o set in
+      let removed = cleaned_removed l give apart at_least_four n b.cleaned.valid rest q i f b.here.leads small b.there.outside g b.there.leads in_use empty o set in
       record {
         N = put (cleaned_below L M low high r) r 0;
         back = back_below L M low high r ++ address (entry M r) ∷ [];

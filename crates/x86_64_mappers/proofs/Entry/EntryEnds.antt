@@ -3,8 +3,8 @@ use Rattle.std.proofs.Common.{◌≡◌, ℕ, true, List, Option, Some, None, sy
 use Rattle.x86_64_model.proofs.Lemmas.Machines.Owners.{does_unmap, does_update, does_set_flags}
 use Rattle.x86_64_model.specs.Allowed.{refuses}
 use Rattle.x86_64_model.specs.Call.{Unmap, UpdateFlags, SetFlags}
-use Rattle.x86_64_model.specs.MapperCalls.{after_unmap, after_update, after_set_flags}
-use Rattle.x86_64_model.specs.Owned.{Hierarchy, Does, named}
+use Rattle.x86_64_model.specs.private.MapperCalls.{after_unmap, after_update, after_set_flags}
+use Rattle.x86_64_model.specs.Mapper.{Hierarchy, Does, named}
 use Rattle.x86_64_model.specs.Refusal.{Refusal, Answer, Done, Refused, refusal_of, answer_unless}
 use Rattle.x86_64_mappers.proofs.Entry.EntryRules.{Ends, IfRefused}
 

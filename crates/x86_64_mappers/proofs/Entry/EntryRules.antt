@@ -3,7 +3,7 @@ use Rattle.std.proofs.Common.{◌≡◌, ◌<◌, ◌+◌, ℕ, false, List, [],
 use Rattle.x86_64_model.specs.Layout.{Layout, words, paths, read_entry, Valid}
 use Rattle.x86_64_model.proofs.Lemmas.Machines.Changes.{IsChange}
 use Rattle.x86_64_model.proofs.Lemmas.Maps.Arrives.{first_alone, entry_outside}
-use Rattle.x86_64_model.specs.MapperCalls.{IsChanged}
+use Rattle.x86_64_model.specs.private.MapperCalls.{IsChanged}
 use Rattle.x86_64_model.specs.Memory.{Memory, Distinct, word}
 use Rattle.x86_64_model.specs.PageRules.{AfterChange, refused_or}
 use Rattle.x86_64_model.specs.PathMap.{PathMap, put, table_of, table_at}
@@ -77,9 +77,9 @@ module _ (l : Layout) (m : Memory) (valid : Valid l m) (q : List ℕ) (n : ℕ) 
     -- its word was set
     pub changed : Distinct l.places → 0 < l.levels → (w frame : ℕ) → says (word (words l m) g last) ≡ Ok (w, frame) → IsChange l.levels l.window M q w
         → (o : Memory) → IsSet l.places m g last w o → Ends l m after (Done frame) o
-    changed apart some_levels w frame is change o set =
+    changed apart at_least_four w frame is change o set =
         let after_is = said (Ok (w, frame)) is in
-        let done = entry_changed l apart some_levels m valid path last w (subst (λ q. IsChange l.levels l.window M q w) (sym parted) change) g (same_table path last (ap (begins_with l.window) parted ∙ change.outside) found.0.table) o set in record {
+        let done = entry_changed l apart at_least_four m valid path last w (subst (λ q. IsChange l.levels l.window M q w) (sym parted) change) g (same_table path last (ap (begins_with l.window) parted ∙ change.outside) found.0.table) o set in record {
           answers = ap (λ (a : AfterChange). a.answer) after_is;
           changed = record { meant = ap (λ (a : AfterChange). a.paths) after_is ∙ ap (λ q. put M q w) (sym parted) ∙ done.meant; valid = done.valid; ready = done.ready; others = done.others };
           unchanged = tt;
@@ -93,11 +93,11 @@ module _ (l : Layout) (m : Memory) (valid : Valid l m) (q : List ℕ) (n : ℕ) 
     -- its word is what it says
     pub ended : Distinct l.places → 0 < l.levels → last < 512 → ((w frame : ℕ) → says (read_entry l m q) ≡ Ok (w, frame) → IsChange l.levels l.window M q w)
         → (o : Memory) → let e = word (words l m) g last in IsSet l.places m g last (word_said e (says e)) o → Ends l m after (answer_said (says e)) o
-    ended apart some_levels small change o set = by (says e) refl set
+    ended apart at_least_four small change o set = by (says e) refl set
       where
         e : ℕ
         e = word (words l m) g last
 
         by : (r : Result (ℕ × ℕ) Refusal) → says e ≡ r → IsSet l.places m g last (word_said e r) o → Ends l m after (answer_said r) o
-        by (Ok done) is set = changed apart some_levels done.0 done.1 is (change done.0 done.1 (ap says word_is ∙ is)) o set
+        by (Ok done) is set = changed apart at_least_four done.0 done.1 is (change done.0 done.1 (ap says word_is ∙ is)) o set
         by (Err why) is set = subst (Ends l m after (Refused why)) (sym (set_same l.places apart m g last o small set)) (refused why is)

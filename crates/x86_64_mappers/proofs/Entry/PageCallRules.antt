@@ -10,7 +10,7 @@ use Rattle.x86_64_model.proofs.Lemmas.Entries.Words.{address_aligned}
 use Rattle.x86_64_model.proofs.Lemmas.Hierarchies.Changes.{unused_no_table}
 use Rattle.x86_64_model.proofs.Lemmas.Machines.Changes.{IsChange, at_front, leaf_none}
 use Rattle.x86_64_model.proofs.Lemmas.Maps.Leaves.{none_at_leaf}
-use Rattle.x86_64_model.specs.MapperCalls.{after_unmap, after_update, page_translation}
+use Rattle.x86_64_model.specs.private.MapperCalls.{after_unmap, after_update, page_translation}
 use Rattle.x86_64_model.specs.Memory.{Memory, word}
 use Rattle.x86_64_model.specs.PageRules.{unmap, update_flags, translate_page, refused_or}
 use Rattle.x86_64_model.specs.PathMap.{PathMap, entry, put, table_of}

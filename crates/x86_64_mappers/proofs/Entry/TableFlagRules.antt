@@ -7,7 +7,7 @@ use Rattle.x86_64_model.specs.Entry.{used, huge, address, names_table, no_addres
 use Rattle.x86_64_model.specs.Layout.{Layout, words, paths, read_entry, Valid}
 use Rattle.x86_64_model.proofs.Lemmas.Machines.Changes.{IsChange, at_front, begins_take, set_huge, set_same_table}
 use Rattle.x86_64_model.proofs.Lemmas.Walks.Agrees.{named}
-use Rattle.x86_64_model.specs.MapperCalls.{after_set_flags}
+use Rattle.x86_64_model.specs.private.MapperCalls.{after_set_flags}
 use Rattle.x86_64_model.specs.Memory.{Memory, Distinct, word}
 use Rattle.x86_64_model.specs.PageRules.{AfterChange, refused_or, set_flags}
 use Rattle.x86_64_model.specs.Path.{front_at}

@@ -73,8 +73,8 @@ module _ (l : Layout) (apart : Distinct l.places) (m : Memory) (s : List ℕ) (m
   pub path_mapped : 0 < l.levels → begins_with l.window (path ++ last ∷ []) ≡ false → last < 512 → IsLeaf l.levels (path ++ last ∷ []) e
       → (n : Memory) (rest : List ℕ) (g : ℕ) → IsDown l m s more path (Ok g) n rest → (answer : Answer) (o : Memory) → IsLeafSet l.places n g last e frame answer o
       → IsPathMapped l m s more (path ++ last ∷ []) e frame answer o rest
-  path_mapped some_levels outside small is n rest g here answer o k =
-      let x = leaf l apart n path last g here.leads small (beside_on l n here.goes.ready.valid path last [] outside g here.leads) more some_levels rest here.goes.ready e frame is answer o k in record {
+  path_mapped at_least_four outside small is n rest g here answer o k =
+      let x = leaf l apart n path last g here.leads small (beside_on l n here.goes.ready.valid path last [] outside g here.leads) more at_least_four rest here.goes.ready e frame is answer o k in record {
         goes = goes_then l m s n rest o rest here.goes x.0;
         outcome = whole ∙ here.outcome last e frame ∙ x.1;
       }

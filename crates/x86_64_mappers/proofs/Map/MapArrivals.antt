@@ -3,7 +3,7 @@ use Rattle.std.proofs.Common.{zero, suc, ◌≡◌, ◌<◌, ◌≤◌, ◌%◌,
 use Rattle.std.specs.Result.{IfOk}
 use Rattle.x86_64_model.specs.Entry.{IsParentFlags, present, address}
 use Rattle.x86_64_model.specs.MapRule.{parent_part}
-use Rattle.x86_64_model.specs.Owned.{Hierarchy, MayMap, DoesMap, ArrivesIn, path_of}
+use Rattle.x86_64_model.specs.Mapper.{Hierarchy, MayMap, DoesMap, ArrivesIn, path_of}
 use Rattle.x86_64_model.specs.Call.{MapTo, MapToWithTableFlags}
 use Rattle.x86_64_model.specs.Refusal.{Done}
 use Rattle.x86_64_model.specs.Position.{span}

@@ -4,8 +4,8 @@ use Rattle.x86_64_model.specs.Window.{Window, begins_with}
 use Rattle.x86_64_model.proofs.Lemmas.Machines.Owners.{does_map}
 use Rattle.x86_64_model.specs.Allowed.{map_allowed}
 use Rattle.x86_64_model.specs.Call.{MapToWithTableFlags}
-use Rattle.x86_64_model.specs.MapperCalls.{IsMapped}
-use Rattle.x86_64_model.specs.Owned.{Hierarchy, MayMap, DoesMap, paths}
+use Rattle.x86_64_model.specs.private.MapperCalls.{IsMapped}
+use Rattle.x86_64_model.specs.Mapper.{Hierarchy, MayMap, DoesMap, paths}
 use Rattle.x86_64_model.specs.Refusal.{Answer}
 use Rattle.x86_64_mappers.proofs.Entry.EntryEnds.{with_memory}
 

@@ -11,7 +11,7 @@ use Rattle.x86_64_model.proofs.Lemmas.Maps.Down.{Descends, step_used, step_huge}
 use Rattle.x86_64_model.proofs.Lemmas.Maps.Frames.{conserves_marked, table_of_marked}
 use Rattle.x86_64_model.proofs.Lemmas.Maps.Flags.{has_kept}
 use Rattle.x86_64_model.specs.MapRule.{map_rule}
-use Rattle.x86_64_model.specs.MapperCalls.{IsReady}
+use Rattle.x86_64_model.specs.Layout.{IsReady}
 use Rattle.x86_64_model.specs.Memory.{Memory, Distinct, word, set_word}
 use Rattle.x86_64_model.specs.Path.{parents}
 use Rattle.x86_64_model.specs.PathMap.{PathMap, entry, put, table_of, table_at}
@@ -40,11 +40,11 @@ module _ (l : Layout) (apart : Distinct l.places) (m : Memory) (pre : List ℕ) 
   abbrev p : List ℕ
   p = pre ++ i ∷ []
 
-  some_levels : 0 < l.levels
-  some_levels = omega (arith, room)
+  at_least_four : 0 < l.levels
+  at_least_four = omega (arith, room)
 
   is : entry M p ≡ word (words l m) f i
-  is = entry_is l apart some_levels m pre i f leads small beside s ready
+  is = entry_is l apart at_least_four m pre i f leads small beside s ready
 
   marked : (n : Memory) → IsMarked l.places m f i more n → (put M p (bit_or (entry M p) more) ≡ paths l n) × Goes l m s n s
   marked n k =
@@ -52,13 +52,13 @@ module _ (l : Layout) (apart : Distinct l.places) (m : Memory) (pre : List ℕ) 
       let t = seen_table l.window l.root (words l m) f k.is_set.table k.is_set.is in
       let u : used (entry M p) ≡ true = ap used is ∙ k.is_used in
       let w = seen_word l.window l.root (words l m) f i beside in
-      goes_to l apart some_levels m n s s (put M p (bit_or (entry M p) more)) ready
+      goes_to l apart at_least_four m n s s (put M p (bit_or (entry M p) more)) ready
       (subst (λ U. IsValid l.levels U l.root (put M p (bit_or (entry M p) more))) (ap (λ x. set_word T f i (bit_or x more)) w ∙ sym (seen_set l apart m f i _ n k.is_set beside))
       (marked_valid T f i more t.table t.is (omega (arith, k.is_set.long, t.long)) small marks (ap used w ∙ k.is_used) l.levels l.root M pre ready.valid.valid leads))
       (self_set l apart m f i _ n k.is_set beside ready.valid.self)
       (conserves_marked l.levels l.root M _ s (same_tables_last l.levels l.root M pre i _ (table_of_marked l.levels p (entry M p) more marks u ∙ sym (table_at_last l.levels l.root M pre i))))
       (λ f h. h) (set_keeps l.places apart m f i _ n k.is_set)
-      (λ a h. set_others l.places apart m f i _ n k.is_set a (own_place l apart some_levels m pre i f leads small beside s ready s (λ f h. h) a h))
+      (λ a h. set_others l.places apart m f i _ n k.is_set a (own_place l apart at_least_four m pre i f leads small beside s ready s (λ f h. h) a h))
 
   -- one that isn't huge leads to the next table
   pub reached_used : (g : ℕ) (n : Memory) → IsMarked l.places m f i more n → huge (word (words l m) f i) ≡ false → g ≡ address (word (words l m) f i) → Reached l m s more pre i n s g

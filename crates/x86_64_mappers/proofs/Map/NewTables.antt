@@ -14,7 +14,7 @@ use Rattle.x86_64_model.proofs.Lemmas.Maps.Frames.{conserves_taken, table_of_new
 use Rattle.x86_64_model.proofs.Lemmas.Maps.Flags.{has_kept}
 use Rattle.x86_64_model.proofs.Lemmas.Paths.Puts.{entry-put_same}
 use Rattle.x86_64_model.specs.Lists.{In}
-use Rattle.x86_64_model.specs.MapperCalls.{IsReady}
+use Rattle.x86_64_model.specs.Layout.{IsReady}
 use Rattle.x86_64_model.specs.Memory.{Memory, Distinct, word, set_word}
 use Rattle.x86_64_model.specs.PathMap.{PathMap, entry, put, table_of, table_at}
 use Rattle.x86_64_model.specs.Refusal.{FrameAllocationFailed}
@@ -47,14 +47,14 @@ module _ (l : Layout) (apart : Distinct l.places) (m : Memory) (pre : List ℕ) 
   abbrev p : List ℕ
   p = pre ++ i ∷ []
 
-  some_levels : 0 < l.levels
-  some_levels = omega (arith, room)
+  at_least_four : 0 < l.levels
+  at_least_four = omega (arith, room)
 
   -- no frame is left
   pub stopped_empty : IsReady l m [] → used (word (words l m) f i) ≡ false → Stopped l m [] more pre i m [] FrameAllocationFailed
   stopped_empty ready u = record {
     goes = goes_nothing l m [] ready;
-    outcome = λ j r x frame. step_none more l.added_flags (pre ++ i ∷ j ∷ r) x frame M p _ (descends l m [] ready pre i j r) (ap used (entry_is l apart some_levels m pre i f leads small beside [] ready) ∙ u);
+    outcome = λ j r x frame. step_none more l.added_flags (pre ++ i ∷ j ∷ r) x frame M p _ (descends l m [] ready pre i j r) (ap used (entry_is l apart at_least_four m pre i f leads small beside [] ready) ∙ u);
   }
 
   -- the frame g was cleared, and then the entry came to name it
@@ -73,10 +73,10 @@ module _ (l : Layout) (apart : Distinct l.places) (m : Memory) (pre : List ℕ) 
     new = table_of_new l.levels p g (bit_or more l.added_flags) flags frame room
 
     old : table_at l.levels l.root M p ≡ None
-    old = unused_leads l apart some_levels m pre i f leads small beside (g ∷ rest) ready u
+    old = unused_leads l apart at_least_four m pre i f leads small beside (g ∷ rest) ready u
 
     unused : used (entry M p) ≡ false
-    unused = ap used (entry_is l apart some_levels m pre i f leads small beside (g ∷ rest) ready) ∙ u
+    unused = ap used (entry_is l apart at_least_four m pre i f leads small beside (g ∷ rest) ready) ∙ u
 
     fresh : (q : List ℕ) → table_at l.levels l.root M q ≢ Some g
     fresh q t = ready.no_table g (inl refl) (q, t)
@@ -99,11 +99,11 @@ module _ (l : Layout) (apart : Distinct l.places) (m : Memory) (pre : List ℕ) 
 
     pub reached_new : Reached l m (g ∷ rest) more pre i n rest g
     reached_new =
-        let go = goes_to l apart some_levels m n (g ∷ rest) rest (put M p w) ready (subst (λ U. IsValid l.levels U l.root (put M p w)) (sym (seen_set l apart middle f i w n k beside)) valid)
+        let go = goes_to l apart at_least_four m n (g ∷ rest) rest (put M p w) ready (subst (λ U. IsValid l.levels U l.root (put M p w)) (sym (seen_set l apart middle f i w n k beside)) valid)
         (self_set l apart middle f i w n k beside self)
         (taken_last l.levels l.root M g rest pre i w new old) (λ f h. inr h)
         (λ h t. set_keeps l.places apart middle f i w n k h (cleared_keeps l.places apart m g middle cleared h t))
-        (λ a h. set_others l.places apart middle f i w n k a (own_place l apart some_levels m pre i f leads small beside (g ∷ rest) ready rest (λ f h. inr h) a h)
+        (λ a h. set_others l.places apart middle f i w n k a (own_place l apart at_least_four m pre i f leads small beside (g ∷ rest) ready rest (λ f h. inr h) a h)
         ∙ ap (λ x. get x a) cleared.after ∙ get-put m (l.places.place g) a _ (λ x. h g (inl (inl refl), ready.each_once.0) (sym x))) in
         record {
           goes = go.1;

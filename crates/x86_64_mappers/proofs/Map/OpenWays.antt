@@ -18,7 +18,7 @@ use Rattle.x86_64_model.proofs.Lemmas.Paths.Puts.{append_longer, entry-put_same,
 use Rattle.x86_64_model.proofs.Lemmas.Walks.Agrees.{zero_names_none}
 use Rattle.x86_64_model.proofs.Lemmas.Walks.Walked.{read_there}
 use Rattle.x86_64_model.specs.Lists.{In}
-use Rattle.x86_64_model.specs.MapperCalls.{IsReady}
+use Rattle.x86_64_model.specs.Layout.{IsReady}
 use Rattle.x86_64_model.specs.Memory.{Memory, Distinct, word}
 use Rattle.x86_64_model.specs.Path.{parents}
 use Rattle.x86_64_model.specs.PathMap.{PathMap, entry, table_of, table_at}

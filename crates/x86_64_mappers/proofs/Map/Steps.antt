@@ -3,7 +3,7 @@ use Rattle.std.proofs.Common.{◌≡◌, inl, inr, ◌<◌, ℕ, Bool, true, fal
 use Rattle.x86_64_model.specs.Entry.{IsParentFlags, used}
 use Rattle.x86_64_model.specs.Layout.{Layout, words, paths}
 use Rattle.x86_64_model.proofs.Lemmas.Maps.Down.{step_last}
-use Rattle.x86_64_model.specs.MapperCalls.{IsReady}
+use Rattle.x86_64_model.specs.Layout.{IsReady}
 use Rattle.x86_64_model.specs.Memory.{Memory, Distinct, word}
 use Rattle.x86_64_model.specs.PathMap.{PathMap, put, table_at}
 use Rattle.x86_64_model.specs.Refusal.{Refusal, PageNotMapped, ParentEntryHugePage, InvalidFrameAddress, PageAlreadyMapped, FrameAllocationFailed, Answer, Done, Refused}
@@ -38,16 +38,16 @@ module _ (l : Layout) (apart : Distinct l.places) (m : Memory) (pre : List ℕ) 
     step s ready (Err (PageAlreadyMapped g)) n rest k = absurd k
 
   -- the last step
-  module _ (some_levels : 0 < l.levels) (s : List ℕ) (ready : IsReady l m s) (e frame : ℕ) (is : IsLeaf l.levels p e) where
+  module _ (at_least_four : 0 < l.levels) (s : List ℕ) (ready : IsReady l m s) (e frame : ℕ) (is : IsLeaf l.levels p e) where
     last : (u : Bool) → used (word (words l m) f i) ≡ u
         → mapped_from M s more l.added_flags pre (i ∷ []) e frame ≡ cond u (record { paths = M; supply = s; answer = Refused (PageAlreadyMapped frame) }) (record { paths = put M p e; supply = s; answer = Done frame })
     last u h = step_last more l.added_flags p e frame M s
-        ∙ ap (λ u. cond u (record { paths = M; supply = s; answer = Refused (PageAlreadyMapped frame) }) (record { paths = put M p e; supply = s; answer = Done frame })) (ap used (entry_is l apart some_levels m pre i f leads small beside s ready) ∙ h)
+        ∙ ap (λ u. cond u (record { paths = M; supply = s; answer = Refused (PageAlreadyMapped frame) }) (record { paths = put M p e; supply = s; answer = Done frame })) (ap used (entry_is l apart at_least_four m pre i f leads small beside s ready) ∙ h)
 
     pub leaf : (answer : Answer) (n : Memory) → IsLeafSet l.places m f i e frame answer n
         → Goes l m s n s × (mapped_from M s more l.added_flags pre (i ∷ []) e frame ≡ record { paths = paths l n; supply = s; answer = answer })
     leaf (Done g) n k =
-        let w = written l apart some_levels m pre i f leads small beside s ready e n k.2 (unused_leads l apart some_levels m pre i f leads small beside s ready k.0) is.no_table is.none_huge in
+        let w = written l apart at_least_four m pre i f leads small beside s ready e n k.2 (unused_leads l apart at_least_four m pre i f leads small beside s ready k.0) is.no_table is.none_huge in
         (w.1, last false k.0 ∙ ap₂ (λ N g. record { paths = N; supply = s; answer = Done g }) w.0 (sym k.1))
     leaf (Refused (PageAlreadyMapped g)) n k = (
       subst (λ n. Goes l m s n s) (sym k.2) (goes_nothing l m s ready),

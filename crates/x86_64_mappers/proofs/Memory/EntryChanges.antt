@@ -7,7 +7,7 @@ use Rattle.x86_64_model.proofs.Lemmas.Machines.Changes.{IsChange}
 use Rattle.x86_64_model.proofs.Lemmas.Machines.Fitting.{sound_of_fits, fits_of_sound}
 use Rattle.x86_64_model.proofs.Lemmas.Machines.States.{sound_change}
 use Rattle.x86_64_model.proofs.Lemmas.Machines.Writes.{Written, change_written}
-use Rattle.x86_64_model.specs.MapperCalls.{IsReady, KeepsOthers}
+use Rattle.x86_64_model.specs.Layout.{IsReady, KeepsOthers}
 use Rattle.x86_64_model.specs.Memory.{Memory, Distinct, set_word}
 use Rattle.x86_64_model.specs.PathMap.{PathMap, put, table_at}
 use Rattle.x86_64_model.specs.Pool.{IsTable, Fits}
@@ -22,7 +22,7 @@ pub record IsEntryChanged (l : Layout) (m : Memory) (q : List ℕ) (w : ℕ) (n 
   pub ready : (supply : List ℕ) → IsReady l m supply → IsReady l n supply
   pub others : KeepsOthers l.places (IsTable l.levels l.root (paths l m)) m n
 
-module _ (l : Layout) (apart : Distinct l.places) (some_levels : 0 < l.levels) (m : Memory) (valid : Valid l m) (path : List ℕ) (last w : ℕ) (change : IsChange l.levels l.window (paths l m) (path ++ last ∷ []) w)
+module _ (l : Layout) (apart : Distinct l.places) (at_least_four : 0 < l.levels) (m : Memory) (valid : Valid l m) (path : List ℕ) (last w : ℕ) (change : IsChange l.levels l.window (paths l m) (path ++ last ∷ []) w)
     (g : ℕ) (leads : table_at l.levels l.root (paths l m) path ≡ Some g) (n : Memory) (set : IsSet l.places m g last w n) where
   abbrev M : PathMap
   M = paths l m
@@ -46,7 +46,7 @@ module _ (l : Layout) (apart : Distinct l.places) (some_levels : 0 < l.levels) (
   valid_after = subst (λ T. IsValidFor l.levels l.window T l.root (put M q w)) words_after wrote.after
 
   held : put M q w ≡ paths l n
-  held = held_is_paths_of l.levels (outside_window l.window l.root (words l n)) l.root some_levels (put M q w) valid_after.valid.holds
+  held = held_is_paths_of l.levels (outside_window l.window l.root (words l n)) l.root at_least_four (put M q w) valid_after.valid.holds
 
   pub entry_changed : IsEntryChanged l m q w n
   entry_changed = record {

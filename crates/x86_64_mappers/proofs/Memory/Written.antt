@@ -10,7 +10,8 @@ use Rattle.x86_64_model.proofs.Lemmas.Hierarchies.Exists.{held_is_paths_of}
 use Rattle.x86_64_model.proofs.Lemmas.Hierarchies.Held.{table_at_last, valid_after}
 use Rattle.x86_64_model.proofs.Lemmas.Maps.Frames.{conserves_marked, same_tables}
 use Rattle.x86_64_model.specs.Lists.{In}
-use Rattle.x86_64_model.specs.MapperCalls.{IsReady, Uses, KeepsOthers}
+use Rattle.x86_64_model.specs.Layout.{IsReady, KeepsOthers}
+use Rattle.x86_64_model.specs.private.MapperCalls.{Uses}
 use Rattle.x86_64_model.specs.Memory.{Memory, Distinct, word}
 use Rattle.x86_64_model.specs.Path.{level_of}
 use Rattle.x86_64_model.specs.PathMap.{PathMap, entry, put, table_of, table_at}
@@ -27,13 +28,13 @@ pub same_tables_last : (L root : ℕ) (M : PathMap) (p : List ℕ) (i e : ℕ) �
 same_tables_last L root M [] i e same = same_tables L root M i [] e same
 same_tables_last L root M (k ∷ p) i e same = same_tables L root M k (p ++ i ∷ []) e same
 
-module _ (l : Layout) (apart : Distinct l.places) (some_levels : 0 < l.levels) where
+module _ (l : Layout) (apart : Distinct l.places) (at_least_four : 0 < l.levels) where
   -- the words hold N now
   pub goes_to : (m n : Memory) (s rest : List ℕ) (N : PathMap) → IsReady l m s → IsValid l.levels (seen l n) l.root N → SelfEntry (words l n) l.root l.window → Conserves l.levels l.root (paths l m) s N rest
       → ((f : ℕ) → In rest f → In s f) → ((f : ℕ) → IsSome (words l m f) → IsSome (words l n f))
       → KeepsOthers l.places (Uses l m s rest) m n → (N ≡ paths l n) × Goes l m s n rest
   goes_to m n s rest N ready valid self conserves within kept others =
-      let e : N ≡ paths l n = held_is_paths_of l.levels (seen l n) l.root some_levels N valid.holds in
+      let e : N ≡ paths l n = held_is_paths_of l.levels (seen l n) l.root at_least_four N valid.holds in
       let one = conserves.one_each (record { own_frames = ready.valid.valid.own_frames; each_once = ready.each_once; no_table = ready.no_table }) in (
         e,
         record {

@@ -3,8 +3,8 @@ use Rattle.std.proofs.Common.{◌≡◌, ◌<◌, ℕ, suc, true, false, ◌==�
 use Rattle.std.proofs.lemmas.List.{take-append-drop}
 use Rattle.std.proofs.Math.Seq.{drop-cons}
 use Rattle.x86_64_model.proofs.Lemmas.Lists.All.{all_mapped}
-use Rattle.x86_64_model.proofs.Lemmas.Machines.AlikeEntries.{LikeAt, like_same}
-use Rattle.x86_64_model.proofs.Lemmas.Machines.AlikeRules.{same_stop}
+use Rattle.x86_64_model.proofs.Lemmas.Pairs.AlikeEntries.{LikeAt, like_same}
+use Rattle.x86_64_model.proofs.Lemmas.Pairs.AlikeRules.{same_stop}
 use Rattle.x86_64_model.proofs.Lemmas.Maps.Arrives.{parents_outside}
 use Rattle.x86_64_model.specs.Memory.{Memory}
 use Rattle.x86_64_model.specs.Layout.{Layout, paths, Valid}

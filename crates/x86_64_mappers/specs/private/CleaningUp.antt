@@ -5,7 +5,7 @@ use Rattle.x86_64_model.specs.CleanUp.{in_range}
 use Rattle.x86_64_model.specs.Entry.{address}
 use Rattle.x86_64_model.specs.Layout.{Layout, words, paths, Valid}
 use Rattle.x86_64_model.specs.Lists.{In}
-use Rattle.x86_64_model.specs.MapperCalls.{KeepsOthers}
+use Rattle.x86_64_model.specs.Layout.{KeepsOthers}
 use Rattle.x86_64_model.specs.Memory.{Memory, word}
 use Rattle.x86_64_model.specs.Path.{AllBelow, span_start}
 use Rattle.x86_64_model.specs.PathMap.{PathMap, entry, put, table_at}

@@ -2,7 +2,8 @@
 use Rattle.std.specs.Prelude.{◌≡◌, ℕ, List, [], ◌∷◌, ◌++◌, map, Some, Result, Ok, Err}
 use Rattle.x86_64_model.specs.Layout.{Layout, paths}
 use Rattle.x86_64_model.specs.Lists.{In}
-use Rattle.x86_64_model.specs.MapperCalls.{IsReady, Owns, Uses, KeepsOthers}
+use Rattle.x86_64_model.specs.Layout.{IsReady, Owns, KeepsOthers}
+use Rattle.x86_64_model.specs.private.MapperCalls.{Uses}
 use Rattle.x86_64_model.specs.Memory.{Memory}
 use Rattle.x86_64_model.specs.MapRule.{AfterMap, map_rule}
 use Rattle.x86_64_model.specs.Path.{parents}

@@ -1,6 +1,6 @@
 -- What the steps of a mapper's calls ask for and leave, over one record: the hierarchy that the mapper owns for a while.
 use Rattle.std.specs.Prelude.{ℕ, List, Result}
-use Rattle.x86_64_model.specs.Owned.{Hierarchy}
+use Rattle.x86_64_model.specs.Mapper.{Hierarchy}
 use Rattle.x86_64_model.specs.Refusal.{Refusal, Answer}
 use Rattle.x86_64_mappers.specs.private.Linked.{IsClearedFirst}
 use Rattle.x86_64_mappers.specs.private.MapSteps.{IsDown}

@@ -2,7 +2,7 @@
 ghost use Rattle.std.specs.Prelude.{◌≡◌, ◌<◌, ◌≤◌, ◌+◌, length};
 ghost use Rattle.std.specs.Fn.{FnOnceReturnsAtMut};
 ghost use Rattle.x86_64_model.specs.Call.{Unmap, UpdateFlags, SetFlags};
-ghost use Rattle.x86_64_model.specs.Owned.{Valid, May, Does, named};
+ghost use Rattle.x86_64_model.specs.Mapper.{Valid, May, Does, named};
 ghost use Rattle.x86_64_model.specs.Refusal.{refusal_of};
 ghost use Rattle.x86_64_mappers.specs.private.EntryCalls.{IsChangedAt, answer_said, word_said};
 ghost use Rattle.x86_64_mappers.specs.private.PageCalls.{unmap_says, update_says};

@@ -2,7 +2,7 @@
 ghost use Rattle.std.specs.Prelude.{◌≡◌, ◌<◌, ◌≤◌, ◌+◌, ◌-◌, ◌*◌, ◌++◌, ◌∷◌, [], true, false, cond, length, take, get_or};
 ghost use Rattle.x86_64_model.proofs.Lemmas.CleanUps.Below.{cleaned_below, back_below};
 ghost use Rattle.x86_64_model.specs.CleanUp.{meets};
-ghost use Rattle.x86_64_model.specs.Owned.{MayCleanUp, CleansUp, paths};
+ghost use Rattle.x86_64_model.specs.Mapper.{MayCleanUp, CleansUp, paths};
 ghost use Rattle.x86_64_model.specs.Path.{AllBelow, begins, span_start};
 ghost use Rattle.x86_64_model.specs.Position.{position_count};
 ghost use Rattle.x86_64_model.specs.Window.{begins_with};

@@ -1,7 +1,7 @@
 //! The conditions of calls, as tests.
 ghost use Rattle.std.specs.Prelude.{◌≡◌, ◌<◌, ◌≤◌, ◌+◌, ◌==◌, ℕ, false, [], ◌∷◌, ◌++◌, length};
 ghost use Rattle.x86_64_model.specs.Call.{SetFlags};
-ghost use Rattle.x86_64_model.specs.Owned.{Valid, allows, allows_map, paths, read_entry};
+ghost use Rattle.x86_64_model.specs.Mapper.{Valid, allows, allows_map, paths, read_entry};
 ghost use Rattle.x86_64_model.specs.Window.{begins_with};
 ghost use Rattle.x86_64_mappers.specs.private.MapConditions.{flags_allowed, are_present, meets_none_absent};
 ghost use Rattle.x86_64_mappers.specs.private.Results.{walk_result};

@@ -1,7 +1,7 @@
 //! Ways down to tables that are there.
 ghost use Rattle.std.specs.Prelude.{◌≡◌, ◌<◌, ◌+◌, ◌-◌, length, take, IfOk};
 ghost use Rattle.x86_64_model.specs.Memory.{word};
-ghost use Rattle.x86_64_model.specs.Owned.{Valid, words};
+ghost use Rattle.x86_64_model.specs.Mapper.{Valid, words};
 ghost use Rattle.x86_64_mappers.specs.private.OwnedSteps.{Finds};
 ghost use Rattle.x86_64_mappers.specs.Reached.{Reaches};
 ghost use Rattle.x86_64_mappers.specs.private.Results.{walk_refusal, walk_result};

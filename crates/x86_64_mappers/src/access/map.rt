@@ -2,7 +2,7 @@
 ghost use Rattle.std.specs.Prelude.{◌≡◌, ◌<◌, ◌≤◌, ◌+◌, false, if◌then◌else◌, length, get_or, bit_or, IsTrue, IfOk, Ok, Err};
 ghost use Rattle.x86_64_model.specs.Call.{MapToWithTableFlags};
 ghost use Rattle.x86_64_model.specs.Entry.{address, huge, IsParentFlags};
-ghost use Rattle.x86_64_model.specs.Owned.{SupplyFits, MayMap, DoesMap, paths};
+ghost use Rattle.x86_64_model.specs.Mapper.{SupplyFits, MayMap, DoesMap, paths};
 ghost use Rattle.x86_64_model.specs.Refusal.{ParentEntryHugePage};
 ghost use Rattle.x86_64_model.specs.Window.{begins_with};
 ghost use Rattle.x86_64_mappers.specs.private.Linked.{MayLink};

@@ -1,6 +1,6 @@
 //! Paths: the indices on the way from the root to an entry.
 ghost use Rattle.std.specs.Prelude.{◌≡◌, ◌+◌, ◌≤◌, length};
-ghost use Rattle.x86_64_model.specs.Owned.{path_of};
+ghost use Rattle.x86_64_model.specs.Mapper.{path_of};
 ghost use Rattle.x86_64_model.specs.Path.{path_at};
 ghost use Rattle.x86_64_model.specs.Position.{page_path};
 

@@ -1,7 +1,7 @@
 //! Translations of pages and of addresses.
 ghost use Rattle.std.specs.Prelude.{◌≡◌, ◌≤◌, ◌+◌, ◌%◌, length, Some, option_and_then, option_map};
 ghost use Rattle.x86_64_model.specs.Entry.{flags};
-ghost use Rattle.x86_64_model.specs.Owned.{Valid, page_translation, translation, walk};
+ghost use Rattle.x86_64_model.specs.Mapper.{Valid, page_translation, translation, walk};
 ghost use Rattle.x86_64_model.specs.PageWalk.{page_start};
 ghost use Rattle.x86_64_model.specs.Position.{span, page_path};
 ghost use Rattle.x86_64_model.specs.Translation.{Mapped, address_of};

@@ -11,7 +11,7 @@ use x86_64_tables::mapper::PageTables57;
 ///
 /// Who writes a mapper implements [`TableAccess`], and has these calls.
 pub trait CleanUp57: TableAccess + PageTables57 {
-    ghost use Rattle.x86_64_model.specs.Owned.{MayCleanUp, CleansUp};
+    ghost use Rattle.x86_64_model.specs.Mapper.{MayCleanUp, CleansUp};
 
     /// Takes away the empty tables of the whole address space, as [`clean_up_addr_range`](Self::clean_up_addr_range) does for
     /// all pages, in both halves.

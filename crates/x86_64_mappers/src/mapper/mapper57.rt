@@ -1,6 +1,6 @@
 //! Maps of pages of 57 bits.
 ghost use Rattle.std.specs.Prelude.{◌≡◌, ◌<◌, ℕ, true, IfOk};
-ghost use Rattle.x86_64_model.specs.Owned.{Valid};
+ghost use Rattle.x86_64_model.specs.Mapper.{Valid};
 ghost use Rattle.x86_64_tables.specs.PageTableFlags.{bits_of};
 
 use crate::calls::{self, TableAccess};
@@ -21,7 +21,7 @@ use x86_64_tables::page_table::PageTableFlags;
 pub trait Mapper57<S: PageSize>: TableAccess + PageTables57 {
     ghost use Rattle.x86_64_model.specs.Call.{MapTo, MapToWithTableFlags, IdentityMap, Unmap, UpdateFlags, SetFlags};
     ghost use Rattle.x86_64_model.specs.Entry.{present};
-    ghost use Rattle.x86_64_model.specs.Owned.{path_of, page_translation, allows, allows_map, May, MayMap, Does, DoesMap, ArrivesIn, named};
+    ghost use Rattle.x86_64_model.specs.Mapper.{path_of, page_translation, allows, allows_map, May, MayMap, Does, DoesMap, ArrivesIn, named};
     ghost use Rattle.x86_64_tables.specs.MapperAnswers.{map_answer, unmap_answer, flags_answer, translate_answer};
 
     /// Maps a page to a frame with these flags, as [`Mapper::map_to_with_table_flags`](super::Mapper::map_to_with_table_flags) does.

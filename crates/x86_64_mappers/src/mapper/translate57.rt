@@ -1,6 +1,6 @@
 //! Translations of addresses of 57 bits.
 ghost use Rattle.std.specs.Prelude.{◌≡◌, Some, option_map};
-ghost use Rattle.x86_64_model.specs.Owned.{Valid, walk, translation};
+ghost use Rattle.x86_64_model.specs.Mapper.{Valid, walk, translation};
 ghost use Rattle.x86_64_model.specs.Translation.{address_of};
 
 use crate::calls::{self, TableAccess};

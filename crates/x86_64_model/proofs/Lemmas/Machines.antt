@@ -1,7 +1,3 @@
-pub mod Alike
-pub mod AlikeEntries
-pub mod AlikeMaps
-pub mod AlikeRules
 pub mod Changes
 pub mod Effects
 pub mod Fitting
@@ -12,8 +8,6 @@ pub mod MappedPages
 pub mod Owners
 pub mod PageMappings
 pub mod Refused
-pub mod RunWalks
-pub mod Runs
 pub mod Spares
 pub mod Standing
 pub mod States

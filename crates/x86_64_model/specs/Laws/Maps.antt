@@ -12,7 +12,7 @@ use Rattle.x86_64_model.specs.Window.{Window, begins_with, IsValidFor}
 use Rattle.x86_64_model.specs.PageWalk.{page_walk}
 use Rattle.x86_64_model.specs.Refusal.{Refusal, Done, Refused}
 use Rattle.x86_64_model.specs.MapRule.{map_rule, map_call, parent_part}
-use Rattle.x86_64_model.specs.WalkDown.{walk_down}
+use Rattle.x86_64_model.specs.private.WalkDown.{walk_down}
 use Rattle.x86_64_model.specs.Conserved.{IsFrame, Conserves, Takes}
 use Rattle.x86_64_model.specs.Arrivals.{Arrives, Asks}
 

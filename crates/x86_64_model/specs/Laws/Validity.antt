@@ -6,8 +6,9 @@ use Rattle.x86_64_model.specs.Memory.{Words, OnlyFrames, Memory, Places, IsMappi
 use Rattle.x86_64_model.specs.Hierarchy.{IsValid, paths_of}
 use Rattle.x86_64_model.specs.Window.{Window, outside_window, SelfEntry}
 use Rattle.x86_64_model.specs.Pool.{Fits}
-use Rattle.x86_64_model.specs.Tables.{tables_from, NoneHuge, SoundTables}
-use Rattle.x86_64_model.specs.Marks.{serves_below, spot_of, slot_in, IsSpots, mark_all}
+use Rattle.x86_64_model.specs.private.Tables.{tables_from, NoneHuge, SoundTables}
+use Rattle.x86_64_model.specs.private.Marks.{spot_of, slot_in, IsSpots, mark_all}
+use Rattle.x86_64_model.specs.Pool.{serves_below}
 
 -- some path map makes the words a valid hierarchy exactly where the map of the words does
 abbrev pub ValidForItsPaths : Type 0

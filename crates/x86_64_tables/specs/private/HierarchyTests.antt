@@ -1,7 +1,7 @@
 -- What the tests of a hierarchy tell, all of them as one.
 use Rattle.std.specs.Prelude.{ℕ, ◌^◌, Option, Some, None}
 use Rattle.x86_64_model.specs.Hierarchy.{IsValid, paths_of}
-use Rattle.x86_64_model.specs.Marks.{serves_below}
+use Rattle.x86_64_model.specs.Pool.{serves_below}
 use Rattle.x86_64_model.specs.Memory.{Words}
 use Rattle.x86_64_model.specs.Pool.{Fits}
 use Rattle.x86_64_model.specs.Window.{IsValidFor, outside_window}

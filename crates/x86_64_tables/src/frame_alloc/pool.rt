@@ -1,7 +1,7 @@
 //! A pool of free frames.
 ghost use Rattle.std.specs.Prelude.{◌≡◌, ◌≢◌, ◌↔◌, ℕ, ◌/◌, ◌≤◌, [], ◌∷◌, ◌++◌, true, length, drop, slice_get, vec_len, IfOk, OnOk, OnErr, IsTrue};
 ghost use Rattle.x86_64_model.specs.Lists.{In};
-ghost use Rattle.x86_64_model.specs.Marks.{serves_below};
+ghost use Rattle.x86_64_model.specs.Pool.{serves_below};
 
 use super::{FrameAllocator, FrameDeallocator, FrameKeeper, FrameStore};
 use std::alloc::{AllocError, Global};

@@ -6,7 +6,7 @@ ghost use Rattle.x86_64_model.specs.Entry.{is_frame};
 ghost use Rattle.x86_64_tables.specs.ActiveMemory.{lent, memory_of, words_in, cr3_of, walked_frame, walked_table, kept_of, LendsWalked, LendsFrame, RestsUnlessKept};
 ghost use Rattle.x86_64_tables.specs.SelfEntries.{has_self_entry};
 
-use super::image::has_self_entry;
+use super::hierarchy_view::has_self_entry;
 use super::walk::page_walk;
 use super::{FramePlace, IdentityMapping, PhysMemory};
 use crate::page_table::PageTable;

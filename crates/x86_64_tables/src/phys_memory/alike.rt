@@ -1,10 +1,10 @@
 //! The test of two hierarchies: whether their path maps are alike.
 ghost use Rattle.std.specs.Prelude.{◌≡◌, ◌==◌, ◌↔◌, IsTrue, suc};
 ghost use Rattle.x86_64_model.specs.Alike.{Alike, without_writable};
-ghost use Rattle.x86_64_tables.specs.private.Images.{seen};
+ghost use Rattle.x86_64_tables.specs.private.Views.{seen};
 ghost use Rattle.x86_64_tables.specs.PathsSeen.{AlikeFrom, paths_seen, paths_seen_57, paths_seen_at, places_for};
 
-use super::image::Image;
+use super::hierarchy_view::HierarchyView;
 use super::{FramePlace, IdentityMapping, PageTableFrameMapping, PhysMemory};
 use x86_64_addr::index::PageTableIndex;
 use x86_64_page::frame::PhysFrame;
@@ -104,13 +104,13 @@ fn alike_through<P: PageTableFrameMapping, Q: PageTableFrameMapping>(
         by_number: other_index.is_some(),
         mapping: other_mapping,
     };
-    let one = Image {
+    let one = HierarchyView {
         memory,
         mapping,
         root,
         recursive: index,
     };
-    let other = Image {
+    let other = HierarchyView {
         memory: other_memory,
         mapping: other_mapping,
         root: other_root,
@@ -121,9 +121,9 @@ fn alike_through<P: PageTableFrameMapping, Q: PageTableFrameMapping>(
 
 /// Tells whether the entries at each path from the tables in two frames, through so many levels below them, are alike.
 fn alike_from<P: PageTableFrameMapping, Q: PageTableFrameMapping>(
-    one: &Image<P>,
+    one: &HierarchyView<P>,
     frame: PhysFrame<Size4KiB>,
-    other: &Image<Q>,
+    other: &HierarchyView<Q>,
     other_frame: PhysFrame<Size4KiB>,
     levels: u8,
 ) -> bool

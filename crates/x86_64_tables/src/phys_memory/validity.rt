@@ -6,13 +6,14 @@ ghost use Rattle.x86_64_model.specs.Memory.{identity_places, words_of};
 ghost use Rattle.x86_64_model.specs.Hierarchy.{IsValid, paths_of};
 ghost use Rattle.x86_64_model.specs.Window.{outside_window, IsValidFor};
 ghost use Rattle.x86_64_model.specs.Pool.{Fits};
-ghost use Rattle.x86_64_model.specs.Tables.{tables_from, SoundTables};
-ghost use Rattle.x86_64_model.specs.Marks.{serves_below, mark_one, mark_all};
-ghost use Rattle.x86_64_tables.specs.private.Images.{seen, free_in, mark_slot, IsSound};
+ghost use Rattle.x86_64_model.specs.private.Tables.{tables_from, SoundTables};
+ghost use Rattle.x86_64_model.specs.private.Marks.{mark_one, mark_all};
+ghost use Rattle.x86_64_model.specs.Pool.{serves_below};
+ghost use Rattle.x86_64_tables.specs.private.Views.{seen, free_in, mark_slot, IsSound};
 ghost use Rattle.x86_64_tables.specs.private.HierarchyTests.{limit_of, Passes};
 ghost use Rattle.x86_64_tables.specs.SelfEntries.{window_at};
 
-use super::image::{Image, has_self_entry};
+use super::hierarchy_view::{HierarchyView, has_self_entry};
 use super::{IdentityMapping, PageTableFrameMapping, PhysMemory};
 use crate::frame_alloc::FramePool;
 use std::alloc::{AllocError, Global};
@@ -239,14 +240,14 @@ fn passes<P: PageTableFrameMapping>(
     ensures { let words = words_of memory.now (P.places mapping.now) in
         IfOk result (λ b. IsTrue b ↔ Passes (suc levels) words root recursive (option_copied pool.entry)) }
 {
-    let image = Image {
+    let view = HierarchyView {
         memory,
         mapping,
         root,
         recursive,
     };
     let limit = limit_of(pool);
-    Survey { image, limit }.is_sound(alloc, levels, pool)
+    HierarchyTest { view, limit }.is_sound(alloc, levels, pool)
 }
 
 /// Returns the number that those of frames are below: the limit of the pool, if there is one.
@@ -262,12 +263,12 @@ fn limit_of(pool: Option<&FramePool>) -> u64
 /// Holds a hierarchy to be tested. The frames of its tables, but for the root, and those of a pool have numbers from 1
 /// to `limit` - 1.
 #[derive(Drop)]
-struct Survey<'a, P> {
-    image: Image<'a, P>,
+struct HierarchyTest<'a, P> {
+    view: HierarchyView<'a, P>,
     limit: u64,
 }
 
-impl<'a, P: PageTableFrameMapping> Survey<'a, P> {
+impl<'a, P: PageTableFrameMapping> HierarchyTest<'a, P> {
     /// Tells whether each table, through so many levels below the root, and each frame of the pool, where there is one,
     /// is met once, in the memory and at a number that tables may have, and no word above level three has `HUGE_PAGE`;
     /// and whether the root's word at the recursive index, where there is one, names the root.
@@ -278,39 +279,39 @@ impl<'a, P: PageTableFrameMapping> Survey<'a, P> {
         levels: u8,
         pool: Option<&FramePool>,
     ) -> Result<bool, AllocError>
-        ensures { let image = self.now.image in
-            let words = words_of image.memory.now (P.places image.mapping) in
+        ensures { let view = self.now.view in
+            let words = words_of view.memory.now (P.places view.mapping) in
             let serves = serves_below self.now.limit in let free = free_in (option_copied pool.entry) in
-            IfOk result (λ b. IsTrue b ↔ IsSound levels words image.root image.recursive serves free) }
+            IfOk result (λ b. IsTrue b ↔ IsSound levels words view.root view.recursive serves free) }
     {
-        if let Some(index) = self.image.recursive {
+        if let Some(index) = self.view.recursive {
             if !has_self_entry(
-                self.image.memory,
-                &self.image.mapping,
-                self.image.root,
+                self.view.memory,
+                &self.view.mapping,
+                self.view.root,
                 index,
             ) {
                 return Ok(false);
             }
         }
-        let mut marks = vec![in alloc; false; self.image.memory.len()]?;
+        let mut marks = vec![in alloc; false; self.view.memory.len()]?;
         Ok(self.is_sound_by(levels, pool, &mut marks))
     }
 
     /// Tells the first of these by marks, one for each place, which are all clear at first.
     fn is_sound_by(&self, levels: u8, pool: Option<&FramePool>, marks: &mut [bool]) -> bool
-        requires length { length marks.old ≡ length (keys self.now.image.memory.now) }
-        requires clear { (k : ℕ) → k < length (keys self.now.image.memory.now)
+        requires length { length marks.old ≡ length (keys self.now.view.memory.now) }
+        requires clear { (k : ℕ) → k < length (keys self.now.view.memory.now)
             → slice_index_or marks.old k true ≡ false }
-        ensures { let image = self.now.image in let places = P.places image.mapping in
-            let words = seen image.memory.now places image.root image.recursive in
+        ensures { let view = self.now.view in let places = P.places view.mapping in
+            let words = seen view.memory.now places view.root view.recursive in
             let serves = serves_below self.now.limit in let free = free_in (option_copied pool.entry) in
-            IsTrue result ↔ SoundTables levels words image.root serves free }
+            IsTrue result ↔ SoundTables levels words view.root serves free }
     {
-        if !self.mark_tables(marks, self.image.root, levels) {
+        if !self.mark_tables(marks, self.view.root, levels) {
             return false;
         }
-        if !self.image.none_huge(self.image.root, levels) {
+        if !self.view.none_huge(self.view.root, levels) {
             return false;
         }
         match pool {
@@ -321,10 +322,10 @@ impl<'a, P: PageTableFrameMapping> Survey<'a, P> {
 
     /// Marks the table in a frame and those below it, through so many levels, if each may be met and was not before.
     fn mark_tables(&self, marks: &mut [bool], frame: PhysFrame<Size4KiB>, levels: u8) -> bool
-        requires { length marks.old ≡ length (keys self.now.image.memory.now) }
-        ensures { let image = self.now.image in let places = P.places image.mapping in
-            let words = seen image.memory.now places image.root image.recursive in
-            let slot = mark_slot image.memory.now places image.root self.now.limit in
+        requires { length marks.old ≡ length (keys self.now.view.memory.now) }
+        ensures { let view = self.now.view in let places = P.places view.mapping in
+            let words = seen view.memory.now places view.root view.recursive in
+            let slot = mark_slot view.memory.now places view.root self.now.limit in
             (if result then Some marks.new else None)
             ≡ mark_all slot marks.old (tables_from levels words frame) }
     {
@@ -333,7 +334,7 @@ impl<'a, P: PageTableFrameMapping> Survey<'a, P> {
         }
         if 0 < levels {
             for index in 0..512 {
-                if let Some(below) = self.image.table_below(frame, index) {
+                if let Some(below) = self.view.table_below(frame, index) {
                     if !self.mark_tables(marks, below, levels - 1) {
                         return false;
                     }
@@ -345,9 +346,9 @@ impl<'a, P: PageTableFrameMapping> Survey<'a, P> {
 
     /// Marks each frame of a pool, if each may be met and was not before.
     fn mark_pool(&self, marks: &mut [bool], pool: &FramePool) -> bool
-        requires { length marks.old ≡ length (keys self.now.image.memory.now) }
-        ensures { let image = self.now.image in let places = P.places image.mapping in
-            let slot = mark_slot image.memory.now places image.root self.now.limit in
+        requires { length marks.old ≡ length (keys self.now.view.memory.now) }
+        ensures { let view = self.now.view in let places = P.places view.mapping in
+            let slot = mark_slot view.memory.now places view.root self.now.limit in
             (if result then Some marks.new else None) ≡ mark_all slot marks.old pool.now.frames }
     {
         for n in 0..pool.len() {
@@ -361,11 +362,11 @@ impl<'a, P: PageTableFrameMapping> Survey<'a, P> {
     }
 
     /// Marks a frame, if it may be met and was not before.
-    #[tactic(auto, unfolding(x86_64_model::specs::Marks::mark_one))]
+    #[tactic(auto, unfolding(x86_64_model::specs::private::Marks::mark_one))]
     fn mark(&self, marks: &mut [bool], frame: PhysFrame<Size4KiB>) -> bool
-        requires { length marks.old ≡ length (keys self.now.image.memory.now) }
-        ensures { let image = self.now.image in let places = P.places image.mapping in
-            let slot = mark_slot image.memory.now places image.root self.now.limit in
+        requires { length marks.old ≡ length (keys self.now.view.memory.now) }
+        ensures { let view = self.now.view in let places = P.places view.mapping in
+            let slot = mark_slot view.memory.now places view.root self.now.limit in
             (if result then Some marks.new else None) ≡ mark_one slot marks.old frame }
     {
         match self.slot(frame) {
@@ -382,19 +383,19 @@ impl<'a, P: PageTableFrameMapping> Survey<'a, P> {
     }
 
     /// Gives the index of a frame's mark, if the frame may be met.
-    #[tactic(auto, unfolding(x86_64_model::specs::Marks::spot_of))]
+    #[tactic(auto, unfolding(x86_64_model::specs::private::Marks::spot_of))]
     fn slot(&self, frame: PhysFrame<Size4KiB>) -> Option<usize>
-        ensures value { let image = self.now.image in let places = P.places image.mapping in
-            result ≡ mark_slot image.memory.now places image.root self.now.limit frame }
-        ensures within { (k : ℕ) → result ≡ Some k → k < length (keys self.now.image.memory.now) }
+        ensures value { let view = self.now.view in let places = P.places view.mapping in
+            result ≡ mark_slot view.memory.now places view.root self.now.limit frame }
+        ensures within { (k : ℕ) → result ≡ Some k → k < length (keys self.now.view.memory.now) }
     {
         let number = frame.start_address().as_u64() / Size4KiB::SIZE;
-        if frame == self.image.root || (0 < number && number < self.limit) {
-            if self.image.mapping.covers(frame) {
+        if frame == self.view.root || (0 < number && number < self.limit) {
+            if self.view.mapping.covers(frame) {
                 return self
-                    .image
+                    .view
                     .memory
-                    .index_of(self.image.mapping.frame_to_pointer(frame));
+                    .index_of(self.view.mapping.frame_to_pointer(frame));
             }
         }
         None

@@ -1,7 +1,7 @@
 //! Images that are tested before the first command is answered.
 use super::{MODES, SELF_ENTRY, assert_replies, assert_run, push_line};
 use crate::assertions::unwrap;
-use crate::hostile::{IMAGES, Image};
+use crate::untrusted_images::{IMAGES, Image};
 use pagetab_engine::ending::{Ending, Fault};
 use std::alloc::Global;
 use std::process::Abort;

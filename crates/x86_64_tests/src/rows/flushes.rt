@@ -5,8 +5,8 @@ use super::{
 };
 use crate::assertions::{assert_equal, assert_equal_in, unwrap};
 use crate::images::{ROOT, frame_at, run_flushed_on};
-use crate::turns::PageTurn::{SetFlagsP4, Unmap, UpdateFlags};
-use crate::turns::Turn::{CleanUp, CleanUpRange, Large, Small};
+use crate::call_rows::PageCallRow::{SetFlagsP4, Unmap, UpdateFlags};
+use crate::call_rows::CallRow::{CleanUp, CleanUpRange, Large, Small};
 use std::alloc::Global;
 use std::process::Abort;
 use x86_64::{FlushItem, FlushRecorder, FramePool, IdentityMapping, PhysMemory};

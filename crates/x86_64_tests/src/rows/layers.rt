@@ -1,5 +1,5 @@
 //! Lists of calls by a mapper that stands on another one.
-ghost use Rattle.x86_64_model.specs.Marks.{serves_below};
+ghost use Rattle.x86_64_model.specs.Pool.{serves_below};
 ghost use Rattle.x86_64_model.specs.Memory.{identity_places};
 ghost use Rattle.x86_64_mappers.specs.Layouts.{direct};
 ghost use Rattle.x86_64.specs.Runs.{FitsPool};
@@ -8,8 +8,8 @@ use super::{CLEANED, FIRST, Row, add_exchanges, assert_fits, begin, compare};
 use crate::assertions::{assert_equal, unwrap};
 use crate::counting::Counting;
 use crate::images::{ROOT, frame_at};
-use crate::turns::PageTurn::{Unmap, UpdateFlags};
-use crate::turns::Turn::{CleanUp, Small, Translate};
+use crate::call_rows::PageCallRow::{Unmap, UpdateFlags};
+use crate::call_rows::CallRow::{CleanUp, Small, Translate};
 use std::alloc::Global;
 use std::process::Abort;
 use x86_64::structures::paging::{MappedPageTable, PhysFrame, Size4KiB};

@@ -1,12 +1,12 @@
 //! The index of level four that a call names.
 use crate::assertions::assert_equal_in;
-use crate::turns::PageTurn::{IdentityMap, MapTo, Unmap, UpdateFlags};
-use crate::turns::Turn::{CleanUp, CleanUpRange, Giant, Large, Small, Translate, TranslateAddr};
-use crate::turns::{Turn, call_of};
+use crate::call_rows::PageCallRow::{IdentityMap, MapTo, Unmap, UpdateFlags};
+use crate::call_rows::CallRow::{CleanUp, CleanUpRange, Giant, Large, Small, Translate, TranslateAddr};
+use crate::call_rows::{CallRow, call_of};
 use x86_64::structures::paging::PageTableIndex;
 
 /// Calls, and the index of level four that each names, if it names one.
-const INDICES: [(Turn, Option<u16>); 9] = [
+const INDICES: [(CallRow, Option<u16>); 9] = [
     (Small(MapTo(0xffff_8000_0000_0000, 0x5000, 0x1)), Some(256)),
     (Small(Unmap(0x7fff_ffff_f000)), Some(255)),
     (Large(UpdateFlags(0xffff_ff80_0000_0000, 0x1)), Some(511)),
@@ -20,8 +20,8 @@ const INDICES: [(Turn, Option<u16>); 9] = [
 
 #[test]
 fn calls_name_an_index_of_level_four(rt: HostRuntime) {
-    for (turn, index) in INDICES {
-        let call = call_of(turn);
+    for (call_row, index) in INDICES {
+        let call = call_of(call_row);
         for other in 0..512 {
             let names = call.names(PageTableIndex::new(other));
             assert_equal_in(rt, (call, other), names, index == Some(other));

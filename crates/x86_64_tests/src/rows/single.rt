@@ -1,6 +1,6 @@
 //! Calls of a mapper itself.
 ghost use Rattle.std.specs.Prelude.{◌≡◌, ◌<◌, ◌^◌};
-ghost use Rattle.x86_64_model.specs.Owned.{Valid, SupplyFits};
+ghost use Rattle.x86_64_model.specs.Mapper.{Valid, SupplyFits};
 
 use super::{
     LARGE_LEVEL_3, LARGE_LEVEL_4, LARGE_MAPPED, LEVEL_2, LEVEL_3, LEVEL_4, MAPPED, RECURSIVE,

@@ -5,8 +5,8 @@ use super::{
 };
 use crate::assertions::{assert_equal, unwrap};
 use crate::images::{fill, frame_at};
-use crate::turns::PageTurn::MapTo;
-use crate::turns::Turn::Small;
+use crate::call_rows::PageCallRow::MapTo;
+use crate::call_rows::CallRow::Small;
 use x86_64_plain::Answer::Refused;
 use x86_64_plain::PlainReply::Answered;
 use x86_64_plain::Refusal::FrameAllocationFailed;

@@ -1,6 +1,6 @@
 //! Tokens of a mapper, flushed.
 ghost use Rattle.std.specs.Prelude.{◌≡◌, None};
-ghost use Rattle.x86_64_model.specs.Owned.{Valid, SupplyFits};
+ghost use Rattle.x86_64_model.specs.Mapper.{Valid, SupplyFits};
 
 use super::flushes::compare_flushes;
 use super::{FREE, assert_fits, begin};

@@ -5,8 +5,8 @@ use super::{
 };
 use crate::assertions::assert_equal_in;
 use crate::images::{ROOT, frame_at};
-use crate::turns::PageTurn::{MapTo, MapToWithTableFlags, UpdateFlags};
-use crate::turns::Turn::{Large, Small};
+use crate::call_rows::PageCallRow::{MapTo, MapToWithTableFlags, UpdateFlags};
+use crate::call_rows::CallRow::{Large, Small};
 use std::alloc::Global;
 use std::process::Abort;
 use x86_64::{IdentityMapping, PhysAddr, PhysMemory, VirtAddr, Walked, page_walk};

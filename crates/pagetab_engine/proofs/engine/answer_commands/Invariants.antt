@@ -1,7 +1,7 @@
 use Rattle.std.proofs.Common.{◌^◌, ◌-◌}
 use Rattle.pagetab_engine.specs.Hierarchy.{IsHierarchy}
 use Rattle.pagetab_engine.specs.Lines.{MayBeLeft, TracesBack}
-use Rattle.pagetab_engine.specs.Program.{ServedUntil}
+use Rattle.pagetab_engine.specs.private.RunParts.{ServedUntil}
 use Rattle.pagetab_engine.proofs.engine.answer_commands.Given as goal
 
 abbrev pub invariant-loop-statement : goal.invariant-loop-statement

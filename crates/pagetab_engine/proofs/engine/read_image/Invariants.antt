@@ -1,7 +1,7 @@
 use Rattle.std.proofs.Common.{◌^◌, ◌-◌}
 use Rattle.pagetab_engine.specs.Hierarchy.{HasCopy, IsReached}
 use Rattle.pagetab_engine.specs.Lines.{MayBeLeft, TracesBack}
-use Rattle.pagetab_engine.specs.Program.{Follows}
+use Rattle.pagetab_engine.specs.private.RunParts.{Follows}
 use Rattle.pagetab_engine.proofs.engine.read_image.Given as goal
 
 abbrev pub invariant-loop-statement : goal.invariant-loop-statement

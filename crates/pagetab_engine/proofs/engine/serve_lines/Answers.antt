@@ -1,7 +1,8 @@
 use Rattle.std.proofs.Common.{rules, ◌≡◌, Some, None, Err}
 use Rattle.pagetab_engine.specs.Hierarchy.{FitsImage}
 use Rattle.pagetab_engine.specs.Lines.{bytes_left, MayBeLeft}
-use Rattle.pagetab_engine.specs.Program.{IsFirst, ending_of}
+use Rattle.pagetab_engine.specs.Program.{IsFirst}
+use Rattle.pagetab_engine.specs.private.RunParts.{ending_of}
 use Rattle.pagetab_engine.specs.declared.ending.Ending.TheVariants.{Done, Stopped}
 use Rattle.pagetab_engine.specs.declared.ending.Fault.TheVariants.{InvalidHierarchy, OutOfMemory}
 use Rattle.pagetab_engine.proofs.Numbering.{some_lines}

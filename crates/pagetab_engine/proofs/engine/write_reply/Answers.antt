@@ -1,7 +1,8 @@
 use Rattle.std.proofs.Common.{rules, ◌≡◌, OnOk, IfErr, sym, subst}
 use Rattle.std.proofs.lemmas.Result.{IfOk-weaker, IfErr-weaker}
 use Rattle.std.specs.Io.KnownBytes.{Appends}
-use Rattle.pagetab_engine.specs.Program.{Answers, AppendsFront, Replies, StopsAt}
+use Rattle.pagetab_engine.specs.Program.{Answers, AppendsFront}
+use Rattle.pagetab_engine.specs.private.RunParts.{Replies, StopsAt}
 use Rattle.pagetab_engine.specs.Texts.{reply_line}
 use Rattle.pagetab_engine.specs.declared.ending.Fault.TheVariants.{Output}
 use Rattle.pagetab_engine.proofs.Written.{appends_nothing}

@@ -1,5 +1,5 @@
 use Rattle.std.proofs.Common.{◌-◌, ap, sym, subst}
-use Rattle.x86_64_model.specs.Owned.{back}
+use Rattle.x86_64_model.specs.Mapper.{back}
 use Rattle.x86_64_model.specs.Position.{position_count}
 use Rattle.x86_64_model.proofs.Lemmas.Machines.Giving.{giving_from}
 use Rattle.x86_64.specs.Calls.{asks}

@@ -1,7 +1,7 @@
 use Rattle.std.proofs.Common.{◌≤◌, refl, sym, ◌∙◌, subst, lit≤, arith}
 use Rattle.x86_64_model.proofs.Lemmas.Machines.Giving.{giving_from}
 use Rattle.x86_64_model.specs.Call.{SetFlags}
-use Rattle.x86_64_model.specs.Owned.{Does, named}
+use Rattle.x86_64_model.specs.Mapper.{Does, named}
 use Rattle.x86_64_model.specs.Path.{path_at}
 use Rattle.x86_64_tables.specs.MapperAnswers.{flags_answer}
 use Rattle.x86_64_tables.specs.PageTableFlags.{bits_of}
@@ -16,7 +16,7 @@ is_served : (g : Over) (c : goal.Joined-call g) → IsServed _ (g.M.Tables.hiera
 is_served g c =
     let mapper = c.args.mapper.now in
     let start : Start (g.M.Tables.hierarchy mapper).layout g.F.FrameDeallocator.put (g.F.FrameKeeper.serves c.args.frames.now) (g.M.Tables.hierarchy mapper).memory (g.F.FrameAllocator.supply c.args.frames.now) g.S.PageSize.LEVEL = record {
-      some_levels = g.met.M.Tables.some_levels mapper;
+      at_least_four = g.met.M.Tables.at_least_four mapper;
       adds = (g.M.Tables.added_flags mapper).adds;
       gives = giving_from _ g.met.F.FrameDeallocator.put_rearranges;
       mapping = g.met.M.Tables.is_mapping mapper;
@@ -24,7 +24,7 @@ is_served g c =
       low = g.S.PageSize.low;
       high = g.S.PageSize.high;
     } in
-    let some = g.met.M.Tables.some_levels mapper in
+    let some = g.met.M.Tables.at_least_four mapper in
     elim c.match-call.branch [
       | in-MapTo w ↦ rw (w.in-MapTo.is, w.mapper-is, w.frames-is, w.result-is)
           (map_to_served (g.M.Tables.hierarchy mapper) start w.in-MapTo.page w.in-MapTo.frame (bits_of w.in-MapTo.flags) w.map_to.result _ _ w.map_to.ensures.does w.map_to.ensures.page w.take.result w.take.ensures.result)

@@ -1,4 +1,4 @@
-use Rattle.x86_64_model.specs.Owned.{SupplyFits}
+use Rattle.x86_64_model.specs.Mapper.{SupplyFits}
 use Rattle.x86_64_bench.proofs.rounds.map_all.Given as goal
 
 abbrev pub invariant-loop-k : goal.invariant-loop-k

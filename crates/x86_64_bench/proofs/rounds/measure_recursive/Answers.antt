@@ -1,5 +1,5 @@
 use Rattle.std.proofs.Common.{rules, ◌≡◌, ap, true}
-use Rattle.x86_64_model.specs.Marks.{serves_below}
+use Rattle.x86_64_model.specs.Pool.{serves_below}
 use Rattle.x86_64_bench.proofs.CleanUps.{fitting_cleans_up}
 use Rattle.x86_64_bench.proofs.rounds.measure_recursive.Goals as goal
 

@@ -1,4 +1,4 @@
-use Rattle.x86_64_model.specs.Owned.{Valid}
+use Rattle.x86_64_model.specs.Mapper.{Valid}
 use Rattle.x86_64_bench.proofs.rounds.unmap_all.Given as goal
 
 abbrev pub invariant-loop-k : goal.invariant-loop-k

@@ -5,7 +5,7 @@ use Rattle.x86_64_loader.proofs.parts.map_part.Goals as goal
 pub page_after-page-requires : goal.page_after-page-requires
 page_after-page-requires g c =
     let some : 0 < c.args.count = search rules in
-    let levels = g.met.M.Tables.some_levels c.args.mapper.now in let high = g.S.PageSize.high in
+    let levels = g.met.M.Tables.at_least_four c.args.mapper.now in let high = g.S.PageSize.high in
     let may = part_may (g.M.Tables.hierarchy c.args.mapper.now) c.args.segment.now g.S.PageSize.LEVEL g.S.PageSize.SIZE c.args.first c.args.count g.S.PageSize.size g.S.PageSize.low high
     c.requires.allowed c.requires.within (omega (arith, levels, high)) 0 some in
     let there = may.page_there in omega (arith, there)
@@ -13,7 +13,7 @@ page_after-page-requires g c =
 pub add-frame-requires : goal.add-frame-requires
 add-frame-requires g c =
     let some : 0 < c.args.count = search rules in
-    let levels = g.met.M.Tables.some_levels c.args.mapper.now in let high = g.S.PageSize.high in
+    let levels = g.met.M.Tables.at_least_four c.args.mapper.now in let high = g.S.PageSize.high in
     let may = part_may (g.M.Tables.hierarchy c.args.mapper.now) c.args.segment.now g.S.PageSize.LEVEL g.S.PageSize.SIZE c.args.first c.args.count g.S.PageSize.size g.S.PageSize.low high
     c.requires.allowed c.requires.within (omega (arith, levels, high)) 0 some in
     let there = may.frame_there in omega (arith, there)
@@ -36,7 +36,7 @@ from_start_address_unchecked-frame-requires g c =
 
 pub map_pages-requires-clause-may : goal.map_pages-requires-clause-may
 map_pages-requires-clause-may g c =
-    let levels = g.met.M.Tables.some_levels c.args.mapper.now in let high = g.S.PageSize.high in
+    let levels = g.met.M.Tables.at_least_four c.args.mapper.now in let high = g.S.PageSize.high in
     rw (c.from_start_address_unchecked-page.ensures, c.start_address.ensures.value, c.page_after-page.ensures, c.from_start_address_unchecked-frame.ensures, c.start_address-2.ensures.value, c.add-frame.ensures)
     (part_may (g.M.Tables.hierarchy c.args.mapper.now) c.args.segment.now g.S.PageSize.LEVEL g.S.PageSize.SIZE c.args.first c.args.count g.S.PageSize.size g.S.PageSize.low high
     c.requires.allowed c.requires.within (omega (arith, levels, high)))
@@ -55,7 +55,7 @@ overflow_add-result g c =
 
 pub returns-in-Ok-clause-loads : goal.returns-in-Ok-clause-loads
 returns-in-Ok-clause-loads g c =
-    let levels = g.met.M.Tables.some_levels c.args.mapper.now in let high = g.S.PageSize.high in
+    let levels = g.met.M.Tables.at_least_four c.args.mapper.now in let high = g.S.PageSize.high in
     let done = c.in-Ok.ensures in
     let h = g.M.Tables.hierarchy c.args.mapper.now in
     let after = g.M.Tables.hierarchy c.map_pages.new.mapper in
@@ -75,7 +75,7 @@ returns-in-Ok-clause-loads g c =
 
 pub returns-in-Err-clause-loads : goal.returns-in-Err-clause-loads
 returns-in-Err-clause-loads g c =
-    let levels = g.met.M.Tables.some_levels c.args.mapper.now in let high = g.S.PageSize.high in
+    let levels = g.met.M.Tables.at_least_four c.args.mapper.now in let high = g.S.PageSize.high in
     rw (c.SIZE.ensures, c.in_4kib.ensures)
     (part_halted (g.M.Tables.hierarchy c.args.mapper.now) c.args.segment.now g.S.PageSize.LEVEL g.S.PageSize.SIZE c.args.first c.args.count g.S.PageSize.size g.S.PageSize.low high
     c.requires.allowed c.requires.within (g.M.Tables.hierarchy c.map_pages.new.mapper) (g.A.FrameAllocator.supply c.map_pages.new.frames) (omega (arith, levels, high))

@@ -1,9 +1,9 @@
 use Rattle.std.proofs.Common.{rules, ◌≡◌, ℕ, Bool, List, subst}
 use Rattle.x86_64_mappers.specs.Layouts.{direct}
 use Rattle.x86_64_model.specs.Layout.{Layout}
-use Rattle.x86_64_model.specs.Marks.{serves_below}
+use Rattle.x86_64_model.specs.Pool.{serves_below}
 use Rattle.x86_64_model.specs.Memory.{Memory, identity_places}
-use Rattle.x86_64_model.specs.Owned.{Hierarchy}
+use Rattle.x86_64_model.specs.Mapper.{Hierarchy}
 use Rattle.x86_64_model.proofs.Lemmas.Hierarchies.Memories.{identity_is_mapping}
 use Rattle.x86_64.specs.Runs.{Keeps, Kept}
 use Rattle.x86_64_mapper_tests.proofs.beside.run_on.Goals as goal

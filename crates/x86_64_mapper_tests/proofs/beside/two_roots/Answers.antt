@@ -5,7 +5,7 @@ use Rattle.std.specs.FinMap.{get}
 use Rattle.x86_64_mappers.specs.Layouts.{direct}
 use Rattle.x86_64_model.specs.Entry.{is_frame}
 use Rattle.x86_64_model.specs.Hierarchy.{paths_of}
-use Rattle.x86_64_model.specs.Marks.{serves_below}
+use Rattle.x86_64_model.specs.Pool.{serves_below}
 use Rattle.x86_64_model.specs.Memory.{Memory, word, word_in, words_of, identity_places}
 use Rattle.x86_64_model.specs.Pool.{Fits}
 use Rattle.x86_64_tables.specs.PageTable.{zero_words, get_or-zero_words}

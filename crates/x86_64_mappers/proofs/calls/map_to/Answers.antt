@@ -1,7 +1,7 @@
 use Rattle.std.proofs.Common.{ℕ, rules, subst, sym}
 use Rattle.x86_64_model.specs.Call.{MapToWithTableFlags}
 use Rattle.x86_64_model.proofs.Lemmas.Machines.Owners.{may_map_to, does_map_to}
-use Rattle.x86_64_model.specs.Owned.{MayMap, DoesMap, path_of}
+use Rattle.x86_64_model.specs.Mapper.{MayMap, DoesMap, path_of}
 use Rattle.x86_64_tables.specs.MapperAnswers.{map_answer}
 use Rattle.x86_64_tables.specs.PageTableFlags.{bits_of}
 use Rattle.x86_64_mappers.proofs.Map.MapArrivals.{map_arrives}
@@ -37,4 +37,4 @@ returns-clause-arrives g c =
     let after = g.M.Tables.hierarchy done.new.mapper in
     let rest = g.A.FrameAllocator.supply done.new.frame_allocator in
     map_arrives h supply g.S.PageSize.LEVEL g.S.PageSize.SIZE c.args.page c.args.frame (bits_of c.args.flags) _ g.S.PageSize.size g.S.PageSize.low g.S.PageSize.high
-    (g.met.M.Tables.some_levels mapper) (g.M.Tables.added_flags mapper).adds (search rules) (search rules) (search rules) after rest c.requires c.parent_flags-parent_flags.ensures done.result done.ensures.does
+    (g.met.M.Tables.at_least_four mapper) (g.M.Tables.added_flags mapper).adds (search rules) (search rules) (search rules) after rest c.requires c.parent_flags-parent_flags.ensures done.result done.ensures.does

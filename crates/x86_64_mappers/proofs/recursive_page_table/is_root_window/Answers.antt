@@ -5,7 +5,7 @@ use Rattle.x86_64_mappers.proofs.recursive_page_table.is_root_window.Goals as go
 pub returns : goal.returns
 returns g c =
     let L = g.L.LevelCount.LEVELS in
-    let some = g.L.LevelCount.some_levels in
+    let some = g.L.LevelCount.at_least_four in
     let w = c.window_position.result in
     let window = c.window_position.ensures in
     let all : L - 0 ≡ L = omega arith in

@@ -3,9 +3,9 @@ use Rattle.std.proofs.Common.{◌≡◌, ◌⊎◌, inl, inr, ⊎_elim, ℕ, Boo
 use Rattle.std.proofs.lemmas.Option.{same_Some}
 use Rattle.x86_64_model.specs.Entry.{IsParentFlags, address}
 use Rattle.x86_64_model.specs.Layout.{Layout, words, paths}
-use Rattle.x86_64_model.specs.MapperCalls.{IsReady}
+use Rattle.x86_64_model.specs.Layout.{IsReady}
 use Rattle.x86_64_model.specs.Memory.{Memory, Words}
-use Rattle.x86_64_model.specs.Owned.{Hierarchy, PoolFits, MayCleanUp}
+use Rattle.x86_64_model.specs.Mapper.{Hierarchy, PoolFits, MayCleanUp}
 use Rattle.x86_64_model.specs.PathMap.{table_at}
 use Rattle.x86_64_model.specs.Window.{Window, outside_window, IsValidFor}
 use Rattle.x86_64_model.specs.Hierarchy.{IsValid}

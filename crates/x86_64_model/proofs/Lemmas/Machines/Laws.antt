@@ -32,7 +32,7 @@ use Rattle.x86_64_model.proofs.Lemmas.Maps.Takes.{map_takes}
 use Rattle.x86_64_model.proofs.Lemmas.Maps.Down.{walked_down}
 use Rattle.x86_64_model.proofs.Lemmas.Maps.Trees.{page_descends}
 use Rattle.x86_64_model.proofs.Lemmas.CleanUps.Twice.{once}
-use Rattle.x86_64_model.proofs.Lemmas.Machines.Alike.{run_pair}
+use Rattle.x86_64_model.proofs.Lemmas.Pairs.Alike.{run_pair}
 use Rattle.x86_64_model.specs.Entry.{IsParentFlags}
 
 pub step_keeps_fit : StepKeepsFit

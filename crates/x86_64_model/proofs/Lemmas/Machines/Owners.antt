@@ -9,9 +9,10 @@ use Rattle.x86_64_model.specs.Layout.{paths as paths_in, walk as walk_in}
 use Rattle.x86_64_model.proofs.Lemmas.Maps.Mapped.{arrives_in_page}
 use Rattle.x86_64_model.specs.Machine.{AfterCall, do_call, after_map, after_change}
 use Rattle.x86_64_model.specs.MapRule.{map_call, parent_part, leaf_entry}
-use Rattle.x86_64_model.specs.MapperCalls.{IsReady, IsMapped, IsChanged, after_unmap, after_update, after_set_flags}
+use Rattle.x86_64_model.specs.Layout.{IsReady}
+use Rattle.x86_64_model.specs.private.MapperCalls.{IsMapped, IsChanged, after_unmap, after_update, after_set_flags}
 use Rattle.x86_64_model.specs.Memory.{Memory}
-use Rattle.x86_64_model.specs.Owned.{Hierarchy, MayMap, Does, DoesMap, ArrivesIn, machine_of, state_of, named, paths, read_entry}
+use Rattle.x86_64_model.specs.Mapper.{Hierarchy, MayMap, Does, DoesMap, ArrivesIn, machine_of, state_of, named, paths, read_entry}
 use Rattle.x86_64_model.specs.PageRules.{AfterChange, refused_or, update_refusal, update_flags, set_flags}
 use Rattle.x86_64_model.specs.Path.{level_of, front_at, path_at}
 use Rattle.x86_64_model.specs.PathMap.{PathMap, put}

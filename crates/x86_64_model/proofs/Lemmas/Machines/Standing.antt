@@ -5,7 +5,7 @@ use Rattle.x86_64_model.specs.Entry.{IsParentFlags, present, address, writable, 
 use Rattle.x86_64_model.specs.Layout.{Layout, paths as paths_in}
 use Rattle.x86_64_model.specs.Machine.{do_call}
 use Rattle.x86_64_model.specs.MapRule.{AfterMap, map_call, parent_part}
-use Rattle.x86_64_model.specs.Owned.{Hierarchy, Valid, MayMap, DoesMap, ArrivesIn, Stands, paths, path_of}
+use Rattle.x86_64_model.specs.Mapper.{Hierarchy, Valid, MayMap, DoesMap, ArrivesIn, Stands, paths, path_of}
 use Rattle.x86_64_model.specs.Path.{path_at}
 use Rattle.x86_64_model.specs.Position.{span, page_path}
 use Rattle.x86_64_model.specs.Refusal.{Answer, Done, Refused, ParentEntryHugePage}

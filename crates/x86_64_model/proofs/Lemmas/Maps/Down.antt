@@ -6,7 +6,7 @@ use Rattle.x86_64_model.specs.Entry.{used, huge, names_table}
 use Rattle.x86_64_model.specs.PathMap.{PathMap, entry, put}
 use Rattle.x86_64_model.specs.MapRule.{AfterMap, map_rule, with_flags, with_tables}
 use Rattle.x86_64_model.specs.Refusal.{Done, Refused, ParentEntryHugePage, PageAlreadyMapped, FrameAllocationFailed}
-use Rattle.x86_64_model.specs.WalkDown.{walk_down, with_first}
+use Rattle.x86_64_model.specs.private.WalkDown.{walk_down, with_first}
 use Rattle.x86_64_model.proofs.Lemmas.Paths.Puts.{entry-put_other}
 use Rattle.x86_64_model.proofs.Lemmas.Lists.All.{all_mapped, all_both, filter_same, any_same, filter_none, any_none}
 

@@ -10,7 +10,8 @@ use Rattle.x86_64_model.specs.Laws.Maps.{IsMapOf}
 use Rattle.x86_64_model.specs.Layout.{Layout, words, paths, walk}
 use Rattle.x86_64_model.specs.Lists.{In}
 use Rattle.x86_64_model.specs.MapRule.{AfterMap, map_call, parent_part}
-use Rattle.x86_64_model.specs.MapperCalls.{IsReady, IsMapped, ArrivesIn}
+use Rattle.x86_64_model.specs.Layout.{IsReady}
+use Rattle.x86_64_model.specs.private.MapperCalls.{IsMapped, ArrivesIn}
 use Rattle.x86_64_model.specs.Memory.{Memory}
 use Rattle.x86_64_model.specs.Path.{path_at}
 use Rattle.x86_64_model.specs.PathMap.{PathMap}

@@ -6,8 +6,8 @@ use Rattle.x86_64_model.specs.Memory.{Words}
 use Rattle.x86_64_model.proofs.Lemmas.Hierarchies.Held.{is_some-set}
 use Rattle.x86_64_model.proofs.Lemmas.Hierarchies.Trees.{some_is}
 use Rattle.x86_64_model.proofs.Lemmas.Hierarchies.Unset.{is_some-unset}
-use Rattle.x86_64_model.specs.Tables.{tables_from, without_word, SoundTables, NoneHuge}
-use Rattle.x86_64_model.specs.Marks.{slot_in, IsSpots, mark_all}
+use Rattle.x86_64_model.specs.private.Tables.{tables_from, without_word, SoundTables, NoneHuge}
+use Rattle.x86_64_model.specs.private.Marks.{slot_in, IsSpots, mark_all}
 use Rattle.x86_64_model.specs.Laws.Validity.{MarksTell}
 use Rattle.x86_64_model.proofs.Lemmas.Tables.Marked.{IsFree, marked_means, can_be_marked, mark_all-append}
 

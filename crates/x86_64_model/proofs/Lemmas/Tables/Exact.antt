@@ -10,7 +10,7 @@ use Rattle.x86_64_model.specs.Pool.{IsTable, Fits}
 use Rattle.x86_64_model.proofs.Lemmas.Hierarchies.Held.{is_some-set}
 use Rattle.x86_64_model.proofs.Lemmas.Hierarchies.Exists.{holds_paths_of, entry_paths_of}
 use Rattle.x86_64_model.proofs.Lemmas.Hierarchies.Unset.{is_some-unset}
-use Rattle.x86_64_model.specs.Tables.{tables_from, SoundTables}
+use Rattle.x86_64_model.specs.private.Tables.{tables_from, SoundTables}
 use Rattle.x86_64_model.proofs.Lemmas.Lists.Members.{in_left, in_right, in_append}
 use Rattle.x86_64_model.proofs.Lemmas.Lists.Once.{once_append, once_left, once_right, once_apart}
 use Rattle.x86_64_model.proofs.Lemmas.Tables.Walked.{table_at_frame, in_tables, from_tables, once_tables, own_tables}

@@ -4,7 +4,7 @@ use Rattle.std.proofs.lemmas.Bool.{cases_lt}
 use Rattle.x86_64_model.specs.Entry.{huge, address, names_table}
 use Rattle.x86_64_model.specs.Memory.{Words, word}
 use Rattle.x86_64_model.specs.Hierarchy.{read_at}
-use Rattle.x86_64_model.specs.Tables.{NoneHuge}
+use Rattle.x86_64_model.specs.private.Tables.{NoneHuge}
 use Rattle.x86_64_model.proofs.Lemmas.Hierarchies.Changes.{zero_not_huge}
 use Rattle.x86_64_model.proofs.Lemmas.Hierarchies.Held.{word_past}
 use Rattle.x86_64_model.proofs.Lemmas.Tables.Walked.{small_index}

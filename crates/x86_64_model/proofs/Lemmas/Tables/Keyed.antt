@@ -8,7 +8,7 @@ use Rattle.std.specs.Cmp.{Equal-is}
 use Rattle.x86_64_model.specs.Memory.{Memory, Places, Distinct, words_of}
 use Rattle.x86_64_model.proofs.Lemmas.Maps.Down.{nat_lt-suc}
 use Rattle.x86_64_model.specs.Laws.Validity.{MemoriesHaveSpots}
-use Rattle.x86_64_model.specs.Marks.{spot_of, IsSpots}
+use Rattle.x86_64_model.specs.private.Marks.{spot_of, IsSpots}
 
 found : {X : Type 0} (p : X → Bool) (xs : List X) → nat_lt (position_or_len p xs) (length xs) ≡ list_any p xs
 found p [] = refl

@@ -4,8 +4,8 @@ use Rattle.std.specs.List.{flat_map, range_with_len}
 use Rattle.x86_64_model.specs.Entry.{address, names_table}
 use Rattle.x86_64_model.specs.Memory.{Words, word}
 use Rattle.x86_64_model.specs.Path.{indices}
-use Rattle.x86_64_model.specs.Tables.{tables_from}
-use Rattle.x86_64_model.specs.Marks.{mark_one, mark_all}
+use Rattle.x86_64_model.specs.private.Tables.{tables_from}
+use Rattle.x86_64_model.specs.private.Marks.{mark_one, mark_all}
 use Rattle.x86_64_model.proofs.Lemmas.Tables.Walked.{part}
 use Rattle.x86_64_model.proofs.Lemmas.Tables.Marked.{mark_all-append}
 

@@ -4,7 +4,7 @@ use Rattle.std.proofs.lemmas.Bool.{cases_lt}
 use Rattle.std.proofs.lemmas.List.{get_or-set_same, get_or-set_other, get_or_past}
 use Rattle.std.proofs.lemmas.Option.{same_Some}
 use Rattle.x86_64_model.specs.Lists.{In, EachOnce}
-use Rattle.x86_64_model.specs.Marks.{mark_one, mark_all}
+use Rattle.x86_64_model.specs.private.Marks.{mark_one, mark_all}
 
 pub mark_all-append : (slot : ℕ → Option ℕ) (m : List Bool) (xs ys : List ℕ) → mark_all slot m (xs ++ ys) ≡ option_and_then (λ m. mark_all slot m ys) (mark_all slot m xs)
 unfolding mark_all

@@ -11,8 +11,8 @@ use Rattle.x86_64_model.proofs.Lemmas.Entries.Bits.{same_frame, is_frame_address
 use Rattle.x86_64_model.proofs.Lemmas.Entries.Words.{address_within}
 use Rattle.x86_64_model.proofs.Lemmas.Hierarchies.Exists.{held_is_paths_of}
 use Rattle.x86_64_model.proofs.Lemmas.Hierarchies.Trees.{table_of_gives}
-use Rattle.x86_64_model.specs.Tables.{SoundTables}
-use Rattle.x86_64_model.specs.Marks.{serves_below}
+use Rattle.x86_64_model.specs.private.Tables.{SoundTables}
+use Rattle.x86_64_model.specs.Pool.{serves_below}
 use Rattle.x86_64_model.specs.Laws.Validity.{ValidForItsPaths, SoundIsValid, SoundIsFitting}
 use Rattle.x86_64_model.proofs.Lemmas.Tables.Exact.{sound_valid, valid_sound, sound_fits, fits_sound}
 

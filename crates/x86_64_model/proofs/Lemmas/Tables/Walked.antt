@@ -13,7 +13,7 @@ use Rattle.x86_64_model.proofs.Lemmas.Hierarchies.Changes.{unused_no_table, zero
 use Rattle.x86_64_model.proofs.Lemmas.Maps.Down.{nat_lt-suc}
 use Rattle.x86_64_model.proofs.Lemmas.Hierarchies.Exists.{entry_paths_of}
 use Rattle.x86_64_model.proofs.Lemmas.Hierarchies.Held.{word_past}
-use Rattle.x86_64_model.specs.Tables.{tables_from}
+use Rattle.x86_64_model.specs.private.Tables.{tables_from}
 use Rattle.x86_64_model.proofs.Lemmas.Lists.Members.{in_flat_map, from_flat_map, in_indices}
 use Rattle.x86_64_model.proofs.Lemmas.Lists.Once.{once_flat_map, once_part, same_part, once_indices}
 

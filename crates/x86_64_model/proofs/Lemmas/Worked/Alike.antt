@@ -6,7 +6,7 @@ use Rattle.x86_64_model.specs.PathMap.{entry}
 use Rattle.x86_64_model.specs.Alike.{Alike, AlikeTables}
 use Rattle.x86_64_model.specs.Laws.Worked.{plain_tables, writable_tables, AlikeButForTables}
 use Rattle.x86_64_model.proofs.Lemmas.Paths.Puts.{entry-put_same}
-use Rattle.x86_64_model.proofs.Lemmas.Machines.AlikeEntries.{alike_put}
+use Rattle.x86_64_model.proofs.Lemmas.Pairs.AlikeEntries.{alike_put}
 
 root_tables : AlikeTables 0x2001 0x2003
 unfolding has used

@@ -1,4 +1,4 @@
-use Rattle.x86_64_model.specs.Marks.{serves_below}
+use Rattle.x86_64_model.specs.Pool.{serves_below}
 use Rattle.x86_64.specs.Calls.{asks}
 use Rattle.x86_64.proofs.AskedCalls.{is_call}
 use Rattle.x86_64.proofs.Pairs.{IsPair, IsPairAfter, still_pair, from_none}
@@ -26,7 +26,7 @@ pair_after g c =
     } in
     let ran = from_none (asks bits) h c.args.pool_a.now.frames c.args.calls.now _ _ _ _ c.in_ok-replies.ensures.items c.serve_all.ensures.ran in
     let other_ran = from_none (asks bits) k c.args.pool_b.now.frames c.args.calls.now _ _ _ _ c.in_ok-same_replies.ensures.items c.serve_all-2.ensures.ran in
-    still_pair (asks bits) g.L.LevelCount.LEVELS (is_call g.L.LevelCount.LEVELS g.L.LevelCount.some_levels bits g.met.P5.LevelFiveFlags.five) g.L.LevelCount.some_levels h _ _ k _ _ _ pair _ _ _ c.serve_all.ensures.keeps.layout ran _ _ _ c.serve_all-2.ensures.keeps.layout other_ran
+    still_pair (asks bits) g.L.LevelCount.LEVELS (is_call g.L.LevelCount.LEVELS g.L.LevelCount.at_least_four bits g.met.P5.LevelFiveFlags.five) g.L.LevelCount.at_least_four h _ _ k _ _ _ pair _ _ _ c.serve_all.ensures.keeps.layout ran _ _ _ c.serve_all-2.ensures.keeps.layout other_ran
 
 pub returns-clause-other_ran : goal.returns-clause-other_ran
 returns-clause-other_ran g c = (pair_after g c).ran

@@ -2,7 +2,7 @@ use Rattle.std.proofs.Common.{rules, ◌≡◌, ◌↔◌, true, None, IfOk, IsT
 use Rattle.x86_64_model.proofs.Lemmas.Machines.Fitting.{may_clean_up}
 use Rattle.x86_64_model.specs.Hierarchy.{paths_of}
 use Rattle.x86_64_model.specs.Layout.{Layout, words, paths}
-use Rattle.x86_64_model.specs.Marks.{serves_below}
+use Rattle.x86_64_model.specs.Pool.{serves_below}
 use Rattle.x86_64_model.specs.Memory.{identity_places, words_of}
 use Rattle.x86_64_model.specs.Pool.{Fits}
 use Rattle.x86_64_mapper_tests.proofs.mappers.clean_up.clean_up_57.Goals as goal

@@ -1,5 +1,5 @@
 use Rattle.std.proofs.Common.{rules}
-use Rattle.x86_64_model.specs.Marks.{serves_below}
+use Rattle.x86_64_model.specs.Pool.{serves_below}
 use Rattle.x86_64_mapper_tests.proofs.AgainAtOffset.{fits_still, pool_fits_again}
 use Rattle.x86_64_mapper_tests.proofs.mappers.offset.run_at_offset.Goals as goal
 

@@ -2,7 +2,7 @@ use Rattle.std.proofs.Common.{◌≡◌, refl, rules, subst}
 use Rattle.x86_64_model.specs.Call.{Call}
 use Rattle.x86_64_model.specs.Layout.{Layout}
 use Rattle.x86_64_model.specs.Memory.{Memory}
-use Rattle.x86_64_model.specs.Owned.{Hierarchy, Does}
+use Rattle.x86_64_model.specs.Mapper.{Hierarchy, Does}
 use Rattle.x86_64_model.specs.Refusal.{Answer}
 use Rattle.x86_64_mapper_tests.proofs.mappers.unmap.unmap.Goals as goal
 

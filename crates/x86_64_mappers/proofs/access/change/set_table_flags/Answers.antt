@@ -1,7 +1,7 @@
 use Rattle.std.proofs.Common.{◌≡◌, ◌≤◌, ◌<◌, ◌-◌, ◌+◌, ℕ, List, Some, Ok, Err, rules, length, take, get_or, refl, sym, ap, ◌∙◌, subst, arith}
 use Rattle.std.proofs.lemmas.Result.{err_from_is_err_and}
 use Rattle.x86_64_model.specs.Layout.{words}
-use Rattle.x86_64_model.specs.MapperCalls.{after_set_flags}
+use Rattle.x86_64_model.specs.private.MapperCalls.{after_set_flags}
 use Rattle.x86_64_model.specs.Memory.{word}
 use Rattle.x86_64_model.specs.Path.{front_at}
 use Rattle.x86_64_model.specs.Refusal.{Refused, ParentEntryHugePage, refusal_of}

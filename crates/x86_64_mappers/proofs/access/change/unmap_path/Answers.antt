@@ -1,7 +1,7 @@
 use Rattle.std.proofs.Common.{◌≡◌, ◌-◌, rules, length, get_or, sym, subst}
 use Rattle.std.proofs.lemmas.Result.{err_from_is_err_and}
 use Rattle.x86_64_model.specs.Layout.{words, paths}
-use Rattle.x86_64_model.specs.MapperCalls.{after_unmap}
+use Rattle.x86_64_model.specs.private.MapperCalls.{after_unmap}
 use Rattle.x86_64_model.specs.Memory.{word}
 use Rattle.x86_64_model.specs.Refusal.{Refused}
 use Rattle.x86_64_tables.specs.MapperAnswers.{frame_answer}
@@ -25,7 +25,7 @@ ends_stopped g c =
     let level = g.S.PageSize.LEVEL in
     let why = walk_refusal c.in_err-change_entry.field-0.0 in
     let changed = c.in_err-change_entry.ensures.changed in
-    let size = has_last_index q (some_index_of l.levels q level c.requires.levels (page_below_root l.levels level (g.met.M.Tables.some_levels c.args.mapper.now) g.S.PageSize.high)) in
+    let size = has_last_index q (some_index_of l.levels q level c.requires.levels (page_below_root l.levels level (g.met.M.Tables.at_least_four c.args.mapper.now) g.S.PageSize.high)) in
     let e = err_from_is_err_and c.from_residual.result c.from_residual.ensures.1 in
     rw (e.1, e.2) (subst (Ends l m (after_unmap l m q) (Refused why)) (sym changed.1)
     (stopped l m c.requires.may.valid q (length q - 1) size (unmap_says level) _ (unmap_rule l m level q c.requires.levels) why changed.0))
@@ -49,10 +49,10 @@ ends g c =
     let answer : frame_answer c.in_ok-change_entry.field-0 ≡ answer_said (unmap_says level e) = search rules in
     let wrote : changed.word ≡ word_said e (unmap_says level e) = search rules in
     let n = (g.M.Tables.hierarchy c.change_entry.new.mapper).memory in
-    let some = some_index_of l.levels q level c.requires.levels (page_below_root l.levels level (g.met.M.Tables.some_levels s) g.S.PageSize.high) in
+    let some = some_index_of l.levels q level c.requires.levels (page_below_root l.levels level (g.met.M.Tables.at_least_four s) g.S.PageSize.high) in
     subst (λ a. Ends l m (after_unmap l m q) a n) (sym answer)
     (ended l m c.requires.may.valid q (length q - 1) (has_last_index q some) (unmap_says level) _ (unmap_rule l m level q c.requires.levels) changed.frame changed.found
-    (g.met.M.Tables.is_mapping s).distinct (positive_levels l.levels (g.met.M.Tables.some_levels s)) changed.inside
+    (g.met.M.Tables.is_mapping s).distinct (positive_levels l.levels (g.met.M.Tables.at_least_four s)) changed.inside
     (unmap_changes l m level q c.requires.levels (unmap_outside l.levels l.window (paths l m) q c.requires.may.allowed) g.S.PageSize.high some) n
     (subst (λ w. IsSet l.places m changed.frame (get_or q (length q - 1) 0) w n) wrote changed.set))
 

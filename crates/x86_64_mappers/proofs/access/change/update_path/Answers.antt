@@ -1,7 +1,7 @@
 use Rattle.std.proofs.Common.{◌≡◌, ◌-◌, ℕ, rules, length, get_or, refl, sym, subst}
 use Rattle.std.proofs.lemmas.Result.{err_from_is_err_and}
 use Rattle.x86_64_model.specs.Layout.{words, paths}
-use Rattle.x86_64_model.specs.MapperCalls.{after_update}
+use Rattle.x86_64_model.specs.private.MapperCalls.{after_update}
 use Rattle.x86_64_model.specs.Memory.{word}
 use Rattle.x86_64_model.specs.Refusal.{Refused, refusal_of}
 use Rattle.x86_64_tables.specs.MapperAnswers.{flags_refusal}
@@ -26,7 +26,7 @@ ends_stopped g c =
     let given = c.args.flags.0 in
     let why = walk_refusal c.in_err-change_entry.field-0.0 in
     let changed = c.in_err-change_entry.ensures.changed in
-    let size = has_last_index q (some_index_of l.levels q level c.requires.levels (page_below_root l.levels level (g.met.M.Tables.some_levels c.args.mapper.now) g.S.PageSize.high)) in
+    let size = has_last_index q (some_index_of l.levels q level c.requires.levels (page_below_root l.levels level (g.met.M.Tables.at_least_four c.args.mapper.now) g.S.PageSize.high)) in
     (subst (Ends l m (after_update l m q given) (Refused why)) (sym changed.1)
     (stopped l m c.requires.may.valid q (length q - 1) size (update_says level given) _ (update_rule l m level q c.requires.levels given) why changed.0))
 
@@ -62,9 +62,9 @@ ends g c =
     let called = changed.called in
     let wrote : changed.word ≡ word_said e (update_says level given e) = search rules in
     let n = (g.M.Tables.hierarchy c.change_entry.new.mapper).memory in
-    let some = some_index_of l.levels q level c.requires.levels (page_below_root l.levels level (g.met.M.Tables.some_levels s) g.S.PageSize.high) in
+    let some = some_index_of l.levels q level c.requires.levels (page_below_root l.levels level (g.met.M.Tables.at_least_four s) g.S.PageSize.high) in
     ended l m c.requires.may.valid q (length q - 1) (has_last_index q some) (update_says level given) _ (update_rule l m level q c.requires.levels given) changed.frame changed.found
-    (g.met.M.Tables.is_mapping s).distinct (positive_levels l.levels (g.met.M.Tables.some_levels s)) changed.inside
+    (g.met.M.Tables.is_mapping s).distinct (positive_levels l.levels (g.met.M.Tables.at_least_four s)) changed.inside
     (update_changes l m level q c.requires.levels (update_outside l.levels l.window (paths l m) q given c.requires.may.allowed) g.S.PageSize.high some given) n
     (subst (λ w. IsSet l.places m changed.frame (get_or q (length q - 1) 0) w n) wrote changed.set)
 

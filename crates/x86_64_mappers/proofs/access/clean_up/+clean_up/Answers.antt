@@ -3,7 +3,7 @@ use Rattle.x86_64_model.proofs.Lemmas.Machines.Giving.{giving_from}
 use Rattle.x86_64_model.proofs.Lemmas.Walks.Walked.{one_more}
 use Rattle.x86_64_model.specs.CleanUp.{meets}
 use Rattle.x86_64_model.specs.Layout.{Layout, words}
-use Rattle.x86_64_model.specs.Owned.{MayCleanUp, paths}
+use Rattle.x86_64_model.specs.Mapper.{MayCleanUp, paths}
 use Rattle.x86_64_model.specs.Path.{span_start}
 use Rattle.x86_64_mappers.proofs.CleanUp.EntriesInRange.{next_visited, refused_out, recursive_out}
 use Rattle.x86_64_mappers.proofs.CleanUp.Cleaned.{may_still, may_give}
@@ -179,7 +179,7 @@ clean_up_entry-returns-then-is_empty-clause-cleaned g t c =
     let there = ap (λ l. words l n below) (sym done.layout) ∙ c.table.ensures in
     let set = subst₂ (λ (l : Layout) w. IsSet l.places n f i w o) done.layout c.set_unused.ensures (c.entry_mut.ensures.set c.set_unused.new.self) in
     entry_gone h.layout g.D.FrameDeallocator.put h.memory c.requires.may.valid held low high q f i below n rest b
-    (g.met.M.Tables.is_mapping mapper).distinct (positive_levels h.layout.levels (g.met.M.Tables.some_levels mapper)) c.next_table.ensures.index
+    (g.met.M.Tables.is_mapping mapper).distinct (positive_levels h.layout.levels (g.met.M.Tables.at_least_four mapper)) c.next_table.ensures.index
     (empty_words (words h.layout n) below c.table.result.now there c.is_empty.ensures.size (c.is_empty.ensures.empty.0 c.if-is_empty.true)) o set _ c.deallocate_frame.ensures.held
 
 pub clean_up_entry-returns-else-is_empty-clause-cleaned : goal.clean_up_entry-returns-else-is_empty-clause-cleaned

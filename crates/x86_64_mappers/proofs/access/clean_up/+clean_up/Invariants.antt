@@ -1,6 +1,6 @@
 use Rattle.std.proofs.Common.{◌≡◌, ◌≤◌, ◌+◌, ◌-◌, ◌*◌, length}
 use Rattle.x86_64_model.proofs.Lemmas.CleanUps.Below.{cleaned_before, back_before}
-use Rattle.x86_64_model.specs.Owned.{paths}
+use Rattle.x86_64_model.specs.Mapper.{paths}
 use Rattle.x86_64_model.specs.Path.{span_start}
 use Rattle.x86_64_mappers.specs.private.CleaningUp.{span_end, IsCleaned}
 use Rattle.x86_64_mappers.proofs.access.clean_up.+clean_up.Given as goal

@@ -1,5 +1,5 @@
 use Rattle.std.proofs.Common.{◌≡◌, ◌<◌, ◌*◌, ap, subst, ◌∙◌, arith}
-use Rattle.x86_64_model.specs.Owned.{CleansUp}
+use Rattle.x86_64_model.specs.Mapper.{CleansUp}
 use Rattle.x86_64_model.specs.Path.{span_start}
 use Rattle.x86_64_mappers.proofs.CleanUp.CleanUpEnds.{ends_whole, ends_empty}
 use Rattle.x86_64_mappers.proofs.Entry.EntryEnds.{with_memory}

@@ -1,5 +1,5 @@
 use Rattle.std.proofs.Common.{rules, ◌+◌, ◌≤◌, ◌∙◌, subst₂, ap₂, arith}
-use Rattle.x86_64_model.specs.Owned.{CleansUp}
+use Rattle.x86_64_model.specs.Mapper.{CleansUp}
 use Rattle.x86_64_model.specs.Position.{page_path}
 use Rattle.x86_64_mappers.proofs.Way.PagePaths.{page_start}
 use Rattle.x86_64_mappers.proofs.access.clean_up.clean_up_range.Goals as goal
@@ -12,7 +12,7 @@ returns-clause-cleans g c =
     let done = c.clean_up_paths in
     let L = g.L.LevelCount.LEVELS in
     let known = g.met.M.TablesIn.level_count mapper in
-    let some : 1 ≤ L = omega (arith, g.L.LevelCount.some_levels) in
+    let some : 1 ≤ L = omega (arith, g.L.LevelCount.at_least_four) in
     let first = c.indices.ensures ∙ c.path_of_address-first.ensures.path ∙ ap₂ (λ levels p. page_path levels p) known c.start_address.ensures.value in
     let last = c.indices-2.ensures ∙ c.path_of_address-last.ensures.path ∙ ap₂ (λ levels p. page_path levels p) known c.start_address-2.ensures.value in
     let low = page_start L h.layout.levels c.args.range.start c.indices.result.now some known first (search rules) (search rules) in

@@ -37,7 +37,7 @@ returns-else-contains g c =
     let tested = both_pass c.flags_allowed.result c.is_in_window.result _ (begins_with l.window q) (c.flags_allowed.ensures ∙ allowed) c.is_in_window.ensures c.if-flags_allowed-is_in_window.true in
     let gone : present more ≡ false = sym (c.contains.ensures tt) ∙ c.if-contains.false in
     let last = get_or q (length q - 1) 0 in
-    let parted = path_parted q (length q - 1) (has_last_index q (some_index_of l.levels q g.S.PageSize.LEVEL c.requires.levels (page_below_root l.levels g.S.PageSize.LEVEL (g.met.M.Tables.some_levels c.args.mapper.now) g.S.PageSize.high))) in
+    let parted = path_parted q (length q - 1) (has_last_index q (some_index_of l.levels q g.S.PageSize.LEVEL c.requires.levels (page_below_root l.levels g.S.PageSize.LEVEL (g.met.M.Tables.at_least_four c.args.mapper.now) g.S.PageSize.high))) in
     let all = c.are_present.ensures last (ap (begins_with l.window) parted ∙ not-true _ tested.1) ∙ ap (are_present M) parted in
     sym ((λ i. tested.0 i && (gone i || sym all i) && tested.1 i) ∙ and-true c.are_present.result)
 

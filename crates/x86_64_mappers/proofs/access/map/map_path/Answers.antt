@@ -31,7 +31,7 @@ create_tables-requires-clause-present g c =
     let M = paths l (g.M.Tables.hierarchy s).memory in
     let q = c.args.path.now in
     let more = c.args.parent_flags.0 in
-    let size = has_last_index q (some_index_of l.levels q g.S.PageSize.LEVEL c.requires.levels (page_below_root l.levels g.S.PageSize.LEVEL (g.met.M.Tables.some_levels s) g.S.PageSize.high)) in
+    let size = has_last_index q (some_index_of l.levels q g.S.PageSize.LEVEL c.requires.levels (page_below_root l.levels g.S.PageSize.LEVEL (g.met.M.Tables.at_least_four s) g.S.PageSize.high)) in
     will_be_present M more _ (get_or q (length q - 1) 0) (subst (λ q. parents_present M more q ≡ true) (sym (path_parted q (length q - 1) size))
     (map_may l.levels l.window M q c.args.flags.0 more (map_is_allowed (g.M.Tables.hierarchy c.args.mapper.now) (g.A.FrameAllocator.supply c.args.frame_allocator.now) c.args.path.now c.args.frame c.args.flags.0 c.args.parent_flags.0 c.requires.may)).parents)
 
@@ -42,7 +42,7 @@ returns-in_err-table-clause-does g c =
     let m = (g.M.Tables.hierarchy s).memory in
     let q = c.args.path.now in
     let more = c.args.parent_flags.0 in
-    let size = has_last_index q (some_index_of l.levels q g.S.PageSize.LEVEL c.requires.levels (page_below_root l.levels g.S.PageSize.LEVEL (g.met.M.Tables.some_levels s) g.S.PageSize.high)) in
+    let size = has_last_index q (some_index_of l.levels q g.S.PageSize.LEVEL c.requires.levels (page_below_root l.levels g.S.PageSize.LEVEL (g.met.M.Tables.at_least_four s) g.S.PageSize.high)) in
     let may = map_may l.levels l.window (paths l m) q c.args.flags.0 more (map_is_allowed (g.M.Tables.hierarchy c.args.mapper.now) (g.A.FrameAllocator.supply c.args.frame_allocator.now) c.args.path.now c.args.frame c.args.flags.0 c.args.parent_flags.0 c.requires.may) in
     let e = err_from_is_err_and c.from_residual.result c.from_residual.ensures.1 in
     rw (e.1, e.2) (ends_map (g.M.Tables.hierarchy s) (g.A.FrameAllocator.supply c.args.frame_allocator.now) q c.args.frame c.args.flags.0 more (g.M.Tables.hierarchy c.create_tables.new.mapper) c.create_tables.ensures.layout c.create_tables.ensures.lent _ _
@@ -57,7 +57,7 @@ returns-clause-does g c =
     let q = c.args.path.now in
     let i = c.index-path-last.result in
     let more = c.args.parent_flags.0 in
-    let size = has_last_index q (some_index_of l.levels q g.S.PageSize.LEVEL c.requires.levels (page_below_root l.levels g.S.PageSize.LEVEL (g.met.M.Tables.some_levels s) g.S.PageSize.high)) in
+    let size = has_last_index q (some_index_of l.levels q g.S.PageSize.LEVEL c.requires.levels (page_below_root l.levels g.S.PageSize.LEVEL (g.met.M.Tables.at_least_four s) g.S.PageSize.high)) in
     let may = map_may l.levels l.window (paths l m) q c.args.flags.0 more (map_is_allowed (g.M.Tables.hierarchy c.args.mapper.now) (g.A.FrameAllocator.supply c.args.frame_allocator.now) c.args.path.now c.args.frame c.args.flags.0 c.args.parent_flags.0 c.requires.may) in
     ends_map (g.M.Tables.hierarchy s) (g.A.FrameAllocator.supply c.args.frame_allocator.now) q c.args.frame c.args.flags.0 more (g.M.Tables.hierarchy c.set_leaf.new.mapper)
     (c.set_leaf.ensures.layout ∙ c.create_tables.ensures.layout) (c.set_leaf.ensures.lent ∙ c.create_tables.ensures.lent) _ _

@@ -10,7 +10,7 @@ use Rattle.x86_64_mappers.proofs.Translate.Sought.{IsSoughtAt, sought_first, sou
 use Rattle.x86_64_mappers.proofs.access.translate.translate_along.Goals as goal
 
 pub overflow_sub-last : goal.overflow_sub-last
-overflow_sub-last g c = rw c.requires.levels (positive_levels (g.M.Tables.hierarchy c.args.mapper.now).layout.levels (g.met.M.Tables.some_levels c.args.mapper.now))
+overflow_sub-last g c = rw c.requires.levels (positive_levels (g.M.Tables.hierarchy c.args.mapper.now).layout.levels (g.met.M.Tables.at_least_four c.args.mapper.now))
 
 pub loop-k-init : goal.loop-k-init
 loop-k-init g c =
@@ -66,7 +66,7 @@ returns-then-is_unused g c =
     let s = c.args.mapper.now in
     let l = (g.M.Tables.hierarchy s).layout in
     let m = (g.M.Tables.hierarchy s).memory in
-    let some = positive_levels l.levels (g.met.M.Tables.some_levels s) in
+    let some = positive_levels l.levels (g.met.M.Tables.at_least_four s) in
     let read = last_read l m c.args.indices.now c.args.position c.requires.levels c.requires.path some c.index-indices-last.result c.index-indices-last.is in
     ap Some (sym (found_unused c.loop-k.invariant.way c.entry-entry-2.result.now (omega (arith, c.loop-k.auto.k-end, c.loop-k-test.false, c.requires.levels, some))
     (c.entry-entry-2.ensures.value ∙ ap (word (words l m) c.loop-k.table) read) (let u = c.if-is_unused.ensures in grind (arith, u))))
@@ -76,7 +76,7 @@ returns-else-is_unused g c =
     let s = c.args.mapper.now in
     let l = (g.M.Tables.hierarchy s).layout in
     let m = (g.M.Tables.hierarchy s).memory in
-    let some = positive_levels l.levels (g.met.M.Tables.some_levels s) in
+    let some = positive_levels l.levels (g.met.M.Tables.at_least_four s) in
     let read = last_read l m c.args.indices.now c.args.position c.requires.levels c.requires.path some c.index-indices-last.result c.index-indices-last.is in
     c.leaf_translation-else-is_unused.ensures
     ∙ ap Some (sym (found_small c.loop-k.invariant.way c.entry-entry-2.result.now (omega (arith, c.loop-k.auto.k-end, c.loop-k-test.false, c.requires.levels, some))

@@ -21,7 +21,7 @@ returns-in_err-table g c =
     let m = (g.M.Tables.hierarchy c.args.mapper.now).memory in
     let q = c.args.path.now in
     let level = g.S.PageSize.LEVEL in
-    let size = has_last_index q (some_index_of l.levels q level c.requires.levels (page_below_root l.levels level (g.met.M.Tables.some_levels c.args.mapper.now) g.S.PageSize.high)) in
+    let size = has_last_index q (some_index_of l.levels q level c.requires.levels (page_below_root l.levels level (g.met.M.Tables.at_least_four c.args.mapper.now) g.S.PageSize.high)) in
     let e = err_from_is_err_and c.from_residual.result c.from_residual.ensures.1 in
     rw (e.1, e.2) (sym (translate_stopped l m level q c.requires.levels (length q - 1) size (walk_refusal c.in_err-table.field-0.0) c.in_err-table.ensures.found))
 
@@ -31,7 +31,7 @@ returns g c =
     let m = (g.M.Tables.hierarchy c.args.mapper.now).memory in
     let q = c.args.path.now in
     let level = g.S.PageSize.LEVEL in
-    let size = has_last_index q (some_index_of l.levels q level c.requires.levels (page_below_root l.levels level (g.met.M.Tables.some_levels c.args.mapper.now) g.S.PageSize.high)) in
+    let size = has_last_index q (some_index_of l.levels q level c.requires.levels (page_below_root l.levels level (g.met.M.Tables.at_least_four c.args.mapper.now) g.S.PageSize.high)) in
     let table = c.in_ok-table.table in
     let read = c.entry.ensures.value ∙ ap (word (words l m) table) (last_item q c.index-path-last.result size c.index-path-last.is) in
     same_answer c.named_frame.result

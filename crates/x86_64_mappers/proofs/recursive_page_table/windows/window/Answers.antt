@@ -7,7 +7,7 @@ use Rattle.x86_64_mappers.proofs.recursive_page_table.windows.window.Goals as go
 pub returns-clause-table : goal.returns-clause-table
 returns-clause-table g c =
     let L = g.L.LevelCount.LEVELS in
-    let some = g.L.LevelCount.some_levels in
+    let some = g.L.LevelCount.at_least_four in
     let at = c.new_truncate.ensures ∙ mod-eq_of_lt c.window_position.ensures.inside in
     windows_show_tables L c.args.index (L - length c.args.path.now) c.args.path.now c.new_truncate.result (omega (arith, some))
     (ap (λ p. p % 4096) at ∙ c.window_position.ensures.aligned) (ap (page_path L) at ∙ c.window_position.ensures.path)

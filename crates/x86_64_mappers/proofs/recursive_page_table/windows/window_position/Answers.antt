@@ -27,5 +27,5 @@ returns-clause-inside g c =
 pub overflow_mul-result : goal.overflow_mul-result
 overflow_mul-result g c =
     let inside = returns-clause-inside g c in
-    let few = few_positions g.L.LevelCount.LEVELS g.L.LevelCount.most_levels in
+    let few = few_positions g.L.LevelCount.LEVELS g.L.LevelCount.at_most_five in
     omega (arith, inside, few)

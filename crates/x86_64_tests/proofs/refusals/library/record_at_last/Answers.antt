@@ -1,6 +1,6 @@
 use Rattle.std.proofs.Common.{rules}
 use denote.Param.Always.{mut_by}
-use Rattle.x86_64_model.specs.Marks.{serves_below}
+use Rattle.x86_64_model.specs.Pool.{serves_below}
 use Rattle.x86_64_model.specs.Memory.{identity_places}
 use Rattle.x86_64_mappers.specs.Layouts.{direct}
 use Rattle.x86_64.specs.Runs.{FitsPool}

@@ -1,6 +1,6 @@
 use Rattle.std.proofs.Common.{◌≡◌, ◌/◌, ◌<◌, true, length, rules, arith}
 use Rattle.x86_64_model.specs.Lists.{In}
-use Rattle.x86_64_model.specs.Marks.{serves_below}
+use Rattle.x86_64_model.specs.Pool.{serves_below}
 use Rattle.x86_64_tables.proofs.Pools.{room, served_back, marked_back}
 use Rattle.x86_64_tables.proofs.frame_alloc.pool.FramePool.try_add.Goals as goal
 

@@ -18,7 +18,7 @@ use Rattle.x86_64_tables.specs.contracts.frame_alloc.pool.FramePoolFrameDealloca
 use Rattle.x86_64_tables.specs.contracts.frame_alloc.pool.FramePoolFrameDeallocatorSize4KiB.deallocate_frame as own
 use Rattle.x86_64_tables.specs.contracts.frame_alloc.pool.FramePoolFrameKeeperSize4KiB.TheImpl as keeper
 use Rattle.std.proofs.Common.{[], true, refl, ap}
-use Rattle.x86_64_model.specs.Marks.{serves_below}
+use Rattle.x86_64_model.specs.Pool.{serves_below}
 use base.Logic.{SProp, ent, sep, id⊢, mono_r}
 use contract.BorrowLft.{⊑_refl}
 use contract.Lifetimes.{Lfts}

@@ -1,6 +1,6 @@
 use Rattle.std.proofs.Common.{◌≡◌, true, rules, arith}
 use Rattle.x86_64_model.specs.Lists.{In}
-use Rattle.x86_64_model.specs.Marks.{serves_below}
+use Rattle.x86_64_model.specs.Pool.{serves_below}
 use Rattle.x86_64_tables.proofs.Pools.{room}
 use Rattle.x86_64_tables.proofs.frame_alloc.pool.FramePoolFrameDeallocatorSize4KiB.deallocate_frame.Goals as goal
 

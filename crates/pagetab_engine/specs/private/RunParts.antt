@@ -1,0 +1,80 @@
+-- The parts of a run, by which the functions of the engine say what they do of it.
+use Rattle.std.specs.Prelude.{◌≡◌, ℕ, ⊤, if◌then◌else◌, nat_lt, List, [], ◌∷◌, ◌++◌, flat_map, Option, Some, None, Result, Ok, Err}
+use Rattle.std.specs.FinMap.{get}
+use Rattle.std.specs.Io.KnownBytes.{Appends}
+use Rattle.x86_64_tables.specs.PageTable.{zero_words}
+use Rattle.pagetab_engine.specs.Arguments.{Says}
+use Rattle.pagetab_engine.specs.Frames.{IsLoadable, memory_after, free_after}
+use Rattle.pagetab_engine.specs.Hierarchy.{state_of, first_memory, FitsImage, HasCopy, IsReached, Keeps, KeepsFree}
+use Rattle.pagetab_engine.specs.Lines.{Numbered, numbered_from, lines_of, SaysAccepted, IsBad}
+use Rattle.pagetab_engine.specs.Reply.{IsReply, IsToldByBoth, OnlyReads, back_of, state_after}
+use Rattle.pagetab_engine.specs.Texts.{reply_line}
+use Rattle.pagetab_engine.specs.declared.arguments.Arguments.{Arguments}
+use Rattle.pagetab_engine.specs.declared.ending.Ending.{Ending}
+use Rattle.pagetab_engine.specs.declared.ending.Ending.TheVariants.{Done, Stopped}
+use Rattle.pagetab_engine.specs.declared.ending.Fault.{Fault}
+use Rattle.pagetab_engine.specs.declared.ending.Fault.TheVariants.{BadLine, InvalidHierarchy, OutOfMemory, Input, Output, Usage}
+use Rattle.pagetab_engine.specs.declared.hierarchy.Hierarchy.{Hierarchy}
+use Rattle.pagetab_engine.specs.declared.reply.Reply.{Reply}
+use Rattle.pagetab_engine.specs.declared.statement.Command.{Command}
+use Rattle.pagetab_engine.specs.declared.statement.ImageLine.{ImageLine}
+use Rattle.pagetab_engine.specs.declared.statement.Statement.TheVariants as says
+use Rattle.pagetab_engine.specs.Program.{IsForced, SaysCommand, SaysImage, Answers, Serves, IsEmpty, Loads, IsFirst, IsRead, Reads, IsRun, IsFrontPart, AppendsFront, IsCutShort, IsWritten, Runs}
+
+-- the input is read into this hierarchy, and the replies are written
+abbrev pub RunsFrom : (arguments : Arguments) → Hierarchy → (input : List ℕ) → (before after : Option (List ℕ)) → Ending → Type 0
+RunsFrom arguments hierarchy input before after ending =
+    (replies : List Reply) × Reads arguments (numbered_from 1 (lines_of input)) hierarchy ending replies × IsWritten before after ending replies
+
+abbrev pub ending_of : Result (Unit {0}) Fault → Ending
+ending_of (Ok done) = Done
+ending_of (Err fault) = Stopped fault
+
+-- a run that goes on so from these lines and this hierarchy goes on so from those
+abbrev pub Follows : (arguments : Arguments) (lines : List Numbered) (before : Hierarchy) (left : List Numbered) (after : Hierarchy) → Type 0
+Follows arguments lines before left after = (ending : Ending) (replies : List Reply) → Reads arguments left after ending replies → Reads arguments lines before ending replies
+
+-- what is left after an image: the line of the first command and those behind it, or no line
+abbrev pub IsLeft : (arguments : Arguments) → (first : Option Command) → (behind left : List Numbered) → Type 0
+IsLeft arguments None behind left = left ≡ []
+IsLeft arguments (Some command) behind left = (line : Numbered) × SaysCommand arguments line command × (left ≡ line ∷ behind)
+
+-- the lines begin with an image, which was loaded
+abbrev pub LoadsImage : (arguments : Arguments) → (lines : List Numbered) → (before : Hierarchy) → (first : Option Command) → (behind : List Numbered) → (after : Hierarchy) → Type 0
+LoadsImage arguments lines before first behind after = (left : List Numbered) × IsLeft arguments first behind left × Follows arguments lines before left after
+
+-- a line was bad, or a read failed
+abbrev pub IsUnread : Fault → Type 0
+IsUnread (BadLine number) = ⊤
+IsUnread Input = ⊤
+IsUnread fault = ⊥
+
+-- the image ends at a bad line, or at a read that failed
+abbrev pub StopsInImage : (arguments : Arguments) (lines : List Numbered) → Hierarchy → Fault → Type 0
+StopsInImage arguments lines before fault = IsUnread fault × Reads arguments lines before (Stopped fault) []
+
+-- a command was answered, and the reply written
+abbrev pub Replies : Command → (before after : Hierarchy) → (old new : Option (List ℕ)) → Type 0
+Replies command before after old new = (reply : Reply) × Answers command before reply after × Appends old new (reply_line reply)
+
+-- a command was answered, and the write of the reply failed
+abbrev pub IsUnwritten : Command → (before after : Hierarchy) → (old new : Option (List ℕ)) → Type 0
+IsUnwritten command before after old new =
+    (reply : Reply) × Answers command before reply after × AppendsFront old new (reply_line reply)
+
+-- the program was forced to stop at a command: memory was refused, and nothing more is written, or a write failed
+abbrev pub StopsAt : Command → (before after : Hierarchy) → (old new : Option (List ℕ)) → Fault → Type 0
+StopsAt command before after old new OutOfMemory = Appends old new []
+StopsAt command before after old new Output = IsUnwritten command before after old new
+StopsAt command before after old new fault = ⊥
+
+-- where a line says the first command, it and the lines behind it were served
+abbrev pub Served : (arguments : Arguments) → (first : Command) → (behind : List Numbered) → Hierarchy → (old new : Option (List ℕ)) → Ending → Type 0
+Served arguments first behind before old new ending = (line : Numbered) → SaysCommand arguments line first
+    → (replies : List Reply) × Serves arguments (line ∷ behind) before ending replies × IsWritten old new ending replies
+
+-- where a line says the first command, it and the lines up to those that are left were served
+abbrev pub ServedUntil : (arguments : Arguments) → (first : Command) → (behind : List Numbered) → (before : Hierarchy) → (old new : Option (List ℕ)) → (left : List Numbered) → (after : Hierarchy) → Type 0
+ServedUntil arguments first behind before old new left after = (line : Numbered) → SaysCommand arguments line first
+    → (replies : List Reply) × Appends old new (flat_map reply_line replies)
+    × ((ending : Ending) (more : List Reply) → Serves arguments left after ending more → Serves arguments (line ∷ behind) before ending (replies ++ more))

@@ -1,0 +1,4 @@
+pub mod Alike
+pub mod AlikeEntries
+pub mod AlikeMaps
+pub mod AlikeRules

@@ -1,0 +1,4 @@
+pub mod Tables
+pub mod Marks
+pub mod MapperCalls
+pub mod WalkDown

@@ -1,0 +1,34 @@
+-- What the marks of an view tell: whether its tables and the frames of a pool are sound.
+use Rattle.std.proofs.Common.{◌≡◌, ◌↔◌, ◌<◌, ℕ, Bool, true, false, cond, List, length, get_or, Option, Some, None, IsTrue}
+use Rattle.std.specs.FinMap.{keys}
+use Rattle.x86_64_model.specs.Memory.{Memory, Places, IsMapping, Words, words_of}
+use Rattle.x86_64_model.specs.private.Tables.{tables_from, NoneHuge, SoundTables}
+use Rattle.x86_64_model.specs.private.Marks.{spot_of, mark_all}
+use Rattle.x86_64_model.specs.Pool.{serves_below}
+use Rattle.x86_64_model.proofs.Lemmas.Tables.Keyed.{spots_of}
+use Rattle.x86_64_model.proofs.Lemmas.Tables.Checked.{still_there, was_there, refused_tables, accepted_pool}
+use Rattle.x86_64_tables.specs.private.Views.{seen, mark_slot}
+
+module _ (memory : Memory) (places : Places) (mapping : IsMapping places) (root : ℕ) (recursive : Option ℕ) (limit levels : ℕ)
+    (pool : List ℕ) (marks : List Bool) (clear : (k : ℕ) → k < length (keys memory) → get_or marks k true ≡ false) where
+  abbrev words : Words
+  words = words_of memory places
+
+  abbrev IsSound : Type 0
+  IsSound = SoundTables levels (seen memory places root recursive) root (serves_below limit) pool
+
+  -- the marks of the tables
+  abbrev tables_marked : Option (List Bool)
+  tables_marked = mark_all (mark_slot memory places root limit) marks (tables_from levels (seen memory places root recursive) root)
+
+  pub refused : None ≡ tables_marked → IsSound → ⊥
+  refused = refused_tables words (length (keys memory)) (spot_of memory places) (spots_of memory places mapping.distinct)
+      root (serves_below limit) levels (seen memory places root recursive) pool marks clear
+      (still_there recursive root words) (was_there recursive root words)
+
+  -- the pool is marked after the tables
+  pub accepted : NoneHuge levels (seen memory places root recursive) root → (m new : List Bool) → Some m ≡ tables_marked
+      → (b : Bool) → cond b (Some new) None ≡ mark_all (mark_slot memory places root limit) m pool → IsTrue b ↔ IsSound
+  accepted = accepted_pool words (length (keys memory)) (spot_of memory places) (spots_of memory places mapping.distinct)
+      root (serves_below limit) levels (seen memory places root recursive) pool marks clear
+      (still_there recursive root words) (was_there recursive root words)

@@ -1,7 +1,0 @@
-use Rattle.std.proofs.Common.{◌∙◌, ap}
-use Rattle.x86_64_tables.specs.private.Images.{below_word}
-use Rattle.x86_64_tables.proofs.WordsSeen.{zero_names_none}
-use Rattle.x86_64_tables.proofs.phys_memory.image.Image.table_below.Goals as goal
-
-pub returns-in-None : goal.returns-in-None
-returns-in-None g c = zero_names_none ∙ ap below_word c.in-None.ensures

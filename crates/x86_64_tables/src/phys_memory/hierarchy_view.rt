@@ -1,0 +1,138 @@
+//! A hierarchy as it is read: the words of its tables, past the root's word at the recursive index.
+ghost use Rattle.std.specs.Prelude.{◌≡◌, ◌<◌, ◌↔◌, IsTrue, unwrap_or};
+ghost use Rattle.std.specs.Option.{option_copied};
+ghost use Rattle.x86_64_model.specs.Entry.{huge};
+ghost use Rattle.x86_64_model.specs.Memory.{word, words_of};
+ghost use Rattle.x86_64_model.specs.private.Tables.{NoneHuge};
+ghost use Rattle.x86_64_tables.specs.private.Views.{seen, below_word};
+ghost use Rattle.x86_64_tables.specs.SelfEntries.{has_self_entry, names_frame};
+
+use super::walk::{entry_at, has_flag};
+use super::{PageTableFrameMapping, PhysMemory};
+use crate::page_table::{PageTableEntry, PageTableFlags};
+use bitflags::Flags;
+use x86_64_addr::index::PageTableIndex;
+use x86_64_page::frame::PhysFrame;
+use x86_64_page::page::Size4KiB;
+
+/// Holds a hierarchy to be read: its root in a memory, past the root's word at the recursive index where there is one.
+#[derive(Drop)]
+pub(super) struct HierarchyView<'a, P> {
+    pub(super) memory: &'a PhysMemory,
+    pub(super) mapping: P,
+    pub(super) root: PhysFrame<Size4KiB>,
+    pub(super) recursive: Option<PageTableIndex>,
+}
+
+impl<'a, P: PageTableFrameMapping> HierarchyView<'a, P> {
+    /// Tells whether no word above level three has `HUGE_PAGE`, from the table in a frame through so many levels.
+    pub(super) fn none_huge(&self, frame: PhysFrame<Size4KiB>, levels: u8) -> bool
+        ensures { let view = self.now in let places = P.places view.mapping in
+            let words = seen view.memory.now places view.root view.recursive in
+            IsTrue result ↔ NoneHuge levels words frame }
+    {
+        if 2 < levels {
+            for index in 0..512 {
+                if self.is_huge(frame, index) {
+                    return false;
+                }
+                if let Some(below) = self.table_below(frame, index) {
+                    if !self.none_huge(below, levels - 1) {
+                        return false;
+                    }
+                }
+            }
+        }
+        true
+    }
+
+    /// Tells whether the word at an index of the table in a frame has `HUGE_PAGE`.
+    fn is_huge(&self, frame: PhysFrame<Size4KiB>, index: usize) -> bool
+        requires { index < 512 }
+        ensures { let view = self.now in let places = P.places view.mapping in
+            let words = seen view.memory.now places view.root view.recursive in
+            result ≡ huge (word words frame index) }
+    {
+        match self.entry(frame, index) {
+            Some(entry) => has_flag(entry, PageTableFlags::HUGE_PAGE),
+            None => false,
+        }
+    }
+
+    /// Gives the frame of the table that the word at an index of the table in a frame names.
+    pub(super) fn table_below(
+        &self,
+        frame: PhysFrame<Size4KiB>,
+        index: usize,
+    ) -> Option<PhysFrame<Size4KiB>>
+        requires { index < 512 }
+        ensures { let view = self.now in let places = P.places view.mapping in
+            let words = seen view.memory.now places view.root view.recursive in
+            result ≡ below_word (word words frame index) }
+    {
+        match self.entry(frame, index) {
+            Some(entry) => named_table(entry),
+            None => None,
+        }
+    }
+
+    /// Gives the word at an index of the table in a frame, 0 where there is none.
+    #[tactic(auto, using(x86_64_model::proofs::Lemmas::Entries::Bits::whole))]
+    pub(super) fn word(&self, frame: PhysFrame<Size4KiB>, index: usize) -> u64
+        requires { index < 512 }
+        ensures { let view = self.now in let places = P.places view.mapping in
+            let words = seen view.memory.now places view.root view.recursive in
+            result ≡ word words frame index }
+    {
+        match self.entry(frame, index) {
+            Some(entry) => entry.addr().as_u64() | entry.flags().bits(),
+            None => 0,
+        }
+    }
+
+    /// Reads the entry at an index of the table in a frame, if there is one and it is not the recursive one.
+    fn entry(&self, frame: PhysFrame<Size4KiB>, index: usize) -> Option<&'a PageTableEntry>
+        requires { index < 512 }
+        ensures { let view = self.now in let places = P.places view.mapping in
+            let words = seen view.memory.now places view.root view.recursive in
+            unwrap_or (option_copied result) 0 ≡ word words frame index }
+    {
+        match self.recursive {
+            Some(recursive) if frame == self.root && index == usize::from(recursive) => None,
+            _ => entry_at(self.memory, &self.mapping, frame, index),
+        }
+    }
+}
+
+/// Tells whether the word at an index of the table in the root's frame, if there is one, gives the root as `frame`.
+pub(super) fn has_self_entry<P: PageTableFrameMapping>(
+    memory: &PhysMemory,
+    mapping: &P,
+    root: PhysFrame<Size4KiB>,
+    index: PageTableIndex,
+) -> bool
+    ensures { result ≡ has_self_entry (words_of memory.now (P.places mapping.now)) root index }
+{
+    match entry_at(memory, mapping, root, usize::from(index)) {
+        Some(entry) => names_frame(entry, root),
+        None => false,
+    }
+}
+
+/// Tells whether an entry gives a frame as `frame`.
+fn names_frame(entry: &PageTableEntry, frame: PhysFrame<Size4KiB>) -> bool
+    ensures { result ≡ names_frame entry.now frame }
+{
+    entry.frame() == Ok(frame)
+}
+
+/// Gives the frame of the table that an entry above level one names: a used entry without `HUGE_PAGE`.
+fn named_table(entry: &PageTableEntry) -> Option<PhysFrame<Size4KiB>>
+    ensures { result ≡ below_word entry.now }
+{
+    if entry.is_unused() || has_flag(entry, PageTableFlags::HUGE_PAGE) {
+        None
+    } else {
+        Some(PhysFrame::from_start_address_unchecked(entry.addr()))
+    }
+}
