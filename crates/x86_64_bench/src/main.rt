@@ -9,9 +9,9 @@
 #![tactic(auto)]
 
 mod load;
+mod page_calls;
 mod report;
 mod rounds;
-mod subject;
 mod workload;
 
 use crate::load::report_loads;

@@ -1,22 +1,27 @@
 //! One round: a new hierarchy in which all pages are mapped, translated and unmapped, and which is cleaned up.
-ghost use Rattle.std.specs.Prelude.{◌≡◌};
+ghost use Rattle.std.specs.Prelude.{◌≡◌, ◌↔◌, IfOk, IsTrue};
 ghost use Rattle.x86_64_model.specs.Pool.{serves_below};
+ghost use Rattle.x86_64_model.specs.Memory.{identity_places};
 ghost use Rattle.x86_64_model.specs.Mapper.{Valid, SupplyFits, MayCleanUp};
+ghost use Rattle.x86_64_mappers.specs.Layouts.{direct_at};
+ghost use Rattle.x86_64.specs.Runs.{FitsPool};
 
-use crate::subject::Subject;
+use crate::page_calls::{finds_page, map_page, unmap_page};
 use crate::workload::Workload;
 use bitflags::Flags;
 use std::alloc::{AllocError, Global};
 use std::io;
 use std::time::{Clock, Duration, Instant};
-use x86_64::structures::paging::mapper::{MappedPageTable, MappedPageTable57, RecursivePageTable};
+use x86_64::structures::paging::mapper::RecursivePageTable;
 use x86_64::structures::paging::{
     FrameAllocator, PageSize, PageTableFlags, PageTableIndex, PhysFrame, Size4KiB,
 };
 use x86_64::{
-    ActiveMemory, FramePlace, FramePool, IdentityMapping, PhysAddr, PhysMemory, pool_fits,
-    pool_fits_57, pool_fits_recursive,
+    ActiveMemory, FiveLevels, FourLevels, FramePlace, FramePool, IdentityMapping, LevelCount,
+    PhysAddr, PhysMemory, TablesIn, pool_fits, pool_fits_57, pool_fits_recursive,
 };
+use x86_64_mappers::calls::{TableAccess, clean_up};
+use x86_64_mappers::mapped_page_table::MappedPageTableIn;
 
 /// How often all pages are translated in a round.
 const TRANSLATIONS: u64 = 10;
@@ -83,7 +88,7 @@ impl Access {
 }
 
 /// Maps all pages, and gives how many were mapped.
-fn map_all<S: PageSize, M: Subject<S>, A: FrameAllocator<Size4KiB>>(
+fn map_all<S: PageSize, L: LevelCount, M: TableAccess + TablesIn<L>, A: FrameAllocator<Size4KiB>>(
     mapper: &mut M,
     allocator: &mut A,
     workload: Workload,
@@ -93,41 +98,55 @@ fn map_all<S: PageSize, M: Subject<S>, A: FrameAllocator<Size4KiB>>(
 {
     let mut mapped = 0_u64;
     for k in 0..workload.pages {
-        mapped = mapped.saturating_add(u64::from(mapper.map_page(workload, k, allocator)));
+        let done = map_page::<S, L, _, _>(mapper, workload, k, allocator);
+        mapped = mapped.saturating_add(u64::from(done));
     }
     mapped
 }
 
 /// Unmaps all pages, and gives how many were unmapped.
-fn unmap_all<S: PageSize, M: Subject<S>>(mapper: &mut M, workload: Workload) -> u64
+fn unmap_all<S: PageSize, L: LevelCount, M: TableAccess + TablesIn<L>>(
+    mapper: &mut M,
+    workload: Workload,
+) -> u64
     requires { Valid (M.hierarchy mapper.old) }
     ensures { Valid (M.hierarchy mapper.new) }
 {
     let mut unmapped = 0_u64;
     for k in 0..workload.pages {
-        unmapped = unmapped.saturating_add(u64::from(mapper.unmap_page(workload, k)));
+        let done = unmap_page::<S, L, _>(mapper, workload, k);
+        unmapped = unmapped.saturating_add(u64::from(done));
     }
     unmapped
 }
 
 /// Translates all pages in an order ten times, and gives how often one is mapped to its frame.
-fn translate_all<S: PageSize, M: Subject<S>>(mapper: &M, workload: Workload, order: &[u32]) -> u64
+fn translate_all<S: PageSize, L: LevelCount, M: TableAccess + TablesIn<L>>(
+    mapper: &M,
+    workload: Workload,
+    order: &[u32],
+) -> u64
     requires { Valid (M.hierarchy mapper.now) }
 {
     let mut found = 0_u64;
     for _ in 0..TRANSLATIONS {
-        found = found.saturating_add(translate_once::<S, M>(mapper, workload, order));
+        found = found.saturating_add(translate_once::<S, L, _>(mapper, workload, order));
     }
     found
 }
 
 /// Translates all pages in an order, and gives how many are mapped to their frames.
-fn translate_once<S: PageSize, M: Subject<S>>(mapper: &M, workload: Workload, order: &[u32]) -> u64
+fn translate_once<S: PageSize, L: LevelCount, M: TableAccess + TablesIn<L>>(
+    mapper: &M,
+    workload: Workload,
+    order: &[u32],
+) -> u64
     requires { Valid (M.hierarchy mapper.now) }
 {
     let mut found = 0_u64;
     for k in order {
-        found = found.saturating_add(u64::from(mapper.finds_page(workload, *k)));
+        let done = finds_page::<S, L, _>(mapper, workload, *k);
+        found = found.saturating_add(u64::from(done));
     }
     found
 }
@@ -204,7 +223,7 @@ struct Calls {
 }
 
 /// Maps, translates and unmaps all pages of a workload, which are of a size, by a mapper.
-fn measure_calls<S: PageSize, M: Subject<S>>(
+fn measure_calls<S: PageSize, L: LevelCount, M: TableAccess + TablesIn<L>>(
     clock: &impl Clock,
     mapper: &mut M,
     pool: &mut FramePool,
@@ -214,19 +233,19 @@ fn measure_calls<S: PageSize, M: Subject<S>>(
     requires { SupplyFits (M.hierarchy mapper.old) pool.old.frames }
 {
     let start = Instant::now(clock)?;
-    let count = map_all::<S, _, _>(mapper, pool, workload);
+    let count = map_all::<S, L, _, _>(mapper, pool, workload);
     let map = Part {
         count,
         time: start.elapsed(clock)?,
     };
     let start = Instant::now(clock)?;
-    let count = translate_all::<S, _>(mapper, workload, order);
+    let count = translate_all::<S, L, _>(mapper, workload, order);
     let translate = Part {
         count,
         time: start.elapsed(clock)?,
     };
     let start = Instant::now(clock)?;
-    let count = unmap_all::<S, _>(mapper, workload);
+    let count = unmap_all::<S, L, _>(mapper, workload);
     let unmap = Part {
         count,
         time: start.elapsed(clock)?,
@@ -239,7 +258,7 @@ fn measure_calls<S: PageSize, M: Subject<S>>(
 }
 
 /// Cleans up by a mapper.
-fn measure_clean_up<S: PageSize, M: Subject<S>>(
+fn measure_clean_up<L: LevelCount, M: TableAccess + TablesIn<L>>(
     clock: &impl Clock,
     mapper: &mut M,
     pool: &mut FramePool,
@@ -248,7 +267,7 @@ fn measure_clean_up<S: PageSize, M: Subject<S>>(
 {
     let free = pool.len();
     let start = Instant::now(clock)?;
-    mapper.take_empty_tables(pool);
+    clean_up::<L, _, _>(mapper, pool);
     let time = start.elapsed(clock)?;
     let count = pool.len().saturating_sub(free) as u64;
     Ok(Part { count, time })
@@ -270,45 +289,39 @@ pub fn measure<S: PageSize>(
     let (memory, pool) = (&mut memory, &mut pool);
     match access {
         Access::Direct | Access::Sparse => {
-            measure_direct::<S>(alloc, clock, memory, pool, workload, &order)
+            measure_direct::<S, FourLevels>(alloc, clock, memory, pool, workload, &order)
         }
-        Access::FiveLevels => measure_direct_57::<S>(alloc, clock, memory, pool, workload, &order),
+        Access::FiveLevels => {
+            measure_direct::<S, FiveLevels>(alloc, clock, memory, pool, workload, &order)
+        }
         Access::Recursive => measure_recursive::<S>(alloc, clock, memory, pool, workload, &order),
     }
 }
 
-/// Does a round by the mapper that reaches tables by their frames.
-fn measure_direct<S: PageSize>(
+/// Tells whether the words below a root are a valid hierarchy of `L` levels, and a pool fits it.
+///
+/// # Errors
+///
+/// `AllocError` where memory is refused.
+fn pool_fits_in<L: LevelCount>(
     alloc: Global,
-    clock: &impl Clock,
-    memory: &mut PhysMemory,
-    pool: &mut FramePool,
-    workload: Workload,
-    order: &[u32],
-) -> io::Result<Option<Round>> {
-    let root = root();
-    if !pool_fits(alloc, memory, &IdentityMapping, root, pool)? {
-        return Ok(None);
+    memory: &PhysMemory,
+    root: PhysFrame<Size4KiB>,
+    pool: &FramePool,
+) -> Result<bool, AllocError>
+    ensures { let layout = direct_at L.LEVELS identity_places root in
+        let serves = serves_below pool.now.limit in
+        IfOk result (λ fits. IsTrue fits ↔ FitsPool layout memory.now serves pool.now.frames) }
+{
+    if L::LEVELS == 4 {
+        pool_fits(alloc, memory, &IdentityMapping, root, pool)
+    } else {
+        pool_fits_57(alloc, memory, &IdentityMapping, root, pool)
     }
-    let free = pool.len();
-    let mut mapper = MappedPageTable::new(memory, root, IdentityMapping);
-    let calls = measure_calls::<S, _>(clock, &mut mapper, pool, workload, order)?;
-    drop(mapper);
-    let tables = free.saturating_sub(pool.len());
-    if !pool_fits(alloc, memory, &IdentityMapping, root, pool)? {
-        return Ok(None);
-    }
-    let mut mapper = MappedPageTable::new(memory, root, IdentityMapping);
-    let clean_up = measure_clean_up::<S, _>(clock, &mut mapper, pool)?;
-    Ok(Some(Round {
-        calls,
-        clean_up,
-        tables,
-    }))
 }
 
-/// Does a round by the mapper of five levels that reaches tables by their frames.
-fn measure_direct_57<S: PageSize>(
+/// Does a round by the mapper of `L` levels that reaches tables by their frames.
+fn measure_direct<S: PageSize, L: LevelCount>(
     alloc: Global,
     clock: &impl Clock,
     memory: &mut PhysMemory,
@@ -317,19 +330,19 @@ fn measure_direct_57<S: PageSize>(
     order: &[u32],
 ) -> io::Result<Option<Round>> {
     let root = root();
-    if !pool_fits_57(alloc, memory, &IdentityMapping, root, pool)? {
+    if !pool_fits_in::<L>(alloc, memory, root, pool)? {
         return Ok(None);
     }
     let free = pool.len();
-    let mut mapper = MappedPageTable57::new(memory, root, IdentityMapping);
-    let calls = measure_calls::<S, _>(clock, &mut mapper, pool, workload, order)?;
+    let mut mapper = MappedPageTableIn::<IdentityMapping, L>::new(memory, root, IdentityMapping);
+    let calls = measure_calls::<S, L, _>(clock, &mut mapper, pool, workload, order)?;
     drop(mapper);
     let tables = free.saturating_sub(pool.len());
-    if !pool_fits_57(alloc, memory, &IdentityMapping, root, pool)? {
+    if !pool_fits_in::<L>(alloc, memory, root, pool)? {
         return Ok(None);
     }
-    let mut mapper = MappedPageTable57::new(memory, root, IdentityMapping);
-    let clean_up = measure_clean_up::<S, _>(clock, &mut mapper, pool)?;
+    let mut mapper = MappedPageTableIn::<IdentityMapping, L>::new(memory, root, IdentityMapping);
+    let clean_up = measure_clean_up::<L, _>(clock, &mut mapper, pool)?;
     Ok(Some(Round {
         calls,
         clean_up,
@@ -353,14 +366,14 @@ fn measure_recursive<S: PageSize>(
     }
     let free = pool.len();
     let mut mapper = RecursivePageTable::new_unchecked(ActiveMemory::new(memory, root), index);
-    let calls = measure_calls::<S, _>(clock, &mut mapper, pool, workload, order)?;
+    let calls = measure_calls::<S, FourLevels, _>(clock, &mut mapper, pool, workload, order)?;
     drop(mapper);
     let tables = free.saturating_sub(pool.len());
     if !pool_fits_recursive(alloc, memory, root, index, pool)? {
         return Ok(None);
     }
     let mut mapper = RecursivePageTable::new_unchecked(ActiveMemory::new(memory, root), index);
-    let clean_up = measure_clean_up::<S, _>(clock, &mut mapper, pool)?;
+    let clean_up = measure_clean_up::<FourLevels, _>(clock, &mut mapper, pool)?;
     Ok(Some(Round {
         calls,
         clean_up,

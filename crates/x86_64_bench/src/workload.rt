@@ -2,8 +2,10 @@
 ghost use Rattle.std.specs.Prelude.{◌≡◌, ◌<◌, ◌≤◌};
 
 use std::alloc::{AllocError, Global};
-use x86_64::structures::paging::{Page, Page57, PageSize, PhysFrame};
-use x86_64::{PhysAddr, VirtAddr, VirtAddr57};
+use x86_64::structures::paging::{PageSize, PhysFrame};
+use x86_64::{LevelCount, PhysAddr};
+use x86_64_addr::addr::VirtAddrIn;
+use x86_64_page::page::PageIn;
 
 /// How many numbers of pages there are in a scattered workload.
 const SCATTERED_PAGES: u64 = 1 << 22;
@@ -35,13 +37,8 @@ impl Workload {
     }
 
     /// Gives the `k`-th page.
-    pub fn page<S: PageSize>(self, k: u32) -> Page<S> {
-        Page::containing_address(VirtAddr::new_truncate(self.page_start::<S>(k)))
-    }
-
-    /// Gives the same page where there are five levels of tables.
-    pub fn page_57<S: PageSize>(self, k: u32) -> Page57<S> {
-        Page57::containing_address(VirtAddr57::new_truncate(self.page_start::<S>(k)))
+    pub fn page<S: PageSize, L: LevelCount>(self, k: u32) -> PageIn<S, L> {
+        PageIn::containing_address(VirtAddrIn::new_truncate(self.page_start::<S>(k)))
     }
 
     /// Gives the address of the `k`-th page.
