@@ -2,10 +2,10 @@
 //! compare faster bodies with it.
 #![tactic(auto)]
 
-pub mod conditions;
 pub mod calls;
 pub mod changes;
 pub mod cleaning;
+pub mod conditions;
 pub mod entries;
 pub mod machine;
 pub mod maps;

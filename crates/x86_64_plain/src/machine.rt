@@ -9,10 +9,10 @@ ghost use Rattle.x86_64_plain.specs.Windows.{entry_read};
 ghost use Rattle.x86_64_plain.specs.Calls.{call_of, reply_of, translated_of};
 ghost use Rattle.x86_64_plain.specs.Machine.{CanAdd, machine_of, state_of, put_in_front, outcome, allowed_outcome};
 
-use crate::conditions::{is_allowed, parent_part};
 use crate::calls::{PlainCall, PlainReply, Translated};
 use crate::changes::{set_flags, translate_page, unmap, update_flags};
 use crate::cleaning::clean_up;
+use crate::conditions::{is_allowed, parent_part};
 use crate::entries::PathEntries;
 use crate::maps::map_call;
 use crate::positions::path_at;

@@ -14,9 +14,9 @@ mod outcomes;
 mod session;
 
 use crate::assertions::unwrap;
-use crate::untrusted_images::IMAGES;
 use crate::images::ROOT;
 use crate::rows::Word;
+use crate::untrusted_images::IMAGES;
 use chooser::Chooser;
 use modes::{Levels, Mode, Way};
 use outcomes::{Met, OUTCOMES, OUTCOMES_OF_LEVEL_5, Outcomes};

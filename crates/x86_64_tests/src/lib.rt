@@ -6,9 +6,9 @@ mod agreement;
 #[cfg(test)]
 mod assertions;
 #[cfg(test)]
-mod counting;
+mod call_rows;
 #[cfg(test)]
-mod untrusted_images;
+mod counting;
 #[cfg(test)]
 mod images;
 #[cfg(test)]
@@ -24,4 +24,4 @@ mod rows;
 #[cfg(test)]
 mod streams;
 #[cfg(test)]
-mod call_rows;
+mod untrusted_images;

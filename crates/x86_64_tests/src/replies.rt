@@ -1,6 +1,6 @@
 //! Replies of the plain program as those of `run`.
+use crate::call_rows::{CallRow, PageCallRow, call_of};
 use crate::images::{flags_of, frame_at, page_at};
-use crate::call_rows::{PageCallRow, CallRow, call_of};
 use x86_64::structures::paging::mapper::{
     FlagUpdateError, MapToError, MappedFrame, MapperFlush, TranslateError, TranslateResult,
     UnmapError,

@@ -20,14 +20,14 @@ mod tokens;
 mod walks;
 
 use crate::assertions::{assert_equal_in, unwrap, unwrap_some};
+use crate::call_rows::CallRow;
+use crate::call_rows::CallRow::{Large, Small};
+use crate::call_rows::PageCallRow::MapTo;
 use crate::images::{
     ROOT, WORD_COUNT, fill, frame_at, pool_of, run_at_offset, run_on, run_over, run_recursive_on,
     set_word, word_at,
 };
 use crate::replies::wanted_of;
-use crate::call_rows::PageCallRow::MapTo;
-use crate::call_rows::CallRow;
-use crate::call_rows::CallRow::{Large, Small};
 use std::alloc::Global;
 use std::process::Abort;
 use walks::{Walk, compare_walks};

@@ -1,25 +1,17 @@
 -- The parts of a run, by which the functions of the engine say what they do of it.
-use Rattle.std.specs.Prelude.{◌≡◌, ℕ, ⊤, if◌then◌else◌, nat_lt, List, [], ◌∷◌, ◌++◌, flat_map, Option, Some, None, Result, Ok, Err}
-use Rattle.std.specs.FinMap.{get}
+use Rattle.std.specs.Prelude.{◌≡◌, ℕ, ⊤, List, [], ◌∷◌, ◌++◌, flat_map, Option, Some, None, Result, Ok, Err}
 use Rattle.std.specs.Io.KnownBytes.{Appends}
-use Rattle.x86_64_tables.specs.PageTable.{zero_words}
-use Rattle.pagetab_engine.specs.Arguments.{Says}
-use Rattle.pagetab_engine.specs.Frames.{IsLoadable, memory_after, free_after}
-use Rattle.pagetab_engine.specs.Hierarchy.{state_of, first_memory, FitsImage, HasCopy, IsReached, Keeps, KeepsFree}
-use Rattle.pagetab_engine.specs.Lines.{Numbered, numbered_from, lines_of, SaysAccepted, IsBad}
-use Rattle.pagetab_engine.specs.Reply.{IsReply, IsToldByBoth, OnlyReads, back_of, state_after}
+use Rattle.pagetab_engine.specs.Lines.{Numbered, numbered_from, lines_of}
 use Rattle.pagetab_engine.specs.Texts.{reply_line}
 use Rattle.pagetab_engine.specs.declared.arguments.Arguments.{Arguments}
 use Rattle.pagetab_engine.specs.declared.ending.Ending.{Ending}
 use Rattle.pagetab_engine.specs.declared.ending.Ending.TheVariants.{Done, Stopped}
 use Rattle.pagetab_engine.specs.declared.ending.Fault.{Fault}
-use Rattle.pagetab_engine.specs.declared.ending.Fault.TheVariants.{BadLine, InvalidHierarchy, OutOfMemory, Input, Output, Usage}
+use Rattle.pagetab_engine.specs.declared.ending.Fault.TheVariants.{BadLine, OutOfMemory, Input, Output}
 use Rattle.pagetab_engine.specs.declared.hierarchy.Hierarchy.{Hierarchy}
 use Rattle.pagetab_engine.specs.declared.reply.Reply.{Reply}
 use Rattle.pagetab_engine.specs.declared.statement.Command.{Command}
-use Rattle.pagetab_engine.specs.declared.statement.ImageLine.{ImageLine}
-use Rattle.pagetab_engine.specs.declared.statement.Statement.TheVariants as says
-use Rattle.pagetab_engine.specs.Program.{IsForced, SaysCommand, SaysImage, Answers, Serves, IsEmpty, Loads, IsFirst, IsRead, Reads, IsRun, IsFrontPart, AppendsFront, IsCutShort, IsWritten, Runs}
+use Rattle.pagetab_engine.specs.Program.{SaysCommand, Answers, Serves, Reads, AppendsFront, IsWritten}
 
 -- the input is read into this hierarchy, and the replies are written
 abbrev pub RunsFrom : (arguments : Arguments) → Hierarchy → (input : List ℕ) → (before after : Option (List ℕ)) → Ending → Type 0

@@ -1,15 +1,14 @@
 -- What the calls of a mapper leave in its memory: one record for each call. m is the memory before, n the memory after.
-use Rattle.std.specs.Prelude.{◌≡◌, ◌≢◌, ◌<◌, ◌+◌, ℕ, true, List, Some}
-use Rattle.std.specs.FinMap.{get}
-use Rattle.x86_64_model.specs.Memory.{Memory, Places}
+use Rattle.std.specs.Prelude.{◌≡◌, ◌<◌, ◌+◌, ℕ, List, Some}
+use Rattle.x86_64_model.specs.Memory.{Memory}
 use Rattle.x86_64_model.specs.Entry.{writable, user}
 use Rattle.x86_64_model.specs.Lists.{In}
-use Rattle.x86_64_model.specs.Pool.{IsTable, IsOwn, Fits}
+use Rattle.x86_64_model.specs.Pool.{IsTable}
 use Rattle.x86_64_model.specs.Refusal.{Answer}
 use Rattle.x86_64_model.specs.MapRule.{map_call}
 use Rattle.x86_64_model.specs.PageRules.{AfterChange, unmap, update_flags, set_flags, translate_page}
 use Rattle.x86_64_model.specs.Arrivals.{Arrives}
-use Rattle.x86_64_model.specs.Layout.{Layout, words, paths, read_entry, walk, Valid, IsReady, Owns, KeepsOthers}
+use Rattle.x86_64_model.specs.Layout.{Layout, paths, read_entry, walk, Valid, IsReady, Owns, KeepsOthers}
 
 -- the root, a table, or a frame that was taken from the supply, of which the rest was left
 abbrev pub Uses : Layout → Memory → (supply rest : List ℕ) → (frame : ℕ) → Type 0

@@ -1,6 +1,6 @@
 -- Marks: a flag for each place of the memory, set where the place's frame was met. Frames can be marked one after another
 -- exactly where each is met once.
-use Rattle.std.specs.Prelude.{ℕ, ◌≡◌, ◌↔◌, ◌<◌, IsSome, ◌/◌, ◌==◌, ◌&&◌, ◌||◌, nat_lt, Bool, true, cond, List, [], ◌∷◌, get_or, set, Option, Some, None, option_and_then}
+use Rattle.std.specs.Prelude.{ℕ, ◌≡◌, ◌↔◌, ◌<◌, IsSome, ◌==◌, ◌||◌, Bool, true, cond, List, [], ◌∷◌, get_or, set, Option, Some, None, option_and_then}
 use Rattle.std.specs.List.{position}
 use Rattle.std.specs.Ordering.{nat_cmp, eq_by_cmp}
 use Rattle.std.specs.FinMap.{keys}

@@ -285,12 +285,7 @@ impl<'a, P: PageTableFrameMapping> HierarchyTest<'a, P> {
             IfOk result (λ b. IsTrue b ↔ IsSound levels words view.root view.recursive serves free) }
     {
         if let Some(index) = self.view.recursive {
-            if !has_self_entry(
-                self.view.memory,
-                &self.view.mapping,
-                self.view.root,
-                index,
-            ) {
+            if !has_self_entry(self.view.memory, &self.view.mapping, self.view.root, index) {
                 return Ok(false);
             }
         }

@@ -1,7 +1,7 @@
 //! Clean ups.
 use super::{CLEANED, Exchange, FIRST, LEVEL_1, LEVEL_2, LEVEL_3, LEVEL_4, MAPPED, Row};
-use crate::call_rows::PageCallRow::{MapTo, SetFlagsP4, Unmap};
 use crate::call_rows::CallRow::{CleanUp, CleanUpRange, Small, Translate, TranslateAddr};
+use crate::call_rows::PageCallRow::{MapTo, SetFlagsP4, Unmap};
 use x86_64_plain::Answer::{Done, Refused};
 use x86_64_plain::PlainReply::{Address, Answered, Cleaned, Position};
 use x86_64_plain::Refusal::PageAlreadyMapped;

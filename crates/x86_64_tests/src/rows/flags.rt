@@ -3,8 +3,10 @@ use super::{
     FIRST, FIRST_LARGE, LARGE_LEVEL_3, LARGE_LEVEL_4, LARGE_MAPPED, LEVEL_1, LEVEL_2, LEVEL_3,
     LEVEL_4, MAPPED, Row,
 };
-use crate::call_rows::PageCallRow::{MapTo, SetFlagsP2, SetFlagsP3, SetFlagsP4, Unmap, UpdateFlags};
 use crate::call_rows::CallRow::{Giant, Large, Small, Translate, TranslateAddr};
+use crate::call_rows::PageCallRow::{
+    MapTo, SetFlagsP2, SetFlagsP3, SetFlagsP4, Unmap, UpdateFlags,
+};
 use x86_64_plain::Answer::{Done, Refused};
 use x86_64_plain::PlainReply;
 use x86_64_plain::PlainReply::{Address, Answered, NotAllowed, Position};

@@ -4,9 +4,9 @@ use super::{
     LEVEL_4, MAPPED, Row, add_exchanges, assert_fits, begin, compare,
 };
 use crate::assertions::{assert_equal, assert_equal_in, unwrap};
-use crate::images::{ROOT, frame_at, run_flushed_on};
-use crate::call_rows::PageCallRow::{SetFlagsP4, Unmap, UpdateFlags};
 use crate::call_rows::CallRow::{CleanUp, CleanUpRange, Large, Small};
+use crate::call_rows::PageCallRow::{SetFlagsP4, Unmap, UpdateFlags};
+use crate::images::{ROOT, frame_at, run_flushed_on};
 use std::alloc::Global;
 use std::process::Abort;
 use x86_64::{FlushItem, FlushRecorder, FramePool, IdentityMapping, PhysMemory};

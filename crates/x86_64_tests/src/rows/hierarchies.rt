@@ -1,9 +1,9 @@
 //! Two hierarchies in one memory, which take their tables from one pool.
 use super::{Row, Word, answer_over, assert_fits, begin_in, compare_pool, compare_words};
 use crate::assertions::unwrap;
-use crate::images::frame_at;
-use crate::call_rows::PageCallRow::{MapTo, Unmap};
 use crate::call_rows::CallRow::{CleanUp, Small};
+use crate::call_rows::PageCallRow::{MapTo, Unmap};
+use crate::images::frame_at;
 use std::alloc::Global;
 use std::process::Abort;
 use x86_64::{FramePool, IdentityMapping, PhysMemory};

@@ -6,10 +6,10 @@ ghost use Rattle.x86_64.specs.Runs.{FitsPool};
 
 use super::{CLEANED, FIRST, Row, add_exchanges, assert_fits, begin, compare};
 use crate::assertions::{assert_equal, unwrap};
+use crate::call_rows::CallRow::{CleanUp, Small, Translate};
+use crate::call_rows::PageCallRow::{Unmap, UpdateFlags};
 use crate::counting::Counting;
 use crate::images::{ROOT, frame_at};
-use crate::call_rows::PageCallRow::{Unmap, UpdateFlags};
-use crate::call_rows::CallRow::{CleanUp, Small, Translate};
 use std::alloc::Global;
 use std::process::Abort;
 use x86_64::structures::paging::{MappedPageTable, PhysFrame, Size4KiB};

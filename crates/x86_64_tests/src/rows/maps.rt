@@ -3,8 +3,8 @@ use super::{
     FIRST, FIRST_LARGE, FREE, LARGE_LEVEL_3, LARGE_LEVEL_4, LARGE_MAPPED, LEVEL_2, LEVEL_3,
     LEVEL_4, MAPPED, Row, UNTOUCHED, WORDS,
 };
-use crate::call_rows::PageCallRow::{IdentityMap, MapTo, TranslatePage, Unmap, UpdateFlags};
 use crate::call_rows::CallRow::{Giant, Large, Small, Translate, TranslateAddr};
+use crate::call_rows::PageCallRow::{IdentityMap, MapTo, TranslatePage, Unmap, UpdateFlags};
 use x86_64_plain::Answer::{Done, Refused};
 use x86_64_plain::PlainReply::{Address, Answered, NotAllowed, Position};
 use x86_64_plain::Refusal::{

@@ -1,7 +1,9 @@
 //! The index of level four that a call names.
 use crate::assertions::assert_equal_in;
+use crate::call_rows::CallRow::{
+    CleanUp, CleanUpRange, Giant, Large, Small, Translate, TranslateAddr,
+};
 use crate::call_rows::PageCallRow::{IdentityMap, MapTo, Unmap, UpdateFlags};
-use crate::call_rows::CallRow::{CleanUp, CleanUpRange, Giant, Large, Small, Translate, TranslateAddr};
 use crate::call_rows::{CallRow, call_of};
 use x86_64::structures::paging::PageTableIndex;
 

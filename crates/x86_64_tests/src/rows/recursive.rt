@@ -2,11 +2,11 @@
 use super::{
     CLEANED, Exchange, FIRST_LARGE, LARGE_MAPPED, LEVEL_2, LEVEL_3, LEVEL_4, MAPPED, Row, Word,
 };
+use crate::call_rows::CallRow::{CleanUp, CleanUpRange, Giant, Large, Small, Translate};
 use crate::call_rows::PageCallRow::{
     MapTo, MapToWithTableFlags, SetFlagsP2, SetFlagsP3, SetFlagsP4, TranslatePage, Unmap,
     UpdateFlags,
 };
-use crate::call_rows::CallRow::{CleanUp, CleanUpRange, Giant, Large, Small, Translate};
 use x86_64_plain::Answer::Done;
 use x86_64_plain::PlainReply::{Answered, Cleaned, NotAllowed, Position};
 use x86_64_plain::Translated::Mapped;

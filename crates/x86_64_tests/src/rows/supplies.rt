@@ -4,9 +4,9 @@ use super::{
     answer_exchanges, answer_row, compare_by,
 };
 use crate::assertions::{assert_equal, unwrap};
-use crate::images::{fill, frame_at};
-use crate::call_rows::PageCallRow::MapTo;
 use crate::call_rows::CallRow::Small;
+use crate::call_rows::PageCallRow::MapTo;
+use crate::images::{fill, frame_at};
 use x86_64_plain::Answer::Refused;
 use x86_64_plain::PlainReply::Answered;
 use x86_64_plain::Refusal::FrameAllocationFailed;

@@ -4,9 +4,9 @@ use super::{
     LEVEL_3, LEVEL_4, MAPPED, RECURSIVE, Row, check_row,
 };
 use crate::assertions::assert_equal_in;
-use crate::images::{ROOT, frame_at};
-use crate::call_rows::PageCallRow::{MapTo, MapToWithTableFlags, UpdateFlags};
 use crate::call_rows::CallRow::{Large, Small};
+use crate::call_rows::PageCallRow::{MapTo, MapToWithTableFlags, UpdateFlags};
+use crate::images::{ROOT, frame_at};
 use std::alloc::Global;
 use std::process::Abort;
 use x86_64::{IdentityMapping, PhysAddr, PhysMemory, VirtAddr, Walked, page_walk};
