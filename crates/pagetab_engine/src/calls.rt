@@ -38,8 +38,8 @@ fn answer_by<L: LevelCount, P5: LevelFiveFlags<L>, M: TableAccess + TablesIn<L>>
 ) -> Result<ReplyIn<L>, AllocError>
     requires { PoolFits (M.hierarchy mapper.old) (serves_below pool.old.limit) pool.old.frames }
     ensures answered { let h = M.hierarchy mapper.old in
-        let memory = (M.hierarchy mapper.new).memory in
-        IfOk result (IsAnswered h.layout h.memory pool.old.frames (asks P5.bits call) memory pool.new.frames) }
+        let memory = (M.hierarchy mapper.new).memory in let asked = asks P5.bits call in
+        IfOk result (IsAnswered h.layout h.memory pool.old.frames asked memory pool.new.frames) }
     ensures unchanged { OnErr result (
         ((M.hierarchy mapper.new).memory ≡ (M.hierarchy mapper.old).memory) × (pool.new ≡ pool.old)) }
     ensures keeps { let h = M.hierarchy mapper.old in
@@ -67,8 +67,8 @@ pub fn answer_direct<L: LevelCount, P5: LevelFiveFlags<L>>(
     call: CallIn<L, P5>,
 ) -> Result<ReplyIn<L>, AllocError>
     requires { FitsPool (direct_layout L.LEVELS) memory.old (serves_below pool.old.limit) pool.old.frames }
-    ensures answered { IfOk result (
-        IsAnswered (direct_layout L.LEVELS) memory.old pool.old.frames (asks P5.bits call) memory.new pool.new.frames) }
+    ensures answered { let layout = direct_layout L.LEVELS in let asked = asks P5.bits call in
+        IfOk result (IsAnswered layout memory.old pool.old.frames asked memory.new pool.new.frames) }
     ensures unchanged { OnErr result ((memory.new ≡ memory.old) × (pool.new ≡ pool.old)) }
     ensures keeps { let serves = serves_below pool.old.limit in
         KeepsPool (direct_layout L.LEVELS) serves memory.old pool.old.frames memory.new pool.new.frames }
@@ -92,10 +92,11 @@ pub fn answer_at_offset<L: LevelCount, P5: LevelFiveFlags<L>>(
     pool: &mut FramePool,
     call: CallIn<L, P5>,
 ) -> Result<ReplyIn<L>, AllocError>
-    requires pool { FitsPool (direct_layout L.LEVELS) memory.old (serves_below pool.old.limit) pool.old.frames }
+    requires pool { let serves = serves_below pool.old.limit in
+        FitsPool (direct_layout L.LEVELS) memory.old serves pool.old.frames }
     requires offset { OffsetFits L.LEVELS memory.old phys_offset }
-    ensures answered { IfOk result (
-        IsAnswered (direct_layout L.LEVELS) memory.old pool.old.frames (asks P5.bits call) memory.new pool.new.frames) }
+    ensures answered { let layout = direct_layout L.LEVELS in let asked = asks P5.bits call in
+        IfOk result (IsAnswered layout memory.old pool.old.frames asked memory.new pool.new.frames) }
     ensures unchanged { OnErr result ((memory.new ≡ memory.old) × (pool.new ≡ pool.old)) }
     ensures keeps { let serves = serves_below pool.old.limit in
         KeepsPool (direct_layout L.LEVELS) serves memory.old pool.old.frames memory.new pool.new.frames }
@@ -152,11 +153,12 @@ pub fn answer_by_both<L: LevelCount, P5: LevelFiveFlags<L>>(
     index: PageTableIndex,
     call: CallIn<L, P5>,
 ) -> Result<ReplyIn<L>, AllocError>
-    requires fits { FitsPool (direct_layout L.LEVELS) memory.old (serves_below pool.old.limit) pool.old.frames }
+    requires fits { let serves = serves_below pool.old.limit in
+        FitsPool (direct_layout L.LEVELS) memory.old serves pool.old.frames }
     requires twin { IsTwin L.LEVELS index memory.old pool.old.frames twin.old }
     requires unnamed { names L.LEVELS P5.bits call index ≡ false }
-    ensures answered { IfOk result (
-        IsAnswered (direct_layout L.LEVELS) memory.old pool.old.frames (asks P5.bits call) memory.new pool.new.frames) }
+    ensures answered { let layout = direct_layout L.LEVELS in let asked = asks P5.bits call in
+        IfOk result (IsAnswered layout memory.old pool.old.frames asked memory.new pool.new.frames) }
     ensures unchanged { OnErr result (
         (memory.new ≡ memory.old) × (pool.new ≡ pool.old) × (twin.new ≡ twin.old)) }
     ensures keeps { let serves = serves_below pool.old.limit in

@@ -61,8 +61,9 @@ pub fn load_unmapped<M: MapperAllSizes>(
     requires fits { SupplyFits (M.hierarchy mapper.old) pool.old.frames }
     requires allowed { All (IsAllowed (M.hierarchy mapper.old)) segments.now }
     requires inside { All IsInside segments.now }
-    requires unmapped { let h = M.hierarchy mapper.old in
-        All (λ s. AllByRecursion (λ x. IsUnmapped (paths h) (entry_path h.layout.levels x)) (small_pages s)) segments.now }
+    requires unmapped { let h = M.hierarchy mapper.old in let levels = h.layout.levels in
+        All (λ s. AllByRecursion (λ x. IsUnmapped (paths h) (entry_path levels x)) (small_pages s))
+        segments.now }
     requires disjoint { Disjoint segments.now }
     ensures enough { IsTrue result ↔ (frames_for segments.now ≤ length pool.old.frames) }
     ensures loaded { IsTrue result → All (IsLoaded small_pages (M.hierarchy mapper.new)) segments.now }

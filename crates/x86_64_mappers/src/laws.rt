@@ -26,9 +26,9 @@ pub fn offset_has_the_tables_of_the_identity<L: LevelCount>(
         (root : ℕ) → Valid (identity root) memory.now ↔ Valid (offset root) memory.now }
     ensures fits { let identity = direct_at L.LEVELS identity_places in
         let offset = direct_at L.LEVELS (offset_places L.LEVELS phys_offset) in
-        (root : ℕ) (serves : ℕ → Bool) (pool : List ℕ) →
-        Fits L.LEVELS None (words (identity root) memory.now) root (paths (identity root) memory.now) serves pool
-        ↔ Fits L.LEVELS None (words (offset root) memory.now) root (paths (offset root) memory.now) serves pool }
+        (root : ℕ) (serves : ℕ → Bool) (pool : List ℕ) → let m = memory.now in
+        Fits L.LEVELS None (words (identity root) m) root (paths (identity root) m) serves pool
+        ↔ Fits L.LEVELS None (words (offset root) m) root (paths (offset root) m) serves pool }
 {}
 
 /// Where an entry of the root names the root itself, the walk of a window arrives at the table that it is for, whatever all
