@@ -2,7 +2,7 @@
 use Rattle.std.proofs.Common.{◌≡◌, ℕ, ◌*◌, ◌/◌, refl, ap, ap₂, ◌∙◌, List, [], ◌∷◌, Option, Some, None, arith}
 use Rattle.std.proofs.Math.Nat.{mul-div_cancel}
 use Rattle.x86_64.specs.Calls.{size_asks, no_bits}
-use Rattle.x86_64.specs.declared.calls.NoLevelFive.{NoLevelFive}
+use Rattle.std.specs.declared.convert.Infallible.{Infallible}
 use Rattle.x86_64.specs.declared.calls.SizeCallIn.{SizeCallIn}
 use Rattle.x86_64.specs.declared.calls.SizeCallIn.TheVariants.{MapTo, MapToWithTableFlags, IdentityMap, Unmap, UpdateFlags, SetFlagsP5, SetFlagsP4, SetFlagsP3, SetFlagsP2, TranslatePage}
 use Rattle.x86_64.specs.declared.calls.CallIn.{CallIn}
@@ -92,10 +92,10 @@ module _ {L P5 : Type 0} (levels : ℕ) (bits : P5 → ℕ) (set_p5 : (S : Type 
 
 -- ---- with four levels, and with five
 
-no_p5 : {L : Type 0} → (S : Type 0) → (page flags : ℕ) → SizeCallIn S L NoLevelFive
+no_p5 : {L : Type 0} → (S : Type 0) → (page flags : ℕ) → SizeCallIn S L Infallible
 no_p5 S page flags = TranslatePage page
 
-no_p5_read : {L : Type 0} (S : Type 0) (page : ℕ) (flags : NoLevelFive) → no_p5 {L = L} S page (no_bits flags) ≡ SetFlagsP5 page flags
+no_p5_read : {L : Type 0} (S : Type 0) (page : ℕ) (flags : Infallible) → no_p5 {L = L} S page (no_bits flags) ≡ SetFlagsP5 page flags
 no_p5_read S page flags = elim flags [ ]
 
 p5 : {L : Type 0} → (S : Type 0) → (page flags : ℕ) → SizeCallIn S L PageTableFlags

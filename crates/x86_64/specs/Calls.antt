@@ -6,12 +6,12 @@ use Rattle.x86_64.specs.Asked as asked
 use Rattle.x86_64.specs.Asked.{PageCall, MapperCall, page_names, names_by}
 use Rattle.x86_64.specs.declared.calls.SizeCallIn.{SizeCallIn}
 use Rattle.x86_64.specs.declared.calls.SizeCallIn.TheVariants.{MapTo, MapToWithTableFlags, IdentityMap, Unmap, UpdateFlags, SetFlagsP5, SetFlagsP4, SetFlagsP3, SetFlagsP2, TranslatePage}
-use Rattle.x86_64.specs.declared.calls.NoLevelFive.{NoLevelFive}
+use Rattle.std.specs.declared.convert.Infallible.{Infallible}
 use Rattle.x86_64.specs.declared.calls.CallIn.{CallIn}
 use Rattle.x86_64.specs.declared.calls.CallIn.TheVariants.{Of4KiB, Of2MiB, Of1GiB, Translate, TranslateAddr, CleanUp, CleanUpRange}
 
 -- the bits of flags of level five where there are four levels: there are no such flags
-abbrev pub no_bits : NoLevelFive → ℕ
+abbrev pub no_bits : Infallible → ℕ
 no_bits = elim [ ]
 
 -- what a call on a page of a size asks, where the flags of level five, of which there are none with four levels, have these bits

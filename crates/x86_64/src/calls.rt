@@ -3,7 +3,9 @@ ghost use Rattle.std.specs.Prelude.{◌≡◌, ◌↔◌, ℕ, ⊤, IsSome, IfSo
 ghost use Rattle.x86_64.specs.Calls.{identity_page};
 ghost use Rattle.x86_64_tables.specs.PageTableFlags.{bits_of};
 
+use bitflags::Flags;
 use std::alloc::AllocError;
+use std::convert::Infallible;
 use x86_64_addr::addr::{PhysAddr, VirtAddrIn};
 use x86_64_addr::index::PageTableIndex;
 use x86_64_addr::level_count::{FiveLevels, FourLevels, LevelCount};
@@ -20,9 +22,9 @@ pub trait LevelFiveFlags<L: LevelCount>: Copy {
     // their bits
     ghost bits: { Self → ℕ };
 
-    /// Returns the flags.
-    fn page_table_flags(self) -> PageTableFlags
-        ensures { bits_of result ≡ Self.bits self };
+    /// Returns the flags, or no flag if there are none.
+    fn page_table_flags(flags: Option<Self>) -> PageTableFlags
+        ensures { IfSome flags (λ given. bits_of result ≡ Self.bits given) };
 
     /// Makes them of flags, or returns `None` if there is no level five.
     fn from_page_table_flags(flags: PageTableFlags) -> Option<Self>
@@ -33,21 +35,22 @@ pub trait LevelFiveFlags<L: LevelCount>: Copy {
     ghost five: { (flags : Self) → L.LEVELS ≡ 5 };
 }
 
-/// The flags of an entry of level five where there are four levels: there are none, so no value has this type.
-#[derive(Clone, Copy, Debug, PartialEq)]
-pub enum NoLevelFive {}
+/// The flags of an entry of level five with four levels: there are none, so no value has this type.
+pub type NoLevelFive = Infallible;
 
-impl LevelFiveFlags<FourLevels> for NoLevelFive {
+impl LevelFiveFlags<FourLevels> for Infallible {
     ghost use Rattle.x86_64.specs.Calls.{no_bits};
     ghost use Rattle.x86_64.specs.private.Served.{no_flags};
 
     ghost bits = { no_bits };
 
-    fn page_table_flags(self) -> PageTableFlags {
-        match self {}
+    fn page_table_flags(_flags: Option<Infallible>) -> PageTableFlags
+        ensures { IfSome _flags (λ given. bits_of result ≡ no_bits given) }
+    {
+        PageTableFlags::empty()
     }
 
-    fn from_page_table_flags(_flags: PageTableFlags) -> Option<Self> {
+    fn from_page_table_flags(_flags: PageTableFlags) -> Option<Infallible> {
         None
     }
 
@@ -59,11 +62,13 @@ impl LevelFiveFlags<FiveLevels> for PageTableFlags {
 
     ghost bits = { λ flags. bits_of flags };
 
-    fn page_table_flags(self) -> PageTableFlags {
-        self
+    fn page_table_flags(flags: Option<PageTableFlags>) -> PageTableFlags
+        ensures { IfSome flags (λ given. bits_of result ≡ bits_of given) }
+    {
+        flags.unwrap_or(PageTableFlags::empty())
     }
 
-    fn from_page_table_flags(flags: PageTableFlags) -> Option<Self> {
+    fn from_page_table_flags(flags: PageTableFlags) -> Option<PageTableFlags> {
         Some(flags)
     }
 

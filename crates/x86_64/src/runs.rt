@@ -219,7 +219,7 @@ fn serve_page<
             PageReply::Update(take(tokens, calls::update_flags(mapper, page, flags)))
         }
         SizeCallIn::SetFlagsP5 { page, flags } => {
-            let flags = flags.page_table_flags();
+            let flags = P5::page_table_flags(Some(flags));
             let set = calls::set_table_flags(mapper, page, 5, flags);
             PageReply::TableFlags(take_all(tokens, set))
         }
@@ -269,7 +269,7 @@ fn is_allowed<S: PageSize, L: LevelCount, P5: LevelFiveFlags<L>, M: TableAccess 
             !flags.has_address_bits() && is_outside_window(mapper, *page)
         }
         SizeCallIn::SetFlagsP5 { page, flags } => {
-            fit_high_entry(flags.page_table_flags()) && is_outside_window(mapper, *page)
+            fit_high_entry(P5::page_table_flags(Some(*flags))) && is_outside_window(mapper, *page)
         }
         SizeCallIn::SetFlagsP4 { page, flags } => {
             fit_high_entry(*flags) && is_outside_window(mapper, *page)

@@ -3,7 +3,7 @@ use Rattle.std.specs.Prelude.{◌≡◌, ◌≤◌, ◌+◌, ℕ, Bool, true, fa
 use Rattle.std.proofs.Common.{arith}
 use Rattle.x86_64_model.specs.Machine.{Machine, State, step}
 use Rattle.x86_64_tables.specs.declared.mapper.recorder.FlushItem.{FlushItem}
-use Rattle.x86_64.specs.declared.calls.NoLevelFive.{NoLevelFive}
+use Rattle.std.specs.declared.convert.Infallible.{Infallible}
 use Rattle.x86_64.specs.Asked.{PageCall, page_call}
 use Rattle.x86_64.specs.Flushes.{size_items}
 use Rattle.x86_64.specs.Replies.{SizeReply, size_answer, size_changes_nothing}
@@ -34,5 +34,5 @@ size_step machine level state call =
     record { state = after.state; reply = size_answer call after.reply }
 
 -- with four levels there are no flags of level five
-pub no_flags : (flags : NoLevelFive) → let four : ℕ = 4 in four ≡ 5
+pub no_flags : (flags : Infallible) → let four : ℕ = 4 in four ≡ 5
 no_flags none = elim none [ ]
