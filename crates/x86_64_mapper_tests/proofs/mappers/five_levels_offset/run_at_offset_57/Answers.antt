@@ -6,11 +6,11 @@ use Rattle.x86_64_mapper_tests.proofs.mappers.five_levels_offset.run_at_offset_5
 pub returns-clause-pool : goal.returns-clause-pool
 returns-clause-pool c =
     let pool = c.args.pool.now in
-    pool_fits_again 5 c.args.root c.args.phys_offset (serves_below pool.limit) c.args.memory.now pool.frames c.run_57.new.frames.frames c.requires.offset c.requires.pool
-    _ _ _ _ c.new-mapper.ensures.layout c.new-mapper.ensures.memory (search rules) c.run_57.ensures.keeps.keeps (serves_below c.run_57.new.frames.limit) c.run_57.ensures.serves
+    pool_fits_again 5 c.args.root c.args.phys_offset (serves_below pool.limit) c.args.memory.now pool.frames c.run.new.frames.frames c.requires.offset c.requires.pool
+    _ _ _ _ c.new-mapper.ensures.layout c.new-mapper.ensures.memory (search rules) c.run.ensures.keeps.keeps (serves_below c.run.new.frames.limit) c.run.ensures.serves
 
 pub returns-clause-offset : goal.returns-clause-offset
 returns-clause-offset c =
     let pool = c.args.pool.now in
-    fits_still 5 c.args.root c.args.phys_offset (serves_below pool.limit) c.args.memory.now pool.frames c.run_57.new.frames.frames c.requires.offset c.requires.pool
-    _ _ _ _ c.new-mapper.ensures.layout c.new-mapper.ensures.memory (search rules) c.run_57.ensures.keeps.keeps
+    fits_still 5 c.args.root c.args.phys_offset (serves_below pool.limit) c.args.memory.now pool.frames c.run.new.frames.frames c.requires.offset c.requires.pool
+    _ _ _ _ c.new-mapper.ensures.layout c.new-mapper.ensures.memory (search rules) c.run.ensures.keeps.keeps
