@@ -1,5 +1,5 @@
 //! Calls of a mapper as values, and the replies to them.
-ghost use Rattle.std.specs.Prelude.{◌≡◌, ◌↔◌, ℕ, ⊤, IsSome, IfSome};
+ghost use Rattle.std.specs.Prelude.{◌≡◌, ◌↔◌, ℕ, ⊤, IsSome, IfSome, IfNone};
 ghost use Rattle.x86_64.specs.Calls.{identity_page};
 ghost use Rattle.x86_64_tables.specs.PageTableFlags.{bits_of};
 
@@ -24,7 +24,8 @@ pub trait LevelFiveFlags<L: LevelCount>: Copy {
 
     /// Returns the flags, or no flag if there are none.
     fn page_table_flags(flags: Option<Self>) -> PageTableFlags
-        ensures { IfSome flags (λ given. bits_of result ≡ Self.bits given) };
+        ensures some { IfSome flags (λ given. bits_of result ≡ Self.bits given) }
+        ensures none { IfNone flags (bits_of result ≡ 0) };
 
     /// Makes them of flags, or returns `None` if there is no level five.
     fn from_page_table_flags(flags: PageTableFlags) -> Option<Self>
@@ -45,7 +46,8 @@ impl LevelFiveFlags<FourLevels> for Infallible {
     ghost bits = { no_bits };
 
     fn page_table_flags(_flags: Option<Infallible>) -> PageTableFlags
-        ensures { IfSome _flags (λ given. bits_of result ≡ no_bits given) }
+        ensures some { IfSome _flags (λ given. bits_of result ≡ no_bits given) }
+        ensures none { IfNone _flags (bits_of result ≡ 0) }
     {
         PageTableFlags::empty()
     }
@@ -63,7 +65,8 @@ impl LevelFiveFlags<FiveLevels> for PageTableFlags {
     ghost bits = { λ flags. bits_of flags };
 
     fn page_table_flags(flags: Option<PageTableFlags>) -> PageTableFlags
-        ensures { IfSome flags (λ given. bits_of result ≡ bits_of given) }
+        ensures some { IfSome flags (λ given. bits_of result ≡ bits_of given) }
+        ensures none { IfNone flags (bits_of result ≡ 0) }
     {
         flags.unwrap_or(PageTableFlags::empty())
     }

@@ -3,14 +3,16 @@ ghost use Rattle.std.specs.Prelude.{◌≡◌, ◌<◌};
 ghost use Rattle.x86_64_mappers.specs.Layouts.{direct};
 ghost use Rattle.x86_64_model.specs.Layout.{Layout};
 ghost use Rattle.x86_64_model.specs.Pool.{serves_below};
+ghost use Rattle.x86_64_model.specs.Mapper.{PoolFits};
 ghost use Rattle.x86_64_model.specs.Memory.{identity_places};
-ghost use Rattle.x86_64.specs.Runs.{FitsPool};
+ghost use Rattle.x86_64.specs.Runs.{FitsPool, Kept};
 ghost use Rattle.x86_64.specs.SecondHierarchies.{IsSecond, Share, Stays};
 
 use crate::assertions::{assert_equal, unwrap};
 use std::alloc::{AllocError, Global};
 use std::process::Abort;
 use x86_64::laws::{empty_roots_are_second, second_hierarchies_stay};
+use x86_64::structures::paging::mapper::{CleanUp, MapperAllSizes, Tables, Translate};
 use x86_64::structures::paging::{MappedPageTable, Page, PageTableFlags, PhysFrame, Size4KiB};
 use x86_64::{
     Call, FramePool, IdentityMapping, PhysAddr, PhysMemory, Reply, SizeCall, VirtAddr, page_walk,
@@ -19,6 +21,21 @@ use x86_64::{
 
 /// The number of places, and the limit of the pool.
 const PLACES: u64 = 0x10;
+
+/// Answers calls by any mapper, whose calls are those of three traits.
+fn run_by<M: MapperAllSizes + Translate + CleanUp>(
+    mapper: &mut M,
+    pool: &mut FramePool,
+    calls: &[Call],
+    replies: &mut Vec<Reply>,
+) -> Result<(), AllocError>
+    requires { PoolFits (M.hierarchy mapper.old) (serves_below pool.old.limit) pool.old.frames }
+    ensures keeps { let h = M.hierarchy mapper.old in let serves = serves_below pool.old.limit in
+        Kept h serves pool.old.frames (M.hierarchy mapper.new) pool.new.frames }
+    ensures limit { serves_below pool.new.limit ≡ serves_below pool.old.limit }
+{
+    run(mapper, pool, calls, replies)
+}
 
 /// Answers calls by a mapper of a hierarchy, which is dropped then. The pool fits it again, and each other hierarchy in the
 /// memory stays as it was.
@@ -40,7 +57,7 @@ fn run_on(
 {
     second_hierarchies_stay();
     let mut mapper = MappedPageTable::new(memory, root, IdentityMapping);
-    run(&mut mapper, pool, calls, replies)
+    run_by(&mut mapper, pool, calls, replies)
 }
 
 /// Answers calls of a first hierarchy, and then of a second one, which isn't tested again. The pool fits both again.

@@ -1,5 +1,6 @@
-//! The calls of mappers, over any number of levels: those of [`Mapper`](crate::mapper::Mapper) and its kin, and of five levels, are
-//! these.
+//! The calls of mappers, over any number of levels. The methods of [`Mapper`](crate::mapper::Mapper),
+//! [`Translate`](crate::mapper::Translate) and [`CleanUp`](crate::mapper::CleanUp), and those of five levels, are these, and say more
+//! of each: what it does, and where the manuals have it.
 ghost use Rattle.std.specs.Prelude.{◌≡◌, ◌<◌, ◌≤◌, ◌-◌, ℕ, true, IfOk};
 ghost use Rattle.x86_64_model.specs.Call.{MapTo, MapToWithTableFlags, IdentityMap, Unmap, UpdateFlags, SetFlags};
 ghost use Rattle.x86_64_model.specs.Entry.{present};
@@ -26,6 +27,8 @@ use x86_64_tables::mapper::{
 use x86_64_tables::page_table::PageTableFlags;
 
 /// Maps a page to a frame, and gives the entries above it the parent flags.
+///
+/// Conditions and errors are those of [`Mapper::map_to_with_table_flags`](crate::mapper::Mapper::map_to_with_table_flags).
 pub fn map_to_with_table_flags<
     S: PageSize,
     L: LevelCount,
@@ -63,6 +66,8 @@ pub fn map_to_with_table_flags<
 
 /// Maps a page to a frame, and gives the entries above it those of `PRESENT`, `WRITABLE` and `USER_ACCESSIBLE` that are among the
 /// flags.
+///
+/// Conditions and errors are those of [`Mapper::map_to`](crate::mapper::Mapper::map_to).
 pub fn map_to<
     S: PageSize,
     L: LevelCount,
@@ -91,7 +96,10 @@ pub fn map_to<
     map_to_with_table_flags(mapper, page, frame, flags, parent_flags, frame_allocator)
 }
 
-/// Maps the page that starts at a frame's own address, which lies in the lower half of the address space, to the frame.
+/// Maps the page that starts at a frame's own address to the frame.
+///
+/// Conditions: those of [`map_to`] for this page, and the frame's address lies in the lower half of the address space. Errors are
+/// those of [`map_to`].
 pub fn identity_map<
     S: PageSize,
     L: LevelCount,
@@ -127,6 +135,8 @@ pub fn identity_map<
 }
 
 /// Tells whether a page may be mapped with these flags and parent flags.
+///
+/// Condition: the hierarchy is valid.
 pub fn map_allowed<S: PageSize, L: LevelCount, M: TableAccess + TablesIn<L>>(
     mapper: &M,
     page: PageIn<S, L>,
@@ -142,6 +152,8 @@ pub fn map_allowed<S: PageSize, L: LevelCount, M: TableAccess + TablesIn<L>>(
 }
 
 /// Unmaps a page, and returns the frame that it was mapped to.
+///
+/// Conditions and errors are those of [`Mapper::unmap`](crate::mapper::Mapper::unmap).
 pub fn unmap<S: PageSize, L: LevelCount, M: TableAccess + TablesIn<L>>(
     mapper: &mut M,
     page: PageIn<S, L>,
@@ -158,6 +170,8 @@ pub fn unmap<S: PageSize, L: LevelCount, M: TableAccess + TablesIn<L>>(
 }
 
 /// Sets the flags of a page's own entry.
+///
+/// Conditions and errors are those of [`Mapper::update_flags`](crate::mapper::Mapper::update_flags).
 pub fn update_flags<S: PageSize, L: LevelCount, M: TableAccess + TablesIn<L>>(
     mapper: &mut M,
     page: PageIn<S, L>,
@@ -176,6 +190,8 @@ pub fn update_flags<S: PageSize, L: LevelCount, M: TableAccess + TablesIn<L>>(
 }
 
 /// Sets the flags of the entry of a level from two up on a page's path.
+///
+/// Conditions and errors are those of [`Mapper::set_flags_p4_entry`](crate::mapper::Mapper::set_flags_p4_entry) and its kin.
 pub fn set_table_flags<S: PageSize, L: LevelCount, M: TableAccess + TablesIn<L>>(
     mapper: &mut M,
     page: PageIn<S, L>,
@@ -196,6 +212,8 @@ pub fn set_table_flags<S: PageSize, L: LevelCount, M: TableAccess + TablesIn<L>>
 }
 
 /// Tells whether the flags of the entry of level three or two on a page's path may be set to these.
+///
+/// Condition: the hierarchy is valid.
 pub fn table_flags_allowed<S: PageSize, L: LevelCount, M: TableAccess + TablesIn<L>>(
     mapper: &M,
     page: PageIn<S, L>,
@@ -213,6 +231,8 @@ pub fn table_flags_allowed<S: PageSize, L: LevelCount, M: TableAccess + TablesIn
 }
 
 /// Returns the frame that a page's entry names, `PRESENT` or not.
+///
+/// Condition: the hierarchy is valid. Errors are those of [`Mapper::translate_page`](crate::mapper::Mapper::translate_page).
 pub fn translate_page<S: PageSize, L: LevelCount, M: TableAccess + TablesIn<L>>(
     mapper: &M,
     page: PageIn<S, L>,
@@ -226,6 +246,8 @@ pub fn translate_page<S: PageSize, L: LevelCount, M: TableAccess + TablesIn<L>>(
 }
 
 /// Takes away the empty tables of the whole address space, and gives their frames back.
+///
+/// Conditions: those of [`clean_up_range`].
 pub fn clean_up<L: LevelCount, M: TableAccess + TablesIn<L>, D: FrameDeallocator<Size4KiB>>(
     mapper: &mut M,
     frame_deallocator: &mut D,

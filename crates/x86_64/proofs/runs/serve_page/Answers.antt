@@ -42,7 +42,7 @@ is_served g c =
           let h = g.M.Tables.hierarchy mapper in
           let path = path_at h.layout.levels g.S.PageSize.LEVEL w.in-SetFlagsP5.page in
           set_flags_served h start 5 w.in-SetFlagsP5.page (g.P5.LevelFiveFlags.bits w.in-SetFlagsP5.flags) (lit≤ tt) (subst (λ n. 5 ≤ n) (sym five) (lit≤ tt))
-          _ w.set_table_flags-set.result _ (subst (λ given. Does h (SetFlags 5 path given) (flags_answer (named h (SetFlags 5 path given)) w.set_table_flags-set.result) (g.M.Tables.hierarchy w.set_table_flags-set.new.mapper)) w.page_table_flags-flags.ensures w.set_table_flags-set.ensures)
+          _ w.set_table_flags-set.result _ (subst (λ given. Does h (SetFlags 5 path given) (flags_answer (named h (SetFlags 5 path given)) w.set_table_flags-set.result) (g.M.Tables.hierarchy w.set_table_flags-set.new.mapper)) w.page_table_flags-flags.ensures.some w.set_table_flags-set.ensures)
           w.take_all.result w.take_all.ensures.result)
       | in-SetFlagsP4 w ↦ rw (w.in-SetFlagsP4.is, w.mapper-is, w.frames-is, w.result-is)
           (set_flags_served (g.M.Tables.hierarchy mapper) start 4 w.in-SetFlagsP4.page (bits_of w.in-SetFlagsP4.flags) (lit≤ tt) some
