@@ -40,21 +40,21 @@ at_offset levels offset m limit free reached fits = (offset_fits levels m offset
 
 module _ (levels offset limit : ℕ) (m : Memory) (free rest : List ℕ) (reached : OffsetFits levels m offset) (fits : runs.FitsPool (direct_layout levels) m (serves_below limit) free) where
   -- what is kept at the offset, by the mapper's layout and by its memory before and after
-  kept_at : (l : Layout) (before after n : Memory) → n ≡ after → l ≡ layout_at levels offset → before ≡ m → runs.Keeps l (serves_below limit) before free after rest → runs.Keeps (layout_at levels offset) (serves_below limit) m free n rest
-  kept_at l before after n last is first = moved (λ (l : Layout) (m n : Memory). runs.Keeps l (serves_below limit) m free n rest) l (layout_at levels offset) before m after n is first last
+  kept_at : (l : Layout) (before after n : Memory) → n ≡ after → l ≡ layout_at levels offset → before ≡ m → runs.KeepsPool l (serves_below limit) before free after rest → runs.KeepsPool (layout_at levels offset) (serves_below limit) m free n rest
+  kept_at l before after n last is first = moved (λ (l : Layout) (m n : Memory). runs.KeepsPool l (serves_below limit) m free n rest) l (layout_at levels offset) before m after n is first last
 
   -- so the places are reached still
-  pub reached_after : (l : Layout) (before after n : Memory) → n ≡ after → l ≡ layout_at levels offset → before ≡ m → runs.Keeps l (serves_below limit) before free after rest → OffsetFits levels n offset
+  pub reached_after : (l : Layout) (before after n : Memory) → n ≡ after → l ≡ layout_at levels offset → before ≡ m → runs.KeepsPool l (serves_below limit) before free after rest → OffsetFits levels n offset
   reached_after l before after n last is first kept = offsets_fit_still (layout_at levels offset) (serves_below limit) m n free rest (at_offset levels offset m limit free reached fits) (kept_at l before after n last is first kept) levels offset reached
 
   -- and what is kept at the offset is kept
-  pub kept_after : (l : Layout) (before after n : Memory) → n ≡ after → l ≡ layout_at levels offset → before ≡ m → runs.Keeps l (serves_below limit) before free after rest → runs.Keeps (direct_layout levels) (serves_below limit) m free n rest
+  pub kept_after : (l : Layout) (before after n : Memory) → n ≡ after → l ≡ layout_at levels offset → before ≡ m → runs.KeepsPool l (serves_below limit) before free after rest → runs.KeepsPool (direct_layout levels) (serves_below limit) m free n rest
   kept_after l before after n last is first kept =
       same_kept levels offset 0x1000 (serves_below limit) m n free rest reached (reached_after l before after n last is first kept) (kept_at l before after n last is first kept)
 
   -- and so is what is answered
   pub answered_after : {E : Type 0} (call : MapperCall) (result : Result Reply E) (l : Layout) (before after n : Memory) → n ≡ after → l ≡ layout_at levels offset → before ≡ m
-      → runs.Keeps l (serves_below limit) before free after rest → IfOk result (IsAnswered l before free call after rest) → IfOk result (IsAnswered (direct_layout levels) m free call n rest)
+      → runs.KeepsPool l (serves_below limit) before free after rest → IfOk result (IsAnswered l before free call after rest) → IfOk result (IsAnswered (direct_layout levels) m free call n rest)
   answered_after call result l before after n last is first kept =
       IfOk-weaker result (IsAnswered l before free call after rest) (IsAnswered (direct_layout levels) m free call n rest) (λ reply answered.
       answered_alike levels offset m free call n rest reply reached (reached_after l before after n last is first kept)

@@ -11,7 +11,7 @@ use Rattle.x86_64.specs.declared.calls.MapperReply.TheVariants.{NotAllowed}
 use Rattle.pagetab_engine.specs.Arguments.{count, levels_of}
 use Rattle.pagetab_engine.specs.Calls.{asked_back, IsAnswered}
 use Rattle.pagetab_engine.specs.Frames.{direct_layout, recursive_layout, FitsBy}
-use Rattle.pagetab_engine.specs.Hierarchy.{layout, layout_of, machine_of, state_of, call_back, call_step, IsReached, IsTwin, HasTwin, Keeps}
+use Rattle.pagetab_engine.specs.Hierarchy.{layout, layout_of, machine_of, hierarchy_state, call_back, call_step, IsReached, IsTwin, HasTwin, KeepsHierarchy}
 use Rattle.pagetab_engine.specs.Requests.{asked, has_levels, is_named, is_refused}
 use Rattle.pagetab_engine.specs.declared.arguments.Mode.{Mode}
 use Rattle.pagetab_engine.specs.declared.arguments.Mode.TheVariants.{Direct, Offset, Recursive, Pair}
@@ -49,11 +49,11 @@ module _ (before : Hierarchy) (levels : ℕ) (known : count (levels_of before.mo
 
   pub kept_in : (after : Hierarchy) → after.mode ≡ before.mode → serves_below after.frames.pool.limit ≡ serves_below before.frames.pool.limit
       → layout_in mode levels after.frames.memory ≡ layout_in mode levels before.frames.memory → IsReached mode after.frames.memory → HasTwin mode after.frames after.twin
-      → runs.Keeps (layout_in mode levels before.frames.memory) (serves_below before.frames.pool.limit) before.frames.memory before.frames.pool.frames after.frames.memory after.frames.pool.frames → Keeps before after
+      → runs.KeepsPool (layout_in mode levels before.frames.memory) (serves_below before.frames.pool.limit) before.frames.memory before.frames.pool.frames after.frames.memory after.frames.pool.frames → KeepsHierarchy before after
   kept_in after same serves still reached twin kept =
       let m = before.frames.memory in let n = after.frames.memory in
       kept_by before after same serves mode is (same_layout mode levels n here ∙ still ∙ sym (same_layout mode levels m here)) reached twin
-      (subst (λ (l : Layout). runs.Keeps l (serves_below before.frames.pool.limit) m before.frames.pool.frames n after.frames.pool.frames) (sym (same_layout mode levels m here)) kept)
+      (subst (λ (l : Layout). runs.KeepsPool l (serves_below before.frames.pool.limit) m before.frames.pool.frames n after.frames.pool.frames) (sym (same_layout mode levels m here)) kept)
 
 -- ---- of a call that a mapper is asked
 
@@ -62,11 +62,11 @@ pub is_asked : (mode : Mode) (request : Request) → has_levels (levels_of mode)
 is_asked mode request has unnamed = ap₂ (λ has named. not has || named) has unnamed
 
 module _ (before : Hierarchy) (request : Request) (taken : is_refused before.mode request ≡ false) where
-  pub step_asked : call_step before request ≡ runs.step_by (machine_of before) (state_of before) (asked request)
-  step_asked = ap (λ b. cond b (record { state = state_of before; reply = Some NotAllowed }) (runs.step_by (machine_of before) (state_of before) (asked request))) taken
+  pub step_asked : call_step before request ≡ runs.step_by (machine_of before) (hierarchy_state before) (asked request)
+  step_asked = ap (λ b. cond b (record { state = hierarchy_state before; reply = Some NotAllowed }) (runs.step_by (machine_of before) (hierarchy_state before) (asked request))) taken
 
-  pub back_asked : call_back before request ≡ asked_back (machine_of before) (state_of before) (asked request)
-  back_asked = ap (λ b. cond b [] (asked_back (machine_of before) (state_of before) (asked request))) taken
+  pub back_asked : call_back before request ≡ asked_back (machine_of before) (hierarchy_state before) (asked request)
+  back_asked = ap (λ b. cond b [] (asked_back (machine_of before) (hierarchy_state before) (asked request))) taken
 
 -- ---- of two hierarchies
 

@@ -7,17 +7,17 @@ use Rattle.x86_64_model.specs.Memory.{Memory, Places, identity_places}
 use Rattle.x86_64.specs.Runs as runs
 use Rattle.x86_64.proofs.FreeFrames.{nothing_keeps_free}
 use Rattle.pagetab_engine.specs.Calls.{asked_back}
-use Rattle.pagetab_engine.specs.Hierarchy.{layout, layout_of, machine_of, state_of, call_back, IsReached, HasTwin, IsHierarchy, Keeps, KeepsFree}
+use Rattle.pagetab_engine.specs.Hierarchy.{layout, layout_of, machine_of, hierarchy_state, call_back, IsReached, HasTwin, IsHierarchy, KeepsHierarchy, KeepsFree}
 use Rattle.pagetab_engine.specs.Requests.{asked, is_refused}
 use Rattle.pagetab_engine.specs.declared.arguments.Mode.{Mode}
 use Rattle.pagetab_engine.specs.declared.arguments.Mode.TheVariants.{Direct, Offset, Recursive, Pair}
 use Rattle.pagetab_engine.specs.declared.hierarchy.Hierarchy.{Hierarchy}
 use Rattle.pagetab_engine.specs.declared.request.Request.{Request}
 
-pub keeps_itself : (hierarchy : Hierarchy) → IsHierarchy hierarchy → Keeps hierarchy hierarchy
+pub keeps_itself : (hierarchy : Hierarchy) → IsHierarchy hierarchy → KeepsHierarchy hierarchy hierarchy
 keeps_itself hierarchy fits = record { mode = refl; layout = refl; serves = refl; fits = fits; conserved = λ frame. (λ own. own, λ own. own); others = λ place none. refl }
 
-pub keeps_then : (before between after : Hierarchy) → Keeps before between → Keeps between after → Keeps before after
+pub keeps_then : (before between after : Hierarchy) → KeepsHierarchy before between → KeepsHierarchy between after → KeepsHierarchy before after
 keeps_then before between after one next = record {
   mode = next.mode ∙ one.mode;
   layout = next.layout ∙ one.layout;
@@ -37,7 +37,7 @@ by_number (Pair levels index) memory = refl
 -- what a mapper keeps is kept, where it is the mode's
 pub kept_by : (before after : Hierarchy) → after.mode ≡ before.mode → serves_below after.frames.pool.limit ≡ serves_below before.frames.pool.limit
     → (mode : Mode) → before.mode ≡ mode → layout mode after.frames.memory ≡ layout mode before.frames.memory → IsReached mode after.frames.memory → HasTwin mode after.frames after.twin
-    → runs.Keeps (layout mode before.frames.memory) (serves_below before.frames.pool.limit) before.frames.memory before.frames.pool.frames after.frames.memory after.frames.pool.frames → Keeps before after
+    → runs.KeepsPool (layout mode before.frames.memory) (serves_below before.frames.pool.limit) before.frames.memory before.frames.pool.frames after.frames.memory after.frames.pool.frames → KeepsHierarchy before after
 kept_by before after same serves mode is still reached twin kept =
     let m = before.frames.memory in let n = after.frames.memory in
     let free = before.frames.pool.frames in let rest = after.frames.pool.frames in
@@ -57,7 +57,7 @@ kept_by before after same serves mode is still reached twin kept =
     }
 
 -- what is kept is kept as by a mapper
-pub kept_as : (before after : Hierarchy) → Keeps before after → runs.Keeps (layout_of before) (serves_below before.frames.pool.limit) before.frames.memory before.frames.pool.frames after.frames.memory after.frames.pool.frames
+pub kept_as : (before after : Hierarchy) → KeepsHierarchy before after → runs.KeepsPool (layout_of before) (serves_below before.frames.pool.limit) before.frames.memory before.frames.pool.frames after.frames.memory after.frames.pool.frames
 kept_as before after kept =
     let m = before.frames.memory in let n = after.frames.memory in
     let free = before.frames.pool.frames in let rest = after.frames.pool.frames in record {
@@ -74,4 +74,4 @@ free_itself hierarchy back none = subst (λ back. KeepsFree hierarchy back hiera
 
 -- a call that no mapper is asked gives no frame back
 pub none_back : (hierarchy : Hierarchy) (request : Request) → is_refused hierarchy.mode request ≡ true → call_back hierarchy request ≡ []
-none_back hierarchy request refused = ap (λ b. cond b [] (asked_back (machine_of hierarchy) (state_of hierarchy) (asked request))) refused
+none_back hierarchy request refused = ap (λ b. cond b [] (asked_back (machine_of hierarchy) (hierarchy_state hierarchy) (asked request))) refused

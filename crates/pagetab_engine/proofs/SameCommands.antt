@@ -15,7 +15,7 @@ use Rattle.x86_64.specs.Runs.{AfterStep}
 use Rattle.x86_64.specs.declared.calls.MapperReply.TheVariants.{NotAllowed}
 use Rattle.x86_64.proofs.EveryWord.{every_word_is_decided}
 use Rattle.pagetab_engine.specs.Calls.{machine_by, asked_back}
-use Rattle.pagetab_engine.specs.Hierarchy.{call_step, layout_of, state_of}
+use Rattle.pagetab_engine.specs.Hierarchy.{call_step, layout_of, hierarchy_state}
 use Rattle.pagetab_engine.specs.Lines.{Numbered}
 use Rattle.pagetab_engine.specs.Program.{Answers, SaysCommand}
 use Rattle.pagetab_engine.specs.Reply.{IsReply, back_of, state_after}
@@ -39,7 +39,7 @@ use Rattle.pagetab_engine.proofs.SameWalks.{same_walk_to, slot_word}
 pub record IsSame (h k : Hierarchy) : Type 0 where
   pub mode : h.mode ≡ k.mode
   pub layout : layout_of h ≡ layout_of k
-  pub state : state_of h ≡ state_of k
+  pub state : hierarchy_state h ≡ hierarchy_state k
   pub words : SameWords (words_of h.frames.memory identity_places) (words_of k.frames.memory identity_places)
 
 -- ---- lines of replies
@@ -116,7 +116,7 @@ module _ (h k : Hierarchy) (same : IsSame h k) where
     after_layout : layout_of a ≡ layout_of b
     after_layout = answers.keeps.layout ∙ same.layout ∙ sym also.keeps.layout
 
-    after_state : state_of a ≡ state_of b
+    after_state : hierarchy_state a ≡ hierarchy_state b
     after_state = answers.state ∙ same_state asked ∙ sym also.state
 
     left_by : (before after : Hierarchy) (told : Reply) → Answers asked before told after → IsLeft (layout_of before) before.frames.memory before.frames.pool.frames (back_of before asked) after.frames.memory after.frames.pool.frames

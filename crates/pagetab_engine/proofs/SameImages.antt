@@ -105,6 +105,6 @@ first_same h k same a b is also =
     record {
       mode = mode;
       layout = λ i. layout (mode i) (memory i);
-      state = λ i. runs.state_of (layout (mode i) (memory i)) (memory i) (free i);
+      state = λ i. runs.state_in (layout (mode i) (memory i)) (memory i) (free i);
       words = λ f j. ap (λ m. word (words_of m identity_places) f j) memory;
     }

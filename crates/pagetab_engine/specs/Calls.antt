@@ -18,5 +18,5 @@ asked_back machine state asked = back_by machine state (machine_call machine.lev
 
 -- The reply to a call, and the state that it leaves, are the machine's. Free frames keep their words, but those that came back, which have words 0.
 pub record IsAnswered (by : Layout) (before : Memory) (free : List ℕ) (asked : MapperCall) (after : Memory) (rest : List ℕ) (reply : Reply) : Type 0 where
-  pub step : runs.step_by (machine_by by) (runs.state_of by before free) asked ≡ record { state = runs.state_of by after rest; reply = Some reply }
-  pub free_words : KeepsFree by before free (asked_back (machine_by by) (runs.state_of by before free) asked) after rest
+  pub step : runs.step_by (machine_by by) (runs.state_in by before free) asked ≡ record { state = runs.state_in by after rest; reply = Some reply }
+  pub free_words : KeepsFree by before free (asked_back (machine_by by) (runs.state_in by before free) asked) after rest

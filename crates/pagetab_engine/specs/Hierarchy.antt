@@ -63,18 +63,18 @@ abbrev pub machine_of : Hierarchy → Machine
 machine_of hierarchy = machine_by (layout_of hierarchy)
 
 -- what the words mean, and the free frames
-abbrev pub state_of : Hierarchy → State
-state_of hierarchy = runs.state_of (layout_of hierarchy) hierarchy.frames.memory hierarchy.frames.pool.frames
+abbrev pub hierarchy_state : Hierarchy → State
+hierarchy_state hierarchy = runs.state_in (layout_of hierarchy) hierarchy.frames.memory hierarchy.frames.pool.frames
 
 -- what a call leaves: what the machine's step does, but a call that no mapper is asked is not allowed
 abbrev pub call_step : Hierarchy → Request → AfterStep Reply
 call_step hierarchy request = cond (is_refused hierarchy.mode request)
-    (record { state = state_of hierarchy; reply = Some NotAllowed })
-    (runs.step_by (machine_of hierarchy) (state_of hierarchy) (asked request))
+    (record { state = hierarchy_state hierarchy; reply = Some NotAllowed })
+    (runs.step_by (machine_of hierarchy) (hierarchy_state hierarchy) (asked request))
 
 -- the frames that a call gives back, where a mapper is asked: those of the tables that a clean up takes away
 abbrev pub call_back : Hierarchy → Request → List ℕ
-call_back hierarchy request = cond (is_refused hierarchy.mode request) [] (asked_back (machine_of hierarchy) (state_of hierarchy) (asked request))
+call_back hierarchy request = cond (is_refused hierarchy.mode request) [] (asked_back (machine_of hierarchy) (hierarchy_state hierarchy) (asked request))
 
 -- the words of free frames are those of before, or 0 where the frames came back
 abbrev pub KeepsFree : (before : Hierarchy) → (back : List ℕ) → (after : Hierarchy) → Type 0
@@ -86,7 +86,7 @@ pub record TwinAnswers (levels index : ℕ) (before : Frames) (asked : MapperCal
   pub answered : IsAnswered (recursive_layout levels before.memory index) before.memory before.pool.frames asked after.memory after.pool.frames reply
   pub layout : recursive_layout levels after.memory index ≡ recursive_layout levels before.memory index
   pub serves : serves_below after.pool.limit ≡ serves_below before.pool.limit
-  pub keeps : runs.Keeps (recursive_layout levels before.memory index) (serves_below before.pool.limit) before.memory before.pool.frames after.memory after.pool.frames
+  pub keeps : runs.KeepsPool (recursive_layout levels before.memory index) (serves_below before.pool.limit) before.memory before.pool.frames after.memory after.pool.frames
 
 -- in a pair the recursive mapper gives this reply too
 abbrev pub TwinTells : Mode → (asked : MapperCall) → (before after : Frames) → Reply → Type 0
@@ -125,7 +125,7 @@ IsOwn hierarchy frame = Owns (layout_of hierarchy) hierarchy.frames.memory hiera
 
 -- the mode, the layout and the frames that the pool serves stay, the free frames fit the valid hierarchy again, these and the tables stay one
 -- set, and no word changes but in them and the root
-pub record Keeps (before after : Hierarchy) : Type 0 where
+pub record KeepsHierarchy (before after : Hierarchy) : Type 0 where
   pub mode : after.mode ≡ before.mode
   pub layout : layout_of after ≡ layout_of before
   pub serves : serves_below after.frames.pool.limit ≡ serves_below before.frames.pool.limit

@@ -41,11 +41,11 @@ pub record Written : Type 0 where
   pub size : Option Size
   pub numbers : List ℕ
 
-abbrev pub fields_of : Name → Option Size → List ℕ → Written
-fields_of name size numbers = record { name = name; size = size; numbers = numbers }
+abbrev pub written_by : Name → Option Size → List ℕ → Written
+written_by name size numbers = record { name = name; size = size; numbers = numbers }
 
 abbrev pub without_size : Name → List ℕ → Written
-without_size name numbers = fields_of name None numbers
+without_size name numbers = written_by name None numbers
 
 -- ---- calls on pages
 
@@ -73,7 +73,7 @@ page_call_numbers levels (asked.SetFlags level page flags) = raw levels page ∷
 page_call_numbers levels (asked.TranslatePage page) = raw levels page ∷ []
 
 abbrev pub page_written : (levels : ℕ) → Size → PageCall → Written
-page_written levels size call = fields_of (page_call_name call) (Some size) (page_call_numbers levels call)
+page_written levels size call = written_by (page_call_name call) (Some size) (page_call_numbers levels call)
 
 -- ---- calls
 

@@ -5,7 +5,7 @@ use Rattle.std.specs.Io.KnownBytes.{Appends}
 use Rattle.x86_64_tables.specs.PageTable.{zero_words}
 use Rattle.pagetab_engine.specs.Arguments.{Says}
 use Rattle.pagetab_engine.specs.Frames.{IsLoadable, memory_after, free_after}
-use Rattle.pagetab_engine.specs.Hierarchy.{state_of, first_memory, FitsImage, HasCopy, IsReached, Keeps, KeepsFree}
+use Rattle.pagetab_engine.specs.Hierarchy.{hierarchy_state, first_memory, FitsImage, HasCopy, IsReached, KeepsHierarchy, KeepsFree}
 use Rattle.pagetab_engine.specs.Lines.{Numbered, numbered_from, lines_of, SaysAccepted, IsBad}
 use Rattle.pagetab_engine.specs.Reply.{IsReply, IsToldByBoth, OnlyReads, back_of, state_after}
 use Rattle.pagetab_engine.specs.Texts.{reply_line}
@@ -40,10 +40,10 @@ SaysImage arguments line image = SaysAccepted arguments line.line (says.Image im
 -- The reply to a command, and what it leaves of the hierarchy, in a pair of both.
 pub record Answers (command : Command) (before : Hierarchy) (answer : Reply) (after : Hierarchy) : Type 0 where
   pub reply : IsReply before command answer
-  pub state : state_of after ≡ state_after before command
+  pub state : hierarchy_state after ≡ state_after before command
   pub reads : OnlyReads before command → after ≡ before
   pub free : KeepsFree before (back_of before command) after
-  pub keeps : Keeps before after
+  pub keeps : KeepsHierarchy before after
   pub both : IsToldByBoth before command answer after
 
 -- Where the image is read, each line that says a command is answered, and the first other one is bad.

@@ -3,7 +3,7 @@ use Rattle.std.specs.Prelude.{◌≡◌, ℕ, ⊤, true, List, [], Some, option_
 use Rattle.x86_64_model.specs.Machine.{State}
 use Rattle.x86_64_model.specs.Memory.{words_of, identity_places}
 use Rattle.x86_64_tables.specs.Walks.{walked_of}
-use Rattle.pagetab_engine.specs.Hierarchy.{call_back, call_step, state_of, BothAnswer}
+use Rattle.pagetab_engine.specs.Hierarchy.{call_back, call_step, hierarchy_state, BothAnswer}
 use Rattle.pagetab_engine.specs.Requests.{is_refused, reply_in, walk_to}
 use Rattle.pagetab_engine.specs.Slot.{word_in}
 use Rattle.pagetab_engine.specs.declared.hierarchy.Hierarchy.{Hierarchy}
@@ -28,7 +28,7 @@ OnlyReads hierarchy asked = ⊤
 -- the state after a command: the machine's after a call, and the same after another
 abbrev pub state_after : Hierarchy → Command → State
 state_after hierarchy (command.Call call) = (call_step hierarchy call).state
-state_after hierarchy asked = state_of hierarchy
+state_after hierarchy asked = hierarchy_state hierarchy
 
 -- the frames that a command gives back, as a call may
 abbrev pub back_of : Hierarchy → Command → List ℕ

@@ -4,7 +4,7 @@ ghost use Rattle.x86_64_model.specs.Pool.{serves_below};
 ghost use Rattle.x86_64_model.specs.Mapper.{PoolFits};
 ghost use Rattle.x86_64_mappers.specs.Offsets.{OffsetFits};
 ghost use Rattle.x86_64.specs.Calls.{asks, names};
-ghost use Rattle.x86_64.specs.Runs.{FitsPool, Keeps as KeepsPool, Kept};
+ghost use Rattle.x86_64.specs.Runs.{FitsPool, KeepsPool, Kept};
 ghost use Rattle.pagetab_engine.specs.Calls.{IsAnswered};
 ghost use Rattle.pagetab_engine.specs.Frames.{direct_layout, recursive_layout};
 ghost use Rattle.pagetab_engine.specs.Hierarchy.{IsTwin, TwinAnswers};

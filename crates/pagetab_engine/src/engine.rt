@@ -1,7 +1,7 @@
 //! The run of the program.
 ghost use Rattle.std.specs.Prelude.{◌≡◌, ◌<◌, ℕ, List, length, map, string_bytes, IfOk, IfErr, OnOk, OnErr};
 ghost use Rattle.std.specs.Io.KnownBytes.{Appends};
-ghost use Rattle.pagetab_engine.specs.Hierarchy.{state_of, HasCopy, IsHierarchy, IsReached, Keeps, KeepsFree};
+ghost use Rattle.pagetab_engine.specs.Hierarchy.{hierarchy_state, HasCopy, IsHierarchy, IsReached, KeepsHierarchy, KeepsFree};
 ghost use Rattle.pagetab_engine.specs.Lines.{ForSome, IsInput, MayBeLeft, TracesBack};
 ghost use Rattle.pagetab_engine.specs.Program.{AppendsFront, Runs};
 ghost use Rattle.pagetab_engine.specs.private.RunParts.{LoadsImage, Replies, RunsFrom, Served, StopsAt, StopsInImage, ending_of};
@@ -165,7 +165,7 @@ fn write_reply<W: Write>(
         Replies command hierarchy.old hierarchy.new (W.contents writer.old) (W.contents writer.new)) }
     ensures stopped { IfErr result (
         StopsAt command hierarchy.old hierarchy.new (W.contents writer.old) (W.contents writer.new)) }
-    ensures keeps { Keeps hierarchy.old hierarchy.new }
+    ensures keeps { KeepsHierarchy hierarchy.old hierarchy.new }
 {
     let reply = answer(alloc, hierarchy, command)?;
     let text = format!(in alloc; "{reply}\n")?;
@@ -209,12 +209,12 @@ fn write_line<W: Write>(line: &[u8], writer: &mut W) -> Result<(), Fault>
 fn answer(alloc: Global, hierarchy: &mut Hierarchy, command: Command) -> Result<Reply, AllocError>
     requires { IsHierarchy hierarchy.old }
     ensures reply { IfOk result (IsReply hierarchy.old command) }
-    ensures state { OnOk result (state_of hierarchy.new ≡ state_after hierarchy.old command) }
+    ensures state { OnOk result (hierarchy_state hierarchy.new ≡ state_after hierarchy.old command) }
     ensures free { OnOk result (KeepsFree hierarchy.old (back_of hierarchy.old command) hierarchy.new) }
     ensures both { IfOk result (λ reply. IsToldByBoth hierarchy.old command reply hierarchy.new) }
     ensures reads { OnlyReads hierarchy.old command → hierarchy.new ≡ hierarchy.old }
     ensures unchanged { OnErr result (hierarchy.new ≡ hierarchy.old) }
-    ensures keeps { Keeps hierarchy.old hierarchy.new }
+    ensures keeps { KeepsHierarchy hierarchy.old hierarchy.new }
 {
     Ok(match command {
         Command::Call(request) => Reply::Answered(hierarchy.answer_call(alloc, request)?),

@@ -6,7 +6,7 @@ ghost use Rattle.x86_64.specs.Calls.{asks, names};
 ghost use Rattle.pagetab_engine.specs.Arguments.{count, levels_of};
 ghost use Rattle.pagetab_engine.specs.Calls.{IsAnswered};
 ghost use Rattle.pagetab_engine.specs.Frames.{IsLoadable, IsRefusedFor, memory_after, free_after};
-ghost use Rattle.pagetab_engine.specs.Hierarchy.{state_of, call_back, call_step, first_memory, layout_of, BothAnswer, FitsImage, HasCopy, IsReached, IsHierarchy, Keeps, KeepsFree, TwinTells};
+ghost use Rattle.pagetab_engine.specs.Hierarchy.{hierarchy_state, call_back, call_step, first_memory, layout_of, BothAnswer, FitsImage, HasCopy, IsReached, IsHierarchy, KeepsHierarchy, KeepsFree, TwinTells};
 ghost use Rattle.pagetab_engine.specs.Requests.{is_index_named, is_refused, reply_in};
 
 use crate::arguments::{Arguments, Levels, Mode};
@@ -162,13 +162,13 @@ impl Hierarchy {
     pub fn answer_call(&mut self, alloc: Global, request: Request) -> Result<Answer, AllocError>
         requires { IsHierarchy self.old }
         ensures answer { IfOk result (λ answer. Some (reply_in answer) ≡ (call_step self.old request).reply) }
-        ensures state { OnOk result (state_of self.new ≡ (call_step self.old request).state) }
+        ensures state { OnOk result (hierarchy_state self.new ≡ (call_step self.old request).state) }
         ensures free { OnOk result (KeepsFree self.old (call_back self.old request) self.new) }
         ensures both { IfOk result (λ answer.
             BothAnswer self.old.mode request (reply_in answer) self.old.twin self.new.twin) }
         ensures refused { is_refused self.old.mode request ≡ true → self.new ≡ self.old }
         ensures unchanged { OnErr result (self.new ≡ self.old) }
-        ensures keeps { Keeps self.old self.new }
+        ensures keeps { KeepsHierarchy self.old self.new }
     {
         if self.mode.is_named(&request) {
             return Ok(request.refusal());
@@ -201,7 +201,7 @@ impl Hierarchy {
         ensures both { IfOk result (
             TwinTells self.old.mode (asks P5.bits call) self.old.twin self.new.twin) }
         ensures unchanged { OnErr result (self.new ≡ self.old) }
-        ensures keeps { Keeps self.old self.new }
+        ensures keeps { KeepsHierarchy self.old self.new }
     {
         let (mode, twin) = (self.mode, &mut self.twin);
         let (memory, pool) = (&mut self.frames.memory, &mut self.frames.pool);

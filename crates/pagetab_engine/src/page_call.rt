@@ -3,7 +3,7 @@ ghost use Rattle.std.specs.Prelude.{◌≡◌, ◌↔◌, Some, IsSome, IfSome};
 ghost use Rattle.x86_64_addr.specs.Position.{raw};
 ghost use Rattle.x86_64.specs.Calls.{size_asks};
 ghost use Rattle.pagetab_engine.specs.Starts.{IsPageStart, IsFrameStart};
-ghost use Rattle.pagetab_engine.specs.PageCalls.{IsPageCall, bytes_of, call_written, fields_of, page_call_name, page_call_numbers};
+ghost use Rattle.pagetab_engine.specs.PageCalls.{IsPageCall, bytes_of, call_written, written_by, page_call_name, page_call_numbers};
 
 use crate::fields::{Name, Size};
 use bitflags::Flags;
@@ -21,7 +21,7 @@ pub fn parse_call<L: LevelCount, P5: LevelFiveFlags<L>>(
     numbers: &[u64],
 ) -> Option<CallIn<L, P5>>
     ensures accepted { IsSome result ↔ IsPageCall L.LEVELS (bytes_of size) name numbers.now }
-    ensures written { let fields = fields_of name (Some size) numbers.now in
+    ensures written { let fields = written_by name (Some size) numbers.now in
         IfSome result (λ call. call_written L.LEVELS P5.bits call ≡ fields) }
 {
     Some(match size {

@@ -4,7 +4,7 @@ ghost use Rattle.x86_64_tables.specs.PageTableFlags.{bits_of};
 ghost use Rattle.x86_64.specs.Calls.{no_bits};
 ghost use Rattle.pagetab_engine.specs.Fields.{Says};
 ghost use Rattle.pagetab_engine.specs.Arguments.{levels_of};
-ghost use Rattle.pagetab_engine.specs.PageCalls.{fields_of, without_size};
+ghost use Rattle.pagetab_engine.specs.PageCalls.{written_by, without_size};
 ghost use Rattle.pagetab_engine.specs.Statements.{IsOnAddresses, IsPlain, IsStatement, IsAccepted, SaysStatement, CommandHas, HasLevels};
 ghost use Rattle.pagetab_engine.specs.Statements.{levels_in, command_written, written};
 ghost use Rattle.pagetab_engine.specs.declared.arguments.Levels.TheVariants.{Four, Five};
@@ -73,7 +73,7 @@ impl Statement {
         arguments: &Arguments,
     ) -> Option<Statement>
         ensures accepted { IsSome result ↔ IsStatement arguments.now name size numbers.now }
-        ensures written { IfSome result (λ statement. written statement ≡ fields_of name size numbers.now) }
+        ensures written { IfSome result (λ statement. written statement ≡ written_by name size numbers.now) }
         ensures levels { IfSome result (λ statement. HasLevels (levels_of arguments.now.mode) statement) }
     {
         match size {

@@ -10,7 +10,7 @@ use Rattle.x86_64_model.proofs.Lemmas.Hierarchies.Elsewhere.{valid_for_elsewhere
 use Rattle.x86_64_model.proofs.Lemmas.Hierarchies.Exists.{held_is_paths_of}
 use Rattle.x86_64_model.proofs.Lemmas.Hierarchies.Memories.{covered}
 use Rattle.x86_64_model.proofs.Lemmas.Hierarchies.Unset.{is_some-unset}
-use Rattle.x86_64.specs.Runs.{FitsPool, Keeps}
+use Rattle.x86_64.specs.Runs.{FitsPool, KeepsPool}
 use Rattle.x86_64.specs.SecondHierarchies.{IsSecond, Stays, SecondHierarchiesStay}
 
 -- a table that is there without the self-entry is there
@@ -19,7 +19,7 @@ there_with_it None root T f h = h
 there_with_it (Some w) root T f h = is_some-unset T root w.index 0 f h
 
 module _ (first second : Layout) (mapping : IsMapping first.places) (at_least_four : 0 < second.levels) (serves : ℕ → Bool) (m n : Memory) (pool rest : List ℕ)
-    (fits : FitsPool first m serves pool) (keeps : Keeps first serves m pool n rest) (is : IsSecond first m pool second) where
+    (fits : FitsPool first m serves pool) (keeps : KeepsPool first serves m pool n rest) (is : IsSecond first m pool second) where
   owned_is_covered : (f : ℕ) → Owns first m pool f → first.places.covers f ≡ true
   owned_is_covered f own = covered m first.places f (⊎_elim (λ i. fits.in_memory f i)
       (λ t. there_with_it first.window first.root (words first m) f (fits.valid.valid.holds.in_memory t.0 f t.1)) own)

@@ -12,7 +12,7 @@ use Rattle.x86_64.specs.declared.calls.MapperReply.TheVariants as reply
 use Rattle.x86_64.specs.Asked as asked
 use Rattle.x86_64.specs.Asked.{MapperCall}
 use Rattle.x86_64.specs.Replies.{translate_result}
-use Rattle.x86_64.specs.Runs.{machine_of, state_of, step_by}
+use Rattle.x86_64.specs.Runs.{machine_of, state_in, step_by}
 
 some_same : {t u : Translated} → Some t ≡ Some u → t ≡ u
 some_same e = cc
@@ -24,13 +24,13 @@ translation_back (Mapped (Size1GiB start) offset flags) t e = subst (λ t. Some 
 translation_back NotMapped t e = subst (λ t. Some NotMapped ≡ translate_result t) (some_same e) refl
 translation_back (InvalidFrameAddress address) t e = cc
 
-module _ (l : Layout) (put : List ℕ → ℕ → List ℕ) (m : Memory) (pool : List ℕ) (c : MapperCall) (addr : ℕ) where
+module _ (l : Layout) (take_back : List ℕ → ℕ → List ℕ) (m : Memory) (pool : List ℕ) (c : MapperCall) (addr : ℕ) where
   pub translate_served : c ≡ asked.Translate addr → (r : TranslateResult) → translation_of r ≡ Some (translate l.levels (read_entry l m) addr)
-      → step_by (machine_of l put) (state_of l m pool) c ≡ record { state = state_of l m pool; reply = Some (reply.Translate r) }
+      → step_by (machine_of l take_back) (state_in l m pool) c ≡ record { state = state_in l m pool; reply = Some (reply.Translate r) }
   unfolding do_call
-  translate_served is r e = ap (step_by (machine_of l put) (state_of l m pool)) is ∙ ap (λ o. record { state = state_of l m pool; reply = option_map reply.Translate o }) (sym (translation_back r _ e))
+  translate_served is r e = ap (step_by (machine_of l take_back) (state_in l m pool)) is ∙ ap (λ o. record { state = state_in l m pool; reply = option_map reply.Translate o }) (sym (translation_back r _ e))
 
   pub address_served : c ≡ asked.TranslateAddr addr → (a : Option ℕ) → a ≡ address_of (translate l.levels (read_entry l m) addr)
-      → step_by (machine_of l put) (state_of l m pool) c ≡ record { state = state_of l m pool; reply = Some (reply.Address a) }
+      → step_by (machine_of l take_back) (state_in l m pool) c ≡ record { state = state_in l m pool; reply = Some (reply.Address a) }
   unfolding do_call
-  address_served is a e = ap (step_by (machine_of l put) (state_of l m pool)) is ∙ ap (λ a. record { state = state_of l m pool; reply = Some (reply.Address a) }) (sym e)
+  address_served is a e = ap (step_by (machine_of l take_back) (state_in l m pool)) is ∙ ap (λ a. record { state = state_in l m pool; reply = Some (reply.Address a) }) (sym e)

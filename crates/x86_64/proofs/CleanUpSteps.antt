@@ -7,10 +7,10 @@ use Rattle.x86_64_model.specs.Machine.{AfterCall, do_call, step}
 use Rattle.x86_64_model.specs.Layout.{IsReady}
 use Rattle.x86_64_model.specs.Memory.{IsMapping, word}
 use Rattle.x86_64_model.specs.Mapper.{Hierarchy, PoolFits, MayCleanUp, CleansUp, back}
-use Rattle.x86_64_model.specs.Pool.{IsGiving, given_back}
+use Rattle.x86_64_model.specs.Pool.{TakesBack, given_back}
 use Rattle.x86_64_model.proofs.Lemmas.Machines.Fitting.{ready_of_fits, may_clean_up}
 use Rattle.x86_64.specs.FreeFrames.{KeepsFree}
-use Rattle.x86_64.specs.Runs.{machine_of, state_of, Kept}
+use Rattle.x86_64.specs.Runs.{machine_of, state_in, Kept}
 use Rattle.x86_64.proofs.FreeFrames.{clean_up_keeps_free}
 use Rattle.x86_64.proofs.Keeping.{keeps_step}
 
@@ -19,29 +19,29 @@ module _ {Lent : Type 0} (h : Hierarchy Lent) (serves : ℕ → Bool) (pool held
   pub held_may_clean_up : MayCleanUp h serves held
   held_may_clean_up = subst (MayCleanUp h serves) same (may_clean_up h serves pool fits)
 
-  module _ (put : List ℕ → ℕ → List ℕ) (low high : ℕ) (after : Hierarchy Lent) (rest left : List ℕ) (last : rest ≡ left) (cleans : CleansUp h put held low high after left) where
-    one : step (machine_of h.layout put) (state_of h.layout h.memory pool) (machine.CleanUp low high) ≡ record { state = state_of h.layout after.memory rest; reply = machine.Cleaned }
-    one = ap (λ fs. do_call (machine_of h.layout put) (state_of h.layout h.memory fs) (machine.CleanUp low high)) same ∙ cleans.outcome
-        ∙ ap (λ fs. record { state = state_of after.layout after.memory fs; reply = machine.Cleaned }) (sym last) ∙ ap (λ l. record { state = state_of l after.memory rest; reply = machine.Cleaned }) cleans.layout
+  module _ (take_back : List ℕ → ℕ → List ℕ) (low high : ℕ) (after : Hierarchy Lent) (rest left : List ℕ) (last : rest ≡ left) (cleans : CleansUp h take_back held low high after left) where
+    one : step (machine_of h.layout take_back) (state_in h.layout h.memory pool) (machine.CleanUp low high) ≡ record { state = state_in h.layout after.memory rest; reply = machine.Cleaned }
+    one = ap (λ fs. do_call (machine_of h.layout take_back) (state_in h.layout h.memory fs) (machine.CleanUp low high)) same ∙ cleans.outcome
+        ∙ ap (λ fs. record { state = state_in after.layout after.memory fs; reply = machine.Cleaned }) (sym last) ∙ ap (λ l. record { state = state_in l after.memory rest; reply = machine.Cleaned }) cleans.layout
 
     -- the frames that are held then are those that were, with those that came back
-    all_back : left ≡ given_back put held (back h low high)
+    all_back : left ≡ given_back take_back held (back h low high)
     unfolding do_call
     all_back = sym (ap (λ (x : AfterCall). x.state.pool) cleans.outcome)
 
-    pub kept_cleaned : IsParentFlags h.layout.added_flags → IsGiving put → Kept h serves pool after rest
+    pub kept_cleaned : IsParentFlags h.layout.added_flags → TakesBack take_back → Kept h serves pool after rest
     kept_cleaned adds gives =
-        let ready : IsReady h.layout after.memory held_now = subst (λ l. IsReady l after.memory held_now) cleans.layout (cleans.fits put gives pool (ready_of_fits h.layout h.memory serves pool fits)) in
+        let ready : IsReady h.layout after.memory held_now = subst (λ l. IsReady l after.memory held_now) cleans.layout (cleans.fits take_back gives pool (ready_of_fits h.layout h.memory serves pool fits)) in
         record {
-          keeps = keeps_step h.layout adds put gives serves h.memory pool fits (machine.CleanUp low high) tt after.memory rest (sym (ap (λ (x : AfterCall). x.state) one))
-              (subst (IsReady h.layout after.memory) (ap (λ fs. given_back put fs (back h low high)) same ∙ sym all_back ∙ sym last) ready) (λ k none. cleans.others k (λ f table. none f (inr table)));
+          keeps = keeps_step h.layout adds take_back gives serves h.memory pool fits (machine.CleanUp low high) tt after.memory rest (sym (ap (λ (x : AfterCall). x.state) one))
+              (subst (IsReady h.layout after.memory) (ap (λ fs. given_back take_back fs (back h low high)) same ∙ sym all_back ∙ sym last) ready) (λ k none. cleans.others k (λ f table. none f (inr table)));
           layout = cleans.layout;
           lent = cleans.lent;
         }
       where
         held_now : List ℕ
-        held_now = given_back put pool (back h low high)
+        held_now = given_back take_back pool (back h low high)
 
-    pub free_cleaned : IsMapping h.layout.places → IsGiving put → KeepsFree h.layout h.memory pool (back h low high) after.memory rest
-    free_cleaned mapping gives = clean_up_keeps_free h.layout mapping serves h.memory pool fits put gives after.memory (back h low high) rest (last ∙ all_back ∙ ap (λ fs. given_back put fs (back h low high)) (sym same))
+    pub free_cleaned : IsMapping h.layout.places → TakesBack take_back → KeepsFree h.layout h.memory pool (back h low high) after.memory rest
+    free_cleaned mapping gives = clean_up_keeps_free h.layout mapping serves h.memory pool fits take_back gives after.memory (back h low high) rest (last ∙ all_back ∙ ap (λ fs. given_back take_back fs (back h low high)) (sym same))
         (λ f came i. subst (λ l. word (words_in l after.memory) f i ≡ 0) cleans.layout (cleans.empty f came i)) cleans.others

@@ -15,7 +15,7 @@ use Rattle.x86_64_model.proofs.Lemmas.Hierarchies.Held.{word-set_frame, word-set
 use Rattle.x86_64_model.proofs.Lemmas.Hierarchies.Memories.{covered}
 use Rattle.x86_64_model.proofs.Lemmas.Machines.Fitting.{own_there}
 use Rattle.x86_64.specs.EveryWord.{EveryWordIsDecided, IsLeft}
-use Rattle.x86_64.specs.Runs.{state_of}
+use Rattle.x86_64.specs.Runs.{state_in}
 use Rattle.x86_64.proofs.FreeFrames.{in_or_not}
 
 -- numbers that can't differ are equal
@@ -49,7 +49,7 @@ table_words L (Some w) T U root M valid other f i table = by (f == root) (i == w
 
 module _ (l : Layout) (mapping : IsMapping l.places) (m n : Memory) (pool back rest : List ℕ) (left : IsLeft l m pool back n rest) where
   own_is_covered : (f : ℕ) → Owns l n rest f → l.places.covers f ≡ true
-  own_is_covered f own = covered n l.places f (own_there l.levels l.window (words l n) l.root left.serves (state_of l n rest) left.keeps.fits f own)
+  own_is_covered f own = covered n l.places f (own_there l.levels l.window (words l n) l.root left.serves (state_in l n rest) left.keeps.fits f own)
 
   -- a frame that is neither free nor a table has the words of before
   other_words : (f : ℕ) → l.places.covers f ≡ true → (Owns l n rest f → ⊥) → words l n f ≡ words l m f

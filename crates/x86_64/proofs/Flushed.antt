@@ -8,7 +8,7 @@ use Rattle.x86_64_model.specs.Layout.{Layout, words}
 use Rattle.x86_64_model.specs.Machine.{Machine, State, step, state_after}
 use Rattle.x86_64_model.specs.Memory.{Memory}
 use Rattle.x86_64_model.specs.Path.{path_at}
-use Rattle.x86_64_model.specs.Pool.{IsGiving}
+use Rattle.x86_64_model.specs.Pool.{TakesBack}
 use Rattle.x86_64_model.specs.Refusal.{Refusal, Done, Refused}
 use Rattle.x86_64_model.specs.Window.{IsValidFor}
 use Rattle.x86_64_model.specs.Laws.Steps.{NoneCovers as NoItemCovers}
@@ -23,7 +23,7 @@ use Rattle.x86_64_tables.specs.declared.mapper.TranslateResult.{TranslateResult}
 use Rattle.x86_64.specs.Flushes.{size_items, items_of, items_told, level_of_size, item_of, NoneCovers, FlushesSuffice}
 use Rattle.x86_64.specs.private.Served.{items_where}
 use Rattle.x86_64.specs.Replies.{SizeReply, Reply, map_error, unmap_error, update_error, translate_error, sized, size_answer, translate_result, reply_of}
-use Rattle.x86_64.specs.Runs.{machine_of, state_of, FitsPool, step_by, replies_to}
+use Rattle.x86_64.specs.Runs.{machine_of, state_in, FitsPool, step_by, replies_to}
 use Rattle.x86_64.proofs.AskedCalls.{are_calls}
 
 -- ---- of one call
@@ -152,17 +152,17 @@ module _ {C : Type 0} (asks : C → MapperCall) where
   -- ---- stale walks
 
   module _ (l : Layout) (known : IsLevelCount l.levels) (is_call : (call : C) → machine.IsCall l.levels (machine_call l.levels (asks call))) where
-    pub flushed : IsParentFlags l.added_flags → (put : List ℕ → ℕ → List ℕ) → IsGiving put → (serves : ℕ → Bool) (m : Memory) (pool : List ℕ) → FitsPool l m serves pool
-        → (calls : List C) (n : Memory) (rest : List ℕ) → IsValidFor l.levels l.window (words l n) l.root (state_of l n rest).paths
-        → state_of l n rest ≡ state_after (machine_of l put) (state_of l m pool) (calls_by asks l.levels calls)
-        → (told : List Reply) → map Some told ≡ replies_to asks (machine_of l put) (state_of l m pool) calls → FlushesSuffice asks l put (state_of l m pool) calls told (words l n)
-    flushed adds put gives serves m pool fits calls n rest valid is told tells k V p first out none =
-        let runs = machine_of l put in
-        let start = state_of l m pool in
+    pub flushed : IsParentFlags l.added_flags → (take_back : List ℕ → ℕ → List ℕ) → TakesBack take_back → (serves : ℕ → Bool) (m : Memory) (pool : List ℕ) → FitsPool l m serves pool
+        → (calls : List C) (n : Memory) (rest : List ℕ) → IsValidFor l.levels l.window (words l n) l.root (state_in l n rest).paths
+        → state_in l n rest ≡ state_after (machine_of l take_back) (state_in l m pool) (calls_by asks l.levels calls)
+        → (told : List Reply) → map Some told ≡ replies_to asks (machine_of l take_back) (state_in l m pool) calls → FlushesSuffice asks l take_back (state_in l m pool) calls told (words l n)
+    flushed adds take_back gives serves m pool fits calls n rest valid is told tells k V p first out none =
+        let runs = machine_of l take_back in
+        let start = state_in l m pool in
         let then = state_after runs start (calls_by asks l.levels (take k calls)) in
         let early : take k (calls_by asks l.levels calls) ≡ calls_by asks l.levels (take k calls) = take-map (λ c. machine_call l.levels (asks c)) k calls in
         let late : drop k (calls_by asks l.levels calls) ≡ calls_by asks l.levels (drop k calls) = drop-map (λ c. machine_call l.levels (asks c)) k calls in
-        flushes_suffice l.levels l.window (words l m) V (words l n) l.root serves l.added_flags adds put gives start (calls_by asks l.levels calls)
+        flushes_suffice l.levels l.window (words l m) V (words l n) l.root serves l.added_flags adds take_back gives start (calls_by asks l.levels calls)
         (are_calls l.levels asks is_call calls) fits k
         (subst (λ (cs : List machine.Call). IsValidFor l.levels l.window V l.root (state_after runs start cs).paths) (sym early) first)
         (subst (λ (s : State). IsValidFor l.levels l.window (words l n) l.root s.paths) is valid) p out

@@ -5,7 +5,7 @@ use Rattle.x86_64_model.specs.Layout.{Layout, words, paths}
 use Rattle.x86_64_model.specs.Lists.{In}
 use Rattle.x86_64_model.specs.Layout.{Owns, KeepsOthers}
 use Rattle.x86_64_model.specs.Memory.{Memory, IsMapping, word}
-use Rattle.x86_64_model.specs.Pool.{IsTable, IsGiving, given_back}
+use Rattle.x86_64_model.specs.Pool.{IsTable, TakesBack, given_back}
 use Rattle.x86_64_model.proofs.Lemmas.CleanUps.Trees.{given_frames}
 use Rattle.x86_64_model.proofs.Lemmas.Hierarchies.Elsewhere.{same_word}
 use Rattle.x86_64_model.proofs.Lemmas.Hierarchies.Memories.{covered}
@@ -13,7 +13,7 @@ use Rattle.x86_64_model.proofs.Lemmas.Lists.Members.{in_left, in_right, in_appen
 use Rattle.x86_64_model.proofs.Lemmas.Machines.Fitting.{own_there}
 use Rattle.x86_64.specs.Asked.{PageCall, MapTo, MapToWithTableFlags, IdentityMap, Unmap, UpdateFlags, SetFlags, TranslatePage, page_call}
 use Rattle.x86_64.specs.FreeFrames.{KeepsFree, back_by}
-use Rattle.x86_64.specs.Runs.{FitsPool, machine_of, state_of}
+use Rattle.x86_64.specs.Runs.{FitsPool, machine_of, state_in}
 
 -- ---- one call
 
@@ -22,7 +22,7 @@ module _ (l : Layout) (mapping : IsMapping l.places) (serves : ℕ → Bool) (m 
   Table f = IsTable l.levels l.root (paths l m) f
 
   own_is_covered : (f : ℕ) → Owns l m pool f → l.places.covers f ≡ true
-  own_is_covered f own = covered m l.places f (own_there l.levels l.window (words l m) l.root serves (state_of l m pool) fits f own)
+  own_is_covered f own = covered m l.places f (own_there l.levels l.window (words l m) l.root serves (state_in l m pool) fits f own)
 
   -- a frame that is free before and after keeps its words, where none changed but in tables and in frames that were taken
   stays : (n : Memory) (rest : List ℕ) → KeepsOthers l.places (λ g. Table g ⊎ (In pool g × (In rest g → ⊥))) m n → (f : ℕ) → In rest f → In pool f → words l n f ≡ words l m f
@@ -46,27 +46,27 @@ module _ (l : Layout) (mapping : IsMapping l.places) (serves : ℕ → Bool) (m 
   change_keeps_free n others = map_keeps_free n [] pool refl (λ k no. others k (λ g t. no g (inr t, λ i. fits.no_table g i t)))
 
   -- a clean up
-  pub clean_up_keeps_free : (put : List ℕ → ℕ → List ℕ) → IsGiving put → (n : Memory) (back rest : List ℕ) → rest ≡ given_back put pool back → ((f : ℕ) → In back f → (i : ℕ) → word (words l n) f i ≡ 0)
+  pub clean_up_keeps_free : (take_back : List ℕ → ℕ → List ℕ) → TakesBack take_back → (n : Memory) (back rest : List ℕ) → rest ≡ given_back take_back pool back → ((f : ℕ) → In back f → (i : ℕ) → word (words l n) f i ≡ 0)
       → KeepsOthers l.places Table m n → KeepsFree l m pool back n rest
-  clean_up_keeps_free put gives n back rest is empty others = record {
+  clean_up_keeps_free take_back gives n back rest is empty others = record {
     came_back = λ f left came. empty f came;
     was_free = was;
     same_words = λ f left none. stays n rest (λ k no. others k (λ g t. no g (inl t))) f left (was f left none);
   }
     where
       was : (f : ℕ) → In rest f → (In back f → ⊥) → In pool f
-      was f left none = ⊎_elim (λ came. absurd (none came)) (λ i. i) (in_append back pool f ((given_frames put gives pool back f).0 (subst (λ fs. In fs f) is left)))
+      was f left none = ⊎_elim (λ came. absurd (none came)) (λ i. i) (in_append back pool f ((given_frames take_back gives pool back f).0 (subst (λ fs. In fs f) is left)))
 
 -- a call on a page gives no frame back
-pub page_keeps_free : (l : Layout) (m : Memory) (pool : List ℕ) (put : List ℕ → ℕ → List ℕ) (level : ℕ) (call : PageCall) (n : Memory) (rest : List ℕ) → KeepsFree l m pool [] n rest
-    → KeepsFree l m pool (back_by (machine_of l put) (state_of l m pool) (page_call l.levels level call)) n rest
-page_keeps_free l m pool put level (MapTo page frame flags) n rest keeps = keeps
-page_keeps_free l m pool put level (MapToWithTableFlags page frame flags parent_flags) n rest keeps = keeps
-page_keeps_free l m pool put level (IdentityMap frame flags) n rest keeps = keeps
-page_keeps_free l m pool put level (Unmap page) n rest keeps = keeps
-page_keeps_free l m pool put level (UpdateFlags page flags) n rest keeps = keeps
-page_keeps_free l m pool put level (SetFlags at page flags) n rest keeps = keeps
-page_keeps_free l m pool put level (TranslatePage page) n rest keeps = keeps
+pub page_keeps_free : (l : Layout) (m : Memory) (pool : List ℕ) (take_back : List ℕ → ℕ → List ℕ) (level : ℕ) (call : PageCall) (n : Memory) (rest : List ℕ) → KeepsFree l m pool [] n rest
+    → KeepsFree l m pool (back_by (machine_of l take_back) (state_in l m pool) (page_call l.levels level call)) n rest
+page_keeps_free l m pool take_back level (MapTo page frame flags) n rest keeps = keeps
+page_keeps_free l m pool take_back level (MapToWithTableFlags page frame flags parent_flags) n rest keeps = keeps
+page_keeps_free l m pool take_back level (IdentityMap frame flags) n rest keeps = keeps
+page_keeps_free l m pool take_back level (Unmap page) n rest keeps = keeps
+page_keeps_free l m pool take_back level (UpdateFlags page flags) n rest keeps = keeps
+page_keeps_free l m pool take_back level (SetFlags at page flags) n rest keeps = keeps
+page_keeps_free l m pool take_back level (TranslatePage page) n rest keeps = keeps
 
 -- ---- calls one after another
 

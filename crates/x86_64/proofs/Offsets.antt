@@ -12,13 +12,13 @@ use Rattle.x86_64_mappers.specs.Layouts.{direct_at}
 use Rattle.x86_64_mappers.proofs.Memory.OffsetTables.{offset_words, offset_fits}
 use Rattle.x86_64_mappers.specs.Offsets.{OffsetFits, offset_places}
 use Rattle.x86_64.specs.FreeFrames.{KeepsFree}
-use Rattle.x86_64.specs.Runs.{Keeps, state_of}
+use Rattle.x86_64.specs.Runs.{KeepsPool, state_in}
 
 same_paths : (levels offset root : ℕ) (m : Memory) → OffsetFits levels m offset → paths (direct_at levels (offset_places levels offset) root) m ≡ paths (direct_at levels identity_places root) m
 same_paths levels offset root m reached = ap (λ tables. paths_of levels (outside_window None root tables) root) (offset_words levels m offset reached)
 
 -- the words mean the same state
-pub same_state : (levels offset root : ℕ) (m : Memory) (pool : List ℕ) → OffsetFits levels m offset → state_of (direct_at levels (offset_places levels offset) root) m pool ≡ state_of (direct_at levels identity_places root) m pool
+pub same_state : (levels offset root : ℕ) (m : Memory) (pool : List ℕ) → OffsetFits levels m offset → state_in (direct_at levels (offset_places levels offset) root) m pool ≡ state_in (direct_at levels identity_places root) m pool
 same_state levels offset root m pool reached = ap (λ (M : PathMap). record { paths = M; pool = pool }) (same_paths levels offset root m reached)
 
 same_own : (levels offset root : ℕ) (m : Memory) (pool : List ℕ) → OffsetFits levels m offset → (f : ℕ) → Owns (direct_at levels (offset_places levels offset) root) m pool f ↔ Owns (direct_at levels identity_places root) m pool f
@@ -28,7 +28,7 @@ same_own levels offset root m pool reached f =
 
 -- and what is kept is the same
 pub same_kept : (levels offset root : ℕ) (serves : ℕ → Bool) (m n : Memory) (pool rest : List ℕ) → OffsetFits levels m offset → OffsetFits levels n offset
-    → Keeps (direct_at levels (offset_places levels offset) root) serves m pool n rest → Keeps (direct_at levels identity_places root) serves m pool n rest
+    → KeepsPool (direct_at levels (offset_places levels offset) root) serves m pool n rest → KeepsPool (direct_at levels identity_places root) serves m pool n rest
 same_kept levels offset root serves m n pool rest before after kept = record {
   fits = (offset_fits levels n offset after root serves rest).1 kept.fits;
   conserved = λ f.

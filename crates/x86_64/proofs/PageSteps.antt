@@ -8,7 +8,7 @@ use Rattle.x86_64_model.specs.Memory.{Memory, IsMapping}
 use Rattle.x86_64_model.specs.Layout.{Layout, words, paths}
 use Rattle.x86_64_model.specs.Path.{IsPage, path_at}
 use Rattle.x86_64_model.specs.Refusal.{Answer}
-use Rattle.x86_64_model.specs.Pool.{IsGiving}
+use Rattle.x86_64_model.specs.Pool.{TakesBack}
 use Rattle.x86_64_model.specs.Allowed.{allowed, refuses}
 use Rattle.x86_64_model.specs.Call as machine
 use Rattle.x86_64_model.specs.Call.{IsCall}
@@ -29,7 +29,7 @@ use Rattle.x86_64.specs.Asked.{PageCall, MapTo, MapToWithTableFlags, IdentityMap
 use Rattle.x86_64.specs.declared.calls.PageReply.TheVariants as reply
 use Rattle.x86_64.specs.Replies.{SizeReply, map_error, unmap_error, update_error, translate_error, result_of, size_reply, size_answer, is_refused, size_changes_nothing}
 use Rattle.x86_64.specs.FreeFrames.{KeepsFree}
-use Rattle.x86_64.specs.Runs.{machine_of, state_of, FitsPool, Keeps}
+use Rattle.x86_64.specs.Runs.{machine_of, state_in, FitsPool, KeepsPool}
 use Rattle.x86_64.specs.private.Served.{size_step}
 use Rattle.x86_64_model.proofs.Lemmas.Machines.Fitting.{ready_of_fits, sound_of_fits}
 use Rattle.x86_64_model.proofs.Lemmas.Maps.Takes.{map_takes}
@@ -98,66 +98,66 @@ flags_refuse frame (Err why) (Err same) tells refused = refl
 -- ---- steps
 
 -- what a call on a page that an entry of the level maps begins with: a hierarchy of more than three levels and a pool that fits it
-pub record Start (l : Layout) (put : List ℕ → ℕ → List ℕ) (serves : ℕ → Bool) (m : Memory) (pool : List ℕ) (level : ℕ) : Type 0 where
+pub record Start (l : Layout) (take_back : List ℕ → ℕ → List ℕ) (serves : ℕ → Bool) (m : Memory) (pool : List ℕ) (level : ℕ) : Type 0 where
   pub at_least_four : 3 < l.levels
   pub adds : IsParentFlags l.added_flags
-  pub gives : IsGiving put
+  pub gives : TakesBack take_back
   pub mapping : IsMapping l.places
   pub fits : FitsPool l m serves pool
   pub low : 1 ≤ level
   pub high : level ≤ 3
 
 -- the call's step in the machine, what it keeps, and that a reply that says so leaves all as it was
-pub record Serves (S : Type 0) (l : Layout) (put : List ℕ → ℕ → List ℕ) (serves : ℕ → Bool) (m : Memory) (pool : List ℕ) (level : ℕ) (call : PageCall) (n : Memory) (rest : List ℕ) (answer : SizeReply S) : Type 0 where
-  pub step : size_step (machine_of l put) level (state_of l m pool) call ≡ record { state = state_of l n rest; reply = Some (Some answer) }
-  pub keeps : Keeps l serves m pool n rest
+pub record Serves (S : Type 0) (l : Layout) (take_back : List ℕ → ℕ → List ℕ) (serves : ℕ → Bool) (m : Memory) (pool : List ℕ) (level : ℕ) (call : PageCall) (n : Memory) (rest : List ℕ) (answer : SizeReply S) : Type 0 where
+  pub step : size_step (machine_of l take_back) level (state_in l m pool) call ≡ record { state = state_in l n rest; reply = Some (Some answer) }
+  pub keeps : KeepsPool l serves m pool n rest
   pub free : KeepsFree l m pool [] n rest
   pub still : size_changes_nothing answer ≡ true → n ≡ m
 
-is_page : {l : Layout} {put : List ℕ → ℕ → List ℕ} {serves : ℕ → Bool} {m : Memory} {pool : List ℕ} {level : ℕ} → Start l put serves m pool level → (page : ℕ) → IsPage l.levels (path_at l.levels level page)
+is_page : {l : Layout} {take_back : List ℕ → ℕ → List ℕ} {serves : ℕ → Bool} {m : Memory} {pool : List ℕ} {level : ℕ} → Start l take_back serves m pool level → (page : ℕ) → IsPage l.levels (path_at l.levels level page)
 is_page {l = l} {level = level} start page = page_at_level l.levels level page start.low start.high (omega (arith, start.at_least_four, start.high))
 
 -- that the call is served so if it is allowed
-abbrev pub IsServed : (S : Type 0) (l : Layout) (put : List ℕ → ℕ → List ℕ) (serves : ℕ → Bool) (m : Memory) (pool : List ℕ) (level : ℕ) (call : PageCall) (n : Memory) (rest : List ℕ) (answer : SizeReply S) → Type 0
-IsServed S l put serves m pool level call n rest answer = allowed l.levels l.window (paths l m) (page_call l.levels level call) ≡ true → Serves S l put serves m pool level call n rest answer
+abbrev pub IsServed : (S : Type 0) (l : Layout) (take_back : List ℕ → ℕ → List ℕ) (serves : ℕ → Bool) (m : Memory) (pool : List ℕ) (level : ℕ) (call : PageCall) (n : Memory) (rest : List ℕ) (answer : SizeReply S) → Type 0
+IsServed S l take_back serves m pool level call n rest answer = allowed l.levels l.window (paths l m) (page_call l.levels level call) ≡ true → Serves S l take_back serves m pool level call n rest answer
 
 -- the outcome of a call, in the layout that no call changes
-stepped : {Lent : Type 0} (h : Hierarchy Lent) (put : List ℕ → ℕ → List ℕ) (pool : List ℕ) (on : machine.Call) (answer : Answer) (after : Hierarchy Lent) (rest : List ℕ) → after.layout ≡ h.layout
-    → Steps h pool on answer after rest → do_call (machine_of h.layout put) (state_of h.layout h.memory pool) on ≡ record { state = state_of h.layout after.memory rest; reply = machine.Answered answer }
-stepped h put pool on answer after rest same steps =
-    subst (λ l. do_call (machine_of h.layout put) (state_of h.layout h.memory pool) on ≡ record { state = state_of l after.memory rest; reply = machine.Answered answer }) same (steps put)
+stepped : {Lent : Type 0} (h : Hierarchy Lent) (take_back : List ℕ → ℕ → List ℕ) (pool : List ℕ) (on : machine.Call) (answer : Answer) (after : Hierarchy Lent) (rest : List ℕ) → after.layout ≡ h.layout
+    → Steps h pool on answer after rest → do_call (machine_of h.layout take_back) (state_in h.layout h.memory pool) on ≡ record { state = state_in h.layout after.memory rest; reply = machine.Answered answer }
+stepped h take_back pool on answer after rest same steps =
+    subst (λ l. do_call (machine_of h.layout take_back) (state_in h.layout h.memory pool) on ≡ record { state = state_in l after.memory rest; reply = machine.Answered answer }) same (steps take_back)
 
 -- ---- frames that a map takes
 
-module _ {Lent : Type 0} (h : Hierarchy Lent) {put : List ℕ → ℕ → List ℕ} {serves : ℕ → Bool} {pool : List ℕ} {level : ℕ} (start : Start h.layout put serves h.memory pool level) where
+module _ {Lent : Type 0} (h : Hierarchy Lent) {take_back : List ℕ → ℕ → List ℕ} {serves : ℕ → Bool} {pool : List ℕ} {level : ℕ} (start : Start h.layout take_back serves h.memory pool level) where
   -- what a map by a call leaves of the pool, at whose front are the frames that it took
   abbrev Takes : (call : PageCall) → Type 0
-  Takes call = (rest : List ℕ) → (do_call (machine_of h.layout put) (state_of h.layout h.memory pool) (page_call h.layout.levels level call)).state.pool ≡ rest → (taken : List ℕ) × (pool ≡ taken ++ rest)
+  Takes call = (rest : List ℕ) → (do_call (machine_of h.layout take_back) (state_in h.layout h.memory pool) (page_call h.layout.levels level call)).state.pool ≡ rest → (taken : List ℕ) × (pool ≡ taken ++ rest)
 
   taken_off : (q : List ℕ) → IsPage h.layout.levels q → (frame flags more : ℕ) (rest : List ℕ) → (map_call h.layout.levels (paths h.layout h.memory) pool more h.layout.added_flags q frame flags).supply ≡ rest
       → (taken : List ℕ) × (pool ≡ taken ++ rest)
   taken_off q page frame flags more rest same =
-      let sound = sound_of_fits h.layout.levels h.layout.window (words h.layout h.memory) h.layout.root serves (state_of h.layout h.memory pool) start.fits in
+      let sound = sound_of_fits h.layout.levels h.layout.window (words h.layout h.memory) h.layout.root serves (state_in h.layout h.memory pool) start.fits in
       let takes = map_takes h.layout.levels h.layout.root (paths h.layout h.memory) pool more h.layout.added_flags q frame flags sound.hierarchy.tree page.at_most in
       (takes.taken, takes.first ∙ ap (λ fs. takes.taken ++ fs) same)
 
-module _ {Lent S : Type 0} (h : Hierarchy Lent) {put : List ℕ → ℕ → List ℕ} {serves : ℕ → Bool} {pool : List ℕ} {level : ℕ} (start : Start h.layout put serves h.memory pool level) where
+module _ {Lent S : Type 0} (h : Hierarchy Lent) {take_back : List ℕ → ℕ → List ℕ} {serves : ℕ → Bool} {pool : List ℕ} {level : ℕ} (start : Start h.layout take_back serves h.memory pool level) where
   abbrev Is : (call : PageCall) (n : Memory) (rest : List ℕ) (answer : SizeReply S) → Type 0
-  Is = IsServed S h.layout put serves h.memory pool level
+  Is = IsServed S h.layout take_back serves h.memory pool level
 
   answered : (call : PageCall) → IsCall h.layout.levels (page_call h.layout.levels level call) → (n : Memory) (rest : List ℕ) (answer : Answer)
-      → do_call (machine_of h.layout put) (state_of h.layout h.memory pool) (page_call h.layout.levels level call) ≡ record { state = state_of h.layout n rest; reply = machine.Answered answer }
+      → do_call (machine_of h.layout take_back) (state_in h.layout h.memory pool) (page_call h.layout.levels level call) ≡ record { state = state_in h.layout n rest; reply = machine.Answered answer }
       → IsReady h.layout n rest → KeepsOthers h.layout.places (Owns h.layout h.memory pool) h.memory n → KeepsFree h.layout h.memory pool [] n rest
       → (told : SizeReply S) → size_reply call answer ≡ Some told → (size_changes_nothing told ≡ true → n ≡ h.memory) → Is call n rest told
   answered call is n rest answer does ready others free told tells still may =
-      let before = state_of h.layout h.memory pool in
+      let before = state_in h.layout h.memory pool in
       let on = page_call h.layout.levels level call in
-      let one : step (machine_of h.layout put) before on ≡ record { state = state_of h.layout n rest; reply = machine.Answered answer } = ap (λ b. cond b (do_call (machine_of h.layout put) before on) (only_reply before machine.NotAllowed)) may ∙ does in
+      let one : step (machine_of h.layout take_back) before on ≡ record { state = state_in h.layout n rest; reply = machine.Answered answer } = ap (λ b. cond b (do_call (machine_of h.layout take_back) before on) (only_reply before machine.NotAllowed)) may ∙ does in
       record {
-        step = ap (λ (x : AfterCall). record { state = x.state; reply = size_answer call x.reply }) one ∙ ap (λ a. record { state = state_of h.layout n rest; reply = option_map Some a }) tells;
+        step = ap (λ (x : AfterCall). record { state = x.state; reply = size_answer call x.reply }) one ∙ ap (λ a. record { state = state_in h.layout n rest; reply = option_map Some a }) tells;
         still = still;
         free = free;
-        keeps = keeps_step h.layout start.adds put start.gives serves h.memory pool start.fits on is n rest (sym (ap (λ (x : AfterCall). x.state) one)) ready others;
+        keeps = keeps_step h.layout start.adds take_back start.gives serves h.memory pool start.fits on is n rest (sym (ap (λ (x : AfterCall). x.state) one)) ready others;
       }
 
   -- ---- maps
@@ -167,7 +167,7 @@ module _ {Lent S : Type 0} (h : Hierarchy Lent) {put : List ℕ → ℕ → List
       → (r : Result ℕ (MapToError S)) (after : Hierarchy Lent) (rest : List ℕ) → DoesMap h pool (page_call h.layout.levels level call) (map_answer frame r) after rest → IfOk r (λ flush. flush ≡ page)
       → (told : Result ℕ (MapToError S)) → told ≡ r → Is call after.memory rest (reply.Map told)
   map_served call is takes page frame replies r after rest does same told tells =
-      let steps = stepped h put pool (page_call h.layout.levels level call) (map_answer frame r) after rest does.layout does.outcome in
+      let steps = stepped h take_back pool (page_call h.layout.levels level call) (map_answer frame r) after rest does.layout does.outcome in
       let off = takes rest (ap (λ (x : AfterCall). x.state.pool) steps) in
       answered call is after.memory rest (map_answer frame r) steps
       (subst (λ l. IsReady l after.memory rest) does.layout does.fits) (λ k none. does.others k (λ f uses. none f uses.0))
@@ -200,7 +200,7 @@ module _ {Lent S : Type 0} (h : Hierarchy Lent) {put : List ℕ → ℕ → List
   change_served : (call : PageCall) → IsCall h.layout.levels (page_call h.layout.levels level call) → (answer : Answer) (after : Hierarchy Lent) → Does h (page_call h.layout.levels level call) answer after
       → (told : SizeReply S) → size_reply call answer ≡ Some told → (size_changes_nothing told ≡ true → refuses answer ≡ true) → Is call after.memory pool told
   change_served call is answer after does told tells still =
-      answered call is after.memory pool answer (stepped h put pool (page_call h.layout.levels level call) answer after pool does.layout (does.outcome pool))
+      answered call is after.memory pool answer (stepped h take_back pool (page_call h.layout.levels level call) answer after pool does.layout (does.outcome pool))
       (subst (λ l. IsReady l after.memory pool) does.layout (does.fits pool (ready_of_fits h.layout h.memory serves pool start.fits))) (λ k none. does.others k (λ f table. none f (inr table)))
       (change_keeps_free h.layout start.mapping serves h.memory pool start.fits after.memory does.others) told tells (λ unchanged. does.refused (still unchanged))
 

@@ -8,13 +8,13 @@ use Rattle.x86_64_model.specs.Laws.Steps.{AllCalls}
 use Rattle.x86_64_model.specs.Layout.{Layout}
 use Rattle.x86_64_model.specs.Machine.{Machine, State, step, replies_of, state_after}
 use Rattle.x86_64_model.specs.Mapper.{Hierarchy, PoolFits, paths, words}
-use Rattle.x86_64_model.specs.Pool.{IsGiving}
+use Rattle.x86_64_model.specs.Pool.{TakesBack}
 use Rattle.x86_64_model.proofs.Lemmas.Machines.Giving.{giving_from}
 use Rattle.x86_64_model.proofs.Lemmas.Machines.Laws.{pairs_reply_alike}
 use Rattle.x86_64.specs.Asked.{MapperCall, machine_call, calls_by}
 use Rattle.x86_64.specs.Pairs.{NoneNames, put_first}
 use Rattle.x86_64.specs.Replies.{Reply, reply_of}
-use Rattle.x86_64.specs.Runs.{machine_of, state_of, Ran, replies_to}
+use Rattle.x86_64.specs.Runs.{machine_of, state_in, Ran, replies_to}
 use Rattle.x86_64.proofs.AskedCalls.{are_calls}
 use Rattle.x86_64.proofs.Named.{none_named}
 
@@ -42,7 +42,7 @@ all_some (x ∷ xs) (y ∷ ys) e =
 
 -- ---- of two hierarchies
 
-gives_first : IsGiving put_first
+gives_first : TakesBack put_first
 gives_first = giving_from put_first (λ held frame. IsPermutation-refl (frame ∷ held))
 
 -- before the calls
@@ -70,15 +70,15 @@ module _ {C : Type 0} (asks : C → MapperCall) (L : ℕ) (is_call : (call : C) 
 
   -- after the calls, as the machine of their levels leaves it
   ends : {Lent : Type 0} (h after : Hierarchy Lent) (pool rest : List ℕ) (calls : List C) (told : List Reply) → h.layout.levels ≡ L → after.layout ≡ h.layout → Ran asks put_first h pool calls [] told after rest
-      → state_of after.layout after.memory rest ≡ state_after (machine_of h.layout put_first) (state_of h.layout h.memory pool) (asked calls)
+      → state_in after.layout after.memory rest ≡ state_after (machine_of h.layout put_first) (state_in h.layout h.memory pool) (asked calls)
   ends h after pool rest calls told levels layout ran =
-      ap (λ (l : Layout). state_of l after.memory rest) layout ∙ ran.state ∙ ap (λ L. state_after (machine_of h.layout put_first) (state_of h.layout h.memory pool) (calls_by asks L calls)) levels
+      ap (λ (l : Layout). state_in l after.memory rest) layout ∙ ran.state ∙ ap (λ L. state_after (machine_of h.layout put_first) (state_in h.layout h.memory pool) (calls_by asks L calls)) levels
 
   told_by : {Lent : Type 0} (h after : Hierarchy Lent) (pool rest : List ℕ) (calls : List C) (told : List Reply) → h.layout.levels ≡ L → Ran asks put_first h pool calls [] told after rest
-      → map Some told ≡ answers asks calls (replies_of (machine_of h.layout put_first) (state_of h.layout h.memory pool) (asked calls))
+      → map Some told ≡ answers asks calls (replies_of (machine_of h.layout put_first) (state_in h.layout h.memory pool) (asked calls))
   told_by h after pool rest calls told levels ran =
       let runs = machine_of h.layout put_first in
-      let start = state_of h.layout h.memory pool in
+      let start = state_in h.layout h.memory pool in
       ran.replies ∙ replies_are asks runs start calls ∙ ap (λ L. answers asks calls (replies_of runs start (calls_by asks L calls))) levels
 
   module _ {Lent Other : Type 0} (h : Hierarchy Lent) (serves : ℕ → Bool) (pool : List ℕ) (k : Hierarchy Other) (other_serves : ℕ → Bool) (others : List ℕ) (calls : List C) (pair : IsPair asks L h serves pool k other_serves others calls) where
@@ -89,10 +89,10 @@ module _ {C : Type 0} (asks : C → MapperCall) (L : ℕ) (is_call : (call : C) 
     second = machine_of k.layout put_first
 
     abbrev start : State
-    start = state_of h.layout h.memory pool
+    start = state_in h.layout h.memory pool
 
     abbrev other_start : State
-    other_start = state_of k.layout k.memory others
+    other_start = state_in k.layout k.memory others
 
     runs : AlikeRuns h.layout.levels (state_after first start (asked calls)) (state_after second other_start (asked calls)) (replies_of first start (asked calls)) (replies_of second other_start (asked calls))
     runs = pairs_reply_alike first second (pair.levels ∙ sym pair.other_levels) refl gives_first pair.adds pair.other_adds (words h) (words k) h.layout.root k.layout.root serves other_serves (asked calls)
@@ -103,10 +103,10 @@ module _ {C : Type 0} (asks : C → MapperCall) (L : ℕ) (is_call : (call : C) 
 
     module _ (after : Hierarchy Lent) (rest : List ℕ) (told : List Reply) (layout : after.layout ≡ h.layout) (ran : Ran asks put_first h pool calls [] told after rest)
         (other_after : Hierarchy Other) (other_rest : List ℕ) (other_told : List Reply) (other_layout : other_after.layout ≡ k.layout) (other_ran : Ran asks put_first k others calls [] other_told other_after other_rest) where
-      one : state_of after.layout after.memory rest ≡ state_after first start (asked calls)
+      one : state_in after.layout after.memory rest ≡ state_after first start (asked calls)
       one = ends h after pool rest calls told pair.levels layout ran
 
-      other : state_of other_after.layout other_after.memory other_rest ≡ state_after second other_start (asked calls)
+      other : state_in other_after.layout other_after.memory other_rest ≡ state_after second other_start (asked calls)
       other = ends k other_after others other_rest calls other_told pair.other_levels other_layout other_ran
 
       same_replies : other_told ≡ told

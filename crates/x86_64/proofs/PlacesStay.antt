@@ -7,7 +7,7 @@ use Rattle.x86_64_model.specs.Layout.{Owns}
 use Rattle.x86_64_model.specs.Memory.{Memory}
 use Rattle.x86_64_model.proofs.Lemmas.Machines.Fitting.{own_there}
 use Rattle.x86_64.specs.PlacesStay.{PlacesStay, OffsetsFitStill}
-use Rattle.x86_64.specs.Runs.{FitsPool, state_of}
+use Rattle.x86_64.specs.Runs.{FitsPool, state_in}
 
 -- a frame that has a table lies at a place that is there
 there_if : (c : Bool) (table : Option (List ℕ)) → IsSome (cond c table None) → IsSome table
@@ -17,7 +17,7 @@ there_if false table there = cc there
 -- the place of a frame of the hierarchy or its pool is there
 own_place : (l : Layout) (serves : ℕ → Bool) (m : Memory) (pool : List ℕ) → FitsPool l m serves pool → (f : ℕ) → Owns l m pool f → IsSome (get m (l.places.place f))
 own_place l serves m pool fits f own =
-    there_if (l.places.covers f) (get m (l.places.place f)) (own_there l.levels l.window (words l m) l.root serves (state_of l m pool) fits f own)
+    there_if (l.places.covers f) (get m (l.places.place f)) (own_there l.levels l.window (words l m) l.root serves (state_in l m pool) fits f own)
 
 -- a place is there where it would be the same one if it weren't
 there_by : {X : Type 0} (t u : Option X) → IsSome u → (t ≡ None → t ≡ u) → IsSome t

@@ -13,7 +13,7 @@ use Rattle.x86_64.specs.Flushes.{items_of, items_told}
 use Rattle.x86_64.specs.private.Served.{recorded}
 use Rattle.x86_64.specs.Asked.{MapperCall, machine_call, calls_by}
 use Rattle.x86_64.specs.FreeFrames.{KeepsFree, back_by, all_back}
-use Rattle.x86_64.specs.Runs.{machine_of, state_of, Keeps, Kept, AfterStep, step_by, replies_to, appended, UnchangedIfRefused}
+use Rattle.x86_64.specs.Runs.{machine_of, state_in, KeepsPool, Kept, AfterStep, step_by, replies_to, appended, UnchangedIfRefused}
 use Rattle.x86_64.specs.Replies.{Reply, changes_nothing}
 use Rattle.x86_64.proofs.Keeping.{keeps_then}
 
@@ -112,18 +112,18 @@ room_for_one has_room fewer (suc k) room =
 
 -- ---- in the same layout, with the same frames served
 
-module _ (k l : Layout) (same : l ≡ k) (put : List ℕ → ℕ → List ℕ) (n o : Memory) (rest last : List ℕ) where
-  pub step_at : (call : MapperCall) (r : Reply) → step_by (machine_of l put) (state_of l n rest) call ≡ record { state = state_of l o last; reply = Some r } → step_by (machine_of k put) (state_of k n rest) call ≡ record { state = state_of k o last; reply = Some r }
-  step_at call r = subst (λ l. step_by (machine_of l put) (state_of l n rest) call ≡ record { state = state_of l o last; reply = Some r }) same
+module _ (k l : Layout) (same : l ≡ k) (take_back : List ℕ → ℕ → List ℕ) (n o : Memory) (rest last : List ℕ) where
+  pub step_at : (call : MapperCall) (r : Reply) → step_by (machine_of l take_back) (state_in l n rest) call ≡ record { state = state_in l o last; reply = Some r } → step_by (machine_of k take_back) (state_in k n rest) call ≡ record { state = state_in k o last; reply = Some r }
+  step_at call r = subst (λ l. step_by (machine_of l take_back) (state_in l n rest) call ≡ record { state = state_in l o last; reply = Some r }) same
 
-  pub free_at : (call : MapperCall) → KeepsFree l n rest (back_by (machine_of l put) (state_of l n rest) (machine_call l.levels call)) o last → KeepsFree k n rest (back_by (machine_of k put) (state_of k n rest) (machine_call k.levels call)) o last
-  free_at call = subst (λ l. KeepsFree l n rest (back_by (machine_of l put) (state_of l n rest) (machine_call l.levels call)) o last) same
+  pub free_at : (call : MapperCall) → KeepsFree l n rest (back_by (machine_of l take_back) (state_in l n rest) (machine_call l.levels call)) o last → KeepsFree k n rest (back_by (machine_of k take_back) (state_in k n rest) (machine_call k.levels call)) o last
+  free_at call = subst (λ l. KeepsFree l n rest (back_by (machine_of l take_back) (state_in l n rest) (machine_call l.levels call)) o last) same
 
 pub kept_then : {Lent : Type 0} (h now after : Hierarchy Lent) (served serves : ℕ → Bool) → serves ≡ served → (pool rest last : List ℕ) → Kept h served pool now rest → Kept now serves rest after last
     → Kept h served pool after last
 kept_then h now after served serves same pool rest last one next = record {
   keeps = keeps_then h.layout served h.memory now.memory after.memory pool rest last one.keeps
-      (subst (λ serves. Keeps h.layout serves now.memory rest after.memory last) same (subst (λ l. Keeps l serves now.memory rest after.memory last) one.layout next.keeps));
+      (subst (λ serves. KeepsPool h.layout serves now.memory rest after.memory last) same (subst (λ l. KeepsPool l serves now.memory rest after.memory last) one.layout next.keeps));
   layout = next.layout ∙ one.layout;
   lent = next.lent ∙ one.lent;
 }

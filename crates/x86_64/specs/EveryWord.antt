@@ -3,7 +3,7 @@ use Rattle.std.specs.Prelude.{◌≡◌, ℕ, Bool, List}
 use Rattle.x86_64_model.specs.Layout.{Layout, words, paths}
 use Rattle.x86_64_model.specs.Memory.{Memory, Words, IsMapping, word}
 use Rattle.x86_64.specs.FreeFrames.{KeepsFree}
-use Rattle.x86_64.specs.Runs.{Keeps}
+use Rattle.x86_64.specs.Runs.{KeepsPool}
 
 -- the tables in all frames have the same words
 abbrev pub SameWords : Words → Words → Type 0
@@ -12,7 +12,7 @@ SameWords T U = (f i : ℕ) → word T f i ≡ word U f i
 -- what is known of the words after calls: which frames came back, and what is kept
 pub record IsLeft (layout : Layout) (m : Memory) (pool back : List ℕ) (n : Memory) (rest : List ℕ) : Type 0 where
   pub serves : ℕ → Bool
-  pub keeps : Keeps layout serves m pool n rest
+  pub keeps : KeepsPool layout serves m pool n rest
   pub free : KeepsFree layout m pool back n rest
 
 -- Where two memories had the same words, and the same frames came back, the path maps at the end decide the words: of equal ones all are the same.

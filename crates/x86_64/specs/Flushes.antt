@@ -1,7 +1,7 @@
 -- What is recorded of calls: an item for the token of each that was accepted, in order, and no other.
 use Rattle.std.specs.Prelude.{◌≡◌, ◌==◌, ℕ, false, cond, take, drop, List, [], ◌∷◌, ◌++◌, Result, Ok, Err}
 use Rattle.std.specs.List.{AllByRecursion}
-use Rattle.x86_64_model.specs.Arrivals.{Keeps}
+use Rattle.x86_64_model.specs.Arrivals.{KeepsArrival}
 use Rattle.x86_64_model.specs.Flush as flush
 use Rattle.x86_64_model.specs.Layout.{Layout, words}
 use Rattle.x86_64_model.specs.Mapper.{Hierarchy}
@@ -15,7 +15,7 @@ use Rattle.x86_64_tables.specs.declared.mapper.recorder.FlushItem.{FlushItem}
 use Rattle.x86_64_tables.specs.declared.mapper.recorder.FlushItem.TheVariants.{Page, Page57, All}
 use Rattle.x86_64_tables.specs.FlushRecorder.{page_item}
 use Rattle.x86_64.specs.Asked.{MapperCall, calls_by}
-use Rattle.x86_64.specs.Runs.{machine_of, state_of}
+use Rattle.x86_64.specs.Runs.{machine_of, state_in}
 use Rattle.x86_64.specs.Replies.{SizeReply, Reply}
 use Rattle.x86_64.specs.declared.calls.PageReply.TheVariants.{Map, Unmap, Update, TableFlags, Frame}
 use Rattle.x86_64.specs.declared.calls.MapperReply.TheVariants as reply
@@ -73,13 +73,13 @@ NoneCovers levels items p = AllByRecursion (λ item. flush.covers levels (item_o
 -- The walks that a cache may still hold after calls that have these replies: where the processor arrives, from a position outside the recursive
 -- index, in words that mean the state after the first k calls, and no item of a later call covers the position, there it arrives in words that mean
 -- the last state too, at the same address, with no right lost.
-abbrev pub FlushesSuffice : {C : Type 0} → (asks : C → MapperCall) → Layout → (put : List ℕ → ℕ → List ℕ) → State → List C → List Reply → Words → Type 0
-FlushesSuffice asks l put start calls replies U =
-    (k : ℕ) (V : Words) (p : ℕ) → let then = state_after (machine_of l put) start (calls_by asks l.levels (take k calls)) in
+abbrev pub FlushesSuffice : {C : Type 0} → (asks : C → MapperCall) → Layout → (take_back : List ℕ → ℕ → List ℕ) → State → List C → List Reply → Words → Type 0
+FlushesSuffice asks l take_back start calls replies U =
+    (k : ℕ) (V : Words) (p : ℕ) → let then = state_after (machine_of l take_back) start (calls_by asks l.levels (take k calls)) in
     IsValidFor l.levels l.window V l.root then.paths → begins_with l.window (page_path l.levels p) ≡ false → NoneCovers l.levels (items_told l.levels (drop k replies)) p
-    → Keeps (page_walk l.levels V l.root p) (page_walk l.levels U l.root p)
+    → KeepsArrival (page_walk l.levels V l.root p) (page_walk l.levels U l.root p)
 
 -- What is recorded of calls: after the items of before one for each accepted call, and these suffice.
-pub record Flushed {C Lent : Type 0} (asks : C → MapperCall) (put : List ℕ → ℕ → List ℕ) (h : Hierarchy Lent) (pool : List ℕ) (calls : List C) (told : List Reply) (before now : List FlushItem) (after : Hierarchy Lent) : Type 0 where
+pub record Flushed {C Lent : Type 0} (asks : C → MapperCall) (take_back : List ℕ → ℕ → List ℕ) (h : Hierarchy Lent) (pool : List ℕ) (calls : List C) (told : List Reply) (before now : List FlushItem) (after : Hierarchy Lent) : Type 0 where
   pub items : now ≡ before ++ items_told h.layout.levels told
-  pub suffice : FlushesSuffice asks h.layout put (state_of h.layout h.memory pool) calls told (words h.layout after.memory)
+  pub suffice : FlushesSuffice asks h.layout take_back (state_in h.layout h.memory pool) calls told (words h.layout after.memory)

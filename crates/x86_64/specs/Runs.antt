@@ -6,15 +6,11 @@ use Rattle.x86_64_model.specs.Layout.{Layout, words, paths}
 use Rattle.x86_64_model.specs.Pool.{Fits}
 use Rattle.x86_64_model.specs.Layout.{Owns, KeepsOthers}
 use Rattle.x86_64_model.specs.Machine.{Machine, State, step, state_after}
-pub use Rattle.x86_64_model.specs.Mapper.{machine_of}
+pub use Rattle.x86_64_model.specs.Mapper.{machine_of, state_in}
 use Rattle.x86_64_model.specs.Mapper.{Hierarchy}
 use Rattle.x86_64.specs.Asked.{MapperCall, machine_call, calls_by}
 use Rattle.x86_64.specs.FreeFrames.{KeepsFree, all_back}
 use Rattle.x86_64.specs.Replies.{Reply, reply_of, changes_nothing}
-
--- the state of a mapper's machine: what the memory's words mean, and the free frames
-abbrev pub state_of : Layout → Memory → (pool : List ℕ) → State
-state_of layout memory pool = record { paths = paths layout memory; pool = pool }
 
 -- the hierarchy is valid now, and the pool fits it
 abbrev pub FitsPool : Layout → Memory → (serves : ℕ → Bool) → (pool : List ℕ) → Type 0
@@ -46,22 +42,22 @@ UnchangedIfRefused replies m n = AllByRecursion (λ reply. changes_nothing reply
 
 -- From a memory m and a pool to a memory n and the rest of the pool: the rest fits the hierarchy again, free and table frames are one set
 -- before and after, and no word changed but in the root, the tables and the free frames of the start.
-pub record Keeps (layout : Layout) (serves : ℕ → Bool) (m : Memory) (pool : List ℕ) (n : Memory) (rest : List ℕ) : Type 0 where
+pub record KeepsPool (layout : Layout) (serves : ℕ → Bool) (m : Memory) (pool : List ℕ) (n : Memory) (rest : List ℕ) : Type 0 where
   pub fits : FitsPool layout n serves rest
   pub conserved : (frame : ℕ) → Owns layout m pool frame ↔ Owns layout n rest frame
   pub others : KeepsOthers layout.places (Owns layout m pool) m n
 
 -- from a hierarchy and a pool to those after calls: what is kept, in the same layout of the same memory
 pub record Kept {Lent : Type 0} (h : Hierarchy Lent) (serves : ℕ → Bool) (pool : List ℕ) (after : Hierarchy Lent) (rest : List ℕ) : Type 0 where
-  pub keeps : Keeps h.layout serves h.memory pool after.memory rest
+  pub keeps : KeepsPool h.layout serves h.memory pool after.memory rest
   pub layout : after.layout ≡ h.layout
   pub lent : after.lent ≡ h.lent
 
 -- A list of calls, which ask so, was answered: by the replies of the machine, one each, after those of before, and its state is the machine's. Where
 -- every reply says that nothing changed, no word did. Free frames keep their words, but those that came back, which have words 0.
-pub record Ran {C Lent : Type 0} (asks : C → MapperCall) (put : List ℕ → ℕ → List ℕ) (h : Hierarchy Lent) (pool : List ℕ) (calls : List C) (before now : List Reply) (after : Hierarchy Lent) (rest : List ℕ) : Type 0 where
-  pub replies : map Some now ≡ map Some before ++ replies_to asks (machine_of h.layout put) (state_of h.layout h.memory pool) calls
+pub record Ran {C Lent : Type 0} (asks : C → MapperCall) (take_back : List ℕ → ℕ → List ℕ) (h : Hierarchy Lent) (pool : List ℕ) (calls : List C) (before now : List Reply) (after : Hierarchy Lent) (rest : List ℕ) : Type 0 where
+  pub replies : map Some now ≡ map Some before ++ replies_to asks (machine_of h.layout take_back) (state_in h.layout h.memory pool) calls
   pub one_each : length now ≡ length before + length calls
   pub refused : UnchangedIfRefused (appended before now) h.memory after.memory
-  pub state : state_of h.layout after.memory rest ≡ state_after (machine_of h.layout put) (state_of h.layout h.memory pool) (calls_by asks h.layout.levels calls)
-  pub free : KeepsFree h.layout h.memory pool (all_back (machine_of h.layout put) (state_of h.layout h.memory pool) (calls_by asks h.layout.levels calls)) after.memory rest
+  pub state : state_in h.layout after.memory rest ≡ state_after (machine_of h.layout take_back) (state_in h.layout h.memory pool) (calls_by asks h.layout.levels calls)
+  pub free : KeepsFree h.layout h.memory pool (all_back (machine_of h.layout take_back) (state_in h.layout h.memory pool) (calls_by asks h.layout.levels calls)) after.memory rest

@@ -5,7 +5,7 @@ use Rattle.x86_64_model.specs.Layout.{Owns}
 use Rattle.x86_64_model.specs.Memory.{Memory, IsMapping, word, identity_places}
 use Rattle.x86_64_model.specs.Pool.{IsTable}
 use Rattle.x86_64_mappers.specs.Layouts.{direct_at, HasRoot}
-use Rattle.x86_64.specs.Runs.{FitsPool, Keeps}
+use Rattle.x86_64.specs.Runs.{FitsPool, KeepsPool}
 
 -- A second hierarchy is valid in the memory by the same mapping, and its root and tables are none of the frames of the first one and its pool.
 pub record IsSecond (first : Layout) (m : Memory) (pool : List ℕ) (second : Layout) : Type 0 where
@@ -25,7 +25,7 @@ pub record Stays (first second : Layout) (serves : ℕ → Bool) (m : Memory) (p
 -- What calls of a first hierarchy keep, whose pool fits it, is enough for every second one to stay.
 abbrev pub SecondHierarchiesStay : Type 0
 SecondHierarchiesStay = (first second : Layout) → IsMapping first.places → 0 < second.levels → (serves : ℕ → Bool) (m n : Memory) (pool rest : List ℕ)
-    → FitsPool first m serves pool → Keeps first serves m pool n rest → IsSecond first m pool second → Stays first second serves m pool n rest
+    → FitsPool first m serves pool → KeepsPool first serves m pool n rest → IsSecond first m pool second → Stays first second serves m pool n rest
 
 -- A frame that is none of a first hierarchy and its pool, and whose words are all 0, is the root of a second one, in which nothing is mapped.
 abbrev pub EmptyRootsAreSecond : Type 0

@@ -10,7 +10,7 @@ ghost use Rattle.x86_64.specs.Calls.{asks, size_asks};
 ghost use Rattle.x86_64.specs.Flushes.{items_of, items_told};
 ghost use Rattle.x86_64.specs.FreeFrames.{KeepsFree, back_by};
 ghost use Rattle.x86_64.specs.Replies.{changes_nothing};
-ghost use Rattle.x86_64.specs.Runs.{machine_of, state_of, step_by, Kept, Ran, appended};
+ghost use Rattle.x86_64.specs.Runs.{machine_of, state_in, step_by, Kept, Ran, appended};
 ghost use Rattle.x86_64.specs.private.Served.{recorded, items_where, changes_nothing_where, size_step};
 
 mod flushed;
@@ -54,7 +54,7 @@ pub fn run<L: LevelCount, P5: LevelFiveFlags<L>, M: TableAccess + TablesIn<L>, F
     ensures ran { let h = M.hierarchy mapper.old in let after = M.hierarchy mapper.new in
         let pool = F.supply frames.old in let rest = F.supply frames.new in
         let before = replies.old.items in let now = replies.new.items in
-        OnOk result (Ran (asks P5.bits) F.put h pool calls.now before now after rest) }
+        OnOk result (Ran (asks P5.bits) F.take_back h pool calls.now before now after rest) }
     ensures unchanged { OnErr result (
         (replies.new.items ≡ replies.old.items) × (vec_capacity replies.new ≡ vec_capacity replies.old)
         × (mapper.new ≡ mapper.old) × (frames.new ≡ frames.old)) }
@@ -88,7 +88,7 @@ fn serve_all<
     ensures ran { let h = M.hierarchy mapper.old in let after = M.hierarchy mapper.new in
         let pool = F.supply frames.old in let rest = F.supply frames.new in
         let before = replies.old.items in let now = replies.new.items in
-        Ran (asks P5.bits) F.put h pool calls.now before now after rest }
+        Ran (asks P5.bits) F.take_back h pool calls.now before now after rest }
     ensures items { let told = appended replies.old.items replies.new.items in
         K.items tokens.new ≡ K.items tokens.old ++ recorded K.records (items_told L.LEVELS told) }
     ensures keeps { let h = M.hierarchy mapper.old in
@@ -111,15 +111,15 @@ fn serve<
     requires fits { PoolFits (M.hierarchy mapper.old) (F.serves frames.old) (F.supply frames.old) }
     requires room { K.has_room tokens.old 1 }
     ensures step { let layout = (M.hierarchy mapper.old).layout in
-        let start = state_of layout (M.hierarchy mapper.old).memory (F.supply frames.old) in
-        let after = state_of layout (M.hierarchy mapper.new).memory (F.supply frames.new) in
-        step_by (machine_of layout F.put) start (asks P5.bits call)
+        let start = state_in layout (M.hierarchy mapper.old).memory (F.supply frames.old) in
+        let after = state_in layout (M.hierarchy mapper.new).memory (F.supply frames.new) in
+        step_by (machine_of layout F.take_back) start (asks P5.bits call)
         ≡ record { state = after; reply = Some result } }
     ensures still { let memory = (M.hierarchy mapper.old).memory in
         changes_nothing result ≡ true → (M.hierarchy mapper.new).memory ≡ memory }
     ensures free { let h = M.hierarchy mapper.old in let pool = F.supply frames.old in
         let asked = machine_call h.layout.levels (asks P5.bits call) in
-        let back = back_by (machine_of h.layout F.put) (state_of h.layout h.memory pool) asked in
+        let back = back_by (machine_of h.layout F.take_back) (state_in h.layout h.memory pool) asked in
         KeepsFree h.layout h.memory pool back (M.hierarchy mapper.new).memory (F.supply frames.new) }
     ensures keeps { let h = M.hierarchy mapper.old in
         Kept h (F.serves frames.old) (F.supply frames.old) (M.hierarchy mapper.new) (F.supply frames.new) }
@@ -171,9 +171,9 @@ fn serve_page<
     requires fits { PoolFits (M.hierarchy mapper.old) (F.serves frames.old) (F.supply frames.old) }
     requires room { K.has_room tokens.old 1 }
     ensures step { let layout = (M.hierarchy mapper.old).layout in
-        let start = state_of layout (M.hierarchy mapper.old).memory (F.supply frames.old) in
-        let after = state_of layout (M.hierarchy mapper.new).memory (F.supply frames.new) in
-        size_step (machine_of layout F.put) S.LEVEL start (size_asks P5.bits call)
+        let start = state_in layout (M.hierarchy mapper.old).memory (F.supply frames.old) in
+        let after = state_in layout (M.hierarchy mapper.new).memory (F.supply frames.new) in
+        size_step (machine_of layout F.take_back) S.LEVEL start (size_asks P5.bits call)
         ≡ record { state = after; reply = Some result } }
     ensures still { let memory = (M.hierarchy mapper.old).memory in
         changes_nothing_where result ≡ true → (M.hierarchy mapper.new).memory ≡ memory }

@@ -10,7 +10,7 @@ use Rattle.x86_64_model.specs.MapRule.{parent_part}
 use Rattle.x86_64_model.specs.Memory.{IsMapping}
 use Rattle.x86_64_model.specs.Mapper.{Hierarchy, DoesMap, MayMap, PoolFits, machine_of, state_of, path_of}
 use Rattle.x86_64_model.specs.PageMappings.{PageMapping, accepted, map_calls, map_call_of}
-use Rattle.x86_64_model.specs.Pool.{IsGiving}
+use Rattle.x86_64_model.specs.Pool.{TakesBack}
 use Rattle.x86_64_model.specs.Refusal.{Answer, Refusal, Refused}
 use Rattle.x86_64_model.proofs.Lemmas.Runs.Runs.{replies_append, state_append}
 use Rattle.x86_64_tables.specs.MapperAnswers.{map_answer}
@@ -28,24 +28,24 @@ use Rattle.x86_64_loader.specs.Segments.{mapping_of}
 
 -- of none
 pub accepts_none : {Lent : Type 0} (h : Hierarchy Lent) (supply : List ℕ) → Accepts h supply [] h supply
-accepts_none h supply = record { replies = λ put. refl; state = λ put. refl }
+accepts_none h supply = record { replies = λ take_back. refl; state = λ take_back. refl }
 
 module _ {Lent : Type 0} (h now after : Hierarchy Lent) (supply between rest : List ℕ) (xs ys : List PageMapping) (same : now.layout ≡ h.layout) where
   -- of some and then others
   pub made_then : (answers others : List Reply) → Made h supply xs answers now between → Made now between ys others after rest → Made h supply (xs ++ ys) (answers ++ others) after rest
   made_then answers others one two = record {
-    replies = λ put.
-        let m = machine_of h.layout put in
+    replies = λ take_back.
+        let m = machine_of h.layout take_back in
         ap (replies_of m (state_of h supply)) (map-append (map_call_of h.layout.levels) xs ys)
         ∙ replies_append m (state_of h supply) (map_calls h.layout.levels xs) (map_calls h.layout.levels ys)
-        ∙ ap₂ (λ rs (s : State). rs ++ replies_of m s (map_calls h.layout.levels ys)) (one.replies put) (one.state put)
-        ∙ ap (λ rs. answers ++ rs) (subst (λ (l : Layout). replies_of (machine_of l put) (state_of now between) (map_calls l.levels ys) ≡ others) same (two.replies put));
-    state = λ put.
-        let m = machine_of h.layout put in
+        ∙ ap₂ (λ rs (s : State). rs ++ replies_of m s (map_calls h.layout.levels ys)) (one.replies take_back) (one.state take_back)
+        ∙ ap (λ rs. answers ++ rs) (subst (λ (l : Layout). replies_of (machine_of l take_back) (state_of now between) (map_calls l.levels ys) ≡ others) same (two.replies take_back));
+    state = λ take_back.
+        let m = machine_of h.layout take_back in
         ap (state_after m (state_of h supply)) (map-append (map_call_of h.layout.levels) xs ys)
         ∙ state_append m (state_of h supply) (map_calls h.layout.levels xs) (map_calls h.layout.levels ys)
-        ∙ ap (λ (s : State). state_after m s (map_calls h.layout.levels ys)) (one.state put)
-        ∙ subst (λ (l : Layout). state_after (machine_of l put) (state_of now between) (map_calls l.levels ys) ≡ state_of after rest) same (two.state put);
+        ∙ ap (λ (s : State). state_after m s (map_calls h.layout.levels ys)) (one.state take_back)
+        ∙ subst (λ (l : Layout). state_after (machine_of l take_back) (state_of now between) (map_calls l.levels ys) ≡ state_of after rest) same (two.state take_back);
   }
 
   pub accepts_then : Accepts h supply xs now between → Accepts now between ys after rest → Accepts h supply (xs ++ ys) after rest
@@ -65,19 +65,19 @@ pub made_one : {Lent : Type 0} (h : Hierarchy Lent) (supply : List ℕ) (level p
     → MayMap h supply (MapTo (path_of h level page) frame given) → DoesMap h supply (MapTo (path_of h level page) frame given) answer after rest
     → Made h supply (mapping_of level page frame given ∷ []) (Answered answer ∷ []) after rest
 made_one h supply level page frame given answer after rest may does = record {
-  replies = λ put. ap (λ (x : AfterCall). x.reply ∷ []) (one put);
-  state = λ put. ap (λ (x : AfterCall). x.state) (one put);
+  replies = λ take_back. ap (λ (x : AfterCall). x.reply ∷ []) (one take_back);
+  state = λ take_back. ap (λ (x : AfterCall). x.state) (one take_back);
 }
   where
     call : Call
     call = MapTo (path_of h level page) frame given
 
-    one : (put : List ℕ → ℕ → List ℕ) → step (machine_of h.layout put) (state_of h supply) call ≡ record { state = state_of after rest; reply = Answered answer }
-    one put = ap (λ b. cond b (do_call (machine_of h.layout put) (state_of h supply) call) (only_reply (state_of h supply) NotAllowed)) may.allowed ∙ does.outcome put
+    one : (take_back : List ℕ → ℕ → List ℕ) → step (machine_of h.layout take_back) (state_of h supply) call ≡ record { state = state_of after rest; reply = Answered answer }
+    one take_back = ap (λ b. cond b (do_call (machine_of h.layout take_back) (state_of h supply) call) (only_reply (state_of h supply) NotAllowed)) may.allowed ∙ does.outcome take_back
 
 -- ---- what they keep
 
-pub gives_first : IsGiving put_first
+pub gives_first : TakesBack put_first
 gives_first = record { same_frames = λ held f g. (λ i. i, λ i. i); each_once = λ held f once. once }
 
 -- none

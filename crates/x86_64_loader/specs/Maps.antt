@@ -1,6 +1,6 @@
 -- Maps of a list of pages, one after the other, and what they leave of a hierarchy and a supply of frames.
 use Rattle.std.specs.Prelude.{◌≡◌, ℕ, Bool, List, [], ◌∷◌, ◌++◌, map}
-use Rattle.x86_64_model.specs.Arrivals.{Keeps}
+use Rattle.x86_64_model.specs.Arrivals.{KeepsArrival}
 use Rattle.x86_64_model.specs.Call.{Reply, Answered}
 use Rattle.x86_64_model.specs.Machine.{replies_of, state_after}
 use Rattle.x86_64_model.specs.Mapper.{Hierarchy, PoolFits, SupplyFits, machine_of, state_of, walk}
@@ -11,8 +11,8 @@ use Rattle.x86_64.specs.Runs.{Kept as KeptByCalls}
 
 -- The `map_to` of each page in order was answered so: answers and state are the machine's, whose pool puts frames back as it will.
 pub record Made {Lent : Type 0} (h : Hierarchy Lent) (supply : List ℕ) (pages : List PageMapping) (answers : List Reply) (after : Hierarchy Lent) (rest : List ℕ) : Type 0 where
-  pub replies : (put : List ℕ → ℕ → List ℕ) → replies_of (machine_of h.layout put) (state_of h supply) (map_calls h.layout.levels pages) ≡ answers
-  pub state : (put : List ℕ → ℕ → List ℕ) → state_after (machine_of h.layout put) (state_of h supply) (map_calls h.layout.levels pages) ≡ state_of after rest
+  pub replies : (take_back : List ℕ → ℕ → List ℕ) → replies_of (machine_of h.layout take_back) (state_of h supply) (map_calls h.layout.levels pages) ≡ answers
+  pub state : (take_back : List ℕ → ℕ → List ℕ) → state_after (machine_of h.layout take_back) (state_of h supply) (map_calls h.layout.levels pages) ≡ state_of after rest
 
 -- each was accepted
 abbrev pub Accepts : {Lent : Type 0} → Hierarchy Lent → (supply : List ℕ) → List PageMapping → (after : Hierarchy Lent) → (rest : List ℕ) → Type 0
@@ -28,6 +28,6 @@ pub record Kept {Lent : Type 0} (h : Hierarchy Lent) (supply : List ℕ) (after 
   pub fits : SupplyFits after rest
   pub keeps : (serves : ℕ → Bool) → PoolFits h serves supply → KeptByCalls h serves supply after rest
   pub free : KeepsFree h.layout h.memory supply [] after.memory rest
-  pub walks : (p : ℕ) → Keeps (walk h p) (walk after p)
+  pub walks : (p : ℕ) → KeepsArrival (walk h p) (walk after p)
   pub layout : after.layout ≡ h.layout
   pub lent : after.lent ≡ h.lent

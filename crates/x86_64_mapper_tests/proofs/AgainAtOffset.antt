@@ -7,15 +7,15 @@ use Rattle.x86_64_mappers.specs.Offsets.{OffsetFits, offset_places}
 use Rattle.x86_64_mappers.proofs.Memory.OffsetTables.{offset_fits}
 use Rattle.x86_64.proofs.Moved.{moved}
 use Rattle.x86_64.proofs.PlacesStay.{places_stay}
-use Rattle.x86_64.specs.Runs.{FitsPool, Keeps}
+use Rattle.x86_64.specs.Runs.{FitsPool, KeepsPool}
 
 module _ (L root offset : ℕ) (serves : ℕ → Bool) (m : Memory) (free rest : List ℕ) (reached : OffsetFits L m offset) (fits : FitsPool (direct_at L identity_places root) m serves free)
-    (l : Layout) (before after n : Memory) (is : l ≡ direct_at L (offset_places L offset) root) (first : before ≡ m) (last : n ≡ after) (kept : Keeps l serves before free after rest) where
+    (l : Layout) (before after n : Memory) (is : l ≡ direct_at L (offset_places L offset) root) (first : before ≡ m) (last : n ≡ after) (kept : KeepsPool l serves before free after rest) where
   abbrev layout_at : Layout
   layout_at = direct_at L (offset_places L offset) root
 
-  kept_at : Keeps layout_at serves m free n rest
-  kept_at = moved (λ (l : Layout) (m n : Memory). Keeps l serves m free n rest) l layout_at before m after n is first last kept
+  kept_at : KeepsPool layout_at serves m free n rest
+  kept_at = moved (λ (l : Layout) (m n : Memory). KeepsPool l serves m free n rest) l layout_at before m after n is first last kept
 
   pub fits_still : OffsetFits L n offset
   fits_still = λ place there. reached place ((places_stay layout_at serves m n free rest ((offset_fits L m offset reached root serves free).0 fits) kept_at place).0 there)

@@ -1,5 +1,5 @@
 pub mod Down
-pub mod Goes
+pub mod OwnedWays
 pub mod Linking
 pub mod MapArrivals
 pub mod MapEnds

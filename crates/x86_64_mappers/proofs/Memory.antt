@@ -4,7 +4,7 @@ pub mod EntryChanges
 pub mod EntryWrites
 pub mod Stored
 pub mod Written
-pub mod Seen
+pub mod WordsRead
 pub mod Lent
 pub mod RootTables
 pub mod OffsetTables

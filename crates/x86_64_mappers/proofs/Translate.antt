@@ -1,3 +1,3 @@
-pub mod Sought
+pub mod WalkedPart
 pub mod Translations
 pub mod TranslatedAddresses

@@ -256,7 +256,7 @@ pub fn clean_up<L: LevelCount, M: TableAccess + TablesIn<L>, D: FrameDeallocator
         MayCleanUp (M.hierarchy mapper.old) serves (D.held frame_deallocator.old) }
     ensures cleans { let held = D.held frame_deallocator.old in let after = M.hierarchy mapper.new in
         let rest = D.held frame_deallocator.new in
-        CleansUp (M.hierarchy mapper.old) D.put held 0 (position_count L.LEVELS - 1) after rest }
+        CleansUp (M.hierarchy mapper.old) D.take_back held 0 (position_count L.LEVELS - 1) after rest }
     ensures serves { D.serves frame_deallocator.new ≡ D.serves frame_deallocator.old }
 {
     clean_up_range(mapper, all_pages::<L>(), frame_deallocator);

@@ -12,8 +12,8 @@ pub record NoWorse (w v : Walked) : Type 0 where
   pub user_kept : w.user ≡ true → v.user ≡ true
 
 -- where x arrives, y does, no worse
-abbrev pub Keeps : Option Walked → Option Walked → Type 0
-Keeps x y = (w : Walked) → x ≡ Some w → (v : Walked) × (y ≡ Some v) × NoWorse w v
+abbrev pub KeepsArrival : Option Walked → Option Walked → Type 0
+KeepsArrival x y = (w : Walked) → x ≡ Some w → (v : Walked) × (y ≡ Some v) × NoWorse w v
 
 -- no worse, and no right besides but the parent flags'
 pub record Better (parent_flags : ℕ) (w v : Walked) : Type 0 where

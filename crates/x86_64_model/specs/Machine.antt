@@ -8,7 +8,7 @@ use Rattle.x86_64_model.specs.Translation.{translate, address_of}
 use Rattle.x86_64_model.specs.MapRule.{AfterMap, map_call, parent_part}
 use Rattle.x86_64_model.specs.PageRules.{AfterChange, unmap, update_flags, translate_page, set_flags}
 use Rattle.x86_64_model.specs.CleanUp.{AfterCleanUp, clean_up}
-use Rattle.x86_64_model.specs.Pool.{IsGiving, given_back}
+use Rattle.x86_64_model.specs.Pool.{TakesBack, given_back}
 use Rattle.x86_64_model.specs.Call.{Call, MapTo, MapToWithTableFlags, IdentityMap, Unmap, UpdateFlags, SetFlags, TranslatePage, Translate, TranslateAddress, CleanUp, Reply, NotAllowed, Answered, Position, Address, Cleaned}
 use Rattle.x86_64_model.specs.Allowed.{allowed}
 
@@ -18,11 +18,11 @@ pub record Machine : Type 0 where
   pub levels : ℕ
   pub window : Option Window
   pub added_flags : ℕ
-  pub give : List ℕ → ℕ → List ℕ
+  pub take_back : List ℕ → ℕ → List ℕ
 
 pub record IsMachine (m : Machine) : Type 0 where
   pub adds : IsParentFlags m.added_flags
-  pub gives : IsGiving m.give
+  pub gives : TakesBack m.take_back
 
 pub record State : Type 0 where
   pub paths : PathMap
@@ -46,8 +46,8 @@ abbrev pub after_change : (pool : List ℕ) → AfterChange → AfterCall
 after_change pool a = record { state = record { paths = a.paths; pool = pool }; reply = Answered a.answer }
 
 -- a clean up: the frames of the tables that are gone go back to the pool
-abbrev pub after_clean_up : (give : List ℕ → ℕ → List ℕ) → (pool : List ℕ) → AfterCleanUp → AfterCall
-after_clean_up give pool a = record { state = record { paths = a.paths; pool = given_back give pool a.back }; reply = Cleaned }
+abbrev pub after_clean_up : (take_back : List ℕ → ℕ → List ℕ) → (pool : List ℕ) → AfterCleanUp → AfterCall
+after_clean_up take_back pool a = record { state = record { paths = a.paths; pool = given_back take_back pool a.back }; reply = Cleaned }
 
 -- an allowed call
 unfoldable pub do_call : Machine → State → Call → AfterCall
@@ -60,7 +60,7 @@ do_call m s (SetFlags level q given) = after_change s.pool (set_flags m.levels (
 do_call m s (TranslatePage q) = only_reply s (Answered (translate_page m.levels (entry_at m.window s.paths) q))
 do_call m s (Translate p) = only_reply s (Position (translate m.levels (entry_at m.window s.paths) p))
 do_call m s (TranslateAddress p) = only_reply s (Address (address_of (translate m.levels (entry_at m.window s.paths) p)))
-do_call m s (CleanUp low high) = after_clean_up m.give s.pool (clean_up m.levels s.paths low high)
+do_call m s (CleanUp low high) = after_clean_up m.take_back s.pool (clean_up m.levels s.paths low high)
 
 -- one call: where it isn't allowed it is answered so, and changes nothing
 abbrev pub step : Machine → State → Call → AfterCall

@@ -14,7 +14,7 @@ use Rattle.x86_64_model.specs.PageRules.{translate_page}
 use Rattle.x86_64_model.specs.PageWalk.{Walked}
 use Rattle.x86_64_model.specs.Path.{front_at, path_at}
 use Rattle.x86_64_model.specs.PathMap.{PathMap, table_at}
-use Rattle.x86_64_model.specs.Pool.{IsOwn, IsTable, Fits, IsGiving, given_back}
+use Rattle.x86_64_model.specs.Pool.{IsOwn, IsTable, Fits, TakesBack, given_back}
 use Rattle.x86_64_model.specs.Refusal.{Answer}
 use Rattle.x86_64_model.specs.Standing.{StandsAt}
 use Rattle.x86_64_model.specs.Translation.{Translated, translate}
@@ -98,17 +98,20 @@ pub record MayMap {Lent : Type 0} (h : Hierarchy Lent) (supply : List ℕ) (call
 -- ---- what it leaves
 
 -- the machine that a layout is, where a pool puts a frame that comes back so
-abbrev pub machine_of : Layout → (put : List ℕ → ℕ → List ℕ) → Machine
-machine_of layout put = record { levels = layout.levels; window = layout.window; added_flags = layout.added_flags; give = put }
+abbrev pub machine_of : Layout → (take_back : List ℕ → ℕ → List ℕ) → Machine
+machine_of layout take_back = record { levels = layout.levels; window = layout.window; added_flags = layout.added_flags; take_back = take_back }
 
--- its state: what the words mean, and the free frames
+-- its state: what the memory's words mean in the layout, and the free frames
+abbrev pub state_in : Layout → Memory → (pool : List ℕ) → State
+state_in layout memory pool = record { paths = paths_in layout memory; pool = pool }
+
 abbrev pub state_of : {Lent : Type 0} → Hierarchy Lent → (pool : List ℕ) → State
-state_of h pool = record { paths = paths h; pool = pool }
+state_of h pool = state_in h.layout h.memory pool
 
 -- An allowed call makes of this hierarchy and pool those, and has this answer: so does the machine, whose pool puts frames back as it will.
 abbrev pub Steps : {Lent : Type 0} → (h : Hierarchy Lent) → (pool : List ℕ) → Call → Answer → (after : Hierarchy Lent) → (rest : List ℕ) → Type 0
 Steps h pool call answer after rest =
-    (put : List ℕ → ℕ → List ℕ) → do_call (machine_of h.layout put) (state_of h pool) call ≡ record { state = state_of after rest; reply = Answered answer }
+    (take_back : List ℕ → ℕ → List ℕ) → do_call (machine_of h.layout take_back) (state_of h pool) call ≡ record { state = state_of after rest; reply = Answered answer }
 
 -- A call that takes no frames: its outcome is the machine's, the hierarchy is valid again and a supply that fitted it still does, no word
 -- changed but in the root and the tables, and none where the call was refused.
@@ -162,10 +165,10 @@ pub record MayCleanUp {Lent : Type 0} (h : Hierarchy Lent) (serves : ℕ → Boo
 -- A clean up, where the frames that are held take one that comes back as put says: its outcome is the machine's, the hierarchy is valid again,
 -- and a supply that fitted it and got the frames that came back still does. These have words 0 alone, and no word changed but in the root and
 -- the tables.
-pub record CleansUp {Lent : Type 0} (h : Hierarchy Lent) (put : List ℕ → ℕ → List ℕ) (held : List ℕ) (low high : ℕ) (after : Hierarchy Lent) (rest : List ℕ) : Type 0 where
-  pub outcome : do_call (machine_of h.layout put) (state_of h held) (CleanUp low high) ≡ record { state = state_of after rest; reply = Cleaned }
+pub record CleansUp {Lent : Type 0} (h : Hierarchy Lent) (take_back : List ℕ → ℕ → List ℕ) (held : List ℕ) (low high : ℕ) (after : Hierarchy Lent) (rest : List ℕ) : Type 0 where
+  pub outcome : do_call (machine_of h.layout take_back) (state_of h held) (CleanUp low high) ≡ record { state = state_of after rest; reply = Cleaned }
   pub valid : Valid after
-  pub fits : (give : List ℕ → ℕ → List ℕ) → IsGiving give → (supply : List ℕ) → SupplyFits h supply → SupplyFits after (given_back give supply (back h low high))
+  pub fits : (take_back : List ℕ → ℕ → List ℕ) → TakesBack take_back → (supply : List ℕ) → SupplyFits h supply → SupplyFits after (given_back take_back supply (back h low high))
   pub empty : (f : ℕ) → In (back h low high) f → (i : ℕ) → word (words after) f i ≡ 0
   pub others : KeepsOthers (IsTable h.layout.levels h.layout.root (paths h)) h after
   pub layout : after.layout ≡ h.layout

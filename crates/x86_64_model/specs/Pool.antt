@@ -30,12 +30,12 @@ pub record Fits (L : ℕ) (window : Option Window) (tables : Words) (root : ℕ)
   pub serves_pool : (f : ℕ) → In pool f → serves f ≡ true
   pub serves_tables : (i : ℕ) (q : List ℕ) (f : ℕ) → table_at L root paths (i ∷ q) ≡ Some f → serves f ≡ true
 
--- give held f is the pool after the frame f came back: a rearrangement of f and the frames that are held
-pub record IsGiving (give : List ℕ → ℕ → List ℕ) : Type 0 where
-  pub same_frames : (held : List ℕ) (f g : ℕ) → In (give held f) g ↔ In (f ∷ held) g
-  pub each_once : (held : List ℕ) (f : ℕ) → EachOnce (f ∷ held) → EachOnce (give held f)
+-- take_back held f is the pool after the frame f came back: a rearrangement of f and the frames that are held
+pub record TakesBack (take_back : List ℕ → ℕ → List ℕ) : Type 0 where
+  pub same_frames : (held : List ℕ) (f g : ℕ) → In (take_back held f) g ↔ In (f ∷ held) g
+  pub each_once : (held : List ℕ) (f : ℕ) → EachOnce (f ∷ held) → EachOnce (take_back held f)
 
 -- the pool after these frames came back, one at a time
-abbrev pub given_back : (give : List ℕ → ℕ → List ℕ) → (held back : List ℕ) → List ℕ
-given_back give held [] = held
-given_back give held (f ∷ fs) = given_back give (give held f) fs
+abbrev pub given_back : (take_back : List ℕ → ℕ → List ℕ) → (held back : List ℕ) → List ℕ
+given_back take_back held [] = held
+given_back take_back held (f ∷ fs) = given_back take_back (take_back held f) fs

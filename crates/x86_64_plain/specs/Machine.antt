@@ -14,18 +14,18 @@ abbrev pub put_in_front : List ℕ → ℕ → List ℕ
 put_in_front held frame = frame ∷ held
 
 abbrev pub machine_of : PlainMachine → Machine
-machine_of m = record { levels = m.levels; window = window_of m.window; added_flags = m.added_flags; give = put_in_front }
+machine_of m = record { levels = m.levels; window = window_of m.window; added_flags = m.added_flags; take_back = put_in_front }
 
-abbrev pub state_of : PlainState → State
-state_of s = record { paths = s.paths; pool = s.pool.items }
+abbrev pub plain_state : PlainState → State
+plain_state s = record { paths = s.paths; pool = s.pool.items }
 
 -- the state after a call, and the reply
 abbrev pub outcome : PlainState → PlainReply → AfterCall
-outcome state reply = record { state = state_of state; reply = reply_of reply }
+outcome state reply = record { state = plain_state state; reply = reply_of reply }
 
 -- what comes of a call that is allowed
 abbrev pub allowed_outcome : PlainMachine → PlainState → Call → AfterCall
-allowed_outcome m state call = do_call (machine_of m) (state_of state) call
+allowed_outcome m state call = do_call (machine_of m) (plain_state state) call
 
 -- the sum of the frame and the offset fits a word
 abbrev pub CanAdd : Translated → Type 0

@@ -7,7 +7,7 @@ ghost use Rattle.x86_64_model.specs.Translation.{translate as translate_of, addr
 ghost use Rattle.x86_64_model.specs.Machine.{step as step_of};
 ghost use Rattle.x86_64_plain.specs.Windows.{entry_read};
 ghost use Rattle.x86_64_plain.specs.Calls.{call_of, reply_of, translated_of};
-ghost use Rattle.x86_64_plain.specs.Machine.{CanAdd, machine_of, state_of, put_in_front, outcome, allowed_outcome};
+ghost use Rattle.x86_64_plain.specs.Machine.{CanAdd, machine_of, plain_state, put_in_front, outcome, allowed_outcome};
 
 use crate::calls::{PlainCall, PlainReply, Translated};
 use crate::changes::{set_flags, translate_page, unmap, update_flags};
@@ -259,7 +259,7 @@ impl PlainMachine {
     /// Fails only where memory is refused, and then says nothing of the state.
     pub fn step(&self, state: &mut PlainState, call: &PlainCall) -> Result<PlainReply, AllocError>
         requires { self.now.levels ≤ 5 }
-        ensures { let expected = step_of (machine_of self.now) (state_of state.old) (call_of call.now) in
+        ensures { let expected = step_of (machine_of self.now) (plain_state state.old) (call_of call.now) in
             IfOk result (λ reply. outcome state.new reply ≡ expected) }
     {
         let alloc = *state.pool.allocator();

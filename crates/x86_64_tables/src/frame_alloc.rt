@@ -33,13 +33,13 @@ pub trait FrameAllocator<S: PageSize>: FrameKeeper<S> {
 
 /// Takes frames back, seen as the list of those that it holds.
 ///
-/// Laws: it serves each frame that it holds, and putting a frame back rearranges that frame and those held.
+/// Laws: it serves each frame that it holds, and those that it holds after taking a frame back are this frame and those of before, in some order.
 pub trait FrameDeallocator<S: PageSize>: FrameKeeper<S> {
     /// The frames that came back and were not handed out again.
     ghost held: { Self → List ℕ };
 
     /// The frames that are held once a frame came back. The type fixes it.
-    ghost put: { (held : List ℕ) → (frame : ℕ) → List ℕ };
+    ghost take_back: { (held : List ℕ) → (frame : ℕ) → List ℕ };
 
     /// Takes a frame back.
     ///
@@ -47,13 +47,13 @@ pub trait FrameDeallocator<S: PageSize>: FrameKeeper<S> {
     fn deallocate_frame(&mut self, frame: PhysFrame<S>)
         requires served { Self.serves self.old frame ≡ true }
         requires not_held { In (held self.old) frame → ⊥ }
-        ensures held { held self.new ≡ put (held self.old) frame }
+        ensures held { held self.new ≡ take_back (held self.old) frame }
         ensures serves { Self.serves self.new ≡ Self.serves self.old };
 
     ghost held_is_served: { (deallocator : Self) (frame : ℕ) → In (held deallocator) frame
         → Self.serves deallocator frame ≡ true };
 
-    ghost put_rearranges: { (held : List ℕ) (frame : ℕ) → IsPermutation (frame ∷ held) (put held frame) };
+    ghost take_back_rearranges: { (held : List ℕ) (frame : ℕ) → IsPermutation (frame ∷ held) (take_back held frame) };
 }
 
 /// Hands out 4KiB frames and takes them back.

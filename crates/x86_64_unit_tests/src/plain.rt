@@ -28,7 +28,7 @@ const WINDOW: PlainWindow = PlainWindow {
 };
 
 /// Makes a state without entries.
-fn state_of(rt: impl Abort + Copy, alloc: Global, pool: &[u64]) -> PlainState {
+fn plain_state(rt: impl Abort + Copy, alloc: Global, pool: &[u64]) -> PlainState {
     PlainState {
         paths: PathEntries::new(alloc),
         pool: unwrap(rt, Vec::from_slice(alloc, pool)),
@@ -120,7 +120,7 @@ fn check_cases(rt: impl Abort + Copy, alloc: Global, machine: &PlainMachine, cas
     requires { machine.now.levels ≤ 5 }
 {
     for case in cases {
-        let mut state = state_of(rt, alloc, case.pool);
+        let mut state = plain_state(rt, alloc, case.pool);
         check_rows(rt, alloc, machine, &mut state, case.name, case.first);
         check_rows(rt, alloc, machine, &mut state, case.name, case.rows);
         check_state(rt, &state, case);
@@ -162,7 +162,7 @@ fn check_state(rt: impl Abort + Copy, state: &PlainState, case: &Case) {
 #[test]
 fn many_calls(rt: HostRuntime) {
     let alloc = rt.alloc();
-    let mut state = state_of(rt, alloc, &[]);
+    let mut state = plain_state(rt, alloc, &[]);
     for number in 1..40u64 {
         unwrap(rt, state.pool.push(number * 0x1000));
     }

@@ -41,11 +41,11 @@ pub fn run_flushed<
     ensures ran { let h = M.hierarchy mapper.old in let after = M.hierarchy mapper.new in
         let pool = F.supply frames.old in let rest = F.supply frames.new in
         let before = replies.old.items in let now = replies.new.items in
-        OnOk result (Ran (asks P5.bits) F.put h pool calls.now before now after rest) }
+        OnOk result (Ran (asks P5.bits) F.take_back h pool calls.now before now after rest) }
     ensures flushed { let h = M.hierarchy mapper.old in let after = M.hierarchy mapper.new in
         let pool = F.supply frames.old in let told = appended replies.old.items replies.new.items in
         let before = recorder.old.items in let now = recorder.new.items in
-        OnOk result (Flushed (asks P5.bits) F.put h pool calls.now told before now after) }
+        OnOk result (Flushed (asks P5.bits) F.take_back h pool calls.now told before now after) }
     ensures unchanged { OnErr result (
         (replies.new.items ≡ replies.old.items) × (recorder.new ≡ recorder.old)
         × (mapper.new ≡ mapper.old) × (frames.new ≡ frames.old)) }

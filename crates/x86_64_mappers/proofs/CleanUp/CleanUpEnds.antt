@@ -17,9 +17,9 @@ use Rattle.x86_64_model.specs.Pool.{Fits, given_back}
 use Rattle.x86_64_model.specs.Window.{IsValidFor}
 use Rattle.x86_64_mappers.proofs.CleanUp.Cleaned.{cleaned_nothing}
 use Rattle.x86_64_mappers.specs.private.CleaningUp.{IsCleaned}
-use Rattle.x86_64_mappers.proofs.Memory.Seen.{seen}
+use Rattle.x86_64_mappers.proofs.Memory.WordsRead.{words_read}
 
-module _ {Lent : Type 0} (h : Hierarchy Lent) (adds : IsParentFlags h.layout.added_flags) (valid : Valid h) (give : List ℕ → ℕ → List ℕ) (held : List ℕ) (low high : ℕ) where
+module _ {Lent : Type 0} (h : Hierarchy Lent) (adds : IsParentFlags h.layout.added_flags) (valid : Valid h) (take_back : List ℕ → ℕ → List ℕ) (held : List ℕ) (low high : ℕ) where
   abbrev L : ℕ
   L = h.layout.levels
 
@@ -33,13 +33,13 @@ module _ {Lent : Type 0} (h : Hierarchy Lent) (adds : IsParentFlags h.layout.add
   after_state s = record { state = s; reply = Cleaned }
 
   tree : IsTree L h.layout.root M
-  tree = tree_of_holds L (seen h.layout h.memory) h.layout.root M valid.valid.holds
+  tree = tree_of_holds L (words_read h.layout h.memory) h.layout.root M valid.valid.holds
 
-  ends : (N : PathMap) (back : List ℕ) → N ≡ after.paths → back ≡ after.back → (n : Memory) (rest : List ℕ) → IsCleaned h.layout give h.memory held N back n rest
-      → CleansUp h give held low high (record h { memory = n }) rest
+  ends : (N : PathMap) (back : List ℕ) → N ≡ after.paths → back ≡ after.back → (n : Memory) (rest : List ℕ) → IsCleaned h.layout take_back h.memory held N back n rest
+      → CleansUp h take_back held low high (record h { memory = n }) rest
   unfolding do_call
   ends N back paths_are back_is n rest c = record {
-    outcome = ap₂ (λ N pool. after_state (record { paths = N; pool = pool })) (sym is) (ap (given_back give held) (sym back_is) ∙ sym c.given);
+    outcome = ap₂ (λ N pool. after_state (record { paths = N; pool = pool })) (sym is) (ap (given_back take_back held) (sym back_is) ∙ sym c.given);
     valid = c.valid;
     fits = λ other gives supply fits. subst (λ N. Fits L h.layout.window (words (record h { memory = n })) h.layout.root N (λ f. true) (given_back other supply after.back)) (sym is)
         (step_fits L h.layout.window (words h) (words (record h { memory = n })) h.layout.root (λ f. true) h.layout.added_flags adds other gives (state_of h supply) (CleanUp low high) tt fits
@@ -54,12 +54,12 @@ module _ {Lent : Type 0} (h : Hierarchy Lent) (adds : IsParentFlags h.layout.add
       is = c.meant ∙ paths_are
 
   -- all tables were cleaned up
-  pub ends_whole : (n : Memory) (rest : List ℕ) → IsCleaned h.layout give h.memory held (cleaned_below L M low high []) (back_below L M low high []) n rest
-      → CleansUp h give held low high (record h { memory = n }) rest
+  pub ends_whole : (n : Memory) (rest : List ℕ) → IsCleaned h.layout take_back h.memory held (cleaned_below L M low high []) (back_below L M low high []) n rest
+      → CleansUp h take_back held low high (record h { memory = n }) rest
   ends_whole = ends (cleaned_below L M low high []) (back_below L M low high [])
       (cleaned_whole L h.layout.root M tree low high) (back_whole L h.layout.root M tree low high)
 
   -- the range has no positions
-  pub ends_empty : high < low → CleansUp h give held low high h held
+  pub ends_empty : high < low → CleansUp h take_back held low high h held
   ends_empty none = let is = empty_clean_up L M low high none tree.used_alone in
-      ends M [] (sym (ap (λ (a : AfterCleanUp). a.paths) is)) (sym (ap (λ (a : AfterCleanUp). a.back) is)) h.memory held (cleaned_nothing h.layout give h.memory valid held)
+      ends M [] (sym (ap (λ (a : AfterCleanUp). a.paths) is)) (sym (ap (λ (a : AfterCleanUp). a.back) is)) h.memory held (cleaned_nothing h.layout take_back h.memory valid held)

@@ -13,11 +13,11 @@ use Rattle.x86_64_model.specs.Lists.{In}
 use Rattle.x86_64_model.specs.Memory.{Memory, Distinct, Words, word, word_in, set_word}
 use Rattle.x86_64_model.specs.Mapper.{Hierarchy, MayCleanUp}
 use Rattle.x86_64_model.specs.PathMap.{PathMap, entry, put, table_at}
-use Rattle.x86_64_model.specs.Pool.{IsTable, IsGiving, given_back}
+use Rattle.x86_64_model.specs.Pool.{IsTable, TakesBack, given_back}
 use Rattle.x86_64_model.specs.Window.{Window, IsValidFor, begins_with}
 use Rattle.x86_64_mappers.proofs.Memory.Changed.{set_is, set_others, set_keeps}
 use Rattle.x86_64_mappers.specs.private.CleaningUp.{IsCleaned}
-use Rattle.x86_64_mappers.proofs.Memory.Seen.{seen, there_seen}
+use Rattle.x86_64_mappers.proofs.Memory.WordsRead.{words_read, read_there}
 use Rattle.x86_64_model.proofs.Lemmas.Hierarchies.Memories.{covered}
 use Rattle.x86_64_mappers.specs.private.Writes.{IsSet}
 
@@ -25,13 +25,13 @@ word_same : (T U : Words) (f i : ℕ) → U f ≡ T f → word U f i ≡ word T 
 unfolding word
 word_same T U f i e = ap (λ o. cond (nat_lt i 512) (word_in o i) 0) e
 
-given_more : (give : List ℕ → ℕ → List ℕ) (held xs ys : List ℕ) → given_back give held (xs ++ ys) ≡ given_back give (given_back give held xs) ys
-given_more give held [] ys = refl
-given_more give held (x ∷ xs) ys = given_more give (give held x) xs ys
+given_more : (take_back : List ℕ → ℕ → List ℕ) (held xs ys : List ℕ) → given_back take_back held (xs ++ ys) ≡ given_back take_back (given_back take_back held xs) ys
+given_more take_back held [] ys = refl
+given_more take_back held (x ∷ xs) ys = given_more take_back (take_back held x) xs ys
 
 -- a table's frame is there
 table_there : (l : Layout) (m : Memory) → Valid l m → (f : ℕ) → IsTable l.levels l.root (paths l m) f → IsSome (words l m f)
-table_there l m valid f t = there_seen l.window l.root (words l m) f (valid.valid.holds.in_memory t.0 f t.1)
+table_there l m valid f t = read_there l.window l.root (words l m) f (valid.valid.holds.in_memory t.0 f t.1)
 
 -- what is below a path outside the recursive index is outside it
 pub outside_more : (window : Option Window) (q : List ℕ) (i j : ℕ) → begins_with window (q ++ i ∷ []) ≡ false → begins_with window ((q ++ i ∷ []) ++ j ∷ []) ≡ false
@@ -39,8 +39,8 @@ outside_more None q i j out = refl
 outside_more (Some w) [] i j out = out
 outside_more (Some w) (k ∷ q) i j out = out
 
-module _ (l : Layout) (give : List ℕ → ℕ → List ℕ) where
-  pub cleaned_nothing : (m : Memory) → Valid l m → (held : List ℕ) → IsCleaned l give m held (paths l m) [] m held
+module _ (l : Layout) (take_back : List ℕ → ℕ → List ℕ) where
+  pub cleaned_nothing : (m : Memory) → Valid l m → (held : List ℕ) → IsCleaned l take_back m held (paths l m) [] m held
   cleaned_nothing m valid held = record {
     meant = refl;
     valid = valid;
@@ -55,8 +55,8 @@ module _ (l : Layout) (give : List ℕ → ℕ → List ℕ) where
 
   module _ (apart : Distinct l.places) where
     -- one after another
-    module _ (m : Memory) (valid : Valid l m) (held : List ℕ) (N : PathMap) (back : List ℕ) (n : Memory) (rest : List ℕ) (a : IsCleaned l give m held N back n rest)
-        (O : PathMap) (more : List ℕ) (o : Memory) (left : List ℕ) (b : IsCleaned l give n rest O more o left) where
+    module _ (m : Memory) (valid : Valid l m) (held : List ℕ) (N : PathMap) (back : List ℕ) (n : Memory) (rest : List ℕ) (a : IsCleaned l take_back m held N back n rest)
+        (O : PathMap) (more : List ℕ) (o : Memory) (left : List ℕ) (b : IsCleaned l take_back n rest O more o left) where
       was_table : (f : ℕ) → IsTable l.levels l.root (paths l n) f → IsTable l.levels l.root (paths l m) f
       was_table f t = (t.0, a.left t.0 f t.1)
 
@@ -65,11 +65,11 @@ module _ (l : Layout) (give : List ℕ → ℕ → List ℕ) where
       kept f there none = ap (λ w. cond (l.places.covers f) w None) (b.others (l.places.place f) (λ g t e.
           none (subst (IsTable l.levels l.root (paths l n)) (apart g f (covered n l.places g (table_there l n a.valid g t)) (covered n l.places f there) e) t)))
 
-      pub cleaned_then : IsCleaned l give m held O (back ++ more) o left
+      pub cleaned_then : IsCleaned l take_back m held O (back ++ more) o left
       cleaned_then = record {
         meant = b.meant;
         valid = b.valid;
-        given = b.given ∙ ap (λ held. given_back give held more) a.given ∙ sym (given_more give held back more);
+        given = b.given ∙ ap (λ held. given_back take_back held more) a.given ∙ sym (given_more take_back held back more);
         left = λ q f t. a.left q f (b.left q f t);
         were = λ f h. ⊎_elim (a.were f) (λ h. was_table f (b.were f h)) (in_append back more f h);
         gone = λ f h t. ⊎_elim (λ h. a.gone f h (t.0, b.left t.0 f t.1)) (λ h. b.gone f h t) (in_append back more f h);
@@ -99,7 +99,7 @@ module _ (l : Layout) (give : List ℕ → ℕ → List ℕ) where
           (λ j inside. sym (word_is_entry l.levels l.window (words l m) l.root M valid r j g names inside (outside_more l.window q i j outside)) ∙ empty j))
 
       is : put M r 0 ≡ paths l n
-      is = held_is_paths_of l.levels (seen l n) l.root at_least_four (put M r 0) valid_put.valid.holds
+      is = held_is_paths_of l.levels (words_read l n) l.root at_least_four (put M r 0) valid_put.valid.holds
 
       before : (p : List ℕ) (h : ℕ) → table_at l.levels l.root (paths l n) p ≡ Some h → table_at l.levels l.root (put M r 0) p ≡ Some h
       before p h t = ap (λ N. table_at l.levels l.root N p) is ∙ t
@@ -107,7 +107,7 @@ module _ (l : Layout) (give : List ℕ → ℕ → List ℕ) where
       apart_frames : g ≢ f
       apart_frames e = append_longer q i [] (valid.valid.own_frames r q f (names ∙ ap Some e) leads)
 
-      pub cleaned_removed : IsCleaned l give m held (put M r 0) (g ∷ []) n (give held g)
+      pub cleaned_removed : IsCleaned l take_back m held (put M r 0) (g ∷ []) n (take_back held g)
       cleaned_removed = record {
         meant = sym is;
         valid = subst (IsValidFor l.levels l.window (words l n) l.root) is valid_put;
@@ -122,15 +122,15 @@ module _ (l : Layout) (give : List ℕ → ℕ → List ℕ) where
 
 -- ---- a clean up may go on
 
-pub may_still : {Lent : Type 0} (h : Hierarchy Lent) (give : List ℕ → ℕ → List ℕ) → IsGiving give → (serves : ℕ → Bool) (held : List ℕ) → MayCleanUp h serves held
-    → (N : PathMap) (back : List ℕ) (n : Memory) (rest : List ℕ) → IsCleaned h.layout give h.memory held N back n rest → MayCleanUp (record h { memory = n }) serves rest
-may_still h give gives serves held may N back n rest c = record {
+pub may_still : {Lent : Type 0} (h : Hierarchy Lent) (take_back : List ℕ → ℕ → List ℕ) → TakesBack take_back → (serves : ℕ → Bool) (held : List ℕ) → MayCleanUp h serves held
+    → (N : PathMap) (back : List ℕ) (n : Memory) (rest : List ℕ) → IsCleaned h.layout take_back h.memory held N back n rest → MayCleanUp (record h { memory = n }) serves rest
+may_still h take_back gives serves held may N back n rest c = record {
   valid = c.valid;
   serves_tables = λ i q f t. may.serves_tables i q f (c.left (i ∷ q) f t);
   none_held = λ i q f t h. ⊎_elim
       (λ came. c.gone f came (i ∷ q, t))
       (λ was. may.none_held i q f (c.left (i ∷ q) f t) was)
-      (in_append back held f ((given_frames give gives held back f).0 (subst (λ fs. In fs f) c.given h)));
+      (in_append back held f ((given_frames take_back gives held back f).0 (subst (λ fs. In fs f) c.given h)));
 }
 
 -- and a table but the root may come back

@@ -14,7 +14,7 @@ use Rattle.x86_64_model.specs.Path.{AllBelow, span_start}
 use Rattle.x86_64_model.specs.PathMap.{PathMap}
 use Rattle.x86_64_mappers.proofs.CleanUp.Cleaned.{cleaned_nothing, cleaned_then}
 use Rattle.x86_64_mappers.specs.private.CleaningUp.{span_end, IsPageRange, IsEntryCleaned, IsCleaned, IsCleanedAt}
-use Rattle.x86_64_mappers.proofs.Memory.Seen.{seen}
+use Rattle.x86_64_mappers.proofs.Memory.WordsRead.{words_read}
 
 -- ---- which entries the range meets
 
@@ -55,7 +55,7 @@ module _ (L root : ℕ) (M : PathMap) (tree : IsTree L root M) (low high : ℕ) 
 
 -- ---- the entries before an index
 
-module _ (l : Layout) (give : List ℕ → ℕ → List ℕ) (m : Memory) (valid : Valid l m) (held : List ℕ) (low high : ℕ) (q : List ℕ) where
+module _ (l : Layout) (take_back : List ℕ → ℕ → List ℕ) (m : Memory) (valid : Valid l m) (held : List ℕ) (low high : ℕ) (q : List ℕ) where
   abbrev L : ℕ
   L = l.levels
 
@@ -63,30 +63,30 @@ module _ (l : Layout) (give : List ℕ → ℕ → List ℕ) (m : Memory) (valid
   M = paths l m
 
   tree : IsTree L l.root M
-  tree = tree_of_holds L (seen l m) l.root M valid.valid.holds
+  tree = tree_of_holds L (words_read l m) l.root M valid.valid.holds
 
   abbrev Before : (i : ℕ) → Memory → List ℕ → Type 0
-  Before i n rest = IsCleaned l give m held (cleaned_before L M low high q i) (back_before L M low high q i) n rest
+  Before i n rest = IsCleaned l take_back m held (cleaned_before L M low high q i) (back_before L M low high q i) n rest
 
   -- so far none is in range
   pub before_first : (i : ℕ) → ((k : ℕ) → k < i → in_range L M low high (q ++ k ∷ []) ≡ false) → Before i m held
   before_first i out =
       let none = passed L l.root M tree low high q 0 i (omega arith) (λ k from to. out k to) in
-      subst₂ (λ N back. IsCleaned l give m held N back m held)
-      (sym (none.0 ∙ cleaned_first L l.root M tree low high q)) (sym (none.1 ∙ back_first L l.root M tree low high q)) (cleaned_nothing l give m valid held)
+      subst₂ (λ N back. IsCleaned l take_back m held N back m held)
+      (sym (none.0 ∙ cleaned_first L l.root M tree low high q)) (sym (none.1 ∙ back_first L l.root M tree low high q)) (cleaned_nothing l take_back m valid held)
 
   -- and from now on none is
   pub before_last : (i : ℕ) → i ≤ 512 → ((k : ℕ) → i ≤ k → k < 512 → in_range L M low high (q ++ k ∷ []) ≡ false) → (n : Memory) (rest : List ℕ) → Before i n rest
-      → IsCleaned l give m held (cleaned_below L M low high q) (back_below L M low high q) n rest
+      → IsCleaned l take_back m held (cleaned_below L M low high q) (back_below L M low high q) n rest
   before_last i most out n rest here =
       let none = passed L l.root M tree low high q i 512 most out in
-      subst₂ (λ N back. IsCleaned l give m held N back n rest)
+      subst₂ (λ N back. IsCleaned l take_back m held N back n rest)
       (sym none.0 ∙ cleaned_last L l.root M tree low high q) (sym none.1 ∙ back_last L l.root M tree low high q) here
 
   -- a table of level one has no tables below
-  pub level_one : L ≤ length q + 1 → IsCleaned l give m held (cleaned_below L M low high q) (back_below L M low high q) m held
-  level_one low_level = subst₂ (λ N back. IsCleaned l give m held N back m held)
-      (sym (cleaned_level_one L l.root M tree low high q low_level)) (sym (back_level_one L l.root M tree low high q low_level)) (cleaned_nothing l give m valid held)
+  pub level_one : L ≤ length q + 1 → IsCleaned l take_back m held (cleaned_below L M low high q) (back_below L M low high q) m held
+  level_one low_level = subst₂ (λ N back. IsCleaned l take_back m held N back m held)
+      (sym (cleaned_level_one L l.root M tree low high q low_level)) (sym (back_level_one L l.root M tree low high q low_level)) (cleaned_nothing l take_back m valid held)
 
   -- one more
   module _ (visits : Visits L M low high q) (i : ℕ) where
@@ -111,8 +111,8 @@ module _ (l : Layout) (give : List ℕ → ℕ → List ℕ) (m : Memory) (valid
           ∙ sym (back_gone L l.root M tree low high q i visits h.0 (λ j small. h.1 j)),
     )
 
-    pub before_next : Distinct l.places → (n : Memory) (rest : List ℕ) → Before i n rest → (o : Memory) (left : List ℕ) → IsCleanedAt l give n rest low high r o left → Before (i + 1) o left
+    pub before_next : Distinct l.places → (n : Memory) (rest : List ℕ) → Before i n rest → (o : Memory) (left : List ℕ) → IsCleanedAt l take_back n rest low high r o left → Before (i + 1) o left
     before_next apart n rest here o left at =
         let rule = next_rule at.N at.back (subst (λ N. IsEntryCleaned L N low high r at.N at.back) here.meant at.rule) in
-        subst₂ (λ N back. IsCleaned l give m held N back o left) rule.0 rule.1
-        (cleaned_then l give apart m valid held N (back_before L M low high q i) n rest here at.N at.back o left at.cleaned)
+        subst₂ (λ N back. IsCleaned l take_back m held N back o left) rule.0 rule.1
+        (cleaned_then l take_back apart m valid held N (back_before L M low high q i) n rest here at.N at.back o left at.cleaned)

@@ -12,7 +12,7 @@ use Rattle.x86_64_model.specs.Window.{begins_with}
 use Rattle.x86_64_mappers.specs.private.MapSteps.{mapped_from, IsAt, IsDown}
 use Rattle.x86_64_mappers.specs.private.Linked.{Beside}
 use Rattle.x86_64_mappers.specs.private.Writes.{IsMade, IsLeafSet}
-use Rattle.x86_64_mappers.proofs.Map.Goes.{goes_then}
+use Rattle.x86_64_mappers.proofs.Map.OwnedWays.{owned_then}
 use Rattle.x86_64_mappers.proofs.Map.StepOutcomes.{Reached, Stopped, IsStep, IsPathMapped, IsLeaf}
 use Rattle.x86_64_mappers.proofs.Way.Outside.{beside_on, beside_at}
 use Rattle.x86_64_mappers.proofs.Map.Steps.{step, leaf}
@@ -20,14 +20,14 @@ use Rattle.x86_64_mappers.proofs.Map.Steps.{step, leaf}
 module _ (l : Layout) (m : Memory) (s : List ℕ) (more : ℕ) (path : List ℕ) where
   module _ (done left : List ℕ) (i : ℕ) (n : Memory) (rest : List ℕ) (f : ℕ) (here : IsAt l m s more path done (i ∷ left) n rest f) (o : Memory) (fs : List ℕ) where
     at_next : (g : ℕ) → Reached l n rest more done i o fs g → IsAt l m s more path (done ++ i ∷ []) left o fs g
-    at_next g r = record { goes = goes_then l m s n rest o fs here.goes r.goes; leads = r.leads; outcome = λ x e frame. here.outcome x e frame ∙ on left x e frame }
+    at_next g r = record { owned = owned_then l m s n rest o fs here.owned r.owned; leads = r.leads; outcome = λ x e frame. here.outcome x e frame ∙ on left x e frame }
       where
         on : (left : List ℕ) (x e frame : ℕ) → mapped_from (paths l n) rest more l.added_flags done ((i ∷ left) ++ x ∷ []) e frame ≡ mapped_from (paths l o) fs more l.added_flags (done ++ i ∷ []) (left ++ x ∷ []) e frame
         on [] x e frame = r.outcome x [] e frame
         on (j ∷ left) x e frame = r.outcome j (left ++ x ∷ []) e frame
 
     at_stop : (why : Refusal) → Stopped l n rest more done i o fs why → IsDown l m s more path (Err why) o fs
-    at_stop why r = record { goes = goes_then l m s n rest o fs here.goes r.goes; outcome = λ x e frame. here.outcome x e frame ∙ on left x e frame }
+    at_stop why r = record { owned = owned_then l m s n rest o fs here.owned r.owned; outcome = λ x e frame. here.outcome x e frame ∙ on left x e frame }
       where
         on : (left : List ℕ) (x e frame : ℕ) → mapped_from (paths l n) rest more l.added_flags done ((i ∷ left) ++ x ∷ []) e frame ≡ record { paths = paths l o; supply = fs; answer = Refused why }
         on [] x e frame = r.outcome x [] e frame
@@ -56,7 +56,7 @@ module _ (l : Layout) (apart : Distinct l.places) (adds : IsParentFlags l.added_
 
   pub made : (r : Result ℕ Refusal) → IsMade l.places more l.added_flags n rest f i r o fs → IsStep l n rest more (take k path) (get_or path k 0) r o fs
   made r h = subst (λ i. IsStep l n rest more (take k path) i r o fs) is
-      (step l apart n (take k path) i f here.leads small (subst (Beside l.window l.root f) (sym is) (beside_at l n here.goes.ready.valid path k within outside f here.leads)) more marks adds room rest here.goes.ready r o fs h)
+      (step l apart n (take k path) i f here.leads small (subst (Beside l.window l.root f) (sym is) (beside_at l n here.owned.ready.valid path k within outside f here.leads)) more marks adds room rest here.owned.ready r o fs h)
 
   pub turn : (g : ℕ) → IsMade l.places more l.added_flags n rest f i (Ok g) o fs → IsAt l m s more path (take (k + 1) path) (drop (k + 1) path) o fs g
   turn g h = index_next l m s more path k within n rest f here o fs g (made (Ok g) h)
@@ -74,10 +74,10 @@ module _ (l : Layout) (apart : Distinct l.places) (m : Memory) (s : List ℕ) (m
       → (n : Memory) (rest : List ℕ) (g : ℕ) → IsDown l m s more path (Ok g) n rest → (answer : Answer) (o : Memory) → IsLeafSet l.places n g last e frame answer o
       → IsPathMapped l m s more (path ++ last ∷ []) e frame answer o rest
   path_mapped at_least_four outside small is n rest g here answer o k =
-      let x = leaf l apart n path last g here.leads small (beside_on l n here.goes.ready.valid path last [] outside g here.leads) more at_least_four rest here.goes.ready e frame is answer o k in record {
-        goes = goes_then l m s n rest o rest here.goes x.0;
+      let x = leaf l apart n path last g here.leads small (beside_on l n here.owned.ready.valid path last [] outside g here.leads) more at_least_four rest here.owned.ready e frame is answer o k in record {
+        owned = owned_then l m s n rest o rest here.owned x.0;
         outcome = whole ∙ here.outcome last e frame ∙ x.1;
       }
 
   pub path_refused : (n : Memory) (rest : List ℕ) (why : Refusal) → IsDown l m s more path (Err why) n rest → IsPathMapped l m s more (path ++ last ∷ []) e frame (Refused why) n rest
-  path_refused n rest why h = record { goes = h.goes; outcome = whole ∙ h.outcome last e frame }
+  path_refused n rest why h = record { owned = h.owned; outcome = whole ∙ h.outcome last e frame }

@@ -16,13 +16,13 @@ use Rattle.x86_64_model.specs.Memory.{Memory, Distinct, word, set_word}
 use Rattle.x86_64_model.specs.Path.{parents}
 use Rattle.x86_64_model.specs.PathMap.{PathMap, entry, put, table_of, table_at}
 use Rattle.x86_64_model.specs.Refusal.{Refused, ParentEntryHugePage}
-use Rattle.x86_64_mappers.specs.private.MapSteps.{Goes, mapped_from}
+use Rattle.x86_64_mappers.specs.private.MapSteps.{KeepsOwned, mapped_from}
 use Rattle.x86_64_mappers.specs.private.Linked.{Beside}
 use Rattle.x86_64_mappers.specs.private.Writes.{IsMarked}
-use Rattle.x86_64_mappers.proofs.Memory.Changed.{set_others, set_keeps, seen_set, self_set}
+use Rattle.x86_64_mappers.proofs.Memory.Changed.{set_others, set_keeps, read_set, self_set}
 use Rattle.x86_64_mappers.proofs.Map.StepOutcomes.{Reached, Stopped}
-use Rattle.x86_64_mappers.proofs.Memory.Seen.{seen, seen_word, seen_table}
-use Rattle.x86_64_mappers.proofs.Memory.Written.{entry_is, goes_to, own_place, same_tables_last}
+use Rattle.x86_64_mappers.proofs.Memory.WordsRead.{words_read, read_word, read_table}
+use Rattle.x86_64_mappers.proofs.Memory.Written.{entry_is, owned_to, own_place, same_tables_last}
 
 -- what is left of the rule at the next parent
 pub rest_same : (more added : ℕ) (pre : List ℕ) (i : ℕ) (N : PathMap) (s : List ℕ) (j : ℕ) (r : List ℕ) (e frame : ℕ)
@@ -30,7 +30,7 @@ pub rest_same : (more added : ℕ) (pre : List ℕ) (i : ℕ) (N : PathMap) (s :
 rest_same more added pre i N s j r e frame = λ n. map_rule N s more added (sym (map_again pre i (parents (j ∷ r))) n) (sym (append_assoc pre (i ∷ []) (j ∷ r)) n) e frame
 
 pub descends : (l : Layout) (m : Memory) (s : List ℕ) → IsReady l m s → (pre : List ℕ) (i j : ℕ) (r : List ℕ) → Descends (paths l m) (map (λ x. pre ++ x) (parents (i ∷ j ∷ r))) (pre ++ i ∷ j ∷ r)
-descends l m s ready pre i j r = parents_descend l.levels (seen l m) l.root (paths l m) ready.valid.valid.holds pre (i ∷ j ∷ r)
+descends l m s ready pre i j r = parents_descend l.levels (words_read l m) l.root (paths l m) ready.valid.valid.holds pre (i ∷ j ∷ r)
 
 module _ (l : Layout) (apart : Distinct l.places) (m : Memory) (pre : List ℕ) (i f : ℕ) (leads : table_at l.levels l.root (paths l m) pre ≡ Some f) (small : i < 512) (beside : Beside l.window l.root f i)
     (more : ℕ) (marks : IsParentFlags more) (room : length (pre ++ i ∷ []) < l.levels) (s : List ℕ) (ready : IsReady l m s) where
@@ -46,14 +46,14 @@ module _ (l : Layout) (apart : Distinct l.places) (m : Memory) (pre : List ℕ) 
   is : entry M p ≡ word (words l m) f i
   is = entry_is l apart at_least_four m pre i f leads small beside s ready
 
-  marked : (n : Memory) → IsMarked l.places m f i more n → (put M p (bit_or (entry M p) more) ≡ paths l n) × Goes l m s n s
+  marked : (n : Memory) → IsMarked l.places m f i more n → (put M p (bit_or (entry M p) more) ≡ paths l n) × KeepsOwned l m s n s
   marked n k =
-      let T = seen l m in
-      let t = seen_table l.window l.root (words l m) f k.is_set.table k.is_set.is in
+      let T = words_read l m in
+      let t = read_table l.window l.root (words l m) f k.is_set.table k.is_set.is in
       let u : used (entry M p) ≡ true = ap used is ∙ k.is_used in
-      let w = seen_word l.window l.root (words l m) f i beside in
-      goes_to l apart at_least_four m n s s (put M p (bit_or (entry M p) more)) ready
-      (subst (λ U. IsValid l.levels U l.root (put M p (bit_or (entry M p) more))) (ap (λ x. set_word T f i (bit_or x more)) w ∙ sym (seen_set l apart m f i _ n k.is_set beside))
+      let w = read_word l.window l.root (words l m) f i beside in
+      owned_to l apart at_least_four m n s s (put M p (bit_or (entry M p) more)) ready
+      (subst (λ U. IsValid l.levels U l.root (put M p (bit_or (entry M p) more))) (ap (λ x. set_word T f i (bit_or x more)) w ∙ sym (read_set l apart m f i _ n k.is_set beside))
       (marked_valid T f i more t.table t.is (omega (arith, k.is_set.long, t.long)) small marks (ap used w ∙ k.is_used) l.levels l.root M pre ready.valid.valid leads))
       (self_set l apart m f i _ n k.is_set beside ready.valid.self)
       (conserves_marked l.levels l.root M _ s (same_tables_last l.levels l.root M pre i _ (table_of_marked l.levels p (entry M p) more marks u ∙ sym (table_at_last l.levels l.root M pre i))))
@@ -70,7 +70,7 @@ module _ (l : Layout) (apart : Distinct l.places) (m : Memory) (pre : List ℕ) 
       let t : table_of l.levels p (entry M p) ≡ Some g = ap₂ (λ a b. cond (a && not b && nat_lt (length p) l.levels) (Some (address (entry M p))) None) u hh
       ∙ ap (λ b. cond b (Some (address (entry M p))) None) (lt-ltb (length p) l.levels room) ∙ ap (λ x. Some (address x)) is ∙ ap Some (sym names) in
       record {
-        goes = w.1;
+        owned = w.1;
         leads = ap (λ N. table_at l.levels l.root N p) (sym w.0) ∙ same_tables_last l.levels l.root M pre i _ (table_of_marked l.levels p (entry M p) more marks u ∙ sym (table_at_last l.levels l.root M pre i)) p
             ∙ table_at_last l.levels l.root M pre i ∙ t;
         opens = record {
@@ -87,7 +87,7 @@ module _ (l : Layout) (apart : Distinct l.places) (m : Memory) (pre : List ℕ) 
   pub stopped_huge : (n : Memory) → IsMarked l.places m f i more n → huge (word (words l m) f i) ≡ true → Stopped l m s more pre i n s ParentEntryHugePage
   stopped_huge n k h =
       let w = marked n k in record {
-        goes = w.1;
+        owned = w.1;
         outcome = λ j r x frame. step_huge more l.added_flags (pre ++ i ∷ j ∷ r) x frame M p _ (descends l m s ready pre i j r) s (ap used is ∙ k.is_used) (ap huge is ∙ h)
             ∙ ap (λ N. record { paths = N; supply = s; answer = Refused ParentEntryHugePage }) w.0;
       }

@@ -23,13 +23,13 @@ use Rattle.x86_64_tables.specs.PageTable.{zero_words}
 use Rattle.x86_64_mappers.specs.private.MapSteps.{mapped_from}
 use Rattle.x86_64_mappers.specs.private.Linked.{Beside}
 use Rattle.x86_64_mappers.specs.private.Writes.{IsSet, IsCleared}
-use Rattle.x86_64_mappers.proofs.Memory.Changed.{not_none, set_others, set_keeps, seen_set, self_set, cleared_other, cleared_here, cleared_other_word, cleared_words, cleared_keeps}
-use Rattle.x86_64_mappers.proofs.Map.Goes.{goes_nothing}
+use Rattle.x86_64_mappers.proofs.Memory.Changed.{not_none, set_others, set_keeps, read_set, self_set, cleared_other, cleared_here, cleared_other_word, cleared_words, cleared_keeps}
+use Rattle.x86_64_mappers.proofs.Map.OwnedWays.{owned_nothing}
 use Rattle.x86_64_mappers.proofs.Map.StepOutcomes.{Reached, Stopped}
 use Rattle.x86_64_mappers.proofs.Map.Marked.{rest_same, descends}
-use Rattle.x86_64_mappers.proofs.Memory.Seen.{seen, seen_word, seen_table, seen_some, seen_same, self_kept}
+use Rattle.x86_64_mappers.proofs.Memory.WordsRead.{words_read, read_word, read_table, read_some, read_same, self_kept}
 use Rattle.x86_64_mappers.proofs.Memory.Stored.{get-put}
-use Rattle.x86_64_mappers.proofs.Memory.Written.{entry_is, unused_leads, goes_to, own_place}
+use Rattle.x86_64_mappers.proofs.Memory.Written.{entry_is, unused_leads, owned_to, own_place}
 
 taken_last : (L root : ℕ) (M : PathMap) (f : ℕ) (fs : List ℕ) (p : List ℕ) (i e : ℕ) → table_of L (p ++ i ∷ []) e ≡ Some f → table_at L root M (p ++ i ∷ []) ≡ None → Conserves L root M (f ∷ fs) (put M (p ++ i ∷ []) e) fs
 taken_last L root M f fs [] i e new old = conserves_taken L root M f fs i [] e new old
@@ -53,7 +53,7 @@ module _ (l : Layout) (apart : Distinct l.places) (m : Memory) (pre : List ℕ) 
   -- no frame is left
   pub stopped_empty : IsReady l m [] → used (word (words l m) f i) ≡ false → Stopped l m [] more pre i m [] FrameAllocationFailed
   stopped_empty ready u = record {
-    goes = goes_nothing l m [] ready;
+    owned = owned_nothing l m [] ready;
     outcome = λ j r x frame. step_none more l.added_flags (pre ++ i ∷ j ∷ r) x frame M p _ (descends l m [] ready pre i j r) (ap used (entry_is l apart at_least_four m pre i f leads small beside [] ready) ∙ u);
   }
 
@@ -84,29 +84,29 @@ module _ (l : Layout) (apart : Distinct l.places) (m : Memory) (pre : List ℕ) 
     not_root : g ≢ l.root
     not_root x = fresh [] (ap Some (sym x))
 
-    valid : IsValid l.levels (set_word (seen l middle) f i w) l.root (put M p w)
+    valid : IsValid l.levels (set_word (words_read l middle) f i w) l.root (put M p w)
     valid =
-        let same : (h : ℕ) → h ≢ g → seen l middle h ≡ seen l m h = λ h n. seen_same l.window l.root (words l m) (words l middle) h (cleared_other l.places apart m g middle cleared h n) in
-        let t = seen_table l.window l.root (words l middle) f k.table k.is in
-        made_valid l.levels (seen l m) (seen l middle) l.root M pre i w f g t.table ready.valid.valid leads
+        let same : (h : ℕ) → h ≢ g → words_read l middle h ≡ words_read l m h = λ h n. read_same l.window l.root (words l m) (words l middle) h (cleared_other l.places apart m g middle cleared h n) in
+        let t = read_table l.window l.root (words l middle) f k.table k.is in
+        made_valid l.levels (words_read l m) (words_read l middle) l.root M pre i w f g t.table ready.valid.valid leads
         (sym (same f (λ x. fresh pre (leads ∙ ap Some x))) ∙ t.is) (omega (arith, k.long, t.long)) small old new
         (has_or g (bit_or more l.added_flags) 0x80 flags.not_huge ∙ frame_not_huge g frame.aligned) frame.not_zero fresh same
-        (seen_some l.window l.root (words l middle) g (not_none _ zero_words (cleared_here l.places apart m g middle cleared)))
-        (λ j. seen_word l.window l.root (words l middle) g j (λ v x h. absurd (not_root h)) ∙ cleared_words l.places apart m g middle cleared j)
+        (read_some l.window l.root (words l middle) g (not_none _ zero_words (cleared_here l.places apart m g middle cleared)))
+        (λ j. read_word l.window l.root (words l middle) g j (λ v x h. absurd (not_root h)) ∙ cleared_words l.places apart m g middle cleared j)
 
     self : SelfEntry (words l middle) l.root l.window
     self = self_kept l.window l.root (words l m) (words l middle) (λ v x. cleared_other_word l.places apart m g middle cleared l.root v.index not_root) ready.valid.self
 
     pub reached_new : Reached l m (g ∷ rest) more pre i n rest g
     reached_new =
-        let go = goes_to l apart at_least_four m n (g ∷ rest) rest (put M p w) ready (subst (λ U. IsValid l.levels U l.root (put M p w)) (sym (seen_set l apart middle f i w n k beside)) valid)
+        let go = owned_to l apart at_least_four m n (g ∷ rest) rest (put M p w) ready (subst (λ U. IsValid l.levels U l.root (put M p w)) (sym (read_set l apart middle f i w n k beside)) valid)
         (self_set l apart middle f i w n k beside self)
         (taken_last l.levels l.root M g rest pre i w new old) (λ f h. inr h)
         (λ h t. set_keeps l.places apart middle f i w n k h (cleared_keeps l.places apart m g middle cleared h t))
         (λ a h. set_others l.places apart middle f i w n k a (own_place l apart at_least_four m pre i f leads small beside (g ∷ rest) ready rest (λ f h. inr h) a h)
         ∙ ap (λ x. get x a) cleared.after ∙ get-put m (l.places.place g) a _ (λ x. h g (inl (inl refl), ready.each_once.0) (sym x))) in
         record {
-          goes = go.1;
+          owned = go.1;
           leads = ap (λ N. table_at l.levels l.root N p) (sym go.0) ∙ table_at_last l.levels l.root (put M p w) pre i ∙ ap (table_of l.levels p) (entry-put_same M p w) ∙ new;
           opens = record {
             word = w;

@@ -30,7 +30,7 @@ use Rattle.x86_64_mappers.proofs.Way.Finds.{next_parents}
 use Rattle.x86_64_mappers.proofs.Map.StepOutcomes.{Opens}
 use Rattle.x86_64_mappers.proofs.Way.Outside.{beside_at}
 use Rattle.x86_64_mappers.proofs.Way.ReachedSteps.{leads_last}
-use Rattle.x86_64_mappers.proofs.Memory.Seen.{seen, seen_word, there_seen}
+use Rattle.x86_64_mappers.proofs.Memory.WordsRead.{words_read, read_word, read_there}
 use Rattle.x86_64_mappers.proofs.Memory.Written.{entry_is}
 
 -- ---- the tables on the way
@@ -43,7 +43,7 @@ module _ (l : Layout) (m : Memory) (valid : Valid l m) (more : ℕ) (path : List
   record Above (k f : ℕ) : Type 0 where
     pub frame : ℕ
     pub way : IsOpenWay l m more path k frame
-    pub is : entry M (take (suc k) path) ≡ word (seen l m) frame (get_or path k 0)
+    pub is : entry M (take (suc k) path) ≡ word (words_read l m) frame (get_or path k 0)
     pub names : Names l.levels (take (suc k) path) (entry M (take (suc k) path)) f
 
   above : (k : ℕ) → k < length path → (f : ℕ) → IsOpenWay l m more path (suc k) f → Above k f
@@ -59,8 +59,8 @@ module _ (l : Layout) (m : Memory) (valid : Valid l m) (more : ℕ) (path : List
       names = table_of_gives l.levels (take (suc k) path) (entry M (take (suc k) path)) f
           (subst (λ q. table_at l.levels l.root M q ≡ Some f → table_of l.levels q (entry M q) ≡ Some f) (sym last) (λ led. sym (table_at_last l.levels l.root M (take k path) i) ∙ led) here.leads)
 
-      is : (o : Option ℕ) → table_at l.levels l.root M (take k path) ≡ o → entry M (take (suc k) path) ≡ entry_in (seen l m) o i
-      is o e = ap (entry M) last ∙ valid.valid.holds.entries (take k path) i ∙ ap (λ o. entry_in (seen l m) o i) e
+      is : (o : Option ℕ) → table_at l.levels l.root M (take k path) ≡ o → entry M (take (suc k) path) ≡ entry_in (words_read l m) o i
+      is o e = ap (entry M) last ∙ valid.valid.holds.entries (take k path) i ∙ ap (λ o. entry_in (words_read l m) o i) e
 
       by : (o : Option ℕ) → table_at l.levels l.root M (take k path) ≡ o → Above k f
       by None e = zero_names_none (ap names_table (sym (is None e)) ∙ names.is_table)
@@ -93,8 +93,8 @@ module _ (l : Layout) (m : Memory) (valid : Valid l m) (more : ℕ) (path : List
         let e = entry M (take (suc k) path) in
         let up = above k (omega (arith, within)) f here in
         let beside = beside_at l m valid path k (omega (arith, within)) outside up.frame up.way.leads in
-        let there : IsSome (words l m up.frame) = there_seen l.window l.root (words l m) up.frame (valid.valid.holds.in_memory (take k path) up.frame up.way.leads) in
-        let is : word (words l m) up.frame i ≡ e = sym (up.is ∙ seen_word l.window l.root (words l m) up.frame i beside) in
+        let there : IsSome (words l m up.frame) = read_there l.window l.root (words l m) up.frame (valid.valid.holds.in_memory (take k path) up.frame up.way.leads) in
+        let is : word (words l m) up.frame i ≡ e = sym (up.is ∙ read_word l.window l.root (words l m) up.frame i beside) in
         ap (leads (words l m) l.root) (take-suc path k 0 (omega (arith, within)))
         ∙ leads_last (words l m) l.root (take k path) up.frame i e (words_lead k (omega (arith, within)) up.frame up.way)
         (read_there (words l m) up.frame i (here.small k (omega arith)) there ∙ ap Some is) (here.are_present k (omega arith)) (plain_table e up.names.is_table)
@@ -103,8 +103,8 @@ module _ (l : Layout) (m : Memory) (valid : Valid l m) (more : ℕ) (path : List
     pub open_reached : (k : ℕ) → k ≤ length path → (f : ℕ) → IsOpenWay l m more path k f → IsReached l m (take k path) f
     open_reached k within f here = record {
       way = words_lead k within f here;
-      there = there_seen l.window l.root (words l m) f (valid.valid.holds.in_memory (take k path) f here.leads);
-      root_there = there_seen l.window l.root (words l m) l.root (valid.valid.holds.in_memory [] l.root refl);
+      there = read_there l.window l.root (words l m) f (valid.valid.holds.in_memory (take k path) f here.leads);
+      root_there = read_there l.window l.root (words l m) l.root (valid.valid.holds.in_memory [] l.root refl);
       self = valid.self;
     }
 

@@ -26,9 +26,9 @@ module _ (l : Layout) (apart : Distinct l.places) (m : Memory) (s : List ℕ) (l
   called : (answer : Answer) (n : Memory) (rest : List ℕ) → IsPathMapped l m s more q (leaf_entry l.levels q frame given) frame answer n rest → IsMapped l m s q frame given more answer n rest
   called answer n rest h = record {
     outcome = h.outcome;
-    ready = h.goes.ready;
-    others = h.goes.others;
-    walks = walks_after l m s q frame given more answer n rest marks before h.outcome h.goes.ready;
+    ready = h.owned.ready;
+    others = h.owned.others;
+    walks = walks_after l m s q frame given more answer n rest marks before h.outcome h.owned.ready;
   }
 
   pub page_stopped : (why : Refusal) (n : Memory) (rest : List ℕ) → IsDown l m s more (take last q) (Err why) n rest → IsMapped l m s q frame given more (Refused why) n rest

@@ -7,7 +7,7 @@ use Rattle.x86_64_model.specs.Memory.{Memory}
 use Rattle.x86_64_model.specs.Path.{parents, level_of}
 use Rattle.x86_64_model.specs.PathMap.{PathMap, entry, put, table_of, table_at}
 use Rattle.x86_64_model.specs.Refusal.{Refusal, Answer, Refused}
-use Rattle.x86_64_mappers.specs.private.MapSteps.{Goes, mapped_from}
+use Rattle.x86_64_mappers.specs.private.MapSteps.{KeepsOwned, mapped_from}
 
 -- The entry at the path p, which wasn't huge, came to be one that names a table: present where it was, or where the parent flags have
 -- PRESENT.
@@ -19,7 +19,7 @@ pub record Opens (M : PathMap) (more : ℕ) (p : List ℕ) (N : PathMap) : Type 
 
 -- one step down from the table at pre reached the table g
 pub record Reached (l : Layout) (m : Memory) (s : List ℕ) (more : ℕ) (pre : List ℕ) (i : ℕ) (n : Memory) (rest : List ℕ) (g : ℕ) : Type 0 where
-  pub goes : Goes l m s n rest
+  pub owned : KeepsOwned l m s n rest
   pub leads : table_at l.levels l.root (paths l n) (pre ++ i ∷ []) ≡ Some g
   pub opens : Opens (paths l m) more (pre ++ i ∷ []) (paths l n)
   pub outcome : (j : ℕ) (r : List ℕ) (e frame : ℕ)
@@ -27,7 +27,7 @@ pub record Reached (l : Layout) (m : Memory) (s : List ℕ) (more : ℕ) (pre : 
 
 -- or was refused
 pub record Stopped (l : Layout) (m : Memory) (s : List ℕ) (more : ℕ) (pre : List ℕ) (i : ℕ) (n : Memory) (rest : List ℕ) (why : Refusal) : Type 0 where
-  pub goes : Goes l m s n rest
+  pub owned : KeepsOwned l m s n rest
   pub outcome : (j : ℕ) (r : List ℕ) (e frame : ℕ)
       → mapped_from (paths l m) s more l.added_flags pre (i ∷ j ∷ r) e frame ≡ record { paths = paths l n; supply = rest; answer = Refused why }
 
@@ -37,7 +37,7 @@ IsStep l m s more pre i (Err why) n rest = Stopped l m s more pre i n rest why
 
 -- the path q was mapped to the entry e, which names the frame, or a refusal
 pub record IsPathMapped (l : Layout) (m : Memory) (s : List ℕ) (more : ℕ) (q : List ℕ) (e frame : ℕ) (answer : Answer) (n : Memory) (rest : List ℕ) : Type 0 where
-  pub goes : Goes l m s n rest
+  pub owned : KeepsOwned l m s n rest
   pub outcome : map_rule (paths l m) s more l.added_flags (parents q) q e frame ≡ record { paths = paths l n; supply = rest; answer = answer }
 
 -- a word that may be the entry of a page at a path

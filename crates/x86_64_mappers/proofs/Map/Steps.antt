@@ -7,10 +7,10 @@ use Rattle.x86_64_model.specs.Layout.{IsReady}
 use Rattle.x86_64_model.specs.Memory.{Memory, Distinct, word}
 use Rattle.x86_64_model.specs.PathMap.{PathMap, put, table_at}
 use Rattle.x86_64_model.specs.Refusal.{Refusal, PageNotMapped, ParentEntryHugePage, InvalidFrameAddress, PageAlreadyMapped, FrameAllocationFailed, Answer, Done, Refused}
-use Rattle.x86_64_mappers.specs.private.MapSteps.{Goes, mapped_from}
+use Rattle.x86_64_mappers.specs.private.MapSteps.{KeepsOwned, mapped_from}
 use Rattle.x86_64_mappers.specs.private.Linked.{Beside}
 use Rattle.x86_64_mappers.specs.private.Writes.{IsMade, IsLeafSet}
-use Rattle.x86_64_mappers.proofs.Map.Goes.{goes_nothing}
+use Rattle.x86_64_mappers.proofs.Map.OwnedWays.{owned_nothing}
 use Rattle.x86_64_mappers.proofs.Map.StepOutcomes.{Reached, Stopped, IsStep, IsLeaf}
 use Rattle.x86_64_mappers.proofs.Map.Marked.{reached_used, stopped_huge}
 use Rattle.x86_64_mappers.proofs.Map.NewTables.{reached_new, stopped_empty}
@@ -45,12 +45,12 @@ module _ (l : Layout) (apart : Distinct l.places) (m : Memory) (pre : List ℕ) 
         ∙ ap (λ u. cond u (record { paths = M; supply = s; answer = Refused (PageAlreadyMapped frame) }) (record { paths = put M p e; supply = s; answer = Done frame })) (ap used (entry_is l apart at_least_four m pre i f leads small beside s ready) ∙ h)
 
     pub leaf : (answer : Answer) (n : Memory) → IsLeafSet l.places m f i e frame answer n
-        → Goes l m s n s × (mapped_from M s more l.added_flags pre (i ∷ []) e frame ≡ record { paths = paths l n; supply = s; answer = answer })
+        → KeepsOwned l m s n s × (mapped_from M s more l.added_flags pre (i ∷ []) e frame ≡ record { paths = paths l n; supply = s; answer = answer })
     leaf (Done g) n k =
         let w = written l apart at_least_four m pre i f leads small beside s ready e n k.2 (unused_leads l apart at_least_four m pre i f leads small beside s ready k.0) is.no_table is.none_huge in
         (w.1, last false k.0 ∙ ap₂ (λ N g. record { paths = N; supply = s; answer = Done g }) w.0 (sym k.1))
     leaf (Refused (PageAlreadyMapped g)) n k = (
-      subst (λ n. Goes l m s n s) (sym k.2) (goes_nothing l m s ready),
+      subst (λ n. KeepsOwned l m s n s) (sym k.2) (owned_nothing l m s ready),
       last true k.0 ∙ ap₂ (λ N x. record { paths = N; supply = s; answer = Refused (PageAlreadyMapped x) }) (ap (paths l) (sym k.2)) (sym k.1),
     )
     leaf (Refused PageNotMapped) n k = absurd k

@@ -11,7 +11,7 @@ use Rattle.x86_64_model.specs.Window.{SelfEntry, outside_window}
 use Rattle.x86_64_tables.specs.PageTable.{zero_words, get_or-zero_words}
 use Rattle.x86_64_mappers.specs.private.Linked.{Beside}
 use Rattle.x86_64_mappers.specs.private.Writes.{IsSet, IsCleared}
-use Rattle.x86_64_mappers.proofs.Memory.Seen.{seen, self-set_word}
+use Rattle.x86_64_mappers.proofs.Memory.WordsRead.{words_read, self-set_word}
 use Rattle.x86_64_mappers.proofs.Memory.Stored.{words_of-put, get-put, put_back, there_is}
 
 pub not_none : {X : Type 0} (o : Option X) (x : X) → o ≡ Some x → IsSome o
@@ -75,8 +75,8 @@ module _ (places : Places) (apart : Distinct places) where
 -- ---- what a write is to the words seen
 
 module _ (l : Layout) (apart : Distinct l.places) (m : Memory) (f i w : ℕ) (n : Memory) (k : IsSet l.places m f i w n) (b : Beside l.window l.root f i) where
-  pub seen_set : seen l n ≡ set_word (seen l m) f i w
-  seen_set = ap (outside_window l.window l.root) (set_is l.places apart m f i w n k) ∙ outside_set l.window l.root (words l m) f i w b
+  pub read_set : words_read l n ≡ set_word (words_read l m) f i w
+  read_set = ap (outside_window l.window l.root) (set_is l.places apart m f i w n k) ∙ outside_set l.window l.root (words l m) f i w b
 
   pub self_set : SelfEntry (words l m) l.root l.window → SelfEntry (words l n) l.root l.window
   self_set h = subst (λ T. SelfEntry T l.root l.window) (sym (set_is l.places apart m f i w n k)) (self-set_word l.window l.root (words l m) f i w b h)

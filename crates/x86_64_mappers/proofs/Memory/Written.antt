@@ -17,11 +17,11 @@ use Rattle.x86_64_model.specs.Path.{level_of}
 use Rattle.x86_64_model.specs.PathMap.{PathMap, entry, put, table_of, table_at}
 use Rattle.x86_64_model.specs.Pool.{IsTable, IsOwn}
 use Rattle.x86_64_model.specs.Window.{SelfEntry}
-use Rattle.x86_64_mappers.specs.private.MapSteps.{Goes}
+use Rattle.x86_64_mappers.specs.private.MapSteps.{KeepsOwned}
 use Rattle.x86_64_mappers.specs.private.Linked.{Beside}
 use Rattle.x86_64_mappers.specs.private.Writes.{IsSet}
-use Rattle.x86_64_mappers.proofs.Memory.Changed.{set_others, set_keeps, seen_set, self_set}
-use Rattle.x86_64_mappers.proofs.Memory.Seen.{seen, seen_word, seen_table}
+use Rattle.x86_64_mappers.proofs.Memory.Changed.{set_others, set_keeps, read_set, self_set}
+use Rattle.x86_64_mappers.proofs.Memory.WordsRead.{words_read, read_word, read_table}
 
 -- a write at a path's end that leaves the table that it leads to
 pub same_tables_last : (L root : ℕ) (M : PathMap) (p : List ℕ) (i e : ℕ) → table_of L (p ++ i ∷ []) e ≡ table_at L root M (p ++ i ∷ []) → (q : List ℕ) → table_at L root (put M (p ++ i ∷ []) e) q ≡ table_at L root M q
@@ -30,16 +30,16 @@ same_tables_last L root M (k ∷ p) i e same = same_tables L root M k (p ++ i �
 
 module _ (l : Layout) (apart : Distinct l.places) (at_least_four : 0 < l.levels) where
   -- the words hold N now
-  pub goes_to : (m n : Memory) (s rest : List ℕ) (N : PathMap) → IsReady l m s → IsValid l.levels (seen l n) l.root N → SelfEntry (words l n) l.root l.window → Conserves l.levels l.root (paths l m) s N rest
+  pub owned_to : (m n : Memory) (s rest : List ℕ) (N : PathMap) → IsReady l m s → IsValid l.levels (words_read l n) l.root N → SelfEntry (words l n) l.root l.window → Conserves l.levels l.root (paths l m) s N rest
       → ((f : ℕ) → In rest f → In s f) → ((f : ℕ) → IsSome (words l m f) → IsSome (words l n f))
-      → KeepsOthers l.places (Uses l m s rest) m n → (N ≡ paths l n) × Goes l m s n rest
-  goes_to m n s rest N ready valid self conserves within kept others =
-      let e : N ≡ paths l n = held_is_paths_of l.levels (seen l n) l.root at_least_four N valid.holds in
+      → KeepsOthers l.places (Uses l m s rest) m n → (N ≡ paths l n) × KeepsOwned l m s n rest
+  owned_to m n s rest N ready valid self conserves within kept others =
+      let e : N ≡ paths l n = held_is_paths_of l.levels (words_read l n) l.root at_least_four N valid.holds in
       let one = conserves.one_each (record { own_frames = ready.valid.valid.own_frames; each_once = ready.each_once; no_table = ready.no_table }) in (
         e,
         record {
           ready = record {
-            valid = record { valid = subst (IsValid l.levels (seen l n) l.root) e valid; self = self };
+            valid = record { valid = subst (IsValid l.levels (words_read l n) l.root) e valid; self = self };
             each_once = one.each_once;
             in_memory = λ f h. kept f (ready.in_memory f (within f h));
             are_frames = λ f h. ready.are_frames f (within f h);
@@ -64,7 +64,7 @@ module _ (l : Layout) (apart : Distinct l.places) (at_least_four : 0 < l.levels)
 
     module _ (s : List ℕ) (ready : IsReady l m s) where
       pub entry_is : entry M p ≡ word (words l m) f i
-      entry_is = ready.valid.valid.holds.entries pre i ∙ ap (λ t. entry_in (seen l m) t i) leads ∙ seen_word l.window l.root (words l m) f i beside
+      entry_is = ready.valid.valid.holds.entries pre i ∙ ap (λ t. entry_in (words_read l m) t i) leads ∙ read_word l.window l.root (words l m) f i beside
 
       pub own_place : (rest : List ℕ) → ((g : ℕ) → In rest g → In s g) → (k : ℕ) → ((g : ℕ) → Uses l m s rest g → l.places.place g ≢ k) → k ≢ l.places.place f
       own_place rest within k h e = h f (inr (pre, leads), λ i. ready.no_table f (within f i) (pre, leads)) (sym e)
@@ -74,12 +74,12 @@ module _ (l : Layout) (apart : Distinct l.places) (at_least_four : 0 < l.levels)
 
       -- a word that names no table becomes one that names none
       pub written : (w : ℕ) (n : Memory) → IsSet l.places m f i w n → table_at l.levels l.root M p ≡ None → table_of l.levels p w ≡ None → (3 < level_of l.levels p → huge w ≡ false)
-          → (put M p w ≡ paths l n) × Goes l m s n s
+          → (put M p w ≡ paths l n) × KeepsOwned l m s n s
       written w n k old new low =
-          let T = seen l m in
-          let t = seen_table l.window l.root (words l m) f k.table k.is in
-          goes_to m n s s (put M p w) ready
-          (subst (λ U. IsValid l.levels U l.root (put M p w)) (sym (seen_set l apart m f i w n k beside))
+          let T = words_read l m in
+          let t = read_table l.window l.root (words l m) f k.table k.is in
+          owned_to m n s s (put M p w) ready
+          (subst (λ U. IsValid l.levels U l.root (put M p w)) (sym (read_set l apart m f i w n k beside))
           (valid_after l.levels T l.root M pre i w f t.table ready.valid.valid leads t.is (omega (arith, k.long, t.long)) small (may_be_leaf l.levels T l.root M ready.valid.valid.holds pre i w old new low)))
           (self_set l apart m f i w n k beside ready.valid.self)
           (conserves_marked l.levels l.root M _ s (same_tables_last l.levels l.root M pre i w (new ∙ sym old)))

@@ -40,10 +40,10 @@ pub record IsVisited (l : Layout) (m : Memory) (low high : ℕ) (path : List ℕ
 
 -- From the memory m and the frames held to the memory n and the frames rest: the words mean the path map N, whose tables were tables before,
 -- and these frames came back. They were tables, aren't any more, and have words 0 alone. No word changed but in the root and the tables.
-pub record IsCleaned (l : Layout) (put : List ℕ → ℕ → List ℕ) (m : Memory) (held : List ℕ) (N : PathMap) (back : List ℕ) (n : Memory) (rest : List ℕ) : Type 0 where
+pub record IsCleaned (l : Layout) (take_back : List ℕ → ℕ → List ℕ) (m : Memory) (held : List ℕ) (N : PathMap) (back : List ℕ) (n : Memory) (rest : List ℕ) : Type 0 where
   pub meant : paths l n ≡ N
   pub valid : Valid l n
-  pub given : rest ≡ given_back put held back
+  pub given : rest ≡ given_back take_back held back
   pub left : (q : List ℕ) (f : ℕ) → table_at l.levels l.root (paths l n) q ≡ Some f → table_at l.levels l.root (paths l m) q ≡ Some f
   pub were : (f : ℕ) → In back f → IsTable l.levels l.root (paths l m) f
   pub gone : (f : ℕ) → In back f → IsTable l.levels l.root (paths l n) f → ⊥
@@ -60,8 +60,8 @@ IsEntryCleaned L M low high r N back =
     ⊎ ((in_range L M low high r ≡ true) × ((j : ℕ) → entry (cleaned_below L M low high r) (r ++ j ∷ []) ≡ 0) × (N ≡ put (cleaned_below L M low high r) r 0) × (back ≡ back_below L M low high r ++ address (entry M r) ∷ []))
 
 -- a memory and the frames held, once the entry at the path r was cleaned up
-pub record IsCleanedAt (l : Layout) (put : List ℕ → ℕ → List ℕ) (m : Memory) (held : List ℕ) (low high : ℕ) (r : List ℕ) (n : Memory) (rest : List ℕ) : Type 0 where
+pub record IsCleanedAt (l : Layout) (take_back : List ℕ → ℕ → List ℕ) (m : Memory) (held : List ℕ) (low high : ℕ) (r : List ℕ) (n : Memory) (rest : List ℕ) : Type 0 where
   pub N : PathMap
   pub back : List ℕ
   pub rule : IsEntryCleaned l.levels (paths l m) low high r N back
-  pub cleaned : IsCleaned l put m held N back n rest
+  pub cleaned : IsCleaned l take_back m held N back n rest

@@ -11,7 +11,7 @@ use Rattle.x86_64_model.specs.PathMap.{PathMap, table_at}
 use Rattle.x86_64_model.specs.Refusal.{Refusal, Refused}
 
 -- no frame is owned that wasn't, and other frames keep their words
-pub record Goes (l : Layout) (m : Memory) (s : List ℕ) (n : Memory) (rest : List ℕ) : Type 0 where
+pub record KeepsOwned (l : Layout) (m : Memory) (s : List ℕ) (n : Memory) (rest : List ℕ) : Type 0 where
   pub ready : IsReady l n rest
   pub own : (f : ℕ) → Owns l n rest f → Owns l m s f
   pub within : (f : ℕ) → In rest f → In s f
@@ -23,14 +23,14 @@ mapped_from M s more added pre r e frame = map_rule M s more added (map (λ x. p
 
 -- the way down the parents: `done` are the indices so far, which led to the table g, and `left` those to come
 pub record IsAt (l : Layout) (m : Memory) (s : List ℕ) (more : ℕ) (path done left : List ℕ) (n : Memory) (rest : List ℕ) (g : ℕ) : Type 0 where
-  pub goes : Goes l m s n rest
+  pub owned : KeepsOwned l m s n rest
   pub leads : table_at l.levels l.root (paths l n) done ≡ Some g
   pub outcome : (last e frame : ℕ)
       → mapped_from (paths l m) s more l.added_flags [] (path ++ last ∷ []) e frame ≡ mapped_from (paths l n) rest more l.added_flags done (left ++ last ∷ []) e frame
 
 -- the way down was refused, wherever the last index leads
 pub record IsRefused (l : Layout) (m : Memory) (s : List ℕ) (more : ℕ) (path : List ℕ) (n : Memory) (rest : List ℕ) (why : Refusal) : Type 0 where
-  pub goes : Goes l m s n rest
+  pub owned : KeepsOwned l m s n rest
   pub outcome : (last e frame : ℕ)
       → mapped_from (paths l m) s more l.added_flags [] (path ++ last ∷ []) e frame ≡ record { paths = paths l n; supply = rest; answer = Refused why }
 

@@ -46,7 +46,7 @@ pub fn clean_up_range<M: TableAccess + TablesIn<L>, L: LevelCount, D: FrameDeall
         MayCleanUp (M.hierarchy mapper.old) serves (D.held frame_deallocator.old) }
     ensures cleans { let held = D.held frame_deallocator.old in let after = M.hierarchy mapper.new in
         let rest = D.held frame_deallocator.new in let high = range.end + 0xfff in
-        CleansUp (M.hierarchy mapper.old) D.put held range.start high after rest }
+        CleansUp (M.hierarchy mapper.old) D.take_back held range.start high after rest }
     ensures serves { D.serves frame_deallocator.new ≡ D.serves frame_deallocator.old }
 {
     let first = path_of_address(mapper, range.start.start_address());
@@ -68,7 +68,7 @@ fn clean_up_paths<M: TableAccess, D: FrameDeallocator<Size4KiB>>(
     ensures cleans { let h = M.hierarchy mapper.old in let low = span_start h.layout.levels first.now in
         let high = span_start h.layout.levels last.now + 0xfff in let after = M.hierarchy mapper.new in
         let held = D.held frame_deallocator.old in
-        CleansUp h D.put held low high after (D.held frame_deallocator.new) }
+        CleansUp h D.take_back held low high after (D.held frame_deallocator.new) }
     ensures serves { D.serves frame_deallocator.new ≡ D.serves frame_deallocator.old }
 {
     if page_number(last) < page_number(first) {
@@ -106,7 +106,7 @@ fn clean_up_table<M: TableAccess, D: FrameDeallocator<Size4KiB>>(
         let N = cleaned_below L (paths h) low high path.now in
         let back = back_below L (paths h) low high path.now in
         let held = D.held frame_deallocator.old in let n = (M.hierarchy mapper.new).memory in
-        IsCleaned h.layout D.put h.memory held N back n (D.held frame_deallocator.new) }
+        IsCleaned h.layout D.take_back h.memory held N back n (D.held frame_deallocator.new) }
     ensures layout { (M.hierarchy mapper.new).layout ≡ (M.hierarchy mapper.old).layout }
     ensures lent { (M.hierarchy mapper.new).lent ≡ (M.hierarchy mapper.old).lent }
     ensures serves { D.serves frame_deallocator.new ≡ D.serves frame_deallocator.old }
@@ -149,7 +149,7 @@ fn clean_up_entry<M: TableAccess, D: FrameDeallocator<Size4KiB>>(
         let low = span_start L range.now.first.now in let high = span_end L range.now.last.now in
         let held = D.held frame_deallocator.old in let n = (M.hierarchy mapper.new).memory in
         let rest = D.held frame_deallocator.new in
-        IsCleanedAt h.layout D.put h.memory held low high (path.now ++ index ∷ []) n rest }
+        IsCleanedAt h.layout D.take_back h.memory held low high (path.now ++ index ∷ []) n rest }
     ensures layout { (M.hierarchy mapper.new).layout ≡ (M.hierarchy mapper.old).layout }
     ensures lent { (M.hierarchy mapper.new).lent ≡ (M.hierarchy mapper.old).lent }
     ensures serves { D.serves frame_deallocator.new ≡ D.serves frame_deallocator.old }

@@ -22,7 +22,7 @@ pub trait CleanUp57: TableAccess + PageTables57 {
             MayCleanUp (Self.hierarchy self.old) serves (D.held frame_deallocator.old) }
         ensures cleans { let held = D.held frame_deallocator.old in let after = Self.hierarchy self.new in
             let rest = D.held frame_deallocator.new in
-            CleansUp (Self.hierarchy self.old) D.put held 0 0x1ff_ffff_ffff_ffff after rest }
+            CleansUp (Self.hierarchy self.old) D.take_back held 0 0x1ff_ffff_ffff_ffff after rest }
         ensures serves { D.serves frame_deallocator.new ≡ D.serves frame_deallocator.old }
     {
         calls::clean_up(self, frame_deallocator);
@@ -44,7 +44,7 @@ pub trait CleanUp57: TableAccess + PageTables57 {
             MayCleanUp (Self.hierarchy self.old) serves (D.held frame_deallocator.old) }
         ensures cleans { let held = D.held frame_deallocator.old in let after = Self.hierarchy self.new in
             let rest = D.held frame_deallocator.new in let high = range.end + 0xfff in
-            CleansUp (Self.hierarchy self.old) D.put held range.start high after rest }
+            CleansUp (Self.hierarchy self.old) D.take_back held range.start high after rest }
         ensures serves { D.serves frame_deallocator.new ≡ D.serves frame_deallocator.old }
     {
         calls::clean_up_range(self, range, frame_deallocator);

@@ -7,13 +7,13 @@ use Rattle.x86_64_model.specs.Hierarchy.{Holds}
 use Rattle.x86_64_model.specs.Window.{Window, begins_with, entry_at, IsValidFor}
 use Rattle.x86_64_model.specs.Translation.{translate}
 use Rattle.x86_64_model.specs.CleanUp.{clean_up}
-use Rattle.x86_64_model.specs.Pool.{IsGiving, given_back}
+use Rattle.x86_64_model.specs.Pool.{TakesBack, given_back}
 use Rattle.x86_64_model.specs.Conserved.{Conserves}
 
 -- a clean up conserves frames, wherever the pool puts those that come back
 abbrev pub CleanUpConserves : Type 0
-CleanUpConserves = (L : ℕ) (T : Words) (root : ℕ) (M : PathMap) → Holds L T root M → (give : List ℕ → ℕ → List ℕ) → IsGiving give → (low high : ℕ) (pool : List ℕ)
-    → Conserves L root M pool (clean_up L M low high).paths (given_back give pool (clean_up L M low high).back)
+CleanUpConserves = (L : ℕ) (T : Words) (root : ℕ) (M : PathMap) → Holds L T root M → (take_back : List ℕ → ℕ → List ℕ) → TakesBack take_back → (low high : ℕ) (pool : List ℕ)
+    → Conserves L root M pool (clean_up L M low high).paths (given_back take_back pool (clean_up L M low high).back)
 
 -- and changes no answer of `translate` outside the window
 abbrev pub CleanUpKeepsAnswers : Type 0

@@ -57,7 +57,7 @@ MappingsStand = (m : Machine) → IsMachine m → (T : Words) (root : ℕ) (serv
 -- ---- two pages, with four levels, from an empty root and four free frames
 
 abbrev pub four_levels : Machine
-four_levels = record { levels = 4; window = None; added_flags = 0; give = λ held f. f ∷ held }
+four_levels = record { levels = 4; window = None; added_flags = 0; take_back = λ held f. f ∷ held }
 
 abbrev pub nothing_yet : State
 nothing_yet = record { paths = nothing_mapped; pool = four_frames }

@@ -5,7 +5,7 @@ use Rattle.x86_64_model.specs.Entry.{IsParentFlags}
 use Rattle.x86_64_model.specs.Memory.{Words}
 use Rattle.x86_64_model.specs.Window.{Window}
 use Rattle.std.specs.Prelude.{Option}
-use Rattle.x86_64_model.specs.Pool.{IsGiving}
+use Rattle.x86_64_model.specs.Pool.{TakesBack}
 use Rattle.x86_64_model.specs.Call.{Call, Reply}
 use Rattle.x86_64_model.specs.Machine.{Machine, State, replies_of, state_after}
 use Rattle.x86_64_model.specs.Alike.{without_writable, Alike, names_index}
@@ -27,7 +27,7 @@ pub record AlikeRuns (L : ℕ) (s t : State) (one other : List Reply) : Type 0 w
 -- Two machines of the same levels, whose path maps are alike and whose pools are equal, give one list of replies and end alike with equal pools,
 -- if no call names a recursive index of either.
 abbrev pub PairsReplyAlike : Type 0
-PairsReplyAlike = (m n : Machine) → m.levels ≡ n.levels → m.give ≡ n.give → IsGiving m.give → IsAdded m.added_flags → IsAdded n.added_flags
+PairsReplyAlike = (m n : Machine) → m.levels ≡ n.levels → m.take_back ≡ n.take_back → TakesBack m.take_back → IsAdded m.added_flags → IsAdded n.added_flags
     → (T U : Words) (root root' : ℕ) (serves serves' : ℕ → Bool)
     → (calls : List Call) → AllCalls m.levels calls → NoneNames m.levels m.window calls → NoneNames n.levels n.window calls
     → (s t : State) → FitsState m T root serves s → FitsState n U root' serves' t → Alike m.levels s.paths t.paths → s.pool ≡ t.pool

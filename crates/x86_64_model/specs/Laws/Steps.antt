@@ -13,7 +13,7 @@ use Rattle.x86_64_model.specs.Pool.{IsOwn, Fits}
 use Rattle.x86_64_model.specs.Call.{Call, MapTo, IdentityMap, IsCall, Answered, parent_flags_of}
 use Rattle.x86_64_model.specs.Machine.{Machine, IsMachine, State, step, state_after}
 use Rattle.x86_64_model.specs.Flush.{Item, OnePage, covers, items_of, all_items}
-use Rattle.x86_64_model.specs.Arrivals.{Keeps, Arrives, Asks}
+use Rattle.x86_64_model.specs.Arrivals.{KeepsArrival, Arrives, Asks}
 use Rattle.x86_64_model.specs.Refusal.{Done}
 
 -- the words are a valid hierarchy that means the state, and the pool fits it
@@ -65,7 +65,7 @@ FlushesSuffice = (m : Machine) → IsMachine m → (T V U : Words) (root : ℕ) 
     → FitsState m T root serves s
     → (k : ℕ) → IsValidFor m.levels m.window V root (state_after m s (take k calls)).paths → IsValidFor m.levels m.window U root (state_after m s calls).paths
     → (p : ℕ) → begins_with m.window (page_path m.levels p) ≡ false → NoneCovers m.levels (all_items m (state_after m s (take k calls)) (drop k calls)) p
-    → Keeps (page_walk m.levels V root p) (page_walk m.levels U root p)
+    → KeepsArrival (page_walk m.levels V root p) (page_walk m.levels U root p)
 
 -- ---- maps
 

@@ -1,8 +1,8 @@
 // Laws of pools.
-ghost use Rattle.x86_64_model.specs.Laws.Pools.{RearrangingGives};
+ghost use Rattle.x86_64_model.specs.Laws.Pools.{RearrangingTakesBack};
 
 /// A pool that rearranges takes frames back as the machine asks.
 #[tactic(auto, using(crate::proofs::Lemmas::Machines::Giving::giving_from))]
-pub fn rearranging_pools_give()
-    ensures { RearrangingGives }
+pub fn rearranging_pools_take_back()
+    ensures { RearrangingTakesBack }
 {}

@@ -182,7 +182,7 @@ impl FrameDeallocator<Size4KiB> for FramePool {
 
     ghost held = { λ pool. pool.frames };
 
-    ghost put = { λ held frame. frame ∷ held };
+    ghost take_back = { λ held frame. frame ∷ held };
 
     fn deallocate_frame(&mut self, frame: PhysFrame<Size4KiB>)
         requires served { serves_below self.old.limit frame ≡ true }
@@ -197,7 +197,7 @@ impl FrameDeallocator<Size4KiB> for FramePool {
 
     ghost held_is_served = { λ pool. pool.served };
 
-    ghost put_rearranges = { λ held frame. IsPermutation-refl (frame ∷ held) };
+    ghost take_back_rearranges = { λ held frame. IsPermutation-refl (frame ∷ held) };
 }
 
 impl FrameStore for FramePool {

@@ -23,12 +23,12 @@ clean_up_range-requires g c = held_may_clean_up (g.M.Tables.hierarchy c.args.map
 pub returns-in-CleanUp-clause-keeps : goal.returns-in-CleanUp-clause-keeps
 returns-in-CleanUp-clause-keeps g c =
     kept_cleaned (g.M.Tables.hierarchy c.args.mapper.now) _ _ _ (g.met.F.FrameStore.one_list _) c.requires.fits _ _ _ _ _ _ (g.met.F.FrameStore.one_list _) c.clean_up.ensures.cleans
-    (g.M.Tables.added_flags c.args.mapper.now).adds (giving_from _ g.met.F.FrameDeallocator.put_rearranges)
+    (g.M.Tables.added_flags c.args.mapper.now).adds (giving_from _ g.met.F.FrameDeallocator.take_back_rearranges)
 
 pub returns-in-CleanUpRange-clause-keeps : goal.returns-in-CleanUpRange-clause-keeps
 returns-in-CleanUpRange-clause-keeps g c =
     kept_cleaned (g.M.Tables.hierarchy c.args.mapper.now) _ _ _ (g.met.F.FrameStore.one_list _) c.requires.fits _ _ _ _ _ _ (g.met.F.FrameStore.one_list _) c.clean_up_range.ensures.cleans
-    (g.M.Tables.added_flags c.args.mapper.now).adds (giving_from _ g.met.F.FrameDeallocator.put_rearranges)
+    (g.M.Tables.added_flags c.args.mapper.now).adds (giving_from _ g.met.F.FrameDeallocator.take_back_rearranges)
 
 pub returns-in-CleanUp-clause-free : goal.returns-in-CleanUp-clause-free
 returns-in-CleanUp-clause-free g c =
@@ -36,9 +36,9 @@ returns-in-CleanUp-clause-free g c =
     let after = g.M.Tables.hierarchy c.clean_up.new.mapper in
     rw c.in-CleanUp.is (subst (λ n. KeepsFree h.layout h.memory (g.F.FrameAllocator.supply c.args.frames.now) (back h 0 (position_count n - 1)) after.memory (g.F.FrameAllocator.supply c.clean_up.new.frame_deallocator))
     (sym (g.met.M.TablesIn.level_count c.args.mapper.now)) (free_cleaned h _ _ _ (g.met.F.FrameStore.one_list _) c.requires.fits _ _ _ _ _ _ (g.met.F.FrameStore.one_list _) c.clean_up.ensures.cleans
-    (g.met.M.Tables.is_mapping _) (giving_from _ g.met.F.FrameDeallocator.put_rearranges)))
+    (g.met.M.Tables.is_mapping _) (giving_from _ g.met.F.FrameDeallocator.take_back_rearranges)))
 
 pub returns-in-CleanUpRange-clause-free : goal.returns-in-CleanUpRange-clause-free
 returns-in-CleanUpRange-clause-free g c =
     rw c.in-CleanUpRange.is (free_cleaned (g.M.Tables.hierarchy c.args.mapper.now) _ _ _ (g.met.F.FrameStore.one_list _) c.requires.fits _ _ _ _ _ _ (g.met.F.FrameStore.one_list _) c.clean_up_range.ensures.cleans
-    (g.met.M.Tables.is_mapping _) (giving_from _ g.met.F.FrameDeallocator.put_rearranges))
+    (g.met.M.Tables.is_mapping _) (giving_from _ g.met.F.FrameDeallocator.take_back_rearranges))

@@ -3,7 +3,7 @@ use Rattle.x86_64_model.specs.Machine.{Machine, State, state_after}
 use Rattle.x86_64.specs.Asked.{calls_by}
 use Rattle.x86_64.specs.Calls.{asks}
 use Rattle.x86_64.specs.FreeFrames.{all_back}
-use Rattle.x86_64.specs.Runs.{machine_of, state_of, replies_to}
+use Rattle.x86_64.specs.Runs.{machine_of, state_in, replies_to}
 use Rattle.x86_64.proofs.FreeFrames.{free_at_first, free_next, free_at_last}
 use Rattle.x86_64.proofs.Rounds.{told_next, rest_next, longer_next, items_first, items_next, still_next, told_last, rest_last, one_each, room_for_one, back_next, back_last, step_at, free_at, kept_then}
 use Rattle.x86_64.proofs.runs.serve_all.Goals as goal
@@ -26,18 +26,18 @@ pub loop-call-preserved : goal.loop-call-preserved
 loop-call-preserved g c =
     let layout = (g.M.Tables.hierarchy c.args.mapper.now).layout in
     let calls = c.args.calls.now in
-    let machine : Machine = machine_of layout g.F.FrameDeallocator.put in
-    let start : State = state_of layout (g.M.Tables.hierarchy c.args.mapper.now).memory (g.F.FrameAllocator.supply c.args.frames.now) in
+    let machine : Machine = machine_of layout g.F.FrameDeallocator.take_back in
+    let start : State = state_in layout (g.M.Tables.hierarchy c.args.mapper.now).memory (g.F.FrameAllocator.supply c.args.frames.now) in
     let before = c.loop-call.invariant in
     let after = c.serve.ensures in
-    let one = step_at layout _ before.keeps.layout g.F.FrameDeallocator.put _ (g.M.Tables.hierarchy c.serve.new.mapper).memory _ (g.F.FrameAllocator.supply c.serve.new.frames) (asks g.P5.LevelFiveFlags.bits c.call-item.result) c.serve.result after.step in
+    let one = step_at layout _ before.keeps.layout g.F.FrameDeallocator.take_back _ (g.M.Tables.hierarchy c.serve.new.mapper).memory _ (g.F.FrameAllocator.supply c.serve.new.frames) (asks g.P5.LevelFiveFlags.bits c.call-item.result) c.serve.result after.step in
     record {
       told = told_next (asks g.P5.LevelFiveFlags.bits) machine _ _ _ calls c.loop-call.call-index c.call-item.result c.loop-call-test.true c.call-item.is one
           c.loop-call.replies.items c.push_reserved.new.self.items (map Some c.args.replies.now.items ++ replies_to (asks g.P5.LevelFiveFlags.bits) machine start calls) c.push_reserved.ensures.items before.told;
       rest = rest_next (asks g.P5.LevelFiveFlags.bits) machine _ _ c.serve.result calls c.loop-call.call-index c.call-item.result c.loop-call-test.true c.call-item.is one (state_after machine start (calls_by (asks g.P5.LevelFiveFlags.bits) layout.levels calls)) before.rest;
       free = free_next layout _ _ _ _ _ _ (all_back machine start (calls_by (asks g.P5.LevelFiveFlags.bits) layout.levels calls)) _ _ _ before.free
           (back_next (asks g.P5.LevelFiveFlags.bits) machine _ _ c.serve.result calls c.loop-call.call-index c.call-item.result c.loop-call-test.true c.call-item.is one)
-          (free_at layout _ before.keeps.layout g.F.FrameDeallocator.put _ (g.M.Tables.hierarchy c.serve.new.mapper).memory _ (g.F.FrameAllocator.supply c.serve.new.frames) (asks g.P5.LevelFiveFlags.bits c.call-item.result) after.free);
+          (free_at layout _ before.keeps.layout g.F.FrameDeallocator.take_back _ (g.M.Tables.hierarchy c.serve.new.mapper).memory _ (g.F.FrameAllocator.supply c.serve.new.frames) (asks g.P5.LevelFiveFlags.bits c.call-item.result) after.free);
       room = omega arith;
       longer = longer_next c.args.replies.now.items c.loop-call.replies.items c.push_reserved.new.self.items c.serve.result before.longer c.push_reserved.ensures.items;
       still = still_next c.args.replies.now.items c.loop-call.replies.items c.push_reserved.new.self.items c.serve.result before.longer c.push_reserved.ensures.items _ _ _ before.still after.still;
@@ -58,8 +58,8 @@ pub returns-clause-ran : goal.returns-clause-ran
 returns-clause-ran g c =
     let layout = (g.M.Tables.hierarchy c.args.mapper.now).layout in
     let calls = c.args.calls.now in
-    let machine : Machine = machine_of layout g.F.FrameDeallocator.put in
-    let start : State = state_of layout (g.M.Tables.hierarchy c.args.mapper.now).memory (g.F.FrameAllocator.supply c.args.frames.now) in
+    let machine : Machine = machine_of layout g.F.FrameDeallocator.take_back in
+    let start : State = state_in layout (g.M.Tables.hierarchy c.args.mapper.now).memory (g.F.FrameAllocator.supply c.args.frames.now) in
     let before = c.args.replies.now.items in
     let items = c.loop-call.replies.items in
     let replies = told_last (asks g.P5.LevelFiveFlags.bits) machine _ calls c.loop-call.call-index (omega arith) items (map Some before ++ replies_to (asks g.P5.LevelFiveFlags.bits) machine start calls) c.loop-call.invariant.told in

@@ -6,16 +6,16 @@ use Rattle.x86_64.specs.Calls.{asks}
 use Rattle.x86_64.specs.Flushes.{items_told}
 use Rattle.x86_64.specs.FreeFrames.{all_back}
 use Rattle.x86_64.specs.private.Served.{recorded}
-use Rattle.x86_64.specs.Runs.{machine_of, state_of, Kept, replies_to, appended, UnchangedIfRefused}
+use Rattle.x86_64.specs.Runs.{machine_of, state_in, Kept, replies_to, appended, UnchangedIfRefused}
 use Rattle.x86_64.proofs.FreeFrames.{FreeSoFar}
 use Rattle.x86_64.proofs.runs.serve_all.Given as goal
 
 abbrev pub invariant-loop-call : goal.invariant-loop-call
 invariant-loop-call g l =
     let layout = (g.M.Tables.hierarchy l.fn.mapper).layout in
-    let machine : Machine = machine_of layout g.F.FrameDeallocator.put in
-    let start : State = state_of layout (g.M.Tables.hierarchy l.fn.mapper).memory (g.F.FrameAllocator.supply l.fn.frames) in
-    let now : State = state_of layout (g.M.Tables.hierarchy l.mapper).memory (g.F.FrameAllocator.supply l.frames) in
+    let machine : Machine = machine_of layout g.F.FrameDeallocator.take_back in
+    let start : State = state_in layout (g.M.Tables.hierarchy l.fn.mapper).memory (g.F.FrameAllocator.supply l.fn.frames) in
+    let now : State = state_in layout (g.M.Tables.hierarchy l.mapper).memory (g.F.FrameAllocator.supply l.frames) in
     record {
       told : map Some l.replies.items ++ replies_to (asks g.P5.LevelFiveFlags.bits) machine now (drop l.call-index l.calls) ≡ map Some l.fn.replies.items ++ replies_to (asks g.P5.LevelFiveFlags.bits) machine start l.calls;
       longer : length l.fn.replies.items ≤ length l.replies.items;

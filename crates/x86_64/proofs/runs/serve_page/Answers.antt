@@ -11,14 +11,14 @@ use Rattle.x86_64.proofs.runs.serve_page.Given.{Over}
 use Rattle.x86_64.proofs.runs.serve_page.Goals as goal
 use Rattle.x86_64.proofs.runs.serve_page.Goals.{in-MapTo, in-MapToWithTableFlags, in-IdentityMap, in-Unmap, in-UpdateFlags, in-SetFlagsP5, in-SetFlagsP4, in-SetFlagsP3, in-SetFlagsP2, in-TranslatePage}
 
-is_served : (g : Over) (c : goal.Joined-call g) → IsServed _ (g.M.Tables.hierarchy c.args.mapper.now).layout g.F.FrameDeallocator.put (g.F.FrameKeeper.serves c.args.frames.now) (g.M.Tables.hierarchy c.args.mapper.now).memory
+is_served : (g : Over) (c : goal.Joined-call g) → IsServed _ (g.M.Tables.hierarchy c.args.mapper.now).layout g.F.FrameDeallocator.take_back (g.F.FrameKeeper.serves c.args.frames.now) (g.M.Tables.hierarchy c.args.mapper.now).memory
     (g.F.FrameAllocator.supply c.args.frames.now) g.S.PageSize.LEVEL (size_asks g.P5.LevelFiveFlags.bits c.args.call) (g.M.Tables.hierarchy c.match-call.mapper).memory (g.F.FrameAllocator.supply c.match-call.frames) c.match-call.result
 is_served g c =
     let mapper = c.args.mapper.now in
-    let start : Start (g.M.Tables.hierarchy mapper).layout g.F.FrameDeallocator.put (g.F.FrameKeeper.serves c.args.frames.now) (g.M.Tables.hierarchy mapper).memory (g.F.FrameAllocator.supply c.args.frames.now) g.S.PageSize.LEVEL = record {
+    let start : Start (g.M.Tables.hierarchy mapper).layout g.F.FrameDeallocator.take_back (g.F.FrameKeeper.serves c.args.frames.now) (g.M.Tables.hierarchy mapper).memory (g.F.FrameAllocator.supply c.args.frames.now) g.S.PageSize.LEVEL = record {
       at_least_four = g.met.M.Tables.at_least_four mapper;
       adds = (g.M.Tables.added_flags mapper).adds;
-      gives = giving_from _ g.met.F.FrameDeallocator.put_rearranges;
+      gives = giving_from _ g.met.F.FrameDeallocator.take_back_rearranges;
       mapping = g.met.M.Tables.is_mapping mapper;
       fits = c.requires.fits;
       low = g.S.PageSize.low;

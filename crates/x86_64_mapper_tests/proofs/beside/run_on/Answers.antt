@@ -5,16 +5,16 @@ use Rattle.x86_64_model.specs.Pool.{serves_below}
 use Rattle.x86_64_model.specs.Memory.{Memory, identity_places}
 use Rattle.x86_64_model.specs.Mapper.{Hierarchy}
 use Rattle.x86_64_model.proofs.Lemmas.Hierarchies.Memories.{identity_is_mapping}
-use Rattle.x86_64.specs.Runs.{Keeps, Kept}
+use Rattle.x86_64.specs.Runs.{KeepsPool, Kept}
 use Rattle.x86_64_mapper_tests.proofs.beside.run_on.Goals as goal
 
 -- what calls keep of a hierarchy they keep of the memory that was lent
 owner_keeps : {Lent : Type 0} (h after : Hierarchy Lent) (serves : ℕ → Bool) (pool rest : List ℕ) → Kept h serves pool after rest
-    → (layout : Layout) (memory last : Memory) → h.layout ≡ layout → h.memory ≡ memory → after.memory ≡ last → Keeps layout serves memory pool last rest
+    → (layout : Layout) (memory last : Memory) → h.layout ≡ layout → h.memory ≡ memory → after.memory ≡ last → KeepsPool layout serves memory pool last rest
 owner_keeps h after serves pool rest kept layout memory last layout_is memory_is last_is =
-    subst (λ l. Keeps l serves memory pool last rest) layout_is
-    (subst (λ m. Keeps h.layout serves m pool last rest) memory_is
-    (subst (λ n. Keeps h.layout serves h.memory pool n rest) last_is kept.keeps))
+    subst (λ l. KeepsPool l serves memory pool last rest) layout_is
+    (subst (λ m. KeepsPool h.layout serves m pool last rest) memory_is
+    (subst (λ n. KeepsPool h.layout serves h.memory pool n rest) last_is kept.keeps))
 
 pub returns-clause-others : goal.returns-clause-others
 returns-clause-others c = λ second levels is.

@@ -9,5 +9,5 @@ returns-clause-cleans g c =
     let held = g.D.FrameDeallocator.held c.args.frame_deallocator.now in
     let after = g.M.Tables.hierarchy c.clean_up_range.new.mapper in
     let rest = g.D.FrameDeallocator.held c.clean_up_range.new.frame_deallocator in
-    subst₂ (λ low high. CleansUp h g.D.FrameDeallocator.put held low high after rest) c.all_pages.ensures.first
+    subst₂ (λ low high. CleansUp h g.D.FrameDeallocator.take_back held low high after rest) c.all_pages.ensures.first
     (to_the_last g.L.LevelCount.LEVELS _ g.L.LevelCount.known_levels c.all_pages.ensures.last) c.clean_up_range.ensures.cleans

@@ -6,7 +6,7 @@ use Rattle.x86_64_model.specs.PathMap.{PathMap, entry, HasUsedAlone, table_of, t
 use Rattle.x86_64_model.specs.Path.{paths_below, indices}
 use Rattle.x86_64_model.specs.CleanUp.{is_removed, clean_up}
 use Rattle.x86_64_model.specs.Lists.{In, EachOnce}
-use Rattle.x86_64_model.specs.Pool.{IsGiving, given_back}
+use Rattle.x86_64_model.specs.Pool.{TakesBack, given_back}
 use Rattle.x86_64_model.proofs.Lemmas.Paths.Puts.{append_longer}
 use Rattle.x86_64_model.proofs.Lemmas.Hierarchies.Changes.{zero_not_huge}
 use Rattle.x86_64_model.proofs.Lemmas.CleanUps.Removed.{removed_gives, empty_if_removed}
@@ -47,21 +47,21 @@ once_paths (suc n) q = once_flat_map (λ i. paths_below n (q ++ i ∷ []) ++ (q 
 
 -- ---- frames that were given back
 
-pub given_append : (give : List ℕ → ℕ → List ℕ) (held fs gs : List ℕ) → given_back give held (fs ++ gs) ≡ given_back give (given_back give held fs) gs
-given_append give held [] gs = refl
-given_append give held (f ∷ fs) gs = given_append give (give held f) fs gs
+pub given_append : (take_back : List ℕ → ℕ → List ℕ) (held fs gs : List ℕ) → given_back take_back held (fs ++ gs) ≡ given_back take_back (given_back take_back held fs) gs
+given_append take_back held [] gs = refl
+given_append take_back held (f ∷ fs) gs = given_append take_back (take_back held f) fs gs
 
-module _ (give : List ℕ → ℕ → List ℕ) (gives : IsGiving give) where
-  pub given_frames : (held fs : List ℕ) (g : ℕ) → In (given_back give held fs) g ↔ In (fs ++ held) g
+module _ (take_back : List ℕ → ℕ → List ℕ) (gives : TakesBack take_back) where
+  pub given_frames : (held fs : List ℕ) (g : ℕ) → In (given_back take_back held fs) g ↔ In (fs ++ held) g
   given_frames held [] g = (λ h. h, λ h. h)
-  given_frames held (f ∷ fs) g = let more = given_frames (give held f) fs g in let one = gives.same_frames held f g in (
-    λ h. ⊎_elim (λ h. inr (in_left fs held g h)) (λ h. ⊎_elim (λ e. inl e) (λ h. inr (in_right fs held g h)) (one.0 h)) (in_append fs (give held f) g (more.0 h)),
-    ⊎_elim (λ e. more.1 (in_right fs (give held f) g (one.1 (inl e)))) (λ h. more.1 (⊎_elim (λ h. in_left fs (give held f) g h) (λ h. in_right fs (give held f) g (one.1 (inr h))) (in_append fs held g h))),
+  given_frames held (f ∷ fs) g = let more = given_frames (take_back held f) fs g in let one = gives.same_frames held f g in (
+    λ h. ⊎_elim (λ h. inr (in_left fs held g h)) (λ h. ⊎_elim (λ e. inl e) (λ h. inr (in_right fs held g h)) (one.0 h)) (in_append fs (take_back held f) g (more.0 h)),
+    ⊎_elim (λ e. more.1 (in_right fs (take_back held f) g (one.1 (inl e)))) (λ h. more.1 (⊎_elim (λ h. in_left fs (take_back held f) g h) (λ h. in_right fs (take_back held f) g (one.1 (inr h))) (in_append fs held g h))),
   )
 
-  pub given_once : (held fs : List ℕ) → EachOnce held → EachOnce fs → ((g : ℕ) → In fs g → In held g → ⊥) → EachOnce (given_back give held fs)
+  pub given_once : (held fs : List ℕ) → EachOnce held → EachOnce fs → ((g : ℕ) → In fs g → In held g → ⊥) → EachOnce (given_back take_back held fs)
   given_once held [] a b apart = a
-  given_once held (f ∷ fs) a b apart = given_once (give held f) fs (gives.each_once held f (λ h. apart f (inl refl) h, a)) b.1
+  given_once held (f ∷ fs) a b apart = given_once (take_back held f) fs (gives.each_once held f (λ h. apart f (inl refl) h, a)) b.1
       (λ g h k. ⊎_elim (λ e. b.0 (subst (In fs) (sym e) h)) (λ k. apart g (inr h) k) ((gives.same_frames held f g).0 k))
 
 -- ---- what a clean up leaves
@@ -97,21 +97,21 @@ clean_hierarchy L root M h low high = record {
 }
 
 -- free and table frames are one set, each once, whatever the order in which a pool takes frames back
-module _ (give : List ℕ → ℕ → List ℕ) (gives : IsGiving give) (L root : ℕ) (M : PathMap) (h : IsTree L root M) (low high : ℕ) (pool : List ℕ) where
+module _ (take_back : List ℕ → ℕ → List ℕ) (gives : TakesBack take_back) (L root : ℕ) (M : PathMap) (h : IsTree L root M) (low high : ℕ) (pool : List ℕ) where
   still_no_table : (q : List ℕ) (f : ℕ) → table_at L root (clean_up L M low high).paths q ≡ Some f → (p : List ℕ) → q ≡ p → is_removed L M low high p ≡ true → ⊥
   still_no_table [] f t p e r = root_stays L root M h low high (ap (is_removed L M low high) e ∙ r)
   still_no_table (i ∷ q) f t p e r = let x = (clean_table L root M h low high i q f t).0 in let y : true ≡ false = sym r ∙ ap (is_removed L M low high) (sym e) ∙ x in cc
 
-  pub clean_conserves : Conserves L root M pool (clean_up L M low high).paths (given_back give pool (clean_up L M low high).back)
+  pub clean_conserves : Conserves L root M pool (clean_up L M low high).paths (given_back take_back pool (clean_up L M low high).back)
   unfolding clean_up
   clean_conserves = record {
-    same_set = λ f. let s = clean_same_set L root M h low high pool f in let g = given_frames give gives pool back f in (
+    same_set = λ f. let s = clean_same_set L root M h low high pool f in let g = given_frames take_back gives pool back f in (
       λ o. ⊎_elim (λ i. inl (g.1 i)) (λ t. inr t) (s.0 o),
       ⊎_elim (λ i. s.1 (inl (g.0 i))) (λ t. s.1 (inr t)),
     );
     one_each = λ o. record {
       own_frames = λ p q f a b. o.own_frames p q f (clean_before L root M h low high p f a) (clean_before L root M h low high q f b);
-      each_once = given_once give gives pool back o.each_once
+      each_once = given_once take_back gives pool back o.each_once
           (once_map (λ q. address (entry M q)) went (once_filter (is_removed L M low high) (paths_below (L - 1) []) (once_paths (L - 1) []))
           (λ p q a b e. o.own_frames p q (address (entry M q)) (removed_leads L root M h low high p (was_removed p a) ∙ ap Some e) (removed_leads L root M h low high q (was_removed q b))))
           (λ f a b. let more = from_map (λ q. address (entry M q)) went f a in o.no_table f b (more.0, removed_leads L root M h low high more.0 (was_removed more.0 more.1) ∙ ap Some more.2));
@@ -119,7 +119,7 @@ module _ (give : List ℕ → ℕ → List ℕ) (gives : IsGiving give) (L root 
           (λ a. let more = from_map (λ q. address (entry M q)) went f a in
           still_no_table t.0 f t.1 more.0 (o.own_frames t.0 more.0 f (clean_before L root M h low high t.0 f t.1) (removed_leads L root M h low high more.0 (was_removed more.0 more.1) ∙ ap Some more.2)) (was_removed more.0 more.1))
           (λ b. o.no_table f b (t.0, clean_before L root M h low high t.0 f t.1))
-          (in_append back pool f ((given_frames give gives pool back f).0 i));
+          (in_append back pool f ((given_frames take_back gives pool back f).0 i));
     };
   }
     where

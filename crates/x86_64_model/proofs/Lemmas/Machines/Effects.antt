@@ -61,7 +61,7 @@ step_cases m s call P done otherwise = elim (allowed m.levels m.window s.paths c
 
 -- a machine by its parts
 abbrev pub machine : (L : ℕ) → Option Window → (added : ℕ) → (List ℕ → ℕ → List ℕ) → Machine
-machine L window added give = record { levels = L; window = window; added_flags = added; give = give }
+machine L window added take_back = record { levels = L; window = window; added_flags = added; take_back = take_back }
 
 pub no_items : (L : ℕ) (call : Call) → items_of L call NotAllowed ≡ []
 no_items L (MapTo q frame given) = refl
@@ -76,12 +76,12 @@ no_items L (TranslateAddress p) = refl
 no_items L (CleanUp low high) = refl
 
 -- what holds of the state after a step, and of what is recorded of it
-module _ (L : ℕ) (window : Option Window) (added : ℕ) (give : List ℕ → ℕ → List ℕ) (root : ℕ) (s : State) (hierarchy : IsHierarchy L root s.paths) (P : State → List Item → Type 0)
+module _ (L : ℕ) (window : Option Window) (added : ℕ) (take_back : List ℕ → ℕ → List ℕ) (root : ℕ) (s : State) (hierarchy : IsHierarchy L root s.paths) (P : State → List Item → Type 0)
     (nothing : P s [])
     (maps : (q : List ℕ) (frame given more : ℕ) (items : List Item) → IsPage L q → MapMay window s.paths q given more → P (after_map (map_call L s.paths s.pool more added q frame given)).state items)
     (changes : (q : List ℕ) (w : ℕ) (item : Item) → IsChange L window s.paths q w → ((p : ℕ) → covers L item p ≡ false → begins q (page_path L p) ≡ false) → P (record { paths = put s.paths q w; pool = s.pool }) (item ∷ []))
-    (cleans : (low high : ℕ) → P (record { paths = (clean_up L s.paths low high).paths; pool = given_back give s.pool (clean_up L s.paths low high).back }) []) where
-  pub done_ind : (call : Call) → IsCall L call → allowed L window s.paths call ≡ true → P (do_call (machine L window added give) s call).state (items_of L call (do_call (machine L window added give) s call).reply)
+    (cleans : (low high : ℕ) → P (record { paths = (clean_up L s.paths low high).paths; pool = given_back take_back s.pool (clean_up L s.paths low high).back }) []) where
+  pub done_ind : (call : Call) → IsCall L call → allowed L window s.paths call ≡ true → P (do_call (machine L window added take_back) s call).state (items_of L call (do_call (machine L window added take_back) s call).reply)
   unfolding do_call
   done_ind (MapTo q frame given) is h = maps q frame given (parent_part given) _ is (map_may L window s.paths q given _ h)
   done_ind (MapToWithTableFlags q frame given more) is h = maps q frame given more _ is (map_may L window s.paths q given _ h)
@@ -98,5 +98,5 @@ module _ (L : ℕ) (window : Option Window) (added : ℕ) (give : List ℕ → �
   done_ind (TranslateAddress p) is h = nothing
   done_ind (CleanUp low high) is h = cleans low high
 
-  pub step_ind : (call : Call) → IsCall L call → P (step (machine L window added give) s call).state (items_of L call (step (machine L window added give) s call).reply)
-  step_ind call is = step_cases (machine L window added give) s call (λ after. P after.state (items_of L call after.reply)) (done_ind call is) (subst (P s) (sym (no_items L call)) nothing)
+  pub step_ind : (call : Call) → IsCall L call → P (step (machine L window added take_back) s call).state (items_of L call (step (machine L window added take_back) s call).reply)
+  step_ind call is = step_cases (machine L window added take_back) s call (λ after. P after.state (items_of L call after.reply)) (done_ind call is) (subst (P s) (sym (no_items L call)) nothing)

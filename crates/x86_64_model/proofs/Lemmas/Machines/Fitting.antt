@@ -10,7 +10,7 @@ use Rattle.x86_64_model.specs.PathMap.{table_at}
 use Rattle.x86_64_model.specs.Window.{Window, outside_window, IsValidFor}
 use Rattle.x86_64_model.specs.Hierarchy.{IsValid}
 use Rattle.x86_64_model.specs.Lists.{In}
-use Rattle.x86_64_model.specs.Pool.{IsOwn, IsGiving, Fits}
+use Rattle.x86_64_model.specs.Pool.{IsOwn, TakesBack, Fits}
 use Rattle.x86_64_model.specs.Call.{IsCall, Call}
 use Rattle.x86_64_model.specs.Machine.{State, step, state_after}
 use Rattle.x86_64_model.proofs.Lemmas.Maps.Frames.{Conserves, conserves_nothing, conserves_then}
@@ -88,29 +88,29 @@ own_there L window T root serves s fits f (inr t) = by window fits.valid
     by (Some w) valid = is_some-unset T root w.index 0 f (valid.valid.holds.in_memory t.0 f t.1)
 
 -- one step keeps the state fit: whatever valid words hold the path map afterwards, if they have the frames that were there
-pub step_fits : (L : ℕ) (window : Option Window) (T U : Words) (root : ℕ) (serves : ℕ → Bool) (added : ℕ) → IsParentFlags added → (give : List ℕ → ℕ → List ℕ) → IsGiving give
+pub step_fits : (L : ℕ) (window : Option Window) (T U : Words) (root : ℕ) (serves : ℕ → Bool) (added : ℕ) → IsParentFlags added → (take_back : List ℕ → ℕ → List ℕ) → TakesBack take_back
     → (s : State) (call : Call) → IsCall L call → Fits L window T root s.paths serves s.pool
-    → IsValidFor L window U root (step (machine L window added give) s call).state.paths → ((f : ℕ) → IsSome (T f) → IsSome (U f))
-    → Fits L window U root (step (machine L window added give) s call).state.paths serves (step (machine L window added give) s call).state.pool
-step_fits L window T U root serves added adds give gives s call is fits valid kept =
+    → IsValidFor L window U root (step (machine L window added take_back) s call).state.paths → ((f : ℕ) → IsSome (T f) → IsSome (U f))
+    → Fits L window U root (step (machine L window added take_back) s call).state.paths serves (step (machine L window added take_back) s call).state.pool
+step_fits L window T U root serves added adds take_back gives s call is fits valid kept =
     let sound = sound_of_fits L window T root serves s fits in
-    fits_of_sound L window U root serves _ (step_sound L window root serves s sound added adds give gives call is) valid
-    (λ f i. kept f (own_there L window T root serves s fits f (((step_conserves L window root serves s sound added adds give gives call is).same_set f).1 (inl i))))
+    fits_of_sound L window U root serves _ (step_sound L window root serves s sound added adds take_back gives call is) valid
+    (λ f i. kept f (own_there L window T root serves s fits f (((step_conserves L window root serves s sound added adds take_back gives call is).same_set f).1 (inl i))))
 
-pub run_conserves : (L : ℕ) (window : Option Window) (root : ℕ) (serves : ℕ → Bool) (added : ℕ) → IsParentFlags added → (give : List ℕ → ℕ → List ℕ) → IsGiving give
+pub run_conserves : (L : ℕ) (window : Option Window) (root : ℕ) (serves : ℕ → Bool) (added : ℕ) → IsParentFlags added → (take_back : List ℕ → ℕ → List ℕ) → TakesBack take_back
     → (calls : List Call) → AllCalls L calls → (s : State) → IsSound L window root serves s
-    → Conserves L root s.paths s.pool (state_after (machine L window added give) s calls).paths (state_after (machine L window added give) s calls).pool
-run_conserves L window root serves added adds give gives [] is s sound = conserves_nothing L root s.paths s.pool
-run_conserves L window root serves added adds give gives (call ∷ calls) is s sound = conserves_then L root s.paths s.pool _ _ _ _
-    (step_conserves L window root serves s sound added adds give gives call is.0)
-    (run_conserves L window root serves added adds give gives calls is.1 _ (step_sound L window root serves s sound added adds give gives call is.0))
+    → Conserves L root s.paths s.pool (state_after (machine L window added take_back) s calls).paths (state_after (machine L window added take_back) s calls).pool
+run_conserves L window root serves added adds take_back gives [] is s sound = conserves_nothing L root s.paths s.pool
+run_conserves L window root serves added adds take_back gives (call ∷ calls) is s sound = conserves_then L root s.paths s.pool _ _ _ _
+    (step_conserves L window root serves s sound added adds take_back gives call is.0)
+    (run_conserves L window root serves added adds take_back gives calls is.1 _ (step_sound L window root serves s sound added adds take_back gives call is.0))
 
 -- the headline's set: the frames of the pool and of the tables are one set before and after any list of calls, each once, and the pool fits again
-pub run_fits : (L : ℕ) (window : Option Window) (T U : Words) (root : ℕ) (serves : ℕ → Bool) (added : ℕ) → IsParentFlags added → (give : List ℕ → ℕ → List ℕ) → IsGiving give
+pub run_fits : (L : ℕ) (window : Option Window) (T U : Words) (root : ℕ) (serves : ℕ → Bool) (added : ℕ) → IsParentFlags added → (take_back : List ℕ → ℕ → List ℕ) → TakesBack take_back
     → (s : State) (calls : List Call) → AllCalls L calls → Fits L window T root s.paths serves s.pool
-    → IsValidFor L window U root (state_after (machine L window added give) s calls).paths → ((f : ℕ) → IsSome (T f) → IsSome (U f))
-    → Fits L window U root (state_after (machine L window added give) s calls).paths serves (state_after (machine L window added give) s calls).pool
-run_fits L window T U root serves added adds give gives s calls is fits valid kept =
+    → IsValidFor L window U root (state_after (machine L window added take_back) s calls).paths → ((f : ℕ) → IsSome (T f) → IsSome (U f))
+    → Fits L window U root (state_after (machine L window added take_back) s calls).paths serves (state_after (machine L window added take_back) s calls).pool
+run_fits L window T U root serves added adds take_back gives s calls is fits valid kept =
     let sound = sound_of_fits L window T root serves s fits in
-    fits_of_sound L window U root serves _ (run_sound L window root serves added adds give gives calls is s sound) valid
-    (λ f i. kept f (own_there L window T root serves s fits f (((run_conserves L window root serves added adds give gives calls is s sound).same_set f).1 (inl i))))
+    fits_of_sound L window U root serves _ (run_sound L window root serves added adds take_back gives calls is s sound) valid
+    (λ f i. kept f (own_there L window T root serves s fits f (((run_conserves L window root serves added adds take_back gives calls is s sound).same_set f).1 (inl i))))

@@ -6,7 +6,7 @@ use Rattle.std.proofs.lemmas.Bool.{or_cases, eqb-false, or_left, or_right}
 use Rattle.std.proofs.lemmas.List.Sorted.{list_any-IsPermutation}
 use Rattle.std.proofs.lemmas.Map.Keys.{IsDistinct-IsPermutation}
 use Rattle.x86_64_model.specs.Lists.{In, EachOnce}
-use Rattle.x86_64_model.specs.Pool.{IsGiving}
+use Rattle.x86_64_model.specs.Pool.{TakesBack}
 
 in_any : (xs : List ℕ) (f : ℕ) → In xs f → list_any (λ g. g == f) xs ≡ true
 in_any [] f h = absurd h
@@ -42,11 +42,11 @@ flips x y = by (x == y) refl
     by true e = sym (eq-eqb y x (sym (eqb-true x y e)))
     by false e = sym (ne_eqb y x (λ is. eqb-false x y e (sym is)))
 
-pub giving_from : (give : List ℕ → ℕ → List ℕ) → ((held : List ℕ) (f : ℕ) → IsPermutation (f ∷ held) (give held f)) → IsGiving give
-giving_from give p = record {
-  same_frames = λ held f g. let e = list_any-IsPermutation (λ h. h == g) (f ∷ held) (give held f) (p held f) in (
-    λ h. any_in (f ∷ held) g (e ∙ in_any (give held f) g h),
-    λ h. any_in (give held f) g (sym e ∙ in_any (f ∷ held) g h),
+pub giving_from : (take_back : List ℕ → ℕ → List ℕ) → ((held : List ℕ) (f : ℕ) → IsPermutation (f ∷ held) (take_back held f)) → TakesBack take_back
+giving_from take_back p = record {
+  same_frames = λ held f g. let e = list_any-IsPermutation (λ h. h == g) (f ∷ held) (take_back held f) (p held f) in (
+    λ h. any_in (f ∷ held) g (e ∙ in_any (take_back held f) g h),
+    λ h. any_in (take_back held f) g (sym e ∙ in_any (f ∷ held) g h),
   );
-  each_once = λ held f h. once (give held f) (IsDistinct-IsPermutation (λ x y. x == y) flips (f ∷ held) (give held f) (p held f) (distinct (f ∷ held) h));
+  each_once = λ held f h. once (take_back held f) (IsDistinct-IsPermutation (λ x y. x == y) flips (f ∷ held) (take_back held f) (p held f) (distinct (f ∷ held) h));
 }

@@ -41,7 +41,7 @@ module _ {Lent : Type 0} (h : Hierarchy Lent) (supply : List ℕ) where
       → DoesMap h supply (MapToWithTableFlags q frame given more) answer (record h { memory = n }) rest
   unfolding do_call
   does_map q frame given more answer n rest mapped = record {
-    outcome = λ put. ap after_map mapped.outcome;
+    outcome = λ take_back. ap after_map mapped.outcome;
     fits = mapped.ready;
     others = mapped.others;
     walks = λ m is p. subst (λ m. Arrives m (walk_in h.layout h.memory p) (walk_in h.layout n p)) (same_Some more m is) (mapped.walks p);
@@ -115,10 +115,10 @@ module _ (L : ℕ) (E : List ℕ → ℕ) (M : PathMap) where
       (done_or_refused (address e) M (first_stop E q) (refused_or M unused last) (done_or_refused (address e) M unused last (λ none. refl)))
 
 module _ {Lent : Type 0} (h : Hierarchy Lent) where
-  changed : (call : Call) (after : AfterChange) → ((put : List ℕ → ℕ → List ℕ) (pool : List ℕ) → do_call (machine_of h.layout put) (state_of h pool) call ≡ after_change pool after)
+  changed : (call : Call) (after : AfterChange) → ((take_back : List ℕ → ℕ → List ℕ) (pool : List ℕ) → do_call (machine_of h.layout take_back) (state_of h pool) call ≡ after_change pool after)
       → (answer : Answer) (n : Memory) → answer ≡ after.answer → IsChanged h.layout h.memory after n → (refuses answer ≡ true → n ≡ h.memory) → Does h call answer (record h { memory = n })
   changed call after rule answer n is does still = record {
-    outcome = λ pool put. rule put pool ∙ ap₂ (λ M a. after_change pool (record { paths = M; answer = a })) does.meant (sym is);
+    outcome = λ pool take_back. rule take_back pool ∙ ap₂ (λ M a. after_change pool (record { paths = M; answer = a })) does.meant (sym is);
     valid = does.valid;
     fits = does.ready;
     others = does.others;
@@ -130,7 +130,7 @@ module _ {Lent : Type 0} (h : Hierarchy Lent) where
   pub does_unmap : (q : List ℕ) (answer : Answer) (n : Memory) → answer ≡ (after_unmap h.layout h.memory q).answer → IsChanged h.layout h.memory (after_unmap h.layout h.memory q) n
       → (refuses answer ≡ true → n ≡ h.memory) → Does h (Unmap q) answer (record h { memory = n })
   unfolding do_call
-  does_unmap q = changed (Unmap q) (after_unmap h.layout h.memory q) (λ put pool. refl)
+  does_unmap q = changed (Unmap q) (after_unmap h.layout h.memory q) (λ take_back pool. refl)
 
   -- from why a change of flags is refused, if it is
   pub does_update : (q : List ℕ) (given : ℕ) (why : Option Refusal) (n : Memory) → why ≡ refusal_of (after_update h.layout h.memory q given).answer
@@ -140,7 +140,7 @@ module _ {Lent : Type 0} (h : Hierarchy Lent) where
   does_update q given why n is =
       let frame = named h (UpdateFlags q given) in
       let after = after_update h.layout h.memory q given in
-      changed (UpdateFlags q given) after (λ put pool. refl) (answer_unless why (Done frame)) n
+      changed (UpdateFlags q given) after (λ take_back pool. refl) (answer_unless why (Done frame)) n
       (answer_told after.answer frame why (update_done h.layout.levels (read_entry h) (paths h) q given) is)
 
   pub does_set_flags : (level : ℕ) (q : List ℕ) (given : ℕ) (why : Option Refusal) (n : Memory) → why ≡ refusal_of (after_set_flags h.layout h.memory level q given).answer
@@ -150,5 +150,5 @@ module _ {Lent : Type 0} (h : Hierarchy Lent) where
   does_set_flags level q given why n is =
       let frame = named h (SetFlags level q given) in
       let after = after_set_flags h.layout h.memory level q given in
-      changed (SetFlags level q given) after (λ put pool. refl) (answer_unless why (Done frame)) n
+      changed (SetFlags level q given) after (λ take_back pool. refl) (answer_unless why (Done frame)) n
       (answer_told after.answer frame why (set_flags_done h.layout.levels (read_entry h) (paths h) level q given) is)

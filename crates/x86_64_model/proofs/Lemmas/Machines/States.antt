@@ -8,7 +8,7 @@ use Rattle.x86_64_model.specs.Window.{Window, begins_with}
 use Rattle.x86_64_model.specs.MapRule.{map_call}
 use Rattle.x86_64_model.specs.CleanUp.{clean_up, is_removed}
 use Rattle.x86_64_model.specs.Lists.{In}
-use Rattle.x86_64_model.specs.Pool.{IsOwn, IsGiving, given_back}
+use Rattle.x86_64_model.specs.Pool.{IsOwn, TakesBack, given_back}
 use Rattle.x86_64_model.specs.Path.{IsPage}
 use Rattle.x86_64_model.specs.Call.{IsCall, Call}
 use Rattle.x86_64_model.specs.Machine.{State, step, state_after}
@@ -94,9 +94,9 @@ module _ (L : ℕ) (window : Option Window) (root : ℕ) (serves : ℕ → Bool)
       by None o a = tt
       by (Some v) o a = entry-put_other s.paths (i ∷ q) w (v.index ∷ []) (not_first i v.index q o) ∙ a
 
-  pub sound_clean : (give : List ℕ → ℕ → List ℕ) → IsGiving give → (low high : ℕ)
-      → IsSound L window root serves (record { paths = (clean_up L s.paths low high).paths; pool = given_back give s.pool (clean_up L s.paths low high).back })
-  sound_clean give gives low high = let c = clean_conserves give gives L root s.paths sound.hierarchy.tree low high s.pool in let one = c.one_each sound.one_each in record {
+  pub sound_clean : (take_back : List ℕ → ℕ → List ℕ) → TakesBack take_back → (low high : ℕ)
+      → IsSound L window root serves (record { paths = (clean_up L s.paths low high).paths; pool = given_back take_back s.pool (clean_up L s.paths low high).back })
+  sound_clean take_back gives low high = let c = clean_conserves take_back gives L root s.paths sound.hierarchy.tree low high s.pool in let one = c.one_each sound.one_each in record {
     hierarchy = clean_hierarchy L root s.paths sound.hierarchy low high;
     aside = by window sound.aside;
     one_each = one;
@@ -109,25 +109,25 @@ module _ (L : ℕ) (window : Option Window) (root : ℕ) (serves : ℕ → Bool)
       by (Some w) a = entry-cleaned L s.paths low high (w.index ∷ []) ∙ elim (is_removed L s.paths low high (w.index ∷ [])) as (λ b. cond b 0 (entry s.paths (w.index ∷ [])) ≡ 0) [ true ↦ refl | false ↦ a ]
 
   -- one step
-  pub step_sound : (added : ℕ) → IsParentFlags added → (give : List ℕ → ℕ → List ℕ) → IsGiving give → (call : Call) → IsCall L call → IsSound L window root serves (step (machine L window added give) s call).state
-  step_sound added adds give gives call is = step_ind L window added give root s sound.hierarchy (λ t items. IsSound L window root serves t)
-      sound (λ q frame given more items page may. sound_map more added adds q frame given page may) (λ q w item c covered. sound_change q w c) (λ low high. sound_clean give gives low high) call is
+  pub step_sound : (added : ℕ) → IsParentFlags added → (take_back : List ℕ → ℕ → List ℕ) → TakesBack take_back → (call : Call) → IsCall L call → IsSound L window root serves (step (machine L window added take_back) s call).state
+  step_sound added adds take_back gives call is = step_ind L window added take_back root s sound.hierarchy (λ t items. IsSound L window root serves t)
+      sound (λ q frame given more items page may. sound_map more added adds q frame given page may) (λ q w item c covered. sound_change q w c) (λ low high. sound_clean take_back gives low high) call is
 
   -- frees and tables' frames stay one set, each once
-  pub step_conserves : (added : ℕ) → IsParentFlags added → (give : List ℕ → ℕ → List ℕ) → IsGiving give → (call : Call) → IsCall L call
-      → Conserves L root s.paths s.pool (step (machine L window added give) s call).state.paths (step (machine L window added give) s call).state.pool
-  step_conserves added adds give gives call is = step_ind L window added give root s sound.hierarchy (λ t items. Conserves L root s.paths s.pool t.paths t.pool)
+  pub step_conserves : (added : ℕ) → IsParentFlags added → (take_back : List ℕ → ℕ → List ℕ) → TakesBack take_back → (call : Call) → IsCall L call
+      → Conserves L root s.paths s.pool (step (machine L window added take_back) s call).state.paths (step (machine L window added take_back) s call).state.pool
+  step_conserves added adds take_back gives call is = step_ind L window added take_back root s sound.hierarchy (λ t items. Conserves L root s.paths s.pool t.paths t.pool)
       (conserves_nothing L root s.paths s.pool)
       (λ q frame given more items page may. map_conserved L root more added may.marks adds q frame given page s.paths s.pool sound.hierarchy (all_in s.pool sound.frames))
       (λ q w item c covered. change q w c)
-      (λ low high. clean_conserves give gives L root s.paths sound.hierarchy.tree low high s.pool) call is
+      (λ low high. clean_conserves take_back gives L root s.paths sound.hierarchy.tree low high s.pool) call is
     where
       change : (q : List ℕ) (w : ℕ) → IsChange L window s.paths q w → Conserves L root s.paths s.pool (put s.paths q w) s.pool
       change [] w c = absurd (let t : false ≡ true = sym (ap used sound.hierarchy.tree.nothing_above ∙ zero_not_used) ∙ c.is_used in cc)
       change (i ∷ q) w c = conserves_marked L root s.paths _ s.pool (same_tables L root s.paths i q w c.same_table)
 
 -- any list of calls
-pub run_sound : (L : ℕ) (window : Option Window) (root : ℕ) (serves : ℕ → Bool) (added : ℕ) → IsParentFlags added → (give : List ℕ → ℕ → List ℕ) → IsGiving give
-    → (calls : List Call) → AllCalls L calls → (s : State) → IsSound L window root serves s → IsSound L window root serves (state_after (machine L window added give) s calls)
-run_sound L window root serves added adds give gives [] is s sound = sound
-run_sound L window root serves added adds give gives (call ∷ calls) is s sound = run_sound L window root serves added adds give gives calls is.1 _ (step_sound L window root serves s sound added adds give gives call is.0)
+pub run_sound : (L : ℕ) (window : Option Window) (root : ℕ) (serves : ℕ → Bool) (added : ℕ) → IsParentFlags added → (take_back : List ℕ → ℕ → List ℕ) → TakesBack take_back
+    → (calls : List Call) → AllCalls L calls → (s : State) → IsSound L window root serves s → IsSound L window root serves (state_after (machine L window added take_back) s calls)
+run_sound L window root serves added adds take_back gives [] is s sound = sound
+run_sound L window root serves added adds take_back gives (call ∷ calls) is s sound = run_sound L window root serves added adds take_back gives calls is.1 _ (step_sound L window root serves s sound added adds take_back gives call is.0)

@@ -9,7 +9,7 @@ use Rattle.x86_64_model.specs.PathMap.{PathMap, entry, table_at}
 use Rattle.x86_64_model.specs.Hierarchy.{entry_in, IsValid}
 use Rattle.x86_64_model.specs.Path.{indices, paths_below}
 use Rattle.x86_64_model.specs.Window.{Window, IsValidFor}
-use Rattle.x86_64_model.specs.Pool.{IsOwn, IsTable, IsGiving, Fits}
+use Rattle.x86_64_model.specs.Pool.{IsOwn, IsTable, TakesBack, Fits}
 use Rattle.x86_64_model.specs.Call.{IsCall, Call}
 use Rattle.x86_64_model.specs.Machine.{State, step}
 use Rattle.x86_64_model.proofs.Lemmas.Lists.Members.{find_in, found_is}
@@ -134,17 +134,17 @@ good_self L (Some w) T root M N h own valid = (
 )
 
 -- after one step there are valid words that hold the path map and that the pool fits, and frames that were neither free nor tables are as before
-pub step_witness : (L : ℕ) (window : Option Window) (T : Words) (root : ℕ) (serves : ℕ → Bool) (added : ℕ) → IsParentFlags added → (give : List ℕ → ℕ → List ℕ) → IsGiving give
+pub step_witness : (L : ℕ) (window : Option Window) (T : Words) (root : ℕ) (serves : ℕ → Bool) (added : ℕ) → IsParentFlags added → (take_back : List ℕ → ℕ → List ℕ) → TakesBack take_back
     → (s : State) (call : Call) → IsCall L call → Fits L window T root s.paths serves s.pool
-    → (U : Words) × Fits L window U root (step (machine L window added give) s call).state.paths serves (step (machine L window added give) s call).state.pool × ((f : ℕ) → (IsOwn L root s.paths s.pool f → ⊥) → U f ≡ T f)
-step_witness L window T root serves added adds give gives s call is fits =
+    → (U : Words) × Fits L window U root (step (machine L window added take_back) s call).state.paths serves (step (machine L window added take_back) s call).state.pool × ((f : ℕ) → (IsOwn L root s.paths s.pool f → ⊥) → U f ≡ T f)
+step_witness L window T root serves added adds take_back gives s call is fits =
     let sound = sound_of_fits L window T root serves s fits in
-    let after = step_sound L window root serves s sound added adds give gives call is in
-    let same = step_conserves L window root serves s sound added adds give gives call is in
-    let N = (step (machine L window added give) s call).state.paths in
+    let after = step_sound L window root serves s sound added adds take_back gives call is in
+    let same = step_conserves L window root serves s sound added adds take_back gives call is in
+    let N = (step (machine L window added take_back) s call).state.paths in
     let U = with_self L root N T after.hierarchy after.one_each.own_frames window in (
       U,
-      fits_of_sound L window U root serves (step (machine L window added give) s call).state after (witness L root N T after.hierarchy after.one_each.own_frames window after.aside (good_self L window T root s.paths N after.hierarchy after.one_each.own_frames fits.valid))
+      fits_of_sound L window U root serves (step (machine L window added take_back) s call).state after (witness L root N T after.hierarchy after.one_each.own_frames window after.aside (good_self L window T root s.paths N after.hierarchy after.one_each.own_frames fits.valid))
           (λ f i. subst IsSome (sym (witness_else L root N T after.hierarchy after.one_each.own_frames window f (after.one_each.no_table f i))) (own_there L window T root serves s fits f ((same.same_set f).1 (inl i)))),
       λ f n. witness_else L root N T after.hierarchy after.one_each.own_frames window f (λ t. n ((same.same_set f).1 (inr t))),
     )

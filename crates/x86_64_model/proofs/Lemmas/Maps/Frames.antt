@@ -101,31 +101,31 @@ AreParents L ps = AllByRecursion (λ p. (0 < length p) × (length p < L)) ps
 
 module _ (L root more added : ℕ) (marks : IsParentFlags more) (adds : IsParentFlags added) (i : ℕ) (q : List ℕ) (e frame : ℕ)
     (no_table : table_of L (i ∷ q) e ≡ None) where
-  abbrev Keeps : PathMap → List ℕ → AfterMap → Type 0
-  Keeps M supply m = Conserves L root M supply m.paths m.supply
+  abbrev KeepsFrames : PathMap → List ℕ → AfterMap → Type 0
+  KeepsFrames M supply m = Conserves L root M supply m.paths m.supply
 
   marked : (M : PathMap) (supply : List ℕ) (j : ℕ) (p : List ℕ) → used (entry M (j ∷ p)) ≡ true → Conserves L root M supply (put M (j ∷ p) (bit_or (entry M (j ∷ p)) more)) supply
   marked M supply j p u = conserves_marked L root M _ supply (same_tables L root M j p _ (table_of_marked L (j ∷ p) (entry M (j ∷ p)) more marks u))
 
   pub map_conserves : (M : PathMap) (supply : List ℕ) (ps : List (List ℕ)) → Descends M ps (i ∷ q) → AreParents L ps → AllByRecursion IsFrame supply
-      → Keeps M supply (map_rule M supply more added ps (i ∷ q) e frame)
-  map_conserves M supply [] d a frames = subst (Keeps M supply) (sym (step_last more added (i ∷ q) e frame M supply))
-      (elim (used (entry M (i ∷ q))) as (λ u. used (entry M (i ∷ q)) ≡ u → Keeps M supply (cond u (record { paths = M; supply = supply; answer = Refused (PageAlreadyMapped frame) }) (record { paths = put M (i ∷ q) e; supply = supply; answer = Done frame }))) [
+      → KeepsFrames M supply (map_rule M supply more added ps (i ∷ q) e frame)
+  map_conserves M supply [] d a frames = subst (KeepsFrames M supply) (sym (step_last more added (i ∷ q) e frame M supply))
+      (elim (used (entry M (i ∷ q))) as (λ u. used (entry M (i ∷ q)) ≡ u → KeepsFrames M supply (cond u (record { paths = M; supply = supply; answer = Refused (PageAlreadyMapped frame) }) (record { paths = put M (i ∷ q) e; supply = supply; answer = Done frame }))) [
         | true ↦ λ u. conserves_nothing L root M supply
         | false ↦ λ u. conserves_marked L root M _ supply (same_tables L root M i q e (no_table ∙ sym (no_table_unused L root M i q u)))
       ] refl)
   map_conserves M supply ([] ∷ ps) d a frames = absurd (omega (arith, a.0.0))
   map_conserves M supply ((j ∷ p) ∷ ps) d a frames =
       let below : (x : ℕ) → Descends (put M (j ∷ p) x) ps (i ∷ q) = λ x. descends_same M _ ps (i ∷ q) (others more added (i ∷ q) e frame M (j ∷ p) x ps d.1) d.3 in
-      elim (used (entry M (j ∷ p))) as (λ u. used (entry M (j ∷ p)) ≡ u → Keeps M supply (map_rule M supply more added ((j ∷ p) ∷ ps) (i ∷ q) e frame)) [
-        | true ↦ λ u. elim (huge (entry M (j ∷ p))) as (λ h. huge (entry M (j ∷ p)) ≡ h → Keeps M supply (map_rule M supply more added ((j ∷ p) ∷ ps) (i ∷ q) e frame)) [
-          | true ↦ λ h. subst (Keeps M supply) (sym (step_huge more added (i ∷ q) e frame M (j ∷ p) ps d supply u h)) (marked M supply j p u)
-          | false ↦ λ h. subst (Keeps M supply) (sym (step_used more added (i ∷ q) e frame M (j ∷ p) ps d supply u h))
+      elim (used (entry M (j ∷ p))) as (λ u. used (entry M (j ∷ p)) ≡ u → KeepsFrames M supply (map_rule M supply more added ((j ∷ p) ∷ ps) (i ∷ q) e frame)) [
+        | true ↦ λ u. elim (huge (entry M (j ∷ p))) as (λ h. huge (entry M (j ∷ p)) ≡ h → KeepsFrames M supply (map_rule M supply more added ((j ∷ p) ∷ ps) (i ∷ q) e frame)) [
+          | true ↦ λ h. subst (KeepsFrames M supply) (sym (step_huge more added (i ∷ q) e frame M (j ∷ p) ps d supply u h)) (marked M supply j p u)
+          | false ↦ λ h. subst (KeepsFrames M supply) (sym (step_used more added (i ∷ q) e frame M (j ∷ p) ps d supply u h))
               (conserves_then L root M supply _ supply _ _ (marked M supply j p u) (map_conserves (put M (j ∷ p) (bit_or (entry M (j ∷ p)) more)) supply ps (below _) a.1 frames))
         ] refl
-        | false ↦ λ u. elim supply as (λ s. AllByRecursion IsFrame s → Keeps M s (map_rule M s more added ((j ∷ p) ∷ ps) (i ∷ q) e frame)) [
-          | [] ↦ λ _. subst (Keeps M []) (sym (step_none more added (i ∷ q) e frame M (j ∷ p) ps d u)) (conserves_nothing L root M [])
-          | f ∷ fs ↦ λ fr. subst (Keeps M (f ∷ fs)) (sym (step_new more added (i ∷ q) e frame M (j ∷ p) ps d f fs u))
+        | false ↦ λ u. elim supply as (λ s. AllByRecursion IsFrame s → KeepsFrames M s (map_rule M s more added ((j ∷ p) ∷ ps) (i ∷ q) e frame)) [
+          | [] ↦ λ _. subst (KeepsFrames M []) (sym (step_none more added (i ∷ q) e frame M (j ∷ p) ps d u)) (conserves_nothing L root M [])
+          | f ∷ fs ↦ λ fr. subst (KeepsFrames M (f ∷ fs)) (sym (step_new more added (i ∷ q) e frame M (j ∷ p) ps d f fs u))
               (conserves_then L root M (f ∷ fs) _ fs _ _
               (conserves_taken L root M f fs j p _ (table_of_new L (j ∷ p) f (bit_or more added) (flags_or more added marks adds) fr.0 a.0.1) (no_table_unused L root M j p u))
               (map_conserves (put M (j ∷ p) (bit_or f (bit_or more added))) fs ps (below _) a.1 fr.1))

@@ -65,8 +65,8 @@ nonempty p pre k e z = no_end pre k (sym z ∙ e)
 
 module _ (L root more added : ℕ) (marks : IsParentFlags more) (adds : IsParentFlags added) (q : List ℕ) (e frame : ℕ) (no_table : table_of L q e ≡ None) (low : 3 < level_of L q → huge e ≡ false) where
   -- before and after a way down
-  abbrev pub Goes : PathMap → List ℕ → List (List ℕ) → AfterMap → Type 0
-  Goes M s ps m = (pre : List ℕ) → Chain pre ps q → table_at L root M pre ≢ None → AreParents L ps → IsHierarchy L root M → AllByRecursion IsFrame s → IsHierarchy L root m.paths × AllByRecursion IsFrame m.supply
+  abbrev pub StaysTree : PathMap → List ℕ → List (List ℕ) → AfterMap → Type 0
+  StaysTree M s ps m = (pre : List ℕ) → Chain pre ps q → table_at L root M pre ≢ None → AreParents L ps → IsHierarchy L root M → AllByRecursion IsFrame s → IsHierarchy L root m.paths × AllByRecursion IsFrame m.supply
 
   pub reached_step : (M : PathMap) (p pre : List ℕ) (k : ℕ) → k < 512 → p ≡ pre ++ k ∷ [] → table_at L root M pre ≢ None → Reached L root M p
   reached_step M p pre k l is leads = subst (Reached L root M) (sym is) (reached_next L root M pre k leads l)
@@ -90,8 +90,8 @@ module _ (L root more added : ℕ) (marks : IsParentFlags more) (adds : IsParent
   leaf_hierarchy M pre k l is leads h u =
       hierarchy_put L root M q e (nonempty q pre k is) h (reached_step M q pre k l is leads) (λ _. unused_leads_nowhere L root M q (nonempty q pre k is) u) (λ z. absurd (some_not_none 0 (sym z ∙ no_table))) low
 
-  pub map_goes : (M : PathMap) (supply : List ℕ) (ps : List (List ℕ)) → Descends M ps q → Goes M supply ps (map_rule M supply more added ps q e frame)
-  map_goes = map_ind more added q e frame Goes
+  pub map_goes : (M : PathMap) (supply : List ℕ) (ps : List (List ℕ)) → Descends M ps q → StaysTree M supply ps (map_rule M supply more added ps q e frame)
+  map_goes = map_ind more added q e frame StaysTree
       (λ M s u pre c leads a h fr. (h, fr))
       (λ M s u pre c leads a h fr. (leaf_hierarchy M pre c.0 c.1 c.2 leads h u, fr))
       (λ M s p ps u g pre c leads a h fr. (marked_hierarchy L root more M p marks h (nonempty p pre c.0 c.2) u, fr))

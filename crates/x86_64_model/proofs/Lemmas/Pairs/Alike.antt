@@ -10,7 +10,7 @@ use Rattle.x86_64_model.specs.Position.{page_path, lower_half}
 use Rattle.x86_64_model.specs.Translation.{translate, address_of}
 use Rattle.x86_64_model.specs.MapRule.{map_call, parent_part}
 use Rattle.x86_64_model.specs.PageRules.{AfterChange}
-use Rattle.x86_64_model.specs.Pool.{IsGiving, given_back}
+use Rattle.x86_64_model.specs.Pool.{TakesBack, given_back}
 use Rattle.x86_64_model.specs.Call.{IsCall, Call, MapTo, MapToWithTableFlags, IdentityMap, Unmap, UpdateFlags, SetFlags, TranslatePage, Translate, TranslateAddress, CleanUp, NotAllowed, Answered, Position, Address}
 use Rattle.x86_64_model.specs.Machine.{State, AfterCall, only_reply, do_call, step, replies_of, state_after}
 use Rattle.x86_64_model.specs.Allowed.{none_absent, map_allowed, refuses, both_or_none, allowed}
@@ -90,7 +90,7 @@ module _ (L : ℕ) (v w : Option Window) (M N : PathMap) (alike : Alike L M N) w
   pub translate_same : (p : ℕ) → begins_with v (page_path L p) ≡ false → begins_with w (page_path L p) ≡ false → translate L (entry_at v M) p ≡ translate L (entry_at w N) p
   translate_same p a b = translate_outside L v M p a ∙ sym (alike_translated L M N alike p) ∙ sym (translate_outside L w N p b)
 
-  module _ (added added' : ℕ) (ia : IsAdded added) (ib : IsAdded added') (give : List ℕ → ℕ → List ℕ) (root root' : ℕ) (tree : IsTree L root M) (tree' : IsTree L root' N) (pool : List ℕ) (frames : AllByRecursion IsFrame pool) where
+  module _ (added added' : ℕ) (ia : IsAdded added) (ib : IsAdded added') (take_back : List ℕ → ℕ → List ℕ) (root root' : ℕ) (tree : IsTree L root M) (tree' : IsTree L root' N) (pool : List ℕ) (frames : AllByRecursion IsFrame pool) where
     map_results : (q : List ℕ) (frame given more : ℕ) → IsPage L q → MapMay v M q given more
         → AlikeResults L (Machine.after_map (map_call L M pool more added q frame given)) (Machine.after_map (map_call L N pool more added' q frame given))
     map_results q frame given more page may = let m = map_alike L more added added' may.marks ia ib root root' M N tree tree' pool q frame given page.at_most alike may.parents frames in
@@ -100,7 +100,7 @@ module _ (L : ℕ) (v w : Option Window) (M N : PathMap) (alike : Alike L M N) w
     change_results c d a = record { paths = a.paths; pools = refl; replies = ap Answered a.answer }
 
     do_pair : (call : Call) → IsCall L call → names_index L v call ≡ false → names_index L w call ≡ false → allowed L v M call ≡ true
-        → AlikeResults L (do_call (machine L v added give) (record { paths = M; pool = pool }) call) (do_call (machine L w added' give) (record { paths = N; pool = pool }) call)
+        → AlikeResults L (do_call (machine L v added take_back) (record { paths = M; pool = pool }) call) (do_call (machine L w added' take_back) (record { paths = N; pool = pool }) call)
     unfolding do_call
     do_pair (MapTo q frame given) is a b h = map_results q frame given (parent_part given) is (map_may L v M q given _ h)
     do_pair (MapToWithTableFlags q frame given more) is a b h = map_results q frame given more is (map_may L v M q given more h)
@@ -111,14 +111,14 @@ module _ (L : ℕ) (v w : Option Window) (M N : PathMap) (alike : Alike L M N) w
     do_pair (TranslatePage q) is a b h = record { paths = alike; pools = refl; replies = ap Answered (sym (page_alike L (entry_at v M) (entry_at w N) M N alike q (page_read q is a b))) }
     do_pair (Translate p) is a b h = record { paths = alike; pools = refl; replies = ap Position (translate_same p a b) }
     do_pair (TranslateAddress p) is a b h = record { paths = alike; pools = refl; replies = ap (λ t. Address (address_of t)) (translate_same p a b) }
-    do_pair (CleanUp low high) is a b h = record { paths = clean_alike L root root' M N tree tree' alike low high; pools = ap (given_back give pool) (sym (back_same L root root' M N tree tree' alike low high)); replies = refl }
+    do_pair (CleanUp low high) is a b h = record { paths = clean_alike L root root' M N tree tree' alike low high; pools = ap (given_back take_back pool) (sym (back_same L root root' M N tree tree' alike low high)); replies = refl }
 
     pub step_pair : (call : Call) → IsCall L call → names_index L v call ≡ false → names_index L w call ≡ false
-        → AlikeResults L (step (machine L v added give) (record { paths = M; pool = pool }) call) (step (machine L w added' give) (record { paths = N; pool = pool }) call)
-    step_pair call is a b = subst (λ x. AlikeResults L (step (machine L v added give) (record { paths = M; pool = pool }) call) (cond x (do_call (machine L w added' give) (record { paths = N; pool = pool }) call) (only_reply (record { paths = N; pool = pool }) NotAllowed)))
+        → AlikeResults L (step (machine L v added take_back) (record { paths = M; pool = pool }) call) (step (machine L w added' take_back) (record { paths = N; pool = pool }) call)
+    step_pair call is a b = subst (λ x. AlikeResults L (step (machine L v added take_back) (record { paths = M; pool = pool }) call) (cond x (do_call (machine L w added' take_back) (record { paths = N; pool = pool }) call) (only_reply (record { paths = N; pool = pool }) NotAllowed)))
         (sym (allowed_same call is a b))
-        (elim (allowed L v M call) as (λ x. allowed L v M call ≡ x → AlikeResults L (cond x (do_call (machine L v added give) (record { paths = M; pool = pool }) call) (only_reply (record { paths = M; pool = pool }) NotAllowed))
-        (cond x (do_call (machine L w added' give) (record { paths = N; pool = pool }) call) (only_reply (record { paths = N; pool = pool }) NotAllowed))) [
+        (elim (allowed L v M call) as (λ x. allowed L v M call ≡ x → AlikeResults L (cond x (do_call (machine L v added take_back) (record { paths = M; pool = pool }) call) (only_reply (record { paths = M; pool = pool }) NotAllowed))
+        (cond x (do_call (machine L w added' take_back) (record { paths = N; pool = pool }) call) (only_reply (record { paths = N; pool = pool }) NotAllowed))) [
           | true ↦ λ h. do_pair call is a b h
           | false ↦ λ h. record { paths = alike; pools = refl; replies = refl }
         ] refl)
@@ -126,13 +126,13 @@ module _ (L : ℕ) (v w : Option Window) (M N : PathMap) (alike : Alike L M N) w
 -- ---- lists of calls
 
 -- two machines whose path maps are alike and whose pools are equal answer one list of replies, and end alike with equal pools, where no call names a recursive index of either
-pub run_pair : (L : ℕ) (v w : Option Window) (added added' : ℕ) → IsAdded added → IsAdded added' → (give : List ℕ → ℕ → List ℕ) → IsGiving give → (root root' : ℕ) (serves serves' : ℕ → Bool)
+pub run_pair : (L : ℕ) (v w : Option Window) (added added' : ℕ) → IsAdded added → IsAdded added' → (take_back : List ℕ → ℕ → List ℕ) → TakesBack take_back → (root root' : ℕ) (serves serves' : ℕ → Bool)
     → (calls : List Call) → AllCalls L calls → NoneNames L v calls → NoneNames L w calls → (s t : State) → IsSound L v root serves s → IsSound L w root' serves' t → Alike L s.paths t.paths → s.pool ≡ t.pool
-    → AlikeRuns L (state_after (machine L v added give) s calls) (state_after (machine L w added' give) t calls) (replies_of (machine L v added give) s calls) (replies_of (machine L w added' give) t calls)
-run_pair L v w added added' ia ib give gives root root' serves serves' [] is a b s t x y alike pools = record { paths = alike; pools = pools; replies = refl }
-run_pair L v w added added' ia ib give gives root root' serves serves' (call ∷ calls) is a b s t x y alike pools =
-    let one : AlikeResults L (step (machine L v added give) s call) (step (machine L w added' give) t call) = subst (λ pool. AlikeResults L (step (machine L v added give) s call) (step (machine L w added' give) (record { paths = t.paths; pool = pool }) call)) pools
-    (step_pair L v w s.paths t.paths alike added added' ia ib give root root' x.hierarchy.tree y.hierarchy.tree s.pool (all_in s.pool x.frames) call is.0 a.0 b.0) in
-    let rest = run_pair L v w added added' ia ib give gives root root' serves serves' calls is.1 a.1 b.1 (step (machine L v added give) s call).state (step (machine L w added' give) t call).state
-    (step_sound L v root serves s x added ia.adds give gives call is.0) (step_sound L w root' serves' t y added' ib.adds give gives call is.0) one.paths one.pools in
+    → AlikeRuns L (state_after (machine L v added take_back) s calls) (state_after (machine L w added' take_back) t calls) (replies_of (machine L v added take_back) s calls) (replies_of (machine L w added' take_back) t calls)
+run_pair L v w added added' ia ib take_back gives root root' serves serves' [] is a b s t x y alike pools = record { paths = alike; pools = pools; replies = refl }
+run_pair L v w added added' ia ib take_back gives root root' serves serves' (call ∷ calls) is a b s t x y alike pools =
+    let one : AlikeResults L (step (machine L v added take_back) s call) (step (machine L w added' take_back) t call) = subst (λ pool. AlikeResults L (step (machine L v added take_back) s call) (step (machine L w added' take_back) (record { paths = t.paths; pool = pool }) call)) pools
+    (step_pair L v w s.paths t.paths alike added added' ia ib take_back root root' x.hierarchy.tree y.hierarchy.tree s.pool (all_in s.pool x.frames) call is.0 a.0 b.0) in
+    let rest = run_pair L v w added added' ia ib take_back gives root root' serves serves' calls is.1 a.1 b.1 (step (machine L v added take_back) s call).state (step (machine L w added' take_back) t call).state
+    (step_sound L v root serves s x added ia.adds take_back gives call is.0) (step_sound L w root' serves' t y added' ib.adds take_back gives call is.0) one.paths one.pools in
     record { paths = rest.paths; pools = rest.pools; replies = ap₂ (λ r rs. r ∷ rs) one.replies rest.replies }

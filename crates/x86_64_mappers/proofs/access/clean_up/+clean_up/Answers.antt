@@ -29,7 +29,7 @@ clean_up_entry-returns-then-is_recursive-clause-cleaned g t c =
     let high = span_end h.layout.levels c.args.range.now.last.now in
     let q = c.args.path.now in
     let valid = c.requires.may.valid in
-    entry_stays h.layout g.D.FrameDeallocator.put h.memory valid (g.D.FrameDeallocator.held c.args.frame_deallocator.now) low high (q ++ c.args.index ∷ [])
+    entry_stays h.layout g.D.FrameDeallocator.take_back h.memory valid (g.D.FrameDeallocator.held c.args.frame_deallocator.now) low high (q ++ c.args.index ∷ [])
     (recursive_out h.layout h.memory valid low high q c.args.index c.requires.visited.outside (sym c.is_recursive.ensures ∙ c.if-is_recursive.true))
 
 pub clean_up_entry-next_table-requires-clause-reached : goal.clean_up_entry-next_table-requires-clause-reached
@@ -46,7 +46,7 @@ clean_up_entry-returns-in_default-clause-cleaned g t c =
     let high = span_end h.layout.levels c.args.range.now.last.now in
     let q = c.args.path.now in
     let valid = c.requires.may.valid in
-    entry_stays h.layout g.D.FrameDeallocator.put h.memory valid (g.D.FrameDeallocator.held c.args.frame_deallocator.now) low high (q ++ c.args.index ∷ [])
+    entry_stays h.layout g.D.FrameDeallocator.take_back h.memory valid (g.D.FrameDeallocator.held c.args.frame_deallocator.now) low high (q ++ c.args.index ∷ [])
     (refused_out h.layout h.memory valid low high q c.args.table c.requires.visited c.args.index c.next_table.ensures.index (sym c.is_recursive.ensures ∙ c.if-is_recursive.false)
     (walk_refusal c.in_default.field-0) c.in_default.ensures.below)
 
@@ -93,7 +93,7 @@ clean_up_entry-table-requires-clause-reached g t c =
     let done = c.clean_up_table.ensures in
     let next = next_visited h.layout h.memory c.requires.may.valid low high q f c.requires.visited i c.next_table.ensures.index (sym c.is_recursive.ensures ∙ c.if-is_recursive.false)
     c.requires.short c.requires.meets below c.in-Ok.ensures.below in
-    let b = below_cleaned h.layout g.D.FrameDeallocator.put h.memory held low high q f i below c.requires.visited next n rest _ c.child_indices-indices.ensures done.cleaned in
+    let b = below_cleaned h.layout g.D.FrameDeallocator.take_back h.memory held low high q f i below c.requires.visited next n rest _ c.child_indices-indices.ensures done.cleaned in
     subst₂ (λ l p. IsReached l n p below) (sym done.layout) (sym c.child_indices-indices.ensures) (visited_reached h.layout n low high (q ++ i ∷ []) below b.there b.cleaned.valid)
 
 pub clean_up_entry-entry_mut-requires-clause-reached : goal.clean_up_entry-entry_mut-requires-clause-reached
@@ -112,7 +112,7 @@ clean_up_entry-entry_mut-requires-clause-reached g t c =
     let done = c.clean_up_table.ensures in
     let next = next_visited h.layout h.memory c.requires.may.valid low high q f c.requires.visited i c.next_table.ensures.index (sym c.is_recursive.ensures ∙ c.if-is_recursive.false)
     c.requires.short c.requires.meets below c.in-Ok.ensures.below in
-    let b = below_cleaned h.layout g.D.FrameDeallocator.put h.memory held low high q f i below c.requires.visited next n rest _ c.child_indices-indices.ensures done.cleaned in
+    let b = below_cleaned h.layout g.D.FrameDeallocator.take_back h.memory held low high q f i below c.requires.visited next n rest _ c.child_indices-indices.ensures done.cleaned in
     subst (λ l. IsReached l n q f) (sym done.layout) (visited_reached h.layout n low high q f b.here b.cleaned.valid)
 
 pub clean_up_entry-deallocate_frame-requires-clause-served : goal.clean_up_entry-deallocate_frame-requires-clause-served
@@ -131,8 +131,8 @@ clean_up_entry-deallocate_frame-requires-clause-served g t c =
     let done = c.clean_up_table.ensures in
     let next = next_visited h.layout h.memory c.requires.may.valid low high q f c.requires.visited i c.next_table.ensures.index (sym c.is_recursive.ensures ∙ c.if-is_recursive.false)
     c.requires.short c.requires.meets below c.in-Ok.ensures.below in
-    let b = below_cleaned h.layout g.D.FrameDeallocator.put h.memory held low high q f i below c.requires.visited next n rest _ c.child_indices-indices.ensures done.cleaned in
-    let may = may_still h g.D.FrameDeallocator.put (giving_from g.D.FrameDeallocator.put g.met.D.FrameDeallocator.put_rearranges) (g.D.FrameKeeper.serves c.args.frame_deallocator.now) held c.requires.may _ _ n rest b.cleaned in
+    let b = below_cleaned h.layout g.D.FrameDeallocator.take_back h.memory held low high q f i below c.requires.visited next n rest _ c.child_indices-indices.ensures done.cleaned in
+    let may = may_still h g.D.FrameDeallocator.take_back (giving_from g.D.FrameDeallocator.take_back g.met.D.FrameDeallocator.take_back_rearranges) (g.D.FrameKeeper.serves c.args.frame_deallocator.now) held c.requires.may _ _ n rest b.cleaned in
     let gives = may_give (record h { memory = n }) (g.D.FrameKeeper.serves c.args.frame_deallocator.now) rest may q i below b.there.leads in
     ap (λ serves. serves below) done.serves ∙ gives.0
 
@@ -152,8 +152,8 @@ clean_up_entry-deallocate_frame-requires-clause-not_held g t c =
     let done = c.clean_up_table.ensures in
     let next = next_visited h.layout h.memory c.requires.may.valid low high q f c.requires.visited i c.next_table.ensures.index (sym c.is_recursive.ensures ∙ c.if-is_recursive.false)
     c.requires.short c.requires.meets below c.in-Ok.ensures.below in
-    let b = below_cleaned h.layout g.D.FrameDeallocator.put h.memory held low high q f i below c.requires.visited next n rest _ c.child_indices-indices.ensures done.cleaned in
-    let may = may_still h g.D.FrameDeallocator.put (giving_from g.D.FrameDeallocator.put g.met.D.FrameDeallocator.put_rearranges) (g.D.FrameKeeper.serves c.args.frame_deallocator.now) held c.requires.may _ _ n rest b.cleaned in
+    let b = below_cleaned h.layout g.D.FrameDeallocator.take_back h.memory held low high q f i below c.requires.visited next n rest _ c.child_indices-indices.ensures done.cleaned in
+    let may = may_still h g.D.FrameDeallocator.take_back (giving_from g.D.FrameDeallocator.take_back g.met.D.FrameDeallocator.take_back_rearranges) (g.D.FrameKeeper.serves c.args.frame_deallocator.now) held c.requires.may _ _ n rest b.cleaned in
     let gives = may_give (record h { memory = n }) (g.D.FrameKeeper.serves c.args.frame_deallocator.now) rest may q i below b.there.leads in
     gives.1
 
@@ -173,12 +173,12 @@ clean_up_entry-returns-then-is_empty-clause-cleaned g t c =
     let done = c.clean_up_table.ensures in
     let next = next_visited h.layout h.memory c.requires.may.valid low high q f c.requires.visited i c.next_table.ensures.index (sym c.is_recursive.ensures ∙ c.if-is_recursive.false)
     c.requires.short c.requires.meets below c.in-Ok.ensures.below in
-    let b = below_cleaned h.layout g.D.FrameDeallocator.put h.memory held low high q f i below c.requires.visited next n rest _ c.child_indices-indices.ensures done.cleaned in
+    let b = below_cleaned h.layout g.D.FrameDeallocator.take_back h.memory held low high q f i below c.requires.visited next n rest _ c.child_indices-indices.ensures done.cleaned in
     let mapper = c.args.mapper.now in
     let o = (g.M.Tables.hierarchy (g.M.TableAccess.with_table c.clean_up_table.new.mapper f (slice_set (table_in after.layout n f) i c.set_unused.new.self))).memory in
     let there = ap (λ l. words l n below) (sym done.layout) ∙ c.table.ensures in
     let set = subst₂ (λ (l : Layout) w. IsSet l.places n f i w o) done.layout c.set_unused.ensures (c.entry_mut.ensures.set c.set_unused.new.self) in
-    entry_gone h.layout g.D.FrameDeallocator.put h.memory c.requires.may.valid held low high q f i below n rest b
+    entry_gone h.layout g.D.FrameDeallocator.take_back h.memory c.requires.may.valid held low high q f i below n rest b
     (g.met.M.Tables.is_mapping mapper).distinct (positive_levels h.layout.levels (g.met.M.Tables.at_least_four mapper)) c.next_table.ensures.index
     (empty_words (words h.layout n) below c.table.result.now there c.is_empty.ensures.size (c.is_empty.ensures.empty.0 c.if-is_empty.true)) o set _ c.deallocate_frame.ensures.held
 
@@ -198,9 +198,9 @@ clean_up_entry-returns-else-is_empty-clause-cleaned g t c =
     let done = c.clean_up_table.ensures in
     let next = next_visited h.layout h.memory c.requires.may.valid low high q f c.requires.visited i c.next_table.ensures.index (sym c.is_recursive.ensures ∙ c.if-is_recursive.false)
     c.requires.short c.requires.meets below c.in-Ok.ensures.below in
-    let b = below_cleaned h.layout g.D.FrameDeallocator.put h.memory held low high q f i below c.requires.visited next n rest _ c.child_indices-indices.ensures done.cleaned in
+    let b = below_cleaned h.layout g.D.FrameDeallocator.take_back h.memory held low high q f i below c.requires.visited next n rest _ c.child_indices-indices.ensures done.cleaned in
     let there = ap (λ l. words l n below) (sym done.layout) ∙ c.table.ensures in
-    entry_kept h.layout g.D.FrameDeallocator.put h.memory c.requires.may.valid held low high q f i below n rest b
+    entry_kept h.layout g.D.FrameDeallocator.take_back h.memory c.requires.may.valid held low high q f i below n rest b
     (λ all. let t : false ≡ true = sym c.if-is_empty.false ∙ c.is_empty.ensures.empty.1 (words_empty (words h.layout n) below c.table.result.now there c.is_empty.ensures.size all) in cc)
 
 -- ---- a table
@@ -212,7 +212,7 @@ clean_up_table-loop-index-init g t c =
     let high = span_end h.layout.levels c.args.range.now.last.now in
     let q = c.args.path.now in
     record {
-      cleaned = before_first h.layout g.D.FrameDeallocator.put h.memory c.requires.may.valid (g.D.FrameDeallocator.held c.args.frame_deallocator.now) low high q c.index_in_table-first.result
+      cleaned = before_first h.layout g.D.FrameDeallocator.take_back h.memory c.requires.may.valid (g.D.FrameDeallocator.held c.args.frame_deallocator.now) low high q c.index_in_table-first.result
           (λ k less. out_before h.layout.levels (paths h) c.args.range.now.first.now c.args.range.now.last.now c.requires.range q c.requires.short c.requires.visited.below c.requires.visited.visits k
           (omega (arith, less, c.index_in_table-first.ensures.small)) (subst (λ n. k < n) c.index_in_table-first.ensures.index less));
       in_table = omega (arith, c.index_in_table-first.ensures.small);
@@ -236,7 +236,7 @@ clean_up_table-clean_up_entry-requires g t c κs within =
     let now = g.M.Tables.hierarchy c.loop-index.mapper in
     let rest = g.D.FrameDeallocator.held c.loop-index.frame_deallocator in
     let inv = c.loop-index.invariant in
-    let may = may_still h g.D.FrameDeallocator.put (giving_from g.D.FrameDeallocator.put g.met.D.FrameDeallocator.put_rearranges) (g.D.FrameKeeper.serves c.args.frame_deallocator.now) held c.requires.may _ _ now.memory rest inv.cleaned in
+    let may = may_still h g.D.FrameDeallocator.take_back (giving_from g.D.FrameDeallocator.take_back g.met.D.FrameDeallocator.take_back_rearranges) (g.D.FrameKeeper.serves c.args.frame_deallocator.now) held c.requires.may _ _ now.memory rest inv.cleaned in
     let is = with_memory h now inv.layout inv.lent in
     let v = c.requires.visited in
     let met = met_between h.layout.levels (paths h) first last c.requires.range q c.requires.short v.below v.visits i (omega (arith, c.loop-index-test.true, c.index_in_table-last.ensures.small))
@@ -280,9 +280,9 @@ clean_up_table-loop-index-preserved g t c =
     let o = (g.M.Tables.hierarchy done.new.mapper).memory in
     let left = g.D.FrameDeallocator.held done.new.frame_deallocator in
     let inv = c.loop-index.invariant in
-    let at = subst₂ (λ (l : Layout) j. IsCleanedAt l g.D.FrameDeallocator.put n rest (span_start l.levels first) (span_end l.levels last) (q ++ j ∷ []) o left) inv.layout c.new-index.ensures done.ensures.cleaned in
+    let at = subst₂ (λ (l : Layout) j. IsCleanedAt l g.D.FrameDeallocator.take_back n rest (span_start l.levels first) (span_end l.levels last) (q ++ j ∷ []) o left) inv.layout c.new-index.ensures done.ensures.cleaned in
     record {
-      cleaned = before_next h.layout g.D.FrameDeallocator.put h.memory c.requires.may.valid held low high q c.requires.visited.visits i (g.met.M.Tables.is_mapping mapper).distinct n rest inv.cleaned o left at;
+      cleaned = before_next h.layout g.D.FrameDeallocator.take_back h.memory c.requires.may.valid held low high q c.requires.visited.visits i (g.met.M.Tables.is_mapping mapper).distinct n rest inv.cleaned o left at;
       in_table = omega (arith, c.loop-index-test.true, c.index_in_table-last.ensures.small);
       layout = done.ensures.layout ∙ inv.layout;
       lent = done.ensures.lent ∙ inv.lent;
@@ -297,7 +297,7 @@ clean_up_table-returns-after-loop-index-clause-cleaned g t c =
     let q = c.args.path.now in
     let i = c.loop-index.index in
     let v = c.requires.visited in
-    before_last h.layout g.D.FrameDeallocator.put h.memory c.requires.may.valid (g.D.FrameDeallocator.held c.args.frame_deallocator.now) low high q i c.loop-index.invariant.in_table
+    before_last h.layout g.D.FrameDeallocator.take_back h.memory c.requires.may.valid (g.D.FrameDeallocator.held c.args.frame_deallocator.now) low high q i c.loop-index.invariant.in_table
     (λ k from to. out_after h.layout.levels (paths h) c.args.range.now.first.now c.args.range.now.last.now c.requires.range q c.requires.short v.below v.visits k to (omega (arith, from, c.loop-index-test.false, c.index_in_table-last.ensures.index)))
     (g.M.Tables.hierarchy c.loop-index.mapper).memory (g.D.FrameDeallocator.held c.loop-index.frame_deallocator) c.loop-index.invariant.cleaned
 
@@ -307,5 +307,5 @@ clean_up_table-returns-else-path-range-clause-cleaned g t c =
     let low = span_start h.layout.levels c.args.range.now.first.now in
     let high = span_end h.layout.levels c.args.range.now.last.now in
     let q = c.args.path.now in
-    level_one h.layout g.D.FrameDeallocator.put h.memory c.requires.may.valid (g.D.FrameDeallocator.held c.args.frame_deallocator.now) low high q
+    level_one h.layout g.D.FrameDeallocator.take_back h.memory c.requires.may.valid (g.D.FrameDeallocator.held c.args.frame_deallocator.now) low high q
     (omega (arith, c.if-path-range.false, c.requires.range.first_long))

@@ -21,7 +21,7 @@ invariant-clean_up_table-loop-index g l =
     let low = span_start levels l.range.first.now in
     let high = span_end levels l.range.last.now in
     record {
-      cleaned : IsCleaned before.layout g.D.FrameDeallocator.put before.memory (g.D.FrameDeallocator.held l.fn.frame_deallocator) (cleaned_before levels (paths before) low high l.path l.index)
+      cleaned : IsCleaned before.layout g.D.FrameDeallocator.take_back before.memory (g.D.FrameDeallocator.held l.fn.frame_deallocator) (cleaned_before levels (paths before) low high l.path l.index)
           (back_before levels (paths before) low high l.path l.index) after.memory (g.D.FrameDeallocator.held l.frame_deallocator);
       in_table : l.index ≤ 512;
       layout : after.layout ≡ before.layout;

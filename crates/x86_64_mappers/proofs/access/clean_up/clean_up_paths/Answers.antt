@@ -14,7 +14,7 @@ returns-then-page_number-clause-cleans g c =
     let last : c.page_number.result * 0x1000 ≡ span_start L c.args.last.now = c.page_number.ensures.start ∙ ap (λ n. span_start n c.args.last.now) c.requires.last in
     let first : c.page_number-2.result * 0x1000 ≡ span_start L c.args.first.now = c.page_number-2.ensures.start ∙ ap (λ n. span_start n c.args.first.now) c.requires.first in
     let before : c.page_number.result < c.page_number-2.result = c.if-page_number.true in
-    ends_empty h (g.M.Tables.added_flags mapper).adds c.requires.may.valid g.D.FrameDeallocator.put (g.D.FrameDeallocator.held c.args.frame_deallocator.now)
+    ends_empty h (g.M.Tables.added_flags mapper).adds c.requires.may.valid g.D.FrameDeallocator.take_back (g.D.FrameDeallocator.held c.args.frame_deallocator.now)
     (span_start L c.args.first.now) (span_end L c.args.last.now) (omega (arith, first, last, before))
 
 pub returns-clause-cleans : goal.returns-clause-cleans
@@ -27,5 +27,5 @@ returns-clause-cleans g c =
     let done = c.clean_up_table in
     let after = g.M.Tables.hierarchy done.new.mapper in
     let rest = g.D.FrameDeallocator.held done.new.frame_deallocator in
-    subst (λ after. CleansUp h g.D.FrameDeallocator.put held low high after rest) (with_memory h after done.ensures.layout done.ensures.lent)
-    (ends_whole h (g.M.Tables.added_flags mapper).adds c.requires.may.valid g.D.FrameDeallocator.put held low high after.memory rest done.ensures.cleaned)
+    subst (λ after. CleansUp h g.D.FrameDeallocator.take_back held low high after rest) (with_memory h after done.ensures.layout done.ensures.lent)
+    (ends_whole h (g.M.Tables.added_flags mapper).adds c.requires.may.valid g.D.FrameDeallocator.take_back held low high after.memory rest done.ensures.cleaned)

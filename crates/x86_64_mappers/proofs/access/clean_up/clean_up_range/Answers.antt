@@ -17,5 +17,5 @@ returns-clause-cleans g c =
     let last = c.indices-2.ensures ∙ c.path_of_address-last.ensures.path ∙ ap₂ (λ levels p. page_path levels p) known c.start_address-2.ensures.value in
     let low = page_start L h.layout.levels c.args.range.start c.indices.result.now some known first (search rules) (search rules) in
     let high = page_start L h.layout.levels c.args.range.end c.indices-2.result.now some known last (search rules) (search rules) in
-    subst₂ (λ low high. CleansUp h g.D.FrameDeallocator.put (g.D.FrameDeallocator.held deallocator) low (high + 0xfff) (g.M.Tables.hierarchy done.new.mapper) (g.D.FrameDeallocator.held done.new.frame_deallocator))
+    subst₂ (λ low high. CleansUp h g.D.FrameDeallocator.take_back (g.D.FrameDeallocator.held deallocator) low (high + 0xfff) (g.M.Tables.hierarchy done.new.mapper) (g.D.FrameDeallocator.held done.new.frame_deallocator))
     low high done.ensures.cleans

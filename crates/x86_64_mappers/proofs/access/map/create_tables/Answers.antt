@@ -39,7 +39,7 @@ loop-k-preserved g c =
     let is_made = rw inv.layout at c.in_ok-table.ensures.made in
     let step = made l apart adds m supply more q c.requires.outside c.requires.flags c.requires.short k within n _ c.loop-k.table inv.down (get_or q k 0) refl small o _ (Ok next) is_made in record {
       down = turn l apart adds m supply more q c.requires.outside c.requires.flags c.requires.short k within n _ c.loop-k.table inv.down (get_or q k 0) refl small o _ next is_made;
-      way = open_next l n inv.down.goes.ready.valid more q k within c.loop-k.table inv.way o step.opens small next step.leads;
+      way = open_next l n inv.down.owned.ready.valid more q k within c.loop-k.table inv.way o step.opens small next step.leads;
       done = omega (arith, within);
       layout = c.create_next_table.ensures.layout ∙ inv.layout;
       lent = c.create_next_table.ensures.lent ∙ inv.lent;
@@ -49,5 +49,5 @@ loop-k-preserved g c =
 pub returns-clause-reached : goal.returns-clause-reached
 returns-clause-reached g c =
     let inv = c.loop-k.invariant in
-    rw inv.layout (open_end (g.M.Tables.hierarchy c.args.mapper.now).layout (g.M.Tables.hierarchy c.loop-k.mapper).memory inv.down.goes.ready.valid c.args.parent_flags.0 c.args.parents.now c.requires.outside
+    rw inv.layout (open_end (g.M.Tables.hierarchy c.args.mapper.now).layout (g.M.Tables.hierarchy c.loop-k.mapper).memory inv.down.owned.ready.valid c.args.parent_flags.0 c.args.parents.now c.requires.outside
     c.loop-k.k inv.done c.loop-k-test.false c.loop-k.table inv.way)

@@ -6,7 +6,7 @@ use Rattle.x86_64_model.specs.PageWalk.{page_start}
 use Rattle.x86_64_model.specs.Position.{span, index, page_path}
 use Rattle.x86_64_model.specs.Translation.{Mapped}
 use Rattle.x86_64_mappers.proofs.Way.Paths.{positive_levels}
-use Rattle.x86_64_mappers.proofs.Translate.Sought.{IsSoughtAt, sought_first, sought_next, index_read, found_absent, found_low, found_large, found_unused, found_small}
+use Rattle.x86_64_mappers.proofs.Translate.WalkedPart.{IsSoughtAt, sought_first, sought_next, index_read, found_absent, found_low, found_large, found_unused, found_small}
 use Rattle.x86_64_mappers.proofs.access.translate.translate_along.Goals as goal
 
 pub overflow_sub-last : goal.overflow_sub-last

@@ -1,4 +1,4 @@
-use Rattle.x86_64_mappers.proofs.Translate.Sought.{IsSoughtAt}
+use Rattle.x86_64_mappers.proofs.Translate.WalkedPart.{IsSoughtAt}
 use Rattle.x86_64_mappers.proofs.access.translate.translate_along.Given as goal
 
 abbrev pub invariant-loop-k : goal.invariant-loop-k

@@ -64,7 +64,7 @@ bound γ wired M 𝓤 𝓛 𝓜 𝓡 =
     sep 𝓤 (own.requires-served 𝓛 (at τs) 𝓜.mem 𝓡.returns a.0 a.1.0) (own.requires-not_held 𝓛 (at τs) 𝓜.mem 𝓡.returns a.0 a.1.0) in
     record {
       held_is_served = Laws.held_is_served-law;
-      put_rearranges = Laws.put_rearranges-law;
+      take_back_rearranges = Laws.take_back_rearranges-law;
       deallocate_frame =
           implements 𝓛 own.signature 3 wanted.signature.outlives at (𝓡.run routine) (run_framed 𝓤 𝓛.H 𝓜 𝓡 routine) (own.spec 𝓛 𝓜.mem 𝓡.returns) clauses
           2 (λ τs. (τs.1.0, (τs.1.1.0, tt))) (λ τs. (pool.the_row.lives, (size.the_row.lives, tt))) ((0, tt), tt) conditions

@@ -8,25 +8,25 @@ use Rattle.x86_64_model.specs.Memory.{Memory, Words, word, set_word}
 use Rattle.x86_64_model.specs.Window.{Window, outside_window, SelfEntry}
 use Rattle.x86_64_mappers.specs.private.Linked.{Beside}
 
-abbrev pub seen : Layout → Memory → Words
-seen l m = outside_window l.window l.root (words l m)
+abbrev pub words_read : Layout → Memory → Words
+words_read l m = outside_window l.window l.root (words l m)
 
-pub seen_word : (window : Option Window) (root : ℕ) (T : Words) (f i : ℕ) → Beside window root f i → word (outside_window window root T) f i ≡ word T f i
-seen_word None root T f i b = refl
-seen_word (Some v) root T f i b = ⊎_elim (λ e. word-set_index T root v.index 0 f i (b v refl e)) (λ n. word-set_frame T root v.index 0 f i n) (cases_eq f root)
+pub read_word : (window : Option Window) (root : ℕ) (T : Words) (f i : ℕ) → Beside window root f i → word (outside_window window root T) f i ≡ word T f i
+read_word None root T f i b = refl
+read_word (Some v) root T f i b = ⊎_elim (λ e. word-set_index T root v.index 0 f i (b v refl e)) (λ n. word-set_frame T root v.index 0 f i n) (cases_eq f root)
 
 -- a table, with its length
-pub record SeenTable (window : Option Window) (root : ℕ) (T : Words) (f n : ℕ) : Type 0 where
+pub record TableRead (window : Option Window) (root : ℕ) (T : Words) (f n : ℕ) : Type 0 where
   pub table : List ℕ
   pub is : outside_window window root T f ≡ Some table
   pub long : length table ≡ n
 
-pub seen_table : (window : Option Window) (root : ℕ) (T : Words) (f : ℕ) (t : List ℕ) → T f ≡ Some t → SeenTable window root T f (length t)
+pub read_table : (window : Option Window) (root : ℕ) (T : Words) (f : ℕ) (t : List ℕ) → T f ≡ Some t → TableRead window root T f (length t)
 unfolding set_word
-seen_table None root T f t e = record { table = t; is = e; long = refl }
-seen_table (Some v) root T f t e = by (f == root) refl
+read_table None root T f t e = record { table = t; is = e; long = refl }
+read_table (Some v) root T f t e = by (f == root) refl
   where
-    by : (b : Bool) → (f == root) ≡ b → SeenTable (Some v) root T f (length t)
+    by : (b : Bool) → (f == root) ≡ b → TableRead (Some v) root T f (length t)
     by true h = record {
       table = set t v.index 0;
       is = ap (λ b. cond b (option_map (λ words. set words v.index 0) (T f)) (T f)) h ∙ ap (option_map (λ words. set words v.index 0)) e;
@@ -34,15 +34,15 @@ seen_table (Some v) root T f t e = by (f == root) refl
     }
     by false h = record { table = t; is = ap (λ b. cond b (option_map (λ words. set words v.index 0) (T f)) (T f)) h ∙ e; long = refl }
 
-pub seen_some : (window : Option Window) (root : ℕ) (T : Words) (f : ℕ) → IsSome (T f) → IsSome (outside_window window root T f)
-seen_some None root T f h = h
-seen_some (Some v) root T f h = is_some-set T root v.index 0 f h
+pub read_some : (window : Option Window) (root : ℕ) (T : Words) (f : ℕ) → IsSome (T f) → IsSome (outside_window window root T f)
+read_some None root T f h = h
+read_some (Some v) root T f h = is_some-set T root v.index 0 f h
 
 -- and back
-pub there_seen : (window : Option Window) (root : ℕ) (T : Words) (f : ℕ) → IsSome (outside_window window root T f) → IsSome (T f)
+pub read_there : (window : Option Window) (root : ℕ) (T : Words) (f : ℕ) → IsSome (outside_window window root T f) → IsSome (T f)
 unfolding set_word
-there_seen None root T f h = h
-there_seen (Some v) root T f h = by (f == root) (T f) h
+read_there None root T f h = h
+read_there (Some v) root T f h = by (f == root) (T f) h
   where
     by : (b : Bool) (o : Option (List ℕ)) → IsSome (cond b (option_map (λ words. set words v.index 0) o) o) → IsSome o
     by true None h = h
@@ -50,10 +50,10 @@ there_seen (Some v) root T f h = by (f == root) (T f) h
     by false o h = h
 
 -- a frame's words alone decide what is seen of it
-pub seen_same : (window : Option Window) (root : ℕ) (T U : Words) (f : ℕ) → U f ≡ T f → outside_window window root U f ≡ outside_window window root T f
+pub read_same : (window : Option Window) (root : ℕ) (T U : Words) (f : ℕ) → U f ≡ T f → outside_window window root U f ≡ outside_window window root T f
 unfolding set_word
-seen_same None root T U f e = e
-seen_same (Some v) root T U f e = ap (λ o. cond (f == root) (option_map (λ words. set words v.index 0) o) o) e
+read_same None root T U f e = e
+read_same (Some v) root T U f e = ap (λ o. cond (f == root) (option_map (λ words. set words v.index 0) o) o) e
 
 -- the self-entry stays
 pub self_kept : (window : Option Window) (root : ℕ) (T U : Words) → ((v : Window) → window ≡ Some v → word U root v.index ≡ word T root v.index) → SelfEntry T root window → SelfEntry U root window

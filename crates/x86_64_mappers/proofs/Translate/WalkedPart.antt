@@ -33,7 +33,7 @@ one_level E p (suc (suc n)) q l =
     ap (λ k. says p (suc (suc n)) (E (q ++ index (suc (suc n)) p ∷ [])) (translate_on E p k (q ++ index (suc (suc n)) p ∷ []))) (let e : suc n ≡ suc (suc n) - 1 = omega arith in e)
 
 -- the entries so far led to the table of a level in a frame, and what is left to read decides the translation
-pub record Sought (L : ℕ) (T : Words) (root : ℕ) (E : List ℕ → ℕ) (p level frame : ℕ) : Type 0 where
+pub record IsWalked (L : ℕ) (T : Words) (root : ℕ) (E : List ℕ → ℕ) (p level frame : ℕ) : Type 0 where
   pub reads : Reads L T root E
   pub path : List ℕ
   pub here : length path + level ≡ L
@@ -41,7 +41,7 @@ pub record Sought (L : ℕ) (T : Words) (root : ℕ) (E : List ℕ → ℕ) (p l
   pub there : IsSome (T frame)
   pub left : translate_on E p level path ≡ translate L E p
 
-pub starts : (L : ℕ) (T : Words) (root : ℕ) (E : List ℕ → ℕ) (p : ℕ) → Reads L T root E → Sought L T root E p L root
+pub starts : (L : ℕ) (T : Words) (root : ℕ) (E : List ℕ → ℕ) (p : ℕ) → Reads L T root E → IsWalked L T root E p L root
 unfolding translate
 starts L T root E p reads = record { reads = reads; path = []; here = omega arith; entries = reads.first; there = reads.root_there; left = refl }
 
@@ -77,7 +77,7 @@ below e table n = sym ((λ i. cond (not (n.is_present i)) (Err PageNotMapped) (c
 
 -- ---- one level
 
-module _ (L : ℕ) (T : Words) (root : ℕ) (E : List ℕ → ℕ) (p level frame : ℕ) (so : Sought L T root E p level frame) where
+module _ (L : ℕ) (T : Words) (root : ℕ) (E : List ℕ → ℕ) (p level frame : ℕ) (so : IsWalked L T root E p level frame) where
   abbrev w : ℕ
   w = word T frame (index level p)
 
@@ -107,7 +107,7 @@ module _ (L : ℕ) (T : Words) (root : ℕ) (E : List ℕ → ℕ) (p level fram
     pub ends_large : present w ≡ true → huge w ≡ true → translate L E p ≡ Mapped (span level) (page_start level w) (p % span level) (flags w)
     ends_large h g = told ∙ λ x. cond (h x) (cond (le-leb level 3 (low_enough g) x && g x) (Mapped (span level) (page_start level w) (p % span level) (flags w)) (translate_on E p (level - 1) next_path)) NotMapped
 
-    pub goes_on : present w ≡ true → huge w ≡ false → Sought L T root E p (level - 1) (address w)
+    pub goes_on : present w ≡ true → huge w ≡ false → IsWalked L T root E p (level - 1) (address w)
     goes_on h g = record {
       reads = so.reads;
       path = next_path;
@@ -135,7 +135,7 @@ module _ (L : ℕ) (T : Words) (root : ℕ) (E : List ℕ → ℕ) (p level fram
 
 -- ---- the same by what an entry says of its frame
 
-module _ {L : ℕ} {T : Words} {root : ℕ} {E : List ℕ → ℕ} {p level frame : ℕ} (so : Sought L T root E p level frame) (e : ℕ) where
+module _ {L : ℕ} {T : Words} {root : ℕ} {E : List ℕ → ℕ} {p level frame : ℕ} (so : IsWalked L T root E p level frame) (e : ℕ) where
   module _ (more : 1 < level) (is : e ≡ word T frame (index level p)) where
     pub found_absent : Err FrameNotPresent ≡ frame_of e → translate L E p ≡ NotMapped
     found_absent none = ends_absent L T root E p level frame so more (ap present (sym is) ∙ absent e none)
@@ -148,7 +148,7 @@ module _ {L : ℕ} {T : Words} {root : ℕ} {E : List ℕ → ℕ} {p level fram
         ends_large L T root E p level frame so more (ap present (sym is) ∙ (large e page).0) (ap huge (sym is) ∙ (large e page).1)
         ∙ ap (λ e. Mapped (span level) (page_start level e) (p % span level) (flags e)) (sym is)
 
-    pub found_table : (table : ℕ) → Ok table ≡ frame_of e → Sought L T root E p (level - 1) table
+    pub found_table : (table : ℕ) → Ok table ≡ frame_of e → IsWalked L T root E p (level - 1) table
     found_table table names =
         let next = next_table e table names in
         let way = goes_on L T root E p level frame so more (ap present (sym is) ∙ next.is_present) (ap huge (sym is) ∙ next.not_huge) in
@@ -170,12 +170,12 @@ module _ {L : ℕ} {T : Words} {root : ℕ} {E : List ℕ → ℕ} {p level fram
 
 -- so many of them are done
 pub record IsSoughtAt (l : Layout) (m : Memory) (indices : List ℕ) (p k frame : ℕ) : Type 0 where
-  pub way : Sought l.levels (words l m) l.root (read_entry l m) p (l.levels - k) frame
+  pub way : IsWalked l.levels (words l m) l.root (read_entry l m) p (l.levels - k) frame
   pub reached : IsReached l m (take k indices) frame
 
 pub sought_first : (l : Layout) (m : Memory) (indices : List ℕ) (p : ℕ) → Valid l m → IsSoughtAt l m indices p 0 l.root
 sought_first l m indices p valid = let reads = reads l.levels (words l m) l.root (paths l m) l.window valid in record {
-  way = subst (λ n. Sought l.levels (words l m) l.root (read_entry l m) p n l.root) (let e : l.levels ≡ l.levels - 0 = omega arith in e) (starts l.levels (words l m) l.root (read_entry l m) p reads);
+  way = subst (λ n. IsWalked l.levels (words l m) l.root (read_entry l m) p n l.root) (let e : l.levels ≡ l.levels - 0 = omega arith in e) (starts l.levels (words l m) l.root (read_entry l m) p reads);
   reached = (here_first l m indices valid).reached;
 }
 
@@ -201,7 +201,7 @@ module _ (l : Layout) (m : Memory) (indices : List ℕ) (p : ℕ) (long : length
       let level : l.levels - (k + 1) ≡ l.levels - k - 1 = omega (arith, more) in
       let item : i ≡ get_or indices k 0 = index_read i read ∙ sym (ap (λ q. get_or q k 0) is ∙ index_at l.levels p k within) in
       let way = found_table here.way e (omega (arith, more)) (value ∙ ap (word (words l m) frame) (index_read i read)) table names in record {
-        way = subst (λ n. Sought l.levels (words l m) l.root (read_entry l m) p n table) (sym level) way;
+        way = subst (λ n. IsWalked l.levels (words l m) l.root (read_entry l m) p n table) (sym level) way;
         reached = subst (λ t. IsReached l m t table) (sym (ap (λ j. take j indices) (add-one k) ∙ take-suc indices k 0 inside ∙ ap (λ j. take k indices ++ j ∷ []) (sym item)))
             (reached_next l m (take k indices) frame i table here.reached small (below e table (next_table e table names) ∙ ap table_below value) way.there);
       }
