@@ -17,7 +17,7 @@ use Rattle.x86_64_model.specs.Pool.{IsTable, TakesBack, given_back}
 use Rattle.x86_64_model.specs.Window.{Window, IsValidFor, begins_with}
 use Rattle.x86_64_mappers.proofs.Memory.Changed.{set_is, set_others, set_keeps}
 use Rattle.x86_64_mappers.specs.private.CleaningUp.{IsCleaned}
-use Rattle.x86_64_mappers.proofs.Memory.WordsRead.{words_read, read_there}
+use Rattle.x86_64_mappers.proofs.Memory.WordsRead.{words_read, there_read}
 use Rattle.x86_64_model.proofs.Lemmas.Hierarchies.Memories.{covered}
 use Rattle.x86_64_mappers.specs.private.Writes.{IsSet}
 
@@ -31,7 +31,7 @@ given_more take_back held (x ∷ xs) ys = given_more take_back (take_back held x
 
 -- a table's frame is there
 table_there : (l : Layout) (m : Memory) → Valid l m → (f : ℕ) → IsTable l.levels l.root (paths l m) f → IsSome (words l m f)
-table_there l m valid f t = read_there l.window l.root (words l m) f (valid.valid.holds.in_memory t.0 f t.1)
+table_there l m valid f t = there_read l.window l.root (words l m) f (valid.valid.holds.in_memory t.0 f t.1)
 
 -- what is below a path outside the recursive index is outside it
 pub outside_more : (window : Option Window) (q : List ℕ) (i j : ℕ) → begins_with window (q ++ i ∷ []) ≡ false → begins_with window ((q ++ i ∷ []) ++ j ∷ []) ≡ false

@@ -30,7 +30,7 @@ use Rattle.x86_64_mappers.proofs.Way.Finds.{next_parents}
 use Rattle.x86_64_mappers.proofs.Map.StepOutcomes.{Opens}
 use Rattle.x86_64_mappers.proofs.Way.Outside.{beside_at}
 use Rattle.x86_64_mappers.proofs.Way.ReachedSteps.{leads_last}
-use Rattle.x86_64_mappers.proofs.Memory.WordsRead.{words_read, read_word, read_there}
+use Rattle.x86_64_mappers.proofs.Memory.WordsRead.{words_read, read_word, there_read}
 use Rattle.x86_64_mappers.proofs.Memory.Written.{entry_is}
 
 -- ---- the tables on the way
@@ -93,7 +93,7 @@ module _ (l : Layout) (m : Memory) (valid : Valid l m) (more : ℕ) (path : List
         let e = entry M (take (suc k) path) in
         let up = above k (omega (arith, within)) f here in
         let beside = beside_at l m valid path k (omega (arith, within)) outside up.frame up.way.leads in
-        let there : IsSome (words l m up.frame) = read_there l.window l.root (words l m) up.frame (valid.valid.holds.in_memory (take k path) up.frame up.way.leads) in
+        let there : IsSome (words l m up.frame) = there_read l.window l.root (words l m) up.frame (valid.valid.holds.in_memory (take k path) up.frame up.way.leads) in
         let is : word (words l m) up.frame i ≡ e = sym (up.is ∙ read_word l.window l.root (words l m) up.frame i beside) in
         ap (leads (words l m) l.root) (take-suc path k 0 (omega (arith, within)))
         ∙ leads_last (words l m) l.root (take k path) up.frame i e (words_lead k (omega (arith, within)) up.frame up.way)
@@ -103,8 +103,8 @@ module _ (l : Layout) (m : Memory) (valid : Valid l m) (more : ℕ) (path : List
     pub open_reached : (k : ℕ) → k ≤ length path → (f : ℕ) → IsOpenWay l m more path k f → IsReached l m (take k path) f
     open_reached k within f here = record {
       way = words_lead k within f here;
-      there = read_there l.window l.root (words l m) f (valid.valid.holds.in_memory (take k path) f here.leads);
-      root_there = read_there l.window l.root (words l m) l.root (valid.valid.holds.in_memory [] l.root refl);
+      there = there_read l.window l.root (words l m) f (valid.valid.holds.in_memory (take k path) f here.leads);
+      root_there = there_read l.window l.root (words l m) l.root (valid.valid.holds.in_memory [] l.root refl);
       self = valid.self;
     }
 

@@ -39,10 +39,10 @@ read_some None root T f h = h
 read_some (Some v) root T f h = is_some-set T root v.index 0 f h
 
 -- and back
-pub read_there : (window : Option Window) (root : ℕ) (T : Words) (f : ℕ) → IsSome (outside_window window root T f) → IsSome (T f)
+pub there_read : (window : Option Window) (root : ℕ) (T : Words) (f : ℕ) → IsSome (outside_window window root T f) → IsSome (T f)
 unfolding set_word
-read_there None root T f h = h
-read_there (Some v) root T f h = by (f == root) (T f) h
+there_read None root T f h = h
+there_read (Some v) root T f h = by (f == root) (T f) h
   where
     by : (b : Bool) (o : Option (List ℕ)) → IsSome (cond b (option_map (λ words. set words v.index 0) o) o) → IsSome o
     by true None h = h
