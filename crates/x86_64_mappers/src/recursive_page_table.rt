@@ -16,7 +16,7 @@ mod windows;
 
 use crate::access::TableAccess;
 use bitflags::Flags;
-use made::{made, made_57};
+use made::made;
 use std::fmt::{Display, Formatter, Result as FmtResult, Write};
 use std::marker::PhantomData;
 pub use walked_tables::WalkedTables;
@@ -25,14 +25,14 @@ pub use windows::{
     p1_window, p1_window as p1_window_57, p2_window, p2_window as p2_window_57, p3_window,
     p3_window as p3_window_57, p4_window_57,
 };
-use x86_64_addr::addr::{VirtAddr, VirtAddr57, VirtAddrIn};
+use x86_64_addr::addr::VirtAddrIn;
 use x86_64_addr::index::PageTableIndex;
 use x86_64_addr::level_count::{FiveLevels, FourLevels, LevelCount};
 use x86_64_page::frame::PhysFrame;
 use x86_64_page::page::{PageSize, Size4KiB};
 use x86_64_tables::mapper::{Tables, TablesIn};
 use x86_64_tables::page_table::{PageTable, PageTableFlags};
-use x86_64_tables::phys_memory::{Active, ActiveMemory, ActiveMemory57};
+use x86_64_tables::phys_memory::Active;
 
 /// Says why no mapper was made.
 #[derive(Clone, Copy, Debug, PartialEq)]
@@ -75,90 +75,46 @@ pub type RecursivePageTable<'a> = RecursivePageTableIn<'a, FourLevels>;
 /// The mapper of an active memory with five levels of tables.
 pub type RecursivePageTable57<'a> = RecursivePageTableIn<'a, FiveLevels>;
 
-impl<'a> Recursive<ActiveMemory<'a>, FourLevels> {
+impl<'a, L: LevelCount> RecursivePageTableIn<'a, L> {
     ghost use Rattle.std.specs.Prelude.{◌↔◌, None, IsOk, IfOk, IfErr};
     ghost use Rattle.x86_64_model.specs.Position.{index};
     ghost use Rattle.x86_64_tables.specs.ActiveMemory.{memory_of, cr3_of};
-    ghost use Rattle.x86_64_mappers.specs.InvalidPageTables.{refuses};
-    ghost use Rattle.x86_64_mappers.specs.Recursive.{active_in, recursive_now};
+    ghost use Rattle.x86_64_mappers.specs.InvalidPageTables.{refuses_at};
+    ghost use Rattle.x86_64_mappers.specs.Recursive.{active_in, recursive_now_at};
 
     /// Makes a mapper of the hierarchy whose root is the table in a frame, which the walk of an address arrives at.
     ///
     /// Where it is refused no word changes.
     ///
     /// Condition: unless [`refusal`](Self::refusal) tells why not, the hierarchy is valid for the index of the address, whose
-    /// four indices are one then.
+    /// indices are all one then.
     ///
     /// # Errors
     ///
     /// What [`refusal`](Self::refusal) tells.
     pub fn new(
-        active: ActiveMemory<'a>,
+        active: Active<'a, L>,
         table: PhysFrame<Size4KiB>,
-        virt: VirtAddr,
+        virt: VirtAddrIn<L>,
     ) -> Result<Self, InvalidPageTable>
         requires { let memory = memory_of active in let cr3 = cr3_of active in
-            let now = recursive_now memory cr3 (index 4 virt) in
-            refuses memory cr3 table virt ≡ None → ValidIn now memory }
+            let now = recursive_now_at L.LEVELS memory cr3 (index L.LEVELS virt) in
+            refuses_at L.LEVELS memory cr3 table virt ≡ None → ValidIn now memory }
         ensures* unchanged { sem 𝓛 (RestsUnlessMade active.entry result) }
         ensures active { IfOk result (λ mapper. active_in mapper ≡ active.entry) }
         ensures layout { let memory = memory_of active.entry in let cr3 = cr3_of active.entry in
-            let now = recursive_now memory cr3 (index 4 virt) in
+            let now = recursive_now_at L.LEVELS memory cr3 (index L.LEVELS virt) in
             IfOk result (λ mapper. (⟦<Self as Tables>⟧.hierarchy mapper).layout ≡ now) }
-        ensures made { let why_not = refuses (memory_of active.entry) (cr3_of active.entry) table virt in
-            IsOk result ↔ (why_not ≡ None) }
-        ensures refused { let why_not = refuses (memory_of active.entry) (cr3_of active.entry) table virt in
-            IfErr result (λ why. why_not ≡ Some why) }
+        ensures made { let memory = memory_of active.entry in let cr3 = cr3_of active.entry in
+            IsOk result ↔ (refuses_at L.LEVELS memory cr3 table virt ≡ None) }
+        ensures refused { let memory = memory_of active.entry in let cr3 = cr3_of active.entry in
+            IfErr result (λ why. refuses_at L.LEVELS memory cr3 table virt ≡ Some why) }
     {
         let refusal = Self::refusal(&active, table, virt);
         let index = virt.root_index();
         let self_flags = Self::flags_unless(refusal, &active, index);
         let why = refusal.unwrap_or(InvalidPageTable::NotActive);
         made(active, refusal.is_none(), index, self_flags, why)
-    }
-}
-
-impl<'a> Recursive<ActiveMemory57<'a>, FiveLevels> {
-    ghost use Rattle.std.specs.Prelude.{◌↔◌, None, IsOk, IfOk, IfErr};
-    ghost use Rattle.x86_64_model.specs.Position.{index};
-    ghost use Rattle.x86_64_tables.specs.ActiveMemory.{memory_of, cr3_of};
-    ghost use Rattle.x86_64_mappers.specs.InvalidPageTables.{refuses_57};
-    ghost use Rattle.x86_64_mappers.specs.Recursive.{active_in, recursive_now_57};
-
-    /// Makes a mapper of the hierarchy whose root is the table in a frame, which the walk of an address arrives at.
-    ///
-    /// Where it is refused no word changes.
-    ///
-    /// Condition: unless [`refusal`](Self::refusal) tells why not, the hierarchy is valid for the index of the address, whose
-    /// five indices are one then.
-    ///
-    /// # Errors
-    ///
-    /// What [`refusal`](Self::refusal) tells.
-    pub fn new(
-        active: ActiveMemory57<'a>,
-        table: PhysFrame<Size4KiB>,
-        virt: VirtAddr57,
-    ) -> Result<Self, InvalidPageTable>
-        requires { let memory = memory_of active in let cr3 = cr3_of active in
-            let now = recursive_now_57 memory cr3 (index 5 virt) in
-            refuses_57 memory cr3 table virt ≡ None → ValidIn now memory }
-        ensures* unchanged { sem 𝓛 (RestsUnlessMade active.entry result) }
-        ensures active { IfOk result (λ mapper. active_in mapper ≡ active.entry) }
-        ensures layout { let memory = memory_of active.entry in let cr3 = cr3_of active.entry in
-            let now = recursive_now_57 memory cr3 (index 5 virt) in
-            IfOk result (λ mapper. (⟦<Self as Tables>⟧.hierarchy mapper).layout ≡ now) }
-        ensures made { let why_not = refuses_57 (memory_of active.entry) (cr3_of active.entry) table virt in
-            IsOk result ↔ (why_not ≡ None) }
-        ensures refused { let memory = memory_of active.entry in let cr3 = cr3_of active.entry in
-            let why_not = refuses_57 memory cr3 table virt in
-            IfErr result (λ why. why_not ≡ Some why) }
-    {
-        let refusal = Self::refusal(&active, table, virt);
-        let index = virt.root_index();
-        let self_flags = Self::flags_unless(refusal, &active, index);
-        let why = refusal.unwrap_or(InvalidPageTable::NotActive);
-        made_57(active, refusal.is_none(), index, self_flags, why)
     }
 }
 

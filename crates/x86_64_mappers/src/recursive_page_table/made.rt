@@ -3,21 +3,20 @@ ghost use Rattle.std.specs.Prelude.{◌≡◌};
 ghost use Rattle.std.specs.Borrow.{sem};
 ghost use Rattle.x86_64_mappers.specs.RefusedMappers.{made_of, wrapped_of, RestsUnlessMade};
 
-use super::{InvalidPageTable, Recursive};
+use super::{InvalidPageTable, Recursive, RecursivePageTableIn};
 use std::marker::PhantomData;
 use x86_64_addr::index::PageTableIndex;
-use x86_64_addr::level_count::{FiveLevels, FourLevels};
 use x86_64_tables::page_table::PageTableFlags;
-use x86_64_tables::phys_memory::{ActiveMemory, ActiveMemory57};
+use x86_64_tables::phys_memory::Active;
 
 /// Makes a mapper, or ends the loan with no word changed.
-pub(super) fn made<'a>(
-    active: ActiveMemory<'a>,
+pub(super) fn made<'a, L>(
+    active: Active<'a, L>,
     kept: bool,
     index: PageTableIndex,
     self_flags: PageTableFlags,
     why: InvalidPageTable,
-) -> Result<Recursive<ActiveMemory<'a>, FourLevels>, InvalidPageTable>
+) -> Result<RecursivePageTableIn<'a, L>, InvalidPageTable>
     ensures* unchanged { sem 𝓛 (RestsUnlessMade active.entry result) }
     ensures value { result ≡ made_of active.entry kept index self_flags why }
 {
@@ -25,46 +24,12 @@ pub(super) fn made<'a>(
 }
 
 /// Makes a mapper of what is kept, or says why not.
-fn wrapped<'a>(
-    kept: Option<ActiveMemory<'a>>,
+fn wrapped<'a, L>(
+    kept: Option<Active<'a, L>>,
     index: PageTableIndex,
     self_flags: PageTableFlags,
     why: InvalidPageTable,
-) -> Result<Recursive<ActiveMemory<'a>, FourLevels>, InvalidPageTable>
-    ensures { result ≡ wrapped_of kept.entry index self_flags why }
-{
-    match kept {
-        Some(active) => Ok(Recursive {
-            active,
-            index,
-            self_flags,
-            levels: PhantomData,
-        }),
-        None => Err(why),
-    }
-}
-
-/// Makes a mapper, or ends the loan with no word changed.
-pub(super) fn made_57<'a>(
-    active: ActiveMemory57<'a>,
-    kept: bool,
-    index: PageTableIndex,
-    self_flags: PageTableFlags,
-    why: InvalidPageTable,
-) -> Result<Recursive<ActiveMemory57<'a>, FiveLevels>, InvalidPageTable>
-    ensures* unchanged { sem 𝓛 (RestsUnlessMade active.entry result) }
-    ensures value { result ≡ made_of active.entry kept index self_flags why }
-{
-    wrapped_57(active.kept_if(kept), index, self_flags, why)
-}
-
-/// Makes a mapper of what is kept, or says why not.
-fn wrapped_57<'a>(
-    kept: Option<ActiveMemory57<'a>>,
-    index: PageTableIndex,
-    self_flags: PageTableFlags,
-    why: InvalidPageTable,
-) -> Result<Recursive<ActiveMemory57<'a>, FiveLevels>, InvalidPageTable>
+) -> Result<RecursivePageTableIn<'a, L>, InvalidPageTable>
     ensures { result ≡ wrapped_of kept.entry index self_flags why }
 {
     match kept {

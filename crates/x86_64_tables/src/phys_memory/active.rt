@@ -106,29 +106,7 @@ impl<'a, L: LevelCount> Active<'a, L> {
     }
 }
 
-impl<'a> Active<'a, FourLevels> {
-    /// Keeps the memory, or ends the loan with no word changed.
-    pub fn kept_if(self, kept: bool) -> Option<Self>
-        ensures* unchanged { sem 𝓛 (RestsUnlessKept self.entry result) }
-        ensures value { result ≡ kept_of self.entry kept }
-    {
-        let Active {
-            memory,
-            cr3,
-            levels: _,
-        } = self;
-        if kept {
-            return Some(Active {
-                memory,
-                cr3,
-                levels: PhantomData,
-            });
-        }
-        None
-    }
-}
-
-impl<'a> Active<'a, FiveLevels> {
+impl<'a, L> Active<'a, L> {
     /// Keeps the memory, or ends the loan with no word changed.
     pub fn kept_if(self, kept: bool) -> Option<Self>
         ensures* unchanged { sem 𝓛 (RestsUnlessKept self.entry result) }
