@@ -12,6 +12,7 @@ mod five_levels_flushes;
 mod five_levels_offset;
 mod five_levels_pages;
 mod five_levels_recursive;
+mod layer;
 mod offset;
 mod recursive;
 mod unmap;

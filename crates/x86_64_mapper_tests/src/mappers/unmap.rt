@@ -17,7 +17,7 @@ use x86_64_tables::mapper::UnmapError;
 use x86_64_tables::phys_memory::{IdentityMapping, PhysMemory, is_valid_hierarchy};
 
 /// Unmaps a page by any mapper, whose path is not in the window.
-fn unmap_by<S: PageSize, M: Mapper<S>>(
+pub fn unmap_by<S: PageSize, M: Mapper<S>>(
     mapper: &mut M,
     page: Page<S>,
 ) -> Result<PhysFrame<S>, UnmapError>

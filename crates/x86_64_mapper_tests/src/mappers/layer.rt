@@ -1,0 +1,204 @@
+//! A layer round a mapper: it has all calls of one, and the owner of the memory below it learns what they did.
+ghost use Rattle.std.specs.Prelude.{◌≡◌};
+ghost use Rattle.x86_64_model.specs.Call.{Unmap};
+ghost use Rattle.x86_64_model.specs.Layout.{Valid as ValidIn};
+ghost use Rattle.x86_64_model.specs.Memory.{identity_places};
+ghost use Rattle.x86_64_model.specs.Mapper.{May, Does, path_of};
+ghost use Rattle.x86_64_model.specs.Pool.{serves_below};
+ghost use Rattle.x86_64_mappers.specs.Layouts.{direct, owned};
+ghost use Rattle.x86_64_tables.specs.MapperAnswers.{frame_answer};
+ghost use Rattle.x86_64.specs.Runs.{FitsPool};
+
+use super::unmap::{page, unmap_by};
+use super::{WORDS, check_words, image, small};
+use crate::assertions::{assert_equal, unwrap};
+use bitflags::Flags;
+use std::process::Abort;
+use x86_64::{Call, FramePool, Reply, SizeCall, pool_fits, run};
+use x86_64_addr::addr::VirtAddr;
+use x86_64_addr::index::PageTableIndex;
+use x86_64_addr::level_count::LevelCount;
+use x86_64_mappers::mapped_page_table::MappedPageTable;
+use x86_64_mappers::mapper::{Mapper, TableAccess};
+use x86_64_page::frame::PhysFrame;
+use x86_64_page::page::{Page, PageSize, Size4KiB};
+use x86_64_tables::mapper::{Tables, TablesIn, UnmapError};
+use x86_64_tables::page_table::{PageTable, PageTableFlags};
+use x86_64_tables::phys_memory::{IdentityMapping, PhysMemory, is_valid_hierarchy};
+
+/// Hands on each table of a mapper, and counts those that it lends to be changed.
+#[derive(Drop)]
+struct Counting<'a, M> {
+    mapper: &'a mut M,
+    count: u64,
+}
+
+impl<'a, M> Counting<'a, M> {
+    /// Makes a layer round a mapper. No table was lent yet.
+    fn new(mapper: &'a mut M) -> Self
+        ensures lent { result.mapper.ghost_name ≡ mapper.entry.ghost_name }
+        ensures mapper { result.mapper.now ≡ mapper.old }
+    {
+        Counting { mapper, count: 0 }
+    }
+}
+
+impl<'a, M: Tables> Tables for Counting<'a, M> {
+    ghost use Rattle.std.specs.Borrow.{GName};
+
+    ghost Lent = { GName × M.Lent };
+
+    ghost hierarchy = { λ layer. let below = M.hierarchy layer.mapper.now in
+        record { layout = below.layout; memory = below.memory; lent = (layer.mapper.ghost_name, below.lent) } };
+
+    ghost added_flags = { λ layer. M.added_flags layer.mapper.now };
+
+    fn recursive_index(&self) -> Option<PageTableIndex> {
+        self.mapper.recursive_index()
+    }
+
+    ghost at_least_four = { λ layer. M.at_least_four layer.mapper.now };
+
+    ghost at_most_five = { λ layer. M.at_most_five layer.mapper.now };
+
+    ghost is_mapping = { λ layer. M.is_mapping layer.mapper.now };
+}
+
+impl<'a, M: TablesIn<L>, L: LevelCount> TablesIn<L> for Counting<'a, M> {
+    ghost level_count = { λ layer. M.level_count layer.mapper.now };
+}
+
+impl<'a, M: TableAccess> TableAccess for Counting<'a, M> {
+    ghost use Rattle.std.specs.Prelude.{◌+◌, ◌-◌, ◌^◌, min};
+    ghost use Rattle.std.proofs.Common.{ap};
+
+    ghost with_table = { λ layer frame table. record layer {
+      mapper = record (layer.mapper) { now = M.with_table layer.mapper.now frame table };
+      count = min (layer.count + 1) (2 ^ 64 - 1);
+    } };
+
+    fn root(&self) -> PhysFrame<Size4KiB> {
+        self.mapper.root()
+    }
+
+    fn new_table_flags(&self) -> PageTableFlags {
+        self.mapper.new_table_flags()
+    }
+
+    fn table(&self, path: &[PageTableIndex], frame: PhysFrame<Size4KiB>) -> &PageTable {
+        self.mapper.table(path, frame)
+    }
+
+    fn table_mut(&mut self, path: &[PageTableIndex], frame: PhysFrame<Size4KiB>) -> &mut PageTable {
+        self.count = self.count.saturating_add(1);
+        self.mapper.table_mut(path, frame)
+    }
+
+    ghost puts = { λ layer frame table. M.puts layer.mapper.now frame table };
+
+    ghost keeps_layout = { λ layer frame table. M.keeps_layout layer.mapper.now frame table };
+
+    ghost keeps_lent = { λ layer frame table.
+        ap (λ lent. (layer.mapper.ghost_name, lent)) (M.keeps_lent layer.mapper.now frame table) };
+}
+
+/// Unmaps a page by a layer round any mapper, which is dropped then, and tells how many tables it lent to be changed. It did to
+/// the mapper what the call does.
+fn unmap_by_layer<S: PageSize, M: Mapper<S>>(
+    mapper: &mut M,
+    page: Page<S>,
+) -> (Result<PhysFrame<S>, UnmapError>, u64)
+    requires { May (M.hierarchy mapper.old) (Unmap (path_of (M.hierarchy mapper.old) S.LEVEL page)) }
+    ensures { let h = M.hierarchy mapper.old in
+        Does h (Unmap (path_of h S.LEVEL page)) (frame_answer result.0) (M.hierarchy mapper.new) }
+{
+    let mut layer = Counting::new(mapper);
+    let answer = unmap_by(&mut layer, page);
+    (answer, layer.count)
+}
+
+/// Does so by a layer round a mapper of a memory. The owner knows what the call did to the memory.
+fn unmap_counted<S: PageSize>(
+    memory: &mut PhysMemory,
+    root: PhysFrame<Size4KiB>,
+    page: Page<S>,
+) -> (Result<PhysFrame<S>, UnmapError>, u64)
+    requires { ValidIn (direct identity_places root) memory.old }
+    ensures { let h = owned identity_places root memory.old (tt {0}) in
+        Does h (Unmap (path_of h S.LEVEL page)) (frame_answer result.0) (record h { memory = memory.new }) }
+{
+    let mut mapper = MappedPageTable::new(memory, root, IdentityMapping);
+    unmap_by_layer(&mut mapper, page)
+}
+
+#[test]
+fn layers_unmap_pages(rt: HostRuntime) {
+    let mut memory = image(rt, rt.alloc(), &WORDS);
+    let root = small(0x1000);
+    assert!(rt;
+        unwrap(
+            rt,
+            is_valid_hierarchy(rt.alloc(), &memory, &IdentityMapping, root)
+        )
+    );
+    let answer = unmap_counted::<Size4KiB>(&mut memory, root, page(0x1000));
+    assert_equal(rt, answer, (Ok(small(0x5000)), 1));
+    check_words(rt, &memory, &WORDS[..3])
+}
+
+/// How often a table is lent to be changed by the calls below: nine times where the map makes a table below each of three entries
+/// (once to look whether the entry is used, once to set it, once to clear the new table), once each for the page's entry by the
+/// map, the change of flags and the unmap, never for the translation, and once for each of the three entries that the clean up
+/// makes unused.
+const LOANS: u64 = 15;
+
+/// Answers calls by a layer, and gives how many tables were lent to be changed.
+fn run_counted(
+    rt: impl Abort + Copy,
+    memory: &mut PhysMemory,
+    root: PhysFrame<Size4KiB>,
+    pool: &mut FramePool,
+    calls: &[Call],
+    replies: &mut Vec<Reply>,
+) -> u64
+    requires { let layout = direct identity_places root in
+        FitsPool layout memory.old (serves_below pool.old.limit) pool.old.frames }
+{
+    let mut mapper = MappedPageTable::new(memory, root, IdentityMapping);
+    let mut layer = Counting::new(&mut mapper);
+    unwrap(rt, run(&mut layer, pool, calls, replies));
+    layer.count
+}
+
+#[test]
+fn layers_run_lists(rt: HostRuntime) {
+    let alloc = rt.alloc();
+    let mut memory = image(rt, alloc, &[]);
+    let (root, page, flags) = (
+        small(0x1000),
+        page(0x1000),
+        PageTableFlags::from_bits_retain(3),
+    );
+    let mut pool = unwrap(rt, FramePool::new(alloc, 8));
+    for frame in [0x2000, 0x3000, 0x4000] {
+        unwrap(rt, pool.try_add(small(frame)));
+    }
+    let calls = [
+        Call::Of4KiB(SizeCall::MapTo {
+            page,
+            frame: small(0x5000),
+            flags,
+        }),
+        Call::Translate(VirtAddr::new(0x1abc)),
+        Call::Of4KiB(SizeCall::UpdateFlags { page, flags }),
+        Call::Of4KiB(SizeCall::Unmap { page }),
+        Call::CleanUp,
+    ];
+    let fits = pool_fits(alloc, &memory, &IdentityMapping, root, &pool);
+    assert!(rt; unwrap(rt, fits));
+    let mut replies = Vec::new(alloc);
+    let count = run_counted(rt, &mut memory, root, &mut pool, &calls, &mut replies);
+    assert_equal(rt, count, LOANS);
+    assert_equal(rt, replies.len(), calls.len());
+    check_words(rt, &memory, &[])
+}
