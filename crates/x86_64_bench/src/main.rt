@@ -2,19 +2,16 @@
 //! mapper that finds tables by their frames, also in a memory that lacks every second place and with five levels, and by the one that
 //! reaches them through the root's entry for itself.
 //!
-//! Without arguments it does a small fixed run, and prints how often each operation was done; it also loads a small program, and
-//! prints where the processor arrives in it. With `M contiguous` or
-//! `M scattered`, and a size of pages that is 4KiB where none is given, it does M pages in seven rounds by each mapper, and
-//! prints the time of each operation on standard error, with how many times as long as by the first one it takes.
+//! Without arguments it does a small fixed run, and prints how often each operation was done. With `M contiguous` or `M scattered`,
+//! and a size of pages that is 4KiB where none is given, it does M pages in seven rounds by each mapper, and prints the time of
+//! each operation on standard error, with how many times as long as by the first one it takes.
 #![tactic(auto)]
 
-mod load;
 mod page_calls;
 mod report;
 mod rounds;
 mod workload;
 
-use crate::load::report_loads;
 use crate::report::{report_counts, report_ratio, report_times};
 use crate::rounds::{Access, Operation, Round, measure};
 use crate::workload::{Pattern, Workload};
@@ -62,16 +59,12 @@ fn parse_workload(pages: &str, pattern: &str) -> Option<Workload> {
     Some(Workload::new(pages.parse().ok()?, pattern))
 }
 
-/// Does one round of a small workload with each size by each mapper, and prints how often each operation was done. Then loads
-/// small programs, and prints what came of it.
+/// Does one round of a small workload with each size by each mapper, and prints how often each operation was done.
 fn run_once(rt: &HostRuntime) -> io::Result<ExitCode> {
     for access in Access::ALL {
         if !count::<Size4KiB>(rt, access)? || !count::<Size2MiB>(rt, access)? {
             return Ok(ExitCode::from(2));
         }
-    }
-    if !report_loads(rt.alloc(), rt)? {
-        return Ok(ExitCode::from(2));
     }
     Ok(ExitCode::from(0))
 }

@@ -1,6 +1,8 @@
 //! The pages that are mapped, and the frames that they are mapped to.
 ghost use Rattle.std.specs.Prelude.{◌≡◌, ◌<◌, ◌≤◌};
 
+use rand::seq::SliceRandom;
+use rand_pcg::Pcg32;
 use std::alloc::{AllocError, Global};
 use x86_64::structures::paging::{PageSize, PhysFrame};
 use x86_64::{LevelCount, PhysAddr};
@@ -72,14 +74,7 @@ impl Workload {
         for k in 0..self.pages {
             order.push(k)?;
         }
-        let mut state = 1_u64;
-        for last in 1..order.len() {
-            state = state
-                .wrapping_mul(6_364_136_223_846_793_005)
-                .wrapping_add(1_442_695_040_888_963_407);
-            let other = (state >> 33) as usize % (last + 1);
-            order.swap(last, other);
-        }
+        order.as_mut_slice().shuffle(&mut Pcg32::new(1, 1));
         Ok(order)
     }
 }
