@@ -70,6 +70,16 @@ fn link_table<M: TableAccess>(
     mapper.table_mut(&parents[..k + 1], frame).zero();
 }
 
+/// Adds flags to those of an entry, which is written only if it lacks one: the next map reads the word, and would wait for it.
+fn add_flags(entry: &mut PageTableEntry, more: PageTableFlags)
+    ensures { entry.new ≡ bit_or entry.old (bits_of more) }
+{
+    let flags = entry.flags();
+    if !flags.contains(more) {
+        entry.set_flags(flags.union(more));
+    }
+}
+
 /// Adds the parent flags to the used entry of a parent, and gives the frame of the table that it names.
 ///
 /// # Errors
@@ -85,7 +95,7 @@ fn mark_parent(
 {
     let flags = entry.flags();
     let next = PhysFrame::from_start_address_unchecked(entry.addr());
-    entry.set_flags(flags.union(parent_flags));
+    add_flags(entry, parent_flags);
     if flags.contains(PageTableFlags::HUGE_PAGE) {
         Err(PageTableCreateError::MappedToHugePage)
     } else {

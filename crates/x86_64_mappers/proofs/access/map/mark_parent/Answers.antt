@@ -1,6 +1,5 @@
-use Rattle.std.proofs.Common.{cond, Ok, Err, bit_or, sym, ap, ◌∙◌}
+use Rattle.std.proofs.Common.{cond, Ok, Err, sym, ap, ◌∙◌}
 use Rattle.x86_64_model.specs.Entry.{address}
-use Rattle.x86_64_model.proofs.Lemmas.Entries.Bits.{flags_added}
 use Rattle.x86_64_model.proofs.Lemmas.Entries.Words.{address_aligned}
 use Rattle.x86_64_model.specs.Refusal.{ParentEntryHugePage}
 use Rattle.x86_64_mappers.proofs.Memory.EntryWrites.{tested_huge}
@@ -8,16 +7,6 @@ use Rattle.x86_64_mappers.proofs.access.map.mark_parent.Goals as goal
 
 pub from_start_address_unchecked-next-requires : goal.from_start_address_unchecked-next-requires
 from_start_address_unchecked-next-requires c = rw c.addr.ensures (address_aligned c.args.entry.now)
-
-pub returns-then-contains-clause-marked : goal.returns-then-contains-clause-marked
-returns-then-contains-clause-marked c =
-    c.set_flags.ensures ∙ ap (bit_or (address c.args.entry.now)) (c.union.ensures tt ∙ ap (λ x. bit_or x c.args.parent_flags.0) c.flags-flags.ensures.value)
-    ∙ flags_added c.args.entry.now c.args.parent_flags.0 c.flags-flags.ensures.below
-
-pub returns-else-contains-clause-marked : goal.returns-else-contains-clause-marked
-returns-else-contains-clause-marked c =
-    c.set_flags.ensures ∙ ap (bit_or (address c.args.entry.now)) (c.union.ensures tt ∙ ap (λ x. bit_or x c.args.parent_flags.0) c.flags-flags.ensures.value)
-    ∙ flags_added c.args.entry.now c.args.parent_flags.0 c.flags-flags.ensures.below
 
 pub returns-then-contains-clause-names : goal.returns-then-contains-clause-names
 returns-then-contains-clause-names c =
