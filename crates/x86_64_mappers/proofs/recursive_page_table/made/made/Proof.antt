@@ -6,7 +6,7 @@ use mir.MapTy.{inst_fn}
 use seplogic.Ra.Ura.{Ura}
 use mir.Val.{Val, has_ty, WT, vbool, of_list}
 use base.Logic.{SProp, ent, emp, id⊢}
-use base.Fml.{Fml, Lft, Share, ftrue, flft}
+use base.Fml.{Fml, ftrue, flft}
 use prog.Wp.{WpFn}
 use types.Logic.{Logic}
 use types.Kit.{‵, raw, ◌⊛◌, some, later, ◌$◌, ◌∵◌, !, qed, by, move, keep, drop, use0, use1, use2, split, join, fsplit, fjoin, pick, await, rewrite}
