@@ -1,8 +1,7 @@
 //! Tests in which memory is refused. They fill the address space.
 mod attempts;
-mod five_levels;
 mod hoard;
-mod library;
+mod lists;
 mod pairs;
 mod program;
 mod tokens;

@@ -1,7 +1,10 @@
 //! Readers and writers in memory.
 use std::io::{self, Read, Write};
 
-/// Gives its bytes seven at a time, and fails at the call of a number, counted from 1.
+/// How many bytes a source gives at once.
+pub const BYTES_AT_ONCE: usize = 7;
+
+/// Gives its bytes some at a time, and fails at the call of a number, counted from 1.
 #[derive(Drop)]
 pub struct Source<'a> {
     rest: &'a [u8],
@@ -27,7 +30,7 @@ impl Read for Source<'_> {
         if self.calls == self.fails_at {
             return Err(io::Error::from(io::ErrorKind::Other));
         }
-        let count = self.rest.len().min(buf.len()).min(7);
+        let count = self.rest.len().min(buf.len()).min(BYTES_AT_ONCE);
         let (given, rest) = self.rest.split_at(count);
         buf[..count].copy_from_slice(given);
         self.rest = rest;
@@ -110,6 +113,8 @@ pub struct Comparison<'a> {
     pub rest: &'a [u8],
     /// Tells whether all that was written was wanted.
     pub agrees: bool,
+    /// How often it was written to.
+    pub calls: u64,
 }
 
 impl<'a> Comparison<'a> {
@@ -118,12 +123,14 @@ impl<'a> Comparison<'a> {
         Comparison {
             rest: wanted,
             agrees: true,
+            calls: 0,
         }
     }
 }
 
 impl Write for Comparison<'_> {
     fn write(&mut self, buf: &[u8]) -> io::Result<usize> {
+        self.calls = self.calls.saturating_add(1);
         match self.rest.strip_prefix(buf) {
             Some(rest) => self.rest = rest,
             None => self.agrees = false,

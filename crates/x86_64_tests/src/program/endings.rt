@@ -1,6 +1,7 @@
 //! How runs end.
-use super::{FIRST, MODES, Outcome, SELF_ENTRY, assert_outcome, assert_run, run_failing};
-use crate::assertions::{assert_equal, assert_equal_in, unwrap};
+use super::{FIRST, MODES, SELF_ENTRY, assert_outcome, assert_run, run_failing};
+use crate::assertions::{assert_equal, unwrap};
+use crate::streams::BYTES_AT_ONCE;
 use pagetab_engine::ending::{Ending, Fault};
 use std::alloc::Global;
 use std::process::Abort;
@@ -77,22 +78,26 @@ fn arguments_have_a_recursive_index(rt: HostRuntime) {
     }
 }
 
-/// Lines after the image of the words of the page 0x1000.
-const LINES: &[u8] = b"free 0x6000
-free 0x7000
-translate 0x1abc
-map 4KiB 0x2000 0x9000 0x1
-walk 0x1abc
-pool
-";
+/// Arguments for a memory of 16 places with five levels, with the lines that map the page 0x1000 beside those of the image: of its
+/// four tables the first one is of level five.
+const FIVE_LEVELS: [(&str, &str); 3] = [
+    ("direct5 16", "word 0x4000 0 0x8003\nword 0x8000 1 0x5003\n"),
+    (
+        "recursive5 16 510",
+        "word 0x1000 510 0x1003\nword 0x4000 0 0x8003\nword 0x8000 1 0x5003\n",
+    ),
+    (
+        "pair5 16 510",
+        "word 0x1000 510 0x1003\nword 0x4000 0 0x8003\nword 0x8000 1 0x5003\n",
+    ),
+];
 
-/// The replies, after none.
-const REPLIES: [&str; 5] = [
-    "",
-    "mapped 4KiB 0x5000 0xabc 0x3\n",
-    "ok\n",
-    "0x5abc write=1 user=0\n",
-    "pool 0x6000 0x7000\n",
+/// The lines after the image, each with the reply to it.
+const EXCHANGES: [(&str, &str); 4] = [
+    ("translate 0x1abc\n", "mapped 4KiB 0x5000 0xabc 0x3\n"),
+    ("map 4KiB 0x2000 0x9000 0x1\n", "ok\n"),
+    ("walk 0x1abc\n", "0x5abc write=1 user=0\n"),
+    ("pool\n", "pool 0x6000 0x7000\n"),
 ];
 
 /// The end of a run whose read failed.
@@ -101,63 +106,83 @@ const UNREAD: Ending = Ending::Stopped(Fault::Input);
 /// The end of a run whose write failed.
 const UNWRITTEN: Ending = Ending::Stopped(Fault::Output);
 
-/// Runs the engine on these lines, in a mode and with the line that its image needs besides. The read and the write of these
-/// numbers fail, where they aren't 0.
-fn run_lines(
+/// Gives the lines after the image.
+fn lines(rt: impl Abort + Copy, alloc: Global) -> String {
+    let mut lines = String::new(alloc);
+    for (line, _) in EXCHANGES {
+        unwrap(rt, lines.push_str(line));
+    }
+    lines
+}
+
+/// Gives the replies to the lines that end within so many bytes of the input, which has an image of this length before them.
+fn replies_within(rt: impl Abort + Copy, alloc: Global, image: usize, bytes: usize) -> String {
+    let mut end = image;
+    let mut replies = String::new(alloc);
+    for (line, reply) in EXCHANGES {
+        end = end.saturating_add(line.len());
+        if end <= bytes {
+            unwrap(rt, replies.push_str(reply));
+        }
+    }
+    replies
+}
+
+/// Lets each of so many reads fail in turn: the replies to the lines that were read stay.
+fn assert_failed_reads(
     rt: impl Abort + Copy,
     alloc: Global,
-    (arguments, first): (&str, &str),
-    read: u64,
-    write: u64,
-) -> Outcome {
-    let image = unwrap(rt, format!(in alloc; "{first}{FIRST}"));
-    run_failing(rt, alloc, arguments, &image, LINES, read, write)
+    arguments: &str,
+    (image, lines): (&str, &[u8]),
+    reads: u64,
+) {
+    let mut read_bytes: usize = 0;
+    for read in 1..=reads {
+        let replies = replies_within(rt, alloc, image.len(), read_bytes);
+        let outcome = run_failing(rt, alloc, arguments, image, lines, read, 0);
+        assert_outcome(rt, &outcome, UNREAD, &replies, arguments);
+        assert_equal(rt, outcome.reads, read);
+        read_bytes = read_bytes.saturating_add(BYTES_AT_ONCE);
+    }
 }
 
-/// Asserts that a failed read ends the run, which has written a front part of the replies by then.
-fn assert_failed_read(rt: impl Abort + Copy, outcome: &Outcome, read: u64, whole: &[u8]) {
-    assert_equal_in(rt, read, outcome.ending, UNREAD);
-    assert_equal(rt, outcome.reads, read);
-    assert!(rt;
-        whole.starts_with(outcome.written.as_slice()),
-        "read {read}"
-    );
+/// Lets each write fail in turn: the replies before it stay.
+fn assert_failed_writes(
+    rt: impl Abort + Copy,
+    alloc: Global,
+    arguments: &str,
+    (image, lines): (&str, &[u8]),
+) {
+    let mut replies = String::new(alloc);
+    for (write, (_, reply)) in (1..).zip(EXCHANGES) {
+        let outcome = run_failing(rt, alloc, arguments, image, lines, 0, write);
+        assert_outcome(rt, &outcome, UNWRITTEN, &replies, arguments);
+        unwrap(rt, replies.push_str(reply));
+    }
 }
 
-/// Lets each read fail in turn.
-fn assert_failed_reads(rt: impl Abort + Copy, alloc: Global, mode: (&str, &str)) {
-    let whole = run_lines(rt, alloc, mode, 0, 0);
-    assert_equal(rt, whole.ending, Ending::Done);
-    for read in 1..=whole.reads {
-        let outcome = run_lines(rt, alloc, mode, read, 0);
-        assert_failed_read(rt, &outcome, read, &whole.written);
+/// Lets each read and each write fail in turn, in some of the modes.
+fn assert_failures(rt: impl Abort + Copy, alloc: Global, modes: &[(&str, &str)]) {
+    let lines = lines(rt, alloc);
+    for (arguments, first) in modes {
+        let image = unwrap(
+            rt,
+            format!(in alloc; "{first}{FIRST}free 0x6000\nfree 0x7000\n"),
+        );
+        let input = (image.as_str(), lines.as_bytes());
+        let whole = run_failing(rt, alloc, arguments, &image, lines.as_bytes(), 0, 0);
+        let replies = replies_within(rt, alloc, 0, usize::MAX);
+        assert_outcome(rt, &whole, Ending::Done, &replies, arguments);
+        assert_equal(rt, whole.writes, EXCHANGES.len() as u64);
+        assert_failed_reads(rt, alloc, arguments, input, whole.reads);
+        assert_failed_writes(rt, alloc, arguments, input);
     }
 }
 
 #[test]
-fn failed_reads_end_the_run(rt: HostRuntime) {
-    for mode in MODES {
-        assert_failed_reads(rt, rt.alloc(), mode);
-    }
-}
-
-/// Lets each write fail in turn.
-fn assert_failed_writes(rt: impl Abort + Copy, alloc: Global, mode: (&str, &str)) {
-    let whole = run_lines(rt, alloc, mode, 0, 0);
-    assert_equal(rt, whole.writes, 4);
-    let mut earlier = String::new(alloc);
-    for (write, reply) in (1..).zip(REPLIES).take(4) {
-        unwrap(rt, earlier.push_str(reply));
-        let outcome = run_lines(rt, alloc, mode, 0, write);
-        assert_outcome(rt, &outcome, UNWRITTEN, &earlier, "a failed write");
-    }
-}
-
-#[test]
-fn failed_writes_end_the_run(rt: HostRuntime) {
-    for mode in MODES {
-        assert_failed_writes(rt, rt.alloc(), mode);
-    }
+fn failed_reads_and_writes_end_the_run(rt: HostRuntime) {
+    assert_failures(rt, rt.alloc(), &MODES);
+    assert_failures(rt, rt.alloc(), &FIVE_LEVELS)
 }
 
 /// Faults, each with its status and its text.

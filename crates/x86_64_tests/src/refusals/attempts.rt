@@ -1,10 +1,9 @@
 //! Calls of the library that take memory and change nothing.
-use super::hoard::answer_past;
-use super::library::FREE;
-use crate::assertions::{assert_equal, unwrap};
+use super::hoard::hoard_past;
+use crate::assertions::{assert_equal, assert_equal_in, unwrap};
 use crate::images::{ROOT, frame_at, pool_of, set_word};
 use std::alloc::{AllocError, Global};
-use x86_64::structures::paging::PageTableIndex;
+use x86_64::structures::paging::{MappedPageTable, MappedPageTable57, PageTableIndex};
 use x86_64::{
     FramePool, IdentityMapping, PhysMemory, PlacesRefusal, is_valid_hierarchy,
     is_valid_hierarchy_57, is_valid_recursive, is_valid_recursive_57, pool_fits, pool_fits_57,
@@ -12,7 +11,7 @@ use x86_64::{
 };
 
 /// A call that takes memory and changes nothing.
-#[derive(Clone, Copy)]
+#[derive(Clone, Copy, Debug)]
 enum Attempt {
     NewMemory,
     MemoryWithGaps,
@@ -91,21 +90,43 @@ fn make(
 }
 
 #[test]
-fn memories_and_pools_are_made_and_tested_once_there_is_room(rt: HostRuntime) {
+fn memories_and_pools_are_made_and_tested_where_there_is_room(rt: HostRuntime) {
     let alloc = rt.alloc();
     let memory = unwrap(rt, PhysMemory::new(alloc, 4096));
     let mut walked = unwrap(rt, PhysMemory::new(alloc, 4096));
     set_word(rt, &mut walked, ROOT, 510, 0x1003);
-    let pool = pool_of(rt, alloc, 4096, &FREE);
-    for (kind, room) in ATTEMPTS {
-        let answer = answer_past(
-            rt,
-            alloc,
-            room,
-            || make(alloc, kind, &memory, &walked, &pool),
-        );
-        assert_equal(rt, answer, true);
+    let pool = pool_of(rt, alloc, 4096, &[0x2000, 0x3000, 0x4000]);
+    for (attempt, room) in ATTEMPTS {
+        let hoard = hoard_past(rt, alloc, room);
+        let refused = make(alloc, attempt, &memory, &walked, &pool);
+        drop(hoard);
+        assert_equal_in(rt, (attempt, room), refused, Err(AllocError));
+        let made = make(alloc, attempt, &memory, &walked, &pool);
+        assert_equal_in(rt, attempt, made, Ok(true));
     }
+}
+
+#[test]
+fn mappers_are_tested_where_there_is_room(rt: HostRuntime) {
+    let (alloc, root) = (rt.alloc(), frame_at(ROOT));
+    let mut memory = unwrap(rt, PhysMemory::new(alloc, 4096));
+    let is_valid = is_valid_hierarchy(alloc, &memory, &IdentityMapping, root);
+    assert!(rt; unwrap(rt, is_valid));
+    let mapper = MappedPageTable::new(&mut memory, root, IdentityMapping);
+    let hoard = hoard_past(rt, alloc, &[]);
+    let refused = mapper.is_valid(alloc);
+    drop(hoard);
+    let answers = [refused, mapper.is_valid(alloc)];
+    assert_equal(rt, answers, [Err(AllocError), Ok(true)]);
+    drop(mapper);
+    let is_valid = is_valid_hierarchy_57(alloc, &memory, &IdentityMapping, root);
+    assert!(rt; unwrap(rt, is_valid));
+    let mapper = MappedPageTable57::new(&mut memory, root, IdentityMapping);
+    let hoard = hoard_past(rt, alloc, &[]);
+    let refused = mapper.is_valid(alloc);
+    drop(hoard);
+    let answers = [refused, mapper.is_valid(alloc)];
+    assert_equal(rt, answers, [Err(AllocError), Ok(true)]);
 }
 
 #[test]

@@ -1,4 +1,4 @@
-//! Calls while there is no memory.
+//! All memory that there is.
 use crate::assertions::unwrap;
 use std::alloc::{AllocError, Global};
 use std::process::Abort;
@@ -6,9 +6,31 @@ use std::process::Abort;
 /// How many blocks are taken at most.
 const BLOCK_COUNT: usize = 100_000;
 
-/// Takes all memory that there is, in blocks of falling size. Small ones are of each size, since an allocator may keep what was
-/// given back for blocks of the same size.
-pub fn hoard(alloc: Global) -> Result<Vec<Vec<u8>>, AllocError> {
+/// Holds all memory but room for some blocks, until it is dropped.
+#[derive(Drop)]
+pub struct Hoard {
+    blocks: Vec<Vec<u8>>,
+    // The list of the blocks that were given back. Were it dropped, there would be room for as much.
+    spared: Vec<Vec<u8>>,
+}
+
+/// Takes all memory that there is, but for room for blocks of these sizes, given in the order in which they are asked for.
+pub fn hoard_past(rt: impl Abort + Copy, alloc: Global, room: &[usize]) -> Hoard {
+    let mut spared: Vec<Vec<u8>> = Vec::new(alloc);
+    for size in room {
+        unwrap(
+            rt,
+            spared.push(unwrap(rt, Vec::with_capacity(alloc, *size))),
+        );
+    }
+    let blocks = unwrap(rt, take_all(alloc));
+    spared.clear();
+    Hoard { blocks, spared }
+}
+
+/// Takes all memory, in blocks of falling size. Small ones are of each size, since an allocator may keep what was given back for
+/// blocks of the same size.
+fn take_all(alloc: Global) -> Result<Vec<Vec<u8>>, AllocError> {
     let mut blocks = Vec::with_capacity(alloc, BLOCK_COUNT)?;
     let mut size = 1 << 46;
     for _ in 0..36 {
@@ -32,48 +54,4 @@ fn take_blocks(alloc: Global, size: usize, blocks: &mut Vec<Vec<u8>>) {
             Err(_) => return,
         }
     }
-}
-
-/// Makes a call while there is no memory, and again after each block that is given back, smallest first, until it is
-/// answered. Gives the answer, and compares that the call was refused before.
-pub fn answer_at_last<T: Drop, F: FnMut() -> Result<T, AllocError>>(
-    rt: impl Abort + Copy,
-    alloc: Global,
-    call: F,
-) -> T
-    requires { F.IsAlwaysCallable call }
-{
-    answer_past(rt, alloc, &[], call)
-}
-
-/// Does so where there is room for blocks of these sizes at first: the growths that the call makes before the one that is
-/// refused then.
-pub fn answer_past<T: Drop, F: FnMut() -> Result<T, AllocError>>(
-    rt: impl Abort + Copy,
-    alloc: Global,
-    room: &[usize],
-    mut call: F,
-) -> T
-    requires { F.IsAlwaysCallable call }
-{
-    let mut spared: Vec<Vec<u8>> = Vec::new(alloc);
-    for size in room {
-        unwrap(
-            rt,
-            spared.push(unwrap(rt, Vec::with_capacity(alloc, *size))),
-        );
-    }
-    let mut blocks = unwrap(rt, hoard(alloc));
-    spared.clear();
-    for refusals in 0..=BLOCK_COUNT {
-        if let Ok(answer) = call() {
-            drop(blocks);
-            assert!(rt; refusals > 0);
-            return answer;
-        }
-        if blocks.pop().is_none() {
-            break;
-        }
-    }
-    panic!(rt; "refused with all memory given back")
 }

@@ -1,165 +1,207 @@
 //! Runs of the program `pagetab`.
-use super::hoard::{answer_at_last, hoard};
+use super::hoard::hoard_past;
 use crate::assertions::{assert_equal, assert_equal_in, unwrap};
+use crate::program::words_of;
 use crate::streams::{Comparison, Source};
 use pagetab_engine::ending::{Ending, Fault};
 use pagetab_engine::engine::run;
-use std::alloc::{AllocError, Global};
+use std::alloc::Global;
 use std::process::Abort;
+use x86_64::{Call, Reply};
 
-/// An image of which the table in frame 0x2000 is a part, and commands of each kind.
-const INPUT: &[u8] = b"word 0x1000 0 0x2003\nfree 0x3000\nfree 0x4000\n\
-    translate 0\nwalk 0\nshow 0x1000 0\npool\nmap 4KiB 0x1000 0x5000 0x3\naddr 0x1abc\nunmap 4KiB 0x1000\n\
-    cleanup\npool\n";
+/// An image of which the table in frame 0x2000 is a part, and commands. The first one takes memory for the text of its reply alone.
+const INPUT: &str = "word 0x1000 0 0x2003
+free 0x100000
+free 0x101000
+free 0x102000
+free 0x103000
+show 0x1000 0
+translate 0
+pool
+map 4KiB 0x1000 0x5000 0x3
+addr 0x1abc
+unmap 4KiB 0x1000
+cleanup
+walk 0
+pool
+";
 
-/// The replies but the last one, each after those before it.
-const FIRST_REPLIES: [&[u8]; 8] = [
-    b"not mapped\n",
-    b"none\n",
-    b"0x2003\n",
-    b"pool 0x3000 0x4000\n",
-    b"ok\n",
-    b"0x5abc\n",
-    b"0x5000\n",
-    b"ok\n",
+/// The replies, up to the frames that a clean up gave back.
+const REPLIES: &str = "0x2003
+not mapped
+pool 0x100000 0x101000 0x102000 0x103000
+ok
+0x5abc
+0x5000
+ok
+none
+pool";
+
+/// The end of the last reply.
+const FREE_AT_END: &str = " 0x100000 0x101000 0x102000 0x103000\n";
+
+/// How many places the memory has.
+const PLACES: usize = 512;
+
+/// How far a run came: 0 before it reads, else one more than it has replies.
+type Stage = u64;
+
+/// The blocks that a run takes from what is left, in order, each after how far the run came: the numbers and the tables of a memory,
+/// the frames and the marks of a pool; the marks of the test, the text of a reply; the list of a call, its reply; a list of frames, and
+/// all growths of the texts and lists that follow. All else stands where something was given back.
+const ALONE: [(Stage, usize); 10] = [
+    (0, 8 * PLACES),
+    (0, 4096 * PLACES),
+    (0, 8 * PLACES),
+    (0, PLACES),
+    (1, PLACES),
+    (1, 8),
+    (2, size_of::<Call>()),
+    (2, size_of::<Reply>()),
+    (3, 32),
+    (3, 2048),
 ];
 
-/// The free frames at the end.
-const FREE_AT_END: &[u8] = b"pool 0x2000 0x3000 0x4000\n";
+/// The same of a pair, which has two memories, two pools, and two replies to a call.
+const BOTH: [(Stage, usize); 15] = [
+    (0, 8 * PLACES),
+    (0, 4096 * PLACES),
+    (0, 8 * PLACES),
+    (0, PLACES),
+    (0, 8 * PLACES),
+    (0, 4096 * PLACES),
+    (0, 8 * PLACES),
+    (0, PLACES),
+    (1, PLACES),
+    (1, 8),
+    (2, size_of::<Call>()),
+    (2, size_of::<Reply>()),
+    (2, size_of::<Reply>()),
+    (3, 32),
+    (3, 2048),
+];
 
-/// The same where there are five levels, whose image has one table more.
-const FREE_AT_END_OF_FIVE: &[u8] = b"pool 0x2000 0x6000 0x3000 0x4000\n";
-
-/// The arguments of each mode, the first lines of its image, and the last reply.
-type Mode = (&'static [&'static str], &'static [u8], &'static [u8]);
+/// The arguments of a mode, the first lines of its image, the tables that a clean up gives back, and the blocks that it takes.
+type Mode = (
+    &'static str,
+    &'static str,
+    &'static str,
+    &'static [(Stage, usize)],
+);
 
 const MODES: [Mode; 7] = [
-    (&["direct", "4096"], b"", FREE_AT_END),
-    (&["offset", "4096", "0xffff800000000000"], b"", FREE_AT_END),
+    ("direct 512", "", " 0x2000", &ALONE),
+    ("offset 512 0xffff800000000000", "", " 0x2000", &ALONE),
     (
-        &["recursive", "4096", "510"],
-        b"word 0x1000 510 0x1003\n",
-        FREE_AT_END,
+        "recursive 512 510",
+        "word 0x1000 510 0x1003\n",
+        " 0x2000",
+        &ALONE,
+    ),
+    ("pair 512 510", "word 0x1000 510 0x1003\n", " 0x2000", &BOTH),
+    (
+        "direct5 512",
+        "word 0x2000 0 0x6003\n",
+        " 0x2000 0x6000",
+        &ALONE,
     ),
     (
-        &["pair", "4096", "510"],
-        b"word 0x1000 510 0x1003\n",
-        FREE_AT_END,
+        "recursive5 512 510",
+        "word 0x1000 510 0x1003\nword 0x2000 0 0x6003\n",
+        " 0x2000 0x6000",
+        &ALONE,
     ),
     (
-        &["direct5", "4096"],
-        b"word 0x2000 0 0x6003\n",
-        FREE_AT_END_OF_FIVE,
-    ),
-    (
-        &["recursive5", "4096", "510"],
-        b"word 0x1000 510 0x1003\nword 0x2000 0 0x6003\n",
-        FREE_AT_END_OF_FIVE,
-    ),
-    (
-        &["pair5", "4096", "510"],
-        b"word 0x1000 510 0x1003\nword 0x2000 0 0x6003\n",
-        FREE_AT_END_OF_FIVE,
+        "pair5 512 510",
+        "word 0x1000 510 0x1003\nword 0x2000 0 0x6003\n",
+        " 0x2000 0x6000",
+        &BOTH,
     ),
 ];
 
-/// Gives the words of arguments.
-fn words_of(rt: impl Abort + Copy, alloc: Global, arguments: &[&str]) -> Vec<String> {
-    let mut words = Vec::new(alloc);
-    for argument in arguments {
-        unwrap(
-            rt,
-            words.push(unwrap(rt, String::from_str(alloc, argument))),
-        );
-    }
-    words
-}
+/// The end of a run to which memory was refused.
+const REFUSED: Ending = Ending::Stopped(Fault::OutOfMemory);
 
-/// Gives the words of a mode's arguments, and its input.
-fn start(
+/// The end of a run with other arguments.
+const USED_WRONGLY: Ending = Ending::Stopped(Fault::Usage);
+
+/// Runs the program, and gives how it ends and how far it came. Compares that it writes the first ones of the replies, and all where it
+/// ends well.
+fn attempt(
     rt: impl Abort + Copy,
     alloc: Global,
-    (arguments, first_lines, _): Mode,
-) -> (Vec<String>, Vec<u8>) {
+    words: &[String],
+    input: &str,
+    replies: &str,
+) -> (Ending, Stage) {
+    let mut source = Source::new(input.as_bytes(), 0);
+    let mut sink = Comparison::new(replies.as_bytes());
+    let ending = run(alloc, words, &mut source, &mut sink);
+    assert!(rt; sink.agrees && (ending != Ending::Done || sink.rest.is_empty()));
+    let stage = if source.calls == 0 {
+        0
+    } else {
+        sink.calls.saturating_add(1)
+    };
+    (ending, stage)
+}
+
+/// Refuses each block in turn, where there is room for those before it alone. With room for all of them the program ends well.
+fn refuse_each(rt: impl Abort + Copy, alloc: Global, (arguments, first, tables, blocks): Mode) {
     let words = words_of(rt, alloc, arguments);
-    let mut input = unwrap(rt, Vec::from_slice(alloc, first_lines));
-    unwrap(rt, input.extend_from_slice(INPUT));
-    (words, input)
-}
-
-/// Gives all replies.
-fn replies_in(rt: impl Abort + Copy, alloc: Global, (_, _, last): Mode) -> Vec<u8> {
-    let mut replies = Vec::new(alloc);
-    for reply in FIRST_REPLIES {
-        unwrap(rt, replies.extend_from_slice(reply));
+    let input = unwrap(rt, format!(in alloc; "{first}{INPUT}"));
+    let replies = unwrap(rt, format!(in alloc; "{REPLIES}{tables}{FREE_AT_END}"));
+    let mut room: Vec<usize> = Vec::new(alloc);
+    for (stage, size) in blocks {
+        let hoard = hoard_past(rt, alloc, &room);
+        let stopped = attempt(rt, alloc, &words, &input, &replies);
+        drop(hoard);
+        assert_equal_in(rt, (arguments, room.len()), stopped, (REFUSED, *stage));
+        unwrap(rt, room.push(*size));
     }
-    unwrap(rt, replies.extend_from_slice(last));
-    replies
-}
-
-/// Runs the program until there is room, and compares the replies and the ending.
-fn run_at_last(rt: impl Abort + Copy, alloc: Global, mode: Mode) {
-    let (words, input) = start(rt, alloc, mode);
-    let replies = replies_in(rt, alloc, mode);
-    let mut agrees = true;
-    let answer = answer_at_last(rt, alloc, || {
-        let mut source = Source::new(&input, 0);
-        let mut sink = Comparison::new(&replies);
-        let ending = run(alloc, words.as_slice(), &mut source, &mut sink);
-        agrees = agrees && sink.agrees;
-        match ending {
-            Ending::Stopped(Fault::OutOfMemory) => Err(AllocError),
-            _ => Ok((ending, sink.rest.len())),
-        }
-    });
-    assert_equal(rt, answer, (Ending::Done, 0));
-    assert!(rt; agrees);
+    let hoard = hoard_past(rt, alloc, &room);
+    let (ending, _) = attempt(rt, alloc, &words, &input, &replies);
+    drop(hoard);
+    assert_equal_in(rt, arguments, ending, Ending::Done);
 }
 
 #[test]
-fn the_program_wants_memory_until_there_is_room(rt: HostRuntime) {
+fn the_program_stops_at_each_block_that_is_refused(rt: HostRuntime) {
     for mode in MODES {
-        run_at_last(rt, rt.alloc(), mode);
+        refuse_each(rt, rt.alloc(), mode);
     }
 }
 
 /// Arguments that are refused before memory is taken: numbers out of range, an offset that isn't canonical, and a mode that is
 /// none.
-const REFUSED: [&[&str]; 6] = [
-    &[],
-    &["direct", "1"],
-    &["direct", "65537"],
-    &["offset", "8", "0x800000000000"],
-    &["recursive", "8", "512"],
-    &["sparse", "8"],
+const WRONG: [&str; 6] = [
+    "",
+    "direct 1",
+    "direct 65537",
+    "offset 8 0x800000000000",
+    "recursive 8 512",
+    "sparse 8",
 ];
-
-/// Runs the program without input.
-fn run_alone(alloc: Global, words: &[String]) -> Ending {
-    let mut source = Source::new(b"", 0);
-    let mut sink = Comparison::new(b"");
-    run(alloc, words, &mut source, &mut sink)
-}
 
 #[test]
 fn wrong_arguments_want_no_memory(rt: HostRuntime) {
     let alloc = rt.alloc();
-    for arguments in REFUSED {
+    for arguments in WRONG {
         let words = words_of(rt, alloc, arguments);
-        let blocks = unwrap(rt, hoard(alloc));
-        let ending = run_alone(alloc, &words);
-        drop(blocks);
-        assert_equal_in(rt, arguments, ending, Ending::Stopped(Fault::Usage));
+        let hoard = hoard_past(rt, alloc, &[]);
+        let stopped = attempt(rt, alloc, &words, "", "");
+        drop(hoard);
+        assert_equal_in(rt, arguments, stopped, (USED_WRONGLY, 0));
     }
 }
 
 #[test]
 fn offsets_are_tested_once_the_memory_is_made(rt: HostRuntime) {
     let alloc = rt.alloc();
-    let words = words_of(rt, alloc, &["offset", "4096", "0x7ffffffff000"]);
-    let ending = answer_at_last(rt, alloc, || match run_alone(alloc, &words) {
-        Ending::Stopped(Fault::OutOfMemory) => Err(AllocError),
-        ending => Ok(ending),
-    });
-    assert_equal(rt, ending, Ending::Stopped(Fault::Usage));
+    let words = words_of(rt, alloc, "offset 4096 0x7ffffffff000");
+    let hoard = hoard_past(rt, alloc, &[]);
+    let stopped = attempt(rt, alloc, &words, "", "");
+    drop(hoard);
+    assert_equal(rt, stopped, (REFUSED, 0));
+    assert_equal(rt, attempt(rt, alloc, &words, "", ""), (USED_WRONGLY, 0));
 }

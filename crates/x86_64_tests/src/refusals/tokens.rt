@@ -1,15 +1,50 @@
 //! Flushes.
-use super::hoard::answer_at_last;
-use crate::assertions::{assert_equal, unwrap};
-use crate::images::page_at;
+use super::hoard::hoard_past;
+use crate::assertions::{assert_equal_in, unwrap};
 use std::alloc::{AllocError, Global};
 use std::process::Abort;
-use x86_64::structures::paging::mapper::{MapperFlush, MapperFlushAll};
-use x86_64::structures::paging::{Page, Size4KiB};
-use x86_64::{FlushItem, FlushRecorder};
+use x86_64::addr::VirtAddrIn;
+use x86_64::structures::paging::Size4KiB;
+use x86_64::structures::paging::mapper::MapperFlushAll;
+use x86_64::structures::paging::page::PageIn;
+use x86_64::{FiveLevels, FlushItem, FlushRecorder, FourLevels, LevelCount, VirtAddr, VirtAddr57};
+use x86_64_tables::mapper::MapperFlushIn;
 
 /// How many items a recorder has, so many that more of them take a block of their own.
 const ITEM_COUNT: usize = 4096;
+
+/// A call that makes the list of a recorder grow.
+#[derive(Clone, Copy, Debug)]
+enum Growth {
+    FlushPage,
+    FlushPage57,
+    FlushAll,
+    Reserve,
+}
+
+const GROWTHS: [Growth; 4] = [
+    Growth::FlushPage,
+    Growth::FlushPage57,
+    Growth::FlushAll,
+    Growth::Reserve,
+];
+
+/// Flushes the page at 0x1000. A token that comes back is one of the same page.
+fn flush_page<L: LevelCount>(
+    rt: impl Abort + Copy,
+    recorder: &mut FlushRecorder,
+) -> Result<(), AllocError> {
+    let page: PageIn<Size4KiB, L> = PageIn::containing_address(VirtAddrIn::new_truncate(0x1000));
+    match MapperFlushIn::new(page).flush(recorder) {
+        Ok(()) => Ok(()),
+        Err(token) => {
+            let is_same = token.page() == page;
+            token.ignore();
+            assert!(rt; is_same);
+            Err(AllocError)
+        }
+    }
+}
 
 /// Flushes all pages.
 fn flush_all(recorder: &mut FlushRecorder) -> Result<(), AllocError> {
@@ -19,6 +54,36 @@ fn flush_all(recorder: &mut FlushRecorder) -> Result<(), AllocError> {
             token.ignore();
             Err(AllocError)
         }
+    }
+}
+
+/// Makes the list of a recorder grow.
+fn grow(
+    rt: impl Abort + Copy,
+    growth: Growth,
+    recorder: &mut FlushRecorder,
+) -> Result<(), AllocError> {
+    match growth {
+        Growth::FlushPage => flush_page::<FourLevels>(rt, recorder),
+        Growth::FlushPage57 => flush_page::<FiveLevels>(rt, recorder),
+        Growth::FlushAll => flush_all(recorder),
+        Growth::Reserve => recorder.reserve(ITEM_COUNT),
+    }
+}
+
+/// Gives the item that is recorded, if there is one.
+fn item_of(growth: Growth) -> Option<FlushItem> {
+    match growth {
+        Growth::FlushPage => Some(FlushItem::Page {
+            start: VirtAddr::new(0x1000),
+            size: 4096,
+        }),
+        Growth::FlushPage57 => Some(FlushItem::Page57 {
+            start: VirtAddr57::new(0x1000),
+            size: 4096,
+        }),
+        Growth::FlushAll => Some(FlushItem::All),
+        Growth::Reserve => None,
     }
 }
 
@@ -32,73 +97,27 @@ fn full_recorder(rt: impl Abort + Copy, alloc: Global) -> FlushRecorder {
     recorder
 }
 
-/// Tells whether the recorder has the items that fill it, and no more.
-fn is_untouched(recorder: &FlushRecorder) -> bool {
+/// Tells whether the recorder has the items that fill it first, and then this one, if there is one.
+fn has(recorder: &FlushRecorder, last: Option<FlushItem>) -> bool {
     let items = recorder.items();
-    items.len() == ITEM_COUNT && items.iter().all(|item| *item == FlushItem::All)
+    let (first, rest) = items.split_at(items.len().min(ITEM_COUNT));
+    first.len() == ITEM_COUNT
+        && first.iter().all(|item| *item == FlushItem::All)
+        && rest.len() == usize::from(last.is_some())
+        && rest.first().copied() == last
 }
 
 #[test]
-fn pages_are_flushed_once_there_is_room(rt: HostRuntime) {
+fn flushes_are_recorded_where_there_is_room(rt: HostRuntime) {
     let alloc = rt.alloc();
-    let page: Page<Size4KiB> = page_at(0x1000);
-    let mut recorder = full_recorder(rt, alloc);
-    let mut is_kept = true;
-    answer_at_last(
-        rt,
-        alloc,
-        || match MapperFlush::new(page).flush(&mut recorder) {
-            Ok(()) => Ok(()),
-            Err(token) => {
-                is_kept = is_kept && token.page() == page && is_untouched(&recorder);
-                token.ignore();
-                Err(AllocError)
-            }
-        },
-    );
-    assert!(rt; is_kept);
-    let item = FlushItem::Page {
-        start: page.start_address(),
-        size: page.size(),
-    };
-    assert_equal(
-        rt,
-        recorder.items().get(ITEM_COUNT..),
-        Some([item].as_slice()),
-    );
-}
-
-#[test]
-fn all_pages_are_flushed_once_there_is_room(rt: HostRuntime) {
-    let alloc = rt.alloc();
-    let mut recorder = full_recorder(rt, alloc);
-    let mut is_kept = true;
-    answer_at_last(rt, alloc, || {
-        let answer = flush_all(&mut recorder);
-        if answer.is_err() {
-            is_kept = is_kept && is_untouched(&recorder);
-        }
-        answer
-    });
-    assert!(rt; is_kept);
-    assert_equal(
-        rt,
-        recorder.items().get(ITEM_COUNT..),
-        Some([FlushItem::All].as_slice()),
-    );
-}
-
-#[test]
-fn room_for_flushes_is_made_once_there_is_memory(rt: HostRuntime) {
-    let alloc = rt.alloc();
-    let mut recorder = full_recorder(rt, alloc);
-    let mut is_kept = true;
-    answer_at_last(rt, alloc, || {
-        let answer = recorder.reserve(ITEM_COUNT);
-        is_kept = is_kept && is_untouched(&recorder);
-        answer
-    });
-    assert!(rt; is_kept);
-    unwrap(rt, flush_all(&mut recorder));
-    assert_equal(rt, recorder.items().len(), ITEM_COUNT + 1);
+    for growth in GROWTHS {
+        let mut recorder = full_recorder(rt, alloc);
+        let hoard = hoard_past(rt, alloc, &[]);
+        let refused = grow(rt, growth, &mut recorder);
+        drop(hoard);
+        assert_equal_in(rt, growth, refused, Err(AllocError));
+        assert!(rt; has(&recorder, None));
+        unwrap(rt, grow(rt, growth, &mut recorder));
+        assert!(rt; has(&recorder, item_of(growth)));
+    }
 }
