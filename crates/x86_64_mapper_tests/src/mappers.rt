@@ -9,9 +9,6 @@ ghost use Rattle.x86_64_mappers.specs.Layouts.{direct};
 mod clean_up;
 mod five_levels;
 mod five_levels_flushes;
-mod five_levels_offset;
-mod five_levels_pages;
-mod five_levels_recursive;
 mod layer;
 mod offset;
 mod recursive;
@@ -22,43 +19,72 @@ use crate::assertions::{assert_equal, assert_equal_in, unwrap, unwrap_some};
 use bitflags::Flags;
 use std::alloc::Global;
 use std::process::Abort;
-use x86_64_addr::addr::{PhysAddr, VirtAddr};
+use x86_64_addr::addr::{PhysAddr, VirtAddr, VirtAddrIn};
 use x86_64_addr::index::PageTableIndex;
+use x86_64_addr::level_count::LevelCount;
 use x86_64_mappers::mapped_page_table::MappedPageTable;
 use x86_64_mappers::mapper::Translate;
 use x86_64_page::frame::PhysFrame;
-use x86_64_page::page::Size4KiB;
+use x86_64_page::page::{PageIn, PageSize, Size4KiB};
+use x86_64_tables::frame_alloc::FramePool;
 use x86_64_tables::mapper::{MappedFrame, Tables, TranslateResult};
 use x86_64_tables::page_table::{PageTableEntry, PageTableFlags};
 use x86_64_tables::phys_memory::{
     FramePlace, IdentityMapping, PageTableFrameMapping, PhysMemory, is_valid_hierarchy,
 };
 
-/// Gives the physical address by any mapper.
-fn address_by<M: Translate>(mapper: &M, addr: VirtAddr) -> Option<PhysAddr>
-    requires { Valid (M.hierarchy mapper.now).layout (M.hierarchy mapper.now).memory }
-{
-    mapper.translate_addr(addr)
-}
+/// A word, after the number of its frame and its index.
+type Word = (u64, u16, u64);
 
-/// Makes a memory of 8 places with these words: each has the number of its frame, its index and its value.
-fn image(rt: impl Abort + Copy, alloc: Global, words: &[(u64, u16, u64)]) -> PhysMemory {
-    let mut memory = unwrap(rt, PhysMemory::new(alloc, 8));
+/// The words of the tables on the way to the page 0x1000, which is mapped to the frame at 0x5000.
+const WORDS: [Word; 4] = [
+    (1, 0, 0x2003),
+    (2, 0, 0x3003),
+    (3, 0, 0x4003),
+    (4, 1, 0x5003),
+];
+
+/// The same with five levels of tables and the frame at 0x6000.
+const WORDS_57: [Word; 5] = [
+    (1, 0, 0x2003),
+    (2, 0, 0x3003),
+    (3, 0, 0x4003),
+    (4, 0, 0x5003),
+    (5, 1, 0x6003),
+];
+
+/// Sets words of a memory.
+fn set_words(rt: impl Abort + Copy, memory: &mut PhysMemory, words: &[Word]) {
     for (place, index, word) in words {
         let table = unwrap_some(rt, memory.table_mut(FramePlace::new(*place)));
         let frame = small(*word);
         let flags = PageTableFlags::from_bits_truncate(*word);
         table[PageTableIndex::new_truncate(*index)].set_addr(frame.start_address(), flags);
     }
+}
+
+/// Makes a memory of 8 places with these words.
+fn image(rt: impl Abort + Copy, alloc: Global, words: &[Word]) -> PhysMemory {
+    let mut memory = unwrap(rt, PhysMemory::new(alloc, 8));
+    set_words(rt, &mut memory, words);
     memory
 }
 
+/// Makes a pool of these frames, below the number 8.
+fn pool_of(rt: impl Abort + Copy, alloc: Global, frames: &[u64]) -> FramePool {
+    let mut pool = unwrap(rt, FramePool::new(alloc, 8));
+    for frame in frames {
+        unwrap(rt, pool.try_add(small(*frame)));
+    }
+    pool
+}
+
 /// Compares the words of the tables at the places from 1 on: each is 0 but for these.
-fn check_words(rt: impl Abort + Copy, memory: &PhysMemory, words: &[(u64, u16, u64)]) {
+fn check_words(rt: impl Abort + Copy, memory: &PhysMemory, words: &[Word]) {
     for place in 1..memory.len() as u64 {
         let table = unwrap_some(rt, memory.table(FramePlace::new(place)));
         for index in 0..512 {
-            let is_it = |word: &&(u64, u16, u64)| word.0 == place && word.1 == index;
+            let is_it = |word: &&Word| word.0 == place && word.1 == index;
             let expected = words.iter().find(is_it).map_or(0, |word| word.2);
             let entry = &table[PageTableIndex::new(index)];
             assert_equal_in(rt, (place, index), word_of(entry), expected);
@@ -66,9 +92,27 @@ fn check_words(rt: impl Abort + Copy, memory: &PhysMemory, words: &[(u64, u16, u
     }
 }
 
+/// What calls leave: the frames of the pool in order, and the words of the memory that aren't 0.
+type Left<'a> = (&'a [u64], &'a [Word]);
+
+/// Compares the frames of a pool and the words of a memory with those that calls left.
+fn check_left(rt: impl Abort + Copy, memory: &PhysMemory, pool: &FramePool, left: Left<'_>) {
+    let (frames, words) = left;
+    assert_equal(rt, pool.len(), frames.len());
+    for (n, frame) in frames.iter().enumerate() {
+        assert_equal_in(rt, n, pool.frame_at(n), Some(small(*frame)));
+    }
+    check_words(rt, memory, words)
+}
+
 /// Gives the 4KiB frame that contains an address.
 fn small(address: u64) -> PhysFrame<Size4KiB> {
     PhysFrame::containing_address(PhysAddr::new_truncate(address))
+}
+
+/// Gives the page of a size that contains an address.
+fn page<S: PageSize, L: LevelCount>(address: u64) -> PageIn<S, L> {
+    PageIn::containing_address(VirtAddrIn::new_truncate(address))
 }
 
 /// Gives the word of an entry.
@@ -86,15 +130,18 @@ fn mapped(frame: MappedFrame, offset: u64, flags: u64) -> TranslateResult {
     }
 }
 
+/// Gives the physical address by any mapper.
+fn address_by<M: Translate>(mapper: &M, addr: VirtAddr) -> Option<PhysAddr>
+    requires { Valid (M.hierarchy mapper.now).layout (M.hierarchy mapper.now).memory }
+{
+    mapper.translate_addr(addr)
+}
+
 /// Asks a mapper of its tables.
 fn check_mapper(rt: impl Abort + Copy, alloc: Global, memory: &mut PhysMemory) {
     let root = small(0x1000);
-    assert!(rt;
-        unwrap(
-            rt,
-            is_valid_hierarchy(alloc, memory, &IdentityMapping, root)
-        )
-    );
+    let tested = is_valid_hierarchy(alloc, memory, &IdentityMapping, root);
+    assert!(rt; unwrap(rt, tested));
     let mapper = MappedPageTable::new(memory, root, IdentityMapping);
     assert!(rt; unwrap(rt, mapper.is_valid(alloc)));
     assert_equal(rt, mapper.recursive_index(), None);
@@ -104,11 +151,8 @@ fn check_mapper(rt: impl Abort + Copy, alloc: Global, memory: &mut PhysMemory) {
     let address = address_by(&mapper, VirtAddr::new(0x1abc));
     assert_equal(rt, address, Some(PhysAddr::new(0x5abc)));
     let result = mapper.translate(VirtAddr::new(0x1abc));
-    assert_equal(
-        rt,
-        result,
-        mapped(MappedFrame::Size4KiB(small(0x5000)), 0xabc, 3),
-    );
+    let wanted = mapped(MappedFrame::Size4KiB(small(0x5000)), 0xabc, 3);
+    assert_equal(rt, result, wanted);
 }
 
 #[test]
@@ -140,24 +184,12 @@ fn clear_root(memory: &mut PhysMemory, root: PhysFrame<Size4KiB>)
     mapper.level_4_table_mut().zero();
 }
 
-/// The words of the tables on the way to the page 0x1000, which is mapped to the frame at 0x5000.
-const WORDS: [(u64, u16, u64); 4] = [
-    (1, 0, 0x2003),
-    (2, 0, 0x3003),
-    (3, 0, 0x4003),
-    (4, 1, 0x5003),
-];
-
 #[test]
 fn root_tables_are_lent(rt: HostRuntime) {
     let mut memory = image(rt, rt.alloc(), &WORDS);
     let root = small(0x1000);
-    assert!(rt;
-        unwrap(
-            rt,
-            is_valid_hierarchy(rt.alloc(), &memory, &IdentityMapping, root)
-        )
-    );
+    let tested = is_valid_hierarchy(rt.alloc(), &memory, &IdentityMapping, root);
+    assert!(rt; unwrap(rt, tested));
     clear_root(&mut memory, root);
     check_words(rt, &memory, &WORDS[1..])
 }

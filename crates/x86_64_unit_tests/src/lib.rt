@@ -1,5 +1,5 @@
-//! Tests of the public calls of the crates up to tables, and of the plain program, one module a crate. They stand here and not in the
-//! crates, so that each crate is proved once.
+//! Tests of the public calls of the crates up to tables, one module a crate. They stand here and not in the crates, so that each crate
+//! is proved once.
 #![tactic(auto)]
 
 #[cfg(test)]
@@ -7,8 +7,8 @@ mod addr;
 #[cfg(test)]
 mod assertions;
 #[cfg(test)]
-mod page;
+mod derives;
 #[cfg(test)]
-mod plain;
+mod page;
 #[cfg(test)]
 mod tables;

@@ -22,20 +22,22 @@ pub(crate) fn frame_at(address: u64) -> PhysFrame<Size4KiB>
     PhysFrame::containing_address(PhysAddr::new_truncate(address))
 }
 
+/// Bits, those that parents get of them, and whether there are address bits among them.
+const PARTS: [(u64, u64, bool); 6] = [
+    (0x0, 0x0, false),
+    (0x3, 0x3, false),
+    (0x8000_0000_0000_01fe, 0x6, false),
+    (0xfff0_0000_0000_0fff, 0x7, false),
+    (0x1005, 0x5, true),
+    (0x8_0000_0000_0080, 0x0, true),
+];
+
 #[test]
 fn flags_have_parts(rt: HostRuntime) {
-    let parts = [
-        (0x0, 0x0, false),
-        (0x3, 0x3, false),
-        (0x8000_0000_0000_01fe, 0x6, false),
-        (0xfff0_0000_0000_0fff, 0x7, false),
-        (0x1005, 0x5, true),
-        (0x8_0000_0000_0080, 0x0, true),
-    ];
-    for (bits, parents, has_address) in parts {
+    for (bits, parents, has_address) in PARTS {
         let flags = PageTableFlags::from_bits_retain(bits);
-        assert_equal_at(rt, bits, parent_flags(flags).bits(), parents);
-        assert_equal_at(rt, bits, flags.has_address_bits(), has_address);
+        let found = (parent_flags(flags).bits(), flags.has_address_bits());
+        assert_equal_at(rt, bits, found, (parents, has_address));
     }
 }
 
@@ -48,19 +50,23 @@ fn tokens_name_pages(rt: HostRuntime) {
     MapperFlushAll::new().ignore();
 }
 
+/// Gives the address and the flags of word 3 of the table at a place, if there is one.
+fn word_at(memory: &PhysMemory, place: FramePlace) -> Option<(u64, u64)> {
+    let entry = &memory.table(place)?[3];
+    Some((entry.addr().as_u64(), entry.flags().bits()))
+}
+
 #[test]
 fn memory_has_tables_at_places(rt: HostRuntime) {
     let mut memory = unwrap(rt, PhysMemory::new(rt.alloc(), 8));
     let frame = frame_at(0x7000);
     assert!(rt; IdentityMapping.covers(frame));
     let place = IdentityMapping.frame_to_pointer(frame);
-    assert_equal(rt, place.number(), 7);
+    assert_equal(rt, place, FramePlace::new(7));
     let table = unwrap_some(rt, memory.table_mut(place));
     table[3].set_addr(PhysAddr::new(0x1000), PageTableFlags::PRESENT);
-    let table = unwrap_some(rt, memory.table(place));
-    assert_equal(rt, table[3].addr(), PhysAddr::new(0x1000));
-    assert_equal(rt, table[3].flags(), PageTableFlags::PRESENT);
-    assert_equal(rt, memory.table_mut(FramePlace::new(8)).is_none(), true);
+    assert_equal(rt, word_at(&memory, place), Some((0x1000, 0x1)));
+    assert!(rt; memory.table_mut(FramePlace::new(8)).is_none());
 }
 
 #[test]
@@ -69,6 +75,5 @@ fn memory_is_indexed_by_places(rt: HostRuntime) {
     let place = FramePlace::new(7);
     assert!(rt; memory[place].is_empty());
     memory[place][3].set_addr(PhysAddr::new(0x1000), PageTableFlags::PRESENT);
-    let table = unwrap_some(rt, memory.table(place));
-    assert_equal(rt, table[3].addr(), PhysAddr::new(0x1000));
+    assert_equal(rt, word_at(&memory, place), Some((0x1000, 0x1)));
 }

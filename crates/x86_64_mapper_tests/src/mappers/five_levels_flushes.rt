@@ -1,6 +1,5 @@
 //! Lists of calls of five levels whose flushes are recorded.
-use super::five_levels::{page, pool_of};
-use super::{check_words, image, small};
+use super::{check_words, image, page, pool_of, small};
 use crate::assertions::{assert_equal, unwrap};
 use bitflags::Flags;
 use std::alloc::Global;
@@ -23,12 +22,8 @@ fn answer_flushed(
     recorder: &mut FlushRecorder,
 ) -> Vec<Reply57> {
     let root = small(0x1000);
-    assert!(rt;
-        unwrap(
-            rt,
-            pool_fits_57(alloc, memory, &IdentityMapping, root, pool)
-        )
-    );
+    let tested = pool_fits_57(alloc, memory, &IdentityMapping, root, pool);
+    assert!(rt; unwrap(rt, tested));
     let mut replies = Vec::new(alloc);
     let mut mapper = MappedPageTable57::new(memory, root, IdentityMapping);
     unwrap(
@@ -60,7 +55,7 @@ fn accepted_calls_of_five_levels_are_recorded_and_no_others(rt: HostRuntime) {
     let mut memory = image(rt, alloc, &[]);
     let mut pool = pool_of(rt, alloc, &[0x2000, 0x3000, 0x4000, 0x5000]);
     let mut recorder = FlushRecorder::new(alloc);
-    let page = page::<Size4KiB>(0xff00_0000_0000_1000);
+    let page = page::<Size4KiB, _>(0xff00_0000_0000_1000);
     let calls = calls_on(page, PageTableFlags::from_bits_retain(3));
     let replies = answer_flushed(rt, alloc, (&mut memory, &mut pool), &calls, &mut recorder);
     let expected = [

@@ -6,9 +6,8 @@ ghost use Rattle.x86_64_model.specs.Mapper.{May, Does, path_of};
 ghost use Rattle.x86_64_mappers.specs.Layouts.{direct, owned};
 ghost use Rattle.x86_64_tables.specs.MapperAnswers.{frame_answer};
 
-use super::{WORDS, check_words, image, small};
+use super::{WORDS, check_words, image, page, small};
 use crate::assertions::{assert_equal, unwrap};
-use x86_64_addr::addr::VirtAddr;
 use x86_64_mappers::mapped_page_table::MappedPageTable;
 use x86_64_mappers::mapper::Mapper;
 use x86_64_page::frame::PhysFrame;
@@ -44,22 +43,13 @@ fn unmap<S: PageSize>(
     unmap_by(&mut mapper, page)
 }
 
-/// Gives the page of a size that contains an address.
-pub fn page<S: PageSize>(address: u64) -> Page<S> {
-    Page::containing_address(VirtAddr::new_truncate(address))
-}
-
 #[test]
 fn pages_are_unmapped_once(rt: HostRuntime) {
     let mut memory = image(rt, rt.alloc(), &WORDS);
     let root = small(0x1000);
     for wanted in [Ok(small(0x5000)), Err(UnmapError::PageNotMapped)] {
-        assert!(rt;
-            unwrap(
-                rt,
-                is_valid_hierarchy(rt.alloc(), &memory, &IdentityMapping, root)
-            )
-        );
+        let tested = is_valid_hierarchy(rt.alloc(), &memory, &IdentityMapping, root);
+        assert!(rt; unwrap(rt, tested));
         let answer = unmap::<Size4KiB>(&mut memory, root, page(0x1000));
         assert_equal(rt, answer, wanted);
     }

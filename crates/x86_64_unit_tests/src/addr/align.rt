@@ -1,6 +1,9 @@
 //! Alignment of numbers and of addresses.
+use crate::addr::{FIRST_HIGH, FIRST_HIGH_57, LAST_LOW, LAST_LOW_57};
 use crate::assertions::{assert_equal, assert_equal_in};
-use x86_64_addr::addr::{PhysAddr, VirtAddr, align_down, align_up};
+use std::process::Abort;
+use x86_64_addr::addr::{PhysAddr, VirtAddrIn, align_down, align_up};
+use x86_64_addr::level_count::{FiveLevels, FourLevels, LevelCount};
 
 /// The least multiple that isn't below a number, where `align` is a power of two and there is one of 64 bits.
 fn aligned_up(addr: u64, align: u64) -> Option<u64> {
@@ -12,58 +15,90 @@ fn aligned_up(addr: u64, align: u64) -> Option<u64> {
     }
 }
 
-/// Whether the address of a raw value is aligned, where `align` is a power of two.
-fn is_virt_aligned(raw: u64, align: u64) -> Option<bool> {
-    if align.is_power_of_two() {
-        Some(VirtAddr::new_truncate(raw).is_aligned(align))
-    } else {
-        None
-    }
-}
+/// Numbers, what they are aligned to, and the least multiple that isn't below, if there is one.
+const NUMBERS: [(u64, u64, Option<u64>); 10] = [
+    (0, 1, Some(0)),
+    (0, 2, Some(0)),
+    (0, 128, Some(0)),
+    (0, 1 << 63, Some(0)),
+    (1234, 1, Some(1234)),
+    (u64::MAX, 1, Some(u64::MAX)),
+    (1233, 2, Some(1234)),
+    (u64::MAX - 1, 2, Some(u64::MAX - 1)),
+    (u64::MAX, 2, None),
+    (1234, 3, None),
+];
 
 #[test]
 #[tactic(auto, using(x86_64_addr::proofs::PowersOfTwo::numeral_power))]
 fn numbers_are_aligned(rt: HostRuntime) {
-    let rows = [
-        (0, 1, Some(0)),
-        (0, 2, Some(0)),
-        (0, 128, Some(0)),
-        (0, 1 << 63, Some(0)),
-        (1234, 1, Some(1234)),
-        (u64::MAX, 1, Some(u64::MAX)),
-        (1233, 2, Some(1234)),
-        (u64::MAX - 1, 2, Some(u64::MAX - 1)),
-        (u64::MAX, 2, None),
-        (1234, 3, None),
-    ];
-    for (addr, align, multiple) in rows {
+    for (addr, align, multiple) in NUMBERS {
         assert_equal_in(rt, (addr, align), aligned_up(addr, align), multiple);
     }
     assert_equal(rt, align_down(1235, 2), 1234);
     assert_equal(rt, align_down(u64::MAX, 1 << 63), 1 << 63);
 }
 
-#[test]
-#[tactic(auto, using(x86_64_addr::proofs::PowersOfTwo::numeral_power))]
-fn virtual_addresses_are_aligned(rt: HostRuntime) {
-    let high = VirtAddr::new_truncate(1 << 47);
-    assert_equal(rt, VirtAddr::new(0x7fff_ffff_ffff).align_up(2), high);
-    assert_equal(rt, high.align_down(1 << 48), VirtAddr::zero());
-    assert_equal(
-        rt,
-        VirtAddr::new(0x1fff).align_down(0x1000),
-        VirtAddr::new(0x1000),
-    );
-    let rows = [
-        (0xffff_8000_0000_0000, 1 << 47, Some(true)),
-        (0xffff_8000_0000_0000, 1 << 48, Some(false)),
-        (0, 1 << 63, Some(true)),
-        (0x2000, 0x1000, Some(true)),
-        (0x2001, 2, Some(false)),
-    ];
-    for (raw, align, is_aligned) in rows {
-        assert_equal_in(rt, (raw, align), is_virt_aligned(raw, align), is_aligned);
+/// The raw value of an address aligned up, where there is a multiple of 64 bits, and aligned down, and whether it is aligned.
+type Aligned = (Option<u64>, u64, bool);
+
+/// Aligns the address of a raw value, where `align` is a power of two.
+fn aligned<L: LevelCount>(raw: u64, align: u64) -> Option<Aligned> {
+    if !align.is_power_of_two() {
+        return None;
     }
+    let address = VirtAddrIn::<L>::new_truncate(raw);
+    let up = match address.as_u64().checked_next_multiple_of(align) {
+        Some(_) => Some(address.align_up(align).as_u64()),
+        None => None,
+    };
+    let down = address.align_down(align).as_u64();
+    Some((up, down, address.is_aligned(align)))
+}
+
+/// Raw values, what their addresses are aligned to, and what comes of it.
+type AlignedRow = (u64, u64, Option<Aligned>);
+
+const ADDRESSES: [AlignedRow; 8] = [
+    (LAST_LOW, 2, Some((Some(FIRST_HIGH), LAST_LOW - 1, false))),
+    (
+        FIRST_HIGH,
+        1 << 47,
+        Some((Some(FIRST_HIGH), FIRST_HIGH, true)),
+    ),
+    (FIRST_HIGH, 1 << 48, Some((None, 0, false))),
+    (0, 1 << 63, Some((Some(0), 0, true))),
+    (0x1fff, 0x1000, Some((Some(0x2000), 0x1000, false))),
+    (0x2000, 0x1000, Some((Some(0x2000), 0x2000, true))),
+    (0x2001, 2, Some((Some(0x2002), 0x2000, false))),
+    (0x2000, 3, None),
+];
+
+const ADDRESSES_57: [AlignedRow; 3] = [
+    (
+        LAST_LOW_57,
+        2,
+        Some((Some(FIRST_HIGH_57), LAST_LOW_57 - 1, false)),
+    ),
+    (
+        FIRST_HIGH_57,
+        1 << 56,
+        Some((Some(FIRST_HIGH_57), FIRST_HIGH_57, true)),
+    ),
+    (FIRST_HIGH_57, 1 << 57, Some((None, 0, false))),
+];
+
+/// Aligns addresses, and compares what comes of it.
+fn check_aligned<L: LevelCount>(rt: impl Abort + Copy, rows: &[AlignedRow]) {
+    for (raw, align, wanted) in rows {
+        assert_equal_in(rt, (*raw, *align), aligned::<L>(*raw, *align), *wanted);
+    }
+}
+
+#[test]
+fn virtual_addresses_are_aligned(rt: HostRuntime) {
+    check_aligned::<FourLevels>(rt, &ADDRESSES);
+    check_aligned::<FiveLevels>(rt, &ADDRESSES_57);
 }
 
 #[test]

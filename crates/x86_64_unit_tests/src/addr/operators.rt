@@ -1,6 +1,7 @@
 //! Sums and differences of addresses.
+use crate::addr::{FIRST_HIGH, FIRST_HIGH_57, LAST_LOW, LAST_LOW_57};
 use crate::assertions::assert_equal;
-use x86_64_addr::addr::{PhysAddr, VirtAddr};
+use x86_64_addr::addr::{PhysAddr, VirtAddr, VirtAddr57};
 
 #[test]
 fn virtual_addresses_are_added(rt: HostRuntime) {
@@ -10,12 +11,19 @@ fn virtual_addresses_are_added(rt: HostRuntime) {
     assert_equal(rt, address, VirtAddr::new(0x3000));
     address -= 0x1000;
     assert_equal(rt, address - 1, VirtAddr::new(0x1fff));
-    let high = VirtAddr::new(0xffff_8000_0000_0000);
-    assert_equal(
-        rt,
-        high - VirtAddr::new(0x7fff_ffff_ffff),
-        0xffff_0000_0000_0001,
-    );
+    let distance = VirtAddr::new(FIRST_HIGH) - VirtAddr::new(LAST_LOW);
+    assert_equal(rt, distance, 0xffff_0000_0000_0001);
+}
+
+#[test]
+fn virtual_addresses_of_57_bits_are_added(rt: HostRuntime) {
+    let mut address = VirtAddr57::new(0x8000_0000_0000) + 0xfff;
+    address += 1;
+    assert_equal(rt, address, VirtAddr57::new(0x8000_0000_1000));
+    address -= 0x1000;
+    assert_equal(rt, address - 1, VirtAddr57::new(0x7fff_ffff_ffff));
+    let distance = VirtAddr57::new(FIRST_HIGH_57) - VirtAddr57::new(LAST_LOW_57);
+    assert_equal(rt, distance, 0xfe00_0000_0000_0001);
 }
 
 #[test]

@@ -2,51 +2,53 @@
 ghost use Rattle.std.specs.Prelude.{◌≡◌, drop, slice_get, IfSome};
 ghost use Rattle.x86_64_model.specs.Lists.{EachOnce};
 
-use crate::assertions::{assert_equal, unwrap};
+use crate::assertions::{assert_equal, assert_equal_at, assert_equal_in, unwrap};
 use crate::tables::frame_at;
+use crate::tables::phys_memory::pool_with;
+use std::process::Abort;
 use x86_64_page::frame::PhysFrame;
 use x86_64_page::page::Size4KiB;
 use x86_64_tables::frame_alloc::{
     FrameAllocator, FrameDeallocator, FramePool, FrameStore, PoolRefusal,
 };
 
+/// Compares what a pool has: the frames in order, and none after them.
+fn check_frames(rt: impl Abort + Copy, pool: &FramePool, frames: &[u64]) {
+    assert_equal(rt, pool.len(), frames.len());
+    assert_equal(rt, pool.frame_at(frames.len()), None);
+    for (n, frame) in frames.iter().enumerate() {
+        assert_equal_in(rt, n, pool.frame_at(n), Some(frame_at(*frame)));
+    }
+}
+
+/// Frames that are added to a pool of the limit 8 one after the other, and what comes of it.
+const ADDED: [(u64, Result<(), PoolRefusal>); 5] = [
+    (0x0, Err(PoolRefusal::Zero)),
+    (0x8000, Err(PoolRefusal::OutOfRange)),
+    (0x2000, Ok(())),
+    (0x2000, Err(PoolRefusal::AlreadyFree)),
+    (0x7000, Ok(())),
+];
+
 #[test]
 fn pool_refuses_what_it_cannot_serve(rt: HostRuntime) {
-    let mut pool = unwrap(rt, FramePool::new(rt.alloc(), 8));
-    assert_equal(rt, pool.len(), 0);
-    assert_equal(rt, pool.try_add(frame_at(0x0)), Err(PoolRefusal::Zero));
-    assert_equal(
-        rt,
-        pool.try_add(frame_at(0x8000)),
-        Err(PoolRefusal::OutOfRange),
-    );
-    assert_equal(rt, pool.try_add(frame_at(0x2000)), Ok(()));
-    assert_equal(
-        rt,
-        pool.try_add(frame_at(0x2000)),
-        Err(PoolRefusal::AlreadyFree),
-    );
-    assert_equal(rt, pool.try_add(frame_at(0x7000)), Ok(()));
-    assert_equal(rt, pool.len(), 2);
-    assert!(rt; pool.contains(frame_at(0x2000)));
-    assert!(rt; !pool.contains(frame_at(0x3000)));
-    assert!(rt; !pool.contains(frame_at(0x8000)));
-    assert_equal(rt, pool.frame_at(0), Some(frame_at(0x2000)));
-    assert_equal(rt, pool.frame_at(1), Some(frame_at(0x7000)));
-    assert_equal(rt, pool.frame_at(2), None);
-    let text = unwrap(rt, format!(in rt.alloc(); "{:?}", PoolRefusal::OutOfRange));
-    assert_equal(rt, text.as_str(), "OutOfRange");
+    let mut pool = pool_with(rt, rt.alloc(), 8, &[]);
+    check_frames(rt, &pool, &[]);
+    for (frame, wanted) in ADDED {
+        assert_equal_at(rt, frame, pool.try_add(frame_at(frame)), wanted);
+    }
+    check_frames(rt, &pool, &[0x2000, 0x7000]);
+    for (frame, wanted) in [(0x2000, true), (0x3000, false), (0x8000, false)] {
+        assert_equal_at(rt, frame, pool.contains(frame_at(frame)), wanted);
+    }
 }
 
 #[test]
 fn limits_may_be_any(rt: HostRuntime) {
-    let mut pool = unwrap(rt, FramePool::new(rt.alloc(), 0));
-    assert_equal(rt, pool.try_add(frame_at(0x0)), Err(PoolRefusal::Zero));
-    assert_equal(
-        rt,
-        pool.try_add(frame_at(0x1000)),
-        Err(PoolRefusal::OutOfRange),
-    );
+    let mut pool = pool_with(rt, rt.alloc(), 0, &[]);
+    let added = (pool.try_add(frame_at(0x0)), pool.try_add(frame_at(0x1000)));
+    let wanted = (Err(PoolRefusal::Zero), Err(PoolRefusal::OutOfRange));
+    assert_equal(rt, added, wanted);
     assert_equal(rt, pool.allocate_frame(), None);
     assert!(rt; FramePool::new(rt.alloc(), u64::MAX).is_err());
 }
@@ -58,30 +60,31 @@ fn frames_come_back_to_the_front(rt: HostRuntime) {
     assert!(rt; pool.try_add(first).is_ok());
     assert!(rt; pool.try_add(second).is_ok());
     assert_equal(rt, take_and_put_back(&mut pool), Some(first));
-    assert_equal(rt, pool.allocate_frame(), Some(first));
-    assert_equal(rt, pool.allocate_frame(), Some(second));
+    let taken = (pool.allocate_frame(), pool.allocate_frame());
+    assert_equal(rt, taken, (Some(first), Some(second)));
     assert_equal(rt, pool.allocate_frame(), None);
     pool.deallocate_frame(first);
     pool.deallocate_frame(second);
-    assert_equal(rt, pool.frame_at(0), Some(second));
-    assert_equal(rt, pool.frame_at(1), Some(first));
-    assert_equal(rt, pool.len(), 2);
+    check_frames(rt, &pool, &[0x3000, 0x2000]);
 }
+
+/// Frames of two pools, and whether the pools are equal.
+const EQUAL: [(&[u64], &[u64], bool); 5] = [
+    (&[], &[], true),
+    (&[0x2000], &[], false),
+    (&[0x2000], &[0x2000], true),
+    (&[0x2000], &[0x3000], false),
+    (&[0x2000, 0x3000, 0x4000], &[0x2000, 0x4000, 0x3000], false),
+];
 
 #[test]
 fn pools_are_equal_as_lists(rt: HostRuntime) {
-    let mut one = unwrap(rt, FramePool::new(rt.alloc(), 8));
-    let mut other = unwrap(rt, FramePool::new(rt.alloc(), 16));
-    assert!(rt; one == other);
-    assert_equal(rt, one.try_add(frame_at(0x2000)), Ok(()));
-    assert!(rt; one != other);
-    assert_equal(rt, other.try_add(frame_at(0x2000)), Ok(()));
-    assert!(rt; one == other);
-    assert_equal(rt, one.try_add(frame_at(0x3000)), Ok(()));
-    assert_equal(rt, other.try_add(frame_at(0x4000)), Ok(()));
-    assert_equal(rt, one.try_add(frame_at(0x4000)), Ok(()));
-    assert_equal(rt, other.try_add(frame_at(0x3000)), Ok(()));
-    assert!(rt; one != other);
+    for (one, other, wanted) in EQUAL {
+        // The limit doesn't count.
+        let first = pool_with(rt, rt.alloc(), 8, one);
+        let second = pool_with(rt, rt.alloc(), 16, other);
+        assert_equal_in(rt, (one, other), first == second, wanted);
+    }
 }
 
 /// Takes the first frame of a store and puts it back.

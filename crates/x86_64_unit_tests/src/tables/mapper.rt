@@ -1,5 +1,6 @@
 //! Tests of flushes.
 use crate::assertions::{assert_equal, assert_equal_in};
+use std::alloc::Global;
 use std::process::Abort;
 use x86_64_addr::addr::{VirtAddr, VirtAddr57};
 use x86_64_page::page::{Page, Page57, PageSize, Size1GiB, Size2MiB, Size4KiB};
@@ -26,6 +27,21 @@ fn item(start: u64, size: u64) -> FlushItem {
     }
 }
 
+/// Flushes pages and all in turn, with so much room made before, and compares the items.
+fn check_recorded(rt: impl Abort + Copy, alloc: Global, room: usize, items: &[FlushItem]) {
+    let mut recorder = FlushRecorder::new(alloc);
+    assert!(rt; recorder.items().is_empty());
+    assert_equal(rt, recorder.reserve(room), Ok(()));
+    flush_page::<Size4KiB>(rt, &mut recorder, 0x1000);
+    flush_all(rt, &mut recorder);
+    flush_page::<Size2MiB>(rt, &mut recorder, 0x20_0000);
+    flush_all(rt, &mut recorder);
+    assert_equal(rt, recorder.reserve(room), Ok(()));
+    flush_page::<Size1GiB>(rt, &mut recorder, 0x4000_0000);
+    flush_page::<Size4KiB>(rt, &mut recorder, 0xffff_8000_0000_0000);
+    assert_equal_in(rt, room, recorder.items(), items);
+}
+
 #[test]
 fn flushes_are_recorded_in_order(rt: HostRuntime) {
     let items = [
@@ -37,24 +53,13 @@ fn flushes_are_recorded_in_order(rt: HostRuntime) {
         item(0xffff_8000_0000_0000, 4096),
     ];
     for room in [0, 2, 4, 8] {
-        let mut recorder = FlushRecorder::new(rt.alloc());
-        assert!(rt; recorder.items().is_empty(), "room {room}");
-        assert_equal(rt, recorder.reserve(room), Ok(()));
-        flush_page::<Size4KiB>(rt, &mut recorder, 0x1000);
-        flush_all(rt, &mut recorder);
-        flush_page::<Size2MiB>(rt, &mut recorder, 0x20_0000);
-        flush_all(rt, &mut recorder);
-        assert_equal_in(rt, room, recorder.items(), &items[..4]);
-        assert_equal(rt, recorder.reserve(room), Ok(()));
-        assert_equal_in(rt, room, recorder.items(), &items[..4]);
-        flush_page::<Size1GiB>(rt, &mut recorder, 0x4000_0000);
-        flush_page::<Size4KiB>(rt, &mut recorder, 0xffff_8000_0000_0000);
-        assert_equal_in(rt, room, recorder.items(), items.as_slice());
+        check_recorded(rt, rt.alloc(), room, &items);
     }
 }
 
 #[test]
 fn flushes_of_pages_of_57_bits_are_recorded(rt: HostRuntime) {
+    let size = 2_097_152;
     for start in [0x20_0000, 0xff00_0000_0000_0000] {
         let start = VirtAddr57::new_truncate(start);
         let mut recorder = FlushRecorder::new(rt.alloc());
@@ -63,7 +68,6 @@ fn flushes_of_pages_of_57_bits_are_recorded(rt: HostRuntime) {
         assert_equal(rt, token.page(), page);
         let answer = token.flush(&mut recorder);
         assert_equal(rt, answer.map_err(MapperFlush57::ignore), Ok(()));
-        let size = 2_097_152;
         let items = [FlushItem::Page57 { start, size }];
         assert_equal(rt, recorder.items(), items.as_slice());
     }

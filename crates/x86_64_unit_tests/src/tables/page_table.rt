@@ -110,19 +110,20 @@ fn flags_change_in_place(rt: HostRuntime) {
     }
 }
 
+/// Bits, and whether both low flags are among them, whether one is, whether none is set, whether all known ones are.
+const ASKED: [(u64, [bool; 4]); 6] = [
+    (0x0, [false, false, true, false]),
+    (0x2, [false, true, false, false]),
+    (0x83, [true, true, false, false]),
+    (0x1000, [false, false, false, false]),
+    (0xfff0_0000_0000_0fff, [true, true, false, true]),
+    (u64::MAX, [true, true, false, true]),
+];
+
 #[test]
 fn flags_are_asked(rt: HostRuntime) {
     let low = PageTableFlags::PRESENT | PageTableFlags::WRITABLE;
-    // The bits; whether both low flags are among them, whether one is, whether none is set, whether all known ones are.
-    let rows = [
-        (0x0, [false, false, true, false]),
-        (0x2, [false, true, false, false]),
-        (0x83, [true, true, false, false]),
-        (0x1000, [false, false, false, false]),
-        (0xfff0_0000_0000_0fff, [true, true, false, true]),
-        (u64::MAX, [true, true, false, true]),
-    ];
-    for (bits, answers) in rows {
+    for (bits, answers) in ASKED {
         let flags = PageTableFlags::from_bits_retain(bits);
         let asked = [
             flags.contains(low),
@@ -131,14 +132,39 @@ fn flags_are_asked(rt: HostRuntime) {
             flags.is_all(),
         ];
         assert_equal_at(rt, bits, asked, answers);
-        let known = bits & 0x000f_ffff_ffff_f000 == 0;
-        let read = PageTableFlags::from_bits(bits);
-        assert_equal(rt, read, if known { Some(flags) } else { None });
-        assert_equal(rt, flags.contains_unknown_bits(), !known);
-        let text = unwrap(rt, format!(in rt.alloc(); "{flags:?}"));
-        let expected = unwrap(rt, format!(in rt.alloc(); "PageTableFlags({bits:#x})"));
-        assert_equal(rt, text.as_str(), expected.as_str());
     }
+}
+
+/// Bits, and whether all of them are known.
+const KNOWN: [(u64, bool); 6] = [
+    (0x0, true),
+    (0x2, true),
+    (0x83, true),
+    (0x1000, false),
+    (0xfff0_0000_0000_0fff, true),
+    (u64::MAX, false),
+];
+
+#[test]
+fn flags_are_read(rt: HostRuntime) {
+    for (bits, known) in KNOWN {
+        let flags = PageTableFlags::from_bits_retain(bits);
+        let read = if known { Some(flags) } else { None };
+        assert_equal_at(rt, bits, PageTableFlags::from_bits(bits), read);
+        assert_equal_at(rt, bits, flags.contains_unknown_bits(), !known);
+    }
+}
+
+#[test]
+fn flags_have_texts(rt: HostRuntime) {
+    let (none, all) = (PageTableFlags::empty(), PageTableFlags::all());
+    let odd = PageTableFlags::from_bits_retain(0x1003);
+    let text = unwrap(rt, format!(in rt.alloc(); "{none:?} {odd:?} {all:?}"));
+    assert_equal(
+        rt,
+        text.as_str(),
+        "PageTableFlags(0x0) PageTableFlags(0x1003) PageTableFlags(0xfff0000000000fff)",
+    );
 }
 
 /// Gives the word of an entry.
@@ -146,42 +172,45 @@ fn word_of(entry: &PageTableEntry) -> u64 {
     entry.addr().as_u64() | entry.flags().bits()
 }
 
+/// The address and the flags of an entry, its word, and the frame that it names, or why it names none.
+type EntryRow = (u64, u64, u64, Result<u64, FrameError>);
+
+const ENTRIES: [EntryRow; 6] = [
+    (0x0, 0x0, 0x0, Err(FrameError::FrameNotPresent)),
+    (0x5000, 0x0, 0x5000, Err(FrameError::FrameNotPresent)),
+    (0x5000, 0x82, 0x5082, Err(FrameError::FrameNotPresent)),
+    (
+        0x5000,
+        0x8000_0000_0000_0083,
+        0x8000_0000_0000_5083,
+        Err(FrameError::HugeFrame),
+    ),
+    (0x6000, 0x3, 0x6003, Ok(0x6000)),
+    (
+        0x000f_ffff_ffff_f000,
+        0x1,
+        0x000f_ffff_ffff_f001,
+        Ok(0x000f_ffff_ffff_f000),
+    ),
+];
+
+/// Gives what an entry says: its word, its address and flags, and whether it is unused.
+fn parts(entry: &PageTableEntry) -> (u64, u64, u64, bool) {
+    let (addr, flags) = (entry.addr().as_u64(), entry.flags().bits());
+    (addr | flags, addr, flags, entry.is_unused())
+}
+
 #[test]
 fn entries_are_words(rt: HostRuntime) {
-    use FrameError::{FrameNotPresent, HugeFrame};
-    let rows = [
-        (0x0, 0x0, 0x0, Err(FrameNotPresent)),
-        (0x5000, 0x0, 0x5000, Err(FrameNotPresent)),
-        (0x5000, 0x82, 0x5082, Err(FrameNotPresent)),
-        (
-            0x5000,
-            0x8000_0000_0000_0083,
-            0x8000_0000_0000_5083,
-            Err(HugeFrame),
-        ),
-        (0x6000, 0x3, 0x6003, Ok(0x6000)),
-        (
-            0x000f_ffff_ffff_f000,
-            0x1,
-            0x000f_ffff_ffff_f001,
-            Ok(0x000f_ffff_ffff_f000),
-        ),
-    ];
-    for (start, bits, word, frame) in rows {
-        let addr = PhysAddr::new_truncate(start);
-        let flags = PageTableFlags::from_bits_retain(bits);
+    for (start, bits, word, frame) in ENTRIES {
+        let addr = frame_at(start).start_address();
         let mut entry = PageTableEntry::new();
-        assert!(rt; addr.as_u64() % 4096 == 0);
-        entry.set_addr(addr, flags);
-        assert_equal(rt, word_of(&entry), word);
-        assert_equal(rt, entry.addr(), addr);
-        assert_equal(rt, entry.flags(), flags);
+        entry.set_addr(addr, PageTableFlags::from_bits_retain(bits));
+        assert_equal_at(rt, word, parts(&entry), (word, start, bits, word == 0));
         assert_equal_at(rt, word, entry.frame(), frame.map(frame_at));
-        assert_equal(rt, entry.is_unused(), word == 0);
         entry.set_flags(PageTableFlags::empty());
-        assert_equal(rt, word_of(&entry), start);
-        assert_equal(rt, entry.frame(), Err(FrameNotPresent));
-        assert_equal(rt, entry.is_unused(), start == 0);
+        assert_equal_at(rt, word, parts(&entry), (start, start, 0, start == 0));
+        assert_equal_at(rt, word, entry.frame(), Err(FrameError::FrameNotPresent));
     }
 }
 
@@ -195,20 +224,28 @@ fn entries_are_changed(rt: HostRuntime) {
     entry.set_frame(frame_at(0x6000), low);
     let copy = unwrap(rt, entry.clone());
     entry.set_flags(PageTableFlags::NO_EXECUTE);
-    assert_equal(rt, word_of(&entry), 0x8000_0000_0000_6000);
-    assert_equal(rt, word_of(&copy), 0x6003);
-    assert_equal(rt, copy.frame(), Ok(frame_at(0x6000)));
-    let text = unwrap(rt, format!(in rt.alloc(); "{copy:?}"));
     assert_equal(
         rt,
-        text.as_str(),
-        "PageTableEntry { addr: PhysAddr(0x6000), flags: PageTableFlags(0x3) }",
+        (word_of(&entry), word_of(&copy)),
+        (0x8000_0000_0000_6000, 0x6003),
     );
     entry.set_unused();
     assert!(rt; entry.is_unused());
+}
+
+#[test]
+fn entries_have_texts(rt: HostRuntime) {
+    let mut entry = PageTableEntry::new();
+    let flags = PageTableFlags::from_bits_retain(0x3);
+    entry.set_addr(PhysAddr::new(0x5000), flags);
     let errors = [FrameError::FrameNotPresent, FrameError::HugeFrame];
-    let text = unwrap(rt, format!(in rt.alloc(); "{errors:?}"));
-    assert_equal(rt, text.as_str(), "[FrameNotPresent, HugeFrame]");
+    let text = unwrap(rt, format!(in rt.alloc(); "{entry:?} {errors:?}"));
+    assert_equal(
+        rt,
+        text.as_str(),
+        "PageTableEntry { addr: PhysAddr(0x5000), flags: PageTableFlags(0x3) } \
+         [FrameNotPresent, HugeFrame]",
+    );
 }
 
 #[test]
@@ -217,17 +254,25 @@ fn tables_are_lists_of_words(rt: HostRuntime) {
     assert!(rt; table.is_empty());
     table[1].set_addr(PhysAddr::new(0x5000), PageTableFlags::PRESENT);
     table[PageTableIndex::new(511)].set_addr(PhysAddr::new(0x6000), PageTableFlags::WRITABLE);
-    assert!(rt; !table.is_empty());
-    assert_equal(rt, word_of(&table[PageTableIndex::new(1)]), 0x5001);
-    assert_equal(rt, word_of(&table[511]), 0x6002);
-    assert!(rt; table[2].is_unused());
+    let words = (
+        word_of(&table[PageTableIndex::new(1)]),
+        word_of(&table[511]),
+    );
+    assert_equal(rt, words, (0x5001, 0x6002));
+    assert!(rt; !table.is_empty() && table[2].is_unused());
     let copy = unwrap(rt, table.clone());
     table.zero();
     assert!(rt; table.is_empty());
     assert_equal(rt, word_of(&copy[511]), 0x6002);
-    let text = unwrap(rt, format!(in rt.alloc(); "{copy:?}"));
-    let expected = text_of(rt, &copy, rt.alloc());
-    assert_equal(rt, text.as_str(), expected.as_str());
+}
+
+#[test]
+fn tables_have_texts(rt: HostRuntime) {
+    let mut table = PageTable::new();
+    table[511].set_addr(PhysAddr::new(0x6000), PageTableFlags::WRITABLE);
+    let text = unwrap(rt, format!(in rt.alloc(); "{table:?}"));
+    let wanted = text_of(rt, &table, rt.alloc());
+    assert_equal(rt, text.as_str(), wanted.as_str());
 }
 
 /// Gives the texts of all entries, parted by commas, in brackets.
@@ -239,22 +284,27 @@ fn text_of(rt: impl Abort + Copy, table: &PageTable, alloc: Global) -> String {
     unwrap(rt, format!(in alloc; "{text}]"))
 }
 
-#[test]
-fn entries_come_in_order(rt: HostRuntime) {
+/// Makes a table where the word of each entry is its index, through a loan of the entries in order.
+fn table_of_indices() -> PageTable {
     let mut table = PageTable::new();
     for (index, entry) in table.iter_mut().enumerate() {
         entry.set_flags(PageTableFlags::from_bits_retain(index as u64));
     }
+    table
+}
+
+#[test]
+fn entries_come_in_order(rt: HostRuntime) {
+    let table = table_of_indices();
     let mut entries = table.iter();
     assert_equal(rt, entries.size_hint(), (512, Some(512)));
     for index in 0..512 {
         let entry = unwrap_some(rt, entries.next());
-        assert_equal(rt, word_of(entry), index as u64);
-        assert_equal(rt, word_of(&table[index]), index as u64);
+        let words = (word_of(entry), word_of(&table[index]));
+        assert_equal(rt, words, (index as u64, index as u64));
     }
     assert_equal(rt, entries.size_hint(), (0, Some(0)));
-    assert!(rt; entries.next().is_none());
-    assert!(rt; entries.next().is_none());
+    assert!(rt; entries.next().is_none() && entries.next().is_none());
     assert_equal(rt, table.iter().count(), 512);
 }
 
@@ -269,8 +319,6 @@ fn entries_are_lent_in_order(rt: HostRuntime) {
         entry.set_flags(PageTableFlags::from_bits_retain(index));
     }
     assert_equal(rt, entries.size_hint(), (0, Some(0)));
-    assert!(rt; entries.next().is_none());
-    assert!(rt; entries.next().is_none());
-    assert_equal(rt, word_of(&table[0]), 0x0);
-    assert_equal(rt, word_of(&table[511]), 0x1ff);
+    assert!(rt; entries.next().is_none() && entries.next().is_none());
+    assert_equal(rt, (word_of(&table[0]), word_of(&table[511])), (0x0, 0x1ff));
 }

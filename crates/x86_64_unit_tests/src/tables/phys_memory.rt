@@ -1,7 +1,6 @@
-//! Tests of walks, of hierarchies and of pools that fit them, over memories that are given as words.
+//! Tests of walks, of hierarchies and of pools that fit them, over memories that are given as words, with four levels of tables and
+//! with five.
 mod alike;
-mod five_levels;
-mod five_levels_recursive;
 mod places;
 mod recursive;
 
@@ -10,45 +9,67 @@ use crate::tables::frame_at;
 use bitflags::Flags;
 use std::alloc::Global;
 use std::process::Abort;
-use x86_64_addr::addr::{PhysAddr, VirtAddr};
+use x86_64_addr::addr::{PhysAddr, VirtAddrIn};
 use x86_64_addr::index::PageTableIndex;
+use x86_64_addr::level_count::{FiveLevels, FourLevels, LevelCount};
 use x86_64_tables::frame_alloc::FramePool;
 use x86_64_tables::page_table::PageTableFlags;
 use x86_64_tables::phys_memory::{
-    FramePlace, IdentityMapping, PhysMemory, Walked, is_valid_hierarchy, page_walk, pool_fits,
+    FramePlace, IdentityMapping, PhysMemory, Walked, is_valid_hierarchy, is_valid_hierarchy_57,
+    page_walk, pool_fits, pool_fits_57,
 };
+
+/// A word, after its frame and its index.
+type Word = (u64, u16, u64);
 
 /// The bits of a word that are flags.
 const FLAGS_MASK: u64 = 0xfff0_0000_0000_0fff;
 
 /// Sets the word at an index of the table in a frame.
-fn set_word(rt: impl Abort + Copy, memory: &mut PhysMemory, frame: u64, index: u16, word: u64) {
+fn set_word(rt: impl Abort + Copy, memory: &mut PhysMemory, (frame, index, word): Word) {
     let table = unwrap_some(rt, memory.table_mut(FramePlace::new(frame / 0x1000)));
     let flags = PageTableFlags::from_bits_retain(word & FLAGS_MASK);
     let entry = &mut table[PageTableIndex::new_truncate(index)];
     entry.set_addr(frame_at(word).start_address(), flags);
 }
 
-/// Makes a memory of 8 places with words, each given by its frame, its index and itself.
-fn memory_with(rt: impl Abort + Copy, alloc: Global, words: &[(u64, u16, u64)]) -> PhysMemory {
-    let mut memory = unwrap(rt, PhysMemory::new(alloc, 8));
-    for (frame, index, word) in words {
-        set_word(rt, &mut memory, *frame, *index, *word);
+/// Sets words.
+fn set_words(rt: impl Abort + Copy, memory: &mut PhysMemory, words: &[Word]) {
+    for word in words {
+        set_word(rt, memory, *word);
     }
+}
+
+/// Makes a memory of 8 places with words.
+fn memory_with(rt: impl Abort + Copy, alloc: Global, words: &[Word]) -> PhysMemory {
+    let mut memory = unwrap(rt, PhysMemory::new(alloc, 8));
+    set_words(rt, &mut memory, words);
     memory
 }
 
-/// Makes the same memory, where all words of the table in frame 0x2000 are ones.
-fn memory_of_ones(rt: impl Abort + Copy, alloc: Global, words: &[(u64, u16, u64)]) -> PhysMemory {
+/// Makes the same memory, and then sets more words.
+fn memory_of(rt: impl Abort + Copy, alloc: Global, words: &[Word], more: &[Word]) -> PhysMemory {
     let mut memory = memory_with(rt, alloc, words);
+    set_words(rt, &mut memory, more);
+    memory
+}
+
+/// Makes a memory where the root's first word names the table in frame 0x2000, and all words of that are ones.
+fn memory_of_ones(rt: impl Abort + Copy, alloc: Global) -> PhysMemory {
+    let mut memory = memory_with(rt, alloc, &[(0x1000, 0, 0x2003)]);
     for index in 0..512 {
-        set_word(rt, &mut memory, 0x2000, index, u64::MAX);
+        set_word(rt, &mut memory, (0x2000, index, u64::MAX));
     }
     memory
 }
 
 /// Makes a pool of a limit with frames, each given by its start address.
-fn pool_with(rt: impl Abort + Copy, alloc: Global, limit: u64, frames: &[u64]) -> FramePool {
+pub(super) fn pool_with(
+    rt: impl Abort + Copy,
+    alloc: Global,
+    limit: u64,
+    frames: &[u64],
+) -> FramePool {
     let mut pool = unwrap(rt, FramePool::new(alloc, limit));
     for frame in frames {
         unwrap(rt, pool.try_add(frame_at(*frame)));
@@ -56,37 +77,39 @@ fn pool_with(rt: impl Abort + Copy, alloc: Global, limit: u64, frames: &[u64]) -
     pool
 }
 
-/// Tells whether a pool fits the hierarchy below the root in frame 0x1000.
+/// Tells whether a pool fits the hierarchy of four levels, or else of five, below the root in frame 0x1000.
 fn fits(
     rt: impl Abort + Copy,
     alloc: Global,
+    levels: u64,
     memory: &PhysMemory,
-    limit: u64,
-    frames: &[u64],
+    (limit, frames): (u64, &[u64]),
 ) -> bool {
     let pool = pool_with(rt, alloc, limit, frames);
-    unwrap(
-        rt,
-        pool_fits(alloc, memory, &IdentityMapping, frame_at(0x1000), &pool),
-    )
+    let root = frame_at(0x1000);
+    let tested = if levels == 4 {
+        pool_fits(alloc, memory, &IdentityMapping, root, &pool)
+    } else {
+        pool_fits_57(alloc, memory, &IdentityMapping, root, &pool)
+    };
+    unwrap(rt, tested)
 }
 
-/// Tells whether words are a valid hierarchy below the root in frame 0x1000.
-fn is_valid(rt: impl Abort + Copy, alloc: Global, memory: &PhysMemory) -> bool {
-    unwrap(
-        rt,
-        is_valid_hierarchy(alloc, memory, &IdentityMapping, frame_at(0x1000)),
-    )
+/// Tells whether words are a valid hierarchy of four levels, or else of five, below the root in frame 0x1000.
+fn is_valid(rt: impl Abort + Copy, alloc: Global, levels: u64, memory: &PhysMemory) -> bool {
+    let root = frame_at(0x1000);
+    let tested = if levels == 4 {
+        is_valid_hierarchy(alloc, memory, &IdentityMapping, root)
+    } else {
+        is_valid_hierarchy_57(alloc, memory, &IdentityMapping, root)
+    };
+    unwrap(rt, tested)
 }
 
 /// Walks from the root in frame 0x1000.
-fn walk(memory: &PhysMemory, addr: u64) -> Option<Walked> {
-    page_walk(
-        memory,
-        &IdentityMapping,
-        frame_at(0x1000),
-        VirtAddr::new_truncate(addr),
-    )
+fn walk<L: LevelCount>(memory: &PhysMemory, addr: u64) -> Option<Walked> {
+    let addr = VirtAddrIn::<L>::new_truncate(addr);
+    page_walk(memory, &IdentityMapping, frame_at(0x1000), addr)
 }
 
 /// Gives where a walk arrives, without `USER_ACCESSIBLE`.
@@ -100,7 +123,7 @@ fn arrival(wanted: Option<(u64, bool)>) -> Option<Walked> {
 }
 
 /// Words, an address, and where the walk of it arrives, if it does, and whether it may write.
-type Walk = (&'static [(u64, u16, u64)], u64, Option<(u64, bool)>);
+type Walk = (&'static [Word], u64, Option<(u64, bool)>);
 
 const WALKS: [Walk; 7] = [
     (
@@ -137,72 +160,169 @@ const WALKS: [Walk; 7] = [
     ),
 ];
 
-#[test]
-fn walks_arrive(rt: HostRuntime) {
-    for (words, addr, wanted) in WALKS {
-        let memory = memory_with(rt, rt.alloc(), words);
-        assert_equal_at(rt, addr, walk(&memory, addr), arrival(wanted));
+const WALKS_57: [Walk; 5] = [
+    (
+        &[
+            (0x1000, 0, 0x2003),
+            (0x2000, 0, 0x3003),
+            (0x3000, 0, 0x4003),
+            (0x4000, 0, 0x5003),
+            (0x5000, 1, 0x6003),
+        ],
+        0x1abc,
+        Some((0x6abc, true)),
+    ),
+    (
+        &[
+            (0x1000, 256, 0x2003),
+            (0x2000, 0, 0x3001),
+            (0x3000, 1, 0x4000_0083),
+        ],
+        0xff00_0000_4000_0001,
+        Some((0x4000_0001, false)),
+    ),
+    (&[(0x1000, 0, 0x2003), (0x2000, 0, 0x83)], 0, None),
+    (&[(0x1000, 0, 0x83)], 0, None),
+    (&[(0x1000, 0, 0x2003), (0x2000, 0, 0x3003)], 0, None),
+];
+
+/// Walks, and compares where that arrives.
+fn check_walks<L: LevelCount>(rt: impl Abort + Copy, alloc: Global, rows: &[Walk]) {
+    for (words, addr, wanted) in rows {
+        let memory = memory_with(rt, alloc, words);
+        assert_equal_at(rt, *addr, walk::<L>(&memory, *addr), arrival(*wanted));
     }
-    let memory = memory_of_ones(rt, rt.alloc(), &[(0x1000, 0, 0x2003)]);
-    let wanted = arrival(Some((0x000f_ffff_c000_0000, true)));
-    assert_equal(rt, walk(&memory, 0), wanted);
 }
 
-const ROOT_POOLS: [(&[(u64, u16, u64)], u64, &[u64], bool); 11] = [
-    (&[], 8, &[0x2000, 0x3000, 0x4000], true),
-    (&[], 8, &[], true),
-    (&[], 8, &[0x7000], true),
-    (&[], 9, &[0x7000, 0x8000], false),
-    (&[], 8, &[0x1000], false),
-    (&[], 8, &[0x2000, 0x1000], false),
-    (&[], 0, &[], true),
-    (&[(0x1000, 0, 0x1003)], 8, &[0x2000], false),
-    (&[(0x1000, 0, 0x80)], 8, &[0x2000], false),
-    (&[(0x1000, 0, 0x8003)], 16, &[0x2000], false),
+#[test]
+fn walks_arrive(rt: HostRuntime) {
+    check_walks::<FourLevels>(rt, rt.alloc(), &WALKS);
+    check_walks::<FiveLevels>(rt, rt.alloc(), &WALKS_57);
+    let memory = memory_of_ones(rt, rt.alloc());
+    let wanted = arrival(Some((0x000f_ffff_c000_0000, true)));
+    assert_equal(rt, walk::<FourLevels>(&memory, 0), wanted);
+}
+
+/// Words, and whether they are a valid hierarchy of four levels, and of five.
+const HIERARCHIES: [(&[Word], bool, bool); 4] = [
+    (&[], true, true),
+    (&[(0x1000, 0, 0x2003), (0x2000, 0, 0x83)], true, false),
+    (
+        &[
+            (0x1000, 0, 0x2003),
+            (0x2000, 0, 0x3003),
+            (0x3000, 0, 0x4003),
+            (0x4000, 0, 0x9003),
+        ],
+        true,
+        false,
+    ),
+    (&[(0x1000, 0, 0x1003)], false, false),
+];
+
+#[test]
+fn hierarchies_are_valid_with_as_many_levels(rt: HostRuntime) {
+    for (words, four, five) in HIERARCHIES {
+        let memory = memory_with(rt, rt.alloc(), words);
+        let found = (
+            is_valid(rt, rt.alloc(), 4, &memory),
+            is_valid(rt, rt.alloc(), 5, &memory),
+        );
+        assert_equal_in(rt, words, found, (four, five));
+    }
+}
+
+/// Words, the limit and the frames of a pool, and whether it fits.
+const ROOT_POOLS: [(&[Word], (u64, &[u64]), bool); 11] = [
+    (&[], (8, &[0x2000, 0x3000, 0x4000]), true),
+    (&[], (8, &[]), true),
+    (&[], (8, &[0x7000]), true),
+    (&[], (9, &[0x7000, 0x8000]), false),
+    (&[], (8, &[0x1000]), false),
+    (&[], (8, &[0x2000, 0x1000]), false),
+    (&[], (0, &[]), true),
+    (&[(0x1000, 0, 0x1003)], (8, &[0x2000]), false),
+    (&[(0x1000, 0, 0x80)], (8, &[0x2000]), false),
+    (&[(0x1000, 0, 0x8003)], (16, &[0x2000]), false),
     (
         &[(0x1000, 0, 0x2003), (0x1000, 1, 0x2002)],
-        8,
-        &[0x3000],
+        (8, &[0x3000]),
         false,
     ),
 ];
 
 #[test]
 fn pools_fit_a_root(rt: HostRuntime) {
-    for (words, limit, frames, expected) in ROOT_POOLS {
+    for (words, pool, wanted) in ROOT_POOLS {
         let memory = memory_with(rt, rt.alloc(), words);
-        let fits = fits(rt, rt.alloc(), &memory, limit, frames);
-        assert_equal_in(rt, (frames, limit, words), fits, expected);
+        let found = fits(rt, rt.alloc(), 4, &memory, pool);
+        assert_equal_in(rt, (words, pool), found, wanted);
     }
     let small = unwrap(rt, PhysMemory::new(rt.alloc(), 1));
-    assert!(rt; !fits(rt, rt.alloc(), &small, 8, &[]));
+    assert!(rt; !fits(rt, rt.alloc(), 4, &small, (8, &[])));
 }
 
-const POOLS: [(u64, &[u64], bool); 7] = [
-    (8, &[0x7000, 0x6000, 0x5000], true),
-    (8, &[0x2000, 0x7000], false),
-    (8, &[0x7000, 0x3000, 0x6000], false),
-    (8, &[0x7000, 0x4000], false),
-    (5, &[], true),
-    (4, &[], false),
-    (1, &[], false),
+/// The limit and the frames of a pool, and whether it fits.
+type Pool = ((u64, &'static [u64]), bool);
+
+/// The words that pools are to fit.
+const TABLES: [Word; 5] = [
+    (0x1000, 0, 0x2003),
+    (0x2000, 0, 0x3003),
+    (0x3000, 0, 0x4002),
+    (0x3000, 1, 0x5083),
+    (0x4000, 0, 0x6003),
 ];
+
+const POOLS: [Pool; 7] = [
+    ((8, &[0x7000, 0x6000, 0x5000]), true),
+    ((8, &[0x2000, 0x7000]), false),
+    ((8, &[0x7000, 0x3000, 0x6000]), false),
+    ((8, &[0x7000, 0x4000]), false),
+    ((5, &[]), true),
+    ((4, &[]), false),
+    ((1, &[]), false),
+];
+
+/// The same with five levels.
+const TABLES_57: [Word; 5] = [
+    (0x1000, 0, 0x2003),
+    (0x2000, 0, 0x3003),
+    (0x3000, 0, 0x4003),
+    (0x4000, 0, 0x5002),
+    (0x5000, 0, 0x6003),
+];
+
+const POOLS_57: [Pool; 5] = [
+    ((8, &[0x7000, 0x6000]), true),
+    ((8, &[0x7000, 0x5000]), false),
+    ((8, &[0x1000]), false),
+    ((6, &[]), true),
+    ((5, &[]), false),
+];
+
+/// Where all words of a table are ones.
+const POOLS_BESIDE_ONES: [Pool; 2] = [((8, &[0x3000]), true), ((8, &[0x2000]), false)];
+
+/// Compares whether pools fit the hierarchy of so many levels in a memory.
+fn check_pools(
+    rt: impl Abort + Copy,
+    alloc: Global,
+    levels: u64,
+    memory: &PhysMemory,
+    pools: &[Pool],
+) {
+    for (pool, wanted) in pools {
+        assert_equal_in(rt, *pool, fits(rt, alloc, levels, memory, *pool), *wanted);
+    }
+}
 
 #[test]
 fn pools_fit_tables(rt: HostRuntime) {
-    let words = [
-        (0x1000, 0, 0x2003),
-        (0x2000, 0, 0x3003),
-        (0x3000, 0, 0x4002),
-        (0x3000, 1, 0x5083),
-        (0x4000, 0, 0x6003),
-    ];
-    let memory = memory_with(rt, rt.alloc(), &words);
-    for (limit, frames, expected) in POOLS {
-        let fits = fits(rt, rt.alloc(), &memory, limit, frames);
-        assert_equal_in(rt, (frames, limit), fits, expected);
-    }
-    let memory = memory_of_ones(rt, rt.alloc(), &[(0x1000, 0, 0x2003)]);
-    assert!(rt; fits(rt, rt.alloc(), &memory, 8, &[0x3000]));
-    assert!(rt; !fits(rt, rt.alloc(), &memory, 8, &[0x2000]));
+    let memory = memory_with(rt, rt.alloc(), &TABLES);
+    check_pools(rt, rt.alloc(), 4, &memory, &POOLS);
+    let memory = memory_with(rt, rt.alloc(), &TABLES_57);
+    check_pools(rt, rt.alloc(), 5, &memory, &POOLS_57);
+    let memory = memory_of_ones(rt, rt.alloc());
+    check_pools(rt, rt.alloc(), 4, &memory, &POOLS_BESIDE_ONES);
 }

@@ -6,7 +6,8 @@ ghost use Rattle.x86_64_model.specs.Memory.{identity_places, words_of};
 ghost use Rattle.x86_64_model.specs.Window.{outside_window};
 ghost use Rattle.x86_64_tables.specs.SelfEntries.{window_at};
 
-use super::{memory_with, set_word};
+use super::recursive::{RECURSIVE, RECURSIVE_57};
+use super::{Word, memory_of, memory_with};
 use crate::assertions::assert_equal_in;
 use crate::tables::frame_at;
 use std::alloc::Global;
@@ -14,38 +15,26 @@ use std::process::Abort;
 use x86_64_addr::index::PageTableIndex;
 use x86_64_page::frame::PhysFrame;
 use x86_64_page::page::Size4KiB;
-use x86_64_tables::phys_memory::{IdentityMapping, PhysMemory, ShiftMapping, tables_alike};
+use x86_64_tables::phys_memory::{
+    IdentityMapping, PhysMemory, ShiftMapping, tables_alike, tables_alike_57,
+};
 
 /// The words of a hierarchy with a 4KiB page, of tables that are not writable.
-const DIRECT: [(u64, u16, u64); 4] = [
+const DIRECT: [Word; 4] = [
     (0x1000, 0, 0x2001),
     (0x2000, 0, 0x3001),
     (0x3000, 0, 0x4001),
     (0x4000, 1, 0x5001),
 ];
 
-/// The words of the same page, of writable tables and with a self-entry at index 510.
-const RECURSIVE: [(u64, u16, u64); 5] = [
-    (0x1000, 510, 0x1003),
-    (0x1000, 0, 0x2003),
-    (0x2000, 0, 0x3003),
-    (0x3000, 0, 0x4003),
-    (0x4000, 1, 0x5001),
+/// The same of five levels.
+const DIRECT_57: [Word; 5] = [
+    (0x1000, 0, 0x2001),
+    (0x2000, 0, 0x3001),
+    (0x3000, 0, 0x4001),
+    (0x4000, 0, 0x5001),
+    (0x5000, 1, 0x6001),
 ];
-
-/// Makes a memory of 8 places with words, and then with more words.
-pub fn memory_of(
-    rt: impl Abort + Copy,
-    alloc: Global,
-    words: &[(u64, u16, u64)],
-    more: &[(u64, u16, u64)],
-) -> PhysMemory {
-    let mut memory = memory_with(rt, alloc, words);
-    for (frame, index, word) in more {
-        set_word(rt, &mut memory, *frame, *index, *word);
-    }
-    memory
-}
 
 /// Tells whether a hierarchy and one with a recursive index are alike, whatever mapping stands beside the index.
 fn alike_by_index(
@@ -61,6 +50,7 @@ fn alike_by_index(
         let paths = paths_of 4 (outside_window window root words) root in
         IsTrue result ↔ Alike 4 (paths_of 4 direct_words root) paths }
 {
+    let index = Some(index);
     tables_alike(
         direct,
         &IdentityMapping,
@@ -69,11 +59,33 @@ fn alike_by_index(
         recursive,
         mapping,
         root,
+        index,
+    )
+}
+
+/// Tells the same of hierarchies of four levels, or else of five, with the root in frame 0x1000 and the index 510.
+fn are_alike(levels: u64, direct: &PhysMemory, recursive: &PhysMemory) -> bool {
+    let (root, index) = (frame_at(0x1000), PageTableIndex::new(510));
+    let mapping = ShiftMapping::new(3);
+    if levels == 4 {
+        return alike_by_index(direct, recursive, &mapping, root, index);
+    }
+    tables_alike_57(
+        direct,
+        &IdentityMapping,
+        root,
+        None,
+        recursive,
+        &mapping,
+        root,
         Some(index),
     )
 }
 
-const DIFFERENCES: [(&[(u64, u16, u64)], &[(u64, u16, u64)], bool); 14] = [
+/// Words that are set in a hierarchy, and in one with a recursive index, and whether they are alike then.
+type Difference = (&'static [Word], &'static [Word], bool);
+
+const DIFFERENCES: [Difference; 14] = [
     (&[], &[], true),
     (&[(0x4000, 1, 0x5003)], &[], false),
     (&[(0x4000, 1, 0x5003)], &[(0x4000, 1, 0x5003)], true),
@@ -90,32 +102,58 @@ const DIFFERENCES: [(&[(u64, u16, u64)], &[(u64, u16, u64)], bool); 14] = [
     (&[(0x1000, 510, 0x1003)], &[], false),
 ];
 
-#[test]
-fn hierarchies_are_alike_but_for_writable_tables(rt: HostRuntime) {
-    let index = PageTableIndex::new(510);
-    for (direct, recursive, expected) in DIFFERENCES {
-        let one = memory_of(rt, rt.alloc(), &DIRECT, direct);
-        let other = memory_of(rt, rt.alloc(), &RECURSIVE, recursive);
-        let shifted = ShiftMapping::new(3);
-        let alike = alike_by_index(&one, &other, &shifted, frame_at(0x1000), index);
-        assert_equal_in(rt, (direct, recursive), alike, expected);
+const DIFFERENCES_57: [Difference; 9] = [
+    (&[], &[], true),
+    (&[(0x5000, 1, 0x6003)], &[], false),
+    (&[(0x5000, 1, 0x6003)], &[(0x5000, 1, 0x6003)], true),
+    (&[(0x4000, 0, 0x5005)], &[], false),
+    (&[(0x4000, 1, 0x7002)], &[(0x4000, 1, 0x7000)], true),
+    (&[(0x2000, 1, 0x7002)], &[(0x2000, 1, 0x7000)], true),
+    (&[(0x4000, 1, 0x81)], &[(0x4000, 1, 0x83)], false),
+    (&[(0x5000, 2, 0x7002)], &[(0x5000, 2, 0x7000)], false),
+    (&[(0x1000, 510, 0x1003)], &[], false),
+];
+
+/// Sets words in two hierarchies, and compares whether they are alike then.
+fn check_differences(
+    rt: impl Abort + Copy,
+    alloc: Global,
+    levels: u64,
+    (direct, recursive): (&[Word], &[Word]),
+    rows: &[Difference],
+) {
+    for (one, other, wanted) in rows {
+        let direct = memory_of(rt, alloc, direct, one);
+        let recursive = memory_of(rt, alloc, recursive, other);
+        let found = are_alike(levels, &direct, &recursive);
+        assert_equal_in(rt, (*one, *other), found, *wanted);
     }
 }
 
 #[test]
+fn hierarchies_are_alike_but_for_writable_tables(rt: HostRuntime) {
+    let bases = (&DIRECT[..], &RECURSIVE[..]);
+    check_differences(rt, rt.alloc(), 4, bases, &DIFFERENCES);
+    let bases = (&DIRECT_57[..], &RECURSIVE_57[..]);
+    check_differences(rt, rt.alloc(), 5, bases, &DIFFERENCES_57);
+}
+
+/// The words of the first hierarchy, each table a frame lower.
+const SHIFTED: [Word; 4] = [
+    (0x0, 0, 0x2003),
+    (0x1000, 0, 0x3003),
+    (0x2000, 0, 0x4003),
+    (0x3000, 1, 0x5001),
+];
+
+#[test]
 fn hierarchies_are_alike_by_their_own_mappings(rt: HostRuntime) {
-    let shifted = [
-        (0x0, 0, 0x2003),
-        (0x1000, 0, 0x3003),
-        (0x2000, 0, 0x4003),
-        (0x3000, 1, 0x5001),
-    ];
     let one = memory_with(rt, rt.alloc(), &DIRECT);
-    let other = memory_with(rt, rt.alloc(), &shifted);
+    let other = memory_with(rt, rt.alloc(), &SHIFTED);
     let root = frame_at(0x1000);
-    for (first, expected) in [(1, true), (0, false), (2, false)] {
+    for (first, wanted) in [(1, true), (0, false), (2, false)] {
         let mapping = ShiftMapping::new(first);
-        let alike = tables_alike(
+        let found = tables_alike(
             &other,
             &mapping,
             root,
@@ -125,25 +163,28 @@ fn hierarchies_are_alike_by_their_own_mappings(rt: HostRuntime) {
             root,
             None,
         );
-        assert_equal_in(rt, first, alike, expected);
+        assert_equal_in(rt, first, found, wanted);
     }
+}
+
+/// Tells whether a hierarchy is alike to itself, with a recursive index or without.
+fn is_alike_to_itself(memory: &PhysMemory, index: Option<PageTableIndex>) -> bool {
+    let root = frame_at(0x1000);
+    tables_alike(
+        memory,
+        &IdentityMapping,
+        root,
+        None,
+        memory,
+        &IdentityMapping,
+        root,
+        index,
+    )
 }
 
 #[test]
 fn words_that_name_their_own_table_are_alike(rt: HostRuntime) {
     let memory = memory_with(rt, rt.alloc(), &RECURSIVE);
-    let root = frame_at(0x1000);
-    for (index, expected) in [(None, true), (Some(PageTableIndex::new(510)), false)] {
-        let alike = tables_alike(
-            &memory,
-            &IdentityMapping,
-            root,
-            None,
-            &memory,
-            &IdentityMapping,
-            root,
-            index,
-        );
-        assert_eq!(rt; alike, expected, "for {index:?}");
-    }
+    assert!(rt; is_alike_to_itself(&memory, None));
+    assert!(rt; !is_alike_to_itself(&memory, Some(PageTableIndex::new(510))));
 }

@@ -1,32 +1,38 @@
 //! Tests of memories with gaps between their places.
-use super::{fits, is_valid, set_word, walk};
+use super::{Pool, check_pools, is_valid, set_word, set_words, walk};
 use crate::assertions::{assert_equal, assert_equal_at, assert_equal_in, unwrap, unwrap_some};
 use std::alloc::{AllocError, Global};
 use std::process::Abort;
 use x86_64_addr::addr::PhysAddr;
+use x86_64_addr::level_count::FourLevels;
 use x86_64_tables::phys_memory::{FramePlace, PhysMemory, PlacesRefusal};
 
 /// Makes a memory with places that rise.
 fn memory_at(rt: impl Abort + Copy, alloc: Global, places: &[u64]) -> PhysMemory {
-    let memory = PhysMemory::with_places(alloc, places).ok();
-    unwrap_some(rt, memory)
+    unwrap_some(rt, PhysMemory::with_places(alloc, places).ok())
+}
+
+/// Tells whether all entries of the table at a place are unused, if there is one.
+fn is_empty_at(memory: &PhysMemory, number: u64) -> Option<bool> {
+    Some(memory.table(FramePlace::new(number))?.is_empty())
+}
+
+/// Compares whether there are tables at places of these numbers, and whether all their entries are unused.
+fn check_tables(rt: impl Abort + Copy, memory: &PhysMemory, numbers: &[u64], wanted: Option<bool>) {
+    for number in numbers {
+        assert_equal_at(rt, *number, is_empty_at(memory, *number), wanted);
+    }
 }
 
 /// Compares the places of a memory with numbers, and whether it has a table of unused entries at each, and none at the others.
 fn check_places(rt: impl Abort + Copy, memory: &PhysMemory, places: &[u64], others: &[u64]) {
     assert_equal(rt, memory.len(), places.len());
-    for i in 0..places.len() {
-        let number = places[i];
-        let place = unwrap_some(rt, memory.place_at(i));
-        assert_equal(rt, place.number(), number);
-        let table = unwrap_some(rt, memory.table(place));
-        assert!(rt; table.is_empty(), "at {number:#x}");
-    }
     assert_equal(rt, memory.place_at(places.len()), None);
-    for number in others {
-        let table = memory.table(FramePlace::new(*number));
-        assert!(rt; table.is_none(), "at {number:#x}");
+    for (n, number) in places.iter().enumerate() {
+        assert_equal_in(rt, n, memory.place_at(n), Some(FramePlace::new(*number)));
     }
+    check_tables(rt, memory, places, Some(true));
+    check_tables(rt, memory, others, None);
 }
 
 const REFUSED: [&[u64]; 6] = [
@@ -46,14 +52,10 @@ fn places_rise(rt: HostRuntime) {
     }
     let refusal = PlacesRefusal::from(AllocError);
     assert_equal(rt, refusal, PlacesRefusal::Alloc(AllocError));
-    let text = unwrap(
-        rt,
-        format!(in rt.alloc(); "{:?} {refusal:?}", PlacesRefusal::NotIncreasing),
-    );
-    assert_equal(rt, text.as_str(), "NotIncreasing Alloc(AllocError)");
 }
 
-const PLACES: [(&[u64], &[u64]); 9] = [
+/// Numbers of places, and others.
+static PLACES: [(&[u64], &[u64]); 9] = [
     (&[], &[0, 1, u64::MAX]),
     (&[0], &[1, u64::MAX]),
     (&[0, 1, 2], &[3, u64::MAX]),
@@ -70,14 +72,14 @@ const PLACES: [(&[u64], &[u64]); 9] = [
 
 #[test]
 fn memory_has_the_places_of_a_list(rt: HostRuntime) {
-    for (places, others) in PLACES {
+    for (places, others) in &PLACES {
         let memory = memory_at(rt, rt.alloc(), places);
         check_places(rt, &memory, places, others);
     }
     let memory = unwrap(rt, PhysMemory::new(rt.alloc(), 3));
     check_places(rt, &memory, &[0, 1, 2], &[3, u64::MAX]);
     let empty = memory_at(rt, rt.alloc(), &[]);
-    assert!(rt; !is_valid(rt, rt.alloc(), &empty));
+    assert!(rt; !is_valid(rt, rt.alloc(), 4, &empty));
 }
 
 /// Makes so many places with a gap after each, from a first one on.
@@ -101,20 +103,13 @@ fn a_million_places_with_gaps_must_rise(rt: HostRuntime) {
 fn ten_thousand_places_have_gaps(rt: HostRuntime) {
     let memory = memory_at(rt, rt.alloc(), &places_with_gaps(rt, rt.alloc(), 1, 10_000));
     assert_equal(rt, memory.len(), 10_000);
-    for k in [0, 1, 5000, 9999] {
-        let number = 1_u64.wrapping_add(2_u64.wrapping_mul(k));
-        assert!(rt; memory.table(FramePlace::new(number)).is_some());
-        assert!(rt;
-            memory
-                .table(FramePlace::new(number.wrapping_add(1)))
-                .is_none()
-        );
-        assert!(rt;
-            memory
-                .table(FramePlace::new(number.wrapping_sub(1)))
-                .is_none()
-        );
-    }
+    check_tables(rt, &memory, &[1, 3, 10_001, 19_999], Some(true));
+    check_tables(
+        rt,
+        &memory,
+        &[0, 2, 4, 10_000, 10_002, 19_998, 20_000],
+        None,
+    );
 }
 
 #[test]
@@ -127,16 +122,21 @@ fn tables_lie_between_gaps(rt: HostRuntime) {
     }
 }
 
+/// Places after gaps, and one of them with the others.
+static CHANGED: [(u64, [u64; 3]); 4] = [
+    (1, [2, 0x8_0000, 0x8_0001]),
+    (2, [1, 0x8_0000, 0x8_0001]),
+    (0x8_0000, [1, 2, 0x8_0001]),
+    (0x8_0001, [1, 2, 0x8_0000]),
+];
+
 #[test]
 fn tables_change_at_places_after_gaps(rt: HostRuntime) {
-    let places = [1, 2, 0x8_0000, 0x8_0001];
-    for changed in places {
-        let mut memory = memory_at(rt, rt.alloc(), &places);
-        set_word(rt, &mut memory, changed * 0x1000, 5, 0x2003);
-        for number in places {
-            let table = unwrap_some(rt, memory.table(FramePlace::new(number)));
-            assert_equal_at(rt, number, table.is_empty(), number != changed);
-        }
+    for (changed, others) in &CHANGED {
+        let mut memory = memory_at(rt, rt.alloc(), &[1, 2, 0x8_0000, 0x8_0001]);
+        set_word(rt, &mut memory, (*changed * 0x1000, 5, 0x2003));
+        check_tables(rt, &memory, &[*changed], Some(false));
+        check_tables(rt, &memory, others, Some(true));
         assert!(rt; memory.table_mut(FramePlace::new(3)).is_none());
     }
 }
@@ -144,30 +144,30 @@ fn tables_change_at_places_after_gaps(rt: HostRuntime) {
 #[test]
 fn hierarchies_are_valid_after_gaps(rt: HostRuntime) {
     let mut memory = memory_at(rt, rt.alloc(), &[1, 3, 0x8_0000, 1 << 39]);
-    set_word(rt, &mut memory, 0x1000, 0, 0x8_0000_0000_0003);
-    set_word(rt, &mut memory, 0x8_0000_0000_0000, 0, 0x8000_0003);
-    set_word(rt, &mut memory, 0x8000_0000, 1, 0x40_0083);
-    assert!(rt; is_valid(rt, rt.alloc(), &memory));
-    let walked = unwrap_some(rt, walk(&memory, 0x23_4567));
+    let words = [
+        (0x1000, 0, 0x8_0000_0000_0003),
+        (0x8_0000_0000_0000, 0, 0x8000_0003),
+        (0x8000_0000, 1, 0x40_0083),
+    ];
+    set_words(rt, &mut memory, &words);
+    assert!(rt; is_valid(rt, rt.alloc(), 4, &memory));
+    let walked = unwrap_some(rt, walk::<FourLevels>(&memory, 0x23_4567));
     assert_equal(rt, walked.address, PhysAddr::new(0x43_4567));
-    set_word(rt, &mut memory, 0x8000_0000, 0, 0x2003);
-    assert!(rt; !is_valid(rt, rt.alloc(), &memory));
+    set_word(rt, &mut memory, (0x8000_0000, 0, 0x2003));
+    assert!(rt; !is_valid(rt, rt.alloc(), 4, &memory));
 }
 
-const POOLS: [(u64, &[u64], bool); 5] = [
-    (0x8_0002, &[0x3000, 0x8000_1000], true),
-    (0x8_0002, &[0x2000], false),
-    (0x8_0002, &[0x8000_0000], false),
-    (0x8_0003, &[0x8000_2000], false),
-    (0x8_0000, &[0x3000], false),
+static POOLS: [Pool; 5] = [
+    ((0x8_0002, &[0x3000, 0x8000_1000]), true),
+    ((0x8_0002, &[0x2000]), false),
+    ((0x8_0002, &[0x8000_0000]), false),
+    ((0x8_0003, &[0x8000_2000]), false),
+    ((0x8_0000, &[0x3000]), false),
 ];
 
 #[test]
 fn pools_fit_after_gaps(rt: HostRuntime) {
     let mut memory = memory_at(rt, rt.alloc(), &[1, 3, 0x8_0000, 0x8_0001]);
-    set_word(rt, &mut memory, 0x1000, 0, 0x8000_0003);
-    for (limit, frames, expected) in POOLS {
-        let fits = fits(rt, rt.alloc(), &memory, limit, frames);
-        assert_equal_in(rt, (frames, limit), fits, expected);
-    }
+    set_word(rt, &mut memory, (0x1000, 0, 0x8000_0003));
+    check_pools(rt, rt.alloc(), 4, &memory, &POOLS);
 }
