@@ -4,13 +4,12 @@ ghost use Rattle.x86_64_model.specs.Memory.{identity_places};
 ghost use Rattle.x86_64_mappers.specs.Layouts.{direct};
 ghost use Rattle.x86_64.specs.Runs.{FitsPool};
 
-use super::{CLEANED, FIRST, Row, add_exchanges, assert_fits, begin, compare};
+use super::{By, CLEANED, FIRST, Row, add_replies, assert_fits, begin, calls_of, compare};
 use crate::assertions::{assert_equal, unwrap};
 use crate::call_rows::CallRow::{CleanUp, Small, Translate};
 use crate::call_rows::PageCallRow::{Unmap, UpdateFlags};
 use crate::counting::Counting;
 use crate::images::{ROOT, frame_at};
-use std::alloc::Global;
 use std::process::Abort;
 use x86_64::structures::paging::{MappedPageTable, PhysFrame, Size4KiB};
 use x86_64::{Call, FramePool, IdentityMapping, PhysMemory, Reply, run};
@@ -60,26 +59,17 @@ fn run_counted(
     mapper.count()
 }
 
-/// Answers the calls, and compares the replies and how often a table was lent to be changed.
-fn answer_counted(
-    rt: impl Abort + Copy,
-    alloc: Global,
-    (memory, pool): (&mut PhysMemory, &mut FramePool),
-) {
-    let mut calls = Vec::new(alloc);
-    let mut wanted = Vec::new(alloc);
-    add_exchanges(rt, &ROW, &mut calls, &mut wanted);
-    let mut replies = Vec::new(alloc);
-    let root = frame_at(ROOT);
-    assert_fits(rt, alloc, memory, &IdentityMapping, root, pool);
-    let count = run_counted(rt, memory, root, pool, &calls, &mut replies);
-    assert_equal(rt, replies, wanted);
-    assert_equal(rt, count, LOANS);
-}
-
 #[test]
 fn layers_over_mappers_run_lists(rt: HostRuntime) {
-    let (mut memory, mut pool) = begin(rt, rt.alloc(), ROW.free);
-    answer_counted(rt, rt.alloc(), (&mut memory, &mut pool));
+    let alloc = rt.alloc();
+    let (mut memory, mut pool) = begin(rt, alloc, &ROW, By::Identity);
+    let calls = calls_of(rt, alloc, ROW.calls);
+    let (mut replies, mut wanted) = (Vec::new(alloc), Vec::new(alloc));
+    add_replies(rt, ROW.calls, &mut wanted);
+    let root = frame_at(ROOT);
+    assert_fits(rt, alloc, &memory, &IdentityMapping, root, &pool);
+    let count = run_counted(rt, &mut memory, root, &mut pool, &calls, &mut replies);
+    assert_equal(rt, replies, wanted);
+    assert_equal(rt, count, LOANS);
     compare(rt, &memory, &pool, &ROW, "counted")
 }

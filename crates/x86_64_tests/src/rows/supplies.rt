@@ -1,7 +1,7 @@
 //! Maps where free frames run out.
 use super::{
-    EACH, Exchange, FIRST, LEVEL_1, LEVEL_2, LEVEL_3, LEVEL_4, MAPPED, Row, WORDS,
-    answer_exchanges, answer_row, compare_by,
+    EACH, Exchange, FIRST, LEVEL_1, LEVEL_2, LEVEL_3, LEVEL_4, MAPPED, Row, answer_exchanges,
+    answer_row, check_rows, compare_by,
 };
 use crate::assertions::{assert_equal, unwrap};
 use crate::call_rows::CallRow::Small;
@@ -17,13 +17,13 @@ const STARVED: Exchange = (
     Answered(Refused(FrameAllocationFailed)),
 );
 
-const TOO_FEW_FRAMES: [Row<'static>; 2] = [
+/// Rows of one list.
+const ROWS: [Row<'static>; 2] = [
     Row {
         free: &[],
         calls: &[STARVED],
         words: &[],
-        full: &[],
-        left: &[],
+        ..MAPPED
     },
     // The entry of level four gets the parent flags before the frame is wanting.
     Row {
@@ -39,30 +39,24 @@ const TOO_FEW_FRAMES: [Row<'static>; 2] = [
     },
 ];
 
-/// Rows of one list.
-pub const TABLES: [&[Row<'static>]; 1] = [&TOO_FEW_FRAMES];
-
 /// One frame, which becomes the first of the tables that are wanting.
 const ONE_FRAME: Row<'static> = Row {
     free: &[0x2000],
     calls: &[STARVED],
     words: &[LEVEL_4],
-    full: &[],
-    left: &[],
+    ..MAPPED
 };
 
 /// The frames that are free later on, and the same map.
 const TWO_MORE: Row<'static> = Row {
     free: &[0x3000, 0x4000],
-    calls: &[FIRST],
-    words: &WORDS,
-    full: &[],
-    left: &[],
+    ..MAPPED
 };
 
 #[test]
 fn maps_go_on_once_there_are_frames(rt: HostRuntime) {
     let alloc = rt.alloc();
+    check_rows(rt, alloc, &ROWS, &EACH);
     for by in EACH {
         let title = unwrap(
             rt,
