@@ -85,25 +85,49 @@ fn check_commands(
     session.compare(rt, alloc)
 }
 
-/// Does so in each of some ways with each number of free frames, and asserts that each kind of outcome was met.
-fn check_ways(rt: impl Abort + Copy, alloc: Global, ways: &[Way], levels: Levels) {
-    let mut chooser = Chooser::new(levels, 1);
-    let mut met = Met::new(alloc);
+/// How often commands are answered at most until each kind of reply was met.
+const ROUNDS: usize = 20;
+
+/// Does so in each of some ways with each number of free frames.
+fn check_ways(
+    rt: impl Abort + Copy,
+    alloc: Global,
+    ways: &[Way],
+    chooser: &mut Chooser,
+    met: &mut Met,
+) {
+    let levels = chooser.levels();
     let words = entries(rt, alloc, levels);
     for way in ways {
         for free in 0..=MOST_FREE {
             let mode = Mode::new(*way, levels);
-            check_commands(rt, alloc, mode, (&words, free), &mut chooser, &mut met);
+            check_commands(rt, alloc, mode, (&words, free), chooser, met);
         }
     }
-    met.assert_all(rt, levels);
+}
+
+/// Does so until each kind of reply was met, and asserts that it was.
+fn check_all_replies(rt: impl Abort + Copy, alloc: Global, ways: &[Way], levels: Levels) {
+    let mut chooser = Chooser::new(levels, 1);
+    let mut met = Met::new(alloc);
+    for _ in 0..ROUNDS {
+        check_ways(rt, alloc, ways, &mut chooser, &mut met);
+        if met.missing(levels).is_none() {
+            return;
+        }
+    }
+    assert!(rt; false, "{:?}", met.missing(levels));
 }
 
 #[test]
 fn the_program_agrees_with_the_plain_one(rt: HostRuntime) {
-    check_ways(rt, rt.alloc(), &Way::ALL, Levels::Four);
+    check_all_replies(rt, rt.alloc(), &Way::ALL, Levels::Four)
+}
+
+#[test]
+fn the_program_agrees_with_the_plain_one_in_five_levels(rt: HostRuntime) {
     let ways = [Way::Direct, Way::Recursive, Way::Pair];
-    check_ways(rt, rt.alloc(), &ways, Levels::Five)
+    check_all_replies(rt, rt.alloc(), &ways, Levels::Five)
 }
 
 #[test]

@@ -1,6 +1,11 @@
 //! Two hierarchies that are alike, of which the second one has a recursive index, and lists of calls by both mappers at once.
 ghost use Rattle.std.specs.Prelude.{◌≡◌, false, IsTrue};
 ghost use Rattle.std.specs.List.{AllByRecursion};
+ghost use Rattle.x86_64_model.specs.Alike.{Alike};
+ghost use Rattle.x86_64_model.specs.Layout.{paths};
+ghost use Rattle.x86_64_model.specs.Memory.{identity_places};
+ghost use Rattle.x86_64_mappers.specs.Layouts.{direct_at};
+ghost use Rattle.x86_64_mappers.specs.Recursive.{recursive_now_at};
 ghost use Rattle.x86_64.specs.Calls.{names};
 ghost use Rattle.x86_64_tests.specs.Pairs.{IsPair};
 
@@ -16,6 +21,25 @@ use x86_64::{
 use x86_64_mappers::mapped_page_table::MappedPageTableIn;
 use x86_64_mappers::recursive_page_table::RecursivePageTableIn;
 use x86_64_tables::phys_memory::Active;
+
+/// Tells whether the path maps of two hierarchies of so many levels are alike, of which the second one has a recursive index.
+fn are_alike<L: LevelCount>(
+    memory: &PhysMemory,
+    walked: &PhysMemory,
+    root: PhysFrame<Size4KiB>,
+    index: PageTableIndex,
+) -> bool
+    ensures { let direct_paths = paths (direct_at L.LEVELS identity_places root) memory.now in
+        let walked_paths = paths (recursive_now_at L.LEVELS walked.now root index) walked.now in
+        IsTrue result → Alike L.LEVELS direct_paths walked_paths }
+{
+    let (mapping, index) = (&IdentityMapping, Some(index));
+    if L::LEVELS == 4 {
+        tables_alike(memory, mapping, root, None, walked, mapping, root, index)
+    } else {
+        tables_alike_57(memory, mapping, root, None, walked, mapping, root, index)
+    }
+}
 
 /// Tells whether two hierarchies of so many levels are valid, the second one for a recursive index, their pools fit them, the path
 /// maps are alike, and the free frames the same.
@@ -33,11 +57,7 @@ pub fn is_pair_in<L: LevelCount>(
 {
     let fits = fits::<L>(rt, alloc, memory, root, pool);
     let walked_fits = fits_recursive::<L>(rt, alloc, walked, root, index, walked_pool);
-    let (mapping, index) = (&IdentityMapping, Some(index));
-    let alike = match L::LEVELS {
-        4 => tables_alike(memory, mapping, root, None, walked, mapping, root, index),
-        _ => tables_alike_57(memory, mapping, root, None, walked, mapping, root, index),
-    };
+    let alike = are_alike::<L>(memory, walked, root, index);
     let same_free = *pool == *walked_pool;
     fits & walked_fits & alike & same_free
 }

@@ -402,15 +402,21 @@ fn answer(
     exchanges: &[Exchange],
     replies: &mut Vec<Reply>,
 ) {
-    let lent = (memory, pool);
     let calls = calls_of(rt, alloc, exchanges);
     match by {
         By::Itself => {
             let mut recorder = FlushRecorder::new(alloc);
-            answer_singly(rt, alloc, lent, exchanges, replies, &mut recorder)
+            answer_singly(rt, alloc, (memory, pool), exchanges, replies, &mut recorder)
         }
-        By::Recursive(index) => answer_recursively(rt, alloc, index, lent, &calls, replies),
-        _ => answer_list(rt, alloc, by, lent, &calls, replies),
+        By::Recursive(index) => answer_recursively(
+            rt,
+            alloc,
+            index,
+            (memory, pool),
+            &calls,
+            replies,
+        ),
+        _ => answer_list(rt, alloc, by, (memory, pool), &calls, replies),
     }
 }
 

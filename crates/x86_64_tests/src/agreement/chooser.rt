@@ -15,10 +15,10 @@ const LEVEL_5_INDICES: [u64; 10] = [0, 0, 0, 0, 0, 0, 0, 0, 1, 511];
 /// The indices of the other levels that calls choose from, level four first. Where 1 is the recursive index, the entries of a level
 /// are also read with the indices of a lower one.
 const INDICES: [&[u64]; 4] = [
-    &[0, 1, 1, 3, 3, 3, 3, 256, 511],
-    &[0, 1, 1, 2, 3],
-    &[0, 1, 1, 2, 3],
-    &[0, 1, 3, 511],
+    &[0, 0, 1, 3, 3, 256, 511],
+    &[0, 1, 1, 2],
+    &[0, 1, 1, 2],
+    &[0, 1, 511],
 ];
 
 /// The addresses in the frames that calls choose from. The last two are too high for identity maps with four levels.
@@ -75,6 +75,11 @@ impl Chooser {
         Chooser { levels, state }
     }
 
+    /// Gives how many levels its calls have.
+    pub fn levels(&self) -> Levels {
+        self.levels
+    }
+
     /// Chooses one of some items.
     fn choose<T: Copy>(&mut self, items: &[T]) -> T
         requires { 1 ≤ length items.now }
@@ -98,14 +103,14 @@ impl Chooser {
         self.levels.address_at(position << 12)
     }
 
-    /// Chooses a call. A third of the calls unmap a page or clean up a range, so that tables become empty and go back. The last page of
+    /// Chooses a call. A fourth of the calls unmap a page or clean up a range, so that tables become empty and go back. The last page of
     /// a range may lie below the first one.
     pub fn choice(&mut self) -> CallRow {
         let (first, last) = (self.address(), self.address());
         let size = self.choose(&SIZES);
         let page = first & size.wrapping_neg();
         let range = CleanUpRange(first, last);
-        if self.choose(&[true, false, false]) {
+        if self.choose(&[true, false, false, false]) {
             let unmap = on_page(size, Unmap(page));
             return self.choose(&[unmap, unmap, unmap, range]);
         }

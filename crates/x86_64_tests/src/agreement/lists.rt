@@ -8,7 +8,7 @@ use super::commands::command_of;
 use super::modes::{Levels, Mode, RECURSIVE_INDEX, Way};
 use super::outcomes::Met;
 use super::session::{PLACES, Session, slot_of};
-use super::{MOST_FREE, entries};
+use super::{MOST_FREE, ROUNDS, entries};
 use crate::assertions::{assert_equal_in, unwrap, unwrap_some};
 use crate::call_rows::{CallRow, call_of};
 use crate::images::{
@@ -208,7 +208,24 @@ fn answer_recursively<L: LevelCount, P5: LevelFiveFlags<L>>(
     )
 }
 
-/// Answers lists on hierarchies with each number of free frames, and asserts that each kind of outcome was met.
+/// Answers lists on hierarchies with each number of free frames.
+fn check_round<L: LevelCount, P5: LevelFiveFlags<L>>(
+    rt: impl Abort + Copy,
+    alloc: Global,
+    chooser: &mut Chooser,
+    met: &mut Met,
+) {
+    let levels = chooser.levels();
+    let words = entries(rt, alloc, levels);
+    for free in 0..=MOST_FREE {
+        let mut pair = Pair::new(rt, alloc, levels, &words, free);
+        for list in 0..LISTS {
+            pair.answer::<L, P5>(rt, alloc, list % 2 == 0, chooser, met);
+        }
+    }
+}
+
+/// Does so until each kind of reply was met, and asserts that it was.
 fn check_lists<L: LevelCount, P5: LevelFiveFlags<L>>(
     rt: impl Abort + Copy,
     alloc: Global,
@@ -216,18 +233,21 @@ fn check_lists<L: LevelCount, P5: LevelFiveFlags<L>>(
 ) {
     let mut chooser = Chooser::new(levels, 1);
     let mut met = Met::new(alloc);
-    let words = entries(rt, alloc, levels);
-    for free in 0..=MOST_FREE {
-        let mut pair = Pair::new(rt, alloc, levels, &words, free);
-        for list in 0..LISTS {
-            pair.answer::<L, P5>(rt, alloc, list % 2 == 0, &mut chooser, &mut met);
+    for _ in 0..ROUNDS {
+        check_round::<L, P5>(rt, alloc, &mut chooser, &mut met);
+        if met.missing(levels).is_none() {
+            return;
         }
     }
-    met.assert_all(rt, levels);
+    assert!(rt; false, "{:?}", met.missing(levels));
 }
 
 #[test]
 fn lists_agree_with_the_plain_program(rt: HostRuntime) {
-    check_lists::<FourLevels, NoLevelFive>(rt, rt.alloc(), Levels::Four);
+    check_lists::<FourLevels, NoLevelFive>(rt, rt.alloc(), Levels::Four)
+}
+
+#[test]
+fn lists_of_five_levels_agree_with_the_plain_program(rt: HostRuntime) {
     check_lists::<FiveLevels, PageTableFlags>(rt, rt.alloc(), Levels::Five)
 }

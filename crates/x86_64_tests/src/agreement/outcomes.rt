@@ -196,27 +196,34 @@ impl Met {
         unwrap(rt, self.outcomes.push(outcome));
     }
 
-    /// Asserts that each command that there is with so many levels had each kind of reply that it can have.
-    pub fn assert_all(&self, rt: impl Abort + Copy, levels: Levels) {
-        self.assert_each(rt, &OUTCOMES);
-        if matches!(levels, Levels::Five) {
-            self.assert_each(rt, &OUTCOMES_OF_LEVEL_5);
+    /// Gives a command that there is with so many levels, and a kind of reply that it can have and did not have, if there is one.
+    pub fn missing(&self, levels: Levels) -> Option<(&'static str, &'static str)> {
+        let missing = self.missing_of(&OUTCOMES);
+        match levels {
+            Levels::Four => missing,
+            Levels::Five => missing.or(self.missing_of(&OUTCOMES_OF_LEVEL_5)),
         }
     }
 
-    /// Asserts that commands had each kind of reply beside them.
-    fn assert_each(&self, rt: impl Abort + Copy, outcomes: &[Outcomes]) {
+    /// The same of some commands.
+    fn missing_of(&self, outcomes: &[Outcomes]) -> Option<(&'static str, &'static str)> {
         for (commands, kinds) in outcomes {
             for command in *commands {
-                self.assert_kinds(rt, command, kinds);
+                if let Some(kind) = self.missing_kind(command, kinds) {
+                    return Some((*command, kind));
+                }
             }
         }
+        None
     }
 
-    /// Asserts that a command had a reply of each of some kinds.
-    fn assert_kinds(&self, rt: impl Abort + Copy, command: &str, kinds: &[&str]) {
+    /// Gives a kind of reply that a command did not have, of some.
+    fn missing_kind(&self, command: &str, kinds: &[&'static str]) -> Option<&'static str> {
         for kind in kinds {
-            assert!(rt; self.has(command, kind), "{command}: {kind}");
+            if !self.has(command, kind) {
+                return Some(*kind);
+            }
         }
+        None
     }
 }

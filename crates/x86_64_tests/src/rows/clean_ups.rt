@@ -45,7 +45,7 @@ const OVER_THE_GAP: Exchange = (
     Cleaned,
 );
 
-/// The rows.
+/// Clean ups of all pages and of ranges.
 const ROWS: [Row<'static>; 11] = [
     Row {
         calls: &[FIRST, UNMAP, CLEAN_UP],

@@ -13,7 +13,7 @@ use x86_64_plain::Translated::Mapped;
 
 const HUGE: PlainReply = Answered(Refused(ParentEntryHugePage));
 
-/// The rows.
+/// Changes of flags, allowed or not.
 const ROWS: [Row<'static>; 6] = [
     // Without PRESENT a page is still translated, and its entry still used.
     Row {

@@ -63,15 +63,28 @@ fn check_flushes(
     (is_list, room): (bool, usize),
 ) {
     let (mut memory, mut pool) = begin(rt, alloc, row, By::Identity);
-    let lent = (&mut memory, &mut pool);
     let mut recorder = FlushRecorder::new(alloc);
     unwrap(rt, recorder.reserve(room));
     let (mut replies, mut wanted) = (Vec::new(alloc), Vec::new(alloc));
     add_replies(rt, row.calls, &mut wanted);
     if is_list {
-        answer_flushed(rt, alloc, row, lent, &mut replies, &mut recorder);
+        answer_flushed(
+            rt,
+            alloc,
+            row,
+            (&mut memory, &mut pool),
+            &mut replies,
+            &mut recorder,
+        );
     } else {
-        answer_singly(rt, alloc, lent, row.calls, &mut replies, &mut recorder);
+        answer_singly(
+            rt,
+            alloc,
+            (&mut memory, &mut pool),
+            row.calls,
+            &mut replies,
+            &mut recorder,
+        );
     }
     assert_equal(rt, replies, wanted);
     compare_flushes(rt, &recorder, flushed);
@@ -130,11 +143,17 @@ const ROWS: [(Row<'static>, &[Flushed]); 3] = [
     ),
 ];
 
-#[test]
-fn accepted_calls_are_recorded_and_no_others(rt: HostRuntime) {
-    for (row, flushed) in &ROWS {
-        for way in [(true, 0), (true, 64), (false, 0), (false, 64)] {
-            check_flushes(rt, rt.alloc(), row, flushed, way);
+/// Does so for rows, each by a list and one by one, with room for items and without.
+fn check_all(rt: impl Abort + Copy, alloc: Global, rows: &[(Row<'_>, &[Flushed])]) {
+    for (row, flushed) in rows {
+        for room in [0, 64] {
+            check_flushes(rt, alloc, row, flushed, (true, room));
+            check_flushes(rt, alloc, row, flushed, (false, room));
         }
     }
+}
+
+#[test]
+fn accepted_calls_are_recorded_and_no_others(rt: HostRuntime) {
+    check_all(rt, rt.alloc(), &ROWS)
 }

@@ -124,11 +124,16 @@ fn check_step(
     compare(rt, memory, pool, row, "both")
 }
 
+/// Answers steps one after the other in the memory of a row, and compares what comes of each.
+fn check_steps(rt: impl Abort + Copy, alloc: Global, both: &Row<'_>, steps: &[(u64, Row<'_>)]) {
+    let (mut memory, mut pool) = begin(rt, alloc, both, By::Identity);
+    for step in steps {
+        check_step(rt, alloc, step, &mut memory, &mut pool);
+        assert_fits_both(rt, alloc, &memory, &pool);
+    }
+}
+
 #[test]
 fn hierarchies_take_tables_from_one_pool(rt: HostRuntime) {
-    let (mut memory, mut pool) = begin(rt, rt.alloc(), &BOTH, By::Identity);
-    for step in &STEPS {
-        check_step(rt, rt.alloc(), step, &mut memory, &mut pool);
-        assert_fits_both(rt, rt.alloc(), &memory, &pool);
-    }
+    check_steps(rt, rt.alloc(), &BOTH, &STEPS)
 }

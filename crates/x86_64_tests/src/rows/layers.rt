@@ -10,6 +10,7 @@ use crate::call_rows::CallRow::{CleanUp, Small, Translate};
 use crate::call_rows::PageCallRow::{Unmap, UpdateFlags};
 use crate::counting::Counting;
 use crate::images::{ROOT, frame_at};
+use std::alloc::Global;
 use std::process::Abort;
 use x86_64::structures::paging::{MappedPageTable, PhysFrame, Size4KiB};
 use x86_64::{Call, FramePool, IdentityMapping, PhysMemory, Reply, run};
@@ -59,17 +60,21 @@ fn run_counted(
     mapper.count()
 }
 
-#[test]
-fn layers_over_mappers_run_lists(rt: HostRuntime) {
-    let alloc = rt.alloc();
-    let (mut memory, mut pool) = begin(rt, alloc, &ROW, By::Identity);
-    let calls = calls_of(rt, alloc, ROW.calls);
+/// Answers a row's calls, and compares what comes of them and how often a table was lent to be changed.
+fn check_layer(rt: impl Abort + Copy, alloc: Global, row: &Row<'_>, loans: u64) {
+    let (mut memory, mut pool) = begin(rt, alloc, row, By::Identity);
+    let calls = calls_of(rt, alloc, row.calls);
     let (mut replies, mut wanted) = (Vec::new(alloc), Vec::new(alloc));
-    add_replies(rt, ROW.calls, &mut wanted);
+    add_replies(rt, row.calls, &mut wanted);
     let root = frame_at(ROOT);
     assert_fits(rt, alloc, &memory, &IdentityMapping, root, &pool);
     let count = run_counted(rt, &mut memory, root, &mut pool, &calls, &mut replies);
     assert_equal(rt, replies, wanted);
-    assert_equal(rt, count, LOANS);
-    compare(rt, &memory, &pool, &ROW, "counted")
+    assert_equal(rt, count, loans);
+    compare(rt, &memory, &pool, row, "counted")
+}
+
+#[test]
+fn layers_over_mappers_run_lists(rt: HostRuntime) {
+    check_layer(rt, rt.alloc(), &ROW, LOANS)
 }

@@ -2,6 +2,8 @@
 use super::{MAPPED, Row, add_replies, assert_fits, calls_of, compare};
 use crate::assertions::{assert_equal, unwrap};
 use crate::images::{frame_at, pool_of, run_over};
+use std::alloc::Global;
+use std::process::Abort;
 use x86_64::structures::paging::mapper::PageTableFrameMapping;
 use x86_64::{PhysMemory, ShiftMapping};
 
@@ -30,18 +32,24 @@ fn mappings_cover_frames_from_a_first_one_on(rt: HostRuntime) {
     assert_equal(rt, mapping.frame_to_pointer(root).number(), 0);
 }
 
+/// Answers a row's calls where a root's frame lies at place 0, and compares what comes of them.
+fn check_shifted(rt: impl Abort + Copy, alloc: Global, row: &Row<'_>) {
+    let mut memory = unwrap(rt, PhysMemory::new(alloc, 4));
+    let mut pool = pool_of(rt, alloc, 0x104, row.free);
+    let (root, mapping) = (frame_at(ROOT), ShiftMapping::new(0x100));
+    let calls = calls_of(rt, alloc, row.calls);
+    let (mut replies, mut wanted) = (Vec::new(alloc), Vec::new(alloc));
+    add_replies(rt, row.calls, &mut wanted);
+    assert_fits(rt, alloc, &memory, &mapping, root, &pool);
+    unwrap(
+        rt,
+        run_over(&mut memory, root, mapping, &mut pool, &calls, &mut replies),
+    );
+    assert_equal(rt, replies, wanted);
+    compare(rt, &memory, &pool, row, "shifted")
+}
+
 #[test]
 fn frames_lie_from_a_first_one_on(rt: HostRuntime) {
-    let alloc = rt.alloc();
-    let mut memory = unwrap(rt, PhysMemory::new(alloc, 4));
-    let mut pool = pool_of(rt, alloc, 0x104, ROW.free);
-    let (root, mapping) = (frame_at(ROOT), ShiftMapping::new(0x100));
-    let calls = calls_of(rt, alloc, ROW.calls);
-    let (mut replies, mut wanted) = (Vec::new(alloc), Vec::new(alloc));
-    add_replies(rt, ROW.calls, &mut wanted);
-    assert_fits(rt, alloc, &memory, &mapping, root, &pool);
-    let answer = run_over(&mut memory, root, mapping, &mut pool, &calls, &mut replies);
-    assert_equal(rt, answer, Ok(()));
-    assert_equal(rt, replies, wanted);
-    compare(rt, &memory, &pool, &ROW, "shifted")
+    check_shifted(rt, rt.alloc(), &ROW)
 }

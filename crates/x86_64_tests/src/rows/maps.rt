@@ -13,8 +13,9 @@ use x86_64_plain::Refusal::{
 };
 use x86_64_plain::Translated::NotMapped;
 
-/// The rows.
+/// Maps and unmaps of pages of each size, accepted and refused.
 const ROWS: [Row<'static>; 15] = [
+    // Missing tables are taken in order, and cleared.
     Row {
         calls: &[FIRST, (TranslateAddr(0x1abc), Address(Some(0x5abc)))],
         ..MAPPED
@@ -36,6 +37,7 @@ const ROWS: [Row<'static>; 15] = [
         left: &[0x7000, 0x6000],
         ..MAPPED
     },
+    // Larger pages.
     Row {
         calls: &[
             FIRST_LARGE,
@@ -57,6 +59,7 @@ const ROWS: [Row<'static>; 15] = [
         left: &[0x3000, 0x4000],
         ..MAPPED
     },
+    // Pages at the address of their frame.
     Row {
         calls: &[
             (Small(IdentityMap(0x5000, 0x3)), Answered(Done(0x5000))),

@@ -29,7 +29,7 @@ const ROOT_WINDOW: u64 = 0xffff_ff7f_bfdf_e000;
 /// Takes away all empty tables.
 const CLEAN_UP: Exchange = (CleanUp, Cleaned);
 
-/// The rows.
+/// Calls through the window, and clean ups beside it.
 const ROWS: [Row<'static>; 7] = [
     Row {
         calls: &[

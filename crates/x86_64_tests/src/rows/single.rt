@@ -1,6 +1,8 @@
 //! Calls of a mapper itself, each where its condition holds, with the tokens flushed.
+ghost use Rattle.std.specs.Prelude.{◌≡◌, ◌<◌, ◌^◌, IfSome};
 ghost use Rattle.x86_64_model.specs.Call.{Unmap};
-ghost use Rattle.x86_64_model.specs.Mapper.{Valid, May, SupplyFits, path_of};
+ghost use Rattle.x86_64_model.specs.Mapper.{Valid, May, PoolFits, SupplyFits, path_of};
+ghost use Rattle.x86_64_model.specs.Pool.{serves_below};
 
 use super::{Exchange, assert_fits};
 use crate::assertions::{assert_equal, unwrap};
@@ -10,7 +12,7 @@ use bitflags::Flags;
 use std::alloc::Global;
 use std::process::Abort;
 use x86_64::structures::paging::mapper::{
-    CleanUp, FlagUpdateError, MapperFlush, MapperFlushAll, UnmapError,
+    CleanUp, FlagUpdateError, MapperAllSizes, MapperFlush, MapperFlushAll, UnmapError,
 };
 use x86_64::structures::paging::{
     MappedPageTable, Mapper, Page, PageSize, PageTableFlags, PhysFrame, Size1GiB, Size2MiB,
@@ -49,22 +51,35 @@ fn flush_all(
     Ok(())
 }
 
-/// Maps the page at a frame's own address, where there is one and it is allowed.
-fn map_identity<S: PageSize, M: Mapper<S>>(
-    rt: impl Abort + Copy,
-    mapper: &mut M,
-    pool: &mut FramePool,
-    frame: PhysFrame<S>,
-    flags: PageTableFlags,
-    recorder: &mut FlushRecorder,
-) -> Option<SizeReply<S>>
-    requires { SupplyFits (M.hierarchy mapper.old) pool.old.frames }
+/// Gives the page at a frame's own address, if that lies in the lower half of the address space.
+fn identity_page<S: PageSize>(frame: PhysFrame<S>) -> Option<Page<S>>
+    ensures same { IfSome result (λ page. page ≡ frame) }
+    ensures low { IfSome result (λ page. frame < 2 ^ 47) }
 {
     let start = frame.start_address().as_u64();
     if start >= 1 << 47 {
         return None;
     }
-    let page = Page::<S>::containing_address(VirtAddr::new(start));
+    match Page::from_start_address(VirtAddr::new_truncate(start)) {
+        Ok(page) => Some(page),
+        Err(_) => None,
+    }
+}
+
+/// Maps the page at a frame's own address, where that is allowed.
+fn map_identity<S: PageSize, M: Mapper<S>>(
+    rt: impl Abort + Copy,
+    mapper: &mut M,
+    pool: &mut FramePool,
+    page: Page<S>,
+    frame: PhysFrame<S>,
+    flags: PageTableFlags,
+    recorder: &mut FlushRecorder,
+) -> Option<SizeReply<S>>
+    requires fits { SupplyFits (M.hierarchy mapper.old) pool.old.frames }
+    requires same { page ≡ frame }
+    requires low { frame < 2 ^ 47 }
+{
     if !mapper.map_allowed(page, flags, parent_flags(flags)) {
         return None;
     }
@@ -163,7 +178,9 @@ fn answer_page<S: PageSize, M: Mapper<S>>(
             map(rt, mapper, pool, page, frame, flags, parents, recorder)
         }
         PageCallRow::IdentityMap(frame, bits) => {
-            map_identity(rt, mapper, pool, frame_at(frame), flags_of(bits), recorder)
+            let (frame, flags) = (frame_at(frame), flags_of(bits));
+            let page = identity_page(frame)?;
+            map_identity(rt, mapper, pool, page, frame, flags, recorder)
         }
         PageCallRow::Unmap(page) => {
             let page = page_at(page);
@@ -189,18 +206,16 @@ fn answer_page<S: PageSize, M: Mapper<S>>(
     }
 }
 
-/// Makes a call of the mapper over the identity mapping, where it is allowed.
-fn answer_one(
+/// Makes a call, where it is allowed.
+fn answer_call<M: MapperAllSizes + Translate + CleanUp>(
     rt: impl Abort + Copy,
-    alloc: Global,
-    (memory, pool): (&mut PhysMemory, &mut FramePool),
+    mapper: &mut M,
+    pool: &mut FramePool,
     call: CallRow,
     recorder: &mut FlushRecorder,
-) -> Option<Reply> {
-    let root = frame_at(ROOT);
-    assert_fits(rt, alloc, memory, &IdentityMapping, root, pool);
-    let mut mapper = MappedPageTable::new(memory, root, IdentityMapping);
-    let mapper = &mut mapper;
+) -> Option<Reply>
+    requires { PoolFits (M.hierarchy mapper.old) (serves_below pool.old.limit) pool.old.frames }
+{
     Some(match call {
         CallRow::Small(call) => {
             MapperReply::Of4KiB(answer_page::<Size4KiB, _>(rt, mapper, pool, call, recorder)?)
@@ -227,6 +242,20 @@ fn answer_one(
             MapperReply::Cleaned
         }
     })
+}
+
+/// Makes a call of the mapper over the identity mapping, which is dropped then.
+fn answer_one(
+    rt: impl Abort + Copy,
+    alloc: Global,
+    (memory, pool): (&mut PhysMemory, &mut FramePool),
+    call: CallRow,
+    recorder: &mut FlushRecorder,
+) -> Option<Reply> {
+    let root = frame_at(ROOT);
+    assert_fits(rt, alloc, memory, &IdentityMapping, root, pool);
+    let mut mapper = MappedPageTable::new(memory, root, IdentityMapping);
+    answer_call(rt, &mut mapper, pool, call, recorder)
 }
 
 /// Makes the calls of exchanges one by one, and adds the replies.

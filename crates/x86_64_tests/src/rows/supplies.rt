@@ -1,12 +1,14 @@
 //! Maps where free frames run out.
 use super::{
-    EACH, Exchange, FIRST, LEVEL_1, LEVEL_2, LEVEL_3, LEVEL_4, MAPPED, Row, answer_exchanges,
+    By, EACH, Exchange, FIRST, LEVEL_1, LEVEL_2, LEVEL_3, LEVEL_4, MAPPED, Row, answer_exchanges,
     answer_row, check_rows, compare_by,
 };
-use crate::assertions::{assert_equal, unwrap};
+use crate::assertions::assert_equal;
 use crate::call_rows::CallRow::Small;
 use crate::call_rows::PageCallRow::MapTo;
 use crate::images::{fill, frame_at};
+use std::alloc::Global;
+use std::process::Abort;
 use x86_64_plain::Answer::Refused;
 use x86_64_plain::PlainReply::Answered;
 use x86_64_plain::Refusal::FrameAllocationFailed;
@@ -53,21 +55,21 @@ const TWO_MORE: Row<'static> = Row {
     ..MAPPED
 };
 
+/// Answers a row's calls, and another one's once its free frames are there, and compares what comes of each.
+fn check_supplies(rt: impl Abort + Copy, alloc: Global, row: &Row<'_>, more: &Row<'_>, by: By) {
+    let (mut memory, mut pool) = answer_row(rt, alloc, row, by, "one frame");
+    for frame in more.free {
+        fill(rt, &mut memory, *frame);
+        assert_equal(rt, pool.try_add(frame_at(*frame)), Ok(()));
+    }
+    answer_exchanges(rt, alloc, more, by, (&mut memory, &mut pool), "two more");
+    compare_by(rt, alloc, by, (&memory, &pool), more, by.name())
+}
+
 #[test]
 fn maps_go_on_once_there_are_frames(rt: HostRuntime) {
-    let alloc = rt.alloc();
-    check_rows(rt, alloc, &ROWS, &EACH);
+    check_rows(rt, rt.alloc(), &ROWS, &EACH);
     for by in EACH {
-        let title = unwrap(
-            rt,
-            format!(in alloc; "one frame, then two more, by {}", by.name()),
-        );
-        let (mut memory, mut pool) = answer_row(rt, alloc, &ONE_FRAME, by, &title);
-        for frame in TWO_MORE.free {
-            fill(rt, &mut memory, *frame);
-            assert_equal(rt, pool.try_add(frame_at(*frame)), Ok(()));
-        }
-        answer_exchanges(rt, alloc, &TWO_MORE, by, (&mut memory, &mut pool), &title);
-        compare_by(rt, alloc, by, (&memory, &pool), &TWO_MORE, &title);
+        check_supplies(rt, rt.alloc(), &ONE_FRAME, &TWO_MORE, by);
     }
 }
