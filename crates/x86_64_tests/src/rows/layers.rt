@@ -4,7 +4,7 @@ ghost use Rattle.x86_64_model.specs.Memory.{identity_places};
 ghost use Rattle.x86_64_mappers.specs.Layouts.{direct};
 ghost use Rattle.x86_64.specs.Runs.{FitsPool};
 
-use super::{CLEANED, FIRST, Row, add_exchanges, assert_fits, begin, compare};
+use super::{By, CLEANED, FIRST, Row, add_replies, assert_fits, begin, calls_of, compare};
 use crate::assertions::{assert_equal, unwrap};
 use crate::call_rows::CallRow::{CleanUp, Small, Translate};
 use crate::call_rows::PageCallRow::{Unmap, UpdateFlags};
@@ -60,26 +60,21 @@ fn run_counted(
     mapper.count()
 }
 
-/// Answers the calls, and compares the replies and how often a table was lent to be changed.
-fn answer_counted(
-    rt: impl Abort + Copy,
-    alloc: Global,
-    (memory, pool): (&mut PhysMemory, &mut FramePool),
-) {
-    let mut calls = Vec::new(alloc);
-    let mut wanted = Vec::new(alloc);
-    add_exchanges(rt, &ROW, &mut calls, &mut wanted);
-    let mut replies = Vec::new(alloc);
+/// Answers a row's calls, and compares what comes of them and how often a table was lent to be changed.
+fn check_layer(rt: impl Abort + Copy, alloc: Global, row: &Row<'_>, loans: u64) {
+    let (mut memory, mut pool) = begin(rt, alloc, row, By::Identity);
+    let calls = calls_of(rt, alloc, row.calls);
+    let (mut replies, mut wanted) = (Vec::new(alloc), Vec::new(alloc));
+    add_replies(rt, row.calls, &mut wanted);
     let root = frame_at(ROOT);
-    assert_fits(rt, alloc, memory, &IdentityMapping, root, pool);
-    let count = run_counted(rt, memory, root, pool, &calls, &mut replies);
+    assert_fits(rt, alloc, &memory, &IdentityMapping, root, &pool);
+    let count = run_counted(rt, &mut memory, root, &mut pool, &calls, &mut replies);
     assert_equal(rt, replies, wanted);
-    assert_equal(rt, count, LOANS);
+    assert_equal(rt, count, loans);
+    compare(rt, &memory, &pool, row, "counted")
 }
 
 #[test]
 fn layers_over_mappers_run_lists(rt: HostRuntime) {
-    let (mut memory, mut pool) = begin(rt, rt.alloc(), ROW.free);
-    answer_counted(rt, rt.alloc(), (&mut memory, &mut pool));
-    compare(rt, &memory, &pool, &ROW, "counted")
+    check_layer(rt, rt.alloc(), &ROW, LOANS)
 }
