@@ -22,11 +22,3 @@ is_active memory cr3 table r = (table == cr3) && has_self_entry (words_of memory
 -- why a table at a position is refused, with so many levels of tables
 abbrev pub refuses_at : (levels : ℕ) → Memory → (cr3 table position : ℕ) → Option InvalidPageTable
 refuses_at levels memory cr3 table p = if is_root_window levels p then (if is_active memory cr3 table (index levels p) then None else Some NotActive) else Some NotRecursive
-
--- with four
-abbrev pub refuses : Memory → (cr3 table position : ℕ) → Option InvalidPageTable
-refuses memory cr3 table p = refuses_at 4 memory cr3 table p
-
--- with five
-abbrev pub refuses_57 : Memory → (cr3 table position : ℕ) → Option InvalidPageTable
-refuses_57 memory cr3 table p = refuses_at 5 memory cr3 table p

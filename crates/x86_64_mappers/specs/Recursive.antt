@@ -24,14 +24,6 @@ owned_by levels root window memory lent = record { layout = recursive_at levels 
 abbrev pub recursive_now_at : (levels : ℕ) → Memory → (root index : ℕ) → Layout
 recursive_now_at levels memory root r = recursive_at levels root (window_at (words_of memory identity_places) root r)
 
--- that of four levels
-abbrev pub recursive_now : Memory → (root index : ℕ) → Layout
-recursive_now memory root r = recursive_now_at 4 memory root r
-
--- that of five levels
-abbrev pub recursive_now_57 : Memory → (root index : ℕ) → Layout
-recursive_now_57 memory root r = recursive_now_at 5 memory root r
-
 -- the window of an index where the root's word names the root and has these flags
 abbrev pub window_with : (root index flags : ℕ) → Window
 window_with root r flags = record { index = r; self_entry = bit_or root flags }

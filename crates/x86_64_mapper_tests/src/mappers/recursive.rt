@@ -5,7 +5,7 @@ ghost use Rattle.x86_64_model.specs.Layout.{Valid};
 ghost use Rattle.x86_64_model.specs.Position.{index};
 ghost use Rattle.x86_64_tables.specs.PageTable.{zero_words};
 ghost use Rattle.x86_64_mappers.specs.InvalidPageTables.{refuses_at};
-ghost use Rattle.x86_64_mappers.specs.Recursive.{recursive_now, recursive_now_57, recursive_now_at};
+ghost use Rattle.x86_64_mappers.specs.Recursive.{recursive_now_at};
 
 use super::{Word, check_words, image, small, word_of};
 use crate::assertions::{assert_equal, assert_equal_in, unwrap};
@@ -178,7 +178,7 @@ fn refusals_have_texts(rt: HostRuntime) {
 
 /// Makes the entries of the root unused, and gives the first one's word. The owner knows what the memory holds then.
 fn clear_root(memory: &mut PhysMemory, root: PhysFrame<Size4KiB>, index: PageTableIndex) -> u64
-    requires { Valid (recursive_now memory.old root index) memory.old }
+    requires { Valid (recursive_now_at 4 memory.old root index) memory.old }
     ensures { memory.new ≡ insert memory.old (root / 4096) zero_words }
 {
     let mut mapper = RecursivePageTable::new_unchecked(ActiveMemory::new(memory, root), index);
@@ -189,7 +189,7 @@ fn clear_root(memory: &mut PhysMemory, root: PhysFrame<Size4KiB>, index: PageTab
 
 /// The same with five levels of tables.
 fn clear_root_57(memory: &mut PhysMemory, root: PhysFrame<Size4KiB>, index: PageTableIndex) -> u64
-    requires { Valid (recursive_now_57 memory.old root index) memory.old }
+    requires { Valid (recursive_now_at 5 memory.old root index) memory.old }
     ensures { memory.new ≡ insert memory.old (root / 4096) zero_words }
 {
     let mut mapper = RecursivePageTable57::new_unchecked(ActiveMemory57::new(memory, root), index);
