@@ -13,26 +13,27 @@ use x86_64_page::page::{PageSize, Size1GiB, Size2MiB, Size4KiB};
 use x86_64_page::range::{Block, BlockRange, BlockRangeInclusive};
 use x86_64_tables::page_table::PageTableFlags;
 
-/// Compares the hashes of two equal values that were made apart, of the first one as its clone.
-fn check_hashed<T: Debug + Copy + Eq + Hash>(rt: impl Abort + Copy, one: T, same: T) {
-    let hasher = BuildHasherDefault::<DefaultHasher>::default();
-    let clone = unwrap(rt, one.clone());
-    assert_equal(rt, clone, same);
-    assert_equal_in(rt, one, hasher.hash_one(clone), hasher.hash_one(same));
+/// Gives the hash of a value.
+fn hash_of<T: Hash + Drop>(value: T) -> u64 {
+    BuildHasherDefault::<DefaultHasher>::default().hash_one(value)
 }
 
-/// Compares such values, which have an order.
-fn check_equal<T: Debug + Copy + Ord + Hash>(rt: impl Abort + Copy, one: T, same: T) {
-    check_hashed(rt, one, same);
-    let orders = (one.cmp(&same), one.partial_cmp(&same));
-    assert_equal_in(rt, one, orders, (Ordering::Equal, Some(Ordering::Equal)));
+/// Compares two equal values that were made apart, and their hashes, and the first one's clone. Another one is not equal.
+fn check_hashed<T: Debug + Copy + Eq + Hash>(rt: impl Abort + Copy, one: T, same: T, other: T) {
+    let clone = unwrap(rt, one.clone());
+    assert_equal_in(rt, one, (clone, hash_of(one)), (same, hash_of(same)));
+    assert!(rt; one != other);
 }
 
 /// Compares two such values with each other, and with a greater one.
 fn check_derives<T: Debug + Copy + Ord + Hash>(rt: impl Abort + Copy, one: T, same: T, greater: T) {
-    check_equal(rt, one, same);
-    let orders = (one.cmp(&greater), greater.partial_cmp(&one));
-    assert_equal_in(rt, one, orders, (Ordering::Less, Some(Ordering::Greater)));
+    let clone = unwrap(rt, one.clone());
+    assert_equal_in(rt, one, (clone, hash_of(one)), (same, hash_of(same)));
+    let orders = (one.cmp(&same), one.cmp(&greater));
+    assert_equal_in(rt, one, orders, (Ordering::Equal, Ordering::Less));
+    let orders = (one.partial_cmp(&same), greater.partial_cmp(&one));
+    let wanted = (Some(Ordering::Equal), Some(Ordering::Greater));
+    assert_equal_in(rt, one, orders, wanted);
     assert!(rt; one != greater);
 }
 
@@ -77,21 +78,27 @@ fn flags_have_derives(rt: HostRuntime) {
 /// Compares such pages or frames, and ranges of them.
 fn check_blocks<B: Block + Debug + Ord + Hash>(rt: impl Abort + Copy, start: B, same: B, end: B) {
     check_derives(rt, start, same, end);
-    let range = BlockRange { start, end };
-    check_hashed(rt, range, BlockRange { start: same, end });
-    assert!(rt; range != BlockRange { start: end, end });
+    let (range, other) = (BlockRange { start, end }, BlockRange { start: end, end });
+    check_hashed(rt, range, BlockRange { start: same, end }, other);
     let range = BlockRangeInclusive { start, end };
-    check_hashed(rt, range, BlockRangeInclusive { start: same, end });
-    assert!(rt; range != BlockRangeInclusive { start: end, end });
+    let other = BlockRangeInclusive { start: end, end };
+    check_hashed(rt, range, BlockRangeInclusive { start: same, end }, other);
 }
 
-/// Compares two values of a size, and pages and frames of it, with four levels and with five.
+/// Compares two values of a size, which has no other.
+fn check_unit<S: PageSize + Debug + Hash>(rt: impl Abort + Copy, size: S, same: S) {
+    let clone = unwrap(rt, size.clone());
+    assert_equal(rt, (clone, hash_of(size)), (same, hash_of(same)));
+    let orders = (size.cmp(&same), size.partial_cmp(&same));
+    assert_equal(rt, orders, (Ordering::Equal, Some(Ordering::Equal)));
+}
+
+/// Compares pages and frames of a size, with four levels and with five.
 fn check_size<S: PageSize + Debug + Hash>(rt: impl Abort + Copy, size: S, same: S) {
-    check_equal(rt, size, same);
-    let [start, same, end] = [0, 0x123, 0x4000_0000];
-    check_blocks(rt, page::<S, FourLevels>(start), page(same), page(end));
-    check_blocks(rt, page::<S, FiveLevels>(start), page(same), page(end));
-    check_blocks(rt, frame::<S>(start), frame(same), frame(end));
+    check_unit(rt, size, same);
+    check_blocks(rt, page::<S, FourLevels>(0), page(0x123), page(0x4000_0000));
+    check_blocks(rt, page::<S, FiveLevels>(0), page(0x123), page(0x4000_0000));
+    check_blocks(rt, frame::<S>(0), frame(0x123), frame(0x4000_0000));
 }
 
 #[test]

@@ -39,11 +39,9 @@ fn numbers_are_aligned(rt: HostRuntime) {
     assert_equal(rt, align_down(u64::MAX, 1 << 63), 1 << 63);
 }
 
-/// The raw value of an address aligned up, where there is a multiple of 64 bits, and aligned down, and whether it is aligned.
-type Aligned = (Option<u64>, u64, bool);
-
-/// Aligns the address of a raw value, where `align` is a power of two.
-fn aligned<L: LevelCount>(raw: u64, align: u64) -> Option<Aligned> {
+/// Aligns the address of a raw value up, where there is a multiple of 64 bits, and down, and tells whether it is aligned. `align` is
+/// a power of two.
+fn aligned<L: LevelCount>(raw: u64, align: u64) -> Option<(Option<u64>, u64, bool)> {
     if !align.is_power_of_two() {
         return None;
     }
@@ -56,42 +54,36 @@ fn aligned<L: LevelCount>(raw: u64, align: u64) -> Option<Aligned> {
     Some((up, down, address.is_aligned(align)))
 }
 
-/// Raw values, what their addresses are aligned to, and what comes of it.
-type AlignedRow = (u64, u64, Option<Aligned>);
+/// Raw values, what their addresses are aligned to, and what comes of it: up, down, and whether they are aligned.
+type Row = (u64, u64, Option<u64>, u64, bool);
 
-const ADDRESSES: [AlignedRow; 8] = [
-    (LAST_LOW, 2, Some((Some(FIRST_HIGH), LAST_LOW - 1, false))),
-    (
-        FIRST_HIGH,
-        1 << 47,
-        Some((Some(FIRST_HIGH), FIRST_HIGH, true)),
-    ),
-    (FIRST_HIGH, 1 << 48, Some((None, 0, false))),
-    (0, 1 << 63, Some((Some(0), 0, true))),
-    (0x1fff, 0x1000, Some((Some(0x2000), 0x1000, false))),
-    (0x2000, 0x1000, Some((Some(0x2000), 0x2000, true))),
-    (0x2001, 2, Some((Some(0x2002), 0x2000, false))),
-    (0x2000, 3, None),
+const ADDRESSES: [Row; 7] = [
+    (LAST_LOW, 2, Some(FIRST_HIGH), LAST_LOW - 1, false),
+    (FIRST_HIGH, 1 << 47, Some(FIRST_HIGH), FIRST_HIGH, true),
+    (FIRST_HIGH, 1 << 48, None, 0, false),
+    (0, 1 << 63, Some(0), 0, true),
+    (0x1fff, 0x1000, Some(0x2000), 0x1000, false),
+    (0x2000, 0x1000, Some(0x2000), 0x2000, true),
+    (0x2001, 2, Some(0x2002), 0x2000, false),
 ];
 
-const ADDRESSES_57: [AlignedRow; 3] = [
-    (
-        LAST_LOW_57,
-        2,
-        Some((Some(FIRST_HIGH_57), LAST_LOW_57 - 1, false)),
-    ),
+const ADDRESSES_57: [Row; 3] = [
+    (LAST_LOW_57, 2, Some(FIRST_HIGH_57), LAST_LOW_57 - 1, false),
     (
         FIRST_HIGH_57,
         1 << 56,
-        Some((Some(FIRST_HIGH_57), FIRST_HIGH_57, true)),
+        Some(FIRST_HIGH_57),
+        FIRST_HIGH_57,
+        true,
     ),
-    (FIRST_HIGH_57, 1 << 57, Some((None, 0, false))),
+    (FIRST_HIGH_57, 1 << 57, None, 0, false),
 ];
 
 /// Aligns addresses, and compares what comes of it.
-fn check_aligned<L: LevelCount>(rt: impl Abort + Copy, rows: &[AlignedRow]) {
-    for (raw, align, wanted) in rows {
-        assert_equal_in(rt, (*raw, *align), aligned::<L>(*raw, *align), *wanted);
+fn check_aligned<L: LevelCount>(rt: impl Abort + Copy, rows: &[Row]) {
+    for (raw, align, up, down, is_aligned) in rows {
+        let wanted = Some((*up, *down, *is_aligned));
+        assert_equal_in(rt, (*raw, *align), aligned::<L>(*raw, *align), wanted);
     }
 }
 

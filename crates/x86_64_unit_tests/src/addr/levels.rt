@@ -1,38 +1,18 @@
 //! The levels of page tables, with what their tables and entries describe.
 use crate::assertions::assert_equal_in;
-use x86_64_addr::index::{PageTableLevel as Level, PageTableLevel57 as Level57};
-
-/// A level, the levels next to it, and the powers of two that its tables and its entries describe.
-type Row<L> = (L, Option<L>, Option<L>, u64, u64);
-
-const LEVELS: [Row<Level>; 4] = [
-    (Level::One, None, Some(Level::Two), 0x20_0000, 0x1000),
-    (
-        Level::Two,
-        Some(Level::One),
-        Some(Level::Three),
-        0x4000_0000,
-        0x20_0000,
-    ),
-    (
-        Level::Three,
-        Some(Level::Two),
-        Some(Level::Four),
-        0x80_0000_0000,
-        0x4000_0000,
-    ),
-    (
-        Level::Four,
-        Some(Level::Three),
-        None,
-        0x1_0000_0000_0000,
-        0x80_0000_0000,
-    ),
-];
+use x86_64_addr::index::{PageTableLevel, PageTableLevel57};
 
 #[test]
 fn levels_have_neighbours_and_alignments(rt: HostRuntime) {
-    for (level, lower, higher, table, entry) in LEVELS {
+    let (one, two) = (PageTableLevel::One, PageTableLevel::Two);
+    let (three, four) = (PageTableLevel::Three, PageTableLevel::Four);
+    let rows = [
+        (one, None, Some(two), 0x20_0000, 0x1000),
+        (two, Some(one), Some(three), 0x4000_0000, 0x20_0000),
+        (three, Some(two), Some(four), 0x80_0000_0000, 0x4000_0000),
+        (four, Some(three), None, 0x1_0000_0000_0000, 0x80_0000_0000),
+    ];
+    for (level, lower, higher, table, entry) in rows {
         let found = (
             level.next_lower_level(),
             level.next_higher_level(),
@@ -43,41 +23,20 @@ fn levels_have_neighbours_and_alignments(rt: HostRuntime) {
     }
 }
 
-const LEVELS_57: [Row<Level57>; 5] = [
-    (Level57::One, None, Some(Level57::Two), 0x20_0000, 0x1000),
-    (
-        Level57::Two,
-        Some(Level57::One),
-        Some(Level57::Three),
-        0x4000_0000,
-        0x20_0000,
-    ),
-    (
-        Level57::Three,
-        Some(Level57::Two),
-        Some(Level57::Four),
-        0x80_0000_0000,
-        0x4000_0000,
-    ),
-    (
-        Level57::Four,
-        Some(Level57::Three),
-        Some(Level57::Five),
-        0x1_0000_0000_0000,
-        0x80_0000_0000,
-    ),
-    (
-        Level57::Five,
-        Some(Level57::Four),
-        None,
-        0x200_0000_0000_0000,
-        0x1_0000_0000_0000,
-    ),
-];
-
 #[test]
 fn five_levels_have_neighbours_and_alignments(rt: HostRuntime) {
-    for (level, lower, higher, table, entry) in LEVELS_57 {
+    let (one, two) = (PageTableLevel57::One, PageTableLevel57::Two);
+    let (three, four) = (PageTableLevel57::Three, PageTableLevel57::Four);
+    let five = PageTableLevel57::Five;
+    let (high, highest) = (0x1_0000_0000_0000, 0x200_0000_0000_0000);
+    let rows = [
+        (one, None, Some(two), 0x20_0000, 0x1000),
+        (two, Some(one), Some(three), 0x4000_0000, 0x20_0000),
+        (three, Some(two), Some(four), 0x80_0000_0000, 0x4000_0000),
+        (four, Some(three), Some(five), high, 0x80_0000_0000),
+        (five, Some(four), None, highest, high),
+    ];
+    for (level, lower, higher, table, entry) in rows {
         let found = (
             level.next_lower_level(),
             level.next_higher_level(),

@@ -110,14 +110,15 @@ fn flags_change_in_place(rt: HostRuntime) {
     }
 }
 
-/// Bits, and whether both low flags are among them, whether one is, whether none is set, whether all known ones are.
-const ASKED: [(u64, [bool; 4]); 6] = [
-    (0x0, [false, false, true, false]),
-    (0x2, [false, true, false, false]),
-    (0x83, [true, true, false, false]),
-    (0x1000, [false, false, false, false]),
-    (0xfff0_0000_0000_0fff, [true, true, false, true]),
-    (u64::MAX, [true, true, false, true]),
+/// Bits, and whether both low flags are among them, whether one is, whether none is set, whether all known ones are, and whether
+/// unknown ones are.
+const ASKED: [(u64, [bool; 5]); 6] = [
+    (0x0, [false, false, true, false, false]),
+    (0x2, [false, true, false, false, false]),
+    (0x83, [true, true, false, false, false]),
+    (0x1000, [false, false, false, false, true]),
+    (0xfff0_0000_0000_0fff, [true, true, false, true, false]),
+    (u64::MAX, [true, true, false, true, true]),
 ];
 
 #[test]
@@ -130,28 +131,11 @@ fn flags_are_asked(rt: HostRuntime) {
             flags.intersects(low),
             flags.is_empty(),
             flags.is_all(),
+            flags.contains_unknown_bits(),
         ];
         assert_equal_at(rt, bits, asked, answers);
-    }
-}
-
-/// Bits, and whether all of them are known.
-const KNOWN: [(u64, bool); 6] = [
-    (0x0, true),
-    (0x2, true),
-    (0x83, true),
-    (0x1000, false),
-    (0xfff0_0000_0000_0fff, true),
-    (u64::MAX, false),
-];
-
-#[test]
-fn flags_are_read(rt: HostRuntime) {
-    for (bits, known) in KNOWN {
-        let flags = PageTableFlags::from_bits_retain(bits);
-        let read = if known { Some(flags) } else { None };
+        let read = if answers[4] { None } else { Some(flags) };
         assert_equal_at(rt, bits, PageTableFlags::from_bits(bits), read);
-        assert_equal_at(rt, bits, flags.contains_unknown_bits(), !known);
     }
 }
 

@@ -25,40 +25,30 @@ type Word = (u64, u16, u64);
 /// The bits of a word that are flags.
 const FLAGS_MASK: u64 = 0xfff0_0000_0000_0fff;
 
-/// Sets the word at an index of the table in a frame.
-fn set_word(rt: impl Abort + Copy, memory: &mut PhysMemory, (frame, index, word): Word) {
-    let table = unwrap_some(rt, memory.table_mut(FramePlace::new(frame / 0x1000)));
-    let flags = PageTableFlags::from_bits_retain(word & FLAGS_MASK);
-    let entry = &mut table[PageTableIndex::new_truncate(index)];
-    entry.set_addr(frame_at(word).start_address(), flags);
-}
-
-/// Sets words.
+/// Sets words of a memory.
 fn set_words(rt: impl Abort + Copy, memory: &mut PhysMemory, words: &[Word]) {
-    for word in words {
-        set_word(rt, memory, *word);
+    for (frame, index, word) in words {
+        let table = unwrap_some(rt, memory.table_mut(FramePlace::new(*frame / 0x1000)));
+        let flags = PageTableFlags::from_bits_retain(*word & FLAGS_MASK);
+        let entry = &mut table[PageTableIndex::new_truncate(*index)];
+        entry.set_addr(frame_at(*word).start_address(), flags);
     }
 }
 
-/// Makes a memory of 8 places with words.
-fn memory_with(rt: impl Abort + Copy, alloc: Global, words: &[Word]) -> PhysMemory {
+/// Makes a memory of 8 places with words, and then with more words.
+fn memory_of(rt: impl Abort + Copy, alloc: Global, words: &[Word], more: &[Word]) -> PhysMemory {
     let mut memory = unwrap(rt, PhysMemory::new(alloc, 8));
     set_words(rt, &mut memory, words);
-    memory
-}
-
-/// Makes the same memory, and then sets more words.
-fn memory_of(rt: impl Abort + Copy, alloc: Global, words: &[Word], more: &[Word]) -> PhysMemory {
-    let mut memory = memory_with(rt, alloc, words);
     set_words(rt, &mut memory, more);
     memory
 }
 
 /// Makes a memory where the root's first word names the table in frame 0x2000, and all words of that are ones.
 fn memory_of_ones(rt: impl Abort + Copy, alloc: Global) -> PhysMemory {
-    let mut memory = memory_with(rt, alloc, &[(0x1000, 0, 0x2003)]);
+    let mut memory = unwrap(rt, PhysMemory::new(alloc, 8));
+    set_words(rt, &mut memory, &[(0x1000, 0, 0x2003)]);
     for index in 0..512 {
-        set_word(rt, &mut memory, (0x2000, index, u64::MAX));
+        set_words(rt, &mut memory, &[(0x2000, index, u64::MAX)]);
     }
     memory
 }
@@ -189,7 +179,7 @@ const WALKS_57: [Walk; 5] = [
 /// Walks, and compares where that arrives.
 fn check_walks<L: LevelCount>(rt: impl Abort + Copy, alloc: Global, rows: &[Walk]) {
     for (words, addr, wanted) in rows {
-        let memory = memory_with(rt, alloc, words);
+        let memory = memory_of(rt, alloc, words, &[]);
         assert_equal_at(rt, *addr, walk::<L>(&memory, *addr), arrival(*wanted));
     }
 }
@@ -198,9 +188,14 @@ fn check_walks<L: LevelCount>(rt: impl Abort + Copy, alloc: Global, rows: &[Walk
 fn walks_arrive(rt: HostRuntime) {
     check_walks::<FourLevels>(rt, rt.alloc(), &WALKS);
     check_walks::<FiveLevels>(rt, rt.alloc(), &WALKS_57);
+}
+
+#[test]
+fn walks_arrive_through_ones(rt: HostRuntime) {
     let memory = memory_of_ones(rt, rt.alloc());
     let wanted = arrival(Some((0x000f_ffff_c000_0000, true)));
     assert_equal(rt, walk::<FourLevels>(&memory, 0), wanted);
+    check_pools(rt, rt.alloc(), 4, &memory, &POOLS_BESIDE_ONES);
 }
 
 /// Words, and whether they are a valid hierarchy of four levels, and of five.
@@ -223,7 +218,7 @@ const HIERARCHIES: [(&[Word], bool, bool); 4] = [
 #[test]
 fn hierarchies_are_valid_with_as_many_levels(rt: HostRuntime) {
     for (words, four, five) in HIERARCHIES {
-        let memory = memory_with(rt, rt.alloc(), words);
+        let memory = memory_of(rt, rt.alloc(), words, &[]);
         let found = (
             is_valid(rt, rt.alloc(), 4, &memory),
             is_valid(rt, rt.alloc(), 5, &memory),
@@ -233,7 +228,7 @@ fn hierarchies_are_valid_with_as_many_levels(rt: HostRuntime) {
 }
 
 /// Words, the limit and the frames of a pool, and whether it fits.
-const ROOT_POOLS: [(&[Word], (u64, &[u64]), bool); 11] = [
+static ROOT_POOLS: [(&[Word], (u64, &[u64]), bool); 11] = [
     (&[], (8, &[0x2000, 0x3000, 0x4000]), true),
     (&[], (8, &[]), true),
     (&[], (8, &[0x7000]), true),
@@ -253,11 +248,15 @@ const ROOT_POOLS: [(&[Word], (u64, &[u64]), bool); 11] = [
 
 #[test]
 fn pools_fit_a_root(rt: HostRuntime) {
-    for (words, pool, wanted) in ROOT_POOLS {
-        let memory = memory_with(rt, rt.alloc(), words);
-        let found = fits(rt, rt.alloc(), 4, &memory, pool);
-        assert_equal_in(rt, (words, pool), found, wanted);
+    for (words, pool, wanted) in &ROOT_POOLS {
+        let memory = memory_of(rt, rt.alloc(), words, &[]);
+        let found = fits(rt, rt.alloc(), 4, &memory, *pool);
+        assert_equal_in(rt, (*words, *pool), found, *wanted);
     }
+}
+
+#[test]
+fn pools_fit_no_root_past_the_memory(rt: HostRuntime) {
     let small = unwrap(rt, PhysMemory::new(rt.alloc(), 1));
     assert!(rt; !fits(rt, rt.alloc(), 4, &small, (8, &[])));
 }
@@ -317,12 +316,20 @@ fn check_pools(
     }
 }
 
+/// The same of the hierarchy with words.
+fn check_pools_of(
+    rt: impl Abort + Copy,
+    alloc: Global,
+    levels: u64,
+    words: &[Word],
+    pools: &[Pool],
+) {
+    let memory = memory_of(rt, alloc, words, &[]);
+    check_pools(rt, alloc, levels, &memory, pools)
+}
+
 #[test]
 fn pools_fit_tables(rt: HostRuntime) {
-    let memory = memory_with(rt, rt.alloc(), &TABLES);
-    check_pools(rt, rt.alloc(), 4, &memory, &POOLS);
-    let memory = memory_with(rt, rt.alloc(), &TABLES_57);
-    check_pools(rt, rt.alloc(), 5, &memory, &POOLS_57);
-    let memory = memory_of_ones(rt, rt.alloc());
-    check_pools(rt, rt.alloc(), 4, &memory, &POOLS_BESIDE_ONES);
+    check_pools_of(rt, rt.alloc(), 4, &TABLES, &POOLS);
+    check_pools_of(rt, rt.alloc(), 5, &TABLES_57, &POOLS_57);
 }

@@ -7,7 +7,7 @@ ghost use Rattle.x86_64_model.specs.Window.{outside_window};
 ghost use Rattle.x86_64_tables.specs.SelfEntries.{window_at};
 
 use super::recursive::{RECURSIVE, RECURSIVE_57};
-use super::{Word, memory_of, memory_with};
+use super::{Word, memory_of};
 use crate::assertions::assert_equal_in;
 use crate::tables::frame_at;
 use std::alloc::Global;
@@ -148,8 +148,8 @@ const SHIFTED: [Word; 4] = [
 
 #[test]
 fn hierarchies_are_alike_by_their_own_mappings(rt: HostRuntime) {
-    let one = memory_with(rt, rt.alloc(), &DIRECT);
-    let other = memory_with(rt, rt.alloc(), &SHIFTED);
+    let one = memory_of(rt, rt.alloc(), &DIRECT, &[]);
+    let other = memory_of(rt, rt.alloc(), &SHIFTED, &[]);
     let root = frame_at(0x1000);
     for (first, wanted) in [(1, true), (0, false), (2, false)] {
         let mapping = ShiftMapping::new(first);
@@ -184,7 +184,7 @@ fn is_alike_to_itself(memory: &PhysMemory, index: Option<PageTableIndex>) -> boo
 
 #[test]
 fn words_that_name_their_own_table_are_alike(rt: HostRuntime) {
-    let memory = memory_with(rt, rt.alloc(), &RECURSIVE);
+    let memory = memory_of(rt, rt.alloc(), &RECURSIVE, &[]);
     assert!(rt; is_alike_to_itself(&memory, None));
     assert!(rt; !is_alike_to_itself(&memory, Some(PageTableIndex::new(510))));
 }

@@ -1,5 +1,5 @@
 //! Tests of memories with gaps between their places.
-use super::{Pool, check_pools, is_valid, set_word, set_words, walk};
+use super::{Pool, check_pools, is_valid, set_words, walk};
 use crate::assertions::{assert_equal, assert_equal_at, assert_equal_in, unwrap, unwrap_some};
 use std::alloc::{AllocError, Global};
 use std::process::Abort;
@@ -76,8 +76,16 @@ fn memory_has_the_places_of_a_list(rt: HostRuntime) {
         let memory = memory_at(rt, rt.alloc(), places);
         check_places(rt, &memory, places, others);
     }
+}
+
+#[test]
+fn memory_has_the_first_places(rt: HostRuntime) {
     let memory = unwrap(rt, PhysMemory::new(rt.alloc(), 3));
     check_places(rt, &memory, &[0, 1, 2], &[3, u64::MAX]);
+}
+
+#[test]
+fn memory_without_places_is_no_hierarchy(rt: HostRuntime) {
     let empty = memory_at(rt, rt.alloc(), &[]);
     assert!(rt; !is_valid(rt, rt.alloc(), 4, &empty));
 }
@@ -134,7 +142,7 @@ static CHANGED: [(u64, [u64; 3]); 4] = [
 fn tables_change_at_places_after_gaps(rt: HostRuntime) {
     for (changed, others) in &CHANGED {
         let mut memory = memory_at(rt, rt.alloc(), &[1, 2, 0x8_0000, 0x8_0001]);
-        set_word(rt, &mut memory, (*changed * 0x1000, 5, 0x2003));
+        set_words(rt, &mut memory, &[(*changed * 0x1000, 5, 0x2003)]);
         check_tables(rt, &memory, &[*changed], Some(false));
         check_tables(rt, &memory, others, Some(true));
         assert!(rt; memory.table_mut(FramePlace::new(3)).is_none());
@@ -153,7 +161,7 @@ fn hierarchies_are_valid_after_gaps(rt: HostRuntime) {
     assert!(rt; is_valid(rt, rt.alloc(), 4, &memory));
     let walked = unwrap_some(rt, walk::<FourLevels>(&memory, 0x23_4567));
     assert_equal(rt, walked.address, PhysAddr::new(0x43_4567));
-    set_word(rt, &mut memory, (0x8000_0000, 0, 0x2003));
+    set_words(rt, &mut memory, &[(0x8000_0000, 0, 0x2003)]);
     assert!(rt; !is_valid(rt, rt.alloc(), 4, &memory));
 }
 
@@ -168,6 +176,6 @@ static POOLS: [Pool; 5] = [
 #[test]
 fn pools_fit_after_gaps(rt: HostRuntime) {
     let mut memory = memory_at(rt, rt.alloc(), &[1, 3, 0x8_0000, 0x8_0001]);
-    set_word(rt, &mut memory, (0x1000, 0, 0x8000_0003));
+    set_words(rt, &mut memory, &[(0x1000, 0, 0x8000_0003)]);
     check_pools(rt, rt.alloc(), 4, &memory, &POOLS);
 }

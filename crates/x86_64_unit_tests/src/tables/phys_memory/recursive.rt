@@ -1,6 +1,6 @@
 //! Tests of tables that are reached through themselves, and of hierarchies with a recursive index, with four levels of tables and
 //! with five.
-use super::{Word, memory_of, memory_with, pool_with};
+use super::{Word, memory_of, pool_with};
 use crate::assertions::{assert_equal, assert_equal_in, unwrap, unwrap_some};
 use crate::tables::frame_at;
 use std::alloc::Global;
@@ -81,7 +81,7 @@ const SELF_ENTRIES: [(Word, u64, bool); 9] = [
 #[test]
 fn roots_have_self_entries(rt: HostRuntime) {
     for (word, cr3, wanted) in SELF_ENTRIES {
-        let mut memory = memory_with(rt, rt.alloc(), &[word]);
+        let mut memory = memory_of(rt, rt.alloc(), &[word], &[]);
         let active = ActiveMemory::new(&mut memory, frame_at(cr3));
         let found = (active.cr3(), active.self_entry(PageTableIndex::new(510)));
         assert_equal_in(rt, (word, cr3), found, (frame_at(cr3), wanted));
@@ -228,6 +228,10 @@ fn hierarchies_are_valid_for_an_index_with_as_many_levels(rt: HostRuntime) {
         );
         assert_equal_in(rt, (words, more), found, (four, five));
     }
+}
+
+#[test]
+fn no_root_past_the_memory_is_valid_for_an_index(rt: HostRuntime) {
     let small = unwrap(rt, PhysMemory::new(rt.alloc(), 1));
     assert!(rt; !is_valid(rt, rt.alloc(), 4, &small) && !is_valid(rt, rt.alloc(), 5, &small));
 }
@@ -284,7 +288,7 @@ const POOLS_57: [Pool; 8] = [
 
 /// Compares whether pools fit the hierarchy of so many levels in a memory with words.
 fn check_pools(rt: impl Abort + Copy, alloc: Global, levels: u64, words: &[Word], pools: &[Pool]) {
-    let memory = memory_with(rt, alloc, words);
+    let memory = memory_of(rt, alloc, words, &[]);
     for (pool, wanted) in pools {
         assert_equal_in(rt, *pool, fits(rt, alloc, levels, &memory, *pool), *wanted);
     }
