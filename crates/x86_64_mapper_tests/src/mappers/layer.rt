@@ -9,8 +9,8 @@ ghost use Rattle.x86_64_mappers.specs.Layouts.{direct, owned};
 ghost use Rattle.x86_64_tables.specs.MapperAnswers.{frame_answer};
 ghost use Rattle.x86_64.specs.Runs.{FitsPool};
 
-use super::unmap::{page, unmap_by};
-use super::{WORDS, check_words, image, small};
+use super::unmap::unmap_by;
+use super::{WORDS, check_left, check_words, image, page, pool_of, small};
 use crate::assertions::{assert_equal, unwrap};
 use bitflags::Flags;
 use std::process::Abort;
@@ -152,6 +152,9 @@ fn layers_unmap_pages(rt: HostRuntime) {
 /// makes unused.
 const LOANS: u64 = 15;
 
+/// The frames that are free before these calls and after them.
+const FREE: [u64; 3] = [0x2000, 0x3000, 0x4000];
+
 /// Answers calls by a layer, and gives how many tables were lent to be changed.
 fn run_counted(
     rt: impl Abort + Copy,
@@ -179,10 +182,7 @@ fn layers_run_lists(rt: HostRuntime) {
         page(0x1000),
         PageTableFlags::from_bits_retain(3),
     );
-    let mut pool = unwrap(rt, FramePool::new(alloc, 8));
-    for frame in [0x2000, 0x3000, 0x4000] {
-        unwrap(rt, pool.try_add(small(frame)));
-    }
+    let mut pool = pool_of(rt, alloc, &FREE);
     let calls = [
         Call::Of4KiB(SizeCall::MapTo {
             page,
@@ -200,5 +200,5 @@ fn layers_run_lists(rt: HostRuntime) {
     let count = run_counted(rt, &mut memory, root, &mut pool, &calls, &mut replies);
     assert_equal(rt, count, LOANS);
     assert_equal(rt, replies.len(), calls.len());
-    check_words(rt, &memory, &[])
+    check_left(rt, &memory, &pool, (&FREE, &[]))
 }
