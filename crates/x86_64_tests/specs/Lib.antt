@@ -1,2 +1,3 @@
--- What tests begin with.
+-- What tests begin with, and what they count.
+pub mod Counts
 pub mod Pairs

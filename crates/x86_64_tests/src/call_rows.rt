@@ -1,10 +1,12 @@
-//! Calls in numbers, so that tables of them are constants.
+//! Calls in numbers, so that tables of them are constants, as calls of a list with any number of levels.
 use crate::images::{flags_of, frame_at, page_at};
-use x86_64::structures::paging::{Page, PageSize};
-use x86_64::{Call, SizeCall, VirtAddr};
+use x86_64::addr::VirtAddrIn;
+use x86_64::structures::paging::PageSize;
+use x86_64::structures::paging::page::PageIn;
+use x86_64::{CallIn, LevelCount, LevelFiveFlags, SizeCallIn};
 
-/// A call on a page: the page or the frame, then the frame where a page comes first, the flags and the parent
-/// flags.
+/// A call on a page: the level of the entry whose flags are set, where they are, the page or the frame, then the frame where
+/// a page comes first, the flags and the parent flags.
 #[derive(Clone, Copy)]
 pub enum PageCallRow {
     MapTo(u64, u64, u64),
@@ -12,9 +14,7 @@ pub enum PageCallRow {
     IdentityMap(u64, u64),
     Unmap(u64),
     UpdateFlags(u64, u64),
-    SetFlagsP4(u64, u64),
-    SetFlagsP3(u64, u64),
-    SetFlagsP2(u64, u64),
+    SetFlags(u8, u64, u64),
     TranslatePage(u64),
 }
 
@@ -31,62 +31,71 @@ pub enum CallRow {
     CleanUpRange(u64, u64),
 }
 
-/// Makes the call for `run`.
-pub fn call_of(call_row: CallRow) -> Call {
-    match call_row {
-        CallRow::Small(call_row) => Call::Of4KiB(size_call(call_row)),
-        CallRow::Large(call_row) => Call::Of2MiB(size_call(call_row)),
-        CallRow::Giant(call_row) => Call::Of1GiB(size_call(call_row)),
-        CallRow::Translate(addr) => Call::Translate(VirtAddr::new_truncate(addr)),
-        CallRow::TranslateAddr(addr) => Call::TranslateAddr(VirtAddr::new_truncate(addr)),
-        CallRow::CleanUp => Call::CleanUp,
+/// Makes the call of a list, if there is such a call with so many levels.
+pub fn call_of<L: LevelCount, P5: LevelFiveFlags<L>>(call_row: CallRow) -> Option<CallIn<L, P5>> {
+    Some(match call_row {
+        CallRow::Small(call_row) => CallIn::Of4KiB(size_call(call_row)?),
+        CallRow::Large(call_row) => CallIn::Of2MiB(size_call(call_row)?),
+        CallRow::Giant(call_row) => CallIn::Of1GiB(size_call(call_row)?),
+        CallRow::Translate(addr) => CallIn::Translate(VirtAddrIn::new_truncate(addr)),
+        CallRow::TranslateAddr(addr) => CallIn::TranslateAddr(VirtAddrIn::new_truncate(addr)),
+        CallRow::CleanUp => CallIn::CleanUp,
         CallRow::CleanUpRange(first, last) => {
-            Call::CleanUpRange(Page::range_inclusive(page_at(first), page_at(last)))
+            CallIn::CleanUpRange(PageIn::range_inclusive(page_at(first), page_at(last)))
         }
-    }
+    })
 }
 
 /// Makes the call on a page of a size.
-fn size_call<S: PageSize>(call_row: PageCallRow) -> SizeCall<S> {
-    match call_row {
-        PageCallRow::MapTo(page, frame, flags) => SizeCall::MapTo {
+fn size_call<S: PageSize, L: LevelCount, P5: LevelFiveFlags<L>>(
+    call_row: PageCallRow,
+) -> Option<SizeCallIn<S, L, P5>> {
+    Some(match call_row {
+        PageCallRow::MapTo(page, frame, flags) => SizeCallIn::MapTo {
             page: page_at(page),
             frame: frame_at(frame),
             flags: flags_of(flags),
         },
         PageCallRow::MapToWithTableFlags(page, frame, flags, parent_flags) => {
-            SizeCall::MapToWithTableFlags {
+            SizeCallIn::MapToWithTableFlags {
                 page: page_at(page),
                 frame: frame_at(frame),
                 flags: flags_of(flags),
                 parent_flags: flags_of(parent_flags),
             }
         }
-        PageCallRow::IdentityMap(frame, flags) => SizeCall::IdentityMap {
+        PageCallRow::IdentityMap(frame, flags) => SizeCallIn::IdentityMap {
             frame: frame_at(frame),
             flags: flags_of(flags),
         },
-        PageCallRow::Unmap(page) => SizeCall::Unmap {
+        PageCallRow::Unmap(page) => SizeCallIn::Unmap {
             page: page_at(page),
         },
-        PageCallRow::UpdateFlags(page, flags) => SizeCall::UpdateFlags {
-            page: page_at(page),
-            flags: flags_of(flags),
-        },
-        PageCallRow::SetFlagsP4(page, flags) => SizeCall::SetFlagsP4 {
+        PageCallRow::UpdateFlags(page, flags) => SizeCallIn::UpdateFlags {
             page: page_at(page),
             flags: flags_of(flags),
         },
-        PageCallRow::SetFlagsP3(page, flags) => SizeCall::SetFlagsP3 {
-            page: page_at(page),
-            flags: flags_of(flags),
-        },
-        PageCallRow::SetFlagsP2(page, flags) => SizeCall::SetFlagsP2 {
-            page: page_at(page),
-            flags: flags_of(flags),
-        },
-        PageCallRow::TranslatePage(page) => SizeCall::TranslatePage {
+        PageCallRow::SetFlags(level, page, flags) => set_flags_call(level, page_at(page), flags)?,
+        PageCallRow::TranslatePage(page) => SizeCallIn::TranslatePage {
             page: page_at(page),
         },
-    }
+    })
+}
+
+/// Makes the call that sets the flags of the entry of a level on a page's path.
+fn set_flags_call<S: PageSize, L: LevelCount, P5: LevelFiveFlags<L>>(
+    level: u8,
+    page: PageIn<S, L>,
+    bits: u64,
+) -> Option<SizeCallIn<S, L, P5>> {
+    let flags = flags_of(bits);
+    Some(match level {
+        5 => SizeCallIn::SetFlagsP5 {
+            page,
+            flags: P5::from_page_table_flags(flags)?,
+        },
+        4 => SizeCallIn::SetFlagsP4 { page, flags },
+        3 => SizeCallIn::SetFlagsP3 { page, flags },
+        _ => SizeCallIn::SetFlagsP2 { page, flags },
+    })
 }

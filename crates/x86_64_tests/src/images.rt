@@ -1,5 +1,5 @@
 //! Memories and pools that tests begin with, runs on them, and what they hold then.
-ghost use Rattle.std.specs.Prelude.{◌≡◌};
+ghost use Rattle.std.specs.Prelude.{◌↔◌, IsTrue, IfOk};
 ghost use Rattle.x86_64_model.specs.Pool.{serves_below};
 ghost use Rattle.x86_64_model.specs.Memory.{identity_places};
 ghost use Rattle.x86_64_mappers.specs.Layouts.{direct, direct_at};
@@ -7,21 +7,26 @@ ghost use Rattle.x86_64_mappers.specs.Offsets.{offset_places, OffsetFits};
 ghost use Rattle.x86_64_mappers.specs.Recursive.{recursive_now_at};
 ghost use Rattle.x86_64.specs.Runs.{FitsPool};
 
+pub use self::{page_at as page_57_at, run_on as run_57_on};
 use crate::assertions::{unwrap, unwrap_some};
 use bitflags::Flags;
 use std::alloc::{AllocError, Global};
 use std::process::Abort;
+use x86_64::addr::VirtAddrIn;
 use x86_64::structures::paging::mapper::PageTableFrameMapping;
+use x86_64::structures::paging::page::PageIn;
 use x86_64::structures::paging::{
-    MappedPageTable, MappedPageTable57, OffsetPageTable, Page, Page57, PageSize, PageTableFlags,
-    PageTableIndex, PhysFrame, RecursivePageTable, RecursivePageTable57, Size4KiB,
+    MappedPageTable, OffsetPageTable, PageSize, PageTableFlags, PageTableIndex, PhysFrame, Size4KiB,
 };
 use x86_64::{
-    ActiveMemory, ActiveMemory57, Call, Call57, FlushRecorder, FramePlace, FramePool,
-    IdentityMapping, PhysAddr, PhysMemory, Reply, Reply57, VirtAddr, VirtAddr57, run, run_57,
-    run_flushed,
+    Call, CallIn, FlushRecorder, FramePlace, FramePool, IdentityMapping, LevelCount,
+    LevelFiveFlags, PhysAddr, PhysMemory, Reply, ReplyIn, VirtAddr, pool_fits, pool_fits_57,
+    pool_fits_recursive, pool_fits_recursive_57, run, run_flushed,
 };
 use x86_64_mappers::laws::offset_has_the_tables_of_the_identity;
+use x86_64_mappers::mapped_page_table::MappedPageTableIn;
+use x86_64_mappers::recursive_page_table::RecursivePageTableIn;
+use x86_64_tables::phys_memory::Active;
 
 /// The bits of a word that are flags.
 const FLAGS_MASK: u64 = 0xfff0_0000_0000_0fff;
@@ -37,14 +42,9 @@ pub fn frame_at<S: PageSize>(address: u64) -> PhysFrame<S> {
     PhysFrame::containing_address(PhysAddr::new_truncate(address))
 }
 
-/// Gives the page of a size that contains an address.
-pub fn page_at<S: PageSize>(address: u64) -> Page<S> {
-    Page::containing_address(VirtAddr::new_truncate(address))
-}
-
-/// The same with five levels of tables.
-pub fn page_57_at<S: PageSize>(address: u64) -> Page57<S> {
-    Page57::containing_address(VirtAddr57::new_truncate(address))
+/// Gives the page of a size that contains an address, with any number of levels.
+pub fn page_at<S: PageSize, L: LevelCount>(address: u64) -> PageIn<S, L> {
+    PageIn::containing_address(VirtAddrIn::new_truncate(address))
 }
 
 /// Gives the flags with these bits, which may have address bits among them.
@@ -83,36 +83,105 @@ pub fn pool_of(rt: impl Abort + Copy, alloc: Global, limit: u64, frames: &[u64])
     pool
 }
 
+/// Tests whether a hierarchy of so many levels is valid and a pool fits it.
+fn pool_fits_in<L: LevelCount>(
+    alloc: Global,
+    memory: &PhysMemory,
+    root: PhysFrame<Size4KiB>,
+    pool: &FramePool,
+) -> Result<bool, AllocError>
+    ensures { let layout = direct_at L.LEVELS identity_places root in
+        let serves = serves_below pool.now.limit in
+        IfOk result (λ fits. IsTrue fits ↔ FitsPool layout memory.now serves pool.now.frames) }
+{
+    if L::LEVELS == 4 {
+        pool_fits(alloc, memory, &IdentityMapping, root, pool)
+    } else {
+        pool_fits_57(alloc, memory, &IdentityMapping, root, pool)
+    }
+}
+
+/// The same for a recursive index.
+fn pool_fits_recursive_in<L: LevelCount>(
+    alloc: Global,
+    memory: &PhysMemory,
+    root: PhysFrame<Size4KiB>,
+    index: PageTableIndex,
+    pool: &FramePool,
+) -> Result<bool, AllocError>
+    ensures { let layout = recursive_now_at L.LEVELS memory.now root index in
+        let serves = serves_below pool.now.limit in
+        IfOk result (λ fits. IsTrue fits ↔ FitsPool layout memory.now serves pool.now.frames) }
+{
+    if L::LEVELS == 4 {
+        pool_fits_recursive(alloc, memory, root, index, pool)
+    } else {
+        pool_fits_recursive_57(alloc, memory, root, index, pool)
+    }
+}
+
+/// Tells whether a hierarchy of so many levels is valid and a pool fits it.
+pub fn fits<L: LevelCount>(
+    rt: impl Abort + Copy,
+    alloc: Global,
+    memory: &PhysMemory,
+    root: PhysFrame<Size4KiB>,
+    pool: &FramePool,
+) -> bool
+    ensures { let layout = direct_at L.LEVELS identity_places root in
+        IsTrue result → FitsPool layout memory.now (serves_below pool.now.limit) pool.now.frames }
+{
+    unwrap(rt, pool_fits_in::<L>(alloc, memory, root, pool))
+}
+
+/// Tells whether a hierarchy of so many levels is valid for a recursive index and a pool fits it.
+pub fn fits_recursive<L: LevelCount>(
+    rt: impl Abort + Copy,
+    alloc: Global,
+    memory: &PhysMemory,
+    root: PhysFrame<Size4KiB>,
+    index: PageTableIndex,
+    pool: &FramePool,
+) -> bool
+    ensures { let layout = recursive_now_at L.LEVELS memory.now root index in
+        IsTrue result → FitsPool layout memory.now (serves_below pool.now.limit) pool.now.frames }
+{
+    unwrap(
+        rt,
+        pool_fits_recursive_in::<L>(alloc, memory, root, index, pool),
+    )
+}
+
 /// Answers calls by a mapper over a frame mapping. The mapper is dropped then, and the owner of the memory
 /// and of the pool knows that they fit again.
-pub fn run_over<P: PageTableFrameMapping + Drop>(
+pub fn run_over<P: PageTableFrameMapping + Drop, L: LevelCount, P5: LevelFiveFlags<L>>(
     memory: &mut PhysMemory,
     root: PhysFrame<Size4KiB>,
     mapping: P,
     pool: &mut FramePool,
-    calls: &[Call],
-    replies: &mut Vec<Reply>,
+    calls: &[CallIn<L, P5>],
+    replies: &mut Vec<ReplyIn<L>>,
 ) -> Result<(), AllocError>
-    requires { let layout = direct (P.places mapping) root in
+    requires { let layout = direct_at L.LEVELS (P.places mapping) root in
         FitsPool layout memory.old (serves_below pool.old.limit) pool.old.frames }
-    ensures { let layout = direct (P.places mapping) root in
+    ensures { let layout = direct_at L.LEVELS (P.places mapping) root in
         FitsPool layout memory.new (serves_below pool.new.limit) pool.new.frames }
 {
-    let mut mapper = MappedPageTable::new(memory, root, mapping);
+    let mut mapper = MappedPageTableIn::<P, L>::new(memory, root, mapping);
     run(&mut mapper, pool, calls, replies)
 }
 
 /// Answers calls by a mapper over the identity mapping, as [`run_over`] does.
-pub fn run_on(
+pub fn run_on<L: LevelCount, P5: LevelFiveFlags<L>>(
     memory: &mut PhysMemory,
     root: PhysFrame<Size4KiB>,
     pool: &mut FramePool,
-    calls: &[Call],
-    replies: &mut Vec<Reply>,
+    calls: &[CallIn<L, P5>],
+    replies: &mut Vec<ReplyIn<L>>,
 ) -> Result<(), AllocError>
-    requires { let layout = direct identity_places root in
+    requires { let layout = direct_at L.LEVELS identity_places root in
         FitsPool layout memory.old (serves_below pool.old.limit) pool.old.frames }
-    ensures { let layout = direct identity_places root in
+    ensures { let layout = direct_at L.LEVELS identity_places root in
         FitsPool layout memory.new (serves_below pool.new.limit) pool.new.frames }
 {
     run_over(memory, root, IdentityMapping, pool, calls, replies)
@@ -140,59 +209,22 @@ pub fn run_at_offset(
 
 /// Answers calls by a mapper that reaches tables through the root's entry for itself, as [`run_over`] does. That
 /// entry stays.
-pub fn run_recursive_on(
+pub fn run_recursive_on<L: LevelCount, P5: LevelFiveFlags<L>>(
     memory: &mut PhysMemory,
     root: PhysFrame<Size4KiB>,
     index: PageTableIndex,
     pool: &mut FramePool,
-    calls: &[Call],
-    replies: &mut Vec<Reply>,
+    calls: &[CallIn<L, P5>],
+    replies: &mut Vec<ReplyIn<L>>,
 ) -> Result<(), AllocError>
-    requires { let layout = recursive_now_at 4 memory.old root index in
+    requires { let layout = recursive_now_at L.LEVELS memory.old root index in
         FitsPool layout memory.old (serves_below pool.old.limit) pool.old.frames }
-    ensures fits { let layout = recursive_now_at 4 memory.new root index in
+    ensures { let layout = recursive_now_at L.LEVELS memory.new root index in
         FitsPool layout memory.new (serves_below pool.new.limit) pool.new.frames }
-    ensures window { recursive_now_at 4 memory.new root index ≡ recursive_now_at 4 memory.old root index }
 {
-    let active = ActiveMemory::new(memory, root);
-    let mut mapper = RecursivePageTable::new_unchecked(active, index);
+    let active = Active::<L>::new(memory, root);
+    let mut mapper = RecursivePageTableIn::<L>::new_unchecked(active, index);
     run(&mut mapper, pool, calls, replies)
-}
-
-/// Answers calls by a mapper of five levels over the identity mapping, as [`run_over`] does.
-pub fn run_57_on(
-    memory: &mut PhysMemory,
-    root: PhysFrame<Size4KiB>,
-    pool: &mut FramePool,
-    calls: &[Call57],
-    replies: &mut Vec<Reply57>,
-) -> Result<(), AllocError>
-    requires { let layout = direct_at 5 identity_places root in
-        FitsPool layout memory.old (serves_below pool.old.limit) pool.old.frames }
-    ensures { let layout = direct_at 5 identity_places root in
-        FitsPool layout memory.new (serves_below pool.new.limit) pool.new.frames }
-{
-    let mut mapper = MappedPageTable57::new(memory, root, IdentityMapping);
-    run_57(&mut mapper, pool, calls, replies)
-}
-
-/// Answers calls by a mapper of five levels that reaches tables through the root's entry for itself, as [`run_over`] does.
-pub fn run_57_recursive_on(
-    memory: &mut PhysMemory,
-    root: PhysFrame<Size4KiB>,
-    index: PageTableIndex,
-    pool: &mut FramePool,
-    calls: &[Call57],
-    replies: &mut Vec<Reply57>,
-) -> Result<(), AllocError>
-    requires { let layout = recursive_now_at 5 memory.old root index in
-        FitsPool layout memory.old (serves_below pool.old.limit) pool.old.frames }
-    ensures { let layout = recursive_now_at 5 memory.new root index in
-        FitsPool layout memory.new (serves_below pool.new.limit) pool.new.frames }
-{
-    let active = ActiveMemory57::new(memory, root);
-    let mut mapper = RecursivePageTable57::new_unchecked(active, index);
-    run_57(&mut mapper, pool, calls, replies)
 }
 
 /// Answers calls by a mapper over the identity mapping, as [`run_on`] does, and records their flushes.

@@ -8,6 +8,8 @@ mod assertions;
 #[cfg(test)]
 mod call_rows;
 #[cfg(test)]
+mod counting;
+#[cfg(test)]
 mod images;
 #[cfg(test)]
 mod pairs;

@@ -1,25 +1,68 @@
 //! Two hierarchies that are alike, of which the second one has a recursive index, and lists of calls by both mappers at once.
 ghost use Rattle.std.specs.Prelude.{◌≡◌, false, IsTrue};
 ghost use Rattle.std.specs.List.{AllByRecursion};
-ghost use Rattle.x86_64_tables.specs.PageTableFlags.{bits_of};
-ghost use Rattle.x86_64.specs.Calls.{names, no_bits};
+ghost use Rattle.x86_64_model.specs.Alike.{Alike};
+ghost use Rattle.x86_64_model.specs.Layout.{paths};
+ghost use Rattle.x86_64_model.specs.Memory.{identity_places};
+ghost use Rattle.x86_64_mappers.specs.Layouts.{direct_at};
+ghost use Rattle.x86_64_mappers.specs.Recursive.{recursive_now_at};
+ghost use Rattle.x86_64.specs.Calls.{names};
 ghost use Rattle.x86_64_tests.specs.Pairs.{IsPair};
 
-use crate::assertions::unwrap;
+pub use self::{none_names as none_names_57, run_pair_on as run_pair_57_on};
+use crate::images::{fits, fits_recursive};
 use std::alloc::{AllocError, Global};
 use std::process::Abort;
-use x86_64::structures::paging::{
-    MappedPageTable, MappedPageTable57, PageTableIndex, PhysFrame, RecursivePageTable,
-    RecursivePageTable57, Size4KiB,
-};
+use x86_64::structures::paging::{PageTableIndex, PhysFrame, Size4KiB};
 use x86_64::{
-    ActiveMemory, ActiveMemory57, Call, Call57, FramePool, IdentityMapping, PhysMemory, Reply,
-    Reply57, pool_fits, pool_fits_57, pool_fits_recursive, pool_fits_recursive_57, run_pair,
-    run_pair_57, tables_alike, tables_alike_57,
+    CallIn, FiveLevels, FourLevels, FramePool, IdentityMapping, LevelCount, LevelFiveFlags,
+    PhysMemory, ReplyIn, run_pair, tables_alike, tables_alike_57,
 };
+use x86_64_mappers::mapped_page_table::MappedPageTableIn;
+use x86_64_mappers::recursive_page_table::RecursivePageTableIn;
+use x86_64_tables::phys_memory::Active;
 
-/// Tells whether two hierarchies are valid, the second one for a recursive index, their pools fit them, the path maps are
-/// alike, and the free frames the same.
+/// Tells whether the path maps of two hierarchies of so many levels are alike, of which the second one has a recursive index.
+fn are_alike<L: LevelCount>(
+    memory: &PhysMemory,
+    walked: &PhysMemory,
+    root: PhysFrame<Size4KiB>,
+    index: PageTableIndex,
+) -> bool
+    ensures { let direct_paths = paths (direct_at L.LEVELS identity_places root) memory.now in
+        let walked_paths = paths (recursive_now_at L.LEVELS walked.now root index) walked.now in
+        IsTrue result → Alike L.LEVELS direct_paths walked_paths }
+{
+    let (mapping, index) = (&IdentityMapping, Some(index));
+    if L::LEVELS == 4 {
+        tables_alike(memory, mapping, root, None, walked, mapping, root, index)
+    } else {
+        tables_alike_57(memory, mapping, root, None, walked, mapping, root, index)
+    }
+}
+
+/// Tells whether two hierarchies of so many levels are valid, the second one for a recursive index, their pools fit them, the path
+/// maps are alike, and the free frames the same.
+pub fn is_pair_in<L: LevelCount>(
+    rt: impl Abort + Copy,
+    alloc: Global,
+    root: PhysFrame<Size4KiB>,
+    index: PageTableIndex,
+    memory: &PhysMemory,
+    pool: &FramePool,
+    walked: &PhysMemory,
+    walked_pool: &FramePool,
+) -> bool
+    ensures { IsTrue result → IsPair L.LEVELS root index memory.now pool.now walked.now walked_pool.now }
+{
+    let fits = fits::<L>(rt, alloc, memory, root, pool);
+    let walked_fits = fits_recursive::<L>(rt, alloc, walked, root, index, walked_pool);
+    let alike = are_alike::<L>(memory, walked, root, index);
+    let same_free = *pool == *walked_pool;
+    fits & walked_fits & alike & same_free
+}
+
+/// Tells what [`is_pair_in`] tells, of hierarchies of four levels.
 pub fn is_pair(
     rt: impl Abort + Copy,
     alloc: Global,
@@ -32,56 +75,10 @@ pub fn is_pair(
 ) -> bool
     ensures { IsTrue result → IsPair 4 root index memory.now pool.now walked.now walked_pool.now }
 {
-    let identity = &IdentityMapping;
-    let fits = unwrap(rt, pool_fits(alloc, memory, identity, root, pool));
-    let walked_fits = unwrap(
-        rt,
-        pool_fits_recursive(alloc, walked, root, index, walked_pool),
-    );
-    let alike = tables_alike(
-        memory,
-        identity,
-        root,
-        None,
-        walked,
-        identity,
-        root,
-        Some(index),
-    );
-    let same_free = *pool == *walked_pool;
-    fits & walked_fits & alike & same_free
+    is_pair_in::<FourLevels>(rt, alloc, root, index, memory, pool, walked, walked_pool)
 }
 
-/// Tells whether no call names an index of level four.
-pub fn none_names(calls: &[Call], index: PageTableIndex) -> bool
-    ensures { IsTrue result → AllByRecursion (λ call. names 4 no_bits call index ≡ false) calls.now }
-{
-    calls.iter().all(|call| !call.names(index))
-}
-
-/// Answers calls that don't name the recursive index by the mapper over the identity mapping and by the recursive one. Both
-/// mappers are dropped then, and the owner of the memories knows that they are a pair again.
-pub fn run_pair_on(
-    alloc: Global,
-    root: PhysFrame<Size4KiB>,
-    index: PageTableIndex,
-    memory: &mut PhysMemory,
-    pool: &mut FramePool,
-    walked: &mut PhysMemory,
-    walked_pool: &mut FramePool,
-    calls: &[Call],
-) -> Result<Vec<Reply>, AllocError>
-    requires pair { IsPair 4 root index memory.old pool.old walked.old walked_pool.old }
-    requires unnamed { AllByRecursion (λ call. names 4 no_bits call index ≡ false) calls.now }
-    ensures { IsPair 4 root index memory.new pool.new walked.new walked_pool.new }
-{
-    let mut direct = MappedPageTable::new(memory, root, IdentityMapping);
-    let active = ActiveMemory::new(walked, root);
-    let mut recursive = RecursivePageTable::new_unchecked(active, index);
-    run_pair(alloc, &mut direct, pool, &mut recursive, walked_pool, calls)
-}
-
-/// Tells what [`is_pair`] tells, of two hierarchies of five levels.
+/// Tells what [`is_pair_in`] tells, of hierarchies of five levels.
 pub fn is_pair_57(
     rt: impl Abort + Copy,
     alloc: Global,
@@ -94,35 +91,23 @@ pub fn is_pair_57(
 ) -> bool
     ensures { IsTrue result → IsPair 5 root index memory.now pool.now walked.now walked_pool.now }
 {
-    let identity = &IdentityMapping;
-    let fits = unwrap(rt, pool_fits_57(alloc, memory, identity, root, pool));
-    let walked_fits = unwrap(
-        rt,
-        pool_fits_recursive_57(alloc, walked, root, index, walked_pool),
-    );
-    let alike = tables_alike_57(
-        memory,
-        identity,
-        root,
-        None,
-        walked,
-        identity,
-        root,
-        Some(index),
-    );
-    let same_free = *pool == *walked_pool;
-    fits & walked_fits & alike & same_free
+    is_pair_in::<FiveLevels>(rt, alloc, root, index, memory, pool, walked, walked_pool)
 }
 
-/// Tells whether no call names an index of level five.
-pub fn none_names_57(calls: &[Call57], index: PageTableIndex) -> bool
-    ensures { IsTrue result → AllByRecursion (λ call. names 5 bits_of call index ≡ false) calls.now }
+/// Tells whether no call names an index of the highest level.
+pub fn none_names<L: LevelCount, P5: LevelFiveFlags<L>>(
+    calls: &[CallIn<L, P5>],
+    index: PageTableIndex,
+) -> bool
+    ensures { IsTrue result
+        → AllByRecursion (λ call. names L.LEVELS P5.bits call index ≡ false) calls.now }
 {
     calls.iter().all(|call| !call.names(index))
 }
 
-/// Answers calls of five levels as [`run_pair_on`] does those of four.
-pub fn run_pair_57_on(
+/// Answers calls that don't name the recursive index by the mapper over the identity mapping and by the recursive one. Both
+/// mappers are dropped then, and the owner of the memories knows that they are a pair again.
+pub fn run_pair_on<L: LevelCount, P5: LevelFiveFlags<L>>(
     alloc: Global,
     root: PhysFrame<Size4KiB>,
     index: PageTableIndex,
@@ -130,14 +115,14 @@ pub fn run_pair_57_on(
     pool: &mut FramePool,
     walked: &mut PhysMemory,
     walked_pool: &mut FramePool,
-    calls: &[Call57],
-) -> Result<Vec<Reply57>, AllocError>
-    requires pair { IsPair 5 root index memory.old pool.old walked.old walked_pool.old }
-    requires unnamed { AllByRecursion (λ call. names 5 bits_of call index ≡ false) calls.now }
-    ensures { IsPair 5 root index memory.new pool.new walked.new walked_pool.new }
+    calls: &[CallIn<L, P5>],
+) -> Result<Vec<ReplyIn<L>>, AllocError>
+    requires pair { IsPair L.LEVELS root index memory.old pool.old walked.old walked_pool.old }
+    requires unnamed { AllByRecursion (λ call. names L.LEVELS P5.bits call index ≡ false) calls.now }
+    ensures { IsPair L.LEVELS root index memory.new pool.new walked.new walked_pool.new }
 {
-    let mut direct = MappedPageTable57::new(memory, root, IdentityMapping);
-    let active = ActiveMemory57::new(walked, root);
-    let mut recursive = RecursivePageTable57::new_unchecked(active, index);
-    run_pair_57(alloc, &mut direct, pool, &mut recursive, walked_pool, calls)
+    let mut direct = MappedPageTableIn::<IdentityMapping, L>::new(memory, root, IdentityMapping);
+    let active = Active::<L>::new(walked, root);
+    let mut recursive = RecursivePageTableIn::<L>::new_unchecked(active, index);
+    run_pair(alloc, &mut direct, pool, &mut recursive, walked_pool, calls)
 }

@@ -1,12 +1,9 @@
 //! Runs of the program `pagetab`, over readers and writers in memory: its rows, line by line.
 mod bad_lines;
-mod clean_ups;
 mod endings;
 mod five_levels;
-mod flags;
 mod images;
 mod lines;
-mod maps;
 mod reads;
 mod recursive;
 
@@ -105,18 +102,12 @@ fn assert_run(
     assert_outcome(rt, &outcome, ending, written, &title);
 }
 
-/// Those but the recursive mapper's.
-const NOT_RECURSIVE: [(&str, &str); 3] = [
-    ("direct 8", ""),
-    ("offset 8 0xffff800000000000", ""),
-    ("pair 8 510", SELF_ENTRY),
-];
-
-/// Modes, an image, and commands on it, each beside its reply, which is the same in these modes.
+/// Modes, an image, and a script of commands on it. An arrow parts a command from its reply, which is the same in these modes; a
+/// line without one has no reply.
 pub type Session = (
     &'static [(&'static str, &'static str)],
     &'static str,
-    &'static [(&'static str, &'static str)],
+    &'static str,
 );
 
 /// The words of four tables, which map the page 0x1000 of 4KiB to the frame 0x5000.
@@ -129,34 +120,30 @@ const LARGE: &str = "word 0x1000 0 0x2001\nword 0x2000 0 0x3001\nword 0x3000 1 0
 /// Two words of the root that name one table.
 const INVALID: &str = "word 0x1000 0 0x2003\nword 0x1000 1 0x2003\n";
 
-/// Three free frames, below an empty root.
-const POOL: &str = "free 0x2000\nfree 0x3000\nfree 0x4000\n";
-
 /// Adds a line to a text.
 pub fn push_line(rt: impl Abort + Copy, text: &mut String, line: &str) {
     unwrap(rt, text.push_str(line));
     unwrap(rt, text.push('\n'))
 }
 
-/// Asserts the replies to commands on an image, each beside its command. They are the same however tables are
-/// found.
-fn assert_replies(rt: impl Abort + Copy, alloc: Global, image: &str, exchanges: &[(&str, &str)]) {
-    assert_replies_in(rt, alloc, &MODES, image, exchanges)
-}
-
-/// Asserts the replies to commands on an image, each beside its command, in some of the modes.
-fn assert_replies_in(
+/// Asserts the replies to the commands of a script on an image, in some of the modes.
+fn assert_replies(
     rt: impl Abort + Copy,
     alloc: Global,
     modes: &[(&str, &str)],
     image: &str,
-    exchanges: &[(&str, &str)],
+    script: &str,
 ) {
     let mut lines = String::new(alloc);
     let mut replies = String::new(alloc);
-    for (line, reply) in exchanges {
-        push_line(rt, &mut lines, line);
-        push_line(rt, &mut replies, reply);
+    for exchange in script.lines() {
+        match exchange.split_once(" -> ") {
+            Some((line, reply)) => {
+                push_line(rt, &mut lines, line);
+                push_line(rt, &mut replies, reply);
+            }
+            None => push_line(rt, &mut lines, exchange),
+        }
     }
     for (arguments, first) in modes {
         let whole = unwrap(rt, format!(in alloc; "{first}{image}"));
@@ -167,28 +154,7 @@ fn assert_replies_in(
 
 /// Asserts the replies to the commands of each of some sessions.
 fn assert_sessions(rt: impl Abort + Copy, alloc: Global, sessions: &[Session]) {
-    for (modes, image, exchanges) in sessions {
-        assert_replies_in(rt, alloc, modes, image, exchanges);
-    }
-}
-
-#[test]
-fn commands_are_answered(rt: HostRuntime) {
-    let tables: [&[Session]; 12] = [
-        &reads::IMAGES,
-        &reads::LEVEL_3_WORDS,
-        &reads::FORMS,
-        &reads::FREE_FRAMES,
-        &maps::SESSIONS,
-        &flags::SESSIONS,
-        &clean_ups::SESSIONS,
-        &recursive::NEW_TABLES,
-        &recursive::WINDOWS,
-        &recursive::PAIRS,
-        &recursive::CORNERS,
-        &five_levels::SESSIONS,
-    ];
-    for sessions in tables {
-        assert_sessions(rt, rt.alloc(), sessions);
+    for (modes, image, script) in sessions {
+        assert_replies(rt, alloc, modes, image, script);
     }
 }

@@ -1,26 +1,19 @@
-//! Replies of the plain program as those of `run`.
-use crate::call_rows::{CallRow, PageCallRow, call_of};
+//! Replies of the plain program as those to a list with any number of levels.
+use crate::call_rows::{CallRow, PageCallRow};
 use crate::images::{flags_of, frame_at, page_at};
 use x86_64::structures::paging::mapper::{
-    FlagUpdateError, MapToError, MappedFrame, MapperFlush, TranslateError, TranslateResult,
-    UnmapError,
+    FlagUpdateError, MapToError, MappedFrame, TranslateError, TranslateResult, UnmapError,
 };
-use x86_64::structures::paging::{Page, PageSize, PhysFrame};
-use x86_64::{Call, PhysAddr, Reply, SizeReply};
+use x86_64::structures::paging::page::PageIn;
+use x86_64::structures::paging::{PageSize, PhysFrame};
+use x86_64::{LevelCount, MapperReply, PageReply, PhysAddr, ReplyIn, SizeReplyIn};
 use x86_64_plain::{Answer, PlainReply, Refusal, Translated};
 
-/// Spends a token, and gives its page.
-pub fn page_of<S: PageSize>(flush: MapperFlush<S>) -> Page<S> {
-    let page = flush.page();
-    flush.ignore();
-    page
-}
-
-/// Gives what the plain program's answer to a map of a page, of whichever type, is as an answer of a mapper.
-pub fn map_result<S: PageSize, P: Drop>(
-    page: P,
+/// Gives what the plain program's answer to a map of a page is as an answer of a mapper.
+fn map_result<S: PageSize, L: LevelCount>(
+    page: PageIn<S, L>,
     answer: Answer,
-) -> Option<Result<P, MapToError<S>>> {
+) -> Option<Result<PageIn<S, L>, MapToError<S>>> {
     match answer {
         Answer::Done(_) => Some(Ok(page)),
         Answer::Refused(Refusal::FrameAllocationFailed) => Some(Err(
@@ -35,10 +28,10 @@ pub fn map_result<S: PageSize, P: Drop>(
 }
 
 /// The same of an unmap.
-pub fn unmap_result<S: PageSize, P: Drop>(
-    page: P,
+fn unmap_result<S: PageSize, L: LevelCount>(
+    page: PageIn<S, L>,
     answer: Answer,
-) -> Option<Result<(PhysFrame<S>, P), UnmapError>> {
+) -> Option<Result<(PhysFrame<S>, PageIn<S, L>), UnmapError>> {
     match answer {
         Answer::Done(frame) => Some(Ok((frame_at(frame), page))),
         Answer::Refused(Refusal::PageNotMapped) => Some(Err(UnmapError::PageNotMapped)),
@@ -52,7 +45,7 @@ pub fn unmap_result<S: PageSize, P: Drop>(
 }
 
 /// The same of flags that were to be set.
-pub fn flags_result(answer: Answer) -> Option<Result<(), FlagUpdateError>> {
+fn flags_result(answer: Answer) -> Option<Result<(), FlagUpdateError>> {
     match answer {
         Answer::Done(_) => Some(Ok(())),
         Answer::Refused(Refusal::PageNotMapped) => Some(Err(FlagUpdateError::PageNotMapped)),
@@ -64,7 +57,7 @@ pub fn flags_result(answer: Answer) -> Option<Result<(), FlagUpdateError>> {
 }
 
 /// The same of the translation of a page.
-pub fn frame_result<S: PageSize>(answer: Answer) -> Option<Result<PhysFrame<S>, TranslateError>> {
+fn frame_result<S: PageSize>(answer: Answer) -> Option<Result<PhysFrame<S>, TranslateError>> {
     match answer {
         Answer::Done(frame) => Some(Ok(frame_at(frame))),
         Answer::Refused(Refusal::PageNotMapped) => Some(Err(TranslateError::PageNotMapped)),
@@ -80,7 +73,7 @@ pub fn frame_result<S: PageSize>(answer: Answer) -> Option<Result<PhysFrame<S>, 
 }
 
 /// The same of a translation.
-pub fn translate_result(translated: Translated) -> TranslateResult {
+fn translate_result(translated: Translated) -> TranslateResult {
     match translated {
         Translated::NotMapped => TranslateResult::NotMapped,
         Translated::Mapped {
@@ -105,59 +98,45 @@ pub fn translate_result(translated: Translated) -> TranslateResult {
 }
 
 /// The same of a call on a page.
-fn page_reply<S: PageSize>(call_row: PageCallRow, answer: Answer) -> Option<SizeReply<S>> {
+fn size_reply<S: PageSize, L: LevelCount>(
+    call_row: PageCallRow,
+    answer: Answer,
+) -> Option<SizeReplyIn<S, L>> {
     Some(match call_row {
         PageCallRow::MapTo(page, ..)
         | PageCallRow::MapToWithTableFlags(page, ..)
-        | PageCallRow::IdentityMap(page, _) => SizeReply::Map(map_result(page_at(page), answer)?),
-        PageCallRow::Unmap(page) => SizeReply::Unmap(unmap_result(page_at(page), answer)?),
+        | PageCallRow::IdentityMap(page, _) => PageReply::Map(map_result(page_at(page), answer)?),
+        PageCallRow::Unmap(page) => PageReply::Unmap(unmap_result(page_at(page), answer)?),
         PageCallRow::UpdateFlags(page, _) => {
-            SizeReply::Update(flags_result(answer)?.map(|()| page_at(page)))
+            PageReply::Update(flags_result(answer)?.map(|()| page_at(page)))
         }
-        PageCallRow::SetFlagsP4(..) | PageCallRow::SetFlagsP3(..) | PageCallRow::SetFlagsP2(..) => {
-            SizeReply::TableFlags(flags_result(answer)?)
-        }
-        PageCallRow::TranslatePage(_) => SizeReply::Frame(frame_result(answer)?),
+        PageCallRow::SetFlags(..) => PageReply::TableFlags(flags_result(answer)?),
+        PageCallRow::TranslatePage(_) => PageReply::Frame(frame_result(answer)?),
     })
 }
 
-/// A call for `run`, and the reply that is wanted to it.
-#[derive(Clone, Copy)]
-pub struct Wanted {
-    pub call: Call,
-    pub reply: Reply,
-}
-
-/// Gives a call for `run` that the plain program replies to so, and what that reply is, or `None` where it
-/// fits no such call.
-pub fn wanted_of(call_row: CallRow, plain: PlainReply) -> Option<Wanted> {
-    let reply = reply_to(call_row, plain)?;
-    Some(Wanted {
-        call: call_of(call_row),
-        reply,
-    })
-}
-
-/// Gives the reply of `run` to a call that the plain program replies to so, or `None` where it fits no such call.
-fn reply_to(call_row: CallRow, plain: PlainReply) -> Option<Reply> {
+/// Gives the reply of a list to a call that the plain program replies to so, or `None` where it fits no such call.
+pub fn reply_to<L: LevelCount>(call_row: CallRow, plain: PlainReply) -> Option<ReplyIn<L>> {
     match (plain, call_row) {
-        (PlainReply::NotAllowed, _) => Some(Reply::NotAllowed),
+        (PlainReply::NotAllowed, _) => Some(MapperReply::NotAllowed),
         (PlainReply::Answered(answer), CallRow::Small(call_row)) => {
-            Some(Reply::Of4KiB(page_reply(call_row, answer)?))
+            Some(MapperReply::Of4KiB(size_reply(call_row, answer)?))
         }
         (PlainReply::Answered(answer), CallRow::Large(call_row)) => {
-            Some(Reply::Of2MiB(page_reply(call_row, answer)?))
+            Some(MapperReply::Of2MiB(size_reply(call_row, answer)?))
         }
         (PlainReply::Answered(answer), CallRow::Giant(call_row)) => {
-            Some(Reply::Of1GiB(page_reply(call_row, answer)?))
+            Some(MapperReply::Of1GiB(size_reply(call_row, answer)?))
         }
         (PlainReply::Position(translated), CallRow::Translate(_)) => {
-            Some(Reply::Translate(translate_result(translated)))
+            Some(MapperReply::Translate(translate_result(translated)))
         }
         (PlainReply::Address(address), CallRow::TranslateAddr(_)) => {
-            Some(Reply::Address(address.map(PhysAddr::new_truncate)))
+            Some(MapperReply::Address(address.map(PhysAddr::new_truncate)))
         }
-        (PlainReply::Cleaned, CallRow::CleanUp | CallRow::CleanUpRange(..)) => Some(Reply::Cleaned),
+        (PlainReply::Cleaned, CallRow::CleanUp | CallRow::CleanUpRange(..)) => {
+            Some(MapperReply::Cleaned)
+        }
         _ => None,
     }
 }

@@ -1,13 +1,13 @@
-//! Calls on an empty root, as tables: the replies, and every word and free frame that they leave.
+//! Calls on an empty root, as tables: the replies, every word and free frame that they leave, and where walks arrive then.
 ghost use Rattle.x86_64_model.specs.Pool.{serves_below};
 ghost use Rattle.x86_64_mappers.specs.Layouts.{direct};
-ghost use Rattle.x86_64_mappers.specs.Recursive.{recursive_now_at};
 ghost use Rattle.x86_64.specs.Runs.{FitsPool};
 
 mod clean_ups;
 mod flags;
 mod flushes;
 mod hierarchies;
+mod layers;
 mod mappings;
 mod maps;
 mod names;
@@ -15,18 +15,18 @@ mod recursive;
 mod single;
 mod sparse;
 mod supplies;
-mod tokens;
 mod walks;
 
 use crate::assertions::{assert_equal_in, unwrap, unwrap_some};
-use crate::call_rows::CallRow;
 use crate::call_rows::CallRow::{Large, Small};
 use crate::call_rows::PageCallRow::MapTo;
+use crate::call_rows::{CallRow, call_of};
 use crate::images::{
-    ROOT, WORD_COUNT, fill, frame_at, pool_of, run_at_offset, run_on, run_over, run_recursive_on,
-    set_word, word_at,
+    ROOT, WORD_COUNT, fill, fits_recursive, frame_at, pool_of, run_at_offset, run_over,
+    run_recursive_on, set_word, word_at,
 };
-use crate::replies::wanted_of;
+use crate::replies::reply_to;
+use single::answer_singly;
 use std::alloc::Global;
 use std::process::Abort;
 use walks::{Walk, compare_walks};
@@ -35,13 +35,14 @@ use x86_64::structures::paging::{
     MappedPageTable, OffsetPageTable, PageTableIndex, PhysFrame, Size4KiB,
 };
 use x86_64::{
-    Call, FramePool, IdentityMapping, PhysMemory, Reply, VirtAddr, pool_fits, pool_fits_recursive,
+    Call, FlushRecorder, FourLevels, FramePool, IdentityMapping, PhysMemory, Reply, VirtAddr,
+    pool_fits,
 };
 use x86_64_plain::words::address;
 use x86_64_plain::{Answer, PlainReply};
 
-/// How many places the memory has.
-const PLACES: u32 = 8;
+/// The numbers of the places that the memory has.
+const PLACES: [u64; 8] = [0, 1, 2, 3, 4, 5, 6, 7];
 
 /// A call, and the reply to it.
 type Exchange = (CallRow, PlainReply);
@@ -49,6 +50,8 @@ type Exchange = (CallRow, PlainReply);
 /// Calls on an empty root, where the free frames are full of ones, and what comes of them.
 #[derive(Drop)]
 struct Row<'a> {
+    /// The numbers of the memory's places.
+    places: &'a [u64],
     /// The free frames at first.
     free: &'a [u64],
     /// The calls, each with its reply.
@@ -59,19 +62,23 @@ struct Row<'a> {
     full: &'a [u64],
     /// The free frames afterwards.
     left: &'a [u64],
+    /// Where walks arrive afterwards.
+    walks: &'a [Walk],
 }
 
-/// The mappers that answer the calls.
+/// What answers the calls.
 #[derive(Clone, Copy)]
 pub enum By {
-    /// The one over the identity mapping.
+    /// Lists of calls by the mapper over the identity mapping.
     Identity,
-    /// The one over a reference to the identity mapping.
+    /// By the one over a reference to the identity mapping.
     Reference,
-    /// The one of a memory at an offset.
+    /// By the one of a memory at an offset.
     Offset,
-    /// The one that reaches tables through the root's entry for itself at an index.
+    /// By the one that reaches tables through the root's entry for itself at an index.
     Recursive(u16),
+    /// The calls of the mapper over the identity mapping itself.
+    Itself,
 }
 
 impl By {
@@ -82,6 +89,7 @@ impl By {
             By::Reference => "a reference to it",
             By::Offset => "an offset",
             By::Recursive(_) => "windows",
+            By::Itself => "its own calls",
         }
     }
 }
@@ -92,11 +100,17 @@ const RECURSIVE_INDEX: u16 = 510;
 /// The recursive mapper of rows.
 const RECURSIVE: By = By::Recursive(RECURSIVE_INDEX);
 
-/// The other mappers.
-const DIRECT: [By; 3] = [By::Identity, By::Reference, By::Offset];
+/// The others.
+const DIRECT: [By; 4] = [By::Identity, By::Reference, By::Offset, By::Itself];
 
 /// All of them.
-const EACH: [By; 4] = [By::Identity, By::Reference, By::Offset, RECURSIVE];
+const EACH: [By; 5] = [
+    By::Identity,
+    By::Reference,
+    By::Offset,
+    By::Itself,
+    RECURSIVE,
+];
 
 /// The root's entry for itself.
 pub const SELF_ENTRY: u64 = 0x1003;
@@ -147,11 +161,13 @@ const FIRST_LARGE: Exchange = (
 
 /// A row of the first map, which takes all of three free frames.
 const MAPPED: Row<'static> = Row {
+    places: &PLACES,
     free: &FREE,
     calls: &[FIRST],
     words: &WORDS,
     full: &[],
     left: &[],
+    walks: &[],
 };
 
 /// A row of the first map of a 2MiB page, which leaves one of them.
@@ -199,35 +215,22 @@ pub fn compare_pool(rt: impl Abort + Copy, pool: &FramePool, frames: &[u64], tit
     }
 }
 
-/// Compares a word of a memory with one.
-pub fn compare_word(
+/// Compares every word of the table at a place, named by the frame of its number, with what a row wants.
+fn compare_table(
     rt: impl Abort + Copy,
     memory: &PhysMemory,
-    (frame, index, wanted): Word,
-    title: &str,
-) {
-    let word = word_at(rt, memory, frame, index);
-    assert_equal_in(rt, (title, index, frame), word, wanted);
-}
-
-/// Compares every word of a memory of so many places with what a row wants.
-fn compare_words(
-    rt: impl Abort + Copy,
-    memory: &PhysMemory,
-    places: u32,
+    frame: u64,
     row: &Row<'_>,
     title: &str,
 ) {
-    for place in 0..places {
-        let frame = u64::from(place) * 0x1000;
-        for index in 0..WORD_COUNT {
-            let wanted = wanted_word(row, frame, index);
-            compare_word(rt, memory, (frame, index, wanted), title);
-        }
+    for index in 0..WORD_COUNT {
+        let word = word_at(rt, memory, frame, index);
+        let wanted = wanted_word(row, frame, index);
+        assert_equal_in(rt, (title, index, frame), word, wanted);
     }
 }
 
-/// Compares every word of the memory and the free frames with what a row wants.
+/// Compares every word of the memory and the free frames with what a row wants, and where walks arrive.
 fn compare(
     rt: impl Abort + Copy,
     memory: &PhysMemory,
@@ -235,34 +238,37 @@ fn compare(
     row: &Row<'_>,
     title: &str,
 ) {
-    compare_words(rt, memory, PLACES, row, title);
+    for place in row.places {
+        compare_table(rt, memory, place.saturating_mul(0x1000), row, title);
+    }
     compare_pool(rt, pool, row.left, title);
+    compare_walks(rt, memory, row.walks, title)
 }
 
-/// Makes an empty root in a memory of so many places, and free frames that are full of ones.
-pub fn begin_in(
-    rt: impl Abort + Copy,
-    alloc: Global,
-    places: u64,
-    free: &[u64],
-) -> (PhysMemory, FramePool) {
-    let mut memory = unwrap(rt, PhysMemory::new(alloc, places));
-    for frame in free {
+/// Makes a memory of numbered places: of the first ones as one without gaps.
+fn memory_of(rt: impl Abort + Copy, alloc: Global, places: &[u64], limit: u64) -> PhysMemory {
+    if places.len() as u64 == limit {
+        return unwrap(rt, PhysMemory::new(alloc, limit));
+    }
+    unwrap_some(rt, PhysMemory::with_places(alloc, places).ok())
+}
+
+/// Makes an empty root in a row's memory, with its entry for itself where tables are reached through it, and a pool of the
+/// row's free frames, which are full of ones.
+fn begin(rt: impl Abort + Copy, alloc: Global, row: &Row<'_>, by: By) -> (PhysMemory, FramePool) {
+    let limit = row
+        .places
+        .last()
+        .copied()
+        .map_or(0, |last| last.saturating_add(1));
+    let mut memory = memory_of(rt, alloc, row.places, limit);
+    for frame in row.free {
         fill(rt, &mut memory, *frame);
     }
-    let pool = pool_of(rt, alloc, places, free);
-    (memory, pool)
-}
-
-/// Does so in a memory of as many places as rows have.
-fn begin(rt: impl Abort + Copy, alloc: Global, free: &[u64]) -> (PhysMemory, FramePool) {
-    begin_in(rt, alloc, u64::from(PLACES), free)
-}
-
-/// Does so, and puts in the root's entry for itself where the mapper reaches tables through it.
-fn begin_by(rt: impl Abort + Copy, alloc: Global, by: By, free: &[u64]) -> (PhysMemory, FramePool) {
-    let (mut memory, pool) = begin(rt, alloc, free);
-    put_self_entry(rt, &mut memory, by);
+    if let By::Recursive(index) = by {
+        set_word(rt, &mut memory, ROOT, index, SELF_ENTRY);
+    }
+    let pool = pool_of(rt, alloc, limit, row.free);
     (memory, pool)
 }
 
@@ -281,64 +287,30 @@ pub fn assert_fits<P: PageTableFrameMapping>(
     assert!(rt; unwrap(rt, pool_fits(alloc, memory, mapping, root, pool)));
 }
 
-/// Asserts that a hierarchy is valid for a recursive index and a pool fits it.
-pub fn assert_fits_recursive(
-    rt: impl Abort + Copy,
-    alloc: Global,
-    memory: &PhysMemory,
-    root: PhysFrame<Size4KiB>,
-    index: PageTableIndex,
-    pool: &FramePool,
-)
-    ensures { let layout = recursive_now_at 4 memory.now root index in
-        FitsPool layout memory.now (serves_below pool.now.limit) pool.now.frames }
-{
-    assert!(rt; unwrap(rt, pool_fits_recursive(alloc, memory, root, index, pool)));
+/// Gives the calls of exchanges.
+fn calls_of(rt: impl Abort + Copy, alloc: Global, exchanges: &[Exchange]) -> Vec<Call> {
+    let mut calls = Vec::new(alloc);
+    for (call, _) in exchanges {
+        unwrap(rt, calls.push(unwrap_some(rt, call_of(*call))));
+    }
+    calls
 }
 
-/// Puts the root's entry for itself into a root, where the mapper reaches tables through it.
-pub fn put_self_entry(rt: impl Abort + Copy, memory: &mut PhysMemory, by: By) {
-    match by {
-        By::Identity | By::Reference | By::Offset => (),
-        By::Recursive(index) => set_word(rt, memory, ROOT, index, SELF_ENTRY),
+/// Adds the replies of exchanges to others.
+fn add_replies(rt: impl Abort + Copy, exchanges: &[Exchange], replies: &mut Vec<Reply>) {
+    for (call, reply) in exchanges {
+        let wanted = unwrap_some(rt, reply_to::<FourLevels>(*call, *reply));
+        unwrap(rt, replies.push(wanted));
     }
 }
 
-/// Adds the calls of a row to a list, and the replies that it wants to another one.
-fn add_exchanges(
-    rt: impl Abort + Copy,
-    row: &Row<'_>,
-    calls: &mut Vec<Call>,
-    replies: &mut Vec<Reply>,
-) {
-    for (call_row, reply) in row.calls {
-        let wanted = unwrap_some(rt, wanted_of(*call_row, *reply));
-        unwrap(rt, calls.push(wanted.call));
-        unwrap(rt, replies.push(wanted.reply));
-    }
-}
-
-/// Answers the calls of rows by each of these mappers, and compares what comes of them.
-fn check_by(rt: impl Abort + Copy, alloc: Global, rows: &[Row<'_>], mappers: &[By]) {
+/// Answers the calls of rows by each of these, and compares what comes of them.
+fn check_rows(rt: impl Abort + Copy, alloc: Global, rows: &[Row<'_>], mappers: &[By]) {
     for (number, row) in rows.iter().enumerate() {
-        check_row(rt, alloc, number, row, &[], mappers);
-    }
-}
-
-/// Answers the calls of a row by each of these mappers, and compares what comes of them and where walks arrive.
-fn check_row(
-    rt: impl Abort + Copy,
-    alloc: Global,
-    number: usize,
-    row: &Row<'_>,
-    walks: &[Walk],
-    mappers: &[By],
-) {
-    for by in mappers {
-        let title = unwrap(rt, format!(in alloc; "row {number}, by {}", by.name()));
-        let (mut memory, pool) = answer_row(rt, alloc, row, *by, &title);
-        compare_walks(rt, &memory, walks, &title);
-        check_fits(rt, alloc, *by, (&mut memory, &pool), &title);
+        for by in mappers {
+            let title = unwrap(rt, format!(in alloc; "row {number}, by {}", by.name()));
+            answer_row(rt, alloc, row, *by, &title);
+        }
     }
 }
 
@@ -364,7 +336,7 @@ fn words_by(rt: impl Abort + Copy, alloc: Global, row: &Row<'_>, by: By) -> Vec<
     words
 }
 
-/// Compares every word of the memory and the free frames with what a row wants by a mapper.
+/// Compares what calls by a mapper left with what a row wants of it.
 fn compare_by(
     rt: impl Abort + Copy,
     alloc: Global,
@@ -381,8 +353,8 @@ fn compare_by(
     compare(rt, memory, pool, &left, title)
 }
 
-/// Answers calls by a mapper, where the image and the pool fit.
-pub fn answer(
+/// Answers a list of calls by the mapper over the identity mapping, by a reference to it or by an offset.
+fn answer_list(
     rt: impl Abort + Copy,
     alloc: Global,
     by: By,
@@ -391,63 +363,64 @@ pub fn answer(
     replies: &mut Vec<Reply>,
 ) {
     let root = frame_at(ROOT);
-    match by {
-        By::Identity => {
-            assert_fits(rt, alloc, memory, &IdentityMapping, root, pool);
-            unwrap(rt, run_on(memory, root, pool, calls, replies));
-        }
-        By::Reference => {
-            assert_fits(rt, alloc, memory, &IdentityMapping, root, pool);
-            unwrap(
-                rt,
-                run_over(memory, root, &IdentityMapping, pool, calls, replies),
-            );
-        }
+    assert_fits(rt, alloc, memory, &IdentityMapping, root, pool);
+    let answer = match by {
+        By::Reference => run_over(memory, root, &IdentityMapping, pool, calls, replies),
         By::Offset => {
             let offset = VirtAddr::new_truncate(OFFSET);
-            assert_fits(rt, alloc, memory, &IdentityMapping, root, pool);
             assert!(rt; OffsetPageTable::offset_fits(memory, offset));
-            unwrap(
-                rt,
-                run_at_offset(memory, root, offset, pool, calls, replies),
-            );
+            run_at_offset(memory, root, offset, pool, calls, replies)
         }
-        By::Recursive(index) => {
-            let index = PageTableIndex::new_truncate(index);
-            assert_fits_recursive(rt, alloc, memory, root, index, pool);
-            unwrap(
-                rt,
-                run_recursive_on(memory, root, index, pool, calls, replies),
-            );
+        _ => run_over(memory, root, IdentityMapping, pool, calls, replies),
+    };
+    unwrap(rt, answer)
+}
+
+/// Answers a list of calls through the root's entry for itself.
+fn answer_recursively(
+    rt: impl Abort + Copy,
+    alloc: Global,
+    index: u16,
+    (memory, pool): (&mut PhysMemory, &mut FramePool),
+    calls: &[Call],
+    replies: &mut Vec<Reply>,
+) {
+    let (root, index) = (frame_at(ROOT), PageTableIndex::new_truncate(index));
+    assert!(rt; fits_recursive::<FourLevels>(rt, alloc, memory, root, index, pool));
+    unwrap(
+        rt,
+        run_recursive_on(memory, root, index, pool, calls, replies),
+    )
+}
+
+/// Answers exchanges, where the image and the pool fit.
+fn answer(
+    rt: impl Abort + Copy,
+    alloc: Global,
+    by: By,
+    (memory, pool): (&mut PhysMemory, &mut FramePool),
+    exchanges: &[Exchange],
+    replies: &mut Vec<Reply>,
+) {
+    let calls = calls_of(rt, alloc, exchanges);
+    match by {
+        By::Itself => {
+            let mut recorder = FlushRecorder::new(alloc);
+            answer_singly(rt, alloc, (memory, pool), exchanges, replies, &mut recorder)
         }
+        By::Recursive(index) => answer_recursively(
+            rt,
+            alloc,
+            index,
+            (memory, pool),
+            &calls,
+            replies,
+        ),
+        _ => answer_list(rt, alloc, by, (memory, pool), &calls, replies),
     }
 }
 
-/// Answers a row's calls by the mapper of a root over a frame mapping, where the image and the pool fit, and
-/// compares the replies.
-fn answer_over<P: PageTableFrameMapping + Drop>(
-    rt: impl Abort + Copy,
-    alloc: Global,
-    row: &Row<'_>,
-    (root, mapping): (u64, P),
-    (memory, pool): (&mut PhysMemory, &mut FramePool),
-    title: &str,
-) {
-    let mut calls = Vec::new(alloc);
-    let mut wanted = Vec::new(alloc);
-    add_exchanges(rt, row, &mut calls, &mut wanted);
-    let mut replies = Vec::new(alloc);
-    let root = frame_at(root);
-    assert_fits(rt, alloc, memory, &mapping, root, pool);
-    unwrap(
-        rt,
-        run_over(memory, root, mapping, pool, &calls, &mut replies),
-    );
-    assert_equal_in(rt, title, replies, wanted);
-}
-
-/// Answers a row's calls by `run`, the first in a list of its own, after an earlier reply, and compares the
-/// replies.
+/// Answers a row's calls, the first in a list of its own, after an earlier reply, and compares the replies.
 fn answer_exchanges(
     rt: impl Abort + Copy,
     alloc: Global,
@@ -456,11 +429,8 @@ fn answer_exchanges(
     (memory, pool): (&mut PhysMemory, &mut FramePool),
     title: &str,
 ) {
-    let mut calls = Vec::new(alloc);
-    let mut wanted = unwrap(rt, vec![in alloc; Reply::Address(None)]);
-    add_exchanges(rt, row, &mut calls, &mut wanted);
     let mut replies = unwrap(rt, vec![in alloc; Reply::Address(None)]);
-    let (first, others) = calls.split_at(calls.len().min(1));
+    let (first, others) = row.calls.split_at(row.calls.len().min(1));
     for list in [first, others] {
         answer(
             rt,
@@ -471,6 +441,8 @@ fn answer_exchanges(
             &mut replies,
         );
     }
+    let mut wanted = unwrap(rt, vec![in alloc; Reply::Address(None)]);
+    add_replies(rt, row.calls, &mut wanted);
     assert_equal_in(rt, title, replies, wanted);
 }
 
@@ -482,9 +454,10 @@ fn answer_row(
     by: By,
     title: &str,
 ) -> (PhysMemory, FramePool) {
-    let (mut memory, mut pool) = begin_by(rt, alloc, by, row.free);
+    let (mut memory, mut pool) = begin(rt, alloc, row, by);
     answer_exchanges(rt, alloc, row, by, (&mut memory, &mut pool), title);
     compare_by(rt, alloc, by, (&memory, &pool), row, title);
+    check_fits(rt, alloc, by, (&mut memory, &pool), title);
     (memory, pool)
 }
 
@@ -499,32 +472,11 @@ fn check_fits(
     let root = frame_at(ROOT);
     if let By::Recursive(index) = by {
         let index = PageTableIndex::new_truncate(index);
-        assert!(rt;
-            unwrap(rt, pool_fits_recursive(alloc, memory, root, index, pool)),
-            "{title}"
-        );
+        let fits = fits_recursive::<FourLevels>(rt, alloc, memory, root, index, pool);
+        assert!(rt; fits, "{title}");
         return;
     }
-    assert!(rt;
-        unwrap(rt, pool_fits(alloc, memory, &IdentityMapping, root, pool)),
-        "{title}"
-    );
+    assert_fits(rt, alloc, memory, &IdentityMapping, root, pool);
     let mapper = MappedPageTable::new(memory, root, IdentityMapping);
     assert!(rt; unwrap(rt, mapper.is_valid(alloc)), "{title}");
-}
-
-/// Answers the calls of all rows of tables by each of these mappers.
-fn check_tables(rt: impl Abort + Copy, alloc: Global, tables: &[&[Row<'_>]], mappers: &[By]) {
-    for rows in tables {
-        check_by(rt, alloc, rows, mappers);
-    }
-}
-
-#[test]
-fn calls_leave_what_their_rows_say(rt: HostRuntime) {
-    check_tables(rt, rt.alloc(), &maps::TABLES, &EACH);
-    check_tables(rt, rt.alloc(), &flags::TABLES, &EACH);
-    check_tables(rt, rt.alloc(), &clean_ups::TABLES, &EACH);
-    check_tables(rt, rt.alloc(), &supplies::TABLES, &EACH);
-    check_tables(rt, rt.alloc(), &recursive::TABLES, &[RECURSIVE])
 }

@@ -17,8 +17,8 @@ pub struct Image {
     words: &'static [Word],
     /// The table whose words are full of ones, if there is one.
     full: Option<u64>,
-    /// Where the image is valid, the replies of the program to `translate 0` and `walk 0`.
-    pub replies: Option<(&'static str, &'static str)>,
+    /// Where the image is valid, commands that read it, each beside the reply of the program.
+    pub replies: Option<&'static str>,
 }
 
 impl Image {
@@ -46,16 +46,15 @@ pub const IMAGES: [Image; 16] = [
     Image {
         words: &[],
         full: None,
-        replies: Some(("not mapped", "none")),
+        replies: Some("translate 0 -> not mapped\nwalk 0 -> none"),
     },
     // The address of a 1GiB page has bits below its size.
     Image {
         words: &[(ROOT, 0, 0x2003), (0x2000, 0, 0x4000_1083)],
         full: None,
-        replies: Some((
-            "mapped 1GiB 0x40000000 0x0 0x83",
-            "0x40000000 write=1 user=0",
-        )),
+        replies: Some(
+            "translate 0 -> mapped 1GiB 0x40000000 0x0 0x83\nwalk 0 -> 0x40000000 write=1 user=0",
+        ),
     },
     // A 4KiB page is the table that maps it.
     Image {
@@ -66,15 +65,14 @@ pub const IMAGES: [Image; 16] = [
             (0x4000, 0, 0x4003),
         ],
         full: None,
-        replies: Some(("mapped 4KiB 0x4000 0x0 0x3", "0x4000 write=1 user=0")),
+        replies: Some("translate 0 -> mapped 4KiB 0x4000 0x0 0x3\nwalk 0 -> 0x4000 write=1 user=0"),
     },
     Image {
         words: &[(ROOT, 0, 0x2003)],
         full: Some(0x2000),
-        replies: Some((
-            "mapped 1GiB 0xfffffc0000000 0x0 0xfff0000000000fff",
-            "0xfffffc0000000 write=1 user=0",
-        )),
+        replies: Some(
+            "translate 0 -> mapped 1GiB 0xfffffc0000000 0x0 0xfff0000000000fff\nwalk 0 -> 0xfffffc0000000 write=1 user=0",
+        ),
     },
     // The root names itself, or is named further down.
     Image {

@@ -1,21 +1,28 @@
-//! Lists of calls of five levels that a fixed rule makes, answered by the plain slow program, and by the direct mapper and the
-//! recursive one: by both at once, or by each alone.
+//! Lists of calls that a fixed rule makes, answered by the plain slow program, and by the direct mapper and the recursive one: by both
+//! at once, or by each alone.
 //!
-//! After each list the replies, both memories and both pools are compared with the plain ones.
-use super::calls57::{call_of, reply_to};
-use super::chooser::{Choice, Chooser};
+//! After each list the replies, both memories and both pools are compared with the plain ones, and at the end each kind of outcome was
+//! met.
+use super::chooser::Chooser;
+use super::commands::command_of;
 use super::modes::{Levels, Mode, RECURSIVE_INDEX, Way};
+use super::outcomes::Met;
 use super::session::{PLACES, Session, slot_of};
-use super::{MOST_FREE, entries};
+use super::{MOST_FREE, ROUNDS, entries};
 use crate::assertions::{assert_equal_in, unwrap, unwrap_some};
-use crate::images::{ROOT, frame_at, pool_of, run_57_on, run_57_recursive_on, set_word, word_at};
-use crate::pairs::{is_pair_57, none_names_57, run_pair_57_on};
+use crate::call_rows::{CallRow, call_of};
+use crate::images::{
+    ROOT, fits, fits_recursive, frame_at, pool_of, run_on, run_recursive_on, set_word, word_at,
+};
+use crate::pairs::{is_pair_in, none_names, run_pair_on};
+use crate::replies::reply_to;
 use crate::rows::{Word, compare_pool};
 use std::alloc::Global;
 use std::process::Abort;
-use x86_64::structures::paging::PageTableIndex;
+use x86_64::structures::paging::{PageTableFlags, PageTableIndex};
 use x86_64::{
-    Call57, FramePool, IdentityMapping, PhysMemory, Reply57, pool_fits_57, pool_fits_recursive_57,
+    CallIn, FiveLevels, FourLevels, FramePool, LevelCount, LevelFiveFlags, NoLevelFive, PhysMemory,
+    ReplyIn,
 };
 
 /// How many lists are answered on one memory.
@@ -34,8 +41,8 @@ struct Twins {
 
 impl Twins {
     /// Makes them of the entries at first and so many free frames.
-    fn new(rt: impl Abort + Copy, alloc: Global, way: Way, words: &[Word], free: usize) -> Twins {
-        let plain = Session::new(rt, alloc, Mode::new(way, Levels::Five), words, free);
+    fn new(rt: impl Abort + Copy, alloc: Global, mode: Mode, words: &[Word], free: usize) -> Twins {
+        let plain = Session::new(rt, alloc, mode, words, free);
         let mut memory = unwrap(rt, PhysMemory::new(alloc, PLACES));
         for (n, word) in plain.words(rt, alloc, false).iter().enumerate() {
             let (frame, index) = slot_of(n);
@@ -60,7 +67,7 @@ impl Twins {
     }
 }
 
-/// Two hierarchies of five levels that are alike, of which the second one has a recursive index.
+/// Two hierarchies that are alike, of which the second one has a recursive index.
 #[derive(Drop)]
 struct Pair {
     direct: Twins,
@@ -69,28 +76,46 @@ struct Pair {
 
 impl Pair {
     /// Makes them of the entries at first and so many free frames.
-    fn new(rt: impl Abort + Copy, alloc: Global, words: &[Word], free: usize) -> Pair {
+    fn new(
+        rt: impl Abort + Copy,
+        alloc: Global,
+        levels: Levels,
+        words: &[Word],
+        free: usize,
+    ) -> Pair {
+        let (direct, recursive) = (
+            Mode::new(Way::Direct, levels),
+            Mode::new(Way::Recursive, levels),
+        );
         Pair {
-            direct: Twins::new(rt, alloc, Way::Direct, words, free),
-            recursive: Twins::new(rt, alloc, Way::Recursive, words, free),
+            direct: Twins::new(rt, alloc, direct, words, free),
+            recursive: Twins::new(rt, alloc, recursive, words, free),
         }
     }
 
     /// Answers a call by both plain machines, whose replies are the same, and gives the reply.
-    fn step(&mut self, rt: impl Abort + Copy, choice: &Choice, call: Call57) -> Reply57 {
-        let reply = self.direct.plain.step(rt, &choice.plain);
-        let same = self.recursive.plain.step(rt, &choice.plain);
-        assert_equal_in(rt, choice.line.as_str(), same, reply);
-        unwrap_some(rt, reply_to(call, reply))
-    }
-
-    /// Answers calls by both mappers at once.
-    fn answer_at_once(
+    fn step<L: LevelCount>(
         &mut self,
         rt: impl Abort + Copy,
         alloc: Global,
-        calls: &[Call57],
-    ) -> Vec<Reply57> {
+        call: CallRow,
+        met: &mut Met,
+    ) -> ReplyIn<L> {
+        let command = unwrap(rt, command_of(alloc, call));
+        let choice = (command.as_str(), call);
+        let answered = self.direct.plain.answer(rt, alloc, choice, met);
+        let same = self.recursive.plain.answer(rt, alloc, choice, met);
+        assert_equal_in(rt, command.as_str(), same, answered);
+        unwrap_some(rt, reply_to(call, answered.1))
+    }
+
+    /// Answers calls by both mappers at once.
+    fn answer_at_once<L: LevelCount, P5: LevelFiveFlags<L>>(
+        &mut self,
+        rt: impl Abort + Copy,
+        alloc: Global,
+        calls: &[CallIn<L, P5>],
+    ) -> Vec<ReplyIn<L>> {
         let (root, index) = (frame_at(ROOT), PageTableIndex::new(RECURSIVE_INDEX as u16));
         let Twins { memory, pool, .. } = &mut self.direct;
         let Twins {
@@ -98,45 +123,46 @@ impl Pair {
             pool: walked_pool,
             ..
         } = &mut self.recursive;
-        assert!(rt; is_pair_57(rt, alloc, root, index, memory, pool, walked, walked_pool));
-        assert!(rt; none_names_57(calls, index));
+        assert!(rt; is_pair_in::<L>(rt, alloc, root, index, memory, pool, walked, walked_pool));
+        assert!(rt; none_names(calls, index));
         unwrap(
             rt,
-            run_pair_57_on(alloc, root, index, memory, pool, walked, walked_pool, calls),
+            run_pair_on(alloc, root, index, memory, pool, walked, walked_pool, calls),
         )
     }
 
     /// Answers calls by each mapper alone, whose replies are the same.
-    fn answer_alone(
+    fn answer_alone<L: LevelCount, P5: LevelFiveFlags<L>>(
         &mut self,
         rt: impl Abort + Copy,
         alloc: Global,
-        calls: &[Call57],
-    ) -> Vec<Reply57> {
+        calls: &[CallIn<L, P5>],
+    ) -> Vec<ReplyIn<L>> {
         let mut replies = Vec::new(alloc);
         answer_directly(rt, alloc, &mut self.direct, calls, &mut replies);
         let mut same = Vec::new(alloc);
         answer_recursively(rt, alloc, &mut self.recursive, calls, &mut same);
-        assert_equal_in(rt, calls, same.as_slice(), replies.as_slice());
+        assert_equal_in(rt, "alone", same.as_slice(), replies.as_slice());
         replies
     }
 
     /// Answers a list of calls that don't name the recursive index, by both mappers at once or by each alone, and plainly, and
     /// compares the replies and the states.
-    fn answer(
+    fn answer<L: LevelCount, P5: LevelFiveFlags<L>>(
         &mut self,
         rt: impl Abort + Copy,
         alloc: Global,
         is_at_once: bool,
         chooser: &mut Chooser,
+        met: &mut Met,
     ) {
-        let mut calls = Vec::new(alloc);
+        let mut calls: Vec<CallIn<L, P5>> = Vec::new(alloc);
         let mut wanted = Vec::new(alloc);
         for _ in 0..CALLS {
-            let choice = chooser.choice(rt, alloc);
-            let call: Call57 = unwrap_some(rt, call_of(&choice.plain));
+            let choice = chooser.choice();
+            let call = unwrap_some(rt, call_of::<L, P5>(choice));
             if !call.names(PageTableIndex::new(RECURSIVE_INDEX as u16)) {
-                unwrap(rt, wanted.push(self.step(rt, &choice, call)));
+                unwrap(rt, wanted.push(self.step(rt, alloc, choice, met)));
                 unwrap(rt, calls.push(call));
             }
         }
@@ -145,57 +171,83 @@ impl Pair {
         } else {
             self.answer_alone(rt, alloc, &calls)
         };
-        assert_equal_in(rt, calls, replies, wanted);
+        assert_equal_in(rt, is_at_once, replies, wanted);
         self.direct.compare(rt, alloc);
         self.recursive.compare(rt, alloc)
     }
 }
 
 /// Answers calls by the direct mapper.
-fn answer_directly(
+fn answer_directly<L: LevelCount, P5: LevelFiveFlags<L>>(
     rt: impl Abort + Copy,
     alloc: Global,
     twins: &mut Twins,
-    calls: &[Call57],
-    replies: &mut Vec<Reply57>,
+    calls: &[CallIn<L, P5>],
+    replies: &mut Vec<ReplyIn<L>>,
 ) {
     let root = frame_at(ROOT);
     let Twins { memory, pool, .. } = twins;
-    assert!(rt;
-        unwrap(
-            rt,
-            pool_fits_57(alloc, memory, &IdentityMapping, root, pool)
-        )
-    );
-    unwrap(rt, run_57_on(memory, root, pool, calls, replies))
+    assert!(rt; fits::<L>(rt, alloc, memory, root, pool));
+    unwrap(rt, run_on(memory, root, pool, calls, replies))
 }
 
 /// Answers calls by the recursive mapper.
-fn answer_recursively(
+fn answer_recursively<L: LevelCount, P5: LevelFiveFlags<L>>(
     rt: impl Abort + Copy,
     alloc: Global,
     twins: &mut Twins,
-    calls: &[Call57],
-    replies: &mut Vec<Reply57>,
+    calls: &[CallIn<L, P5>],
+    replies: &mut Vec<ReplyIn<L>>,
 ) {
     let (root, index) = (frame_at(ROOT), PageTableIndex::new(RECURSIVE_INDEX as u16));
     let Twins { memory, pool, .. } = twins;
-    assert!(rt; unwrap(rt, pool_fits_recursive_57(alloc, memory, root, index, pool)));
+    assert!(rt; fits_recursive::<L>(rt, alloc, memory, root, index, pool));
     unwrap(
         rt,
-        run_57_recursive_on(memory, root, index, pool, calls, replies),
+        run_recursive_on(memory, root, index, pool, calls, replies),
     )
+}
+
+/// Answers lists on hierarchies with each number of free frames.
+fn check_round<L: LevelCount, P5: LevelFiveFlags<L>>(
+    rt: impl Abort + Copy,
+    alloc: Global,
+    chooser: &mut Chooser,
+    met: &mut Met,
+) {
+    let levels = chooser.levels();
+    let words = entries(rt, alloc, levels);
+    for free in 0..=MOST_FREE {
+        let mut pair = Pair::new(rt, alloc, levels, &words, free);
+        for list in 0..LISTS {
+            pair.answer::<L, P5>(rt, alloc, list % 2 == 0, chooser, met);
+        }
+    }
+}
+
+/// Does so until each kind of reply was met, and asserts that it was.
+fn check_lists<L: LevelCount, P5: LevelFiveFlags<L>>(
+    rt: impl Abort + Copy,
+    alloc: Global,
+    levels: Levels,
+) {
+    let mut chooser = Chooser::new(levels, 1);
+    let mut met = Met::new(alloc);
+    for _ in 0..ROUNDS {
+        check_round::<L, P5>(rt, alloc, &mut chooser, &mut met);
+        if met.missing(levels).is_none() {
+            return;
+        }
+    }
+    assert!(rt; false, "{:?}", met.missing(levels));
+}
+
+#[test]
+fn lists_agree_with_the_plain_program(rt: HostRuntime) {
+    check_lists::<FourLevels, NoLevelFive>(rt, rt.alloc(), Levels::Four)
 }
 
 #[test]
 fn lists_of_five_levels_agree_with_the_plain_program(rt: HostRuntime) {
-    let alloc = rt.alloc();
-    let mut chooser = Chooser::new(Levels::Five, 1);
-    let words = entries(rt, alloc, Levels::Five);
-    for free in 0..=MOST_FREE {
-        let mut pair = Pair::new(rt, alloc, &words, free);
-        for list in 0..LISTS {
-            pair.answer(rt, alloc, list % 2 == 0, &mut chooser);
-        }
-    }
+    check_lists::<FiveLevels, PageTableFlags>(rt, rt.alloc(), Levels::Five)
 }

@@ -31,6 +31,11 @@ impl Levels {
         }
     }
 
+    /// Gives the position of an address.
+    pub fn position_of(self, address: u64) -> u64 {
+        address & self.last_position()
+    }
+
     /// Gives the last position.
     pub fn last_position(self) -> u64 {
         match self {

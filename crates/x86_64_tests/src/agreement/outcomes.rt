@@ -1,4 +1,5 @@
 //! Replies of the plain program as the program writes them, and which ones a command can have.
+use super::modes::Levels;
 use crate::assertions::unwrap;
 use std::alloc::{AllocError, Global};
 use std::process::Abort;
@@ -73,12 +74,12 @@ pub fn text_of(alloc: Global, kind: &str, reply: PlainReply) -> Result<String, A
 }
 
 /// Commands, and kinds of replies that each of them can have.
-pub type Outcomes = (&'static [&'static str], &'static [&'static str]);
+type Outcomes = (&'static [&'static str], &'static [&'static str]);
 
-/// The commands of four levels, and all that they can have, but `not allowed` inside the window.
+/// The commands that there are with four levels too, and all that they can have, but `not allowed` inside the window.
 ///
 /// No entry above level three has `HUGE_PAGE`, so no page of 1GiB lies below one that has it.
-pub const OUTCOMES: [Outcomes; 11] = [
+const OUTCOMES: [Outcomes; 11] = [
     (
         &[
             "map 4KiB",
@@ -155,7 +156,7 @@ pub const OUTCOMES: [Outcomes; 11] = [
 ];
 
 /// The command of five levels alone, and all that it can have.
-pub const OUTCOMES_OF_LEVEL_5: [Outcomes; 1] = [(
+const OUTCOMES_OF_LEVEL_5: [Outcomes; 1] = [(
     &["p5 4KiB", "p5 2MiB", "p5 1GiB"],
     &["ok", "not allowed", "page not mapped"],
 )];
@@ -195,12 +196,34 @@ impl Met {
         unwrap(rt, self.outcomes.push(outcome));
     }
 
-    /// Asserts that each of some commands had a reply of each of some kinds.
-    pub fn assert_each(&self, rt: impl Abort + Copy, commands: &[&str], kinds: &[&str]) {
-        for command in commands {
-            for kind in kinds {
-                assert!(rt; self.has(command, kind), "{command}: {kind}");
+    /// Gives a command that there is with so many levels, and a kind of reply that it can have and did not have, if there is one.
+    pub fn missing(&self, levels: Levels) -> Option<(&'static str, &'static str)> {
+        let missing = self.missing_of(&OUTCOMES);
+        match levels {
+            Levels::Four => missing,
+            Levels::Five => missing.or(self.missing_of(&OUTCOMES_OF_LEVEL_5)),
+        }
+    }
+
+    /// The same of some commands.
+    fn missing_of(&self, outcomes: &[Outcomes]) -> Option<(&'static str, &'static str)> {
+        for (commands, kinds) in outcomes {
+            for command in *commands {
+                if let Some(kind) = self.missing_kind(command, kinds) {
+                    return Some((*command, kind));
+                }
             }
         }
+        None
+    }
+
+    /// Gives a kind of reply that a command did not have, of some.
+    fn missing_kind(&self, command: &str, kinds: &[&'static str]) -> Option<&'static str> {
+        for kind in kinds {
+            if !self.has(command, kind) {
+                return Some(*kind);
+            }
+        }
+        None
     }
 }

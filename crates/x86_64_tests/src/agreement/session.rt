@@ -1,8 +1,9 @@
 //! One hierarchy, answered plainly, and what the program is to read and to write of it.
-use super::chooser::Choice;
+use super::commands::{command_of, line_of, plain_of};
 use super::modes::{Levels, Mode, RECURSIVE_INDEX, Way};
 use super::outcomes::{Met, TABLES_GO_BACK, kind_of, text_of};
 use crate::assertions::{assert_equal_in, unwrap};
+use crate::call_rows::CallRow;
 use crate::images::ROOT;
 use crate::program::{push_line, words_of};
 use crate::rows::{SELF_ENTRY, Word};
@@ -136,7 +137,7 @@ impl Session {
     }
 
     /// Answers a call plainly.
-    pub fn step(&mut self, rt: impl Abort + Copy, call: &PlainCall) -> PlainReply {
+    fn step(&mut self, rt: impl Abort + Copy, call: &PlainCall) -> PlainReply {
         let index = named_index(self.mode.levels, call);
         let way = self.mode.way;
         if matches!(way, Way::Pair) && index == Some(RECURSIVE_INDEX) {
@@ -147,19 +148,30 @@ impl Session {
         reply
     }
 
-    /// Answers a call plainly, and adds its line and the reply. Keeps what comes of it.
-    pub fn answer(&mut self, rt: impl Abort + Copy, alloc: Global, choice: &Choice, met: &mut Met) {
+    /// Answers a call plainly, and gives the kind of the reply and the reply. Keeps what came of the command.
+    pub fn answer(
+        &mut self,
+        rt: impl Abort + Copy,
+        alloc: Global,
+        (command, call): (&str, CallRow),
+        met: &mut Met,
+    ) -> (&'static str, PlainReply) {
         let free = self.state.pool.len();
-        let reply = self.step(rt, &choice.plain);
-        let kind = kind_of(&choice.plain, reply);
+        let plain = unwrap(rt, plain_of(alloc, self.mode.levels, call));
+        let reply = self.step(rt, &plain);
+        let kind = kind_of(&plain, reply);
         let goes_back = free < self.state.pool.len();
-        met.add(
-            rt,
-            &choice.command,
-            if goes_back { TABLES_GO_BACK } else { kind },
-        );
+        met.add(rt, command, if goes_back { TABLES_GO_BACK } else { kind });
+        (kind, reply)
+    }
+
+    /// Answers a call plainly, and adds its line and the reply.
+    pub fn exchange(&mut self, rt: impl Abort + Copy, alloc: Global, call: CallRow, met: &mut Met) {
+        let command = unwrap(rt, command_of(alloc, call));
+        let (kind, reply) = self.answer(rt, alloc, (&command, call), met);
+        let line = line_of(rt, alloc, &command, call);
         let text = unwrap(rt, text_of(alloc, kind, reply));
-        self.ask(rt, &choice.line, &text)
+        self.ask(rt, &line, &text)
     }
 
     /// Runs the program on all lines, and compares what it writes.

@@ -38,12 +38,7 @@ fn images_are_valid_or_refused(rt: HostRuntime) {
     for image in &IMAGES {
         let lines = lines_of(rt, rt.alloc(), image);
         match image.replies {
-            Some((translation, arrival)) => assert_replies(
-                rt,
-                rt.alloc(),
-                &lines,
-                &[("translate 0", translation), ("walk 0", arrival)],
-            ),
+            Some(replies) => assert_replies(rt, rt.alloc(), &MODES, &lines, replies),
             None => assert_invalid_in_each(rt, rt.alloc(), &lines),
         }
     }

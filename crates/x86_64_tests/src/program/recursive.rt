@@ -1,5 +1,5 @@
-//! Commands by the recursive mapper, alone and beside the direct one, on the image of three free frames.
-use super::{POOL, SELF_ENTRY, Session};
+//! Commands by the recursive mapper, alone and beside the direct one.
+use super::{SELF_ENTRY, Session, assert_sessions};
 
 /// The mode of the recursive mapper.
 const RECURSIVE: [(&str, &str); 1] = [("recursive 8 510", SELF_ENTRY)];
@@ -7,140 +7,52 @@ const RECURSIVE: [(&str, &str); 1] = [("recursive 8 510", SELF_ENTRY)];
 /// The mode of both mappers.
 const PAIR: [(&str, &str); 1] = [("pair 8 510", SELF_ENTRY)];
 
-/// New tables are present and writable, whatever the parent flags are.
-pub const NEW_TABLES: [Session; 3] = [
-    (
-        &RECURSIVE,
-        POOL,
-        &[
-            ("map 4KiB 0x1000 0x5000 0x1", "ok"),
-            ("show 0x1000 0", "0x2003"),
-            ("show 0x2000 0", "0x3003"),
-            ("show 0x3000 0", "0x4003"),
-            ("show 0x4000 1", "0x5001"),
-            ("translate 0x1abc", "mapped 4KiB 0x5000 0xabc 0x1"),
-            ("walk 0x1abc", "0x5abc write=0 user=0"),
-            ("pool", "pool"),
-        ],
-    ),
-    (
-        &RECURSIVE,
-        POOL,
-        &[
-            ("map 2MiB 0x200000 0x400000 0x1", "ok"),
-            ("show 0x1000 0", "0x2003"),
-            ("show 0x2000 0", "0x3003"),
-            ("show 0x3000 1", "0x400081"),
-            ("pool", "pool 0x4000"),
-            (
-                "translate 0xffffff0000001000",
-                "mapped 4KiB 0x400000 0x0 0x81",
-            ),
-        ],
-    ),
-    (
-        &RECURSIVE,
-        POOL,
-        &[
-            ("map-with 4KiB 0xfffffffffffff000 0x5000 0x3 0x1", "ok"),
-            ("show 0x1000 511", "0x2003"),
-            ("show 0x2000 511", "0x3003"),
-            ("show 0x3000 511", "0x4003"),
-            ("show 0x4000 511", "0x5003"),
-            ("walk 0xffffffffffffffff", "0x5fff write=1 user=0"),
-            ("p4 4KiB 0xfffffffffffff000 0x1", "ok"),
-        ],
-    ),
-];
+/// Three free frames, below an empty root.
+const POOL: &str = "free 0x2000\nfree 0x3000\nfree 0x4000\n";
 
-/// Tables are read in the window, and the entry for the root itself stays.
-pub const WINDOWS: [Session; 2] = [
-    (
-        &RECURSIVE,
-        POOL,
-        &[
-            ("map 4KiB 0x1000 0x5000 0x1", "ok"),
-            ("translate 0xffffff0000000000", "mapped 4KiB 0x4000 0x0 0x3"),
-            ("translate 0xffffff7f80000000", "mapped 4KiB 0x3000 0x0 0x3"),
-            ("translate 0xffffff7fbfc00000", "mapped 4KiB 0x2000 0x0 0x3"),
-            ("translate 0xffffff7fbfdfe000", "mapped 4KiB 0x1000 0x0 0x3"),
-            ("translate 0xffffff0000001000", "not mapped"),
-            ("addr 0xffffff0000000008", "0x4008"),
-            ("walk 0xffffff0000000008", "0x4008 write=1 user=0"),
-            ("translate-page 4KiB 0xffffff0000000000", "0x4000"),
-            ("map 4KiB 0xffffff0000001000 0x6000 0x3", "not allowed"),
-            ("unmap 4KiB 0xffffff0000000000", "not allowed"),
-            ("p4 4KiB 0xffffff0000000000 0x1", "not allowed"),
-        ],
-    ),
-    (
-        &RECURSIVE,
-        POOL,
-        &[
-            ("map 4KiB 0x1000 0x5000 0x1", "ok"),
-            ("unmap 4KiB 0x1000", "0x5000"),
-            ("cleanup-range 0xffffff0000000000 0xffffff7ffffff000", "ok"),
-            ("pool", "pool"),
-            ("cleanup", "ok"),
-            ("pool", "pool 0x2000 0x3000 0x4000"),
-            ("show 0x1000 0", "0x0"),
-            ("show 0x1000 510", "0x1003"),
-            ("translate 0xffffff7fbfdfe000", "mapped 4KiB 0x1000 0x0 0x3"),
-        ],
-    ),
-];
+/// Tables are read in the window, where no page is changed.
+const WINDOWS: &str = "\
+map 4KiB 0x1000 0x5000 0x1 -> ok
+translate 0xffffff0000000000 -> mapped 4KiB 0x4000 0x0 0x3
+translate 0xffffff7f80000000 -> mapped 4KiB 0x3000 0x0 0x3
+translate 0xffffff7fbfc00000 -> mapped 4KiB 0x2000 0x0 0x3
+translate 0xffffff7fbfdfe000 -> mapped 4KiB 0x1000 0x0 0x3
+translate 0xffffff0000001000 -> not mapped
+addr 0xffffff0000000008 -> 0x4008
+walk 0xffffff0000000008 -> 0x4008 write=1 user=0
+translate-page 4KiB 0xffffff0000000000 -> 0x4000
+map 4KiB 0xffffff0000001000 0x6000 0x3 -> not allowed
+unmap 4KiB 0xffffff0000000000 -> not allowed
+p4 4KiB 0xffffff0000000000 0x1 -> not allowed
+";
 
-/// Calls that name the recursive index are not allowed, and the direct mapper's root has no word there.
-pub const PAIRS: [Session; 3] = [
-    (
-        &PAIR,
-        POOL,
-        &[
-            ("map 4KiB 0x1000 0x5000 0x1", "ok"),
-            ("translate 0x1abc", "mapped 4KiB 0x5000 0xabc 0x1"),
-            ("translate 0xffffff0000000000", "not allowed"),
-            ("show 0x1000 0", "0x2001"),
-            ("pool", "pool"),
-        ],
-    ),
-    (
-        &PAIR,
-        POOL,
-        &[
-            ("show 0x1000 510", "0x0"),
-            ("walk 0xffffff7fbfdfe000", "none"),
-            ("translate 0xffffff7fbfdfe000", "not allowed"),
-            ("addr 0xffffff7fbfdfe000", "not allowed"),
-            ("translate-page 4KiB 0xffffff7fbfdfe000", "not allowed"),
-            ("translate-page 1GiB 0xffffff0000000000", "not allowed"),
-            ("map 4KiB 0xffffff0000000000 0x5000 0x3", "not allowed"),
-            ("unmap 2MiB 0xffffff0000000000", "not allowed"),
-            ("update 4KiB 0xffffff0000000000 0x1", "not allowed"),
-            ("p4 4KiB 0xffffff0000000000 0x1", "not allowed"),
-            ("pool", "pool 0x2000 0x3000 0x4000"),
-            ("translate 0xffffff8000000000", "not mapped"),
-            ("translate 0xfffffeffffffffff", "not mapped"),
-            ("map 4KiB 0xffffff8000000000 0x5000 0x3", "ok"),
-            ("addr 0xffffff8000000abc", "0x5abc"),
-        ],
-    ),
-    (
-        &PAIR,
-        POOL,
-        &[
-            ("map 4KiB 0x1000 0x5000 0x1", "ok"),
-            ("unmap 4KiB 0x1000", "0x5000"),
-            ("cleanup-range 0xffffff0000000000 0xffffff7ffffff000", "ok"),
-            ("pool", "pool"),
-            ("cleanup", "ok"),
-            ("pool", "pool 0x2000 0x3000 0x4000"),
-            ("show 0x1000 0", "0x0"),
-            ("show 0x1000 510", "0x0"),
-            ("map 4KiB 0x1000 0x6000 0x3", "ok"),
-            ("translate 0x1abc", "mapped 4KiB 0x6000 0xabc 0x3"),
-        ],
-    ),
-];
+/// New tables have the flags of the direct mapper, and a call that names the recursive index is not allowed.
+const NEW_TABLES_OF_A_PAIR: &str = "\
+map 4KiB 0x1000 0x5000 0x1 -> ok
+translate 0x1abc -> mapped 4KiB 0x5000 0xabc 0x1
+translate 0xffffff0000000000 -> not allowed
+show 0x1000 0 -> 0x2001
+pool -> pool
+";
+
+/// Nor is one that only reads. The direct mapper's root has no word there.
+const INDEX_OF_A_PAIR: &str = "\
+show 0x1000 510 -> 0x0
+walk 0xffffff7fbfdfe000 -> none
+translate 0xffffff7fbfdfe000 -> not allowed
+addr 0xffffff7fbfdfe000 -> not allowed
+translate-page 4KiB 0xffffff7fbfdfe000 -> not allowed
+translate-page 1GiB 0xffffff0000000000 -> not allowed
+map 4KiB 0xffffff0000000000 0x5000 0x3 -> not allowed
+unmap 2MiB 0xffffff0000000000 -> not allowed
+update 4KiB 0xffffff0000000000 0x1 -> not allowed
+p4 4KiB 0xffffff0000000000 0x1 -> not allowed
+pool -> pool 0x2000 0x3000 0x4000
+translate 0xffffff8000000000 -> not mapped
+translate 0xfffffeffffffffff -> not mapped
+map 4KiB 0xffffff8000000000 0x5000 0x3 -> ok
+addr 0xffffff8000000abc -> 0x5abc
+";
 
 /// Words of tables below the root's entry for itself: in each level an entry without PRESENT beside one that has it, and a page of
 /// each size.
@@ -151,128 +63,78 @@ const EACH_ENTRY: &str =
 
 /// Reads in the window at each corner: at four, three, two and one times the recursive index, where a table, a page, an entry without
 /// PRESENT or none is read. The page of 1GiB is read as one of 2MiB there, and one of 2MiB as one of 4KiB.
-pub const CORNERS: [Session; 1] = [(
-    &RECURSIVE,
-    EACH_ENTRY,
-    &[
-        (
-            "translate 0xffffff7fbfdfeabc",
-            "mapped 4KiB 0x1000 0xabc 0x3",
-        ),
-        ("addr 0xffffff7fbfdfefff", "0x1fff"),
-        ("translate-page 4KiB 0xffffff7fbfdfe000", "0x1000"),
-        ("walk 0xffffff7fbfdfefff", "0x1fff write=1 user=0"),
-        (
-            "translate 0xffffff7fbfc00abc",
-            "mapped 4KiB 0x2000 0xabc 0x3",
-        ),
-        ("addr 0xffffff7fbfc00fff", "0x2fff"),
-        ("translate-page 4KiB 0xffffff7fbfc00000", "0x2000"),
-        ("walk 0xffffff7fbfc00fff", "0x2fff write=1 user=0"),
-        ("translate 0xffffff7fbfc01abc", "not mapped"),
-        ("addr 0xffffff7fbfc01fff", "none"),
-        ("translate-page 4KiB 0xffffff7fbfc01000", "page not mapped"),
-        ("walk 0xffffff7fbfc01fff", "none"),
-        (
-            "translate 0xffffff7fbfc02abc",
-            "mapped 4KiB 0x7000 0xabc 0x2",
-        ),
-        ("addr 0xffffff7fbfc02fff", "0x7fff"),
-        ("translate-page 4KiB 0xffffff7fbfc02000", "0x7000"),
-        ("walk 0xffffff7fbfc02fff", "none"),
-        (
-            "translate 0xffffff7f80000abc",
-            "mapped 4KiB 0x3000 0xabc 0x3",
-        ),
-        ("addr 0xffffff7f80000fff", "0x3fff"),
-        ("translate-page 4KiB 0xffffff7f80000000", "0x3000"),
-        ("walk 0xffffff7f80000fff", "0x3fff write=1 user=0"),
-        (
-            "translate 0xffffff7f80001abc",
-            "mapped 4KiB 0x80000000 0xabc 0x83",
-        ),
-        ("addr 0xffffff7f80001fff", "0x80000fff"),
-        ("translate-page 4KiB 0xffffff7f80001000", "0x80000000"),
-        ("walk 0xffffff7f80001fff", "0x80000fff write=1 user=0"),
-        (
-            "translate 0xffffff7f80002abc",
-            "mapped 4KiB 0x6000 0xabc 0x2",
-        ),
-        ("addr 0xffffff7f80002fff", "0x6fff"),
-        ("translate-page 4KiB 0xffffff7f80002000", "0x6000"),
-        ("walk 0xffffff7f80002fff", "none"),
-        ("translate 0xffffff7f80003abc", "not mapped"),
-        ("addr 0xffffff7f80003fff", "none"),
-        ("translate-page 4KiB 0xffffff7f80003000", "page not mapped"),
-        ("walk 0xffffff7f80003fff", "none"),
-        ("translate 0xffffff7f80200abc", "not mapped"),
-        ("addr 0xffffff7f80200fff", "none"),
-        ("translate-page 4KiB 0xffffff7f80200000", "page not mapped"),
-        ("walk 0xffffff7f80200fff", "none"),
-        ("translate 0xffffff7f80400abc", "not mapped"),
-        ("addr 0xffffff7f80400fff", "none"),
-        ("translate-page 4KiB 0xffffff7f80400000", "page not mapped"),
-        ("walk 0xffffff7f80400fff", "none"),
-        (
-            "translate 0xffffff0000000abc",
-            "mapped 4KiB 0x4000 0xabc 0x3",
-        ),
-        ("addr 0xffffff0000000fff", "0x4fff"),
-        ("translate-page 4KiB 0xffffff0000000000", "0x4000"),
-        ("walk 0xffffff0000000fff", "0x4fff write=1 user=0"),
-        (
-            "translate 0xffffff0000001abc",
-            "mapped 4KiB 0x400000 0xabc 0x81",
-        ),
-        ("addr 0xffffff0000001fff", "0x400fff"),
-        ("translate-page 4KiB 0xffffff0000001000", "0x400000"),
-        ("walk 0xffffff0000001fff", "0x400fff write=0 user=0"),
-        (
-            "translate 0xffffff0000002abc",
-            "mapped 4KiB 0x5000 0xabc 0x2",
-        ),
-        ("addr 0xffffff0000002fff", "0x5fff"),
-        ("translate-page 4KiB 0xffffff0000002000", "0x5000"),
-        ("walk 0xffffff0000002fff", "none"),
-        ("translate 0xffffff0000003abc", "not mapped"),
-        ("addr 0xffffff0000003fff", "none"),
-        ("translate-page 4KiB 0xffffff0000003000", "page not mapped"),
-        ("walk 0xffffff0000003fff", "none"),
-        (
-            "translate 0xffffff0000200abc",
-            "mapped 2MiB 0x80000000 0xabc 0x83",
-        ),
-        ("addr 0xffffff0000200fff", "0x80000fff"),
-        (
-            "translate-page 4KiB 0xffffff0000200000",
-            "parent entry huge page",
-        ),
-        ("walk 0xffffff0000200fff", "0x80000fff write=1 user=0"),
-        (
-            "translate 0xffffff00003ffabc",
-            "mapped 2MiB 0x80000000 0x1ffabc 0x83",
-        ),
-        ("addr 0xffffff00003fffff", "0x801fffff"),
-        (
-            "translate-page 4KiB 0xffffff00003ff000",
-            "parent entry huge page",
-        ),
-        ("walk 0xffffff00003fffff", "0x801fffff write=1 user=0"),
-        ("translate 0xffffff0000400abc", "not mapped"),
-        ("addr 0xffffff0000400fff", "none"),
-        ("translate-page 4KiB 0xffffff0000400000", "page not mapped"),
-        ("walk 0xffffff0000400fff", "none"),
-        ("translate 0xffffff0000600abc", "not mapped"),
-        ("addr 0xffffff0000600fff", "none"),
-        ("translate-page 4KiB 0xffffff0000600000", "page not mapped"),
-        ("walk 0xffffff0000600fff", "none"),
-        ("translate 0xffffff0040000abc", "not mapped"),
-        ("addr 0xffffff0040000fff", "none"),
-        ("translate-page 4KiB 0xffffff0040000000", "page not mapped"),
-        ("walk 0xffffff0040000fff", "none"),
-        ("translate 0xffffff0080000abc", "not mapped"),
-        ("addr 0xffffff0080000fff", "none"),
-        ("translate-page 4KiB 0xffffff0080000000", "page not mapped"),
-        ("walk 0xffffff0080000fff", "none"),
-    ],
-)];
+const CORNERS: &str = "\
+translate 0xffffff7fbfdfeabc -> mapped 4KiB 0x1000 0xabc 0x3
+translate-page 4KiB 0xffffff7fbfdfe000 -> 0x1000
+walk 0xffffff7fbfdfefff -> 0x1fff write=1 user=0
+translate 0xffffff7fbfc00abc -> mapped 4KiB 0x2000 0xabc 0x3
+translate-page 4KiB 0xffffff7fbfc00000 -> 0x2000
+walk 0xffffff7fbfc00fff -> 0x2fff write=1 user=0
+translate 0xffffff7fbfc01abc -> not mapped
+translate-page 4KiB 0xffffff7fbfc01000 -> page not mapped
+walk 0xffffff7fbfc01fff -> none
+translate 0xffffff7fbfc02abc -> mapped 4KiB 0x7000 0xabc 0x2
+translate-page 4KiB 0xffffff7fbfc02000 -> 0x7000
+walk 0xffffff7fbfc02fff -> none
+translate 0xffffff7f80000abc -> mapped 4KiB 0x3000 0xabc 0x3
+translate-page 4KiB 0xffffff7f80000000 -> 0x3000
+walk 0xffffff7f80000fff -> 0x3fff write=1 user=0
+translate 0xffffff7f80001abc -> mapped 4KiB 0x80000000 0xabc 0x83
+translate-page 4KiB 0xffffff7f80001000 -> 0x80000000
+walk 0xffffff7f80001fff -> 0x80000fff write=1 user=0
+translate 0xffffff7f80002abc -> mapped 4KiB 0x6000 0xabc 0x2
+translate-page 4KiB 0xffffff7f80002000 -> 0x6000
+walk 0xffffff7f80002fff -> none
+translate 0xffffff7f80003abc -> not mapped
+translate-page 4KiB 0xffffff7f80003000 -> page not mapped
+walk 0xffffff7f80003fff -> none
+translate 0xffffff7f80200abc -> not mapped
+translate-page 4KiB 0xffffff7f80200000 -> page not mapped
+walk 0xffffff7f80200fff -> none
+translate 0xffffff7f80400abc -> not mapped
+translate-page 4KiB 0xffffff7f80400000 -> page not mapped
+walk 0xffffff7f80400fff -> none
+translate 0xffffff0000000abc -> mapped 4KiB 0x4000 0xabc 0x3
+translate-page 4KiB 0xffffff0000000000 -> 0x4000
+walk 0xffffff0000000fff -> 0x4fff write=1 user=0
+translate 0xffffff0000001abc -> mapped 4KiB 0x400000 0xabc 0x81
+translate-page 4KiB 0xffffff0000001000 -> 0x400000
+walk 0xffffff0000001fff -> 0x400fff write=0 user=0
+translate 0xffffff0000002abc -> mapped 4KiB 0x5000 0xabc 0x2
+translate-page 4KiB 0xffffff0000002000 -> 0x5000
+walk 0xffffff0000002fff -> none
+translate 0xffffff0000003abc -> not mapped
+translate-page 4KiB 0xffffff0000003000 -> page not mapped
+walk 0xffffff0000003fff -> none
+translate 0xffffff0000200abc -> mapped 2MiB 0x80000000 0xabc 0x83
+translate-page 4KiB 0xffffff0000200000 -> parent entry huge page
+walk 0xffffff0000200fff -> 0x80000fff write=1 user=0
+translate 0xffffff00003ffabc -> mapped 2MiB 0x80000000 0x1ffabc 0x83
+translate-page 4KiB 0xffffff00003ff000 -> parent entry huge page
+walk 0xffffff00003fffff -> 0x801fffff write=1 user=0
+translate 0xffffff0000400abc -> not mapped
+translate-page 4KiB 0xffffff0000400000 -> page not mapped
+walk 0xffffff0000400fff -> none
+translate 0xffffff0000600abc -> not mapped
+translate-page 4KiB 0xffffff0000600000 -> page not mapped
+walk 0xffffff0000600fff -> none
+translate 0xffffff0040000abc -> not mapped
+translate-page 4KiB 0xffffff0040000000 -> page not mapped
+walk 0xffffff0040000fff -> none
+translate 0xffffff0080000abc -> not mapped
+translate-page 4KiB 0xffffff0080000000 -> page not mapped
+walk 0xffffff0080000fff -> none
+";
+
+/// Scripts, each after an image in a mode.
+const SESSIONS: [Session; 4] = [
+    (&RECURSIVE, POOL, WINDOWS),
+    (&PAIR, POOL, NEW_TABLES_OF_A_PAIR),
+    (&PAIR, POOL, INDEX_OF_A_PAIR),
+    (&RECURSIVE, EACH_ENTRY, CORNERS),
+];
+
+#[test]
+fn windows_are_read_and_not_changed(rt: HostRuntime) {
+    assert_sessions(rt, rt.alloc(), &SESSIONS)
+}

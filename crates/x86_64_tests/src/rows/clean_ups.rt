@@ -1,7 +1,9 @@
 //! Clean ups.
-use super::{CLEANED, Exchange, FIRST, LEVEL_1, LEVEL_2, LEVEL_3, LEVEL_4, MAPPED, Row};
+use super::{
+    CLEANED, EACH, Exchange, FIRST, LEVEL_1, LEVEL_2, LEVEL_3, LEVEL_4, MAPPED, Row, check_rows,
+};
 use crate::call_rows::CallRow::{CleanUp, CleanUpRange, Small, Translate, TranslateAddr};
-use crate::call_rows::PageCallRow::{MapTo, SetFlagsP4, Unmap};
+use crate::call_rows::PageCallRow::{MapTo, SetFlags, Unmap};
 use x86_64_plain::Answer::{Done, Refused};
 use x86_64_plain::PlainReply::{Address, Answered, Cleaned, Position};
 use x86_64_plain::Refusal::PageAlreadyMapped;
@@ -13,7 +15,38 @@ const UNMAP: Exchange = (Small(Unmap(0x1000)), Answered(Done(0x5000)));
 /// Takes away all empty tables.
 const CLEAN_UP: Exchange = (CleanUp, Cleaned);
 
-const EMPTY_TABLES: [Row<'static>; 3] = [
+/// Takes `PRESENT` from the entry of level four above the page 0x1000.
+const HIDE: Exchange = (Small(SetFlags(4, 0x1000, 0x2)), Answered(Done(0x2000)));
+
+/// Maps the page 0x200000, whose table of level one alone is another than that of the page 0x1000.
+const SECOND: Exchange = (Small(MapTo(0x20_0000, 0x8000, 0x3)), Answered(Done(0x8000)));
+
+/// The frames for the tables above two pages that have no table in common.
+const SIX_FREE: [u64; 6] = [0x2000, 0x3000, 0x4000, 0x5000, 0x6000, 0x7000];
+
+/// Maps the last page below the gap of the address space.
+const BELOW_THE_GAP: Exchange = (
+    Small(MapTo(0x7fff_ffff_f000, 0x8000, 0x1)),
+    Answered(Done(0x8000)),
+);
+
+/// Maps the first page above it.
+const ABOVE_THE_GAP: Exchange = (
+    Small(MapTo(0xffff_8000_0000_0000, 0x9000, 0x1)),
+    Answered(Done(0x9000)),
+);
+
+/// Unmaps the page above the gap.
+const UNMAP_ABOVE: Exchange = (Small(Unmap(0xffff_8000_0000_0000)), Answered(Done(0x9000)));
+
+/// Takes away the empty tables of both pages.
+const OVER_THE_GAP: Exchange = (
+    CleanUpRange(0x7fff_ffff_f000, 0xffff_8000_0000_0000),
+    Cleaned,
+);
+
+/// Clean ups of all pages and of ranges.
+const ROWS: [Row<'static>; 11] = [
     Row {
         calls: &[FIRST, UNMAP, CLEAN_UP],
         ..CLEANED
@@ -28,12 +61,6 @@ const EMPTY_TABLES: [Row<'static>; 3] = [
         calls: &[FIRST, UNMAP, CLEAN_UP, FIRST],
         ..MAPPED
     },
-];
-
-/// Takes `PRESENT` from the entry of level four above the page 0x1000.
-const HIDE: Exchange = (Small(SetFlagsP4(0x1000, 0x2)), Answered(Done(0x2000)));
-
-const USED_TABLES: [Row<'static>; 3] = [
     Row {
         calls: &[FIRST, CLEAN_UP],
         ..MAPPED
@@ -62,12 +89,6 @@ const USED_TABLES: [Row<'static>; 3] = [
         ],
         ..MAPPED
     },
-];
-
-/// Maps the page 0x200000, whose table of level one alone is another than that of the page 0x1000.
-const SECOND: Exchange = (Small(MapTo(0x20_0000, 0x8000, 0x3)), Answered(Done(0x8000)));
-
-const RANGES: [Row<'static>; 3] = [
     // A range without pages, and one in which the tables have no page.
     Row {
         calls: &[
@@ -97,34 +118,8 @@ const RANGES: [Row<'static>; 3] = [
         words: &[LEVEL_4, LEVEL_3, (0x3000, 1, 0x6003)],
         full: &[0x7000],
         left: &[0x4000, 0x7000],
+        ..MAPPED
     },
-];
-
-/// The frames for the tables above two pages that have no table in common.
-const SIX_FREE: [u64; 6] = [0x2000, 0x3000, 0x4000, 0x5000, 0x6000, 0x7000];
-
-/// Maps the last page below the gap of the address space.
-const BELOW_THE_GAP: Exchange = (
-    Small(MapTo(0x7fff_ffff_f000, 0x8000, 0x1)),
-    Answered(Done(0x8000)),
-);
-
-/// Maps the first page above it.
-const ABOVE_THE_GAP: Exchange = (
-    Small(MapTo(0xffff_8000_0000_0000, 0x9000, 0x1)),
-    Answered(Done(0x9000)),
-);
-
-/// Unmaps the page above the gap.
-const UNMAP_ABOVE: Exchange = (Small(Unmap(0xffff_8000_0000_0000)), Answered(Done(0x9000)));
-
-/// Takes away the empty tables of both pages.
-const OVER_THE_GAP: Exchange = (
-    CleanUpRange(0x7fff_ffff_f000, 0xffff_8000_0000_0000),
-    Cleaned,
-);
-
-const PAGES_AT_THE_GAP: [Row<'static>; 2] = [
     Row {
         free: &SIX_FREE,
         calls: &[
@@ -135,8 +130,8 @@ const PAGES_AT_THE_GAP: [Row<'static>; 2] = [
             OVER_THE_GAP,
         ],
         words: &[],
-        full: &[],
         left: &[0x5000, 0x6000, 0x7000, 0x2000, 0x3000, 0x4000],
+        ..MAPPED
     },
     Row {
         free: &SIX_FREE,
@@ -147,10 +142,12 @@ const PAGES_AT_THE_GAP: [Row<'static>; 2] = [
             (0x3000, 511, 0x4001),
             (0x4000, 511, 0x8001),
         ],
-        full: &[],
         left: &[0x5000, 0x6000, 0x7000],
+        ..MAPPED
     },
 ];
 
-/// All rows.
-pub const TABLES: [&[Row<'static>]; 4] = [&EMPTY_TABLES, &USED_TABLES, &RANGES, &PAGES_AT_THE_GAP];
+#[test]
+fn clean_ups_take_what_rows_say(rt: HostRuntime) {
+    check_rows(rt, rt.alloc(), &ROWS, &EACH)
+}

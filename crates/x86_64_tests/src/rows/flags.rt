@@ -1,19 +1,20 @@
 //! Flags of entries on the paths of pages.
 use super::{
-    FIRST, FIRST_LARGE, LARGE_LEVEL_3, LARGE_LEVEL_4, LARGE_MAPPED, LEVEL_1, LEVEL_2, LEVEL_3,
-    LEVEL_4, MAPPED, Row,
+    EACH, FIRST, FIRST_LARGE, LARGE_LEVEL_3, LARGE_LEVEL_4, LARGE_MAPPED, LEVEL_1, LEVEL_2,
+    LEVEL_3, LEVEL_4, MAPPED, Row, check_rows,
 };
-use crate::call_rows::CallRow::{Giant, Large, Small, Translate, TranslateAddr};
-use crate::call_rows::PageCallRow::{
-    MapTo, SetFlagsP2, SetFlagsP3, SetFlagsP4, Unmap, UpdateFlags,
-};
+use crate::call_rows::CallRow::{Giant, Large, Small, Translate};
+use crate::call_rows::PageCallRow::{MapTo, SetFlags, Unmap, UpdateFlags};
 use x86_64_plain::Answer::{Done, Refused};
 use x86_64_plain::PlainReply;
-use x86_64_plain::PlainReply::{Address, Answered, NotAllowed, Position};
+use x86_64_plain::PlainReply::{Answered, NotAllowed, Position};
 use x86_64_plain::Refusal::{PageAlreadyMapped, PageNotMapped, ParentEntryHugePage};
-use x86_64_plain::Translated::{Mapped, NotMapped};
+use x86_64_plain::Translated::Mapped;
 
-const PAGE_FLAGS: [Row<'static>; 2] = [
+const HUGE: PlainReply = Answered(Refused(ParentEntryHugePage));
+
+/// Changes of flags, allowed or not.
+const ROWS: [Row<'static>; 6] = [
     // Without PRESENT a page is still translated, and its entry still used.
     Row {
         calls: &[
@@ -56,104 +57,64 @@ const PAGE_FLAGS: [Row<'static>; 2] = [
         words: &[LEVEL_4, LEVEL_3, LEVEL_2, (0x4000, 1, 0x5081)],
         ..MAPPED
     },
-];
-
-/// Rows in which the entry of level four above the page 0x1000 loses `PRESENT`.
-const HIDDEN_TABLES: [Row<'static>; 2] = [
+    // The lower levels come first, since below an entry without `PRESENT` there is none.
     Row {
         calls: &[
             FIRST,
-            (Small(SetFlagsP4(0x1000, 0x2)), Answered(Done(0x2000))),
-            (Translate(0x1000), Position(NotMapped)),
+            (Small(SetFlags(2, 0x1000, 0xa)), Answered(Done(0x4000))),
+            (Small(SetFlags(3, 0x1000, 0x6)), Answered(Done(0x3000))),
+            (Small(SetFlags(4, 0x1000, 0x12)), Answered(Done(0x2000))),
         ],
-        words: &[(0x1000, 0, 0x2002), LEVEL_3, LEVEL_2, LEVEL_1],
+        words: &[
+            (0x1000, 0, 0x2012),
+            (0x2000, 0, 0x3006),
+            (0x3000, 0, 0x400a),
+            (0x4000, 1, 0x5003),
+        ],
         ..MAPPED
     },
     Row {
         calls: &[
-            FIRST,
-            (Small(SetFlagsP4(0x1000, 0x2)), Answered(Done(0x2000))),
+            FIRST_LARGE,
+            (Small(SetFlags(2, 0x20_0000, 0x1)), NotAllowed),
             (
-                Small(MapTo(0x1000, 0x9000, 0x1)),
-                Answered(Refused(PageAlreadyMapped(0x9000))),
+                Small(SetFlags(2, 0x20_0000, 0x83)),
+                Answered(Done(0x40_0000)),
             ),
-            (TranslateAddr(0x1abc), Address(Some(0x5abc))),
+            (
+                Small(Unmap(0x20_0000)),
+                Answered(Refused(ParentEntryHugePage)),
+            ),
+        ],
+        words: &[LARGE_LEVEL_4, LARGE_LEVEL_3, (0x3000, 1, 0x40_0083)],
+        ..LARGE_MAPPED
+    },
+    Row {
+        calls: &[
+            FIRST,
+            (Large(SetFlags(2, 0x0, 0x1)), HUGE),
+            (Large(SetFlags(2, 0xffff_ffff_ffe0_0000, 0x1)), HUGE),
+            (Giant(SetFlags(2, 0x0, 0x1)), HUGE),
+            (Giant(SetFlags(3, 0x0, 0x1)), HUGE),
+            (Giant(SetFlags(3, 0xffff_ffff_c000_0000, 0x1)), HUGE),
+        ],
+        ..MAPPED
+    },
+    // An address bit, and `HUGE_PAGE` where the entry lacks it.
+    Row {
+        calls: &[
+            FIRST,
+            (Small(UpdateFlags(0x1000, 0x1003)), NotAllowed),
+            (Small(SetFlags(4, 0x1000, 0x1003)), NotAllowed),
+            (Small(SetFlags(4, 0x1000, 0x83)), NotAllowed),
+            (Small(SetFlags(3, 0x1000, 0x83)), NotAllowed),
+            (Small(SetFlags(2, 0x1000, 0x83)), NotAllowed),
         ],
         ..MAPPED
     },
 ];
 
-/// The lower levels come first, since below an entry without `PRESENT` there is none.
-const FLAGS_OF_EACH_LEVEL: [Row<'static>; 1] = [Row {
-    calls: &[
-        FIRST,
-        (Small(SetFlagsP2(0x1000, 0xa)), Answered(Done(0x4000))),
-        (Small(SetFlagsP3(0x1000, 0x6)), Answered(Done(0x3000))),
-        (Small(SetFlagsP4(0x1000, 0x12)), Answered(Done(0x2000))),
-    ],
-    words: &[
-        (0x1000, 0, 0x2012),
-        (0x2000, 0, 0x3006),
-        (0x3000, 0, 0x400a),
-        (0x4000, 1, 0x5003),
-    ],
-    ..MAPPED
-}];
-
-const FLAGS_OF_A_LARGE_PAGE: [Row<'static>; 1] = [Row {
-    calls: &[
-        FIRST_LARGE,
-        (
-            Large(UpdateFlags(0x20_0000, 0x3)),
-            Answered(Done(0x40_0000)),
-        ),
-        (Small(SetFlagsP2(0x20_0000, 0x1)), NotAllowed),
-        (
-            Small(SetFlagsP2(0x20_0000, 0x83)),
-            Answered(Done(0x40_0000)),
-        ),
-        (
-            Small(Unmap(0x20_0000)),
-            Answered(Refused(ParentEntryHugePage)),
-        ),
-    ],
-    words: &[LARGE_LEVEL_4, LARGE_LEVEL_3, (0x3000, 1, 0x40_0083)],
-    ..LARGE_MAPPED
-}];
-
-const HUGE: PlainReply = Answered(Refused(ParentEntryHugePage));
-
-const FLAGS_BELOW_LARGER_PAGES: [Row<'static>; 1] = [Row {
-    calls: &[
-        FIRST,
-        (Large(SetFlagsP2(0x0, 0x1)), HUGE),
-        (Large(SetFlagsP2(0xffff_ffff_ffe0_0000, 0x1)), HUGE),
-        (Giant(SetFlagsP2(0x0, 0x1)), HUGE),
-        (Giant(SetFlagsP3(0x0, 0x1)), HUGE),
-        (Giant(SetFlagsP3(0xffff_ffff_c000_0000, 0x1)), HUGE),
-    ],
-    ..MAPPED
-}];
-
-/// An address bit, and `HUGE_PAGE` where the entry lacks it.
-const FLAGS_NOT_ALLOWED: [Row<'static>; 1] = [Row {
-    calls: &[
-        FIRST,
-        (Small(UpdateFlags(0x1000, 0x1003)), NotAllowed),
-        (Small(SetFlagsP4(0x1000, 0x1003)), NotAllowed),
-        (Small(SetFlagsP4(0x1000, 0x83)), NotAllowed),
-        (Small(SetFlagsP3(0x1000, 0x83)), NotAllowed),
-        (Small(SetFlagsP2(0x1000, 0x83)), NotAllowed),
-    ],
-    ..MAPPED
-}];
-
-/// All rows.
-pub const TABLES: [&[Row<'static>]; 6] = [
-    &PAGE_FLAGS,
-    &HIDDEN_TABLES,
-    &FLAGS_OF_EACH_LEVEL,
-    &FLAGS_OF_A_LARGE_PAGE,
-    &FLAGS_BELOW_LARGER_PAGES,
-    &FLAGS_NOT_ALLOWED,
-];
+#[test]
+fn flags_become_what_rows_say(rt: HostRuntime) {
+    check_rows(rt, rt.alloc(), &ROWS, &EACH)
+}

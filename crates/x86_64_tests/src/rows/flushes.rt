@@ -1,21 +1,21 @@
-//! Lists of calls whose flushes are recorded.
+//! Lists of calls whose flushes are recorded, and calls of a mapper itself whose tokens are flushed.
 use super::{
-    CLEANED, FIRST, FIRST_LARGE, LARGE_LEVEL_3, LARGE_LEVEL_4, LARGE_MAPPED, LEVEL_2, LEVEL_3,
-    LEVEL_4, MAPPED, Row, add_exchanges, assert_fits, begin, compare,
+    By, CLEANED, FIRST, FIRST_LARGE, LARGE_LEVEL_3, LARGE_LEVEL_4, LARGE_MAPPED, LEVEL_1, LEVEL_2,
+    LEVEL_3, MAPPED, Row, add_replies, answer_singly, assert_fits, begin, calls_of, compare,
 };
 use crate::assertions::{assert_equal, assert_equal_in, unwrap};
 use crate::call_rows::CallRow::{CleanUp, CleanUpRange, Large, Small};
-use crate::call_rows::PageCallRow::{SetFlagsP4, Unmap, UpdateFlags};
+use crate::call_rows::PageCallRow::{SetFlags, Unmap, UpdateFlags};
 use crate::images::{ROOT, frame_at, run_flushed_on};
 use std::alloc::Global;
 use std::process::Abort;
-use x86_64::{FlushItem, FlushRecorder, FramePool, IdentityMapping, PhysMemory};
+use x86_64::{FlushItem, FlushRecorder, FramePool, IdentityMapping, PhysMemory, Reply};
 use x86_64_plain::Answer::{Done, Refused};
 use x86_64_plain::PlainReply::{Answered, Cleaned};
 use x86_64_plain::Refusal::PageNotMapped;
 
 /// What is flushed: a page, by its start and its size, or all pages.
-pub type Flushed = Option<(u64, u64)>;
+type Flushed = Option<(u64, u64)>;
 
 /// Gives what an item says is flushed.
 fn flushed_by(item: &FlushItem) -> Flushed {
@@ -27,7 +27,7 @@ fn flushed_by(item: &FlushItem) -> Flushed {
 }
 
 /// Compares what is recorded.
-pub fn compare_flushes(rt: impl Abort + Copy, recorder: &FlushRecorder, flushed: &[Flushed]) {
+fn compare_flushes(rt: impl Abort + Copy, recorder: &FlushRecorder, flushed: &[Flushed]) {
     let items = recorder.items();
     assert_equal(rt, items.len(), flushed.len());
     for (n, wanted) in flushed.iter().enumerate() {
@@ -35,93 +35,125 @@ pub fn compare_flushes(rt: impl Abort + Copy, recorder: &FlushRecorder, flushed:
     }
 }
 
-/// Answers the calls of a row, records their flushes, and compares the replies.
+/// Answers the calls of a row by a list whose flushes are recorded.
 fn answer_flushed(
     rt: impl Abort + Copy,
     alloc: Global,
     row: &Row<'_>,
     (memory, pool): (&mut PhysMemory, &mut FramePool),
+    replies: &mut Vec<Reply>,
     recorder: &mut FlushRecorder,
 ) {
-    let mut calls = Vec::new(alloc);
-    let mut wanted = Vec::new(alloc);
-    add_exchanges(rt, row, &mut calls, &mut wanted);
-    let mut replies = Vec::new(alloc);
     let root = frame_at(ROOT);
+    let calls = calls_of(rt, alloc, row.calls);
     assert_fits(rt, alloc, memory, &IdentityMapping, root, pool);
     unwrap(
         rt,
-        run_flushed_on(memory, root, pool, &calls, &mut replies, recorder),
-    );
-    assert_equal(rt, replies, wanted);
+        run_flushed_on(memory, root, pool, &calls, replies, recorder),
+    )
 }
 
-/// Answers the calls of a row where so many items have room, and compares what comes of them and what is
+/// Answers the calls of a row by a list, or one by one, where so many items have room, and compares what comes of them and what is
 /// recorded.
 fn check_flushes(
     rt: impl Abort + Copy,
     alloc: Global,
     row: &Row<'_>,
     flushed: &[Flushed],
-    room: usize,
+    (is_list, room): (bool, usize),
 ) {
-    let (mut memory, mut pool) = begin(rt, alloc, row.free);
+    let (mut memory, mut pool) = begin(rt, alloc, row, By::Identity);
     let mut recorder = FlushRecorder::new(alloc);
     unwrap(rt, recorder.reserve(room));
-    answer_flushed(rt, alloc, row, (&mut memory, &mut pool), &mut recorder);
+    let (mut replies, mut wanted) = (Vec::new(alloc), Vec::new(alloc));
+    add_replies(rt, row.calls, &mut wanted);
+    if is_list {
+        answer_flushed(
+            rt,
+            alloc,
+            row,
+            (&mut memory, &mut pool),
+            &mut replies,
+            &mut recorder,
+        );
+    } else {
+        answer_singly(
+            rt,
+            alloc,
+            (&mut memory, &mut pool),
+            row.calls,
+            &mut replies,
+            &mut recorder,
+        );
+    }
+    assert_equal(rt, replies, wanted);
     compare_flushes(rt, &recorder, flushed);
     compare(rt, &memory, &pool, row, "recorded")
 }
 
-const LARGE_PAGE: Row<'static> = Row {
-    calls: &[
-        FIRST_LARGE,
-        (
-            Large(UpdateFlags(0x20_0000, 0x1)),
-            Answered(Done(0x40_0000)),
-        ),
-        (Small(SetFlagsP4(0x0, 0x1)), Answered(Done(0x2000))),
-        (Large(Unmap(0x20_0000)), Answered(Done(0x40_0000))),
-        (Small(Unmap(0x1000)), Answered(Refused(PageNotMapped))),
-        (Large(Unmap(0x20_0000)), Answered(Refused(PageNotMapped))),
-    ],
-    words: &[LARGE_LEVEL_4, LARGE_LEVEL_3],
-    ..LARGE_MAPPED
-};
+/// The page 0x200000 of 2MiB.
+const LARGE: Flushed = Some((0x20_0000, 0x20_0000));
+
+/// The page 0x1000 of 4KiB.
+const SMALL: Flushed = Some((0x1000, 0x1000));
+
+/// Rows, and what is flushed. Calls that are refused flush nothing, and clean ups neither.
+const ROWS: [(Row<'static>, &[Flushed]); 3] = [
+    (
+        Row {
+            calls: &[
+                FIRST_LARGE,
+                (
+                    Large(UpdateFlags(0x20_0000, 0x1)),
+                    Answered(Done(0x40_0000)),
+                ),
+                (Small(SetFlags(4, 0x0, 0x1)), Answered(Done(0x2000))),
+                (Large(Unmap(0x20_0000)), Answered(Done(0x40_0000))),
+                (Small(Unmap(0x1000)), Answered(Refused(PageNotMapped))),
+                (Large(Unmap(0x20_0000)), Answered(Refused(PageNotMapped))),
+            ],
+            words: &[LARGE_LEVEL_4, LARGE_LEVEL_3],
+            ..LARGE_MAPPED
+        },
+        &[LARGE, LARGE, None, LARGE],
+    ),
+    (
+        Row {
+            calls: &[
+                FIRST,
+                (Small(SetFlags(4, 0x1000, 0x2)), Answered(Done(0x2000))),
+            ],
+            words: &[(0x1000, 0, 0x2002), LEVEL_3, LEVEL_2, LEVEL_1],
+            ..MAPPED
+        },
+        &[SMALL, None],
+    ),
+    (
+        Row {
+            calls: &[
+                FIRST,
+                (Small(Unmap(0x1000)), Answered(Done(0x5000))),
+                (CleanUpRange(0x20_0000, 0x1000), Cleaned),
+                (CleanUpRange(0x1000, 0x20_0000), Cleaned),
+                (CleanUp, Cleaned),
+            ],
+            ..CLEANED
+        },
+        &[SMALL, SMALL],
+    ),
+];
+
+/// Does so for rows, each by a list and one by one, with room for items and without.
+fn check_all(rt: impl Abort + Copy, alloc: Global, rows: &[(Row<'_>, &[Flushed])]) {
+    for (row, flushed) in rows {
+        for room in [0, 64] {
+            check_flushes(rt, alloc, row, flushed, (true, room));
+            check_flushes(rt, alloc, row, flushed, (false, room));
+        }
+    }
+}
 
 #[test]
 fn accepted_calls_are_recorded_and_no_others(rt: HostRuntime) {
-    let page = Some((0x20_0000, 0x20_0000));
-    let flushed = [page, page, None, page];
-    check_flushes(rt, rt.alloc(), &LARGE_PAGE, &flushed, 0);
-    check_flushes(rt, rt.alloc(), &LARGE_PAGE, &flushed, 64)
-}
-
-const SMALL_PAGE: Row<'static> = Row {
-    calls: &[FIRST, (Small(Unmap(0x1000)), Answered(Done(0x5000)))],
-    words: &[LEVEL_4, LEVEL_3, LEVEL_2],
-    ..MAPPED
-};
-
-#[test]
-fn pages_of_4kib_are_recorded_with_their_size(rt: HostRuntime) {
-    let page = Some((0x1000, 0x1000));
-    check_flushes(rt, rt.alloc(), &SMALL_PAGE, &[page, page], 0)
-}
-
-const TABLES_GO_BACK: Row<'static> = Row {
-    calls: &[
-        FIRST,
-        (Small(Unmap(0x1000)), Answered(Done(0x5000))),
-        (CleanUpRange(0x20_0000, 0x1000), Cleaned),
-        (CleanUpRange(0x1000, 0x20_0000), Cleaned),
-        (CleanUp, Cleaned),
-    ],
-    ..CLEANED
-};
-
-#[test]
-fn clean_ups_are_not_recorded(rt: HostRuntime) {
-    let page = Some((0x1000, 0x1000));
-    check_flushes(rt, rt.alloc(), &TABLES_GO_BACK, &[page, page], 0)
+    check_all(rt, rt.alloc(), &ROWS)
 }

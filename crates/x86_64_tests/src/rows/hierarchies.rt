@@ -1,23 +1,17 @@
 //! Two hierarchies in one memory, which take their tables from one pool.
-use super::{Row, Word, answer_over, assert_fits, begin_in, compare_pool, compare_words};
-use crate::assertions::unwrap;
+use super::{By, MAPPED, Row, Word, add_replies, assert_fits, begin, calls_of, compare};
+use crate::assertions::{assert_equal, unwrap};
 use crate::call_rows::CallRow::{CleanUp, Small};
 use crate::call_rows::PageCallRow::{MapTo, Unmap};
-use crate::images::frame_at;
+use crate::images::{frame_at, run_on};
 use std::alloc::Global;
 use std::process::Abort;
 use x86_64::{FramePool, IdentityMapping, PhysMemory};
 use x86_64_plain::Answer::Done;
 use x86_64_plain::PlainReply::{Answered, Cleaned};
 
-/// How many places the memory has.
-const PLACES: u32 = 9;
-
 /// The roots' frames.
 const ROOTS: [u64; 2] = [0x1000, 0x2000];
-
-/// The frames that are free at first.
-const FREE: [u64; 6] = [0x3000, 0x4000, 0x5000, 0x6000, 0x7000, 0x8000];
 
 /// The words that map the page 0x1000 of the second hierarchy to the frame 0xa000.
 const LEVEL_4: Word = (0x2000, 0, 0x6001);
@@ -28,12 +22,19 @@ const LEVEL_2: Word = (0x7000, 0, 0x8001);
 
 const LEVEL_1: Word = (0x8000, 1, 0xa001);
 
+/// A row of both.
+const BOTH: Row<'static> = Row {
+    places: &[0, 1, 2, 3, 4, 5, 6, 7, 8],
+    free: &[0x3000, 0x4000, 0x5000, 0x6000, 0x7000, 0x8000],
+    words: &[LEVEL_4, LEVEL_3, LEVEL_2, LEVEL_1],
+    ..MAPPED
+};
+
 /// Calls of the hierarchies in turn, each list beside its root, and what comes of it in the memory of both.
 const STEPS: [(u64, Row<'static>); 4] = [
     (
         0x1000,
         Row {
-            free: &FREE,
             calls: &[(Small(MapTo(0x1000, 0x9000, 0x1)), Answered(Done(0x9000)))],
             words: &[
                 (0x1000, 0, 0x3001),
@@ -43,12 +44,12 @@ const STEPS: [(u64, Row<'static>); 4] = [
             ],
             full: &[0x6000, 0x7000, 0x8000],
             left: &[0x6000, 0x7000, 0x8000],
+            ..BOTH
         },
     ),
     (
         0x2000,
         Row {
-            free: &[0x6000, 0x7000, 0x8000],
             calls: &[(Small(MapTo(0x1000, 0xa000, 0x1)), Answered(Done(0xa000)))],
             words: &[
                 (0x1000, 0, 0x3001),
@@ -60,29 +61,25 @@ const STEPS: [(u64, Row<'static>); 4] = [
                 LEVEL_2,
                 LEVEL_1,
             ],
-            full: &[],
-            left: &[],
+            ..BOTH
         },
     ),
     // The tables of the first hierarchy go back.
     (
         0x1000,
         Row {
-            free: &[],
             calls: &[
                 (Small(Unmap(0x1000)), Answered(Done(0x9000))),
                 (CleanUp, Cleaned),
             ],
-            words: &[LEVEL_4, LEVEL_3, LEVEL_2, LEVEL_1],
-            full: &[],
             left: &[0x3000, 0x4000, 0x5000],
+            ..BOTH
         },
     ),
     // The second one takes two of them.
     (
         0x2000,
         Row {
-            free: &[0x3000, 0x4000, 0x5000],
             calls: &[(
                 Small(MapTo(0x4000_0000, 0xb000, 0x1)),
                 Answered(Done(0xb000)),
@@ -96,8 +93,8 @@ const STEPS: [(u64, Row<'static>); 4] = [
                 (0x3000, 0, 0x4001),
                 (0x4000, 0, 0xb001),
             ],
-            full: &[],
             left: &[0x5000],
+            ..BOTH
         },
     ),
 ];
@@ -109,21 +106,34 @@ fn assert_fits_both(rt: impl Abort + Copy, alloc: Global, memory: &PhysMemory, p
     }
 }
 
+/// Answers a row's calls in the hierarchy of a root, and compares what comes of them.
+fn check_step(
+    rt: impl Abort + Copy,
+    alloc: Global,
+    (root, row): &(u64, Row<'_>),
+    memory: &mut PhysMemory,
+    pool: &mut FramePool,
+) {
+    let calls = calls_of(rt, alloc, row.calls);
+    let (mut replies, mut wanted) = (Vec::new(alloc), Vec::new(alloc));
+    add_replies(rt, row.calls, &mut wanted);
+    let root = frame_at(*root);
+    assert_fits(rt, alloc, memory, &IdentityMapping, root, pool);
+    unwrap(rt, run_on(memory, root, pool, &calls, &mut replies));
+    assert_equal(rt, replies, wanted);
+    compare(rt, memory, pool, row, "both")
+}
+
+/// Answers steps one after the other in the memory of a row, and compares what comes of each.
+fn check_steps(rt: impl Abort + Copy, alloc: Global, both: &Row<'_>, steps: &[(u64, Row<'_>)]) {
+    let (mut memory, mut pool) = begin(rt, alloc, both, By::Identity);
+    for step in steps {
+        check_step(rt, alloc, step, &mut memory, &mut pool);
+        assert_fits_both(rt, alloc, &memory, &pool);
+    }
+}
+
 #[test]
 fn hierarchies_take_tables_from_one_pool(rt: HostRuntime) {
-    let (mut memory, mut pool) = begin_in(rt, rt.alloc(), u64::from(PLACES), &FREE);
-    for (number, (root, row)) in STEPS.iter().enumerate() {
-        let title = unwrap(rt, format!(in rt.alloc(); "step {number}"));
-        answer_over(
-            rt,
-            rt.alloc(),
-            row,
-            (*root, IdentityMapping),
-            (&mut memory, &mut pool),
-            &title,
-        );
-        compare_words(rt, &memory, PLACES, row, &title);
-        compare_pool(rt, &pool, row.left, &title);
-        assert_fits_both(rt, rt.alloc(), &memory, &pool);
-    }
+    check_steps(rt, rt.alloc(), &BOTH, &STEPS)
 }

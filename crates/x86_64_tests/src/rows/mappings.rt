@@ -1,22 +1,23 @@
 //! Frames that lie elsewhere than at the places of their numbers.
-use super::{FIRST, Row, answer_over, compare_pool, compare_words};
+use super::{MAPPED, Row, add_replies, assert_fits, calls_of, compare};
 use crate::assertions::{assert_equal, unwrap};
-use crate::images::{frame_at, pool_of};
+use crate::images::{frame_at, pool_of, run_over};
+use std::alloc::Global;
+use std::process::Abort;
 use x86_64::structures::paging::mapper::PageTableFrameMapping;
 use x86_64::{PhysMemory, ShiftMapping};
 
 /// The first map where frame 0x100000 lies at place 0. The words stand after the addresses of their places.
 const ROW: Row<'static> = Row {
+    places: &[0, 1, 2, 3],
     free: &[0x10_1000, 0x10_2000, 0x10_3000],
-    calls: &[FIRST],
     words: &[
         (0x0, 0, 0x10_1003),
         (0x1000, 0, 0x10_2003),
         (0x2000, 0, 0x10_3003),
         (0x3000, 1, 0x5003),
     ],
-    full: &[],
-    left: &[],
+    ..MAPPED
 };
 
 /// The root's frame there.
@@ -31,19 +32,24 @@ fn mappings_cover_frames_from_a_first_one_on(rt: HostRuntime) {
     assert_equal(rt, mapping.frame_to_pointer(root).number(), 0);
 }
 
+/// Answers a row's calls where a root's frame lies at place 0, and compares what comes of them.
+fn check_shifted(rt: impl Abort + Copy, alloc: Global, row: &Row<'_>) {
+    let mut memory = unwrap(rt, PhysMemory::new(alloc, 4));
+    let mut pool = pool_of(rt, alloc, 0x104, row.free);
+    let (root, mapping) = (frame_at(ROOT), ShiftMapping::new(0x100));
+    let calls = calls_of(rt, alloc, row.calls);
+    let (mut replies, mut wanted) = (Vec::new(alloc), Vec::new(alloc));
+    add_replies(rt, row.calls, &mut wanted);
+    assert_fits(rt, alloc, &memory, &mapping, root, &pool);
+    unwrap(
+        rt,
+        run_over(&mut memory, root, mapping, &mut pool, &calls, &mut replies),
+    );
+    assert_equal(rt, replies, wanted);
+    compare(rt, &memory, &pool, row, "shifted")
+}
+
 #[test]
 fn frames_lie_from_a_first_one_on(rt: HostRuntime) {
-    let mut memory = unwrap(rt, PhysMemory::new(rt.alloc(), 4));
-    let mut pool = pool_of(rt, rt.alloc(), 0x104, ROW.free);
-    let mapping = ShiftMapping::new(0x100);
-    answer_over(
-        rt,
-        rt.alloc(),
-        &ROW,
-        (ROOT, mapping),
-        (&mut memory, &mut pool),
-        "shifted",
-    );
-    compare_words(rt, &memory, 4, &ROW, "shifted");
-    compare_pool(rt, &pool, &[], "shifted");
+    check_shifted(rt, rt.alloc(), &ROW)
 }

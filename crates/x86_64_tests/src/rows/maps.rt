@@ -1,7 +1,7 @@
 //! Maps and unmaps.
 use super::{
-    FIRST, FIRST_LARGE, FREE, LARGE_LEVEL_3, LARGE_LEVEL_4, LARGE_MAPPED, LEVEL_2, LEVEL_3,
-    LEVEL_4, MAPPED, Row, UNTOUCHED, WORDS,
+    EACH, FIRST, FIRST_LARGE, FREE, LARGE_LEVEL_3, LARGE_LEVEL_4, LARGE_MAPPED, LEVEL_2, LEVEL_3,
+    LEVEL_4, MAPPED, Row, UNTOUCHED, WORDS, check_rows,
 };
 use crate::call_rows::CallRow::{Giant, Large, Small, Translate, TranslateAddr};
 use crate::call_rows::PageCallRow::{IdentityMap, MapTo, TranslatePage, Unmap, UpdateFlags};
@@ -13,7 +13,9 @@ use x86_64_plain::Refusal::{
 };
 use x86_64_plain::Translated::NotMapped;
 
-const TABLES_ARE_TAKEN: [Row<'static>; 3] = [
+/// Maps and unmaps of pages of each size, accepted and refused.
+const ROWS: [Row<'static>; 15] = [
+    // Missing tables are taken in order, and cleared.
     Row {
         calls: &[FIRST, (TranslateAddr(0x1abc), Address(Some(0x5abc)))],
         ..MAPPED
@@ -25,8 +27,7 @@ const TABLES_ARE_TAKEN: [Row<'static>; 3] = [
             Answered(Refused(FrameAllocationFailed)),
         )],
         words: &[LEVEL_4, LEVEL_3],
-        full: &[],
-        left: &[],
+        ..MAPPED
     },
     Row {
         free: &[0x2000, 0x3000, 0x4000, 0x7000, 0x6000],
@@ -34,10 +35,9 @@ const TABLES_ARE_TAKEN: [Row<'static>; 3] = [
         words: &WORDS,
         full: &[0x6000, 0x7000],
         left: &[0x7000, 0x6000],
+        ..MAPPED
     },
-];
-
-const LARGER_PAGES: [Row<'static>; 2] = [
+    // Larger pages.
     Row {
         calls: &[
             FIRST_LARGE,
@@ -57,10 +57,9 @@ const LARGER_PAGES: [Row<'static>; 2] = [
         words: &[(0x1000, 0, 0x2003), (0x2000, 1, 0x8000_0083)],
         full: &[0x3000, 0x4000],
         left: &[0x3000, 0x4000],
+        ..MAPPED
     },
-];
-
-const IDENTITY_MAPS: [Row<'static>; 3] = [
+    // Pages at the address of their frame.
     Row {
         calls: &[
             (Small(IdentityMap(0x5000, 0x3)), Answered(Done(0x5000))),
@@ -82,9 +81,6 @@ const IDENTITY_MAPS: [Row<'static>; 3] = [
         calls: &[(Small(IdentityMap(0x8000_0000_0000, 0x1)), NotAllowed)],
         ..UNTOUCHED
     },
-];
-
-const REFUSED_MAPS: [Row<'static>; 2] = [
     // The frame of the reply is the one asked for.
     Row {
         calls: &[
@@ -105,19 +101,15 @@ const REFUSED_MAPS: [Row<'static>; 2] = [
         ],
         ..MAPPED
     },
-];
-
-/// Parent flags without `PRESENT`, `HUGE_PAGE` on a 4KiB page, an address bit.
-const MAPS_NOT_ALLOWED: [Row<'static>; 1] = [Row {
-    calls: &[
-        (Small(MapTo(0x1000, 0x5000, 0x0)), NotAllowed),
-        (Small(MapTo(0x1000, 0x5000, 0x81)), NotAllowed),
-        (Small(MapTo(0x1000, 0x5000, 0x1001)), NotAllowed),
-    ],
-    ..UNTOUCHED
-}];
-
-const UNMAPS: [Row<'static>; 3] = [
+    // Parent flags without `PRESENT`, `HUGE_PAGE` on a 4KiB page, an address bit.
+    Row {
+        calls: &[
+            (Small(MapTo(0x1000, 0x5000, 0x0)), NotAllowed),
+            (Small(MapTo(0x1000, 0x5000, 0x81)), NotAllowed),
+            (Small(MapTo(0x1000, 0x5000, 0x1001)), NotAllowed),
+        ],
+        ..UNTOUCHED
+    },
     Row {
         calls: &[
             FIRST,
@@ -143,35 +135,28 @@ const UNMAPS: [Row<'static>; 3] = [
         words: &[LARGE_LEVEL_4, LARGE_LEVEL_3],
         ..LARGE_MAPPED
     },
+    Row {
+        calls: &[
+            FIRST,
+            (Large(Unmap(0x0)), Answered(Refused(ParentEntryHugePage))),
+            (
+                Large(TranslatePage(0x0)),
+                Answered(Refused(InvalidFrameAddress(0x4000))),
+            ),
+            (
+                Large(UpdateFlags(0x0, 0x1)),
+                Answered(Refused(PageNotMapped)),
+            ),
+            (
+                Large(MapTo(0x0, 0x40_0000, 0x1)),
+                Answered(Refused(PageAlreadyMapped(0x40_0000))),
+            ),
+        ],
+        ..MAPPED
+    },
 ];
 
-const LARGER_PAGES_AT_TABLES: [Row<'static>; 1] = [Row {
-    calls: &[
-        FIRST,
-        (Large(Unmap(0x0)), Answered(Refused(ParentEntryHugePage))),
-        (
-            Large(TranslatePage(0x0)),
-            Answered(Refused(InvalidFrameAddress(0x4000))),
-        ),
-        (
-            Large(UpdateFlags(0x0, 0x1)),
-            Answered(Refused(PageNotMapped)),
-        ),
-        (
-            Large(MapTo(0x0, 0x40_0000, 0x1)),
-            Answered(Refused(PageAlreadyMapped(0x40_0000))),
-        ),
-    ],
-    ..MAPPED
-}];
-
-/// All rows.
-pub const TABLES: [&[Row<'static>]; 7] = [
-    &TABLES_ARE_TAKEN,
-    &LARGER_PAGES,
-    &IDENTITY_MAPS,
-    &REFUSED_MAPS,
-    &MAPS_NOT_ALLOWED,
-    &UNMAPS,
-    &LARGER_PAGES_AT_TABLES,
-];
+#[test]
+fn maps_and_unmaps_leave_what_rows_say(rt: HostRuntime) {
+    check_rows(rt, rt.alloc(), &ROWS, &EACH)
+}

@@ -1,10 +1,11 @@
 //! The index of level four that a call names.
-use crate::assertions::assert_equal_in;
+use crate::assertions::{assert_equal_in, unwrap_some};
 use crate::call_rows::CallRow::{
     CleanUp, CleanUpRange, Giant, Large, Small, Translate, TranslateAddr,
 };
 use crate::call_rows::PageCallRow::{IdentityMap, MapTo, Unmap, UpdateFlags};
 use crate::call_rows::{CallRow, call_of};
+use x86_64::Call;
 use x86_64::structures::paging::PageTableIndex;
 
 /// Calls, and the index of level four that each names, if it names one.
@@ -23,7 +24,7 @@ const INDICES: [(CallRow, Option<u16>); 9] = [
 #[test]
 fn calls_name_an_index_of_level_four(rt: HostRuntime) {
     for (call_row, index) in INDICES {
-        let call = call_of(call_row);
+        let call: Call = unwrap_some(rt, call_of(call_row));
         for other in 0..512 {
             let names = call.names(PageTableIndex::new(other));
             assert_equal_in(rt, (call, other), names, index == Some(other));

@@ -1,11 +1,11 @@
 //! Calls of the recursive mapper alone, on pages inside the window and outside.
 use super::{
-    CLEANED, Exchange, FIRST_LARGE, LARGE_MAPPED, LEVEL_2, LEVEL_3, LEVEL_4, MAPPED, Row, Word,
+    CLEANED, Exchange, FIRST_LARGE, LARGE_MAPPED, LEVEL_2, LEVEL_3, LEVEL_4, MAPPED, RECURSIVE,
+    Row, Word, check_rows,
 };
 use crate::call_rows::CallRow::{CleanUp, CleanUpRange, Giant, Large, Small, Translate};
 use crate::call_rows::PageCallRow::{
-    MapTo, MapToWithTableFlags, SetFlagsP2, SetFlagsP3, SetFlagsP4, TranslatePage, Unmap,
-    UpdateFlags,
+    MapTo, MapToWithTableFlags, SetFlags, TranslatePage, Unmap, UpdateFlags,
 };
 use x86_64_plain::Answer::Done;
 use x86_64_plain::PlainReply::{Answered, Cleaned, NotAllowed, Position};
@@ -29,7 +29,8 @@ const ROOT_WINDOW: u64 = 0xffff_ff7f_bfdf_e000;
 /// Takes away all empty tables.
 const CLEAN_UP: Exchange = (CleanUp, Cleaned);
 
-const TABLES_ARE_PAGES: [Row<'static>; 2] = [
+/// Calls through the window, and clean ups beside it.
+const ROWS: [Row<'static>; 7] = [
     Row {
         calls: &[
             MAP,
@@ -77,9 +78,6 @@ const TABLES_ARE_PAGES: [Row<'static>; 2] = [
         words: &[LEVEL_4, LEVEL_3, (0x3000, 1, 0x40_0081)],
         ..LARGE_MAPPED
     },
-];
-
-const CLEAN_UPS: [Row<'static>; 4] = [
     Row {
         calls: &[MAP, UNMAP, CLEAN_UP],
         ..CLEANED
@@ -107,33 +105,34 @@ const CLEAN_UPS: [Row<'static>; 4] = [
         ],
         ..CLEANED
     },
+    // Each call that writes, on pages of each size.
+    Row {
+        calls: &[
+            MAP,
+            (
+                Small(MapToWithTableFlags(ROOT_WINDOW, 0x6000, 0x1, 0x1)),
+                NotAllowed,
+            ),
+            (Large(MapTo(WINDOW, 0x20_0000, 0x1)), NotAllowed),
+            (Giant(MapTo(WINDOW, 0x4000_0000, 0x1)), NotAllowed),
+            (Small(Unmap(WINDOW)), NotAllowed),
+            (Large(Unmap(WINDOW)), NotAllowed),
+            (Giant(Unmap(WINDOW)), NotAllowed),
+            (Small(UpdateFlags(WINDOW, 0x1)), NotAllowed),
+            (Large(UpdateFlags(WINDOW, 0x1)), NotAllowed),
+            (Giant(UpdateFlags(WINDOW, 0x1)), NotAllowed),
+            (Small(SetFlags(4, WINDOW, 0x1)), NotAllowed),
+            (Small(SetFlags(3, WINDOW, 0x1)), NotAllowed),
+            (Small(SetFlags(2, WINDOW, 0x1)), NotAllowed),
+            (Large(SetFlags(2, WINDOW, 0x1)), NotAllowed),
+            (Giant(SetFlags(3, WINDOW, 0x1)), NotAllowed),
+        ],
+        words: &WORDS,
+        ..MAPPED
+    },
 ];
 
-/// Each call that writes, on pages of each size.
-const WRITES: [Row<'static>; 1] = [Row {
-    calls: &[
-        MAP,
-        (
-            Small(MapToWithTableFlags(ROOT_WINDOW, 0x6000, 0x1, 0x1)),
-            NotAllowed,
-        ),
-        (Large(MapTo(WINDOW, 0x20_0000, 0x1)), NotAllowed),
-        (Giant(MapTo(WINDOW, 0x4000_0000, 0x1)), NotAllowed),
-        (Small(Unmap(WINDOW)), NotAllowed),
-        (Large(Unmap(WINDOW)), NotAllowed),
-        (Giant(Unmap(WINDOW)), NotAllowed),
-        (Small(UpdateFlags(WINDOW, 0x1)), NotAllowed),
-        (Large(UpdateFlags(WINDOW, 0x1)), NotAllowed),
-        (Giant(UpdateFlags(WINDOW, 0x1)), NotAllowed),
-        (Small(SetFlagsP4(WINDOW, 0x1)), NotAllowed),
-        (Small(SetFlagsP3(WINDOW, 0x1)), NotAllowed),
-        (Small(SetFlagsP2(WINDOW, 0x1)), NotAllowed),
-        (Large(SetFlagsP2(WINDOW, 0x1)), NotAllowed),
-        (Giant(SetFlagsP3(WINDOW, 0x1)), NotAllowed),
-    ],
-    words: &WORDS,
-    ..MAPPED
-}];
-
-/// All rows.
-pub const TABLES: [&[Row<'static>]; 3] = [&TABLES_ARE_PAGES, &CLEAN_UPS, &WRITES];
+#[test]
+fn tables_are_pages_of_the_window(rt: HostRuntime) {
+    check_rows(rt, rt.alloc(), &ROWS, &[RECURSIVE])
+}

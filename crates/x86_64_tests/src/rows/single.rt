@@ -1,368 +1,274 @@
-//! Calls of a mapper itself.
-ghost use Rattle.std.specs.Prelude.{◌≡◌, ◌<◌, ◌^◌};
-ghost use Rattle.x86_64_model.specs.Mapper.{Valid, SupplyFits};
+//! Calls of a mapper itself, each where its condition holds, with the tokens flushed.
+ghost use Rattle.std.specs.Prelude.{◌≡◌, ◌<◌, ◌^◌, IfSome};
+ghost use Rattle.x86_64_model.specs.Call.{Unmap};
+ghost use Rattle.x86_64_model.specs.Mapper.{Valid, May, PoolFits, SupplyFits, path_of};
+ghost use Rattle.x86_64_model.specs.Pool.{serves_below};
 
-use super::{
-    LARGE_LEVEL_3, LARGE_LEVEL_4, LARGE_MAPPED, LEVEL_2, LEVEL_3, LEVEL_4, MAPPED, RECURSIVE,
-    RECURSIVE_INDEX, Row, SELF_ENTRY, assert_fits, assert_fits_recursive, begin, begin_by, compare,
-};
-use crate::assertions::{assert_equal_in, unwrap};
+use super::{Exchange, assert_fits};
+use crate::assertions::{assert_equal, unwrap};
+use crate::call_rows::{CallRow, PageCallRow};
 use crate::images::{ROOT, flags_of, frame_at, page_at};
-use crate::replies::page_of;
+use bitflags::Flags;
 use std::alloc::Global;
-use std::fmt::Debug;
 use std::process::Abort;
 use x86_64::structures::paging::mapper::{
-    FlagUpdateError, MapToError, MapperAllSizes, MapperFlushAll, TranslateError, UnmapError,
+    CleanUp, FlagUpdateError, MapperAllSizes, MapperFlush, MapperFlushAll, UnmapError,
 };
 use x86_64::structures::paging::{
-    FrameAllocator, MappedPageTable, Mapper, Page, PageSize, PageTableFlags, PageTableIndex,
-    PhysFrame, RecursivePageTable, Size2MiB, Size4KiB,
+    MappedPageTable, Mapper, Page, PageSize, PageTableFlags, PhysFrame, Size1GiB, Size2MiB,
+    Size4KiB, Translate,
 };
-use x86_64::{ActiveMemory, IdentityMapping, PhysAddr, VirtAddr, is_outside_window};
+use x86_64::{
+    FlushRecorder, FramePool, IdentityMapping, MapperReply, PageReply, PhysMemory, Reply,
+    SizeReply, VirtAddr, is_outside_window, parent_flags,
+};
 
-/// Spends the token of a change to a table entry.
-fn done(flush: MapperFlushAll) {
-    flush.ignore();
+/// Flushes the token of a change to a page, if there is one, and gives the page.
+fn flush<S: PageSize, E: Drop>(
+    rt: impl Abort + Copy,
+    changed: Result<MapperFlush<S>, E>,
+    recorder: &mut FlushRecorder,
+) -> Result<Page<S>, E> {
+    match changed {
+        Ok(token) => {
+            let page = token.page();
+            let flushed = token.flush(recorder).map_err(MapperFlush::ignore);
+            assert_equal(rt, flushed, Ok(()));
+            Ok(page)
+        }
+        Err(why) => Err(why),
+    }
 }
 
-/// Compares an answer with the one that is wanted.
-fn compare_answer<T: PartialEq + Debug + Drop>(
+/// Flushes the token of a change of flags, if there is one.
+fn flush_all(
     rt: impl Abort + Copy,
-    answer: T,
-    wanted: T,
-    title: &str,
-) {
-    assert_equal_in(rt, title, answer, wanted);
+    changed: Result<MapperFlushAll, FlagUpdateError>,
+    recorder: &mut FlushRecorder,
+) -> Result<(), FlagUpdateError> {
+    let flushed = changed?.flush_all(recorder).map_err(MapperFlushAll::ignore);
+    assert_equal(rt, flushed, Ok(()));
+    Ok(())
 }
 
-/// Maps a page with flags, the second for its parents, where that is allowed, and compares the answer.
-fn map<S: PageSize + Debug, M: Mapper<S>, A: FrameAllocator<Size4KiB>>(
-    rt: impl Abort + Copy,
-    mapper: &mut M,
-    page: Page<S>,
-    frame: PhysFrame<S>,
-    flags: (PageTableFlags, PageTableFlags),
-    allocator: &mut A,
-)
-    requires { SupplyFits (M.hierarchy mapper.old) (A.supply allocator.old) }
-    ensures ready { SupplyFits (M.hierarchy mapper.new) (A.supply allocator.new) }
-    ensures layout { (M.hierarchy mapper.new).layout ≡ (M.hierarchy mapper.old).layout }
+/// Gives the page at a frame's own address, if that lies in the lower half of the address space.
+fn identity_page<S: PageSize>(frame: PhysFrame<S>) -> Option<Page<S>>
+    ensures same { IfSome result (λ page. page ≡ frame) }
+    ensures low { IfSome result (λ page. frame < 2 ^ 47) }
 {
-    assert!(rt; mapper.map_allowed(page, flags.0, flags.1));
-    let answer = mapper.map_to_with_table_flags(page, frame, flags.0, flags.1, allocator);
-    compare_answer(rt, answer.map(page_of), Ok(page), "map");
+    let start = frame.start_address().as_u64();
+    if start >= 1 << 47 {
+        return None;
+    }
+    match Page::from_start_address(VirtAddr::new_truncate(start)) {
+        Ok(page) => Some(page),
+        Err(_) => None,
+    }
 }
 
-/// Maps a page that is mapped already, with the flags that ask for the parent flags.
-fn map_again<S: PageSize + Debug, M: Mapper<S>, A: FrameAllocator<Size4KiB>>(
+/// Maps the page at a frame's own address, where that is allowed.
+fn map_identity<S: PageSize, M: Mapper<S>>(
     rt: impl Abort + Copy,
     mapper: &mut M,
+    pool: &mut FramePool,
     page: Page<S>,
     frame: PhysFrame<S>,
-    allocator: &mut A,
-)
-    requires { SupplyFits (M.hierarchy mapper.old) (A.supply allocator.old) }
-    ensures valid { Valid (M.hierarchy mapper.new) }
-    ensures layout { (M.hierarchy mapper.new).layout ≡ (M.hierarchy mapper.old).layout }
-{
-    let flags = PageTableFlags::PRESENT;
-    assert!(rt; mapper.map_allowed(page, flags, flags));
-    let answer = mapper.map_to(page, frame, flags, allocator);
-    let error = MapToError::PageAlreadyMapped(frame);
-    compare_answer(rt, answer.map(page_of), Err(error), "map again");
-}
-
-/// Maps the page at a frame's own address, where that is allowed, and compares the answer.
-fn map_identity<S: PageSize + Debug, M: Mapper<S>, A: FrameAllocator<Size4KiB>>(
-    rt: impl Abort + Copy,
-    mapper: &mut M,
-    page: Page<S>,
-    frame: PhysFrame<S>,
-    allocator: &mut A,
-)
-    requires fits { SupplyFits (M.hierarchy mapper.old) (A.supply allocator.old) }
+    flags: PageTableFlags,
+    recorder: &mut FlushRecorder,
+) -> Option<SizeReply<S>>
+    requires fits { SupplyFits (M.hierarchy mapper.old) pool.old.frames }
     requires same { page ≡ frame }
     requires low { frame < 2 ^ 47 }
-    ensures valid { Valid (M.hierarchy mapper.new) }
-    ensures layout { (M.hierarchy mapper.new).layout ≡ (M.hierarchy mapper.old).layout }
 {
-    let flags = PageTableFlags::PRESENT;
-    assert!(rt; mapper.map_allowed(page, flags, flags));
-    let answer = mapper.identity_map(frame, flags, allocator);
-    compare_answer(
-        rt,
-        answer.map(page_of),
-        Ok(page),
-        "map a frame at its own address",
-    );
+    if !mapper.map_allowed(page, flags, parent_flags(flags)) {
+        return None;
+    }
+    let mapped = mapper.identity_map(frame, flags, pool);
+    Some(PageReply::Map(flush(rt, mapped, recorder)))
 }
 
-/// Unmaps a page, and compares the answer.
+/// Maps a page, with the parent flags that it asks for or with others, where that is allowed.
+fn map<S: PageSize, M: Mapper<S>>(
+    rt: impl Abort + Copy,
+    mapper: &mut M,
+    pool: &mut FramePool,
+    page: Page<S>,
+    frame: PhysFrame<S>,
+    flags: PageTableFlags,
+    parents: Option<PageTableFlags>,
+    recorder: &mut FlushRecorder,
+) -> Option<SizeReply<S>>
+    requires { SupplyFits (M.hierarchy mapper.old) pool.old.frames }
+{
+    if !mapper.map_allowed(page, flags, parents.unwrap_or(parent_flags(flags))) {
+        return None;
+    }
+    let mapped = match parents {
+        Some(parents) => mapper.map_to_with_table_flags(page, frame, flags, parents, pool),
+        None => mapper.map_to(page, frame, flags, pool),
+    };
+    Some(PageReply::Map(flush(rt, mapped, recorder)))
+}
+
+/// Sets the flags of the entry of a level on a page's path, where that is allowed.
+#[tactic(auto, unfolding(x86_64_model::specs::Entry::address, x86_64_model::specs::Entry::has))]
+fn set_flags<S: PageSize, M: Mapper<S>>(
+    rt: impl Abort + Copy,
+    mapper: &mut M,
+    level: u8,
+    page: Page<S>,
+    flags: PageTableFlags,
+    recorder: &mut FlushRecorder,
+) -> Option<SizeReply<S>>
+    requires { Valid (M.hierarchy mapper.old) }
+{
+    let is_allowed = match level {
+        4 => {
+            !flags.has_address_bits()
+                && !flags.contains(PageTableFlags::HUGE_PAGE)
+                && is_outside_window(mapper, page)
+        }
+        3 => mapper.p3_flags_allowed(page, flags),
+        _ => mapper.p2_flags_allowed(page, flags),
+    };
+    if !is_allowed {
+        return None;
+    }
+    let changed = match level {
+        4 => mapper.set_flags_p4_entry(page, flags),
+        3 => mapper.set_flags_p3_entry(page, flags),
+        _ => mapper.set_flags_p2_entry(page, flags),
+    };
+    Some(PageReply::TableFlags(flush_all(rt, changed, recorder)))
+}
+
+/// Unmaps a page.
 fn unmap<S: PageSize, M: Mapper<S>>(
     rt: impl Abort + Copy,
     mapper: &mut M,
     page: Page<S>,
-    wanted: Result<(PhysFrame<S>, Page<S>), UnmapError>,
-)
-    requires { Valid (M.hierarchy mapper.old) }
-    ensures valid { Valid (M.hierarchy mapper.new) }
-    ensures layout { (M.hierarchy mapper.new).layout ≡ (M.hierarchy mapper.old).layout }
+    recorder: &mut FlushRecorder,
+) -> Result<(PhysFrame<S>, Page<S>), UnmapError>
+    requires { May (M.hierarchy mapper.old) (Unmap (path_of (M.hierarchy mapper.old) S.LEVEL page)) }
 {
-    assert!(rt; is_outside_window(mapper, page));
-    let answer = mapper
-        .unmap(page)
-        .map(|(frame, flush)| (frame, page_of(flush)));
-    compare_answer(rt, answer, wanted, "unmap");
+    let (frame, token) = mapper.unmap(page)?;
+    let page = unwrap(rt, flush::<S, UnmapError>(rt, Ok(token), recorder));
+    Ok((frame, page))
 }
 
-/// Sets `WRITABLE` alone on a page's entry, and compares the answer.
+/// Makes a call on a page, where it is allowed.
 #[tactic(auto, unfolding(x86_64_model::specs::Entry::address))]
-fn make_writable<S: PageSize, M: Mapper<S>>(
+fn answer_page<S: PageSize, M: Mapper<S>>(
     rt: impl Abort + Copy,
     mapper: &mut M,
-    page: Page<S>,
-    wanted: Result<Page<S>, FlagUpdateError>,
-)
-    requires { Valid (M.hierarchy mapper.old) }
-    ensures valid { Valid (M.hierarchy mapper.new) }
-    ensures layout { (M.hierarchy mapper.new).layout ≡ (M.hierarchy mapper.old).layout }
+    pool: &mut FramePool,
+    call: PageCallRow,
+    recorder: &mut FlushRecorder,
+) -> Option<SizeReply<S>>
+    requires { SupplyFits (M.hierarchy mapper.old) pool.old.frames }
 {
-    assert!(rt; is_outside_window(mapper, page));
-    let answer = mapper.update_flags(page, PageTableFlags::WRITABLE);
-    compare_answer(rt, answer.map(page_of), wanted, "update the flags");
-}
-
-/// Sets `PRESENT` alone on the entry of level four above a page.
-#[tactic(auto, unfolding(x86_64_model::specs::Entry::address, x86_64_model::specs::Entry::has))]
-fn set_level_4<S: PageSize, M: Mapper<S>>(rt: impl Abort + Copy, mapper: &mut M, page: Page<S>)
-    requires { Valid (M.hierarchy mapper.old) }
-    ensures valid { Valid (M.hierarchy mapper.new) }
-    ensures layout { (M.hierarchy mapper.new).layout ≡ (M.hierarchy mapper.old).layout }
-{
-    assert!(rt; is_outside_window(mapper, page));
-    let answer = mapper.set_flags_p4_entry(page, PageTableFlags::PRESENT);
-    compare_answer(rt, answer.map(done), Ok(()), "set flags of level four");
-}
-
-/// Sets the flags of the entry of level three above a page, where that is allowed.
-fn set_level_3<S: PageSize, M: Mapper<S>>(
-    rt: impl Abort + Copy,
-    mapper: &mut M,
-    page: Page<S>,
-    flags: PageTableFlags,
-)
-    requires { Valid (M.hierarchy mapper.old) }
-    ensures valid { Valid (M.hierarchy mapper.new) }
-    ensures layout { (M.hierarchy mapper.new).layout ≡ (M.hierarchy mapper.old).layout }
-{
-    assert!(rt; mapper.p3_flags_allowed(page, flags));
-    let answer = mapper.set_flags_p3_entry(page, flags);
-    compare_answer(rt, answer.map(done), Ok(()), "set flags of level three");
-}
-
-/// Sets the flags of the entry of level two above a page, where that is allowed, and compares the answer.
-fn set_level_2<S: PageSize, M: Mapper<S>>(
-    rt: impl Abort + Copy,
-    mapper: &mut M,
-    page: Page<S>,
-    flags: PageTableFlags,
-    wanted: Result<(), FlagUpdateError>,
-)
-    requires { Valid (M.hierarchy mapper.old) }
-    ensures valid { Valid (M.hierarchy mapper.new) }
-    ensures layout { (M.hierarchy mapper.new).layout ≡ (M.hierarchy mapper.old).layout }
-{
-    assert!(rt; mapper.p2_flags_allowed(page, flags));
-    let answer = mapper.set_flags_p2_entry(page, flags);
-    compare_answer(rt, answer.map(done), wanted, "set flags of level two");
-}
-
-/// What is left of a map and an unmap of the page 0x1000.
-const UNMAPPED: Row<'static> = Row {
-    words: &[
-        (0x1000, 0, 0x2001),
-        (0x2000, 0, 0x3001),
-        (0x3000, 0, 0x4001),
-    ],
-    ..MAPPED
-};
-
-/// The same through windows.
-const WRITABLE_UNMAPPED: Row<'static> = Row {
-    words: &[LEVEL_4, LEVEL_3, LEVEL_2],
-    ..UNMAPPED
-};
-
-/// Maps the page 0x1000 of 4KiB, maps it again, and unmaps it twice.
-fn map_and_unmap<M: Mapper<Size4KiB>, A: FrameAllocator<Size4KiB>>(
-    rt: impl Abort + Copy,
-    mapper: &mut M,
-    allocator: &mut A,
-)
-    requires { SupplyFits (M.hierarchy mapper.old) (A.supply allocator.old) }
-{
-    let page = page_at(0x1000);
-    let frame = frame_at(0x5000);
-    let flags = (flags_of(0x3), PageTableFlags::PRESENT);
-    assert!(rt; !mapper.map_allowed(page, flags.0, flags_of(0x81)));
-    map(rt, mapper, page, frame, flags, allocator);
-    map_again(rt, mapper, page, frame_at(0x9000), allocator);
-    unmap(rt, mapper, page, Ok((frame, page)));
-    unmap(rt, mapper, page, Err(UnmapError::PageNotMapped));
-}
-
-/// What is left of a map of the page 0x600000 of 2MiB whose flags were set.
-const PAGE_FLAGS: Row<'static> = Row {
-    words: &[LARGE_LEVEL_4, LARGE_LEVEL_3, (0x3000, 3, 0x60_0082)],
-    ..LARGE_MAPPED
-};
-
-/// The same through windows.
-const WRITABLE_PAGE_FLAGS: Row<'static> = Row {
-    words: &[LEVEL_4, LEVEL_3, (0x3000, 3, 0x60_0082)],
-    ..PAGE_FLAGS
-};
-
-/// Asks a mapper for the frame of a page, and compares the answer.
-fn translate<S: PageSize, M: Mapper<S>>(
-    rt: impl Abort + Copy,
-    mapper: &M,
-    page: Page<S>,
-    wanted: Result<PhysFrame<S>, TranslateError>,
-)
-    requires { Valid (M.hierarchy mapper.now) }
-{
-    compare_answer(rt, mapper.translate_page(page), wanted, "translate");
-}
-
-/// Maps the page 0x600000 of 2MiB, and sets its flags. The 4KiB page at its start isn't mapped.
-fn set_page_flags<M: MapperAllSizes, A: FrameAllocator<Size4KiB>>(
-    rt: impl Abort + Copy,
-    mapper: &mut M,
-    allocator: &mut A,
-)
-    requires { SupplyFits (M.hierarchy mapper.old) (A.supply allocator.old) }
-{
-    let page: Page<Size2MiB> = Page::from_start_address_unchecked(VirtAddr::new(0x60_0000));
-    let frame = PhysFrame::from_start_address_unchecked(PhysAddr::new(0x60_0000));
-    let below: Page<Size4KiB> = page_at(0x60_0000);
-    map_identity(rt, mapper, page, frame, allocator);
-    translate(rt, mapper, page, Ok(frame));
-    translate(rt, mapper, below, Err(TranslateError::ParentEntryHugePage));
-    make_writable(rt, mapper, page, Ok(page));
-    make_writable(rt, mapper, below, Err(FlagUpdateError::PageNotMapped));
-}
-
-/// What is left of a map of the page 0x1000 where flags of its tables were set.
-const TABLE_FLAGS: Row<'static> = Row {
-    words: &[
-        (0x1000, 0, 0x2001),
-        (0x2000, 0, 0x3005),
-        (0x3000, 0, 0x4009),
-        (0x4000, 1, 0x5003),
-    ],
-    ..MAPPED
-};
-
-/// Maps the page 0x1000 of 4KiB, and sets the flags of the entries above it. A page of 2MiB has no entry above
-/// it in level two.
-fn set_table_flags<M: MapperAllSizes, A: FrameAllocator<Size4KiB>>(
-    rt: impl Abort + Copy,
-    mapper: &mut M,
-    allocator: &mut A,
-)
-    requires { SupplyFits (M.hierarchy mapper.old) (A.supply allocator.old) }
-{
-    let page: Page<Size4KiB> = page_at(0x1000);
-    let large: Page<Size2MiB> = page_at(0x0);
-    let flags = flags_of(0x3);
-    let level_2 = flags_of(0x9);
-    map(
-        rt,
-        mapper,
-        page,
-        frame_at(0x5000),
-        (flags, flags),
-        allocator,
-    );
-    set_level_4(rt, mapper, page);
-    assert!(rt; !mapper.p2_flags_allowed(page, flags_of(0x81)));
-    set_level_2(rt, mapper, page, level_2, Ok(()));
-    set_level_2(
-        rt,
-        mapper,
-        large,
-        level_2,
-        Err(FlagUpdateError::ParentEntryHugePage),
-    );
-    set_level_3(rt, mapper, page, flags_of(0x5));
-}
-
-/// Calls of a mapper itself.
-#[derive(Clone, Copy)]
-enum Script {
-    MapAndUnmap,
-    SetPageFlags,
-    SetTableFlags,
-}
-
-/// Makes the calls of a script.
-fn play<M: MapperAllSizes, A: FrameAllocator<Size4KiB>>(
-    rt: impl Abort + Copy,
-    script: Script,
-    mapper: &mut M,
-    allocator: &mut A,
-)
-    requires { SupplyFits (M.hierarchy mapper.old) (A.supply allocator.old) }
-{
-    match script {
-        Script::MapAndUnmap => map_and_unmap(rt, mapper, allocator),
-        Script::SetPageFlags => set_page_flags(rt, mapper, allocator),
-        Script::SetTableFlags => set_table_flags(rt, mapper, allocator),
+    match call {
+        PageCallRow::MapTo(page, frame, bits) => {
+            let (page, frame, flags) = (page_at(page), frame_at(frame), flags_of(bits));
+            map(rt, mapper, pool, page, frame, flags, None, recorder)
+        }
+        PageCallRow::MapToWithTableFlags(page, frame, bits, parent_bits) => {
+            let (page, frame, flags) = (page_at(page), frame_at(frame), flags_of(bits));
+            let parents = Some(flags_of(parent_bits));
+            map(rt, mapper, pool, page, frame, flags, parents, recorder)
+        }
+        PageCallRow::IdentityMap(frame, bits) => {
+            let (frame, flags) = (frame_at(frame), flags_of(bits));
+            let page = identity_page(frame)?;
+            map_identity(rt, mapper, pool, page, frame, flags, recorder)
+        }
+        PageCallRow::Unmap(page) => {
+            let page = page_at(page);
+            if !is_outside_window(mapper, page) {
+                return None;
+            }
+            Some(PageReply::Unmap(unmap(rt, mapper, page, recorder)))
+        }
+        PageCallRow::UpdateFlags(page, bits) => {
+            let (page, flags) = (page_at(page), flags_of(bits));
+            if flags.has_address_bits() || !is_outside_window(mapper, page) {
+                return None;
+            }
+            let changed = mapper.update_flags(page, flags);
+            Some(PageReply::Update(flush(rt, changed, recorder)))
+        }
+        PageCallRow::SetFlags(level, page, bits) => {
+            set_flags(rt, mapper, level, page_at(page), flags_of(bits), recorder)
+        }
+        PageCallRow::TranslatePage(page) => {
+            Some(PageReply::Frame(mapper.translate_page(page_at(page))))
+        }
     }
 }
 
-/// Makes the calls of a script by the direct mapper, and compares what is left.
-fn check_direct(rt: impl Abort + Copy, alloc: Global, script: Script, row: &Row<'_>) {
-    let (mut memory, mut pool) = begin(rt, alloc, row.free);
+/// Makes a call, where it is allowed.
+fn answer_call<M: MapperAllSizes + Translate + CleanUp>(
+    rt: impl Abort + Copy,
+    mapper: &mut M,
+    pool: &mut FramePool,
+    call: CallRow,
+    recorder: &mut FlushRecorder,
+) -> Option<Reply>
+    requires { PoolFits (M.hierarchy mapper.old) (serves_below pool.old.limit) pool.old.frames }
+{
+    Some(match call {
+        CallRow::Small(call) => {
+            MapperReply::Of4KiB(answer_page::<Size4KiB, _>(rt, mapper, pool, call, recorder)?)
+        }
+        CallRow::Large(call) => {
+            MapperReply::Of2MiB(answer_page::<Size2MiB, _>(rt, mapper, pool, call, recorder)?)
+        }
+        CallRow::Giant(call) => {
+            MapperReply::Of1GiB(answer_page::<Size1GiB, _>(rt, mapper, pool, call, recorder)?)
+        }
+        CallRow::Translate(addr) => {
+            MapperReply::Translate(mapper.translate(VirtAddr::new_truncate(addr)))
+        }
+        CallRow::TranslateAddr(addr) => {
+            MapperReply::Address(mapper.translate_addr(VirtAddr::new_truncate(addr)))
+        }
+        CallRow::CleanUp => {
+            mapper.clean_up(pool);
+            MapperReply::Cleaned
+        }
+        CallRow::CleanUpRange(first, last) => {
+            let range = Page::range_inclusive(page_at(first), page_at(last));
+            mapper.clean_up_addr_range(range, pool);
+            MapperReply::Cleaned
+        }
+    })
+}
+
+/// Makes a call of the mapper over the identity mapping, which is dropped then.
+fn answer_one(
+    rt: impl Abort + Copy,
+    alloc: Global,
+    (memory, pool): (&mut PhysMemory, &mut FramePool),
+    call: CallRow,
+    recorder: &mut FlushRecorder,
+) -> Option<Reply> {
     let root = frame_at(ROOT);
-    assert_fits(rt, alloc, &memory, &IdentityMapping, root, &pool);
-    let mut mapper = MappedPageTable::new(&mut memory, root, IdentityMapping);
-    play(rt, script, &mut mapper, &mut pool);
-    drop(mapper);
-    compare(rt, &memory, &pool, row, "by the direct mapper")
+    assert_fits(rt, alloc, memory, &IdentityMapping, root, pool);
+    let mut mapper = MappedPageTable::new(memory, root, IdentityMapping);
+    answer_call(rt, &mut mapper, pool, call, recorder)
 }
 
-/// Makes the calls of a script through windows, and compares what is left: the entry for the root itself besides.
-fn check_recursive(rt: impl Abort + Copy, alloc: Global, script: Script, row: &Row<'_>) {
-    let (mut memory, mut pool) = begin_by(rt, alloc, RECURSIVE, row.free);
-    let (root, index) = (frame_at(ROOT), PageTableIndex::new(RECURSIVE_INDEX));
-    assert_fits_recursive(rt, alloc, &memory, root, index, &pool);
-    let active = ActiveMemory::new(&mut memory, root);
-    let mut mapper = RecursivePageTable::new_unchecked(active, index);
-    play(rt, script, &mut mapper, &mut pool);
-    drop(mapper);
-    let mut words = unwrap(rt, vec![in alloc; (ROOT, RECURSIVE_INDEX, SELF_ENTRY)]);
-    unwrap(rt, words.extend_from_slice(row.words));
-    let left = Row {
-        words: &words,
-        ..*row
-    };
-    compare(rt, &memory, &pool, &left, "through windows")
-}
-
-/// Scripts, and what is left of them by the direct mapper and through windows, where new tables are writable.
-const SCRIPTS: [(Script, Row<'static>, Row<'static>); 3] = [
-    (Script::MapAndUnmap, UNMAPPED, WRITABLE_UNMAPPED),
-    (Script::SetPageFlags, PAGE_FLAGS, WRITABLE_PAGE_FLAGS),
-    (Script::SetTableFlags, TABLE_FLAGS, TABLE_FLAGS),
-];
-
-#[test]
-fn mappers_answer_single_calls(rt: HostRuntime) {
-    for (script, direct, recursive) in &SCRIPTS {
-        check_direct(rt, rt.alloc(), *script, direct);
-        check_recursive(rt, rt.alloc(), *script, recursive);
+/// Makes the calls of exchanges one by one, and adds the replies.
+pub fn answer_singly(
+    rt: impl Abort + Copy,
+    alloc: Global,
+    (memory, pool): (&mut PhysMemory, &mut FramePool),
+    exchanges: &[Exchange],
+    replies: &mut Vec<Reply>,
+    recorder: &mut FlushRecorder,
+) {
+    for (call, _) in exchanges {
+        let answer = answer_one(rt, alloc, (&mut *memory, &mut *pool), *call, recorder);
+        unwrap(rt, replies.push(answer.unwrap_or(Reply::NotAllowed)));
     }
 }

@@ -1,12 +1,14 @@
 //! Maps where free frames run out.
 use super::{
-    EACH, Exchange, FIRST, LEVEL_1, LEVEL_2, LEVEL_3, LEVEL_4, MAPPED, Row, WORDS,
-    answer_exchanges, answer_row, compare_by,
+    By, EACH, Exchange, FIRST, LEVEL_1, LEVEL_2, LEVEL_3, LEVEL_4, MAPPED, Row, answer_exchanges,
+    answer_row, check_rows, compare_by,
 };
-use crate::assertions::{assert_equal, unwrap};
+use crate::assertions::assert_equal;
 use crate::call_rows::CallRow::Small;
 use crate::call_rows::PageCallRow::MapTo;
 use crate::images::{fill, frame_at};
+use std::alloc::Global;
+use std::process::Abort;
 use x86_64_plain::Answer::Refused;
 use x86_64_plain::PlainReply::Answered;
 use x86_64_plain::Refusal::FrameAllocationFailed;
@@ -17,13 +19,13 @@ const STARVED: Exchange = (
     Answered(Refused(FrameAllocationFailed)),
 );
 
-const TOO_FEW_FRAMES: [Row<'static>; 2] = [
+/// Rows of one list.
+const ROWS: [Row<'static>; 2] = [
     Row {
         free: &[],
         calls: &[STARVED],
         words: &[],
-        full: &[],
-        left: &[],
+        ..MAPPED
     },
     // The entry of level four gets the parent flags before the frame is wanting.
     Row {
@@ -39,41 +41,35 @@ const TOO_FEW_FRAMES: [Row<'static>; 2] = [
     },
 ];
 
-/// Rows of one list.
-pub const TABLES: [&[Row<'static>]; 1] = [&TOO_FEW_FRAMES];
-
 /// One frame, which becomes the first of the tables that are wanting.
 const ONE_FRAME: Row<'static> = Row {
     free: &[0x2000],
     calls: &[STARVED],
     words: &[LEVEL_4],
-    full: &[],
-    left: &[],
+    ..MAPPED
 };
 
 /// The frames that are free later on, and the same map.
 const TWO_MORE: Row<'static> = Row {
     free: &[0x3000, 0x4000],
-    calls: &[FIRST],
-    words: &WORDS,
-    full: &[],
-    left: &[],
+    ..MAPPED
 };
+
+/// Answers a row's calls, and another one's once its free frames are there, and compares what comes of each.
+fn check_supplies(rt: impl Abort + Copy, alloc: Global, row: &Row<'_>, more: &Row<'_>, by: By) {
+    let (mut memory, mut pool) = answer_row(rt, alloc, row, by, "one frame");
+    for frame in more.free {
+        fill(rt, &mut memory, *frame);
+        assert_equal(rt, pool.try_add(frame_at(*frame)), Ok(()));
+    }
+    answer_exchanges(rt, alloc, more, by, (&mut memory, &mut pool), "two more");
+    compare_by(rt, alloc, by, (&memory, &pool), more, by.name())
+}
 
 #[test]
 fn maps_go_on_once_there_are_frames(rt: HostRuntime) {
-    let alloc = rt.alloc();
+    check_rows(rt, rt.alloc(), &ROWS, &EACH);
     for by in EACH {
-        let title = unwrap(
-            rt,
-            format!(in alloc; "one frame, then two more, by {}", by.name()),
-        );
-        let (mut memory, mut pool) = answer_row(rt, alloc, &ONE_FRAME, by, &title);
-        for frame in TWO_MORE.free {
-            fill(rt, &mut memory, *frame);
-            assert_equal(rt, pool.try_add(frame_at(*frame)), Ok(()));
-        }
-        answer_exchanges(rt, alloc, &TWO_MORE, by, (&mut memory, &mut pool), &title);
-        compare_by(rt, alloc, by, (&memory, &pool), &TWO_MORE, &title);
+        check_supplies(rt, rt.alloc(), &ONE_FRAME, &TWO_MORE, by);
     }
 }

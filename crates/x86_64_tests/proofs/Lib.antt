@@ -1,0 +1,2 @@
+-- Lemmas of tests.
+mod AlikeAfter
