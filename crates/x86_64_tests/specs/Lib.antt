@@ -1,3 +1,2 @@
--- What tests begin with, and what they count.
-pub mod Counts
+-- What tests begin with.
 pub mod Pairs

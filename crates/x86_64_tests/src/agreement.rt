@@ -15,7 +15,7 @@ mod session;
 use crate::assertions::unwrap;
 use crate::images::ROOT;
 use crate::rows::Word;
-use crate::untrusted_images::IMAGES;
+use crate::untrusted_images::{IMAGES, Image};
 use chooser::Chooser;
 use modes::{Levels, Mode, Way};
 use outcomes::Met;
@@ -130,25 +130,33 @@ fn the_program_agrees_with_the_plain_one_in_five_levels(rt: HostRuntime) {
     check_all_replies(rt, rt.alloc(), &ways, Levels::Five)
 }
 
-#[test]
-fn they_agree_on_images_that_nobody_vouches_for(rt: HostRuntime) {
+/// Answers commands on the words of an image both ways, however tables are found, and compares.
+fn check_image(
+    rt: impl Abort + Copy,
+    alloc: Global,
+    image: &Image,
+    chooser: &mut Chooser,
+    met: &mut Met,
+) {
+    let words = image.words(rt, alloc);
+    for way in Way::ALL {
+        let mode = Mode::new(way, Levels::Four);
+        check_commands(rt, alloc, mode, (&words, MOST_FREE), chooser, met);
+    }
+}
+
+/// Does so on each image that is valid.
+fn check_images(rt: impl Abort + Copy, alloc: Global, images: &[Image]) {
     let mut chooser = Chooser::new(Levels::Four, 1);
-    let mut met = Met::new(rt.alloc());
-    for image in &IMAGES {
-        if image.replies.is_none() {
-            continue;
-        }
-        let words = image.words(rt, rt.alloc());
-        for way in Way::ALL {
-            let mode = Mode::new(way, Levels::Four);
-            check_commands(
-                rt,
-                rt.alloc(),
-                mode,
-                (&words, MOST_FREE),
-                &mut chooser,
-                &mut met,
-            );
+    let mut met = Met::new(alloc);
+    for image in images {
+        if image.replies.is_some() {
+            check_image(rt, alloc, image, &mut chooser, &mut met);
         }
     }
+}
+
+#[test]
+fn they_agree_on_images_that_nobody_vouches_for(rt: HostRuntime) {
+    check_images(rt, rt.alloc(), &IMAGES)
 }

@@ -7,7 +7,6 @@ ghost use Rattle.x86_64_mappers.specs.Offsets.{offset_places, OffsetFits};
 ghost use Rattle.x86_64_mappers.specs.Recursive.{recursive_now_at};
 ghost use Rattle.x86_64.specs.Runs.{FitsPool};
 
-pub use self::{page_at as page_57_at, run_on as run_57_on};
 use crate::assertions::{unwrap, unwrap_some};
 use bitflags::Flags;
 use std::alloc::{AllocError, Global};

@@ -1,4 +1,7 @@
 //! Tests that cross crates, from outside, as tables where they can be.
+//!
+//! A table with references in it is a static: a proof takes it as one value, where it would build a constant part by part in each
+//! function that names it.
 #![tactic(auto)]
 
 #[cfg(test)]
@@ -7,8 +10,6 @@ mod agreement;
 mod assertions;
 #[cfg(test)]
 mod call_rows;
-#[cfg(test)]
-mod counting;
 #[cfg(test)]
 mod images;
 #[cfg(test)]

@@ -9,14 +9,13 @@ ghost use Rattle.x86_64_mappers.specs.Recursive.{recursive_now_at};
 ghost use Rattle.x86_64.specs.Calls.{names};
 ghost use Rattle.x86_64_tests.specs.Pairs.{IsPair};
 
-pub use self::{none_names as none_names_57, run_pair_on as run_pair_57_on};
 use crate::images::{fits, fits_recursive};
 use std::alloc::{AllocError, Global};
 use std::process::Abort;
 use x86_64::structures::paging::{PageTableIndex, PhysFrame, Size4KiB};
 use x86_64::{
-    CallIn, FiveLevels, FourLevels, FramePool, IdentityMapping, LevelCount, LevelFiveFlags,
-    PhysMemory, ReplyIn, run_pair, tables_alike, tables_alike_57,
+    CallIn, FramePool, IdentityMapping, LevelCount, LevelFiveFlags, PhysMemory, ReplyIn, run_pair,
+    tables_alike, tables_alike_57,
 };
 use x86_64_mappers::mapped_page_table::MappedPageTableIn;
 use x86_64_mappers::recursive_page_table::RecursivePageTableIn;
@@ -43,7 +42,7 @@ fn are_alike<L: LevelCount>(
 
 /// Tells whether two hierarchies of so many levels are valid, the second one for a recursive index, their pools fit them, the path
 /// maps are alike, and the free frames the same.
-pub fn is_pair_in<L: LevelCount>(
+pub fn is_pair<L: LevelCount>(
     rt: impl Abort + Copy,
     alloc: Global,
     root: PhysFrame<Size4KiB>,
@@ -60,38 +59,6 @@ pub fn is_pair_in<L: LevelCount>(
     let alike = are_alike::<L>(memory, walked, root, index);
     let same_free = *pool == *walked_pool;
     fits & walked_fits & alike & same_free
-}
-
-/// Tells what [`is_pair_in`] tells, of hierarchies of four levels.
-pub fn is_pair(
-    rt: impl Abort + Copy,
-    alloc: Global,
-    root: PhysFrame<Size4KiB>,
-    index: PageTableIndex,
-    memory: &PhysMemory,
-    pool: &FramePool,
-    walked: &PhysMemory,
-    walked_pool: &FramePool,
-) -> bool
-    ensures { IsTrue result → IsPair 4 root index memory.now pool.now walked.now walked_pool.now }
-{
-    is_pair_in::<FourLevels>(rt, alloc, root, index, memory, pool, walked, walked_pool)
-}
-
-/// Tells what [`is_pair_in`] tells, of hierarchies of five levels.
-pub fn is_pair_57(
-    rt: impl Abort + Copy,
-    alloc: Global,
-    root: PhysFrame<Size4KiB>,
-    index: PageTableIndex,
-    memory: &PhysMemory,
-    pool: &FramePool,
-    walked: &PhysMemory,
-    walked_pool: &FramePool,
-) -> bool
-    ensures { IsTrue result → IsPair 5 root index memory.now pool.now walked.now walked_pool.now }
-{
-    is_pair_in::<FiveLevels>(rt, alloc, root, index, memory, pool, walked, walked_pool)
 }
 
 /// Tells whether no call names an index of the highest level.

@@ -7,7 +7,6 @@ mod clean_ups;
 mod flags;
 mod flushes;
 mod hierarchies;
-mod layers;
 mod mappings;
 mod maps;
 mod names;
@@ -312,6 +311,21 @@ fn check_rows(rt: impl Abort + Copy, alloc: Global, rows: &[Row<'_>], mappers: &
             answer_row(rt, alloc, row, *by, &title);
         }
     }
+}
+
+/// Does so by each mapper.
+fn check_by_each(rt: impl Abort + Copy, alloc: Global, rows: &[Row<'_>]) {
+    check_rows(rt, alloc, rows, &EACH)
+}
+
+/// Does so by each but the recursive one.
+fn check_by_direct(rt: impl Abort + Copy, alloc: Global, rows: &[Row<'_>]) {
+    check_rows(rt, alloc, rows, &DIRECT)
+}
+
+/// Does so by the recursive one alone.
+fn check_by_recursive(rt: impl Abort + Copy, alloc: Global, rows: &[Row<'_>]) {
+    check_rows(rt, alloc, rows, &[RECURSIVE])
 }
 
 /// Gives the words that aren't 0 after a row's calls by a mapper. In a hierarchy with a recursive index the root

@@ -42,7 +42,7 @@ const INVALID: Image = Image {
 };
 
 /// The images. In the first four the words name each table once.
-pub const IMAGES: [Image; 16] = [
+pub static IMAGES: [Image; 16] = [
     Image {
         words: &[],
         full: None,
@@ -177,7 +177,7 @@ fn hierarchies_are_valid_or_not(rt: HostRuntime) {
 }
 
 /// Words of the root, recursive indices, and whether the hierarchy is valid for them.
-const INDICES: [(&[Word], u16, bool); 9] = [
+static INDICES: [(&[Word], u16, bool); 9] = [
     (&[], 510, false),
     (&[(ROOT, 0, 0x1003)], 0, true),
     (&[(ROOT, 511, 0x1003)], 511, true),
@@ -192,10 +192,10 @@ const INDICES: [(&[Word], u16, bool); 9] = [
 #[test]
 fn hierarchies_are_valid_for_one_index(rt: HostRuntime) {
     let alloc = rt.alloc();
-    for (words, index, is_valid) in INDICES {
+    for (words, index, is_valid) in &INDICES {
         let memory = memory_of(rt, alloc, words);
         let title = unwrap(rt, format!(in alloc; "{words:?}"));
-        assert_validity(rt, alloc, &memory, Some(index), is_valid, &title);
+        assert_validity(rt, alloc, &memory, Some(*index), *is_valid, &title);
     }
 }
 

@@ -14,7 +14,7 @@ use crate::call_rows::{CallRow, call_of};
 use crate::images::{
     ROOT, fits, fits_recursive, frame_at, pool_of, run_on, run_recursive_on, set_word, word_at,
 };
-use crate::pairs::{is_pair_in, none_names, run_pair_on};
+use crate::pairs::{is_pair, none_names, run_pair_on};
 use crate::replies::reply_to;
 use crate::rows::{Word, compare_pool};
 use std::alloc::Global;
@@ -123,7 +123,7 @@ impl Pair {
             pool: walked_pool,
             ..
         } = &mut self.recursive;
-        assert!(rt; is_pair_in::<L>(rt, alloc, root, index, memory, pool, walked, walked_pool));
+        assert!(rt; is_pair::<L>(rt, alloc, root, index, memory, pool, walked, walked_pool));
         assert!(rt; none_names(calls, index));
         unwrap(
             rt,

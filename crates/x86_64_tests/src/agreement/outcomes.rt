@@ -79,7 +79,7 @@ type Outcomes = (&'static [&'static str], &'static [&'static str]);
 /// The commands that there are with four levels too, and all that they can have, but `not allowed` inside the window.
 ///
 /// No entry above level three has `HUGE_PAGE`, so no page of 1GiB lies below one that has it.
-const OUTCOMES: [Outcomes; 11] = [
+static OUTCOMES: [Outcomes; 11] = [
     (
         &[
             "map 4KiB",
@@ -156,7 +156,7 @@ const OUTCOMES: [Outcomes; 11] = [
 ];
 
 /// The command of five levels alone, and all that it can have.
-const OUTCOMES_OF_LEVEL_5: [Outcomes; 1] = [(
+static OUTCOMES_OF_LEVEL_5: [Outcomes; 1] = [(
     &["p5 4KiB", "p5 2MiB", "p5 1GiB"],
     &["ok", "not allowed", "page not mapped"],
 )];

@@ -6,7 +6,7 @@ use std::alloc::Global;
 use std::process::Abort;
 
 /// Numbers, spaces and names that are none.
-const FORMS: [&str; 18] = [
+static FORMS: [&str; 18] = [
     "translate 18446744073709551616",
     "translate 0x10000000000000000",
     "translate 0X1",
@@ -28,7 +28,7 @@ const FORMS: [&str; 18] = [
 ];
 
 /// Lines of an image.
-const IMAGES: [&str; 12] = [
+static IMAGES: [&str; 12] = [
     "word 0x1000 512 0x0",
     "word 0x1000 0",
     "word 0x1000 0 0 0",
@@ -44,7 +44,7 @@ const IMAGES: [&str; 12] = [
 ];
 
 /// Commands that read.
-const READS: [&str; 22] = [
+static READS: [&str; 22] = [
     "translate",
     "translate 1 1",
     "translate 0x800000000000",
@@ -70,7 +70,7 @@ const READS: [&str; 22] = [
 ];
 
 /// Maps.
-const MAPS: [&str; 32] = [
+static MAPS: [&str; 32] = [
     "map",
     "map 4KiB 0x1000 0x5000",
     "map 4KiB 0x1000 0x5000 0x1 0x1",
@@ -106,7 +106,7 @@ const MAPS: [&str; 32] = [
 ];
 
 /// Unmaps, and flags that are set.
-const CHANGES: [&str; 25] = [
+static CHANGES: [&str; 25] = [
     "unmap",
     "unmap 4KiB",
     "unmap 4KiB 0x1000 0x5000",
@@ -135,7 +135,7 @@ const CHANGES: [&str; 25] = [
 ];
 
 /// Clean ups.
-const CLEAN_UPS: [&str; 15] = [
+static CLEAN_UPS: [&str; 15] = [
     "cleanup 0x1000",
     "cleanup 0x1000 0x2000",
     "cleanup 4KiB",
@@ -175,7 +175,7 @@ fn bad_lines_end_the_run(rt: HostRuntime) {
 }
 
 /// Images and lines, the number of the bad line, and the replies before it.
-const COUNTED: [(&str, &[u8], u64, &str); 13] = [
+static COUNTED: [(&str, &[u8], u64, &str); 13] = [
     // Bytes that are no text.
     ("", b"\xff", 1, ""),
     ("", b"\x80\n", 1, ""),
@@ -202,8 +202,8 @@ const COUNTED: [(&str, &[u8], u64, &str); 13] = [
 
 #[test]
 fn bad_lines_are_counted(rt: HostRuntime) {
-    for (image, lines, number, replies) in COUNTED {
-        let bad = Ending::Stopped(Fault::BadLine(number));
-        assert_run(rt, rt.alloc(), "direct 8", (image, lines), bad, replies);
+    for (image, lines, number, replies) in &COUNTED {
+        let bad = Ending::Stopped(Fault::BadLine(*number));
+        assert_run(rt, rt.alloc(), "direct 8", (*image, *lines), bad, replies);
     }
 }

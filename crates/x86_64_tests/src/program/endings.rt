@@ -13,7 +13,7 @@ const USAGE: &str =
 const USED_WRONGLY: Ending = Ending::Stopped(Fault::Usage);
 
 /// Arguments, and how the run ends.
-const ARGUMENTS: [(&str, Ending); 36] = [
+static ARGUMENTS: [(&str, Ending); 36] = [
     ("direct 2", Ending::Done),
     ("direct 0x10", Ending::Done),
     ("direct 008", Ending::Done),
@@ -54,15 +54,15 @@ const ARGUMENTS: [(&str, Ending); 36] = [
 
 #[test]
 fn arguments_are_a_mode_and_its_numbers(rt: HostRuntime) {
-    for (arguments, ending) in ARGUMENTS {
-        let written = if ending == USED_WRONGLY { "" } else { "0x0\n" };
+    for (arguments, ending) in &ARGUMENTS {
+        let written = if *ending == USED_WRONGLY { "" } else { "0x0\n" };
         let input = ("", b"show 0x1000 0\n".as_slice());
-        assert_run(rt, rt.alloc(), arguments, input, ending, written);
+        assert_run(rt, rt.alloc(), arguments, input, *ending, written);
     }
 }
 
 /// Arguments with a recursive index, and the image that has an entry for the root there.
-const INDICES: [(&str, &str); 5] = [
+static INDICES: [(&str, &str); 5] = [
     ("recursive 2 0", "word 0x1000 0 0x1001\n"),
     ("recursive 8 0x1fe", SELF_ENTRY),
     ("recursive 65536 511", "word 0x1000 511 0x1003\n"),
@@ -72,15 +72,15 @@ const INDICES: [(&str, &str); 5] = [
 
 #[test]
 fn arguments_have_a_recursive_index(rt: HostRuntime) {
-    for (arguments, image) in INDICES {
-        let input = (image, b"show 0x1000 1\n".as_slice());
+    for (arguments, image) in &INDICES {
+        let input = (*image, b"show 0x1000 1\n".as_slice());
         assert_run(rt, rt.alloc(), arguments, input, Ending::Done, "0x0\n");
     }
 }
 
 /// Arguments for a memory of 16 places with five levels, with the lines that map the page 0x1000 beside those of the image: of its
 /// four tables the first one is of level five.
-const FIVE_LEVELS: [(&str, &str); 3] = [
+static FIVE_LEVELS: [(&str, &str); 3] = [
     ("direct5 16", "word 0x4000 0 0x8003\nword 0x8000 1 0x5003\n"),
     (
         "recursive5 16 510",
@@ -93,7 +93,7 @@ const FIVE_LEVELS: [(&str, &str); 3] = [
 ];
 
 /// The lines after the image, each with the reply to it.
-const EXCHANGES: [(&str, &str); 4] = [
+static EXCHANGES: [(&str, &str); 4] = [
     ("translate 0x1abc\n", "mapped 4KiB 0x5000 0xabc 0x3\n"),
     ("map 4KiB 0x2000 0x9000 0x1\n", "ok\n"),
     ("walk 0x1abc\n", "0x5abc write=1 user=0\n"),
@@ -109,7 +109,7 @@ const UNWRITTEN: Ending = Ending::Stopped(Fault::Output);
 /// Gives the lines after the image.
 fn lines(rt: impl Abort + Copy, alloc: Global) -> String {
     let mut lines = String::new(alloc);
-    for (line, _) in EXCHANGES {
+    for (line, _) in &EXCHANGES {
         unwrap(rt, lines.push_str(line));
     }
     lines
@@ -119,7 +119,7 @@ fn lines(rt: impl Abort + Copy, alloc: Global) -> String {
 fn replies_within(rt: impl Abort + Copy, alloc: Global, image: usize, bytes: usize) -> String {
     let mut end = image;
     let mut replies = String::new(alloc);
-    for (line, reply) in EXCHANGES {
+    for (line, reply) in &EXCHANGES {
         end = end.saturating_add(line.len());
         if end <= bytes {
             unwrap(rt, replies.push_str(reply));
@@ -154,7 +154,7 @@ fn assert_failed_writes(
     (image, lines): (&str, &[u8]),
 ) {
     let mut replies = String::new(alloc);
-    for (write, (_, reply)) in (1..).zip(EXCHANGES) {
+    for (write, (_, reply)) in (1..).zip(&EXCHANGES) {
         let outcome = run_failing(rt, alloc, arguments, image, lines, 0, write);
         assert_outcome(rt, &outcome, UNWRITTEN, &replies, arguments);
         unwrap(rt, replies.push_str(reply));
@@ -186,7 +186,7 @@ fn failed_reads_and_writes_end_the_run(rt: HostRuntime) {
 }
 
 /// Faults, each with its status and its text.
-const FAULTS: [(Fault, u8, &str); 6] = [
+static FAULTS: [(Fault, u8, &str); 6] = [
     (Fault::BadLine(7), 1, "bad line 7"),
     (Fault::InvalidHierarchy, 2, "invalid hierarchy"),
     (Fault::OutOfMemory, 3, "out of memory"),
@@ -198,9 +198,9 @@ const FAULTS: [(Fault, u8, &str); 6] = [
 #[test]
 fn faults_have_a_status_and_a_text(rt: HostRuntime) {
     assert_equal(rt, Ending::Done.status(), 0);
-    for (fault, status, text) in FAULTS {
-        assert_equal(rt, Ending::Stopped(fault).status(), status);
+    for (fault, status, text) in &FAULTS {
+        assert_equal(rt, Ending::Stopped(*fault).status(), *status);
         let told = unwrap(rt, format!(in rt.alloc(); "{fault}"));
-        assert_equal(rt, told.as_str(), text);
+        assert_equal(rt, told.as_str(), *text);
     }
 }

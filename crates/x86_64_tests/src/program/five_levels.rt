@@ -95,7 +95,7 @@ pool -> pool
 ";
 
 /// Commands, each list after an image in some modes.
-const SESSIONS: [Session; 4] = [
+static SESSIONS: [Session; 4] = [
     (&MODES, POOL, CALLS),
     (&MODES, POOL, LARGE_PAGE),
     (&RECURSIVE, POOL, WINDOWS),
@@ -109,7 +109,7 @@ fn commands_of_five_levels_are_answered(rt: HostRuntime) {
 
 /// Images in which the entry of level five or four has HUGE_PAGE, and in which one table stands at two places or at
 /// two levels.
-const INVALID: [&str; 4] = [
+static INVALID: [&str; 4] = [
     "word 0x1000 0 0x83\n",
     "word 0x1000 0 0x2003\nword 0x2000 0 0x83\n",
     "word 0x1000 0 0x2003\nword 0x1000 1 0x2003\n",
@@ -119,7 +119,7 @@ const INVALID: [&str; 4] = [
 #[test]
 fn images_of_five_levels_are_tested(rt: HostRuntime) {
     for (arguments, first) in MODES {
-        for image in INVALID {
+        for image in &INVALID {
             let whole = unwrap(rt, format!(in rt.alloc(); "{first}{image}"));
             let input = (whole.as_str(), &b"walk 0\n"[..]);
             let invalid = Ending::Stopped(Fault::InvalidHierarchy);
@@ -130,7 +130,7 @@ fn images_of_five_levels_are_tested(rt: HostRuntime) {
 
 /// Arguments, and a line that says no command there: an address or a page that isn't canonical for them, and a
 /// command that the levels lack.
-const BAD_LINES: [(&str, &str); 7] = [
+static BAD_LINES: [(&str, &str); 7] = [
     ("direct5 8", "translate 0x100000000000000\n"),
     ("direct5 8", "walk 0xfeffffffffffffff\n"),
     ("direct5 8", "unmap 4KiB 0x100000000000000\n"),
@@ -142,7 +142,7 @@ const BAD_LINES: [(&str, &str); 7] = [
 
 #[test]
 fn lines_are_read_by_the_levels(rt: HostRuntime) {
-    for (arguments, line) in BAD_LINES {
+    for (arguments, line) in &BAD_LINES {
         let bad = Ending::Stopped(Fault::BadLine(1));
         assert_run(rt, rt.alloc(), arguments, ("", line.as_bytes()), bad, "");
     }

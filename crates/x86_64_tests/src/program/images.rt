@@ -45,21 +45,21 @@ fn images_are_valid_or_refused(rt: HostRuntime) {
 }
 
 /// Images whose root is free, or a table.
-const FREE_TABLES: [&str; 2] = [
+static FREE_TABLES: [&str; 2] = [
     "free 0x1000\n",
     "free 0x3000\nword 0x1000 0 0x2003\nword 0x2000 0 0x3002\n",
 ];
 
 #[test]
 fn images_whose_tables_are_free_are_refused(rt: HostRuntime) {
-    for image in FREE_TABLES {
+    for image in &FREE_TABLES {
         assert_invalid_in_each(rt, rt.alloc(), image);
     }
 }
 
 /// Images in which the root has no entry for itself at the index 510: no word, one at another index, one without
 /// PRESENT, one with HUGE_PAGE, one of another frame, and one beside another entry for itself.
-const NOT_RECURSIVE: [&str; 6] = [
+static NOT_RECURSIVE: [&str; 6] = [
     "",
     "word 0x1000 511 0x1003\n",
     "word 0x1000 510 0x1002\n",
@@ -70,7 +70,7 @@ const NOT_RECURSIVE: [&str; 6] = [
 
 #[test]
 fn images_without_a_self_entry_are_refused(rt: HostRuntime) {
-    for image in NOT_RECURSIVE {
+    for image in &NOT_RECURSIVE {
         assert_invalid(rt, rt.alloc(), "recursive 8 510", image);
         assert_invalid(rt, rt.alloc(), "pair 8 510", image);
     }

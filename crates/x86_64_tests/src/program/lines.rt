@@ -11,7 +11,7 @@ use std::process::Abort;
 const BAD: Ending = Ending::Stopped(Fault::BadLine(1));
 
 /// What a line begins with, how many bytes it has with the spaces that follow, how the run ends, and what it writes.
-const LENGTHS: [(&str, usize, Ending, &str); 8] = [
+static LENGTHS: [(&str, usize, Ending, &str); 8] = [
     ("", 255, Ending::Done, ""),
     ("", 256, Ending::Done, ""),
     ("", 257, BAD, ""),
@@ -34,11 +34,11 @@ fn spaced(rt: impl Abort + Copy, alloc: Global, front: &str, length: usize, end:
 
 #[test]
 fn lines_have_at_most_256_bytes(rt: HostRuntime) {
-    for (front, length, ending, written) in LENGTHS {
+    for (front, length, ending, written) in &LENGTHS {
         for end in ["", "\n"] {
-            let line = spaced(rt, rt.alloc(), front, length, end);
+            let line = spaced(rt, rt.alloc(), front, *length, end);
             let input = ("", line.as_bytes());
-            assert_run(rt, rt.alloc(), "direct 8", input, ending, written);
+            assert_run(rt, rt.alloc(), "direct 8", input, *ending, written);
         }
     }
 }
@@ -61,7 +61,7 @@ struct EndlessRow {
     written: &'static str,
 }
 
-const ENDLESS: [EndlessRow; 7] = [
+static ENDLESS: [EndlessRow; 7] = [
     EndlessRow {
         front: "",
         again: b'x',

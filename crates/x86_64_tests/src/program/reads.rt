@@ -5,7 +5,7 @@ use super::{FIRST, INVALID, LARGE, MODES, Session, assert_sessions};
 const LAST: &str = "word 0x1000 511 0x2007\nword 0x2000 511 0x8000000000000087\n";
 
 /// Images with commands: pages of each size, forms of lines, and free frames in order.
-const SESSIONS: [Session; 13] = [
+static SESSIONS: [Session; 13] = [
     (
         &MODES,
         FIRST,

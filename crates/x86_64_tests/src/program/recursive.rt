@@ -127,7 +127,7 @@ walk 0xffffff0080000fff -> none
 ";
 
 /// Scripts, each after an image in a mode.
-const SESSIONS: [Session; 4] = [
+static SESSIONS: [Session; 4] = [
     (&RECURSIVE, POOL, WINDOWS),
     (&PAIR, POOL, NEW_TABLES_OF_A_PAIR),
     (&PAIR, POOL, INDEX_OF_A_PAIR),

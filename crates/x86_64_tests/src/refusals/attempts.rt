@@ -33,7 +33,7 @@ const PLACES: [u64; 16] = [
 
 /// Calls, and blocks that have room from the start: none, or the first growth of a call that grows twice, that of a memory's numbers
 /// or of a pool's free frames.
-const ATTEMPTS: [(Attempt, &[usize]); 14] = [
+static ATTEMPTS: [(Attempt, &[usize]); 14] = [
     (Attempt::NewMemory, &[]),
     (Attempt::NewMemory, &[16 * 8]),
     (Attempt::MemoryWithGaps, &[]),
@@ -96,13 +96,13 @@ fn memories_and_pools_are_made_and_tested_where_there_is_room(rt: HostRuntime) {
     let mut walked = unwrap(rt, PhysMemory::new(alloc, 4096));
     set_word(rt, &mut walked, ROOT, 510, 0x1003);
     let pool = pool_of(rt, alloc, 4096, &[0x2000, 0x3000, 0x4000]);
-    for (attempt, room) in ATTEMPTS {
+    for (attempt, room) in &ATTEMPTS {
         let hoard = hoard_past(rt, alloc, room);
-        let refused = make(alloc, attempt, &memory, &walked, &pool);
+        let refused = make(alloc, *attempt, &memory, &walked, &pool);
         drop(hoard);
-        assert_equal_in(rt, (attempt, room), refused, Err(AllocError));
-        let made = make(alloc, attempt, &memory, &walked, &pool);
-        assert_equal_in(rt, attempt, made, Ok(true));
+        assert_equal_in(rt, (*attempt, *room), refused, Err(AllocError));
+        let made = make(alloc, *attempt, &memory, &walked, &pool);
+        assert_equal_in(rt, *attempt, made, Ok(true));
     }
 }
 
@@ -118,7 +118,12 @@ fn mappers_are_tested_where_there_is_room(rt: HostRuntime) {
     drop(hoard);
     let answers = [refused, mapper.is_valid(alloc)];
     assert_equal(rt, answers, [Err(AllocError), Ok(true)]);
-    drop(mapper);
+}
+
+#[test]
+fn mappers_of_five_levels_are_tested_where_there_is_room(rt: HostRuntime) {
+    let (alloc, root) = (rt.alloc(), frame_at(ROOT));
+    let mut memory = unwrap(rt, PhysMemory::new(alloc, 4096));
     let is_valid = is_valid_hierarchy_57(alloc, &memory, &IdentityMapping, root);
     assert!(rt; unwrap(rt, is_valid));
     let mapper = MappedPageTable57::new(&mut memory, root, IdentityMapping);

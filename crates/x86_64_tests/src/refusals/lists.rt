@@ -4,23 +4,23 @@ ghost use Rattle.x86_64_model.specs.Mapper.{PoolFits};
 
 use super::hoard::hoard_past;
 use crate::assertions::{assert_equal, unwrap};
-use crate::images::{ROOT, frame_at, pool_of, set_word};
+use crate::images::{ROOT, fits, fits_recursive, frame_at, pool_of, set_word};
 use std::alloc::{AllocError, Global};
 use std::process::Abort;
 use x86_64::addr::VirtAddrIn;
 use x86_64::structures::paging::mapper::TableAccess;
 use x86_64::structures::paging::page::PageIn;
-use x86_64::structures::paging::{
-    MappedPageTable, MappedPageTable57, OffsetPageTable, OffsetPageTable57, PageTable,
-    PageTableFlags, PageTableIndex, RecursivePageTable, RecursivePageTable57, Size4KiB,
-};
+use x86_64::structures::paging::{PageTable, PageTableFlags, PageTableIndex, Size4KiB};
 use x86_64::{
-    ActiveMemory, ActiveMemory57, Call, Call57, CallIn, FlushRecorder, FramePlace, FramePool,
-    IdentityMapping, LevelCount, LevelFiveFlags, MapperReply, PageReply, PhysMemory, SizeCallIn,
-    TablesIn, VirtAddr, VirtAddr57, pool_fits, pool_fits_57, pool_fits_recursive,
-    pool_fits_recursive_57, run, run_flushed,
+    CallIn, FiveLevels, FlushRecorder, FourLevels, FramePlace, FramePool, IdentityMapping,
+    LevelCount, LevelFiveFlags, MapperReply, NoLevelFive, PageReply, PhysMemory, SizeCallIn,
+    TablesIn, run, run_flushed,
 };
 use x86_64_mappers::laws::offset_has_the_tables_of_the_identity;
+use x86_64_mappers::mapped_page_table::MappedPageTableIn;
+use x86_64_mappers::offset_page_table::OffsetPageTableIn;
+use x86_64_mappers::recursive_page_table::RecursivePageTableIn;
+use x86_64_tables::phys_memory::Active;
 
 /// How many places a memory has.
 const PLACES: u64 = 6;
@@ -69,8 +69,8 @@ pub fn maps_of_a_page<L: LevelCount, P5: LevelFiveFlags<L>>(
 }
 
 /// Gives how many entries of a table are used.
-fn used_in(table: &PageTable) -> usize {
-    let mut count: usize = 0;
+fn used_in(table: &PageTable) -> u64 {
+    let mut count: u64 = 0;
     for entry in table.iter() {
         if !entry.is_unused() {
             count = count.saturating_add(1);
@@ -80,8 +80,8 @@ fn used_in(table: &PageTable) -> usize {
 }
 
 /// Gives how many entries of a memory are used.
-pub fn used_entries(memory: &PhysMemory) -> usize {
-    let mut count: usize = 0;
+pub fn used_entries(memory: &PhysMemory) -> u64 {
+    let mut count: u64 = 0;
     for place in 0..PLACES {
         if let Some(table) = memory.table(FramePlace::new(place)) {
             count = count.saturating_add(used_in(table));
@@ -183,62 +183,62 @@ fn refuse_and_answer<L: LevelCount, P5: LevelFiveFlags<L>, M: TableAccess + Tabl
     answer(rt, alloc, mapper, pool, calls)
 }
 
+/// Does so by the mapper over the identity mapping, which uses an entry of each level.
+fn check_identity<L: LevelCount, P5: LevelFiveFlags<L>>(rt: impl Abort + Copy, alloc: Global) {
+    let root = frame_at(ROOT);
+    let calls = maps_of_a_page::<L, P5>(rt, alloc);
+    let (mut memory, mut pool) = begin(rt, alloc);
+    assert!(rt; fits::<L>(rt, alloc, &memory, root, &pool));
+    let mut mapper = MappedPageTableIn::<IdentityMapping, L>::new(
+        &mut memory,
+        root,
+        IdentityMapping,
+    );
+    refuse_and_answer(rt, alloc, &mut mapper, &mut pool, &calls);
+    drop(mapper);
+    assert_equal(rt, used_entries(&memory), L::LEVELS);
+}
+
+/// Does so by the mapper of a memory at an offset.
+fn check_offset<L: LevelCount, P5: LevelFiveFlags<L>>(rt: impl Abort + Copy, alloc: Global) {
+    let (root, offset) = (frame_at(ROOT), VirtAddrIn::<L>::new_truncate(OFFSET));
+    let calls = maps_of_a_page::<L, P5>(rt, alloc);
+    let (mut memory, mut pool) = begin(rt, alloc);
+    assert!(rt; fits::<L>(rt, alloc, &memory, root, &pool));
+    assert!(rt; OffsetPageTableIn::<L>::offset_fits(&memory, offset));
+    offset_has_the_tables_of_the_identity(&memory, offset);
+    let mut mapper = OffsetPageTableIn::<L>::new(&mut memory, root, offset);
+    refuse_and_answer(rt, alloc, &mut mapper, &mut pool, &calls);
+    drop(mapper);
+    assert_equal(rt, used_entries(&memory), L::LEVELS);
+}
+
+/// Does so by the recursive mapper, whose root has an entry for itself too.
+fn check_recursive<L: LevelCount, P5: LevelFiveFlags<L>>(rt: impl Abort + Copy, alloc: Global) {
+    let (root, index) = (frame_at(ROOT), PageTableIndex::new(INDEX));
+    let calls = maps_of_a_page::<L, P5>(rt, alloc);
+    let (mut memory, mut pool) = begin_recursive(rt, alloc);
+    assert!(rt; fits_recursive::<L>(rt, alloc, &memory, root, index, &pool));
+    let active = Active::<L>::new(&mut memory, root);
+    let mut mapper = RecursivePageTableIn::<L>::new_unchecked(active, index);
+    refuse_and_answer(rt, alloc, &mut mapper, &mut pool, &calls);
+    drop(mapper);
+    assert_equal(rt, used_entries(&memory), L::LEVELS.saturating_add(1));
+}
+
+/// Does so by each mapper.
+fn check_each<L: LevelCount, P5: LevelFiveFlags<L>>(rt: impl Abort + Copy, alloc: Global) {
+    check_identity::<L, P5>(rt, alloc);
+    check_offset::<L, P5>(rt, alloc);
+    check_recursive::<L, P5>(rt, alloc)
+}
+
 #[test]
 fn lists_of_four_levels_change_nothing_where_there_is_no_room(rt: HostRuntime) {
-    let (alloc, root, index) = (rt.alloc(), frame_at(ROOT), PageTableIndex::new(INDEX));
-    let offset = VirtAddr::new(OFFSET);
-    let calls: Vec<Call> = maps_of_a_page(rt, alloc);
-    let (mut memory, mut pool) = begin(rt, alloc);
-    let fits = pool_fits(alloc, &memory, &IdentityMapping, root, &pool);
-    assert!(rt; unwrap(rt, fits));
-    let mut mapper = MappedPageTable::new(&mut memory, root, IdentityMapping);
-    refuse_and_answer(rt, alloc, &mut mapper, &mut pool, &calls);
-    drop(mapper);
-    assert_equal(rt, used_entries(&memory), 4);
-    let (mut memory, mut pool) = begin(rt, alloc);
-    let fits = pool_fits(alloc, &memory, &IdentityMapping, root, &pool);
-    assert!(rt; unwrap(rt, fits) && OffsetPageTable::offset_fits(&memory, offset));
-    offset_has_the_tables_of_the_identity(&memory, offset);
-    let mut mapper = OffsetPageTable::new(&mut memory, root, offset);
-    refuse_and_answer(rt, alloc, &mut mapper, &mut pool, &calls);
-    drop(mapper);
-    assert_equal(rt, used_entries(&memory), 4);
-    let (mut memory, mut pool) = begin_recursive(rt, alloc);
-    let fits = pool_fits_recursive(alloc, &memory, root, index, &pool);
-    assert!(rt; unwrap(rt, fits));
-    let active = ActiveMemory::new(&mut memory, root);
-    let mut mapper = RecursivePageTable::new_unchecked(active, index);
-    refuse_and_answer(rt, alloc, &mut mapper, &mut pool, &calls);
-    drop(mapper);
-    assert_equal(rt, used_entries(&memory), 5);
+    check_each::<FourLevels, NoLevelFive>(rt, rt.alloc())
 }
 
 #[test]
 fn lists_of_five_levels_change_nothing_where_there_is_no_room(rt: HostRuntime) {
-    let (alloc, root, index) = (rt.alloc(), frame_at(ROOT), PageTableIndex::new(INDEX));
-    let offset = VirtAddr57::new(OFFSET);
-    let calls: Vec<Call57> = maps_of_a_page(rt, alloc);
-    let (mut memory, mut pool) = begin(rt, alloc);
-    let fits = pool_fits_57(alloc, &memory, &IdentityMapping, root, &pool);
-    assert!(rt; unwrap(rt, fits));
-    let mut mapper = MappedPageTable57::new(&mut memory, root, IdentityMapping);
-    refuse_and_answer(rt, alloc, &mut mapper, &mut pool, &calls);
-    drop(mapper);
-    assert_equal(rt, used_entries(&memory), 5);
-    let (mut memory, mut pool) = begin(rt, alloc);
-    let fits = pool_fits_57(alloc, &memory, &IdentityMapping, root, &pool);
-    assert!(rt; unwrap(rt, fits) && OffsetPageTable57::offset_fits(&memory, offset));
-    offset_has_the_tables_of_the_identity(&memory, offset);
-    let mut mapper = OffsetPageTable57::new(&mut memory, root, offset);
-    refuse_and_answer(rt, alloc, &mut mapper, &mut pool, &calls);
-    drop(mapper);
-    assert_equal(rt, used_entries(&memory), 5);
-    let (mut memory, mut pool) = begin_recursive(rt, alloc);
-    let fits = pool_fits_recursive_57(alloc, &memory, root, index, &pool);
-    assert!(rt; unwrap(rt, fits));
-    let active = ActiveMemory57::new(&mut memory, root);
-    let mut mapper = RecursivePageTable57::new_unchecked(active, index);
-    refuse_and_answer(rt, alloc, &mut mapper, &mut pool, &calls);
-    drop(mapper);
-    assert_equal(rt, used_entries(&memory), 6);
+    check_each::<FiveLevels, PageTableFlags>(rt, rt.alloc())
 }

@@ -5,9 +5,14 @@ use super::lists::{
 };
 use crate::assertions::{assert_equal, unwrap};
 use crate::images::{ROOT, frame_at};
-use crate::pairs::{is_pair, is_pair_57, none_names, none_names_57, run_pair_57_on, run_pair_on};
-use x86_64::structures::paging::PageTableIndex;
-use x86_64::{Call, Call57, FramePool, PhysMemory, Reply};
+use crate::pairs::{is_pair, none_names, run_pair_on};
+use std::alloc::Global;
+use std::process::Abort;
+use x86_64::structures::paging::{PageTableFlags, PageTableIndex};
+use x86_64::{
+    CallIn, FiveLevels, FourLevels, FramePool, LevelCount, LevelFiveFlags, NoLevelFive, PhysMemory,
+    Reply,
+};
 
 /// The first growth of a pair: the replies of one mapper, which those of the other follow.
 const REPLIES_OF_ONE: [usize; 1] = [CALL_COUNT * size_of::<Reply>()];
@@ -24,48 +29,72 @@ fn are_untouched(
     are_empty && is_full(pool) && is_full(walked_pool)
 }
 
-#[test]
-fn lists_of_pairs_change_nothing_where_there_is_no_room(rt: HostRuntime) {
-    let (alloc, root, index) = (rt.alloc(), frame_at(ROOT), PageTableIndex::new(INDEX));
+/// Compares that a list is refused where there is room for these blocks alone, and changes nothing.
+fn refuse<L: LevelCount, P5: LevelFiveFlags<L>>(
+    rt: impl Abort + Copy,
+    alloc: Global,
+    memory: &mut PhysMemory,
+    pool: &mut FramePool,
+    walked: &mut PhysMemory,
+    walked_pool: &mut FramePool,
+    calls: &[CallIn<L, P5>],
+    room: &[usize],
+) {
+    let (root, index) = (frame_at(ROOT), PageTableIndex::new(INDEX));
+    assert!(rt; is_pair::<L>(rt, alloc, root, index, memory, pool, walked, walked_pool));
+    assert!(rt; none_names(calls, index));
+    let hoard = hoard_past(rt, alloc, room);
+    let refused = run_pair_on(alloc, root, index, memory, pool, walked, walked_pool, calls);
+    drop(hoard);
+    assert!(rt; refused.is_err() && are_untouched(memory, pool, walked, walked_pool));
+}
+
+/// Compares that a list is answered, where each mapper uses an entry of each level.
+fn answer<L: LevelCount, P5: LevelFiveFlags<L>>(
+    rt: impl Abort + Copy,
+    alloc: Global,
+    memory: &mut PhysMemory,
+    pool: &mut FramePool,
+    walked: &mut PhysMemory,
+    walked_pool: &mut FramePool,
+    calls: &[CallIn<L, P5>],
+) {
+    let (root, index) = (frame_at(ROOT), PageTableIndex::new(INDEX));
+    assert!(rt; is_pair::<L>(rt, alloc, root, index, memory, pool, walked, walked_pool));
+    assert!(rt; none_names(calls, index));
+    let answer = run_pair_on(alloc, root, index, memory, pool, walked, walked_pool, calls);
+    assert_equal(rt, unwrap(rt, answer).len(), CALL_COUNT);
+    assert_equal(rt, used_entries(memory), L::LEVELS);
+    assert_equal(rt, used_entries(walked), L::LEVELS.saturating_add(1));
+}
+
+/// Compares that a list of a pair is refused where a growth has no room, and answered then.
+fn check_pair<L: LevelCount, P5: LevelFiveFlags<L>>(rt: impl Abort + Copy, alloc: Global) {
     let (mut memory, mut pool) = begin(rt, alloc);
     let (mut walked, mut walked_pool) = begin_recursive(rt, alloc);
     let (memory, pool) = (&mut memory, &mut pool);
     let (walked, walked_pool) = (&mut walked, &mut walked_pool);
-    let list: Vec<Call> = maps_of_a_page(rt, alloc);
-    assert!(rt; is_pair(rt, alloc, root, index, memory, pool, walked, walked_pool));
-    assert!(rt; none_names(&list, index));
-    let hoard = hoard_past(rt, alloc, &[]);
-    let refused = run_pair_on(alloc, root, index, memory, pool, walked, walked_pool, &list);
-    drop(hoard);
-    assert!(rt; refused.is_err() && are_untouched(memory, pool, walked, walked_pool));
-    let hoard = hoard_past(rt, alloc, &REPLIES_OF_ONE);
-    let refused = run_pair_on(alloc, root, index, memory, pool, walked, walked_pool, &list);
-    drop(hoard);
-    assert!(rt; refused.is_err() && are_untouched(memory, pool, walked, walked_pool));
-    let answer = run_pair_on(alloc, root, index, memory, pool, walked, walked_pool, &list);
-    assert_equal(rt, unwrap(rt, answer).len(), CALL_COUNT);
-    assert_equal(rt, (used_entries(memory), used_entries(walked)), (4, 5));
+    let list: Vec<CallIn<L, P5>> = maps_of_a_page(rt, alloc);
+    refuse(rt, alloc, memory, pool, walked, walked_pool, &list, &[]);
+    refuse(
+        rt,
+        alloc,
+        memory,
+        pool,
+        walked,
+        walked_pool,
+        &list,
+        &REPLIES_OF_ONE,
+    );
+    answer(rt, alloc, memory, pool, walked, walked_pool, &list)
+}
+
+#[test]
+fn lists_of_pairs_change_nothing_where_there_is_no_room(rt: HostRuntime) {
+    check_pair::<FourLevels, NoLevelFive>(rt, rt.alloc())
 }
 
 #[test]
 fn lists_of_pairs_of_five_levels_change_nothing_where_there_is_no_room(rt: HostRuntime) {
-    let (alloc, root, index) = (rt.alloc(), frame_at(ROOT), PageTableIndex::new(INDEX));
-    let (mut memory, mut pool) = begin(rt, alloc);
-    let (mut walked, mut walked_pool) = begin_recursive(rt, alloc);
-    let (memory, pool) = (&mut memory, &mut pool);
-    let (walked, walked_pool) = (&mut walked, &mut walked_pool);
-    let list: Vec<Call57> = maps_of_a_page(rt, alloc);
-    assert!(rt; is_pair_57(rt, alloc, root, index, memory, pool, walked, walked_pool));
-    assert!(rt; none_names_57(&list, index));
-    let hoard = hoard_past(rt, alloc, &[]);
-    let refused = run_pair_57_on(alloc, root, index, memory, pool, walked, walked_pool, &list);
-    drop(hoard);
-    assert!(rt; refused.is_err() && are_untouched(memory, pool, walked, walked_pool));
-    let hoard = hoard_past(rt, alloc, &REPLIES_OF_ONE);
-    let refused = run_pair_57_on(alloc, root, index, memory, pool, walked, walked_pool, &list);
-    drop(hoard);
-    assert!(rt; refused.is_err() && are_untouched(memory, pool, walked, walked_pool));
-    let answer = run_pair_57_on(alloc, root, index, memory, pool, walked, walked_pool, &list);
-    assert_equal(rt, unwrap(rt, answer).len(), CALL_COUNT);
-    assert_equal(rt, (used_entries(memory), used_entries(walked)), (5, 6));
+    check_pair::<FiveLevels, PageTableFlags>(rt, rt.alloc())
 }

@@ -89,7 +89,7 @@ type Mode = (
     &'static [(Stage, usize)],
 );
 
-const MODES: [Mode; 7] = [
+static MODES: [Mode; 7] = [
     ("direct 512", "", " 0x2000", &ALONE),
     ("offset 512 0xffff800000000000", "", " 0x2000", &ALONE),
     (
@@ -167,14 +167,14 @@ fn refuse_each(rt: impl Abort + Copy, alloc: Global, (arguments, first, tables, 
 
 #[test]
 fn the_program_stops_at_each_block_that_is_refused(rt: HostRuntime) {
-    for mode in MODES {
-        refuse_each(rt, rt.alloc(), mode);
+    for mode in &MODES {
+        refuse_each(rt, rt.alloc(), *mode);
     }
 }
 
 /// Arguments that are refused before memory is taken: numbers out of range, an offset that isn't canonical, and a mode that is
 /// none.
-const WRONG: [&str; 6] = [
+static WRONG: [&str; 6] = [
     "",
     "direct 1",
     "direct 65537",
@@ -186,12 +186,12 @@ const WRONG: [&str; 6] = [
 #[test]
 fn wrong_arguments_want_no_memory(rt: HostRuntime) {
     let alloc = rt.alloc();
-    for arguments in WRONG {
+    for arguments in &WRONG {
         let words = words_of(rt, alloc, arguments);
         let hoard = hoard_past(rt, alloc, &[]);
         let stopped = attempt(rt, alloc, &words, "", "");
         drop(hoard);
-        assert_equal_in(rt, arguments, stopped, (USED_WRONGLY, 0));
+        assert_equal_in(rt, *arguments, stopped, (USED_WRONGLY, 0));
     }
 }
 

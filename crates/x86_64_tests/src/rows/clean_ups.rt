@@ -1,6 +1,6 @@
 //! Clean ups.
 use super::{
-    CLEANED, EACH, Exchange, FIRST, LEVEL_1, LEVEL_2, LEVEL_3, LEVEL_4, MAPPED, Row, check_rows,
+    CLEANED, Exchange, FIRST, LEVEL_1, LEVEL_2, LEVEL_3, LEVEL_4, MAPPED, Row, check_by_each,
 };
 use crate::call_rows::CallRow::{CleanUp, CleanUpRange, Small, Translate, TranslateAddr};
 use crate::call_rows::PageCallRow::{MapTo, SetFlags, Unmap};
@@ -46,7 +46,7 @@ const OVER_THE_GAP: Exchange = (
 );
 
 /// Clean ups of all pages and of ranges.
-const ROWS: [Row<'static>; 11] = [
+static ROWS: [Row<'static>; 11] = [
     Row {
         calls: &[FIRST, UNMAP, CLEAN_UP],
         ..CLEANED
@@ -149,5 +149,5 @@ const ROWS: [Row<'static>; 11] = [
 
 #[test]
 fn clean_ups_take_what_rows_say(rt: HostRuntime) {
-    check_rows(rt, rt.alloc(), &ROWS, &EACH)
+    check_by_each(rt, rt.alloc(), &ROWS)
 }

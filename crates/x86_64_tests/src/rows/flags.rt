@@ -1,7 +1,7 @@
 //! Flags of entries on the paths of pages.
 use super::{
-    EACH, FIRST, FIRST_LARGE, LARGE_LEVEL_3, LARGE_LEVEL_4, LARGE_MAPPED, LEVEL_1, LEVEL_2,
-    LEVEL_3, LEVEL_4, MAPPED, Row, check_rows,
+    FIRST, FIRST_LARGE, LARGE_LEVEL_3, LARGE_LEVEL_4, LARGE_MAPPED, LEVEL_1, LEVEL_2, LEVEL_3,
+    LEVEL_4, MAPPED, Row, check_by_each,
 };
 use crate::call_rows::CallRow::{Giant, Large, Small, Translate};
 use crate::call_rows::PageCallRow::{MapTo, SetFlags, Unmap, UpdateFlags};
@@ -14,7 +14,7 @@ use x86_64_plain::Translated::Mapped;
 const HUGE: PlainReply = Answered(Refused(ParentEntryHugePage));
 
 /// Changes of flags, allowed or not.
-const ROWS: [Row<'static>; 6] = [
+static ROWS: [Row<'static>; 6] = [
     // Without PRESENT a page is still translated, and its entry still used.
     Row {
         calls: &[
@@ -116,5 +116,5 @@ const ROWS: [Row<'static>; 6] = [
 
 #[test]
 fn flags_become_what_rows_say(rt: HostRuntime) {
-    check_rows(rt, rt.alloc(), &ROWS, &EACH)
+    check_by_each(rt, rt.alloc(), &ROWS)
 }

@@ -98,7 +98,7 @@ const LARGE: Flushed = Some((0x20_0000, 0x20_0000));
 const SMALL: Flushed = Some((0x1000, 0x1000));
 
 /// Rows, and what is flushed. Calls that are refused flush nothing, and clean ups neither.
-const ROWS: [(Row<'static>, &[Flushed]); 3] = [
+static ROWS: [(Row<'static>, &[Flushed]); 3] = [
     (
         Row {
             calls: &[

@@ -31,7 +31,7 @@ const BOTH: Row<'static> = Row {
 };
 
 /// Calls of the hierarchies in turn, each list beside its root, and what comes of it in the memory of both.
-const STEPS: [(u64, Row<'static>); 4] = [
+static STEPS: [(u64, Row<'static>); 4] = [
     (
         0x1000,
         Row {
@@ -124,9 +124,9 @@ fn check_step(
     compare(rt, memory, pool, row, "both")
 }
 
-/// Answers steps one after the other in the memory of a row, and compares what comes of each.
-fn check_steps(rt: impl Abort + Copy, alloc: Global, both: &Row<'_>, steps: &[(u64, Row<'_>)]) {
-    let (mut memory, mut pool) = begin(rt, alloc, both, By::Identity);
+/// Answers steps one after the other in one memory, and compares what comes of each.
+fn check_steps(rt: impl Abort + Copy, alloc: Global, steps: &[(u64, Row<'_>)]) {
+    let (mut memory, mut pool) = begin(rt, alloc, &BOTH, By::Identity);
     for step in steps {
         check_step(rt, alloc, step, &mut memory, &mut pool);
         assert_fits_both(rt, alloc, &memory, &pool);
@@ -135,5 +135,5 @@ fn check_steps(rt: impl Abort + Copy, alloc: Global, both: &Row<'_>, steps: &[(u
 
 #[test]
 fn hierarchies_take_tables_from_one_pool(rt: HostRuntime) {
-    check_steps(rt, rt.alloc(), &BOTH, &STEPS)
+    check_steps(rt, rt.alloc(), &STEPS)
 }

@@ -8,7 +8,7 @@ use x86_64::structures::paging::mapper::PageTableFrameMapping;
 use x86_64::{PhysMemory, ShiftMapping};
 
 /// The first map where frame 0x100000 lies at place 0. The words stand after the addresses of their places.
-const ROW: Row<'static> = Row {
+static ROW: Row<'static> = Row {
     places: &[0, 1, 2, 3],
     free: &[0x10_1000, 0x10_2000, 0x10_3000],
     words: &[

@@ -1,7 +1,7 @@
 //! Maps and unmaps.
 use super::{
-    EACH, FIRST, FIRST_LARGE, FREE, LARGE_LEVEL_3, LARGE_LEVEL_4, LARGE_MAPPED, LEVEL_2, LEVEL_3,
-    LEVEL_4, MAPPED, Row, UNTOUCHED, WORDS, check_rows,
+    FIRST, FIRST_LARGE, FREE, LARGE_LEVEL_3, LARGE_LEVEL_4, LARGE_MAPPED, LEVEL_2, LEVEL_3,
+    LEVEL_4, MAPPED, Row, UNTOUCHED, WORDS, check_by_each,
 };
 use crate::call_rows::CallRow::{Giant, Large, Small, Translate, TranslateAddr};
 use crate::call_rows::PageCallRow::{IdentityMap, MapTo, TranslatePage, Unmap, UpdateFlags};
@@ -14,7 +14,7 @@ use x86_64_plain::Refusal::{
 use x86_64_plain::Translated::NotMapped;
 
 /// Maps and unmaps of pages of each size, accepted and refused.
-const ROWS: [Row<'static>; 15] = [
+static ROWS: [Row<'static>; 15] = [
     // Missing tables are taken in order, and cleared.
     Row {
         calls: &[FIRST, (TranslateAddr(0x1abc), Address(Some(0x5abc)))],
@@ -158,5 +158,5 @@ const ROWS: [Row<'static>; 15] = [
 
 #[test]
 fn maps_and_unmaps_leave_what_rows_say(rt: HostRuntime) {
-    check_rows(rt, rt.alloc(), &ROWS, &EACH)
+    check_by_each(rt, rt.alloc(), &ROWS)
 }

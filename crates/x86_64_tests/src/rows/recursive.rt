@@ -1,7 +1,7 @@
 //! Calls of the recursive mapper alone, on pages inside the window and outside.
 use super::{
-    CLEANED, Exchange, FIRST_LARGE, LARGE_MAPPED, LEVEL_2, LEVEL_3, LEVEL_4, MAPPED, RECURSIVE,
-    Row, Word, check_rows,
+    CLEANED, Exchange, FIRST_LARGE, LARGE_MAPPED, LEVEL_2, LEVEL_3, LEVEL_4, MAPPED, Row, Word,
+    check_by_recursive,
 };
 use crate::call_rows::CallRow::{CleanUp, CleanUpRange, Giant, Large, Small, Translate};
 use crate::call_rows::PageCallRow::{
@@ -30,7 +30,7 @@ const ROOT_WINDOW: u64 = 0xffff_ff7f_bfdf_e000;
 const CLEAN_UP: Exchange = (CleanUp, Cleaned);
 
 /// Calls through the window, and clean ups beside it.
-const ROWS: [Row<'static>; 7] = [
+static ROWS: [Row<'static>; 7] = [
     Row {
         calls: &[
             MAP,
@@ -134,5 +134,5 @@ const ROWS: [Row<'static>; 7] = [
 
 #[test]
 fn tables_are_pages_of_the_window(rt: HostRuntime) {
-    check_rows(rt, rt.alloc(), &ROWS, &[RECURSIVE])
+    check_by_recursive(rt, rt.alloc(), &ROWS)
 }

@@ -1,10 +1,10 @@
 //! Memories whose places have gaps.
-use super::{By, EACH, FIRST, MAPPED, Row, begin, check_rows};
+use super::{By, FIRST, MAPPED, Row, begin, check_by_each};
 use crate::assertions::assert_equal;
 use x86_64::FramePlace;
 
 /// The first map where two of the free frames lie past a gap.
-const PAST_A_GAP: Row<'static> = Row {
+static PAST_A_GAP: [Row<'static>; 1] = [Row {
     places: &[1, 2, 0x8_0000, 0x8_0001],
     free: &[0x2000, 0x8000_0000, 0x8000_1000],
     calls: &[FIRST],
@@ -15,12 +15,12 @@ const PAST_A_GAP: Row<'static> = Row {
         (0x8000_1000, 1, 0x5003),
     ],
     ..MAPPED
-};
+}];
 
 #[test]
 fn tables_are_made_past_a_gap(rt: HostRuntime) {
-    check_rows(rt, rt.alloc(), &[PAST_A_GAP], &EACH);
-    let (memory, _) = begin(rt, rt.alloc(), &PAST_A_GAP, By::Identity);
+    check_by_each(rt, rt.alloc(), &PAST_A_GAP);
+    let (memory, _) = begin(rt, rt.alloc(), &PAST_A_GAP[0], By::Identity);
     assert_equal(rt, memory.len(), 4);
     assert!(rt; memory.table(FramePlace::new(3)).is_none());
 }

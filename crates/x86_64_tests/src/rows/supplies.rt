@@ -1,7 +1,7 @@
 //! Maps where free frames run out.
 use super::{
     By, EACH, Exchange, FIRST, LEVEL_1, LEVEL_2, LEVEL_3, LEVEL_4, MAPPED, Row, answer_exchanges,
-    answer_row, check_rows, compare_by,
+    answer_row, check_by_each, compare_by,
 };
 use crate::assertions::assert_equal;
 use crate::call_rows::CallRow::Small;
@@ -20,7 +20,7 @@ const STARVED: Exchange = (
 );
 
 /// Rows of one list.
-const ROWS: [Row<'static>; 2] = [
+static ROWS: [Row<'static>; 2] = [
     Row {
         free: &[],
         calls: &[STARVED],
@@ -41,22 +41,22 @@ const ROWS: [Row<'static>; 2] = [
     },
 ];
 
-/// One frame, which becomes the first of the tables that are wanting.
-const ONE_FRAME: Row<'static> = Row {
-    free: &[0x2000],
-    calls: &[STARVED],
-    words: &[LEVEL_4],
-    ..MAPPED
-};
-
-/// The frames that are free later on, and the same map.
-const TWO_MORE: Row<'static> = Row {
-    free: &[0x3000, 0x4000],
-    ..MAPPED
-};
+/// One frame, which becomes the first of the tables that are wanting, and the frames that are free later on, with the same map.
+static SUPPLIES: (Row<'static>, Row<'static>) = (
+    Row {
+        free: &[0x2000],
+        calls: &[STARVED],
+        words: &[LEVEL_4],
+        ..MAPPED
+    },
+    Row {
+        free: &[0x3000, 0x4000],
+        ..MAPPED
+    },
+);
 
 /// Answers a row's calls, and another one's once its free frames are there, and compares what comes of each.
-fn check_supplies(rt: impl Abort + Copy, alloc: Global, row: &Row<'_>, more: &Row<'_>, by: By) {
+fn check_supplies(rt: impl Abort + Copy, alloc: Global, (row, more): &(Row<'_>, Row<'_>), by: By) {
     let (mut memory, mut pool) = answer_row(rt, alloc, row, by, "one frame");
     for frame in more.free {
         fill(rt, &mut memory, *frame);
@@ -66,10 +66,19 @@ fn check_supplies(rt: impl Abort + Copy, alloc: Global, row: &Row<'_>, more: &Ro
     compare_by(rt, alloc, by, (&memory, &pool), more, by.name())
 }
 
+/// Does so by each mapper.
+fn check_supplies_by_each(rt: impl Abort + Copy, alloc: Global, rows: &(Row<'_>, Row<'_>)) {
+    for by in EACH {
+        check_supplies(rt, alloc, rows, by);
+    }
+}
+
+#[test]
+fn maps_stop_where_frames_run_out(rt: HostRuntime) {
+    check_by_each(rt, rt.alloc(), &ROWS)
+}
+
 #[test]
 fn maps_go_on_once_there_are_frames(rt: HostRuntime) {
-    check_rows(rt, rt.alloc(), &ROWS, &EACH);
-    for by in EACH {
-        check_supplies(rt, rt.alloc(), &ONE_FRAME, &TWO_MORE, by);
-    }
+    check_supplies_by_each(rt, rt.alloc(), &SUPPLIES)
 }

@@ -1,7 +1,7 @@
 //! Where a page walk arrives after calls, and with which rights.
 use super::{
-    DIRECT, EACH, FIRST, FIRST_LARGE, LARGE_LEVEL_3, LARGE_LEVEL_4, LARGE_MAPPED, LEVEL_2, LEVEL_3,
-    LEVEL_4, MAPPED, RECURSIVE, Row, check_rows,
+    FIRST, FIRST_LARGE, LARGE_LEVEL_3, LARGE_LEVEL_4, LARGE_MAPPED, LEVEL_2, LEVEL_3, LEVEL_4,
+    MAPPED, Row, check_by_direct, check_by_each, check_by_recursive,
 };
 use crate::assertions::assert_equal_in;
 use crate::call_rows::CallRow::{Large, Small};
@@ -32,7 +32,7 @@ pub fn compare_walks(rt: impl Abort + Copy, memory: &PhysMemory, walks: &[Walk],
 }
 
 /// Rows that each mapper answers alike.
-const ROWS: [Row<'static>; 6] = [
+static ROWS: [Row<'static>; 6] = [
     Row {
         calls: &[
             FIRST,
@@ -131,7 +131,15 @@ const WRITABLE_TABLES: Row<'static> = Row {
 
 #[test]
 fn walks_arrive_with_the_rights_of_entries(rt: HostRuntime) {
-    check_rows(rt, rt.alloc(), &ROWS, &EACH);
-    check_rows(rt, rt.alloc(), &[PARENT_FLAGS], &DIRECT);
-    check_rows(rt, rt.alloc(), &[WRITABLE_TABLES], &[RECURSIVE])
+    check_by_each(rt, rt.alloc(), &ROWS)
+}
+
+#[test]
+fn new_tables_have_the_rights_of_parent_flags(rt: HostRuntime) {
+    check_by_direct(rt, rt.alloc(), &[PARENT_FLAGS])
+}
+
+#[test]
+fn new_tables_of_the_recursive_mapper_are_writable(rt: HostRuntime) {
+    check_by_recursive(rt, rt.alloc(), &[WRITABLE_TABLES])
 }
