@@ -1,7 +1,8 @@
 //! Page tables of x86-64: virtual and physical addresses, pages and frames, tables of four and five levels, and mappers over a
 //! physical memory that consists of page tables.
 //!
-//! The names and paths are those of the Rust crate `x86_64`. What is lent to a mapper here is a [`PhysMemory`].
+//! The names and paths are those of the Rust crate `x86_64`. What is lent to a mapper here is a
+//! [`TableMemory`]: a [`PhysMemory`], which owns its tables, or a [`LentMemory`] over tables of the caller's.
 #![tactic(auto)]
 
 mod calls;
@@ -30,8 +31,8 @@ pub use x86_64_tables::mapper::{
     FlushItem, FlushRecorder, PageTables, PageTables57, Tables, TablesIn, parent_flags,
 };
 pub use x86_64_tables::phys_memory::{
-    ActiveMemory, ActiveMemory57, FramePlace, IdentityMapping, PhysMemory, PlacesRefusal,
-    ShiftMapping, Walked, is_valid_hierarchy, is_valid_hierarchy_57, is_valid_recursive,
-    is_valid_recursive_57, page_walk, page_walk_57, pool_fits, pool_fits_57, pool_fits_recursive,
-    pool_fits_recursive_57, tables_alike, tables_alike_57,
+    ActiveMemory, ActiveMemory57, FramePlace, IdentityMapping, LentMemory, PhysMemory,
+    PlacesRefusal, ShiftMapping, TableMemory, Walked, is_valid_hierarchy, is_valid_hierarchy_57,
+    is_valid_recursive, is_valid_recursive_57, page_walk, page_walk_57, pool_fits, pool_fits_57,
+    pool_fits_recursive, pool_fits_recursive_57, tables_alike, tables_alike_57,
 };

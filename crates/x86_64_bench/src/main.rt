@@ -1,10 +1,11 @@
 //! Measures maps, translations and unmaps of 4KiB or 2MiB pages, and the clean up of the tables that the unmaps left, by the
-//! mapper that finds tables by their frames, also in a memory that lacks every second place and with five levels, and by the one that
-//! reaches them through the root's entry for itself.
+//! mapper that finds tables by their frames, also over tables that their owner lends, in a memory that lacks every second place and
+//! with five levels, and by the one that reaches them through the root's entry for itself.
 //!
 //! Without arguments it does a small fixed run, and prints how often each operation was done. With `M contiguous` or `M scattered`,
-//! and a size of pages that is 4KiB where none is given, it does M pages in seven rounds by each mapper, and prints the time of
-//! each operation on standard error, with how many times as long as by the first one it takes.
+//! and a size of pages that is 4KiB if none is given, it does M pages in seven rounds, each by one mapper after another, and prints
+//! a table of the least processor time of each operation on standard error, with how many times as long as by the first mapper it
+//! takes.
 #![tactic(auto)]
 
 mod page_calls;
@@ -12,8 +13,8 @@ mod report;
 mod rounds;
 mod workload;
 
-use crate::report::{report_counts, report_ratio, report_times};
-use crate::rounds::{Access, Operation, Round, measure};
+use crate::report::{Measured, report_counts, report_table};
+use crate::rounds::{Access, measure};
 use crate::workload::{Pattern, Workload};
 use std::process::ExitCode;
 use std::{env, io};
@@ -82,47 +83,29 @@ fn count<S: PageSize>(rt: &HostRuntime, access: Access) -> io::Result<bool> {
     }
 }
 
-/// Does all rounds with pages of a size by each mapper, and prints the time of each operation.
+/// Does all rounds with pages of a size, each by one mapper after another, and prints the time of each operation.
 fn compare<S: PageSize>(rt: &HostRuntime, workload: Workload) -> io::Result<ExitCode> {
-    let Some(direct) = all_rounds::<S>(rt, Access::Direct, workload)? else {
-        return Ok(ExitCode::from(2));
-    };
-    for access in [Access::Sparse, Access::FiveLevels, Access::Recursive] {
-        let Some(rounds) = all_rounds::<S>(rt, access, workload)? else {
+    let mut rounds = Vec::new(rt.alloc());
+    for _ in 0..ROUNDS {
+        if !add_rounds::<S>(rt, workload, &mut rounds)? {
             return Ok(ExitCode::from(2));
-        };
-        for operation in Operation::ALL {
-            report_both(rt, operation, &direct, access, &rounds)?;
         }
     }
+    report_table(rt, &rounds)?;
     Ok(ExitCode::from(0))
 }
 
-/// Prints the time of an operation by the direct mapper and by another, and how many times as long it takes by this one.
-fn report_both(
+/// Does a round by each mapper. Returns whether it could be done.
+fn add_rounds<S: PageSize>(
     rt: &HostRuntime,
-    operation: Operation,
-    direct: &[Round],
-    access: Access,
-    rounds: &[Round],
-) -> io::Result<()> {
-    let measure = report_times(rt.alloc(), rt, Access::Direct, operation, direct)?;
-    let time = report_times(rt.alloc(), rt, access, operation, rounds)?;
-    report_ratio(rt, access, operation, measure, time)
-}
-
-/// Does all rounds with pages of a size by a mapper.
-fn all_rounds<S: PageSize>(
-    rt: &HostRuntime,
-    access: Access,
     workload: Workload,
-) -> io::Result<Option<Vec<Round>>> {
-    let mut rounds = Vec::with_capacity(rt.alloc(), ROUNDS)?;
-    for _ in 0..ROUNDS {
+    rounds: &mut Vec<Measured>,
+) -> io::Result<bool> {
+    for access in Access::ALL {
         let Some(round) = measure::<S>(rt.alloc(), rt, access, workload)? else {
-            return Ok(None);
+            return Ok(false);
         };
-        rounds.push(round)?;
+        rounds.push((access, round))?;
     }
-    Ok(Some(rounds))
+    Ok(true)
 }

@@ -11,14 +11,15 @@ use crate::workload::Workload;
 use bitflags::Flags;
 use std::alloc::{AllocError, Global};
 use std::io;
-use std::time::{Clock, Duration, Instant};
+use std::time::{CpuClock, Duration};
 use x86_64::structures::paging::mapper::RecursivePageTable;
 use x86_64::structures::paging::{
-    FrameAllocator, PageSize, PageTableFlags, PageTableIndex, PhysFrame, Size4KiB,
+    FrameAllocator, PageSize, PageTable, PageTableFlags, PageTableIndex, PhysFrame, Size4KiB,
 };
 use x86_64::{
-    ActiveMemory, FiveLevels, FourLevels, FramePlace, FramePool, IdentityMapping, LevelCount,
-    PhysAddr, PhysMemory, TablesIn, pool_fits, pool_fits_57, pool_fits_recursive,
+    ActiveMemory, FiveLevels, FourLevels, FramePlace, FramePool, IdentityMapping, LentMemory,
+    LevelCount, PhysAddr, PhysMemory, TableMemory, TablesIn, pool_fits, pool_fits_57,
+    pool_fits_recursive,
 };
 use x86_64_mappers::calls::{TableAccess, clean_up};
 use x86_64_mappers::mapped_page_table::MappedPageTableIn;
@@ -33,10 +34,12 @@ const RECURSIVE_INDEX: u16 = 511;
 const ROOT: u64 = 1;
 
 /// Says by which mapper a round is done.
-#[derive(Clone, Copy)]
+#[derive(Clone, Copy, PartialEq)]
 pub enum Access {
     /// By the one that reaches tables by their frames.
     Direct,
+    /// By the same, over tables that their owner lends.
+    Lent,
     /// By the same, in a memory that lacks every second place.
     Sparse,
     /// By the same, with five levels of tables.
@@ -47,8 +50,9 @@ pub enum Access {
 
 impl Access {
     /// All, the one that is the measure first.
-    pub const ALL: [Access; 4] = [
+    pub const ALL: [Access; 5] = [
         Access::Direct,
+        Access::Lent,
         Access::Sparse,
         Access::FiveLevels,
         Access::Recursive,
@@ -60,26 +64,17 @@ impl Access {
         for k in 0..count {
             places.push(match self {
                 Access::Sparse => k.wrapping_mul(2).wrapping_add(1),
-                Access::Direct | Access::FiveLevels | Access::Recursive => k,
+                Access::Direct | Access::Lent | Access::FiveLevels | Access::Recursive => k,
             })?;
         }
         Ok(places)
-    }
-
-    /// Makes a memory with places, given by their numbers, or none where these don't rise.
-    fn memory(self, alloc: Global, places: &[u64]) -> Result<Option<PhysMemory>, AllocError> {
-        match self {
-            Access::Sparse => Ok(PhysMemory::with_places(alloc, places).ok()),
-            Access::Direct | Access::FiveLevels | Access::Recursive => {
-                Ok(Some(PhysMemory::new(alloc, places.len() as u64)?))
-            }
-        }
     }
 
     /// Gives the name.
     pub fn name(self) -> &'static str {
         match self {
             Access::Direct => "direct",
+            Access::Lent => "lent",
             Access::Sparse => "sparse",
             Access::FiveLevels => "direct5",
             Access::Recursive => "recursive",
@@ -224,7 +219,7 @@ struct Calls {
 
 /// Maps, translates and unmaps all pages of a workload, which are of a size, by a mapper.
 fn measure_calls<S: PageSize, L: LevelCount, M: TableAccess + TablesIn<L>>(
-    clock: &impl Clock,
+    clock: &impl CpuClock,
     mapper: &mut M,
     pool: &mut FramePool,
     workload: Workload,
@@ -232,23 +227,23 @@ fn measure_calls<S: PageSize, L: LevelCount, M: TableAccess + TablesIn<L>>(
 ) -> io::Result<Calls>
     requires { SupplyFits (M.hierarchy mapper.old) pool.old.frames }
 {
-    let start = Instant::now(clock)?;
+    let start = clock.thread_cpu_time()?;
     let count = map_all::<S, L, _, _>(mapper, pool, workload);
     let map = Part {
         count,
-        time: start.elapsed(clock)?,
+        time: since(clock, start)?,
     };
-    let start = Instant::now(clock)?;
+    let start = clock.thread_cpu_time()?;
     let count = translate_all::<S, L, _>(mapper, workload, order);
     let translate = Part {
         count,
-        time: start.elapsed(clock)?,
+        time: since(clock, start)?,
     };
-    let start = Instant::now(clock)?;
+    let start = clock.thread_cpu_time()?;
     let count = unmap_all::<S, L, _>(mapper, workload);
     let unmap = Part {
         count,
-        time: start.elapsed(clock)?,
+        time: since(clock, start)?,
     };
     Ok(Calls {
         map,
@@ -257,45 +252,63 @@ fn measure_calls<S: PageSize, L: LevelCount, M: TableAccess + TablesIn<L>>(
     })
 }
 
+/// Returns the processor time since a start.
+fn since(clock: &impl CpuClock, start: Duration) -> io::Result<Duration> {
+    Ok(clock.thread_cpu_time()?.saturating_sub(start))
+}
+
 /// Cleans up by a mapper.
 fn measure_clean_up<L: LevelCount, M: TableAccess + TablesIn<L>>(
-    clock: &impl Clock,
+    clock: &impl CpuClock,
     mapper: &mut M,
     pool: &mut FramePool,
 ) -> io::Result<Part>
     requires { MayCleanUp (M.hierarchy mapper.old) (serves_below pool.old.limit) pool.old.frames }
 {
     let free = pool.len();
-    let start = Instant::now(clock)?;
+    let start = clock.thread_cpu_time()?;
     clean_up::<L, _, _>(mapper, pool);
-    let time = start.elapsed(clock)?;
+    let time = since(clock, start)?;
     let count = pool.len().saturating_sub(free) as u64;
     Ok(Part { count, time })
 }
 
-/// Does a round with pages of a size by a mapper, in a new hierarchy. Gives `None` where it is no valid one.
+/// Does a round with pages of a size by a mapper, in a new hierarchy. Returns `None` if it is no valid one.
 pub fn measure<S: PageSize>(
     alloc: Global,
-    clock: &impl Clock,
+    clock: &impl CpuClock,
     access: Access,
     workload: Workload,
 ) -> io::Result<Option<Round>> {
     let places = access.places(alloc, workload.places())?;
-    let Some(mut memory) = access.memory(alloc, &places)? else {
-        return Ok(None);
-    };
     let mut pool = new_pool(alloc, &places)?;
     let order = workload.shuffled(alloc)?;
+    if let Access::Lent = access {
+        let mut tables = empty_tables(alloc, places.len())?;
+        let mut memory = LentMemory::new(&mut tables);
+        let (memory, pool) = (&mut memory, &mut pool);
+        return measure_direct::<S, FourLevels, _>(alloc, clock, memory, pool, workload, &order);
+    }
+    let Ok(mut memory) = PhysMemory::with_places(alloc, &places) else {
+        return Ok(None);
+    };
     let (memory, pool) = (&mut memory, &mut pool);
     match access {
-        Access::Direct | Access::Sparse => {
-            measure_direct::<S, FourLevels>(alloc, clock, memory, pool, workload, &order)
-        }
         Access::FiveLevels => {
-            measure_direct::<S, FiveLevels>(alloc, clock, memory, pool, workload, &order)
+            measure_direct::<S, FiveLevels, _>(alloc, clock, memory, pool, workload, &order)
         }
         Access::Recursive => measure_recursive::<S>(alloc, clock, memory, pool, workload, &order),
+        _ => measure_direct::<S, FourLevels, _>(alloc, clock, memory, pool, workload, &order),
     }
+}
+
+/// Makes so many empty tables.
+fn empty_tables(alloc: Global, count: usize) -> Result<Vec<PageTable>, AllocError> {
+    let mut tables = Vec::with_capacity(alloc, count)?;
+    for _ in 0..count {
+        tables.push(PageTable::new())?;
+    }
+    Ok(tables)
 }
 
 /// Tells whether the words below a root are a valid hierarchy of `L` levels, and a pool fits it.
@@ -303,15 +316,15 @@ pub fn measure<S: PageSize>(
 /// # Errors
 ///
 /// `AllocError` where memory is refused.
-fn pool_fits_in<L: LevelCount>(
+fn pool_fits_in<L: LevelCount, T: TableMemory>(
     alloc: Global,
-    memory: &PhysMemory,
+    memory: &T,
     root: PhysFrame<Size4KiB>,
     pool: &FramePool,
 ) -> Result<bool, AllocError>
     ensures { let layout = direct_at L.LEVELS identity_places root in
         let serves = serves_below pool.now.limit in
-        IfOk result (λ fits. IsTrue fits ↔ FitsPool layout memory.now serves pool.now.frames) }
+        IfOk result (λ fits. IsTrue fits ↔ FitsPool layout (T.tables memory.now) serves pool.now.frames) }
 {
     if L::LEVELS == 4 {
         pool_fits(alloc, memory, &IdentityMapping, root, pool)
@@ -321,27 +334,27 @@ fn pool_fits_in<L: LevelCount>(
 }
 
 /// Does a round by the mapper of `L` levels that reaches tables by their frames.
-fn measure_direct<S: PageSize, L: LevelCount>(
+fn measure_direct<S: PageSize, L: LevelCount, T: TableMemory>(
     alloc: Global,
-    clock: &impl Clock,
-    memory: &mut PhysMemory,
+    clock: &impl CpuClock,
+    memory: &mut T,
     pool: &mut FramePool,
     workload: Workload,
     order: &[u32],
 ) -> io::Result<Option<Round>> {
     let root = root();
-    if !pool_fits_in::<L>(alloc, memory, root, pool)? {
+    if !pool_fits_in::<L, _>(alloc, memory, root, pool)? {
         return Ok(None);
     }
     let free = pool.len();
-    let mut mapper = MappedPageTableIn::<IdentityMapping, L>::new(memory, root, IdentityMapping);
+    let mut mapper = MappedPageTableIn::<IdentityMapping, L, T>::new(memory, root, IdentityMapping);
     let calls = measure_calls::<S, L, _>(clock, &mut mapper, pool, workload, order)?;
     drop(mapper);
     let tables = free.saturating_sub(pool.len());
-    if !pool_fits_in::<L>(alloc, memory, root, pool)? {
+    if !pool_fits_in::<L, _>(alloc, memory, root, pool)? {
         return Ok(None);
     }
-    let mut mapper = MappedPageTableIn::<IdentityMapping, L>::new(memory, root, IdentityMapping);
+    let mut mapper = MappedPageTableIn::<IdentityMapping, L, T>::new(memory, root, IdentityMapping);
     let clean_up = measure_clean_up::<L, _>(clock, &mut mapper, pool)?;
     Ok(Some(Round {
         calls,
@@ -353,7 +366,7 @@ fn measure_direct<S: PageSize, L: LevelCount>(
 /// Does a round by the mapper that reaches tables through the root's entry for itself, which is made first.
 fn measure_recursive<S: PageSize>(
     alloc: Global,
-    clock: &impl Clock,
+    clock: &impl CpuClock,
     memory: &mut PhysMemory,
     pool: &mut FramePool,
     workload: Workload,

@@ -1,1 +1,2 @@
 mod AgainAtOffset
+mod EmptyTables

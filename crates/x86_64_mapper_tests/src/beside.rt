@@ -1,22 +1,28 @@
-//! Two hierarchies in one memory, as of two programs: calls on one leave the other as it was, and they may share a pool.
-ghost use Rattle.std.specs.Prelude.{◌≡◌, ◌<◌};
+//! Two hierarchies in one memory, as of two programs: calls on one leave the other as it was, and they may share a pool. The memory
+//! is any, also a slice of tables that its owner lends.
+ghost use Rattle.std.specs.Prelude.{◌≡◌, ◌<◌, ℕ, if◌then◌else◌, nat_lt, replicate, Some, None};
+ghost use Rattle.std.specs.FinMap.{get};
 ghost use Rattle.x86_64_mappers.specs.Layouts.{direct};
 ghost use Rattle.x86_64_model.specs.Layout.{Layout};
 ghost use Rattle.x86_64_model.specs.Pool.{serves_below};
 ghost use Rattle.x86_64_model.specs.Mapper.{PoolFits};
 ghost use Rattle.x86_64_model.specs.Memory.{identity_places};
+ghost use Rattle.x86_64_tables.specs.LentMemory.{numbered};
+ghost use Rattle.x86_64_tables.specs.PageTable.{zero_words};
 ghost use Rattle.x86_64.specs.Runs.{FitsPool, Kept};
 ghost use Rattle.x86_64.specs.SecondHierarchies.{IsSecond, Share, Stays};
 
-use crate::assertions::{assert_equal, unwrap};
+use crate::assertions::{assert_equal, assert_equal_in, unwrap, unwrap_some};
 use std::alloc::{AllocError, Global};
 use std::process::Abort;
 use x86_64::laws::{empty_roots_are_second, second_hierarchies_stay};
 use x86_64::structures::paging::mapper::{CleanUp, MapperAllSizes, Tables, Translate};
-use x86_64::structures::paging::{MappedPageTable, Page, PageTableFlags, PhysFrame, Size4KiB};
+use x86_64::structures::paging::{
+    MappedPageTable, Page, PageTable, PageTableFlags, PageTableIndex, PhysFrame, Size4KiB,
+};
 use x86_64::{
-    Call, FramePool, IdentityMapping, PhysAddr, PhysMemory, Reply, SizeCall, VirtAddr, page_walk,
-    pool_fits, run,
+    Call, FramePool, IdentityMapping, LentMemory, PhysAddr, PhysMemory, Reply, SizeCall,
+    TableMemory, VirtAddr, page_walk, pool_fits, run,
 };
 
 /// The number of places, and the limit of the pool.
@@ -39,20 +45,21 @@ fn run_by<M: MapperAllSizes + Translate + CleanUp>(
 
 /// Answers calls by a mapper of a hierarchy, which is dropped then. The pool fits it again, and each other hierarchy in the
 /// memory stays as it was.
-fn run_on(
-    memory: &mut PhysMemory,
+pub fn run_on<T: TableMemory>(
+    memory: &mut T,
     root: PhysFrame<Size4KiB>,
     pool: &mut FramePool,
     calls: &[Call],
     replies: &mut Vec<Reply>,
 ) -> Result<(), AllocError>
     requires { let layout = direct identity_places root in
-        FitsPool layout memory.old (serves_below pool.old.limit) pool.old.frames }
+        FitsPool layout (T.tables memory.old) (serves_below pool.old.limit) pool.old.frames }
     ensures fits { let layout = direct identity_places root in
-        FitsPool layout memory.new (serves_below pool.old.limit) pool.new.frames }
+        FitsPool layout (T.tables memory.new) (serves_below pool.old.limit) pool.new.frames }
     ensures others { let layout = direct identity_places root in let serves = serves_below pool.old.limit in
-        (second : Layout) → 0 < second.levels → IsSecond layout memory.old pool.old.frames second
-        → Stays layout second serves memory.old pool.old.frames memory.new pool.new.frames }
+        (second : Layout) → 0 < second.levels → IsSecond layout (T.tables memory.old) pool.old.frames second
+        → Stays layout second serves (T.tables memory.old) pool.old.frames (T.tables memory.new) pool.new.frames }
+    ensures lent { T.lent memory.new ≡ T.lent memory.old }
     ensures limit { serves_below pool.new.limit ≡ serves_below pool.old.limit }
 {
     second_hierarchies_stay();
@@ -61,8 +68,8 @@ fn run_on(
 }
 
 /// Answers calls of a first hierarchy, and then of a second one, which isn't tested again. The pool fits both again.
-fn run_in_turn(
-    memory: &mut PhysMemory,
+fn run_in_turn<T: TableMemory>(
+    memory: &mut T,
     first: PhysFrame<Size4KiB>,
     second: PhysFrame<Size4KiB>,
     pool: &mut FramePool,
@@ -70,45 +77,72 @@ fn run_in_turn(
     replies: &mut Vec<Reply>,
 ) -> Result<(), AllocError>
     requires { let one = direct identity_places first in let other = direct identity_places second in
-        Share one other (serves_below pool.old.limit) memory.old pool.old.frames }
-    ensures { let one = direct identity_places first in let other = direct identity_places second in
-        Share one other (serves_below pool.new.limit) memory.new pool.new.frames }
+        Share one other (serves_below pool.old.limit) (T.tables memory.old) pool.old.frames }
+    ensures share { let one = direct identity_places first in let other = direct identity_places second in
+        Share one other (serves_below pool.new.limit) (T.tables memory.new) pool.new.frames }
+    ensures lent { T.lent memory.new ≡ T.lent memory.old }
 {
     run_on(memory, first, pool, calls.0, replies)?;
     run_on(memory, second, pool, calls.1, replies)
 }
 
-/// Makes a memory of empty tables, among them two roots, and a pool that fits both.
-fn two_roots(
-    rt: impl Abort + Copy,
-    alloc: Global,
+/// Answers calls of two hierarchies in a slice of tables, which isn't copied. Its owner knows that the pool fits both again.
+fn run_in_slice(
+    tables: &mut [PageTable],
     first: PhysFrame<Size4KiB>,
     second: PhysFrame<Size4KiB>,
-) -> (PhysMemory, FramePool)
+    pool: &mut FramePool,
+    calls: (&[Call], &[Call]),
+    replies: &mut Vec<Reply>,
+) -> Result<(), AllocError>
+    requires { let one = direct identity_places first in let other = direct identity_places second in
+        Share one other (serves_below pool.old.limit) (numbered tables.old) pool.old.frames }
     ensures { let one = direct identity_places first in let other = direct identity_places second in
-        Share one other (serves_below result.1.limit) result.0 result.1.frames }
+        Share one other (serves_below pool.new.limit) (numbered tables.new) pool.new.frames }
+{
+    let mut memory = LentMemory::new(tables);
+    run_in_turn(&mut memory, first, second, pool, calls, replies)
+}
+
+/// Makes a pool that fits two empty roots in a memory of empty tables.
+fn pool_of_two<T: TableMemory>(
+    rt: impl Abort + Copy,
+    alloc: Global,
+    memory: &T,
+    first: PhysFrame<Size4KiB>,
+    second: PhysFrame<Size4KiB>,
+) -> FramePool
+    requires { (place : ℕ) → get (T.tables memory.now) place
+        ≡ (if nat_lt place 0x10 then Some zero_words else None) }
+    ensures { let one = direct identity_places first in let other = direct identity_places second in
+        Share one other (serves_below result.limit) (T.tables memory.now) result.frames }
 {
     empty_roots_are_second();
-    let memory = unwrap(rt, PhysMemory::new(alloc, PLACES));
     let pool = pool_from(rt, alloc, 0x3000);
     assert!(rt; first != second);
+    assert!(rt; unwrap(rt, pool_fits(alloc, memory, &IdentityMapping, first, &pool)));
     assert!(rt;
         unwrap(
             rt,
-            pool_fits(alloc, &memory, &IdentityMapping, first, &pool)
+            pool_fits(alloc, memory, &IdentityMapping, second, &pool)
         )
     );
-    assert!(rt;
-        unwrap(
-            rt,
-            pool_fits(alloc, &memory, &IdentityMapping, second, &pool)
-        )
-    );
-    (memory, pool)
+    pool
+}
+
+/// Makes as many empty tables as there are places.
+pub fn empty_tables(rt: impl Abort + Copy, alloc: Global) -> Vec<PageTable>
+    ensures { result.items ≡ replicate 0x10 zero_words }
+{
+    let mut tables = unwrap(rt, Vec::with_capacity(alloc, PLACES as usize));
+    for _ in 0..PLACES {
+        tables.push_reserved(PageTable::new());
+    }
+    tables
 }
 
 /// Makes a pool of the frames from an address on.
-fn pool_from(rt: impl Abort + Copy, alloc: Global, address: u64) -> FramePool {
+pub fn pool_from(rt: impl Abort + Copy, alloc: Global, address: u64) -> FramePool {
     let mut pool = unwrap(rt, FramePool::new(alloc, PLACES));
     for number in address / 0x1000..PLACES {
         unwrap(rt, pool.try_add(frame(number * 0x1000)));
@@ -117,12 +151,12 @@ fn pool_from(rt: impl Abort + Copy, alloc: Global, address: u64) -> FramePool {
 }
 
 /// Gives the frame that contains an address.
-fn frame(address: u64) -> PhysFrame<Size4KiB> {
+pub fn frame(address: u64) -> PhysFrame<Size4KiB> {
     PhysFrame::containing_address(PhysAddr::new_truncate(address))
 }
 
 /// Gives the call that maps the page that contains an address.
-fn map(address: u64, to: u64) -> Call {
+pub fn map(address: u64, to: u64) -> Call {
     Call::Of4KiB(SizeCall::MapTo {
         page: Page::containing_address(VirtAddr::new_truncate(address)),
         frame: frame(to),
@@ -131,17 +165,17 @@ fn map(address: u64, to: u64) -> Call {
 }
 
 /// Says where the processor arrives from an address.
-fn walk(memory: &PhysMemory, root: PhysFrame<Size4KiB>, address: u64) -> Option<u64> {
+fn walk<T: TableMemory>(memory: &T, root: PhysFrame<Size4KiB>, address: u64) -> Option<u64> {
     let address = VirtAddr::new_truncate(address);
     let walked = page_walk(memory, &IdentityMapping, root, address)?;
     Some(walked.address.as_u64())
 }
 
 /// Maps a page in each of two hierarchies, and compares where the processor arrives from it.
-fn map_in_both(
+fn map_in_both<T: TableMemory>(
     rt: impl Abort + Copy,
     alloc: Global,
-    memory: &mut PhysMemory,
+    memory: &mut T,
     first: PhysFrame<Size4KiB>,
     second: PhysFrame<Size4KiB>,
     pool: &mut FramePool,
@@ -149,9 +183,9 @@ fn map_in_both(
     to: (u64, u64),
 )
     requires { let one = direct identity_places first in let other = direct identity_places second in
-        Share one other (serves_below pool.old.limit) memory.old pool.old.frames }
+        Share one other (serves_below pool.old.limit) (T.tables memory.old) pool.old.frames }
     ensures { let one = direct identity_places first in let other = direct identity_places second in
-        Share one other (serves_below pool.new.limit) memory.new pool.new.frames }
+        Share one other (serves_below pool.new.limit) (T.tables memory.new) pool.new.frames }
 {
     let mut replies = Vec::new(alloc);
     let calls = [map(page, to.0)];
@@ -163,14 +197,17 @@ fn map_in_both(
     assert_equal(rt, walk(memory, second, page), Some(to.1));
 }
 
-#[test]
-fn two_hierarchies_share_a_memory_and_a_pool(rt: HostRuntime) {
+/// Maps two pages in each of two hierarchies in a memory of empty tables.
+fn map_pages_in_both<T: TableMemory>(rt: impl Abort + Copy, alloc: Global, memory: &mut T)
+    requires { (place : ℕ) → get (T.tables memory.old) place
+        ≡ (if nat_lt place 0x10 then Some zero_words else None) }
+{
     let (first, second) = (frame(0x1000), frame(0x2000));
-    let (mut memory, mut pool) = two_roots(rt, rt.alloc(), first, second);
+    let mut pool = pool_of_two(rt, alloc, memory, first, second);
     map_in_both(
         rt,
-        rt.alloc(),
-        &mut memory,
+        alloc,
+        memory,
         first,
         second,
         &mut pool,
@@ -179,8 +216,8 @@ fn two_hierarchies_share_a_memory_and_a_pool(rt: HostRuntime) {
     );
     map_in_both(
         rt,
-        rt.alloc(),
-        &mut memory,
+        alloc,
+        memory,
         first,
         second,
         &mut pool,
@@ -188,4 +225,29 @@ fn two_hierarchies_share_a_memory_and_a_pool(rt: HostRuntime) {
         (0x3_0000, 0x3_1000),
     );
     assert_equal(rt, pool.len(), 3);
+}
+
+/// Maps the same pages in a slice of empty tables.
+fn map_pages_in_slice(rt: impl Abort + Copy, alloc: Global, tables: &mut [PageTable])
+    requires { tables.old ≡ replicate 0x10 zero_words }
+{
+    let mut memory = LentMemory::new(tables);
+    map_pages_in_both(rt, alloc, &mut memory);
+}
+
+#[test]
+fn two_hierarchies_share_a_memory_and_a_pool(rt: HostRuntime) {
+    let mut memory = unwrap(rt, PhysMemory::new(rt.alloc(), PLACES));
+    map_pages_in_both(rt, rt.alloc(), &mut memory);
+}
+
+#[test]
+fn two_hierarchies_share_a_lent_memory(rt: HostRuntime) {
+    let mut tables = empty_tables(rt, rt.alloc());
+    map_pages_in_slice(rt, rt.alloc(), &mut tables);
+    for (root, below) in [(1, 0x3000), (2, 0x6000)] {
+        let table = unwrap_some(rt, tables.get(root));
+        let named = table[PageTableIndex::new_truncate(0)].frame();
+        assert_equal_in(rt, root, named, Ok(frame(below)));
+    }
 }

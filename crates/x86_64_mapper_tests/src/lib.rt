@@ -7,6 +7,8 @@ mod assertions;
 #[cfg(test)]
 mod beside;
 #[cfg(test)]
+mod guest;
+#[cfg(test)]
 mod loader;
 #[cfg(test)]
 mod mappers;

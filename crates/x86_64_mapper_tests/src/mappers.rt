@@ -10,6 +10,7 @@ mod clean_up;
 mod five_levels;
 mod five_levels_flushes;
 mod layer;
+mod lent;
 mod offset;
 mod recursive;
 mod unmap;
@@ -30,7 +31,7 @@ use x86_64_tables::frame_alloc::FramePool;
 use x86_64_tables::mapper::{MappedFrame, Tables, TranslateResult};
 use x86_64_tables::page_table::{PageTableEntry, PageTableFlags};
 use x86_64_tables::phys_memory::{
-    FramePlace, IdentityMapping, PageTableFrameMapping, PhysMemory, is_valid_hierarchy,
+    FramePlace, IdentityMapping, PageTableFrameMapping, PhysMemory, TableMemory, is_valid_hierarchy,
 };
 
 /// A word, after the number of its frame and its index.
@@ -54,7 +55,7 @@ const WORDS_57: [Word; 5] = [
 ];
 
 /// Sets words of a memory.
-fn set_words(rt: impl Abort + Copy, memory: &mut PhysMemory, words: &[Word]) {
+fn set_words<T: TableMemory>(rt: impl Abort + Copy, memory: &mut T, words: &[Word]) {
     for (place, index, word) in words {
         let table = unwrap_some(rt, memory.table_mut(FramePlace::new(*place)));
         let frame = small(*word);

@@ -1,12 +1,11 @@
 -- What a mapper is once a table or an entry that it lent comes back.
-use Rattle.std.specs.Prelude.{ℕ, List, [], Option, unwrap_or}
-use Rattle.std.specs.Borrow.{Lends, LendsIf, MutBor, Fml, RattleType}
+use Rattle.std.specs.Prelude.{ℕ, List, [], unwrap_or}
+use Rattle.std.specs.Borrow.{Lends, MutBor, Fml, RattleType}
 use Rattle.std.specs.FinMap.{insert}
 use Rattle.x86_64_model.specs.Layout.{Layout, words}
 use Rattle.x86_64_model.specs.Memory.{Memory}
 use Rattle.x86_64_model.specs.Mapper.{Hierarchy}
 use Rattle.x86_64_tables.specs.contracts.page_table.entry.PageTableEntry.{the_row as entry_row}
-use Rattle.x86_64_tables.specs.contracts.page_table.table.PageTable.{the_row as table_row}
 
 -- the table in a frame
 abbrev pub table_in : Layout → Memory → (frame : ℕ) → List ℕ
@@ -16,14 +15,6 @@ table_in l m f = unwrap_or (words l m f) []
 abbrev pub put_table : {Lent : Type 0} → Hierarchy Lent → (frame : ℕ) → List ℕ → Memory
 put_table h f table = insert h.memory (h.layout.places.place f) table
 
--- a mapper of a type ends as F makes it of the last table behind r
-abbrev pub LendsTableBy : (mapper : RattleType) → MutBor mapper.Denot → (r : MutBor (List ℕ)) → (F : List ℕ → mapper.Denot) → Fml
-LendsTableBy mapper s r F = Lends mapper table_row s r F
-
 -- a mapper of a type ends as F makes it of the last word behind r
 abbrev pub LendsEntryBy : (mapper : RattleType) → MutBor mapper.Denot → (r : MutBor ℕ) → (F : ℕ → mapper.Denot) → Fml
 LendsEntryBy mapper s r F = Lends mapper entry_row s r F
-
--- what reaches tables ends as F makes it of the last table behind r, and as it was where nothing is lent
-abbrev pub LendsTableIfBy : (walked : RattleType) → MutBor walked.Denot → (r : Option (MutBor (List ℕ))) → (F : List ℕ → walked.Denot) → Fml
-LendsTableIfBy walked s r F = LendsIf walked table_row s r F s.now

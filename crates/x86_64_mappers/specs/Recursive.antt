@@ -1,6 +1,6 @@
 -- The layout of a recursive mapper, and what it holds.
 use Rattle.std.specs.Prelude.{ℕ, List, Some, bit_or}
-use Rattle.std.specs.Borrow.{Lends, MutBor, Fml, GName, RattleType}
+use Rattle.std.specs.Borrow.{Lends, MutBor, Fml, RattleType}
 use Rattle.x86_64_model.specs.Layout.{Layout}
 use Rattle.x86_64_model.specs.Memory.{Memory, identity_places, words_of}
 use Rattle.x86_64_model.specs.Mapper.{Hierarchy}
@@ -17,7 +17,7 @@ abbrev pub recursive_at : (levels : ℕ) → (root : ℕ) → Window → Layout
 recursive_at levels root window = record { levels = levels; places = identity_places; root = root; window = Some window; added_flags = 3 }
 
 -- such a hierarchy in a memory, and which memory was lent
-abbrev pub owned_by : (levels : ℕ) → (root : ℕ) → Window → Memory → GName → Hierarchy GName
+abbrev pub owned_by : {Lent : Type 0} → (levels : ℕ) → (root : ℕ) → Window → Memory → Lent → Hierarchy Lent
 owned_by levels root window memory lent = record { layout = recursive_at levels root window; memory = memory; lent = lent }
 
 -- the layout of so many levels for a recursive index, with the word that the root has there now

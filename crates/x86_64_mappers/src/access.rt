@@ -1,9 +1,10 @@
 //! Tables by the paths that lead to them: what all mappers have in common.
-ghost use Rattle.std.specs.Prelude.{◌≡◌, ◌<◌, ℕ, List, length, slice_set, Some};
+ghost use Rattle.std.specs.Prelude.{◌≡◌, ◌<◌, ℕ, List, length, slice_set, Some, IsSome};
 ghost use Rattle.std.specs.Borrow.{sem};
 ghost use Rattle.x86_64_model.specs.Memory.{word};
 ghost use Rattle.x86_64_model.specs.Mapper.{words};
-ghost use Rattle.x86_64_mappers.specs.AccessLending.{LendsTableBy, LendsEntryBy, table_in, put_table};
+ghost use Rattle.x86_64_mappers.specs.AccessLending.{LendsEntryBy, table_in, put_table};
+ghost use Rattle.x86_64_tables.specs.Lending.{LendsTableBy};
 ghost use Rattle.x86_64_mappers.specs.private.OwnedSteps.{SetsWord};
 ghost use Rattle.x86_64_mappers.specs.Reached.{Reaches};
 ghost use Rattle.x86_64_tables.specs.PageTableFlags.{bits_of};
@@ -51,7 +52,7 @@ pub trait TableAccess: Tables {
         ensures* lends { sem 𝓛 (LendsTableBy Self.row self.entry result (Self.with_table self.old frame)) }
         ensures value { words (Self.hierarchy self.old) frame ≡ Some result.now };
 
-    ghost puts: { (s : Self) (f : ℕ) (t : List ℕ) →
+    ghost puts: { (s : Self) (f : ℕ) (t : List ℕ) → IsSome (words (Self.Tables.hierarchy s) f) →
         (Self.Tables.hierarchy (with_table s f t)).memory ≡ put_table (Self.Tables.hierarchy s) f t };
 
     ghost keeps_layout: { (s : Self) (f : ℕ) (t : List ℕ) →

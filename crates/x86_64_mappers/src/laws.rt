@@ -9,24 +9,24 @@ ghost use Rattle.x86_64_mappers.specs.Windows.{WindowsShowTables};
 
 use x86_64_addr::addr::VirtAddrIn;
 use x86_64_addr::level_count::LevelCount;
-use x86_64_tables::phys_memory::PhysMemory;
+use x86_64_tables::phys_memory::TableMemory;
 
 /// In a memory that an offset fits, each frame has the table at the offset that it has by the identity mapping: the same
 /// hierarchies are valid, and the same pools fit them.
 #[tactic(auto, using(crate::proofs::Memory::OffsetTables::offset_words))]
-pub fn offset_has_the_tables_of_the_identity<L: LevelCount>(
-    memory: &PhysMemory,
+pub fn offset_has_the_tables_of_the_identity<L: LevelCount, T: TableMemory>(
+    memory: &T,
     phys_offset: VirtAddrIn<L>,
 )
-    requires { OffsetFits L.LEVELS memory.now phys_offset }
+    requires { OffsetFits L.LEVELS (T.tables memory.now) phys_offset }
     ensures tables { let places = offset_places L.LEVELS phys_offset in
-        words_of memory.now places ≡ words_of memory.now identity_places }
+        words_of (T.tables memory.now) places ≡ words_of (T.tables memory.now) identity_places }
     ensures valid { let identity = direct_at L.LEVELS identity_places in
         let offset = direct_at L.LEVELS (offset_places L.LEVELS phys_offset) in
-        (root : ℕ) → Valid (identity root) memory.now ↔ Valid (offset root) memory.now }
+        (root : ℕ) → Valid (identity root) (T.tables memory.now) ↔ Valid (offset root) (T.tables memory.now) }
     ensures fits { let identity = direct_at L.LEVELS identity_places in
         let offset = direct_at L.LEVELS (offset_places L.LEVELS phys_offset) in
-        (root : ℕ) (serves : ℕ → Bool) (pool : List ℕ) → let m = memory.now in
+        (root : ℕ) (serves : ℕ → Bool) (pool : List ℕ) → let m = T.tables memory.now in
         Fits L.LEVELS None (words (identity root) m) root (paths (identity root) m) serves pool
         ↔ Fits L.LEVELS None (words (offset root) m) root (paths (offset root) m) serves pool }
 {}

@@ -16,18 +16,19 @@ use x86_64_page::page::{PageSize, Size4KiB};
 use x86_64_tables::mapper::{Tables, TablesIn};
 use x86_64_tables::page_table::{PageTable, PageTableFlags};
 use x86_64_tables::phys_memory::{
-    FramePlace, PageTableFrameMapping, PhysMemory, is_valid_hierarchy, is_valid_hierarchy_57,
+    FramePlace, PageTableFrameMapping, PhysMemory, TableMemory, is_valid_hierarchy,
+    is_valid_hierarchy_57,
 };
 
 /// Maps pages in a hierarchy of `L` levels of tables, which it finds in a memory by a frame mapping.
 ///
 /// It has the memory lent until it is dropped. Its hierarchy has no recursive index.
-pub struct Direct<'a, P: PageTableFrameMapping, L: LevelCount> {
-    memory: &'a mut PhysMemory,
+pub struct Direct<'a, P: PageTableFrameMapping, L: LevelCount, T: TableMemory = PhysMemory> {
+    memory: &'a mut T,
     root: PhysFrame<Size4KiB>,
     mapping: P,
     levels: PhantomData<L>,
-    ghost has_root: { HasRoot (P.places mapping) root memory.now },
+    ghost has_root: { HasRoot (P.places mapping) root (T.tables memory.now) },
 }
 
 /// The frame mapping that a caller gives.
@@ -61,17 +62,19 @@ impl<P: PageTableFrameMapping> PageTableFrameMapping for GivenMapping<P> {
 }
 
 /// The mapper of a hierarchy of any number of levels of tables.
-pub type MappedPageTableIn<'a, P, L> = Direct<'a, GivenMapping<P>, L>;
+pub type MappedPageTableIn<'a, P, L, T = PhysMemory> = Direct<'a, GivenMapping<P>, L, T>;
 
 /// The mapper of a hierarchy of four levels of tables.
-pub type MappedPageTable<'a, P> = MappedPageTableIn<'a, P, FourLevels>;
+pub type MappedPageTable<'a, P, T = PhysMemory> = MappedPageTableIn<'a, P, FourLevels, T>;
 
 /// The mapper of five levels of tables.
-pub type MappedPageTable57<'a, P> = MappedPageTableIn<'a, P, FiveLevels>;
+pub type MappedPageTable57<'a, P, T = PhysMemory> = MappedPageTableIn<'a, P, FiveLevels, T>;
 
-impl<'a, P: PageTableFrameMapping + Drop, L: LevelCount> Drop for Direct<'a, P, L> {
+impl<'a, P: PageTableFrameMapping + Drop, L: LevelCount, T: TableMemory> Drop
+    for Direct<'a, P, L, T> {
     fn drop(self)
-        ensures { self.exit.0.now ≡ (⟦<Self as Tables>⟧.hierarchy self.entry).memory }
+        ensures memory { T.tables self.exit.0.now ≡ (⟦<Self as Tables>⟧.hierarchy self.entry).memory }
+        ensures lent { T.lent self.exit.0.now ≡ (⟦<Self as Tables>⟧.hierarchy self.entry).lent.0.1 }
     {
         let Direct {
             memory: _,
@@ -82,15 +85,16 @@ impl<'a, P: PageTableFrameMapping + Drop, L: LevelCount> Drop for Direct<'a, P, 
     }
 }
 
-impl<'a, P: PageTableFrameMapping, L: LevelCount> Direct<'a, P, L> {
+impl<'a, P: PageTableFrameMapping, L: LevelCount, T: TableMemory> Direct<'a, P, L, T> {
     /// Makes a mapper of the hierarchy that starts at a root, in a memory where the mapping says where frames lie.
     ///
     /// Condition: the hierarchy is valid. Test that by
     /// [`is_valid_hierarchy`](x86_64_tables::phys_memory::is_valid_hierarchy) with the same mapping.
-    pub(crate) fn over(memory: &'a mut PhysMemory, root: PhysFrame<Size4KiB>, mapping: P) -> Self
-        requires { ValidIn (direct_at L.LEVELS (P.places mapping) root) memory.old }
-        ensures lent { (⟦<Self as Tables>⟧.hierarchy result).lent ≡ (memory.entry.ghost_name, mapping) }
-        ensures memory { (⟦<Self as Tables>⟧.hierarchy result).memory ≡ memory.old }
+    pub(crate) fn over(memory: &'a mut T, root: PhysFrame<Size4KiB>, mapping: P) -> Self
+        requires { ValidIn (direct_at L.LEVELS (P.places mapping) root) (T.tables memory.old) }
+        ensures lent { let lent = (⟦<Self as Tables>⟧.hierarchy result).lent in
+            lent ≡ ((memory.entry.ghost_name, T.lent memory.old), mapping) }
+        ensures memory { (⟦<Self as Tables>⟧.hierarchy result).memory ≡ T.tables memory.old }
         ensures layout { let layout = (⟦<Self as Tables>⟧.hierarchy result).layout in
             layout ≡ direct_at L.LEVELS (P.places mapping) root }
     {
@@ -111,15 +115,21 @@ impl<'a, P: PageTableFrameMapping, L: LevelCount> Direct<'a, P, L> {
     }
 }
 
-impl<'a, P: PageTableFrameMapping, L: LevelCount> Direct<'a, GivenMapping<P>, L> {
+impl<'a, P: PageTableFrameMapping, L: LevelCount, T: TableMemory> Direct<
+    'a,
+    GivenMapping<P>,
+    L,
+    T,
+> {
     /// Makes a mapper of the hierarchy that starts at a root, in a memory where the mapping says where frames lie.
     ///
     /// Condition: the hierarchy is valid. Test that by
     /// [`is_valid_hierarchy`](x86_64_tables::phys_memory::is_valid_hierarchy) with the same mapping.
-    pub fn new(memory: &'a mut PhysMemory, root: PhysFrame<Size4KiB>, mapping: P) -> Self
-        requires { ValidIn (direct_at L.LEVELS (P.places mapping) root) memory.old }
-        ensures lent { (⟦<Self as Tables>⟧.hierarchy result).lent ≡ (memory.entry.ghost_name, mapping) }
-        ensures memory { (⟦<Self as Tables>⟧.hierarchy result).memory ≡ memory.old }
+    pub fn new(memory: &'a mut T, root: PhysFrame<Size4KiB>, mapping: P) -> Self
+        requires { ValidIn (direct_at L.LEVELS (P.places mapping) root) (T.tables memory.old) }
+        ensures lent { let lent = (⟦<Self as Tables>⟧.hierarchy result).lent in
+            lent ≡ ((memory.entry.ghost_name, T.lent memory.old), mapping) }
+        ensures memory { (⟦<Self as Tables>⟧.hierarchy result).memory ≡ T.tables memory.old }
         ensures layout { let layout = (⟦<Self as Tables>⟧.hierarchy result).layout in
             layout ≡ direct_at L.LEVELS (P.places mapping) root }
     {
@@ -135,7 +145,7 @@ impl<'a, P: PageTableFrameMapping, L: LevelCount> Direct<'a, GivenMapping<P>, L>
     }
 }
 
-impl<'a, P: PageTableFrameMapping> Direct<'a, P, FourLevels> {
+impl<'a, P: PageTableFrameMapping, T: TableMemory> Direct<'a, P, FourLevels, T> {
     ghost use Rattle.std.specs.Borrow.{sem};
     ghost use Rattle.x86_64_mappers.specs.Lending.{LendsRootTable};
 
@@ -149,7 +159,7 @@ impl<'a, P: PageTableFrameMapping> Direct<'a, P, FourLevels> {
     /// Lends the table of level four to be changed.
     pub fn level_4_table_mut(&mut self) -> &mut PageTable
         ensures* lends { sem 𝓛 (
-            LendsRootTable P.row ⟦<P as PageTableFrameMapping>⟧ self.entry result) }
+            LendsRootTable P.row T.row ⟦<P as PageTableFrameMapping>⟧ ⟦<T as TableMemory>⟧ self.entry result) }
         ensures value { root_table (⟦<Self as Tables>⟧.hierarchy self.old) ≡ Some result.now }
     {
         let root = self.root;
@@ -168,7 +178,7 @@ impl<'a, P: PageTableFrameMapping> Direct<'a, P, FourLevels> {
     }
 }
 
-impl<'a, P: PageTableFrameMapping> Direct<'a, P, FiveLevels> {
+impl<'a, P: PageTableFrameMapping, T: TableMemory> Direct<'a, P, FiveLevels, T> {
     ghost use Rattle.std.specs.Borrow.{sem};
     ghost use Rattle.x86_64_mappers.specs.Lending.{LendsRootTable57};
 
@@ -182,7 +192,7 @@ impl<'a, P: PageTableFrameMapping> Direct<'a, P, FiveLevels> {
     /// Lends the table of level five to be changed.
     pub fn level_5_table_mut(&mut self) -> &mut PageTable
         ensures* lends { sem 𝓛 (
-            LendsRootTable57 P.row ⟦<P as PageTableFrameMapping>⟧ self.entry result) }
+            LendsRootTable57 P.row T.row ⟦<P as PageTableFrameMapping>⟧ ⟦<T as TableMemory>⟧ self.entry result) }
         ensures value { root_table (⟦<Self as Tables>⟧.hierarchy self.old) ≡ Some result.now }
     {
         let root = self.root;
@@ -201,15 +211,16 @@ impl<'a, P: PageTableFrameMapping> Direct<'a, P, FiveLevels> {
     }
 }
 
-impl<'a, P: PageTableFrameMapping, L: LevelCount> Tables for Direct<'a, P, L> {
+impl<'a, P: PageTableFrameMapping, L: LevelCount, T: TableMemory> Tables for Direct<'a, P, L, T> {
     ghost use Rattle.std.specs.Borrow.{GName};
     ghost use Rattle.x86_64_mappers.specs.private.ImplLaws.{no_flags};
     ghost use Rattle.x86_64_mappers.specs.Layouts.{owned_at};
 
-    ghost Lent = { GName × P };
+    ghost Lent = { (GName × T.Lent) × P };
 
-    ghost hierarchy = { λ mapper. let lent : GName × P = (mapper.memory.ghost_name, mapper.mapping) in
-        owned_at L.LEVELS (P.places mapper.mapping) mapper.root mapper.memory.now lent };
+    ghost hierarchy = { λ mapper. let memory = mapper.memory in
+        let lent : (GName × T.Lent) × P = ((memory.ghost_name, T.lent memory.now), mapper.mapping) in
+        owned_at L.LEVELS (P.places mapper.mapping) mapper.root (T.tables memory.now) lent };
 
     ghost added_flags = { λ _. no_flags };
 
@@ -224,21 +235,25 @@ impl<'a, P: PageTableFrameMapping, L: LevelCount> Tables for Direct<'a, P, L> {
     ghost is_mapping = { λ mapper. P.is_mapping mapper.mapping };
 }
 
-impl<'a, P: PageTableFrameMapping, L: LevelCount> TablesIn<L> for Direct<'a, P, L> {
+impl<'a, P: PageTableFrameMapping, L: LevelCount, T: TableMemory> TablesIn<L>
+    for Direct<'a, P, L, T> {
     ghost use Rattle.std.proofs.Common.{refl};
 
     ghost level_count = { λ _. refl };
 }
 
-impl<'a, P: PageTableFrameMapping, L: LevelCount> TableAccess for Direct<'a, P, L> {
-    ghost use Rattle.std.specs.FinMap.{insert};
-    ghost use Rattle.std.proofs.Common.{refl};
+impl<'a, P: PageTableFrameMapping, L: LevelCount, T: TableMemory> TableAccess
+    for Direct<'a, P, L, T> {
+    ghost use Rattle.std.proofs.Common.{refl, ap};
     ghost use Rattle.x86_64_mappers.specs.Lending.{root_stays};
+    ghost use Rattle.x86_64_mappers.specs.private.ImplLaws.{place_there};
 
     ghost with_table = { λ mapper frame table. let places = P.places mapper.mapping in
-        let place = places.place frame in record mapper {
-          memory = record mapper.memory { now = insert mapper.memory.now place table };
-          has_root = root_stays places mapper.root mapper.memory.now place table mapper.has_root;
+        let now = mapper.memory.now in let after = T.with_table now (places.place frame) table in
+        record mapper {
+          memory = record mapper.memory { now = after };
+          has_root = root_stays places mapper.root (T.tables now) (T.tables after)
+              (T.keeps_places now (places.place frame) table) mapper.has_root;
         } };
 
     fn root(&self) -> PhysFrame<Size4KiB> {
@@ -250,7 +265,7 @@ impl<'a, P: PageTableFrameMapping, L: LevelCount> TableAccess for Direct<'a, P, 
     }
 
     fn table(&self, _path: &[PageTableIndex], frame: PhysFrame<Size4KiB>) -> &PageTable {
-        &self.memory[self.mapping.frame_to_pointer(frame)]
+        self.memory.table_at(self.mapping.frame_to_pointer(frame))
     }
 
     fn table_mut(
@@ -259,12 +274,14 @@ impl<'a, P: PageTableFrameMapping, L: LevelCount> TableAccess for Direct<'a, P, 
         frame: PhysFrame<Size4KiB>,
     ) -> &mut PageTable {
         let place = self.mapping.frame_to_pointer(frame);
-        &mut self.memory[place]
+        self.memory.table_at_mut(place)
     }
 
-    ghost puts = { λ mapper frame table. refl };
+    ghost puts = { λ mapper frame table there. let places = P.places mapper.mapping in let now = mapper.memory.now in
+        T.puts now (places.place frame) table (place_there places (T.tables now) frame there) };
 
     ghost keeps_layout = { λ mapper frame table. refl };
 
-    ghost keeps_lent = { λ mapper frame table. refl };
+    ghost keeps_lent = { λ mapper frame table. let place = (P.places mapper.mapping).place frame in
+        ap (λ held. ((mapper.memory.ghost_name, held), mapper.mapping)) (T.keeps_lent mapper.memory.now place table) };
 }

@@ -15,37 +15,33 @@ use x86_64_addr::level_count::{FiveLevels, FourLevels, LevelCount};
 use x86_64_page::frame::PhysFrame;
 use x86_64_page::page::Size4KiB;
 use x86_64_tables::mapper::Tables;
-use x86_64_tables::phys_memory::PhysMemory;
+use x86_64_tables::phys_memory::{PhysMemory, TableMemory};
 
 /// Maps pages in a hierarchy of any number of levels of tables, which it finds in a memory that stands in the virtual address space
 /// from an address on, the offset.
 ///
 /// It has the memory lent until it is dropped. Its hierarchy has no recursive index.
-pub type OffsetPageTableIn<'a, L> = Direct<'a, PhysOffset<L>, L>;
+pub type OffsetPageTableIn<'a, L, T = PhysMemory> = Direct<'a, PhysOffset<L>, L, T>;
 
 /// Maps pages in a hierarchy of four levels of tables, as [`OffsetPageTableIn`] does.
-pub type OffsetPageTable<'a> = OffsetPageTableIn<'a, FourLevels>;
+pub type OffsetPageTable<'a, T = PhysMemory> = OffsetPageTableIn<'a, FourLevels, T>;
 
 /// Maps pages in a hierarchy of five levels of tables, as [`OffsetPageTableIn`] does.
-pub type OffsetPageTable57<'a> = OffsetPageTableIn<'a, FiveLevels>;
+pub type OffsetPageTable57<'a, T = PhysMemory> = OffsetPageTableIn<'a, FiveLevels, T>;
 
-impl<'a, L: LevelCount> Direct<'a, PhysOffset<L>, L> {
+impl<'a, L: LevelCount, T: TableMemory> Direct<'a, PhysOffset<L>, L, T> {
     /// Makes a mapper of the hierarchy that starts at a root, in a memory that stands at an offset.
     ///
     /// Conditions: the hierarchy is valid, with each frame at the place of its number, and the offset fits the memory. Test that
     /// by [`is_valid_hierarchy`](x86_64_tables::phys_memory::is_valid_hierarchy), or
     /// [`is_valid_hierarchy_57`](x86_64_tables::phys_memory::is_valid_hierarchy_57) with five levels, with
     /// [`IdentityMapping`](x86_64_tables::phys_memory::IdentityMapping), and by [`offset_fits`](Self::offset_fits).
-    pub fn new(
-        memory: &'a mut PhysMemory,
-        root: PhysFrame<Size4KiB>,
-        phys_offset: VirtAddrIn<L>,
-    ) -> Self
-        requires valid { ValidIn (direct_at L.LEVELS identity_places root) memory.old }
-        requires fits { OffsetFits L.LEVELS memory.old phys_offset }
+    pub fn new(memory: &'a mut T, root: PhysFrame<Size4KiB>, phys_offset: VirtAddrIn<L>) -> Self
+        requires valid { ValidIn (direct_at L.LEVELS identity_places root) (T.tables memory.old) }
+        requires fits { OffsetFits L.LEVELS (T.tables memory.old) phys_offset }
         ensures lent { let lent = (⟦<Self as Tables>⟧.hierarchy result).lent in
-            lent ≡ (memory.entry.ghost_name, phys_offset) }
-        ensures memory { (⟦<Self as Tables>⟧.hierarchy result).memory ≡ memory.old }
+            lent ≡ ((memory.entry.ghost_name, T.lent memory.old), phys_offset) }
+        ensures memory { (⟦<Self as Tables>⟧.hierarchy result).memory ≡ T.tables memory.old }
         ensures layout { let places = offset_places L.LEVELS phys_offset in
             (⟦<Self as Tables>⟧.hierarchy result).layout ≡ direct_at L.LEVELS places root }
         ensures valid { Valid (⟦<Self as Tables>⟧.hierarchy result) }
@@ -56,8 +52,8 @@ impl<'a, L: LevelCount> Direct<'a, PhysOffset<L>, L> {
 
     /// Tells whether an offset fits a memory: the offset's address plus that of each place's frame is canonical, and so below
     /// 2^64.
-    pub fn offset_fits(memory: &PhysMemory, phys_offset: VirtAddrIn<L>) -> bool
-        ensures { IsTrue result ↔ OffsetFits L.LEVELS memory.now phys_offset }
+    pub fn offset_fits(memory: &T, phys_offset: VirtAddrIn<L>) -> bool
+        ensures { IsTrue result ↔ OffsetFits L.LEVELS (T.tables memory.now) phys_offset }
     {
         for n in 0..memory.len() {
             if let Some(place) = memory.place_at(n) {

@@ -1,6 +1,6 @@
 //! The mapper that reaches tables through the root's entry for itself, and the windows in which it finds them.
 ghost use Rattle.std.specs.Prelude.{◌≡◌, Some, bit_or};
-ghost use Rattle.std.specs.Borrow.{sem, GName};
+ghost use Rattle.std.specs.Borrow.{sem};
 ghost use Rattle.x86_64_model.specs.Layout.{Valid as ValidIn};
 ghost use Rattle.x86_64_model.specs.Memory.{word, words_of, identity_places};
 ghost use Rattle.x86_64_model.specs.Mapper.{Valid};
@@ -32,7 +32,7 @@ use x86_64_page::frame::PhysFrame;
 use x86_64_page::page::{PageSize, Size4KiB};
 use x86_64_tables::mapper::{Tables, TablesIn};
 use x86_64_tables::page_table::{PageTable, PageTableFlags};
-use x86_64_tables::phys_memory::Active;
+use x86_64_tables::phys_memory::{Active, PhysMemory};
 
 /// Says why no mapper was made.
 #[derive(Clone, Copy, Debug, PartialEq)]
@@ -67,13 +67,13 @@ pub struct Recursive<A, L> {
 }
 
 /// The mapper of an active memory with any number of levels of tables.
-pub type RecursivePageTableIn<'a, L> = Recursive<Active<'a, L>, L>;
+pub type RecursivePageTableIn<'a, L, T = PhysMemory> = Recursive<Active<'a, L, T>, L>;
 
 /// The mapper of an active memory with four levels of tables.
-pub type RecursivePageTable<'a> = RecursivePageTableIn<'a, FourLevels>;
+pub type RecursivePageTable<'a, T = PhysMemory> = RecursivePageTableIn<'a, FourLevels, T>;
 
 /// The mapper of an active memory with five levels of tables.
-pub type RecursivePageTable57<'a> = RecursivePageTableIn<'a, FiveLevels>;
+pub type RecursivePageTable57<'a, T = PhysMemory> = RecursivePageTableIn<'a, FiveLevels, T>;
 
 impl<'a, L: LevelCount> RecursivePageTableIn<'a, L> {
     ghost use Rattle.std.specs.Prelude.{◌↔◌, None, IsOk, IfOk, IfErr};
@@ -279,7 +279,7 @@ impl<A: WalkedTables<L>, L: LevelCount> Tables for Recursive<A, L> {
     ghost use Rattle.x86_64_mappers.specs.private.ImplLaws.{present_writable, numbers_are_mapping};
     ghost use Rattle.x86_64_mappers.specs.Recursive.{owned_by, window_with};
 
-    ghost Lent = { GName };
+    ghost Lent = { A.Lent };
 
     ghost hierarchy = { λ mapper. let root = A.root mapper.active in
         owned_by L.LEVELS root (window_with root mapper.index (bits_of mapper.self_flags)) (A.memory mapper.active) (A.lent mapper.active) };
@@ -333,7 +333,7 @@ impl<A: WalkedTables<L>, L: LevelCount> TableAccess for Recursive<A, L> {
         self.active.table_mut(position).unwrap()
     }
 
-    ghost puts = { λ mapper frame table. A.puts mapper.active frame table };
+    ghost puts = { λ mapper frame table there. A.puts mapper.active frame table there };
 
     ghost keeps_layout = { λ mapper frame table.
         ap (λ root. recursive_at L.LEVELS root (window_with root mapper.index (bits_of mapper.self_flags))) (A.keeps_root mapper.active frame table) };

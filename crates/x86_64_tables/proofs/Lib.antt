@@ -2,8 +2,10 @@ pub mod Places
 pub mod PageTableEntries
 pub mod WalkSteps
 pub mod PlacesInOrder
+pub mod NumberedTables
 pub mod WordsSeen
 pub mod ViewMarks
 pub mod AlikeSteps
 pub mod Pools
 pub mod Tested
+pub mod LentSteps

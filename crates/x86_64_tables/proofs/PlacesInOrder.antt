@@ -13,7 +13,7 @@ use Rattle.std.specs.List.Sorted.{IsStrictlyIncreasing, IsStrictlySortedBy, IsBi
 use Rattle.std.specs.Ordering.{nat_cmp, eq_by_cmp, is_lt}
 use Rattle.std.specs.Cmp.{nat_cmp_total}
 use Rattle.std.specs.FinMap.Entries.{below_all}
-use Rattle.std.specs.FinMap.{get, keys, find, is_sorted, from_sorted, entries-from_sorted, get-empty, get-from_sorted, get-insert, same_map, nat_cmp-IsAntisymmetric}
+use Rattle.std.specs.FinMap.{get, keys, entries, find, is_sorted, from_sorted, entries-from_sorted, get-empty, get-from_sorted, get-insert, same_map, nat_cmp-IsAntisymmetric}
 use Rattle.x86_64_model.proofs.Lemmas.Hierarchies.Memories.{same_key, other_key}
 use Rattle.x86_64_model.specs.Memory.{Memory}
 use Rattle.x86_64_tables.specs.PhysMemory.{tables_at}
@@ -30,6 +30,12 @@ keys_pairs : (ps : List ℕ) (ts : List (List ℕ)) → length ts ≡ length ps 
 keys_pairs [] ts e = refl
 keys_pairs (p ∷ ps) [] e = absurd (omega (arith, e))
 keys_pairs (p ∷ ps) (t ∷ ts) e = ap (λ xs. p ∷ xs) (keys_pairs ps ts (omega (arith, e)))
+
+tables_pairs : (ps : List ℕ) (ts : List (List ℕ)) → length ts ≡ length ps → map (λ e. e.1) (pairs ps ts) ≡ ts
+tables_pairs [] [] e = refl
+tables_pairs [] (t ∷ ts) e = absurd (omega (arith, e))
+tables_pairs (p ∷ ps) [] e = refl
+tables_pairs (p ∷ ps) (t ∷ ts) e = ap (λ xs. t ∷ xs) (tables_pairs ps ts (omega (arith, e)))
 
 below : (p : ℕ) (ps : List ℕ) (ts : List (List ℕ)) → AllByRecursion (λ y. nat_cmp p y ≡ Less) ps
     → below_all nat_cmp p (pairs ps ts) ≡ true
@@ -65,6 +71,12 @@ module _ (ps : List ℕ) (ts : List (List ℕ)) (up : IsStrictlyIncreasing ps) w
   pub keys-tables : length ts ≡ length ps → keys (tables_at ps ts) ≡ ps
   keys-tables n =
       ap keys is_in_order ∙ ap (λ es. map (λ e. e.0) es) (entries-from_sorted nat_cmp (pairs ps ts) in_order) ∙ keys_pairs ps ts n
+
+  -- the tables, in the order of their places
+  pub values-tables : length ts ≡ length ps → map (λ e. e.1) (entries (tables_at ps ts)) ≡ ts
+  values-tables n =
+      ap (λ m. map (λ e. e.1) (entries m)) is_in_order
+      ∙ ap (λ es. map (λ e. e.1) es) (entries-from_sorted nat_cmp (pairs ps ts) in_order) ∙ tables_pairs ps ts n
 
 module _ (ps : List ℕ) (q : ℕ) where
   -- a place that stands at an index is found there

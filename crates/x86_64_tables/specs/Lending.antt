@@ -1,6 +1,6 @@
 -- What a table or a memory is once a word or a table that it lent comes back.
 use Rattle.std.specs.Prelude.{ℕ, List, Option, slice_set}
-use Rattle.std.specs.Borrow.{Lends, LendsIf, MutBor, Fml}
+use Rattle.std.specs.Borrow.{Lends, LendsIf, MutBor, Fml, RattleType}
 use Rattle.std.specs.FinMap.{insert}
 use Rattle.x86_64_model.specs.Memory.{Memory}
 use Rattle.x86_64_tables.specs.contracts.page_table.entry.PageTableEntry.{the_row as entry_row}
@@ -18,3 +18,11 @@ LendsTable memory place r = LendsIf memory_row table_row memory r (insert memory
 -- the memory ends with the last table behind r at the place, which it has
 abbrev pub LendsTableAt : MutBor Memory → (place : ℕ) → MutBor (List ℕ) → Fml
 LendsTableAt memory place r = Lends memory_row table_row memory r (insert memory.now place)
+
+-- what reaches tables ends as F makes it of the last table behind r
+abbrev pub LendsTableBy : (holder : RattleType) → MutBor holder.Denot → (r : MutBor (List ℕ)) → (F : List ℕ → holder.Denot) → Fml
+LendsTableBy holder s r F = Lends holder table_row s r F
+
+-- the same, and as it was where nothing is lent
+abbrev pub LendsTableIfBy : (holder : RattleType) → MutBor holder.Denot → (r : Option (MutBor (List ℕ))) → (F : List ℕ → holder.Denot) → Fml
+LendsTableIfBy holder s r F = LendsIf holder table_row s r F s.now

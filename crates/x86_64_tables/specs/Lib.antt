@@ -2,6 +2,7 @@ pub mod PageTableFlags
 pub mod PageTableEntry
 pub mod PageTable
 pub mod PhysMemory
+pub mod LentMemory
 pub mod Lending
 pub mod Walks
 pub mod SelfEntries

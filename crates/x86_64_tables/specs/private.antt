@@ -1,3 +1,4 @@
 pub mod Views
 pub mod HierarchyTests
 pub mod SortedPlaces
+pub mod TableLaws

@@ -15,19 +15,23 @@ ghost use Rattle.x86_64_tables.specs.private.SortedPlaces.{HasRun};
 mod active;
 mod alike;
 mod hierarchy_view;
+mod lent_memory;
 mod places;
 mod shift_mapping;
+mod table_memory;
 mod validity;
 mod walk;
 
 use crate::page_table::PageTable;
 pub use active::{Active, ActiveMemory, ActiveMemory57};
 pub use alike::{tables_alike, tables_alike_57};
+pub use lent_memory::LentMemory;
 use places::{SortedPlaces, is_increasing};
 pub use shift_mapping::ShiftMapping;
 use std::alloc::{AllocError, Global};
 use std::marker::Model;
 use std::ops::{Index, IndexMut};
+pub use table_memory::TableMemory;
 pub use validity::{
     is_valid_hierarchy, is_valid_hierarchy_57, is_valid_recursive, is_valid_recursive_57,
     pool_fits, pool_fits_57, pool_fits_recursive, pool_fits_recursive_57,

@@ -94,7 +94,7 @@ impl<'a, M: TableAccess> TableAccess for Counting<'a, M> {
         self.mapper.table_mut(path, frame)
     }
 
-    ghost puts = { λ layer frame table. M.puts layer.mapper.now frame table };
+    ghost puts = { λ layer frame table there. M.puts layer.mapper.now frame table there };
 
     ghost keeps_layout = { λ layer frame table. M.keeps_layout layer.mapper.now frame table };
 

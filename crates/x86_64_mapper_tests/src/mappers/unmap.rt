@@ -1,4 +1,5 @@
 //! Unmaps of pages, and what the caller of a mapper learns of them, and the owner of its memory.
+ghost use Rattle.std.specs.Prelude.{◌≡◌};
 ghost use Rattle.x86_64_model.specs.Call.{Unmap};
 ghost use Rattle.x86_64_model.specs.Layout.{Valid as ValidIn};
 ghost use Rattle.x86_64_model.specs.Memory.{identity_places};
@@ -13,7 +14,7 @@ use x86_64_mappers::mapper::Mapper;
 use x86_64_page::frame::PhysFrame;
 use x86_64_page::page::{Page, PageSize, Size4KiB};
 use x86_64_tables::mapper::UnmapError;
-use x86_64_tables::phys_memory::{IdentityMapping, PhysMemory, is_valid_hierarchy};
+use x86_64_tables::phys_memory::{IdentityMapping, TableMemory, is_valid_hierarchy};
 
 /// Unmaps a page by any mapper, whose path is not in the window.
 pub fn unmap_by<S: PageSize, M: Mapper<S>>(
@@ -29,15 +30,17 @@ pub fn unmap_by<S: PageSize, M: Mapper<S>>(
     Ok(frame)
 }
 
-/// Unmaps a page by a mapper that is dropped then. The owner knows what the call did to the memory.
-fn unmap<S: PageSize>(
-    memory: &mut PhysMemory,
+/// Unmaps a page by a mapper that is dropped then. The owner of the memory knows what the call did to it.
+pub fn unmap<S: PageSize, T: TableMemory>(
+    memory: &mut T,
     root: PhysFrame<Size4KiB>,
     page: Page<S>,
 ) -> Result<PhysFrame<S>, UnmapError>
-    requires { ValidIn (direct identity_places root) memory.old }
-    ensures { let h = owned identity_places root memory.old (tt {0}) in
-        Does h (Unmap (path_of h S.LEVEL page)) (frame_answer result) (record h { memory = memory.new }) }
+    requires { ValidIn (direct identity_places root) (T.tables memory.old) }
+    ensures does { let h = owned identity_places root (T.tables memory.old) (tt {0}) in
+        let after = record h { memory = T.tables memory.new } in
+        Does h (Unmap (path_of h S.LEVEL page)) (frame_answer result) after }
+    ensures lent { T.lent memory.new ≡ T.lent memory.old }
 {
     let mut mapper = MappedPageTable::new(memory, root, IdentityMapping);
     unmap_by(&mut mapper, page)
@@ -50,7 +53,7 @@ fn pages_are_unmapped_once(rt: HostRuntime) {
     for wanted in [Ok(small(0x5000)), Err(UnmapError::PageNotMapped)] {
         let tested = is_valid_hierarchy(rt.alloc(), &memory, &IdentityMapping, root);
         assert!(rt; unwrap(rt, tested));
-        let answer = unmap::<Size4KiB>(&mut memory, root, page(0x1000));
+        let answer = unmap::<Size4KiB, _>(&mut memory, root, page(0x1000));
         assert_equal(rt, answer, wanted);
     }
     check_words(rt, &memory, &WORDS[..3])

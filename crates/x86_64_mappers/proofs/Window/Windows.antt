@@ -1,16 +1,13 @@
 -- Windows: their indices, and where their walks arrive.
-use Rattle.std.proofs.Common.{◌≡◌, ◌<◌, ◌≤◌, ◌+◌, ◌-◌, ◌*◌, ◌^◌, ◌%◌, ◌==◌, ◌&&◌, ℕ, Bool, true, false, not, cond, List, [], ◌∷◌, ◌++◌, replicate, length, Option, Some, None, IsSome, option_and_then, refl, sym, ap, ap₂, ◌∙◌, subst, arith, eqb-true, eq-eqb, ltb-true, nat_lt}
+use Rattle.std.proofs.Common.{◌≡◌, ◌<◌, ◌+◌, ◌-◌, ◌%◌, ◌==◌, ◌&&◌, ℕ, Bool, true, false, not, cond, List, [], ◌∷◌, ◌++◌, replicate, Option, Some, None, IsSome, option_and_then, refl, sym, ap, ap₂, ◌∙◌, subst, arith, eqb-true, eq-eqb, ltb-true, nat_lt}
 use Rattle.std.proofs.lemmas.Option.{same_Some}
-use Rattle.std.proofs.Math.Nat.{pow-le-pow_right}
 use Rattle.x86_64_model.specs.Arrivals.{leads}
 use Rattle.x86_64_model.specs.Entry.{has, present, huge, address}
 use Rattle.x86_64_model.specs.Memory.{Memory, Words, word, word_in, words_of, identity_places}
 use Rattle.x86_64_model.specs.PageWalk.{read}
-use Rattle.x86_64_model.specs.Path.{AllBelow, span_start}
-use Rattle.x86_64_model.specs.Position.{page_path, position_count, span}
+use Rattle.x86_64_model.specs.Position.{page_path, span}
 use Rattle.x86_64_model.specs.Window.{Window, IsSelfEntry}
 use Rattle.x86_64_model.proofs.Lemmas.Entries.Words.{address_aligned}
-use Rattle.x86_64_model.proofs.Lemmas.Paths.Starts.{path_of_start, start_inside}
 use Rattle.x86_64_model.proofs.Lemmas.Walks.Windows.{windows_reach}
 use Rattle.x86_64_tables.specs.ActiveMemory.{frame_at, walked_frame, walked_table}
 use Rattle.x86_64_tables.specs.SelfEntries.{has_self_entry, window_at}
@@ -85,21 +82,6 @@ module _ (levels r times w p : ℕ) (path q : List ℕ) (contains : p ≡ w - w 
 
   pub window_shows : ShowsTable levels r path w → ShowsTable levels r q p
   window_shows shows = subst (ShowsTable levels r q) (sym (starts_at w p contains aligned)) (subst (λ q. ShowsTable levels r q w) same shows)
-
--- positions have 57 bits at most
-pub few_positions : (levels : ℕ) → levels ≤ 5 → position_count levels ≤ 2 ^ 57
-few_positions levels few = pow-le-pow_right (omega arith) (let e : 12 + 9 * levels ≤ 57 = omega (arith, few) in e)
-
--- the page whose number is that of so many indices has them
-module _ (levels n : ℕ) (path q : List ℕ) (is : path ≡ q) (long : length q ≡ levels) (start : n * 4096 ≡ span_start (length path) path) (below : AllBelow path) where
-  start_is : n * 4096 ≡ span_start levels q
-  start_is = start ∙ ap₂ span_start (ap length is ∙ long) is
-
-  pub number_path : page_path levels (n * 4096) ≡ q
-  number_path = ap (page_path levels) start_is ∙ path_of_start levels q long (subst AllBelow is below)
-
-  pub number_inside : n * 4096 < position_count levels
-  number_inside = subst (λ p. p < position_count levels) (sym start_is) (start_inside levels q long (subst AllBelow is below))
 
 -- ---- tables through them
 

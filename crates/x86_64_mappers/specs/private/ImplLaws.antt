@@ -1,12 +1,13 @@
 -- Proofs of laws that impls of mappers give. A `ghost use` names no file of proofs/.
 use Rattle.std.proofs.Common.{inl, inr, refl}
-use Rattle.std.proofs.lemmas.Bool.{and_parts}
-use Rattle.std.specs.Prelude.{ℕ}
+use Rattle.std.proofs.lemmas.Bool.{and_parts, false≢true}
+use Rattle.std.specs.Prelude.{ℕ, Bool, true, false, cond, None, IsSome}
+use Rattle.std.specs.FinMap.{get}
 use Rattle.x86_64_model.specs.Entry.{address, is_frame}
 use Rattle.x86_64_model.specs.Laws.Pairs.{IsAdded}
 use Rattle.x86_64_model.proofs.Lemmas.Entries.Bits.{same_frame}
 use Rattle.x86_64_model.proofs.Lemmas.Hierarchies.Memories.{identity_is_mapping}
-use Rattle.x86_64_model.specs.Memory.{IsMapping, identity_places}
+use Rattle.x86_64_model.specs.Memory.{IsMapping, Memory, Places, identity_places, words_of}
 use Rattle.x86_64_mappers.specs.Offsets.{is_reached, offset_places}
 
 -- a mapper may add no flags to a new table entry
@@ -29,3 +30,11 @@ offset_is_mapping L offset = record {
   frames = λ f h. (and_parts (is_frame f) (is_reached L offset f) h).0;
   distinct = λ f g a b e. same_frame f g (and_parts (is_frame f) (is_reached L offset f) a).0 (and_parts (is_frame g) (is_reached L offset g) b).0 e;
 }
+
+-- the place of a frame that has a table is there
+pub place_there : (places : Places) (memory : Memory) (frame : ℕ) → IsSome (words_of memory places frame) → IsSome (get memory (places.place frame))
+place_there places memory frame = by (places.covers frame)
+  where
+    by : (c : Bool) → IsSome (cond c (get memory (places.place frame)) None) → IsSome (get memory (places.place frame))
+    by true there = there
+    by false there = absurd (false≢true there)

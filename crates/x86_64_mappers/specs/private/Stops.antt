@@ -1,5 +1,5 @@
 -- The way down the parents of a page, where no table is made: to the table that their path leads to, or to the first stop.
-use Rattle.std.specs.Prelude.{◌≡◌, ℕ, not, cond, List, [], ◌∷◌, ◌++◌, Option, Some, None, IsSome, Result, Ok, Err}
+use Rattle.std.specs.Prelude.{◌≡◌, ℕ, Bool, not, cond, List, [], ◌∷◌, ◌++◌, Option, Some, None, IsSome, Result, Ok, Err, is_ok}
 use Rattle.x86_64_model.specs.Entry.{present, huge, address}
 use Rattle.x86_64_model.specs.Layout.{Layout, words, read_entry}
 use Rattle.x86_64_model.specs.Memory.{Memory, word}
@@ -9,6 +9,10 @@ use Rattle.x86_64_model.specs.Refusal.{Refusal, ParentEntryHugePage, PageNotMapp
 -- the frame of the table that a parent's entry names, or why it is no present table entry
 abbrev pub table_below : (entry : ℕ) → Result ℕ Refusal
 table_below e = cond (not (present e)) (Err PageNotMapped) (cond (huge e) (Err ParentEntryHugePage) (Ok (address e)))
+
+-- whether an entry names a table
+abbrev pub names_table : (entry : ℕ) → Bool
+names_table e = is_ok (table_below e)
 
 -- the frame of the table that a path leads to, where E is the entry at a path: the root for the path of no index
 abbrev pub table_read : (L root : ℕ) (E : List ℕ → ℕ) → List ℕ → Option ℕ

@@ -1,12 +1,15 @@
 //! Clean up: tables that are empty are taken away, those below a table first.
-ghost use Rattle.std.specs.Prelude.{◌≡◌, ◌<◌, ◌≤◌, ◌+◌, ◌-◌, ◌*◌, ◌++◌, ◌∷◌, [], true, false, cond, length, take, get_or};
+ghost use Rattle.std.specs.Prelude.{◌≡◌, ◌<◌, ◌≤◌, ◌+◌, ◌-◌, ◌*◌, ◌++◌, ◌∷◌, ℕ, [], true, false, cond, length, take, get_or};
 ghost use Rattle.x86_64_model.proofs.Lemmas.CleanUps.Below.{cleaned_below, back_below};
 ghost use Rattle.x86_64_model.specs.CleanUp.{meets};
-ghost use Rattle.x86_64_model.specs.Mapper.{MayCleanUp, CleansUp, paths};
+ghost use Rattle.x86_64_model.specs.Mapper.{MayCleanUp, CleansUp, words, paths};
+ghost use Rattle.x86_64_model.specs.Memory.{word};
 ghost use Rattle.x86_64_model.specs.Path.{AllBelow, begins, span_start};
 ghost use Rattle.x86_64_model.specs.Position.{position_count};
 ghost use Rattle.x86_64_model.specs.Window.{begins_with};
 ghost use Rattle.x86_64_mappers.specs.private.CleaningUp.{span_end, IsPageRange, IsVisited, IsCleaned, IsCleanedAt};
+ghost use Rattle.x86_64_mappers.specs.private.Stops.{names_table};
+ghost use Rattle.x86_64_mappers.specs.Reached.{Reaches};
 
 use super::find::next_table;
 use super::path::{MOST_LEVELS, path_of_address};
@@ -114,11 +117,41 @@ fn clean_up_table<M: TableAccess, D: FrameDeallocator<Size4KiB>>(
     if path.len() + 1 < range.first.len() {
         let first = index_in_table(range.first, path, 0);
         let last = index_in_table(range.last, path, 511);
-        for index in first..last + 1 {
-            let index = PageTableIndex::new(index);
+        let mut next = next_named(mapper, path, table, first, last);
+        while next <= last {
+            let index = PageTableIndex::new(next);
             clean_up_entry(mapper, range, path, table, index, frame_deallocator);
+            next = next_named(mapper, path, table, next + 1, last);
         }
     }
+}
+
+/// Returns the first index, from one on and up to a last one, at which the entry of the table to which a path leads names a table, or
+/// the index after the last one if none does.
+fn next_named<M: TableAccess>(
+    mapper: &M,
+    path: &[PageTableIndex],
+    frame: PhysFrame<Size4KiB>,
+    from: u16,
+    last: u16,
+) -> u16
+    requires reached { Reaches (M.hierarchy mapper.now) path.now frame }
+    requires short { length path.now < (M.hierarchy mapper.now).layout.levels }
+    requires last { last < 512 }
+    ensures from { result ≤ last → from ≤ result }
+    ensures last { result ≤ last + 1 }
+    ensures passed { let entry = word (words (M.hierarchy mapper.now)) frame in
+        (i : ℕ) → from ≤ i → i < result → names_table (entry i) ≡ false }
+    ensures named { let entry = word (words (M.hierarchy mapper.now)) frame in
+        result ≤ last → names_table (entry result) ≡ true }
+{
+    let table = mapper.table(path, frame);
+    for index in from..last + 1 {
+        if table[usize::from(index)].frame().is_ok() {
+            return index;
+        }
+    }
+    last + 1
 }
 
 /// Takes away the empty tables below the one that the entry at an index of the table to which a path leads names, and then that

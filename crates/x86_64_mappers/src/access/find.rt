@@ -85,6 +85,8 @@ pub fn next_table<M: TableAccess>(
 /// # Errors
 ///
 /// `NotMapped` where a parent lacks `PRESENT`, and `MappedToHugePage` where one before it has `HUGE_PAGE`.
+// In its callers the indices are known to be so many, and then the window of each table takes a few steps.
+#[inline]
 pub fn find_table<M: TableAccess>(
     mapper: &M,
     parents: &[PageTableIndex],

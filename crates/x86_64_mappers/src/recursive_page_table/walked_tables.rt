@@ -1,13 +1,13 @@
 //! Tables that are reached at virtual addresses.
-ghost use Rattle.std.specs.Prelude.{◌≡◌, ◌<◌, ℕ, List, unwrap_or};
-ghost use Rattle.std.specs.Borrow.{sem, GName};
+ghost use Rattle.std.specs.Prelude.{◌≡◌, ◌<◌, ◌/◌, ℕ, List, IsSome, unwrap_or};
+ghost use Rattle.std.specs.Borrow.{sem};
 ghost use Rattle.std.specs.FinMap.{insert};
 ghost use Rattle.std.specs.Option.{option_copied, option_copied_mut};
 ghost use Rattle.x86_64_model.specs.Memory.{Memory, words_of, identity_places};
 ghost use Rattle.x86_64_model.specs.Position.{position_count};
 ghost use Rattle.x86_64_tables.specs.ActiveMemory.{walked_frame, walked_table};
 ghost use Rattle.x86_64_tables.specs.SelfEntries.{has_self_entry};
-ghost use Rattle.x86_64_mappers.specs.AccessLending.{LendsTableIfBy};
+ghost use Rattle.x86_64_tables.specs.Lending.{LendsTableIfBy};
 
 use x86_64_addr::addr::VirtAddrIn;
 use x86_64_addr::index::PageTableIndex;
@@ -15,7 +15,7 @@ use x86_64_addr::level_count::LevelCount;
 use x86_64_page::frame::PhysFrame;
 use x86_64_page::page::Size4KiB;
 use x86_64_tables::page_table::PageTable;
-use x86_64_tables::phys_memory::Active;
+use x86_64_tables::phys_memory::{Active, TableMemory};
 
 /// Reaches tables at virtual addresses alone, by walks through the tables as they are at that moment.
 pub trait WalkedTables<L: LevelCount> {
@@ -26,7 +26,9 @@ pub trait WalkedTables<L: LevelCount> {
     ghost root: { Self → ℕ };
 
     /// Which memory was lent.
-    ghost lent: { Self → GName };
+    ghost Lent: { Type 0 };
+
+    ghost lent: { Self → Lent };
 
     /// The same with another table in a frame.
     ghost with_table: { Self → ℕ → List ℕ → Self };
@@ -55,7 +57,7 @@ pub trait WalkedTables<L: LevelCount> {
         ensures value { let words = words_of (Self.memory self.old) identity_places in
             option_copied_mut result ≡ walked_table L.LEVELS words (Self.root self.old) position };
 
-    ghost puts: { (s : Self) (f : ℕ) (t : List ℕ) →
+    ghost puts: { (s : Self) (f : ℕ) (t : List ℕ) → IsSome (words_of (memory s) identity_places f) →
         memory (with_table s f t) ≡ insert (memory s) (identity_places.place f) t };
 
     ghost keeps_root: { (s : Self) (f : ℕ) (t : List ℕ) → root (with_table s f t) ≡ root s };
@@ -63,17 +65,21 @@ pub trait WalkedTables<L: LevelCount> {
     ghost keeps_lent: { (s : Self) (f : ℕ) (t : List ℕ) → lent (with_table s f t) ≡ lent s };
 }
 
-impl<'a, L: LevelCount> WalkedTables<L> for Active<'a, L> {
-    ghost use Rattle.std.proofs.Common.{refl};
+impl<'a, L: LevelCount, T: TableMemory> WalkedTables<L> for Active<'a, L, T> {
+    ghost use Rattle.std.proofs.Common.{refl, ap};
+    ghost use Rattle.std.specs.Borrow.{GName};
+    ghost use Rattle.x86_64_mappers.specs.private.ImplLaws.{place_there};
     ghost use Rattle.x86_64_tables.specs.ActiveMemory.{memory_of, cr3_of, lent as lent_of, with_table as active_with};
 
-    ghost memory = { memory_of };
+    ghost memory = { λ s. T.tables (memory_of s) };
 
     ghost root = { cr3_of };
 
-    ghost lent = { lent_of };
+    ghost Lent = { GName × T.Lent };
 
-    ghost with_table = { active_with };
+    ghost lent = { λ s. (lent_of s, T.lent (memory_of s)) };
+
+    ghost with_table = { active_with T.with_table };
 
     fn cr3(&self) -> PhysFrame<Size4KiB> {
         Active::cr3(self)
@@ -91,9 +97,11 @@ impl<'a, L: LevelCount> WalkedTables<L> for Active<'a, L> {
         Active::table_mut(self, VirtAddrIn::new_truncate(position))
     }
 
-    ghost puts = { λ s f t. refl };
+    ghost puts = { λ s f t there. let memory = memory_of s in
+        T.puts memory (f / 4096) t (place_there identity_places (T.tables memory) f there) };
 
     ghost keeps_root = { λ s f t. refl };
 
-    ghost keeps_lent = { λ s f t. refl };
+    ghost keeps_lent = { λ s f t.
+        ap (λ held. (lent_of s, held)) (T.keeps_lent (memory_of s) (f / 4096) t) };
 }

@@ -3,17 +3,19 @@
 //! A walk that goes through that entry comes back to the root one level further down. So the indices of a window are the
 //! index of that entry, which is the recursive index, once for each level that the walk is to end early, and then the
 //! indices that lead to the table. The window of the root has the recursive index alone, once for each level.
-ghost use Rattle.std.specs.Prelude.{◌≡◌, ◌+◌, ◌++◌, ◌-◌, ◌%◌, ◌<◌, ◌≤◌, length, replicate, take};
+ghost use Rattle.std.specs.Prelude.{◌≡◌, ◌+◌, ◌++◌, ◌-◌, ◌%◌, ◌<◌, ◌≤◌, length, replicate};
 ghost use Rattle.x86_64_model.specs.Path.{path_at};
 ghost use Rattle.x86_64_model.specs.Position.{page_path, position_count};
 ghost use Rattle.x86_64_mappers.specs.Windows.{ShowsTable};
 
-use crate::access::clean_up::page_number;
-use crate::access::path::{EntryPath, MOST_LEVELS};
+use crate::access::path::EntryPath;
 use x86_64_addr::addr::VirtAddrIn;
 use x86_64_addr::index::PageTableIndex;
 use x86_64_addr::level_count::LevelCount;
 use x86_64_page::page::{NotGiantPageSize, Page57, PageIn, PageSize, Size4KiB};
+
+/// An index times this is the index five times, nine bits each time: as often as the window with the most levels has it.
+const FIVE_TIMES: u64 = 0x10_0804_0201;
 
 /// Returns the page at which the table of level three for a page is reached through a recursive index.
 pub fn p3_window<S: PageSize, L: LevelCount>(
@@ -89,23 +91,10 @@ pub(super) fn window_position<L: LevelCount>(index: PageTableIndex, path: &[Page
     ensures aligned { result % 4096 ≡ 0 }
     ensures inside { result < position_count L.LEVELS }
 {
-    let levels = L::LEVELS as usize;
-    let indices = window_indices(levels, index, path);
-    page_number(&indices[..levels]) * Size4KiB::SIZE
-}
-
-/// Gives the indices of a window, in the first of so many places: an index as often as there is room, and then a path.
-fn window_indices(
-    levels: usize,
-    index: PageTableIndex,
-    path: &[PageTableIndex],
-) -> [PageTableIndex; MOST_LEVELS]
-    requires short { length path.now < levels }
-    requires known { levels < 6 }
-    ensures { take levels result ≡ replicate (levels - length path.now) index ++ path.now }
-{
-    let mut indices = [index; MOST_LEVELS];
-    let places = &mut indices[..levels];
-    places[levels - path.len()..].copy_from_slice(path);
-    indices
+    // Higher bits than those of a position don't count. So the index may be there more often than it is needed.
+    let mut number = u64::from(index) * FIVE_TIMES;
+    for index in path {
+        number = number.wrapping_mul(512).wrapping_add(u64::from(*index));
+    }
+    number.wrapping_mul(Size4KiB::SIZE) % L::POSITION_COUNT
 }

@@ -8,7 +8,7 @@ ghost use Rattle.x86_64_tables.specs.SelfEntries.{has_self_entry};
 
 use super::hierarchy_view::has_self_entry;
 use super::walk::page_walk;
-use super::{FramePlace, IdentityMapping, PhysMemory};
+use super::{FramePlace, IdentityMapping, PhysMemory, TableMemory};
 use crate::page_table::PageTable;
 use std::marker::PhantomData;
 use x86_64_addr::addr::{PhysAddr, VirtAddrIn};
@@ -23,21 +23,21 @@ use x86_64_page::page::{PageSize, Size4KiB};
 /// at that moment. No call reaches one by its frame, and none gives the memory back, which ends with the words that it
 /// had last. Intel SDM vol. 3A, "Linear-Address Translation with 4-Level Paging and 5-Level Paging".
 #[derive(Drop)]
-pub struct Active<'a, L> {
-    memory: &'a mut PhysMemory,
+pub struct Active<'a, L, T = PhysMemory> {
+    memory: &'a mut T,
     cr3: u64,
     levels: PhantomData<L>,
 }
 
 /// A memory with four levels of tables below CR3.
-pub type ActiveMemory<'a> = Active<'a, FourLevels>;
+pub type ActiveMemory<'a, T = PhysMemory> = Active<'a, FourLevels, T>;
 
 /// A memory with five levels of tables below CR3.
-pub type ActiveMemory57<'a> = Active<'a, FiveLevels>;
+pub type ActiveMemory57<'a, T = PhysMemory> = Active<'a, FiveLevels, T>;
 
-impl<'a, L: LevelCount> Active<'a, L> {
+impl<'a, L: LevelCount, T: TableMemory> Active<'a, L, T> {
     /// Makes a memory active, with a frame in CR3. No word changes.
-    pub fn new(memory: &'a mut PhysMemory, cr3: PhysFrame<Size4KiB>) -> Self
+    pub fn new(memory: &'a mut T, cr3: PhysFrame<Size4KiB>) -> Self
         ensures lent { lent result ≡ memory.entry.ghost_name }
         ensures memory { memory_of result ≡ memory.old }
         ensures cr3 { cr3_of result ≡ cr3 }
@@ -60,7 +60,7 @@ impl<'a, L: LevelCount> Active<'a, L> {
     /// Tells whether the table in CR3's frame is in the memory, and its word at an index gives that frame as
     /// [`frame`](crate::page_table::PageTableEntry::frame): it has `PRESENT`, lacks `HUGE_PAGE` and names it.
     pub fn self_entry(&self, index: PageTableIndex) -> bool
-        ensures { result ≡ has_self_entry (words_in self.now) (cr3_of self.now) index }
+        ensures { result ≡ has_self_entry (words_in T.tables self.now) (cr3_of self.now) index }
     {
         has_self_entry(self.memory, &IdentityMapping, self.cr3(), index)
     }
@@ -68,7 +68,7 @@ impl<'a, L: LevelCount> Active<'a, L> {
     /// Gives the table at an address, or `None` where the walk of the address from CR3 arrives nowhere, not at a
     /// multiple of 4096, or at no table in the memory. It may arrive inside a huge page.
     pub fn table(&self, addr: VirtAddrIn<L>) -> Option<&PageTable>
-        ensures { let words = words_in self.now in
+        ensures { let words = words_in T.tables self.now in
             option_copied result ≡ walked_table L.LEVELS words (cr3_of self.now) addr }
     {
         let frame = self.arrive(addr)?;
@@ -78,8 +78,9 @@ impl<'a, L: LevelCount> Active<'a, L> {
     /// Lends the table at an address to be changed, or gives `None` where [`table`](Active::table) does. All
     /// other tables stay. What is written may change where later walks arrive.
     pub fn table_mut(&mut self, addr: VirtAddrIn<L>) -> Option<&mut PageTable>
-        ensures* writes_back { sem 𝓛 (LendsWalked L.row L.LEVELS self.entry addr result) }
-        ensures value { let words = words_in self.old in
+        ensures* writes_back { let memory = ⟦<T as TableMemory>⟧ in
+            sem 𝓛 (LendsWalked L.row T.row memory L.LEVELS self.entry addr result) }
+        ensures value { let words = words_in T.tables self.old in
             option_copied_mut result ≡ walked_table L.LEVELS words (cr3_of self.old) addr }
     {
         match self.arrive(addr) {
@@ -90,7 +91,7 @@ impl<'a, L: LevelCount> Active<'a, L> {
 
     /// Gives the frame that starts where the walk of an address arrives.
     fn arrive(&self, addr: VirtAddrIn<L>) -> Option<PhysFrame<Size4KiB>>
-        ensures { result ≡ walked_frame L.LEVELS (words_in self.now) (cr3_of self.now) addr }
+        ensures { result ≡ walked_frame L.LEVELS (words_in T.tables self.now) (cr3_of self.now) addr }
     {
         let walked = page_walk(self.memory, &IdentityMapping, self.cr3(), addr)?;
         PhysFrame::from_start_address(walked.address).ok()
@@ -98,8 +99,9 @@ impl<'a, L: LevelCount> Active<'a, L> {
 
     /// Lends the table in a frame.
     fn table_in(&mut self, frame: PhysFrame<Size4KiB>) -> Option<&mut PageTable>
-        ensures* writes_back { sem 𝓛 (LendsFrame L.row self.entry frame result) }
-        ensures value { option_copied_mut result ≡ words_in self.old frame }
+        ensures* writes_back { let memory = ⟦<T as TableMemory>⟧ in
+            sem 𝓛 (LendsFrame L.row T.row memory self.entry frame result) }
+        ensures value { option_copied_mut result ≡ words_in T.tables self.old frame }
     {
         let place = place_of(frame);
         self.memory.table_mut(place)

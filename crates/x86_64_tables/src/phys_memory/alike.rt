@@ -5,7 +5,7 @@ ghost use Rattle.x86_64_tables.specs.private.Views.{seen};
 ghost use Rattle.x86_64_tables.specs.PathsSeen.{AlikeFrom, paths_seen, paths_seen_57, paths_seen_at, places_for};
 
 use super::hierarchy_view::HierarchyView;
-use super::{FramePlace, IdentityMapping, PageTableFrameMapping, PhysMemory};
+use super::{FramePlace, IdentityMapping, PageTableFrameMapping, TableMemory};
 use x86_64_addr::index::PageTableIndex;
 use x86_64_page::frame::PhysFrame;
 use x86_64_page::page::Size4KiB;
@@ -19,19 +19,24 @@ const ALL_BUT_WRITABLE: u64 = 0xffff_ffff_ffff_fffd;
 /// whatever the mapping beside it says, and the root's word at the index is read as 0. Where none is given, it is one of
 /// `is_valid_hierarchy`. Entries without `PRESENT` count as others do, and those that name no table are compared whole.
 /// The test ends for any words: a table that the memory lacks is read as one of unused entries. It takes no memory.
-pub fn tables_alike<P: PageTableFrameMapping, Q: PageTableFrameMapping>(
-    memory: &PhysMemory,
+pub fn tables_alike<
+    T: TableMemory,
+    P: PageTableFrameMapping,
+    U: TableMemory,
+    Q: PageTableFrameMapping,
+>(
+    memory: &T,
     mapping: &P,
     root: PhysFrame<Size4KiB>,
     index: Option<PageTableIndex>,
-    other_memory: &PhysMemory,
+    other_memory: &U,
     other_mapping: &Q,
     other_root: PhysFrame<Size4KiB>,
     other_index: Option<PageTableIndex>,
 ) -> bool
-    ensures { let paths = paths_seen memory.now (P.places mapping.now) root index in
+    ensures { let paths = paths_seen (T.tables memory.now) (P.places mapping.now) root index in
         let other_places = Q.places other_mapping.now in
-        let other_paths = paths_seen other_memory.now other_places other_root other_index in
+        let other_paths = paths_seen (U.tables other_memory.now) other_places other_root other_index in
         IsTrue result ↔ Alike 4 paths other_paths }
 {
     alike_through(
@@ -51,19 +56,24 @@ pub fn tables_alike<P: PageTableFrameMapping, Q: PageTableFrameMapping>(
 ///
 /// It is as `tables_alike` says, of hierarchies of `is_valid_recursive_57` where an index is given, and of
 /// `is_valid_hierarchy_57` where none is. The test ends for any words. It takes no memory.
-pub fn tables_alike_57<P: PageTableFrameMapping, Q: PageTableFrameMapping>(
-    memory: &PhysMemory,
+pub fn tables_alike_57<
+    T: TableMemory,
+    P: PageTableFrameMapping,
+    U: TableMemory,
+    Q: PageTableFrameMapping,
+>(
+    memory: &T,
     mapping: &P,
     root: PhysFrame<Size4KiB>,
     index: Option<PageTableIndex>,
-    other_memory: &PhysMemory,
+    other_memory: &U,
     other_mapping: &Q,
     other_root: PhysFrame<Size4KiB>,
     other_index: Option<PageTableIndex>,
 ) -> bool
-    ensures { let paths = paths_seen_57 memory.now (P.places mapping.now) root index in
+    ensures { let paths = paths_seen_57 (T.tables memory.now) (P.places mapping.now) root index in
         let other_places = Q.places other_mapping.now in
-        let other_paths = paths_seen_57 other_memory.now other_places other_root other_index in
+        let other_paths = paths_seen_57 (U.tables other_memory.now) other_places other_root other_index in
         IsTrue result ↔ Alike 5 paths other_paths }
 {
     alike_through(
@@ -80,20 +90,25 @@ pub fn tables_alike_57<P: PageTableFrameMapping, Q: PageTableFrameMapping>(
 }
 
 /// Tells whether two hierarchies are alike, with so many levels of tables below each root.
-fn alike_through<P: PageTableFrameMapping, Q: PageTableFrameMapping>(
-    memory: &PhysMemory,
+fn alike_through<
+    T: TableMemory,
+    P: PageTableFrameMapping,
+    U: TableMemory,
+    Q: PageTableFrameMapping,
+>(
+    memory: &T,
     mapping: &P,
     root: PhysFrame<Size4KiB>,
     index: Option<PageTableIndex>,
-    other_memory: &PhysMemory,
+    other_memory: &U,
     other_mapping: &Q,
     other_root: PhysFrame<Size4KiB>,
     other_index: Option<PageTableIndex>,
     levels: u8,
 ) -> bool
-    ensures { let paths = paths_seen_at (suc levels) memory.now (P.places mapping.now) root index in
+    ensures { let paths = paths_seen_at (suc levels) (T.tables memory.now) (P.places mapping.now) root index in
         let other_places = Q.places other_mapping.now in
-        let other_paths = paths_seen_at (suc levels) other_memory.now other_places other_root other_index in
+        let other_paths = paths_seen_at (suc levels) (U.tables other_memory.now) other_places other_root other_index in
         IsTrue result ↔ Alike (suc levels) paths other_paths }
 {
     let mapping = MappingFor {
@@ -120,16 +135,16 @@ fn alike_through<P: PageTableFrameMapping, Q: PageTableFrameMapping>(
 }
 
 /// Tells whether the entries at each path from the tables in two frames, through so many levels below them, are alike.
-fn alike_from<P: PageTableFrameMapping, Q: PageTableFrameMapping>(
-    one: &HierarchyView<P>,
+fn alike_from<T: TableMemory, P: PageTableFrameMapping, U: TableMemory, Q: PageTableFrameMapping>(
+    one: &HierarchyView<T, P>,
     frame: PhysFrame<Size4KiB>,
-    other: &HierarchyView<Q>,
+    other: &HierarchyView<U, Q>,
     other_frame: PhysFrame<Size4KiB>,
     levels: u8,
 ) -> bool
     ensures { let a = one.now in let b = other.now in
-        let words = seen a.memory.now (P.places a.mapping) a.root a.recursive in
-        let other_words = seen b.memory.now (Q.places b.mapping) b.root b.recursive in
+        let words = seen (T.tables a.memory.now) (P.places a.mapping) a.root a.recursive in
+        let other_words = seen (U.tables b.memory.now) (Q.places b.mapping) b.root b.recursive in
         IsTrue result ↔ AlikeFrom levels words frame other_words other_frame }
 {
     for index in 0..512 {

@@ -8,7 +8,7 @@ ghost use Rattle.x86_64_tables.specs.private.Views.{seen, below_word};
 ghost use Rattle.x86_64_tables.specs.SelfEntries.{has_self_entry, names_frame};
 
 use super::walk::{entry_at, has_flag};
-use super::{PageTableFrameMapping, PhysMemory};
+use super::{PageTableFrameMapping, TableMemory};
 use crate::page_table::{PageTableEntry, PageTableFlags};
 use bitflags::Flags;
 use x86_64_addr::index::PageTableIndex;
@@ -17,18 +17,18 @@ use x86_64_page::page::Size4KiB;
 
 /// Holds a hierarchy to be read: its root in a memory, past the root's word at the recursive index where there is one.
 #[derive(Drop)]
-pub(super) struct HierarchyView<'a, P> {
-    pub(super) memory: &'a PhysMemory,
+pub(super) struct HierarchyView<'a, T, P> {
+    pub(super) memory: &'a T,
     pub(super) mapping: P,
     pub(super) root: PhysFrame<Size4KiB>,
     pub(super) recursive: Option<PageTableIndex>,
 }
 
-impl<'a, P: PageTableFrameMapping> HierarchyView<'a, P> {
+impl<'a, T: TableMemory, P: PageTableFrameMapping> HierarchyView<'a, T, P> {
     /// Tells whether no word above level three has `HUGE_PAGE`, from the table in a frame through so many levels.
     pub(super) fn none_huge(&self, frame: PhysFrame<Size4KiB>, levels: u8) -> bool
         ensures { let view = self.now in let places = P.places view.mapping in
-            let words = seen view.memory.now places view.root view.recursive in
+            let words = seen (T.tables view.memory.now) places view.root view.recursive in
             IsTrue result ↔ NoneHuge levels words frame }
     {
         if 2 < levels {
@@ -50,7 +50,7 @@ impl<'a, P: PageTableFrameMapping> HierarchyView<'a, P> {
     fn is_huge(&self, frame: PhysFrame<Size4KiB>, index: usize) -> bool
         requires { index < 512 }
         ensures { let view = self.now in let places = P.places view.mapping in
-            let words = seen view.memory.now places view.root view.recursive in
+            let words = seen (T.tables view.memory.now) places view.root view.recursive in
             result ≡ huge (word words frame index) }
     {
         match self.entry(frame, index) {
@@ -67,7 +67,7 @@ impl<'a, P: PageTableFrameMapping> HierarchyView<'a, P> {
     ) -> Option<PhysFrame<Size4KiB>>
         requires { index < 512 }
         ensures { let view = self.now in let places = P.places view.mapping in
-            let words = seen view.memory.now places view.root view.recursive in
+            let words = seen (T.tables view.memory.now) places view.root view.recursive in
             result ≡ below_word (word words frame index) }
     {
         match self.entry(frame, index) {
@@ -81,7 +81,7 @@ impl<'a, P: PageTableFrameMapping> HierarchyView<'a, P> {
     pub(super) fn word(&self, frame: PhysFrame<Size4KiB>, index: usize) -> u64
         requires { index < 512 }
         ensures { let view = self.now in let places = P.places view.mapping in
-            let words = seen view.memory.now places view.root view.recursive in
+            let words = seen (T.tables view.memory.now) places view.root view.recursive in
             result ≡ word words frame index }
     {
         match self.entry(frame, index) {
@@ -94,7 +94,7 @@ impl<'a, P: PageTableFrameMapping> HierarchyView<'a, P> {
     fn entry(&self, frame: PhysFrame<Size4KiB>, index: usize) -> Option<&'a PageTableEntry>
         requires { index < 512 }
         ensures { let view = self.now in let places = P.places view.mapping in
-            let words = seen view.memory.now places view.root view.recursive in
+            let words = seen (T.tables view.memory.now) places view.root view.recursive in
             unwrap_or (option_copied result) 0 ≡ word words frame index }
     {
         match self.recursive {
@@ -105,13 +105,13 @@ impl<'a, P: PageTableFrameMapping> HierarchyView<'a, P> {
 }
 
 /// Tells whether the word at an index of the table in the root's frame, if there is one, gives the root as `frame`.
-pub(super) fn has_self_entry<P: PageTableFrameMapping>(
-    memory: &PhysMemory,
+pub(super) fn has_self_entry<T: TableMemory, P: PageTableFrameMapping>(
+    memory: &T,
     mapping: &P,
     root: PhysFrame<Size4KiB>,
     index: PageTableIndex,
 ) -> bool
-    ensures { result ≡ has_self_entry (words_of memory.now (P.places mapping.now)) root index }
+    ensures { result ≡ has_self_entry (words_of (T.tables memory.now) (P.places mapping.now)) root index }
 {
     match entry_at(memory, mapping, root, usize::from(index)) {
         Some(entry) => names_frame(entry, root),

@@ -14,7 +14,7 @@ ghost use Rattle.x86_64_tables.specs.private.HierarchyTests.{limit_of, Passes};
 ghost use Rattle.x86_64_tables.specs.SelfEntries.{window_at};
 
 use super::hierarchy_view::{HierarchyView, has_self_entry};
-use super::{IdentityMapping, PageTableFrameMapping, PhysMemory};
+use super::{IdentityMapping, PageTableFrameMapping, TableMemory};
 use crate::frame_alloc::FramePool;
 use std::alloc::{AllocError, Global};
 use x86_64_addr::index::PageTableIndex;
@@ -33,13 +33,13 @@ const FRAME_COUNT: u64 = 1 << 40;
 /// # Errors
 ///
 /// `AllocError` where memory is refused.
-pub fn is_valid_hierarchy<P: PageTableFrameMapping>(
+pub fn is_valid_hierarchy<T: TableMemory, P: PageTableFrameMapping>(
     alloc: Global,
-    memory: &PhysMemory,
+    memory: &T,
     mapping: &P,
     root: PhysFrame<Size4KiB>,
 ) -> Result<bool, AllocError>
-    ensures { let words = words_of memory.now (P.places mapping.now) in
+    ensures { let words = words_of (T.tables memory.now) (P.places mapping.now) in
         IfOk result (λ b. IsTrue b ↔ IsValid 4 words root (paths_of 4 words root)) }
 {
     passes(alloc, memory, mapping, root, None, None, 3)
@@ -54,13 +54,13 @@ pub fn is_valid_hierarchy<P: PageTableFrameMapping>(
 /// # Errors
 ///
 /// `AllocError` where memory is refused.
-pub fn is_valid_hierarchy_57<P: PageTableFrameMapping>(
+pub fn is_valid_hierarchy_57<T: TableMemory, P: PageTableFrameMapping>(
     alloc: Global,
-    memory: &PhysMemory,
+    memory: &T,
     mapping: &P,
     root: PhysFrame<Size4KiB>,
 ) -> Result<bool, AllocError>
-    ensures { let words = words_of memory.now (P.places mapping.now) in
+    ensures { let words = words_of (T.tables memory.now) (P.places mapping.now) in
         IfOk result (λ b. IsTrue b ↔ IsValid 5 words root (paths_of 5 words root)) }
 {
     passes(alloc, memory, mapping, root, None, None, 4)
@@ -76,13 +76,13 @@ pub fn is_valid_hierarchy_57<P: PageTableFrameMapping>(
 /// # Errors
 ///
 /// `AllocError` where memory is refused.
-pub fn is_valid_recursive(
+pub fn is_valid_recursive<T: TableMemory>(
     alloc: Global,
-    memory: &PhysMemory,
+    memory: &T,
     root: PhysFrame<Size4KiB>,
     index: PageTableIndex,
 ) -> Result<bool, AllocError>
-    ensures { let words = words_of memory.now identity_places in
+    ensures { let words = words_of (T.tables memory.now) identity_places in
         let window = Some (window_at words root index) in
         let paths = paths_of 4 (outside_window window root words) root in
         IfOk result (λ b. IsTrue b ↔ IsValidFor 4 window words root paths) }
@@ -99,13 +99,13 @@ pub fn is_valid_recursive(
 /// # Errors
 ///
 /// `AllocError` where memory is refused.
-pub fn is_valid_recursive_57(
+pub fn is_valid_recursive_57<T: TableMemory>(
     alloc: Global,
-    memory: &PhysMemory,
+    memory: &T,
     root: PhysFrame<Size4KiB>,
     index: PageTableIndex,
 ) -> Result<bool, AllocError>
-    ensures { let words = words_of memory.now identity_places in
+    ensures { let words = words_of (T.tables memory.now) identity_places in
         let window = Some (window_at words root index) in
         let paths = paths_of 5 (outside_window window root words) root in
         IfOk result (λ b. IsTrue b ↔ IsValidFor 5 window words root paths) }
@@ -122,14 +122,14 @@ pub fn is_valid_recursive_57(
 /// # Errors
 ///
 /// `AllocError` where memory is refused.
-pub fn pool_fits<P: PageTableFrameMapping>(
+pub fn pool_fits<T: TableMemory, P: PageTableFrameMapping>(
     alloc: Global,
-    memory: &PhysMemory,
+    memory: &T,
     mapping: &P,
     root: PhysFrame<Size4KiB>,
     pool: &FramePool,
 ) -> Result<bool, AllocError>
-    ensures { let words = words_of memory.now (P.places mapping.now) in
+    ensures { let words = words_of (T.tables memory.now) (P.places mapping.now) in
         let serves = serves_below pool.now.limit in
         IfOk result (λ b. IsTrue b ↔ Fits 4 None words root (paths_of 4 words root) serves pool.now.frames) }
 {
@@ -144,14 +144,14 @@ pub fn pool_fits<P: PageTableFrameMapping>(
 /// # Errors
 ///
 /// `AllocError` where memory is refused.
-pub fn pool_fits_57<P: PageTableFrameMapping>(
+pub fn pool_fits_57<T: TableMemory, P: PageTableFrameMapping>(
     alloc: Global,
-    memory: &PhysMemory,
+    memory: &T,
     mapping: &P,
     root: PhysFrame<Size4KiB>,
     pool: &FramePool,
 ) -> Result<bool, AllocError>
-    ensures { let words = words_of memory.now (P.places mapping.now) in
+    ensures { let words = words_of (T.tables memory.now) (P.places mapping.now) in
         let serves = serves_below pool.now.limit in
         IfOk result (λ b. IsTrue b ↔ Fits 5 None words root (paths_of 5 words root) serves pool.now.frames) }
 {
@@ -167,14 +167,14 @@ pub fn pool_fits_57<P: PageTableFrameMapping>(
 /// # Errors
 ///
 /// `AllocError` where memory is refused.
-pub fn pool_fits_recursive(
+pub fn pool_fits_recursive<T: TableMemory>(
     alloc: Global,
-    memory: &PhysMemory,
+    memory: &T,
     root: PhysFrame<Size4KiB>,
     index: PageTableIndex,
     pool: &FramePool,
 ) -> Result<bool, AllocError>
-    ensures { let words = words_of memory.now identity_places in
+    ensures { let words = words_of (T.tables memory.now) identity_places in
         let window = Some (window_at words root index) in let serves = serves_below pool.now.limit in
         let paths = paths_of 4 (outside_window window root words) root in
         IfOk result (λ b. IsTrue b ↔ Fits 4 window words root paths serves pool.now.frames) }
@@ -199,14 +199,14 @@ pub fn pool_fits_recursive(
 /// # Errors
 ///
 /// `AllocError` where memory is refused.
-pub fn pool_fits_recursive_57(
+pub fn pool_fits_recursive_57<T: TableMemory>(
     alloc: Global,
-    memory: &PhysMemory,
+    memory: &T,
     root: PhysFrame<Size4KiB>,
     index: PageTableIndex,
     pool: &FramePool,
 ) -> Result<bool, AllocError>
-    ensures { let words = words_of memory.now identity_places in
+    ensures { let words = words_of (T.tables memory.now) identity_places in
         let window = Some (window_at words root index) in let serves = serves_below pool.now.limit in
         let paths = paths_of 5 (outside_window window root words) root in
         IfOk result (λ b. IsTrue b ↔ Fits 5 window words root paths serves pool.now.frames) }
@@ -228,16 +228,16 @@ pub fn pool_fits_recursive_57(
 /// # Errors
 ///
 /// `AllocError` if memory is refused.
-fn passes<P: PageTableFrameMapping>(
+fn passes<T: TableMemory, P: PageTableFrameMapping>(
     alloc: Global,
-    memory: &PhysMemory,
+    memory: &T,
     mapping: &P,
     root: PhysFrame<Size4KiB>,
     recursive: Option<PageTableIndex>,
     pool: Option<&FramePool>,
     levels: u8,
 ) -> Result<bool, AllocError>
-    ensures { let words = words_of memory.now (P.places mapping.now) in
+    ensures { let words = words_of (T.tables memory.now) (P.places mapping.now) in
         IfOk result (λ b. IsTrue b ↔ Passes (suc levels) words root recursive (option_copied pool.entry)) }
 {
     let view = HierarchyView {
@@ -263,12 +263,12 @@ fn limit_of(pool: Option<&FramePool>) -> u64
 /// Holds a hierarchy to be tested. The frames of its tables, but for the root, and those of a pool have numbers from 1
 /// to `limit` - 1.
 #[derive(Drop)]
-struct HierarchyTest<'a, P> {
-    view: HierarchyView<'a, P>,
+struct HierarchyTest<'a, T, P> {
+    view: HierarchyView<'a, T, P>,
     limit: u64,
 }
 
-impl<'a, P: PageTableFrameMapping> HierarchyTest<'a, P> {
+impl<'a, T: TableMemory, P: PageTableFrameMapping> HierarchyTest<'a, T, P> {
     /// Tells whether each table, through so many levels below the root, and each frame of the pool, where there is one,
     /// is met once, in the memory and at a number that tables may have, and no word above level three has `HUGE_PAGE`;
     /// and whether the root's word at the recursive index, where there is one, names the root.
@@ -280,7 +280,7 @@ impl<'a, P: PageTableFrameMapping> HierarchyTest<'a, P> {
         pool: Option<&FramePool>,
     ) -> Result<bool, AllocError>
         ensures { let view = self.now.view in
-            let words = words_of view.memory.now (P.places view.mapping) in
+            let words = words_of (T.tables view.memory.now) (P.places view.mapping) in
             let serves = serves_below self.now.limit in let free = free_in (option_copied pool.entry) in
             IfOk result (λ b. IsTrue b ↔ IsSound levels words view.root view.recursive serves free) }
     {
@@ -295,11 +295,11 @@ impl<'a, P: PageTableFrameMapping> HierarchyTest<'a, P> {
 
     /// Tells the first of these by marks, one for each place, which are all clear at first.
     fn is_sound_by(&self, levels: u8, pool: Option<&FramePool>, marks: &mut [bool]) -> bool
-        requires length { length marks.old ≡ length (keys self.now.view.memory.now) }
-        requires clear { (k : ℕ) → k < length (keys self.now.view.memory.now)
+        requires length { length marks.old ≡ length (keys (T.tables self.now.view.memory.now)) }
+        requires clear { (k : ℕ) → k < length (keys (T.tables self.now.view.memory.now))
             → slice_index_or marks.old k true ≡ false }
         ensures { let view = self.now.view in let places = P.places view.mapping in
-            let words = seen view.memory.now places view.root view.recursive in
+            let words = seen (T.tables view.memory.now) places view.root view.recursive in
             let serves = serves_below self.now.limit in let free = free_in (option_copied pool.entry) in
             IsTrue result ↔ SoundTables levels words view.root serves free }
     {
@@ -317,10 +317,10 @@ impl<'a, P: PageTableFrameMapping> HierarchyTest<'a, P> {
 
     /// Marks the table in a frame and those below it, through so many levels, if each may be met and was not before.
     fn mark_tables(&self, marks: &mut [bool], frame: PhysFrame<Size4KiB>, levels: u8) -> bool
-        requires { length marks.old ≡ length (keys self.now.view.memory.now) }
+        requires { length marks.old ≡ length (keys (T.tables self.now.view.memory.now)) }
         ensures { let view = self.now.view in let places = P.places view.mapping in
-            let words = seen view.memory.now places view.root view.recursive in
-            let slot = mark_slot view.memory.now places view.root self.now.limit in
+            let words = seen (T.tables view.memory.now) places view.root view.recursive in
+            let slot = mark_slot (T.tables view.memory.now) places view.root self.now.limit in
             (if result then Some marks.new else None)
             ≡ mark_all slot marks.old (tables_from levels words frame) }
     {
@@ -341,9 +341,9 @@ impl<'a, P: PageTableFrameMapping> HierarchyTest<'a, P> {
 
     /// Marks each frame of a pool, if each may be met and was not before.
     fn mark_pool(&self, marks: &mut [bool], pool: &FramePool) -> bool
-        requires { length marks.old ≡ length (keys self.now.view.memory.now) }
+        requires { length marks.old ≡ length (keys (T.tables self.now.view.memory.now)) }
         ensures { let view = self.now.view in let places = P.places view.mapping in
-            let slot = mark_slot view.memory.now places view.root self.now.limit in
+            let slot = mark_slot (T.tables view.memory.now) places view.root self.now.limit in
             (if result then Some marks.new else None) ≡ mark_all slot marks.old pool.now.frames }
     {
         for n in 0..pool.len() {
@@ -359,9 +359,9 @@ impl<'a, P: PageTableFrameMapping> HierarchyTest<'a, P> {
     /// Marks a frame, if it may be met and was not before.
     #[tactic(auto, unfolding(x86_64_model::specs::private::Marks::mark_one))]
     fn mark(&self, marks: &mut [bool], frame: PhysFrame<Size4KiB>) -> bool
-        requires { length marks.old ≡ length (keys self.now.view.memory.now) }
+        requires { length marks.old ≡ length (keys (T.tables self.now.view.memory.now)) }
         ensures { let view = self.now.view in let places = P.places view.mapping in
-            let slot = mark_slot view.memory.now places view.root self.now.limit in
+            let slot = mark_slot (T.tables view.memory.now) places view.root self.now.limit in
             (if result then Some marks.new else None) ≡ mark_one slot marks.old frame }
     {
         match self.slot(frame) {
@@ -381,8 +381,9 @@ impl<'a, P: PageTableFrameMapping> HierarchyTest<'a, P> {
     #[tactic(auto, unfolding(x86_64_model::specs::private::Marks::spot_of))]
     fn slot(&self, frame: PhysFrame<Size4KiB>) -> Option<usize>
         ensures value { let view = self.now.view in let places = P.places view.mapping in
-            result ≡ mark_slot view.memory.now places view.root self.now.limit frame }
-        ensures within { (k : ℕ) → result ≡ Some k → k < length (keys self.now.view.memory.now) }
+            result ≡ mark_slot (T.tables view.memory.now) places view.root self.now.limit frame }
+        ensures within { let memory = T.tables self.now.view.memory.now in
+            (k : ℕ) → result ≡ Some k → k < length (keys memory) }
     {
         let number = frame.start_address().as_u64() / Size4KiB::SIZE;
         if frame == self.view.root || (0 < number && number < self.limit) {

@@ -8,7 +8,7 @@ ghost use Rattle.x86_64_model.specs.PageWalk.{read, walk_on, page_walk as page_w
 ghost use Rattle.x86_64_tables.specs.PageTableFlags.{bits_of};
 ghost use Rattle.x86_64_tables.specs.Walks.{walked_of, arrival, ends};
 
-use super::{PageTableFrameMapping, PhysMemory};
+use super::{PageTableFrameMapping, TableMemory};
 use crate::page_table::{PageTableEntry, PageTableFlags};
 use bitflags::Flags;
 use x86_64_addr::addr::{PhysAddr, VirtAddrIn};
@@ -39,13 +39,13 @@ pub struct Walked {
 ///
 /// [`VirtAddr`]: x86_64_addr::addr::VirtAddr
 /// [`VirtAddr57`]: x86_64_addr::addr::VirtAddr57
-pub fn page_walk<P: PageTableFrameMapping, L: LevelCount>(
-    memory: &PhysMemory,
+pub fn page_walk<T: TableMemory, P: PageTableFrameMapping, L: LevelCount>(
+    memory: &T,
     mapping: &P,
     root: PhysFrame<Size4KiB>,
     addr: VirtAddrIn<L>,
 ) -> Option<Walked>
-    ensures { let tables = words_of memory.now (P.places mapping.now) in
+    ensures { let tables = words_of (T.tables memory.now) (P.places mapping.now) in
         option_map walked_of result ≡ page_walk_of L.LEVELS tables root addr }
 {
     walk_from(memory, mapping, L::LEVELS, root, addr.position())
@@ -78,15 +78,15 @@ impl Rights {
 }
 
 /// Walks to a position from the root down through so many levels.
-fn walk_from<P: PageTableFrameMapping>(
-    memory: &PhysMemory,
+fn walk_from<T: TableMemory, P: PageTableFrameMapping>(
+    memory: &T,
     mapping: &P,
     levels: u64,
     root: PhysFrame<Size4KiB>,
     position: u64,
 ) -> Option<Walked>
     requires { levels ≤ 5 }
-    ensures { let words = words_of memory.now (P.places mapping.now) in
+    ensures { let words = words_of (T.tables memory.now) (P.places mapping.now) in
         option_map walked_of result ≡ walk_on words position levels true true root }
 {
     let mut frame = root;
@@ -107,14 +107,14 @@ fn walk_from<P: PageTableFrameMapping>(
 }
 
 /// Reads the entry at an index of the table in a frame, or gives `None` where the frame has no table in the memory.
-pub(super) fn entry_at<'a, P: PageTableFrameMapping>(
-    memory: &'a PhysMemory,
+pub(super) fn entry_at<'a, T: TableMemory, P: PageTableFrameMapping>(
+    memory: &'a T,
     mapping: &P,
     frame: PhysFrame<Size4KiB>,
     index: usize,
 ) -> Option<&'a PageTableEntry>
     requires { index < 512 }
-    ensures { option_copied result ≡ read (words_of memory.now (P.places mapping.now)) frame index }
+    ensures { option_copied result ≡ read (words_of (T.tables memory.now) (P.places mapping.now)) frame index }
 {
     if !mapping.covers(frame) {
         return None;

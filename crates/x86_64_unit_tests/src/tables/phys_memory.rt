@@ -1,6 +1,7 @@
 //! Tests of walks, of hierarchies and of pools that fit them, over memories that are given as words, with four levels of tables and
 //! with five.
 mod alike;
+mod lent;
 mod places;
 mod recursive;
 
@@ -15,8 +16,8 @@ use x86_64_addr::level_count::{FiveLevels, FourLevels, LevelCount};
 use x86_64_tables::frame_alloc::FramePool;
 use x86_64_tables::page_table::PageTableFlags;
 use x86_64_tables::phys_memory::{
-    FramePlace, IdentityMapping, PhysMemory, Walked, is_valid_hierarchy, is_valid_hierarchy_57,
-    page_walk, pool_fits, pool_fits_57,
+    FramePlace, IdentityMapping, PhysMemory, TableMemory, Walked, is_valid_hierarchy,
+    is_valid_hierarchy_57, page_walk, pool_fits, pool_fits_57,
 };
 
 /// A word, after its frame and its index.
@@ -26,7 +27,7 @@ type Word = (u64, u16, u64);
 const FLAGS_MASK: u64 = 0xfff0_0000_0000_0fff;
 
 /// Sets words of a memory.
-fn set_words(rt: impl Abort + Copy, memory: &mut PhysMemory, words: &[Word]) {
+fn set_words<T: TableMemory>(rt: impl Abort + Copy, memory: &mut T, words: &[Word]) {
     for (frame, index, word) in words {
         let table = unwrap_some(rt, memory.table_mut(FramePlace::new(*frame / 0x1000)));
         let flags = PageTableFlags::from_bits_retain(*word & FLAGS_MASK);

@@ -16,25 +16,25 @@ module _ (first second : Layout) (serves now : ℕ → Bool) (m n : Memory) (poo
   turned : Share second first now n rest
   turned = subst (λ s. Share second first s n rest) (sym still) (record { first_fits = stays.fits share.second_fits; second_fits = fits; is_second = stays.first_is_second })
 
-pub returns-in_err-run_on : goal.returns-in_err-run_on
-returns-in_err-run_on c =
+pub returns-in_err-run_on-clause-share : goal.returns-in_err-run_on-clause-share
+returns-in_err-run_on-clause-share g c =
     let one = direct identity_places c.args.first in
     let other = direct identity_places c.args.second in
-    again one other (serves_below c.args.pool.now.limit) (serves_below c.run_on.new.pool.limit) c.args.memory.now c.run_on.new.memory c.args.pool.now.frames c.run_on.new.pool.frames
+    again one other (serves_below c.args.pool.now.limit) (serves_below c.run_on.new.pool.limit) (g.T.TableMemory.tables c.args.memory.now) (g.T.TableMemory.tables c.run_on.new.memory) c.args.pool.now.frames c.run_on.new.pool.frames
     c.run_on.ensures.limit c.requires c.run_on.ensures.fits (c.run_on.ensures.others other (lit< tt) c.requires.is_second)
 
 pub run_on-requires-2 : goal.run_on-requires-2
-run_on-requires-2 c =
+run_on-requires-2 g c =
     let one = direct identity_places c.args.first in
     let other = direct identity_places c.args.second in
-    (turned one other (serves_below c.args.pool.now.limit) (serves_below c.run_on.new.pool.limit) c.args.memory.now c.run_on.new.memory c.args.pool.now.frames c.run_on.new.pool.frames
+    (turned one other (serves_below c.args.pool.now.limit) (serves_below c.run_on.new.pool.limit) (g.T.TableMemory.tables c.args.memory.now) (g.T.TableMemory.tables c.run_on.new.memory) c.args.pool.now.frames c.run_on.new.pool.frames
     c.run_on.ensures.limit c.requires c.run_on.ensures.fits (c.run_on.ensures.others other (lit< tt) c.requires.is_second)).first_fits
 
-pub returns : goal.returns
-returns c =
+pub returns-clause-share : goal.returns-clause-share
+returns-clause-share g c =
     let one = direct identity_places c.args.first in
     let other = direct identity_places c.args.second in
-    let between = turned one other (serves_below c.args.pool.now.limit) (serves_below c.run_on.new.pool.limit) c.args.memory.now c.run_on.new.memory c.args.pool.now.frames c.run_on.new.pool.frames
+    let between = turned one other (serves_below c.args.pool.now.limit) (serves_below c.run_on.new.pool.limit) (g.T.TableMemory.tables c.args.memory.now) (g.T.TableMemory.tables c.run_on.new.memory) c.args.pool.now.frames c.run_on.new.pool.frames
     c.run_on.ensures.limit c.requires c.run_on.ensures.fits (c.run_on.ensures.others other (lit< tt) c.requires.is_second) in
-    turned other one (serves_below c.run_on.new.pool.limit) (serves_below c.run_on-2.new.pool.limit) c.run_on.new.memory c.run_on-2.new.memory c.run_on.new.pool.frames c.run_on-2.new.pool.frames
+    turned other one (serves_below c.run_on.new.pool.limit) (serves_below c.run_on-2.new.pool.limit) (g.T.TableMemory.tables c.run_on.new.memory) (g.T.TableMemory.tables c.run_on-2.new.memory) c.run_on.new.pool.frames c.run_on-2.new.pool.frames
     c.run_on-2.ensures.limit between c.run_on-2.ensures.fits (c.run_on-2.ensures.others one (lit< tt) between.is_second)

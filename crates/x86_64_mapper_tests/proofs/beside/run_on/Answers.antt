@@ -17,6 +17,6 @@ owner_keeps h after serves pool rest kept layout memory last layout_is memory_is
     (subst (λ n. KeepsPool h.layout serves h.memory pool n rest) last_is kept.keeps))
 
 pub returns-clause-others : goal.returns-clause-others
-returns-clause-others c = λ second levels is.
+returns-clause-others g c = λ second levels is.
     c.second_hierarchies_stay.ensures (direct identity_places c.args.root) second identity_is_mapping levels (serves_below c.args.pool.now.limit) _ _ _ _ c.requires
     (owner_keeps _ _ _ _ _ c.run_by.ensures.keeps _ _ _ c.new-mapper.ensures.layout c.new-mapper.ensures.memory (search rules)) is

@@ -1,6 +1,6 @@
 use Rattle.std.proofs.Common.{◌≡◌, [], refl, sym, ap, ◌∙◌, slice_index, slice_set}
 use Rattle.std.specs.FinMap.{insert}
-use Rattle.std.specs.Option.{unwrap_or}
+use Rattle.std.specs.Option.{unwrap_or, is_some}
 use Rattle.x86_64_model.specs.Layout.{words}
 use Rattle.x86_64_mappers.specs.AccessLending.{table_in}
 use Rattle.x86_64_mappers.proofs.Memory.Words.{entry_is_word}
@@ -22,7 +22,7 @@ returns g c =
           table = table;
           is = c.table_mut.ensures.value;
           long = c.index_mut.ensures.size;
-          after = g.met.M.TableAccess.puts s c.args.frame _ ∙ ap (λ t. insert m (l.places.place c.args.frame) (slice_set t c.args.index w)) (sym is);
+          after = g.met.M.TableAccess.puts s c.args.frame _ (ap is_some c.table_mut.ensures.value) ∙ ap (λ t. insert m (l.places.place c.args.frame) (slice_set t c.args.index w)) (sym is);
         };
         index = rw index at c.from.ensures.1;
       },

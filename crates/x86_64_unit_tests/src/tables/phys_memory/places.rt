@@ -5,7 +5,7 @@ use std::alloc::{AllocError, Global};
 use std::process::Abort;
 use x86_64_addr::addr::PhysAddr;
 use x86_64_addr::level_count::FourLevels;
-use x86_64_tables::phys_memory::{FramePlace, PhysMemory, PlacesRefusal};
+use x86_64_tables::phys_memory::{FramePlace, PhysMemory, PlacesRefusal, TableMemory};
 
 /// Makes a memory with places that rise.
 fn memory_at(rt: impl Abort + Copy, alloc: Global, places: &[u64]) -> PhysMemory {
@@ -13,19 +13,29 @@ fn memory_at(rt: impl Abort + Copy, alloc: Global, places: &[u64]) -> PhysMemory
 }
 
 /// Tells whether all entries of the table at a place are unused, if there is one.
-fn is_empty_at(memory: &PhysMemory, number: u64) -> Option<bool> {
+fn is_empty_at<T: TableMemory>(memory: &T, number: u64) -> Option<bool> {
     Some(memory.table(FramePlace::new(number))?.is_empty())
 }
 
 /// Compares whether there are tables at places of these numbers, and whether all their entries are unused.
-fn check_tables(rt: impl Abort + Copy, memory: &PhysMemory, numbers: &[u64], wanted: Option<bool>) {
+fn check_tables<T: TableMemory>(
+    rt: impl Abort + Copy,
+    memory: &T,
+    numbers: &[u64],
+    wanted: Option<bool>,
+) {
     for number in numbers {
         assert_equal_at(rt, *number, is_empty_at(memory, *number), wanted);
     }
 }
 
 /// Compares the places of a memory with numbers, and whether it has a table of unused entries at each, and none at the others.
-fn check_places(rt: impl Abort + Copy, memory: &PhysMemory, places: &[u64], others: &[u64]) {
+pub(super) fn check_places<T: TableMemory>(
+    rt: impl Abort + Copy,
+    memory: &T,
+    places: &[u64],
+    others: &[u64],
+) {
     assert_equal(rt, memory.len(), places.len());
     assert_equal(rt, memory.place_at(places.len()), None);
     for (n, number) in places.iter().enumerate() {

@@ -27,5 +27,5 @@ owner_does h after call answer does layout memory last layout_is memory_is last_
     (subst (λ n. Does (over h.layout h.memory) call answer (over h.layout n)) last_is
     (subst (λ l. Does (over h.layout h.memory) call answer (over l after.memory)) does.layout alike)))
 
-pub returns : goal.returns
-returns g c = owner_does _ _ _ _ c.unmap_by.ensures _ _ _ c.new-mapper.ensures.layout c.new-mapper.ensures.memory (search rules)
+pub returns-clause-does : goal.returns-clause-does
+returns-clause-does g c = owner_does _ _ _ _ c.unmap_by.ensures _ _ _ c.new-mapper.ensures.layout c.new-mapper.ensures.memory (search rules)

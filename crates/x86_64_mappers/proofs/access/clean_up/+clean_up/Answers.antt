@@ -1,9 +1,11 @@
-use Rattle.std.proofs.Common.{◌≡◌, ◌<◌, ◌+◌, ◌-◌, ◌*◌, ◌++◌, ◌∷◌, [], true, false, length, take, ◌∙◌, refl, sym, ap, subst, subst₂, arith, slice_set}
+use Rattle.std.proofs.Common.{◌≡◌, ⊎_elim, ◌<◌, ◌≤◌, ℕ, ◌+◌, ◌-◌, ◌*◌, ◌++◌, ◌∷◌, [], true, false, length, take, ◌∙◌, refl, sym, ap, subst, subst₂, arith, slice_set}
+use Rattle.std.proofs.lemmas.Bool.{cases_lt}
 use Rattle.x86_64_model.proofs.Lemmas.Machines.Giving.{giving_from}
 use Rattle.x86_64_model.proofs.Lemmas.Walks.Walked.{one_more}
-use Rattle.x86_64_model.specs.CleanUp.{meets}
+use Rattle.x86_64_model.specs.CleanUp.{in_range, meets}
 use Rattle.x86_64_model.specs.Layout.{Layout, words}
 use Rattle.x86_64_model.specs.Mapper.{MayCleanUp, paths}
+use Rattle.x86_64_model.specs.Memory.{word}
 use Rattle.x86_64_model.specs.Path.{span_start}
 use Rattle.x86_64_mappers.proofs.CleanUp.EntriesInRange.{next_visited, refused_out, recursive_out}
 use Rattle.x86_64_mappers.proofs.CleanUp.Cleaned.{may_still, may_give}
@@ -11,12 +13,14 @@ use Rattle.x86_64_mappers.proofs.CleanUp.EntryCleaned.{below_cleaned, entry_stay
 use Rattle.x86_64_mappers.proofs.Entry.EntryEnds.{with_memory}
 use Rattle.x86_64_mappers.proofs.Way.Paths.{positive_levels}
 use Rattle.x86_64_mappers.proofs.CleanUp.TableCleaned.{met_between, out_before, out_after, before_first, before_last, before_next, level_one}
+use Rattle.x86_64_mappers.proofs.CleanUp.NamedEntries.{not_before, unnamed_out, passed_to}
 use Rattle.x86_64_mappers.proofs.Memory.Words.{empty_words, words_empty}
 use Rattle.x86_64_mappers.proofs.CleanUp.Visited.{visited_reached, still_before}
 use Rattle.x86_64_mappers.specs.AccessLending.{table_in}
 use Rattle.x86_64_mappers.specs.private.CleaningUp.{span_end, IsPageRange, IsVisited, IsCleanedAt}
 use Rattle.x86_64_mappers.specs.Reached.{IsReached}
 use Rattle.x86_64_mappers.specs.private.Results.{walk_refusal}
+use Rattle.x86_64_mappers.specs.private.Stops.{names_table}
 use Rattle.x86_64_mappers.specs.private.Writes.{IsSet}
 use Rattle.x86_64_mappers.proofs.access.clean_up.+clean_up.Goals as goal
 
@@ -205,17 +209,32 @@ clean_up_entry-returns-else-is_empty-clause-cleaned g t c =
 
 -- ---- a table
 
-pub clean_up_table-loop-index-init : goal.clean_up_table-loop-index-init
-clean_up_table-loop-index-init g t c =
+pub clean_up_table-next_named-next-requires-clause-reached : goal.clean_up_table-next_named-next-requires-clause-reached
+clean_up_table-next_named-next-requires-clause-reached g t c =
+    let h = g.M.Tables.hierarchy c.args.mapper.now in
+    let low = span_start h.layout.levels c.args.range.now.first.now in
+    let high = span_end h.layout.levels c.args.range.now.last.now in
+    visited_reached h.layout h.memory low high c.args.path.now c.args.table c.requires.visited c.requires.may.valid
+
+pub clean_up_table-loop-next-init : goal.clean_up_table-loop-next-init
+clean_up_table-loop-next-init g t c =
     let h = g.M.Tables.hierarchy c.args.mapper.now in
     let low = span_start h.layout.levels c.args.range.now.first.now in
     let high = span_end h.layout.levels c.args.range.now.last.now in
     let q = c.args.path.now in
+    let v = c.requires.visited in
+    let valid = c.requires.may.valid in
+    let first = c.index_in_table-first in
+    let next = c.next_named-next in
+    let none_before : (k : ℕ) → k < first.result → in_range h.layout.levels (paths h) low high (q ++ k ∷ []) ≡ false = λ k less.
+    out_before h.layout.levels (paths h) c.args.range.now.first.now c.args.range.now.last.now c.requires.range q c.requires.short v.below v.visits k
+    (omega (arith, less, first.ensures.small)) (subst (λ n. k < n) first.ensures.index less) in
+    let most : next.result ≤ 512 = omega (arith, next.ensures.last, c.index_in_table-last.ensures.small) in
     record {
-      cleaned = before_first h.layout g.D.FrameDeallocator.take_back h.memory c.requires.may.valid (g.D.FrameDeallocator.held c.args.frame_deallocator.now) low high q c.index_in_table-first.result
-          (λ k less. out_before h.layout.levels (paths h) c.args.range.now.first.now c.args.range.now.last.now c.requires.range q c.requires.short c.requires.visited.below c.requires.visited.visits k
-          (omega (arith, less, c.index_in_table-first.ensures.small)) (subst (λ n. k < n) c.index_in_table-first.ensures.index less));
-      in_table = omega (arith, c.index_in_table-first.ensures.small);
+      cleaned = before_first h.layout g.D.FrameDeallocator.take_back h.memory valid (g.D.FrameDeallocator.held c.args.frame_deallocator.now) low high q next.result
+          (λ k less. ⊎_elim (none_before k) (λ from. unnamed_out h.layout h.memory valid low high q c.args.table v k (omega (arith, less, most)) (next.ensures.passed k from less)) (cases_lt k first.result));
+      from = next.ensures.from;
+      in_table = most;
       layout = refl;
       lent = refl;
       serves = refl;
@@ -230,17 +249,17 @@ clean_up_table-clean_up_entry-requires g t c κs within =
     let low = span_start h.layout.levels first in
     let high = span_end h.layout.levels last in
     let q = c.args.path.now in
-    let i = c.loop-index.index in
+    let i = c.loop-next.next in
     let f = c.args.table in
     let held = g.D.FrameDeallocator.held c.args.frame_deallocator.now in
-    let now = g.M.Tables.hierarchy c.loop-index.mapper in
-    let rest = g.D.FrameDeallocator.held c.loop-index.frame_deallocator in
-    let inv = c.loop-index.invariant in
+    let now = g.M.Tables.hierarchy c.loop-next.mapper in
+    let rest = g.D.FrameDeallocator.held c.loop-next.frame_deallocator in
+    let inv = c.loop-next.invariant in
     let may = may_still h g.D.FrameDeallocator.take_back (giving_from g.D.FrameDeallocator.take_back g.met.D.FrameDeallocator.take_back_rearranges) (g.D.FrameKeeper.serves c.args.frame_deallocator.now) held c.requires.may _ _ now.memory rest inv.cleaned in
     let is = with_memory h now inv.layout inv.lent in
     let v = c.requires.visited in
-    let met = met_between h.layout.levels (paths h) first last c.requires.range q c.requires.short v.below v.visits i (omega (arith, c.loop-index-test.true, c.index_in_table-last.ensures.small))
-    (omega (arith, c.loop-index.auto.index, c.index_in_table-first.ensures.index)) (omega (arith, c.loop-index-test.true, c.index_in_table-last.ensures.index)) in (
+    let met = met_between h.layout.levels (paths h) first last c.requires.range q c.requires.short v.below v.visits i (omega (arith, c.loop-next-test.true, c.index_in_table-last.ensures.small))
+    (omega (arith, c.loop-next.invariant.from, c.loop-next-test.true, c.index_in_table-first.ensures.index)) (omega (arith, c.loop-next-test.true, c.index_in_table-last.ensures.index)) in (
       let d : 2 * (length first - length q) + 1 ≡ t = c.decreases in let m : 2 * (length first - length q) < t = omega (arith, d) in m,
       (
         within.0,
@@ -263,8 +282,8 @@ clean_up_table-clean_up_entry-requires g t c κs within =
       ),
     )
 
-pub clean_up_table-loop-index-preserved : goal.clean_up_table-loop-index-preserved
-clean_up_table-loop-index-preserved g t c =
+pub clean_up_table-next_named-next-requires-in-loop-next-clause-reached : goal.clean_up_table-next_named-next-requires-in-loop-next-clause-reached
+clean_up_table-next_named-next-requires-in-loop-next-clause-reached g t c =
     let mapper = c.args.mapper.now in
     let h = g.M.Tables.hierarchy mapper in
     let first = c.args.range.now.first.now in
@@ -272,34 +291,74 @@ clean_up_table-loop-index-preserved g t c =
     let low = span_start h.layout.levels first in
     let high = span_end h.layout.levels last in
     let q = c.args.path.now in
-    let i = c.loop-index.index in
+    let i = c.loop-next.next in
     let held = g.D.FrameDeallocator.held c.args.frame_deallocator.now in
-    let n = (g.M.Tables.hierarchy c.loop-index.mapper).memory in
-    let rest = g.D.FrameDeallocator.held c.loop-index.frame_deallocator in
+    let n = (g.M.Tables.hierarchy c.loop-next.mapper).memory in
+    let rest = g.D.FrameDeallocator.held c.loop-next.frame_deallocator in
     let done = c.clean_up_entry in
     let o = (g.M.Tables.hierarchy done.new.mapper).memory in
     let left = g.D.FrameDeallocator.held done.new.frame_deallocator in
-    let inv = c.loop-index.invariant in
+    let inv = c.loop-next.invariant in
+    let v = c.requires.visited in
+    let apart = (g.met.M.Tables.is_mapping mapper).distinct in
     let at = subst₂ (λ (l : Layout) j. IsCleanedAt l g.D.FrameDeallocator.take_back n rest (span_start l.levels first) (span_end l.levels last) (q ++ j ∷ []) o left) inv.layout c.new-index.ensures done.ensures.cleaned in
+    let here = before_next h.layout g.D.FrameDeallocator.take_back h.memory c.requires.may.valid held low high q v.visits i apart n rest inv.cleaned o left at in
+    subst (λ l. IsReached l o q c.args.table) (sym (done.ensures.layout ∙ inv.layout))
+    (visited_reached h.layout o low high q c.args.table (still_before h.layout h.memory low high q c.args.table v (i + 1) o here.meant) here.valid)
+
+pub clean_up_table-loop-next-preserved : goal.clean_up_table-loop-next-preserved
+clean_up_table-loop-next-preserved g t c =
+    let mapper = c.args.mapper.now in
+    let h = g.M.Tables.hierarchy mapper in
+    let first = c.args.range.now.first.now in
+    let last = c.args.range.now.last.now in
+    let low = span_start h.layout.levels first in
+    let high = span_end h.layout.levels last in
+    let q = c.args.path.now in
+    let i = c.loop-next.next in
+    let held = g.D.FrameDeallocator.held c.args.frame_deallocator.now in
+    let n = (g.M.Tables.hierarchy c.loop-next.mapper).memory in
+    let rest = g.D.FrameDeallocator.held c.loop-next.frame_deallocator in
+    let done = c.clean_up_entry in
+    let o = (g.M.Tables.hierarchy done.new.mapper).memory in
+    let left = g.D.FrameDeallocator.held done.new.frame_deallocator in
+    let inv = c.loop-next.invariant in
+    let v = c.requires.visited in
+    let apart = (g.met.M.Tables.is_mapping mapper).distinct in
+    let at = subst₂ (λ (l : Layout) j. IsCleanedAt l g.D.FrameDeallocator.take_back n rest (span_start l.levels first) (span_end l.levels last) (q ++ j ∷ []) o left) inv.layout c.new-index.ensures done.ensures.cleaned in
+    let here = before_next h.layout g.D.FrameDeallocator.take_back h.memory c.requires.may.valid held low high q v.visits i apart n rest inv.cleaned o left at in
+    let next = c.next_named-next-in-loop-next in
+    let on = not_before (i + 1) c.index_in_table-last.result next.result next.ensures.from (omega (arith, c.loop-next-test.true)) in
+    let most : next.result ≤ 512 = omega (arith, next.ensures.last, c.index_in_table-last.ensures.small) in
+    let layout = done.ensures.layout ∙ inv.layout in
     record {
-      cleaned = before_next h.layout g.D.FrameDeallocator.take_back h.memory c.requires.may.valid held low high q c.requires.visited.visits i (g.met.M.Tables.is_mapping mapper).distinct n rest inv.cleaned o left at;
-      in_table = omega (arith, c.loop-index-test.true, c.index_in_table-last.ensures.small);
-      layout = done.ensures.layout ∙ inv.layout;
+      cleaned = passed_to h.layout g.D.FrameDeallocator.take_back h.memory c.requires.may.valid held low high q c.args.table v apart o left (i + 1) next.result on most
+          (subst (λ l. (k : ℕ) → i + 1 ≤ k → k < next.result → names_table (word (words l o) c.args.table k) ≡ false) layout next.ensures.passed) here;
+      from = let was = inv.from c.loop-next-test.true in λ below. omega (arith, was, on);
+      in_table = most;
+      layout = layout;
       lent = done.ensures.lent ∙ inv.lent;
       serves = done.ensures.serves ∙ inv.serves;
     }
 
-pub clean_up_table-returns-after-loop-index-clause-cleaned : goal.clean_up_table-returns-after-loop-index-clause-cleaned
-clean_up_table-returns-after-loop-index-clause-cleaned g t c =
+pub clean_up_table-loop-next-smaller : goal.clean_up_table-loop-next-smaller
+clean_up_table-loop-next-smaller g t c =
+    let next = c.next_named-next-in-loop-next in
+    let on = not_before (c.loop-next.next + 1) c.index_in_table-last.result next.result next.ensures.from (omega (arith, c.loop-next-test.true)) in
+    let small : c.loop-next.next < 512 = omega (arith, c.loop-next-test.true, c.index_in_table-last.ensures.small) in
+    let m : 512 - next.result < 512 - c.loop-next.next = omega (arith, on, small) in m
+
+pub clean_up_table-returns-after-loop-next-clause-cleaned : goal.clean_up_table-returns-after-loop-next-clause-cleaned
+clean_up_table-returns-after-loop-next-clause-cleaned g t c =
     let h = g.M.Tables.hierarchy c.args.mapper.now in
     let low = span_start h.layout.levels c.args.range.now.first.now in
     let high = span_end h.layout.levels c.args.range.now.last.now in
     let q = c.args.path.now in
-    let i = c.loop-index.index in
+    let i = c.loop-next.next in
     let v = c.requires.visited in
-    before_last h.layout g.D.FrameDeallocator.take_back h.memory c.requires.may.valid (g.D.FrameDeallocator.held c.args.frame_deallocator.now) low high q i c.loop-index.invariant.in_table
-    (λ k from to. out_after h.layout.levels (paths h) c.args.range.now.first.now c.args.range.now.last.now c.requires.range q c.requires.short v.below v.visits k to (omega (arith, from, c.loop-index-test.false, c.index_in_table-last.ensures.index)))
-    (g.M.Tables.hierarchy c.loop-index.mapper).memory (g.D.FrameDeallocator.held c.loop-index.frame_deallocator) c.loop-index.invariant.cleaned
+    before_last h.layout g.D.FrameDeallocator.take_back h.memory c.requires.may.valid (g.D.FrameDeallocator.held c.args.frame_deallocator.now) low high q i c.loop-next.invariant.in_table
+    (λ k from to. out_after h.layout.levels (paths h) c.args.range.now.first.now c.args.range.now.last.now c.requires.range q c.requires.short v.below v.visits k to (omega (arith, from, c.loop-next-test.false, c.index_in_table-last.ensures.index)))
+    (g.M.Tables.hierarchy c.loop-next.mapper).memory (g.D.FrameDeallocator.held c.loop-next.frame_deallocator) c.loop-next.invariant.cleaned
 
 pub clean_up_table-returns-else-path-range-clause-cleaned : goal.clean_up_table-returns-else-path-range-clause-cleaned
 clean_up_table-returns-else-path-range-clause-cleaned g t c =

@@ -12,19 +12,23 @@ decreases-clean_up_table g l = 2 * (length l.range.now.first.now - length l.path
 abbrev pub decreases-clean_up_entry : goal.decreases-clean_up_entry
 decreases-clean_up_entry g l = 2 * (length l.range.now.first.now - length l.path.now)
 
--- the entries before the index were cleaned up
-abbrev pub invariant-clean_up_table-loop-index : goal.invariant-clean_up_table-loop-index
-invariant-clean_up_table-loop-index g l =
+-- the entries before the next one to be cleaned up were
+abbrev pub invariant-clean_up_table-loop-next : goal.invariant-clean_up_table-loop-next
+invariant-clean_up_table-loop-next g l =
     let before = g.M.Tables.hierarchy l.fn.mapper in
     let after = g.M.Tables.hierarchy l.mapper in
     let levels = before.layout.levels in
     let low = span_start levels l.range.first.now in
     let high = span_end levels l.range.last.now in
     record {
-      cleaned : IsCleaned before.layout g.D.FrameDeallocator.take_back before.memory (g.D.FrameDeallocator.held l.fn.frame_deallocator) (cleaned_before levels (paths before) low high l.path l.index)
-          (back_before levels (paths before) low high l.path l.index) after.memory (g.D.FrameDeallocator.held l.frame_deallocator);
-      in_table : l.index ≤ 512;
+      cleaned : IsCleaned before.layout g.D.FrameDeallocator.take_back before.memory (g.D.FrameDeallocator.held l.fn.frame_deallocator) (cleaned_before levels (paths before) low high l.path l.next)
+          (back_before levels (paths before) low high l.path l.next) after.memory (g.D.FrameDeallocator.held l.frame_deallocator);
+      from : l.next ≤ l.last → l.first ≤ l.next;
+      in_table : l.next ≤ 512;
       layout : after.layout ≡ before.layout;
       lent : after.lent ≡ before.lent;
       serves : g.D.FrameKeeper.serves l.frame_deallocator ≡ g.D.FrameKeeper.serves l.fn.frame_deallocator;
     }
+
+abbrev pub decreases-clean_up_table-loop-next : goal.decreases-clean_up_table-loop-next
+decreases-clean_up_table-loop-next g l = 512 - l.next

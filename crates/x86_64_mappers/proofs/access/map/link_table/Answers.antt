@@ -1,8 +1,8 @@
-use Rattle.std.proofs.Common.{◌≡◌, ◌+◌, ◌++◌, ◌∷◌, [], take, bit_or, sym, ap, ◌∙◌, subst, slice_set, add-one}
+use Rattle.std.proofs.Common.{◌≡◌, ◌+◌, ◌++◌, ◌∷◌, [], take, bit_or, sym, ap, ◌∙◌, subst, slice_set, add-one, IsSome}
 use Rattle.std.proofs.lemmas.List.{get_or_read}
 use Rattle.std.proofs.Math.Seq.{take-suc}
 use Rattle.std.specs.FinMap.{insert}
-use Rattle.x86_64_model.specs.Layout.{Layout}
+use Rattle.x86_64_model.specs.Layout.{Layout, words}
 use Rattle.x86_64_mappers.specs.AccessLending.{table_in}
 use Rattle.x86_64_mappers.proofs.Memory.Changed.{set_keeps}
 use Rattle.x86_64_mappers.specs.private.Linked.{IsClearedFirst}
@@ -50,10 +50,12 @@ returns-clause-linked g c =
     let t = g.M.TableAccess.with_table s c.args.table (slice_set (table_in l m c.args.table) i c.set_frame.new.self) in
     let n = (g.M.Tables.hierarchy t).memory in
     let set = subst (λ w. IsSet l.places m c.args.table i w n) c.set_frame.ensures (c.entry_mut.ensures.set c.set_frame.new.self) in
+    let there = set_keeps l.places apart m c.args.table i w n set f c.requires.may.there in
+    let kept = g.met.M.TableAccess.keeps_layout s c.args.table _ in
     subst (λ j. IsClearedFirst l.places m c.args.table j w f (g.M.Tables.hierarchy (g.M.TableAccess.with_table t f c.zero.new.self)).memory) item
     (cleared_first l.places apart m c.args.table i w f n _ c.requires.may.other c.requires.may.there set (record {
-      there = set_keeps l.places apart m c.args.table i w n set f c.requires.may.there;
-      after = g.met.M.TableAccess.puts t f c.zero.new.self
-          ∙ ap (λ (l : Layout). insert n (l.places.place f) c.zero.new.self) (g.met.M.TableAccess.keeps_layout s c.args.table _)
+      there = there;
+      after = g.met.M.TableAccess.puts t f c.zero.new.self (subst (λ (l : Layout). IsSome (words l n f)) (sym kept) there)
+          ∙ ap (λ (l : Layout). insert n (l.places.place f) c.zero.new.self) kept
           ∙ ap (insert n (l.places.place f)) c.zero.ensures;
     }))

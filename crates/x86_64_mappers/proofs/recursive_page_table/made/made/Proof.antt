@@ -37,10 +37,12 @@ use Rattle.std.specs.contracts.option.Option as Op
 use Rattle.std.specs.contracts.result.Result as Res
 use Rattle.std.proofs.result.Result.TheLaws as result_laws
 use Rattle.x86_64_tables.specs.ActiveMemory.{kept_of, RestsUnlessKept}
+use Rattle.x86_64_tables.specs.contracts.phys_memory.PhysMemory.{the_row as memory_row}
+use Rattle.x86_64_tables.proofs.phys_memory.PhysMemory.TheLaws.{the_row_laws as memory_laws}
 use Rattle.x86_64_tables.specs.contracts.phys_memory.active.Active as Active
-use Rattle.x86_64_tables.specs.contracts.phys_memory.active.Active.kept_if as keeps
+use Rattle.x86_64_tables.specs.contracts.phys_memory.active.Active+L.kept_if as keeps
 use Rattle.x86_64_tables.proofs.phys_memory.active.Active.TheLaws as active_laws
-use Rattle.x86_64_tables.proofs.phys_memory.active.Active.kept_if.Met as keeps_met
+use Rattle.x86_64_tables.proofs.phys_memory.active.Active+L.kept_if.Met as keeps_met
 use Rattle.x86_64_mappers.specs.RefusedMappers.{wrapped_of, made_of, RestsUnlessMade}
 use Rattle.x86_64_mappers.specs.contracts.recursive_page_table.InvalidPageTable as Invalid
 use Rattle.x86_64_mappers.specs.contracts.recursive_page_table.Recursive as Recursive
@@ -71,20 +73,20 @@ module _ (P : RattleType) (LP : Laws P) where
 
   module _ (N : NamedLft) where
     abbrev A : RattleType
-    A = Active.the_row N Y
+    A = Active.the_row N Y memory_row
 
     abbrev O : RattleType
     O = Op.the_row A
 
     abbrev lowered : A.Denot → Val
-    lowered = active_laws.lowered N Y LY
+    lowered = active_laws.lowered N Y memory_row LY memory_laws
 
     fits : {M : Type 1} {𝓤 : Ura M} (𝓛 : Logic 𝓤) (a : A.Denot) (vs : List Val) → Is A a vs → T (has_ty (nth_type made_fn.locals 7) (lowered a)) × WT (lowered a)
-    fits 𝓛 a vs is = (subst (Typed A.mir) ((active_laws.lowers N Y LY).val_is a vs is) (((active_laws.the_row_laws N Y LY).lawful 𝓛).typed a vs is)).0
+    fits 𝓛 a vs is = (subst (Typed A.mir) ((active_laws.lowers N Y memory_row LY memory_laws).val_is a vs is) (((active_laws.the_row_laws N Y memory_row LY memory_laws).lawful 𝓛).typed a vs is)).0
 
     held : {M : Type 1} {𝓤 : Ura M} (𝓛 : Logic 𝓤) (a : A.Denot) (kept : Bool) (v : Val) → Is O (kept_of a kept) (v ∷ []) → T (has_ty (nth_type made_fn.locals 6) v) × WT v
     held 𝓛 a true v is =
-        let e : v ≡ live 1 (of_list (lowered a ∷ [])) = ap only is.1.0 ∙ ap (λ (us : List Val). live 1 (of_list us)) (is.1.1.1.0 ∙ ap (λ (us : List Val). us ++ []) ((active_laws.lowers N Y LY).val_is a is.1.1.0.0 is.1.1.1.1.0)) in
+        let e : v ≡ live 1 (of_list (lowered a ∷ [])) = ap only is.1.0 ∙ ap (λ (us : List Val). live 1 (of_list us)) (is.1.1.1.0 ∙ ap (λ (us : List Val). us ++ []) ((active_laws.lowers N Y memory_row LY memory_laws).val_is a is.1.1.0.0 is.1.1.1.1.0)) in
         subst (λ (u : Val). T (has_ty (nth_type made_fn.locals 6) u) × WT u) (sym e) (tt, (record { fits = lit< tt }, ((fits 𝓛 a is.1.1.0.0 is.1.1.1.1.0).1, tt)))
     held 𝓛 a false v is =
         let e : v ≡ live 0 (of_list []) = ap only is.1.0 ∙ ap (λ (us : List Val). live 0 (of_list us)) is.1.1.1.0 in
@@ -94,7 +96,7 @@ module _ (P : RattleType) (LP : Laws P) where
     R = Res.the_row (Recursive.the_row A Y) Invalid.the_row
 
     fits_result : {M : Type 1} {𝓤 : Ura M} (𝓛 : Logic 𝓤) (r : R.Denot) (v : Val) → Is R r (v ∷ []) → T (has_ty (lone R.mir) v) × WT v
-    fits_result 𝓛 r v is = (((result_laws.the_row_laws (Recursive.the_row A Y) Invalid.the_row (recursive_laws.the_row_laws A Y (active_laws.the_row_laws N Y LY) LY) invalid_laws.the_row_laws).lawful 𝓛).typed r (v ∷ []) is).0
+    fits_result 𝓛 r v is = (((result_laws.the_row_laws (Recursive.the_row A Y) Invalid.the_row (recursive_laws.the_row_laws A Y (active_laws.the_row_laws N Y memory_row LY memory_laws) LY) invalid_laws.the_row_laws).lawful 𝓛).typed r (v ∷ []) is).0
 
     made_is : (a : A.Denot) (kept : Bool) (i : ℕ) (f : (Flags.the_row).Denot) (w : (Invalid.the_row).Denot) → wrapped_of (kept_of a kept) i f w ≡ made_of a kept i f w
     made_is a true i f w = refl
@@ -107,7 +109,7 @@ module _ (P : RattleType) (LP : Laws P) where
 pub made_spec : {M : Type 1} → statement M
 made_spec 𝓤 𝓛 𝓜 𝓡 wired P LP =
     let H = 𝓛.H in let 𝓣 = tables 𝓤 H 𝓜 𝓡 𝓡.env in let c = makes.clauses P 𝓛 𝓜.mem 𝓡.returns in let fn = made_fn P LP in let ended = makes.ended P in
-    let sA = plain (λ κs. Active.the_row (named_lft 2 0 tt κs) (Y P LP)) in let sB = plain (λ κs. bool) in let sI = plain (λ κs. Index.the_row) in let sF = plain (λ κs. Flags.the_row) in let sW = plain (λ κs. Invalid.the_row) in
+    let sA = plain (λ κs. Active.the_row (named_lft 2 0 tt κs) (Y P LP) memory_row) in let sB = plain (λ κs. bool) in let sI = plain (λ κs. Index.the_row) in let sF = plain (λ κs. Flags.the_row) in let sW = plain (λ κs. Invalid.the_row) in
     let hs : Stays ended.signature.params ended.kept = (stay_dropped sA no, (stay_dropped sB yes, (stay_dropped sI yes, (stay_dropped sF yes, (stay_dropped sW yes, tt))))) in
     proved_at 𝓛 ended hs c 𝓜 𝓡
     (goes_blank 𝓛 2 sA no (λ κs x f. tt), (Goes-dropped 𝓛 2 sB yes (λ κs x f. refl), (Goes-dropped 𝓛 2 sI yes (λ κs x f. refl), (Goes-dropped 𝓛 2 sF yes (λ κs x f. refl), (Goes-dropped 𝓛 2 sW yes (λ κs x f. refl), tt)))))
@@ -123,7 +125,7 @@ made_spec 𝓤 𝓛 𝓜 𝓡 wired P LP =
     let z : (walk_of 𝓛 ended hs c).Ghost = At vss in let Post : Val → SProp 𝓤 = (walk_of 𝓛 ended hs c).post z in
     let toks = ‵ (flft κs.0 qs.0) ⊛ ‵ (flft κs.1.0 qs.1.0) ⊛ ‵ ftrue in let Lives : Type 0 = κs.1.0 ⊑ P.lives in
     subst (λ (us : Vs). ent 𝓤 ((walk_of 𝓛 ended hs c).pre (At us)) (WpFn 𝓤 H 𝓣.C 𝓣.Λ fn ((walk_of 𝓛 ended hs c).args (At us)) ((walk_of 𝓛 ended hs c).post (At us))))
-    (λ j. (sym ((active_laws.lowers N (Y P LP) (LY P LP)).val_is a vss₀.0 are.0) j, (sym (bool_Tells kept vss₀.1.0 are.1.0) j, (sym gI.1 j, (sym gF.1 j, (sym gW.1 j, tt)))))) (
+    (λ j. (sym ((active_laws.lowers N (Y P LP) memory_row (LY P LP) memory_laws).val_is a vss₀.0 are.0) j, (sym (bool_Tells kept vss₀.1.0 are.1.0) j, (sym gI.1 j, (sym gF.1 j, (sym gW.1 j, tt)))))) (
     qed 𝓛 ((toks ⊛ ‵ (owns (types_at ended.signature.params κs) args vss)) ∷ raw ((c κs args).requires z₀.1) ∷ []) ∵
     move ! (1 ∷ []) $ use1 𝓛 (raw (fact 𝓤 Lives) ⊛ ‵ ftrue) (id⊢ 𝓤 _) $ split ! $ heard ! _ (λ lives. move ! (1 ∷ []) $
     split ! $ move ! (1 ∷ []) $ fsplit ! $ move ! (1 ∷ []) $ fsplit ! $ move ! (1 ∷ []) $ fsplit ! $ move ! (1 ∷ []) $ fsplit ! $ move ! (1 ∷ []) $ fsplit ! $ keep ! (0 ∷ 2 ∷ 3 ∷ 4 ∷ 5 ∷ 6 ∷ []) $
@@ -135,7 +137,7 @@ made_spec 𝓤 𝓛 𝓜 𝓡 wired P LP =
     let y : G.Ghost = ((κs, qs, tt, (a, (kept, tt)), (vA ∷ [], (bool_vals kept, tt))), tt) in
     nothing ! $ move ! (4 ∷ 0 ∷ []) $ fjoin ! $ move ! (4 ∷ 0 ∷ []) $ fjoin ! $ move ! (4 ∷ 0 ∷ []) $ join ! $
     use0 𝓛 (raw (fact 𝓤 Lives)) (fact_i 𝓤 Lives (emp 𝓤) lives) $ nothing ! $ move ! (1 ∷ 0 ∷ []) $ join ! $ move ! (1 ∷ 0 ∷ []) $ use2 𝓛 (raw (G.pre y)) (id⊢ 𝓤 _) $
-    calls_at ! (framed 𝓤 H 𝓜 𝓣) G (keeps_met.met 𝓤 𝓛 𝓜 𝓡 (code.calls-x86_64_tables::phys_memory::active::Active::kept_if 𝓡.env wired) P LP) y (and_then ! (get ! refl) (and_then ! (get ! refl) (no_more !))) (λ v.
+    calls_at ! (framed 𝓤 H 𝓜 𝓣) G (keeps_met.met 𝓤 𝓛 𝓜 𝓡 (code.calls-x86_64_tables::phys_memory::active::Active+L::kept_if 𝓡.env wired) P LP) y (and_then ! (get ! refl) (and_then ! (get ! refl) (no_more !))) (λ v.
     use1 𝓛 (later (some (λ (o : (O P LP N).Denot). (toks ⊛ ‵ ((O P LP N).own_val o (v ∷ []))) ⊛ some (λ (ws : Lasts (keeps.ended P) κs (a, (kept, tt))).
     ‵ (lasts (keeps.ended P) κs (a, (kept, tt)) ws) ⊛ ‵ (RestsUnlessKept a o) ⊛ raw (fact 𝓤 (o ≡ kept_of a kept)))))) (id⊢ 𝓤 _) $ await ! tt $ pick ! (λ o. split ! $
     move ! (1 ∷ []) $ pick ! (λ ws. split ! $ drop ! $ split ! $ move ! (1 ∷ []) $ heard ! _ (λ is_o. move ! (1 ∷ []) $ split ! $ move ! (1 ∷ []) $

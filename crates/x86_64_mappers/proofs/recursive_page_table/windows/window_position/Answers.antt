@@ -1,31 +1,20 @@
-use Rattle.std.proofs.Common.{◌≡◌, ◌<◌, ◌-◌, ℕ, List, ◌++◌, length, take, replicate, ap, ◌∙◌, arith}
-use Rattle.std.proofs.lemmas.List.{length-append, length-replicate}
-use Rattle.x86_64_mappers.proofs.Window.Windows.{number_path, number_inside, few_positions}
+use Rattle.std.proofs.Common.{◌≡◌, ◌<◌, ◌+◌, ◌*◌, ◌%◌, ◌^◌, length, take, fold, ap, ap₂, ◌∙◌, subst, arith}
+use Rattle.std.proofs.Math.Seq.{take-length}
+use Rattle.x86_64_model.specs.Path.{AllBelow}
+use Rattle.x86_64_model.specs.Position.{page_path}
+use Rattle.x86_64_mappers.proofs.Window.Numbers.{window_number_path}
 use Rattle.x86_64_mappers.proofs.recursive_page_table.windows.window_position.Goals as goal
-
-long : (levels r : ℕ) (path : List ℕ) → length path < levels → length (replicate (levels - length path) r ++ path) ≡ levels
-long levels r path short = omega (arith, short, length-append (replicate (levels - length path) r) path, length-replicate (levels - length path) r)
 
 pub returns-clause-path : goal.returns-clause-path
 returns-clause-path g c =
     let L = g.L.LevelCount.LEVELS in
     let r = c.args.index in
     let path = c.args.path.now in
-    let is = c.window_indices-indices.ensures ∙ ap (λ n. replicate (n - length path) r ++ path) c.LEVELS-levels.ensures in
-    number_path L c.page_number.result (take c.LEVELS-levels.result c.window_indices-indices.result) (replicate (L - length path) r ++ path) is (long L r path c.requires)
-    c.page_number.ensures.start c.page_number.ensures.below
-
-pub returns-clause-inside : goal.returns-clause-inside
-returns-clause-inside g c =
-    let L = g.L.LevelCount.LEVELS in
-    let r = c.args.index in
-    let path = c.args.path.now in
-    let is = c.window_indices-indices.ensures ∙ ap (λ n. replicate (n - length path) r ++ path) c.LEVELS-levels.ensures in
-    number_inside L c.page_number.result (take c.LEVELS-levels.result c.window_indices-indices.result) (replicate (L - length path) r ++ path) is (long L r path c.requires)
-    c.page_number.ensures.start c.page_number.ensures.below
-
-pub overflow_mul-result : goal.overflow_mul-result
-overflow_mul-result g c =
-    let inside = returns-clause-inside g c in
-    let few = few_positions g.L.LevelCount.LEVELS g.L.LevelCount.at_most_five in
-    omega (arith, inside, few)
+    let end = c.loop-index.auto.index-index-end in
+    let over = c.loop-index-test.false in
+    let at : c.loop-index.index-index ≡ length path = omega (arith, end, over) in
+    let all = ap (λ k. take k path) at ∙ take-length path in
+    let small = subst (λ n. n < 512) c.from-number.ensures.0 c.from-number.ensures.1 in
+    let number = c.loop-index.invariant.number ∙ ap (λ q. fold (λ n i. n * 512 + i) (r * 0x1008040201) q % 2 ^ 64) all in
+    ap₂ (λ n m. page_path L (n * 4096 % 2 ^ 64 % m)) number (c.POSITION_COUNT.ensures ∙ g.L.LevelCount.known_count)
+    ∙ window_number_path L r path g.L.LevelCount.known_levels c.requires small (subst AllBelow all c.loop-index.invariant.below)

@@ -11,9 +11,9 @@ use Rattle.x86_64_tables.proofs.phys_memory.validity.passes.Goals as goal
 pub returns : goal.returns
 returns g c =
     let places = g.P.PageTableFrameMapping.places c.args.mapping.now in
-    let words = words_of c.args.memory.now places in
+    let words = words_of (g.T.TableMemory.tables c.args.memory.now) places in
     let pool = option_copied c.args.pool in
-    let passes = sound_passes c.args.levels c.args.memory.now places c.args.root c.args.recursive pool (g.met.P.PageTableFrameMapping.is_mapping c.args.mapping.now) in
+    let passes = sound_passes c.args.levels (g.T.TableMemory.tables c.args.memory.now) places c.args.root c.args.recursive pool (g.met.P.PageTableFrameMapping.is_mapping c.args.mapping.now) in
     IfOk-weaker c.is_sound.result
     (λ b. IsTrue b ↔ IsSound c.args.levels words c.args.root c.args.recursive (serves_below (limit_of pool)) (free_in pool))
     (λ b. IsTrue b ↔ Passes (suc c.args.levels) words c.args.root c.args.recursive pool)

@@ -11,7 +11,7 @@ use Rattle.x86_64_tables.proofs.phys_memory.walk.walk_from.Goals.{then-level-eq1
 
 pub returns-in_err-entry : goal.returns-in_err-entry
 returns-in_err-entry g c =
-    let words = words_of c.args.memory.now (g.P.PageTableFrameMapping.places c.args.mapping.now) in
+    let words = words_of (g.T.TableMemory.tables c.args.memory.now) (g.P.PageTableFrameMapping.places c.args.mapping.now) in
     let level = c.args.levels - c.loop-above.above in
     let none : None ≡ read words c.loop-above.frame (index level c.args.position) = search rules in
     let said : option_map walked_of c.from_residual.result ≡ None = search rules in
@@ -19,7 +19,7 @@ returns-in_err-entry g c =
 
 pub returns-then-not-has_flag : goal.returns-then-not-has_flag
 returns-then-not-has_flag g c =
-    let words = words_of c.args.memory.now (g.P.PageTableFrameMapping.places c.args.mapping.now) in
+    let words = words_of (g.T.TableMemory.tables c.args.memory.now) (g.P.PageTableFrameMapping.places c.args.mapping.now) in
     let level = c.args.levels - c.loop-above.above in
     let e = c.in_ok-entry.entry.now in
     let is : Some e ≡ read words c.loop-above.frame (index level c.args.position) = search rules in
@@ -28,7 +28,7 @@ returns-then-not-has_flag g c =
 
 pub returns-then-level-eq1 : goal.returns-then-level-eq1
 returns-then-level-eq1 g c =
-    let words = words_of c.args.memory.now (g.P.PageTableFrameMapping.places c.args.mapping.now) in
+    let words = words_of (g.T.TableMemory.tables c.args.memory.now) (g.P.PageTableFrameMapping.places c.args.mapping.now) in
     let level = c.args.levels - c.loop-above.above in
     let e = c.in_ok-entry.entry.now in
     let rights = c.loop-above.rights in
@@ -46,7 +46,7 @@ from_start_address_unchecked-frame-requires g c = rw c.addr.ensures (address_ali
 
 pub loop-above-preserved : goal.loop-above-preserved
 loop-above-preserved g c =
-    let words = words_of c.args.memory.now (g.P.PageTableFrameMapping.places c.args.mapping.now) in
+    let words = words_of (g.T.TableMemory.tables c.args.memory.now) (g.P.PageTableFrameMapping.places c.args.mapping.now) in
     let level = c.args.levels - c.loop-above.above in
     let e = c.in_ok-entry.entry.now in
     let rights = c.loop-above.rights in
@@ -61,7 +61,7 @@ loop-above-preserved g c =
 pub returns : goal.returns
 unfolding walk_on
 returns g c =
-    let words = words_of c.args.memory.now (g.P.PageTableFrameMapping.places c.args.mapping.now) in
+    let words = words_of (g.T.TableMemory.tables c.args.memory.now) (g.P.PageTableFrameMapping.places c.args.mapping.now) in
     let rights = c.loop-above.rights in
     let none : 0 ≡ c.args.levels - c.loop-above.above = omega (arith, c.loop-above-test.false) in
     ap (λ n. walk_on words c.args.position n rights.write rights.user c.loop-above.frame) none ∙ c.loop-above.invariant

@@ -6,5 +6,5 @@ use Rattle.x86_64_tables.proofs.phys_memory.walk.walk_from.Given as goal
 -- the walk on from here is the walk from the root
 abbrev pub invariant-loop-above : goal.invariant-loop-above
 invariant-loop-above g l =
-    let words = words_of l.memory (g.P.PageTableFrameMapping.places l.mapping) in
+    let words = words_of (g.T.TableMemory.tables l.memory) (g.P.PageTableFrameMapping.places l.mapping) in
     walk_on words l.position (l.levels - l.above) l.rights.write l.rights.user l.frame ≡ walk_on words l.position l.levels true true l.fn.root

@@ -11,23 +11,23 @@ pub returns-then-not-mark : goal.returns-then-not-mark
 returns-then-not-mark g t c =
     let self = c.args.self.now in
     let places = g.P.PageTableFrameMapping.places self.view.mapping in
-    tables_none (mark_slot self.view.memory.now places self.view.root self.limit) c.args.levels
-    (seen self.view.memory.now places self.view.root self.view.recursive) c.args.frame c.args.marks.now c.if-not-mark.ensures
+    tables_none (mark_slot (g.T.TableMemory.tables self.view.memory.now) places self.view.root self.limit) c.args.levels
+    (seen (g.T.TableMemory.tables self.view.memory.now) places self.view.root self.view.recursive) c.args.frame c.args.marks.now c.if-not-mark.ensures
 
 pub returns-else-levels-gt0 : goal.returns-else-levels-gt0
 returns-else-levels-gt0 g t c =
     let self = c.args.self.now in
     let places = g.P.PageTableFrameMapping.places self.view.mapping in
-    tables_one (mark_slot self.view.memory.now places self.view.root self.limit) c.args.levels
-    (seen self.view.memory.now places self.view.root self.view.recursive) c.args.frame c.args.marks.now (Some c.mark.new.marks)
+    tables_one (mark_slot (g.T.TableMemory.tables self.view.memory.now) places self.view.root self.limit) c.args.levels
+    (seen (g.T.TableMemory.tables self.view.memory.now) places self.view.root self.view.recursive) c.args.frame c.args.marks.now (Some c.mark.new.marks)
     c.if-levels-gt0.false c.if-not-mark.ensures
 
 pub returns-after-loop-index : goal.returns-after-loop-index
 returns-after-loop-index g t c =
     let self = c.args.self.now in
     let places = g.P.PageTableFrameMapping.places self.view.mapping in
-    let slot = mark_slot self.view.memory.now places self.view.root self.limit in
-    let words = seen self.view.memory.now places self.view.root self.view.recursive in
+    let slot = mark_slot (g.T.TableMemory.tables self.view.memory.now) places self.view.root self.limit in
+    let words = seen (g.T.TableMemory.tables self.view.memory.now) places self.view.root self.view.recursive in
     sym (tables_begin slot c.args.levels words c.args.frame c.args.marks.now (Some c.mark.new.marks) c.if-levels-gt0.true c.if-not-mark.ensures
     ∙ c.loop-index.invariant ∙ rest_done slot (c.args.levels - 1) words c.args.frame c.loop-index.index c.loop-index.marks (omega arith))
 
@@ -35,8 +35,8 @@ pub returns-then-not-mark_tables : goal.returns-then-not-mark_tables
 returns-then-not-mark_tables g t c =
     let self = c.args.self.now in
     let places = g.P.PageTableFrameMapping.places self.view.mapping in
-    let slot = mark_slot self.view.memory.now places self.view.root self.limit in
-    let words = seen self.view.memory.now places self.view.root self.view.recursive in
+    let slot = mark_slot (g.T.TableMemory.tables self.view.memory.now) places self.view.root self.limit in
+    let words = seen (g.T.TableMemory.tables self.view.memory.now) places self.view.root self.view.recursive in
     let w = word words c.args.frame c.loop-index.index in
     let below = sym c.in-Some.is ∙ c.table_below.ensures in
     sym (tables_begin slot c.args.levels words c.args.frame c.args.marks.now (Some c.mark.new.marks) c.if-levels-gt0.true c.if-not-mark.ensures
@@ -48,8 +48,8 @@ pub loop-index-preserved : goal.loop-index-preserved
 loop-index-preserved g t c =
     let self = c.args.self.now in
     let places = g.P.PageTableFrameMapping.places self.view.mapping in
-    let slot = mark_slot self.view.memory.now places self.view.root self.limit in
-    let words = seen self.view.memory.now places self.view.root self.view.recursive in
+    let slot = mark_slot (g.T.TableMemory.tables self.view.memory.now) places self.view.root self.limit in
+    let words = seen (g.T.TableMemory.tables self.view.memory.now) places self.view.root self.view.recursive in
     let w = word words c.args.frame c.loop-index.index in
     c.loop-index.invariant ∙ elim c.match-table_below.branch [
       | in-Some+else-not-mark_tables b ↦

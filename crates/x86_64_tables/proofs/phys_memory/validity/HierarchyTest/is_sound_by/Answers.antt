@@ -11,7 +11,7 @@ returns-then-not-mark_tables g c =
     let places = g.P.PageTableFrameMapping.places self.view.mapping in
     let is_mapping = g.met.P.PageTableFrameMapping.is_mapping self.view.mapping in (
       λ h. cc,
-      λ sound. absurd (refused self.view.memory.now places is_mapping self.view.root self.view.recursive self.limit c.args.levels
+      λ sound. absurd (refused (g.T.TableMemory.tables self.view.memory.now) places is_mapping self.view.root self.view.recursive self.limit c.args.levels
           (free_in (option_copied c.args.pool)) c.args.marks.now c.requires.clear c.if-not-mark_tables.ensures sound),
     )
 
@@ -23,7 +23,7 @@ returns-in-Some g c =
     let self = c.args.self.now in
     let places = g.P.PageTableFrameMapping.places self.view.mapping in
     let is_mapping = g.met.P.PageTableFrameMapping.is_mapping self.view.mapping in
-    rw c.in-Some.is (accepted self.view.memory.now places is_mapping self.view.root self.view.recursive self.limit c.args.levels
+    rw c.in-Some.is (accepted (g.T.TableMemory.tables self.view.memory.now) places is_mapping self.view.root self.view.recursive self.limit c.args.levels
     c.in-Some.pool.now.frames c.args.marks.now c.requires.clear (c.if-not-none_huge.ensures.0 refl)
     c.mark_tables.new.marks c.mark_pool.new.marks c.if-not-mark_tables.ensures c.mark_pool.result c.mark_pool.ensures)
 
@@ -33,6 +33,6 @@ returns-in-None g c =
     let self = c.args.self.now in
     let places = g.P.PageTableFrameMapping.places self.view.mapping in
     let is_mapping = g.met.P.PageTableFrameMapping.is_mapping self.view.mapping in
-    rw c.in-None.is (accepted self.view.memory.now places is_mapping self.view.root self.view.recursive self.limit c.args.levels
+    rw c.in-None.is (accepted (g.T.TableMemory.tables self.view.memory.now) places is_mapping self.view.root self.view.recursive self.limit c.args.levels
     [] c.args.marks.now c.requires.clear (c.if-not-none_huge.ensures.0 refl)
     c.mark_tables.new.marks c.mark_tables.new.marks c.if-not-mark_tables.ensures true refl)

@@ -12,7 +12,7 @@ use Rattle.x86_64_tables.specs.PageTable.{zero_words, get_or-zero_words}
 use Rattle.x86_64.specs.Runs.{FitsPool}
 use Rattle.x86_64.specs.SecondHierarchies.{EmptyRootsAreSecond, Share}
 use Rattle.x86_64.proofs.EmptyRoots.{only_root}
-use Rattle.x86_64_mapper_tests.proofs.beside.two_roots.Goals as goal
+use Rattle.x86_64_mapper_tests.proofs.beside.pool_of_two.Goals as goal
 
 -- all places below n have words 0 alone
 abbrev AllZero : Memory → ℕ → Type 0
@@ -55,11 +55,11 @@ negated false h = refl
 
 pub returns : goal.returns
 returns g c =
-    let m = c.unwrap-memory.result in
+    let m = g.T.TableMemory.tables c.args.memory.now in
     let serves = serves_below c.pool_from-pool.result.limit in
     let pool = c.pool_from-pool.result.frames in
     let words = words_of m identity_places in
-    let fresh = subst (λ r. IfOk r (λ memory. AllZero memory 16)) c.unwrap-memory.ensures c.new.ensures.made in
+    let fresh = c.requires in
     let is_first = subst (λ r. IfOk r (λ b. IsTrue b ↔ Fits 4 None words c.args.first (paths_of 4 words c.args.first) serves pool)) c.unwrap.ensures c.pool_fits.ensures in
     let is_second = subst (λ r. IfOk r (λ b. IsTrue b ↔ Fits 4 None words c.args.second (paths_of 4 words c.args.second) serves pool)) c.unwrap-2.ensures c.pool_fits-2.ensures in
     let first_holds : c.unwrap.result ≡ true = search rules in

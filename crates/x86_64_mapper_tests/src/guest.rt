@@ -1,0 +1,106 @@
+//! A guest whose memory is a vector of tables: its owner has a list of calls answered in it, where it is, and reads it again.
+ghost use Rattle.std.specs.Prelude.{◌≡◌, IfOk, IsTrue};
+ghost use Rattle.std.specs.Option.{option_copied};
+ghost use Rattle.x86_64_mappers.specs.Layouts.{direct};
+ghost use Rattle.x86_64_model.specs.Memory.{identity_places, words_of};
+ghost use Rattle.x86_64_model.specs.PageWalk.{read};
+ghost use Rattle.x86_64_model.specs.Pool.{serves_below};
+ghost use Rattle.x86_64_tables.specs.LentMemory.{numbered};
+ghost use Rattle.x86_64.specs.Runs.{FitsPool};
+
+use crate::assertions::{assert_equal, unwrap};
+use crate::beside::{empty_tables, frame, map, pool_from, run_on};
+use bitflags::Flags;
+use std::alloc::{AllocError, Global};
+use std::process::Abort;
+use x86_64::structures::paging::{PageSize, PageTable, PageTableIndex, PhysFrame, Size4KiB};
+use x86_64::{Call, FramePool, IdentityMapping, LentMemory, Reply, pool_fits};
+
+/// Answers calls in a slice of tables, which isn't copied. The pool fits the hierarchy again.
+fn run_in_tables(
+    tables: &mut [PageTable],
+    root: PhysFrame<Size4KiB>,
+    pool: &mut FramePool,
+    calls: &[Call],
+    replies: &mut Vec<Reply>,
+) -> Result<(), AllocError>
+    requires { let layout = direct identity_places root in
+        FitsPool layout (numbered tables.old) (serves_below pool.old.limit) pool.old.frames }
+    ensures { let layout = direct identity_places root in
+        FitsPool layout (numbered tables.new) (serves_below pool.old.limit) pool.new.frames }
+{
+    let mut memory = LentMemory::new(tables);
+    run_on(&mut memory, root, pool, calls, replies)
+}
+
+/// Returns the table in a frame, or `None` if there is none.
+fn table_in(tables: &[PageTable], frame: PhysFrame<Size4KiB>) -> Option<&PageTable>
+    ensures { option_copied result ≡ words_of (numbered tables.now) identity_places frame }
+{
+    let start = frame.start_address().as_u64();
+    tables.get((start / Size4KiB::SIZE) as usize)
+}
+
+/// Returns the word at an index of the table in a frame, or `None` if there is none.
+#[tactic(auto, using(x86_64_model::proofs::Lemmas::Entries::Bits::whole))]
+fn word_in(tables: &[PageTable], frame: PhysFrame<Size4KiB>, index: PageTableIndex) -> Option<u64>
+    ensures { result ≡ read (words_of (numbered tables.now) identity_places) frame index }
+{
+    match table_in(tables, frame) {
+        Some(table) => Some(table[index].addr().as_u64() | table[index].flags().bits()),
+        None => None,
+    }
+}
+
+/// Answers calls of a guest, and returns the word that its root has at an index then.
+fn run_and_read(
+    tables: &mut Vec<PageTable>,
+    root: PhysFrame<Size4KiB>,
+    pool: &mut FramePool,
+    calls: &[Call],
+    replies: &mut Vec<Reply>,
+    index: PageTableIndex,
+) -> Result<Option<u64>, AllocError>
+    requires { let layout = direct identity_places root in
+        FitsPool layout (numbered tables.old.items) (serves_below pool.old.limit) pool.old.frames }
+    ensures fits { let layout = direct identity_places root in
+        FitsPool layout (numbered tables.new.items) (serves_below pool.old.limit) pool.new.frames }
+    ensures read { let words = words_of (numbered tables.new.items) identity_places in
+        IfOk result (λ word. word ≡ read words root index) }
+{
+    run_in_tables(tables, root, pool, calls, replies)?;
+    Ok(word_in(tables, root, index))
+}
+
+/// Returns whether a pool fits the hierarchy of a guest, which is tested where it is.
+fn fits(
+    rt: impl Abort + Copy,
+    alloc: Global,
+    tables: &mut [PageTable],
+    root: PhysFrame<Size4KiB>,
+    pool: &FramePool,
+) -> bool
+    ensures { let layout = direct identity_places root in let serves = serves_below pool.now.limit in
+        IsTrue result → FitsPool layout (numbered tables.new) serves pool.now.frames }
+{
+    let memory = LentMemory::new(tables);
+    unwrap(rt, pool_fits(alloc, &memory, &IdentityMapping, root, pool))
+}
+
+#[test]
+fn a_guest_is_mapped_and_read(rt: HostRuntime) {
+    let mut tables = empty_tables(rt, rt.alloc());
+    let (root, mut pool) = (frame(0x1000), pool_from(rt, rt.alloc(), 0x2000));
+    assert!(rt; fits(rt, rt.alloc(), &mut tables, root, &pool));
+    let mut replies = Vec::new(rt.alloc());
+    let calls = [map(0x1000, 0x5000)];
+    let read = run_and_read(
+        &mut tables,
+        root,
+        &mut pool,
+        &calls,
+        &mut replies,
+        PageTableIndex::new(0),
+    );
+    assert_equal(rt, unwrap(rt, read), Some(0x2001));
+}
