@@ -22,6 +22,10 @@ user entry = has entry 0x4
 abbrev pub huge : (entry : ℕ) → Bool
 huge entry = has entry 0x80
 
+-- NO_EXECUTE: no instruction is fetched from what the entry maps or leads to
+abbrev pub no_execute : (entry : ℕ) → Bool
+no_execute entry = has entry 0x8000_0000_0000_0000
+
 unfoldable pub address : (entry : ℕ) → ℕ
 address entry = bit_and entry 0x000f_ffff_ffff_f000
 

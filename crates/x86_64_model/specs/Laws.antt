@@ -2,6 +2,7 @@ pub mod Positions
 pub mod Successors
 pub mod Hierarchies
 pub mod Walks
+pub mod Mappings
 pub mod Maps
 pub mod PageMappings
 pub mod Standing

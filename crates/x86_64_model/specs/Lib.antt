@@ -10,6 +10,8 @@ pub mod Memory
 pub mod Hierarchy
 pub mod Window
 pub mod PageWalk
+pub mod Mappings
+pub mod Regions
 pub mod Translation
 pub mod WrittenOut
 pub mod Refusal

@@ -1,0 +1,37 @@
+-- Regions: mappings that follow on each other with the same rights, as far as they go, in one half of the address space.
+use Rattle.std.specs.Prelude.{ℕ, ◌+◌, ◌-◌, ◌==◌, ◌&&◌, nat_le, Bool, beq, not, cond, List, [], ◌∷◌}
+use Rattle.x86_64_model.specs.Memory.{Words}
+use Rattle.x86_64_model.specs.Position.{lower_half}
+use Rattle.x86_64_model.specs.Mappings.{Mapping, Rights, mappings_of}
+
+-- the positions from the first one to the last one, and their rights
+pub record Region : Type 0 where
+  pub first : ℕ
+  pub last : ℕ
+  pub rights : Rights
+
+abbrev pub region_of : Mapping → Region
+region_of m = record { first = m.start; last = m.start + m.size - 1; rights = m.rights }
+
+abbrev pub same_rights : (r s : Rights) → Bool
+same_rights r s = beq r.write s.write && beq r.user s.user && beq r.execute s.execute
+
+-- whether s follows on r: it starts where r ended, not in the other half, with the same rights
+abbrev pub follows : (L : ℕ) (r s : Region) → Bool
+follows L r s = (s.first == r.last + 1) && not (s.first == lower_half L) && same_rights r.rights s.rights
+
+-- a region before others, as one with the first of them if that follows on it
+abbrev pub put_before : (L : ℕ) → Region → List Region → List Region
+put_before L r [] = r ∷ []
+put_before L r (s ∷ rest) = cond (follows L r s) (record { first = r.first; last = s.last; rights = r.rights } ∷ rest) (r ∷ s ∷ rest)
+
+-- the regions that mappings form, in their order
+unfoldable pub regions_in : (L : ℕ) → List Mapping → List Region
+regions_in L [] = []
+regions_in L (m ∷ rest) = put_before L (region_of m) (regions_in L rest)
+
+abbrev pub regions_of : (L : ℕ) → Words → (root : ℕ) → List Region
+regions_of L tables root = regions_in L (mappings_of L tables root)
+
+abbrev pub is_within : (position : ℕ) → Region → Bool
+is_within p r = nat_le r.first p && nat_le p r.last
