@@ -1,1 +1,6 @@
+pub mod Along
 pub mod Chains
+pub mod Found
+pub mod Listed
+pub mod SpanEnds
+pub mod Walked
