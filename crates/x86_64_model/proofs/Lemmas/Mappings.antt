@@ -4,5 +4,6 @@ pub mod Found
 pub mod Listed
 pub mod Listing
 pub mod Positions
+pub mod Said
 pub mod SpanEnds
 pub mod Walked
