@@ -4,10 +4,10 @@ use Rattle.std.specs.List.{cons_option}
 use Rattle.std.proofs.Math.Seq.{take-append_seam}
 use Rattle.x86_64_model.specs.Lists.{In}
 use Rattle.x86_64_model.specs.Memory.{Words}
-use Rattle.x86_64_model.specs.Position.{page_path, position_count}
+use Rattle.x86_64_model.specs.Position.{page_path}
 use Rattle.x86_64_model.specs.Path.{AllBelow, indices, paths_below, level_of, path_at, span_start, span_size}
-use Rattle.x86_64_model.specs.Mappings.{Mapping, words_along, is_leaf, mapping_of, leaf_of, mapping_at, mappings_of, has_position}
-use Rattle.x86_64_model.specs.Laws.Mappings.{IsSaidBy, WordsOfWalksSayMappings}
+use Rattle.x86_64_model.specs.Mappings.{Mapping, words_along, is_leaf, mapping_of, leaf_of, mapping_at, mappings_of}
+use Rattle.x86_64_model.specs.Laws.Mappings.{WordsOfWalksSayMappings}
 use Rattle.x86_64_model.proofs.Lemmas.Lists.Members.{from_flat_map, in_append}
 use Rattle.x86_64_model.proofs.Lemmas.Paths.Begins.{from_begins, all_below_more}
 use Rattle.x86_64_model.proofs.Lemmas.Paths.Ranges.{range_below}
@@ -74,9 +74,12 @@ words_say L T root m i p has =
     let parts = has_parts p m has in
     let start : span_start L q ≡ m.start = ap (λ m. m.start) is in
     let size : span_size L q ≡ m.size = ap (λ m. m.size) is in
-    let same : path_at L (level_of L q) p ≡ q = path_of_mapping L q p (omega (arith, path.0)) (omega (arith, path.1)) path.2 (omega (arith, start, parts.0)) (omega (arith, start, size, parts.1)) in
-    (level_of L q, its.0, record {
-      size = sym size;
-      walk = ap (words_along T root) same ∙ its.1;
-      leaf = ap (λ q. leaf_of L q its.0) same ∙ its.2;
-    })
+    let same : path_at L (level_of L q) p ≡ q = path_of_mapping L q p (omega (arith, path.0)) (omega (arith, path.1)) path.2 (omega (arith, start, parts.0)) (omega (arith, start, size, parts.1)) in (
+      level_of L q,
+      its.0,
+      record {
+        size = sym size;
+        walk = ap (words_along T root) same ∙ its.1;
+        leaf = ap (λ q. leaf_of L q its.0) same ∙ its.2;
+      },
+    )
