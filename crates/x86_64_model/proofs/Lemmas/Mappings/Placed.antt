@@ -49,7 +49,7 @@ leaf_length (suc n) (e ∷ []) h = (omega arith, omega arith)
 leaf_length level (e ∷ f ∷ below) h = let more = leaf_length (level - 1) (f ∷ below) (and_parts (present e && not (huge e)) (is_leaf (level - 1) (f ∷ below)) h).1 in
     (omega arith, omega (arith, more.0, more.1))
 
-words_length : (T : Words) (f : ℕ) (q words : List ℕ) → words_along T f q ≡ Some words → length words ≡ length q
+pub words_length : (T : Words) (f : ℕ) (q words : List ℕ) → words_along T f q ≡ Some words → length words ≡ length q
 unfolding words_along
 words_length T f [] words h = let s : Some [] ≡ Some words = h in ap length (let e : words ≡ [] = cc in e)
 words_length T f (i ∷ q) words h = 
