@@ -1,5 +1,11 @@
 // Laws of mappings and of regions.
-ghost use Rattle.x86_64_model.specs.Laws.Mappings.{MappingsAreLeaves, RegionsAreApart, RegionsLieInHalves, RegionsHoldMappings, TranslateNamesMappings};
+ghost use Rattle.x86_64_model.specs.Laws.Mappings.{MappingsAreLeaves, RegionsAreApart, RegionsLieInHalves, RegionsHoldMappings};
+
+/// Regions are apart, in order. Where one starts just where another ended, that is the middle of the address space, or their rights differ.
+#[tactic(auto, using(crate::proofs::Lemmas::Mappings::RegionLaws::regions_apart, crate::proofs::Lemmas::Mappings::Placed::mappings_placed, crate::proofs::Lemmas::Mappings::Positions::mappings_are_apart))]
+pub fn regions_are_apart()
+    ensures { RegionsAreApart }
+{}
 
 /// Each region lies in one half of the address space.
 #[tactic(auto, using(crate::proofs::Lemmas::Mappings::RegionLaws::regions_in_halves, crate::proofs::Lemmas::Mappings::Placed::mappings_placed))]
@@ -17,10 +23,4 @@ pub fn regions_hold_mappings()
 #[tactic(auto, using(crate::proofs::Lemmas::Mappings::EntriesAlong::mappings_are_leaves))]
 pub fn mappings_are_leaves()
     ensures { MappingsAreLeaves }
-{}
-
-/// In a valid hierarchy `translate` names the mapping of each position that has one, in the window too.
-#[tactic(auto, using(crate::proofs::Lemmas::Mappings::Translations::translate_names))]
-pub fn translate_names_mappings()
-    ensures { TranslateNamesMappings }
 {}

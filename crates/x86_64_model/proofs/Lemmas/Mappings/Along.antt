@@ -1,5 +1,5 @@
 -- The mapping of a path, word by word down its tables.
-use Rattle.std.proofs.Common.{zero, suc, ◌≡◌, ◌+◌, ◌-◌, ℕ, ◌&&◌, Bool, true, false, not, cond, List, [], ◌∷◌, Option, Some, None, option_map, option_and_then, refl, sym, ap, ◌∙◌}
+use Rattle.std.proofs.Common.{◌≡◌, ◌-◌, ℕ, ◌&&◌, Bool, true, false, not, cond, List, [], ◌∷◌, Option, Some, None, option_map, option_and_then, refl, sym, ap, ◌∙◌}
 use Rattle.std.proofs.Math.Bool.{and-true, and_assoc}
 use Rattle.x86_64_model.specs.Entry.{present, writable, user, huge, no_execute, address, flags}
 use Rattle.x86_64_model.specs.Memory.{Words}

@@ -1,10 +1,10 @@
 -- Mappings one behind the other: which one has a position, and those from a position on.
-use Rattle.std.proofs.Common.{zero, suc, ◌≡◌, ◌⊎◌, inl, inr, ⊎_elim, ◌<◌, ◌≤◌, ◌+◌, ◌-◌, ◌*◌, ℕ, Bool, true, false, cond, List, [], ◌∷◌, ◌++◌, filter, find, flat_map, Option, Some, None, nat_lt, nat_le, refl, sym, ap, ◌∙◌, subst, arith, lt-ltb, le-ltb}
+use Rattle.std.proofs.Common.{zero, suc, ◌≡◌, ◌⊎◌, inl, inr, ⊎_elim, ◌<◌, ◌≤◌, ◌+◌, ◌*◌, ℕ, Bool, true, false, cond, List, [], ◌∷◌, ◌++◌, find, flat_map, Option, Some, None, nat_lt, nat_le, refl, sym, ap, ◌∙◌, subst, arith, lt-ltb, le-ltb}
 use Rattle.std.specs.List.{range_with_len}
 use Rattle.std.specs.Option.{option_or}
 use Rattle.std.proofs.lemmas.Bool.{and_from, and_parts, cases_lt, le-leb, leb-true, ltb-true}
 use Rattle.std.proofs.lemmas.List.Folds.{find-append}
-use Rattle.std.proofs.Math.Nat.{mul-le-mul_right, add-mul}
+use Rattle.std.proofs.Math.Nat.{mul-le-mul_right}
 use Rattle.x86_64_model.specs.Lists.{In}
 use Rattle.x86_64_model.specs.Mappings.{Mapping, has_position, mappings_from}
 use Rattle.x86_64_model.specs.Laws.Mappings.{InOrder}
@@ -135,9 +135,9 @@ found_first p a b (n ∷ ms) m h e =
       | true ↦ λ has is.
           let same : n ≡ m = (let s : Some n ≡ Some m = is in cc) in let parts = has_parts p n has in
           subst (λ m. mappings_from p (n ∷ ms) ≡ m ∷ mappings_from (m.start + m.size) (n ∷ ms)) same (
-              kept_first p n ms parts.1 ∙ ap (λ ms. n ∷ ms) (
-              from_kept p (n.start + n.size) b ms h.2 (omega (arith, parts.1))
-              ∙ sym (dropped_first (n.start + n.size) n ms (omega arith) ∙ from_kept (n.start + n.size) (n.start + n.size) b ms h.2 (omega arith))))
+          kept_first p n ms parts.1 ∙ ap (λ ms. n ∷ ms) (
+          from_kept p (n.start + n.size) b ms h.2 (omega (arith, parts.1))
+          ∙ sym (dropped_first (n.start + n.size) n ms (omega arith) ∙ from_kept (n.start + n.size) (n.start + n.size) b ms h.2 (omega arith))))
       | false ↦ λ has is.
           let inside = in_chain (n.start + n.size) b ms h.2 m (found_member (has_position p) ms m is) in
           let low = inside.0 in let some = inside.1 in
@@ -156,11 +156,11 @@ from_same p q a b ms h l none = filter_same (λ m. nat_lt p (m.start + m.size)) 
         (λ ends. ⊎_elim
         (λ on. lt-ltb p (m.start + m.size) ends ∙ sym (lt-ltb q (m.start + m.size) on))
         (λ over. absurd (
-            let inside = in_chain a b ms h m i in let some = inside.1 in
-            ⊎_elim
-            (λ first. find_in (has_position m.start) ms m i (has_from m.start m (omega arith) (omega (arith, some))) (none m.start (omega (arith, first)) (omega (arith, over, some))))
-            (λ first. find_in (has_position p) ms m i (has_from p m first ends) (none p (omega arith) (omega (arith, over, ends))))
-            (cases_lt p m.start)))
+        let inside = in_chain a b ms h m i in let some = inside.1 in
+        ⊎_elim
+        (λ first. find_in (has_position m.start) ms m i (has_from m.start m (omega arith) (omega (arith, some))) (none m.start (omega (arith, first)) (omega (arith, over, some))))
+        (λ first. find_in (has_position p) ms m i (has_from p m first ends) (none p (omega arith) (omega (arith, over, ends))))
+        (cases_lt p m.start)))
         (cases_lt q (m.start + m.size)))
         (λ ended. le-ltb p (m.start + m.size) ended ∙ sym (le-ltb q (m.start + m.size) (omega (arith, ended, l))))
         (cases_lt p (m.start + m.size))

@@ -1,5 +1,5 @@
 -- In a valid hierarchy the words along a path outside the window are the entries at its front parts, as far as they matter to a leaf.
-use Rattle.std.proofs.Common.{◌≡◌, ◌≢◌, ⊎_elim, ◌<◌, ◌+◌, ◌-◌, ◌&&◌, ℕ, zero, suc, not, Bool, true, false, cond, List, [], ◌∷◌, ◌++◌, length, map, Some, None, Option, option_and_then, option_map, refl, sym, ap, ap₂, ◌∙◌, subst, arith, append_assoc}
+use Rattle.std.proofs.Common.{◌≡◌, ⊎_elim, ◌<◌, ◌+◌, ◌-◌, ◌&&◌, ℕ, not, false, cond, List, [], ◌∷◌, ◌++◌, length, map, Some, None, Option, option_and_then, option_map, refl, sym, ap, ap₂, ◌∙◌, arith}
 use Rattle.std.proofs.lemmas.Bool.{and_left, and_parts, and_right, cases_Bool, cases_lt, cond-false, not-true}
 use Rattle.std.proofs.lemmas.List.{map-append, map-id}
 use Rattle.x86_64_model.specs.Entry.{present, huge, address}
@@ -7,9 +7,9 @@ use Rattle.x86_64_model.specs.Memory.{Words}
 use Rattle.x86_64_model.specs.PageWalk.{read}
 use Rattle.x86_64_model.specs.Path.{AllBelow, parents}
 use Rattle.x86_64_model.specs.PathMap.{PathMap, entry}
-use Rattle.x86_64_model.specs.Window.{Window, begins_with, entry_at, IsValidFor}
+use Rattle.x86_64_model.specs.Window.{Window, begins_with, entry_at}
 use Rattle.x86_64_model.specs.Mappings.{Mapping, is_leaf, leaf_of, maps_page, mapping_at, mapping_of, words_along}
-use Rattle.x86_64_model.specs.Laws.Mappings.{entries_along, MappingsAreLeaves}
+use Rattle.x86_64_model.specs.Laws.Mappings.{MappingsAreLeaves}
 use Rattle.x86_64_model.proofs.Lemmas.Hierarchies.Changes.{map_again}
 use Rattle.x86_64_model.proofs.Lemmas.Maps.Arrives.{entry_outside, first_alone}
 use Rattle.x86_64_model.proofs.Lemmas.Walks.Agrees.{reads}
@@ -86,7 +86,7 @@ module _ (L : ℕ) (T : Words) (root : ℕ) (E : List ℕ → ℕ) (reads : Read
       behind T (address e) e j path (leafy level made) (leafy (level - 1) (λ words. made (e ∷ words)))
       (λ g below. ap (λ b. cond (b && is_leaf (level - 1) (g ∷ below)) (Some (made (e ∷ g ∷ below))) None) on)
       ∙ same_leaf (level - 1) (address e) (λ words. made (e ∷ words)) (q ++ i ∷ []) j path (omega (arith, two, l, one_more q i)) below.1
-        (λ k s. next L T root E reads (q ++ i ∷ []) k s (omega (arith, two, l, one_more q i)) parts.0 (not-true (huge e) parts.1))
+      (λ k s. next L T root E reads (q ++ i ∷ []) k s (omega (arith, two, l, one_more q i)) parts.0 (not-true (huge e) parts.1))
       ∙ sym (ap (λ b. cond (b && is_leaf (level - 1) (entries_down E (q ++ i ∷ []) (j ∷ path))) (Some (made (e ∷ entries_down E (q ++ i ∷ []) (j ∷ path)))) None) on))
       (λ low. no_leaf T (address e) e j path _ level made _ (λ g below. and_right (present e && not (huge e)) (is_leaf (level - 1) (g ∷ below)) (let z : level - 1 ≡ 0 = omega (arith, low) in ap (λ n. is_leaf n (g ∷ below)) z ∙ low_no_leaf (g ∷ below))))
       (cases_lt 1 level))

@@ -1,16 +1,12 @@
 -- The mappings from a position on, as an iterator takes them: the one that is found there is the next, and where none is found they are those
 -- from a later position on.
-use Rattle.std.proofs.Common.{zero, suc, ◌≡◌, ◌<◌, ◌≤◌, ◌+◌, ◌*◌, ◌/◌, ◌-◌, ℕ, ◌==◌, ◌&&◌, ◌||◌, Bool, true, false, cond, List, [], ◌∷◌, find, Option, Some, None, option_and_then, refl, sym, ap, ◌∙◌, subst, arith}
-use Rattle.x86_64_model.specs.Entry.{present, huge, address}
+use Rattle.std.proofs.Common.{◌≡◌, ◌<◌, ◌≤◌, ◌+◌, ◌*◌, ◌/◌, ℕ, [], ◌∷◌, Some, None, ◌∙◌, arith}
 use Rattle.x86_64_model.specs.Memory.{Words}
-use Rattle.x86_64_model.specs.PageWalk.{read}
-use Rattle.x86_64_model.specs.Position.{index, span, position_count}
-use Rattle.x86_64_model.specs.Mappings.{Rights, Mapping, maps_page, has_position, mappings_of, mappings_from}
-use Rattle.x86_64_model.specs.private.Found.{every_right, narrowed, page_at, found_on, found}
+use Rattle.x86_64_model.specs.Position.{span, position_count}
+use Rattle.x86_64_model.specs.Mappings.{Mapping, mappings_of, mappings_from}
+use Rattle.x86_64_model.specs.private.Found.{found}
 use Rattle.x86_64_model.proofs.Lemmas.Mappings.Chains.{from_kept, from_dropped, found_first, from_same}
-use Rattle.x86_64_model.proofs.Lemmas.Mappings.Found.{found_by}
 use Rattle.x86_64_model.proofs.Lemmas.Mappings.Positions.{mappings_chain, find_found}
-use Rattle.x86_64_model.proofs.Lemmas.Mappings.SpanEnds.{span_from, span_end_after, span_end_inside}
 
 pub from_first : (L : ℕ) (T : Words) (root : ℕ) → mappings_from 0 (mappings_of L T root) ≡ mappings_of L T root
 from_first L T root = from_kept 0 0 (position_count L) (mappings_of L T root) (mappings_chain L T root) (omega arith)

@@ -1,11 +1,10 @@
 -- Mappings of words aren't empty, and lie in one half of the address space each.
-use Rattle.std.proofs.Common.{◌≡◌, inl, inr, ⊎_elim, ◌<◌, ◌≤◌, ◌+◌, ◌-◌, ◌*◌, ◌^◌, ◌&&◌, ◌||◌, ◌==◌, not, nat_le, ℕ, zero, suc, Bool, true, false, cond, List, [], ◌∷◌, length, fold, Some, None, Option, option_and_then, option_map, refl, sym, ap, ap₂, ◌∙◌, subst, arith}
+use Rattle.std.proofs.Common.{◌≡◌, inl, inr, ⊎_elim, ◌≤◌, ◌+◌, ◌-◌, ◌*◌, ◌^◌, ◌&&◌, not, ℕ, zero, suc, Bool, true, false, cond, List, [], ◌∷◌, length, Some, None, Option, option_and_then, option_map, refl, sym, ap, ◌∙◌, subst, arith}
 use Rattle.std.specs.List.{AllByRecursion, filter_map, cons_option}
 use Rattle.std.proofs.lemmas.Bool.{and_parts, and_right, cases_lt, true≢false}
 use Rattle.std.proofs.lemmas.Nat.{pow-add}
 use Rattle.std.proofs.Math.Nat.{mul-le-mul_right, add-mul}
 use Rattle.x86_64_model.specs.Entry.{present, huge, address}
-use Rattle.x86_64_model.specs.Lists.{In}
 use Rattle.x86_64_model.specs.Memory.{Words}
 use Rattle.x86_64_model.specs.PageWalk.{read}
 use Rattle.x86_64_model.specs.Path.{span_start, span_size, paths_below}
@@ -52,7 +51,7 @@ leaf_length level (e ∷ f ∷ below) h = let more = leaf_length (level - 1) (f 
 pub words_length : (T : Words) (f : ℕ) (q words : List ℕ) → words_along T f q ≡ Some words → length words ≡ length q
 unfolding words_along
 words_length T f [] words h = let s : Some [] ≡ Some words = h in ap length (let e : words ≡ [] = cc in e)
-words_length T f (i ∷ q) words h = 
+words_length T f (i ∷ q) words h =
     let first = from_and_then (λ e. option_map (λ below. e ∷ below) (words_along T (address e) q)) (read T f i) words h in
     let more = from_option_map (λ below. first.0 ∷ below) (words_along T (address first.0) q) words first.2 in
     let same = words_length T (address first.0) q more.0 more.1 in

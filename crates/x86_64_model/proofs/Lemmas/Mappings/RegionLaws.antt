@@ -1,8 +1,7 @@
 -- Regions of any mappings that are apart, are not empty and lie in halves of the address space each: they are apart, lie in halves, and hold
 -- the mappings.
-use Rattle.std.proofs.Common.{◌≡◌, ◌≢◌, ◌⊎◌, inl, inr, ⊎_elim, ◌<◌, ◌≤◌, ◌+◌, ◌-◌, ◌==◌, ◌&&◌, ◌||◌, nat_le, nat_lt, ℕ, Bool, true, false, cond, List, [], ◌∷◌, find, Some, None, Option, option_map, refl, sym, ap, ap₂, ◌∙◌, subst, arith}
+use Rattle.std.proofs.Common.{◌≡◌, ◌≢◌, ◌⊎◌, inl, inr, ⊎_elim, ◌<◌, ◌≤◌, ◌+◌, ◌-◌, ◌||◌, ℕ, Bool, true, false, cond, List, [], ◌∷◌, find, Some, None, Option, option_map, refl, sym, ap, ◌∙◌, subst, arith}
 use Rattle.std.specs.List.{AllByRecursion}
-use Rattle.std.proofs.lemmas.Bool.{and_from, le-leb, lt-leb, lt-ltb, le-ltb, cases_lt}
 use Rattle.x86_64_model.specs.Position.{lower_half}
 use Rattle.x86_64_model.specs.Mappings.{Mapping, Rights, has_position}
 use Rattle.x86_64_model.specs.Regions.{Region, region_of, follows, grown_to, is_within, regions_in}
@@ -38,10 +37,14 @@ module _ (L : ℕ) where
 
   apart_from : (r s : Region) (regions : List Region) → r.last < s.first → follows L r s ≡ false → Apart s.first s.rights regions → AllByRecursion (RegionApart r) regions
   apart_from r s [] l f h = absurd h
-  apart_from r s (t ∷ rest) l f h =
-      ((let b : r.last < t.first = omega (arith, l, h.0) in b, λ next. ⊎_elim
-      (λ e. inl (h.0 ∙ e)) (λ n. inr (λ e. n (e ∙ h.1))) (not_follows L r s f (sym h.0 ∙ next))),
-      all_mapped (RegionApart t) (RegionApart r) (λ u b. (omega (arith, l, h.0, h.2, b.0), λ next. absurd (omega (arith, l, h.0, h.2, b.0, next)))) rest h.3)
+  apart_from r s (t ∷ rest) l f h = (
+    (
+      let b : r.last < t.first = omega (arith, l, h.0) in b,
+      λ next. ⊎_elim
+          (λ e. inl (h.0 ∙ e)) (λ n. inr (λ e. n (e ∙ h.1))) (not_follows L r s f (sym h.0 ∙ next)),
+    ),
+    all_mapped (RegionApart t) (RegionApart r) (λ u b. (omega (arith, l, h.0, h.2, b.0), λ next. absurd (omega (arith, l, h.0, h.2, b.0, next)))) rest h.3,
+  )
 
   begun_apart : (r : Region) (ms : List Mapping) → r.first ≤ r.last → AllByRecursion (λ m. r.last < m.start) ms → AllByRecursion (IsPlaced L) ms → MappingsApart ms
       → Apart r.first r.rights (begun L r ms)
@@ -49,11 +52,11 @@ module _ (L : ℕ) where
   begun_apart r [] l after placed order = (refl, refl, l, tt, tt)
   begun_apart r (m ∷ ms) l after placed order = elim (follows L r (region_of m)) as (λ b. follows L r (region_of m) ≡ b
       → Apart r.first r.rights (cond b (begun L (grown_to r (region_of m)) ms) (r ∷ begun L (region_of m) ms))) [
-    | true ↦ λ f. begun_apart (grown_to r (region_of m)) ms (omega (arith, l, after.0, placed.0.some)) behind placed.1 order.1
-    | false ↦ λ f.
-      let rest = begun_apart (region_of m) ms (omega (arith, placed.0.some)) behind placed.1 order.1 in
-      (refl, refl, l, apart_from r (region_of m) (begun L (region_of m) ms) after.0 f rest, in_order m.start m.rights (begun L (region_of m) ms) rest)
-  ] refl
+        | true ↦ λ f. begun_apart (grown_to r (region_of m)) ms (omega (arith, l, after.0, placed.0.some)) behind placed.1 order.1
+        | false ↦ λ f.
+            let rest = begun_apart (region_of m) ms (omega (arith, placed.0.some)) behind placed.1 order.1 in
+            (refl, refl, l, apart_from r (region_of m) (begun L (region_of m) ms) after.0 f rest, in_order m.start m.rights (begun L (region_of m) ms) rest)
+      ] refl
     where
       behind : AllByRecursion (λ n. m.start + m.size - 1 < n.start) ms
       behind = all_mapped _ (λ n. m.start + m.size - 1 < n.start) (λ n h. omega (arith, placed.0.some, h.1)) ms order.0
@@ -64,16 +67,16 @@ module _ (L : ℕ) where
   regions_apart (m ∷ ms) placed order = subst (InOrder RegionApart) (sym (regions_are_begun L m ms)) (in_order m.start m.rights (begun L (region_of m) ms)
       (begun_apart (region_of m) ms (omega (arith, placed.0.some)) (all_mapped _ (λ n. m.start + m.size - 1 < n.start) (λ n h. omega (arith, placed.0.some, h.1)) ms order.0) placed.1 order.1))
 
--- ---- in halves
+  -- ---- in halves
 
   begun_in_halves : (r : Region) (ms : List Mapping) → LiesInHalf L r.first r.last → AllByRecursion (IsPlaced L) ms → AllByRecursion (λ s. LiesInHalf L s.first s.last) (begun L r ms)
   unfolding begun
   begun_in_halves r [] half placed = (half, tt)
   begun_in_halves r (m ∷ ms) half placed = elim (follows L r (region_of m)) as (λ b. follows L r (region_of m) ≡ b
       → AllByRecursion (λ s. LiesInHalf L s.first s.last) (cond b (begun L (grown_to r (region_of m)) ms) (r ∷ begun L (region_of m) ms))) [
-    | true ↦ λ f. begun_in_halves (grown_to r (region_of m)) ms (grown (from_follows L r (region_of m) f) half) placed.1
-    | false ↦ λ f. (half, begun_in_halves (region_of m) ms placed.0.half placed.1)
-  ] refl
+        | true ↦ λ f. begun_in_halves (grown_to r (region_of m)) ms (grown (from_follows L r (region_of m) f) half) placed.1
+        | false ↦ λ f. (half, begun_in_halves (region_of m) ms placed.0.half placed.1)
+      ] refl
     where
       grown : Follows L r (region_of m) → LiesInHalf L r.first r.last → LiesInHalf L r.first (m.start + m.size - 1)
       grown f (inl low) = ⊎_elim (λ l. inl l) (λ h. absurd (f.not_middle (omega (arith, low, h, f.next)))) placed.0.half
@@ -119,15 +122,15 @@ module _ (L p : ℕ) where
   begun_hold r [] l placed = first_found (λ r. r.rights) (is_within p r) r None
   begun_hold r (m ∷ ms) l placed = elim (follows L r (region_of m)) as (λ b. follows L r (region_of m) ≡ b
       → region_rights p (cond b (begun L (grown_to r (region_of m)) ms) (r ∷ begun L (region_of m) ms)) ≡ cond (is_within p r) (Some r.rights) (mapping_rights p (m ∷ ms))) [
-    | true ↦ λ f. let g = from_follows L r (region_of m) f in
-      begun_hold (grown_to r (region_of m)) ms (omega (arith, l, g.next, placed.0.some)) placed.1
-      ∙ ap (λ b. cond b (Some r.rights) (mapping_rights p ms)) (within_grown p r m l g.next placed.0.some)
-      ∙ either_found (is_within p r) (has_position p m) (Some r.rights) (mapping_rights p ms)
-      ∙ ap (λ rights. cond (is_within p r) (Some r.rights) (cond (has_position p m) (Some rights) (mapping_rights p ms))) g.rights
-      ∙ ap (cond (is_within p r) (Some r.rights)) (sym (first_found (λ m. m.rights) (has_position p m) m (find (has_position p) ms)))
-    | false ↦ λ f. first_found (λ r. r.rights) (is_within p r) r (find (is_within p) (begun L (region_of m) ms))
-      ∙ ap (cond (is_within p r) (Some r.rights)) (begun_hold (region_of m) ms (omega (arith, placed.0.some)) placed.1 ∙ mapping_found m ms placed.0.some)
-  ] refl
+        | true ↦ λ f. let g = from_follows L r (region_of m) f in
+            begun_hold (grown_to r (region_of m)) ms (omega (arith, l, g.next, placed.0.some)) placed.1
+            ∙ ap (λ b. cond b (Some r.rights) (mapping_rights p ms)) (within_grown p r m l g.next placed.0.some)
+            ∙ either_found (is_within p r) (has_position p m) (Some r.rights) (mapping_rights p ms)
+            ∙ ap (λ rights. cond (is_within p r) (Some r.rights) (cond (has_position p m) (Some rights) (mapping_rights p ms))) g.rights
+            ∙ ap (cond (is_within p r) (Some r.rights)) (sym (first_found (λ m. m.rights) (has_position p m) m (find (has_position p) ms)))
+        | false ↦ λ f. first_found (λ r. r.rights) (is_within p r) r (find (is_within p) (begun L (region_of m) ms))
+            ∙ ap (cond (is_within p r) (Some r.rights)) (begun_hold (region_of m) ms (omega (arith, placed.0.some)) placed.1 ∙ mapping_found m ms placed.0.some)
+      ] refl
 
   pub regions_hold : (ms : List Mapping) → AllByRecursion (IsPlaced L) ms → region_rights p (regions_in L ms) ≡ mapping_rights p ms
   unfolding regions_in

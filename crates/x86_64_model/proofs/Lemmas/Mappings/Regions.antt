@@ -1,13 +1,10 @@
 -- The regions that mappings form, as they are found from the first mapping to the last: a region grows as long as mappings follow on it.
-use Rattle.std.proofs.Common.{◌≡◌, ◌≢◌, ◌⊎◌, inl, inr, ⊎_elim, ◌<◌, ◌≤◌, ◌+◌, ◌-◌, ◌==◌, ◌&&◌, nat_le, nat_lt, ℕ, Bool, true, false, not, cond, List, [], ◌∷◌, find, Some, None, Option, option_map, refl, sym, ap, ap₂, ◌∙◌, subst, arith}
+use Rattle.std.proofs.Common.{◌≡◌, ◌≢◌, ◌⊎◌, inl, inr, ⊎_elim, ◌+◌, ◌==◌, ◌&&◌, ℕ, Bool, true, false, not, cond, List, [], ◌∷◌, refl, sym, ap, ◌∙◌, subst}
 use Rattle.std.specs.Bool.{beq}
-use Rattle.std.specs.List.{AllByRecursion}
-use Rattle.std.proofs.lemmas.Bool.{and_from, and_parts, and_cases, eqb-true, eqb-false, eq-eqb, cases_Bool, true≢false}
+use Rattle.std.proofs.lemmas.Bool.{and_from, and_parts, eqb-true, eq-eqb, cases_Bool, true≢false}
 use Rattle.x86_64_model.specs.Position.{lower_half}
-use Rattle.x86_64_model.specs.Mappings.{Mapping, Rights, has_position}
-use Rattle.x86_64_model.specs.Regions.{Region, region_of, same_rights, follows, grown_to, put_before, regions_in, is_within}
-use Rattle.x86_64_model.specs.Laws.Mappings.{InOrder}
-use Rattle.x86_64_model.proofs.Lemmas.Lists.All.{all_mapped}
+use Rattle.x86_64_model.specs.Mappings.{Mapping, Rights}
+use Rattle.x86_64_model.specs.Regions.{Region, region_of, same_rights, follows, grown_to, put_before, regions_in}
 
 -- ---- rights
 

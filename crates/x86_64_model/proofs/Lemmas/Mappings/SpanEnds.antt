@@ -1,11 +1,11 @@
 -- The span of a level that a position lies in: where it starts and ends, and that its positions have the same indices from the level up.
-use Rattle.std.proofs.Common.{zero, suc, ◌≡◌, ◌<◌, ◌≤◌, ◌+◌, ◌-◌, ◌*◌, ◌/◌, ◌%◌, ◌^◌, ℕ, refl, sym, ap, ◌∙◌, subst, arith}
+use Rattle.std.proofs.Common.{zero, suc, ◌≡◌, ◌<◌, ◌≤◌, ◌+◌, ◌-◌, ◌*◌, ◌/◌, ◌%◌, ◌^◌, ℕ, sym, ap, ◌∙◌, subst, arith}
 use Rattle.std.proofs.lemmas.Nat.{pow-add, div-mul-add}
 use Rattle.std.proofs.Math.Nat.{div-mul-le_self, lt-div-mul-add, mul-le-mul_right, add-mul, mul_assoc, mul_comm, div-lt_iff_lt-mul}
 use Rattle.x86_64_model.specs.Position.{index, span, position_count}
 use Rattle.x86_64_model.specs.private.Found.{span_end}
 use Rattle.x86_64_model.proofs.Lemmas.Paths.Pages.{span_pos, span_up}
-use Rattle.x86_64_model.proofs.Lemmas.Paths.Spans.{number, number-up, index-number}
+use Rattle.x86_64_model.proofs.Lemmas.Paths.Spans.{number-up, index-number}
 
 -- an entry of a level spans what a table of the level below it does
 pub span-next : (n : ℕ) → span (suc n) ≡ position_count n

@@ -1,24 +1,24 @@
 -- In a valid hierarchy `translate` names the mapping of each position that has one.
-use Rattle.std.proofs.Common.{◌≡◌, ⊎_elim, ◌<◌, ◌≤◌, ◌+◌, ◌-◌, ◌*◌, ◌/◌, ◌%◌, ◌&&◌, ◌||◌, ◌==◌, ℕ, zero, suc, nat_le, nat_lt, not, Bool, true, false, cond, List, [], ◌∷◌, ◌++◌, length, take, Some, None, Option, option_and_then, option_map, refl, sym, ap, ap₂, ◌∙◌, subst, arith}
-use Rattle.std.proofs.lemmas.Bool.{and_from, and_parts, and_right, cond-false, cond-true, eqb-true, leb-true, ltb-true, le-leb, not-true, or_cases, true≢false}
+use Rattle.std.proofs.Common.{◌≡◌, ◌<◌, ◌≤◌, ◌+◌, ◌-◌, ◌%◌, ◌&&◌, ℕ, zero, suc, nat_le, nat_lt, not, true, false, List, [], ◌∷◌, ◌++◌, length, take, Some, option_and_then, option_map, sym, ap, ◌∙◌, subst, arith}
+use Rattle.std.proofs.lemmas.Bool.{and_from, and_parts, and_right, cond-false, cond-true, leb-true, ltb-true, not-true, true≢false}
 use Rattle.std.proofs.lemmas.Nat.{mod-mul-add}
-use Rattle.std.proofs.Math.Nat.{mod-add-div'}
 use Rattle.x86_64_model.specs.Entry.{present, huge, used, address, flags}
-use Rattle.x86_64_model.specs.Lists.{In}
 use Rattle.x86_64_model.specs.Memory.{Words}
 use Rattle.x86_64_model.specs.PageWalk.{read, page_start}
 use Rattle.x86_64_model.specs.Path.{level_of, path_at, span_start, span_size}
 use Rattle.x86_64_model.specs.Position.{index, span, page_path}
 use Rattle.x86_64_model.specs.Translation.{Translated, NotMapped, Mapped, translate_on, translate}
 use Rattle.x86_64_model.specs.Window.{entry_at}
-use Rattle.x86_64_model.specs.Mappings.{Mapping, has_position, is_leaf, last_word, maps_page, mapping_of, words_along}
+use Rattle.x86_64_model.specs.Mappings.{has_position, is_leaf, last_word, maps_page, mapping_of, words_along}
 use Rattle.x86_64_model.specs.Laws.Mappings.{TranslateNamesMappings, WordsOfWalksSayMappings}
 use Rattle.x86_64_model.proofs.Lemmas.Entries.Bits.{used_present}
 use Rattle.x86_64_model.proofs.Lemmas.Entries.Words.{address_aligned}
+use Rattle.x86_64_model.proofs.Lemmas.Maps.Leaves.{rounded}
 use Rattle.x86_64_model.proofs.Lemmas.Paths.Spans.{digits}
 use Rattle.x86_64_model.proofs.Lemmas.Walks.Agrees.{reads}
 use Rattle.x86_64_model.proofs.Lemmas.Walks.Walked.{Reads, index_small, next, one_more, read_there}
 use Rattle.x86_64_model.proofs.Lemmas.Mappings.EntriesAlong.{low_no_leaf}
+use Rattle.x86_64_model.proofs.Lemmas.Mappings.Walked.{huge_page}
 use Rattle.x86_64_model.proofs.Lemmas.Mappings.Placed.{from_leaf, from_option_map, words_length}
 
 -- ---- what `translate` makes of the words of a leaf
@@ -27,28 +27,16 @@ use Rattle.x86_64_model.proofs.Lemmas.Mappings.Placed.{from_leaf, from_option_ma
 abbrev answer : (p level entry : ℕ) → Translated
 answer p level e = Mapped (span level) (page_start level e) (p % span level) (flags e)
 
-small_start : (e : ℕ) → page_start 1 e ≡ address e
-small_start e = let whole = mod-add-div' (address e) 4096 in omega (arith, whole, address_aligned e)
-
--- above level one a page is by HUGE_PAGE, at levels two and three
-huge_page : (n e : ℕ) → 1 ≤ n → maps_page (suc n) e ≡ true → (suc n ≤ 3) × (huge e ≡ true)
-huge_page n e high h = ⊎_elim
-    (λ one. let same = eqb-true (suc n) 1 one in absurd (omega (arith, high, same)))
-    (λ page. let parts = and_parts (huge e) ((suc n == 2) || (suc n == 3)) page in
-    (⊎_elim (λ two. let same = eqb-true (suc n) 2 two in omega (arith, same)) (λ three. let same = eqb-true (suc n) 3 three in omega (arith, same)) (or_cases (suc n == 2) (suc n == 3) parts.1), parts.0))
-    (or_cases (suc n == 1) (huge e && ((suc n == 2) || (suc n == 3))) h)
-
 -- a word that is a leaf's last
 last : (E : List ℕ → ℕ) (p n : ℕ) (q : List ℕ) → is_leaf (suc n) (E (q ++ index (suc n) p ∷ []) ∷ []) ≡ true → translate_on E p (suc n) q ≡ answer p (suc n) (E (q ++ index (suc n) p ∷ []))
 unfolding is_leaf translate_on
 last E p zero q h = let e = E (q ++ index 1 p ∷ []) in
     cond-true (used e) (Mapped (span 1) (address e) (p % span 1) (flags e)) NotMapped (used_present e (and_parts (present e) (maps_page 1 e) h).0)
-    ∙ ap (λ a. Mapped (span 1) a (p % span 1) (flags e)) (sym (small_start e))
+    ∙ ap (λ a. Mapped (span 1) a (p % span 1) (flags e)) (sym (rounded (address e) 4096 (address_aligned e)))
 last E p (suc n) q h = let e = E (q ++ index (suc (suc n)) p ∷ []) in
     let parts = and_parts (present e) (maps_page (suc (suc n)) e) h in
-    let page = huge_page (suc n) e (omega arith) parts.1 in
-    cond-true (present e) _ NotMapped parts.0
-    ∙ cond-true (nat_le (suc (suc n)) 3 && huge e) _ _ (and_from (nat_le (suc (suc n)) 3) (huge e) (le-leb (suc (suc n)) 3 page.0) page.1)
+    let page = and_parts (huge e) (nat_le (suc (suc n)) 3) (sym (huge_page n e) ∙ parts.1) in
+    cond-true (present e) _ NotMapped parts.0 ∙ cond-true (nat_le (suc (suc n)) 3 && huge e) _ _ (and_from (nat_le (suc (suc n)) 3) (huge e) page.1 page.0)
 
 -- a word that is none of a leaf's last
 inner : (E : List ℕ → ℕ) (p n : ℕ) (q : List ℕ) → present (E (q ++ index (suc (suc n)) p ∷ [])) ≡ true → huge (E (q ++ index (suc (suc n)) p ∷ [])) ≡ false
@@ -89,7 +77,7 @@ module _ (L : ℕ) (T : Words) (root : ℕ) (E : List ℕ → ℕ) (reads : Read
       let same : level_of (suc n) (take k (page_path (suc n) p)) ≡ level_of (suc (suc n)) (i ∷ take k (page_path (suc n) p)) = omega arith in
       inner E p n q first.0 table
       ∙ deeper (q ++ i ∷ []) (address e) (omega (arith, one_more q i, l)) (λ j s. next L T root E reads (q ++ i ∷ []) j s (omega (arith, one_more q i, l)) first.0 table) is
-        (ap (λ level. is_leaf level (g ∷ below)) (sym low) ∙ parts.1)
+      (ap (λ level. is_leaf level (g ∷ below)) (sym low) ∙ parts.1)
       ∙ ap (λ level. answer p level (last_word (g ∷ below))) same
 
   leaf_named : (level k : ℕ) (q : List ℕ) (f : ℕ) (words : List ℕ) → Named level k q f words

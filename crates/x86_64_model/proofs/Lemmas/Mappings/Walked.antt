@@ -1,5 +1,5 @@
 -- The page walk arrives in the mapping that is found.
-use Rattle.std.proofs.Common.{zero, suc, ◌≡◌, ◌<◌, ◌≤◌, ◌+◌, ◌-◌, ◌*◌, ◌/◌, ◌%◌, ℕ, ◌==◌, ◌&&◌, ◌||◌, Bool, true, false, cond, nat_le, Option, Some, None, option_map, option_and_then, refl, sym, ap, ◌∙◌, arith, ne_eqb}
+use Rattle.std.proofs.Common.{zero, suc, ◌≡◌, ◌+◌, ◌%◌, ℕ, ◌&&◌, ◌||◌, Bool, true, false, cond, nat_le, Option, Some, None, option_map, option_and_then, refl, sym, ap, ◌∙◌, arith, ne_eqb}
 use Rattle.std.proofs.Math.Nat.{mod-eq-sub-div-mul}
 use Rattle.std.proofs.lemmas.Bool.{lt-leb}
 use Rattle.x86_64_model.specs.Entry.{present, writable, user, huge, address}
