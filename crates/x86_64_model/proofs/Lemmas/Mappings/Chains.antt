@@ -64,6 +64,14 @@ find_outside p a b (m ∷ ms) h out =
     ap (λ t. cond t (Some m) (find (has_position p) ms)) (has_not p m (⊎_elim (λ l. inl (omega (arith, l, h.0))) (λ l. inr (omega (arith, l, runs))) out))
     ∙ find_outside p (m.start + m.size) b ms h.2 (⊎_elim (λ l. inl (omega (arith, l, h.0))) (λ l. inr l) out)
 
+-- a mapping of a chain is the one at each of its positions
+pub find_member : (p a b : ℕ) (ms : List Mapping) → IsChain a b ms → (m : Mapping) → In ms m → has_position p m ≡ true → find (has_position p) ms ≡ Some m
+find_member p a b [] h m i has = absurd i
+find_member p a b (n ∷ ms) h m (inl e) has = ap (λ t. cond t (Some n) (find (has_position p) ms)) (ap (has_position p) e ∙ has) ∙ ap Some e
+find_member p a b (n ∷ ms) h m (inr i) has =
+    let inside = in_chain (n.start + n.size) b ms h.2 m i in let from = (has_parts p m has).0 in
+    ap (λ t. cond t (Some n) (find (has_position p) ms)) (has_not p n (inr (omega (arith, inside.0, from)))) ∙ find_member p (n.start + n.size) b ms h.2 m i has
+
 none_or : {X : Type 0} (o q : Option X) → o ≡ None → option_or o q ≡ q
 none_or o q e = ap (λ o. option_or o q) e
 

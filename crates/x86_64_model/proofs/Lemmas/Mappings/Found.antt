@@ -1,5 +1,6 @@
 -- Found mappings, level by level, as a loop goes down the tables.
-use Rattle.std.proofs.Common.{zero, suc, ◌≡◌, ◌<◌, ◌≤◌, ◌+◌, ◌-◌, ℕ, Bool, true, false, cond, Option, Some, None, option_and_then, refl, ap, ◌∙◌, subst, arith}
+use Rattle.std.proofs.Common.{zero, suc, ◌≡◌, ◌<◌, ◌≤◌, ◌+◌, ◌-◌, ℕ, ◌&&◌, ◌||◌, Bool, true, false, cond, nat_le, Option, Some, None, option_and_then, refl, sym, ap, ◌∙◌, subst, arith, ne_eqb}
+use Rattle.std.proofs.lemmas.Bool.{and_parts, leb-true, lt-leb}
 use Rattle.x86_64_model.specs.Entry.{present, huge, address}
 use Rattle.x86_64_model.specs.Memory.{Words}
 use Rattle.x86_64_model.specs.PageWalk.{read}
@@ -7,6 +8,15 @@ use Rattle.x86_64_model.specs.Position.{index}
 use Rattle.x86_64_model.specs.Mappings.{Rights, Mapping, maps_page}
 use Rattle.x86_64_model.specs.private.Found.{every_right, narrowed, page_at, found_on, found, span_end, LeadsTo}
 use Rattle.x86_64_model.proofs.Lemmas.Mappings.SpanEnds.{same_index, span_end_up, span_end_after}
+
+-- above level one a page is mapped by a huge word at levels two and three
+pub huge_page : (n e : ℕ) → maps_page (suc (suc n)) e ≡ (huge e && nat_le (suc (suc n)) 3)
+huge_page zero e = refl
+huge_page (suc zero) e = refl
+huge_page (suc (suc n)) e =
+    let level = suc (suc (suc (suc n))) in
+    (λ i. ne_eqb level 1 (λ e. omega (arith, e)) i || (huge e && (ne_eqb level 2 (λ e. omega (arith, e)) i || ne_eqb level 3 (λ e. omega (arith, e)) i)))
+    ∙ ap (λ b. huge e && b) (sym (lt-leb level 3 (omega arith)))
 
 -- what a word that is read says of a position, where below is what is found from the table that it names
 abbrev pub found_by : (p level : ℕ) → Rights → (e : ℕ) → (below : Option Mapping) → Option Mapping
@@ -81,3 +91,33 @@ module _ (L : ℕ) (T : Words) (root p : ℕ) where
   none_huge (suc n) r f e some leads is high no_page x from to = by_entry n r f e leads is x from to
       ∙ (λ i. let below = found_on T x n (narrowed r e) (address e) in cond (present e) (cond (no_page i) (Some (page_at x (suc n) r e)) (cond (high i) None below)) None)
       ∙ neither (present e)
+
+-- ---- what is found is the page of a level
+
+page_level : (n e : ℕ) → maps_page (suc n) e ≡ true → suc n ≤ 3
+page_level zero e h = omega arith
+page_level (suc n) e h = leb-true (suc (suc n)) 3 (and_parts (huge e) (nat_le (suc (suc n)) 3) (sym (huge_page n e) ∙ h)).1
+
+-- the page of a level, not above the first, by a word below words with rights r
+pub record IsPageOf (p highest : ℕ) (m : Mapping) (level : ℕ) (r : Rights) (e : ℕ) : Type 0 where
+  pub low : 1 ≤ level
+  pub high : level ≤ 3
+  pub levels : level ≤ highest
+  pub is : m ≡ page_at p level r e
+
+pub found_page : (T : Words) (p n : ℕ) (r : Rights) (f : ℕ) (m : Mapping) → found_on T p n r f ≡ Some m → (level : ℕ) × (s : Rights) × (e : ℕ) × IsPageOf p n m level s e
+unfolding found_on
+found_page T p zero r f m is = absurd (let t : None ≡ Some m = is in cc)
+found_page T p (suc n) r f m is = by (read T f (index (suc n) p)) (λ e. found_page T p n (narrowed r e) (address e) m) is
+  where
+    each : (e : ℕ) (below : Option Mapping) → (below ≡ Some m → (level : ℕ) × (s : Rights) × (e : ℕ) × IsPageOf p n m level s e) → (b t h : Bool) → maps_page (suc n) e ≡ t
+        → cond b (cond t (Some (page_at p (suc n) r e)) (cond h None below)) None ≡ Some m → (level : ℕ) × (s : Rights) × (e : ℕ) × IsPageOf p (suc n) m level s e
+    each e below on true true h page is = (suc n, r, e, record { low = omega arith; high = page_level n e page; levels = omega arith; is = let s : Some (page_at p (suc n) r e) ≡ Some m = is in cc })
+    each e below on true false true page is = absurd (let t : None ≡ Some m = is in cc)
+    each e below on true false false page is = let more = on is in let levels = more.3.levels in (more.0, more.1, more.2, record { low = more.3.low; high = more.3.high; levels = omega (arith, levels); is = more.3.is })
+    each e below on false t h page is = absurd (let t : None ≡ Some m = is in cc)
+
+    by : (o : Option ℕ) → ((e : ℕ) → found_on T p n (narrowed r e) (address e) ≡ Some m → (level : ℕ) × (s : Rights) × (e : ℕ) × IsPageOf p n m level s e)
+        → option_and_then (λ e. found_by p (suc n) r e (found_on T p n (narrowed r e) (address e))) o ≡ Some m → (level : ℕ) × (s : Rights) × (e : ℕ) × IsPageOf p (suc n) m level s e
+    by None on is = absurd (let t : None ≡ Some m = is in cc)
+    by (Some e) on is = each e _ (on e) (present e) (maps_page (suc n) e) (huge e) refl is

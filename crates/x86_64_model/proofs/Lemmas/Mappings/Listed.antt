@@ -14,7 +14,7 @@ use Rattle.x86_64_model.proofs.Lemmas.CleanUps.Trees.{goes_below}
 use Rattle.x86_64_model.proofs.Lemmas.Paths.Starts.{next_start}
 use Rattle.x86_64_model.proofs.Lemmas.Walks.Walked.{one_more}
 use Rattle.x86_64_model.proofs.Lemmas.Mappings.Along.{by_last_word, mapped_on, mapping_along}
-use Rattle.x86_64_model.proofs.Lemmas.Mappings.Walked.{huge_page}
+use Rattle.x86_64_model.proofs.Lemmas.Mappings.Found.{huge_page}
 
 -- ---- lists by parts
 

@@ -11,16 +11,7 @@ use Rattle.x86_64_model.specs.Laws.Mappings.{arrival_in}
 use Rattle.x86_64_model.specs.private.Found.{every_right, narrowed, page_at, found_on, found}
 use Rattle.x86_64_model.proofs.Lemmas.Entries.Words.{address_aligned}
 use Rattle.x86_64_model.proofs.Lemmas.Maps.Leaves.{rounded}
-use Rattle.x86_64_model.proofs.Lemmas.Mappings.Found.{found_by}
-
--- above level one a page is mapped by a huge word at levels two and three
-pub huge_page : (n e : ℕ) → maps_page (suc (suc n)) e ≡ (huge e && nat_le (suc (suc n)) 3)
-huge_page zero e = refl
-huge_page (suc zero) e = refl
-huge_page (suc (suc n)) e =
-    let level = suc (suc (suc (suc n))) in
-    (λ i. ne_eqb level 1 (λ e. omega (arith, e)) i || (huge e && (ne_eqb level 2 (λ e. omega (arith, e)) i || ne_eqb level 3 (λ e. omega (arith, e)) i)))
-    ∙ ap (λ b. huge e && b) (sym (lt-leb level 3 (omega arith)))
+use Rattle.x86_64_model.proofs.Lemmas.Mappings.Found.{found_by, huge_page}
 
 -- where the walk arrives by a page
 arrives_in : (p level : ℕ) (r : Rights) (e : ℕ) → arrives (page_start level e + p % span level) (r.write && writable e) (r.user && user e) ≡ Some (arrival_in p (page_at p level r e))
