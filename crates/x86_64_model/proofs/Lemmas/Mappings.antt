@@ -6,6 +6,8 @@ pub mod Listed
 pub mod Listing
 pub mod Placed
 pub mod Positions
+pub mod RegionLaws
+pub mod Regions
 pub mod Said
 pub mod SpanEnds
 pub mod Translations

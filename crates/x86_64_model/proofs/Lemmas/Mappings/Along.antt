@@ -6,11 +6,12 @@ use Rattle.x86_64_model.specs.Memory.{Words}
 use Rattle.x86_64_model.specs.PageWalk.{read, page_start}
 use Rattle.x86_64_model.specs.Path.{level_of, span_start, span_size}
 use Rattle.x86_64_model.specs.Mappings.{Rights, Mapping, words_along, maps_page, is_leaf, rights_of, last_word, leaf_of, mapping_at}
-use Rattle.x86_64_model.specs.private.Found.{every_right, narrowed}
+use Rattle.x86_64_model.specs.private.Found.{every_right, narrowed, page_from}
+use Rattle.x86_64_model.proofs.Lemmas.Mappings.Found.{neither}
 
 -- the mapping by the last word of a path, below words with rights r
 abbrev pub by_last_word : (L : ℕ) (q : List ℕ) → Rights → (e : ℕ) → Mapping
-by_last_word L q r e = record { start = span_start L q; size = span_size L q; frame = page_start (level_of L q) e; flags = flags e; rights = narrowed r e }
+by_last_word L q r e = page_from (span_start L q) (level_of L q) r e
 
 -- the mapping of a path q, on from a frame's table of a level, below words with rights r, by the rest of the path
 abbrev pub mapped_on : (L : ℕ) → Words → (q : List ℕ) (level : ℕ) → Rights → (frame : ℕ) → (rest : List ℕ) → Option Mapping
@@ -54,10 +55,6 @@ module _ (L : ℕ) (T : Words) (q : List ℕ) where
       by true = refl
       by false = refl
 
-  neither : (b : Bool) → (let none : Option Mapping = None in None ≡ cond b none none)
-  neither true = refl
-  neither false = refl
-
   along : (s : List ℕ) (level : ℕ) (r : Rights) (f : ℕ) → option_and_then (said L q level r) (words_along T f s) ≡ mapped_on L T q level r f s
   unfolding words_along is_leaf
   along [] level r f = refl
@@ -72,12 +69,12 @@ module _ (L : ℕ) (T : Words) (q : List ℕ) where
       -- the word after e is there or not
       after : (e : ℕ) (o : Option ℕ) → option_and_then (said L q level r) (option_map (λ below. e ∷ below) (option_and_then (λ e. option_map (λ below. e ∷ below) (words_along T (address e) s)) o))
           ≡ cond (present e && not (huge e)) (option_and_then (said L q (level - 1) (narrowed r e)) (option_and_then (λ e. option_map (λ below. e ∷ below) (words_along T (address e) s)) o)) None
-      after e None = neither (present e && not (huge e))
+      after e None = sym (neither (present e && not (huge e)))
       after e (Some g) = rest (words_along T (address g) s)
         where
           rest : (o : Option (List ℕ)) → option_and_then (said L q level r) (option_map (λ below. e ∷ below) (option_map (λ below. g ∷ below) o))
               ≡ cond (present e && not (huge e)) (option_and_then (said L q (level - 1) (narrowed r e)) (option_map (λ below. g ∷ below) o)) None
-          rest None = neither (present e && not (huge e))
+          rest None = sym (neither (present e && not (huge e)))
           rest (Some ws) = said_more level r e g ws
 
       by : (o : Option ℕ) → ((e : ℕ) → option_and_then (said L q (level - 1) (narrowed r e)) (words_along T (address e) (j ∷ s)) ≡ mapped_on L T q (level - 1) (narrowed r e) (address e) (j ∷ s))

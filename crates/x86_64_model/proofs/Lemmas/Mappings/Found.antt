@@ -31,7 +31,7 @@ pub found_unread : (T : Words) (p n : ℕ) (r : Rights) (f : ℕ) → read T f (
 unfolding found_on
 found_unread T p n r f is = ap (option_and_then (λ e. found_by p (suc n) r e (found_on T p n (narrowed r e) (address e)))) is
 
-neither : (b : Bool) → (let none : Option Mapping = None in cond b none none ≡ None)
+pub neither : (b : Bool) → (let none : Option Mapping = None in cond b none none ≡ None)
 neither true = refl
 neither false = refl
 

@@ -2,14 +2,14 @@
 use Rattle.std.proofs.Common.{zero, suc, ◌≡◌, inl, inr, ◌+◌, ◌-◌, ◌*◌, ℕ, ◌&&◌, Bool, true, false, not, cond, nat_le, List, [], ◌∷◌, ◌++◌, length, Option, Some, None, filter_map, flat_map, option_and_then, refl, sym, ap, ap₂, ◌∙◌, subst, arith, append-nil, append_assoc}
 use Rattle.std.specs.List.{cons_option}
 use Rattle.std.proofs.lemmas.List.Elements.{filter_map-append}
-use Rattle.x86_64_model.specs.Entry.{present, huge, address, flags}
+use Rattle.x86_64_model.specs.Entry.{present, huge, address}
 use Rattle.x86_64_model.specs.Lists.{In}
 use Rattle.x86_64_model.specs.Memory.{Words}
-use Rattle.x86_64_model.specs.PageWalk.{read, page_start}
+use Rattle.x86_64_model.specs.PageWalk.{read}
 use Rattle.x86_64_model.specs.Position.{span}
 use Rattle.x86_64_model.specs.Path.{indices, paths_below, span_start}
 use Rattle.x86_64_model.specs.Mappings.{Rights, Mapping, maps_page, mapping_at, mappings_of}
-use Rattle.x86_64_model.specs.private.Found.{every_right, narrowed}
+use Rattle.x86_64_model.specs.private.Found.{every_right, narrowed, page_from}
 use Rattle.x86_64_model.proofs.Lemmas.CleanUps.Trees.{goes_below}
 use Rattle.x86_64_model.proofs.Lemmas.Paths.Starts.{next_start}
 use Rattle.x86_64_model.proofs.Lemmas.Walks.Walked.{one_more}
@@ -27,10 +27,6 @@ filter_map-flat_map h g k same [] = refl
 filter_map-flat_map h g k same (x ∷ xs) = filter_map-append h (g x) (flat_map g xs) ∙ ap₂ (λ ys zs. ys ++ zs) (same x) (filter_map-flat_map h g k same xs)
 
 -- ---- mappings by tables
-
--- the mapping by a word of a level at a start, below words with rights r
-abbrev pub page_from : (start level : ℕ) → Rights → (e : ℕ) → Mapping
-page_from start level r e = record { start = start; size = span level; frame = page_start level e; flags = flags e; rights = narrowed r e }
 
 -- the mappings by a word, where below are those of the table that it names
 abbrev pub listed_by : (start level : ℕ) → Rights → (e : ℕ) → (below : List Mapping) → List Mapping
@@ -71,13 +67,7 @@ module _ (L : ℕ) (T : Words) (root : ℕ) where
   same_page : (n : ℕ) (q : List ℕ) (i : ℕ) (r : Rights) (e : ℕ) → length q + suc n ≡ L → by_last_word L (q ++ i ∷ []) r e ≡ page_from (span_start L q + i * span (suc n)) (suc n) r e
   same_page n q i r e l =
       let level : L + 1 - length (q ++ i ∷ []) ≡ suc n = omega (arith, one_more q i, l) in
-      λ k. record {
-        start = (next_start L q i (omega (arith, l)) ∙ ap (λ m. span_start L q + i * span m) level) k;
-        size = span (level k);
-        frame = page_start (level k) e;
-        flags = flags e;
-        rights = narrowed r e;
-      }
+      λ k. page_from ((next_start L q i (omega (arith, l)) ∙ ap (λ m. span_start L q + i * span m) level) k) (level k) r e
 
   none_at : (n : ℕ) (q : List ℕ) (i : ℕ) → ((s : List ℕ) → at (q ++ i ∷ s) ≡ None) → filter_map at (paths_below n (q ++ i ∷ []) ++ (q ++ i ∷ []) ∷ []) ≡ []
   none_at n q i none = parts n q i [] None (none_below n (q ++ i ∷ []) (λ j s. ap at (append_assoc q (i ∷ []) (j ∷ s)) ∙ none (j ∷ s))) (none [])

@@ -7,13 +7,13 @@ use Rattle.x86_64_model.specs.PageWalk.{read}
 use Rattle.x86_64_model.specs.Position.{index, span, position_count}
 use Rattle.x86_64_model.specs.Path.{indices}
 use Rattle.x86_64_model.specs.Mappings.{Rights, Mapping, maps_page, has_position, mappings_of}
-use Rattle.x86_64_model.specs.private.Found.{every_right, narrowed, page_at, found_on, found}
+use Rattle.x86_64_model.specs.private.Found.{every_right, narrowed, page_from, page_at, found_on, found}
 use Rattle.x86_64_model.specs.Laws.Mappings.{MappingsAreApart, WalksArriveInMappings, arrival_in}
 use Rattle.x86_64_model.proofs.Lemmas.Paths.Pages.{span_pos}
 use Rattle.x86_64_model.proofs.Lemmas.Walks.Walked.{index_small}
 use Rattle.x86_64_model.proofs.Lemmas.Mappings.Chains.{IsChain, chain_wider, chain_parts, find_part, in_order, has_from}
 use Rattle.x86_64_model.proofs.Lemmas.Mappings.Found.{found_by}
-use Rattle.x86_64_model.proofs.Lemmas.Mappings.Listed.{page_from, listed_by, list_and_then, listed_on, mappings_listed}
+use Rattle.x86_64_model.proofs.Lemmas.Mappings.Listed.{listed_by, list_and_then, listed_on, mappings_listed}
 use Rattle.x86_64_model.proofs.Lemmas.Mappings.SpanEnds.{span-next, count-next, next_span, span_from, span_end_after}
 use Rattle.x86_64_model.proofs.Lemmas.Mappings.Walked.{walk_finds}
 
@@ -31,21 +31,30 @@ by_chain start level r e below on = by (present e) (maps_page level e) (huge e)
     by true false false = on
     by false m h = omega arith
 
+-- the mappings by the word at an index of a table whose span starts at a position
+abbrev part_at : Words → (n start : ℕ) → Rights → (frame i : ℕ) → List Mapping
+part_at T n s r f i = let start = s + i * span (suc n) in
+    list_and_then (λ e. listed_by start (suc n) r e (listed_on T n start (narrowed r e) (address e))) (read T f i)
+
+-- each part is in the span of its entry, if those of the tables below are in theirs
+part_chain : (T : Words) (n s : ℕ) (r : Rights) (f i : ℕ) → ((s : ℕ) (r : Rights) (f : ℕ) → IsChain s (s + position_count n) (listed_on T n s r f))
+    → IsChain (s + i * span (suc n)) (s + (i + 1) * span (suc n)) (part_at T n s r f i)
+part_chain T n s r f i below = subst (λ end. IsChain start end (part_at T n s r f i)) (sym (next_end s i (span (suc n)))) (by (read T f i))
+  where
+    start : ℕ
+    start = s + i * span (suc n)
+
+    by : (o : Option ℕ) → IsChain start (start + span (suc n)) (list_and_then (λ e. listed_by start (suc n) r e (listed_on T n start (narrowed r e) (address e))) o)
+    by None = omega arith
+    by (Some e) = by_chain start (suc n) r e _ (subst (λ size. IsChain start (start + size) (listed_on T n start (narrowed r e) (address e))) (sym (span-next n)) (below start (narrowed r e) (address e)))
+
 pub chain_on : (T : Words) (n s : ℕ) (r : Rights) (f : ℕ) → IsChain s (s + position_count n) (listed_on T n s r f)
 unfolding indices
 chain_on T zero s r f = omega arith
 chain_on T (suc n) s r f = let w = span (suc n) in
     chain_wider s (s + 0 * w) (s + (0 + 512) * w) (s + position_count (suc n)) _ (omega arith)
     (let a = span-next n in let b = count-next n in omega (arith, a, b))
-    (chain_parts (λ i. list_and_then (λ e. listed_by (s + i * w) (suc n) r e (listed_on T n (s + i * w) (narrowed r e) (address e))) (read T f i)) s w
-    (λ k. subst (λ z. IsChain (s + k * w) z (list_and_then (λ e. listed_by (s + k * w) (suc n) r e (listed_on T n (s + k * w) (narrowed r e) (address e))) (read T f k))) (sym (next_end s k w))
-    (part (s + k * w) (read T f k) (λ e. subst (λ z. IsChain (s + k * w) (s + k * w + z) (listed_on T n (s + k * w) (narrowed r e) (address e))) (sym (span-next n)) (chain_on T n (s + k * w) (narrowed r e) (address e)))))
-    512 0)
-  where
-    part : (start : ℕ) (o : Option ℕ) → ((e : ℕ) → IsChain start (start + span (suc n)) (listed_on T n start (narrowed r e) (address e)))
-        → IsChain start (start + span (suc n)) (list_and_then (λ e. listed_by start (suc n) r e (listed_on T n start (narrowed r e) (address e))) o)
-    part start None on = omega arith
-    part start (Some e) on = by_chain start (suc n) r e _ (on e)
+    (chain_parts (part_at T n s r f) s w (λ i. part_chain T n s r f i (chain_on T n)) 512 0)
 
 pub mappings_chain : (L : ℕ) (T : Words) (root : ℕ) → IsChain 0 (position_count L) (mappings_of L T root)
 mappings_chain L T root = subst (IsChain 0 (position_count L)) (sym (mappings_listed L T root)) (subst (λ z. IsChain 0 z (listed_on T L 0 every_right root)) (let e : 0 + position_count L ≡ position_count L = omega arith in e) (chain_on T L 0 every_right root))
@@ -72,17 +81,11 @@ find_on T p zero r f = refl
 find_on T p (suc n) r f =
     let w = span (suc n) in let k = index (suc n) p in let s = p / position_count (suc n) * position_count (suc n) in
     let at = next_span n p in let low = span_from (suc n) p in let high = span_end_after (suc n) p in let more = next_end s k w in
-    find_part (λ i. list_and_then (λ e. listed_by (s + i * w) (suc n) r e (listed_on T n (s + i * w) (narrowed r e) (address e))) (read T f i)) s w
-    (λ k. subst (λ z. IsChain (s + k * w) z (list_and_then (λ e. listed_by (s + k * w) (suc n) r e (listed_on T n (s + k * w) (narrowed r e) (address e))) (read T f k))) (sym (next_end s k w))
-    (part (s + k * w) (read T f k)))
+    find_part (part_at T n s r f) s w (λ i. part_chain T n s r f i (chain_on T n))
     p k 512 0 (omega arith) (let small = index_small (suc n) p in omega (arith, small)) (omega (arith, at, low)) (omega (arith, at, high, more))
     ∙ ap (λ start. find (has_position p) (list_and_then (λ e. listed_by start (suc n) r e (listed_on T n start (narrowed r e) (address e))) (read T f k))) at
     ∙ by (read T f k) (λ e. ap (λ m. find (has_position p) (listed_on T n (p / m * m) (narrowed r e) (address e))) (span-next n) ∙ find_on T p n (narrowed r e) (address e))
   where
-    part : (start : ℕ) (o : Option ℕ) → IsChain start (start + span (suc n)) (list_and_then (λ e. listed_by start (suc n) r e (listed_on T n start (narrowed r e) (address e))) o)
-    part start None = omega arith
-    part start (Some e) = by_chain start (suc n) r e _ (subst (λ z. IsChain start (start + z) (listed_on T n start (narrowed r e) (address e))) (sym (span-next n)) (chain_on T n start (narrowed r e) (address e)))
-
     by : (o : Option ℕ) → ((e : ℕ) → find (has_position p) (listed_on T n (p / span (suc n) * span (suc n)) (narrowed r e) (address e)) ≡ found_on T p n (narrowed r e) (address e))
         → find (has_position p) (list_and_then (λ e. listed_by (p / span (suc n) * span (suc n)) (suc n) r e (listed_on T n (p / span (suc n) * span (suc n)) (narrowed r e) (address e))) o)
         ≡ option_and_then (λ e. found_by p (suc n) r e (found_on T p n (narrowed r e) (address e))) o

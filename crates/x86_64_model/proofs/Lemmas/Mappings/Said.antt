@@ -4,10 +4,10 @@ use Rattle.std.specs.List.{cons_option}
 use Rattle.std.proofs.Math.Seq.{take-append_seam}
 use Rattle.x86_64_model.specs.Lists.{In}
 use Rattle.x86_64_model.specs.Memory.{Words}
-use Rattle.x86_64_model.specs.Position.{page_path, position_count}
+use Rattle.x86_64_model.specs.Position.{page_path}
 use Rattle.x86_64_model.specs.Path.{AllBelow, indices, paths_below, level_of, path_at, span_start, span_size}
-use Rattle.x86_64_model.specs.Mappings.{Mapping, words_along, is_leaf, mapping_of, leaf_of, mapping_at, mappings_of, has_position}
-use Rattle.x86_64_model.specs.Laws.Mappings.{IsSaidBy, WordsOfWalksSayMappings}
+use Rattle.x86_64_model.specs.Mappings.{Mapping, words_along, is_leaf, mapping_of, leaf_of, mapping_at, mappings_of}
+use Rattle.x86_64_model.specs.Laws.Mappings.{WordsOfWalksSayMappings}
 use Rattle.x86_64_model.proofs.Lemmas.Lists.Members.{from_flat_map, in_append}
 use Rattle.x86_64_model.proofs.Lemmas.Paths.Begins.{from_begins, all_below_more}
 use Rattle.x86_64_model.proofs.Lemmas.Paths.Ranges.{range_below}
@@ -16,7 +16,7 @@ use Rattle.x86_64_model.proofs.Lemmas.Paths.Starts.{span_inside}
 use Rattle.x86_64_model.proofs.Lemmas.Walks.Walked.{one_more}
 use Rattle.x86_64_model.proofs.Lemmas.Mappings.Chains.{has_parts}
 
-from_filter_map : {X Y : Type 0} (h : X → Option Y) (xs : List X) (y : Y) → In (filter_map h xs) y → (x : X) × In xs x × (h x ≡ Some y)
+pub from_filter_map : {X Y : Type 0} (h : X → Option Y) (xs : List X) (y : Y) → In (filter_map h xs) y → (x : X) × In xs x × (h x ≡ Some y)
 from_filter_map h [] y i = absurd i
 from_filter_map {X} h (x ∷ xs) y i = elim (h x) as (λ o. h x ≡ o → In (cons_option o (filter_map h xs)) y → (z : X) × In (x ∷ xs) z × (h z ≡ Some y)) [
   | None ↦ λ e i. let more = from_filter_map h xs y i in (more.0, inr more.1, more.2)
@@ -48,12 +48,12 @@ mapping_words L T root q m is = by (words_along T root q) refl is
     by None e is = absurd (let t : None ≡ Some m = is in cc)
     by (Some words) e is = (words, e, is)
 
-pub leaf_is : (L : ℕ) (q words : List ℕ) (m : Mapping) → leaf_of L q words ≡ Some m → mapping_of L q words ≡ m
+pub leaf_is : (L : ℕ) (q words : List ℕ) (m : Mapping) → leaf_of L q words ≡ Some m → (is_leaf L words ≡ true) × (mapping_of L q words ≡ m)
 unfolding leaf_of
 leaf_is L q words m is = by (is_leaf L words) is
   where
-    by : (b : Bool) → cond b (Some (mapping_of L q words)) None ≡ Some m → mapping_of L q words ≡ m
-    by true is = let t : Some (mapping_of L q words) ≡ Some m = is in cc
+    by : (b : Bool) → cond b (Some (mapping_of L q words)) None ≡ Some m → (b ≡ true) × (mapping_of L q words ≡ m)
+    by true is = (refl, let t : Some (mapping_of L q words) ≡ Some m = is in cc)
     by false is = absurd (let t : None ≡ Some m = is in cc)
 
 -- the path of a mapping is that of each of its positions, as far as it goes
@@ -70,13 +70,16 @@ words_say L T root m i p has =
     let at = from_filter_map (mapping_at L T root) (paths_below L []) m i in let q = at.0 in
     let path = below_is L [] q tt at.1 in
     let its = mapping_words L T root q m at.2 in
-    let is = leaf_is L q its.0 m its.2 in
+    let is = (leaf_is L q its.0 m its.2).1 in
     let parts = has_parts p m has in
     let start : span_start L q ≡ m.start = ap (λ m. m.start) is in
     let size : span_size L q ≡ m.size = ap (λ m. m.size) is in
-    let same : path_at L (level_of L q) p ≡ q = path_of_mapping L q p (omega (arith, path.0)) (omega (arith, path.1)) path.2 (omega (arith, start, parts.0)) (omega (arith, start, size, parts.1)) in
-    (level_of L q, its.0, record {
-      size = sym size;
-      walk = ap (words_along T root) same ∙ its.1;
-      leaf = ap (λ q. leaf_of L q its.0) same ∙ its.2;
-    })
+    let same : path_at L (level_of L q) p ≡ q = path_of_mapping L q p (omega (arith, path.0)) (omega (arith, path.1)) path.2 (omega (arith, start, parts.0)) (omega (arith, start, size, parts.1)) in (
+      level_of L q,
+      its.0,
+      record {
+        size = sym size;
+        walk = ap (words_along T root) same ∙ its.1;
+        leaf = ap (λ q. leaf_of L q its.0) same ∙ its.2;
+      },
+    )

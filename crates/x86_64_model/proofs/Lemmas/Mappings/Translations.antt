@@ -1,5 +1,5 @@
 -- In a valid hierarchy `translate` names the mapping of each position that has one.
-use Rattle.std.proofs.Common.{◌≡◌, ◌<◌, ◌≤◌, ◌+◌, ◌-◌, ◌%◌, ◌&&◌, ℕ, zero, suc, nat_le, nat_lt, not, true, false, List, [], ◌∷◌, ◌++◌, length, take, Some, option_and_then, option_map, sym, ap, ◌∙◌, subst, arith}
+use Rattle.std.proofs.Common.{◌≡◌, ◌<◌, ◌≤◌, ◌+◌, ◌-◌, ◌%◌, ◌&&◌, ℕ, zero, suc, nat_le, nat_lt, not, true, false, Option, None, List, [], ◌∷◌, ◌++◌, length, take, Some, option_and_then, option_map, refl, sym, ap, ◌∙◌, subst, arith}
 use Rattle.std.proofs.lemmas.Bool.{and_from, and_parts, and_right, cond-false, cond-true, leb-true, ltb-true, not-true, true≢false}
 use Rattle.std.proofs.lemmas.Nat.{mod-mul-add}
 use Rattle.x86_64_model.specs.Entry.{present, huge, used, address, flags}
@@ -18,8 +18,27 @@ use Rattle.x86_64_model.proofs.Lemmas.Paths.Spans.{digits}
 use Rattle.x86_64_model.proofs.Lemmas.Walks.Agrees.{reads}
 use Rattle.x86_64_model.proofs.Lemmas.Walks.Walked.{Reads, index_small, next, one_more, read_there}
 use Rattle.x86_64_model.proofs.Lemmas.Mappings.EntriesAlong.{low_no_leaf}
-use Rattle.x86_64_model.proofs.Lemmas.Mappings.Walked.{huge_page}
-use Rattle.x86_64_model.proofs.Lemmas.Mappings.Placed.{from_leaf, from_option_map, words_length}
+use Rattle.x86_64_model.proofs.Lemmas.Mappings.Found.{huge_page}
+use Rattle.x86_64_model.proofs.Lemmas.Mappings.Said.{leaf_is}
+
+-- ---- words along a path
+
+from_option_map : {X Y : Type 0} (f : X → Y) (o : Option X) (y : Y) → option_map f o ≡ Some y → (x : X) × (o ≡ Some x) × (f x ≡ y)
+from_option_map f None y h = let n : None ≡ Some y = h in cc
+from_option_map f (Some x) y h = (x, refl, let s : Some (f x) ≡ Some y = h in cc)
+
+from_and_then : {X Y : Type 0} (f : X → Option Y) (o : Option X) (y : Y) → option_and_then f o ≡ Some y → (x : X) × (o ≡ Some x) × (f x ≡ Some y)
+from_and_then f None y h = let n : None ≡ Some y = h in cc
+from_and_then f (Some x) y h = (x, refl, h)
+
+words_length : (T : Words) (f : ℕ) (q words : List ℕ) → words_along T f q ≡ Some words → length words ≡ length q
+unfolding words_along
+words_length T f [] words h = let s : Some [] ≡ Some words = h in ap length (let e : words ≡ [] = cc in e)
+words_length T f (i ∷ q) words h =
+    let first = from_and_then (λ e. option_map (λ below. e ∷ below) (words_along T (address e) q)) (read T f i) words h in
+    let more = from_option_map (λ below. first.0 ∷ below) (words_along T (address first.0) q) words first.2 in
+    let same = words_length T (address first.0) q more.0 more.1 in
+    ap length (sym more.2) ∙ omega (arith, same)
 
 -- ---- what `translate` makes of the words of a leaf
 
@@ -108,7 +127,7 @@ unfolding translate
 translate_names says L T root M window valid m i p has =
     let said = says L T root m i p has in
     let q = path_at L said.0 p in let words = said.1 in
-    let leaf = from_leaf L q words m said.2.leaf in
+    let leaf = leaf_is L q words m said.2.leaf in
     let r = reads L T root M window valid in
     let named = leaf_named L T root (entry_at window M) r p L (L + 1 - said.0) [] root words (omega arith) (λ j s. read_there T root j s r.root_there ∙ ap Some (sym (r.first j))) said.2.walk leaf.0 in
     subst (λ m. has_position p m ≡ true → translate_on (entry_at window M) p L [] ≡ Mapped m.size m.frame (p - m.start) m.flags) leaf.1

@@ -1,12 +1,11 @@
 -- The page walk arrives in the mapping that is found.
-use Rattle.std.proofs.Common.{zero, suc, ◌≡◌, ◌+◌, ◌%◌, ℕ, ◌&&◌, ◌||◌, Bool, true, false, cond, nat_le, Option, Some, None, option_map, option_and_then, refl, sym, ap, ◌∙◌, arith, ne_eqb}
+use Rattle.std.proofs.Common.{zero, suc, ◌≡◌, ◌+◌, ◌%◌, ℕ, ◌&&◌, Bool, true, false, cond, nat_le, Option, Some, None, option_map, option_and_then, refl, sym, ap, ◌∙◌}
 use Rattle.std.proofs.Math.Nat.{mod-eq-sub-div-mul}
-use Rattle.std.proofs.lemmas.Bool.{lt-leb}
 use Rattle.x86_64_model.specs.Entry.{present, writable, user, huge, address}
 use Rattle.x86_64_model.specs.Memory.{Words}
 use Rattle.x86_64_model.specs.Position.{index, span}
 use Rattle.x86_64_model.specs.PageWalk.{Walked, page_start, arrives, read, walk_on, page_walk}
-use Rattle.x86_64_model.specs.Mappings.{Rights, Mapping, maps_page}
+use Rattle.x86_64_model.specs.Mappings.{Rights, Mapping}
 use Rattle.x86_64_model.specs.Laws.Mappings.{arrival_in}
 use Rattle.x86_64_model.specs.private.Found.{every_right, narrowed, page_at, found_on, found}
 use Rattle.x86_64_model.proofs.Lemmas.Entries.Words.{address_aligned}
