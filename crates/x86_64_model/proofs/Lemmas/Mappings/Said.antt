@@ -20,7 +20,7 @@ use Rattle.x86_64_model.proofs.Lemmas.Walks.Walked.{one_more}
 use Rattle.x86_64_model.proofs.Lemmas.Mappings.Chains.{has_parts}
 use Rattle.x86_64_model.proofs.Lemmas.Mappings.Found.{page_level}
 
-from_filter_map : {X Y : Type 0} (h : X → Option Y) (xs : List X) (y : Y) → In (filter_map h xs) y → (x : X) × In xs x × (h x ≡ Some y)
+pub from_filter_map : {X Y : Type 0} (h : X → Option Y) (xs : List X) (y : Y) → In (filter_map h xs) y → (x : X) × In xs x × (h x ≡ Some y)
 from_filter_map h [] y i = absurd i
 from_filter_map {X} h (x ∷ xs) y i = elim (h x) as (λ o. h x ≡ o → In (cons_option o (filter_map h xs)) y → (z : X) × In (x ∷ xs) z × (h z ≡ Some y)) [
   | None ↦ λ e i. let more = from_filter_map h xs y i in (more.0, inr more.1, more.2)
@@ -97,7 +97,7 @@ words_say L T root m i p has =
     let at = from_filter_map (mapping_at L T root) (paths_below L []) m i in let q = at.0 in
     let path = below_is L [] q tt at.1 in
     let its = mapping_words L T root q m at.2 in
-    let is = leaf_is L q its.0 m its.2 in
+    let is = (leaf_is L q its.0 m its.2).1 in
     let parts = has_parts p m has in
     let start : span_start L q ≡ m.start = ap (λ m. m.start) is.1 in
     let size : span_size L q ≡ m.size = ap (λ m. m.size) is.1 in
