@@ -97,7 +97,7 @@ words_say L T root m i p has =
     let at = from_filter_map (mapping_at L T root) (paths_below L []) m i in let q = at.0 in
     let path = below_is L [] q tt at.1 in
     let its = mapping_words L T root q m at.2 in
-    let is = (leaf_is L q its.0 m its.2).1 in
+    let is = leaf_is L q its.0 m its.2 in
     let parts = has_parts p m has in
     let start : span_start L q ≡ m.start = ap (λ m. m.start) is.1 in
     let size : span_size L q ≡ m.size = ap (λ m. m.size) is.1 in
