@@ -1,4 +1,4 @@
-//! Measures maps, translations and unmaps of 4KiB or 2MiB pages, and the clean up of the tables that the unmaps left, by the
+//! Measures maps, translations, lists and unmaps of 4KiB or 2MiB pages, and the clean up of the tables that the unmaps left, by the
 //! mapper that finds tables by their frames, also over tables that their owner lends, in a memory that lacks every second place and
 //! with five levels, and by the one that reaches them through the root's entry for itself.
 //!
@@ -8,6 +8,7 @@
 //! takes.
 #![tactic(auto)]
 
+mod listing;
 mod page_calls;
 mod report;
 mod rounds;

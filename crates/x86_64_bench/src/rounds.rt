@@ -1,4 +1,4 @@
-//! One round: a new hierarchy in which all pages are mapped, translated and unmapped, and which is cleaned up.
+//! One round: a new hierarchy in which all pages are mapped, translated, listed and unmapped, and which is cleaned up.
 ghost use Rattle.std.specs.Prelude.{◌≡◌, ◌↔◌, IfOk, IsTrue};
 ghost use Rattle.x86_64_model.specs.Pool.{serves_below};
 ghost use Rattle.x86_64_model.specs.Memory.{identity_places};
@@ -6,6 +6,7 @@ ghost use Rattle.x86_64_model.specs.Mapper.{Valid, SupplyFits, MayCleanUp};
 ghost use Rattle.x86_64_mappers.specs.Layouts.{direct_at};
 ghost use Rattle.x86_64.specs.Runs.{FitsPool};
 
+use crate::listing::list_all;
 use crate::page_calls::{finds_page, map_page, unmap_page};
 use crate::workload::Workload;
 use bitflags::Flags;
@@ -153,6 +154,8 @@ pub enum Operation {
     Map,
     /// The translations of all pages to their frames.
     Translate,
+    /// The list of all mappings.
+    List,
     /// The unmaps of all pages.
     Unmap,
     /// The clean up of the tables that the unmaps left, counted by the frames that came back.
@@ -161,9 +164,10 @@ pub enum Operation {
 
 impl Operation {
     /// All, in the order in which a round does them.
-    pub const ALL: [Operation; 4] = [
+    pub const ALL: [Operation; 5] = [
         Operation::Map,
         Operation::Translate,
+        Operation::List,
         Operation::Unmap,
         Operation::CleanUp,
     ];
@@ -173,6 +177,7 @@ impl Operation {
         match self {
             Operation::Map => "map",
             Operation::Translate => "translate",
+            Operation::List => "list",
             Operation::Unmap => "unmap",
             Operation::CleanUp => "clean up",
         }
@@ -191,7 +196,10 @@ pub struct Part {
 /// Says what a round did.
 #[derive(Clone, Copy)]
 pub struct Round {
-    calls: Calls,
+    map: Part,
+    translate: Part,
+    list: Part,
+    unmap: Part,
     clean_up: Part,
     /// How many frames the new tables took.
     pub tables: usize,
@@ -201,30 +209,23 @@ impl Round {
     /// Gives what an operation did.
     pub fn part(&self, operation: Operation) -> Part {
         match operation {
-            Operation::Map => self.calls.map,
-            Operation::Translate => self.calls.translate,
-            Operation::Unmap => self.calls.unmap,
+            Operation::Map => self.map,
+            Operation::Translate => self.translate,
+            Operation::List => self.list,
+            Operation::Unmap => self.unmap,
             Operation::CleanUp => self.clean_up,
         }
     }
 }
 
-/// Says what the calls on pages did.
-#[derive(Clone, Copy)]
-struct Calls {
-    map: Part,
-    translate: Part,
-    unmap: Part,
-}
-
-/// Maps, translates and unmaps all pages of a workload, which are of a size, by a mapper.
-fn measure_calls<S: PageSize, L: LevelCount, M: TableAccess + TablesIn<L>>(
+/// Maps and then translates all pages of a workload, which are of a size, by a mapper.
+fn measure_maps<S: PageSize, L: LevelCount, M: TableAccess + TablesIn<L>>(
     clock: &impl CpuClock,
     mapper: &mut M,
     pool: &mut FramePool,
     workload: Workload,
     order: &[u32],
-) -> io::Result<Calls>
+) -> io::Result<(Part, Part)>
     requires { SupplyFits (M.hierarchy mapper.old) pool.old.frames }
 {
     let start = clock.thread_cpu_time()?;
@@ -239,17 +240,38 @@ fn measure_calls<S: PageSize, L: LevelCount, M: TableAccess + TablesIn<L>>(
         count,
         time: since(clock, start)?,
     };
+    Ok((map, translate))
+}
+
+/// Lists the pages of a workload.
+fn measure_list<S: PageSize, L: LevelCount, T: TableMemory>(
+    clock: &impl CpuClock,
+    memory: &T,
+    workload: Workload,
+) -> io::Result<Part> {
+    let start = clock.thread_cpu_time()?;
+    let listed = list_all::<L, _>(memory, root(), workload.pages);
+    let time = since(clock, start)?;
+    let count = if listed.sum == workload.sum::<S>() {
+        listed.count
+    } else {
+        0
+    };
+    Ok(Part { count, time })
+}
+
+/// Unmaps all pages of a workload, which are of a size, by a mapper.
+fn measure_unmap<S: PageSize, L: LevelCount, M: TableAccess + TablesIn<L>>(
+    clock: &impl CpuClock,
+    mapper: &mut M,
+    workload: Workload,
+) -> io::Result<Part>
+    requires { Valid (M.hierarchy mapper.old) }
+{
     let start = clock.thread_cpu_time()?;
     let count = unmap_all::<S, L, _>(mapper, workload);
-    let unmap = Part {
-        count,
-        time: since(clock, start)?,
-    };
-    Ok(Calls {
-        map,
-        translate,
-        unmap,
-    })
+    let time = since(clock, start)?;
+    Ok(Part { count, time })
 }
 
 /// Returns the processor time since a start.
@@ -348,16 +370,26 @@ fn measure_direct<S: PageSize, L: LevelCount, T: TableMemory>(
     }
     let free = pool.len();
     let mut mapper = MappedPageTableIn::<IdentityMapping, L, T>::new(memory, root, IdentityMapping);
-    let calls = measure_calls::<S, L, _>(clock, &mut mapper, pool, workload, order)?;
+    let (map, translate) = measure_maps::<S, L, _>(clock, &mut mapper, pool, workload, order)?;
     drop(mapper);
     let tables = free.saturating_sub(pool.len());
+    let list = measure_list::<S, L, T>(clock, memory, workload)?;
+    if !pool_fits_in::<L, _>(alloc, memory, root, pool)? {
+        return Ok(None);
+    }
+    let mut mapper = MappedPageTableIn::<IdentityMapping, L, T>::new(memory, root, IdentityMapping);
+    let unmap = measure_unmap::<S, L, _>(clock, &mut mapper, workload)?;
+    drop(mapper);
     if !pool_fits_in::<L, _>(alloc, memory, root, pool)? {
         return Ok(None);
     }
     let mut mapper = MappedPageTableIn::<IdentityMapping, L, T>::new(memory, root, IdentityMapping);
     let clean_up = measure_clean_up::<L, _>(clock, &mut mapper, pool)?;
     Ok(Some(Round {
-        calls,
+        map,
+        translate,
+        list,
+        unmap,
         clean_up,
         tables,
     }))
@@ -379,16 +411,27 @@ fn measure_recursive<S: PageSize>(
     }
     let free = pool.len();
     let mut mapper = RecursivePageTable::new_unchecked(ActiveMemory::new(memory, root), index);
-    let calls = measure_calls::<S, FourLevels, _>(clock, &mut mapper, pool, workload, order)?;
+    let (map, translate) =
+        measure_maps::<S, FourLevels, _>(clock, &mut mapper, pool, workload, order)?;
     drop(mapper);
     let tables = free.saturating_sub(pool.len());
+    let list = measure_list::<S, FourLevels, _>(clock, memory, workload)?;
+    if !pool_fits_recursive(alloc, memory, root, index, pool)? {
+        return Ok(None);
+    }
+    let mut mapper = RecursivePageTable::new_unchecked(ActiveMemory::new(memory, root), index);
+    let unmap = measure_unmap::<S, FourLevels, _>(clock, &mut mapper, workload)?;
+    drop(mapper);
     if !pool_fits_recursive(alloc, memory, root, index, pool)? {
         return Ok(None);
     }
     let mut mapper = RecursivePageTable::new_unchecked(ActiveMemory::new(memory, root), index);
     let clean_up = measure_clean_up::<FourLevels, _>(clock, &mut mapper, pool)?;
     Ok(Some(Round {
-        calls,
+        map,
+        translate,
+        list,
+        unmap,
         clean_up,
         tables,
     }))

@@ -1,6 +1,7 @@
 //! The pages that are mapped, and the frames that they are mapped to.
 ghost use Rattle.std.specs.Prelude.{◌≡◌, ◌<◌, ◌≤◌};
 
+use crate::listing::SUPERVISOR_RIGHTS;
 use rand::seq::SliceRandom;
 use rand_pcg::Pcg32;
 use std::alloc::{AllocError, Global};
@@ -56,6 +57,20 @@ impl Workload {
     pub fn frame<S: PageSize>(self, k: u32) -> PhysFrame<S> {
         let number = FIRST_FRAME + u64::from(k);
         PhysFrame::containing_address(PhysAddr::new_truncate(number.wrapping_mul(S::SIZE)))
+    }
+
+    /// Gives the sum of all that the mappings of the pages say.
+    pub fn sum<S: PageSize>(self) -> u64 {
+        let flags = if S::LEVEL == 1 { 0x3 } else { 0x83 };
+        let mut sum = 0_u64;
+        for k in 0..self.pages {
+            let frame = self.frame::<S>(k).start_address().as_u64();
+            let numbers = [self.page_start::<S>(k), frame, S::SIZE, flags, SUPERVISOR_RIGHTS];
+            for number in numbers {
+                sum = sum.wrapping_add(number);
+            }
+        }
+        sum
     }
 
     /// Gives a bound on the places that the tables of the hierarchy take, frame 0 and the root's among them. A table maps as

@@ -5,7 +5,7 @@ use Rattle.x86_64_bench.proofs.rounds.measure_direct.Goals as goal
 
 pub measure_clean_up-requires : goal.measure_clean_up-requires
 measure_clean_up-requires g c =
-    let pool = c.measure_calls.new.pool in
-    let mapper = c.new-mapper-2.ensures in
-    let holds : c.in_ok-pool_fits_in-2.field-0 ≡ true = search rules in
-    fitting_cleans_up _ _ _ mapper.layout mapper.memory (serves_below pool.limit) pool.frames (c.in_ok-pool_fits_in-2.ensures.0 holds)
+    let pool = c.measure_maps.new.pool in
+    let mapper = c.new-mapper-3.ensures in
+    let holds : c.in_ok-pool_fits_in-3.field-0 ≡ true = search rules in
+    fitting_cleans_up _ _ _ mapper.layout mapper.memory (serves_below pool.limit) pool.frames (c.in_ok-pool_fits_in-3.ensures.0 holds)
