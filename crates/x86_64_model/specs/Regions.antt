@@ -1,5 +1,6 @@
 -- Regions: mappings that follow on each other with the same rights, as far as they go, in one half of the address space.
-use Rattle.std.specs.Prelude.{ℕ, ◌+◌, ◌-◌, ◌==◌, ◌&&◌, nat_le, Bool, beq, not, cond, List, [], ◌∷◌}
+use Rattle.std.specs.Prelude.{ℕ, ◌+◌, ◌-◌, ◌==◌, ◌&&◌, nat_le, Bool, not, cond, List, [], ◌∷◌}
+use Rattle.std.specs.Bool.{beq}
 use Rattle.x86_64_model.specs.Memory.{Words}
 use Rattle.x86_64_model.specs.Position.{lower_half}
 use Rattle.x86_64_model.specs.Mappings.{Mapping, Rights, mappings_of}

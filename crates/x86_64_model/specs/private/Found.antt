@@ -1,0 +1,40 @@
+-- The mapping at a position, found as a walk goes down from the root. It is the one of the list that has the position, None where none has.
+use Rattle.std.specs.Prelude.{zero, suc, ◌≡◌, ℕ, ◌+◌, ◌*◌, ◌/◌, ◌<◌, ◌≤◌, ◌&&◌, true, not, cond, Option, Some, None, option_and_then}
+use Rattle.x86_64_model.specs.Entry.{present, writable, user, huge, no_execute, address, flags}
+use Rattle.x86_64_model.specs.Position.{span, index}
+use Rattle.x86_64_model.specs.Memory.{Words}
+use Rattle.x86_64_model.specs.PageWalk.{read, page_start}
+use Rattle.x86_64_model.specs.Mappings.{Rights, Mapping, maps_page}
+
+-- what the words above the root's table allow, which are none
+abbrev pub every_right : Rights
+every_right = record { write = true; user = true; execute = true }
+
+-- what words with rights r and one more allow
+abbrev pub narrowed : Rights → (entry : ℕ) → Rights
+narrowed r e = record { write = r.write && writable e; user = r.user && user e; execute = r.execute && not (no_execute e) }
+
+-- the mapping by a word of a level that maps a page, at a position of it, below words with rights r
+abbrev pub page_at : (p level : ℕ) → Rights → (entry : ℕ) → Mapping
+page_at p level r e = record { start = p / span level * span level; size = span level; frame = page_start level e; flags = flags e; rights = narrowed r e }
+
+-- the mapping at a position, on from a frame's table of a level, below words with rights r
+unfoldable pub found_on : Words → (p level : ℕ) → Rights → (frame : ℕ) → Option Mapping
+found_on T p zero r frame = None
+found_on T p (suc n) r frame = option_and_then
+    (λ e. cond (present e)
+    (cond (maps_page (suc n) e) (Some (page_at p (suc n) r e))
+    (cond (huge e) None (found_on T p n (narrowed r e) (address e)))) None)
+    (read T frame (index (suc n) p))
+
+unfoldable pub found : (L : ℕ) → Words → (root p : ℕ) → Option Mapping
+found L T root p = found_on T p L every_right root
+
+-- the first position past the span of a level that a position lies in
+abbrev pub span_end : (level position : ℕ) → ℕ
+span_end level p = p / span level * span level + span level
+
+-- The way to a position leads to a frame's table of a level, below words with rights r: from there on are found the mappings at the position
+-- and at all after it in the table's span.
+pub record LeadsTo (L : ℕ) (T : Words) (root p level : ℕ) (r : Rights) (frame : ℕ) : Type 0 where
+  pub on : (x : ℕ) → p ≤ x → x < span_end (level + 1) p → found L T root x ≡ found_on T x level r frame
