@@ -3,6 +3,7 @@ pub mod Entries
 pub mod Hierarchies
 pub mod Lists
 pub mod Machines
+pub mod Mappings
 pub mod Maps
 pub mod Pairs
 pub mod Paths

@@ -1,6 +1,6 @@
 -- Mappings: what words map below a root, all of it. The words may be any, and there may be any number L of levels.
 -- Intel SDM vol. 3A, "4-Level Paging and 5-Level Paging"; AMD APM vol. 2, "Long-Mode Page Translation".
-use Rattle.std.specs.Prelude.{◌≡◌, ℕ, ◌+◌, ◌-◌, ◌==◌, ◌&&◌, ◌||◌, nat_lt, nat_le, Bool, true, false, not, cond, List, [], ◌∷◌, filter, Option, Some, None, option_and_then, option_map, unwrap_or}
+use Rattle.std.specs.Prelude.{ℕ, ◌+◌, ◌-◌, ◌==◌, ◌&&◌, ◌||◌, nat_lt, nat_le, Bool, false, not, cond, List, [], ◌∷◌, filter, Option, Some, None, option_and_then, option_map, unwrap_or}
 use Rattle.std.specs.List.{filter_map, list_all, last_or}
 use Rattle.x86_64_model.specs.Entry.{present, writable, user, huge, no_execute, address, flags}
 use Rattle.x86_64_model.specs.Memory.{Words}

@@ -21,10 +21,14 @@ same_rights r s = beq r.write s.write && beq r.user s.user && beq r.execute s.ex
 abbrev pub follows : (L : ℕ) (r s : Region) → Bool
 follows L r s = (s.first == r.last + 1) && not (s.first == lower_half L) && same_rights r.rights s.rights
 
+-- a region that goes on to the last position of another
+abbrev pub grown_to : (r s : Region) → Region
+grown_to r s = record { first = r.first; last = s.last; rights = r.rights }
+
 -- a region before others, as one with the first of them if that follows on it
 abbrev pub put_before : (L : ℕ) → Region → List Region → List Region
 put_before L r [] = r ∷ []
-put_before L r (s ∷ rest) = cond (follows L r s) (record { first = r.first; last = s.last; rights = r.rights } ∷ rest) (r ∷ s ∷ rest)
+put_before L r (s ∷ rest) = cond (follows L r s) (grown_to r s ∷ rest) (r ∷ s ∷ rest)
 
 -- the regions that mappings form, in their order
 unfoldable pub regions_in : (L : ℕ) → List Mapping → List Region

@@ -2,6 +2,7 @@
 
 pub mod clean_ups;
 pub mod hierarchies;
+pub mod mappings;
 pub mod maps;
 pub mod page_mappings;
 pub mod pairs;

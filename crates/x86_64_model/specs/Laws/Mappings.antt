@@ -1,5 +1,5 @@
 -- Laws of mappings and regions. The words are any, but for the last law.
-use Rattle.std.specs.Prelude.{◌≡◌, ◌≢◌, ◌⊎◌, ℕ, ◌+◌, ◌-◌, ◌<◌, ◌≤◌, ◌&&◌, Bool, true, false, List, [], ◌∷◌, ◌++◌, map, Option, Some, option_map}
+use Rattle.std.specs.Prelude.{◌≡◌, ◌≢◌, ◌⊎◌, ℕ, ◌+◌, ◌-◌, ◌<◌, ◌≤◌, true, false, List, [], ◌∷◌, ◌++◌, map, Option, Some, option_map}
 use Rattle.std.specs.List.{find, AllByRecursion}
 use Rattle.x86_64_model.specs.Lists.{In}
 use Rattle.x86_64_model.specs.Position.{position_count, lower_half, span}
@@ -9,8 +9,8 @@ use Rattle.x86_64_model.specs.Memory.{Words}
 use Rattle.x86_64_model.specs.Window.{Window, begins_with, entry_at, IsValidFor}
 use Rattle.x86_64_model.specs.PageWalk.{Walked, page_walk}
 use Rattle.x86_64_model.specs.Translation.{translate, Mapped}
-use Rattle.x86_64_model.specs.Mappings.{Mapping, has_position, is_leaf, leaf_of, mapping_at, mapping_of, mappings_of, words_along}
-use Rattle.x86_64_model.specs.Regions.{Region, is_within, regions_of}
+use Rattle.x86_64_model.specs.Mappings.{Mapping, has_position, leaf_of, mapping_at, mappings_of, words_along}
+use Rattle.x86_64_model.specs.Regions.{is_within, regions_of}
 
 -- each element stands so to each one behind it
 abbrev pub InOrder : {X : Type 0} → (X → X → Type 0) → List X → Type 0
@@ -35,6 +35,8 @@ WalksArriveInMappings = (L : ℕ) (T : Words) (root p : ℕ) → p < position_co
 
 -- the words of the walk to each position of a mapping are those of its leaf; so it tells what each of them allows, execution too
 pub record IsSaidBy (L : ℕ) (T : Words) (root p : ℕ) (m : Mapping) (level : ℕ) (words : List ℕ) : Type 0 where
+  pub low : 1 ≤ level
+  pub high : level ≤ 3
   pub size : m.size ≡ span level
   pub walk : words_along T root (path_at L level p) ≡ Some words
   pub leaf : leaf_of L (path_at L level p) words ≡ Some m

@@ -14,9 +14,13 @@ every_right = record { write = true; user = true; execute = true }
 abbrev pub narrowed : Rights → (entry : ℕ) → Rights
 narrowed r e = record { write = r.write && writable e; user = r.user && user e; execute = r.execute && not (no_execute e) }
 
--- the mapping by a word of a level that maps a page, at a position of it, below words with rights r
+-- the mapping by a word of a level that maps a page, whose span starts at a position, below words with rights r
+abbrev pub page_from : (start level : ℕ) → Rights → (entry : ℕ) → Mapping
+page_from start level r e = record { start = start; size = span level; frame = page_start level e; flags = flags e; rights = narrowed r e }
+
+-- the same, at a position of the span
 abbrev pub page_at : (p level : ℕ) → Rights → (entry : ℕ) → Mapping
-page_at p level r e = record { start = p / span level * span level; size = span level; frame = page_start level e; flags = flags e; rights = narrowed r e }
+page_at p level r e = page_from (p / span level * span level) level r e
 
 -- the mapping at a position, on from a frame's table of a level, below words with rights r
 unfoldable pub found_on : Words → (p level : ℕ) → Rights → (frame : ℕ) → Option Mapping
@@ -34,7 +38,7 @@ found L T root p = found_on T p L every_right root
 abbrev pub span_end : (level position : ℕ) → ℕ
 span_end level p = p / span level * span level + span level
 
--- The way to a position leads to a frame's table of a level, below words with rights r: from there on are found the mappings at the position
--- and at all after it in the table's span.
+-- A walk to position p comes to a frame's table of a level, below words with rights r, and so do the walks to all positions after p in the
+-- span of the table: what is found at each of them is what is found on from there.
 pub record LeadsTo (L : ℕ) (T : Words) (root p level : ℕ) (r : Rights) (frame : ℕ) : Type 0 where
   pub on : (x : ℕ) → p ≤ x → x < span_end (level + 1) p → found L T root x ≡ found_on T x level r frame

@@ -14,10 +14,10 @@ length_taken p zero n l = refl
 length_taken p (suc k) zero l = absurd (omega arith)
 length_taken p (suc k) (suc n) l = ap suc (length_taken p k n (omega arith))
 
-span_pos : (level : ℕ) → 0 < span level
+pub span_pos : (level : ℕ) → 0 < span level
 span_pos level = pow_pos (12 + 9 * (level - 1))
 
-span_up : (level k : ℕ) → 1 ≤ level → level ≤ k → span k ≡ span level * 2 ^ (9 * (k - level))
+pub span_up : (level k : ℕ) → 1 ≤ level → level ≤ k → span k ≡ span level * 2 ^ (9 * (k - level))
 span_up level k low high = ap (λ n. 2 ^ n) (let e : 12 + 9 * (k - 1) ≡ (12 + 9 * (level - 1)) + 9 * (k - level) = omega arith in e) ∙ pow-add 2 (12 + 9 * (level - 1)) (9 * (k - level))
 
 index_same : (level k n o : ℕ) → 1 ≤ level → level ≤ k → o < span level → index k (n * span level + o) ≡ index k (n * span level)

@@ -7,7 +7,7 @@ use Rattle.x86_64_model.specs.Range.{starts_from, inclusive_range}
 use Rattle.x86_64_model.specs.Laws.Ranges.{ExclusiveHas, InclusiveHas}
 use Rattle.x86_64_model.proofs.Lemmas.Lists.Members.{in_map, from_map, in_range}
 
-range_below : (n from i : ℕ) → In (range_with_len from n) i → i < from + n
+pub range_below : (n from i : ℕ) → In (range_with_len from n) i → i < from + n
 range_below zero from i h = absurd h
 range_below (suc n) from i (inl e) = omega arith
 range_below (suc n) from i (inr h) = let l = range_below n (from + 1) i h in omega arith

@@ -8,13 +8,13 @@ use Rattle.x86_64_model.specs.Path.{AllBelow, begins, span_size}
 use Rattle.x86_64_model.specs.Laws.Positions.{SpansAreIntervals}
 
 -- the number of the span of level m + 1 that a position lies in
-abbrev number : (m p : ℕ) → ℕ
+abbrev pub number : (m p : ℕ) → ℕ
 number m p = p / 2 ^ (12 + 9 * m)
 
-number-up : (m p : ℕ) → number (suc m) p ≡ number m p / 512
+pub number-up : (m p : ℕ) → number (suc m) p ≡ number m p / 512
 number-up m p = ap (λ n. p / n) (ap (λ n. 2 ^ n) (let e : 12 + 9 * suc m ≡ (12 + 9 * m) + 9 = omega arith in e) ∙ pow-add 2 (12 + 9 * m) 9) ∙ sym (div-div-eq-div-mul p (2 ^ (12 + 9 * m)) 512)
 
-index-number : (m p : ℕ) → index (suc m) p ≡ number m p % 512
+pub index-number : (m p : ℕ) → index (suc m) p ≡ number m p % 512
 unfolding index
 index-number m p = ap (λ n. p / 2 ^ (12 + 9 * n) % 512) (let e : suc m - 1 ≡ m = omega arith in e)
 

@@ -1,0 +1,14 @@
+pub mod Along
+pub mod Chains
+pub mod EntriesAlong
+pub mod Found
+pub mod Listed
+pub mod Listing
+pub mod Placed
+pub mod Positions
+pub mod RegionLaws
+pub mod Regions
+pub mod Said
+pub mod SpanEnds
+pub mod Translations
+pub mod Walked
