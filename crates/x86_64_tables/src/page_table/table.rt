@@ -61,6 +61,14 @@ impl PageTable {
         Entries::new(&self.entries)
     }
 
+    /// Gives the entries as a slice.
+    pub fn as_slice(&self) -> &[PageTableEntry]
+        ensures words { result.now ≡ self.now }
+        ensures size { length self.now ≡ 512 }
+    {
+        &self.entries
+    }
+
     /// Lends the entries to be changed, in order of index, each once.
     pub fn iter_mut(&mut self) -> EntriesMut<'_>
         ensures words { result ≡ self.old }
