@@ -3,7 +3,11 @@
 
 mod mapping;
 mod listing;
+mod region;
+mod region_list;
 mod text;
 
 pub use mapping::{Mapping, Mapping57, MappingIn};
 pub use listing::{Mappings, Mappings57, MappingsIn, mappings, mappings_57, mappings_from};
+pub use region::{Region, Region57, RegionIn};
+pub use region_list::{Regions, Regions57, RegionsIn, regions, regions_57};
