@@ -9,6 +9,8 @@ mod assertions;
 #[cfg(test)]
 mod derives;
 #[cfg(test)]
+mod mappings;
+#[cfg(test)]
 mod page;
 #[cfg(test)]
 mod tables;
