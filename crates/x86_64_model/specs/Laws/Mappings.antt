@@ -35,6 +35,8 @@ WalksArriveInMappings = (L : ℕ) (T : Words) (root p : ℕ) → p < position_co
 
 -- the words of the walk to each position of a mapping are those of its leaf; so it tells what each of them allows, execution too
 pub record IsSaidBy (L : ℕ) (T : Words) (root p : ℕ) (m : Mapping) (level : ℕ) (words : List ℕ) : Type 0 where
+  pub low : 1 ≤ level
+  pub high : level ≤ 3
   pub size : m.size ≡ span level
   pub walk : words_along T root (path_at L level p) ≡ Some words
   pub leaf : leaf_of L (path_at L level p) words ≡ Some m

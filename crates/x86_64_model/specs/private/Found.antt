@@ -38,7 +38,7 @@ found L T root p = found_on T p L every_right root
 abbrev pub span_end : (level position : ℕ) → ℕ
 span_end level p = p / span level * span level + span level
 
--- The way to a position leads to a frame's table of a level, below words with rights r: from there on are found the mappings at the position
--- and at all after it in the table's span.
+-- A walk to position p comes to a frame's table of a level, below words with rights r, and so do the walks to all positions after p in the
+-- span of the table: what is found at each of them is what is found on from there.
 pub record LeadsTo (L : ℕ) (T : Words) (root p level : ℕ) (r : Rights) (frame : ℕ) : Type 0 where
   pub on : (x : ℕ) → p ≤ x → x < span_end (level + 1) p → found L T root x ≡ found_on T x level r frame

@@ -94,7 +94,7 @@ module _ (L : ℕ) (T : Words) (root p : ℕ) where
 
 -- ---- what is found is the page of a level
 
-page_level : (n e : ℕ) → maps_page (suc n) e ≡ true → suc n ≤ 3
+pub page_level : (n e : ℕ) → maps_page (suc n) e ≡ true → suc n ≤ 3
 page_level zero e h = omega arith
 page_level (suc n) e h = leb-true (suc (suc n)) 3 (and_parts (huge e) (nat_le (suc (suc n)) 3) (sym (huge_page n e) ∙ h)).1
 
