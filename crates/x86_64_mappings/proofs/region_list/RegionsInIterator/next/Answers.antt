@@ -1,8 +1,8 @@
 use Rattle.std.proofs.Common.{◌∷◌, refl, sym, ap, ◌∙◌, subst}
 use Rattle.x86_64_model.specs.Regions.{regions_in}
+use Rattle.x86_64_page.proofs.Blocks.{goes_first}
 use Rattle.x86_64_mappings.specs.Ahead.{AllFit, with_ahead}
 use Rattle.x86_64_mappings.proofs.Ahead.{nothing, begins, grows, stops, ends}
-use Rattle.x86_64_mappings.proofs.Progress.{goes_first}
 use Rattle.x86_64_mappings.proofs.region_list.RegionsInIterator.next.Goals as goal
 
 pub returns-in_default-clause-steps : goal.returns-in_default-clause-steps
