@@ -110,7 +110,7 @@ pub fn mappings_57<'a, T: TableMemory, P: PageTableFrameMapping>(
 }
 
 /// Gives the mappings below a root.
-fn all_mappings<'a, L: LevelCount, T: TableMemory, P: PageTableFrameMapping>(
+pub(crate) fn all_mappings<'a, L: LevelCount, T: TableMemory, P: PageTableFrameMapping>(
     memory: &'a T,
     mapping: &'a P,
     root: PhysFrame<Size4KiB>,
