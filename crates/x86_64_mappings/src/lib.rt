@@ -1,5 +1,5 @@
-//! What page tables map below a root, all of it: mappings one by one, for any words in the tables, with four or five levels, and the
-//! regions that they form.
+//! What page tables map below a root, all of it: mappings one by one, and the regions that they form, for any words in the tables,
+//! with four or five levels.
 #![tactic(auto)]
 
 mod listing;

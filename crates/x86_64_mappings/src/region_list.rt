@@ -90,7 +90,7 @@ pub fn regions_57<'a, T: TableMemory, P: PageTableFrameMapping>(
 }
 
 /// Gives the regions below a root.
-#[tactic(auto, using(x86_64_model::proofs::Lemmas::Mappings::Placed::mappings_fit, crate::proofs::Fitting::ahead_fits))]
+#[tactic(auto, using(x86_64_model::proofs::Lemmas::Mappings::Placed::mappings_fit, crate::proofs::Ahead::ahead_fits))]
 fn all_regions<'a, L: LevelCount, T: TableMemory, P: PageTableFrameMapping>(
     memory: &'a T,
     mapping: &'a P,
