@@ -1,5 +1,9 @@
 //! What a leaf of page tables maps.
-ghost use Rattle.std.specs.Prelude.{◌≡◌, ◌+◌, ◌-◌, Some};
+ghost use Rattle.std.specs.Prelude.{◌≡◌, ◌<◌, ◌≤◌, true, Some};
+ghost use Rattle.x86_64_model.specs.Mappings.{maps_page};
+ghost use Rattle.x86_64_model.specs.Position.{position_count};
+ghost use Rattle.x86_64_model.specs.private.Found.{page_at};
+ghost use Rattle.x86_64_mappings.specs.Views.{seen_rights};
 
 use crate::text::{write_rights, write_size};
 use bitflags::Flags;
@@ -7,6 +11,7 @@ use std::fmt::{Display, Formatter, Result as FmtResult, Write};
 use std::marker::Model;
 use x86_64_addr::addr::VirtAddrIn;
 use x86_64_addr::level_count::{FiveLevels, FourLevels, LevelCount};
+use x86_64_page::frame::PhysFrame;
 use x86_64_tables::mapper::MappedFrame;
 use x86_64_tables::page_table::{PageTableEntry, PageTableFlags};
 use x86_64_tables::phys_memory::Rights;
@@ -62,16 +67,26 @@ impl<L: LevelCount> Model for MappingIn<L> {
 }
 
 impl<L: LevelCount> MappingIn<L> {
-    /// Makes the mapping of the positions from a start on to a frame, by an entry, where entries with these rights are above.
-    pub(crate) fn by(
+    /// Makes the mapping by an entry of a level that maps a page, at a position of the page, below entries that allow `above`.
+    pub(crate) fn of_page(
+        level: u64,
+        position: u64,
         entry: &PageTableEntry,
-        start: u64,
-        frame: MappedFrame,
         above: Rights,
-    ) -> MappingIn<L> {
+    ) -> MappingIn<L>
+        requires low { 1 ≤ level }
+        requires page { maps_page level entry.now ≡ true }
+        requires inside { position < position_count L.LEVELS }
+        ensures { result ≡ page_at position level (seen_rights above) entry.now }
+    {
+        let frame = match level {
+            1 => MappedFrame::Size4KiB(PhysFrame::containing_address(entry.addr())),
+            2 => MappedFrame::Size2MiB(PhysFrame::containing_address(entry.addr())),
+            _ => MappedFrame::Size1GiB(PhysFrame::containing_address(entry.addr())),
+        };
         let rights = above.below(entry);
         MappingIn {
-            start: VirtAddrIn::new_truncate(start),
+            start: VirtAddrIn::new_truncate(position / frame.size() * frame.size()),
             frame,
             flags: entry.flags(),
             write: rights.write,

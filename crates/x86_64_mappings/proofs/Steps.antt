@@ -1,0 +1,135 @@
+-- Steps of a listing: what each of them leaves to come.
+use Rattle.std.proofs.Common.{zero, suc, ◌≡◌, ◌<◌, ◌≤◌, ◌+◌, ◌-◌, ◌*◌, ◌/◌, ◌==◌, ◌&&◌, ◌||◌, ℕ, Bool, true, false, cond, List, [], ◌∷◌, length, get_or, drop, Option, Some, None, option_map, option_and_then, refl, sym, ap, ◌∙◌, subst, arith}
+use Rattle.std.proofs.lemmas.List.{length-drop}
+use Rattle.x86_64_model.specs.Entry.{present, huge, address}
+use Rattle.x86_64_model.specs.Memory.{Words}
+use Rattle.x86_64_model.specs.PageWalk.{read}
+use Rattle.x86_64_model.specs.Position.{span, index, position_count}
+use Rattle.x86_64_model.specs.Mappings.{Rights, Mapping, maps_page}
+use Rattle.x86_64_model.specs.private.Found.{every_right, narrowed, page_at, found_on, found}
+use Rattle.x86_64_model.proofs.Lemmas.Mappings.Found.{leads_first, found_unread}
+use Rattle.x86_64_model.proofs.Lemmas.Mappings.Listing.{from_found, from_past, from_last}
+use Rattle.x86_64_mappings.specs.private.Cursors.{found_by, IsOn, listed_from, is_there, way_left}
+use Rattle.x86_64_mappings.proofs.Entries.{on_nothing, on_table, next_inside, next_before, within, on_past, none_before, first_found, leads_below}
+
+-- ---- the way that is left
+
+pub way_most : (L next level : ℕ) (rest : List ℕ) → level ≤ 7 → way_left L next level rest ≤ (position_count L - next) * 8 + 7
+way_most L next level [] few = omega arith
+way_most L next level (e ∷ rest) few = omega (arith, few)
+
+pub way_some : (L next level : ℕ) (rest : List ℕ) → 0 < length rest → way_left L next level rest ≡ (position_count L - next) * 8 + level
+way_some L next level [] some = absurd (omega arith)
+way_some L next level (e ∷ rest) some = refl
+
+-- a later position is nearer to the end
+pub way_later : (L next level : ℕ) (rest : List ℕ) (later level' : ℕ) (rest' : List ℕ) → next < later → later ≤ position_count L → 1 ≤ level → level' ≤ 7 → 0 < length rest
+    → way_left L later level' rest' < way_left L next level rest
+way_later L next level rest later level' rest' more most low few some =
+    let new = way_most L later level' rest' few in let old = way_some L next level rest some in omega (arith, more, most, low, new, old)
+
+-- ---- what an entry does not say
+
+-- an entry without PRESENT
+pub absent_says : (T : Words) (x level : ℕ) (r : Rights) (e : ℕ) → present e ≡ false → found_by T x level r e ≡ None
+absent_says T x level r e absent = ap (λ b. cond b (cond (maps_page level e) (Some (page_at x level r e)) (cond (huge e) None (found_on T x (level - 1) (narrowed r e) (address e)))) None) absent
+
+-- where there is no table, nothing is found
+no_table : (T : Words) (x level : ℕ) (r : Rights) (f : ℕ) → T f ≡ None → found_on T x level r f ≡ None
+unfolding found_on
+no_table T x zero r f none = refl
+no_table T x (suc n) r f none = found_unread T x n r f (ap (option_map (λ words. get_or words (index (suc n) x) 0)) none)
+
+-- an entry that maps no page, and leads to no table
+pub unmapped_says : (T : Words) (x level : ℕ) (r : Rights) (e : ℕ) → (present e && maps_page level e) ≡ false → cond ((level == 1) || huge e) None (T (address e)) ≡ None
+    → found_by T x level r e ≡ None
+unmapped_says T x level r e no_page none = by (present e) (level == 1) (huge e) ((level == 2) || (level == 3)) no_page none
+  where
+    below : Option Mapping
+    below = found_on T x (level - 1) (narrowed r e) (address e)
+
+    by : (p one h few : Bool) → (p && (one || (h && few))) ≡ false → cond (one || h) None (T (address e)) ≡ None
+        → cond p (cond (one || (h && few)) (Some (page_at x level r e)) (cond h None below)) None ≡ None
+    by false one h few no none = refl
+    by true true h few no none = absurd (let t : true ≡ false = no in cc)
+    by true false true true no none = absurd (let t : true ≡ false = no in cc)
+    by true false true false no none = refl
+    by true false false few no none = no_table T x (level - 1) (narrowed r e) (address e) none
+
+-- an entry that maps a page
+page_says : (T : Words) (x level : ℕ) (r : Rights) (e : ℕ) → (present e && maps_page level e) ≡ true → found_by T x level r e ≡ Some (page_at x level r e)
+page_says T x level r e page = by (present e) (maps_page level e) page
+  where
+    below : Option Mapping
+    below = cond (huge e) None (found_on T x (level - 1) (narrowed r e) (address e))
+
+    by : (p m : Bool) → (p && m) ≡ true → cond p (cond m (Some (page_at x level r e)) below) None ≡ Some (page_at x level r e)
+    by true true page = refl
+    by true false page = absurd (let t : false ≡ true = page in cc)
+    by false m page = absurd (let t : false ≡ true = page in cc)
+
+-- ---- steps
+
+module _ (L : ℕ) (T : Words) (root : ℕ) where
+  -- at the root
+  pub on_root : (next : ℕ) (table : List ℕ) → 1 ≤ L → next < position_count L → T root ≡ Some table → length table ≡ 512 → IsOn L T root next L every_right (drop (index L next) table)
+  on_root next table some inside there size = on_table L T root next L every_right root table some (omega arith) inside (leads_first L T root next) there size
+
+  pub no_root : (next : ℕ) → next < position_count L → T root ≡ None → listed_from L T root next ≡ listed_from L T root (position_count L)
+  unfolding found
+  no_root next inside none = from_past L T root next (position_count L) (omega (arith, inside)) (omega arith) (λ x from to. no_table T x L every_right root none)
+
+  -- past the last position nothing comes
+  pub none_last : listed_from L T root (position_count L) ≡ []
+  none_last = from_last L T root
+
+module _ (L : ℕ) (T : Words) (root next level : ℕ) (r : Rights) (rest : List ℕ) (on : IsOn L T root next level r rest) where
+  -- past entries that say nothing
+  same_past : (k : ℕ) → 1 ≤ k → k ≤ length rest → ((i x : ℕ) → i < k → found_by T x level r (get_or rest i 0) ≡ None)
+      → listed_from L T root next ≡ listed_from L T root (next / span level * span level + k * span level)
+  same_past k some few none = from_past L T root next (next / span level * span level + k * span level)
+      (next_before L T root next level r rest on k some) (within L T root next level r rest on k few) (none_before L T root next level r rest on k few none)
+
+  pub past_absent : (k : ℕ) → 1 ≤ k → k ≤ length rest → ((i : ℕ) → i < k → present (get_or rest i 0) ≡ false)
+      → listed_from L T root next ≡ listed_from L T root (next / span level * span level + k * span level)
+  past_absent k some few absent = same_past k some few (λ i x less. absent_says T x level r (get_or rest i 0) (absent i less))
+
+  pub past_unmapped : 0 < length rest → (let e = get_or rest 0 0 in (present e && maps_page level e) ≡ false → cond ((level == 1) || huge e) None (T (address e)) ≡ None
+      → listed_from L T root next ≡ listed_from L T root (next / span level * span level + 1 * span level))
+  past_unmapped some no_page none = same_past 1 (omega arith) (omega (arith, some))
+      (λ i x less. let first : 0 ≡ i = omega (arith, less) in subst (λ i. found_by T x level r (get_or rest i 0) ≡ None) first (unmapped_says T x level r (get_or rest 0 0) no_page none))
+
+  -- the mapping by the first entry
+  pub page_first : 0 < length rest → (let e = get_or rest 0 0 in (present e && maps_page level e) ≡ true
+      → listed_from L T root next ≡ page_at next level r e ∷ listed_from L T root (next / span level * span level + 1 * span level))
+  page_first some page = let e = get_or rest 0 0 in
+      from_found L T root next (page_at next level r e) (next_inside L T root next level r rest on some)
+      (first_found L T root next level r rest on some ∙ page_says T next level r e page)
+      ∙ ap (λ z. page_at next level r e ∷ listed_from L T root z) (let e : next / span level * span level + span level ≡ next / span level * span level + 1 * span level = omega arith in e)
+
+  -- the table below the first entry
+  pub on_below : (table : List ℕ) → 0 < length rest → (let e = get_or rest 0 0 in present e ≡ true → (present e && maps_page level e) ≡ false
+      → cond ((level == 1) || huge e) None (T (address e)) ≡ Some table → length table ≡ 512
+      → (1 ≤ level - 1) × IsOn L T root next (level - 1) (narrowed r e) (drop (index (level - 1) next) table))
+  on_below table some there no_page is size =
+      let e = get_or rest 0 0 in
+      let parts = split ((level == 1)) (huge e) (T (address e)) is in
+      let above : 1 ≤ level - 1 = not_one level on.low parts.0 in (
+        above,
+        on_table L T root next (level - 1) (narrowed r e) (address e) table above (let high = on.high in omega (arith, high)) (next_inside L T root next level r rest on some)
+            (leads_below L T root next level r rest on some there (no (present e) (maps_page level e) there no_page) parts.1) parts.2 size,
+      )
+    where
+      split : (one h : Bool) (o : Option (List ℕ)) → cond (one || h) None o ≡ Some table → (one ≡ false) × (h ≡ false) × (o ≡ Some table)
+      split true h o is = absurd (let t : None ≡ Some table = is in cc)
+      split false true o is = absurd (let t : None ≡ Some table = is in cc)
+      split false false o is = (refl, refl, is)
+
+      not_one : (n : ℕ) → 1 ≤ n → (n == 1) ≡ false → 1 ≤ n - 1
+      not_one zero low e = absurd (omega arith)
+      not_one (suc zero) low e = absurd (let t : true ≡ false = e in cc)
+      not_one (suc (suc n)) low e = omega arith
+
+      no : (p m : Bool) → p ≡ true → (p && m) ≡ false → m ≡ false
+      no true m p is = is
+      no false m p is = absurd (let t : false ≡ true = p in cc)
