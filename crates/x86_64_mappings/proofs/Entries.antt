@@ -28,7 +28,7 @@ found_on_by T x (suc n) r f e some is = found_read T x n r f e is
     ∙ ap (λ k. cond (present e) (cond (maps_page (suc n) e) (Some (page_at x (suc n) r e)) (cond (huge e) None (found_on T x k (narrowed r e) (address e)))) None)
     (let e : n ≡ suc n - 1 = omega arith in e)
 
-index_below : (level p : ℕ) → index level p < 512
+pub index_below : (level p : ℕ) → index level p < 512
 unfolding index
 index_below level p = omega arith
 
@@ -105,7 +105,7 @@ module _ (L : ℕ) (T : Words) (root next level : ℕ) (r : Rights) (rest : List
   past_is : (k : ℕ) → (next / s + k) * s ≡ next / s * s + k * s
   past_is k = add-mul (next / s) k s
 
-  within : (k : ℕ) → k ≤ length rest → next / s * s + k * s ≤ position_count L
+  pub within : (k : ℕ) → k ≤ length rest → next / s * s + k * s ≤ position_count L
   within k few = let most : k * s ≤ length rest * s = mul-le-mul_right s few in let room = on.room in omega (arith, most, room)
 
   -- there is a position in the span of each

@@ -10,7 +10,7 @@ use Rattle.x86_64_model.specs.private.Found.{every_right, narrowed, page_at, fou
 use Rattle.x86_64_model.proofs.Lemmas.Mappings.Found.{leads_first, found_unread}
 use Rattle.x86_64_model.proofs.Lemmas.Mappings.Listing.{from_found, from_past, from_last}
 use Rattle.x86_64_mappings.specs.private.Cursors.{found_by, IsOn, listed_from, is_there, way_left}
-use Rattle.x86_64_mappings.proofs.Entries.{on_nothing, on_table, next_inside, next_before, within, on_past, none_before, first_found, leads_below}
+use Rattle.x86_64_mappings.proofs.Entries.{index_below, on_nothing, on_table, next_inside, next_before, within, on_past, none_before, first_found, leads_below}
 
 -- ---- the way that is left
 
@@ -21,6 +21,10 @@ way_most L next level (e ∷ rest) few = omega (arith, few)
 pub way_some : (L next level : ℕ) (rest : List ℕ) → 0 < length rest → way_left L next level rest ≡ (position_count L - next) * 8 + level
 way_some L next level [] some = absurd (omega arith)
 way_some L next level (e ∷ rest) some = refl
+
+pub way_table : (L next level : ℕ) (table : List ℕ) → length table ≡ 512 → way_left L next level (drop (index level next) table) ≡ (position_count L - next) * 8 + level
+way_table L next level table size = way_some L next level (drop (index level next) table)
+    (let left : length (drop (index level next) table) ≡ length table - index level next = length-drop (index level next) table in let below = index_below level next in omega (arith, left, size, below))
 
 -- a later position is nearer to the end
 pub way_later : (L next level : ℕ) (rest : List ℕ) (later level' : ℕ) (rest' : List ℕ) → next < later → later ≤ position_count L → 1 ≤ level → level' ≤ 7 → 0 < length rest
@@ -50,11 +54,11 @@ unmapped_says T x level r e no_page none = by (present e) (level == 1) (huge e) 
 
     by : (p one h few : Bool) → (p && (one || (h && few))) ≡ false → cond (one || h) None (T (address e)) ≡ None
         → cond p (cond (one || (h && few)) (Some (page_at x level r e)) (cond h None below)) None ≡ None
-    by false one h few no none = refl
-    by true true h few no none = absurd (let t : true ≡ false = no in cc)
-    by true false true true no none = absurd (let t : true ≡ false = no in cc)
+    by false one h few page none = refl
+    by true true h few page none = absurd (let t : true ≡ false = page in cc)
+    by true false true true no none = absurd (let t : true ≡ false = page in cc)
     by true false true false no none = refl
-    by true false false few no none = no_table T x (level - 1) (narrowed r e) (address e) none
+    by true false false few page none = no_table T x (level - 1) (narrowed r e) (address e) none
 
 -- an entry that maps a page
 page_says : (T : Words) (x level : ℕ) (r : Rights) (e : ℕ) → (present e && maps_page level e) ≡ true → found_by T x level r e ≡ Some (page_at x level r e)
@@ -117,7 +121,7 @@ module _ (L : ℕ) (T : Words) (root next level : ℕ) (r : Rights) (rest : List
       let above : 1 ≤ level - 1 = not_one level on.low parts.0 in (
         above,
         on_table L T root next (level - 1) (narrowed r e) (address e) table above (let high = on.high in omega (arith, high)) (next_inside L T root next level r rest on some)
-            (leads_below L T root next level r rest on some there (no (present e) (maps_page level e) there no_page) parts.1) parts.2 size,
+            (leads_below L T root next level r rest on some there (maps_none (present e) (maps_page level e) there no_page) parts.1) parts.2 size,
       )
     where
       split : (one h : Bool) (o : Option (List ℕ)) → cond (one || h) None o ≡ Some table → (one ≡ false) × (h ≡ false) × (o ≡ Some table)
@@ -130,6 +134,6 @@ module _ (L : ℕ) (T : Words) (root next level : ℕ) (r : Rights) (rest : List
       not_one (suc zero) low e = absurd (let t : true ≡ false = e in cc)
       not_one (suc (suc n)) low e = omega arith
 
-      no : (p m : Bool) → p ≡ true → (p && m) ≡ false → m ≡ false
-      no true m p is = is
-      no false m p is = absurd (let t : false ≡ true = p in cc)
+      maps_none : (p m : Bool) → p ≡ true → (p && m) ≡ false → m ≡ false
+      maps_none true m p is = is
+      maps_none false m p is = absurd (let t : false ≡ true = p in cc)

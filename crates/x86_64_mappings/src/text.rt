@@ -1,4 +1,5 @@
 //! The texts of sizes and rights.
+ghost use Rattle.std.specs.Prelude.{◌≡◌, ◌<◌, ◌/◌, ◌++◌, decimal};
 ghost use Rattle.std.specs.Fmt.{WritesOnOk};
 ghost use Rattle.x86_64_mappings.specs.Texts as texts;
 
@@ -8,19 +9,27 @@ use std::fmt::{Formatter, Result as FmtResult, Write};
 pub(crate) fn write_size<W: Write>(f: &mut Formatter<W>, bytes: u64) -> FmtResult
     ensures { WritesOnOk W.write_str_gives f.old result (texts.size_text bytes) f.new }
 {
-    const KIB: u64 = 1 << 10;
-    const MIB: u64 = 1 << 20;
-    const GIB: u64 = 1 << 30;
-    const TIB: u64 = 1 << 40;
-    let (unit, name) = match bytes {
-        0 => (KIB, "KiB"),
-        _ if bytes % TIB == 0 => (TIB, "TiB"),
-        _ if bytes % GIB == 0 => (GIB, "GiB"),
-        _ if bytes % MIB == 0 => (MIB, "MiB"),
-        _ => (KIB, "KiB"),
-    };
+    let (unit, name) = unit_of(bytes);
     let count = bytes / unit;
     write!(f, "{count}{name}")
+}
+
+/// Gives the largest of KiB, MiB, GiB and TiB that divides a number of bytes, and its name. None of them divides less than a KiB.
+fn unit_of(bytes: u64) -> (u64, &'static str)
+    ensures some { 0 < result.0 }
+    ensures text { texts.size_text bytes ≡ decimal (bytes / result.0) ++ result.1.now }
+{
+    if bytes == 0 {
+        (1 << 10, "KiB")
+    } else if bytes % (1 << 40) == 0 {
+        (1 << 40, "TiB")
+    } else if bytes % (1 << 30) == 0 {
+        (1 << 30, "GiB")
+    } else if bytes % (1 << 20) == 0 {
+        (1 << 20, "MiB")
+    } else {
+        (1 << 10, "KiB")
+    }
 }
 
 /// Writes the letters of what may be read, written, executed, and reached by user code.

@@ -194,6 +194,7 @@ fn count_absent(entries: &[PageTableEntry]) -> usize
 
 /// Gives the table that an entry of a level leads to, or `None` where it is of level one or has `HUGE_PAGE`, or where its frame has no
 /// table in the memory.
+#[tactic(auto, using(x86_64_model::proofs::Lemmas::Entries::Words::address_aligned))]
 fn table_below<'a, T: TableMemory, P: PageTableFrameMapping>(
     memory: &'a T,
     mapping: &P,
