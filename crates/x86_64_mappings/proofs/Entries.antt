@@ -115,7 +115,7 @@ module _ (L : ℕ) (T : Words) (root next level : ℕ) (r : Rights) (rest : List
   past_number : (k : ℕ) → (next / s * s + k * s) / s ≡ next / s + k
   past_number k = ap (λ z. z / s) (sym (past_is k)) ∙ mul-div_left (next / s + k) pos
 
-  pub next_before : (k : ℕ) → 1 ≤ k → next ≤ next / s * s + k * s
+  pub next_before : (k : ℕ) → 1 ≤ k → next < next / s * s + k * s
   next_before k some = let to = span_end_after level next in let one : 1 * s ≤ k * s = mul-le-mul_right s some in omega (arith, to, one)
 
   -- those behind the first k

@@ -9,7 +9,9 @@ use Rattle.x86_64_model.specs.Mappings.{Rights, Mapping, maps_page}
 use Rattle.x86_64_model.specs.private.Found.{every_right, narrowed, page_at, found_on, found}
 use Rattle.x86_64_model.proofs.Lemmas.Mappings.Found.{leads_first, found_unread}
 use Rattle.x86_64_model.proofs.Lemmas.Mappings.Listing.{from_found, from_past, from_last}
-use Rattle.x86_64_mappings.specs.private.Cursors.{found_by, IsOn, listed_from, is_there, way_left}
+use Rattle.x86_64_mappings.specs.private.Cursors.{found_by, IsOn, IsCursor, IsStep, listed_from, is_there, way_left}
+use Rattle.x86_64_mappings.specs.declared.listing.cursor.Cursor.{Cursor}
+use Rattle.x86_64_mappings.specs.Views.{seen_rights}
 use Rattle.x86_64_mappings.proofs.Entries.{index_below, on_nothing, on_table, next_inside, next_before, within, on_past, none_before, first_found, leads_below}
 
 -- ---- the way that is left
@@ -56,8 +58,8 @@ unmapped_says T x level r e no_page none = by (present e) (level == 1) (huge e) 
         → cond p (cond (one || (h && few)) (Some (page_at x level r e)) (cond h None below)) None ≡ None
     by false one h few page none = refl
     by true true h few page none = absurd (let t : true ≡ false = page in cc)
-    by true false true true no none = absurd (let t : true ≡ false = page in cc)
-    by true false true false no none = refl
+    by true false true true page none = absurd (let t : true ≡ false = page in cc)
+    by true false true false page none = refl
     by true false false few page none = no_table T x (level - 1) (narrowed r e) (address e) none
 
 -- an entry that maps a page
@@ -92,7 +94,7 @@ module _ (L : ℕ) (T : Words) (root next level : ℕ) (r : Rights) (rest : List
   same_past : (k : ℕ) → 1 ≤ k → k ≤ length rest → ((i x : ℕ) → i < k → found_by T x level r (get_or rest i 0) ≡ None)
       → listed_from L T root next ≡ listed_from L T root (next / span level * span level + k * span level)
   same_past k some few none = from_past L T root next (next / span level * span level + k * span level)
-      (next_before L T root next level r rest on k some) (within L T root next level r rest on k few) (none_before L T root next level r rest on k few none)
+      (let before = next_before L T root next level r rest on k some in omega (arith, before)) (within L T root next level r rest on k few) (none_before L T root next level r rest on k few none)
 
   pub past_absent : (k : ℕ) → 1 ≤ k → k ≤ length rest → ((i : ℕ) → i < k → present (get_or rest i 0) ≡ false)
       → listed_from L T root next ≡ listed_from L T root (next / span level * span level + k * span level)
@@ -137,3 +139,36 @@ module _ (L : ℕ) (T : Words) (root next level : ℕ) (r : Rights) (rest : List
       maps_none : (p m : Bool) → p ≡ true → (p && m) ≡ false → m ≡ false
       maps_none true m p is = is
       maps_none false m p is = absurd (let t : false ≡ true = p in cc)
+
+-- ---- steps of cursors
+
+module _ (L : ℕ) (T : Words) (root : ℕ) (from to : Cursor) (high : L ≤ 5) (on : IsCursor L T root from) where
+  -- past some entries, which say nothing
+  pub past_step : (k : ℕ) → 1 ≤ k → k ≤ length from.rest.now
+      → to.next ≡ from.next / span from.level * span from.level + k * span from.level → to.level ≡ from.level → to.rights ≡ from.rights → to.rest.now ≡ drop k from.rest.now
+      → listed_from L T root from.next ≡ listed_from L T root (from.next / span from.level * span from.level + k * span from.level) → IsStep L T root from to
+  past_step k some few next level rights rest same =
+      let r = seen_rights from.rights in
+      let before = next_before L T root from.next from.level r from.rest.now on k some in
+      let inside = within L T root from.next from.level r from.rest.now on k few in
+      let low = on.low in
+      let levels = on.high in
+      record {
+        on = rw (rest, next, level, rights) (on_past L T root from.next from.level r from.rest.now on k some few);
+        same = same ∙ ap (listed_from L T root) (sym next);
+        nearer = way_later L from.next from.level from.rest.now to.next to.level to.rest.now (omega (arith, before, next)) (omega (arith, inside, next)) low (omega (arith, level, levels, high)) (omega (arith, some, few));
+      }
+
+  -- down to the table below the first entry
+  pub below_step : (table : List ℕ) → length table ≡ 512 → 0 < length from.rest.now → 1 ≤ from.level - 1
+      → (let e = get_or from.rest.now 0 0 in IsOn L T root from.next (from.level - 1) (narrowed (seen_rights from.rights) e) (drop (index (from.level - 1) from.next) table)
+      → to.next ≡ from.next → to.level ≡ from.level - 1 → seen_rights to.rights ≡ narrowed (seen_rights from.rights) e → to.rest.now ≡ drop (index (from.level - 1) from.next) table
+      → IsStep L T root from to)
+  below_step table size some above below next level rights rest =
+      let old = way_some L from.next from.level from.rest.now some in
+      let new = way_table L from.next (from.level - 1) table size in
+      record {
+        on = rw (rest, next, level, rights) below;
+        same = ap (listed_from L T root) (sym next);
+        nearer = rw (rest, next, level) (omega (arith, old, new, above));
+      }
