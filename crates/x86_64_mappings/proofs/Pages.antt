@@ -1,6 +1,6 @@
 -- The mapping that an entry makes, by its parts.
 use Rattle.std.proofs.Common.{suc, not, ◌≡◌, ◌≢◌, ◌<◌, ◌≤◌, ◌+◌, ◌-◌, ◌*◌, ◌/◌, ◌%◌, ◌==◌, ◌&&◌, ◌||◌, ℕ, Bool, true, false, sym, ap, ◌∙◌, arith, eqb-true, ne_eqb}
-use Rattle.std.proofs.Math.Nat.{div-mul-le_self, mod-eq_of_lt}
+use Rattle.std.proofs.Math.Nat.{div-add-mod, div-mul-le_self, mod-eq_of_lt, mul_comm}
 use Rattle.x86_64_model.specs.Entry.{huge, address, writable, user, no_execute, flags}
 use Rattle.x86_64_model.specs.PageWalk.{page_start}
 use Rattle.x86_64_model.specs.Position.{span, position_count}
@@ -22,6 +22,12 @@ third level e page one two = by (level == 1) (level == 2) (level == 3) (huge e) 
     by false false true h is no_a no_b yes_t = yes_t (λ i. true)
     by false false false true is no_a no_b yes_t = absurd (let e : false ≡ true = is in cc)
     by false false false false is no_a no_b yes_t = absurd (let e : false ≡ true = is in cc)
+
+-- a frame that contains an address starts where a page of a size would
+pub sized : (level n size start e : ℕ) → level ≡ n → size ≡ span n → start ≡ address e - address e % size → (size ≡ span level) × (start ≡ page_start level e)
+sized level n size start e is_level is_size is =
+    let same : size ≡ span level = is_size ∙ ap span (sym is_level) in
+    (same, is ∙ (let all = div-add-mod (address e) size in let turn = mul_comm size (address e / size) in let e : address e - address e % size ≡ address e / size * size = omega (arith, all, turn) in e) ∙ ap (λ s. address e / s * s) same)
 
 module _ (L level position e : ℕ) (r : Rights) (start : ℕ) (frame : MappedFrame) (given : PageTableFlags) (w u x : Bool) where
   pub page_made : position < position_count L → start ≡ (position / frame_size frame * frame_size frame) % position_count L

@@ -1,5 +1,8 @@
 -- Steps of a listing: what each of them leaves to come.
-use Rattle.std.proofs.Common.{zero, suc, ◌≡◌, ◌<◌, ◌≤◌, ◌+◌, ◌-◌, ◌*◌, ◌/◌, ◌==◌, ◌&&◌, ◌||◌, ℕ, Bool, true, false, cond, List, [], ◌∷◌, length, get_or, drop, Option, Some, None, option_map, option_and_then, refl, sym, ap, ◌∙◌, subst, arith}
+use Rattle.std.proofs.Common.{zero, suc, ◌≡◌, ◌<◌, ◌≤◌, ◌+◌, ◌-◌, ◌*◌, ◌/◌, ◌==◌, ◌&&◌, ◌||◌, ℕ, Bool, true, false, cond, List, [], ◌∷◌, length, get_or, drop, Option, Some, None, option_map, option_and_then, refl, sym, ap, ◌∙◌, subst, arith, eqb-true}
+use Rattle.std.specs.Prelude.{⊤}
+use Rattle.std.specs.Iterator.{MakesProgress, item_count}
+use Rattle.std.proofs.lemmas.Bool.{and_parts, and_from}
 use Rattle.std.proofs.lemmas.List.{length-drop}
 use Rattle.x86_64_model.specs.Entry.{present, huge, address}
 use Rattle.x86_64_model.specs.Memory.{Words}
@@ -9,7 +12,7 @@ use Rattle.x86_64_model.specs.Mappings.{Rights, Mapping, maps_page}
 use Rattle.x86_64_model.specs.private.Found.{every_right, narrowed, page_at, found_on, found}
 use Rattle.x86_64_model.proofs.Lemmas.Mappings.Found.{leads_first, found_unread}
 use Rattle.x86_64_model.proofs.Lemmas.Mappings.Listing.{from_found, from_past, from_last}
-use Rattle.x86_64_mappings.specs.private.Cursors.{found_by, IsOn, IsCursor, IsStep, listed_from, is_there, way_left}
+use Rattle.x86_64_mappings.specs.private.Cursors.{found_by, IsOn, IsCursor, IsStep, listed_from, small_page_first, is_there, way_left}
 use Rattle.x86_64_mappings.specs.declared.listing.cursor.Cursor.{Cursor}
 use Rattle.x86_64_mappings.specs.Views.{seen_rights}
 use Rattle.x86_64_mappings.proofs.Entries.{index_below, on_nothing, on_table, next_inside, next_before, within, on_past, none_before, first_found, leads_below}
@@ -33,6 +36,32 @@ pub way_later : (L next level : ℕ) (rest : List ℕ) (later level' : ℕ) (res
     → way_left L later level' rest' < way_left L next level rest
 way_later L next level rest later level' rest' more most low few some =
     let new = way_most L later level' rest' few in let old = way_some L next level rest some in omega (arith, more, most, low, new, old)
+
+-- ---- the first entry
+
+pub there_first : (L next level : ℕ) (rest : List ℕ) → 0 < length rest → is_there L next level rest ≡ (present (get_or rest 0 0) && maps_page level (get_or rest 0 0))
+there_first L next level [] some = absurd (omega arith)
+there_first L next level (e ∷ rest) some = refl
+
+-- at the end no entries are left, and all positions are behind
+pub there_last : (L next level : ℕ) (rest : List ℕ) → length rest ≤ 0 → is_there L next level rest ≡ true → next ≡ position_count L
+there_last L next level [] none there = eqb-true next (position_count L) there
+there_last L next level (e ∷ rest) none there = absurd (omega (arith, none))
+
+pub record IsSmall (level : ℕ) (rest : List ℕ) : Type 0 where
+  pub some : 0 < length rest
+  pub level_is : level ≡ 1
+  pub page : (present (get_or rest 0 0) && maps_page level (get_or rest 0 0)) ≡ true
+
+pub small_first : (level : ℕ) (rest : List ℕ) → small_page_first level rest ≡ true → IsSmall level rest
+small_first level [] small = absurd (let e : false ≡ true = small in cc)
+small_first level (e ∷ rest) small =
+    let parts = and_parts (level == 1) (present e) small in
+    record {
+      some = omega arith;
+      level_is = eqb-true level 1 parts.0;
+      page = and_from (present e) (maps_page level e) parts.1 (ap (λ b. b || (huge e && ((level == 2) || (level == 3)))) parts.0);
+    }
 
 -- ---- what an entry does not say
 
@@ -172,3 +201,12 @@ module _ (L : ℕ) (T : Words) (root : ℕ) (from to : Cursor) (high : L ≤ 5) 
         same = ap (listed_from L T root) (sym next);
         nearer = rw (rest, next, level) (omega (arith, old, new, above));
       }
+
+-- ---- one mapping less
+
+pub goes_first : (before after : List Mapping) (m : Mapping) → before ≡ m ∷ after → MakesProgress (λ _. ⊤) (item_count (λ ms. ms)) before (Some m) after
+goes_first before after m taken = record {
+  on = λ few. (tt, tt, let e = ap length taken in omega (arith, e));
+  keeps = tt;
+  rests = λ few. tt;
+}
