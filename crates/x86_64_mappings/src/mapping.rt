@@ -3,9 +3,12 @@ ghost use Rattle.std.specs.Prelude.{◌≡◌, ◌<◌, ◌≤◌, true, Some};
 ghost use Rattle.x86_64_model.specs.Mappings.{maps_page};
 ghost use Rattle.x86_64_model.specs.Position.{position_count};
 ghost use Rattle.x86_64_model.specs.private.Found.{page_at};
+ghost use Rattle.std.specs.Fmt.{WritesOnOk};
+ghost use Rattle.x86_64_mappings.specs.Texts as texts;
+ghost use Rattle.x86_64_tables.specs.Translations.{frame_start, frame_size};
 ghost use Rattle.x86_64_mappings.specs.Views.{seen_rights};
 
-use crate::text::{write_rights, write_size};
+use crate::text::{write_number, write_rights, write_size};
 use bitflags::Flags;
 use std::fmt::{Display, Formatter, Result as FmtResult, Write};
 use std::marker::Model;
@@ -110,12 +113,42 @@ impl<L: LevelCount> Display for MappingIn<L> {
 
     fn fmt<W: Write>(&self, f: &mut Formatter<W>) -> FmtResult {
         let start = self.start.as_u64();
-        write!(f, "0x{start:x} ")?;
-        write_size(f, self.frame.size())?;
-        let frame = self.frame.start_address().as_u64();
-        write!(f, " 0x{frame:x} ")?;
-        write_rights(f, self.write, self.user, self.execute)?;
-        let flags = self.flags.bits();
-        write!(f, " 0x{flags:x}")
+        let rights = Rights {
+            write: self.write,
+            user: self.user,
+            execute: self.execute,
+        };
+        write_line(f, start, &self.frame, rights, self.flags)
     }
+}
+
+/// Writes a mapping.
+fn write_line<W: Write>(
+    f: &mut Formatter<W>,
+    start: u64,
+    frame: &MappedFrame,
+    rights: Rights,
+    flags: PageTableFlags,
+) -> FmtResult
+    ensures { let size = frame_size frame.now in
+        let text = texts.line_text start size (frame_start frame.now) rights.write rights.user rights.execute flags.0 in
+        WritesOnOk W.write_str_gives f.old result text f.new }
+{
+    write_place(f, start, frame.size(), frame.start_address().as_u64())?;
+    f.write_str(" ")?;
+    write_rights(f, rights.write, rights.user, rights.execute)?;
+    f.write_str(" ")?;
+    write_number(f, flags.bits())
+}
+
+/// Writes where a mapping starts, its size, and where its frame starts.
+fn write_place<W: Write>(f: &mut Formatter<W>, start: u64, size: u64, frame: u64) -> FmtResult
+    ensures { let text = texts.place_text start size frame in
+        WritesOnOk W.write_str_gives f.old result text f.new }
+{
+    write_number(f, start)?;
+    f.write_str(" ")?;
+    write_size(f, size)?;
+    f.write_str(" ")?;
+    write_number(f, frame)
 }

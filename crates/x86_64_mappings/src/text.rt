@@ -47,3 +47,10 @@ pub(crate) fn write_rights<W: Write>(
     f.write_str(if execute { "x" } else { "-" })?;
     f.write_str(if user { "u" } else { "-" })
 }
+
+/// Writes a number in base 16.
+pub(crate) fn write_number<W: Write>(f: &mut Formatter<W>, number: u64) -> FmtResult
+    ensures { WritesOnOk W.write_str_gives f.old result (texts.hexadecimal number) f.new }
+{
+    write!(f, "0x{number:x}")
+}

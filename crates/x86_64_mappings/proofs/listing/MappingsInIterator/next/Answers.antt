@@ -1,8 +1,9 @@
-use Rattle.std.proofs.Common.{◌≡◌, ◌<◌, ◌≤◌, ◌&&◌, ◌∷◌, ℕ, false, true, length, get_or, List, Some, None, sym, ap, ap₂, ◌∙◌, subst, arith}
+use Rattle.std.proofs.Common.{◌≡◌, ◌<◌, ◌≤◌, ◌&&◌, ◌∷◌, ℕ, false, true, length, get_or, List, [], Some, None, sym, ap, ap₂, ◌∙◌, subst, arith}
 use Rattle.std.proofs.lemmas.List.{get_or_read}
 use Rattle.x86_64_model.specs.Entry.{present}
 use Rattle.x86_64_model.specs.Mappings.{Mapping, maps_page}
 use Rattle.x86_64_model.specs.Memory.{words_of}
+use Rattle.x86_64_model.specs.Position.{position_count}
 use Rattle.x86_64_model.specs.private.Found.{page_at}
 use Rattle.x86_64_mappings.specs.Views.{seen_rights}
 use Rattle.x86_64_mappings.specs.private.Cursors.{listed_from}
@@ -27,7 +28,8 @@ returns-then-is_at_small_page-clause-steps g c =
     let words = words_of (g.T.TableMemory.tables s.memory.now) (g.P.PageTableFrameMapping.places s.mapping.now) in
     let at = s.cursor in
     let small = small_first at.level at.rest.now (sym c.if-is_at_small_page.ensures) in
-    let entry = get_or_read at.rest.now 0 c.index-cursor-0.result small.some c.index-cursor-0.is 0 in
+    let entry : get_or at.rest.now 0 c.index-cursor-0.result ≡ get_or at.rest.now 0 0 =
+    sym c.index-cursor-0.is ∙ get_or_read at.rest.now 0 c.index-cursor-0.result small.some c.index-cursor-0.is 0 in
     let page : c.of_page.result ≡ page_at at.next at.level (seen_rights at.rights) (get_or at.rest.now 0 0) =
     c.of_page.ensures ∙ ap₂ (λ level e. page_at at.next level (seen_rights at.rights) e) (sym small.level_is) entry in
     sym c.self.view_is ∙ page_first L words s.root at.next at.level (seen_rights at.rights) at.rest.now c.self.invariant small.some small.page
@@ -37,7 +39,14 @@ pub returns-then-is_at_small_page-clause-goes : goal.returns-then-is_at_small_pa
 returns-then-is_at_small_page-clause-goes g c = goes_first _ _ _ (returns-then-is_at_small_page-clause-steps g c)
 
 pub returns-in_err-entry-clause-steps : goal.returns-in_err-entry-clause-steps
-returns-in_err-entry-clause-steps g c = let v = c.in_err-entry.ensures.value in let i = c.in_err-entry.ensures.item in let r = c.from_residual.ensures in ?
+returns-in_err-entry-clause-steps g c =
+    let L = g.L.LevelCount.LEVELS in
+    let s = c.self.inside in
+    let words = words_of (g.T.TableMemory.tables s.memory.now) (g.P.PageTableFrameMapping.places s.mapping.now) in
+    let at = c.find_page.new.cursor in
+    let last : at.next ≡ position_count L = there_last L at.next at.level at.rest.now c.in_err-entry.ensures.item.3 c.find_page.ensures.there in
+    let ended : listed_from L words s.root at.next ≡ [] = ap (listed_from L words s.root) last ∙ none_last L words s.root in
+    rw c.from_residual.ensures (sym c.self.view_is ∙ c.find_page.ensures.same ∙ ended, ended)
 
 pub invariant_of-self-2 : goal.invariant_of-self-2
 invariant_of-self-2 g c =
