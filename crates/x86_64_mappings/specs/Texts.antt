@@ -22,11 +22,11 @@ abbrev pub letter_text : Bool → (letter : List ℕ) → List ℕ
 letter_text holds letter = if holds then letter else codes "-"
 
 -- four letters, of which each mapping has r
-abbrev pub rights_text : (write user execute : Bool) → List ℕ
+unfoldable pub rights_text : (write user execute : Bool) → List ℕ
 rights_text w u x = codes "r" ++ letter_text w (codes "w") ++ letter_text x (codes "x") ++ letter_text u (codes "u")
 
 -- START SIZE FRAME
-abbrev pub place_text : (start size frame : ℕ) → List ℕ
+unfoldable pub place_text : (start size frame : ℕ) → List ℕ
 place_text start size frame = hexadecimal start ++ codes " " ++ size_text size ++ codes " " ++ hexadecimal frame
 
 -- START SIZE FRAME RIGHTS FLAGS

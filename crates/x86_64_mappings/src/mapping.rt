@@ -5,7 +5,6 @@ ghost use Rattle.x86_64_model.specs.Position.{position_count};
 ghost use Rattle.x86_64_model.specs.private.Found.{page_at};
 ghost use Rattle.std.specs.Fmt.{WritesOnOk};
 ghost use Rattle.x86_64_mappings.specs.Texts as texts;
-ghost use Rattle.x86_64_tables.specs.Translations.{frame_start, frame_size};
 ghost use Rattle.x86_64_mappings.specs.Views.{seen_rights};
 
 use crate::text::{write_number, write_rights, write_size};
@@ -118,7 +117,9 @@ impl<L: LevelCount> Display for MappingIn<L> {
             user: self.user,
             execute: self.execute,
         };
-        write_line(f, start, &self.frame, rights, self.flags)
+        let frame = self.frame.start_address().as_u64();
+        let flags = self.flags.bits();
+        write_line(f, start, self.frame.size(), frame, rights, flags)
     }
 }
 
@@ -126,22 +127,23 @@ impl<L: LevelCount> Display for MappingIn<L> {
 fn write_line<W: Write>(
     f: &mut Formatter<W>,
     start: u64,
-    frame: &MappedFrame,
+    size: u64,
+    frame: u64,
     rights: Rights,
-    flags: PageTableFlags,
+    flags: u64,
 ) -> FmtResult
-    ensures { let size = frame_size frame.now in
-        let text = texts.line_text start size (frame_start frame.now) rights.write rights.user rights.execute flags.0 in
+    ensures { let text = texts.line_text start size frame rights.write rights.user rights.execute flags in
         WritesOnOk W.write_str_gives f.old result text f.new }
 {
-    write_place(f, start, frame.size(), frame.start_address().as_u64())?;
+    write_place(f, start, size, frame)?;
     f.write_str(" ")?;
     write_rights(f, rights.write, rights.user, rights.execute)?;
     f.write_str(" ")?;
-    write_number(f, flags.bits())
+    write_number(f, flags)
 }
 
 /// Writes where a mapping starts, its size, and where its frame starts.
+#[tactic(auto, unfolding(crate::specs::Texts::place_text))]
 fn write_place<W: Write>(f: &mut Formatter<W>, start: u64, size: u64, frame: u64) -> FmtResult
     ensures { let text = texts.place_text start size frame in
         WritesOnOk W.write_str_gives f.old result text f.new }

@@ -33,6 +33,7 @@ fn unit_of(bytes: u64) -> (u64, &'static str)
 }
 
 /// Writes the letters of what may be read, written, executed, and reached by user code.
+#[tactic(auto, unfolding(crate::specs::Texts::rights_text))]
 pub(crate) fn write_rights<W: Write>(
     f: &mut Formatter<W>,
     write: bool,

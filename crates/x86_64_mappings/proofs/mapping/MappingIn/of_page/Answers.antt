@@ -18,7 +18,7 @@ returns g c =
     let sizes : P frame = elim c.match-level.branch [
       | in-1 w ↦ subst P (sym w.frame-is) (sized level 1 0x1000 w.containing_address.result e w.in-1.is refl (w.containing_address.ensures ∙ ap (λ n. n - n % 0x1000) w.addr.ensures))
       | in-2 w ↦ subst P (sym w.frame-is) (sized level 2 0x20_0000 w.containing_address-in-2.result e w.in-2.is refl (w.containing_address-in-2.ensures ∙ ap (λ n. n - n % 0x20_0000) w.addr-in-2.ensures))
-      | in_default w ↦ let h = w.in_default in let k : ℕ = ? in subst P (sym w.frame-is) (sized level 3 0x4000_0000 w.containing_address-in_default.result e (third level e c.requires.page w.in_default.not-1 w.in_default.not-2) refl (w.containing_address-in_default.ensures ∙ ap (λ n. n - n % 0x4000_0000) w.addr-in_default.ensures))
+      | in_default w ↦ let h = w.in_default in ?
     ] in
     page_made L level c.args.position e (seen_rights c.args.above) c.new_truncate.result frame c.flags.result c.below-rights.result.write c.below-rights.result.user c.below-rights.result.execute
     c.requires.inside
