@@ -1,5 +1,5 @@
 -- The entries that are left of a table: where they come from, those behind some of them, and the table below the first.
-use Rattle.std.proofs.Common.{zero, suc, ◌≡◌, ◌<◌, ◌≤◌, ◌+◌, ◌-◌, ◌*◌, ◌/◌, ◌%◌, ◌^◌, ℕ, Bool, true, false, cond, List, [], length, get_or, drop, Option, Some, None, option_map, refl, sym, ap, ◌∙◌, subst, arith, ⊎_elim}
+use Rattle.std.proofs.Common.{zero, suc, ◌≡◌, ◌<◌, ◌≤◌, ◌+◌, ◌-◌, ◌*◌, ◌/◌, ◌%◌, ℕ, true, false, cond, List, [], length, get_or, drop, Some, None, option_map, sym, ap, ◌∙◌, subst, arith, ⊎_elim}
 use Rattle.std.proofs.lemmas.Bool.{cases_lt}
 use Rattle.std.proofs.lemmas.List.{get_or-drop, length-drop}
 use Rattle.std.proofs.lemmas.Nat.{le-div}
@@ -8,7 +8,7 @@ use Rattle.x86_64_model.specs.Entry.{present, huge, address}
 use Rattle.x86_64_model.specs.Memory.{Words}
 use Rattle.x86_64_model.specs.PageWalk.{read}
 use Rattle.x86_64_model.specs.Position.{span, index, position_count}
-use Rattle.x86_64_model.specs.Mappings.{Rights, Mapping, maps_page}
+use Rattle.x86_64_model.specs.Mappings.{Rights, maps_page}
 use Rattle.x86_64_model.specs.private.Found.{narrowed, page_at, found_on, found, span_end, LeadsTo}
 use Rattle.x86_64_model.proofs.Lemmas.Mappings.Found.{found_read}
 use Rattle.x86_64_model.proofs.Lemmas.Mappings.SpanEnds.{span-next, count-next, span_from, span_end_after, span_end_inside, same_number, next_span}

@@ -1,11 +1,11 @@
 -- The mapping that an entry makes, by its parts.
-use Rattle.std.proofs.Common.{suc, not, ◌≡◌, ◌≢◌, ◌<◌, ◌≤◌, ◌+◌, ◌-◌, ◌*◌, ◌/◌, ◌%◌, ◌==◌, ◌&&◌, ◌||◌, ℕ, Bool, true, false, sym, ap, ◌∙◌, arith, eqb-true, ne_eqb}
+use Rattle.std.proofs.Common.{not, ◌≡◌, ◌≢◌, ◌<◌, ◌-◌, ◌*◌, ◌/◌, ◌%◌, ◌==◌, ◌&&◌, ◌||◌, ℕ, Bool, true, false, sym, ap, ◌∙◌, arith, eqb-true, ne_eqb}
 use Rattle.std.proofs.Math.Nat.{div-add-mod, div-mul-le_self, mod-eq_of_lt, mul_comm}
 use Rattle.x86_64_model.specs.Entry.{huge, address, writable, user, no_execute, flags}
 use Rattle.x86_64_model.specs.PageWalk.{page_start}
 use Rattle.x86_64_model.specs.Position.{span, position_count}
-use Rattle.x86_64_model.specs.Mappings.{Rights, Mapping, maps_page}
-use Rattle.x86_64_model.specs.private.Found.{page_at, narrowed}
+use Rattle.x86_64_model.specs.Mappings.{Rights, maps_page}
+use Rattle.x86_64_model.specs.private.Found.{page_at}
 use Rattle.x86_64_tables.specs.PageTableFlags.{bits_of}
 use Rattle.x86_64_tables.specs.Translations.{frame_start, frame_size}
 use Rattle.x86_64_tables.specs.declared.mapper.MappedFrame.{MappedFrame}

@@ -1,12 +1,11 @@
 -- Steps of a listing: what each of them leaves to come.
-use Rattle.std.proofs.Common.{zero, suc, ◌≡◌, ◌<◌, ◌≤◌, ◌+◌, ◌-◌, ◌*◌, ◌/◌, ◌==◌, ◌&&◌, ◌||◌, ℕ, Bool, true, false, cond, List, [], ◌∷◌, length, get_or, drop, Option, Some, None, option_map, option_and_then, refl, sym, ap, ◌∙◌, subst, arith, eqb-true}
+use Rattle.std.proofs.Common.{zero, suc, ◌≡◌, ◌<◌, ◌≤◌, ◌+◌, ◌-◌, ◌*◌, ◌/◌, ◌==◌, ◌&&◌, ◌||◌, ℕ, Bool, true, false, cond, List, [], ◌∷◌, length, get_or, drop, Option, Some, None, option_map, refl, sym, ap, ◌∙◌, subst, arith, eqb-true}
 use Rattle.std.specs.Prelude.{⊤}
 use Rattle.std.specs.Iterator.{MakesProgress, item_count}
 use Rattle.std.proofs.lemmas.Bool.{and_parts, and_from}
 use Rattle.std.proofs.lemmas.List.{length-drop}
 use Rattle.x86_64_model.specs.Entry.{present, huge, address}
 use Rattle.x86_64_model.specs.Memory.{Words}
-use Rattle.x86_64_model.specs.PageWalk.{read}
 use Rattle.x86_64_model.specs.Position.{span, index, position_count}
 use Rattle.x86_64_model.specs.Mappings.{Rights, Mapping, maps_page}
 use Rattle.x86_64_model.specs.private.Found.{every_right, narrowed, page_at, found_on, found}
@@ -15,7 +14,7 @@ use Rattle.x86_64_model.proofs.Lemmas.Mappings.Listing.{from_found, from_past, f
 use Rattle.x86_64_mappings.specs.private.Cursors.{found_by, IsOn, IsCursor, IsStep, listed_from, small_page_first, is_there, way_left}
 use Rattle.x86_64_mappings.specs.declared.listing.cursor.Cursor.{Cursor}
 use Rattle.x86_64_mappings.specs.Views.{seen_rights}
-use Rattle.x86_64_mappings.proofs.Entries.{index_below, on_nothing, on_table, next_inside, next_before, within, on_past, none_before, first_found, leads_below}
+use Rattle.x86_64_mappings.proofs.Entries.{index_below, on_table, next_inside, next_before, within, on_past, none_before, first_found, leads_below}
 
 -- ---- the way that is left
 

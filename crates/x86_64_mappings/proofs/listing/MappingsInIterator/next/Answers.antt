@@ -1,7 +1,5 @@
-use Rattle.std.proofs.Common.{◌≡◌, ◌<◌, ◌≤◌, ◌&&◌, ◌∷◌, ℕ, false, true, length, get_or, List, [], Some, None, sym, ap, ap₂, ◌∙◌, subst, arith}
+use Rattle.std.proofs.Common.{◌≡◌, ◌<◌, ◌∷◌, length, get_or, [], sym, ap, ap₂, ◌∙◌, arith}
 use Rattle.std.proofs.lemmas.List.{get_or_read}
-use Rattle.x86_64_model.specs.Entry.{present}
-use Rattle.x86_64_model.specs.Mappings.{Mapping, maps_page}
 use Rattle.x86_64_model.specs.Memory.{words_of}
 use Rattle.x86_64_model.specs.Position.{position_count}
 use Rattle.x86_64_model.specs.private.Found.{page_at}

@@ -1,4 +1,4 @@
-use Rattle.std.proofs.Common.{◌≡◌, Some, None, sym, ap, ◌∙◌, arith}
+use Rattle.std.proofs.Common.{sym, ap, ◌∙◌, arith}
 use Rattle.x86_64_model.specs.Memory.{words_of}
 use Rattle.x86_64_mappings.specs.private.Cursors.{listed_from}
 use Rattle.x86_64_mappings.proofs.Steps.{on_root, no_root, way_table}

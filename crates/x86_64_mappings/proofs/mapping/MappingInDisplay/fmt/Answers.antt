@@ -1,4 +1,4 @@
-use Rattle.std.proofs.Common.{ℕ, List, ◌∙◌, ap, ap₂, subst}
+use Rattle.std.proofs.Common.{◌∙◌, ap, subst}
 use Rattle.std.specs.Fmt.{WritesOnOk}
 use Rattle.x86_64_mappings.specs.Texts.{line_text, mapping_text}
 use Rattle.x86_64_mappings.proofs.mapping.MappingInDisplay.fmt.Goals as goal
