@@ -18,7 +18,8 @@ use x86_64_tables::phys_memory::{PageTableFrameMapping, TableMemory};
 /// Gives the mappings below a root in order of their starts, each once, and then `None` for good. It is seen as the list of the
 /// mappings that are still to come.
 ///
-/// It takes no memory, and reads each word of a table once where tables aren't shared. Before each table it walks down from the root.
+/// It takes no memory of the heap. It goes through a table entry by entry, and walks down from the root again only after a table below
+/// ended. A table that several entries name is gone through for each of them.
 #[derive(Drop)]
 pub struct MappingsIn<'a, L: LevelCount, T: TableMemory, P: PageTableFrameMapping> {
     memory: &'a T,
@@ -78,7 +79,13 @@ impl<'a, L: LevelCount, T: TableMemory, P: PageTableFrameMapping> Iterator
     }
 }
 
-/// Gives the mappings below a root with four levels of tables.
+/// Gives the mappings below a root with four levels of tables, in order of their starts.
+///
+/// The tables may be any words, and it ends for any: a table that names itself is read again at each level alone. Nothing is mapped
+/// below an entry whose frame isn't covered by the mapping, or lies at a place that the memory lacks, nor by an entry above level three
+/// with `HUGE_PAGE`. [`page_walk`](x86_64_tables::phys_memory::page_walk) arrives at exactly the addresses that are mapped.
+///
+/// Intel SDM vol. 3A, "4-Level Paging and 5-Level Paging"; AMD APM vol. 2, "Long-Mode Page Translation".
 pub fn mappings<'a, T: TableMemory, P: PageTableFrameMapping>(
     memory: &'a T,
     mapping: &'a P,
@@ -89,7 +96,7 @@ pub fn mappings<'a, T: TableMemory, P: PageTableFrameMapping>(
     all_mappings(memory, mapping, root)
 }
 
-/// Gives the mappings below a root with five levels of tables.
+/// Gives the mappings below a root with five levels of tables, as [`mappings`] does with four.
 pub fn mappings_57<'a, T: TableMemory, P: PageTableFrameMapping>(
     memory: &'a T,
     mapping: &'a P,
@@ -100,7 +107,7 @@ pub fn mappings_57<'a, T: TableMemory, P: PageTableFrameMapping>(
     all_mappings(memory, mapping, root)
 }
 
-/// Gives the mappings below a root.
+/// Gives the mappings below a root with any number of levels.
 pub(crate) fn all_mappings<'a, L: LevelCount, T: TableMemory, P: PageTableFrameMapping>(
     memory: &'a T,
     mapping: &'a P,
@@ -112,8 +119,8 @@ pub(crate) fn all_mappings<'a, L: LevelCount, T: TableMemory, P: PageTableFrameM
     mappings_from(memory, mapping, root, VirtAddrIn::zero())
 }
 
-/// Gives the mappings below a root from the first on that ends at an address or after it. There are as many levels of tables as the
-/// address has.
+/// Gives the mappings below a root from the first on that has an address or lies behind it, as [`mappings`] gives all. There are as
+/// many levels of tables as the address has.
 pub fn mappings_from<'a, L: LevelCount, T: TableMemory, P: PageTableFrameMapping>(
     memory: &'a T,
     mapping: &'a P,

@@ -67,7 +67,8 @@ impl<'a> Cursor<'a> {
         requires low { 1 ≤ self.level }
         requires high { self.level ≤ 5 }
         requires within { count ≤ length self.rest.now }
-        requires room { self.next / span_of self.level * span_of self.level + count * span_of self.level ≤ position_count 5 }
+        requires room { let span = span_of self.level in
+            self.next / span * span + count * span ≤ position_count 5 }
         ensures next { let span = span_of self.entry.level in
             result.next ≡ self.entry.next / span * span + count * span }
         ensures level { result.level ≡ self.entry.level }
