@@ -25,6 +25,10 @@ pub use x86_64_mappers::recursive_page_table::{
     WalkedTables, p1_window, p1_window_57, p2_window, p2_window_57, p3_window, p3_window_57,
     p4_window_57,
 };
+pub use x86_64_mappings::{
+    Mapping, Mapping57, MappingIn, Mappings, Mappings57, MappingsIn, mappings, mappings_57,
+    mappings_from, mappings_from as mappings_from_57,
+};
 pub use x86_64_page::range::Block;
 pub use x86_64_tables::frame_alloc::{FrameKeeper, FramePool, FrameStore, PoolRefusal};
 pub use x86_64_tables::mapper::{

@@ -36,7 +36,9 @@ pub use validity::{
     is_valid_hierarchy, is_valid_hierarchy_57, is_valid_recursive, is_valid_recursive_57,
     pool_fits, pool_fits_57, pool_fits_recursive, pool_fits_recursive_57,
 };
-pub use walk::{Walked, page_walk, page_walk as page_walk_57};
+pub use walk::{
+    Rights, Walked, has_flag, page_walk, page_walk as page_walk_57, table_in,
+};
 use x86_64_page::frame::PhysFrame;
 use x86_64_page::page::{PageSize, Size4KiB};
 

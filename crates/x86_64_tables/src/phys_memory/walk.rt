@@ -1,7 +1,7 @@
 //! The page walk: where the processor finds an address.
-ghost use Rattle.std.specs.Prelude.{◌≡◌, ◌<◌, ◌≤◌, ◌&&◌, true, option_map, bit_and};
+ghost use Rattle.std.specs.Prelude.{◌≡◌, ◌<◌, ◌≤◌, ◌&&◌, true, not, option_map, bit_and};
 ghost use Rattle.std.specs.Option.{option_copied};
-ghost use Rattle.x86_64_model.specs.Entry.{has, writable, user};
+ghost use Rattle.x86_64_model.specs.Entry.{has, writable, user, no_execute};
 ghost use Rattle.x86_64_model.specs.Memory.{words_of};
 ghost use Rattle.x86_64_model.specs.Position.{index, span};
 ghost use Rattle.x86_64_model.specs.PageWalk.{read, walk_on, page_walk as page_walk_of};
@@ -9,7 +9,7 @@ ghost use Rattle.x86_64_tables.specs.PageTableFlags.{bits_of};
 ghost use Rattle.x86_64_tables.specs.Walks.{walked_of, arrival, ends};
 
 use super::{PageTableFrameMapping, TableMemory};
-use crate::page_table::{PageTableEntry, PageTableFlags};
+use crate::page_table::{PageTable, PageTableEntry, PageTableFlags};
 use bitflags::Flags;
 use x86_64_addr::addr::{PhysAddr, VirtAddrIn};
 use x86_64_addr::level_count::LevelCount;
@@ -53,26 +53,33 @@ pub fn page_walk<T: TableMemory, P: PageTableFrameMapping, L: LevelCount>(
 
 /// Says what the entries on the way so far allow.
 #[derive(Clone, Copy)]
-struct Rights {
-    write: bool,
-    user: bool,
+pub struct Rights {
+    /// Tells whether all have `WRITABLE`.
+    pub write: bool,
+    /// Tells whether all have `USER_ACCESSIBLE`.
+    pub user: bool,
+    /// Tells whether none has `NO_EXECUTE`.
+    pub execute: bool,
 }
 
 impl Rights {
     /// What is allowed before the first entry.
-    const ALL: Rights = Rights {
+    pub const ALL: Rights = Rights {
         write: true,
         user: true,
+        execute: true,
     };
 
     /// Gives what is still allowed below an entry.
-    fn below(self, entry: &PageTableEntry) -> Rights
+    pub fn below(self, entry: &PageTableEntry) -> Rights
         ensures write { result.write ≡ (self.write && writable entry.now) }
         ensures user { result.user ≡ (self.user && user entry.now) }
+        ensures execute { result.execute ≡ (self.execute && not (no_execute entry.now)) }
     {
         Rights {
             write: self.write && has_flag(entry, PageTableFlags::WRITABLE),
             user: self.user && has_flag(entry, PageTableFlags::USER_ACCESSIBLE),
+            execute: self.execute && !has_flag(entry, PageTableFlags::NO_EXECUTE),
         }
     }
 }
@@ -106,6 +113,21 @@ fn walk_from<T: TableMemory, P: PageTableFrameMapping>(
     None
 }
 
+/// Gives the table in a frame, or `None` where the frame isn't covered by the mapping, or lies at a place that the memory lacks.
+pub fn table_in<'a, T: TableMemory, P: PageTableFrameMapping>(
+    memory: &'a T,
+    mapping: &P,
+    frame: PhysFrame<Size4KiB>,
+) -> Option<&'a PageTable>
+    ensures { option_copied result ≡ words_of (T.tables memory.now) (P.places mapping.now) frame }
+{
+    if mapping.covers(frame) {
+        memory.table(mapping.frame_to_pointer(frame))
+    } else {
+        None
+    }
+}
+
 /// Reads the entry at an index of the table in a frame, or gives `None` where the frame has no table in the memory.
 pub(super) fn entry_at<'a, T: TableMemory, P: PageTableFrameMapping>(
     memory: &'a T,
@@ -116,15 +138,12 @@ pub(super) fn entry_at<'a, T: TableMemory, P: PageTableFrameMapping>(
     requires { index < 512 }
     ensures { option_copied result ≡ read (words_of (T.tables memory.now) (P.places mapping.now)) frame index }
 {
-    if !mapping.covers(frame) {
-        return None;
-    }
-    let table = memory.table(mapping.frame_to_pointer(frame))?;
+    let table = table_in(memory, mapping, frame)?;
     Some(&table[index])
 }
 
 /// Tells whether an entry has a flag.
-pub(super) fn has_flag(entry: &PageTableEntry, flag: PageTableFlags) -> bool
+pub fn has_flag(entry: &PageTableEntry, flag: PageTableFlags) -> bool
     requires { bit_and 0xfff0_0000_0000_0fff (bits_of flag) ≡ bits_of flag }
     ensures { result ≡ has entry.now (bits_of flag) }
 {

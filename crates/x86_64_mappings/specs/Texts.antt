@@ -1,0 +1,32 @@
+-- The texts of mappings.
+use Rattle.std.specs.Prelude.{ℕ, Bool, false, ◌==◌, ◌/◌, ◌%◌, ◌++◌, if◌then◌else◌, List, codes, decimal}
+use Rattle.std.specs.Fmt.{digits}
+use Rattle.x86_64_model.specs.Mappings.{Mapping}
+use Rattle.x86_64_model.specs.Position.{raw}
+
+-- the digits of base 16, in lower case and without leading zeros
+abbrev pub hexadecimal : ℕ → List ℕ
+hexadecimal number = codes "0x" ++ digits 16 false number
+
+-- a number of bytes in the largest of KiB, MiB, GiB and TiB that divides it; none of them is 0KiB
+abbrev pub size_text : (bytes : ℕ) → List ℕ
+size_text bytes =
+    if bytes == 0 then codes "0KiB"
+    else (if bytes % 0x100_0000_0000 == 0 then decimal (bytes / 0x100_0000_0000) ++ codes "TiB"
+    else (if bytes % 0x4000_0000 == 0 then decimal (bytes / 0x4000_0000) ++ codes "GiB"
+    else (if bytes % 0x10_0000 == 0 then decimal (bytes / 0x10_0000) ++ codes "MiB"
+    else decimal (bytes / 0x400) ++ codes "KiB")))
+
+-- a right's letter, or - without it
+abbrev pub letter_text : Bool → (letter : List ℕ) → List ℕ
+letter_text holds letter = if holds then letter else codes "-"
+
+-- four letters, of which each mapping has r
+abbrev pub rights_text : (write user execute : Bool) → List ℕ
+rights_text w u x = codes "r" ++ letter_text w (codes "w") ++ letter_text x (codes "x") ++ letter_text u (codes "u")
+
+-- START SIZE FRAME RIGHTS FLAGS
+abbrev pub mapping_text : (L : ℕ) → Mapping → List ℕ
+mapping_text L m =
+    hexadecimal (raw L m.start) ++ codes " " ++ size_text m.size ++ codes " " ++ hexadecimal m.frame
+    ++ codes " " ++ rights_text m.rights.write m.rights.user m.rights.execute ++ codes " " ++ hexadecimal m.flags

@@ -1,0 +1,29 @@
+-- A mapping as code holds it.
+use Rattle.std.specs.Prelude.{◌≡◌, ℕ, Bool, ◌==◌, if◌then◌else◌, refl}
+use Rattle.x86_64_model.specs.Mappings.{Mapping}
+use Rattle.x86_64_tables.specs.PageTableFlags.{bits_of}
+use Rattle.x86_64_tables.specs.Translations.{frame_start, frame_size}
+use Rattle.x86_64_tables.specs.declared.mapper.MappedFrame.{MappedFrame}
+use Rattle.x86_64_tables.specs.declared.mapper.MappedFrame.TheVariants.{Size4KiB, Size2MiB, Size1GiB}
+use Rattle.x86_64_tables.specs.declared.page_table.flags.PageTableFlags.{PageTableFlags}
+
+-- what is mapped from a start on
+abbrev pub mapping_to : (start : ℕ) → MappedFrame → PageTableFlags → (write user execute : Bool) → Mapping
+mapping_to start frame flags w u x = record {
+  start = start;
+  size = frame_size frame;
+  frame = frame_start frame;
+  flags = bits_of flags;
+  rights = record { write = w; user = u; execute = x };
+}
+
+-- the frame of one of the three sizes at a start
+abbrev pub frame_at : (size start : ℕ) → MappedFrame
+frame_at size start =
+    if size == 0x1000 then Size4KiB start else (if size == 0x20_0000 then Size2MiB start else Size1GiB start)
+
+-- a frame is the one of its size at its start
+pub frame_at_frame : (frame : MappedFrame) → frame_at (frame_size frame) (frame_start frame) ≡ frame
+frame_at_frame (Size4KiB start) = refl
+frame_at_frame (Size2MiB start) = refl
+frame_at_frame (Size1GiB start) = refl
