@@ -9,10 +9,12 @@ ghost use Rattle.x86_64_model.specs.Mappings.{mappings_of};
 ghost use Rattle.x86_64_model.specs.Memory.{identity_places, words_of};
 ghost use Rattle.x86_64_model.specs.Layout.{IsReady};
 
+use crate::assertions::{assert_equal, unwrap, unwrap_some};
+use crate::loader::{Machine, frame, read, segment, write};
 use std::alloc::{AllocError, Global};
 use x86_64::structures::paging::mapper::MapperAllSizes;
 use x86_64::structures::paging::{MappedPageTable, PhysFrame, Size4KiB};
-use x86_64::{FramePool, IdentityMapping, Mapping, TableMemory, mappings};
+use x86_64::{FramePool, IdentityMapping, Mapping, TableMemory, mappings, pool_fits};
 use x86_64_loader::{Segment, load, segments_allowed};
 
 /// Loads segments by any mapper, if they may be loaded, and tells whether all were.
@@ -84,4 +86,34 @@ pub fn load_and_list<T: TableMemory>(
     }
     let listed = list_all(alloc, memory, root)?;
     Ok(Some(listed))
+}
+
+/// What is mapped once a text that a user reads and data that it writes are loaded.
+const LINES: [&str; 4] = [
+    "0x400000 4KiB 0x800000 r-xu 0x5",
+    "0x401000 4KiB 0x801000 r-xu 0x5",
+    "0x5ff000 4KiB 0x9ff000 rw-u 0x8000000000000007",
+    "0x600000 4KiB 0xa00000 rw-u 0x8000000000000007",
+];
+
+#[test]
+fn loaded_segments_are_listed(rt: HostRuntime) {
+    let Machine {
+        mut memory,
+        mut pool,
+    } = Machine::new(rt, rt.alloc());
+    let root = frame(0x1000);
+    let tested = pool_fits(rt.alloc(), &memory, &IdentityMapping, root, &pool);
+    assert!(rt; unwrap(rt, tested));
+    let segments = [
+        segment(0x40_0000, 0x80_0000, 2, read()),
+        segment(0x5f_f000, 0x9f_f000, 2, write()),
+    ];
+    let listed = load_and_list(rt.alloc(), &mut memory, root, &mut pool, &segments);
+    let listed = unwrap_some(rt, unwrap(rt, listed));
+    assert_equal(rt, listed.len(), LINES.len());
+    for (mapping, line) in listed.iter().zip(LINES) {
+        let text = unwrap(rt, format!(in rt.alloc(); "{mapping}"));
+        assert_equal(rt, text.as_str(), line);
+    }
 }
