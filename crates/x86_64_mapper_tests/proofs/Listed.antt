@@ -1,37 +1,36 @@
 -- A page of 4KiB that stands is a mapping, and is listed.
-use Rattle.std.proofs.Common.{◌≡◌, inl, inr, ⊎_elim, ◌<◌, ◌≤◌, ◌+◌, ◌*◌, ◌/◌, ◌-◌, ◌%◌, ◌^◌, ◌&&◌, ℕ, Bool, true, false, not, cond, List, [], ◌∷◌, Option, Some, None, filter_map, get_or, bit_and, bit_or, refl, sym, ap, ◌∙◌, subst, subst₂, arith}
+use Rattle.std.proofs.Common.{◌≡◌, inl, inr, ⊎_elim, ◌<◌, ◌+◌, ◌*◌, ◌/◌, ◌-◌, ◌%◌, ◌^◌, ◌&&◌, ℕ, Bool, true, false, not, cond, List, [], ◌∷◌, Option, Some, None, filter_map, get_or, bit_and, bit_or, refl, sym, ap, ◌∙◌, subst, subst₂, arith}
 use Rattle.std.proofs.lemmas.Bool.{and_from, and_parts, and_right}
-use Rattle.std.specs.List.{cons_option, find, list_all}
-use Rattle.x86_64_mappers.proofs.Way.PagePaths.{start_of_path}
-use Rattle.x86_64_model.specs.Entry.{has, present, huge, writable, user, no_execute, flags, address}
+use Rattle.std.specs.List.{All, cons_option, list_all, range_with_len}
+use Rattle.x86_64_model.specs.Entry.{has, present, no_execute, flags, address}
+use Rattle.x86_64_model.specs.Hierarchy.{paths_of}
 use Rattle.x86_64_model.specs.Laws.Mappings.{entries_along}
+use Rattle.x86_64_model.specs.Layout.{Valid}
 use Rattle.x86_64_model.specs.Lists.{In}
-use Rattle.x86_64_model.specs.MapRule.{leaf_entry, parent_part}
-use Rattle.x86_64_model.specs.Mappings.{Mapping, has_position, is_leaf, leaf_of, mapping_at, mapping_of, mappings_of}
+use Rattle.x86_64_model.specs.MapRule.{parent_part}
+use Rattle.x86_64_model.specs.Mappings.{Mapping, is_leaf, leaf_of, mapping_at, mapping_of, mappings_of}
 use Rattle.x86_64_model.specs.Memory.{Memory, Words, identity_places, words_of}
+use Rattle.x86_64_model.specs.PageMappings.{PageMapping}
 use Rattle.x86_64_model.specs.Path.{AllBelow, path_at, paths_below}
 use Rattle.x86_64_model.specs.PathMap.{PathMap, entry}
 use Rattle.x86_64_model.specs.Position.{index, page_path, position_count, span}
 use Rattle.x86_64_model.specs.Standing.{IsParent, StandsAt}
 use Rattle.x86_64_model.specs.Window.{IsValidFor}
+use Rattle.x86_64_tables.specs.PageTableFlags.{bits_of}
+use Rattle.x86_64_mappers.specs.Layouts.{direct, owned}
+use Rattle.x86_64_loader.specs.Segments.{IsLoaded, mapping_of as page_mapping, small_pages}
+use Rattle.x86_64_loader.specs.declared.segment.Segment.{Segment}
+use Rattle.x86_64_mapper_tests.specs.Listed.{AreListed, IsListed}
 use Rattle.x86_64_model.proofs.Lemmas.Entries.Bits.{address_or, and_or_distrib, no_flag, only_flags}
 use Rattle.x86_64_model.proofs.Lemmas.Hierarchies.Exists.{in_paths_below}
+use Rattle.x86_64_model.proofs.Lemmas.Lists.All.{at_member}
+use Rattle.x86_64_model.proofs.Lemmas.Lists.Members.{in_map, in_range}
 use Rattle.x86_64_model.proofs.Lemmas.Mappings.Chains.{find_member, has_from}
 use Rattle.x86_64_model.proofs.Lemmas.Mappings.EntriesAlong.{mappings_are_leaves}
 use Rattle.x86_64_model.proofs.Lemmas.Mappings.Positions.{mappings_chain}
 use Rattle.x86_64_model.proofs.Lemmas.Maps.Arrives.{part_has}
 use Rattle.x86_64_model.proofs.Lemmas.Walks.Walked.{index_small}
-use Rattle.std.specs.List.{All, range_with_len}
-use Rattle.x86_64_loader.specs.Segments.{IsLoaded, mapping_of as page_mapping, small_pages}
-use Rattle.x86_64_loader.specs.declared.segment.Segment.{Segment}
-use Rattle.x86_64_mappers.specs.Layouts.{direct, owned}
-use Rattle.x86_64_model.specs.Hierarchy.{paths_of}
-use Rattle.x86_64_model.specs.Layout.{Valid}
-use Rattle.x86_64_model.specs.PageMappings.{PageMapping}
-use Rattle.x86_64_tables.specs.PageTableFlags.{bits_of}
-use Rattle.x86_64_model.proofs.Lemmas.Lists.All.{at_member}
-use Rattle.x86_64_model.proofs.Lemmas.Lists.Members.{in_map, in_range}
-use Rattle.x86_64_mapper_tests.specs.Listed.{AreListed, IsListed}
+use Rattle.x86_64_mappers.proofs.Way.PagePaths.{start_of_path}
 
 -- what an element gives is in the list of what all give
 in_filter_map : {X Y : Type 0} (h : X → Option Y) (xs : List X) (x : X) (y : Y) → In xs x → h x ≡ Some y → In (filter_map h xs) y
@@ -59,9 +58,6 @@ module _ (T : Words) (root : ℕ) (M : PathMap) (valid : IsValidFor 4 None T roo
 
   abbrev Parent : ℕ → Type 0
   Parent = IsParent (parent_part given)
-
-  own : ℕ
-  own = entry M path
 
   own_is : entry M path ≡ bit_or frame given
   own_is = stands.own_entry

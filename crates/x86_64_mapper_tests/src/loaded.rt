@@ -1,13 +1,13 @@
 //! What a load has mapped: a caller loads segments, lets go of the mapper, and lists all that is mapped below the root.
-ghost use Rattle.std.specs.Prelude.{◌≡◌, IfOk, IfSome, IsTrue};
+ghost use Rattle.std.specs.Prelude.{◌≡◌, IfOk, IfSome, IsSome, IsTrue};
 ghost use Rattle.std.specs.List.{All};
-ghost use Rattle.x86_64_loader.specs.Segments.{IsLoaded, small_pages};
+ghost use Rattle.x86_64_loader.specs.Segments.{IsAllowed, IsLoaded, Suffices, small_pages};
 ghost use Rattle.x86_64_mapper_tests.specs.Listed.{AreListed};
 ghost use Rattle.x86_64_mappers.specs.Layouts.{direct, owned};
-ghost use Rattle.x86_64_model.specs.Mapper.{SupplyFits, Valid};
+ghost use Rattle.x86_64_model.specs.Layout.{IsReady};
+ghost use Rattle.x86_64_model.specs.Mapper.{SupplyFits};
 ghost use Rattle.x86_64_model.specs.Mappings.{mappings_of};
 ghost use Rattle.x86_64_model.specs.Memory.{identity_places, words_of};
-ghost use Rattle.x86_64_model.specs.Layout.{IsReady};
 
 use crate::assertions::{assert_equal, unwrap, unwrap_some};
 use crate::loader::{Machine, frame, read, segment, write};
@@ -21,6 +21,9 @@ use x86_64_loader::{Segment, load, segments_allowed};
 fn load_by<M: MapperAllSizes>(mapper: &mut M, pool: &mut FramePool, segments: &[Segment]) -> bool
     requires { SupplyFits (M.hierarchy mapper.old) pool.old.frames }
     ensures loaded { IsTrue result → All (IsLoaded small_pages (M.hierarchy mapper.new)) segments.now }
+    ensures succeeds { let h = M.hierarchy mapper.old in
+        All (IsAllowed h) segments.now → Suffices small_pages h pool.old.frames segments.now
+        → IsTrue result }
     ensures fits { SupplyFits (M.hierarchy mapper.new) pool.new.frames }
     ensures layout { (M.hierarchy mapper.new).layout ≡ (M.hierarchy mapper.old).layout }
     ensures lent { (M.hierarchy mapper.new).lent ≡ (M.hierarchy mapper.old).lent }
@@ -41,6 +44,9 @@ fn load_into<T: TableMemory>(
     requires { IsReady (direct identity_places root) (T.tables memory.old) pool.old.frames }
     ensures loaded { let h = owned identity_places root (T.tables memory.new) (tt {0}) in
         IsTrue result → All (IsLoaded small_pages h) segments.now }
+    ensures succeeds { let h = owned identity_places root (T.tables memory.old) (tt {0}) in
+        All (IsAllowed h) segments.now → Suffices small_pages h pool.old.frames segments.now
+        → IsTrue result }
     ensures fits { IsReady (direct identity_places root) (T.tables memory.new) pool.new.frames }
     ensures lent { T.lent memory.new ≡ T.lent memory.old }
 {
@@ -60,8 +66,10 @@ fn list_all<T: TableMemory>(
     mappings(memory, &IdentityMapping, root).collect(alloc)
 }
 
-/// Loads segments by pages of 4KiB, lets go of the mapper, and lists all mappings below the root, or answers `None` if not all
-/// segments are loaded.
+/// Loads segments by pages of 4KiB, lets go of the mapper, and lists all mappings below the root. Each page of the segments has one
+/// among them. It answers `None` if the segments may not be loaded or not all were.
+///
+/// Condition: the hierarchy is valid, and the pool fits it, as [`pool_fits`] tells. It fits again.
 ///
 /// # Errors
 ///
@@ -78,6 +86,9 @@ pub fn load_and_list<T: TableMemory>(
         IfOk result (λ listed. IfSome listed (λ mappings. mappings.items ≡ mappings_of 4 words root)) }
     ensures loaded { IfOk result (λ listed.
         IfSome listed (λ mappings. All (AreListed mappings.items) segments.now)) }
+    ensures succeeds { let h = owned identity_places root (T.tables memory.old) (tt {0}) in
+        All (IsAllowed h) segments.now → Suffices small_pages h pool.old.frames segments.now
+        → IfOk result IsSome }
     ensures fits { IsReady (direct identity_places root) (T.tables memory.new) pool.new.frames }
     ensures lent { T.lent memory.new ≡ T.lent memory.old }
 {

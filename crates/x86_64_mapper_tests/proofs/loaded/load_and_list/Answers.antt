@@ -1,4 +1,4 @@
-use Rattle.std.proofs.Common.{rules, ◌≡◌, sym, subst}
+use Rattle.std.proofs.Common.{rules, sym, subst}
 use Rattle.std.specs.List.{All}
 use Rattle.x86_64_mapper_tests.specs.Listed.{AreListed}
 use Rattle.x86_64_mapper_tests.proofs.Listed.{segments_listed}
