@@ -26,8 +26,9 @@ pub use x86_64_mappers::recursive_page_table::{
     p4_window_57,
 };
 pub use x86_64_mappings::{
-    Mapping, Mapping57, MappingIn, Mappings, Mappings57, MappingsIn, mappings, mappings_57,
-    mappings_from, mappings_from as mappings_from_57,
+    Mapping, Mapping57, MappingIn, Mappings, Mappings57, MappingsIn, Region, Region57, RegionIn,
+    Regions, Regions57, RegionsIn, mappings, mappings_57, mappings_from,
+    mappings_from as mappings_from_57, regions, regions_57,
 };
 pub use x86_64_page::range::Block;
 pub use x86_64_tables::frame_alloc::{FrameKeeper, FramePool, FrameStore, PoolRefusal};

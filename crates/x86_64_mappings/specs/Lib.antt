@@ -1,7 +1,9 @@
 pub mod Views
 pub mod Texts
+pub mod Ahead
 pub use Rattle.x86_64_model.specs.Position
 pub use Rattle.x86_64_model.specs.Mappings
 pub use Rattle.x86_64_model.specs.Memory
+pub use Rattle.x86_64_model.specs.Regions
 pub use Rattle.x86_64_tables.specs.Translations
 pub use Rattle.x86_64_tables.specs.PageTableFlags

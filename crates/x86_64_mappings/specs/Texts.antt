@@ -1,7 +1,8 @@
--- The texts of mappings.
-use Rattle.std.specs.Prelude.{ℕ, Bool, false, ◌==◌, ◌/◌, ◌%◌, ◌++◌, if◌then◌else◌, List, codes, decimal}
+-- The texts of mappings and regions.
+use Rattle.std.specs.Prelude.{ℕ, Bool, false, ◌==◌, ◌+◌, ◌-◌, ◌/◌, ◌%◌, ◌++◌, if◌then◌else◌, List, codes, decimal}
 use Rattle.std.specs.Fmt.{digits}
 use Rattle.x86_64_model.specs.Mappings.{Mapping}
+use Rattle.x86_64_model.specs.Regions.{Region}
 use Rattle.x86_64_model.specs.Position.{raw}
 
 -- the digits of base 16, in lower case and without leading zeros
@@ -30,3 +31,9 @@ abbrev pub mapping_text : (L : ℕ) → Mapping → List ℕ
 mapping_text L m =
     hexadecimal (raw L m.start) ++ codes " " ++ size_text m.size ++ codes " " ++ hexadecimal m.frame
     ++ codes " " ++ rights_text m.rights.write m.rights.user m.rights.execute ++ codes " " ++ hexadecimal m.flags
+
+-- FIRST-LAST SIZE RIGHTS
+abbrev pub region_text : (L : ℕ) → Region → List ℕ
+region_text L r =
+    hexadecimal (raw L r.first) ++ codes "-" ++ hexadecimal (raw L r.last) ++ codes " " ++ size_text (r.last + 1 - r.first)
+    ++ codes " " ++ rights_text r.rights.write r.rights.user r.rights.execute

@@ -7,13 +7,15 @@ ghost use Rattle.x86_64_model.specs.Memory.{words_of};
 mod cursor;
 
 use crate::mapping::MappingIn;
-use cursor::Cursor;
+use cursor::{Cursor, go_on};
 use std::marker::{Model, PhantomData};
 use x86_64_addr::addr::VirtAddrIn;
 use x86_64_addr::level_count::{FiveLevels, FourLevels, LevelCount};
 use x86_64_page::frame::PhysFrame;
-use x86_64_page::page::Size4KiB;
-use x86_64_tables::phys_memory::{PageTableFrameMapping, TableMemory};
+use x86_64_page::page::{PageSize, Size4KiB};
+use x86_64_tables::mapper::MappedFrame;
+use x86_64_tables::page_table::PageTableFlags;
+use x86_64_tables::phys_memory::{PageTableFrameMapping, TableMemory, has_flag};
 
 /// Gives the mappings below a root in order of their starts, each once, and then `None` for good. It is seen as the list of the
 /// mappings that are still to come.
@@ -35,8 +37,7 @@ pub type Mappings<'a, T, P> = MappingsIn<'a, FourLevels, T, P>;
 pub type Mappings57<'a, T, P> = MappingsIn<'a, FiveLevels, T, P>;
 
 impl<'a, L: LevelCount, T: TableMemory, P: PageTableFrameMapping> Model
-    for MappingsIn<'a, L, T, P>
-{
+    for MappingsIn<'a, L, T, P> {
     ghost use Rattle.std.specs.Prelude.{List};
     ghost use Rattle.x86_64_model.specs.Mappings.{Mapping, mappings_from, mappings_of};
     ghost use Rattle.x86_64_model.specs.Memory.{words_of};
@@ -48,16 +49,41 @@ impl<'a, L: LevelCount, T: TableMemory, P: PageTableFrameMapping> Model
 }
 
 impl<'a, L: LevelCount, T: TableMemory, P: PageTableFrameMapping> Iterator
-    for MappingsIn<'a, L, T, P>
-{
+    for MappingsIn<'a, L, T, P> {
     type Item = MappingIn<L>;
 
     ghost next_gives = { YieldsFirst (λ s. s) };
 
     ghost remaining = { item_count (λ s. s) };
 
+    #[inline]
     fn next(&mut self) -> Option<MappingIn<L>> {
-        None
+        loop {
+            let Cursor {
+                next,
+                level,
+                rights,
+                rest,
+            } = self.cursor;
+            match rest.split_first() {
+                Some((entry, others)) if level == 1 => {
+                    self.cursor.next = next + Size4KiB::SIZE;
+                    self.cursor.rest = others;
+                    if has_flag(entry, PageTableFlags::PRESENT) {
+                        let frame = PhysFrame::from_start_address_unchecked(entry.addr());
+                        let frame = MappedFrame::Size4KiB(frame);
+                        return Some(MappingIn::by(entry, next, frame, rights));
+                    }
+                }
+                _ => {
+                    let way = go_on(self.memory, self.mapping, self.root, self.cursor);
+                    self.cursor = way.cursor;
+                    if way.found.is_some() || self.cursor.next >= L::POSITION_COUNT {
+                        return way.found;
+                    }
+                }
+            }
+        }
     }
 }
 
@@ -84,7 +110,7 @@ pub fn mappings_57<'a, T: TableMemory, P: PageTableFrameMapping>(
 }
 
 /// Gives the mappings below a root.
-fn all_mappings<'a, L: LevelCount, T: TableMemory, P: PageTableFrameMapping>(
+pub(crate) fn all_mappings<'a, L: LevelCount, T: TableMemory, P: PageTableFrameMapping>(
     memory: &'a T,
     mapping: &'a P,
     root: PhysFrame<Size4KiB>,

@@ -8,7 +8,8 @@ use std::marker::Model;
 use x86_64_addr::addr::VirtAddrIn;
 use x86_64_addr::level_count::{FiveLevels, FourLevels, LevelCount};
 use x86_64_tables::mapper::MappedFrame;
-use x86_64_tables::page_table::PageTableFlags;
+use x86_64_tables::page_table::{PageTableEntry, PageTableFlags};
+use x86_64_tables::phys_memory::Rights;
 
 /// Says what a leaf maps, with as many levels of page tables as `L` says: the addresses from `start` on, as many bytes as the frame
 /// has, to the frame.
@@ -49,17 +50,36 @@ impl<L: LevelCount> Model for MappingIn<L> {
     ghost view = { λ m. mapping_to m.start m.frame m.flags m.write m.user m.execute };
 
     ghost inverse = { λ m. record {
-        start = m.start;
-        frame = frame_at m.size m.frame;
-        flags = record { 0 = m.flags };
-        write = m.rights.write;
-        user = m.rights.user;
-        execute = m.rights.execute } };
+      start = m.start;
+      frame = frame_at m.size m.frame;
+      flags = record { 0 = m.flags };
+      write = m.rights.write;
+      user = m.rights.user;
+      execute = m.rights.execute;
+    } };
 
     ghost inverse_ok = { λ m _. ap (λ frame. record m { frame = frame }) (frame_at_frame m.frame) };
 }
 
 impl<L: LevelCount> MappingIn<L> {
+    /// Makes the mapping of the positions from a start on to a frame, by an entry, where entries with these rights are above.
+    pub(crate) fn by(
+        entry: &PageTableEntry,
+        start: u64,
+        frame: MappedFrame,
+        above: Rights,
+    ) -> MappingIn<L> {
+        let rights = above.below(entry);
+        MappingIn {
+            start: VirtAddrIn::new_truncate(start),
+            frame,
+            flags: entry.flags(),
+            write: rights.write,
+            user: rights.user,
+            execute: rights.execute,
+        }
+    }
+
     /// Gives the size in bytes: 4KiB, 2MiB or 1GiB.
     pub fn size(&self) -> u64
         ensures { result ≡ self.now.size }

@@ -12,15 +12,21 @@ pub(crate) fn write_size<W: Write>(f: &mut Formatter<W>, bytes: u64) -> FmtResul
     const MIB: u64 = 1 << 20;
     const GIB: u64 = 1 << 30;
     const TIB: u64 = 1 << 40;
-    let (unit, name) = match bytes {
-        0 => (KIB, "KiB"),
-        _ if bytes % TIB == 0 => (TIB, "TiB"),
-        _ if bytes % GIB == 0 => (GIB, "GiB"),
-        _ if bytes % MIB == 0 => (MIB, "MiB"),
-        _ => (KIB, "KiB"),
-    };
-    let count = bytes / unit;
-    write!(f, "{count}{name}")
+    if bytes == 0 {
+        f.write_str("0KiB")
+    } else if bytes % TIB == 0 {
+        let count = bytes / TIB;
+        write!(f, "{count}TiB")
+    } else if bytes % GIB == 0 {
+        let count = bytes / GIB;
+        write!(f, "{count}GiB")
+    } else if bytes % MIB == 0 {
+        let count = bytes / MIB;
+        write!(f, "{count}MiB")
+    } else {
+        let count = bytes / KIB;
+        write!(f, "{count}KiB")
+    }
 }
 
 /// Writes the letters of what may be read, written, executed, and reached by user code.

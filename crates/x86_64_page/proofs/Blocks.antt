@@ -316,7 +316,7 @@ front_step z m s e s' e' k j a c o within left =
         ap (λ d. blocks_from z (s + z) (d / z)) same ∙ ap₂ (blocks_inclusive z) (sym at.0) (sym at.1)
 
 -- a call that takes the first of a list leaves fewer
-pub goes_first : {S A : Type 0} (rest : S → List ℕ) (before after : S) (item : A) (place : ℕ) → rest before ≡ place ∷ rest after → MakesProgress (λ _. ⊤) (item_count rest) before (Some item) after
+pub goes_first : {S A B : Type 0} (rest : S → List B) (before after : S) (item : A) (first : B) → rest before ≡ first ∷ rest after → MakesProgress (λ _. ⊤) (item_count rest) before (Some item) after
 goes_first rest s t x p e = record { on = λ _. (tt, tt, let h = ap length e in omega arith); keeps = tt; rests = λ _. tt }
 
 -- a call that takes the last of a list leaves fewer

@@ -1,4 +1,4 @@
-mod Blocks
+pub mod Blocks
 mod Indices
 mod InTurn
 mod InTurnInclusive

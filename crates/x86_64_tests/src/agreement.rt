@@ -7,6 +7,7 @@
 //! each call is a list of one; in [`lists`] lists of many calls by the same rule are answered by the library.
 mod chooser;
 mod commands;
+mod listing;
 mod lists;
 mod modes;
 mod outcomes;

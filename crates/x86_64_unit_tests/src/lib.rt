@@ -1,4 +1,4 @@
-//! Tests of the public calls of the crates up to tables, one module a crate. They stand here and not in the crates, so that each crate
+//! Tests of the public calls of the crates up to mappings, one module a crate. They stand here and not in the crates, so that each crate
 //! is proved once.
 #![tactic(auto)]
 
@@ -8,6 +8,8 @@ mod addr;
 mod assertions;
 #[cfg(test)]
 mod derives;
+#[cfg(test)]
+mod mappings;
 #[cfg(test)]
 mod page;
 #[cfg(test)]

@@ -4,7 +4,7 @@ ghost use Rattle.std.specs.Prelude.{◌≡◌, ◌-◌, ◌%◌, ◌^◌};
 mod frame_alloc;
 mod mapper;
 mod page_table;
-mod phys_memory;
+pub(crate) mod phys_memory;
 
 use crate::assertions::{assert_equal, assert_equal_at, unwrap, unwrap_some};
 use bitflags::Flags;

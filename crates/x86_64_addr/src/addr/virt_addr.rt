@@ -86,12 +86,9 @@ impl<L: LevelCount> VirtAddrIn<L> {
     pub fn new_truncate(addr: u64) -> Self
         ensures { result ≡ addr % position_count L.LEVELS }
     {
-        let position = addr % L::POSITION_COUNT;
-        if position < L::POSITION_COUNT / 2 {
-            Self::new(position)
-        } else {
-            Self::new(position.wrapping_sub(L::POSITION_COUNT))
-        }
+        // Compiles to two shifts, and to no branch.
+        let half = L::POSITION_COUNT / 2;
+        Self::new((addr.wrapping_add(half) % L::POSITION_COUNT).wrapping_sub(half))
     }
 
     /// Makes an address of its raw value, or returns `None` exactly if it isn't canonical.

@@ -1,5 +1,5 @@
 //! Tables of 512 entries.
-ghost use Rattle.std.specs.Prelude.{◌≡◌, ◌<◌, ◌↔◌, All, IsTrue, length, drop, slice_index};
+ghost use Rattle.std.specs.Prelude.{◌≡◌, ◌<◌, ◌↔◌, All, IsTrue, length, slice_index};
 ghost use Rattle.std.specs.Borrow.{sem};
 ghost use Rattle.x86_64_tables.specs.PageTable.{zero_words};
 ghost use Rattle.x86_64_tables.specs.Lending.{LendsWord};
@@ -61,14 +61,12 @@ impl PageTable {
         Entries::new(&self.entries)
     }
 
-    /// Gives the entries from an index on, in order of index, each once. Condition: the index is below 512.
-    pub fn iter_from(&self, index: usize) -> Entries<'_>
-        requires { index < 512 }
-        ensures words { result ≡ drop index self.now }
+    /// Gives the entries as a slice.
+    pub fn as_slice(&self) -> &[PageTableEntry]
+        ensures words { result.now ≡ self.now }
         ensures size { length self.now ≡ 512 }
     {
-        let entries = &self.entries[..];
-        Entries::new(&entries[index..])
+        &self.entries
     }
 
     /// Lends the entries to be changed, in order of index, each once.

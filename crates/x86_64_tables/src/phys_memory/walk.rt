@@ -77,9 +77,9 @@ impl Rights {
         ensures execute { result.execute ≡ (self.execute && not (no_execute entry.now)) }
     {
         Rights {
-            write: self.write && has_flag(entry, PageTableFlags::WRITABLE),
-            user: self.user && has_flag(entry, PageTableFlags::USER_ACCESSIBLE),
-            execute: self.execute && !has_flag(entry, PageTableFlags::NO_EXECUTE),
+            write: self.write & has_flag(entry, PageTableFlags::WRITABLE),
+            user: self.user & has_flag(entry, PageTableFlags::USER_ACCESSIBLE),
+            execute: self.execute & !has_flag(entry, PageTableFlags::NO_EXECUTE),
         }
     }
 }
@@ -177,7 +177,7 @@ fn arrive<S: PageSize>(entry: &PageTableEntry, position: u64, rights: Rights) ->
 
 /// Gives the index of a level at a position.
 #[tactic(auto, using(x86_64_model::proofs::Lemmas::Entries::Bits::low_nine), unfolding(x86_64_model::specs::Position::index))]
-fn index_of(position: u64, level: u64) -> usize
+pub fn index_of(position: u64, level: u64) -> usize
     requires low { 1 ≤ level }
     requires high { level ≤ 5 }
     ensures value { result ≡ index level position }

@@ -1,10 +1,11 @@
 //! Lists of calls that a fixed rule makes, answered by the plain slow program, and by the direct mapper and the recursive one: by both
 //! at once, or by each alone.
 //!
-//! After each list the replies, both memories and both pools are compared with the plain ones, and at the end each kind of outcome was
-//! met.
+//! After each list the replies, both memories, both pools and what the first memory maps are compared with the plain ones, and at the
+//! end each kind of outcome was met.
 use super::chooser::Chooser;
 use super::commands::command_of;
+use super::listing::compare_mappings;
 use super::modes::{Levels, Mode, RECURSIVE_INDEX, Way};
 use super::outcomes::Met;
 use super::session::{PLACES, Session, slot_of};
@@ -173,7 +174,9 @@ impl Pair {
         };
         assert_equal_in(rt, is_at_once, replies, wanted);
         self.direct.compare(rt, alloc);
-        self.recursive.compare(rt, alloc)
+        self.recursive.compare(rt, alloc);
+        let Twins { memory, plain, .. } = &self.direct;
+        compare_mappings::<L>(rt, alloc, chooser.levels(), memory, plain)
     }
 }
 

@@ -109,6 +109,11 @@ impl Session {
         words
     }
 
+    /// Gives the entries by their paths.
+    pub fn paths(&self) -> &PathEntries {
+        &self.state.paths
+    }
+
     /// Gives the addresses of the free frames.
     pub fn free_frames(&self) -> &[u64] {
         &self.state.pool

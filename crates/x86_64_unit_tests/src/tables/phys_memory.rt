@@ -21,13 +21,13 @@ use x86_64_tables::phys_memory::{
 };
 
 /// A word, after its frame and its index.
-type Word = (u64, u16, u64);
+pub(crate) type Word = (u64, u16, u64);
 
 /// The bits of a word that are flags.
 const FLAGS_MASK: u64 = 0xfff0_0000_0000_0fff;
 
 /// Sets words of a memory.
-fn set_words<T: TableMemory>(rt: impl Abort + Copy, memory: &mut T, words: &[Word]) {
+pub(crate) fn set_words<T: TableMemory>(rt: impl Abort + Copy, memory: &mut T, words: &[Word]) {
     for (frame, index, word) in words {
         let table = unwrap_some(rt, memory.table_mut(FramePlace::new(*frame / 0x1000)));
         let flags = PageTableFlags::from_bits_retain(*word & FLAGS_MASK);

@@ -20,6 +20,11 @@ pub record IsPlaced (L : ℕ) (m : Mapping) : Type 0 where
 abbrev pub MappingsApart : List Mapping → Type 0
 MappingsApart ms = InOrder (λ m n. (m.start < n.start) × (m.start + m.size ≤ n.start)) ms
 
+-- a mapping ends before each one behind it starts
+ends_before : (m : Mapping) (ms : List Mapping) → 0 < m.size → AllByRecursion (λ n. (m.start < n.start) × (m.start + m.size ≤ n.start)) ms
+    → AllByRecursion (λ n. m.start + m.size - 1 < n.start) ms
+ends_before m ms some order = all_mapped (λ n. (m.start < n.start) × (m.start + m.size ≤ n.start)) (λ n. m.start + m.size - 1 < n.start) (λ n h. omega (arith, some, h.1)) ms order
+
 -- ---- apart
 
 module _ (L : ℕ) where
@@ -59,13 +64,13 @@ module _ (L : ℕ) where
       ] refl
     where
       behind : AllByRecursion (λ n. m.start + m.size - 1 < n.start) ms
-      behind = all_mapped _ (λ n. m.start + m.size - 1 < n.start) (λ n h. omega (arith, placed.0.some, h.1)) ms order.0
+      behind = ends_before m ms placed.0.some order.0
 
   pub regions_apart : (ms : List Mapping) → AllByRecursion (IsPlaced L) ms → MappingsApart ms → InOrder RegionApart (regions_in L ms)
   unfolding regions_in
   regions_apart [] placed order = tt
   regions_apart (m ∷ ms) placed order = subst (InOrder RegionApart) (sym (regions_are_begun L m ms)) (in_order m.start m.rights (begun L (region_of m) ms)
-      (begun_apart (region_of m) ms (omega (arith, placed.0.some)) (all_mapped _ (λ n. m.start + m.size - 1 < n.start) (λ n h. omega (arith, placed.0.some, h.1)) ms order.0) placed.1 order.1))
+      (begun_apart (region_of m) ms (omega (arith, placed.0.some)) (ends_before m ms placed.0.some order.0) placed.1 order.1))
 
   -- ---- in halves
 

@@ -1,0 +1,118 @@
+//! Where consecutive mappings allow the same.
+ghost use Rattle.std.specs.Prelude.{◌≡◌, ◌+◌, ◌-◌, ◌≤◌, Some};
+ghost use Rattle.x86_64_model.specs.Position.{position_count};
+ghost use Rattle.x86_64_model.specs.Regions as model;
+
+use crate::mapping::MappingIn;
+use crate::text::{write_rights, write_size};
+use std::fmt::{Display, Formatter, Result as FmtResult, Write};
+use std::marker::Model;
+use x86_64_addr::addr::VirtAddrIn;
+use x86_64_addr::level_count::{FiveLevels, FourLevels, LevelCount};
+
+/// Says what consecutive mappings allow, with as many levels of page tables as `L` says: a run of them, as long as can be, each
+/// of which starts where the one before ended, all in one half of the address space, with the same rights.
+#[derive(Clone, Copy)]
+#[derive_where(Debug, PartialEq)]
+pub struct RegionIn<L: LevelCount> {
+    /// The first address.
+    pub first: VirtAddrIn<L>,
+    /// The last address.
+    pub last: VirtAddrIn<L>,
+    /// Tells whether all entries that lead to a page of the region have `WRITABLE`.
+    pub write: bool,
+    /// Tells whether all entries that lead to a page of the region have `USER_ACCESSIBLE`.
+    pub user: bool,
+    /// Tells whether no entry that leads to a page of the region has `NO_EXECUTE`.
+    pub execute: bool,
+}
+
+/// A region with four levels of page tables.
+pub type Region = RegionIn<FourLevels>;
+
+/// A region with five levels of page tables.
+pub type Region57 = RegionIn<FiveLevels>;
+
+impl<L: LevelCount> Model for RegionIn<L> {
+    ghost use Rattle.x86_64_model.specs.Regions.{Region};
+    ghost use Rattle.std.proofs.Common.{refl};
+
+    ghost Value = { Region };
+
+    ghost view = { λ r. record {
+      first = r.first;
+      last = r.last;
+      rights = record { write = r.write; user = r.user; execute = r.execute };
+    } };
+
+    ghost inverse = { λ r. record {
+      first = r.first;
+      last = r.last;
+      write = r.rights.write;
+      user = r.rights.user;
+      execute = r.rights.execute;
+    } };
+
+    ghost inverse_ok = { λ r _. refl };
+}
+
+impl<L: LevelCount> RegionIn<L> {
+    /// Makes the region of one mapping.
+    pub(crate) fn of(mapping: &MappingIn<L>) -> RegionIn<L>
+        requires { mapping.now.start + mapping.now.size ≤ position_count L.LEVELS }
+        ensures { result ≡ model.region_of mapping.now }
+    {
+        let start = mapping.start.position();
+        RegionIn {
+            first: mapping.start,
+            last: VirtAddrIn::new_truncate(start + (mapping.size() - 1)),
+            write: mapping.write,
+            user: mapping.user,
+            execute: mapping.execute,
+        }
+    }
+
+    /// Tells whether a region follows on this one: it starts at the next address, not in the other half, and allows the same.
+    pub(crate) fn is_followed_by(&self, next: &RegionIn<L>) -> bool
+        ensures { result ≡ model.follows L.LEVELS self.now next.now }
+    {
+        let first = next.first.position();
+        let consecutive = first == self.last.position() + 1 && first != L::POSITION_COUNT / 2;
+        consecutive
+            && self.write == next.write
+            && self.user == next.user
+            && self.execute == next.execute
+    }
+
+    /// Gives the region that goes on to the last address of another.
+    pub(crate) fn grown_to(self, next: &RegionIn<L>) -> RegionIn<L>
+        ensures { result ≡ model.grown_to self next.now }
+    {
+        RegionIn {
+            last: next.last,
+            ..self
+        }
+    }
+
+    /// Gives how many bytes there are from the first address to the last one.
+    pub fn size(&self) -> u64
+        ensures { result ≡ self.now.last + 1 - self.now.first }
+    {
+        (self.last.position() + 1).saturating_sub(self.first.position())
+    }
+}
+
+impl<L: LevelCount> Display for RegionIn<L> {
+    ghost use Rattle.x86_64_mappings.specs.Texts.{region_text};
+
+    ghost output = { λ region. Some (region_text L.LEVELS region) };
+
+    fn fmt<W: Write>(&self, f: &mut Formatter<W>) -> FmtResult {
+        let first = self.first.as_u64();
+        let last = self.last.as_u64();
+        write!(f, "0x{first:x}-0x{last:x} ")?;
+        write_size(f, self.size())?;
+        f.write_str(" ")?;
+        write_rights(f, self.write, self.user, self.execute)
+    }
+}
