@@ -1,5 +1,5 @@
 -- Loads of segments, one after the other.
-use Rattle.std.proofs.Common.{◌≡◌, ◌<◌, ◌+◌, ◌-◌, ◌*◌, ◌++◌, ℕ, List, [], ◌∷◌, length, take, flat_map, get_or, inl, inr, refl, sym, ap, ◌∙◌, subst, arith}
+use Rattle.std.proofs.Common.{◌≡◌, ◌<◌, ◌+◌, ◌-◌, ◌*◌, ◌/◌, ◌%◌, ◌^◌, ◌++◌, ℕ, List, [], ◌∷◌, length, take, flat_map, get_or, inl, inr, refl, sym, ap, ◌∙◌, subst, arith}
 use Rattle.std.proofs.lemmas.Bool.{cases_lt}
 use Rattle.std.proofs.lemmas.Grind.{flat_map-append}
 use Rattle.std.proofs.lemmas.List.{append-nil, take_more}
@@ -31,9 +31,15 @@ still_allowed h now rest s left allowed = record {
   };
 }
 
+-- where pages start at multiples of their size, each position of a segment whose pages are there is
+position_there : (s : Segment) → s.page % 0x1000 ≡ 0 → ((k : ℕ) → k < s.pages → s.page + k * 0x1000 < 2 ^ 48) → (offset : ℕ) → offset < size_of s → s.page + offset < 2 ^ 48
+position_there s aligned pages offset within = let page = pages (offset / 0x1000) (omega (arith, within)) in omega (arith, page, aligned)
+
 -- what is held is loaded
-pub held_is_loaded : {Lent : Type 0} (pages_of : Segment → List PageMapping) (h : Hierarchy Lent) (s : Segment) → Valid h → AllStand h (pages_of s) → HoldsSegment h s → IsLoaded pages_of h s
-held_is_loaded pages_of h s valid stand held = record {
+pub held_is_loaded : {Lent : Type 0} (pages_of : Segment → List PageMapping) (h first : Hierarchy Lent) (s : Segment) → Valid h → s.page % 0x1000 ≡ 0 → IsAllowed first s → AllStand h (pages_of s) → HoldsSegment h s → IsLoaded pages_of h s
+held_is_loaded pages_of h first s valid aligned allowed stand held = record {
+  aligned = aligned;
+  there = position_there s aligned (λ k within. (allowed.each_page k within).page_there);
   stand = stand;
   arrives = λ o within. held_arrives h (s.page + o) (s.frame + o) (bits_of s.flags) (held o (omega arith) within) valid;
 }

@@ -77,9 +77,11 @@ large_pages s = let first = count_before s in let behind = first + count_large s
 abbrev pub AllStand : {Lent : Type 0} → Hierarchy Lent → List PageMapping → Type 0
 AllStand h pages = AllByRecursion (λ x. Stands h x.level x.page x.frame x.flags) pages
 
--- The segment's pages stand, so each with all of its flags. From each address of it the processor arrives as far from the start of its first frame,
--- with just the rights of its flags.
+-- The segment starts at the start of a page, its positions are there, and its pages stand, so each with all of its flags. From each address of it the
+-- processor arrives as far from the start of its first frame, with just the rights of its flags.
 pub record IsLoaded {Lent : Type 0} (pages_of : Segment → List PageMapping) (h : Hierarchy Lent) (s : Segment) : Type 0 where
+  pub aligned : s.page % 0x1000 ≡ 0
+  pub there : (offset : ℕ) → offset < size_of s → s.page + offset < 2 ^ 48
   pub stand : AllStand h (pages_of s)
   pub arrives : ArrivesIn h (size_of s) s.page s.frame (bits_of s.flags)
 

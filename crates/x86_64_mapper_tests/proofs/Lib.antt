@@ -1,2 +1,3 @@
 mod AgainAtOffset
 mod EmptyTables
+mod Listed

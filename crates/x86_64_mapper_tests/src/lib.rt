@@ -9,6 +9,8 @@ mod beside;
 #[cfg(test)]
 mod guest;
 #[cfg(test)]
+mod loaded;
+#[cfg(test)]
 mod loader;
 #[cfg(test)]
 mod mappers;

@@ -20,19 +20,19 @@ use x86_64_loader::{LoadError, Segment, frames_needed, load, load_large, segment
 const PLACES: u64 = 0x20;
 
 /// Gives the flags of pages that a user reads.
-fn read() -> PageTableFlags {
+pub fn read() -> PageTableFlags {
     PageTableFlags::PRESENT.union(PageTableFlags::USER_ACCESSIBLE)
 }
 
 /// Gives the flags of pages that a user reads and writes.
-fn write() -> PageTableFlags {
+pub fn write() -> PageTableFlags {
     read()
         .union(PageTableFlags::WRITABLE)
         .union(PageTableFlags::NO_EXECUTE)
 }
 
 /// Gives the frame that contains an address.
-fn frame(address: u64) -> PhysFrame<Size4KiB> {
+pub fn frame(address: u64) -> PhysFrame<Size4KiB> {
     PhysFrame::containing_address(PhysAddr::new_truncate(address))
 }
 
@@ -42,7 +42,7 @@ fn page(address: u64) -> Page<Size4KiB> {
 }
 
 /// Gives a segment by the addresses of its first page and frame.
-fn segment(start: u64, to: u64, pages: u64, flags: PageTableFlags) -> Segment {
+pub fn segment(start: u64, to: u64, pages: u64, flags: PageTableFlags) -> Segment {
     Segment {
         page: page(start),
         frame: frame(to),
@@ -90,13 +90,13 @@ enum Way {
 
 /// Holds an empty hierarchy, whose pool has all frames from 0x2000 on.
 #[derive(Drop)]
-struct Machine {
-    memory: PhysMemory,
-    pool: FramePool,
+pub struct Machine {
+    pub memory: PhysMemory,
+    pub pool: FramePool,
 }
 
 impl Machine {
-    fn new(rt: impl Abort + Copy, alloc: Global) -> Machine {
+    pub fn new(rt: impl Abort + Copy, alloc: Global) -> Machine {
         let memory = unwrap(rt, PhysMemory::new(alloc, PLACES));
         let mut pool = unwrap(rt, FramePool::new(alloc, PLACES));
         for number in 2..PLACES {

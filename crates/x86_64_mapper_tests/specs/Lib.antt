@@ -1,0 +1,2 @@
+-- What callers among the tests promise.
+pub mod Listed
