@@ -5,6 +5,7 @@ use x86_64::{IdentityMapping, LevelCount, MappingIn, TableMemory, mappings_from}
 use x86_64_addr::addr::VirtAddrIn;
 
 /// Says how many mappings were listed, and the sum of all that they say.
+#[derive(Clone, Copy)]
 pub struct Listed {
     /// How many there are.
     pub count: u64,
