@@ -109,7 +109,7 @@ fn check_ways(
 
 /// Does so until each kind of reply was met, and asserts that it was.
 fn check_all_replies(rt: impl Abort + Copy, alloc: Global, ways: &[Way], levels: Levels) {
-    let mut chooser = Chooser::new(levels, 1);
+    let mut chooser = Chooser::new(levels);
     let mut met = Met::new(alloc);
     for _ in 0..ROUNDS {
         check_ways(rt, alloc, ways, &mut chooser, &mut met);
@@ -148,7 +148,7 @@ fn check_image(
 
 /// Does so on each image that is valid.
 fn check_images(rt: impl Abort + Copy, alloc: Global, images: &[Image]) {
-    let mut chooser = Chooser::new(Levels::Four, 1);
+    let mut chooser = Chooser::new(Levels::Four);
     let mut met = Met::new(alloc);
     for image in images {
         if image.replies.is_some() {

@@ -8,6 +8,8 @@ use crate::call_rows::CallRow::{
 use crate::call_rows::PageCallRow::{
     self, IdentityMap, MapTo, MapToWithTableFlags, SetFlags, TranslatePage, Unmap, UpdateFlags,
 };
+use rand_core::Rng;
+use rand_pcg::Pcg32;
 
 /// The indices of level five that calls choose from, where there is one. Frames lie below that of index 2.
 const LEVEL_5_INDICES: [u64; 10] = [0, 0, 0, 0, 0, 0, 0, 0, 1, 511];
@@ -62,17 +64,20 @@ fn on_page(size: u64, call: PageCallRow) -> CallRow {
     }
 }
 
-/// Chooses by a linear congruential rule, so that each run of the test makes the same calls.
+/// Chooses by a generator that begins alike in each run of the test, so that each makes the same calls.
 #[derive(Drop)]
 pub struct Chooser {
     levels: Levels,
-    state: u64,
+    generator: Pcg32,
 }
 
 impl Chooser {
-    /// Makes one for so many levels that begins with a state.
-    pub fn new(levels: Levels, state: u64) -> Chooser {
-        Chooser { levels, state }
+    /// Makes one for so many levels.
+    pub fn new(levels: Levels) -> Chooser {
+        Chooser {
+            levels,
+            generator: Pcg32::new(1, 1),
+        }
     }
 
     /// Gives how many levels its calls have.
@@ -84,11 +89,7 @@ impl Chooser {
     fn choose<T: Copy>(&mut self, items: &[T]) -> T
         requires { 1 ≤ length items.now }
     {
-        self.state = self
-            .state
-            .wrapping_mul(6_364_136_223_846_793_005)
-            .wrapping_add(1_442_695_040_888_963_407);
-        items[(self.state >> 33) as usize % items.len()]
+        items[self.generator.next_u32() as usize % items.len()]
     }
 
     /// Chooses indices, the highest level first, and gives the address of the 4KiB page that has them.

@@ -12,7 +12,9 @@ use x86_64_plain::words::{address, flags, is_huge, is_present};
 
 /// `WRITABLE`, `USER_ACCESSIBLE` and `NO_EXECUTE`.
 const WRITABLE: u64 = 0x2;
+
 const USER_ACCESSIBLE: u64 = 0x4;
+
 const NO_EXECUTE: u64 = 0x8000_0000_0000_0000;
 
 /// A mapping plainly: its first position, its size, and the words of its leaf.

@@ -234,7 +234,7 @@ fn check_lists<L: LevelCount, P5: LevelFiveFlags<L>>(
     alloc: Global,
     levels: Levels,
 ) {
-    let mut chooser = Chooser::new(levels, 1);
+    let mut chooser = Chooser::new(levels);
     let mut met = Met::new(alloc);
     for _ in 0..ROUNDS {
         check_round::<L, P5>(rt, alloc, &mut chooser, &mut met);
