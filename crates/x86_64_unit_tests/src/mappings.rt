@@ -1,5 +1,5 @@
 //! Tests of lists of mappings and of regions, by the lines that they are printed as, with four levels of tables and with five.
-use crate::assertions::{assert_equal_in, unwrap};
+use crate::assertions::{assert_equal_in, unwrap, unwrap_some};
 use crate::tables::frame_at;
 use crate::tables::phys_memory::{Word, set_words};
 use std::alloc::Global;
@@ -330,7 +330,7 @@ fn mappings_are_listed_from_an_address_on(rt: HostRuntime) {
     for (addr, before) in STARTS {
         let addr = VirtAddr::new_truncate(addr);
         let listed = mappings_from(&memory, &IdentityMapping, frame_at(0x1000), addr);
-        let lines = row.mappings.get(before..).unwrap_or(&[]);
+        let lines = unwrap_some(rt, row.mappings.get(before..));
         check_lines(rt, rt.alloc(), before, listed, lines);
     }
 }
