@@ -1,4 +1,5 @@
 //! The list of what is mapped.
+use bitflags::Flags;
 use x86_64::structures::paging::{PhysFrame, Size4KiB};
 use x86_64::{IdentityMapping, LevelCount, MappingIn, TableMemory, mappings_from};
 use x86_64_addr::addr::VirtAddrIn;

@@ -1,1 +1,4 @@
 pub mod Ahead
+mod Entries
+mod Steps
+mod Pages

@@ -12,7 +12,7 @@ hexadecimal number = codes "0x" ++ digits 16 false number
 -- a number of bytes in the largest of KiB, MiB, GiB and TiB that divides it; none of them is 0KiB
 abbrev pub size_text : (bytes : ℕ) → List ℕ
 size_text bytes =
-    if bytes == 0 then codes "0KiB"
+    if bytes == 0 then decimal 0 ++ codes "KiB"
     else (if bytes % 0x100_0000_0000 == 0 then decimal (bytes / 0x100_0000_0000) ++ codes "TiB"
     else (if bytes % 0x4000_0000 == 0 then decimal (bytes / 0x4000_0000) ++ codes "GiB"
     else (if bytes % 0x10_0000 == 0 then decimal (bytes / 0x10_0000) ++ codes "MiB"
@@ -23,14 +23,20 @@ abbrev pub letter_text : Bool → (letter : List ℕ) → List ℕ
 letter_text holds letter = if holds then letter else codes "-"
 
 -- four letters, of which each mapping has r
-abbrev pub rights_text : (write user execute : Bool) → List ℕ
+unfoldable pub rights_text : (write user execute : Bool) → List ℕ
 rights_text w u x = codes "r" ++ letter_text w (codes "w") ++ letter_text x (codes "x") ++ letter_text u (codes "u")
 
+-- START SIZE FRAME
+unfoldable pub place_text : (start size frame : ℕ) → List ℕ
+place_text start size frame = hexadecimal start ++ codes " " ++ size_text size ++ codes " " ++ hexadecimal frame
+
 -- START SIZE FRAME RIGHTS FLAGS
+abbrev pub line_text : (start size frame : ℕ) → (write user execute : Bool) → (flags : ℕ) → List ℕ
+line_text start size frame w u x given =
+    place_text start size frame ++ codes " " ++ rights_text w u x ++ codes " " ++ hexadecimal given
+
 abbrev pub mapping_text : (L : ℕ) → Mapping → List ℕ
-mapping_text L m =
-    hexadecimal (raw L m.start) ++ codes " " ++ size_text m.size ++ codes " " ++ hexadecimal m.frame
-    ++ codes " " ++ rights_text m.rights.write m.rights.user m.rights.execute ++ codes " " ++ hexadecimal m.flags
+mapping_text L m = line_text (raw L m.start) m.size m.frame m.rights.write m.rights.user m.rights.execute m.flags
 
 -- FIRST-LAST SIZE RIGHTS
 abbrev pub region_text : (L : ℕ) → Region → List ℕ

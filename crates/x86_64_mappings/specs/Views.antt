@@ -1,11 +1,16 @@
 -- A mapping as code holds it.
 use Rattle.std.specs.Prelude.{◌≡◌, ℕ, Bool, ◌==◌, if◌then◌else◌, refl}
-use Rattle.x86_64_model.specs.Mappings.{Mapping}
+use Rattle.x86_64_model.specs.Mappings.{Mapping, Rights}
 use Rattle.x86_64_tables.specs.PageTableFlags.{bits_of}
 use Rattle.x86_64_tables.specs.Translations.{frame_start, frame_size}
 use Rattle.x86_64_tables.specs.declared.mapper.MappedFrame.{MappedFrame}
 use Rattle.x86_64_tables.specs.declared.mapper.MappedFrame.TheVariants.{Size4KiB, Size2MiB, Size1GiB}
+use Rattle.x86_64_tables.specs.declared.phys_memory.walk.Rights.{Rights as Allowed}
 use Rattle.x86_64_tables.specs.declared.page_table.flags.PageTableFlags.{PageTableFlags}
+
+-- what entries allow
+abbrev pub seen_rights : Allowed → Rights
+seen_rights r = record { write = r.write; user = r.user; execute = r.execute }
 
 -- what is mapped from a start on
 abbrev pub mapping_to : (start : ℕ) → MappedFrame → PageTableFlags → (write user execute : Bool) → Mapping

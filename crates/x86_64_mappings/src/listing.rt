@@ -7,20 +7,19 @@ ghost use Rattle.x86_64_model.specs.Memory.{words_of};
 mod cursor;
 
 use crate::mapping::MappingIn;
-use cursor::{Cursor, go_on};
+use cursor::{Cursor, find_page};
 use std::marker::{Model, PhantomData};
 use x86_64_addr::addr::VirtAddrIn;
 use x86_64_addr::level_count::{FiveLevels, FourLevels, LevelCount};
 use x86_64_page::frame::PhysFrame;
-use x86_64_page::page::{PageSize, Size4KiB};
-use x86_64_tables::mapper::MappedFrame;
-use x86_64_tables::page_table::PageTableFlags;
-use x86_64_tables::phys_memory::{PageTableFrameMapping, TableMemory, has_flag};
+use x86_64_page::page::Size4KiB;
+use x86_64_tables::phys_memory::{PageTableFrameMapping, TableMemory};
 
 /// Gives the mappings below a root in order of their starts, each once, and then `None` for good. It is seen as the list of the
 /// mappings that are still to come.
 ///
-/// It takes no memory, and reads each word of a table once where tables aren't shared. Before each table it walks down from the root.
+/// It takes no memory of the heap. It goes through a table entry by entry, and walks down from the root again only after a table below
+/// ended. A table that several entries name is gone through for each of them.
 #[derive(Drop)]
 pub struct MappingsIn<'a, L: LevelCount, T: TableMemory, P: PageTableFrameMapping> {
     memory: &'a T,
@@ -46,6 +45,11 @@ impl<'a, L: LevelCount, T: TableMemory, P: PageTableFrameMapping> Model
 
     ghost view = { λ s. let words = words_of (T.tables s.memory.now) (P.places s.mapping.now) in
         mappings_from s.cursor.next (mappings_of L.LEVELS words s.root) };
+
+    ghost use Rattle.x86_64_mappings.specs.private.Cursors.{IsCursor};
+
+    ghost invariant = { λ s. let words = words_of (T.tables s.memory.now) (P.places s.mapping.now) in
+        IsCursor L.LEVELS words s.root s.cursor };
 }
 
 impl<'a, L: LevelCount, T: TableMemory, P: PageTableFrameMapping> Iterator
@@ -58,36 +62,30 @@ impl<'a, L: LevelCount, T: TableMemory, P: PageTableFrameMapping> Iterator
 
     #[inline]
     fn next(&mut self) -> Option<MappingIn<L>> {
-        loop {
-            let Cursor {
-                next,
-                level,
-                rights,
-                rest,
-            } = self.cursor;
-            match rest.split_first() {
-                Some((entry, others)) if level == 1 => {
-                    self.cursor.next = next + Size4KiB::SIZE;
-                    self.cursor.rest = others;
-                    if has_flag(entry, PageTableFlags::PRESENT) {
-                        let frame = PhysFrame::from_start_address_unchecked(entry.addr());
-                        let frame = MappedFrame::Size4KiB(frame);
-                        return Some(MappingIn::by(entry, next, frame, rights));
-                    }
-                }
-                _ => {
-                    let way = go_on(self.memory, self.mapping, self.root, self.cursor);
-                    self.cursor = way.cursor;
-                    if way.found.is_some() || self.cursor.next >= L::POSITION_COUNT {
-                        return way.found;
-                    }
-                }
-            }
+        let cursor = self.cursor;
+        if cursor.is_at_small_page() {
+            // The level is known here, and so is all that follows from it.
+            let entry = &cursor.rest[0];
+            self.cursor = cursor.past(1);
+            return Some(MappingIn::of_page(1, cursor.next, entry, cursor.rights));
         }
+        // The call changes a copy, so that the cursor itself can stay in registers.
+        let mut found = cursor;
+        find_page::<L, T, P>(self.memory, self.mapping, self.root, &mut found);
+        self.cursor = found;
+        let entry = found.rest.first()?;
+        self.cursor = found.past(1);
+        Some(MappingIn::of_page(found.level, found.next, entry, found.rights))
     }
 }
 
-/// Gives the mappings below a root with four levels of tables.
+/// Gives the mappings below a root with four levels of tables, in order of their starts.
+///
+/// The tables may be any words, and it ends for any: a table that names itself is read again at each level alone. Nothing is mapped
+/// below an entry whose frame isn't covered by the mapping, or lies at a place that the memory lacks, nor by an entry above level three
+/// with `HUGE_PAGE`. [`page_walk`](x86_64_tables::phys_memory::page_walk) arrives at exactly the addresses that are mapped.
+///
+/// Intel SDM vol. 3A, "4-Level Paging and 5-Level Paging"; AMD APM vol. 2, "Long-Mode Page Translation".
 pub fn mappings<'a, T: TableMemory, P: PageTableFrameMapping>(
     memory: &'a T,
     mapping: &'a P,
@@ -98,7 +96,7 @@ pub fn mappings<'a, T: TableMemory, P: PageTableFrameMapping>(
     all_mappings(memory, mapping, root)
 }
 
-/// Gives the mappings below a root with five levels of tables.
+/// Gives the mappings below a root with five levels of tables, as [`mappings`] does with four.
 pub fn mappings_57<'a, T: TableMemory, P: PageTableFrameMapping>(
     memory: &'a T,
     mapping: &'a P,
@@ -109,7 +107,7 @@ pub fn mappings_57<'a, T: TableMemory, P: PageTableFrameMapping>(
     all_mappings(memory, mapping, root)
 }
 
-/// Gives the mappings below a root.
+/// Gives the mappings below a root with any number of levels.
 pub(crate) fn all_mappings<'a, L: LevelCount, T: TableMemory, P: PageTableFrameMapping>(
     memory: &'a T,
     mapping: &'a P,
@@ -121,8 +119,8 @@ pub(crate) fn all_mappings<'a, L: LevelCount, T: TableMemory, P: PageTableFrameM
     mappings_from(memory, mapping, root, VirtAddrIn::zero())
 }
 
-/// Gives the mappings below a root from the first on that ends at an address or after it. There are as many levels of tables as the
-/// address has.
+/// Gives the mappings below a root from the first on that has an address or lies behind it, as [`mappings`] gives all. There are as
+/// many levels of tables as the address has.
 pub fn mappings_from<'a, L: LevelCount, T: TableMemory, P: PageTableFrameMapping>(
     memory: &'a T,
     mapping: &'a P,

@@ -1,12 +1,19 @@
 //! What a leaf of page tables maps.
-ghost use Rattle.std.specs.Prelude.{◌≡◌, ◌+◌, ◌-◌, Some};
+ghost use Rattle.std.specs.Prelude.{◌≡◌, ◌<◌, ◌≤◌, true, Some};
+ghost use Rattle.x86_64_model.specs.Mappings.{maps_page};
+ghost use Rattle.x86_64_model.specs.Position.{position_count};
+ghost use Rattle.x86_64_model.specs.private.Found.{page_at};
+ghost use Rattle.std.specs.Fmt.{WritesOnOk};
+ghost use Rattle.x86_64_mappings.specs.Texts as texts;
+ghost use Rattle.x86_64_mappings.specs.Views.{seen_rights};
 
-use crate::text::{write_rights, write_size};
+use crate::text::{write_number, write_rights, write_size};
 use bitflags::Flags;
 use std::fmt::{Display, Formatter, Result as FmtResult, Write};
 use std::marker::Model;
 use x86_64_addr::addr::VirtAddrIn;
 use x86_64_addr::level_count::{FiveLevels, FourLevels, LevelCount};
+use x86_64_page::frame::PhysFrame;
 use x86_64_tables::mapper::MappedFrame;
 use x86_64_tables::page_table::{PageTableEntry, PageTableFlags};
 use x86_64_tables::phys_memory::Rights;
@@ -62,16 +69,26 @@ impl<L: LevelCount> Model for MappingIn<L> {
 }
 
 impl<L: LevelCount> MappingIn<L> {
-    /// Makes the mapping of the positions from a start on to a frame, by an entry, where entries with these rights are above.
-    pub(crate) fn by(
+    /// Makes the mapping by an entry of a level that maps a page, at a position of the page, below entries that allow `above`.
+    pub(crate) fn of_page(
+        level: u64,
+        position: u64,
         entry: &PageTableEntry,
-        start: u64,
-        frame: MappedFrame,
         above: Rights,
-    ) -> MappingIn<L> {
+    ) -> MappingIn<L>
+        requires low { 1 ≤ level }
+        requires page { maps_page level entry.now ≡ true }
+        requires inside { position < position_count L.LEVELS }
+        ensures { result ≡ page_at position level (seen_rights above) entry.now }
+    {
+        let frame = match level {
+            1 => MappedFrame::Size4KiB(PhysFrame::containing_address(entry.addr())),
+            2 => MappedFrame::Size2MiB(PhysFrame::containing_address(entry.addr())),
+            _ => MappedFrame::Size1GiB(PhysFrame::containing_address(entry.addr())),
+        };
         let rights = above.below(entry);
         MappingIn {
-            start: VirtAddrIn::new_truncate(start),
+            start: VirtAddrIn::new_truncate(position / frame.size() * frame.size()),
             frame,
             flags: entry.flags(),
             write: rights.write,
@@ -95,12 +112,45 @@ impl<L: LevelCount> Display for MappingIn<L> {
 
     fn fmt<W: Write>(&self, f: &mut Formatter<W>) -> FmtResult {
         let start = self.start.as_u64();
-        write!(f, "0x{start:x} ")?;
-        write_size(f, self.frame.size())?;
+        let rights = Rights {
+            write: self.write,
+            user: self.user,
+            execute: self.execute,
+        };
         let frame = self.frame.start_address().as_u64();
-        write!(f, " 0x{frame:x} ")?;
-        write_rights(f, self.write, self.user, self.execute)?;
         let flags = self.flags.bits();
-        write!(f, " 0x{flags:x}")
+        write_line(f, start, self.frame.size(), frame, rights, flags)
     }
+}
+
+/// Writes a mapping.
+fn write_line<W: Write>(
+    f: &mut Formatter<W>,
+    start: u64,
+    size: u64,
+    frame: u64,
+    rights: Rights,
+    flags: u64,
+) -> FmtResult
+    ensures { let text = texts.line_text start size frame rights.write rights.user rights.execute flags in
+        WritesOnOk W.write_str_gives f.old result text f.new }
+{
+    write_place(f, start, size, frame)?;
+    f.write_str(" ")?;
+    write_rights(f, rights.write, rights.user, rights.execute)?;
+    f.write_str(" ")?;
+    write_number(f, flags)
+}
+
+/// Writes where a mapping starts, its size, and where its frame starts.
+#[tactic(auto, unfolding(crate::specs::Texts::place_text))]
+fn write_place<W: Write>(f: &mut Formatter<W>, start: u64, size: u64, frame: u64) -> FmtResult
+    ensures { let text = texts.place_text start size frame in
+        WritesOnOk W.write_str_gives f.old result text f.new }
+{
+    write_number(f, start)?;
+    f.write_str(" ")?;
+    write_size(f, size)?;
+    f.write_str(" ")?;
+    write_number(f, frame)
 }

@@ -1,4 +1,5 @@
 //! The texts of sizes and rights.
+ghost use Rattle.std.specs.Prelude.{◌≡◌, ◌<◌, ◌/◌, ◌++◌, decimal};
 ghost use Rattle.std.specs.Fmt.{WritesOnOk};
 ghost use Rattle.x86_64_mappings.specs.Texts as texts;
 
@@ -8,28 +9,31 @@ use std::fmt::{Formatter, Result as FmtResult, Write};
 pub(crate) fn write_size<W: Write>(f: &mut Formatter<W>, bytes: u64) -> FmtResult
     ensures { WritesOnOk W.write_str_gives f.old result (texts.size_text bytes) f.new }
 {
-    const KIB: u64 = 1 << 10;
-    const MIB: u64 = 1 << 20;
-    const GIB: u64 = 1 << 30;
-    const TIB: u64 = 1 << 40;
+    let (unit, name) = unit_of(bytes);
+    let count = bytes / unit;
+    write!(f, "{count}{name}")
+}
+
+/// Gives the largest of KiB, MiB, GiB and TiB that divides a number of bytes, and its name. None of them divides less than a KiB.
+fn unit_of(bytes: u64) -> (u64, &'static str)
+    ensures some { 0 < result.0 }
+    ensures text { texts.size_text bytes ≡ decimal (bytes / result.0) ++ result.1.now }
+{
     if bytes == 0 {
-        f.write_str("0KiB")
-    } else if bytes % TIB == 0 {
-        let count = bytes / TIB;
-        write!(f, "{count}TiB")
-    } else if bytes % GIB == 0 {
-        let count = bytes / GIB;
-        write!(f, "{count}GiB")
-    } else if bytes % MIB == 0 {
-        let count = bytes / MIB;
-        write!(f, "{count}MiB")
+        (1 << 10, "KiB")
+    } else if bytes % (1 << 40) == 0 {
+        (1 << 40, "TiB")
+    } else if bytes % (1 << 30) == 0 {
+        (1 << 30, "GiB")
+    } else if bytes % (1 << 20) == 0 {
+        (1 << 20, "MiB")
     } else {
-        let count = bytes / KIB;
-        write!(f, "{count}KiB")
+        (1 << 10, "KiB")
     }
 }
 
 /// Writes the letters of what may be read, written, executed, and reached by user code.
+#[tactic(auto, unfolding(crate::specs::Texts::rights_text))]
 pub(crate) fn write_rights<W: Write>(
     f: &mut Formatter<W>,
     write: bool,
@@ -43,4 +47,11 @@ pub(crate) fn write_rights<W: Write>(
     f.write_str(if write { "w" } else { "-" })?;
     f.write_str(if execute { "x" } else { "-" })?;
     f.write_str(if user { "u" } else { "-" })
+}
+
+/// Writes a number in base 16.
+pub(crate) fn write_number<W: Write>(f: &mut Formatter<W>, number: u64) -> FmtResult
+    ensures { WritesOnOk W.write_str_gives f.old result (texts.hexadecimal number) f.new }
+{
+    write!(f, "0x{number:x}")
 }

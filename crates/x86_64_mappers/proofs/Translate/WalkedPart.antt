@@ -1,7 +1,6 @@
 -- The way down to the entry that maps an address, one level at a time.
 use Rattle.std.proofs.Common.{zero, suc, ◌≡◌, ◌<◌, ◌≤◌, ◌+◌, ◌-◌, ◌%◌, ℕ, ◌&&◌, Bool, true, false, not, cond, List, [], ◌∷◌, ◌++◌, length, take, get_or, nat_le, IsSome, Ok, Err, refl, sym, ap, ap₂, ◌∙◌, subst, add-one, arith}
 use Rattle.std.proofs.Math.Seq.{take-suc}
-use Rattle.std.proofs.lemmas.List.{get_or_read}
 use Rattle.std.proofs.lemmas.Bool.{le-leb, leb-false, leb-true}
 use Rattle.x86_64_model.specs.Entry.{used, present, huge, address, flags, names_table}
 use Rattle.x86_64_model.specs.Layout.{Layout, Valid, words, paths, read_entry}
@@ -190,17 +189,12 @@ module _ (l : Layout) (m : Memory) (indices : List ℕ) (p : ℕ) (long : length
   inside : k < length indices
   inside = subst (λ n. k < n) (sym long) within
 
-  -- the index there, as it was read
-  pub index_read : (i : ℕ) → i ≡ get_or indices k i → i ≡ index (l.levels - k) p
-  index_read i read = get_or_read indices k i inside read 0
-      ∙ ap (λ q. get_or q k 0) is ∙ index_at l.levels p k within
-
-  pub sought_next : (frame : ℕ) → IsSoughtAt l m indices p k frame → k + 1 < l.levels → (i : ℕ) → i ≡ get_or indices k i → i < 512
+  pub sought_next : (frame : ℕ) → IsSoughtAt l m indices p k frame → k + 1 < l.levels → (i : ℕ) → i ≡ index (l.levels - k) p → i < 512
       → (e : ℕ) → e ≡ word (words l m) frame i → (table : ℕ) → Ok table ≡ frame_of e → IsSoughtAt l m indices p (k + 1) table
   sought_next frame here more i read small e value table names =
       let level : l.levels - (k + 1) ≡ l.levels - k - 1 = omega (arith, more) in
-      let item : i ≡ get_or indices k 0 = index_read i read ∙ sym (ap (λ q. get_or q k 0) is ∙ index_at l.levels p k within) in
-      let way = found_table here.way e (omega (arith, more)) (value ∙ ap (word (words l m) frame) (index_read i read)) table names in record {
+      let item : i ≡ get_or indices k 0 = read ∙ sym (ap (λ q. get_or q k 0) is ∙ index_at l.levels p k within) in
+      let way = found_table here.way e (omega (arith, more)) (value ∙ ap (word (words l m) frame) read) table names in record {
         way = subst (λ n. IsWalked l.levels (words l m) l.root (read_entry l m) p n table) (sym level) way;
         reached = subst (λ t. IsReached l m t table) (sym (ap (λ j. take j indices) (add-one k) ∙ take-suc indices k 0 inside ∙ ap (λ j. take k indices ++ j ∷ []) (sym item)))
             (reached_next l m (take k indices) frame i table here.reached small (below e table (next_table e table names) ∙ ap table_below value) way.there);

@@ -49,6 +49,8 @@ impl<S: PageSize> From<PageTableCreateError> for MapToError<S> {
 /// Makes the entry at index `k` of the parents, which is in a table, name a frame, and clears the table there.
 ///
 /// The table is cleared last: a mapper that has no other way to it reaches it through its entry.
+// Into a function of its own the indices would be handed in memory, where each map had to put them.
+#[inline(always)]
 fn link_table<M: TableAccess>(
     mapper: &mut M,
     parents: &[PageTableIndex],
@@ -110,6 +112,8 @@ fn mark_parent(
 ///
 /// A used entry with `HUGE_PAGE` is `MappedToHugePage`, and an unused one where the allocator has no frame is
 /// `FrameAllocationFailed`.
+// In its callers the indices are known to be so many, and then the window of each table takes a few steps.
+#[inline(always)]
 fn create_next_table<M: TableAccess, A: FrameAllocator<Size4KiB>>(
     mapper: &mut M,
     parents: &[PageTableIndex],
@@ -152,6 +156,8 @@ fn create_next_table<M: TableAccess, A: FrameAllocator<Size4KiB>>(
 /// # Errors
 ///
 /// Those of the first step that refuses: [`create_next_table`].
+// As above.
+#[inline(always)]
 fn create_tables<M: TableAccess, A: FrameAllocator<Size4KiB>>(
     mapper: &mut M,
     parents: &[PageTableIndex],

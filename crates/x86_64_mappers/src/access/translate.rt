@@ -50,7 +50,7 @@ pub fn translate<M: TableAccess + TablesIn<L>, L: LevelCount>(
         reaches result ≡ option_map (λ walked. walked.address) arrival }
 {
     let path = path_of_address(mapper, addr);
-    translate_position(mapper, path.indices(), addr.position())
+    translate_position(mapper, path.indices(), addr)
 }
 
 /// Returns the physical address that an address is mapped to, if it is mapped: the frame's start plus the offset.
@@ -77,52 +77,52 @@ fn physical_address(translation: TranslateResult) -> Option<PhysAddr>
     }
 }
 
-/// Tells where a position is mapped to, by its indices from the root's level down to level one, as the walk does.
-fn translate_position<M: TableAccess>(
+/// Tells where an address is mapped to, by its indices from the root's level down to level one, as the walk does.
+fn translate_position<M: TableAccess + TablesIn<L>, L: LevelCount>(
     mapper: &M,
     indices: &[PageTableIndex],
-    position: u64,
+    addr: VirtAddrIn<L>,
 ) -> TranslateResult
     requires valid { Valid (M.hierarchy mapper.now) }
     requires levels { length indices.now ≡ (M.hierarchy mapper.now).layout.levels }
-    requires path { indices.now ≡ page_path (M.hierarchy mapper.now).layout.levels position }
-    ensures answer { translation_of result ≡ Some (translation (M.hierarchy mapper.now) position) }
-    ensures walk { let arrival = walk (M.hierarchy mapper.now) position in
+    requires path { indices.now ≡ page_path (M.hierarchy mapper.now).layout.levels addr }
+    ensures answer { translation_of result ≡ Some (translation (M.hierarchy mapper.now) addr) }
+    ensures walk { let arrival = walk (M.hierarchy mapper.now) addr in
         reaches result ≡ option_map (λ walked. walked.address) arrival }
 {
-    translate_along(mapper, indices, position)
+    translate_along(mapper, indices, addr)
 }
 
-/// Tells where a position is mapped to, by its indices from the root's level down to level one.
-fn translate_along<M: TableAccess>(
+/// Tells where an address is mapped to, by its indices from the root's level down to level one.
+///
+/// Each index is taken of the address where it is read: a mapper that finds tables by their frames then needs no path.
+fn translate_along<M: TableAccess + TablesIn<L>, L: LevelCount>(
     mapper: &M,
     indices: &[PageTableIndex],
-    position: u64,
+    addr: VirtAddrIn<L>,
 ) -> TranslateResult
     requires valid { Valid (M.hierarchy mapper.now) }
     requires levels { length indices.now ≡ (M.hierarchy mapper.now).layout.levels }
-    requires path { indices.now ≡ page_path (M.hierarchy mapper.now).layout.levels position }
-    ensures { translation_of result ≡ Some (translation (M.hierarchy mapper.now) position) }
+    requires path { indices.now ≡ page_path (M.hierarchy mapper.now).layout.levels addr }
+    ensures { translation_of result ≡ Some (translation (M.hierarchy mapper.now) addr) }
 {
     let last = indices.len() - 1;
     let mut table = mapper.root();
     for k in 0..last {
-        let entry = entry(mapper, &indices[..k], table, indices[k]);
+        let level = indices.len() - k;
+        let index = addr.table_index(level as u64);
+        let entry = entry(mapper, &indices[..k], table, index);
         match entry.frame() {
             Ok(next) => table = next,
             Err(FrameError::FrameNotPresent) => return TranslateResult::NotMapped,
-            Err(FrameError::HugeFrame) => return leaf_translation(
-                indices.len() - k,
-                entry,
-                position,
-            ),
+            Err(FrameError::HugeFrame) => return leaf_translation(level, entry, addr.position()),
         }
     }
-    let entry = entry(mapper, &indices[..last], table, indices[last]);
+    let entry = entry(mapper, &indices[..last], table, addr.table_index(1));
     if entry.is_unused() {
         TranslateResult::NotMapped
     } else {
-        leaf_translation(1, entry, position)
+        leaf_translation(1, entry, addr.position())
     }
 }
 

@@ -1,19 +1,21 @@
-//! Where a listing of mappings goes on, and how it goes on above level one.
-ghost use Rattle.std.specs.Prelude.{◌≡◌, ◌<◌, ◌≤◌, ◌+◌, ◌%◌, ◌*◌, ◌/◌, length};
-ghost use Rattle.x86_64_model.specs.Position.{span, index, position_count};
+//! Where a listing of mappings goes on, and how it comes to the next mapping.
+ghost use Rattle.std.specs.Prelude.{◌≡◌, ◌<◌, ◌≤◌, ◌+◌, ◌*◌, ◌/◌, ◌==◌, ◌||◌, true, false, cond, ℕ, None, [], length, drop, slice_index};
+ghost use Rattle.std.specs.Option.{option_copied};
+ghost use Rattle.x86_64_model.specs.Entry.{present, huge, address};
+ghost use Rattle.x86_64_model.specs.Mappings.{maps_page as page_mapped};
+ghost use Rattle.x86_64_model.specs.Memory.{words_of};
+ghost use Rattle.x86_64_model.specs.Position.{span as span_of, index, position_count};
+ghost use Rattle.x86_64_mappings.specs.private.Cursors as cursors;
 
-use crate::mapping::MappingIn;
 use x86_64_addr::level_count::LevelCount;
 use x86_64_page::frame::PhysFrame;
-use x86_64_page::page::{PageSize, Size1GiB, Size2MiB, Size4KiB};
-use x86_64_tables::mapper::MappedFrame;
+use x86_64_page::page::Size4KiB;
 use x86_64_tables::page_table::{PageTable, PageTableEntry, PageTableFlags};
 use x86_64_tables::phys_memory::{
     PageTableFrameMapping, Rights, TableMemory, has_flag, index_of, table_in,
 };
 
-/// Says where a listing goes on: at a position, with the entries of a table that are left from there on, of which the first spans
-/// the position.
+/// Says where a listing goes on: at a position, with the entries of a table that are left from the one on that spans the position.
 #[derive(Clone, Copy)]
 pub(super) struct Cursor<'a> {
     /// The position.
@@ -28,7 +30,11 @@ pub(super) struct Cursor<'a> {
 
 impl<'a> Cursor<'a> {
     /// Starts at a position, before any table.
-    pub(super) fn at(next: u64) -> Cursor<'a> {
+    pub(super) fn at(next: u64) -> Cursor<'a>
+        ensures next { result.next ≡ next }
+        ensures level { result.level ≡ 1 }
+        ensures rest { result.rest.now ≡ [] }
+    {
         Cursor {
             next,
             level: 1,
@@ -37,16 +43,118 @@ impl<'a> Cursor<'a> {
         }
     }
 
-    /// Goes on in a table of a level at a position, with what the entries above allow.
-    fn on(table: &'a PageTable, level: u64, next: u64, rights: Rights) -> Cursor<'a> {
+    /// Goes on in a table of a level, with what the entries above allow.
+    fn on(table: &'a PageTable, level: u64, next: u64, rights: Rights) -> Cursor<'a>
+        requires low { 1 ≤ level }
+        requires high { level ≤ 5 }
+        ensures next { result.next ≡ next }
+        ensures level { result.level ≡ level }
+        ensures rights { result.rights ≡ rights }
+        ensures rest { result.rest.now ≡ drop (index level next) table.now }
+        ensures size { length table.now ≡ 512 }
+    {
         let entries = table.as_slice();
-        let index = index_of(next, level);
         Cursor {
             next,
             level,
             rights,
-            rest: &entries[index..],
+            rest: &entries[index_of(next, level)..],
         }
+    }
+
+    /// Goes past so many entries.
+    pub(super) fn past(self, count: usize) -> Cursor<'a>
+        requires low { 1 ≤ self.level }
+        requires high { self.level ≤ 5 }
+        requires within { count ≤ length self.rest.now }
+        requires room { let span = span_of self.level in
+            self.next / span * span + count * span ≤ position_count 5 }
+        ensures next { let span = span_of self.entry.level in
+            result.next ≡ self.entry.next / span * span + count * span }
+        ensures level { result.level ≡ self.entry.level }
+        ensures rights { result.rights ≡ self.entry.rights }
+        ensures rest { result.rest.now ≡ drop count self.entry.rest.now }
+    {
+        let span = span(self.level);
+        Cursor {
+            next: self.next / span * span + count as u64 * span,
+            level: self.level,
+            rights: self.rights,
+            rest: &self.rest[count..],
+        }
+    }
+
+    /// Tells whether the first of the entries left is one of level one that maps a page.
+    pub(super) fn is_at_small_page(self) -> bool
+        ensures { result ≡ cursors.small_page_first self.entry.level self.entry.rest.now }
+    {
+        match self.rest.first() {
+            Some(entry) => self.level == 1 && has_flag(entry, PageTableFlags::PRESENT),
+            None => false,
+        }
+    }
+
+    /// Tells whether the first of the entries left maps a page, or all positions are behind.
+    fn is_there<L: LevelCount>(self) -> bool
+        ensures { let c = self.entry in
+            result ≡ cursors.is_there L.LEVELS c.next c.level c.rest.now }
+    {
+        match self.rest.first() {
+            Some(entry) => has_flag(entry, PageTableFlags::PRESENT) && maps_page(self.level, entry),
+            None => self.next == L::POSITION_COUNT,
+        }
+    }
+}
+
+/// Goes on to the next entry that maps a page, or to the end.
+#[cold]
+#[inline(never)]
+pub(super) fn find_page<'a, L: LevelCount, T: TableMemory, P: PageTableFrameMapping>(
+    memory: &'a T,
+    mapping: &P,
+    root: PhysFrame<Size4KiB>,
+    cursor: &mut Cursor<'a>,
+)
+    requires { let words = words_of (T.tables memory.now) (P.places mapping.now) in
+        cursors.IsCursor L.LEVELS words root cursor.old }
+    ensures on { let words = words_of (T.tables memory.now) (P.places mapping.now) in
+        cursors.IsCursor L.LEVELS words root cursor.new }
+    ensures same { let words = words_of (T.tables memory.now) (P.places mapping.now) in
+        cursors.to_come L.LEVELS words root cursor.old ≡ cursors.to_come L.LEVELS words root cursor.new }
+    ensures there { let c = cursor.new in
+        cursors.is_there L.LEVELS c.next c.level c.rest.now ≡ true }
+{
+    while !cursor.is_there::<L>() {
+        *cursor = step::<L, T, P>(memory, mapping, root, *cursor);
+    }
+}
+
+/// Goes on by one step: to the first table, past entries that map nothing, or down to a table.
+fn step<'a, L: LevelCount, T: TableMemory, P: PageTableFrameMapping>(
+    memory: &'a T,
+    mapping: &P,
+    root: PhysFrame<Size4KiB>,
+    cursor: Cursor<'a>,
+) -> Cursor<'a>
+    requires on { let words = words_of (T.tables memory.now) (P.places mapping.now) in
+        cursors.IsCursor L.LEVELS words root cursor }
+    requires not_there { cursors.is_there L.LEVELS cursor.next cursor.level cursor.rest.now ≡ false }
+    ensures { let words = words_of (T.tables memory.now) (P.places mapping.now) in
+        cursors.IsStep L.LEVELS words root cursor.entry result }
+{
+    let Some(first) = cursor.rest.first() else {
+        return start::<L, T, P>(memory, mapping, root, cursor.next);
+    };
+    let absent = count_absent(cursor.rest);
+    if absent > 0 {
+        return cursor.past(absent);
+    }
+    match table_below(memory, mapping, cursor.level, first) {
+        Some(table) => {
+            let rights = cursor.rights.below(first);
+            Cursor::on(table, cursor.level - 1, cursor.next, rights)
+        }
+        None => cursor.past(1),
     }
 }
 
@@ -56,105 +164,69 @@ fn start<'a, L: LevelCount, T: TableMemory, P: PageTableFrameMapping>(
     mapping: &P,
     root: PhysFrame<Size4KiB>,
     next: u64,
-) -> Cursor<'a> {
+) -> Cursor<'a>
+    requires { next < position_count L.LEVELS }
+    ensures on { let words = words_of (T.tables memory.now) (P.places mapping.now) in
+        cursors.IsCursor L.LEVELS words root result }
+    ensures same { let words = words_of (T.tables memory.now) (P.places mapping.now) in
+        cursors.listed_from L.LEVELS words root next ≡ cursors.to_come L.LEVELS words root result }
+    ensures nearer { cursors.way_left L.LEVELS result.next result.level result.rest.now
+        < cursors.way_left L.LEVELS next 1 [] }
+{
     match table_in(memory, mapping, root) {
         Some(table) => Cursor::on(table, L::LEVELS, next, Rights::ALL),
         None => Cursor::at(L::POSITION_COUNT),
     }
 }
 
-/// Gives the table that an entry of a level above one leads to, or `None` where it leads to none.
+/// Counts the entries before the first that has `PRESENT`.
+fn count_absent(entries: &[PageTableEntry]) -> usize
+    ensures within { result ≤ length entries.now }
+    ensures before { (k : ℕ) → k < result → present (slice_index entries.now k) ≡ false }
+    ensures found { result < length entries.now → present (slice_index entries.now result) ≡ true }
+{
+    for (count, entry) in entries.iter().enumerate() {
+        if has_flag(entry, PageTableFlags::PRESENT) {
+            return count;
+        }
+    }
+    entries.len()
+}
+
+/// Gives the table that an entry of a level leads to, or `None` where it is of level one or has `HUGE_PAGE`, or where its frame has no
+/// table in the memory.
+#[tactic(auto, using(x86_64_model::proofs::Lemmas::Entries::Words::address_aligned))]
 fn table_below<'a, T: TableMemory, P: PageTableFrameMapping>(
     memory: &'a T,
     mapping: &P,
+    level: u64,
     entry: &PageTableEntry,
-) -> Option<&'a PageTable> {
-    if has_flag(entry, PageTableFlags::PRESENT) && !has_flag(entry, PageTableFlags::HUGE_PAGE) {
-        table_in(
-            memory,
-            mapping,
-            PhysFrame::from_start_address_unchecked(entry.addr()),
-        )
-    } else {
-        None
+) -> Option<&'a PageTable>
+    ensures { let words = words_of (T.tables memory.now) (P.places mapping.now) in
+        option_copied result ≡ cond ((level == 1) || huge entry.now) None (words (address entry.now)) }
+{
+    if level == 1 || has_flag(entry, PageTableFlags::HUGE_PAGE) {
+        return None;
     }
+    table_in(
+        memory,
+        mapping,
+        PhysFrame::from_start_address_unchecked(entry.addr()),
+    )
 }
 
-/// Says how a listing went on above level one.
-#[derive(Drop)]
-pub(super) struct Way<'a, L: LevelCount> {
-    /// Where it goes on from there.
-    pub(super) cursor: Cursor<'a>,
-    /// The mapping that it met, or `None` where it came to entries of level one or to the end.
-    pub(super) found: Option<MappingIn<L>>,
-}
-
-/// Goes on to the next mapping of 2MiB or 1GiB, or to the next entries of level one, or to the end.
-#[cold]
-#[inline(never)]
-pub(super) fn go_on<'a, L: LevelCount, T: TableMemory, P: PageTableFrameMapping>(
-    memory: &'a T,
-    mapping: &P,
-    root: PhysFrame<Size4KiB>,
-    from: Cursor<'a>,
-) -> Way<'a, L> {
-    let mut cursor = from;
-    while cursor.next < L::POSITION_COUNT {
-        let Cursor {
-            next,
-            level,
-            rights,
-            rest,
-        } = cursor;
-        let Some((entry, others)) = rest.split_first() else {
-            cursor = start::<L, T, P>(memory, mapping, root, next);
-            continue;
-        };
-        if level == 1 {
-            break;
-        }
-        if let Some(table) = table_below(memory, mapping, entry) {
-            cursor = Cursor::on(table, level - 1, next, rights.below(entry));
-            continue;
-        }
-        cursor.next = next / span(level) * span(level) + span(level);
-        cursor.rest = others;
-        let found = huge_page(level, next, entry, rights);
-        if found.is_some() {
-            return Way { cursor, found };
-        }
-    }
-    Way {
-        cursor,
-        found: None,
-    }
+/// Tells whether an entry of a level maps a page, if it has `PRESENT`.
+fn maps_page(level: u64, entry: &PageTableEntry) -> bool
+    ensures { result ≡ page_mapped level entry.now }
+{
+    level == 1 || (has_flag(entry, PageTableFlags::HUGE_PAGE) && (level == 2 || level == 3))
 }
 
 /// Gives how many positions an entry of a level spans.
-fn span(level: u64) -> u64 {
+pub(super) fn span(level: u64) -> u64
+    requires low { 1 ≤ level }
+    requires high { level ≤ 5 }
+    ensures { result ≡ span_of level }
+{
     1 << (12 + 9 * (level - 1))
-}
-
-/// Gives the mapping by an entry of a level above one, or `None` where it maps no page.
-fn huge_page<L: LevelCount>(
-    level: u64,
-    position: u64,
-    entry: &PageTableEntry,
-    rights: Rights,
-) -> Option<MappingIn<L>> {
-    if !has_flag(entry, PageTableFlags::PRESENT) || !has_flag(entry, PageTableFlags::HUGE_PAGE) {
-        return None;
-    }
-    let start = position / span(level) * span(level);
-    match level {
-        2 => {
-            let frame = MappedFrame::Size2MiB(PhysFrame::containing_address(entry.addr()));
-            Some(MappingIn::by(entry, start, frame, rights))
-        }
-        3 => {
-            let frame = MappedFrame::Size1GiB(PhysFrame::containing_address(entry.addr()));
-            Some(MappingIn::by(entry, start, frame, rights))
-        }
-        _ => None,
-    }
 }

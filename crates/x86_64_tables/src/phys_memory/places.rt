@@ -1,5 +1,5 @@
-//! Places in the order of their numbers, found by halving.
-ghost use Rattle.std.specs.Prelude.{◌≡◌, ◌↔◌, true, Some, IsSome, length, slice_get, slice_index};
+//! Places in the order of their numbers, found by a guess or by halving.
+ghost use Rattle.std.specs.Prelude.{◌≡◌, ◌<◌, ◌↔◌, true, Some, IsSome, length, slice_get, slice_index};
 ghost use Rattle.std.specs.List.{position};
 ghost use Rattle.std.specs.List.Sorted.{IsStrictlyIncreasing};
 ghost use Rattle.std.specs.Ordering.{nat_cmp, eq_by_cmp};
@@ -10,12 +10,14 @@ use std::marker::Model;
 /// Holds the numbers of places, each below the next, seen as their list.
 ///
 /// The first `run` of them follow one another without a gap from `first` on, so that each of these stands as many places
-/// from the front as its number is from `first`. Where `is_dense` they are all numbers from 0 on, up to their last.
+/// from the front as its number is from `first`. If `is_dense` they are all numbers from 0 on, up to their last. There are
+/// about `scale` / 2^32 places for each number; it only says where to look first, so any value will do.
 #[derive(Drop)]
 pub(super) struct SortedPlaces {
     numbers: Vec<u64>,
     first: u64,
     run: u64,
+    scale: u64,
     is_dense: bool,
 }
 
@@ -41,11 +43,13 @@ impl SortedPlaces {
     {
         let run = run_of(&numbers);
         let first = if run == 0 { 0 } else { numbers[0] };
+        let scale = scale_of(&numbers);
         let is_dense = first == 0 && run == numbers.len() as u64;
         SortedPlaces {
             numbers,
             first,
             run,
+            scale,
             is_dense,
         }
     }
@@ -59,16 +63,28 @@ impl SortedPlaces {
 
     /// Gives how many places come before a place, or `None` where there is no place of this number.
     ///
-    /// The first look is where the place would be if there were no gaps.
+    /// The first look is where the place would be if there were no gaps, the second where it would be if all gaps were alike.
     pub(super) fn index_of(&self, number: u64) -> Option<usize>
         ensures { result ≡ position (eq_by_cmp nat_cmp number) self.now }
     {
         let distance = number.wrapping_sub(self.first);
         if distance < self.run {
-            Some(distance as usize)
+            return Some(distance as usize);
+        }
+        let guess = (distance.wrapping_mul(self.scale) >> 32) as usize;
+        if self.stands_at(number, guess) {
+            Some(guess)
         } else {
             self.numbers.binary_search(&number).ok()
         }
+    }
+
+    /// Tells whether a place stands at an index.
+    fn stands_at(&self, number: u64, index: usize) -> bool
+        ensures { (result ≡ true)
+            ↔ ((index < length self.now) × (slice_index self.now index ≡ number)) }
+    {
+        index < self.numbers.len() && self.numbers[index] == number
     }
 
     /// Gives how many places come before one that is there.
@@ -111,4 +127,16 @@ fn run_of(numbers: &[u64]) -> u64
         }
     }
     numbers.len() as u64
+}
+
+/// Gives how many places there are for each number from the first to the last, times 2^32 and rounded up. Any answer will do.
+fn scale_of(numbers: &[u64]) -> u64 {
+    let places = numbers.len().saturating_sub(1);
+    let span = if places == 0 {
+        0
+    } else {
+        numbers[places].wrapping_sub(numbers[0])
+    };
+    let scale = (places as u64).wrapping_mul(1 << 32).checked_div(span);
+    scale.unwrap_or(0).wrapping_add(1)
 }
