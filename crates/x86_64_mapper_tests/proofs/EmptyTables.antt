@@ -1,5 +1,5 @@
 -- A slice of empty tables, as a memory.
-use Rattle.std.proofs.Common.{◌≡◌, ◌<◌, ◌≤◌, ℕ, Bool, true, false, List, length, replicate, Some, None, inl, inr, refl, sym, ap, ◌∙◌, arith, lt-ltb, le-ltb}
+use Rattle.std.proofs.Common.{◌≡◌, ℕ, List, replicate, Some, None, inl, inr, sym, ap, ◌∙◌, arith, lt-ltb, le-ltb}
 use Rattle.std.specs.Prelude.{if◌then◌else◌, nat_lt}
 use Rattle.std.specs.FinMap.{get}
 use Rattle.std.specs.List.{slice_get}

@@ -6,8 +6,8 @@ use Rattle.x86_64_model.specs.Entry.{writable, user, no_execute, flags}
 use Rattle.x86_64_model.specs.Mappings.{Mapping, has_position}
 use Rattle.x86_64_tables.specs.PageTableFlags.{bits_of}
 
--- A mapping of the list is that of just this page, to a frame and with its flags: it is found at each position of the page. It grants the right to write,
--- and that of a user, exactly if the flags do, and not that to execute if they have NO_EXECUTE.
+-- The list has the mapping of this page of 4KiB to a frame, with the flags: it is the one that is found at each position of the page. Writes, and user
+-- code, are allowed exactly if the flags say so, and execution isn't if they have NO_EXECUTE.
 pub record IsListed (mappings : List Mapping) (page to given : ℕ) : Type 0 where
   pub mapping : Mapping
   pub found : (p : ℕ) → page ≤ p → p < page + 0x1000 → find (has_position p) mappings ≡ Some mapping
