@@ -1,4 +1,4 @@
-use Rattle.std.proofs.Common.{◌≡◌, ℕ, ◌+◌, ◌-◌, ◌*◌, ◌<◌, ◌≤◌, length, None}
+use Rattle.std.proofs.Common.{◌≡◌, length, None}
 use Rattle.x86_64_model.proofs.Lemmas.Mappings.Regions.{begun}
 use Rattle.x86_64_mappings.specs.Ahead.{AllFit}
 use Rattle.x86_64_mappings.proofs.region_list.RegionsInIterator.next.Given as goal
