@@ -1,7 +1,7 @@
 -- Dump: what words of physical memory a file holds, by its segments. A file is the list of its bytes.
 -- System V ABI, "Program Header"; its AMD64 supplement.
-use Rattle.std.specs.Prelude.{ℕ, ◌+◌, ◌-◌, ◌*◌, ◌==◌, ◌&&◌, Bool, cond, List, length, map, nat_le, Option, None}
-use Rattle.std.specs.List.{find, range_with_len}
+use Rattle.std.specs.Prelude.{ℕ, ◌+◌, ◌-◌, ◌*◌, ◌==◌, ◌&&◌, Bool, not, cond, List, length, map, nat_le, nat_lt, Option, None}
+use Rattle.std.specs.List.{find, list_any, range_with_len}
 use Rattle.std.specs.Option.{option_map}
 use Rattle.x86_64_model.specs.Entry.{is_frame}
 use Rattle.x86_64_model.specs.Memory.{Words}
@@ -33,6 +33,15 @@ frame_offset file_length segments frame = option_map (λ segment. offset_in segm
 unfoldable pub words_at : (file : List ℕ) → (offset : ℕ) → List ℕ
 words_at file offset = map (λ i. u64_at file (offset + 8 * i)) (range_with_len 0 512)
 
+-- a file, and its segments
+pub record Contents : Type 0 where
+  pub file : List ℕ
+  pub segments : List Segment
+
 -- the words of each frame that is there
-unfoldable pub words_of_dump : (file : List ℕ) → List Segment → Words
-words_of_dump file segments frame = cond (is_frame frame) (option_map (words_at file) (frame_offset (length file) segments frame)) None
+unfoldable pub words_of_dump : Contents → Words
+words_of_dump dump frame = cond (is_frame frame) (option_map (words_at dump.file) (frame_offset (length dump.file) dump.segments frame)) None
+
+-- whether the file is shorter than its segments say
+abbrev pub is_short : (file_length : ℕ) → List Segment → Bool
+is_short file_length segments = list_any (λ segment. not (segment.size == 0) && nat_lt file_length (segment.offset + segment.size)) segments

@@ -1,9 +1,8 @@
 -- Opening: which files are dumps, and of which segments. System V ABI, "ELF Header"; a core file's header is that of any ELF file.
 use Rattle.std.specs.Prelude.{◌≡◌, ℕ, ◌+◌, ◌*◌, ◌==◌, ◌&&◌, ◌||◌, Bool, not, cond, if◌then◌else◌, List, [], ◌∷◌, length, nat_lt, Option, None, Some, is_some, Result, Ok, Err, ⊤}
 use Rattle.std.specs.Option.{unwrap_or}
-use Rattle.std.specs.List.{list_any}
 use Rattle.x86_64_dump.specs.Numbers.{byte_at, u16_at, u32_at, u64_at}
-use Rattle.x86_64_dump.specs.Dump.{segments_at}
+use Rattle.x86_64_dump.specs.Dump.{Contents, segments_at}
 use Rattle.x86_64_dump.specs.declared.header.Header.{Header}
 use Rattle.x86_64_dump.specs.declared.segment.Segment.{Segment}
 use Rattle.x86_64_dump.specs.declared.error.Fault.{Fault}
@@ -77,9 +76,13 @@ segments_of file base =
     else if is_some base then Err faults.BaseOfElf
     else elf_segments file (header_of file)
 
--- whether a file is shorter than its segments say
-abbrev pub is_short : (file_length : ℕ) → List Segment → Bool
-is_short file_length segments = list_any (λ segment. not (segment.size == 0) && nat_lt file_length (segment.offset + segment.size)) segments
+abbrev pub with_file : (file : List ℕ) → Result (List Segment) Fault → Result Contents Fault
+with_file file (Ok segments) = Ok (record { file = file; segments = segments })
+with_file file (Err fault) = Err fault
+
+-- what a file holds, or why it is no dump
+abbrev pub contents_of : (file : List ℕ) → (base : Option ℕ) → Result Contents Fault
+contents_of file base = with_file file (segments_of file base)
 
 -- what is returned, seen by view, is what was to be found, unless memory was refused
 abbrev pub Fails : {Y : Type 0} → DumpError → Result Y Fault → Type 0

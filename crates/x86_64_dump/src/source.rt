@@ -10,7 +10,7 @@ use std::os::unix::fs::FileExt;
 ///
 /// Its clauses say which bytes a read gives where they are known, as those of a slice are. Of a file nobody knows them, and
 /// another program may change them meanwhile.
-pub trait ByteSource {
+pub trait ByteSource: Drop {
     /// That its bytes are known, and stay.
     ghost IsKnown: { Type 0 };
 
