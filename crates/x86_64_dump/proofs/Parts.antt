@@ -68,6 +68,17 @@ header_shown front file shows =
 zero_of_zeros : (n i : ℕ) → i < n → get_or {A = ℕ} (replicate n 0) i 0 ≡ 0
 zero_of_zeros n i below = get_or-replicate n i 0 0 below
 
+before_end : (part rest file : List ℕ) (present i : ℕ) → part ≡ part_of file 0 present → length part ≡ present → i < present → get_or (part ++ rest) i 0 ≡ get_or file (0 + i) 0
+before_end part rest file present i read long inside =
+    get_or_append_left part rest 0 i (omega arith) ∙ ap (λ bytes. get_or bytes i 0) read ∙ (part_shows file 0 present).bytes i inside
+
+after_end : (part file : List ℕ) (present i : ℕ) → length part ≡ present → length file ≤ i → i < 64 → present ≤ i → get_or (part ++ drop present (replicate 64 0)) i 0 ≡ get_or file (0 + i) 0
+after_end part file present i long ended below past =
+    get_or-append_right part (drop present (replicate 64 0)) present i 0 long past
+    ∙ get_or-drop present (replicate 64 0) (i - present) 0
+    ∙ zero_of_zeros 64 (present + (i - present)) (omega arith)
+    ∙ sym (get_or_past file (0 + i) 0 (omega arith))
+
 -- what was read before the file's end, and bytes 0 after it
 pub front_shows : (front part file : List ℕ) (present : ℕ) → front ≡ part ++ drop present (replicate 64 0) → part ≡ part_of file 0 (length {A = ℕ} (take present (replicate 64 0))) → present ≡ min (length file) 64 → Shows front file 0 64
 front_shows front part file present whole read size = record {
@@ -76,8 +87,7 @@ front_shows front part file present whole read size = record {
       let got : part ≡ part_of file 0 present = read ∙ ap (part_of file 0) asked in
       let long : length part ≡ present = ap length got ∙ length-take present file ∙ omega arith in
       ap (λ bytes. get_or bytes i 0) whole ∙ ⊎_elim
-      (λ inside. get_or_append_left part (drop present (replicate 64 0)) 0 i (omega arith) ∙ ap (λ bytes. get_or bytes i 0) got ∙ (part_shows file 0 present).bytes i inside)
-      (λ past. get_or-append_right part (drop present (replicate 64 0)) present i 0 long past ∙ get_or-drop present (replicate 64 0) (i - present) 0
-      ∙ zero_of_zeros 64 (present + (i - present)) (omega arith) ∙ sym (get_or_past file (0 + i) 0 (omega arith)))
+      (λ inside. before_end part (drop present (replicate 64 0)) file present i got long inside)
+      (λ past. after_end part file present i long (omega arith) below past)
       (cases_lt i present);
 }

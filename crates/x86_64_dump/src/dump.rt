@@ -1,9 +1,11 @@
 //! Dump files.
-ghost use Rattle.std.specs.Prelude.{◌≡◌, IsOk, IfOk, length};
+ghost use Rattle.std.specs.Prelude.{◌≡◌, IsOk, IfOk, Ok, length};
 
 use crate::elf::read_segments;
 use crate::error::DumpError;
 use crate::frame::{frame_offset, is_cut_off, words_in};
+use crate::note::Note;
+use crate::notes::{read_notes, read_register};
 use crate::segment::Segment;
 use crate::source::ByteSource;
 use std::alloc::Global;
@@ -24,6 +26,7 @@ impl<S: ByteSource> Dump<S> {
     ghost use Rattle.x86_64_dump.specs.Dump.{words_of_dump, is_short};
     ghost use Rattle.x86_64_dump.specs.Opening.{contents_of, Gives};
     ghost use Rattle.x86_64_dump.specs.Opened.{opened};
+    ghost use Rattle.x86_64_dump.specs.Notes.{processors_of, register_of};
 
     /// Opens a dump: reads which parts of the file are memory.
     ///
@@ -66,5 +69,40 @@ impl<S: ByteSource> Dump<S> {
         let mut bytes = [0; 4096];
         self.source.read_exact_at(&mut bytes, offset)?;
         Ok(Some(words_in(&bytes)))
+    }
+
+    /// Reads where QEMU's notes of the processors lie, in order.
+    ///
+    /// # Errors
+    ///
+    /// `DumpError::OutOfMemory` where memory is refused, `DumpError::Read` where the source can't be read.
+    pub fn processors(&self, alloc: Global) -> Result<Vec<Note>, DumpError>
+        ensures { S.IsKnown → Gives (λ notes. notes.items) result (Ok (processors_of (opened S.bytes self.now))) }
+    {
+        read_notes(alloc, &self.source, &self.segments)
+    }
+
+    /// Reads the CR3 of a processor.
+    ///
+    /// # Errors
+    ///
+    /// `Fault::NoteCut` exactly where its note lacks it, `DumpError::Read` where the source can't be read.
+    pub fn cr3(&self, processor: &Note) -> Result<u64, DumpError>
+        ensures { S.IsKnown →
+            Gives (λ value. value) result (register_of (opened S.bytes self.now).file processor.now 416) }
+    {
+        read_register(&self.source, processor, 416)
+    }
+
+    /// Reads the CR4 of a processor.
+    ///
+    /// # Errors
+    ///
+    /// `Fault::NoteCut` exactly where its note lacks it, `DumpError::Read` where the source can't be read.
+    pub fn cr4(&self, processor: &Note) -> Result<u64, DumpError>
+        ensures { S.IsKnown →
+            Gives (λ value. value) result (register_of (opened S.bytes self.now).file processor.now 424) }
+    {
+        read_register(&self.source, processor, 424)
     }
 }

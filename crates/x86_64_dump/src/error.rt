@@ -60,6 +60,15 @@ pub enum Fault {
         /// The number of bytes in the file.
         length: u64,
     },
+    /// QEMU's note of a processor is too short for a register, or not all in the file.
+    NoteCut {
+        /// Where the descriptor of the note begins.
+        offset: u64,
+        /// How many bytes it has.
+        size: u64,
+        /// How many it needs to have, all of them in the file.
+        needed: u64,
+    },
 }
 
 /// Says why a file wasn't read as a dump.
@@ -117,6 +126,14 @@ impl Display for Fault {
             } => write!(
                 f,
                 "the {count} program headers of 56 bytes begin at byte {offset}, and the file has {length} bytes: the file is damaged or cut off"
+            ),
+            Fault::NoteCut {
+                offset,
+                size,
+                needed,
+            } => write!(
+                f,
+                "QEMU's note at byte {offset} has {size} bytes, and the register ends at its byte {needed}, or the file ends before: give the register's value, or another processor"
             ),
         }
     }
