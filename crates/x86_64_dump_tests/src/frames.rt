@@ -2,15 +2,22 @@
 use crate::builder::{BEHIND, CORE, Elf, ends_of, fault_of, push_core, push_words};
 use x86_64_dump::{Dump, Segment};
 
-/// A segment of memory behind the headers of `CORE` and one more program header.
-const fn load(skipped: u64, address: u64, size: u64) -> Segment {
-    Segment {
-        kind: Segment::LOAD,
-        offset: BEHIND + 56 + skipped,
-        address,
-        size,
-    }
-}
+/// A frame at 0x1000, behind the headers of `CORE` and one more program header.
+const FIRST: Segment = Segment {
+    kind: Segment::LOAD,
+    offset: BEHIND + 56,
+    address: 0x1000,
+    size: 4096,
+};
+
+/// The frame behind it in the file.
+const SECOND: Segment = Segment {
+    offset: BEHIND + 56 + 4096,
+    ..FIRST
+};
+
+/// Nothing of the file.
+const NOTHING: Segment = Segment { size: 0, ..FIRST };
 
 /// Two segments of a file with the words 0 to 2047 behind its headers; whether it is short; and frames of it.
 struct Case {
@@ -19,30 +26,52 @@ struct Case {
     frames: [(u64, Option<(u64, u64)>); 3],
 }
 
-/// Nothing of the file.
-const NOTHING: Segment = load(0, 0, 0);
-
 const CASES: [Case; 9] = [
     // The first segment that has the frame whole counts.
     Case {
-        segments: [load(0, 0x1000, 4096), load(4096, 0x1000, 4096)],
+        segments: [FIRST, SECOND],
         is_short: false,
         frames: [(0x1000, Some((0, 511))), (0x0, None), (0x2000, None)],
     },
     Case {
-        segments: [load(0, 0x1000, 4095), load(4096, 0x1000, 4096)],
+        segments: [
+            Segment {
+                size: 4095,
+                ..FIRST
+            },
+            SECOND,
+        ],
         is_short: false,
         frames: [(0x1000, Some((512, 1023))), (0x0, None), (0x2000, None)],
     },
     // No frame is put together of two segments.
     Case {
-        segments: [load(0, 0x1000, 2048), load(2048, 0x1800, 2048)],
+        segments: [
+            Segment {
+                size: 2048,
+                ..FIRST
+            },
+            Segment {
+                offset: BEHIND + 56 + 2048,
+                address: 0x1800,
+                size: 2048,
+                ..FIRST
+            },
+        ],
         is_short: false,
         frames: [(0x1000, None), (0x0, None), (0x2000, None)],
     },
     // Neither addresses nor offsets need be aligned.
     Case {
-        segments: [load(8, 0xff8, 8200), NOTHING],
+        segments: [
+            Segment {
+                offset: BEHIND + 64,
+                address: 0xff8,
+                size: 8200,
+                ..FIRST
+            },
+            NOTHING,
+        ],
         is_short: false,
         frames: [
             (0x0, None),
@@ -52,7 +81,13 @@ const CASES: [Case; 9] = [
     },
     // The file ends before the segment does, and has the frames before its end.
     Case {
-        segments: [load(0, 0x1000, 0x5000), NOTHING],
+        segments: [
+            Segment {
+                size: 0x5000,
+                ..FIRST
+            },
+            NOTHING,
+        ],
         is_short: true,
         frames: [
             (0x1000, Some((0, 511))),
@@ -64,12 +99,15 @@ const CASES: [Case; 9] = [
     Case {
         segments: [
             Segment {
-                kind: 1,
                 offset: u64::MAX,
                 address: u64::MAX,
                 size: 0,
+                ..FIRST
             },
-            load(0, 0x3000, 4096),
+            Segment {
+                address: 0x3000,
+                ..FIRST
+            },
         ],
         is_short: false,
         frames: [
@@ -82,16 +120,16 @@ const CASES: [Case; 9] = [
     Case {
         segments: [
             Segment {
-                kind: 1,
                 offset: u64::MAX,
                 address: 0,
                 size: u64::MAX,
+                ..FIRST
             },
             Segment {
-                kind: 1,
                 offset: 0,
                 address: u64::MAX,
                 size: u64::MAX,
+                ..FIRST
             },
         ],
         is_short: true,
@@ -100,8 +138,15 @@ const CASES: [Case; 9] = [
     // The highest frame.
     Case {
         segments: [
-            load(4096, 0xf_ffff_ffff_f000, u64::MAX),
-            load(0, 0xf_ffff_ffff_e000, 4096),
+            Segment {
+                address: 0xf_ffff_ffff_f000,
+                size: u64::MAX,
+                ..SECOND
+            },
+            Segment {
+                address: 0xf_ffff_ffff_e000,
+                ..FIRST
+            },
         ],
         is_short: true,
         frames: [
@@ -112,20 +157,7 @@ const CASES: [Case; 9] = [
     },
     // What is no segment of memory has no frame.
     Case {
-        segments: [
-            Segment {
-                kind: 4,
-                offset: BEHIND + 56,
-                address: 0x1000,
-                size: 4096,
-            },
-            Segment {
-                kind: 0,
-                offset: BEHIND + 56,
-                address: 0x2000,
-                size: 4096,
-            },
-        ],
+        segments: [Segment { kind: 4, ..FIRST }, Segment { kind: 0, ..SECOND }],
         is_short: false,
         frames: [(0x1000, None), (0x2000, None), (0x0, None)],
     },

@@ -1,6 +1,6 @@
 //! Tests of QEMU's notes.
 use crate::builder::{BEHIND, CORE, fault_of, push_elf, push_segment, push_words};
-use std::alloc::AllocError;
+use std::alloc::{AllocError, Global};
 use std::process::Abort;
 use x86_64_dump::{ByteSource, Dump, DumpError, Fault, Segment};
 
@@ -48,8 +48,8 @@ fn register(rt: impl Abort + Copy, read: Result<u64, DumpError>) -> Result<u64, 
 }
 
 /// Counts the processors of a dump.
-fn count<S: ByteSource>(rt: HostRuntime, dump: &Dump<S>) -> usize {
-    match dump.processors(rt.alloc()) {
+fn count<S: ByteSource>(rt: impl Abort + Copy, alloc: Global, dump: &Dump<S>) -> usize {
+    match dump.processors(alloc) {
         Ok(notes) => notes.len(),
         Err(_) => panic!(rt; "the notes weren't read"),
     }
@@ -104,7 +104,7 @@ fn notes_end_with_their_segment(rt: HostRuntime) {
             _ => 3,
         };
         if let Ok(dump) = Dump::open(rt.alloc(), bytes.as_slice(), None) {
-            assert_eq!(rt; count(rt, &dump), wanted, "of {size} bytes");
+            assert_eq!(rt; count(rt, rt.alloc(), &dump), wanted, "of {size} bytes");
             assert_eq!(rt; dump.is_short(), size > SIZE, "of {size} bytes");
         }
     }
@@ -122,7 +122,7 @@ fn notes_end_with_the_file(rt: HostRuntime) {
             _ => 3,
         };
         if let Ok(dump) = Dump::open(rt.alloc(), &bytes[..length], None) {
-            assert_eq!(rt; count(rt, &dump), wanted, "of {length} bytes");
+            assert_eq!(rt; count(rt, rt.alloc(), &dump), wanted, "of {length} bytes");
             assert!(rt; dump.is_short());
         }
     }

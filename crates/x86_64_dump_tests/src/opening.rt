@@ -1,5 +1,6 @@
 //! Tests of which files are dumps.
 use crate::builder::{BEHIND, CORE, Elf, FRAME, ends_of, fault_of, push_core, push_words};
+use std::alloc::Global;
 use std::fs::File;
 use std::process::Abort;
 use x86_64_dump::{Dump, Fault, FileSource};
@@ -205,21 +206,45 @@ fn the_count_of_headers_may_stand_in_section_0(rt: HostRuntime) {
 }
 
 /// Opens a file of a text, and compares why it isn't opened.
-fn check_text(rt: HostRuntime, text: &[u8], base: Option<u64>, wanted: Option<Fault>) {
-    let opened = Dump::open(rt.alloc(), text, base);
+fn check_text(
+    rt: impl Abort + Copy,
+    alloc: Global,
+    text: &[u8],
+    base: Option<u64>,
+    wanted: Option<Fault>,
+) {
+    let opened = Dump::open(alloc, text, base);
     assert_eq!(rt; fault_of(rt, &opened), wanted, "of {text:?}");
 }
 
 #[test]
 fn other_formats_are_known_by_their_start(rt: HostRuntime) {
-    check_text(rt, b"KDUMP   and more", None, Some(Fault::Compressed));
-    check_text(rt, b"DISKDUMP", Some(0), Some(Fault::Compressed));
-    check_text(rt, b"KDUMP  ", None, None);
-    check_text(rt, b"DISKDUM", None, None);
-    check_text(rt, b"\x7fELF", Some(0), Some(Fault::BaseOfElf));
-    check_text(rt, b"\x7fELF", None, Some(Fault::HeaderCut { length: 4 }));
-    check_text(rt, b"\x7fEL", Some(5), None);
-    check_text(rt, b"", None, None);
+    check_text(
+        rt,
+        rt.alloc(),
+        b"KDUMP   and more",
+        None,
+        Some(Fault::Compressed),
+    );
+    check_text(
+        rt,
+        rt.alloc(),
+        b"DISKDUMP",
+        Some(0),
+        Some(Fault::Compressed),
+    );
+    check_text(rt, rt.alloc(), b"KDUMP  ", None, None);
+    check_text(rt, rt.alloc(), b"DISKDUM", None, None);
+    check_text(rt, rt.alloc(), b"\x7fELF", Some(0), Some(Fault::BaseOfElf));
+    check_text(
+        rt,
+        rt.alloc(),
+        b"\x7fELF",
+        None,
+        Some(Fault::HeaderCut { length: 4 }),
+    );
+    check_text(rt, rt.alloc(), b"\x7fEL", Some(5), None);
+    check_text(rt, rt.alloc(), b"", None, None);
 }
 
 #[test]
