@@ -4,6 +4,8 @@
 #[cfg(test)]
 mod builder;
 #[cfg(test)]
+mod caller;
+#[cfg(test)]
 mod frames;
 #[cfg(test)]
 mod notes;

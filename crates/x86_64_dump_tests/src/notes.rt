@@ -1,4 +1,6 @@
 //! Tests of QEMU's notes.
+ghost use Rattle.std.specs.Prelude.{◌<◌};
+
 use crate::builder::{BEHIND, CORE, fault_of, push_elf, push_segment, push_words};
 use std::alloc::{AllocError, Global};
 use std::process::Abort;
