@@ -1,10 +1,9 @@
 -- NotesRead: what was read of a note says what it is; notes are read one by one.
 use Rattle.std.proofs.Common.{◌≡◌, ℕ, zero, suc, ◌+◌, ◌-◌, ◌/◌, ◌≤◌, ◌<◌, ◌==◌, ◌&&◌, Bool, true, false, cond, List, [], ◌∷◌, ◌++◌, Some, None, Result, Ok, Err, get_or, length, refl, ap, sym, ◌∙◌, arith, eq-eqb, ne_eqb, nat_le, le-leb, append-nil, append_assoc, add-one, drop}
-use Rattle.std.specs.List.{flat_map}
 use Rattle.std.proofs.lemmas.Bool.{lt-leb}
 use Rattle.x86_64_dump.specs.Numbers.{byte_at, u32_at, u64_at}
 use Rattle.x86_64_dump.specs.Source.{part_of}
-use Rattle.x86_64_dump.specs.Notes.{padded, is_qemu, note_at, is_whole, if_qemu, qemu_notes, size_in, notes_in, is_note_cut, register_of}
+use Rattle.x86_64_dump.specs.Notes.{padded, is_qemu, note_at, is_whole, if_qemu, qemu_notes, notes_size, notes_in, notes_within, is_note_cut, register_of}
 use Rattle.x86_64_dump.specs.declared.note.Note.{Note}
 use Rattle.x86_64_dump.specs.declared.segment.Segment.{Segment}
 use Rattle.x86_64_dump.specs.declared.error.Fault.TheVariants as faults
@@ -88,16 +87,6 @@ no_qemu_notes zero file at left short = refl
 no_qemu_notes (suc most) file at left short =
     ap (λ b. cond b (if_qemu (note_at file at) ++ qemu_notes most file (at + (note_at file at).span) (left - (note_at file at).span)) []) (too_short file at left short)
 
-pub notes_elsewhere : (file : List ℕ) (segment : Segment) → (segment.kind ≡ 4 → ⊥) → notes_in file segment ≡ []
-unfolding notes_in
-notes_elsewhere file segment other = ap (λ b. cond b (qemu_notes (size_in (length file) segment / 12) file segment.offset (size_in (length file) segment)) []) (ne_eqb segment.kind 4 other)
-
-pub notes_here : (file : List ℕ) (segment : Segment) (size : ℕ) → segment.kind ≡ 4 → size ≡ size_in (length file) segment → notes_in file segment ≡ qemu_notes (size / 12) file segment.offset size
-unfolding notes_in
-notes_here file segment size is_notes sized =
-    ap (λ b. cond b (qemu_notes (size_in (length file) segment / 12) file segment.offset (size_in (length file) segment)) []) (eq-eqb segment.kind 4 is_notes)
-    ∙ ap (λ n. qemu_notes (n / 12) file segment.offset n) (sym sized)
-
 pub register_cut : (file : List ℕ) (note : Note) (at size : ℕ) → size ≡ length file → is_note_cut size note at ≡ true → register_of file note at ≡ Err (faults.NoteCut note.offset note.size (at + 8))
 unfolding register_of
 register_cut file note at size long cut =
@@ -124,17 +113,38 @@ added_one most next file at left note notes added all less found pushed told =
     ∙ ap (λ n. notes ++ qemu_notes n file at left) less
     ∙ told
 
--- the notes of one more segment
-pub segment_added : (notes_of : Segment → List Note) (segments : List Segment) (i : ℕ) (segment : Segment) (notes added all : List Note) → drop i segments ≡ segment ∷ drop (suc i) segments
-    → ◌≡◌ {A = Result (List Note) Fault} (Ok (notes ++ notes_of segment)) (Ok added) → notes ++ flat_map notes_of (drop i segments) ≡ all → added ++ flat_map notes_of (drop (i + 1) segments) ≡ all
-segment_added notes_of segments i segment notes added all here told before =
-    let more : notes ++ notes_of segment ≡ added = cc in
-    ap (λ items. items ++ flat_map notes_of (drop (i + 1) segments)) (sym more)
-    ∙ append_assoc notes (notes_of segment) (flat_map notes_of (drop (i + 1) segments))
-    ∙ ap (λ n. notes ++ (notes_of segment ++ flat_map notes_of (drop n segments))) (add-one i)
-    ∙ ap (λ rest. notes ++ flat_map notes_of rest) (sym here)
+-- what is read past the last segment
+abbrev pub nothing : Segment
+nothing = record { kind = 0; offset = 0; address = 0; size = 0 }
+
+-- there is room for the notes of the next segment
+pub within_step : (file : List ℕ) (segments : List Segment) (i room size rest : ℕ) (segment : Segment) (notes added all : List Note) → drop i segments ≡ segment ∷ drop (suc i) segments → size ≡ notes_size (length file) segment → size ≤ room → rest ≡ room - size
+    → ◌≡◌ {A = Result (List Note) Fault} (Ok (notes ++ qemu_notes (size / 12) file segment.offset size)) (Ok added) → notes ++ notes_within room file (drop i segments) ≡ all → added ++ notes_within rest file (drop (i + 1) segments) ≡ all
+unfolding notes_in
+within_step file segments i room size rest segment notes added all here sized fits left told before =
+    let own = qemu_notes (size / 12) file segment.offset size in
+    let later = notes_within rest file (drop (suc i) segments) in
+    let more : notes ++ own ≡ added = cc in
+    let open_room : nat_le (notes_size (length file) segment) room ≡ true = ap (λ n. nat_le n room) (sym sized) ∙ le-leb _ _ fits in
+    let step : notes_within room file (segment ∷ drop (suc i) segments) ≡ own ++ later =
+    ap (λ b. cond b (qemu_notes (notes_size (length file) segment / 12) file segment.offset (notes_size (length file) segment) ++ notes_within (room - notes_size (length file) segment) file (drop (suc i) segments)) []) open_room
+    ∙ ap (λ n. qemu_notes (n / 12) file segment.offset n ++ notes_within (room - n) file (drop (suc i) segments)) (sym sized)
+    ∙ ap (λ n. own ++ notes_within n file (drop (suc i) segments)) (sym left) in
+    ap (λ items. items ++ notes_within rest file (drop (i + 1) segments)) (sym more)
+    ∙ append_assoc notes own (notes_within rest file (drop (i + 1) segments))
+    ∙ ap (λ n. notes ++ (own ++ notes_within rest file (drop n segments))) (add-one i)
+    ∙ ap (λ items. notes ++ items) (sym step)
+    ∙ ap (λ after. notes ++ notes_within room file after) (sym here)
     ∙ before
 
-pub segments_all : (notes_of : Segment → List Note) (segments : List Segment) (i : ℕ) (notes : List Note) → drop i segments ≡ [] → notes ++ flat_map notes_of (drop i segments) ≡ flat_map notes_of segments
-    → ◌≡◌ {A = Result (List Note) Fault} (Ok (flat_map notes_of segments)) (Ok notes)
-segments_all notes_of segments i notes none told = ap Ok (sym told ∙ ap (λ rest. notes ++ flat_map notes_of rest) none ∙ append-nil notes)
+-- there is none
+pub within_stop : (file : List ℕ) (segments : List Segment) (i room size : ℕ) (segment : Segment) (notes all : List Note) → drop i segments ≡ segment ∷ drop (suc i) segments → size ≡ notes_size (length file) segment → room < size
+    → notes ++ notes_within room file (drop i segments) ≡ all → ◌≡◌ {A = Result (List Note) Fault} (Ok all) (Ok notes)
+within_stop file segments i room size segment notes all here sized full before =
+    let closed : nat_le (notes_size (length file) segment) room ≡ false = ap (λ n. nat_le n room) (sym sized) ∙ lt-leb _ _ full in
+    let none : notes_within room file (segment ∷ drop (suc i) segments) ≡ [] =
+    ap (λ b. cond b (notes_in file segment ++ notes_within (room - notes_size (length file) segment) file (drop (suc i) segments)) []) closed in
+    ap Ok (sym before ∙ ap (λ after. notes ++ notes_within room file after) here ∙ ap (λ items. notes ++ items) none ∙ append-nil notes)
+
+pub within_end : (file : List ℕ) (segments : List Segment) (i room : ℕ) (notes all : List Note) → drop i segments ≡ [] → notes ++ notes_within room file (drop i segments) ≡ all → ◌≡◌ {A = Result (List Note) Fault} (Ok all) (Ok notes)
+within_end file segments i room notes all none before = ap Ok (sym before ∙ ap (λ after. notes ++ notes_within room file after) none ∙ append-nil notes)

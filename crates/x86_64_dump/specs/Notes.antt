@@ -1,7 +1,6 @@
 -- Notes: QEMU's notes of processors among those of a core file. System V ABI, "Note Section": the sizes of a name and of a descriptor, a
 -- type, and then both, each filled up to a multiple of four bytes.
 use Rattle.std.specs.Prelude.{ℕ, zero, suc, ◌+◌, ◌-◌, ◌*◌, ◌/◌, ◌==◌, ◌&&◌, ◌||◌, Bool, cond, if◌then◌else◌, min, List, [], ◌∷◌, ◌++◌, length, nat_lt, nat_le, Result, Ok, Err}
-use Rattle.std.specs.List.{flat_map}
 use Rattle.x86_64_dump.specs.Numbers.{byte_at, u32_at, u64_at}
 use Rattle.x86_64_dump.specs.Dump.{Contents}
 use Rattle.x86_64_dump.specs.declared.segment.Segment.{Segment}
@@ -39,17 +38,23 @@ qemu_notes zero file at left = []
 qemu_notes (suc most) file at left = cond (is_whole file at left)
     (if_qemu (note_at file at) ++ qemu_notes most file (at + (note_at file at).span) (left - (note_at file at).span)) []
 
--- how many bytes of a segment are in the file
-abbrev pub size_in : (file_length : ℕ) → Segment → ℕ
-size_in file_length segment = min segment.size (file_length - segment.offset)
+-- how many bytes of notes a segment has in the file
+abbrev pub notes_size : (file_length : ℕ) → Segment → ℕ
+notes_size file_length segment = cond (segment.kind == 4) (min segment.size (file_length - segment.offset)) 0
 
--- QEMU's notes in a segment: each note has twelve bytes at least
+-- QEMU's notes in a segment of notes: each has twelve bytes at least
 unfoldable pub notes_in : (file : List ℕ) → Segment → List Note
-notes_in file segment = cond (segment.kind == 4) (qemu_notes (size_in (length file) segment / 12) file segment.offset (size_in (length file) segment)) []
+notes_in file segment = qemu_notes (notes_size (length file) segment / 12) file segment.offset (notes_size (length file) segment)
 
--- the notes of the processors of a dump, in order
+-- QEMU's notes in segments, as long as these have no more bytes of notes than `room`
+abbrev pub notes_within : (room : ℕ) → (file : List ℕ) → List Segment → List Note
+notes_within room file [] = []
+notes_within room file (segment ∷ segments) = cond (nat_le (notes_size (length file) segment) room)
+    (notes_in file segment ++ notes_within (room - notes_size (length file) segment) file segments) []
+
+-- the notes of the processors of a dump, in order; segments of notes that don't overlap have no more bytes than the file
 abbrev pub processors_of : Contents → List Note
-processors_of dump = flat_map (notes_in dump.file) dump.segments
+processors_of dump = notes_within (length dump.file) dump.file dump.segments
 
 -- whether a note's descriptor ends before the register of eight bytes at an offset does, or the file
 abbrev pub is_note_cut : (file_length : ℕ) → Note → (at : ℕ) → Bool

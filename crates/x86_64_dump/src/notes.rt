@@ -1,9 +1,8 @@
 //! Reads QEMU's notes.
 ghost use Rattle.std.specs.Prelude.{◌≡◌, ◌+◌, ◌*◌, ◌/◌, ◌≤◌, ◌<◌, ◌^◌, ◌++◌, length, cond, Some, None, IsOk, IfOk, OnOk, Ok};
-ghost use Rattle.std.specs.List.{flat_map};
 ghost use Rattle.x86_64_dump.specs.Numbers.{byte_at, u32_at};
 ghost use Rattle.x86_64_dump.specs.Opening.{Gives};
-ghost use Rattle.x86_64_dump.specs.Notes.{padded, is_qemu, note_at, is_whole, if_qemu, qemu_notes, size_in, notes_in, is_note_cut, register_of};
+ghost use Rattle.x86_64_dump.specs.Notes.{padded, is_qemu, note_at, is_whole, if_qemu, qemu_notes, notes_size, notes_within, is_note_cut, register_of};
 
 use crate::elf::ends_after;
 use crate::error::{DumpError, Fault};
@@ -17,39 +16,28 @@ use std::io;
 /// The size of what a note has before its name.
 const HEAD_SIZE: u64 = 12;
 
-/// Reads QEMU's notes in the segments of a file.
+/// Reads QEMU's notes in the segments of a file. Segments that overlap so often that they have more bytes of notes than the
+/// file has bytes are left out.
 pub fn read_notes<S: ByteSource>(
     alloc: Global,
     source: &S,
     segments: &[Segment],
 ) -> Result<Vec<Note>, DumpError>
-    ensures { S.IsKnown → Gives (λ v. v.items) result (Ok (flat_map (notes_in (S.bytes source.now)) segments.now)) }
+    ensures { S.IsKnown → Gives (λ v. v.items) result
+        (Ok (notes_within (length (S.bytes source.now)) (S.bytes source.now) segments.now)) }
 {
+    let length = source.len();
+    let mut room = length;
     let mut notes = Vec::new(alloc);
     for segment in segments {
-        add_notes(source, segment, &mut notes)?;
+        let size = notes_size(segment, length);
+        let Some(rest) = room.checked_sub(size) else {
+            return Ok(notes);
+        };
+        add_from(source, segment.offset, size, &mut notes)?;
+        room = rest;
     }
     Ok(notes)
-}
-
-/// Adds QEMU's notes in a segment.
-fn add_notes<S: ByteSource>(
-    source: &S,
-    segment: &Segment,
-    notes: &mut Vec<Note>,
-) -> Result<(), DumpError>
-    ensures { S.IsKnown → Gives (λ _. notes.new.items) result
-        (Ok (notes.old.items ++ notes_in (S.bytes source.now) segment.now)) }
-{
-    if segment.kind != Segment::NOTE {
-        return Ok(());
-    }
-    add_from(
-        source,
-        segment.offset,
-        size_in(segment, source.len()),
-        notes,
-    )
 }
 
 /// Adds QEMU's notes in the bytes from an offset on.
@@ -89,12 +77,16 @@ fn push_qemu(notes: &mut Vec<Note>, note: Note) -> Result<(), AllocError>
     Ok(())
 }
 
-/// Gives how many bytes of a segment are in a file of this length.
-fn size_in(segment: &Segment, length: u64) -> u64
-    ensures size { result ≡ size_in length segment.now }
+/// Gives how many bytes of notes a segment has in a file of this length.
+fn notes_size(segment: &Segment, length: u64) -> u64
+    ensures size { result ≡ notes_size length segment.now }
     ensures inside { 0 < result → segment.now.offset + result ≤ length }
 {
-    segment.size.min(length.saturating_sub(segment.offset))
+    if segment.kind == Segment::NOTE {
+        segment.size.min(length.saturating_sub(segment.offset))
+    } else {
+        0
+    }
 }
 
 /// Reads the note at an offset, or gives `None` if its descriptor doesn't end in the bytes that are left.
