@@ -1,7 +1,7 @@
 //! Tests of QEMU's notes.
 ghost use Rattle.std.specs.Prelude.{◌<◌};
 
-use crate::builder::{BEHIND, CORE, fault_of, push_elf, push_segment, push_words};
+use crate::builder::{BEHIND, CORE, Elf, fault_of, push_core, push_elf, push_segment, push_words};
 use std::alloc::{AllocError, Global};
 use std::process::Abort;
 use x86_64_dump::{ByteSource, Dump, DumpError, Fault, Segment};
@@ -23,16 +23,23 @@ fn push_note(
     push_words(bytes, first, u64::from(words))
 }
 
+/// The notes of a file behind the headers of `CORE`.
+const NOTES: Segment = Segment {
+    kind: Segment::NOTE,
+    offset: BEHIND,
+    address: 0,
+    size: SIZE,
+};
+
 /// Adds a file with a segment of notes of this size.
 fn push_file(bytes: &mut Vec<u8>, size: u64) -> Result<(), AllocError> {
     push_elf(bytes, CORE)?;
-    let notes = Segment {
-        kind: Segment::NOTE,
-        offset: BEHIND,
-        address: 0,
-        size,
-    };
-    push_segment(bytes, notes)?;
+    push_segment(bytes, Segment { size, ..NOTES })?;
+    push_notes(bytes)
+}
+
+/// Adds five notes, three of which are QEMU's.
+fn push_notes(bytes: &mut Vec<u8>) -> Result<(), AllocError> {
     push_note(bytes, b"CORE\0\0\0\0", 5, 900, 42)?;
     push_note(bytes, b"QEMU\0\0\0\0", 5, 100, 55)?;
     push_note(bytes, b"QEMU!\0\0\0", 6, 300, 55)?;
@@ -126,6 +133,82 @@ fn notes_end_with_the_file(rt: HostRuntime) {
         if let Ok(dump) = Dump::open(rt.alloc(), &bytes[..length], None) {
             assert_eq!(rt; count(rt, rt.alloc(), &dump), wanted, "of {length} bytes");
             assert!(rt; dump.is_short());
+        }
+    }
+}
+
+/// Two segments of notes, behind two program headers, and how many processors there are.
+const SEVERAL: [([Segment; 2], usize); 4] = [
+    (
+        [
+            Segment {
+                offset: BEHIND + 56,
+                size: 816,
+                ..NOTES
+            },
+            Segment {
+                offset: BEHIND + 56 + 816,
+                size: SIZE - 816,
+                ..NOTES
+            },
+        ],
+        3,
+    ),
+    (
+        [
+            Segment {
+                offset: BEHIND + 56,
+                ..NOTES
+            },
+            Segment {
+                kind: Segment::LOAD,
+                offset: BEHIND + 56,
+                ..NOTES
+            },
+        ],
+        3,
+    ),
+    // Both have more bytes than the file, so they overlap, and the second is left out.
+    (
+        [
+            Segment {
+                offset: BEHIND + 56,
+                ..NOTES
+            },
+            Segment {
+                offset: BEHIND + 56,
+                ..NOTES
+            },
+        ],
+        3,
+    ),
+    (
+        [
+            Segment {
+                offset: u64::MAX,
+                size: u64::MAX,
+                ..NOTES
+            },
+            Segment {
+                offset: BEHIND + 56,
+                size: 816,
+                ..NOTES
+            },
+        ],
+        1,
+    ),
+];
+
+#[test]
+fn notes_may_stand_in_several_segments(rt: HostRuntime) {
+    for (n, (segments, wanted)) in SEVERAL.iter().enumerate() {
+        let mut bytes = Vec::new(rt.alloc());
+        assert!(rt; push_core(&mut bytes, Elf { count: 2, ..CORE }, segments, 0, 0).is_ok());
+        assert!(rt; push_notes(&mut bytes).is_ok());
+        let opened = Dump::open(rt.alloc(), bytes.as_slice(), None);
+        assert_eq!(rt; fault_of(rt, &opened), None, "in {n}");
+        if let Ok(dump) = opened {
+            assert_eq!(rt; count(rt, rt.alloc(), &dump), *wanted, "in {n}");
         }
     }
 }

@@ -2,8 +2,9 @@
 use crate::builder::{BEHIND, CORE, Elf, FRAME, ends_of, fault_of, push_core, push_words};
 use std::alloc::Global;
 use std::fs::File;
+use std::io::Read;
 use std::process::Abort;
-use x86_64_dump::{Dump, Fault, FileSource};
+use x86_64_dump::{ByteSource, Dump, Fault, FileSource};
 
 /// The length of a file with the headers of `CORE` and one frame.
 const LENGTH: u64 = BEHIND + 4096;
@@ -250,16 +251,19 @@ fn other_formats_are_known_by_their_start(rt: HostRuntime) {
 #[test]
 fn files_are_read_like_slices(rt: HostRuntime) {
     // The program that runs the test is an ELF file, and no core file.
-    let Ok(file) = File::open(&rt, "/proc/self/exe") else {
+    let Ok(mut file) = File::open(&rt, "/proc/self/exe") else {
         panic!(rt; "the program's file isn't there");
     };
+    let mut front = [0; 64];
+    assert!(rt; file.read_exact(&mut front).is_ok());
     let Ok(source) = FileSource::new(file) else {
         panic!(rt; "the file has no length");
     };
-    let is_core = match Dump::open(rt.alloc(), source, None) {
-        Ok(_) => true,
-        Err(x86_64_dump::DumpError::Fault(Fault::WrongType { file_type })) => file_type == 4,
-        Err(_) => panic!(rt; "the file wasn't read"),
-    };
-    assert!(rt; !is_core);
+    let mut part = [0; 40];
+    assert!(rt; source.read_exact_at(&mut part, 24).is_ok());
+    assert_eq!(rt; part[..], front[24..]);
+    assert!(rt; source.read_exact_at(&mut part, source.len()).is_err());
+    let wanted = fault_of(rt, &Dump::open(rt.alloc(), &front[..], None));
+    assert!(rt; wanted.is_some());
+    assert_eq!(rt; fault_of(rt, &Dump::open(rt.alloc(), source, None)), wanted);
 }
