@@ -87,16 +87,16 @@ no_qemu_notes zero file at left short = refl
 no_qemu_notes (suc most) file at left short =
     ap (λ b. cond b (if_qemu (note_at file at) ++ qemu_notes most file (at + (note_at file at).span) (left - (note_at file at).span)) []) (too_short file at left short)
 
-pub register_cut : (file : List ℕ) (note : Note) (at size : ℕ) → size ≡ length file → is_note_cut size note at ≡ true → register_of file note at ≡ Err (faults.NoteCut note.offset note.size (at + 8))
+pub register_cut : (file : List ℕ) (note : Note) (at size : ℕ) (cut : Bool) → size ≡ length file → cut ≡ is_note_cut size note at → cut ≡ true → register_of file note at ≡ Err (faults.NoteCut note.offset note.size (at + 8))
 unfolding register_of
-register_cut file note at size long cut =
-    ap (λ b. cond b (Err (faults.NoteCut note.offset note.size (at + 8))) (Ok (u64_at file (note.offset + at)))) (ap (λ n. is_note_cut n note at) (sym long) ∙ cut)
+register_cut file note at size cut long test is =
+    ap (λ b. cond b (Err (faults.NoteCut note.offset note.size (at + 8))) (Ok (u64_at file (note.offset + at)))) (ap (λ n. is_note_cut n note at) (sym long) ∙ sym test ∙ is)
 
-pub register_read : (file register : List ℕ) (note : Note) (at size value : ℕ) → size ≡ length file → is_note_cut size note at ≡ false → register ≡ part_of file (note.offset + at) 8 → value ≡ u64_at register 0
+pub register_read : (file register : List ℕ) (note : Note) (at size value : ℕ) (cut : Bool) → size ≡ length file → cut ≡ is_note_cut size note at → cut ≡ false → register ≡ part_of file (note.offset + at) 8 → value ≡ u64_at register 0
     → register_of file note at ≡ Ok value
 unfolding register_of
-register_read file register note at size value long whole read told =
-    ap (λ b. cond b (Err (faults.NoteCut note.offset note.size (at + 8))) (Ok (u64_at file (note.offset + at)))) (ap (λ n. is_note_cut n note at) (sym long) ∙ whole)
+register_read file register note at size value cut long test is read told =
+    ap (λ b. cond b (Err (faults.NoteCut note.offset note.size (at + 8))) (Ok (u64_at file (note.offset + at)))) (ap (λ n. is_note_cut n note at) (sym long) ∙ sym test ∙ is)
     ∙ ap Ok (ap (u64_at file) (sym (add_zero (note.offset + at))) ∙ sym (u64_shown _ file 0 (note.offset + at) 8 (part_shows file (note.offset + at) 8) (omega arith)) ∙ ap (λ bytes. u64_at bytes 0) (sym read) ∙ sym told)
 
 -- with nothing left to add
