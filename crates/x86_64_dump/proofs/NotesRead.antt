@@ -1,5 +1,5 @@
 -- NotesRead: what was read of a note says what it is; notes are read one by one.
-use Rattle.std.proofs.Common.{◌≡◌, ℕ, zero, suc, ◌+◌, ◌-◌, ◌/◌, ◌≤◌, ◌<◌, ◌==◌, ◌&&◌, Bool, true, false, cond, List, [], ◌∷◌, ◌++◌, Some, None, Result, Ok, Err, get_or, length, refl, ap, sym, ◌∙◌, arith, eq-eqb, ne_eqb, nat_le, le-leb, append-nil, append_assoc, add-one, drop}
+use Rattle.std.proofs.Common.{◌≡◌, ℕ, zero, suc, ◌+◌, ◌-◌, ◌/◌, ◌≤◌, ◌<◌, ◌==◌, ◌&&◌, Bool, true, false, cond, List, [], ◌∷◌, ◌++◌, Option, Some, None, Result, Ok, Err, get_or, length, refl, ap, sym, ◌∙◌, arith, eq-eqb, ne_eqb, nat_le, le-leb, append-nil, append_assoc, add-one, drop}
 use Rattle.std.proofs.lemmas.Bool.{lt-leb}
 use Rattle.x86_64_dump.specs.Numbers.{byte_at, u32_at, u64_at}
 use Rattle.x86_64_dump.specs.Source.{part_of}
@@ -54,6 +54,9 @@ pub note_read : (file : List ℕ) (at name_size size : ℕ) (qemu : Bool) → na
 unfolding note_at
 note_read file at name_size size qemu named sized is = cc
 
+pub no_note : (file : List ℕ) (at left : ℕ) → is_whole file at left ≡ false → None ≡ cond (is_whole file at left) (Some (note_at file at)) None
+no_note file at left lacks = sym (ap (λ b. cond b (Some (note_at file at)) None) lacks)
+
 pub note_found : (file : List ℕ) (at left name_size size : ℕ) (qemu : Bool) (room found again filled : ℕ) → is_whole file at left ≡ true → name_size ≡ u32_at file at → size ≡ u32_at file (at + 4) → qemu ≡ is_qemu file at
     → room ≡ padded name_size → found ≡ size → again ≡ padded name_size → filled ≡ padded size
     → Some (record { is_qemu = qemu; offset = at + 12 + room; size = found; span = 12 + again + filled }) ≡ cond (is_whole file at left) (Some (note_at file at)) None
@@ -78,9 +81,9 @@ pub qemu_notes_step : (most : ℕ) (file : List ℕ) (at left : ℕ) (note : Not
 qemu_notes_step most file at left note found =
     step_by (is_whole file at left) (note_at file at) note (λ n. if_qemu n ++ qemu_notes most file (at + n.span) (left - n.span)) found
 
-pub qemu_notes_end : (most : ℕ) (file : List ℕ) (at left : ℕ) → None ≡ cond (is_whole file at left) (Some (note_at file at)) None → qemu_notes most file at left ≡ []
-qemu_notes_end zero file at left none = refl
-qemu_notes_end (suc most) file at left none = end_by (is_whole file at left) (note_at file at) _ none
+pub qemu_notes_end : (most : ℕ) (file : List ℕ) (at left : ℕ) (found : Option Note) → found ≡ None → found ≡ cond (is_whole file at left) (Some (note_at file at)) None → qemu_notes most file at left ≡ []
+qemu_notes_end zero file at left found is read = refl
+qemu_notes_end (suc most) file at left found is read = end_by (is_whole file at left) (note_at file at) _ (sym is ∙ read)
 
 pub no_qemu_notes : (most : ℕ) (file : List ℕ) (at left : ℕ) → left < 12 → qemu_notes most file at left ≡ []
 no_qemu_notes zero file at left short = refl
@@ -104,12 +107,13 @@ pub added_all : (notes rest old all : List Note) → rest ≡ [] → notes ++ re
 added_all notes rest old all none told = ap Ok (sym told ∙ ap (λ left. notes ++ left) none ∙ append-nil notes)
 
 -- one note was added, and its span passed
-pub added_one : (most next : ℕ) (file : List ℕ) (at left : ℕ) (note : Note) (notes added all : List Note) → suc next ≡ most → Some note ≡ cond (is_whole file at left) (Some (note_at file at)) None
-    → added ≡ notes ++ if_qemu note → notes ++ qemu_notes most file at left ≡ all → added ++ qemu_notes next file (at + note.span) (left - note.span) ≡ all
-added_one most next file at left note notes added all less found pushed told =
-    ap (λ items. items ++ qemu_notes next file (at + note.span) (left - note.span)) pushed
-    ∙ append_assoc notes (if_qemu note) (qemu_notes next file (at + note.span) (left - note.span))
-    ∙ ap (λ items. notes ++ items) (sym (qemu_notes_step next file at left note found))
+pub added_one : (most next : ℕ) (file : List ℕ) (at left rest : ℕ) (found : Option Note) (note : Note) (notes added all : List Note) → suc next ≡ most → rest ≡ left - note.span
+    → found ≡ Some note → found ≡ cond (is_whole file at left) (Some (note_at file at)) None → added ≡ notes ++ if_qemu note → notes ++ qemu_notes most file at left ≡ all → added ++ qemu_notes next file (at + note.span) rest ≡ all
+added_one most next file at left rest found note notes added all less behind is read pushed told =
+    ap (λ items. items ++ qemu_notes next file (at + note.span) rest) pushed
+    ∙ append_assoc notes (if_qemu note) (qemu_notes next file (at + note.span) rest)
+    ∙ ap (λ n. notes ++ (if_qemu note ++ qemu_notes next file (at + note.span) n)) behind
+    ∙ ap (λ items. notes ++ items) (sym (qemu_notes_step next file at left note (sym is ∙ read)))
     ∙ ap (λ n. notes ++ qemu_notes n file at left) less
     ∙ told
 

@@ -1,13 +1,12 @@
-use Rattle.std.proofs.Common.{◌≡◌, ap, sym, cond, Some, None, arith}
+use Rattle.std.proofs.Common.{◌≡◌, arith}
 use Rattle.x86_64_dump.specs.Source.{part_of}
-use Rattle.x86_64_dump.specs.Notes.{note_at}
-use Rattle.x86_64_dump.proofs.NotesRead.{too_short, not_whole, whole, note_found, name_size_read, size_read}
+use Rattle.x86_64_dump.proofs.NotesRead.{no_note, too_short, not_whole, whole, note_found, name_size_read, size_read}
 use Rattle.x86_64_dump.proofs.notes.read_note.Goals as goal
 
 pub returns-then-left-lt-HEAD_SIZE-clause-value : goal.returns-then-left-lt-HEAD_SIZE-clause-value
 returns-then-left-lt-HEAD_SIZE-clause-value g c known =
     let file = g.S.ByteSource.bytes c.args.source.now in
-    sym (ap (λ b. cond b (Some (note_at file c.args.at)) None) (too_short file c.args.at c.args.left c.if-left-lt-HEAD_SIZE.true))
+    no_note file c.args.at c.args.left (too_short file c.args.at c.args.left c.if-left-lt-HEAD_SIZE.true)
 
 pub returns-then-left-padded-clause-value : goal.returns-then-left-padded-clause-value
 returns-then-left-padded-clause-value g c known =
@@ -16,7 +15,7 @@ returns-then-left-padded-clause-value g c known =
     let read : c.read_exact_at.new.buffer ≡ part_of file at 12 = c.in_ok-read_exact_at.ensures.bytes known in
     let named = name_size_read file _ at _ read c.read_u32-name_size.ensures in
     let sized = size_read file _ at _ read c.read_u32-size.ensures in
-    sym (ap (λ b. cond b (Some (note_at file at)) None) (not_whole file at c.args.left _ _ named sized (omega (arith, c.if-left-padded.true, c.padded.ensures, c.from.ensures))))
+    no_note file at c.args.left (not_whole file at c.args.left c.read_u32-name_size.result c.read_u32-size.result named sized (omega (arith, c.if-left-padded.true, c.padded.ensures, c.from.ensures)))
 
 pub returns-clause-value : goal.returns-clause-value
 returns-clause-value g c known =
