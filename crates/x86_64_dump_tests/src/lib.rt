@@ -11,3 +11,5 @@ mod frames;
 mod notes;
 #[cfg(test)]
 mod opening;
+#[cfg(test)]
+mod texts;
