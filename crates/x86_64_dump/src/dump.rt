@@ -59,7 +59,8 @@ impl<S: ByteSource> Dump<S> {
     ///
     /// Where the source can't be read.
     pub fn read_frame(&self, frame: PhysFrame<Size4KiB>) -> io::Result<Option<[u64; 512]>>
-        ensures words { S.IsKnown → IfOk result (λ words. words ≡ words_of_dump (opened S.bytes self.now) frame) }
+        ensures words { S.IsKnown →
+            IfOk result (λ words. words ≡ words_of_dump (opened S.bytes self.now) frame) }
         ensures succeeds { S.IsKnown → IsOk result }
     {
         let address = frame.start_address().as_u64();
@@ -77,7 +78,8 @@ impl<S: ByteSource> Dump<S> {
     ///
     /// `DumpError::OutOfMemory` where memory is refused, `DumpError::Read` where the source can't be read.
     pub fn processors(&self, alloc: Global) -> Result<Vec<Note>, DumpError>
-        ensures { S.IsKnown → Gives (λ notes. notes.items) result (Ok (processors_of (opened S.bytes self.now))) }
+        ensures { S.IsKnown →
+            Gives (λ notes. notes.items) result (Ok (processors_of (opened S.bytes self.now))) }
     {
         read_notes(alloc, &self.source, &self.segments)
     }

@@ -48,7 +48,8 @@ fn add_from<S: ByteSource>(
     notes: &mut Vec<Note>,
 ) -> Result<(), DumpError>
     requires { offset + size < 2 ^ 64 }
-    ensures { S.IsKnown → (0 < size → offset + size ≤ length (S.bytes source.now)) → Gives (λ _. notes.new.items) result
+    ensures { S.IsKnown → (0 < size → offset + size ≤ length (S.bytes source.now)) →
+        Gives (λ _. notes.new.items) result
         (Ok (notes.old.items ++ qemu_notes (size / 12) (S.bytes source.now) offset size)) }
 {
     let mut at = offset;

@@ -17,7 +17,8 @@ fn words_of(
     base: Option<u64>,
     frame: PhysFrame<Size4KiB>,
 ) -> Result<Option<[u64; 512]>, DumpError>
-    ensures { IfOk result (λ words. (dump : Contents) → contents_of file.now base ≡ Ok dump → words ≡ words_of_dump dump frame) }
+    ensures { IfOk result (λ words. (dump : Contents) →
+        contents_of file.now base ≡ Ok dump → words ≡ words_of_dump dump frame) }
 {
     let dump = Dump::open(alloc, file, base)?;
     Ok(dump.read_frame(frame)?)
