@@ -1,0 +1,65 @@
+-- Frames: the segment that has a frame is found one by one, and the words of a part are those of the file.
+use Rattle.std.proofs.Common.{◌≡◌, ℕ, zero, suc, ◌+◌, ◌*◌, ◌≤◌, ◌<◌, Bool, true, false, cond, List, [], ◌∷◌, Option, Some, None, map, take, eq-eqb, ◌%◌, ◌^◌, length, refl, ap, sym, ◌∙◌, arith}
+use Rattle.std.specs.List.{find, range_with_len}
+use Rattle.std.specs.Option.{option_map}
+use Rattle.x86_64_model.specs.Entry.{is_frame, address}
+use Rattle.x86_64_dump.specs.Numbers.{u64_at}
+use Rattle.x86_64_dump.specs.Dump.{Contents, has_frame, frame_offset, offset_in, words_at, words_of_dump}
+use Rattle.x86_64_dump.specs.declared.segment.Segment.{Segment}
+use Rattle.std.proofs.lemmas.List.{take_all}
+use Rattle.x86_64_dump.specs.Source.{part_of}
+use Rattle.x86_64_model.proofs.Lemmas.Entries.Words.{address-multiple}
+use Rattle.x86_64_dump.proofs.Parts.{Shows, part_shows, u64_shown}
+
+pub frame_offset_here : (size frame : ℕ) (segment : Segment) (segments : List Segment) → has_frame size frame segment ≡ true → frame_offset size (segment ∷ segments) frame ≡ Some (offset_in segment frame)
+unfolding frame_offset
+frame_offset_here size frame segment segments has = ap (λ b. option_map (λ s. offset_in s frame) (cond b (Some segment) (find (has_frame size frame) segments))) has
+
+pub frame_offset_later : (size frame : ℕ) (segment : Segment) (segments : List Segment) → has_frame size frame segment ≡ false → frame_offset size (segment ∷ segments) frame ≡ frame_offset size segments frame
+unfolding frame_offset
+frame_offset_later size frame segment segments lacks = ap (λ b. option_map (λ s. offset_in s frame) (cond b (Some segment) (find (has_frame size frame) segments))) lacks
+
+pub frame_offset_nowhere : (size frame : ℕ) → frame_offset size [] frame ≡ None
+unfolding frame_offset
+frame_offset_nowhere size frame = refl
+
+map_range_same : (f g : ℕ → ℕ) (a n : ℕ) → ((i : ℕ) → a ≤ i → i < a + n → f i ≡ g i) → map f (range_with_len a n) ≡ map g (range_with_len a n)
+map_range_same f g a zero same = refl
+map_range_same f g a (suc n) same =
+    let first = same a (omega arith) (omega arith) in
+    let rest = map_range_same f g (a + 1) n (λ i low high. same i (omega arith) (omega arith)) in
+    cc
+
+words_map_shown : (part file : List ℕ) (offset size n : ℕ) → Shows part file offset size → 8 * n ≤ size → map (λ i. u64_at part (0 + 8 * i)) (range_with_len 0 n) ≡ map (λ i. u64_at file (offset + 8 * i)) (range_with_len 0 n)
+words_map_shown part file offset size n shows fits = map_range_same _ _ 0 n (λ i low high. ap (u64_at part) (omega arith) ∙ u64_shown part file (8 * i) offset size shows (omega arith))
+
+pub words_shown : (part file : List ℕ) (offset : ℕ) → Shows part file offset 4096 → words_at part 0 ≡ words_at file offset
+unfolding words_at
+words_shown part file offset shows = words_map_shown part file offset 4096 512 shows (omega arith)
+
+words_by_count : (bytes : List ℕ) (n : ℕ) → map (λ i. u64_at bytes (8 * i)) (range_with_len 0 n) ≡ map (λ i. u64_at bytes (0 + 8 * i)) (range_with_len 0 n)
+words_by_count bytes n = map_range_same _ _ 0 n (λ i low high. ap (u64_at bytes) (omega arith))
+
+pub all_words : (bytes words : List ℕ) (n : ℕ) → n ≡ 512 → length words ≡ 512 → take n words ≡ map (λ i. u64_at bytes (8 * i)) (range_with_len 0 n) → words ≡ words_at bytes 0
+unfolding words_at
+all_words bytes words n all size read = sym (take_all n words (omega arith)) ∙ read ∙ words_by_count bytes n ∙ ap (λ count. map (λ i. u64_at bytes (0 + 8 * i)) (range_with_len 0 count)) all
+
+none_either : {A : Type 0} (b : Bool) → cond {A = Option A} b None None ≡ None
+none_either true = refl
+none_either false = refl
+
+-- what a dump says of a frame that no segment has, and of one that a segment has
+pub no_words : (dump : Contents) (frame size : ℕ) → size ≡ length dump.file → frame_offset size dump.segments frame ≡ None → None ≡ words_of_dump dump frame
+unfolding words_of_dump
+no_words dump frame size long lacks =
+    sym (ap (λ place. cond (is_frame frame) (option_map (words_at dump.file) place) None) (ap (λ n. frame_offset n dump.segments frame) (sym long) ∙ lacks) ∙ none_either (is_frame frame))
+
+pub frame_words : (dump : Contents) (frame size offset : ℕ) (part words : List ℕ) → size ≡ length dump.file → frame % 4096 ≡ 0 → frame < 2 ^ 52 → frame_offset size dump.segments frame ≡ Some offset
+    → part ≡ part_of dump.file offset 4096 → words ≡ words_at part 0 → Some words ≡ words_of_dump dump frame
+unfolding words_of_dump
+frame_words dump frame size offset part words long aligned below has read told =
+    let is : is_frame frame ≡ true = eq-eqb (address frame) frame (address-multiple frame aligned below) in
+    let place : frame_offset (length dump.file) dump.segments frame ≡ Some offset = ap (λ n. frame_offset n dump.segments frame) (sym long) ∙ has in
+    let shown = words_shown (part_of dump.file offset 4096) dump.file offset (part_shows dump.file offset 4096) in
+    ap Some (told ∙ ap (λ bytes. words_at bytes 0) read ∙ shown)
+    ∙ sym (ap (λ place. cond (is_frame frame) (option_map (words_at dump.file) place) None) place ∙ ap (λ b. cond {A = Option (List ℕ)} b (Some (words_at dump.file offset)) None) is)

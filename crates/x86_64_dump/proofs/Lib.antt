@@ -1,0 +1,4 @@
+pub mod Parts
+pub mod Openings
+pub mod Frames
+pub mod NotesRead

@@ -1,0 +1,7 @@
+use Rattle.std.proofs.Common.{◌≡◌, ◌+◌, ◌*◌, ◌≤◌, length}
+use Rattle.x86_64_dump.specs.Dump.{segments_at}
+use Rattle.x86_64_dump.proofs.elf.read_table.Given as goal
+
+-- the segments so far are the first ones
+abbrev pub invariant-loop-i : goal.invariant-loop-i
+invariant-loop-i g l = g.S.ByteSource.IsKnown → l.offset + 56 * l.count ≤ length (g.S.ByteSource.bytes l.source) → l.segments.items ≡ segments_at (g.S.ByteSource.bytes l.source) l.offset l.i

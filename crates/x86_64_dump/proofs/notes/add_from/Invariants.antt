@@ -1,0 +1,12 @@
+use Rattle.std.proofs.Common.{◌≡◌, ◌+◌, ◌-◌, ◌/◌, ◌++◌}
+use Rattle.x86_64_dump.specs.Notes.{qemu_notes}
+use Rattle.x86_64_dump.proofs.notes.add_from.Given as goal
+
+-- the notes so far, and those in what is left, are all
+abbrev pub invariant-loop : goal.invariant-loop
+invariant-loop g l =
+    let file = g.S.ByteSource.bytes l.source in
+    record {
+      all : l.at + l.left ≡ l.offset + l.size;
+      told : g.S.ByteSource.IsKnown → l.notes.items ++ qemu_notes (l.size / 12 - l.counter) file l.at l.left ≡ l.fn.notes.items ++ qemu_notes (l.size / 12) file l.offset l.size;
+    }

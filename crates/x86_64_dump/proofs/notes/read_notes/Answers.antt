@@ -1,0 +1,36 @@
+use Rattle.std.proofs.Common.{◌∙◌, ap, arith, length, get_or}
+use Rattle.std.proofs.Math.Seq.{drop-cons}
+use Rattle.std.proofs.lemmas.List.{drop_all}
+use Rattle.x86_64_dump.specs.Notes.{notes_within, notes_size}
+use Rattle.x86_64_dump.proofs.NotesRead.{within_step, within_stop, within_end, nothing}
+use Rattle.x86_64_dump.proofs.notes.read_notes.Goals as goal
+
+pub loop-segment-preserved : goal.loop-segment-preserved
+loop-segment-preserved g c known =
+    let file = g.S.ByteSource.bytes c.args.source.now in
+    let segments = c.args.segments.now in
+    let size = c.notes_size-size.result in
+    within_step file segments c.loop-segment.segment-index c.loop-segment.room size c.in-Some.rest (get_or segments c.loop-segment.segment-index nothing) c.loop-segment.notes.items c.add_from.new.notes.items (notes_within (length file) file segments)
+    (drop-cons segments c.loop-segment.segment-index nothing c.loop-segment-test.true)
+    (c.notes_size-size.ensures.size ∙ ap (λ n. notes_size n (get_or segments c.loop-segment.segment-index nothing)) (c.len-length.ensures known))
+    c.in-Some.ensures.0
+    c.in-Some.ensures.1
+    (c.in_ok-add_from.ensures known (λ some. omega (arith, c.notes_size-size.ensures.inside some, c.len-length.ensures known)))
+    (c.loop-segment.invariant known)
+
+pub returns-in_default : goal.returns-in_default
+returns-in_default g c known =
+    let file = g.S.ByteSource.bytes c.args.source.now in
+    let segments = c.args.segments.now in
+    within_stop file segments c.loop-segment.segment-index c.loop-segment.room c.notes_size-size.result (get_or segments c.loop-segment.segment-index nothing) c.loop-segment.notes.items (notes_within (length file) file segments)
+    (drop-cons segments c.loop-segment.segment-index nothing c.loop-segment-test.true)
+    (c.notes_size-size.ensures.size ∙ ap (λ n. notes_size n (get_or segments c.loop-segment.segment-index nothing)) (c.len-length.ensures known))
+    (omega (arith, c.in_default.ensures))
+    (c.loop-segment.invariant known)
+
+pub returns : goal.returns
+returns g c known =
+    let file = g.S.ByteSource.bytes c.args.source.now in
+    let segments = c.args.segments.now in
+    within_end file segments c.loop-segment.segment-index c.loop-segment.room c.loop-segment.notes.items (notes_within (length file) file segments)
+    (drop_all c.loop-segment.segment-index segments c.loop-segment-test.false) (c.loop-segment.invariant known)

@@ -1,0 +1,9 @@
+use Rattle.std.proofs.Common.{◌≡◌, ◌++◌, drop, length}
+use Rattle.x86_64_dump.specs.Notes.{notes_within}
+use Rattle.x86_64_dump.proofs.notes.read_notes.Given as goal
+
+-- the notes so far, and those of the segments that are left, are all
+abbrev pub invariant-loop-segment : goal.invariant-loop-segment
+invariant-loop-segment g l =
+    let file = g.S.ByteSource.bytes l.source in
+    g.S.ByteSource.IsKnown → l.notes.items ++ notes_within l.room file (drop l.segment-index l.segments) ≡ notes_within (length file) file l.segments

@@ -1,0 +1,47 @@
+-- Dump: what words of physical memory a file holds, by its segments. A file is the list of its bytes.
+-- System V ABI, "Program Header"; its AMD64 supplement.
+use Rattle.std.specs.Prelude.{ℕ, ◌+◌, ◌-◌, ◌*◌, ◌==◌, ◌&&◌, Bool, not, cond, List, length, map, nat_le, nat_lt, Option, None}
+use Rattle.std.specs.List.{find, list_any, range_with_len}
+use Rattle.std.specs.Option.{option_map}
+use Rattle.x86_64_model.specs.Entry.{is_frame}
+use Rattle.x86_64_model.specs.Memory.{Words}
+use Rattle.x86_64_dump.specs.Numbers.{u32_at, u64_at}
+use Rattle.x86_64_dump.specs.declared.segment.Segment.{Segment}
+
+-- the segment that the program header at an offset of the file describes
+unfoldable pub segment_at : (file : List ℕ) → (offset : ℕ) → Segment
+segment_at file offset = record { kind = u32_at file offset; offset = u64_at file (offset + 8); address = u64_at file (offset + 24); size = u64_at file (offset + 32) }
+
+-- those of the program headers from an offset on, each of 56 bytes
+abbrev pub segments_at : (file : List ℕ) → (offset count : ℕ) → List Segment
+segments_at file offset count = map (λ i. segment_at file (offset + 56 * i)) (range_with_len 0 count)
+
+-- where the byte of an address that is in the segment lies in the file
+abbrev pub offset_in : Segment → (address : ℕ) → ℕ
+offset_in segment address = segment.offset + (address - segment.address)
+
+-- whether all 4096 bytes of a frame are in a segment of memory, and in a file of this length
+abbrev pub has_frame : (file_length frame : ℕ) → Segment → Bool
+has_frame file_length frame segment = segment.kind == 1 && nat_le segment.address frame
+    && nat_le (frame + 4096) (segment.address + segment.size) && nat_le (offset_in segment frame + 4096) file_length
+
+-- where a frame lies in the file: in the first segment that has it whole
+unfoldable pub frame_offset : (file_length : ℕ) → List Segment → (frame : ℕ) → Option ℕ
+frame_offset file_length segments frame = option_map (λ segment. offset_in segment frame) (find (has_frame file_length frame) segments)
+
+-- the 512 words of the 4096 bytes from an offset on
+unfoldable pub words_at : (file : List ℕ) → (offset : ℕ) → List ℕ
+words_at file offset = map (λ i. u64_at file (offset + 8 * i)) (range_with_len 0 512)
+
+-- a file, and its segments
+pub record Contents : Type 0 where
+  pub file : List ℕ
+  pub segments : List Segment
+
+-- the words of each frame that is there
+unfoldable pub words_of_dump : Contents → Words
+words_of_dump dump frame = cond (is_frame frame) (option_map (words_at dump.file) (frame_offset (length dump.file) dump.segments frame)) None
+
+-- whether the file is shorter than its segments say
+abbrev pub is_short : (file_length : ℕ) → List Segment → Bool
+is_short file_length segments = list_any (λ segment. not (segment.size == 0) && nat_lt file_length (segment.offset + segment.size)) segments

@@ -1,0 +1,15 @@
+-- Numbers: those of two, four and eight bytes at an offset of a file, the least byte first. Past its end a file is read as bytes 0.
+use Rattle.std.specs.Prelude.{ℕ, List, drop, slice_index}
+use Rattle.std.specs.Int.{w16, w32, w64, from_le_bytes}
+
+abbrev pub byte_at : (file : List ℕ) → (offset : ℕ) → ℕ
+byte_at file offset = slice_index file offset
+
+unfoldable pub u16_at : (file : List ℕ) → (offset : ℕ) → ℕ
+u16_at file offset = from_le_bytes w16 (drop offset file)
+
+unfoldable pub u32_at : (file : List ℕ) → (offset : ℕ) → ℕ
+u32_at file offset = from_le_bytes w32 (drop offset file)
+
+unfoldable pub u64_at : (file : List ℕ) → (offset : ℕ) → ℕ
+u64_at file offset = from_le_bytes w64 (drop offset file)

@@ -1,0 +1,95 @@
+-- Opening: which files are dumps, and of which segments. System V ABI, "ELF Header"; a core file's header is that of any ELF file.
+use Rattle.std.specs.Prelude.{◌≡◌, ℕ, ◌+◌, ◌*◌, ◌==◌, ◌&&◌, ◌||◌, Bool, not, cond, if◌then◌else◌, List, [], ◌∷◌, length, nat_lt, Option, None, Some, is_some, Result, Ok, Err, ⊤}
+use Rattle.std.specs.Option.{unwrap_or}
+use Rattle.x86_64_dump.specs.Numbers.{byte_at, u16_at, u32_at, u64_at}
+use Rattle.x86_64_dump.specs.Dump.{Contents, segments_at}
+use Rattle.x86_64_dump.specs.declared.header.Header.{Header}
+use Rattle.x86_64_dump.specs.declared.segment.Segment.{Segment}
+use Rattle.x86_64_dump.specs.declared.error.Fault.{Fault}
+use Rattle.x86_64_dump.specs.declared.error.Fault.TheVariants as faults
+use Rattle.x86_64_dump.specs.declared.error.DumpError.{DumpError}
+use Rattle.x86_64_dump.specs.declared.error.DumpError.TheVariants as errors
+
+-- the fields of a file's header, those past its end 0
+unfoldable pub header_of : (file : List ℕ) → Header
+header_of file = record {
+  start = u64_at file 0;
+  magic = u32_at file 0;
+  class = byte_at file 4;
+  order = byte_at file 5;
+  file_type = u16_at file 16;
+  machine = u16_at file 18;
+  headers = u64_at file 32;
+  sections = u64_at file 40;
+  entry_size = u16_at file 54;
+  count = u16_at file 56;
+}
+
+-- "\x7fELF"
+abbrev pub is_elf : Header → Bool
+is_elf header = header.magic == 0x464c_457f
+
+-- "KDUMP   " and "DISKDUMP"
+abbrev pub is_compressed : Header → Bool
+is_compressed header = header.start == 0x2020_2050_4d55_444b || header.start == 0x504d_5544_4b53_4944
+
+-- why an ELF file isn't a core file of x86-64
+unfoldable pub header_fault : (file_length : ℕ) → Header → Option Fault
+header_fault file_length header =
+    if nat_lt file_length 64 then Some (faults.HeaderCut file_length)
+    else if not (header.class == 2) then Some (faults.WrongClass header.class)
+    else if not (header.order == 1) then Some (faults.WrongByteOrder header.order)
+    else if not (header.file_type == 4) then Some (faults.WrongType header.file_type)
+    else if not (header.machine == 62) then Some (faults.WrongMachine header.machine)
+    else if not (header.entry_size == 56) then Some (faults.WrongEntrySize header.entry_size)
+    else if header.count == 65535 && nat_lt file_length (header.sections + 64) then Some (faults.SectionOutside header.sections file_length)
+    else None
+
+-- how many program headers there are: if `e_phnum` is 65535, `sh_info` of section 0 says it
+unfoldable pub count_of : (file : List ℕ) → Header → ℕ
+count_of file header = cond (header.count == 65535) (u32_at file (header.sections + 44)) header.count
+
+-- why its program headers can't be read
+unfoldable pub table_fault : (file_length count : ℕ) → Header → Option Fault
+table_fault file_length count header =
+    if nat_lt file_length (header.headers + 56 * count) then Some (faults.HeadersOutside header.headers count file_length) else None
+
+abbrev pub unless : {A : Type 0} → Option Fault → A → Result A Fault
+unless None x = Ok x
+unless (Some fault) x = Err fault
+
+-- the segments of a core file of x86-64
+unfoldable pub elf_segments : (file : List ℕ) → Header → Result (List Segment) Fault
+elf_segments file header =
+    if is_some (header_fault (length file) header) then unless (header_fault (length file) header) []
+    else unless (table_fault (length file) (count_of file header) header) (segments_at file header.headers (count_of file header))
+
+-- all bytes of a file as memory from a base on
+abbrev pub raw_segment : (file_length base : ℕ) → Segment
+raw_segment file_length base = record { kind = 1; offset = 0; address = base; size = file_length }
+
+-- the segments of a file that is a dump, or why it is none
+unfoldable pub segments_of : (file : List ℕ) → (base : Option ℕ) → Result (List Segment) Fault
+segments_of file base =
+    if is_compressed (header_of file) then Err faults.Compressed
+    else if not (is_elf (header_of file)) then Ok (raw_segment (length file) (unwrap_or base 0) ∷ [])
+    else if is_some base then Err faults.BaseOfElf
+    else elf_segments file (header_of file)
+
+abbrev pub with_file : (file : List ℕ) → Result (List Segment) Fault → Result Contents Fault
+with_file file (Ok segments) = Ok (record { file = file; segments = segments })
+with_file file (Err fault) = Err fault
+
+-- what a file holds, or why it is no dump
+abbrev pub contents_of : (file : List ℕ) → (base : Option ℕ) → Result Contents Fault
+contents_of file base = with_file file (segments_of file base)
+
+-- what is returned, seen by view, is what was to be found, unless memory was refused
+abbrev pub Fails : {Y : Type 0} → DumpError → Result Y Fault → Type 0
+Fails errors.OutOfMemory found = ⊤
+Fails (errors.Read error) found = ⊥
+Fails (errors.Fault fault) found = found ≡ Err fault
+
+abbrev pub Gives : {X Y : Type 0} → (X → Y) → Result X DumpError → Result Y Fault → Type 0
+Gives view (Ok x) found = found ≡ Ok (view x)
+Gives view (Err error) found = Fails error found

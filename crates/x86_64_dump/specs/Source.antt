@@ -1,0 +1,6 @@
+-- Source: what a read of a source of bytes says.
+use Rattle.std.specs.Prelude.{ℕ, List, take, drop}
+
+-- the bytes of a part of a file
+abbrev pub part_of : (file : List ℕ) → (offset count : ℕ) → List ℕ
+part_of file offset count = take count (drop offset file)

@@ -1,0 +1,110 @@
+//! Dump files.
+ghost use Rattle.std.specs.Prelude.{◌≡◌, IsOk, IfOk, Ok, length};
+
+use crate::elf::read_segments;
+use crate::error::DumpError;
+use crate::frame::{frame_offset, is_cut_off, words_in};
+use crate::note::Note;
+use crate::notes::{read_notes, read_register};
+use crate::segment::Segment;
+use crate::source::ByteSource;
+use std::alloc::Global;
+use std::io;
+use x86_64_page::frame::PhysFrame;
+use x86_64_page::page::Size4KiB;
+
+/// Reads the physical memory that a dump holds, frame by frame, where it lies in the file.
+///
+/// Contracts see it as its file and its segments. Only [`open`](Dump::open) takes memory, for the segments.
+#[derive(Drop)]
+pub struct Dump<S: ByteSource> {
+    source: S,
+    segments: Vec<Segment>,
+}
+
+impl<S: ByteSource> Dump<S> {
+    ghost use Rattle.x86_64_dump.specs.Dump.{words_of_dump, is_short};
+    ghost use Rattle.x86_64_dump.specs.Opening.{contents_of, Gives};
+    ghost use Rattle.x86_64_dump.specs.Opened.{opened};
+    ghost use Rattle.x86_64_dump.specs.Notes.{processors_of, register_of};
+
+    /// Opens a dump: reads which parts of the file are memory.
+    ///
+    /// A file that begins with the magic number of ELF has to be a core file of x86-64, of 64 bits and little endian, as
+    /// QEMU's `dump-guest-memory` and Linux's kdump write. Any other file is raw: its bytes are those of physical memory
+    /// from `base` on, 0 if left out.
+    ///
+    /// # Errors
+    ///
+    /// `DumpError::Fault` exactly where the file is no such dump, or an ELF file though there is a base.
+    /// `DumpError::OutOfMemory` where memory is refused, `DumpError::Read` where the source can't be read.
+    pub fn open(alloc: Global, source: S, base: Option<u64>) -> Result<Dump<S>, DumpError>
+        ensures { S.IsKnown → Gives (opened S.bytes) result (contents_of (S.bytes source) base) }
+    {
+        let segments = read_segments(alloc, &source, base)?;
+        Ok(Dump { source, segments })
+    }
+
+    /// Tells whether the file is shorter than its headers say, as one is that was cut off. It has the frames that it has.
+    pub fn is_short(&self) -> bool
+        ensures { S.IsKnown → result ≡
+            is_short (length (opened S.bytes self.now).file) (opened S.bytes self.now).segments }
+    {
+        is_cut_off(&self.segments, self.source.len())
+    }
+
+    /// Reads the 512 words of a frame, or gives `None` if the dump lacks it.
+    ///
+    /// # Errors
+    ///
+    /// Where the source can't be read.
+    pub fn read_frame(&self, frame: PhysFrame<Size4KiB>) -> io::Result<Option<[u64; 512]>>
+        ensures words { S.IsKnown →
+            IfOk result (λ words. words ≡ words_of_dump (opened S.bytes self.now) frame) }
+        ensures succeeds { S.IsKnown → IsOk result }
+    {
+        let address = frame.start_address().as_u64();
+        let Some(offset) = frame_offset(&self.segments, address, self.source.len()) else {
+            return Ok(None);
+        };
+        let mut bytes = [0; 4096];
+        self.source.read_exact_at(&mut bytes, offset)?;
+        Ok(Some(words_in(&bytes)))
+    }
+
+    /// Reads where QEMU's notes of the processors lie, in order.
+    ///
+    /// # Errors
+    ///
+    /// `DumpError::OutOfMemory` where memory is refused, `DumpError::Read` where the source can't be read.
+    pub fn processors(&self, alloc: Global) -> Result<Vec<Note>, DumpError>
+        ensures { S.IsKnown →
+            Gives (λ notes. notes.items) result (Ok (processors_of (opened S.bytes self.now))) }
+    {
+        read_notes(alloc, &self.source, &self.segments)
+    }
+
+    /// Reads the CR3 of a processor.
+    ///
+    /// # Errors
+    ///
+    /// `Fault::NoteCut` exactly where its note lacks it, `DumpError::Read` where the source can't be read.
+    pub fn cr3(&self, processor: &Note) -> Result<u64, DumpError>
+        ensures { S.IsKnown →
+            Gives (λ value. value) result (register_of (opened S.bytes self.now).file processor.now 416) }
+    {
+        read_register(&self.source, processor, 416)
+    }
+
+    /// Reads the CR4 of a processor.
+    ///
+    /// # Errors
+    ///
+    /// `Fault::NoteCut` exactly where its note lacks it, `DumpError::Read` where the source can't be read.
+    pub fn cr4(&self, processor: &Note) -> Result<u64, DumpError>
+        ensures { S.IsKnown →
+            Gives (λ value. value) result (register_of (opened S.bytes self.now).file processor.now 424) }
+    {
+        read_register(&self.source, processor, 424)
+    }
+}

@@ -1,0 +1,236 @@
+//! Reads the headers of ELF core files.
+ghost use Rattle.std.specs.Prelude.{◌≡◌, ◌+◌, ◌*◌, ◌≤◌, ◌<◌, ◌^◌, length, nat_lt, IsOk, IfOk, IfNone, Ok};
+ghost use Rattle.x86_64_dump.specs.Numbers.{u32_at};
+ghost use Rattle.x86_64_dump.specs.Dump.{segment_at, segments_at};
+ghost use Rattle.x86_64_dump.specs.Opening.{header_of, header_fault, table_fault, count_of, elf_segments, segments_of, raw_segment, is_elf, is_compressed, Gives};
+
+use crate::error::{DumpError, Fault};
+use crate::header::Header;
+use crate::numbers::{read_u16, read_u32, read_u64};
+use crate::segment::Segment;
+use crate::source::ByteSource;
+use std::alloc::Global;
+use std::io;
+
+/// The size of an ELF header, and of a section header.
+const HEADER_SIZE: u64 = 64;
+
+/// The size of a program header.
+const ENTRY_SIZE: u64 = 56;
+
+/// The count that says that section header 0 has it, as `PN_XNUM`.
+const COUNT_ELSEWHERE: u16 = 65535;
+
+/// Reads the segments of a dump.
+pub fn read_segments<S: ByteSource>(
+    alloc: Global,
+    source: &S,
+    base: Option<u64>,
+) -> Result<Vec<Segment>, DumpError>
+    ensures { S.IsKnown → Gives (λ v. v.items) result (segments_of (S.bytes source.now) base) }
+{
+    let header = read_header(source)?;
+    if is_kdump(&header) {
+        return Err(DumpError::Fault(Fault::Compressed));
+    }
+    if header.magic != 0x464c_457f {
+        let whole = raw(source.len(), base.unwrap_or(0));
+        return Ok(vec![in alloc; whole]?);
+    }
+    if base.is_some() {
+        return Err(DumpError::Fault(Fault::BaseOfElf));
+    }
+    read_elf(alloc, source, &header)
+}
+
+/// Tells whether a file begins as compressed dumps do.
+fn is_kdump(header: &Header) -> bool
+    ensures { result ≡ is_compressed header.now }
+{
+    header.start == 0x2020_2050_4d55_444b || header.start == 0x504d_5544_4b53_4944
+}
+
+/// Gives the segment that is all of a file.
+fn raw(length: u64, base: u64) -> Segment
+    ensures { result ≡ raw_segment length base }
+{
+    Segment {
+        kind: Segment::LOAD,
+        offset: 0,
+        address: base,
+        size: length,
+    }
+}
+
+/// Reads the segments of an ELF file.
+fn read_elf<S: ByteSource>(
+    alloc: Global,
+    source: &S,
+    header: &Header,
+) -> Result<Vec<Segment>, DumpError>
+    ensures { S.IsKnown → Gives (λ v. v.items) result (elf_segments (S.bytes source.now) header.now) }
+{
+    let length = source.len();
+    if let Some(fault) = fault_of_header(header, length) {
+        return Err(DumpError::Fault(fault));
+    }
+    let count = read_count(source, header)?;
+    if let Some(fault) = fault_of_table(header, length, count) {
+        return Err(DumpError::Fault(fault));
+    }
+    read_table(alloc, source, header.headers, count)
+}
+
+/// Tells whether a part of a file ends after the file.
+pub fn ends_after(offset: u64, size: u64, length: u64) -> bool
+    ensures { result ≡ nat_lt length (offset + size) }
+{
+    match offset.checked_add(size) {
+        Some(end) => length < end,
+        None => true,
+    }
+}
+
+/// Says why an ELF file isn't a core file of x86-64.
+#[tactic(auto, unfolding(crate::specs::Opening::header_fault))]
+fn fault_of_header(header: &Header, length: u64) -> Option<Fault>
+    ensures fault { result ≡ header_fault length header.now }
+    ensures section { IfNone result (header.now.count ≡ 65535 → header.now.sections + 64 ≤ length) }
+{
+    if length < HEADER_SIZE {
+        Some(Fault::HeaderCut { length })
+    } else if header.class != 2 {
+        Some(Fault::WrongClass {
+            class: header.class,
+        })
+    } else if header.order != 1 {
+        Some(Fault::WrongByteOrder {
+            order: header.order,
+        })
+    } else if header.file_type != 4 {
+        Some(Fault::WrongType {
+            file_type: header.file_type,
+        })
+    } else if header.machine != 62 {
+        Some(Fault::WrongMachine {
+            machine: header.machine,
+        })
+    } else if header.entry_size != 56 {
+        Some(Fault::WrongEntrySize {
+            size: header.entry_size,
+        })
+    } else if header.count == COUNT_ELSEWHERE && ends_after(header.sections, HEADER_SIZE, length) {
+        Some(Fault::SectionOutside {
+            offset: header.sections,
+            length,
+        })
+    } else {
+        None
+    }
+}
+
+/// Says why program headers can't be read.
+#[tactic(auto, unfolding(crate::specs::Opening::table_fault))]
+fn fault_of_table(header: &Header, length: u64, count: u32) -> Option<Fault>
+    ensures fault { result ≡ table_fault length count header.now }
+    ensures table { IfNone result (header.now.headers + 56 * count ≤ length) }
+{
+    if ends_after(header.headers, ENTRY_SIZE * u64::from(count), length) {
+        Some(Fault::HeadersOutside {
+            offset: header.headers,
+            count,
+            length,
+        })
+    } else {
+        None
+    }
+}
+
+/// Reads the start of a file as an ELF header, as if bytes 0 stood after its end.
+fn read_header<S: ByteSource>(source: &S) -> io::Result<Header>
+    ensures value { S.IsKnown → IfOk result (λ header. header ≡ header_of (S.bytes source.now)) }
+    ensures succeeds { S.IsKnown → IsOk result }
+{
+    let mut front = [0; 64];
+    let present = source.len().min(HEADER_SIZE) as usize;
+    source.read_exact_at(&mut front[..present], 0)?;
+    Ok(header_in(&front))
+}
+
+/// Gives the fields of an ELF header.
+#[tactic(auto, unfolding(crate::specs::Opening::header_of))]
+fn header_in(front: &[u8]) -> Header
+    requires { length front.now ≡ 64 }
+    ensures { result ≡ header_of front.now }
+{
+    Header {
+        start: read_u64(front, 0),
+        magic: read_u32(front, 0),
+        class: front[4],
+        order: front[5],
+        file_type: read_u16(front, 16),
+        machine: read_u16(front, 18),
+        headers: read_u64(front, 32),
+        sections: read_u64(front, 40),
+        entry_size: read_u16(front, 54),
+        count: read_u16(front, 56),
+    }
+}
+
+/// Reads how many program headers there are.
+fn read_count<S: ByteSource>(source: &S, header: &Header) -> io::Result<u32>
+    requires { header.now.count ≡ 65535 → header.now.sections + 64 < 2 ^ 64 }
+    ensures value { S.IsKnown → IfOk result (λ count. count ≡ count_of (S.bytes source.now) header.now) }
+    ensures succeeds { S.IsKnown → (header.now.count ≡ 65535 →
+        header.now.sections + 64 ≤ length (S.bytes source.now)) → IsOk result }
+{
+    if header.count != COUNT_ELSEWHERE {
+        return Ok(u32::from(header.count));
+    }
+    let mut section = [0; 64];
+    source.read_exact_at(&mut section, header.sections)?;
+    Ok(read_u32(&section, 44))
+}
+
+/// Reads the segments of program headers, one after the other.
+fn read_table<S: ByteSource>(
+    alloc: Global,
+    source: &S,
+    offset: u64,
+    count: u32,
+) -> Result<Vec<Segment>, DumpError>
+    requires { offset + 56 * count < 2 ^ 64 }
+    ensures { S.IsKnown → offset + 56 * count ≤ length (S.bytes source.now) →
+        Gives (λ v. v.items) result (Ok (segments_at (S.bytes source.now) offset count)) }
+{
+    let mut segments = Vec::new(alloc);
+    for i in 0..count {
+        let segment = read_segment(source, offset + ENTRY_SIZE * u64::from(i))?;
+        segments.push(segment)?;
+    }
+    Ok(segments)
+}
+
+/// Reads the segment of the program header at an offset.
+fn read_segment<S: ByteSource>(source: &S, offset: u64) -> io::Result<Segment>
+    ensures value { S.IsKnown → IfOk result (λ segment. segment ≡ segment_at (S.bytes source.now) offset) }
+    ensures succeeds { S.IsKnown → offset + 56 ≤ length (S.bytes source.now) → IsOk result }
+{
+    let mut entry = [0; 56];
+    source.read_exact_at(&mut entry, offset)?;
+    Ok(segment_in(&entry))
+}
+
+/// Gives the segment of a program header.
+#[tactic(auto, unfolding(crate::specs::Dump::segment_at))]
+fn segment_in(entry: &[u8]) -> Segment
+    requires { length entry.now ≡ 56 }
+    ensures { result ≡ segment_at entry.now 0 }
+{
+    Segment {
+        kind: read_u32(entry, 0),
+        offset: read_u64(entry, 8),
+        address: read_u64(entry, 24),
+        size: read_u64(entry, 32),
+    }
+}

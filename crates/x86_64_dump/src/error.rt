@@ -1,0 +1,186 @@
+//! Why a file can't be read as a dump.
+ghost use Rattle.std.specs.Prelude.{◌≡◌};
+ghost use Rattle.x86_64_dump.specs.declared.error.DumpError.TheVariants as errors;
+
+use std::alloc::{AllocError, AllocFailed};
+use std::error::Error;
+use std::fmt::{Display, Formatter, Result as FmtResult, Write};
+use std::io;
+
+/// Says what of a file makes it no dump that can be read.
+#[derive(Clone, Copy, Debug, PartialEq, Eq)]
+pub enum Fault {
+    /// The file is one of kdump's or diskdump's, which are compressed.
+    Compressed,
+    /// A base was given for an ELF file, which says its addresses itself.
+    BaseOfElf,
+    /// The file is shorter than an ELF header.
+    HeaderCut {
+        /// The number of bytes in the file.
+        length: u64,
+    },
+    /// The ELF file isn't one of 64 bits.
+    WrongClass {
+        /// `EI_CLASS`.
+        class: u8,
+    },
+    /// The ELF file isn't little endian.
+    WrongByteOrder {
+        /// `EI_DATA`.
+        order: u8,
+    },
+    /// The ELF file is no core file.
+    WrongType {
+        /// `e_type`.
+        file_type: u16,
+    },
+    /// The ELF file isn't one of x86-64.
+    WrongMachine {
+        /// `e_machine`.
+        machine: u16,
+    },
+    /// The program headers haven't 56 bytes each.
+    WrongEntrySize {
+        /// `e_phentsize`.
+        size: u16,
+    },
+    /// The section header that has the count of program headers isn't in the file.
+    SectionOutside {
+        /// `e_shoff`.
+        offset: u64,
+        /// The number of bytes in the file.
+        length: u64,
+    },
+    /// The program headers aren't all in the file.
+    HeadersOutside {
+        /// `e_phoff`.
+        offset: u64,
+        /// How many there are.
+        count: u32,
+        /// The number of bytes in the file.
+        length: u64,
+    },
+    /// QEMU's note of a processor is too short for a register, or not all in the file.
+    NoteCut {
+        /// Where the descriptor of the note begins.
+        offset: u64,
+        /// How many bytes it has.
+        size: u64,
+        /// How many it needs to have, all of them in the file.
+        needed: u64,
+    },
+}
+
+/// Says why a file wasn't read as a dump.
+#[derive(Debug, Drop)]
+pub enum DumpError {
+    /// Memory was refused.
+    OutOfMemory,
+    /// A read of the file failed.
+    Read(io::Error),
+    /// The file is no dump that can be read.
+    Fault(Fault),
+}
+
+impl Display for Fault {
+    fn fmt<W: Write>(&self, f: &mut Formatter<W>) -> FmtResult {
+        match self {
+            Fault::Compressed => f.write_str(
+                "the file is a compressed kdump: write an ELF dump without compression, by `makedumpfile -E` or QEMU's `dump-guest-memory`",
+            ),
+            Fault::BaseOfElf => f.write_str(
+                "the file is an ELF file, whose headers say its addresses: leave the base out",
+            ),
+            Fault::HeaderCut { length } => write!(
+                f,
+                "the file has {length} bytes, and an ELF header 64: the file is cut off"
+            ),
+            Fault::WrongClass { class } => write!(
+                f,
+                "EI_CLASS at byte 4 is {class}, not 2: the ELF file isn't one of 64 bits"
+            ),
+            Fault::WrongByteOrder { order } => write!(
+                f,
+                "EI_DATA at byte 5 is {order}, not 1: the ELF file isn't little endian"
+            ),
+            Fault::WrongType { file_type } => write!(
+                f,
+                "e_type at byte 16 is {file_type}, not 4: the ELF file is no core file"
+            ),
+            Fault::WrongMachine { machine } => write!(
+                f,
+                "e_machine at byte 18 is {machine}, not 62: the ELF file isn't one of x86-64"
+            ),
+            Fault::WrongEntrySize { size } => write!(
+                f,
+                "e_phentsize at byte 54 is {size}, not 56: the program headers can't be read"
+            ),
+            Fault::SectionOutside { offset, length } => write!(
+                f,
+                "e_phnum at byte 56 is 65535, so section header 0 has the count of program headers, but it begins at byte {offset}, and the file has {length} bytes: the file is damaged or cut off"
+            ),
+            Fault::HeadersOutside {
+                offset,
+                count,
+                length,
+            } => write!(
+                f,
+                "the {count} program headers of 56 bytes begin at byte {offset}, and the file has {length} bytes: the file is damaged or cut off"
+            ),
+            Fault::NoteCut {
+                offset,
+                size,
+                needed,
+            } => write!(
+                f,
+                "QEMU's note at byte {offset} has {size} bytes, and the register ends at its byte {needed}, or the file ends before: give the register's value, or another processor"
+            ),
+        }
+    }
+}
+
+impl Error for Fault {}
+
+impl Display for DumpError {
+    fn fmt<W: Write>(&self, f: &mut Formatter<W>) -> FmtResult {
+        match self {
+            DumpError::OutOfMemory => f.write_str("out of memory"),
+            DumpError::Read(error) => write!(f, "the file can't be read: {error}"),
+            DumpError::Fault(fault) => write!(f, "{fault}"),
+        }
+    }
+}
+
+impl Error for DumpError {}
+
+impl From<AllocError> for DumpError {
+    ghost from_gives = { λ _ error. error ≡ errors.OutOfMemory };
+
+    fn from(_error: AllocError) -> DumpError {
+        DumpError::OutOfMemory
+    }
+}
+
+impl<T: Drop> From<AllocFailed<T>> for DumpError {
+    ghost from_gives = { λ _ error. error ≡ errors.OutOfMemory };
+
+    fn from(_error: AllocFailed<T>) -> DumpError {
+        DumpError::OutOfMemory
+    }
+}
+
+impl From<io::Error> for DumpError {
+    ghost from_gives = { λ cause error. error ≡ errors.Read cause };
+
+    fn from(cause: io::Error) -> DumpError {
+        DumpError::Read(cause)
+    }
+}
+
+impl From<Fault> for DumpError {
+    ghost from_gives = { λ fault error. error ≡ errors.Fault fault };
+
+    fn from(fault: Fault) -> DumpError {
+        DumpError::Fault(fault)
+    }
+}

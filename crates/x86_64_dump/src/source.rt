@@ -1,0 +1,91 @@
+//! Sources of bytes, which are read at offsets.
+ghost use Rattle.std.specs.Prelude.{◌≡◌, ◌+◌, ◌≤◌, ℕ, List, length, IsOk, OnOk, ⊤, []};
+ghost use Rattle.x86_64_dump.specs.Source.{part_of};
+
+use std::fs::File;
+use std::io::{self, ErrorKind};
+use std::os::unix::fs::FileExt;
+
+/// Has bytes that are read at offsets: a file, or a slice.
+///
+/// Its clauses say which bytes a read gives where they are known, as those of a slice are. Of a file nobody knows them, and
+/// another program may change them meanwhile.
+pub trait ByteSource: Drop {
+    /// That its bytes are known, and stay.
+    ghost IsKnown: { Type 0 };
+
+    /// Its bytes, if they are known.
+    ghost bytes: { Self → List ℕ };
+
+    /// Returns the number of its bytes.
+    fn len(&self) -> u64
+        ensures { IsKnown → result ≡ length (bytes self.now) };
+
+    /// Fills the buffer with the bytes from an offset on.
+    ///
+    /// # Errors
+    ///
+    /// The error of the read, or one of the kind `UnexpectedEof` if there are fewer bytes. The buffer then has any bytes.
+    fn read_exact_at(&self, buffer: &mut [u8], offset: u64) -> io::Result<()>
+        ensures bytes { IsKnown →
+            OnOk result (buffer.new ≡ part_of (bytes self.now) offset (length buffer.old)) }
+        ensures succeeds { IsKnown → offset + length buffer.old ≤ length (bytes self.now) → IsOk result };
+}
+
+impl ByteSource for &[u8] {
+    ghost IsKnown = { ⊤ };
+
+    ghost bytes = { λ source. source.now };
+
+    fn len(&self) -> u64 {
+        <[u8]>::len(self) as u64
+    }
+
+    fn read_exact_at(&self, buffer: &mut [u8], offset: u64) -> io::Result<()> {
+        let part = usize::try_from(offset)
+            .ok()
+            .and_then(|at| self.get(at..)?.get(..buffer.len()));
+        match part {
+            Some(part) => {
+                buffer.copy_from_slice(part);
+                Ok(())
+            }
+            None => Err(io::Error::from(ErrorKind::UnexpectedEof)),
+        }
+    }
+}
+
+/// Reads a file, with the length that it had at first.
+///
+/// Nothing is proved of the bytes that it gives.
+#[derive(Drop)]
+pub struct FileSource {
+    file: File,
+    length: u64,
+}
+
+impl FileSource {
+    /// Makes a source of a file.
+    ///
+    /// # Errors
+    ///
+    /// Where the length of the file can't be read.
+    pub fn new(file: File) -> io::Result<FileSource> {
+        let length = file.metadata()?.len();
+        Ok(FileSource { file, length })
+    }
+}
+
+impl ByteSource for FileSource {
+    ghost IsKnown = { ⊥ };
+
+    ghost bytes = { λ _. [] };
+
+    fn len(&self) -> u64 {
+        self.length
+    }
+
+    fn read_exact_at(&self, buffer: &mut [u8], offset: u64) -> io::Result<()> {
+        self.file.read_exact_at(buffer, offset)
+    }
+}

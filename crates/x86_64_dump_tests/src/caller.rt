@@ -1,0 +1,38 @@
+//! A caller that learns which words a dump in memory holds.
+ghost use Rattle.std.specs.Prelude.{◌≡◌, IfOk, Ok};
+ghost use Rattle.x86_64_dump.specs.Dump.{Contents, words_of_dump};
+ghost use Rattle.x86_64_dump.specs.Opening.{contents_of};
+
+use crate::builder::{CORE, FRAME, push_core};
+use std::alloc::Global;
+use x86_64_addr::addr::PhysAddr;
+use x86_64_dump::{Dump, DumpError};
+use x86_64_page::frame::PhysFrame;
+use x86_64_page::page::Size4KiB;
+
+/// Opens a file and reads the words of a frame.
+fn words_of(
+    alloc: Global,
+    file: &[u8],
+    base: Option<u64>,
+    frame: PhysFrame<Size4KiB>,
+) -> Result<Option<[u64; 512]>, DumpError>
+    ensures { IfOk result (λ words. (dump : Contents) →
+        contents_of file.now base ≡ Ok dump → words ≡ words_of_dump dump frame) }
+{
+    let dump = Dump::open(alloc, file, base)?;
+    Ok(dump.read_frame(frame)?)
+}
+
+#[test]
+fn a_frame_is_read_of_a_slice(rt: HostRuntime) {
+    let mut bytes = Vec::new(rt.alloc());
+    assert!(rt; push_core(&mut bytes, CORE, &[FRAME], 7, 512).is_ok());
+    let frame = PhysFrame::containing_address(PhysAddr::new_truncate(0x1000));
+    let found = words_of(rt.alloc(), bytes.as_slice(), None, frame);
+    let first = match found {
+        Ok(words) => words.map(|words| words[0]),
+        Err(_) => None,
+    };
+    assert_eq!(rt; first, Some(7));
+}

@@ -1,0 +1,15 @@
+//! Tests of `x86_64_dump`, from outside: small core files, whole, cut off and damaged.
+#![tactic(auto)]
+
+#[cfg(test)]
+mod builder;
+#[cfg(test)]
+mod caller;
+#[cfg(test)]
+mod frames;
+#[cfg(test)]
+mod notes;
+#[cfg(test)]
+mod opening;
+#[cfg(test)]
+mod texts;
