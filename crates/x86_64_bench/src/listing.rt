@@ -35,7 +35,9 @@ pub fn list_all<L: LevelCount, T: TableMemory>(
 
 /// Gives the sum of all that a mapping says.
 fn sum_of<L: LevelCount>(mapping: &MappingIn<L>) -> u64 {
-    let rights = u64::from(mapping.write) + 2 * u64::from(mapping.user) + 4 * u64::from(mapping.execute);
+    let rights = u64::from(mapping.write)
+        + 2 * u64::from(mapping.user)
+        + 4 * u64::from(mapping.execute);
     let frame = mapping.frame.start_address().as_u64();
     mapping
         .start

@@ -411,8 +411,13 @@ fn measure_recursive<S: PageSize>(
     }
     let free = pool.len();
     let mut mapper = RecursivePageTable::new_unchecked(ActiveMemory::new(memory, root), index);
-    let (map, translate) =
-        measure_maps::<S, FourLevels, _>(clock, &mut mapper, pool, workload, order)?;
+    let (map, translate) = measure_maps::<S, FourLevels, _>(
+        clock,
+        &mut mapper,
+        pool,
+        workload,
+        order,
+    )?;
     drop(mapper);
     let tables = free.saturating_sub(pool.len());
     let list = measure_list::<S, FourLevels, _>(clock, memory, workload)?;

@@ -65,7 +65,13 @@ impl Workload {
         let mut sum = 0_u64;
         for k in 0..self.pages {
             let frame = self.frame::<S>(k).start_address().as_u64();
-            let numbers = [self.page_start::<S>(k), frame, S::SIZE, flags, SUPERVISOR_RIGHTS];
+            let numbers = [
+                self.page_start::<S>(k),
+                frame,
+                S::SIZE,
+                flags,
+                SUPERVISOR_RIGHTS,
+            ];
             for number in numbers {
                 sum = sum.wrapping_add(number);
             }

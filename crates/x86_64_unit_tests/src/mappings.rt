@@ -1,4 +1,6 @@
 //! Tests of lists of mappings and of regions, by the lines that they are printed as, with four levels of tables and with five.
+ghost use Rattle.std.specs.Iterator.{IsFinite};
+
 use crate::assertions::{assert_equal_in, unwrap, unwrap_some};
 use crate::tables::frame_at;
 use crate::tables::phys_memory::{Word, set_words};
@@ -262,22 +264,24 @@ fn memory_of(rt: impl Abort + Copy, alloc: Global, words: &[Word]) -> PhysMemory
     memory
 }
 
-/// Compares items with the lines that they are printed as. There are no more of them.
-fn check_lines<T: Display + Drop>(
+/// Compares items with the lines that they are printed as. There are no more of either.
+fn check_lines<T: Display + Drop, I: Iterator<Item = T> + Drop>(
     rt: impl Abort + Copy,
     alloc: Global,
     case: usize,
-    mut items: impl Iterator<Item = T>,
+    items: I,
     lines: &[&str],
-) {
-    for line in lines {
-        let text = match items.next() {
-            Some(item) => unwrap(rt, format!(in alloc; "{item}")),
-            None => String::new(alloc),
-        };
+)
+    requires { I.Iterator.can_next items × IsFinite (I.Iterator.remaining items) }
+{
+    let mut count = 0_usize;
+    for item in items {
+        let text = unwrap(rt, format!(in alloc; "{item}"));
+        let line = unwrap_some(rt, lines.get(count));
         assert_equal_in(rt, case, text.as_str(), *line);
+        count = count.saturating_add(1);
     }
-    assert!(rt; items.next().is_none(), "in {case}: more than {lines:?}");
+    assert_equal_in(rt, case, count, lines.len());
 }
 
 #[test]
@@ -335,17 +339,17 @@ fn mappings_are_listed_from_an_address_on(rt: HostRuntime) {
     }
 }
 
-/// Sets each word of the table in frame 0x1000.
-fn fill_root(rt: impl Abort + Copy, memory: &mut PhysMemory, word: impl Fn(u16) -> u64) {
+/// Makes each word of the table in a frame the same.
+fn fill(rt: impl Abort + Copy, memory: &mut PhysMemory, frame: u64, word: u64) {
     for index in 0..512 {
-        set_words(rt, memory, &[(0x1000, index, word(index))]);
+        set_words(rt, memory, &[(frame, index, word)]);
     }
 }
 
 #[test]
 fn a_root_that_names_itself_at_each_index_is_listed(rt: HostRuntime) {
     let mut memory = memory_of(rt, rt.alloc(), &[]);
-    fill_root(rt, &mut memory, |_| 0x1003);
+    fill(rt, &mut memory, 0x1000, 0x1003);
     let first = mappings(&memory, &IdentityMapping, frame_at(0x1000)).take(2);
     let lines = ["0x0 4KiB 0x1000 rwx- 0x3", "0x1000 4KiB 0x1000 rwx- 0x3"];
     check_lines(rt, rt.alloc(), 0, first, &lines);
@@ -361,10 +365,8 @@ fn a_root_that_names_itself_at_each_index_is_listed(rt: HostRuntime) {
 #[test]
 fn a_region_may_be_as_large_as_a_half(rt: HostRuntime) {
     let mut memory = memory_of(rt, rt.alloc(), &[]);
-    fill_root(rt, &mut memory, |_| 0x2003);
-    for index in 0..512 {
-        set_words(rt, &mut memory, &[(0x2000, index, 0x83)]);
-    }
+    fill(rt, &mut memory, 0x1000, 0x2003);
+    fill(rt, &mut memory, 0x2000, 0x83);
     let listed = regions(&memory, &IdentityMapping, frame_at(0x1000));
     let lines = [
         "0x0-0x7fffffffffff 128TiB rwx-",

@@ -95,7 +95,7 @@ pub returns-clause-loaded : goal.returns-clause-loaded
 returns-clause-loaded g c =
     let inv = c.loop-index.invariant in
     λ k d within. held_is_loaded (pages_by c.args.sizes) (g.M.Tables.hierarchy c.loop-index.mapper) (g.M.Tables.hierarchy c.args.mapper.now) _ inv.leaves.kept.fits.valid
-        (inv.aligned k d (omega arith)) (c.requires.allowed k d within) (inv.stand k d (omega arith)) (inv.held k d (omega arith))
+    (inv.aligned k d (omega arith)) (c.requires.allowed k d within) (inv.stand k d (omega arith)) (inv.held k d (omega arith))
 
 pub returns-clause-disjoint : goal.returns-clause-disjoint
 returns-clause-disjoint g c = λ i j d less within. c.loop-index.invariant.apart i j d less (omega arith)
