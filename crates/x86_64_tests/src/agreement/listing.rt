@@ -60,12 +60,21 @@ impl PlainMapping {
         };
         let last = self.words.last().copied().unwrap_or(0);
         let frame = address(last) / self.size.max(1) * self.size;
-        let letters = [
-            self.letter("w", |word| word & WRITABLE != 0),
-            self.letter("x", |word| word & NO_EXECUTE == 0),
-            self.letter("u", |word| word & USER_ACCESSIBLE != 0),
-        ];
-        let [write, execute, user] = letters;
+        let write = if self.all_are(WRITABLE, WRITABLE) {
+            "w"
+        } else {
+            "-"
+        };
+        let execute = if self.all_are(NO_EXECUTE, 0) {
+            "x"
+        } else {
+            "-"
+        };
+        let user = if self.all_are(USER_ACCESSIBLE, USER_ACCESSIBLE) {
+            "u"
+        } else {
+            "-"
+        };
         let bits = flags(last);
         unwrap(
             rt,
@@ -73,14 +82,14 @@ impl PlainMapping {
         )
     }
 
-    /// Gives a letter if each word grants what it stands for.
-    fn letter(&self, letter: &'static str, grants: impl Fn(u64) -> bool) -> &'static str {
+    /// Tells whether the bits of a mask are these in each word.
+    fn all_are(&self, mask: u64, bits: u64) -> bool {
         for word in &self.words {
-            if !grants(*word) {
-                return "-";
+            if *word & mask != bits {
+                return false;
             }
         }
-        letter
+        true
     }
 }
 
