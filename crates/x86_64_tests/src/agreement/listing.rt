@@ -59,7 +59,7 @@ impl PlainMapping {
             _ => "1GiB",
         };
         let last = self.words.last().copied().unwrap_or(0);
-        let frame = address(last) / self.size.max(1) * self.size;
+        let frame = (address(last) / self.size.max(1)).wrapping_mul(self.size);
         let write = if self.all_are(WRITABLE, WRITABLE) {
             "w"
         } else {
