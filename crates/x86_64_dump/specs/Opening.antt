@@ -84,12 +84,20 @@ with_file file (Err fault) = Err fault
 abbrev pub contents_of : (file : List ℕ) → (base : Option ℕ) → Result Contents Fault
 contents_of file base = with_file file (segments_of file base)
 
--- what is returned, seen by view, is what was to be found, unless memory was refused
+-- why nothing is returned
 abbrev pub Fails : {Y : Type 0} → DumpError → Result Y Fault → Type 0
 Fails errors.OutOfMemory found = ⊤
 Fails (errors.Read error) found = ⊥
 Fails (errors.Fault fault) found = found ≡ Err fault
 
+-- what is returned, seen by view, is what was to be found, unless memory was refused
 abbrev pub Gives : {X Y : Type 0} → (X → Y) → Result X DumpError → Result Y Fault → Type 0
 Gives view (Ok x) found = found ≡ Ok (view x)
 Gives view (Err error) found = Fails error found
+
+-- the same of a call that takes no memory
+abbrev pub GivesAtOnce : {X Y : Type 0} → (X → Y) → Result X DumpError → Result Y Fault → Type 0
+GivesAtOnce view (Ok x) found = found ≡ Ok (view x)
+GivesAtOnce view (Err errors.OutOfMemory) found = ⊥
+GivesAtOnce view (Err (errors.Read error)) found = ⊥
+GivesAtOnce view (Err (errors.Fault fault)) found = found ≡ Err fault

@@ -24,7 +24,7 @@ pub struct Dump<S: ByteSource> {
 
 impl<S: ByteSource> Dump<S> {
     ghost use Rattle.x86_64_dump.specs.Dump.{words_of_dump, is_short};
-    ghost use Rattle.x86_64_dump.specs.Opening.{contents_of, Gives};
+    ghost use Rattle.x86_64_dump.specs.Opening.{contents_of, Gives, GivesAtOnce};
     ghost use Rattle.x86_64_dump.specs.Opened.{opened};
     ghost use Rattle.x86_64_dump.specs.Notes.{processors_of, register_of};
 
@@ -91,7 +91,7 @@ impl<S: ByteSource> Dump<S> {
     /// `Fault::NoteCut` exactly where its note lacks it, `DumpError::Read` where the source can't be read.
     pub fn cr3(&self, processor: &Note) -> Result<u64, DumpError>
         ensures { S.IsKnown →
-            Gives (λ value. value) result (register_of (opened S.bytes self.now).file processor.now 416) }
+            GivesAtOnce (λ value. value) result (register_of (opened S.bytes self.now).file processor.now 416) }
     {
         read_register(&self.source, processor, 416)
     }
@@ -103,7 +103,7 @@ impl<S: ByteSource> Dump<S> {
     /// `Fault::NoteCut` exactly where its note lacks it, `DumpError::Read` where the source can't be read.
     pub fn cr4(&self, processor: &Note) -> Result<u64, DumpError>
         ensures { S.IsKnown →
-            Gives (λ value. value) result (register_of (opened S.bytes self.now).file processor.now 424) }
+            GivesAtOnce (λ value. value) result (register_of (opened S.bytes self.now).file processor.now 424) }
     {
         read_register(&self.source, processor, 424)
     }

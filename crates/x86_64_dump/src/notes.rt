@@ -1,7 +1,7 @@
 //! Reads QEMU's notes.
 ghost use Rattle.std.specs.Prelude.{◌≡◌, ◌+◌, ◌*◌, ◌/◌, ◌≤◌, ◌<◌, ◌^◌, ◌++◌, length, cond, Some, None, IsOk, IfOk, OnOk, Ok};
 ghost use Rattle.x86_64_dump.specs.Numbers.{byte_at, u32_at};
-ghost use Rattle.x86_64_dump.specs.Opening.{Gives};
+ghost use Rattle.x86_64_dump.specs.Opening.{Gives, GivesAtOnce};
 ghost use Rattle.x86_64_dump.specs.Notes.{padded, is_qemu, note_at, is_whole, if_qemu, qemu_notes, notes_size, notes_within, is_note_cut, register_of};
 
 use crate::elf::ends_after;
@@ -148,7 +148,7 @@ fn is_note_cut(note: &Note, at: u64, length: u64) -> bool
 /// Reads the register of eight bytes at an offset of a note's descriptor.
 pub fn read_register<S: ByteSource>(source: &S, note: &Note, at: u64) -> Result<u64, DumpError>
     requires { at < 4096 }
-    ensures { S.IsKnown → Gives (λ v. v) result (register_of (S.bytes source.now) note.now at) }
+    ensures { S.IsKnown → GivesAtOnce (λ v. v) result (register_of (S.bytes source.now) note.now at) }
 {
     if is_note_cut(note, at, source.len()) {
         return Err(DumpError::Fault(Fault::NoteCut {

@@ -3,7 +3,7 @@ ghost use Rattle.std.specs.Iterator.{IsFinite};
 
 use crate::assertions::{assert_equal_in, unwrap, unwrap_some};
 use crate::tables::frame_at;
-use crate::tables::phys_memory::{Word, set_words};
+use crate::tables::phys_memory::{Word, fill, set_words};
 use std::alloc::Global;
 use std::fmt::Display;
 use std::process::Abort;
@@ -285,30 +285,24 @@ fn check_lines<T: Display + Drop, I: Iterator<Item = T> + Drop>(
 }
 
 #[test]
-fn all_mappings_are_listed(rt: HostRuntime) {
+fn mappings_and_their_regions_are_listed(rt: HostRuntime) {
     let root = frame_at(0x1000);
     for (case, row) in ROWS.iter().enumerate() {
         let memory = memory_of(rt, rt.alloc(), row.words);
         let listed = mappings(&memory, &IdentityMapping, root);
         check_lines(rt, rt.alloc(), case, listed, row.mappings);
-    }
-    for (case, row) in ROWS_57.iter().enumerate() {
-        let memory = memory_of(rt, rt.alloc(), row.words);
-        let listed = mappings_57(&memory, &IdentityMapping, root);
-        check_lines(rt, rt.alloc(), case, listed, row.mappings);
+        let listed = regions(&memory, &IdentityMapping, root);
+        check_lines(rt, rt.alloc(), case, listed, row.regions);
     }
 }
 
 #[test]
-fn mappings_form_regions(rt: HostRuntime) {
+fn mappings_and_their_regions_are_listed_with_five_levels(rt: HostRuntime) {
     let root = frame_at(0x1000);
-    for (case, row) in ROWS.iter().enumerate() {
-        let memory = memory_of(rt, rt.alloc(), row.words);
-        let listed = regions(&memory, &IdentityMapping, root);
-        check_lines(rt, rt.alloc(), case, listed, row.regions);
-    }
     for (case, row) in ROWS_57.iter().enumerate() {
         let memory = memory_of(rt, rt.alloc(), row.words);
+        let listed = mappings_57(&memory, &IdentityMapping, root);
+        check_lines(rt, rt.alloc(), case, listed, row.mappings);
         let listed = regions_57(&memory, &IdentityMapping, root);
         check_lines(rt, rt.alloc(), case, listed, row.regions);
     }
@@ -336,13 +330,6 @@ fn mappings_are_listed_from_an_address_on(rt: HostRuntime) {
         let listed = mappings_from(&memory, &IdentityMapping, frame_at(0x1000), addr);
         let lines = unwrap_some(rt, row.mappings.get(before..));
         check_lines(rt, rt.alloc(), before, listed, lines);
-    }
-}
-
-/// Makes each word of the table in a frame the same.
-fn fill(rt: impl Abort + Copy, memory: &mut PhysMemory, frame: u64, word: u64) {
-    for index in 0..512 {
-        set_words(rt, memory, &[(frame, index, word)]);
     }
 }
 

@@ -36,6 +36,13 @@ pub(crate) fn set_words<T: TableMemory>(rt: impl Abort + Copy, memory: &mut T, w
     }
 }
 
+/// Makes each word of the table in a frame the same.
+pub(crate) fn fill(rt: impl Abort + Copy, memory: &mut PhysMemory, frame: u64, word: u64) {
+    for index in 0..512 {
+        set_words(rt, memory, &[(frame, index, word)]);
+    }
+}
+
 /// Makes a memory of 8 places with words, and then with more words.
 fn memory_of(rt: impl Abort + Copy, alloc: Global, words: &[Word], more: &[Word]) -> PhysMemory {
     let mut memory = unwrap(rt, PhysMemory::new(alloc, 8));
@@ -48,9 +55,7 @@ fn memory_of(rt: impl Abort + Copy, alloc: Global, words: &[Word], more: &[Word]
 fn memory_of_ones(rt: impl Abort + Copy, alloc: Global) -> PhysMemory {
     let mut memory = unwrap(rt, PhysMemory::new(alloc, 8));
     set_words(rt, &mut memory, &[(0x1000, 0, 0x2003)]);
-    for index in 0..512 {
-        set_words(rt, &mut memory, &[(0x2000, index, u64::MAX)]);
-    }
+    fill(rt, &mut memory, 0x2000, u64::MAX);
     memory
 }
 
