@@ -12,4 +12,6 @@ mod notes;
 #[cfg(test)]
 mod opening;
 #[cfg(test)]
+mod reads;
+#[cfg(test)]
 mod texts;
