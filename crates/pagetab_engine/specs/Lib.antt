@@ -1,4 +1,3 @@
-pub mod Number
 pub mod Arguments
 pub mod Starts
 pub mod Fields

@@ -1,6 +1,6 @@
 -- What the program prints: the text of each reply, and of each fault.
-use Rattle.std.specs.Prelude.{ℕ, Bool, false, if◌then◌else◌, List, [], ◌∷◌, ◌++◌, flat_map, codes, decimal, Option, Some, None, Ok, Err}
-use Rattle.std.specs.Fmt.{digits}
+use Rattle.std.specs.Prelude.{ℕ, Bool, if◌then◌else◌, List, [], ◌∷◌, ◌++◌, flat_map, codes, decimal, Option, Some, None, Ok, Err}
+use Rattle.x86_64_numbers.specs.Numbers.{hexadecimal}
 use Rattle.x86_64_tables.specs.PageTableFlags.{bits_of}
 use Rattle.x86_64_tables.specs.Translations.{frame_start}
 use Rattle.x86_64_tables.specs.declared.mapper.FlagUpdateError.{FlagUpdateError}
@@ -25,12 +25,6 @@ use Rattle.pagetab_engine.specs.declared.ending.Fault.{Fault}
 use Rattle.pagetab_engine.specs.declared.ending.Fault.TheVariants.{BadLine, InvalidHierarchy, OutOfMemory, Input, Output, Usage}
 use Rattle.pagetab_engine.specs.declared.reply.Reply.{Reply}
 use Rattle.pagetab_engine.specs.declared.reply.Reply.TheVariants.{Answered, Arrival, Word, Pool}
-
--- ---- numbers
-
--- the digits of base 16, in lower case and without leading zeros
-abbrev pub hexadecimal : ℕ → List ℕ
-hexadecimal number = codes "0x" ++ digits 16 false number
 
 -- what is so is 1, and what is not is 0
 abbrev pub bit : Bool → ℕ

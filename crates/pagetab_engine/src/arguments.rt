@@ -2,13 +2,13 @@
 ghost use Rattle.std.specs.Prelude.{◌<◌, ℕ, [], ◌∷◌, map, string_bytes, IfSome, IfNone};
 ghost use Rattle.std.specs.Option.{SomeIff};
 ghost use Rattle.pagetab_engine.specs.Arguments.{IsPlaces, IsAddress, IsIndex, Says, SaysMode};
-ghost use Rattle.pagetab_engine.specs.Number.{number_of};
+ghost use Rattle.x86_64_numbers.specs.Numbers.{number_of};
 ghost use Rattle.pagetab_engine.specs.declared.arguments.Mode.TheVariants.{Recursive, Pair};
 
-use crate::number;
 use crate::request::Request;
 use x86_64::VirtAddr;
 use x86_64::structures::paging::PageTableIndex;
+use x86_64_numbers::parse_number;
 
 /// Says how many levels of page tables there are.
 #[derive(Clone, Copy)]
@@ -163,7 +163,7 @@ fn parse_recursive(levels: Levels, word: &str, number: &str) -> Option<Mode>
 fn parse_places(text: &str) -> Option<u64>
     ensures { SomeIff result (IsPlaces text.now) (number_of text.now) }
 {
-    let places = number::parse(text)?;
+    let places = parse_number(text)?;
     if (2..=65536).contains(&places) {
         Some(places)
     } else {
@@ -176,14 +176,14 @@ fn parse_address(text: &str) -> Option<VirtAddr>
     ensures value { IfSome result (IsAddress text.now) }
     ensures none { IfNone result ((address : ℕ) → ¬ (IsAddress text.now address)) }
 {
-    VirtAddr::try_new(number::parse(text)?).ok()
+    VirtAddr::try_new(parse_number(text)?).ok()
 }
 
 /// Reads an index of a table. Answers `None` exactly where the text is none.
 fn parse_index(text: &str) -> Option<PageTableIndex>
     ensures { SomeIff result (IsIndex text.now) (number_of text.now) }
 {
-    let index = number::parse(text)?;
+    let index = parse_number(text)?;
     if index < 512 {
         Some(PageTableIndex::new(index as u16))
     } else {

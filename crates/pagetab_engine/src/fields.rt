@@ -2,7 +2,7 @@
 ghost use Rattle.std.specs.Prelude.{◌≡◌, ◌≢◌, ◌≤◌, ℕ, Option, List, [], ◌∷◌, ◌++◌, length, MatchOption, IfSome, IfNone, take};
 ghost use Rattle.pagetab_engine.specs.Fields.{fields_of, name_text, size_text, size_texts, AreNumbers, Says};
 
-use crate::number;
+use x86_64_numbers::parse_number;
 
 /// How many numbers a line has at most.
 const MOST_NUMBERS: usize = 4;
@@ -231,7 +231,7 @@ impl<'a> Rest<'a> {
     {
         for (count, number) in numbers.iter_mut().enumerate() {
             match self.next_field() {
-                Some(field) => *number = number::parse(field)?,
+                Some(field) => *number = parse_number(field)?,
                 None => return Some(count),
             }
         }

@@ -10,7 +10,6 @@ mod frames;
 mod hierarchy;
 pub mod laws;
 mod lines;
-pub mod number;
 mod page_call;
 mod reply;
 mod request;

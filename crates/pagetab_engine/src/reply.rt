@@ -1,6 +1,7 @@
 //! The texts of replies.
 ghost use Rattle.std.specs.Prelude.{◌≡◌, Some};
 ghost use Rattle.std.specs.Fmt.{WritesOnOk};
+ghost use Rattle.x86_64_numbers.specs.Numbers.{hexadecimal};
 ghost use Rattle.pagetab_engine.specs.Texts as texts;
 
 use crate::request::Answer;
@@ -11,6 +12,7 @@ use x86_64::structures::paging::mapper::{
 };
 use x86_64::structures::paging::{PageSize, PhysFrame, Size1GiB, Size2MiB, Size4KiB};
 use x86_64::{MapperReply, PageReply, PhysAddr, Walked};
+use x86_64_numbers::write_hexadecimal;
 
 /// The reply to a call on a page that is not mapped.
 const PAGE_NOT_MAPPED: &str = "page not mapped";
@@ -40,7 +42,7 @@ impl Display for Reply {
             Reply::Answered(Answer::Five(reply)) => write_answer(f, reply),
             Reply::Arrival(None) => f.write_str("none"),
             Reply::Arrival(Some(walked)) => write_walked(f, *walked),
-            Reply::Word(word) => write_number(f, *word),
+            Reply::Word(word) => write_hexadecimal(f, *word),
             Reply::Pool(frames) => write_pool(f, frames),
         }
     }
@@ -201,14 +203,7 @@ fn size_name(frame: &MappedFrame) -> &'static str
 
 /// Writes an address.
 fn write_address<W: Write>(f: &mut Formatter<W>, address: PhysAddr) -> FmtResult
-    ensures { WritesOnOk W.write_str_gives f.old result (texts.hexadecimal address) f.new }
+    ensures { WritesOnOk W.write_str_gives f.old result (hexadecimal address) f.new }
 {
-    write_number(f, address.as_u64())
-}
-
-/// Writes a number.
-fn write_number<W: Write>(f: &mut Formatter<W>, number: u64) -> FmtResult
-    ensures { WritesOnOk W.write_str_gives f.old result (texts.hexadecimal number) f.new }
-{
-    write!(f, "0x{number:x}")
+    write_hexadecimal(f, address.as_u64())
 }

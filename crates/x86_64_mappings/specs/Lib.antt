@@ -2,6 +2,7 @@ pub mod Views
 pub mod Texts
 pub mod Ahead
 pub mod private
+pub use Rattle.x86_64_numbers.specs.Numbers
 pub use Rattle.x86_64_model.specs.Position
 pub use Rattle.x86_64_model.specs.Mappings
 pub use Rattle.x86_64_model.specs.Memory

@@ -1,13 +1,9 @@
 -- The texts of mappings and regions.
-use Rattle.std.specs.Prelude.{ℕ, Bool, false, ◌==◌, ◌+◌, ◌-◌, ◌/◌, ◌%◌, ◌++◌, if◌then◌else◌, List, codes, decimal}
-use Rattle.std.specs.Fmt.{digits}
+use Rattle.std.specs.Prelude.{ℕ, Bool, ◌==◌, ◌+◌, ◌-◌, ◌/◌, ◌%◌, ◌++◌, if◌then◌else◌, List, codes, decimal}
+use Rattle.x86_64_numbers.specs.Numbers.{hexadecimal}
 use Rattle.x86_64_model.specs.Mappings.{Mapping}
 use Rattle.x86_64_model.specs.Regions.{Region}
 use Rattle.x86_64_model.specs.Position.{raw}
-
--- the digits of base 16, in lower case and without leading zeros
-abbrev pub hexadecimal : ℕ → List ℕ
-hexadecimal number = codes "0x" ++ digits 16 false number
 
 -- a number of bytes in the largest of KiB, MiB, GiB and TiB that divides it; none of them is 0KiB
 abbrev pub size_text : (bytes : ℕ) → List ℕ

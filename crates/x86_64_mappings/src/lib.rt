@@ -6,7 +6,7 @@ mod listing;
 mod mapping;
 mod region;
 mod region_list;
-mod text;
+pub mod text;
 
 pub use listing::{Mappings, Mappings57, MappingsIn, mappings, mappings_57, mappings_from};
 pub use mapping::{Mapping, Mapping57, MappingIn};

@@ -7,12 +7,13 @@ ghost use Rattle.std.specs.Fmt.{WritesOnOk};
 ghost use Rattle.x86_64_mappings.specs.Texts as texts;
 ghost use Rattle.x86_64_mappings.specs.Views.{seen_rights};
 
-use crate::text::{write_number, write_rights, write_size};
+use crate::text::{write_rights, write_size};
 use bitflags::Flags;
 use std::fmt::{Display, Formatter, Result as FmtResult, Write};
 use std::marker::Model;
 use x86_64_addr::addr::VirtAddrIn;
 use x86_64_addr::level_count::{FiveLevels, FourLevels, LevelCount};
+use x86_64_numbers::write_hexadecimal;
 use x86_64_page::frame::PhysFrame;
 use x86_64_tables::mapper::MappedFrame;
 use x86_64_tables::page_table::{PageTableEntry, PageTableFlags};
@@ -70,12 +71,7 @@ impl<L: LevelCount> Model for MappingIn<L> {
 
 impl<L: LevelCount> MappingIn<L> {
     /// Makes the mapping by an entry of a level that maps a page, at a position of the page, below entries that allow `above`.
-    pub(crate) fn of_page(
-        level: u64,
-        position: u64,
-        entry: &PageTableEntry,
-        above: Rights,
-    ) -> MappingIn<L>
+    pub fn of_page(level: u64, position: u64, entry: &PageTableEntry, above: Rights) -> MappingIn<L>
         requires low { 1 ≤ level }
         requires page { maps_page level entry.now ≡ true }
         requires inside { position < position_count L.LEVELS }
@@ -139,7 +135,7 @@ fn write_line<W: Write>(
     f.write_str(" ")?;
     write_rights(f, rights.write, rights.user, rights.execute)?;
     f.write_str(" ")?;
-    write_number(f, flags)
+    write_hexadecimal(f, flags)
 }
 
 /// Writes where a mapping starts, its size, and where its frame starts.
@@ -148,9 +144,9 @@ fn write_place<W: Write>(f: &mut Formatter<W>, start: u64, size: u64, frame: u64
     ensures { let text = texts.place_text start size frame in
         WritesOnOk W.write_str_gives f.old result text f.new }
 {
-    write_number(f, start)?;
+    write_hexadecimal(f, start)?;
     f.write_str(" ")?;
     write_size(f, size)?;
     f.write_str(" ")?;
-    write_number(f, frame)
+    write_hexadecimal(f, frame)
 }

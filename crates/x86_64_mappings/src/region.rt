@@ -58,7 +58,7 @@ impl<L: LevelCount> Model for RegionIn<L> {
 
 impl<L: LevelCount> RegionIn<L> {
     /// Makes the region of one mapping.
-    pub(crate) fn of(mapping: &MappingIn<L>) -> RegionIn<L>
+    pub fn of(mapping: &MappingIn<L>) -> RegionIn<L>
         requires { mapping.now.start + mapping.now.size ≤ position_count L.LEVELS }
         ensures { result ≡ model.region_of mapping.now }
     {
@@ -73,7 +73,7 @@ impl<L: LevelCount> RegionIn<L> {
     }
 
     /// Tells whether a region follows on this one: it starts at the next address, not in the other half, and allows the same.
-    pub(crate) fn is_followed_by(&self, next: &RegionIn<L>) -> bool
+    pub fn is_followed_by(&self, next: &RegionIn<L>) -> bool
         ensures { result ≡ model.follows L.LEVELS self.now next.now }
     {
         let first = next.first.position();
@@ -85,7 +85,7 @@ impl<L: LevelCount> RegionIn<L> {
     }
 
     /// Gives the region that goes on to the last address of another.
-    pub(crate) fn grown_to(self, next: &RegionIn<L>) -> RegionIn<L>
+    pub fn grown_to(self, next: &RegionIn<L>) -> RegionIn<L>
         ensures { result ≡ model.grown_to self next.now }
     {
         RegionIn {

@@ -6,7 +6,7 @@ ghost use Rattle.x86_64_mappings.specs.Texts as texts;
 use std::fmt::{Formatter, Result as FmtResult, Write};
 
 /// Writes a number of bytes in the largest of KiB, MiB, GiB and TiB that divides it.
-pub(crate) fn write_size<W: Write>(f: &mut Formatter<W>, bytes: u64) -> FmtResult
+pub fn write_size<W: Write>(f: &mut Formatter<W>, bytes: u64) -> FmtResult
     ensures { WritesOnOk W.write_str_gives f.old result (texts.size_text bytes) f.new }
 {
     let (unit, name) = unit_of(bytes);
@@ -34,7 +34,7 @@ fn unit_of(bytes: u64) -> (u64, &'static str)
 
 /// Writes the letters of what may be read, written, executed, and reached by user code.
 #[tactic(auto, unfolding(crate::specs::Texts::rights_text))]
-pub(crate) fn write_rights<W: Write>(
+pub fn write_rights<W: Write>(
     f: &mut Formatter<W>,
     write: bool,
     user: bool,
@@ -47,11 +47,4 @@ pub(crate) fn write_rights<W: Write>(
     f.write_str(if write { "w" } else { "-" })?;
     f.write_str(if execute { "x" } else { "-" })?;
     f.write_str(if user { "u" } else { "-" })
-}
-
-/// Writes a number in base 16.
-pub(crate) fn write_number<W: Write>(f: &mut Formatter<W>, number: u64) -> FmtResult
-    ensures { WritesOnOk W.write_str_gives f.old result (texts.hexadecimal number) f.new }
-{
-    write!(f, "0x{number:x}")
 }

@@ -93,8 +93,8 @@ impl From<AllocError> for PlacesRefusal {
 
 /// Holds page tables, seen as a finite map from the numbers of places to tables. The places never change.
 ///
-/// A table is reached by its place, as in `memory[place]`. Condition: the memory has the place. A place is found by halving,
-/// or at once where the memory has all places between the first and it.
+/// A table is reached by its place, as in `memory[place]`. Condition: the memory has the place. A place is found at once if the
+/// memory has all places between the first and it, or if gaps are spread evenly, else by binary search.
 #[derive(Drop)]
 pub struct PhysMemory {
     places: SortedPlaces,

@@ -1,4 +1,4 @@
--- Laws of mappings and regions. The words are any, but for the last law.
+-- Laws of mappings and regions. The words are any, but for the last two laws, which speak of valid hierarchies.
 use Rattle.std.specs.Prelude.{◌≡◌, ◌≢◌, ◌⊎◌, ℕ, ◌+◌, ◌-◌, ◌<◌, ◌≤◌, true, false, List, [], ◌∷◌, ◌++◌, map, Option, Some, option_map}
 use Rattle.std.specs.List.{find, AllByRecursion}
 use Rattle.x86_64_model.specs.Lists.{In}

@@ -1,13 +1,18 @@
-//! Numbers in lines and arguments.
+//! Numbers as texts: read in base 10 or 16, written in base 16.
+#![tactic(auto)]
+
 ghost use Rattle.std.specs.Prelude.{◌≤◌, ◌<◌, ◌^◌};
+ghost use Rattle.std.specs.Fmt.{WritesOnOk};
 ghost use Rattle.std.specs.Option.{SomeIff};
 ghost use Rattle.std.specs.Str.Parse.{IsNumeral, digits_value};
-ghost use Rattle.pagetab_engine.specs.Number.{IsNumber, number_of};
+ghost use Rattle.x86_64_numbers.specs.Numbers.{IsNumber, number_of, hexadecimal};
+
+use std::fmt::{Formatter, Result as FmtResult, Write};
 
 /// Reads a number below 2^64: decimal digits, or `0x` and hexadecimal digits of either case.
 ///
-/// Answers `None` exactly where the text isn't one. A sign, `0X` and `_` are no digits, leading zeros are.
-pub fn parse(text: &str) -> Option<u64>
+/// Returns `None` exactly if the text isn't one. A sign, `0X` and `_` are no digits, leading zeros are.
+pub fn parse_number(text: &str) -> Option<u64>
     ensures { SomeIff result (IsNumber text.now) (number_of text.now) }
 {
     match text.strip_prefix("0x") {
@@ -27,4 +32,11 @@ fn parse_digits(digits: &str, radix: u32) -> Option<u64>
         return None;
     }
     u64::from_str_radix(digits, radix).ok()
+}
+
+/// Writes a number in base 16, after `0x`: in lower case, without leading zeros.
+pub fn write_hexadecimal<W: Write>(f: &mut Formatter<W>, number: u64) -> FmtResult
+    ensures { WritesOnOk W.write_str_gives f.old result (hexadecimal number) f.new }
+{
+    write!(f, "0x{number:x}")
 }

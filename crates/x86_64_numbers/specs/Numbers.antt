@@ -1,5 +1,6 @@
 -- Numbers as texts: decimal digits, or `0x` and hexadecimal digits of either case.
-use Rattle.std.specs.Prelude.{ℕ, ◌<◌, ◌^◌, cond, Bool, List, codes, drop, nat_eq}
+use Rattle.std.specs.Prelude.{ℕ, ◌<◌, ◌^◌, ◌++◌, cond, Bool, false, List, codes, drop, nat_eq}
+use Rattle.std.specs.Fmt.{digits}
 use Rattle.std.specs.List.{starts_with}
 use Rattle.std.specs.Str.Parse.{IsNumeral, digits_value}
 
@@ -21,3 +22,7 @@ number_of text = digits_value (radix_of text) (digits_of text)
 -- one digit or more and nothing else, of a number below 2^64
 abbrev pub IsNumber : List ℕ → Type 0
 IsNumber text = IsNumeral (radix_of text) (digits_of text) × (number_of text < 2 ^ 64)
+
+-- `0x` and the digits of base 16, in lower case and without leading zeros
+abbrev pub hexadecimal : ℕ → List ℕ
+hexadecimal number = codes "0x" ++ digits 16 false number
