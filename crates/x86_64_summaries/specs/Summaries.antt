@@ -1,0 +1,14 @@
+-- Summaries: what mappings are together.
+use Rattle.std.specs.Prelude.{ℕ, List, length, map}
+use Rattle.std.specs.List.{list_all, list_any, sum}
+use Rattle.x86_64_model.specs.Mappings.{Mapping}
+use Rattle.x86_64_summaries.specs.declared.summary.Summary.{Summary}
+
+-- how many mappings, how many bytes they have, the rights that some of them has, and those that all have
+unfoldable pub summary_of : List Mapping → Summary
+summary_of ms = record {
+  count = length ms;
+  bytes = sum (map (λ m. m.size) ms);
+  some = record { write = list_any (λ m. m.rights.write) ms; user = list_any (λ m. m.rights.user) ms; execute = list_any (λ m. m.rights.execute) ms };
+  all = record { write = list_all (λ m. m.rights.write) ms; user = list_all (λ m. m.rights.user) ms; execute = list_all (λ m. m.rights.execute) ms };
+}

@@ -1,0 +1,25 @@
+-- Wanted: which mappings of a table are asked for. A table of any level is the root of a hierarchy of so many levels.
+use Rattle.std.specs.Prelude.{ℕ, ◌+◌, ◌&&◌, nat_le, nat_lt, Bool, true, List, filter, Option, Some, None}
+use Rattle.x86_64_model.specs.Memory.{Words}
+use Rattle.x86_64_model.specs.Mappings.{Mapping, mappings_of}
+
+-- whether a mapping leads to a physical address
+abbrev pub leads_to : (address : ℕ) → Mapping → Bool
+leads_to a m = nat_le m.frame a && nat_lt a (m.frame + m.size)
+
+-- all mappings are wanted, or those that lead to a physical address
+abbrev pub is_wanted : (wanted : Option ℕ) → Mapping → Bool
+is_wanted None m = true
+is_wanted (Some a) m = leads_to a m
+
+-- the wanted mappings below a frame's table of a level, in order, with starts counted from that of the table's span
+abbrev pub wanted_mappings : (wanted : Option ℕ) → (level : ℕ) → Words → (frame : ℕ) → List Mapping
+wanted_mappings wanted level T frame = filter (is_wanted wanted) (mappings_of level T frame)
+
+-- the words of a memory, and which of their mappings are wanted
+pub record Asked : Type 0 where
+  pub words : Words
+  pub wanted : Option ℕ
+
+abbrev pub asked_mappings : Asked → (level frame : ℕ) → List Mapping
+asked_mappings asked level frame = wanted_mappings asked.wanted level asked.words frame
