@@ -2,3 +2,4 @@ pub mod Parts
 pub mod Openings
 pub mod Frames
 pub mod NotesRead
+pub mod Headers
