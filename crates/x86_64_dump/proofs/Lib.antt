@@ -3,3 +3,4 @@ pub mod Openings
 pub mod Frames
 pub mod NotesRead
 pub mod Headers
+pub mod NotesTold
