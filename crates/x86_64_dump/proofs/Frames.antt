@@ -1,5 +1,5 @@
 -- Frames: the segment that has a frame is found one by one, and the words of a part are those of the file.
-use Rattle.std.proofs.Common.{◌≡◌, ℕ, zero, suc, ◌+◌, ◌*◌, ◌≤◌, ◌<◌, Bool, true, false, cond, List, [], ◌∷◌, Option, Some, None, map, take, eq-eqb, ◌%◌, ◌^◌, length, refl, ap, sym, ◌∙◌, arith}
+use Rattle.std.proofs.Common.{◌≡◌, ℕ, ◌+◌, ◌*◌, ◌≤◌, ◌<◌, Bool, true, false, cond, List, [], ◌∷◌, Option, Some, None, is_some, map, take, eq-eqb, ◌%◌, ◌^◌, length, refl, ap, sym, ◌∙◌, arith}
 use Rattle.std.specs.List.{find, range_with_len}
 use Rattle.std.specs.Option.{option_map}
 use Rattle.x86_64_model.specs.Entry.{is_frame, address}
@@ -9,7 +9,7 @@ use Rattle.x86_64_dump.specs.declared.segment.Segment.{Segment}
 use Rattle.std.proofs.lemmas.List.{take_all}
 use Rattle.x86_64_dump.specs.Source.{part_of}
 use Rattle.x86_64_model.proofs.Lemmas.Entries.Words.{address-multiple}
-use Rattle.x86_64_dump.proofs.Parts.{Shows, part_shows, u64_shown}
+use Rattle.x86_64_dump.proofs.Parts.{Shows, part_shows, u64_shown, map_range_same}
 
 pub frame_offset_here : (size frame : ℕ) (segment : Segment) (segments : List Segment) → has_frame size frame segment ≡ true → frame_offset size (segment ∷ segments) frame ≡ Some (offset_in segment frame)
 unfolding frame_offset
@@ -22,13 +22,6 @@ frame_offset_later size frame segment segments lacks = ap (λ b. option_map (λ 
 pub frame_offset_nowhere : (size frame : ℕ) → frame_offset size [] frame ≡ None
 unfolding frame_offset
 frame_offset_nowhere size frame = refl
-
-map_range_same : (f g : ℕ → ℕ) (a n : ℕ) → ((i : ℕ) → a ≤ i → i < a + n → f i ≡ g i) → map f (range_with_len a n) ≡ map g (range_with_len a n)
-map_range_same f g a zero same = refl
-map_range_same f g a (suc n) same =
-    let first = same a (omega arith) (omega arith) in
-    let rest = map_range_same f g (a + 1) n (λ i low high. same i (omega arith) (omega arith)) in
-    cc
 
 words_map_shown : (part file : List ℕ) (offset size n : ℕ) → Shows part file offset size → 8 * n ≤ size → map (λ i. u64_at part (0 + 8 * i)) (range_with_len 0 n) ≡ map (λ i. u64_at file (offset + 8 * i)) (range_with_len 0 n)
 words_map_shown part file offset size n shows fits = map_range_same _ _ 0 n (λ i low high. ap (u64_at part) (omega arith) ∙ u64_shown part file (8 * i) offset size shows (omega arith))
@@ -54,12 +47,26 @@ unfolding words_of_dump
 no_words dump frame size long lacks =
     sym (ap (λ place. cond (is_frame frame) (option_map (words_at dump.file) place) None) (ap (λ n. frame_offset n dump.segments frame) (sym long) ∙ lacks) ∙ none_either (is_frame frame))
 
-pub frame_words : (dump : Contents) (frame size offset : ℕ) (part words : List ℕ) → size ≡ length dump.file → frame % 4096 ≡ 0 → frame < 2 ^ 52 → frame_offset size dump.segments frame ≡ Some offset
+pub frame_words : (dump : Contents) (frame size offset : ℕ) (part words : List ℕ) → size ≡ length dump.file → is_frame frame ≡ true → frame_offset size dump.segments frame ≡ Some offset
     → part ≡ part_of dump.file offset 4096 → words ≡ words_at part 0 → Some words ≡ words_of_dump dump frame
 unfolding words_of_dump
-frame_words dump frame size offset part words long aligned below has read told =
-    let is : is_frame frame ≡ true = eq-eqb (address frame) frame (address-multiple frame aligned below) in
+frame_words dump frame size offset part words long is has read told =
     let place : frame_offset (length dump.file) dump.segments frame ≡ Some offset = ap (λ n. frame_offset n dump.segments frame) (sym long) ∙ has in
     let shown = words_shown (part_of dump.file offset 4096) dump.file offset (part_shows dump.file offset 4096) in
     ap Some (told ∙ ap (λ bytes. words_at bytes 0) read ∙ shown)
     ∙ sym (ap (λ place. cond (is_frame frame) (option_map (words_at dump.file) place) None) place ∙ ap (λ b. cond {A = Option (List ℕ)} b (Some (words_at dump.file offset)) None) is)
+
+is_some_mapped : {A B : Type 0} (f : A → B) (found : Option A) → is_some found ≡ is_some (option_map f found)
+is_some_mapped f None = refl
+is_some_mapped f (Some x) = refl
+
+-- a dump says something of a frame exactly if a segment has it
+pub frame_there : (dump : Contents) (frame size : ℕ) → size ≡ length dump.file → is_frame frame ≡ true → is_some (frame_offset size dump.segments frame) ≡ is_some (words_of_dump dump frame)
+unfolding words_of_dump
+frame_there dump frame size long is =
+    is_some_mapped (words_at dump.file) (frame_offset size dump.segments frame)
+    ∙ ap (λ n. is_some (option_map (words_at dump.file) (frame_offset n dump.segments frame))) long
+    ∙ sym (ap (λ b. is_some (cond {A = Option (List ℕ)} b (option_map (words_at dump.file) (frame_offset (length dump.file) dump.segments frame)) None)) is)
+
+pub aligned_frame : (frame : ℕ) → frame % 4096 ≡ 0 → frame < 2 ^ 52 → is_frame frame ≡ true
+aligned_frame frame aligned below = eq-eqb (address frame) frame (address-multiple frame aligned below)
