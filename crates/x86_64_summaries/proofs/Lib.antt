@@ -1,3 +1,6 @@
 pub mod Placed
 pub mod Tables
 mod Summed
+mod Joined
+mod Whole
+mod Halves
