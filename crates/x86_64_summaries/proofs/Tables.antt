@@ -1,7 +1,8 @@
 -- The mappings of a table are those of its words one after the other, where a word that names a table has the mappings of that table, placed.
-use Rattle.std.proofs.Common.{zero, suc, ◌≡◌, ◌+◌, ◌-◌, ◌*◌, ◌<◌, ◌≤◌, ℕ, ◌&&◌, Bool, true, false, cond, List, [], ◌∷◌, ◌++◌, length, get_or, take, map, filter, flat_map, Option, Some, None, option_map, refl, sym, ap, ap₂, ◌∙◌, subst, arith, append-nil, append_assoc}
+use Rattle.std.proofs.Common.{zero, suc, ◌≡◌, ◌+◌, ◌-◌, ◌*◌, ◌<◌, ◌≤◌, ℕ, ◌&&◌, Bool, true, false, cond, List, [], ◌∷◌, ◌++◌, length, get_or, take, map, filter, flat_map, Option, Some, None, option_map, refl, sym, ap, ap₂, ◌∙◌, subst, arith, append-nil, append_assoc, length-take, ◌/◌, ◌%◌}
 use Rattle.std.specs.List.{range_with_len}
 use Rattle.std.proofs.Math.Nat.{add-mul}
+use Rattle.std.proofs.Math.Seq.{take-suc}
 use Rattle.std.proofs.lemmas.List.Elements.{filter-append}
 use Rattle.x86_64_model.specs.Entry.{present, huge, address}
 use Rattle.x86_64_model.specs.Memory.{Words}
@@ -9,7 +10,7 @@ use Rattle.x86_64_model.specs.PageWalk.{read}
 use Rattle.x86_64_model.specs.Position.{span}
 use Rattle.x86_64_model.specs.Path.{indices}
 use Rattle.x86_64_model.specs.Mappings.{Rights, Mapping, maps_page, mappings_of}
-use Rattle.x86_64_model.specs.private.Found.{every_right, narrowed, page_from}
+use Rattle.x86_64_model.specs.private.Found.{every_right, narrowed, page_from, page_at}
 use Rattle.x86_64_model.proofs.Lemmas.Mappings.Listed.{listed_by, list_and_then, listed_on, mappings_listed}
 use Rattle.x86_64_summaries.specs.declared.entries.Target.TheVariants.{Nothing, Page, Table}
 use Rattle.x86_64_summaries.specs.Wanted.{Asked, is_wanted, asked_mappings}
@@ -47,18 +48,19 @@ module _ (T : Words) where
 
 -- ---- the wanted ones, by the words of the table
 
-filter-placed : (wanted : Option ℕ) (s : ℕ) (r : Rights) (ms : List Mapping) → filter (is_wanted wanted) (map (placed s r) ms) ≡ map (placed s r) (filter (is_wanted wanted) ms)
+pub filter-placed : (wanted : Option ℕ) (s : ℕ) (r : Rights) (ms : List Mapping) → filter (is_wanted wanted) (map (placed s r) ms) ≡ map (placed s r) (filter (is_wanted wanted) ms)
 filter-placed wanted s r [] = refl
-filter-placed wanted s r (m ∷ ms) = by (is_wanted wanted m) (same wanted)
+filter-placed wanted s r (m ∷ ms) = ap (λ b. cond b (placed s r m ∷ filter (is_wanted wanted) (map (placed s r) ms)) (filter (is_wanted wanted) (map (placed s r) ms))) (same wanted)
+    ∙ by (is_wanted wanted m) (filter (is_wanted wanted) (map (placed s r) ms)) (filter-placed wanted s r ms)
   where
     same : (wanted : Option ℕ) → is_wanted wanted (placed s r m) ≡ is_wanted wanted m
     same None = refl
     same (Some a) = refl
 
-    by : (b : Bool) → is_wanted wanted (placed s r m) ≡ b → cond (is_wanted wanted (placed s r m)) (placed s r m ∷ filter (is_wanted wanted) (map (placed s r) ms)) (filter (is_wanted wanted) (map (placed s r) ms))
-        ≡ map (placed s r) (cond b (m ∷ filter (is_wanted wanted) ms) (filter (is_wanted wanted) ms))
-    by true e = ap (λ b. cond b (placed s r m ∷ filter (is_wanted wanted) (map (placed s r) ms)) (filter (is_wanted wanted) (map (placed s r) ms))) e ∙ ap (λ ms. placed s r m ∷ ms) (filter-placed wanted s r ms)
-    by false e = ap (λ b. cond b (placed s r m ∷ filter (is_wanted wanted) (map (placed s r) ms)) (filter (is_wanted wanted) (map (placed s r) ms))) e ∙ filter-placed wanted s r ms
+    by : (b : Bool) (rest : List Mapping) → rest ≡ map (placed s r) (filter (is_wanted wanted) ms)
+        → cond b (placed s r m ∷ rest) rest ≡ map (placed s r) (cond b (m ∷ filter (is_wanted wanted) ms) (filter (is_wanted wanted) ms))
+    by true rest e = ap (λ ms. placed s r m ∷ ms) e
+    by false rest e = e
 
 module _ (asked : Asked) (level s : ℕ) (r : Rights) where
   abbrev by_index : List ℕ → ℕ → List Mapping
@@ -112,8 +114,47 @@ on-append : (asked : Asked) (level s : ℕ) (r : Rights) (front back : List ℕ)
 on-append asked level s r [] back = ap (λ s. asked_on asked level s r back) (let e : s ≡ s + 0 * span level = omega arith in e)
 on-append asked level s r (e ∷ front) back =
     let start : s + span level + length front * span level ≡ s + suc (length front) * span level = next_start s (length front) (span level) in
-    ap (λ ms. asked_by asked level s r e ++ ms) (on-append asked level (s + span level) r front back ∙ ap (λ s. asked_on asked level (s + span level) r front ++ asked_on asked level s r back) start)
+    ap (λ ms. asked_by asked level s r e ++ ms) (on-append asked level (s + span level) r front back ∙ ap (λ t. asked_on asked level (s + span level) r front ++ asked_on asked level t r back) start)
     ∙ sym (append_assoc (asked_by asked level s r e) (asked_on asked level (s + span level) r front) (asked_on asked level (s + suc (length front) * span level) r back))
   where
     next_start : (s n w : ℕ) → s + w + n * w ≡ s + suc n * w
     next_start s n w = omega arith
+
+-- one entry more
+pub on_more : (asked : Asked) (level s : ℕ) (r : Rights) (words : List ℕ) (i : ℕ) → i < length words
+    → asked_on asked level s r (take (i + 1) words) ≡ asked_on asked level s r (take i words) ++ asked_by asked level (s + i * span level) r (get_or words i 0)
+on_more asked level s r words i less =
+    let front = take i words in let e = get_or words i 0 in
+    let many : length front ≡ i = omega (arith, length-take i words, less) in
+    ap (asked_on asked level s r) (ap (λ n. take n words) (let e : i + 1 ≡ suc i = omega arith in e) ∙ take-suc words i 0 less)
+    ∙ on-append asked level s r front (e ∷ [])
+    ∙ ap (λ ms. asked_on asked level s r front ++ ms) (append-nil (asked_by asked level (s + length front * span level) r e) ∙ ap (λ n. asked_by asked level (s + n * span level) r e) many)
+
+-- ---- by what an entry leads to
+
+pub by_nothing : (asked : Asked) (level s : ℕ) (r : Rights) (e : ℕ) → Nothing ≡ target_of level e → asked_by asked level s r e ≡ []
+by_nothing asked level s r e is = ap (λ t. filter (is_wanted asked.wanted) (mapped_by asked.words level s r e t)) (sym is)
+
+pub by_table : (asked : Asked) (level s : ℕ) (r : Rights) (e f : ℕ) → Table f ≡ target_of level e
+    → asked_by asked level s r e ≡ map (placed s (narrowed r e)) (asked_mappings asked (level - 1) f)
+by_table asked level s r e f is =
+    ap (λ t. filter (is_wanted asked.wanted) (mapped_by asked.words level s r e t)) (sym is)
+    ∙ filter-placed asked.wanted s (narrowed r e) (mappings_of (level - 1) asked.words f)
+
+-- a page that is wanted, or isn't
+pub by_page : (asked : Asked) (level s : ℕ) (r : Rights) (e : ℕ) (m : Mapping) → Page ≡ target_of level e → m ≡ page_at s level r e → s % span level ≡ 0
+    → asked_by asked level s r e ≡ cond (is_wanted asked.wanted m) (m ∷ []) []
+by_page asked level s r e m is at aligned =
+    let start : s / span level * span level ≡ s = omega (arith, aligned) in
+    let same : page_from s level r e ≡ m = ap (λ s. page_from s level r e) (sym start) ∙ sym at in
+    ap (λ t. filter (is_wanted asked.wanted) (mapped_by asked.words level s r e t)) (sym is)
+    ∙ ap (λ m. cond (is_wanted asked.wanted m) (m ∷ []) []) same
+
+-- ---- those of a table where it stands
+
+placed_here : (ms : List Mapping) → map (placed 0 every_right) ms ≡ ms
+placed_here [] = refl
+placed_here (m ∷ ms) = ap₂ (λ m ms. m ∷ ms) (ap (λ s. record m { start = s }) (let e : 0 + m.start ≡ m.start = omega arith in e)) (placed_here ms)
+
+pub asked_here : (asked : Asked) (level f : ℕ) → map (placed 0 every_right) (asked_mappings asked level f) ≡ asked_mappings asked level f
+asked_here asked level f = placed_here (asked_mappings asked level f)
