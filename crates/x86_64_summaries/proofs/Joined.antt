@@ -1,12 +1,12 @@
 -- Regions that are joined as they come are those that the mappings form. Mappings without a gap and with the same rights are joined at once.
-use Rattle.std.proofs.Common.{◌≡◌, ◌≢◌, ◌⊎◌, inl, inr, ⊎_elim, ◌<◌, ◌≤◌, ◌+◌, ◌-◌, ◌==◌, ◌&&◌, ℕ, Bool, true, false, not, cond, List, [], ◌∷◌, ◌++◌, Option, Some, None, refl, sym, ap, ◌∙◌, subst, subst₂, arith, append-nil, append_assoc}
+use Rattle.std.proofs.Common.{◌≡◌, ◌≢◌, ◌⊎◌, inl, inr, ⊎_elim, ◌<◌, ◌≤◌, ◌+◌, ◌-◌, ◌==◌, ◌&&◌, ℕ, Bool, true, false, not, cond, List, [], ◌∷◌, ◌++◌, filter, Option, Some, None, refl, sym, ap, ◌∙◌, subst, subst₂, arith, append-nil, append_assoc}
 use Rattle.std.proofs.lemmas.Bool.{and_from, eq-eqb, eqb-true}
 use Rattle.x86_64_model.specs.Position.{lower_half}
 use Rattle.x86_64_model.specs.Mappings.{Mapping, Rights}
 use Rattle.x86_64_model.specs.Regions.{Region, region_of, same_rights, follows, grown_to, regions_in}
 use Rattle.x86_64_model.proofs.Lemmas.Mappings.Regions.{begun, from_follows, same_rights_itself, regions_are_begun}
 use Rattle.x86_64_summaries.specs.private.Extents.{AreWhole}
-use Rattle.x86_64_summaries.specs.private.Joined.{region_between, held_with, given_with, held_after, given_after, listed, Joins}
+use Rattle.x86_64_summaries.specs.private.Joined.{region_between, held_with, given_with, held_after, given_after, listed, JoinsRegion, Joins}
 
 -- ---- mappings, some first
 
@@ -34,7 +34,7 @@ begun_joined L r (m ∷ ms) = let s = region_of m in
       | false ↦ ap (λ rs. r ∷ rs) (begun_joined L s ms)
     ]
 
-pub regions_joined : (L : ℕ) (ms : List Mapping) → regions_in L ms ≡ given_after L None ms ++ listed (held_after L None ms)
+regions_joined : (L : ℕ) (ms : List Mapping) → regions_in L ms ≡ given_after L None ms ++ listed (held_after L None ms)
 unfolding regions_in held_after given_after
 regions_joined L [] = refl
 regions_joined L (m ∷ ms) = regions_are_begun L m ms ∙ begun_joined L (region_of m) ms
@@ -118,14 +118,31 @@ module _ {V : Type 0} (visits : V → V → List Region → Type 0) (L : ℕ) wh
         held = back.held ∙ ap (λ h. held_after L h ns) middle ∙ sym (held_after-append L a ms ns);
       }
 
-  -- one mapping came
-  pub joins_one : (m : Mapping) (held now : Option Region) (u v : V) → visits u v (given_with L held (region_of m)) → now ≡ Some (held_with L held (region_of m)) → Joins visits L (m ∷ []) held u now v
+  -- the region of a mapping came, if the mapping is wanted
+  pub joins_wanted : (p : Mapping → Bool) (m : Mapping) (s : Region) → s ≡ region_of m → p m ≡ true
+      → (a b : Option Region) (u v : V) → JoinsRegion visits L s a u b v → Joins visits L (filter p (m ∷ [])) a u b v
   unfolding held_after given_after
-  joins_one m held now u v given after = record { given = subst (visits u v) (sym (append-nil (given_with L held (region_of m)))) given; held = after }
+  joins_wanted p m s is wanted a b u v joins = subst (λ t. Joins visits L (cond t (m ∷ []) []) a u b v) (sym wanted) (record {
+    given = subst (visits u v) (ap (given_with L a) is ∙ sym (append-nil (given_with L a (region_of m)))) joins.given;
+    held = joins.held ∙ ap (λ s. Some (held_with L a s)) is;
+  })
 
-  -- mappings without a gap came at once
+  pub joins_unwanted : ((v : V) → visits v v []) → (p : Mapping → Bool) (m : Mapping) → p m ≡ false → (held : Option Region) (visitor : V)
+      → Joins visits L (filter p (m ∷ [])) held visitor held visitor
+  joins_unwanted none p m unwanted held visitor = subst (λ t. Joins visits L (cond t (m ∷ []) []) held visitor held visitor) (sym unwanted) (joins_none none held visitor)
+
+  -- the region of mappings without a gap came
   pub joins_whole : (a b : ℕ) (rights : Rights) (ms : List Mapping) → a < b → AreWhole a b rights ms → (b ≤ lower_half L) ⊎ (lower_half L ≤ a)
-      → (held now : Option Region) (u v : V) → visits u v (given_with L held (region_between a b rights)) → now ≡ Some (held_with L held (region_between a b rights)) → Joins visits L ms held u now v
-  joins_whole a b rights ms some whole half held now u v given after =
-      let all = whole_joined L held a b rights ms some whole half in
-      record { given = subst (visits u v) (sym all.1) given; held = after ∙ sym all.0 }
+      → (s : Region) → s ≡ region_between a b rights → (h k : Option Region) (u v : V) → JoinsRegion visits L s h u k v → Joins visits L ms h u k v
+  joins_whole a b rights ms some whole half s is h k u v joins =
+      let all = whole_joined L h a b rights ms some whole half in
+      record {
+        given = subst (visits u v) (ap (given_with L h) is ∙ sym all.1) joins.given;
+        held = joins.held ∙ ap (λ s. Some (held_with L h s)) is ∙ sym all.0;
+      }
+
+  -- all came, and what was held back is handed out
+  pub joins_last : ((u v w : V) (xs ys : List Region) → visits u v xs → visits v w ys → visits u w (xs ++ ys))
+      → (ms : List Mapping) (after : Option Region) (u v w : V) → Joins visits L ms None u after v → visits v w (listed after) → visits u w (regions_in L ms)
+  joins_last both ms after u v w joins last = subst (visits u w) (ap (λ h. given_after L None ms ++ listed h) joins.held ∙ sym (regions_joined L ms))
+      (both u v w (given_after L None ms) (listed after) joins.given last)

@@ -3,4 +3,4 @@ pub mod Tables
 mod Summed
 mod Joined
 mod Whole
-mod Halves
+mod Spans

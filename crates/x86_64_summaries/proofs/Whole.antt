@@ -1,6 +1,6 @@
 -- Mappings that fill a span and agree in their rights are without a gap.
 use Rattle.std.proofs.Common.{suc, ◌≡◌, ◌<◌, ◌≤◌, ◌+◌, ◌||◌, ℕ, Bool, true, false, cond, List, [], ◌∷◌, filter, map, inl, inr, refl, sym, ap, ◌∙◌, subst, arith}
-use Rattle.std.specs.List.{AllByRecursion, list_all, list_any, sum}
+use Rattle.std.specs.List.{AllByRecursion, list_all, list_any, sum_by}
 use Rattle.std.proofs.lemmas.List.Sums.{sum_by-cons}
 use Rattle.x86_64_model.specs.Lists.{In}
 use Rattle.x86_64_model.specs.Mappings.{Mapping, Rights, mappings_of}
@@ -20,10 +20,10 @@ use Rattle.x86_64_summaries.specs.private.Placed.{placed}
 use Rattle.x86_64_summaries.proofs.Summed.{summary-placed}
 
 abbrev pub sizes : List Mapping → ℕ
-sizes ms = sum (map (λ m. m.size) ms)
+sizes ms = sum_by (λ m. m.size) ms
 
 sizes-cons : (m : Mapping) (ms : List Mapping) → sizes (m ∷ ms) ≡ m.size + sizes ms
-sizes-cons m ms = sum_by-cons (λ n. n) m.size (map (λ m. m.size) ms)
+sizes-cons m ms = sum_by-cons (λ m. m.size) m ms
 
 -- ---- chains
 

@@ -31,7 +31,12 @@ abbrev pub listed : (held : Option Region) → List Region
 listed None = []
 listed (Some r) = r ∷ []
 
--- The regions of mappings came: a visitor took what was handed out, and what is held back is held.
+-- A region came: a visitor took what was handed out, and what is held back is held.
+pub record JoinsRegion {V : Type 0} (visits : V → V → List Region → Type 0) (L : ℕ) (s : Region) (before : Option Region) (visitor : V) (after : Option Region) (visited : V) : Type 0 where
+  pub given : visits visitor visited (given_with L before s)
+  pub held : after ≡ Some (held_with L before s)
+
+-- the same of the regions of mappings
 pub record Joins {V : Type 0} (visits : V → V → List Region → Type 0) (L : ℕ) (ms : List Mapping) (before : Option Region) (visitor : V) (after : Option Region) (visited : V) : Type 0 where
   pub given : visits visitor visited (given_after L before ms)
   pub held : after ≡ held_after L before ms

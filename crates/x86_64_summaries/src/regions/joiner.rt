@@ -1,6 +1,6 @@
 //! Regions that are joined as they are found.
-ghost use Rattle.std.specs.Prelude.{◌≡◌, OnOk, Some, None};
-ghost use Rattle.x86_64_summaries.specs.private.Joined.{held_with, given_with, listed};
+ghost use Rattle.std.specs.Prelude.{◌≡◌, OnOk, None};
+ghost use Rattle.x86_64_summaries.specs.private.Joined.{JoinsRegion, listed};
 
 use crate::visitor::Visitor;
 use std::marker::Model;
@@ -41,8 +41,7 @@ impl<L: LevelCount> Joiner<L> {
         region: RegionIn<L>,
         visitor: &mut V,
     ) -> Result<(), V::Error>
-        ensures given { OnOk result (V.Visits visitor.old visitor.new (given_with L.LEVELS self.old region)) }
-        ensures held { OnOk result (self.new ≡ Some (held_with L.LEVELS self.old region)) }
+        ensures { OnOk result (JoinsRegion V.Visits L.LEVELS region self.old visitor.old self.new visitor.new) }
     {
         if let Some(held) = self.held {
             if held.is_followed_by(&region) {

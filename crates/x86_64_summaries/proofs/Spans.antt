@@ -1,9 +1,11 @@
--- The span of a table below the root lies in one half of the address space.
-use Rattle.std.proofs.Common.{◌≡◌, ◌⊎◌, inl, inr, ⊎_elim, ◌<◌, ◌≤◌, ◌+◌, ◌-◌, ◌*◌, ◌/◌, ◌%◌, ◌^◌, ℕ, sym, ap, ◌∙◌, arith}
+-- The span of a table below the root: it is that of 512 entries, and lies in one half of the address space.
+use Rattle.std.proofs.Common.{zero, suc, ◌≡◌, ◌⊎◌, inl, inr, ⊎_elim, ◌<◌, ◌≤◌, ◌+◌, ◌-◌, ◌*◌, ◌/◌, ◌%◌, ◌^◌, ℕ, sym, ap, ◌∙◌, subst, arith}
 use Rattle.std.proofs.lemmas.Bool.{cases_lt}
 use Rattle.std.proofs.lemmas.Nat.{pow-add}
 use Rattle.std.proofs.Math.Nat.{mul-le-mul_right, add-mul}
-use Rattle.x86_64_model.specs.Position.{lower_half, position_count}
+use Rattle.x86_64_model.specs.Position.{lower_half, span, position_count}
+use Rattle.x86_64_model.proofs.Lemmas.Mappings.SpanEnds.{span-next, count-next}
+use Rattle.x86_64_summaries.proofs.Visited.{aligned_below}
 
 -- positions from one on to before another
 abbrev pub AreInHalf : (L from to : ℕ) → Type 0
@@ -22,3 +24,15 @@ span_in_half L n s below aligned =
     let end : (k + 1) * p ≡ k * p + 1 * p = add-mul k 1 p in inl (omega (arith, most, end, start, all)))
     (λ l. let least : h * p ≤ k * p = mul-le-mul_right p l in inr (omega (arith, least, start, all)))
     (cases_lt k h)
+
+-- ---- the entries of a table
+
+pub count_span : (level : ℕ) → 1 ≤ level → position_count level ≡ 512 * span level
+count_span zero low = absurd (omega arith)
+count_span (suc n) low = count-next n ∙ ap (λ w. 512 * w) (sym (span-next n))
+
+pub table_aligned : (level s : ℕ) → 1 ≤ level → s % position_count level ≡ 0 → s % span level ≡ 0
+table_aligned zero s low aligned = absurd (omega arith)
+table_aligned (suc n) s low aligned =
+    let above : s % span (suc (suc n)) ≡ 0 = ap (λ w. s % w) (span-next (suc n)) ∙ aligned in
+    subst (λ k. s % span k ≡ 0) (let e : suc (suc n) - 1 ≡ suc n = omega arith in e) (aligned_below (suc (suc n)) s (omega arith) above)
