@@ -1,6 +1,7 @@
 -- The mappings of a table are those of its words one after the other, where a word that names a table has the mappings of that table, placed.
-use Rattle.std.proofs.Common.{zero, suc, ◌≡◌, ◌+◌, ◌-◌, ◌*◌, ◌<◌, ◌≤◌, ℕ, ◌&&◌, Bool, true, false, cond, List, [], ◌∷◌, ◌++◌, length, get_or, take, map, filter, flat_map, Option, Some, None, option_map, refl, sym, ap, ap₂, ◌∙◌, subst, arith, append-nil, append_assoc, length-take, ◌/◌, ◌%◌}
+use Rattle.std.proofs.Common.{zero, suc, ◌≡◌, ◌+◌, ◌-◌, ◌*◌, ◌<◌, ◌≤◌, ℕ, ◌&&◌, Bool, true, false, cond, List, [], ◌∷◌, ◌++◌, length, get_or, take, map, filter, flat_map, Option, Some, None, option_map, refl, sym, ap, ap₂, ◌∙◌, subst, arith, append-nil, append_assoc, length-take, Bor, ◌/◌, ◌%◌}
 use Rattle.std.specs.List.{range_with_len}
+use Rattle.std.specs.Option.{option_copied}
 use Rattle.std.proofs.Math.Nat.{add-mul}
 use Rattle.std.proofs.Math.Seq.{take-suc}
 use Rattle.std.proofs.lemmas.List.Elements.{filter-append}
@@ -158,3 +159,9 @@ placed_here (m ∷ ms) = ap₂ (λ m ms. m ∷ ms) (ap (λ s. record m { start =
 
 pub asked_here : (asked : Asked) (level f : ℕ) → map (placed 0 every_right) (asked_mappings asked level f) ≡ asked_mappings asked level f
 asked_here asked level f = placed_here (asked_mappings asked level f)
+
+-- ---- as they are read
+
+pub none_copied : {X : Type 0} (o : Option (Bor X)) → ((x : Bor X) → o ≡ Some x → ⊥) → option_copied o ≡ None
+none_copied None not_some = refl
+none_copied (Some x) not_some = absurd (not_some x refl)

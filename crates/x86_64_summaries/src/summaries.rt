@@ -70,8 +70,8 @@ impl<'a, T: TableMemory, P: PageTableFrameMapping> Summaries<'a, T, P> {
         };
         let mut levels = Vec::new(alloc);
         let count = frames.len().min(LEVEL_COUNT);
-        for frames in &frames[..count] {
-            let level = summarize(alloc, &query, &levels, frames)?;
+        for level_frames in &frames[..count] {
+            let level = summarize(alloc, &query, &levels, level_frames)?;
             levels.push(level)?;
         }
         Ok(Summaries { query, levels })

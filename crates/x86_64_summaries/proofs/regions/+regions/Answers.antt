@@ -1,11 +1,11 @@
 use Rattle.std.proofs.Common.{◌≡◌, ◌≤◌, ◌<◌, ◌+◌, ◌-◌, ◌*◌, ◌%◌, ◌^◌, List, [], ◌∷◌, None, Some, refl, sym, ap, ◌∙◌, subst, subst₂, arith, get_or, length, take, filter, map}
 use Rattle.std.proofs.Math.Pow.{pow_mono}
 use Rattle.std.proofs.lemmas.List.{get_or_read, take_all}
+use Rattle.std.proofs.lemmas.Nat.{pow_pos}
 use Rattle.std.proofs.lemmas.Result.{on_ok_weaker}
 use Rattle.x86_64_mappings.specs.Views.{seen_rights}
 use Rattle.x86_64_model.specs.Position.{span, position_count}
 use Rattle.x86_64_model.specs.private.Found.{narrowed, page_at}
-use Rattle.x86_64_model.proofs.Lemmas.Paths.Pages.{span_pos}
 use Rattle.x86_64_summaries.specs.Wanted.{asked_of, asked_mappings, is_wanted}
 use Rattle.x86_64_summaries.specs.private.Joined.{Joins}
 use Rattle.x86_64_summaries.specs.private.Placed.{placed}
@@ -43,9 +43,11 @@ join_below-returns-in-Nothing g t c =
 pub join_below-returns-in-Whole : goal.join_below-returns-in-Whole
 join_below-returns-in-Whole g t c =
     let L = g.L.LevelCount.LEVELS in
-    let some : 0 < position_count c.args.level = pow_pos in
+    let some : 0 < position_count c.args.level = pow_pos (12 + 9 * c.args.level) in
+    let asked = asked_of g.T.TableMemory.tables g.P.PageTableFrameMapping.places c.args.summaries.now in
+    let mappings = map (placed c.args.start (seen_rights c.args.above)) (asked_mappings asked c.args.level c.args.frame) in
     on_ok_weaker c.push.result
-    (joins_whole g.V.Visitor.Visits L c.args.start (c.args.start + position_count c.args.level) (seen_rights c.in-Whole.rights) _ (omega (arith, some)) (c.in-Whole.ensures c.args.start)
+    (joins_whole g.V.Visitor.Visits L c.args.start (c.args.start + position_count c.args.level) (seen_rights c.in-Whole.rights) mappings (omega (arith, some)) (c.in-Whole.ensures c.args.start)
     (span_in_half L c.args.level c.args.start c.requires.high c.requires.aligned) c.region_of_span.result c.region_of_span.ensures _ _ _ _)
     c.push.ensures
 

@@ -6,7 +6,7 @@ use Rattle.x86_64_summaries.specs.private.Targets.{asked_on}
 use Rattle.x86_64_summaries.proofs.visits.+visit_table.Given as goal
 
 abbrev pub decreases-visit_table : goal.decreases-visit_table
-decreases-visit_table l = l.level
+decreases-visit_table g l = l.level
 
 -- the entries so far are visited
 abbrev pub invariant-loop-entry : goal.invariant-loop-entry
