@@ -63,10 +63,10 @@ grown_whole L r a b [] next h half = (
 )
 grown_whole L r a b (m ∷ ms) next h half = let s = region_of m in
     elim (follows L r s) as (λ f. f ≡ true → (held_after L (Some (cond f (grown_to r s) s)) ms ≡ Some (record { first = r.first; last = b - 1; rights = r.rights }))
-        × (cond f [] (r ∷ []) ++ given_after L (Some (cond f (grown_to r s) s)) ms ≡ [])) [
-          | true ↦ λ e. grown_whole L (grown_to r s) (m.start + m.size) b ms (omega (arith, h.1)) h.3 (⊎_elim (λ l. inl l) (λ l. inr (omega (arith, l, h.0, h.1))) half)
-          | false ↦ λ e. absurd (let t : false ≡ true = e in cc)
-        ] is_next
+    × (cond f [] (r ∷ []) ++ given_after L (Some (cond f (grown_to r s) s)) ms ≡ [])) [
+      | true ↦ λ e. grown_whole L (grown_to r s) (m.start + m.size) b ms (omega (arith, h.1)) h.3 (⊎_elim (λ l. inl l) (λ l. inr (omega (arith, l, h.0, h.1))) half)
+      | false ↦ λ e. absurd (let t : false ≡ true = e in cc)
+    ] is_next
   where
     not_middle : m.start ≢ lower_half L
     not_middle e = let after = from_whole (m.start + m.size) b r.rights ms h.3 in

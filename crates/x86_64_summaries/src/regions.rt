@@ -34,7 +34,12 @@ use x86_64_tables::phys_memory::{PageTableFrameMapping, Rights, TableMemory};
 /// # Errors
 ///
 /// That of the visitor, which ends the visits.
-pub fn visit_regions<L: LevelCount, T: TableMemory, P: PageTableFrameMapping, V: Visitor<RegionIn<L>>>(
+pub fn visit_regions<
+    L: LevelCount,
+    T: TableMemory,
+    P: PageTableFrameMapping,
+    V: Visitor<RegionIn<L>>,
+>(
     summaries: &Summaries<'_, T, P>,
     root: PhysFrame<Size4KiB>,
     visitor: &mut V,
@@ -44,7 +49,15 @@ pub fn visit_regions<L: LevelCount, T: TableMemory, P: PageTableFrameMapping, V:
         OnOk result (V.Visits visitor.old visitor.new regions) }
 {
     let mut joiner = Joiner::new();
-    join_table(summaries, L::LEVELS, root, 0, Rights::ALL, &mut joiner, visitor)?;
+    join_table(
+        summaries,
+        L::LEVELS,
+        root,
+        0,
+        Rights::ALL,
+        &mut joiner,
+        visitor,
+    )?;
     joiner.finish(visitor)
 }
 

@@ -91,7 +91,7 @@ join_table-join_below-requires g t c κs within =
 pub join_table-overflow_add-start : goal.join_table-overflow_add-start
 join_table-overflow_add-start g t c =
     let w = span c.args.level in
-    let few : position_count g.L.LevelCount.LEVELS ≤ 2 ^ 57 = pow_mono (let most = g.L.LevelCount.at_most_five in omega (arith, most)) in
+    let few : position_count g.L.LevelCount.LEVELS ≤ 2 ^ 57 = pow_mono (let most : 12 + 9 * g.L.LevelCount.LEVELS ≤ 57 = (let five = g.L.LevelCount.at_most_five in omega (arith, five)) in most) in
     let size : length c.as_slice-entry-items.result.now ≡ 512 = ap length c.as_slice-entry-items.ensures.words ∙ c.as_slice-entry-items.ensures.size in
     let inside = start_inside c.args.start c.loop-entry.entry-index w (position_count g.L.LevelCount.LEVELS) (omega (arith, c.loop-entry-test.true, size)) c.requires.inside in
     omega (arith, c.loop-entry.invariant.start, c.span-size.ensures, inside, few)
