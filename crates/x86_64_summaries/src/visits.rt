@@ -25,12 +25,7 @@ use x86_64_tables::phys_memory::{PageTableFrameMapping, Rights, TableMemory, has
 /// # Errors
 ///
 /// That of the visitor, which ends the visits.
-pub fn visit_mappings<
-    L: LevelCount,
-    T: TableMemory,
-    P: PageTableFrameMapping,
-    V: Visitor<MappingIn<L>>,
->(
+pub fn visit_mappings<L: LevelCount, T: TableMemory, P: PageTableFrameMapping, V: Visitor<MappingIn<L>>>(
     summaries: &Summaries<'_, T, P>,
     root: PhysFrame<Size4KiB>,
     visitor: &mut V,
@@ -77,14 +72,7 @@ fn visit_table<L: LevelCount, T: TableMemory, P: PageTableFrameMapping, V: Visit
             }
             Target::Table(frame) => {
                 if !maps_nothing(summaries, level - 1, frame) {
-                    visit_table::<L, T, P, V>(
-                        summaries,
-                        level - 1,
-                        frame,
-                        start,
-                        above.below(entry),
-                        visitor,
-                    )?;
+                    visit_table::<L, T, P, V>(summaries, level - 1, frame, start, above.below(entry), visitor)?;
                 }
             }
             Target::Nothing => {}
@@ -99,19 +87,13 @@ fn maps_nothing<T: TableMemory, P: PageTableFrameMapping>(
     summaries: &Summaries<'_, T, P>,
     level: u64,
     frame: PhysFrame<Size4KiB>,
-) -> bool {
-    summaries
-        .of(level, frame)
-        .is_some_and(|summary| summary.count == 0)
+) -> bool
+{
+    summaries.of(level, frame).is_some_and(|summary| summary.count == 0)
 }
 
 /// Visits the wanted mappings of a table of level one, whose span starts at a position, below entries that allow so much.
-fn visit_small_pages<
-    L: LevelCount,
-    T: TableMemory,
-    P: PageTableFrameMapping,
-    V: Visitor<MappingIn<L>>,
->(
+fn visit_small_pages<L: LevelCount, T: TableMemory, P: PageTableFrameMapping, V: Visitor<MappingIn<L>>>(
     query: &Query<'_, T, P>,
     table: &PageTable,
     start: u64,
