@@ -2,7 +2,7 @@
 use Rattle.std.proofs.Common.{◌≡◌, ◌<◌, ◌+◌, ◌-◌, ◌*◌, ◌==◌, ℕ, ◌&&◌, ◌||◌, Bool, true, false, cond, List, [], ◌∷◌, ◌++◌, length, get_or, take, map, filter, sum_by, Option, Some, None, refl, sym, ap, ◌∙◌, arith, length-append}
 use Rattle.std.specs.List.{list_all, list_any}
 use Rattle.std.proofs.Math.Dec.{eqb-suc-zero}
-use Rattle.std.proofs.lemmas.Bool.{cond-false}
+use Rattle.std.proofs.lemmas.Bool.{cond-false, true≢false}
 use Rattle.std.proofs.lemmas.List.Sums.{sum_by-append, sum_by-cons}
 use Rattle.std.proofs.lemmas.List.{length-map}
 use Rattle.std.proofs.lemmas.List.Folds.{list_any-append, list_all-append}
@@ -110,6 +110,11 @@ of_nothing = refl
 
 pub of_none : (ms : List Mapping) → ms ≡ [] → no_summary ≡ summary_of ms
 of_none ms none = of_nothing ∙ ap summary_of (sym none)
+
+-- none are counted
+pub none_counted : (ms : List Mapping) (s : Summary) → s ≡ summary_of ms → (s.count == 0) ≡ true → ms ≡ []
+none_counted [] s is zero = refl
+none_counted (m ∷ ms) s is zero = absurd (true≢false (sym zero ∙ ap (λ s. s.count == 0) is ∙ not_none m ms))
 
 of_one : (m : Mapping) (r : Allowed) → seen_rights r ≡ m.rights → one_summary m.size r ≡ summary_of (m ∷ [])
 unfolding summary_of

@@ -1,5 +1,5 @@
 -- Summaries put together.
-use Rattle.std.specs.Prelude.{ℕ, ◌+◌, ◌==◌, ◌&&◌, ◌||◌, cond}
+use Rattle.std.specs.Prelude.{◌+◌, ◌==◌, ◌&&◌, ◌||◌, cond}
 use Rattle.x86_64_tables.specs.declared.phys_memory.walk.Rights.{Rights}
 use Rattle.x86_64_summaries.specs.declared.summary.Summary.{Summary}
 

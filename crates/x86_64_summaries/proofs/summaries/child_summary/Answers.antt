@@ -1,4 +1,4 @@
-use Rattle.std.proofs.Common.{◌≡◌, ◌+◌, false, length, is_some, not, sym, ap, ◌∙◌}
+use Rattle.std.proofs.Common.{◌≡◌, false, length, is_some, not, sym, ap, ◌∙◌}
 use Rattle.std.proofs.lemmas.Bool.{true≢false}
 use Rattle.x86_64_summaries.specs.Wanted.{asked_of, asked_mappings}
 use Rattle.x86_64_summaries.specs.private.Known.{asking}

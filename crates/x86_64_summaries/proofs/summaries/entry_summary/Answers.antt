@@ -1,4 +1,4 @@
-use Rattle.std.proofs.Common.{◌≡◌, ◌+◌, ℕ, length, sym, ap, ◌∙◌}
+use Rattle.std.proofs.Common.{◌≡◌, ◌+◌, length, ◌∙◌}
 use Rattle.x86_64_model.specs.private.Found.{every_right, narrowed}
 use Rattle.x86_64_mappings.specs.Views.{seen_rights}
 use Rattle.x86_64_summaries.specs.Wanted.{asked_of}

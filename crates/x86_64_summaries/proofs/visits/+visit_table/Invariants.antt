@@ -1,4 +1,4 @@
-use Rattle.std.proofs.Common.{◌≡◌, ◌+◌, ◌*◌, ◌%◌, take}
+use Rattle.std.proofs.Common.{◌≡◌, ◌+◌, ◌*◌, take}
 use Rattle.x86_64_mappings.specs.Views.{seen_rights}
 use Rattle.x86_64_model.specs.Position.{span as span_of}
 use Rattle.x86_64_summaries.specs.Wanted.{asked_of}
@@ -14,5 +14,5 @@ invariant-loop-entry g l =
     let asked = asked_of g.T.TableMemory.tables g.P.PageTableFrameMapping.places l.summaries in
     record {
       start : l.start ≡ l.fn.start + l.entry-index * span_of l.level;
-      visited : g.V.Visitor.Visits l.fn.visitor l.visitor (asked_on asked l.level l.fn.start (seen_rights l.above) (take l.entry-index l.entry-items));
+      visited : g.V.Visitor.Visits l.fn.visitor l.visitor (asked_on asked l.level l.fn.start (seen_rights l.above) (take l.entry-index l.entries));
     }

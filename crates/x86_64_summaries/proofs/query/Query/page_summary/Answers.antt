@@ -1,4 +1,4 @@
-use Rattle.std.proofs.Common.{ℕ, [], ◌∷◌, filter, sym, ap, ◌∙◌}
+use Rattle.std.proofs.Common.{[], ◌∷◌, filter, sym, ap, ◌∙◌}
 use Rattle.x86_64_tables.specs.declared.phys_memory.walk.Rights.{Rights as Allowed}
 use Rattle.x86_64_summaries.specs.Summaries.{summary_of}
 use Rattle.x86_64_summaries.specs.Wanted.{is_wanted}
