@@ -1,5 +1,5 @@
 -- Frames: the segment that has a frame is found one by one, and the words of a part are those of the file.
-use Rattle.std.proofs.Common.{◌≡◌, ℕ, zero, suc, ◌+◌, ◌*◌, ◌≤◌, ◌<◌, Bool, true, false, cond, List, [], ◌∷◌, Option, Some, None, map, take, eq-eqb, ◌%◌, ◌^◌, length, refl, ap, sym, ◌∙◌, arith}
+use Rattle.std.proofs.Common.{◌≡◌, ℕ, zero, suc, ◌+◌, ◌*◌, ◌≤◌, ◌<◌, Bool, true, false, cond, List, [], ◌∷◌, Option, Some, None, is_some, map, take, eq-eqb, ◌%◌, ◌^◌, length, refl, ap, sym, ◌∙◌, arith}
 use Rattle.std.specs.List.{find, range_with_len}
 use Rattle.std.specs.Option.{option_map}
 use Rattle.x86_64_model.specs.Entry.{is_frame, address}
@@ -54,12 +54,26 @@ unfolding words_of_dump
 no_words dump frame size long lacks =
     sym (ap (λ place. cond (is_frame frame) (option_map (words_at dump.file) place) None) (ap (λ n. frame_offset n dump.segments frame) (sym long) ∙ lacks) ∙ none_either (is_frame frame))
 
-pub frame_words : (dump : Contents) (frame size offset : ℕ) (part words : List ℕ) → size ≡ length dump.file → frame % 4096 ≡ 0 → frame < 2 ^ 52 → frame_offset size dump.segments frame ≡ Some offset
+pub frame_words : (dump : Contents) (frame size offset : ℕ) (part words : List ℕ) → size ≡ length dump.file → is_frame frame ≡ true → frame_offset size dump.segments frame ≡ Some offset
     → part ≡ part_of dump.file offset 4096 → words ≡ words_at part 0 → Some words ≡ words_of_dump dump frame
 unfolding words_of_dump
-frame_words dump frame size offset part words long aligned below has read told =
-    let is : is_frame frame ≡ true = eq-eqb (address frame) frame (address-multiple frame aligned below) in
+frame_words dump frame size offset part words long is has read told =
     let place : frame_offset (length dump.file) dump.segments frame ≡ Some offset = ap (λ n. frame_offset n dump.segments frame) (sym long) ∙ has in
     let shown = words_shown (part_of dump.file offset 4096) dump.file offset (part_shows dump.file offset 4096) in
     ap Some (told ∙ ap (λ bytes. words_at bytes 0) read ∙ shown)
     ∙ sym (ap (λ place. cond (is_frame frame) (option_map (words_at dump.file) place) None) place ∙ ap (λ b. cond {A = Option (List ℕ)} b (Some (words_at dump.file offset)) None) is)
+
+is_some_mapped : {A B : Type 0} (f : A → B) (found : Option A) → is_some found ≡ is_some (option_map f found)
+is_some_mapped f None = refl
+is_some_mapped f (Some x) = refl
+
+-- a dump says something of a frame exactly if a segment has it
+pub frame_there : (dump : Contents) (frame size : ℕ) → size ≡ length dump.file → is_frame frame ≡ true → is_some (frame_offset size dump.segments frame) ≡ is_some (words_of_dump dump frame)
+unfolding words_of_dump
+frame_there dump frame size long is =
+    is_some_mapped (words_at dump.file) (frame_offset size dump.segments frame)
+    ∙ ap (λ n. is_some (option_map (words_at dump.file) (frame_offset n dump.segments frame))) long
+    ∙ sym (ap (λ b. is_some (cond {A = Option (List ℕ)} b (option_map (words_at dump.file) (frame_offset (length dump.file) dump.segments frame)) None)) is)
+
+pub aligned_frame : (frame : ℕ) → frame % 4096 ≡ 0 → frame < 2 ^ 52 → is_frame frame ≡ true
+aligned_frame frame aligned below = eq-eqb (address frame) frame (address-multiple frame aligned below)

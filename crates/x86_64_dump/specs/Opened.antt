@@ -1,7 +1,12 @@
--- Opened: what an opened dump holds, whose source has these bytes.
-use Rattle.std.specs.Prelude.{ℕ, List}
-use Rattle.x86_64_dump.specs.Dump.{Contents}
+-- Opened: what an opened dump holds.
+use Rattle.std.specs.Prelude.{ℕ, Bool, is_some, List}
+use Rattle.x86_64_dump.specs.Dump.{Contents, frame_offset}
 use Rattle.x86_64_dump.specs.declared.dump.Dump.{Dump}
 
+-- its source's bytes, and the segments
 abbrev pub opened : {S : Type 0} → (S → List ℕ) → Dump S → Contents
 opened bytes dump = record { file = bytes dump.source; segments = dump.segments.items }
+
+-- whether a segment has the frame, in a file as long as its source says
+abbrev pub holds : {S : Type 0} → (size : S → ℕ) → Dump S → (frame : ℕ) → Bool
+holds size dump frame = is_some (frame_offset (size dump.source) dump.segments.items frame)

@@ -1,5 +1,5 @@
 //! Dump files.
-ghost use Rattle.std.specs.Prelude.{◌≡◌, IsOk, IfOk, Ok, length};
+ghost use Rattle.std.specs.Prelude.{◌≡◌, ◌+◌, ◌≤◌, true, IsOk, IfOk, IfSome, is_some, Ok, length};
 
 use crate::elf::read_segments;
 use crate::error::DumpError;
@@ -23,9 +23,10 @@ pub struct Dump<S: ByteSource> {
 }
 
 impl<S: ByteSource> Dump<S> {
-    ghost use Rattle.x86_64_dump.specs.Dump.{words_of_dump, is_short};
+    ghost use Rattle.x86_64_model.specs.Entry.{is_frame};
+    ghost use Rattle.x86_64_dump.specs.Dump.{words_of_dump, frame_offset, is_short};
     ghost use Rattle.x86_64_dump.specs.Opening.{contents_of, Gives, GivesAtOnce};
-    ghost use Rattle.x86_64_dump.specs.Opened.{opened};
+    ghost use Rattle.x86_64_dump.specs.Opened.{opened, holds};
     ghost use Rattle.x86_64_dump.specs.Notes.{processors_of, register_of};
 
     /// Opens a dump: reads which parts of the file are memory.
@@ -53,23 +54,41 @@ impl<S: ByteSource> Dump<S> {
         is_cut_off(&self.segments, self.source.len())
     }
 
+    /// Tells whether the dump has a frame. Nothing is read.
+    pub fn has_frame(&self, frame: PhysFrame<Size4KiB>) -> bool
+        ensures held { result ≡ holds S.size self.now frame }
+        ensures known { S.IsKnown → result ≡ is_some (words_of_dump (opened S.bytes self.now) frame) }
+    {
+        self.offset_of(frame).is_some()
+    }
+
     /// Reads the 512 words of a frame, or gives `None` if the dump lacks it.
     ///
     /// # Errors
     ///
     /// Where the source can't be read.
     pub fn read_frame(&self, frame: PhysFrame<Size4KiB>) -> io::Result<Option<[u64; 512]>>
+        ensures held { IfOk result (λ words. is_some words ≡ holds S.size self.now frame) }
         ensures words { S.IsKnown →
             IfOk result (λ words. words ≡ words_of_dump (opened S.bytes self.now) frame) }
         ensures succeeds { S.IsKnown → IsOk result }
     {
-        let address = frame.start_address().as_u64();
-        let Some(offset) = frame_offset(&self.segments, address, self.source.len()) else {
+        let Some(offset) = self.offset_of(frame) else {
             return Ok(None);
         };
         let mut bytes = [0; 4096];
         self.source.read_exact_at(&mut bytes, offset)?;
         Ok(Some(words_in(&bytes)))
+    }
+
+    /// Gives where a frame lies in the file, or `None` if the dump lacks it.
+    fn offset_of(&self, frame: PhysFrame<Size4KiB>) -> Option<u64>
+        ensures frame { is_frame frame ≡ true }
+        ensures offset { result ≡ frame_offset (S.size self.now.source) self.now.segments.items frame }
+        ensures inside { IfSome result (λ offset. offset + 4096 ≤ S.size self.now.source) }
+    {
+        let address = frame.start_address().as_u64();
+        frame_offset(&self.segments, address, self.source.len())
     }
 
     /// Reads where QEMU's notes of the processors lie, in order.

@@ -1,5 +1,5 @@
 //! Sources of bytes, which are read at offsets.
-ghost use Rattle.std.specs.Prelude.{◌≡◌, ◌+◌, ◌≤◌, ℕ, List, length, IsOk, OnOk, ⊤, []};
+ghost use Rattle.std.specs.Prelude.{◌≡◌, ◌+◌, ◌≤◌, ℕ, List, length, IsOk, OnOk, ⊤, [], refl};
 ghost use Rattle.x86_64_dump.specs.Source.{part_of};
 
 use std::fs::File;
@@ -14,12 +14,15 @@ pub trait ByteSource: Drop {
     /// That its bytes are known, and stay.
     ghost IsKnown: { Type 0 };
 
+    /// The number of its bytes, as it says it.
+    ghost size: { Self → ℕ };
+
     /// Its bytes, if they are known.
     ghost bytes: { Self → List ℕ };
 
     /// Returns the number of its bytes.
     fn len(&self) -> u64
-        ensures { IsKnown → result ≡ length (bytes self.now) };
+        ensures { result ≡ size self.now };
 
     /// Fills the buffer with the bytes from an offset on.
     ///
@@ -30,12 +33,19 @@ pub trait ByteSource: Drop {
         ensures bytes { IsKnown →
             OnOk result (buffer.new ≡ part_of (bytes self.now) offset (length buffer.old)) }
         ensures succeeds { IsKnown → offset + length buffer.old ≤ length (bytes self.now) → IsOk result };
+
+    /// What it says is true of known bytes.
+    ghost counted: { IsKnown → (source : Self) → size source ≡ length (bytes source) };
 }
 
 impl ByteSource for &[u8] {
     ghost IsKnown = { ⊤ };
 
+    ghost size = { λ source. length source.now };
+
     ghost bytes = { λ source. source.now };
+
+    ghost counted = { λ _ source. refl };
 
     fn len(&self) -> u64 {
         <[u8]>::len(self) as u64
@@ -79,7 +89,11 @@ impl FileSource {
 impl ByteSource for FileSource {
     ghost IsKnown = { ⊥ };
 
+    ghost size = { λ source. source.length };
+
     ghost bytes = { λ _. [] };
+
+    ghost counted = { λ known _. absurd known };
 
     fn len(&self) -> u64 {
         self.length

@@ -13,11 +13,15 @@ struct BrokenSource<'a> {
 }
 
 impl<'a> ByteSource for BrokenSource<'a> {
-    ghost use Rattle.std.specs.Prelude.{[]};
+    ghost use Rattle.std.specs.Prelude.{[], length};
 
     ghost IsKnown = { ⊥ };
 
+    ghost size = { λ source. length source.bytes.now };
+
     ghost bytes = { λ _. [] };
+
+    ghost counted = { λ known _. absurd known };
 
     fn len(&self) -> u64 {
         self.bytes.len() as u64

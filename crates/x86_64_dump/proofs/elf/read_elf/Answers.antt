@@ -6,18 +6,18 @@ use Rattle.x86_64_dump.proofs.elf.read_elf.Goals as goal
 
 pub returns-in-Some : goal.returns-in-Some
 returns-in-Some g c known =
-    elf_refused (g.S.ByteSource.bytes c.args.source.now) c.args.header.now _ _ (c.len-length.ensures known) (sym c.fault_of_header.ensures.fault ∙ c.in-Some.is)
+    elf_refused (g.S.ByteSource.bytes c.args.source.now) c.args.header.now _ _ (c.len-length.ensures ∙ g.met.S.ByteSource.counted known c.args.source.now) (sym c.fault_of_header.ensures.fault ∙ c.in-Some.is)
 
 pub returns-in-Some-fault_of_table : goal.returns-in-Some-fault_of_table
 returns-in-Some-fault_of_table g c known =
-    elf_table (g.S.ByteSource.bytes c.args.source.now) c.args.header.now _ _ _ (c.len-length.ensures known) (sym c.fault_of_header.ensures.fault ∙ c.in_default.is)
+    elf_table (g.S.ByteSource.bytes c.args.source.now) c.args.header.now _ _ _ (c.len-length.ensures ∙ g.met.S.ByteSource.counted known c.args.source.now) (sym c.fault_of_header.ensures.fault ∙ c.in_default.is)
     (c.in_ok-count.ensures.value known) (sym c.fault_of_table.ensures.fault ∙ c.in-Some-fault_of_table.is)
 
 pub returns : goal.returns
 returns g c known =
     let file = g.S.ByteSource.bytes c.args.source.now in
     let header = c.args.header.now in
-    let long = c.len-length.ensures known in
+    let long = c.len-length.ensures ∙ g.met.S.ByteSource.counted known c.args.source.now in
     let inside : header.headers + 56 * c.in_ok-count.count ≤ c.len-length.result = c.in_default-fault_of_table.ensures.table in
     let found : elf_segments file header ≡ Ok (segments_at file header.headers c.in_ok-count.count)
     = elf_table file header _ _ None long (sym c.fault_of_header.ensures.fault ∙ c.in_default.is) (c.in_ok-count.ensures.value known) (sym c.fault_of_table.ensures.fault ∙ c.in_default-fault_of_table.is) in

@@ -11,4 +11,4 @@ returns-clause-value g c known =
     let front = c.read_exact_at.new.buffer ++ drop present (replicate 64 0) in
     let read : c.read_exact_at.new.buffer ≡ part_of file 0 (length {A = ℕ} (take present (replicate 64 0))) = c.in_ok-read_exact_at.ensures.bytes known in
     let told : c.header_in.result ≡ header_of front = c.header_in.ensures in
-    told ∙ header_shown front file (front_shows front _ file present refl read (c.min-present.ensures ∙ ap (λ n. min n 64) (c.len.ensures known)))
+    told ∙ header_shown front file (front_shows front _ file present refl read (c.min-present.ensures ∙ ap (λ n. min n 64) (c.len.ensures ∙ g.met.S.ByteSource.counted known c.args.source.now)))

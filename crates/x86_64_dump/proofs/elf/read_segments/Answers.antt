@@ -11,7 +11,7 @@ returns-then-is_kdump g c known =
 pub returns-then-header-ne1179403647 : goal.returns-then-header-ne1179403647
 returns-then-header-ne1179403647 g c known =
     let raw = is_raw (g.S.ByteSource.bytes c.args.source.now) c.args.base _ (c.in_ok-header.ensures.value known) (sym c.is_kdump.ensures ∙ c.if-is_kdump.false) (ne_eqb _ _ c.if-header-ne1179403647.true) in
-    let long = c.len.ensures known in
+    let long = c.len.ensures ∙ g.met.S.ByteSource.counted known c.args.source.now in
     let base = c.unwrap_or.ensures in
     let whole = c.raw-whole.ensures in
     let items = c.in_ok-vec.ensures.items in

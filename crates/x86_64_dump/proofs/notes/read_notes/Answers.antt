@@ -12,10 +12,10 @@ loop-segment-preserved g c known =
     let size = c.notes_size-size.result in
     within_step file segments c.loop-segment.segment-index c.loop-segment.room size c.in-Some.rest (get_or segments c.loop-segment.segment-index nothing) c.loop-segment.notes.items c.add_from.new.notes.items (notes_within (length file) file segments)
     (drop-cons segments c.loop-segment.segment-index nothing c.loop-segment-test.true)
-    (c.notes_size-size.ensures.size ∙ ap (λ n. notes_size n (get_or segments c.loop-segment.segment-index nothing)) (c.len-length.ensures known))
+    (c.notes_size-size.ensures.size ∙ ap (λ n. notes_size n (get_or segments c.loop-segment.segment-index nothing)) (c.len-length.ensures ∙ g.met.S.ByteSource.counted known c.args.source.now))
     c.in-Some.ensures.0
     c.in-Some.ensures.1
-    (c.in_ok-add_from.ensures known (λ some. omega (arith, c.notes_size-size.ensures.inside some, c.len-length.ensures known)))
+    (c.in_ok-add_from.ensures known (λ some. omega (arith, c.notes_size-size.ensures.inside some, c.len-length.ensures ∙ g.met.S.ByteSource.counted known c.args.source.now)))
     (c.loop-segment.invariant known)
 
 pub returns-in_default : goal.returns-in_default
@@ -24,7 +24,7 @@ returns-in_default g c known =
     let segments = c.args.segments.now in
     within_stop file segments c.loop-segment.segment-index c.loop-segment.room c.notes_size-size.result (get_or segments c.loop-segment.segment-index nothing) c.loop-segment.notes.items (notes_within (length file) file segments)
     (drop-cons segments c.loop-segment.segment-index nothing c.loop-segment-test.true)
-    (c.notes_size-size.ensures.size ∙ ap (λ n. notes_size n (get_or segments c.loop-segment.segment-index nothing)) (c.len-length.ensures known))
+    (c.notes_size-size.ensures.size ∙ ap (λ n. notes_size n (get_or segments c.loop-segment.segment-index nothing)) (c.len-length.ensures ∙ g.met.S.ByteSource.counted known c.args.source.now))
     (omega (arith, c.in_default.ensures))
     (c.loop-segment.invariant known)
 
