@@ -1,0 +1,4 @@
+pub mod SameMappings
+pub mod Closed
+pub mod Listing
+pub mod Places

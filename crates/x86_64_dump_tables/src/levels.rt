@@ -1,9 +1,9 @@
 //! The frames of the tables that a root leads to, level by level.
-ghost use Rattle.std.specs.Prelude.{◌≡◌, ◌<◌, IfOk, IfErr, OnOk, map};
+ghost use Rattle.std.specs.Prelude.{◌≡◌, ◌<◌, IfOk, IfErr, OnOk};
 ghost use Rattle.std.specs.List.{flat_map, fold};
 ghost use Rattle.x86_64_dump.specs.Dump.{words_of_dump};
 ghost use Rattle.x86_64_dump.specs.Opened.{opened};
-ghost use Rattle.x86_64_dump_tables.specs.Loaded.{MayFail};
+ghost use Rattle.x86_64_dump_tables.specs.Loaded.{MayFail, frames_of};
 ghost use Rattle.x86_64_dump_tables.specs.Tables.{table_named, tables_named, met, each_once, tables_by_level, if_there};
 
 use crate::frame_set::FrameSet;
@@ -21,7 +21,7 @@ pub fn read_levels<S: ByteSource>(
     levels: u64,
 ) -> Result<Vec<Vec<PhysFrame<Size4KiB>>>, DumpError>
     requires { 0 < levels }
-    ensures frames { S.IsKnown → IfOk result (λ frames. map (λ level. level.items) frames.items
+    ensures frames { S.IsKnown → IfOk result (λ frames. frames_of frames.items
         ≡ tables_by_level levels (words_of_dump (opened S.bytes dump.now)) root) }
     ensures errors { IfErr result (MayFail S.IsKnown) }
 {
