@@ -10,7 +10,7 @@ use Rattle.x86_64_dump_tables.proofs.loading.read_memory.Given as goal
 -- the memory has all places, and the tables of the numbers so far
 abbrev pub invariant-loop-i : goal.invariant-loop-i
 invariant-loop-i g l = record {
-  places : (place : ℕ) → list_any (λ n. place == n) l.numbers.items ≡ true → IsSome (get l.memory place);
-  tables : g.S.ByteSource.IsKnown → HoldsFor l.numbers.items (λ place. cond (list_any (λ n. place == n) (take l.i l.numbers.items))
+  places : (place : ℕ) → list_any (λ n. place == n) l.number-items ≡ true → IsSome (get l.memory place);
+  tables : g.S.ByteSource.IsKnown → HoldsFor l.number-items (λ place. cond (list_any (λ n. place == n) (take l.i l.number-items))
       (words_of_dump (opened g.S.ByteSource.bytes l.dump) (place * 4096)) (Some zero_words)) l.memory;
 }
