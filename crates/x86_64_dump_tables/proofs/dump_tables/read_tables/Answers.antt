@@ -11,10 +11,12 @@ use Rattle.x86_64_dump_tables.proofs.SameMappings.{same_mappings, same_walks}
 use Rattle.x86_64_dump_tables.proofs.dump_tables.read_tables.Goals as goal
 
 pub returns-in_err-memory-clause-errors : goal.returns-in_err-memory-clause-errors
-returns-in_err-memory-clause-errors g c = ?
+returns-in_err-memory-clause-errors g c = let h = c.from_residual-in_err-memory.ensures in ?
 
 pub returns-clause-same : goal.returns-clause-same
-returns-clause-same g c known = ?
+returns-clause-same g c known =
+    let W = words_of_dump (opened g.S.ByteSource.bytes c.args.dump.now) in
+    same_below_root _ W c.args.root _ (c.in_ok-memory.ensures.words known ∙ ap (λ frames. words_in_frames frames W) ?)
 
 pub returns-clause-mappings : goal.returns-clause-mappings
 returns-clause-mappings g c known = same_mappings _ _ _ _ (returns-clause-same g c known)
