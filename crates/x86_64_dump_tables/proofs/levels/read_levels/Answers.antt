@@ -2,7 +2,7 @@ use Rattle.std.proofs.Common.{◌≡◌, ◌+◌, ◌-◌, ◌++◌, ◌∷◌, 
 use Rattle.x86_64_dump.specs.Dump.{words_of_dump}
 use Rattle.x86_64_dump.specs.Opened.{opened}
 use Rattle.x86_64_dump_tables.specs.Loaded.{frames_of}
-use Rattle.x86_64_dump_tables.specs.Tables.{tables_from, tables_named, each_once}
+use Rattle.x86_64_dump_tables.specs.Tables.{tables_from, tables_named, each_once, if_there}
 use Rattle.x86_64_dump_tables.proofs.Listing.{level_more, all_levels}
 use Rattle.x86_64_dump_tables.proofs.levels.read_levels.Goals as goal
 
@@ -10,7 +10,7 @@ pub loop-preserved : goal.loop-preserved
 loop-preserved g c known =
     let W = words_of_dump (opened g.S.ByteSource.bytes c.args.dump.now) in
     ap (λ frames. frames_of frames ++ tables_from (c.args.levels + 1 - (c.loop.counter + 1)) W c.in_ok-below.below.items) c.in_ok-push.ensures.items
-    ∙ level_more W c.loop.frames.items c.loop.level c.in_ok-below.below c.args.levels c.loop.counter _ c.loop-test.true (c.loop.invariant known)
+    ∙ level_more W c.loop.frames.items c.loop.level c.in_ok-below.below c.args.levels c.loop.counter (tables_from c.args.levels W (if_there W c.args.root)) c.loop-test.true (c.loop.invariant known)
         (c.in_ok-below.ensures.frames known ∙ ap (λ frames. each_once (flat_map (tables_named W) frames)) c.deref.ensures.value)
 
 pub returns-clause-frames : goal.returns-clause-frames
