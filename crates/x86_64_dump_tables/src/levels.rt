@@ -13,7 +13,8 @@ use x86_64_dump::{ByteSource, Dump, DumpError};
 use x86_64_page::frame::PhysFrame;
 use x86_64_page::page::Size4KiB;
 
-/// Reads which frames' tables a root leads to, level one first, those of a level in the order in which they are met.
+/// Reads which frames' tables a root leads to, level one first, those of a level in the order in which they are
+/// met.
 pub fn read_levels<S: ByteSource>(
     alloc: Global,
     dump: &Dump<S>,
