@@ -82,13 +82,13 @@ impl Shares {
     }
 
     /// Gives the number of the kind with the most bytes.
-    pub fn largest(&self) -> usize
-        ensures { result < KIND_COUNT }
-    {
+    pub fn largest(&self) -> usize {
+        let mut most = 0;
         let mut largest = 0;
-        for kind in 1..KIND_COUNT {
-            if self.bytes[kind] > self.bytes[largest] {
-                largest = kind;
+        for (number, bytes) in self.bytes.iter().enumerate() {
+            if *bytes > most {
+                most = *bytes;
+                largest = number;
             }
         }
         largest
@@ -126,12 +126,12 @@ pub(crate) fn pieces_between<L: LevelCount>(
 ) -> Result<Vec<Piece>, AllocError>
     ensures { IfOk result (λ pieces. vec_len pieces ≤ MOST_PIECES) }
 {
-    let mut reach = 0;
-    for shift in 12..64 {
+    let mut reach: u64 = 0;
+    for _ in 0..u64::BITS {
         if let Some(pieces) = pieces_by(alloc, regions, first, last, reach)? {
             return Ok(pieces);
         }
-        reach = 1 << shift;
+        reach = reach.saturating_mul(2).max(4096);
     }
     Ok(Vec::new(alloc))
 }

@@ -57,9 +57,10 @@ fn box_width(tables: &[Vec<PhysFrame<Size4KiB>>]) -> u64
     let mut bits = 0;
     for frames in tables {
         for frame in frames.iter() {
-            bits = bits | frame.start_address().as_u64();
+            bits |= frame.start_address().as_u64();
         }
     }
-    let digits = u64::from(bits.max(1).ilog2()) / 4 + 1;
+    // An address has 52 bits.
+    let digits = (u64::from(bits.max(1).ilog2()) / 4 + 1).min(13);
     52 + 29 * (digits + 2) / 4
 }
