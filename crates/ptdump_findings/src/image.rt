@@ -1,0 +1,254 @@
+//! Images of page tables for `pagetab`.
+ghost use Rattle.std.specs.Prelude.{◌≡◌, ◌+◌, ◌*◌, ◌%◌, ◌^◌};
+
+mod report;
+mod words;
+
+use crate::entry::{ADDRESS_MASK, Entry, Slot, Table};
+pub use report::{ReportHead, ReportTail};
+use std::alloc::{AllocError, Global};
+use std::collections::HashMap;
+pub use words::{Refusals, WordLines};
+use x86_64_dump::{ByteSource, Dump, DumpError};
+use x86_64_page::frame::PhysFrame;
+use x86_64_page::page::Size4KiB;
+
+/// How many places `pagetab` takes at most. The tables of an image stand from the second one on.
+const MOST_PLACES: usize = 65536;
+
+/// Says how a frame was met as a table.
+#[derive(Clone, Copy)]
+struct Meeting {
+    /// Where the first entry that names it stands. The root is met before any entry.
+    first: Option<Slot>,
+    /// Whether the dump has it.
+    is_in_dump: bool,
+    /// How many were met before it, of those that the dump has, or of those that it lacks.
+    number: usize,
+}
+
+/// Says why `pagetab` refuses an image with an entry that names a table.
+#[derive(Clone, Copy, Debug, PartialEq, Eq)]
+enum Fault {
+    /// It names the root, and stands in another table.
+    NamesRoot,
+    /// It is a second entry of the root that names the root.
+    NamesRootAgain,
+    /// Another entry named the table before.
+    NamedBefore,
+    /// The dump lacks the table.
+    Outside,
+}
+
+/// The tables to which a root leads in a dump, each once, level by level in the order in which they are met.
+///
+/// An entry above level three with `HUGE_PAGE` leads to the table that it names, too, though the processor doesn't go on there.
+///
+/// Tables get new addresses, 0x1000 for the root and those after it for the others. Tables that the dump lacks come after all
+/// others. Nothing is mended: an image that `pagetab` refuses is made all the same.
+#[derive(Drop)]
+pub struct Image {
+    root: Table,
+    tables: Vec<Table>,
+    outside: Vec<Table>,
+    meetings: HashMap<PhysFrame<Size4KiB>, Meeting>,
+    self_entries: Vec<usize>,
+    left_out: u64,
+    has_faults: bool,
+}
+
+impl Image {
+    /// Reads which tables a root leads to, with so many levels of tables.
+    ///
+    /// # Errors
+    ///
+    /// `DumpError::OutOfMemory` where memory is refused, `DumpError::Read` where the dump can't be read.
+    pub fn read<S: ByteSource>(
+        alloc: Global,
+        dump: &Dump<S>,
+        root: PhysFrame<Size4KiB>,
+        levels: u64,
+    ) -> Result<Image, DumpError> {
+        let root = Table {
+            frame: root,
+            level: levels,
+        };
+        let mut image = Image::new(alloc, root)?;
+        let mut current = vec![in alloc; root]?;
+        for below in (1..levels).rev() {
+            let mut next = Vec::new(alloc);
+            for table in &current {
+                image.follow(dump, *table, below, &mut next)?;
+            }
+            current = next;
+        }
+        Ok(image)
+    }
+
+    /// Makes the image that has the root alone.
+    fn new(alloc: Global, root: Table) -> Result<Image, AllocError> {
+        let mut image = Image {
+            root,
+            tables: Vec::new(alloc),
+            outside: Vec::new(alloc),
+            meetings: HashMap::new(alloc),
+            self_entries: Vec::new(alloc),
+            left_out: 0,
+            has_faults: false,
+        };
+        image.add(root, None, true)?;
+        Ok(image)
+    }
+
+    /// Goes through the entries of a table, and adds the tables of the level below that are new to `next`, too.
+    fn follow<S: ByteSource>(
+        &mut self,
+        dump: &Dump<S>,
+        table: Table,
+        below: u64,
+        next: &mut Vec<Table>,
+    ) -> Result<(), DumpError> {
+        let Some(words) = dump.read_frame(table.frame)? else {
+            return Ok(());
+        };
+        for (index, word) in words.iter().enumerate() {
+            let entry = Entry::new(table, index, *word);
+            if entry.is_left_out() {
+                self.left_out = self.left_out.saturating_add(1);
+            } else if entry.names_table() {
+                self.meet(dump, &entry, below, next)?;
+            }
+        }
+        Ok(())
+    }
+
+    /// Notes that an entry names a table of a level, which is added if it is new.
+    fn meet<S: ByteSource>(
+        &mut self,
+        dump: &Dump<S>,
+        entry: &Entry,
+        level: u64,
+        next: &mut Vec<Table>,
+    ) -> Result<(), AllocError> {
+        let frame = entry.frame();
+        if frame == self.root.frame && frame == entry.slot.table {
+            self.self_entries.push(entry.slot.index)?;
+        }
+        if !self.meetings.contains_key(&frame) {
+            let table = Table { frame, level };
+            let is_in_dump = dump.has_frame(frame);
+            if is_in_dump {
+                next.push(table)?;
+            }
+            self.add(table, Some(entry.slot), is_in_dump)?;
+        }
+        self.has_faults |= entry.is_huge_above() || self.fault_of(entry).is_some();
+        Ok(())
+    }
+
+    /// Adds a table that is met by an entry.
+    fn add(
+        &mut self,
+        table: Table,
+        first: Option<Slot>,
+        is_in_dump: bool,
+    ) -> Result<(), AllocError> {
+        let list = if is_in_dump {
+            &mut self.tables
+        } else {
+            &mut self.outside
+        };
+        let meeting = Meeting {
+            first,
+            is_in_dump,
+            number: list.len(),
+        };
+        list.push(table)?;
+        self.meetings.insert(table.frame, meeting)?;
+        Ok(())
+    }
+
+    /// Returns the tables that the dump has, in order.
+    pub fn tables(&self) -> &[Table] {
+        &self.tables
+    }
+
+    /// Tells whether `pagetab` refuses the image.
+    pub fn is_refused(&self) -> bool {
+        self.has_faults || self.places() > MOST_PLACES
+    }
+
+    /// Returns the lines of the image for a table with these words.
+    pub fn word_lines<'a>(&'a self, table: Table, words: &'a [u64]) -> WordLines<'a> {
+        WordLines::new(self, table, words)
+    }
+
+    /// Returns why `pagetab` refuses entries of a table with these words.
+    pub fn refusals<'a>(&'a self, table: Table, words: &'a [u64]) -> Refusals<'a> {
+        Refusals::new(self, table, words)
+    }
+
+    /// Returns the part of the report before the refusals.
+    pub fn report_head(&self) -> ReportHead<'_> {
+        ReportHead::new(self)
+    }
+
+    /// Returns the part of the report after the refusals.
+    pub fn report_tail(&self) -> ReportTail<'_> {
+        ReportTail::new(self)
+    }
+
+    /// Returns how many places the image needs.
+    fn places(&self) -> usize {
+        self.tables.len().saturating_add(1)
+    }
+
+    /// Returns the new address of the table in a frame, or `None` if none lies there.
+    fn new_address(&self, frame: PhysFrame<Size4KiB>) -> Option<u64> {
+        let meeting = self.meetings.get(&frame)?;
+        let before = if meeting.is_in_dump {
+            0
+        } else {
+            self.tables.len()
+        };
+        Some(nth_address(before.saturating_add(meeting.number)))
+    }
+
+    /// Returns the word of an entry, which names the new address if it names a table.
+    fn renamed(&self, entry: &Entry) -> u64 {
+        if entry.names_table()
+            && let Some(address) = self.new_address(entry.frame())
+        {
+            entry.renamed(address)
+        } else {
+            entry.word
+        }
+    }
+
+    /// Says why `pagetab` refuses the name that an entry has, or `None` if it doesn't.
+    fn fault_of(&self, entry: &Entry) -> Option<Fault> {
+        let meeting = self.meetings.get(&entry.frame())?;
+        match meeting.first {
+            None => self.fault_of_root_name(entry.slot),
+            Some(first) if first != entry.slot => Some(Fault::NamedBefore),
+            Some(_) if !meeting.is_in_dump => Some(Fault::Outside),
+            Some(_) => None,
+        }
+    }
+
+    /// Says why `pagetab` refuses an entry that names the root, or `None` if it is the first one of the root itself.
+    fn fault_of_root_name(&self, slot: Slot) -> Option<Fault> {
+        if slot.table != self.root.frame {
+            Some(Fault::NamesRoot)
+        } else if self.self_entries.first() != Some(&slot.index) {
+            Some(Fault::NamesRootAgain)
+        } else {
+            None
+        }
+    }
+}
+
+/// Returns the new address of the `n`-th table, counted from 0.
+fn nth_address(n: usize) -> u64 {
+    (n as u64).wrapping_add(1).wrapping_mul(4096) & ADDRESS_MASK
+}
