@@ -1,0 +1,3 @@
+pub mod Failure
+pub mod Output
+pub use Rattle.x86_64_dump.specs.Opening

@@ -1,0 +1,43 @@
+-- Tables: the frames of the tables that a root leads to, level by level.
+use Rattle.std.specs.Prelude.{ℕ, zero, suc, ◌==◌, ◌&&◌, Bool, not, cond, List, [], ◌∷◌, ◌++◌, reverse, Option, None, Some, is_some}
+use Rattle.std.specs.List.{filter_map, flat_map, fold, list_any}
+use Rattle.std.specs.Option.{unwrap_or}
+use Rattle.x86_64_model.specs.Entry.{present, huge, address}
+use Rattle.x86_64_model.specs.Memory.{Words}
+
+-- the frame of the table that a word above level one names, if there is one
+abbrev pub table_named : Words → (word : ℕ) → Option ℕ
+table_named W e = cond (present e && not (huge e) && is_some (W (address e))) (Some (address e)) None
+
+-- those that the words of a frame name, in order
+abbrev pub tables_named : Words → (frame : ℕ) → List ℕ
+tables_named W f = filter_map (table_named W) (unwrap_or (W f) [])
+
+-- the frames met so far, and one more
+abbrev pub met : (frames : List ℕ) → (frame : ℕ) → List ℕ
+met frames f = cond (list_any (λ g. f == g) frames) frames (frames ++ f ∷ [])
+
+-- each frame once, in the order in which they are met
+abbrev pub each_once : (frames : List ℕ) → List ℕ
+each_once frames = fold met [] frames
+
+-- the frames of the tables of some levels, where these are the frames of the highest one
+abbrev pub tables_from : (levels : ℕ) → Words → (frames : List ℕ) → List (List ℕ)
+tables_from zero W frames = []
+tables_from (suc n) W frames = frames ∷ tables_from n W (each_once (flat_map (tables_named W) frames))
+
+-- the root, if it is there
+abbrev pub if_there : Words → (root : ℕ) → List ℕ
+if_there W root = cond (is_some (W root)) (root ∷ []) []
+
+-- the frames of the tables that a root leads to, level one first
+unfoldable pub tables_by_level : (L : ℕ) → Words → (root : ℕ) → List (List ℕ)
+tables_by_level L W root = reverse (tables_from L W (if_there W root))
+
+-- whether a frame is one of some levels'
+abbrev pub is_in : (levels : List (List ℕ)) → (frame : ℕ) → Bool
+is_in levels f = list_any (λ frames. list_any (λ g. f == g) frames) levels
+
+-- the words of these frames, and of no others
+abbrev pub words_in_frames : (levels : List (List ℕ)) → Words → Words
+words_in_frames levels W f = cond (is_in levels f) (W f) None

@@ -1,0 +1,104 @@
+//! The frames of the tables that a root leads to, level by level.
+ghost use Rattle.std.specs.Prelude.{◌≡◌, ◌<◌, IfOk, IfErr, OnOk, map};
+ghost use Rattle.std.specs.List.{flat_map, fold};
+ghost use Rattle.x86_64_dump.specs.Dump.{words_of_dump};
+ghost use Rattle.x86_64_dump.specs.Opened.{opened};
+ghost use Rattle.x86_64_dump_tables.specs.Loaded.{MayFail};
+ghost use Rattle.x86_64_dump_tables.specs.Tables.{table_named, tables_named, met, each_once, tables_by_level, if_there};
+
+use crate::frame_set::FrameSet;
+use crate::words::entry_of;
+use std::alloc::Global;
+use x86_64_dump::{ByteSource, Dump, DumpError};
+use x86_64_page::frame::PhysFrame;
+use x86_64_page::page::Size4KiB;
+
+/// Reads which frames' tables a root leads to, level one first, those of a level in the order in which they are met.
+pub fn read_levels<S: ByteSource>(
+    alloc: Global,
+    dump: &Dump<S>,
+    root: PhysFrame<Size4KiB>,
+    levels: u64,
+) -> Result<Vec<Vec<PhysFrame<Size4KiB>>>, DumpError>
+    requires { 0 < levels }
+    ensures frames { S.IsKnown → IfOk result (λ frames. map (λ level. level.items) frames.items
+        ≡ tables_by_level levels (words_of_dump (opened S.bytes dump.now)) root) }
+    ensures errors { IfErr result (MayFail S.IsKnown) }
+{
+    let mut frames = Vec::new(alloc);
+    let mut level = root_level(alloc, dump, root)?;
+    for _ in 1..levels {
+        let below = read_below(alloc, dump, &level)?;
+        frames.push(level)?;
+        level = below;
+    }
+    frames.push(level)?;
+    frames.reverse();
+    Ok(frames)
+}
+
+/// Returns the root's frame, if the dump has it.
+fn root_level<S: ByteSource>(
+    alloc: Global,
+    dump: &Dump<S>,
+    root: PhysFrame<Size4KiB>,
+) -> Result<Vec<PhysFrame<Size4KiB>>, DumpError>
+    ensures frames { S.IsKnown → IfOk result (λ frames.
+        frames.items ≡ if_there (words_of_dump (opened S.bytes dump.now)) root) }
+    ensures errors { IfErr result (MayFail S.IsKnown) }
+{
+    let mut frames = Vec::new(alloc);
+    if dump.has_frame(root) {
+        frames.push(root)?;
+    }
+    Ok(frames)
+}
+
+/// Reads which frames' tables those in some frames name, each once.
+fn read_below<S: ByteSource>(
+    alloc: Global,
+    dump: &Dump<S>,
+    frames: &[PhysFrame<Size4KiB>],
+) -> Result<Vec<PhysFrame<Size4KiB>>, DumpError>
+    ensures frames { S.IsKnown → IfOk result (λ below. below.items
+        ≡ each_once (flat_map (tables_named (words_of_dump (opened S.bytes dump.now))) frames.now)) }
+    ensures errors { IfErr result (MayFail S.IsKnown) }
+{
+    let mut below = FrameSet::new(alloc);
+    for frame in frames {
+        read_named(dump, *frame, &mut below)?;
+    }
+    Ok(below.into_frames())
+}
+
+/// Adds the frames of the tables that the words of a frame name.
+fn read_named<S: ByteSource>(
+    dump: &Dump<S>,
+    frame: PhysFrame<Size4KiB>,
+    below: &mut FrameSet,
+) -> Result<(), DumpError>
+    ensures frames { S.IsKnown → OnOk result (below.new
+        ≡ fold met below.old (tables_named (words_of_dump (opened S.bytes dump.now)) frame)) }
+    ensures errors { IfErr result (MayFail S.IsKnown) }
+{
+    if let Some(words) = dump.read_frame(frame)? {
+        for word in &words {
+            if let Some(named) = table_named(dump, *word) {
+                below.insert(named)?;
+            }
+        }
+    }
+    Ok(())
+}
+
+/// Returns the frame of the table that a word above level one names, if the dump has it.
+fn table_named<S: ByteSource>(dump: &Dump<S>, word: u64) -> Option<PhysFrame<Size4KiB>>
+    ensures { S.IsKnown → result ≡ table_named (words_of_dump (opened S.bytes dump.now)) word }
+{
+    let frame = entry_of(word).frame().ok()?;
+    if dump.has_frame(frame) {
+        Some(frame)
+    } else {
+        None
+    }
+}

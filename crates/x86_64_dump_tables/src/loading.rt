@@ -1,0 +1,91 @@
+//! Memories of the tables in frames.
+ghost use Rattle.std.specs.Prelude.{◌≡◌, ◌==◌, ◌/◌, ◌*◌, ◌<◌, ◌^◌, ℕ, true, All, IfOk, IfErr, OnErr, IsSome, map, ⊤};
+ghost use Rattle.std.specs.FinMap as finite;
+ghost use Rattle.std.specs.List.{list_any};
+ghost use Rattle.std.specs.List.Sorted.{IsStrictlyIncreasing};
+ghost use Rattle.x86_64_dump.specs.Dump.{words_of_dump};
+ghost use Rattle.x86_64_dump.specs.Opened.{opened};
+ghost use Rattle.x86_64_model.specs.Entry.{is_frame};
+ghost use Rattle.x86_64_model.specs.Memory.{words_of, identity_places};
+ghost use Rattle.x86_64_tables.specs.PhysMemory.{zero_tables_at};
+ghost use Rattle.x86_64_dump_tables.specs.Loaded.{MayFail};
+ghost use Rattle.x86_64_dump_tables.specs.Tables.{is_in, words_in_frames};
+
+use crate::progress::Progress;
+use crate::words::table_of;
+use std::alloc::{AllocError, Global};
+use std::io::{self, ErrorKind};
+use x86_64_dump::{ByteSource, Dump, DumpError};
+use x86_64_page::frame::PhysFrame;
+use x86_64_page::page::Size4KiB;
+use x86_64_tables::phys_memory::{FramePlace, PhysMemory, PlacesRefusal};
+
+/// Reads the tables in frames, each into the place of its frame's number.
+pub fn read_memory<S: ByteSource, G: Progress>(
+    alloc: Global,
+    dump: &Dump<S>,
+    frames: &[Vec<PhysFrame<Size4KiB>>],
+    progress: &mut G,
+) -> Result<PhysMemory, DumpError>
+    ensures words { S.IsKnown → IfOk result (λ memory. words_of memory identity_places
+        ≡ words_in_frames (map (λ level. level.items) frames.now) (words_of_dump (opened S.bytes dump.now))) }
+{
+    let numbers = numbers_of(alloc, frames)?;
+    let mut memory = empty_memory(alloc, &numbers)?;
+    for (i, number) in numbers.iter().enumerate() {
+        let words = read_words(dump, PhysFrame::from_pfn(*number))?;
+        memory[FramePlace::new(*number)] = table_of(&words);
+        progress.tables(i + 1);
+    }
+    Ok(memory)
+}
+
+/// Returns the numbers of frames, in order and each once.
+fn numbers_of(
+    alloc: Global,
+    frames: &[Vec<PhysFrame<Size4KiB>>],
+) -> Result<Vec<u64>, AllocError>
+    ensures numbers { IfOk result (λ numbers. (frame : ℕ) → is_frame frame ≡ true →
+        list_any (λ n. frame / 4096 == n) numbers.items
+        ≡ is_in (map (λ level. level.items) frames.now) frame) }
+    ensures below { IfOk result (λ numbers. All (λ n. n * 4096 < 2 ^ 52) numbers.items) }
+    ensures increasing { IfOk result (λ numbers. IsStrictlyIncreasing numbers.items) }
+{
+    let mut numbers = Vec::new(alloc);
+    for level in frames {
+        add_numbers(&mut numbers, level)?;
+    }
+    numbers.sort_unstable();
+    numbers.dedup();
+    Ok(numbers)
+}
+
+/// Adds the numbers of frames.
+fn add_numbers(numbers: &mut Vec<u64>, frames: &[PhysFrame<Size4KiB>]) -> Result<(), AllocError>
+    requires { All (λ n. n * 4096 < 2 ^ 52) numbers.old.items }
+{
+    for frame in frames {
+        numbers.push(frame.pfn())?;
+    }
+    Ok(())
+}
+
+/// Makes a memory with places, where all words are 0.
+fn empty_memory(alloc: Global, places: &[u64]) -> Result<PhysMemory, AllocError>
+    requires { IsStrictlyIncreasing places.now }
+{
+    match PhysMemory::with_places(alloc, places) {
+        Ok(memory) => Ok(memory),
+        Err(PlacesRefusal::Alloc(error)) => Err(error),
+        Err(PlacesRefusal::NotIncreasing) => unreachable!(),
+    }
+}
+
+/// Reads the words of a frame that the dump has.
+fn read_words<S: ByteSource>(dump: &Dump<S>, frame: PhysFrame<Size4KiB>) -> io::Result<[u64; 512]>
+{
+    match dump.read_frame(frame)? {
+        Some(words) => Ok(words),
+        None => Err(io::Error::from(ErrorKind::UnexpectedEof)),
+    }
+}
