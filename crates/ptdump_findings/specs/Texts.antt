@@ -19,6 +19,6 @@ abbrev pub finding_text : Finding → List ℕ
 finding_text (NamedOften frame count) =
     codes "table " ++ hexadecimal frame ++ codes " named " ++ decimal count ++ codes " times"
 finding_text (NotInDump frame by) =
-    codes "table " ++ hexadecimal frame ++ codes " not in the dump, named by " ++ slot_text by
+    codes "table " ++ hexadecimal frame ++ codes " not in the dump" ++ (codes ", named by " ++ slot_text by)
 finding_text (HugePage slot level) =
     codes "HUGE_PAGE at level " ++ decimal level ++ codes " in " ++ slot_text slot

@@ -1,5 +1,5 @@
 //! Entries, and where they stand.
-ghost use Rattle.std.specs.Prelude.{◌≡◌, ◌<◌, ◌&&◌, ◌||◌, not, nat_lt};
+ghost use Rattle.std.specs.Prelude.{◌≡◌, ◌&&◌, nat_lt, Some};
 ghost use Rattle.x86_64_model.specs.Entry.{present, huge, address};
 
 use std::fmt::{Display, Formatter, Result as FmtResult, Write};
@@ -56,7 +56,7 @@ pub struct Entry {
 
 impl Entry {
     /// Makes the entry at an index of a table.
-    pub fn new(table: Table, index: usize, word: u64) -> Entry {
+    pub fn new(table: &Table, index: usize, word: u64) -> Entry {
         Entry {
             slot: Slot {
                 table: table.frame,

@@ -1,4 +1,5 @@
 //! What is amiss in page tables that were read from a dump.
+ghost use Rattle.std.specs.Prelude.{Some};
 
 use crate::entry::Slot;
 use std::alloc::{AllocError, Global};
@@ -50,7 +51,8 @@ impl Display for Finding {
             }
             Finding::NotInDump { frame, by } => {
                 let address = frame.start_address().as_u64();
-                write!(f, "table 0x{address:x} not in the dump, named by {by}")
+                write!(f, "table 0x{address:x} not in the dump")?;
+                write!(f, ", named by {by}")
             }
             Finding::HugePage { slot, level } => write!(f, "HUGE_PAGE at level {level} in {slot}"),
         }

@@ -5,7 +5,7 @@ mod report;
 mod words;
 
 use crate::entry::{ADDRESS_MASK, Entry, Slot, Table};
-pub use report::{ReportHead, ReportTail};
+pub use report::{ReportEnd, Row};
 use std::alloc::{AllocError, Global};
 use std::collections::HashMap;
 pub use words::{Refusals, WordLines};
@@ -48,7 +48,8 @@ enum Fault {
 /// others. Nothing is mended: an image that `pagetab` refuses is made all the same.
 #[derive(Drop)]
 pub struct Image {
-    root: Table,
+    root: PhysFrame<Size4KiB>,
+    levels: u64,
     tables: Vec<Table>,
     outside: Vec<Table>,
     meetings: HashMap<PhysFrame<Size4KiB>, Meeting>,
@@ -69,16 +70,13 @@ impl Image {
         root: PhysFrame<Size4KiB>,
         levels: u64,
     ) -> Result<Image, DumpError> {
-        let root = Table {
-            frame: root,
-            level: levels,
-        };
-        let mut image = Image::new(alloc, root)?;
-        let mut current = vec![in alloc; root]?;
+        let mut image = Image::new(alloc, root, levels)?;
+        let mut current = Vec::new(alloc);
+        current.extend_from_slice(&image.tables)?;
         for below in (1..levels).rev() {
             let mut next = Vec::new(alloc);
             for table in &current {
-                image.follow(dump, *table, below, &mut next)?;
+                image.follow(dump, table, below, &mut next)?;
             }
             current = next;
         }
@@ -86,25 +84,36 @@ impl Image {
     }
 
     /// Makes the image that has the root alone.
-    fn new(alloc: Global, root: Table) -> Result<Image, AllocError> {
-        let mut image = Image {
+    fn new(alloc: Global, root: PhysFrame<Size4KiB>, levels: u64) -> Result<Image, AllocError> {
+        let mut meetings = HashMap::new(alloc);
+        let meeting = Meeting {
+            first: None,
+            is_in_dump: true,
+            number: 0,
+        };
+        meetings.insert(root, meeting)?;
+        let mut tables = Vec::new(alloc);
+        tables.push(Table {
+            frame: root,
+            level: levels,
+        })?;
+        Ok(Image {
             root,
-            tables: Vec::new(alloc),
+            levels,
+            tables,
             outside: Vec::new(alloc),
-            meetings: HashMap::new(alloc),
+            meetings,
             self_entries: Vec::new(alloc),
             left_out: 0,
             has_faults: false,
-        };
-        image.add(root, None, true)?;
-        Ok(image)
+        })
     }
 
     /// Goes through the entries of a table, and adds the tables of the level below that are new to `next`, too.
     fn follow<S: ByteSource>(
         &mut self,
         dump: &Dump<S>,
-        table: Table,
+        table: &Table,
         below: u64,
         next: &mut Vec<Table>,
     ) -> Result<(), DumpError> {
@@ -131,40 +140,40 @@ impl Image {
         next: &mut Vec<Table>,
     ) -> Result<(), AllocError> {
         let frame = entry.frame();
-        if frame == self.root.frame && frame == entry.slot.table {
+        if frame == self.root && frame == entry.slot.table {
             self.self_entries.push(entry.slot.index)?;
         }
         if !self.meetings.contains_key(&frame) {
-            let table = Table { frame, level };
-            let is_in_dump = dump.has_frame(frame);
-            if is_in_dump {
-                next.push(table)?;
+            let first = Some(entry.slot);
+            if dump.has_frame(frame) {
+                let number = self.tables.len();
+                self.note(frame, first, true, number)?;
+                self.tables.push(Table { frame, level })?;
+                next.push(Table { frame, level })?;
+            } else {
+                let number = self.outside.len();
+                self.note(frame, first, false, number)?;
+                self.outside.push(Table { frame, level })?;
             }
-            self.add(table, Some(entry.slot), is_in_dump)?;
         }
         self.has_faults |= entry.is_huge_above() || self.fault_of(entry).is_some();
         Ok(())
     }
 
-    /// Adds a table that is met by an entry.
-    fn add(
+    /// Notes how the table in a frame is met.
+    fn note(
         &mut self,
-        table: Table,
+        frame: PhysFrame<Size4KiB>,
         first: Option<Slot>,
         is_in_dump: bool,
+        number: usize,
     ) -> Result<(), AllocError> {
-        let list = if is_in_dump {
-            &mut self.tables
-        } else {
-            &mut self.outside
-        };
         let meeting = Meeting {
             first,
             is_in_dump,
-            number: list.len(),
+            number,
         };
-        list.push(table)?;
-        self.meetings.insert(table.frame, meeting)?;
+        self.meetings.insert(frame, meeting)?;
         Ok(())
     }
 
@@ -173,29 +182,39 @@ impl Image {
         &self.tables
     }
 
+    /// Returns the tables that are named though the dump lacks them, in order.
+    pub fn outside(&self) -> &[Table] {
+        &self.outside
+    }
+
+    /// Returns how many words above level one aren't 0 and lack `PRESENT`. The image has none of them.
+    pub fn left_out(&self) -> u64 {
+        self.left_out
+    }
+
     /// Tells whether `pagetab` refuses the image.
     pub fn is_refused(&self) -> bool {
         self.has_faults || self.places() > MOST_PLACES
     }
 
     /// Returns the lines of the image for a table with these words.
-    pub fn word_lines<'a>(&'a self, table: Table, words: &'a [u64]) -> WordLines<'a> {
+    pub fn word_lines<'a>(&'a self, table: &'a Table, words: &'a [u64]) -> WordLines<'a> {
         WordLines::new(self, table, words)
     }
 
     /// Returns why `pagetab` refuses entries of a table with these words.
-    pub fn refusals<'a>(&'a self, table: Table, words: &'a [u64]) -> Refusals<'a> {
+    pub fn refusals<'a>(&'a self, table: &'a Table, words: &'a [u64]) -> Refusals<'a> {
         Refusals::new(self, table, words)
     }
 
-    /// Returns the part of the report before the refusals.
-    pub fn report_head(&self) -> ReportHead<'_> {
-        ReportHead::new(self)
+    /// Returns the line of the report for a table.
+    pub fn row<'a>(&'a self, table: &'a Table) -> Row<'a> {
+        Row::new(self, table)
     }
 
-    /// Returns the part of the report after the refusals.
-    pub fn report_tail(&self) -> ReportTail<'_> {
-        ReportTail::new(self)
+    /// Returns the end of the report.
+    pub fn report_end(&self) -> ReportEnd<'_> {
+        ReportEnd::new(self)
     }
 
     /// Returns how many places the image needs.
@@ -238,7 +257,7 @@ impl Image {
 
     /// Says why `pagetab` refuses an entry that names the root, or `None` if it is the first one of the root itself.
     fn fault_of_root_name(&self, slot: Slot) -> Option<Fault> {
-        if slot.table != self.root.frame {
+        if slot.table != self.root {
             Some(Fault::NamesRoot)
         } else if self.self_entries.first() != Some(&slot.index) {
             Some(Fault::NamesRootAgain)

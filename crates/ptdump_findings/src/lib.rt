@@ -7,4 +7,4 @@ mod image;
 
 pub use entry::{Entry, Slot, Table};
 pub use findings::{Finding, table_findings};
-pub use image::{Image, Refusals, ReportHead, ReportTail, WordLines};
+pub use image::{Image, Refusals, ReportEnd, Row, WordLines};

@@ -1,56 +1,45 @@
 //! What is told of an image as a whole.
-use super::{Image, MOST_PLACES, nth_address};
+use super::{Image, MOST_PLACES};
+use crate::entry::Table;
 use std::fmt::{Display, Formatter, Result as FmtResult, Write};
 
-/// The part of the report before the refusals: the old address of each table, and how many words are left out.
+/// The line of a report for a table: its new address, its old one, and its level.
 #[derive(Drop)]
-pub struct ReportHead<'a> {
+pub struct Row<'a> {
     image: &'a Image,
+    table: &'a Table,
 }
 
-impl<'a> ReportHead<'a> {
-    /// Makes the part of an image.
-    pub(super) fn new(image: &'a Image) -> ReportHead<'a> {
-        ReportHead { image }
+impl<'a> Row<'a> {
+    /// Makes the line of a table of an image.
+    pub(super) fn new(image: &'a Image, table: &'a Table) -> Row<'a> {
+        Row { image, table }
     }
 }
 
-impl Display for ReportHead<'_> {
+impl Display for Row<'_> {
     fn fmt<W: Write>(&self, f: &mut Formatter<W>) -> FmtResult {
-        writeln!(f, "new         old               level")?;
-        let tables = self.image.tables.iter().chain(&self.image.outside);
-        for (n, table) in tables.enumerate() {
-            let new = nth_address(n);
-            let old = table.frame.start_address().as_u64();
-            let level = table.level;
-            writeln!(f, "{new:<#12x}{old:<#18x}{level}")?;
-        }
-        let left_out = self.image.left_out;
-        writeln!(
-            f,
-            "words without PRESENT above level one, left out: {left_out}"
-        )?;
-        if self.image.is_refused() {
-            writeln!(f, "pagetab refuses this image:")?;
-        }
-        Ok(())
+        let new = self.image.new_address(self.table.frame).unwrap_or(0);
+        let old = self.table.frame.start_address().as_u64();
+        let level = self.table.level;
+        write!(f, "{new:<#12x}{old:<#18x}{level}")
     }
 }
 
-/// The part of the report after the refusals: where the root names itself, and how the image is read.
+/// The lines that end a report: where the root names itself, and how the image is read.
 #[derive(Drop)]
-pub struct ReportTail<'a> {
+pub struct ReportEnd<'a> {
     image: &'a Image,
 }
 
-impl<'a> ReportTail<'a> {
-    /// Makes the part of an image.
-    pub(super) fn new(image: &'a Image) -> ReportTail<'a> {
-        ReportTail { image }
+impl<'a> ReportEnd<'a> {
+    /// Makes the end of the report of an image.
+    pub(super) fn new(image: &'a Image) -> ReportEnd<'a> {
+        ReportEnd { image }
     }
 }
 
-impl Display for ReportTail<'_> {
+impl Display for ReportEnd<'_> {
     fn fmt<W: Write>(&self, f: &mut Formatter<W>) -> FmtResult {
         let places = self.image.places();
         if places > MOST_PLACES {
@@ -71,7 +60,7 @@ impl Display for ReportTail<'_> {
 /// Writes the command line that reads an image.
 fn write_command<W: Write>(f: &mut Formatter<W>, image: &Image) -> FmtResult {
     let places = image.places();
-    let levels = if image.root.level == 5 { "5" } else { "" };
+    let levels = if image.levels == 5 { "5" } else { "" };
     match image.self_entries.first() {
         Some(index) => writeln!(
             f,

@@ -7,13 +7,13 @@ use std::fmt::{Display, Formatter, Result as FmtResult, Write};
 #[derive(Drop)]
 pub struct WordLines<'a> {
     image: &'a Image,
-    table: Table,
+    table: &'a Table,
     words: &'a [u64],
 }
 
 impl<'a> WordLines<'a> {
     /// Makes the lines of a table with these words.
-    pub(super) fn new(image: &'a Image, table: Table, words: &'a [u64]) -> WordLines<'a> {
+    pub(super) fn new(image: &'a Image, table: &'a Table, words: &'a [u64]) -> WordLines<'a> {
         WordLines {
             image,
             table,
@@ -40,13 +40,13 @@ impl Display for WordLines<'_> {
 #[derive(Drop)]
 pub struct Refusals<'a> {
     image: &'a Image,
-    table: Table,
+    table: &'a Table,
     words: &'a [u64],
 }
 
 impl<'a> Refusals<'a> {
     /// Makes the refusals of a table with these words.
-    pub(super) fn new(image: &'a Image, table: Table, words: &'a [u64]) -> Refusals<'a> {
+    pub(super) fn new(image: &'a Image, table: &'a Table, words: &'a [u64]) -> Refusals<'a> {
         Refusals {
             image,
             table,
