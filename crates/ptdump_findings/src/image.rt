@@ -53,7 +53,7 @@ pub struct Image {
     tables: Vec<Table>,
     outside: Vec<Table>,
     meetings: HashMap<PhysFrame<Size4KiB>, Meeting>,
-    self_entries: Vec<usize>,
+    self_entry: Option<usize>,
     left_out: u64,
     has_faults: bool,
 }
@@ -103,7 +103,7 @@ impl Image {
             tables,
             outside: Vec::new(alloc),
             meetings,
-            self_entries: Vec::new(alloc),
+            self_entry: None,
             left_out: 0,
             has_faults: false,
         })
@@ -141,7 +141,7 @@ impl Image {
     ) -> Result<(), AllocError> {
         let frame = entry.frame();
         if frame == self.root && frame == entry.slot.table {
-            self.self_entries.push(entry.slot.index)?;
+            self.self_entry = self.self_entry.or(Some(entry.slot.index));
         }
         if !self.meetings.contains_key(&frame) {
             let first = Some(entry.slot);
@@ -259,7 +259,7 @@ impl Image {
     fn fault_of_root_name(&self, slot: Slot) -> Option<Fault> {
         if slot.table != self.root {
             Some(Fault::NamesRoot)
-        } else if self.self_entries.first() != Some(&slot.index) {
+        } else if self.self_entry != Some(slot.index) {
             Some(Fault::NamesRootAgain)
         } else {
             None

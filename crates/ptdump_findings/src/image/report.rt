@@ -49,7 +49,7 @@ impl Display for ReportEnd<'_> {
                 "    there are more tables than the {most} that pagetab takes"
             )?;
         }
-        for index in &self.image.self_entries {
+        if let Some(index) = self.image.self_entry {
             writeln!(f, "the root names itself at the index {index}")?;
         }
         writeln!(f, "places: {places}")?;
@@ -61,7 +61,7 @@ impl Display for ReportEnd<'_> {
 fn write_command<W: Write>(f: &mut Formatter<W>, image: &Image) -> FmtResult {
     let places = image.places();
     let levels = if image.levels == 5 { "5" } else { "" };
-    match image.self_entries.first() {
+    match image.self_entry {
         Some(index) => writeln!(
             f,
             "run: ./pagetab recursive{levels} {places} {index} < IMAGE"
