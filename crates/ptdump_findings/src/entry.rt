@@ -1,6 +1,6 @@
 //! Entries, and where they stand.
 ghost use Rattle.std.specs.Prelude.{◌≡◌, ◌&&◌, nat_lt, Some};
-ghost use Rattle.x86_64_model.specs.Entry.{present, huge, address};
+ghost use Rattle.x86_64_model.specs.Entry.{present, huge, address, flags};
 
 use std::fmt::{Display, Formatter, Result as FmtResult, Write};
 use x86_64_addr::addr::PhysAddr;
@@ -8,7 +8,10 @@ use x86_64_page::frame::PhysFrame;
 use x86_64_page::page::Size4KiB;
 
 /// The bits of an entry that name an address.
-pub const ADDRESS_MASK: u64 = 0x000f_ffff_ffff_f000;
+const ADDRESS_MASK: u64 = 0x000f_ffff_ffff_f000;
+
+/// The bits of an entry that are flags.
+const FLAGS_MASK: u64 = 0xfff0_0000_0000_0fff;
 
 /// The highest level at which an entry may map a page.
 const HIGHEST_OF_PAGES: u64 = 3;
@@ -55,8 +58,16 @@ pub struct Entry {
 }
 
 impl Entry {
+    ghost use Rattle.ptdump_findings.specs.Entries as entries;
+
     /// Makes the entry at an index of a table.
-    pub fn new(table: &Table, index: usize, word: u64) -> Entry {
+    pub fn new(table: &Table, index: usize, word: u64) -> Entry
+        ensures { result ≡ record {
+          slot = record { table = table.now.frame; index = index };
+          level = table.now.level;
+          word = word;
+        } }
+    {
         Entry {
             slot: Slot {
                 table: table.frame,
@@ -84,7 +95,10 @@ impl Entry {
     }
 
     /// Tells whether the entry means nothing, though it isn't 0: it stands above level one and lacks `PRESENT`.
-    pub fn is_left_out(&self) -> bool {
+    #[tactic(auto, unfolding(x86_64_model::specs::Entry::used))]
+    pub fn is_left_out(&self) -> bool
+        ensures { result ≡ entries.is_left_out self.now }
+    {
         self.word != 0 && self.level > 1 && !self.is_present()
     }
 
@@ -96,7 +110,9 @@ impl Entry {
     }
 
     /// Tells whether the entry names a table: it has `PRESENT` and maps no page. Above level three `HUGE_PAGE` maps none.
-    pub fn names_table(&self) -> bool {
+    pub fn names_table(&self) -> bool
+        ensures { result ≡ entries.names_table self.now }
+    {
         self.is_present() && self.level > 1 && (self.level > HIGHEST_OF_PAGES || !self.is_huge())
     }
 
@@ -108,9 +124,13 @@ impl Entry {
         PhysFrame::from_start_address_unchecked(PhysAddr::new(self.word & ADDRESS_MASK))
     }
 
-    /// Returns the word with another address, the flags as they are.
-    pub fn renamed(&self, address: u64) -> u64 {
-        self.word & !ADDRESS_MASK | address
+    /// Returns the word with the address of another frame, and the flags as they are.
+    #[tactic(auto, unfolding(x86_64_model::specs::Entry::flags))]
+    pub fn renamed(&self, frame: PhysFrame<Size4KiB>) -> u64
+        ensures flags { flags result ≡ flags self.now.word }
+        ensures frame { address result ≡ frame }
+    {
+        self.word & FLAGS_MASK | frame.start_address().as_u64()
     }
 }
 

@@ -81,7 +81,7 @@ struct HugePage {
 ///
 /// # Errors
 ///
-/// Where memory is refused.
+/// `AllocError` if memory is refused.
 pub fn table_findings(
     alloc: Global,
     memory: &PhysMemory,

@@ -1,17 +1,19 @@
 //! Images of page tables for `pagetab`.
-ghost use Rattle.std.specs.Prelude.{◌≡◌, ◌+◌, ◌*◌, ◌%◌, ◌^◌};
+ghost use Rattle.std.specs.Prelude.{◌≡◌, ◌+◌, ◌*◌, ◌^◌, ◌<◌, false, IfErr};
+ghost use Rattle.x86_64_model.specs.Entry.{flags};
 
 mod report;
 mod words;
 
-use crate::entry::{ADDRESS_MASK, Entry, Slot, Table};
+use crate::entry::{Entry, Slot, Table};
 pub use report::{ReportEnd, Row};
 use std::alloc::{AllocError, Global};
 use std::collections::HashMap;
 pub use words::{Refusals, WordLines};
+use x86_64_addr::addr::PhysAddr;
 use x86_64_dump::{ByteSource, Dump, DumpError};
 use x86_64_page::frame::PhysFrame;
-use x86_64_page::page::Size4KiB;
+use x86_64_page::page::{PageSize, Size4KiB};
 
 /// How many places `pagetab` takes at most. The tables of an image stand from the second one on.
 const MOST_PLACES: usize = 65536;
@@ -59,17 +61,21 @@ pub struct Image {
 }
 
 impl Image {
+    ghost use Rattle.ptdump_findings.specs.Entries.{names_table};
+
     /// Reads which tables a root leads to, with so many levels of tables.
     ///
     /// # Errors
     ///
-    /// `DumpError::OutOfMemory` where memory is refused, `DumpError::Read` where the dump can't be read.
+    /// `DumpError::OutOfMemory` if memory is refused, `DumpError::Read` if the dump can't be read.
     pub fn read<S: ByteSource>(
         alloc: Global,
         dump: &Dump<S>,
         root: PhysFrame<Size4KiB>,
         levels: u64,
-    ) -> Result<Image, DumpError> {
+    ) -> Result<Image, DumpError>
+        ensures { S.IsKnown → IfErr result (λ error. error ≡ DumpError.OutOfMemory) }
+    {
         let mut image = Image::new(alloc, root, levels)?;
         let mut current = Vec::new(alloc);
         current.extend_from_slice(&image.tables)?;
@@ -116,7 +122,9 @@ impl Image {
         table: &Table,
         below: u64,
         next: &mut Vec<Table>,
-    ) -> Result<(), DumpError> {
+    ) -> Result<(), DumpError>
+        ensures { S.IsKnown → IfErr result (λ error. error ≡ DumpError.OutOfMemory) }
+    {
         let Some(words) = dump.read_frame(table.frame)? else {
             return Ok(());
         };
@@ -222,25 +230,34 @@ impl Image {
         self.tables.len().saturating_add(1)
     }
 
-    /// Returns the new address of the table in a frame, or `None` if none lies there.
-    fn new_address(&self, frame: PhysFrame<Size4KiB>) -> Option<u64> {
+    /// Returns the new frame of the table in a frame, or `None` if none lies there.
+    fn new_frame(&self, frame: PhysFrame<Size4KiB>) -> Option<PhysFrame<Size4KiB>> {
         let meeting = self.meetings.get(&frame)?;
         let before = if meeting.is_in_dump {
             0
         } else {
             self.tables.len()
         };
-        Some(nth_address(before.saturating_add(meeting.number)))
+        Some(nth_frame(before.saturating_add(meeting.number)))
     }
 
-    /// Returns the word of an entry, which names the new address if it names a table.
-    fn renamed(&self, entry: &Entry) -> u64 {
-        if entry.names_table()
-            && let Some(address) = self.new_address(entry.frame())
-        {
-            entry.renamed(address)
-        } else {
-            entry.word
+    /// Returns the new address of a table. One that isn't in the image keeps its own.
+    fn new_address(&self, table: &Table) -> u64 {
+        let frame = self.new_frame(table.frame).unwrap_or(table.frame);
+        frame.start_address().as_u64()
+    }
+
+    /// Returns the word of an entry, with the new address if it names a table.
+    fn renamed(&self, entry: &Entry) -> u64
+        ensures flags { flags result ≡ flags entry.now.word }
+        ensures others { names_table entry.now ≡ false → result ≡ entry.now.word }
+    {
+        if !entry.names_table() {
+            return entry.word;
+        }
+        match self.new_frame(entry.frame()) {
+            Some(frame) => entry.renamed(frame),
+            None => entry.word,
         }
     }
 
@@ -267,7 +284,10 @@ impl Image {
     }
 }
 
-/// Returns the new address of the `n`-th table, counted from 0.
-fn nth_address(n: usize) -> u64 {
-    (n as u64).wrapping_add(1).wrapping_mul(4096) & ADDRESS_MASK
+/// Returns the new frame of the `n`-th table, counted from 0. There are fewer than 2^40 frames.
+fn nth_frame(n: usize) -> PhysFrame<Size4KiB>
+    ensures { n + 1 < 2 ^ 40 → result ≡ 4096 * (n + 1) }
+{
+    let address = (n as u64).wrapping_add(1).wrapping_mul(Size4KiB::SIZE);
+    PhysFrame::containing_address(PhysAddr::new_truncate(address))
 }

@@ -19,7 +19,7 @@ impl<'a> Row<'a> {
 
 impl Display for Row<'_> {
     fn fmt<W: Write>(&self, f: &mut Formatter<W>) -> FmtResult {
-        let new = self.image.new_address(self.table.frame).unwrap_or(0);
+        let new = self.image.new_address(self.table);
         let old = self.table.frame.start_address().as_u64();
         let level = self.table.level;
         write!(f, "{new:<#12x}{old:<#18x}{level}")

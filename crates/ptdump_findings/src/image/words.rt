@@ -24,7 +24,7 @@ impl<'a> WordLines<'a> {
 
 impl Display for WordLines<'_> {
     fn fmt<W: Write>(&self, f: &mut Formatter<W>) -> FmtResult {
-        let table = self.image.new_address(self.table.frame).unwrap_or(0);
+        let table = self.image.new_address(self.table);
         for (index, word) in self.words.iter().enumerate() {
             let entry = Entry::new(self.table, index, *word);
             if entry.word != 0 && !entry.is_left_out() {
