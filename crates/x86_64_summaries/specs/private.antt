@@ -1,0 +1,4 @@
+pub mod Merged
+pub mod Placed
+pub mod Targets
+pub mod Known
