@@ -1,0 +1,26 @@
+-- Failures: the exit statuses of runs that fail.
+use Rattle.std.specs.Prelude.{ℕ}
+use Rattle.x86_64_dump.specs.declared.error.DumpError.{DumpError}
+use Rattle.x86_64_dump.specs.declared.error.DumpError.TheVariants as dump
+use Rattle.x86_64_dump.specs.declared.error.Fault.TheVariants.{BaseOfElf}
+use Rattle.ptdump_engine.specs.declared.failure.Failure.{Failure}
+use Rattle.ptdump_engine.specs.declared.failure.Failure.TheVariants as failures
+
+-- 2: what was asked; 3: the file; 4: want of memory; 5: a failed write
+abbrev pub status_of : Failure → ℕ
+status_of failures.NoCr3 = 2
+status_of (failures.NoProcessor cpu count) = 2
+status_of (failures.NotCanonical address levels) = 2
+status_of (failures.NotPhysical address) = 2
+status_of (failures.Dump BaseOfElf) = 2
+status_of (failures.Dump fault) = 3
+status_of (failures.NoRoot root) = 3
+status_of (failures.Read error) = 3
+status_of failures.OutOfMemory = 4
+status_of failures.Output = 5
+
+-- a run fails as reading the dump did
+abbrev pub failure_of : DumpError → Failure
+failure_of dump.OutOfMemory = failures.OutOfMemory
+failure_of (dump.Read cause) = failures.Read cause
+failure_of (dump.Fault fault) = failures.Dump fault

@@ -1,0 +1,133 @@
+//! Why runs fail.
+ghost use Rattle.std.specs.Prelude.{◌≡◌};
+
+use crate::request::Levels;
+use std::alloc::AllocError;
+use std::error::Error;
+use std::fmt::{Display, Formatter, Result as FmtResult, Write};
+use std::io;
+use x86_64_dump::{DumpError, Fault};
+
+/// Says why a run failed.
+#[derive(Debug, Drop)]
+pub enum Failure {
+    /// Neither the request nor a note of the file says the CR3.
+    NoCr3,
+    /// The file has no note of the processor that was asked for.
+    NoProcessor {
+        /// The processor.
+        cpu: u64,
+        /// How many notes of processors there are.
+        count: usize,
+    },
+    /// An address to walk to isn't canonical.
+    NotCanonical {
+        /// The address.
+        address: u64,
+        /// How many levels of tables there are.
+        levels: Levels,
+    },
+    /// A physical address is 2^52 or more.
+    NotPhysical {
+        /// The address.
+        address: u64,
+    },
+    /// The root's table isn't in the dump.
+    NoRoot {
+        /// The address of the root's frame.
+        root: u64,
+    },
+    /// The file is no dump that can be read.
+    Dump(Fault),
+    /// A read of the file failed.
+    Read(io::Error),
+    /// Memory was refused.
+    OutOfMemory,
+    /// A write failed.
+    Output,
+}
+
+impl Failure {
+    ghost use Rattle.ptdump_engine.specs.Failure.{status_of};
+
+    /// Gives the exit status: 2 for what was asked, 3 for the file, 4 for want of memory, 5 for a failed write.
+    pub fn status(&self) -> u8
+        ensures { result ≡ status_of self.now }
+    {
+        match self {
+            Failure::NoCr3
+            | Failure::NoProcessor { .. }
+            | Failure::NotCanonical { .. }
+            | Failure::NotPhysical { .. }
+            | Failure::Dump(Fault::BaseOfElf) => 2,
+            Failure::NoRoot { .. } | Failure::Dump(_) | Failure::Read(_) => 3,
+            Failure::OutOfMemory => 4,
+            Failure::Output => 5,
+        }
+    }
+}
+
+impl Display for Failure {
+    fn fmt<W: Write>(&self, f: &mut Formatter<W>) -> FmtResult {
+        match self {
+            Failure::NoCr3 => f.write_str(
+                "no CR3 in the file: give --cr3, as QEMU's `info registers` prints it",
+            ),
+            Failure::NoProcessor { cpu, count } => write!(
+                f,
+                "no note of processor {cpu} in the file, which has {count}: give a smaller --cpu, or --cr3 and --levels"
+            ),
+            Failure::NotCanonical { address, levels } => write_not_canonical(f, *address, *levels),
+            Failure::NotPhysical { address } => write!(
+                f,
+                "0x{address:x} is no physical address: give one below 0x10000000000000"
+            ),
+            Failure::NoRoot { root } => write!(
+                f,
+                "the table 0x{root:x} that CR3 names is not in the dump: give another --cr3, or the --base of a raw file"
+            ),
+            Failure::Dump(fault) => write!(f, "{fault}"),
+            Failure::Read(error) => write!(f, "the file can't be read: {error}"),
+            Failure::OutOfMemory => f.write_str("out of memory"),
+            Failure::Output => f.write_str("the output can't be written"),
+        }
+    }
+}
+
+/// Writes that an address isn't canonical.
+fn write_not_canonical<W: Write>(f: &mut Formatter<W>, address: u64, levels: Levels) -> FmtResult {
+    let (number, highest) = match levels {
+        Levels::Four => (4, 47),
+        Levels::Five => (5, 56),
+    };
+    write!(
+        f,
+        "0x{address:x} is not canonical with {number} levels of tables: give an address whose bits above bit {highest} equal it"
+    )
+}
+
+impl Error for Failure {}
+
+impl From<AllocError> for Failure {
+    ghost use Rattle.ptdump_engine.specs.declared.failure.Failure.TheVariants.{OutOfMemory};
+
+    ghost from_gives = { λ _ failure. failure ≡ OutOfMemory };
+
+    fn from(_error: AllocError) -> Failure {
+        Failure::OutOfMemory
+    }
+}
+
+impl From<DumpError> for Failure {
+    ghost use Rattle.ptdump_engine.specs.Failure.{failure_of};
+
+    ghost from_gives = { λ error failure. failure ≡ failure_of error };
+
+    fn from(error: DumpError) -> Failure {
+        match error {
+            DumpError::OutOfMemory => Failure::OutOfMemory,
+            DumpError::Read(cause) => Failure::Read(cause),
+            DumpError::Fault(fault) => Failure::Dump(fault),
+        }
+    }
+}
