@@ -8,6 +8,7 @@ ghost use Rattle.ptdump_engine.specs.Failure.{status_of};
 ghost use Rattle.ptdump_engine.specs.declared.failure.Failure.TheVariants.{Output};
 
 mod command_line;
+mod help;
 mod progress;
 mod request;
 mod stop;

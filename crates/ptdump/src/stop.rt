@@ -83,7 +83,10 @@ impl Display for Stop<'_> {
                 f,
                 "{argument} {text} is no number below 2^64: write decimal digits, or hexadecimal ones after 0x"
             ),
-            Stop::NoLevels(text) => write!(f, "--levels {text}: give 4 or 5, which page tables have"),
+            Stop::NoLevels(text) => write!(
+                f,
+                "--levels {text}: give 4 or 5, which page tables have"
+            ),
             Stop::Unopened { path, error } => write!(f, "{path} can't be opened: {error}"),
             Stop::Failed(failure) => write!(f, "{failure}"),
         }

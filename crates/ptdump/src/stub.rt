@@ -7,6 +7,7 @@ use x86_64_dump::ByteSource;
 
 pub trait Progress {
     fn tables(&mut self, count: usize);
+
     fn end(&mut self);
 }
 
