@@ -17,6 +17,7 @@ use Rattle.x86_64_model.specs.Memory.{Memory, Words, words_of, identity_places}
 use Rattle.x86_64_tables.specs.PageTable.{zero_words}
 use Rattle.x86_64_dump_tables.specs.Loaded.{frames_of}
 use Rattle.x86_64_dump_tables.specs.Tables.{is_among, is_in, words_in_frames}
+use Rattle.x86_64_dump_tables.proofs.Closed.{none_either}
 use Rattle.x86_64_dump_tables.specs.private.Numbers.{has_number, AreNumbers, HoldsFor}
 
 -- ---- numbers
@@ -124,10 +125,6 @@ pub words_filled : (W : Words) (numbers : List ℕ) (i : ℕ) (memory : Memory) 
     → ((f : ℕ) → is_frame f ≡ true → has_number numbers f ≡ is_in levels f) → HoldsFor numbers (so_far W numbers i) memory → words_of memory identity_places ≡ words_in_frames levels W
 words_filled W numbers i memory levels all only same held = λ k f. at f k
   where
-    either : (b : Bool) → cond {A = Option (List ℕ)} b None None ≡ None
-    either true = refl
-    either false = refl
-
     twice : (b : Bool) (o p : Option (List ℕ)) → cond b (cond b o p) None ≡ cond b o None
     twice true o p = refl
     twice false o p = refl
@@ -143,5 +140,5 @@ words_filled W numbers i memory levels all only same held = λ k f. at f k
     at : (f : ℕ) → words_of memory identity_places f ≡ words_in_frames levels W f
     at f = elim (is_frame f) as (λ b. is_frame f ≡ b → cond b (get memory (f / 4096)) None ≡ cond (is_in levels f) (W f) None) [
       | true ↦ λ is. frame f is
-      | false ↦ λ no. sym (ap (λ o. cond (is_in levels f) o None) (only f no) ∙ either (is_in levels f))
+      | false ↦ λ no. sym (ap (λ o. cond (is_in levels f) o None) (only f no) ∙ none_either (is_in levels f))
     ] refl
