@@ -1,10 +1,11 @@
 //! Requests, made of the words of a command line.
-ghost use Rattle.std.specs.Prelude.{IfOk, map};
+ghost use Rattle.std.specs.Prelude.{◌≡◌, ℕ, Option, IfOk, IfErr, codes, map};
 ghost use Rattle.std.specs.Option.{option_copied};
 ghost use Rattle.std.specs.Result.{OkIff};
 ghost use Rattle.clap.specs.Matches.{found_of};
 ghost use Rattle.x86_64_numbers.specs.Numbers.{IsNumber, number_of};
-ghost use Rattle.ptdump.specs.Requests.{AreNumbers, IsCommand, IsLevels, IsOption, IsRequest};
+ghost use Rattle.ptdump.specs.Requests.{AreNumbers, IsCommand, IsLevels, IsOption, IsRequest, IsRefused, IsUnread, values};
+ghost use Rattle.ptdump_engine.specs.declared.request.Levels.{Levels};
 
 use crate::stop::Stop;
 use clap::ArgMatches;
@@ -22,11 +23,11 @@ pub fn request_of<'a>(
     name: &'a str,
     arguments: &ArgMatches<'a>,
 ) -> Result<Request, Stop<'a>>
-    ensures { IfOk result (IsRequest name.now (found_of arguments.now)) }
+    ensures ok { IfOk result (IsRequest name.now (found_of arguments.now)) }
+    ensures err { IfErr result (IsRefused name.entry (IsRequest name.now (found_of arguments.now))) }
 {
-    let addresses = arguments.get_strs("addresses").unwrap_or(&[]);
     Ok(Request {
-        command: command_of(alloc, name, addresses)?,
+        command: command_of(alloc, name, addresses_of(arguments))?,
         cr3: option_of("--cr3", arguments.get_str("cr3"))?,
         levels: levels_of(arguments.get_str("levels"))?,
         base: option_of("--base", arguments.get_str("base"))?,
@@ -34,9 +35,18 @@ pub fn request_of<'a>(
     })
 }
 
+/// Returns the texts of the addresses that are given.
+fn addresses_of<'m, 'a>(arguments: &'m ArgMatches<'a>) -> &'m [&'a str]
+    ensures { map (λ text. text.now) result.now ≡ values (found_of arguments.now) (codes "addresses") }
+{
+    arguments.get_strs("addresses").unwrap_or(&[])
+}
+
 /// Returns the command of a name, with its addresses.
 fn command_of<'a>(alloc: Global, name: &'a str, addresses: &[&'a str]) -> Result<Command, Stop<'a>>
-    ensures { IfOk result (IsCommand name.now (map (λ text. text.now) addresses.now)) }
+    ensures ok { IfOk result (IsCommand name.now (map (λ text. text.now) addresses.now)) }
+    ensures err { IfErr result (IsRefused name.entry
+        (IsCommand name.now (map (λ text. text.now) addresses.now))) }
 {
     match name.as_bytes() {
         b"regions" => Ok(Command::Regions),
@@ -52,7 +62,8 @@ fn command_of<'a>(alloc: Global, name: &'a str, addresses: &[&'a str]) -> Result
 
 /// Reads addresses.
 fn numbers_of<'a>(alloc: Global, texts: &[&'a str]) -> Result<Vec<u64>, Stop<'a>>
-    ensures { IfOk result (λ numbers. AreNumbers (map (λ text. text.now) texts.now) numbers.items) }
+    ensures ok { IfOk result (λ numbers. AreNumbers (map (λ text. text.now) texts.now) numbers.items) }
+    ensures err { IfErr result (IsUnread (AreNumbers (map (λ text. text.now) texts.now))) }
 {
     let mut numbers = Vec::new(alloc);
     for text in texts {
@@ -63,7 +74,8 @@ fn numbers_of<'a>(alloc: Global, texts: &[&'a str]) -> Result<Vec<u64>, Stop<'a>
 
 /// Reads the number of levels, if it is given.
 fn levels_of<'a>(text: Option<&'a str>) -> Result<Option<Levels>, Stop<'a>>
-    ensures { IfOk result (IsLevels (option_copied text.entry)) }
+    ensures ok { IfOk result (IsLevels (option_copied text.entry)) }
+    ensures err { IfErr result (λ _. (levels : Option Levels) → ¬ (IsLevels (option_copied text.entry) levels)) }
 {
     let Some(text) = text else {
         return Ok(None);
@@ -77,7 +89,8 @@ fn levels_of<'a>(text: Option<&'a str>) -> Result<Option<Levels>, Stop<'a>>
 
 /// Reads the number of an option, if it is given.
 fn option_of<'a>(option: &'static str, text: Option<&'a str>) -> Result<Option<u64>, Stop<'a>>
-    ensures { IfOk result (IsOption (option_copied text.entry)) }
+    ensures ok { IfOk result (IsOption (option_copied text.entry)) }
+    ensures err { IfErr result (λ _. (number : Option ℕ) → ¬ (IsOption (option_copied text.entry) number)) }
 {
     match text {
         Some(text) => Ok(Some(number_of(option, text)?)),

@@ -1,0 +1,19 @@
+-- Texts of numbers.
+use Rattle.std.proofs.Common.{◌≡◌, ◌<◌, ℕ, List, [], ◌∷◌, ◌++◌, ◌∙◌, length, get_or, map, sym, ap, subst}
+use Rattle.std.proofs.lemmas.List.{map_push, length-map}
+use Rattle.std.proofs.lemmas.List.Elements.{All-push}
+use Rattle.std.proofs.Math.ListN.{get_or-map}
+use Rattle.std.specs.Borrow.{Bor}
+use Rattle.x86_64_numbers.specs.Numbers.{IsNumber, number_of}
+use Rattle.ptdump.specs.Requests.{AreNumbers}
+
+-- one number more
+pub numbers_more : (texts : List (List ℕ)) (numbers : List ℕ) (text : List ℕ) → AreNumbers texts numbers → IsNumber text → AreNumbers (texts ++ text ∷ []) (numbers ++ number_of text ∷ [])
+numbers_more texts numbers text before is =
+    (All-push IsNumber texts text before.0 is, ap (λ (ns : List ℕ). ns ++ number_of text ∷ []) before.1 ∙ sym (map_push number_of texts text))
+
+-- each of the texts is a number
+pub number_at : (texts : List (Bor (List ℕ))) (numbers : List ℕ) (i : ℕ) (d : Bor (List ℕ)) → i < length texts → AreNumbers (map (λ text. text.now) texts) numbers → IsNumber (get_or texts i d).now
+number_at texts numbers i d below are =
+    let now : Bor (List ℕ) → List ℕ = λ text. text.now in
+    subst IsNumber (get_or-map now texts i d) (are.0 i (now d) (subst (λ n. i < n) (sym (length-map texts now)) below))
