@@ -1,3 +1,16 @@
 pub mod Failure
+pub mod Laws
+pub mod Loaded
 pub mod Output
+pub mod Program
+pub mod Reports
+pub mod Start
+pub mod Steps
+pub mod Walks
+pub mod private
 pub use Rattle.x86_64_dump.specs.Opening
+pub use Rattle.x86_64_mappings.specs.Texts
+pub use Rattle.x86_64_summaries.specs.Wanted
+pub use Rattle.x86_64_model.specs.Mappings
+pub use Rattle.x86_64_model.specs.PageWalk
+pub use Rattle.x86_64_model.specs.Regions

@@ -1,0 +1,5 @@
+pub mod SameMappings
+pub mod Closed
+pub mod Listing
+pub mod Places
+pub mod Failing

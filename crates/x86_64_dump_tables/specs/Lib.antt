@@ -1,10 +1,10 @@
 pub mod Reached
 pub mod Tables
 pub mod Loaded
-pub mod private
 pub use Rattle.x86_64_model.specs.Entry
 pub use Rattle.x86_64_model.specs.Memory
 pub use Rattle.x86_64_model.specs.Mappings
 pub use Rattle.x86_64_model.specs.PageWalk
 pub use Rattle.x86_64_dump.specs.Dump
 pub use Rattle.x86_64_dump.specs.Opened
+pub mod private

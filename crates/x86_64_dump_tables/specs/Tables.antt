@@ -1,5 +1,5 @@
 -- Tables: the frames of the tables that a root leads to, level by level.
-use Rattle.std.specs.Prelude.{ℕ, zero, suc, ◌==◌, ◌&&◌, Bool, not, cond, List, [], ◌∷◌, ◌++◌, reverse, Option, None, Some, is_some}
+use Rattle.std.specs.Prelude.{◌≡◌, true, IsSome, ℕ, zero, suc, ◌==◌, ◌&&◌, Bool, not, cond, List, [], ◌∷◌, ◌++◌, reverse, Option, None, Some, is_some}
 use Rattle.std.specs.List.{filter_map, flat_map, fold, list_any}
 use Rattle.std.specs.Option.{unwrap_or}
 use Rattle.x86_64_model.specs.Entry.{present, huge, address}
@@ -13,9 +13,13 @@ table_named W e = cond (present e && not (huge e) && is_some (W (address e))) (S
 abbrev pub tables_named : Words → (frame : ℕ) → List ℕ
 tables_named W f = filter_map (table_named W) (unwrap_or (W f) [])
 
+-- whether a frame is one of some frames
+abbrev pub is_among : (frames : List ℕ) → (frame : ℕ) → Bool
+is_among frames f = list_any (λ g. f == g) frames
+
 -- the frames met so far, and one more
 abbrev pub met : (frames : List ℕ) → (frame : ℕ) → List ℕ
-met frames f = cond (list_any (λ g. f == g) frames) frames (frames ++ f ∷ [])
+met frames f = cond (is_among frames f) frames (frames ++ f ∷ [])
 
 -- each frame once, in the order in which they are met
 abbrev pub each_once : (frames : List ℕ) → List ℕ
@@ -36,8 +40,12 @@ tables_by_level L W root = reverse (tables_from L W (if_there W root))
 
 -- whether a frame is one of some levels'
 abbrev pub is_in : (levels : List (List ℕ)) → (frame : ℕ) → Bool
-is_in levels f = list_any (λ frames. list_any (λ g. f == g) frames) levels
+is_in levels f = list_any (λ frames. is_among frames f) levels
 
 -- the words of these frames, and of no others
 abbrev pub words_in_frames : (levels : List (List ℕ)) → Words → Words
 words_in_frames levels W f = cond (is_in levels f) (W f) None
+
+-- all of these frames have words
+abbrev pub AreThere : Words → (levels : List (List ℕ)) → Type 0
+AreThere W levels = (f : ℕ) → is_in levels f ≡ true → IsSome (W f)

@@ -47,8 +47,9 @@ impl FrameSet {
     pub fn insert(&mut self, frame: PhysFrame<Size4KiB>) -> Result<(), AllocError>
         ensures { OnOk result (self.new ≡ met self.old frame) }
     {
+        self.frames.reserve(1)?;
         if self.seen.insert(frame.start_address().as_u64())? {
-            self.frames.push(frame)?;
+            self.frames.push_reserved(frame);
         }
         Ok(())
     }

@@ -1,19 +1,20 @@
 //! The frames of the tables that a root leads to, level by level.
-ghost use Rattle.std.specs.Prelude.{◌≡◌, ◌<◌, IfOk, IfErr, OnOk, map};
-ghost use Rattle.std.specs.List.{flat_map, fold};
+ghost use Rattle.std.specs.Prelude.{◌≡◌, ◌<◌, IfOk, IfErr, OnOk};
+ghost use Rattle.std.specs.List.{filter_map, flat_map, fold};
 ghost use Rattle.x86_64_dump.specs.Dump.{words_of_dump};
 ghost use Rattle.x86_64_dump.specs.Opened.{opened};
-ghost use Rattle.x86_64_dump_tables.specs.Loaded.{MayFail};
+ghost use Rattle.x86_64_dump_tables.specs.Loaded.{MayFail, frames_of};
 ghost use Rattle.x86_64_dump_tables.specs.Tables.{table_named, tables_named, met, each_once, tables_by_level, if_there};
 
 use crate::frame_set::FrameSet;
 use crate::words::entry_of;
-use std::alloc::Global;
+use std::alloc::{AllocError, Global};
 use x86_64_dump::{ByteSource, Dump, DumpError};
 use x86_64_page::frame::PhysFrame;
 use x86_64_page::page::Size4KiB;
 
-/// Reads which frames' tables a root leads to, level one first, those of a level in the order in which they are met.
+/// Reads which frames' tables a root leads to, level one first, those of a level in the order in which they are
+/// met.
 pub fn read_levels<S: ByteSource>(
     alloc: Global,
     dump: &Dump<S>,
@@ -21,7 +22,7 @@ pub fn read_levels<S: ByteSource>(
     levels: u64,
 ) -> Result<Vec<Vec<PhysFrame<Size4KiB>>>, DumpError>
     requires { 0 < levels }
-    ensures frames { S.IsKnown → IfOk result (λ frames. map (λ level. level.items) frames.items
+    ensures frames { S.IsKnown → IfOk result (λ frames. frames_of frames.items
         ≡ tables_by_level levels (words_of_dump (opened S.bytes dump.now)) root) }
     ensures errors { IfErr result (MayFail S.IsKnown) }
 {
@@ -82,10 +83,23 @@ fn read_named<S: ByteSource>(
     ensures errors { IfErr result (MayFail S.IsKnown) }
 {
     if let Some(words) = dump.read_frame(frame)? {
-        for word in &words {
-            if let Some(named) = table_named(dump, *word) {
-                below.insert(named)?;
-            }
+        add_named(dump, &words, below)?;
+    }
+    Ok(())
+}
+
+/// Adds the frames of the tables that words name.
+fn add_named<S: ByteSource>(
+    dump: &Dump<S>,
+    words: &[u64],
+    below: &mut FrameSet,
+) -> Result<(), AllocError>
+    ensures { S.IsKnown → OnOk result (below.new ≡ fold met below.old
+        (filter_map (table_named (words_of_dump (opened S.bytes dump.now))) words.now)) }
+{
+    for word in words {
+        if let Some(named) = table_named(dump, *word) {
+            below.insert(named)?;
         }
     }
     Ok(())

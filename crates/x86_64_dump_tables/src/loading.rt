@@ -1,15 +1,14 @@
 //! Memories of the tables in frames.
-ghost use Rattle.std.specs.Prelude.{◌≡◌, ◌==◌, ◌/◌, ◌*◌, ◌<◌, ◌^◌, ℕ, true, All, IfOk, IfErr, OnErr, IsSome, map, ⊤};
-ghost use Rattle.std.specs.FinMap as finite;
-ghost use Rattle.std.specs.List.{list_any};
+ghost use Rattle.std.specs.Prelude.{◌≡◌, ◌||◌, ℕ, true, Some, IsSome, IfOk, IfErr, IsOk, OnOk};
 ghost use Rattle.std.specs.List.Sorted.{IsStrictlyIncreasing};
 ghost use Rattle.x86_64_dump.specs.Dump.{words_of_dump};
 ghost use Rattle.x86_64_dump.specs.Opened.{opened};
 ghost use Rattle.x86_64_model.specs.Entry.{is_frame};
 ghost use Rattle.x86_64_model.specs.Memory.{words_of, identity_places};
-ghost use Rattle.x86_64_tables.specs.PhysMemory.{zero_tables_at};
-ghost use Rattle.x86_64_dump_tables.specs.Loaded.{MayFail};
-ghost use Rattle.x86_64_dump_tables.specs.Tables.{is_in, words_in_frames};
+ghost use Rattle.x86_64_tables.specs.PageTable.{zero_words};
+ghost use Rattle.x86_64_dump_tables.specs.Loaded.{MayFail, frames_of};
+ghost use Rattle.x86_64_dump_tables.specs.Tables.{is_among, is_in, words_in_frames, AreThere};
+ghost use Rattle.x86_64_dump_tables.specs.private.Numbers.{has_number, AreNumbers, HoldsFor};
 
 use crate::progress::Progress;
 use crate::words::table_of;
@@ -17,7 +16,7 @@ use std::alloc::{AllocError, Global};
 use std::io::{self, ErrorKind};
 use x86_64_dump::{ByteSource, Dump, DumpError};
 use x86_64_page::frame::PhysFrame;
-use x86_64_page::page::Size4KiB;
+use x86_64_page::page::{PageSize, Size4KiB};
 use x86_64_tables::phys_memory::{FramePlace, PhysMemory, PlacesRefusal};
 
 /// Reads the tables in frames, each into the place of its frame's number.
@@ -28,7 +27,9 @@ pub fn read_memory<S: ByteSource, G: Progress>(
     progress: &mut G,
 ) -> Result<PhysMemory, DumpError>
     ensures words { S.IsKnown → IfOk result (λ memory. words_of memory identity_places
-        ≡ words_in_frames (map (λ level. level.items) frames.now) (words_of_dump (opened S.bytes dump.now))) }
+        ≡ words_in_frames (frames_of frames.now) (words_of_dump (opened S.bytes dump.now))) }
+    ensures errors { IfErr result (MayFail
+        (S.IsKnown × AreThere (words_of_dump (opened S.bytes dump.now)) (frames_of frames.now))) }
 {
     let numbers = numbers_of(alloc, frames)?;
     let mut memory = empty_memory(alloc, &numbers)?;
@@ -41,14 +42,10 @@ pub fn read_memory<S: ByteSource, G: Progress>(
 }
 
 /// Returns the numbers of frames, in order and each once.
-fn numbers_of(
-    alloc: Global,
-    frames: &[Vec<PhysFrame<Size4KiB>>],
-) -> Result<Vec<u64>, AllocError>
+fn numbers_of(alloc: Global, frames: &[Vec<PhysFrame<Size4KiB>>]) -> Result<Vec<u64>, AllocError>
     ensures numbers { IfOk result (λ numbers. (frame : ℕ) → is_frame frame ≡ true →
-        list_any (λ n. frame / 4096 == n) numbers.items
-        ≡ is_in (map (λ level. level.items) frames.now) frame) }
-    ensures below { IfOk result (λ numbers. All (λ n. n * 4096 < 2 ^ 52) numbers.items) }
+        has_number numbers.items frame ≡ is_in (frames_of frames.now) frame) }
+    ensures below { IfOk result (λ numbers. AreNumbers numbers.items) }
     ensures increasing { IfOk result (λ numbers. IsStrictlyIncreasing numbers.items) }
 {
     let mut numbers = Vec::new(alloc);
@@ -62,10 +59,13 @@ fn numbers_of(
 
 /// Adds the numbers of frames.
 fn add_numbers(numbers: &mut Vec<u64>, frames: &[PhysFrame<Size4KiB>]) -> Result<(), AllocError>
-    requires { All (λ n. n * 4096 < 2 ^ 52) numbers.old.items }
+    ensures numbers { OnOk result ((frame : ℕ) → is_frame frame ≡ true →
+        has_number numbers.new.items frame
+        ≡ (has_number numbers.old.items frame || is_among frames.now frame)) }
+    ensures below { OnOk result (AreNumbers numbers.old.items → AreNumbers numbers.new.items) }
 {
     for frame in frames {
-        numbers.push(frame.pfn())?;
+        numbers.push(frame.start_address().as_u64() / Size4KiB::SIZE)?;
     }
     Ok(())
 }
@@ -73,6 +73,7 @@ fn add_numbers(numbers: &mut Vec<u64>, frames: &[PhysFrame<Size4KiB>]) -> Result
 /// Makes a memory with places, where all words are 0.
 fn empty_memory(alloc: Global, places: &[u64]) -> Result<PhysMemory, AllocError>
     requires { IsStrictlyIncreasing places.now }
+    ensures { IfOk result (λ memory. HoldsFor places.now (λ _. Some zero_words) memory) }
 {
     match PhysMemory::with_places(alloc, places) {
         Ok(memory) => Ok(memory),
@@ -82,7 +83,14 @@ fn empty_memory(alloc: Global, places: &[u64]) -> Result<PhysMemory, AllocError>
 }
 
 /// Reads the words of a frame that the dump has.
+///
+/// # Errors
+///
+/// The error of the read, or one of the kind `UnexpectedEof` if the dump lacks the frame.
 fn read_words<S: ByteSource>(dump: &Dump<S>, frame: PhysFrame<Size4KiB>) -> io::Result<[u64; 512]>
+    ensures words { S.IsKnown → IfOk result (λ words.
+        Some words ≡ words_of_dump (opened S.bytes dump.now) frame) }
+    ensures succeeds { S.IsKnown → IsSome (words_of_dump (opened S.bytes dump.now) frame) → IsOk result }
 {
     match dump.read_frame(frame)? {
         Some(words) => Ok(words),

@@ -8,7 +8,9 @@ mod region;
 mod region_list;
 pub mod text;
 
-pub use listing::{Mappings, Mappings57, MappingsIn, mappings, mappings_57, mappings_from};
+pub use listing::{
+    Mappings, Mappings57, MappingsIn, mappings, mappings_57, mappings_from, maps_page, span,
+};
 pub use mapping::{Mapping, Mapping57, MappingIn};
 pub use region::{Region, Region57, RegionIn};
 pub use region_list::{Regions, Regions57, RegionsIn, regions, regions_57};

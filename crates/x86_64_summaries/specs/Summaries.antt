@@ -1,6 +1,6 @@
 -- Summaries: what mappings are together.
-use Rattle.std.specs.Prelude.{ℕ, List, length, map}
-use Rattle.std.specs.List.{list_all, list_any, sum}
+use Rattle.std.specs.Prelude.{List, length, sum_by}
+use Rattle.std.specs.List.{list_all, list_any}
 use Rattle.x86_64_model.specs.Mappings.{Mapping}
 use Rattle.x86_64_summaries.specs.declared.summary.Summary.{Summary}
 
@@ -8,7 +8,7 @@ use Rattle.x86_64_summaries.specs.declared.summary.Summary.{Summary}
 unfoldable pub summary_of : List Mapping → Summary
 summary_of ms = record {
   count = length ms;
-  bytes = sum (map (λ m. m.size) ms);
+  bytes = sum_by (λ m. m.size) ms;
   some = record { write = list_any (λ m. m.rights.write) ms; user = list_any (λ m. m.rights.user) ms; execute = list_any (λ m. m.rights.execute) ms };
   all = record { write = list_all (λ m. m.rights.write) ms; user = list_all (λ m. m.rights.user) ms; execute = list_all (λ m. m.rights.execute) ms };
 }

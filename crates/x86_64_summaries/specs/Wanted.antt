@@ -1,6 +1,6 @@
 -- Wanted: which mappings of a table are asked for. A table of any level is the root of a hierarchy of so many levels.
 use Rattle.std.specs.Prelude.{ℕ, ◌+◌, ◌&&◌, nat_le, nat_lt, Bool, true, List, filter, Option, Some, None}
-use Rattle.x86_64_model.specs.Memory.{Words}
+use Rattle.x86_64_model.specs.Memory.{Memory, Places, Words, words_of}
 use Rattle.x86_64_model.specs.Mappings.{Mapping, mappings_of}
 
 -- whether a mapping leads to a physical address
@@ -23,3 +23,13 @@ pub record Asked : Type 0 where
 
 abbrev pub asked_mappings : Asked → (level frame : ℕ) → List Mapping
 asked_mappings asked level frame = wanted_mappings asked.wanted level asked.words frame
+
+-- the same by a memory, and where frames lie in it
+pub record Asking (T P : Type 0) : Type 0 where
+  pub memory : T
+  pub mapping : P
+  pub wanted : Option ℕ
+
+-- what is asked, as words
+abbrev pub asked_of : {T P : Type 0} → (tables : T → Memory) → (places : P → Places) → Asking T P → Asked
+asked_of tables places a = record { words = words_of (tables a.memory) (places a.mapping); wanted = a.wanted }

@@ -216,14 +216,16 @@ fn table_below<'a, T: TableMemory, P: PageTableFrameMapping>(
 }
 
 /// Tells whether an entry of a level maps a page, if it has `PRESENT`.
-fn maps_page(level: u64, entry: &PageTableEntry) -> bool
+pub fn maps_page(level: u64, entry: &PageTableEntry) -> bool
     ensures { result ≡ page_mapped level entry.now }
 {
     level == 1 || (has_flag(entry, PageTableFlags::HUGE_PAGE) && (level == 2 || level == 3))
 }
 
 /// Gives how many positions an entry of a level spans.
-pub(super) fn span(level: u64) -> u64
+///
+/// Condition: the level is from one to five.
+pub fn span(level: u64) -> u64
     requires low { 1 ≤ level }
     requires high { level ≤ 5 }
     ensures { result ≡ span_of level }

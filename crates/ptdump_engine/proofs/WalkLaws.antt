@@ -1,0 +1,96 @@
+-- Walks that are written arrive where the page walk does, and are those of any words that agree on their way.
+use Rattle.std.proofs.Common.{◌≡◌, ◌∙◌, ◌+◌, ◌-◌, ◌%◌, ◌&&◌, ℕ, zero, suc, Bool, true, false, cond, get_or, List, Option, Some, None, option_map, option_and_then, is_some, refl, sym, ap}
+use Rattle.std.specs.Option.{option_map_or}
+use Rattle.std.proofs.Math.Nat.{mod-eq-sub-div-mul}
+use Rattle.x86_64_dump_tables.specs.Reached.{SameBelow}
+use Rattle.x86_64_model.specs.Entry.{present, huge, address}
+use Rattle.x86_64_model.specs.Laws.Mappings.{arrival_in}
+use Rattle.x86_64_model.specs.Mappings.{Rights, Mapping, maps_page}
+use Rattle.x86_64_model.specs.Memory.{Words}
+use Rattle.x86_64_model.specs.PageWalk.{Walked, read, page_start, arrives, page_walk}
+use Rattle.x86_64_model.specs.Position.{index, span}
+use Rattle.x86_64_model.specs.private.Found.{every_right, narrowed, page_at, found_on, found}
+use Rattle.x86_64_model.proofs.Lemmas.Mappings.Walked.{walk_finds}
+use Rattle.ptdump_engine.specs.Laws.{WrittenWalksArrive}
+use Rattle.ptdump_engine.specs.Walks.{End, Walk, arrives_at, not_present, huge_page, no_table, WordRead, after, behind, ends, arrival_with, arrival_of, walk_from, walk_of, walk_rights}
+use Rattle.ptdump_engine.specs.private.WalkLines.{both_rights, is_arrival}
+use Rattle.ptdump_engine.proofs.WalkLines.{narrowed_first, rights_kept, word_read}
+
+-- where a walk arrives, below words that allow so much
+abbrev arrival_below : Rights → Walk → Option Walked
+arrival_below r walk = arrival_with (both_rights r (walk_rights walk)) walk.end
+
+-- a word that is read only narrows the rights
+arrival-after : (r : Rights) (w : WordRead) (walk : Walk) → arrival_below r (after w walk) ≡ arrival_below (narrowed r w.word) walk
+arrival-after r w walk = ap (λ s. arrival_with s walk.end) (narrowed_first r w walk)
+
+arrival-ends : (r : Rights) (end : End) → arrival_below r (ends end) ≡ arrival_with r end
+arrival-ends r end = ap (λ s. arrival_with s end) (rights_kept r end)
+
+-- what is found by a word, where this is found below it
+abbrev found_by : (p level : ℕ) → Rights → (e : ℕ) → Option Mapping → Option Mapping
+found_by p level r e below = cond (present e) (cond (maps_page level e) (Some (page_at p level r e)) (cond (huge e) None below)) None
+
+behind_found : (p level e : ℕ) (r : Rights) (below : Walk) (mapping : Option Mapping)
+    → arrival_below (narrowed r e) below ≡ option_map (arrival_in p) mapping
+    → arrival_below (narrowed r e) (behind p level e below) ≡ option_map (arrival_in p) (found_by p level r e mapping)
+behind_found p level e r below mapping same = each (present e) (maps_page level e) (huge e)
+  where
+    each : (b m h : Bool) → arrival_below (narrowed r e) (cond b (cond m (ends (arrives_at (page_start level e + p % span level))) (cond h (ends (huge_page level)) below)) (ends not_present))
+        ≡ option_map (arrival_in p) (cond b (cond m (Some (page_at p level r e)) (cond h None mapping)) None)
+    each true true h = arrival-ends (narrowed r e) (arrives_at (page_start level e + p % span level))
+        ∙ ap (λ o. arrives (page_start level e + o) (narrowed r e).write (narrowed r e).user) (mod-eq-sub-div-mul p (span level))
+    each true false true = refl
+    each true false false = same
+    each false m h = refl
+
+walked : (T : Words) (p level : ℕ) (r : Rights) (f : ℕ) → arrival_below r (walk_from T p level f) ≡ option_map (arrival_in p) (found_on T p level r f)
+unfolding walk_from found_on
+walked T p zero r f = refl
+walked T p (suc n) r f = by (read T f (index (suc n) p)) (λ e. walked T p n (narrowed r e) (address e))
+  where
+    by : (o : Option ℕ) → ((e : ℕ) → arrival_below (narrowed r e) (walk_from T p n (address e)) ≡ option_map (arrival_in p) (found_on T p n (narrowed r e) (address e)))
+        → arrival_below r (option_map_or (λ e. after (word_read p (suc n) f e) (behind p (suc n) e (walk_from T p n (address e)))) o (ends (no_table f)))
+        ≡ option_map (arrival_in p) (option_and_then (λ e. found_by p (suc n) r e (found_on T p n (narrowed r e) (address e))) o)
+    by None on = refl
+    by (Some e) on = arrival-after r (word_read p (suc n) f e) _ ∙ behind_found p (suc n) e r _ _ (on e)
+
+pub written_walks_arrive : WrittenWalksArrive
+unfolding found
+written_walks_arrive L T root p = walked T p L every_right root ∙ sym (walk_finds L T root p)
+
+-- whether a walk arrives, the page walk says
+pub is_arrival-walk : (L : ℕ) (T : Words) (root p : ℕ) → is_arrival (walk_of L T root p).end ≡ is_some (page_walk L T root p)
+is_arrival-walk L T root p = by (walk_of L T root p) ∙ ap is_some (written_walks_arrive L T root p)
+  where
+    each : (r : Rights) (end : End) → is_arrival end ≡ is_some (arrival_with r end)
+    each r (arrives_at to) = refl
+    each r not_present = refl
+    each r (no_table frame) = refl
+    each r (huge_page level) = refl
+
+    by : (walk : Walk) → is_arrival walk.end ≡ is_some (arrival_of walk)
+    by walk = each (walk_rights walk) walk.end
+
+-- the walk is the same in words that agree on its way
+pub same_walk : (T W : Words) (p level f : ℕ) → SameBelow level T W f → walk_from T p level f ≡ walk_from W p level f
+unfolding walk_from
+same_walk T W p zero f same = refl
+same_walk T W p (suc n) f same = by (read T f (index (suc n) p)) refl (λ e there is plain. same_walk T W p n (address e) (same.1 (index (suc n) p) e there is plain))
+    ∙ ap (λ t. go W (option_map (λ words. get_or words (index (suc n) p) 0) t)) same.0
+  where
+    go : Words → Option ℕ → Walk
+    go V o = option_map_or (λ e. after (word_read p (suc n) f e) (behind p (suc n) e (walk_from V p n (address e)))) o (ends (no_table f))
+
+    each : (e : ℕ) (x y : Walk) (b m h : Bool) → (b ≡ true → h ≡ false → x ≡ y)
+        → cond b (cond m (ends (arrives_at (page_start (suc n) e + p % span (suc n)))) (cond h (ends (huge_page (suc n))) x)) (ends not_present)
+        ≡ cond b (cond m (ends (arrives_at (page_start (suc n) e + p % span (suc n)))) (cond h (ends (huge_page (suc n))) y)) (ends not_present)
+    each e x y true m true alike = refl
+    each e x y true m false alike = ap (λ z. cond m (ends (arrives_at (page_start (suc n) e + p % span (suc n)))) z) (alike refl refl)
+    each e x y false m h alike = refl
+
+    by : (o : Option ℕ) → read T f (index (suc n) p) ≡ o
+        → ((e : ℕ) → read T f (index (suc n) p) ≡ Some e → present e ≡ true → huge e ≡ false → walk_from T p n (address e) ≡ walk_from W p n (address e))
+        → go T o ≡ go W o
+    by None there on = refl
+    by (Some e) there on = ap (after (word_read p (suc n) f e)) (each e _ _ (present e) (maps_page (suc n) e) (huge e) (on e there))

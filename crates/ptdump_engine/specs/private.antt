@@ -1,0 +1,4 @@
+pub mod Finding
+pub mod Puts
+pub mod Searched
+pub mod WalkLines

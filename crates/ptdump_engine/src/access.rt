@@ -1,0 +1,29 @@
+//! Addresses, with what is allowed there.
+ghost use Rattle.std.specs.Prelude.{Some};
+
+use std::fmt::{Display, Formatter, Result as FmtResult, Write};
+use x86_64_mappings::text::write_rights;
+use x86_64_numbers::write_hexadecimal;
+use x86_64_tables::phys_memory::Rights;
+
+/// Says what is allowed at an address.
+#[derive(Clone, Copy)]
+pub struct Access {
+    /// The address.
+    pub address: u64,
+    /// What is allowed there.
+    pub rights: Rights,
+}
+
+impl Display for Access {
+    ghost use Rattle.x86_64_mappings.specs.Views.{seen_rights};
+    ghost use Rattle.ptdump_engine.specs.Walks.{access_text};
+
+    ghost output = { λ access. Some (access_text access.address (seen_rights access.rights)) };
+
+    fn fmt<W: Write>(&self, f: &mut Formatter<W>) -> FmtResult {
+        write_hexadecimal(f, self.address)?;
+        f.write_str(" ")?;
+        write_rights(f, self.rights.write, self.rights.user, self.rights.execute)
+    }
+}

@@ -1,0 +1,60 @@
+//! Tests of what is asked.
+ghost use Rattle.std.specs.Prelude.{◌≡◌};
+ghost use Rattle.x86_64_dump.specs.Dump.{words_of_dump};
+ghost use Rattle.x86_64_dump.specs.Opened.{opened};
+ghost use Rattle.ptdump_engine.specs.Program as program;
+
+use crate::failure::Failure;
+use crate::request::{Command, Levels};
+use x86_64_addr::addr::{VirtAddr, VirtAddr57};
+use x86_64_dump::{ByteSource, Dump};
+use x86_64_page::frame::PhysFrame;
+use x86_64_page::page::Size4KiB;
+
+/// The number that physical addresses are below.
+const PHYSICAL_END: u64 = 1 << 52;
+
+/// Says why an address of a command is none: the first one that isn't.
+pub fn argument_failure(command: &Command, levels: Levels) -> Option<Failure>
+    ensures { result ≡ program.argument_failure levels command.now }
+{
+    match command {
+        Command::Walk(addresses) => addresses
+            .iter()
+            .copied()
+            .find(|address| !is_canonical(*address, levels))
+            .map(|address| Failure::NotCanonical { address, levels }),
+        Command::Find(addresses) => addresses
+            .iter()
+            .copied()
+            .find(|address| *address >= PHYSICAL_END)
+            .map(|address| Failure::NotPhysical { address }),
+        _ => None,
+    }
+}
+
+/// Tells whether an address is canonical.
+fn is_canonical(address: u64, levels: Levels) -> bool
+    ensures { result ≡ program.is_canonical (program.level_count levels) address }
+{
+    match levels {
+        Levels::Four => VirtAddr::checked_new(address).is_some(),
+        Levels::Five => VirtAddr57::checked_new(address).is_some(),
+    }
+}
+
+/// Says why nothing can be reported of a root: the dump lacks its table, and the command isn't a walk, which says that itself.
+pub fn root_failure<S: ByteSource>(
+    dump: &Dump<S>,
+    command: &Command,
+    root: PhysFrame<Size4KiB>,
+) -> Option<Failure>
+    ensures { S.IsKnown →
+        result ≡ program.root_failure command.now (words_of_dump (opened S.bytes dump.now)) root }
+{
+    if matches!(command, Command::Walk(_)) || dump.has_frame(root) {
+        return None;
+    }
+    let root = root.start_address().as_u64();
+    Some(Failure::NoRoot { root })
+}

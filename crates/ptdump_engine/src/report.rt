@@ -1,0 +1,135 @@
+//! Reports of regions, mappings, walks and searches.
+ghost use Rattle.std.specs.Prelude.{◌≡◌, ◌<◌, ◌^◌, All, OnOk, IfOk};
+ghost use Rattle.std.specs.List.{list_any};
+ghost use Rattle.x86_64_model.specs.Mappings.{mappings_of};
+ghost use Rattle.x86_64_summaries.specs.Wanted.{leads_to};
+ghost use Rattle.ptdump_engine.specs.Loaded.{IsLoaded, words_loaded};
+ghost use Rattle.ptdump_engine.specs.Output.{Puts};
+ghost use Rattle.ptdump_engine.specs.Reports as reports;
+
+use crate::failure::Failure;
+use crate::finder::Finder;
+use crate::loaded::Loaded;
+use crate::output::Output;
+
+use crate::walk::write_walk;
+use std::alloc::Global;
+use std::io::Write;
+use x86_64_addr::addr::{PhysAddr, VirtAddrIn};
+use x86_64_addr::level_count::LevelCount;
+use x86_64_summaries::{Summaries, visit_mappings, visit_regions};
+use x86_64_tables::phys_memory::{IdentityMapping, PhysMemory};
+
+/// Writes a line for each region.
+///
+/// # Errors
+///
+/// If memory is refused, or a write fails.
+#[tactic(auto, unfolding(crate::specs::Reports::regions_text))]
+pub fn write_regions<L: LevelCount, W: Write>(
+    loaded: &Loaded<'_, L>,
+    output: &mut Output<'_, W>,
+) -> Result<(), Failure>
+    requires { IsLoaded loaded.now }
+    ensures { let text = reports.regions_text L.LEVELS (words_loaded loaded.now) loaded.now.root in
+        OnOk result (Puts W.contents output.old output.new text) }
+{
+    visit_regions::<L, PhysMemory, IdentityMapping, Output<'_, W>>(
+        loaded.summaries,
+        loaded.root,
+        output,
+    )
+}
+
+/// Writes a line for each mapping.
+///
+/// # Errors
+///
+/// If memory is refused, or a write fails.
+#[tactic(auto, unfolding(crate::specs::Reports::pages_text))]
+pub fn write_pages<L: LevelCount, W: Write>(
+    loaded: &Loaded<'_, L>,
+    output: &mut Output<'_, W>,
+) -> Result<(), Failure>
+    requires { IsLoaded loaded.now }
+    ensures { let text = reports.pages_text L.LEVELS (words_loaded loaded.now) loaded.now.root in
+        OnOk result (Puts W.contents output.old output.new text) }
+{
+    visit_mappings::<L, PhysMemory, IdentityMapping, Output<'_, W>>(
+        loaded.summaries,
+        loaded.root,
+        output,
+    )
+}
+
+/// Writes the walks to addresses, and tells whether all arrive.
+///
+/// # Errors
+///
+/// If memory is refused, or a write fails.
+pub fn write_walks<L: LevelCount, W: Write>(
+    loaded: &Loaded<'_, L>,
+    addresses: &[u64],
+    output: &mut Output<'_, W>,
+) -> Result<bool, Failure>
+    ensures text { let text = reports.walks_text L.LEVELS (words_loaded loaded.now) loaded.now.root addresses.now in
+        OnOk result (Puts W.contents output.old output.new text) }
+    ensures complete { let complete = reports.all_arrive L.LEVELS (words_loaded loaded.now) loaded.now.root addresses.now in
+        IfOk result (λ all. all ≡ complete) }
+{
+    let mut is_complete = true;
+    for address in addresses {
+        let address = VirtAddrIn::<L>::new_truncate(*address);
+        is_complete &= write_walk(loaded, address, output)?;
+    }
+    Ok(is_complete)
+}
+
+/// Writes the virtual addresses that lead to physical ones, and tells whether each of these is found.
+///
+/// # Errors
+///
+/// If memory is refused, or a write fails.
+pub fn write_found<L: LevelCount, W: Write>(
+    alloc: Global,
+    loaded: &Loaded<'_, L>,
+    addresses: &[u64],
+    output: &mut Output<'_, W>,
+) -> Result<bool, Failure>
+    requires { All (λ a. a < 2 ^ 52) addresses.now }
+    ensures text { let text = reports.find_text L.LEVELS (words_loaded loaded.now) loaded.now.root addresses.now in
+        OnOk result (Puts W.contents output.old output.new text) }
+    ensures complete { let complete = reports.all_found L.LEVELS (words_loaded loaded.now) loaded.now.root addresses.now in
+        IfOk result (λ all. all ≡ complete) }
+{
+    let mut is_complete = true;
+    for address in addresses {
+        let physical = PhysAddr::new(*address);
+        is_complete &= write_addresses_to(alloc, loaded, physical, output)?;
+    }
+    Ok(is_complete)
+}
+
+/// Writes the virtual addresses that lead to a physical one, and tells whether there are any.
+fn write_addresses_to<L: LevelCount, W: Write>(
+    alloc: Global,
+    loaded: &Loaded<'_, L>,
+    physical: PhysAddr,
+    output: &mut Output<'_, W>,
+) -> Result<bool, Failure>
+    ensures text { let text = reports.addresses_text L.LEVELS (words_loaded loaded.now) loaded.now.root physical in
+        OnOk result (Puts W.contents output.old output.new text) }
+    ensures found { let mappings = mappings_of L.LEVELS (words_loaded loaded.now) loaded.now.root in
+        IfOk result (λ found. found ≡ list_any (leads_to physical) mappings) }
+{
+    let memory = loaded.tables.memory();
+    let frames = loaded.tables.frames();
+    let summaries = Summaries::new(alloc, memory, &IdentityMapping, frames, Some(physical))?;
+    let mut finder = Finder::new(output, physical);
+    visit_mappings::<L, PhysMemory, IdentityMapping, Finder<'_, '_, W>>(
+        &summaries,
+        loaded.root,
+        &mut finder,
+    )?;
+    Ok(finder.is_found)
+}

@@ -1,0 +1,150 @@
+//! The walks to addresses.
+ghost use Rattle.std.specs.Prelude.{◌≡◌, ◌≤◌, ◌+◌, ◌%◌, true, OnOk, IfOk};
+ghost use Rattle.x86_64_dump_tables.specs.Loaded.{words_in};
+ghost use Rattle.x86_64_mappings.specs.Views.{seen_rights};
+ghost use Rattle.x86_64_model.specs.Mappings.{Rights, maps_page as page_mapped};
+ghost use Rattle.x86_64_model.specs.Memory.{words_of, identity_places};
+ghost use Rattle.x86_64_model.specs.PageWalk.{page_start};
+ghost use Rattle.x86_64_model.specs.Position.{span as span_of};
+ghost use Rattle.ptdump_engine.specs.Loaded.{words_loaded};
+ghost use Rattle.ptdump_engine.specs.Output.{Puts};
+ghost use Rattle.ptdump_engine.specs.Walks as walks;
+ghost use Rattle.ptdump_engine.specs.private.WalkLines.{lines_below, is_arrival};
+
+use crate::access::Access;
+use crate::failure::Failure;
+use crate::loaded::Loaded;
+use crate::output::Output;
+use bitflags::Flags;
+use std::io::Write;
+use x86_64_addr::addr::VirtAddrIn;
+use x86_64_addr::level_count::LevelCount;
+use x86_64_mappings::{maps_page, span};
+use x86_64_page::frame::PhysFrame;
+use x86_64_page::page::Size4KiB;
+use x86_64_tables::page_table::{PageTableEntry, PageTableFlags};
+use x86_64_tables::phys_memory::{
+    IdentityMapping, PhysMemory, Rights, has_flag, index_of, table_in,
+};
+
+/// Writes the walk to an address, a line for each word that it reads and one for its end, and tells whether it arrives.
+///
+/// # Errors
+///
+/// If memory is refused, or a write fails.
+pub fn write_walk<L: LevelCount, W: Write>(
+    loaded: &Loaded<'_, L>,
+    address: VirtAddrIn<L>,
+    output: &mut Output<'_, W>,
+) -> Result<bool, Failure>
+    ensures text { let walk = walks.walk_of L.LEVELS (words_loaded loaded.now) loaded.now.root address in
+        OnOk result (Puts W.contents output.old output.new (walks.walk_text walk)) }
+    ensures arrives { let walk = walks.walk_of L.LEVELS (words_loaded loaded.now) loaded.now.root address in
+        IfOk result (λ arrives. arrives ≡ is_arrival walk.end) }
+{
+    let memory = loaded.tables.memory();
+    let position = address.position();
+    walk_on(memory, position, L::LEVELS, loaded.root, Rights::ALL, output)
+}
+
+/// Writes how the walk to a position goes on from a frame's table of a level, below words that allow so much.
+fn walk_on<W: Write>(
+    memory: &PhysMemory,
+    position: u64,
+    level: u64,
+    frame: PhysFrame<Size4KiB>,
+    above: Rights,
+    output: &mut Output<'_, W>,
+) -> Result<bool, Failure>
+    requires low { 1 ≤ level }
+    requires high { level ≤ 5 }
+    ensures text { let walk = walks.walk_from (words_of memory.now identity_places) position level frame in
+        OnOk result (Puts W.contents output.old output.new (lines_below (seen_rights above) walk)) }
+    ensures arrives { let walk = walks.walk_from (words_of memory.now identity_places) position level frame in
+        IfOk result (λ arrives. arrives ≡ is_arrival walk.end) }
+{
+    let Some(table) = table_in(memory, &IdentityMapping, frame) else {
+        write_missing(frame, output)?;
+        return Ok(false);
+    };
+    let index = index_of(position, level);
+    let entry = &table[index];
+    write_word(level, frame, index, entry, output)?;
+    let rights = above.below(entry);
+    if !has_flag(entry, PageTableFlags::PRESENT) {
+        writeln!(output, "not present")?;
+        return Ok(false);
+    }
+    if maps_page(level, entry) {
+        write_arrival(position, level, entry, rights, output)?;
+        return Ok(true);
+    }
+    if has_flag(entry, PageTableFlags::HUGE_PAGE) {
+        write_huge(level, output)?;
+        return Ok(false);
+    }
+    let below = PhysFrame::from_start_address_unchecked(entry.addr());
+    walk_on(memory, position, level - 1, below, rights, output)
+}
+
+/// Writes that the table in a frame isn't there.
+fn write_missing<W: Write>(
+    frame: PhysFrame<Size4KiB>,
+    output: &mut Output<'_, W>,
+) -> Result<(), Failure>
+    ensures { (r : Rights) → OnOk result (Puts W.contents output.old output.new
+        (walks.line (walks.end_text r (walks.no_table frame)))) }
+{
+    let start = frame.start_address().as_u64();
+    writeln!(output, "table 0x{start:x} is not in the dump")
+}
+
+/// Writes a word that a walk reads.
+fn write_word<W: Write>(
+    level: u64,
+    frame: PhysFrame<Size4KiB>,
+    index: usize,
+    entry: &PageTableEntry,
+    output: &mut Output<'_, W>,
+) -> Result<(), Failure>
+    ensures { let read = record { level = level; table = frame; index = index; word = entry.now } in
+        OnOk result (Puts W.contents output.old output.new (walks.line (walks.word_text read))) }
+{
+    let table = frame.start_address().as_u64();
+    let word = word_of(entry);
+    writeln!(output, "level {level} 0x{table:x}[{index}] 0x{word:x}")
+}
+
+/// Writes that a word of a level has `HUGE_PAGE`, though none of the level maps a page.
+fn write_huge<W: Write>(level: u64, output: &mut Output<'_, W>) -> Result<(), Failure>
+    ensures { (r : Rights) → OnOk result (Puts W.contents output.old output.new
+        (walks.line (walks.end_text r (walks.huge_page level)))) }
+{
+    writeln!(output, "HUGE_PAGE at level {level}")
+}
+
+/// Writes that a walk arrives in the page that an entry of a level maps, with what all entries allow.
+fn write_arrival<W: Write>(
+    position: u64,
+    level: u64,
+    entry: &PageTableEntry,
+    rights: Rights,
+    output: &mut Output<'_, W>,
+) -> Result<(), Failure>
+    requires low { 1 ≤ level }
+    requires page { page_mapped level entry.now ≡ true }
+    ensures { let address = page_start level entry.now + position % span_of level in
+        OnOk result (Puts W.contents output.old output.new (walks.line (walks.access_text address (seen_rights rights)))) }
+{
+    let size = span(level);
+    let address = entry.addr().as_u64() / size * size + position % size;
+    let access = Access { address, rights };
+    writeln!(output, "{access}")
+}
+
+/// Gives the word of an entry.
+fn word_of(entry: &PageTableEntry) -> u64
+    ensures { result ≡ entry.now }
+{
+    entry.addr().as_u64() | entry.flags().bits()
+}

@@ -1,0 +1,13 @@
+use Rattle.std.proofs.Common.{◌≡◌, ◌+◌, length, take}
+use Rattle.x86_64_model.specs.private.Found.{every_right}
+use Rattle.x86_64_summaries.specs.Summaries.{summary_of}
+use Rattle.x86_64_summaries.specs.Wanted.{asked_of}
+use Rattle.x86_64_summaries.specs.private.Known.{asking}
+use Rattle.x86_64_summaries.specs.private.Targets.{asked_on}
+use Rattle.x86_64_summaries.proofs.summaries.table_summary.Given as goal
+
+-- the sum is that of the entries so far
+abbrev pub invariant-loop-entry : goal.invariant-loop-entry
+invariant-loop-entry g l =
+    let asked = asked_of g.T.TableMemory.tables g.P.PageTableFrameMapping.places (asking l.query) in
+    l.sum ≡ summary_of (asked_on asked (length l.below + 1) 0 every_right (take l.entry-index l.entry-items))

@@ -1,0 +1,6 @@
+pub mod Merged
+pub mod Placed
+pub mod Targets
+pub mod Known
+pub mod Joined
+pub mod Extents

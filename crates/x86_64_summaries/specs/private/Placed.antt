@@ -1,0 +1,11 @@
+-- Mappings placed: those of a table, as they are seen from the tables above it.
+use Rattle.std.specs.Prelude.{ℕ, ◌+◌, ◌&&◌}
+use Rattle.x86_64_model.specs.Mappings.{Rights, Mapping}
+
+-- what both allow
+abbrev pub both : (r s : Rights) → Rights
+both r s = record { write = r.write && s.write; user = r.user && s.user; execute = r.execute && s.execute }
+
+-- a mapping of a table whose span starts at a position, below words with rights r
+abbrev pub placed : (start : ℕ) → Rights → Mapping → Mapping
+placed s r m = record { start = s + m.start; size = m.size; frame = m.frame; flags = m.flags; rights = both r m.rights }

@@ -1,0 +1,85 @@
+//! What mappings are together.
+ghost use Rattle.std.specs.Prelude.{◌≡◌, ◌+◌, IfSome};
+ghost use Rattle.x86_64_summaries.specs.private.Merged as merged;
+
+use x86_64_tables::phys_memory::Rights;
+
+/// Says what mappings are together.
+#[derive(Clone, Copy)]
+pub struct Summary {
+    /// How many there are.
+    pub count: u64,
+    /// How many bytes they map.
+    pub bytes: u64,
+    /// The rights that some mapping has.
+    pub some: Rights,
+    /// The rights that all mappings have, which are all rights where there is no mapping.
+    pub all: Rights,
+}
+
+impl Summary {
+    /// What no mappings are together.
+    pub(crate) const NONE: Summary = Summary {
+        count: 0,
+        bytes: 0,
+        some: Rights {
+            write: false,
+            user: false,
+            execute: false,
+        },
+        all: Rights::ALL,
+    };
+
+    /// Says what one mapping is, by its size and what it allows.
+    pub(crate) fn of_one(bytes: u64, rights: Rights) -> Summary
+        ensures { result ≡ record { count = 1; bytes = bytes; some = rights; all = rights } }
+    {
+        Summary {
+            count: 1,
+            bytes,
+            some: rights,
+            all: rights,
+        }
+    }
+
+    /// Says what these mappings and others are together, or gives `None` if the numbers don't fit.
+    pub(crate) fn with(self, others: Summary) -> Option<Summary>
+        ensures { IfSome result (λ both. both ≡ merged.joined self others) }
+    {
+        Some(Summary {
+            count: self.count.checked_add(others.count)?,
+            bytes: self.bytes.checked_add(others.bytes)?,
+            some: Rights {
+                write: self.some.write || others.some.write,
+                user: self.some.user || others.some.user,
+                execute: self.some.execute || others.some.execute,
+            },
+            all: common(self.all, others.all),
+        })
+    }
+
+    /// Says what the mappings are below entries that allow so much.
+    pub(crate) fn below(self, above: Rights) -> Summary
+        ensures { result ≡ merged.lessened above self }
+    {
+        if self.count == 0 {
+            return self;
+        }
+        Summary {
+            some: common(above, self.some),
+            all: common(above, self.all),
+            ..self
+        }
+    }
+}
+
+/// Gives what both allow.
+fn common(some: Rights, others: Rights) -> Rights
+    ensures { result ≡ merged.both some others }
+{
+    Rights {
+        write: some.write && others.write,
+        user: some.user && others.user,
+        execute: some.execute && others.execute,
+    }
+}

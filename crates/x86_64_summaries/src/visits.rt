@@ -1,0 +1,145 @@
+//! Visits of mappings.
+ghost use Rattle.std.specs.Prelude.{◌≡◌, ◌<◌, ◌≤◌, ◌+◌, ◌*◌, ◌%◌, OnOk, map, length, true, []};
+ghost use Rattle.x86_64_mappings.specs.Views.{seen_rights};
+ghost use Rattle.x86_64_model.specs.Position.{span as span_of, position_count};
+ghost use Rattle.x86_64_summaries.specs.Wanted.{asked_of, asked_mappings};
+ghost use Rattle.x86_64_summaries.specs.private.Placed.{placed};
+ghost use Rattle.x86_64_summaries.specs.private.Targets.{asked_on};
+ghost use Rattle.x86_64_summaries.specs.private.Known.{asking};
+
+use crate::entries::{Target, target_of};
+use crate::query::Query;
+use crate::summaries::Summaries;
+use crate::visitor::Visitor;
+use x86_64_addr::level_count::LevelCount;
+use x86_64_mappings::{MappingIn, span};
+use x86_64_page::frame::PhysFrame;
+use x86_64_page::page::Size4KiB;
+use x86_64_tables::page_table::{PageTableEntry, PageTableFlags};
+use x86_64_tables::phys_memory::{PageTableFrameMapping, Rights, TableMemory, has_flag};
+
+/// Visits all wanted mappings below a root, in order of their starts.
+///
+/// A table that is known to map nothing that is wanted is passed over.
+///
+/// # Errors
+///
+/// That of the visitor, which ends the visits.
+pub fn visit_mappings<
+    L: LevelCount,
+    T: TableMemory,
+    P: PageTableFrameMapping,
+    V: Visitor<MappingIn<L>>,
+>(
+    summaries: &Summaries<'_, T, P>,
+    root: PhysFrame<Size4KiB>,
+    visitor: &mut V,
+) -> Result<(), V::Error>
+    ensures { let asked = asked_of T.tables P.places summaries.now in
+        OnOk result (V.Visits visitor.old visitor.new (asked_mappings asked L.LEVELS root)) }
+{
+    visit_table::<L, T, P, V>(summaries, L::LEVELS, root, 0, Rights::ALL, visitor)
+}
+
+/// Visits the wanted mappings of a table of a level, whose span starts at a position, below entries that allow so much.
+fn visit_table<L: LevelCount, T: TableMemory, P: PageTableFrameMapping, V: Visitor<MappingIn<L>>>(
+    summaries: &Summaries<'_, T, P>,
+    level: u64,
+    frame: PhysFrame<Size4KiB>,
+    start: u64,
+    above: Rights,
+    visitor: &mut V,
+) -> Result<(), V::Error>
+    requires low { 1 ≤ level }
+    requires high { level ≤ 5 }
+    requires aligned { start % span_of level ≡ 0 }
+    requires inside { start + 512 * span_of level ≤ position_count L.LEVELS }
+    ensures { let asked = asked_of T.tables P.places summaries.now in
+        let mappings = map (placed start (seen_rights above)) (asked_mappings asked level frame) in
+        OnOk result (V.Visits visitor.old visitor.new mappings) }
+{
+    let query = summaries.query();
+    let Some(table) = query.table(frame) else {
+        return Ok(());
+    };
+    let entries = table.as_slice();
+    if level == 1 {
+        return visit_small_pages::<L, T, P, V>(query, entries, start, above, visitor);
+    }
+    let size = span(level);
+    let mut start = start;
+    for entry in entries {
+        match target_of(level, entry) {
+            Target::Page => {
+                let page = MappingIn::of_page(level, start, entry, above);
+                if query.wants(&page) {
+                    visitor.visit(page)?;
+                }
+            }
+            Target::Table(frame) => {
+                if !maps_nothing(summaries, level - 1, frame) {
+                    visit_table::<L, T, P, V>(
+                        summaries,
+                        level - 1,
+                        frame,
+                        start,
+                        above.below(entry),
+                        visitor,
+                    )?;
+                }
+            }
+            Target::Nothing => {}
+        }
+        start += size;
+    }
+    Ok(())
+}
+
+/// Tells whether it is known that a table maps nothing that is wanted.
+fn maps_nothing<T: TableMemory, P: PageTableFrameMapping>(
+    summaries: &Summaries<'_, T, P>,
+    level: u64,
+    frame: PhysFrame<Size4KiB>,
+) -> bool
+    ensures { let asked = asked_of T.tables P.places summaries.now in
+        result ≡ true → asked_mappings asked level frame ≡ [] }
+{
+    match summaries.of(level, frame) {
+        Some(summary) => summary.count == 0,
+        None => false,
+    }
+}
+
+/// Visits the wanted mappings by the entries of a table of level one, whose span starts at a position, below entries that allow so
+/// much.
+fn visit_small_pages<
+    L: LevelCount,
+    T: TableMemory,
+    P: PageTableFrameMapping,
+    V: Visitor<MappingIn<L>>,
+>(
+    query: &Query<'_, T, P>,
+    entries: &[PageTableEntry],
+    start: u64,
+    above: Rights,
+    visitor: &mut V,
+) -> Result<(), V::Error>
+    requires size { length entries.now ≡ 512 }
+    requires aligned { start % span_of 1 ≡ 0 }
+    requires inside { start + 512 * span_of 1 ≤ position_count L.LEVELS }
+    ensures { let asked = asked_of T.tables P.places (asking query.now) in
+        let mappings = asked_on asked 1 start (seen_rights above) entries.now in
+        OnOk result (V.Visits visitor.old visitor.new mappings) }
+{
+    let mut start = start;
+    for entry in entries {
+        if has_flag(entry, PageTableFlags::PRESENT) {
+            let page = MappingIn::of_page(1, start, entry, above);
+            if query.wants(&page) {
+                visitor.visit(page)?;
+            }
+        }
+        start += 4096;
+    }
+    Ok(())
+}
