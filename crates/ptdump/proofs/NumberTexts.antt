@@ -1,8 +1,10 @@
 -- Texts of numbers.
-use Rattle.std.proofs.Common.{◌≡◌, ◌<◌, ℕ, List, [], ◌∷◌, ◌++◌, ◌∙◌, length, get_or, map, sym, ap, subst}
+use Rattle.std.proofs.Common.{◌≡◌, ◌<◌, ℕ, List, [], ◌∷◌, ◌++◌, ◌∙◌, Option, None, Some, length, get_or, map, option_map, unwrap_or, sym, ap, subst}
 use Rattle.std.proofs.lemmas.List.{map_push, length-map}
 use Rattle.std.proofs.lemmas.List.Elements.{All-push}
 use Rattle.std.proofs.Math.ListN.{get_or-map}
+use Rattle.clap.specs.Matches.{raw_values}
+use Rattle.clap.specs.declared.parser.matches.MatchedArg.{MatchedArg}
 use Rattle.std.specs.Borrow.{Bor}
 use Rattle.x86_64_numbers.specs.Numbers.{IsNumber, number_of}
 use Rattle.ptdump.specs.Requests.{AreNumbers}
@@ -17,3 +19,9 @@ pub number_at : (texts : List (Bor (List ℕ))) (numbers : List ℕ) (i : ℕ) (
 number_at texts numbers i d below are =
     let now : Bor (List ℕ) → List ℕ = λ text. text.now in
     subst IsNumber (get_or-map now texts i d) (are.0 i (now d) (subst (λ n. i < n) (sym (length-map texts now)) below))
+
+-- the texts that are given are those of the values
+pub texts_given : (texts : Option (Bor (List (Bor (List ℕ))))) (none : Bor (List (Bor (List ℕ)))) (all : Option MatchedArg) → none.now ≡ []
+    → option_map (λ s. map (λ v. v.now) s.now) texts ≡ option_map raw_values all → map (λ v. v.now) (unwrap_or texts none).now ≡ unwrap_or (option_map raw_values all) []
+texts_given None none all empty same = ap (map (λ (v : Bor (List ℕ)). v.now)) empty ∙ ap (λ (o : Option (List (List ℕ))). unwrap_or o []) same
+texts_given (Some texts) none all empty same = ap (λ (o : Option (List (List ℕ))). unwrap_or o []) same

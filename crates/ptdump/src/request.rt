@@ -1,10 +1,10 @@
 //! Requests, made of the words of a command line.
-ghost use Rattle.std.specs.Prelude.{◌≡◌, ℕ, Option, IfOk, IfErr, codes, map};
+ghost use Rattle.std.specs.Prelude.{ℕ, Option, IfOk, IfErr, map};
 ghost use Rattle.std.specs.Option.{option_copied};
 ghost use Rattle.std.specs.Result.{OkIff};
 ghost use Rattle.clap.specs.Matches.{found_of};
 ghost use Rattle.x86_64_numbers.specs.Numbers.{IsNumber, number_of};
-ghost use Rattle.ptdump.specs.Requests.{AreNumbers, IsCommand, IsLevels, IsOption, IsRequest, IsRefused, IsUnread, values};
+ghost use Rattle.ptdump.specs.Requests.{AreNumbers, IsCommand, IsLevels, IsOption, IsRequest, IsRefused, IsUnread};
 ghost use Rattle.ptdump_engine.specs.declared.request.Levels.{Levels};
 
 use crate::stop::Stop;
@@ -26,20 +26,14 @@ pub fn request_of<'a>(
     ensures ok { IfOk result (IsRequest name.now (found_of arguments.now)) }
     ensures err { IfErr result (IsRefused name.entry (IsRequest name.now (found_of arguments.now))) }
 {
+    let addresses = arguments.get_strs("addresses").unwrap_or(&[]);
     Ok(Request {
-        command: command_of(alloc, name, addresses_of(arguments))?,
+        command: command_of(alloc, name, addresses)?,
         cr3: option_of("--cr3", arguments.get_str("cr3"))?,
         levels: levels_of(arguments.get_str("levels"))?,
         base: option_of("--base", arguments.get_str("base"))?,
         cpu: option_of("--cpu", arguments.get_str("cpu"))?,
     })
-}
-
-/// Returns the texts of the addresses that are given.
-fn addresses_of<'m, 'a>(arguments: &'m ArgMatches<'a>) -> &'m [&'a str]
-    ensures { map (λ text. text.now) result.now ≡ values (found_of arguments.now) (codes "addresses") }
-{
-    arguments.get_strs("addresses").unwrap_or(&[])
 }
 
 /// Returns the command of a name, with its addresses.
