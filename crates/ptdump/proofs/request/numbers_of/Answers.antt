@@ -19,7 +19,7 @@ loop-text-preserved c =
     let numbers = c.in_ok-push.ensures.items ∙ ap (λ (n : ℕ). c.loop-text.numbers.items ++ n ∷ []) number.1 in
     subst (λ (ts : List (List ℕ)). AreNumbers ts c.push.new.self.items) (sym texts)
     (subst (λ (ns : List ℕ). AreNumbers (before ++ text ∷ []) ns) (sym numbers)
-        (numbers_more before c.loop-text.numbers.items text c.loop-text.invariant number.0))
+    (numbers_more before c.loop-text.numbers.items text c.loop-text.invariant number.0))
 
 pub returns-in_err-number_of-clause-err : goal.returns-in_err-number_of-clause-err
 unfolding nothing

@@ -9,7 +9,7 @@ use Rattle.ptdump.proofs.request.request_of.Goals as goal
 pub returns-in_err-command_of-clause-err : goal.returns-in_err-command_of-clause-err
 returns-in_err-command_of-clause-err c =
     let texts = ap (λ (s : Bor (List (Bor (List ℕ)))). map (λ (v : Bor (List ℕ)). v.now) s.now) c.unwrap_or-addresses.ensures
-        ∙ texts_given c.get_strs.result _ _ refl c.get_strs.ensures in
+    ∙ texts_given c.get_strs.result _ _ refl c.get_strs.ensures in
     let refused : IsRefused c.args.name (IsRequest c.args.name.now (found_of c.args.arguments.now)) c.in_err-command_of.field-0.0 =
     elim c.in_err-command_of.ensures.err [
       | inl unknown ↦ inl unknown
