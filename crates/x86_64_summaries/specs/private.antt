@@ -2,3 +2,5 @@ pub mod Merged
 pub mod Placed
 pub mod Targets
 pub mod Known
+pub mod Joined
+pub mod Extents

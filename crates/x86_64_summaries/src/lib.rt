@@ -4,11 +4,13 @@
 
 mod entries;
 mod query;
+mod regions;
 mod summaries;
 mod summary;
 mod visitor;
 mod visits;
 
+pub use regions::visit_regions;
 pub use summaries::Summaries;
 pub use summary::Summary;
 pub use visitor::Visitor;

@@ -1,0 +1,67 @@
+//! Regions that are joined as they are found.
+ghost use Rattle.std.specs.Prelude.{◌≡◌, OnOk, None};
+ghost use Rattle.x86_64_summaries.specs.private.Joined.{JoinsRegion, listed};
+
+use crate::visitor::Visitor;
+use std::marker::Model;
+use x86_64_addr::level_count::LevelCount;
+use x86_64_mappings::RegionIn;
+
+/// Joins regions that come in order, as far as each follows on the one before, and hands them to a visitor. It is seen as the
+/// region that is held back, since it may still grow.
+#[derive(Clone, Copy)]
+pub(super) struct Joiner<L: LevelCount> {
+    held: Option<RegionIn<L>>,
+}
+
+impl<L: LevelCount> Model for Joiner<L> {
+    ghost use Rattle.std.specs.Prelude.{Option, refl};
+    ghost use Rattle.x86_64_model.specs.Regions.{Region};
+
+    ghost Value = { Option Region };
+
+    ghost view = { λ joiner. joiner.held };
+
+    ghost inverse = { λ held. record { held = held } };
+
+    ghost inverse_ok = { λ held _. refl };
+}
+
+impl<L: LevelCount> Joiner<L> {
+    /// Holds no region back.
+    pub(super) fn new() -> Joiner<L>
+        ensures { result ≡ None }
+    {
+        Joiner { held: None }
+    }
+
+    /// Takes a region that comes behind those that it took.
+    pub(super) fn push<V: Visitor<RegionIn<L>>>(
+        &mut self,
+        region: RegionIn<L>,
+        visitor: &mut V,
+    ) -> Result<(), V::Error>
+        ensures { let joins = JoinsRegion V.Visits L.LEVELS region in
+            OnOk result (joins self.old visitor.old self.new visitor.new) }
+    {
+        if let Some(held) = self.held {
+            if held.is_followed_by(&region) {
+                self.held = Some(held.grown_to(&region));
+                return Ok(());
+            }
+            visitor.visit(held)?;
+        }
+        self.held = Some(region);
+        Ok(())
+    }
+
+    /// Hands out the region that is held back, behind which none comes.
+    pub(super) fn finish<V: Visitor<RegionIn<L>>>(self, visitor: &mut V) -> Result<(), V::Error>
+        ensures { OnOk result (V.Visits visitor.old visitor.new (listed self)) }
+    {
+        match self.held {
+            Some(region) => visitor.visit(region),
+            None => Ok(()),
+        }
+    }
+}
