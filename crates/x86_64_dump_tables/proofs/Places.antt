@@ -8,7 +8,7 @@ use Rattle.std.specs.Ordering.{nat_cmp, eq_by_cmp}
 use Rattle.std.proofs.lemmas.Bool.{cases_eq}
 use Rattle.std.proofs.lemmas.List.{take_all}
 use Rattle.std.proofs.lemmas.List.Folds.{list_any_at, list_any_more, list_any-append}
-use Rattle.std.proofs.Math.Bool.{or_assoc}
+use Rattle.std.proofs.Math.Bool.{or_assoc, or-false, or-true}
 use Rattle.x86_64_model.specs.Entry.{is_frame, address}
 use Rattle.x86_64_model.proofs.Lemmas.Entries.Bits.{same_frame}
 use Rattle.x86_64_model.proofs.Lemmas.Entries.Words.{address-multiple, address_aligned}
@@ -28,10 +28,6 @@ same_number f g a b = ⊎_elim
     (λ same. ap (λ n. f / 4096 == n / 4096) (sym same) ∙ eq-eqb (f / 4096) (f / 4096) refl ∙ sym (eq-eqb f g same))
     (λ other. ne_eqb (f / 4096) (g / 4096) (λ same. other (same_frame f g a b same)) ∙ sym (ne_eqb f g other))
     (cases_eq f g)
-
-or-false : (b : Bool) → (b || false) ≡ b
-or-false true = refl
-or-false false = refl
 
 -- one more number
 number_added : (numbers : List ℕ) (f g : ℕ) → is_frame f ≡ true → g % 4096 ≡ 0 → g < 2 ^ 52 → has_number (numbers ++ g / 4096 ∷ []) f ≡ (has_number numbers f || (f == g))
@@ -100,10 +96,6 @@ place_filled W numbers i memory words within read held place =
   where
     one_more : (b : Bool) → (place == get_or numbers i 0) ≡ b → list_any (λ n. place == n) (take (i + 1) numbers) ≡ (list_any (λ n. place == n) (take i numbers) || b)
     one_more b is = list_any_more (λ n. place == n) numbers i 0 within ∙ ap (λ b. list_any (λ n. place == n) (take i numbers) || b) is
-
-    or-true : (b : Bool) → (b || true) ≡ true
-    or-true true = refl
-    or-true false = refl
 
     here : place ≡ get_or numbers i 0 → cond (eq_by_cmp nat_cmp place (get_or numbers i 0)) (Some words) (get memory place) ≡ cond (list_any (λ n. place == n) numbers) (so_far W numbers (i + 1) place) None
     here same =
