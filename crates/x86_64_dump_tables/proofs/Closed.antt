@@ -1,6 +1,6 @@
 -- The tables by level are closed: each that a word of one of them names is one of the level below, or isn't there.
-use Rattle.std.proofs.Common.{◌≡◌, ◌⊎◌, inl, inr, ⊎_elim, ℕ, zero, suc, ◌<◌, ◌+◌, ◌==◌, ◌&&◌, ◌||◌, Bool, true, false, not, cond, List, [], ◌∷◌, ◌++◌, reverse, flat_map, filter_map, get_or, length, Option, Some, None, IsSome, is_some, option_map, refl, sym, ap, ◌∙◌, subst, arith, eq-eqb, eqb-true}
-use Rattle.std.specs.List.{cons_option, fold, list_any}
+use Rattle.std.proofs.Common.{◌≡◌, ◌⊎◌, inl, inr, ⊎_elim, ℕ, zero, suc, ◌==◌, ◌&&◌, ◌||◌, Bool, true, false, not, cond, List, [], ◌∷◌, ◌++◌, reverse, flat_map, filter_map, get_or, Option, Some, None, IsSome, is_some, option_map, refl, sym, ap, ◌∙◌, subst, eq-eqb, eqb-true}
+use Rattle.std.specs.List.{cons_option, fold}
 use Rattle.std.specs.Option.{unwrap_or}
 use Rattle.std.proofs.lemmas.List.Sorted.{IsPermutation-reverse, list_any-IsPermutation}
 use Rattle.x86_64_model.specs.Entry.{has, present, huge, address}
@@ -109,9 +109,11 @@ same_below : (n : ℕ) (T W : Words) (frames : List ℕ) → ((f : ℕ) → W f 
     → (f : ℕ) → In frames f ⊎ (W f ≡ None) → SameBelow n T W f
 same_below zero T W frames none same f h = tt
 same_below (suc n) T W frames none same f (inl h) =
-    let here : T f ≡ W f = same f (ap (λ b. b || is_in (tables_from n W (each_once (flat_map (tables_named W) frames))) f) (in_among frames f h)) in
-    (here, λ i e is there small. same_below n T W (each_once (flat_map (tables_named W) frames)) none (λ g k. same g (later (is_among frames g) _ k)) (address e)
-        (below_or_none W frames f i e h (ap (option_map (λ words. get_or words i 0)) (sym here) ∙ is) there small))
+    let here : T f ≡ W f = same f (ap (λ b. b || is_in (tables_from n W (each_once (flat_map (tables_named W) frames))) f) (in_among frames f h)) in (
+      here,
+      λ i e is there small. same_below n T W (each_once (flat_map (tables_named W) frames)) none (λ g k. same g (later (is_among frames g) _ k)) (address e)
+          (below_or_none W frames f i e h (ap (option_map (λ words. get_or words i 0)) (sym here) ∙ is) there small),
+    )
   where
     later : (a b : Bool) → b ≡ true → (a || b) ≡ true
     later true b h = refl

@@ -1,5 +1,5 @@
 -- Why tables aren't read, and which words a dump lacks.
-use Rattle.std.proofs.Common.{◌≡◌, ℕ, false, cond, Some, None, Result, Ok, Err, ap}
+use Rattle.std.proofs.Common.{◌≡◌, ℕ, false, cond, None, Result, Ok, Err, ap}
 use Rattle.std.specs.Result.{IfErr, IsErrAnd}
 use Rattle.std.specs.Option.{option_map}
 use Rattle.std.specs.Prelude.{length}

@@ -1,5 +1,5 @@
 -- Steps of the loops that list the tables by level.
-use Rattle.std.proofs.Common.{◌≡◌, ℕ, zero, suc, ◌+◌, ◌-◌, ◌<◌, ◌≤◌, List, [], ◌∷◌, ◌++◌, length, take, get_or, map, reverse, flat_map, filter_map, Option, Some, None, refl, sym, ap, ap₂, ◌∙◌, subst, arith, append_assoc, append-nil}
+use Rattle.std.proofs.Common.{◌≡◌, ℕ, zero, suc, ◌+◌, ◌-◌, ◌<◌, ◌≤◌, List, [], ◌∷◌, ◌++◌, length, take, get_or, reverse, flat_map, filter_map, Option, refl, sym, ap, ap₂, ◌∙◌, arith, append_assoc, append-nil}
 use Rattle.std.specs.Prelude.{Vec}
 use Rattle.std.specs.List.{cons_option, fold}
 use Rattle.std.proofs.lemmas.Grind.{flat_map-append, reverse_onto}
@@ -29,14 +29,14 @@ below_more W now frames i d within is =
     ∙ ap (λ fs. fold met [] (flat_map (tables_named W) fs)) (sym (take_more frames i d within))
 
 -- one more level
-pub level_more : {A : Type 0} (W : Words) (frames : List (Vec ℕ A)) (level below : Vec ℕ A) (n k : ℕ) (all : List (List ℕ)) → k < n
-    → frames_of frames ++ tables_from (n + 1 - k) W level.items ≡ all → below.items ≡ each_once (flat_map (tables_named W) level.items)
-    → frames_of (frames ++ level ∷ []) ++ tables_from (n + 1 - (k + 1)) W below.items ≡ all
-level_more W frames level below n k all more so_far next =
+pub level_more : {A : Type 0} (W : Words) (frames more : List (Vec ℕ A)) (level below : Vec ℕ A) (listed : List ℕ) (n k : ℕ) (all : List (List ℕ)) → k < n → more ≡ frames ++ level ∷ []
+    → frames_of frames ++ tables_from (n + 1 - k) W level.items ≡ all → listed ≡ level.items → below.items ≡ each_once (flat_map (tables_named W) listed)
+    → frames_of more ++ tables_from (n + 1 - (k + 1)) W below.items ≡ all
+level_more W frames more level below listed n k all left pushed so_far same next =
     let rest : n + 1 - k ≡ suc (n + 1 - (k + 1)) = omega arith in
-    ap (λ fs. fs ++ tables_from (n + 1 - (k + 1)) W below.items) (map-append (λ frames. frames.items) frames (level ∷ []))
+    ap (λ fs. fs ++ tables_from (n + 1 - (k + 1)) W below.items) (ap frames_of pushed ∙ map-append (λ frames. frames.items) frames (level ∷ []))
     ∙ append_assoc (frames_of frames) (level.items ∷ []) (tables_from (n + 1 - (k + 1)) W below.items)
-    ∙ ap (λ fs. frames_of frames ++ level.items ∷ tables_from (n + 1 - (k + 1)) W fs) next
+    ∙ ap (λ fs. frames_of frames ++ level.items ∷ tables_from (n + 1 - (k + 1)) W fs) (next ∙ ap (λ fs. each_once (flat_map (tables_named W) fs)) same)
     ∙ ap (λ m. frames_of frames ++ tables_from m W level.items) (sym rest)
     ∙ so_far
 
@@ -49,11 +49,11 @@ frames_of-reverse (level ∷ levels) =
     ∙ sym (reverse_onto (frames_of levels) level.items [])
 
 -- the last level
-pub all_levels : {A : Type 0} (W : Words) (frames : List (Vec ℕ A)) (level : Vec ℕ A) (n k root : ℕ) → n ≤ k → k ≤ n
-    → frames_of frames ++ tables_from (n + 1 - k) W level.items ≡ tables_from n W (if_there W root)
-    → frames_of (reverse (frames ++ level ∷ [])) ≡ tables_by_level n W root
+pub all_levels : {A : Type 0} (W : Words) (frames more turned : List (Vec ℕ A)) (level : Vec ℕ A) (n k root : ℕ) → n ≤ k → k ≤ n → more ≡ frames ++ level ∷ [] → turned ≡ reverse more
+    → frames_of frames ++ tables_from (n + 1 - k) W level.items ≡ tables_from n W (if_there W root) → frames_of turned ≡ tables_by_level n W root
 unfolding tables_by_level
-all_levels W frames level n k root low high so_far =
+all_levels W frames more turned level n k root low high pushed is so_far =
     let one : n + 1 - k ≡ suc zero = omega arith in
-    frames_of-reverse (frames ++ level ∷ [])
+    ap frames_of (is ∙ ap reverse pushed)
+    ∙ frames_of-reverse (frames ++ level ∷ [])
     ∙ ap reverse (map-append (λ frames. frames.items) frames (level ∷ []) ∙ ap (λ m. frames_of frames ++ tables_from m W level.items) (sym one) ∙ so_far)

@@ -1,12 +1,12 @@
 -- The numbers of frames, and memories that are filled place by place.
-use Rattle.std.proofs.Common.{◌≡◌, ◌≢◌, ⊎_elim, ℕ, ◌+◌, ◌*◌, ◌/◌, ◌%◌, ◌^◌, ◌<◌, ◌≤◌, ◌==◌, ◌||◌, Bool, true, false, cond, List, [], ◌∷◌, ◌++◌, length, take, get_or, map, Option, Some, None, IsSome, is_some, refl, sym, ap, ap₂, ◌∙◌, subst, arith, eq-eqb, eqb-true, ne_eqb}
+use Rattle.std.proofs.Common.{◌≡◌, ◌≢◌, ⊎_elim, ℕ, ◌+◌, ◌*◌, ◌/◌, ◌%◌, ◌^◌, ◌<◌, ◌≤◌, ◌==◌, ◌||◌, Bool, true, false, cond, List, [], ◌∷◌, ◌++◌, length, take, get_or, Option, Some, None, refl, sym, ap, ap₂, ◌∙◌, arith, eq-eqb, eqb-true, ne_eqb}
 use Rattle.std.specs.Prelude.{Vec}
 use Rattle.std.specs.FinMap.{get, insert, get-insert}
 use Rattle.std.specs.List.{list_any, dedup, dedup_from}
 use Rattle.std.specs.Cmp.{nat_cmp_total}
 use Rattle.std.specs.Ordering.{nat_cmp, eq_by_cmp}
 use Rattle.std.proofs.lemmas.Bool.{cases_eq}
-use Rattle.std.proofs.lemmas.List.{take_all, take_more}
+use Rattle.std.proofs.lemmas.List.{take_all}
 use Rattle.std.proofs.lemmas.List.Folds.{list_any_at, list_any_more, list_any-append}
 use Rattle.std.proofs.Math.Bool.{or_assoc}
 use Rattle.x86_64_model.specs.Entry.{is_frame, address}
@@ -81,9 +81,10 @@ list_any-dedup p (x ∷ xs) = list_any-dedup_from p x xs
 -- a number's frame
 pub number_there : (numbers : List ℕ) (i : ℕ) → i < length numbers → AreNumbers numbers → (is_frame (get_or numbers i 0 * 4096) ≡ true) × (has_number numbers (get_or numbers i 0 * 4096) ≡ true)
 number_there numbers i within below =
-    let n = get_or numbers i 0 in
-    (eq-eqb (address (n * 4096)) (n * 4096) (address-multiple (n * 4096) (omega arith) (below i 0 within)),
-     list_any_at (λ m. n * 4096 / 4096 == m) numbers i 0 within (eq-eqb (n * 4096 / 4096) n (omega arith)))
+    let n = get_or numbers i 0 in (
+      eq-eqb (address (n * 4096)) (n * 4096) (address-multiple (n * 4096) (omega arith) (below i 0 within)),
+      list_any_at (λ m. n * 4096 / 4096 == m) numbers i 0 within (eq-eqb (n * 4096 / 4096) n (omega arith)),
+    )
 
 -- ---- memories
 

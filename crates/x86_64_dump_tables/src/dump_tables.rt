@@ -1,5 +1,5 @@
 //! The tables that a root leads to.
-ghost use Rattle.std.specs.Prelude.{◌≡◌, ℕ, IfOk, IfErr};
+ghost use Rattle.std.specs.Prelude.{◌≡◌, ◌==◌, ℕ, IfOk, IfErr};
 ghost use Rattle.std.specs.FinMap as finite;
 ghost use Rattle.x86_64_dump.specs.Dump.{words_of_dump};
 ghost use Rattle.x86_64_dump.specs.Opened.{opened};
@@ -34,8 +34,8 @@ impl DumpTables {
         &self.memory
     }
 
-    /// Returns the frames of the tables by level, level one first, those of a level in the order in which they are met. A frame
-    /// may stand at several levels.
+    /// Returns the frames of the tables by level, level one first, those of a level in the order in which they are met.
+    /// A frame may stand at several levels.
     pub fn frames(&self) -> &[Vec<PhysFrame<Size4KiB>>]
         ensures { result.now ≡ self.now.frames.items }
     {
@@ -48,12 +48,19 @@ impl DumpTables {
     {
         self.memory.len()
     }
+
+    /// Tells whether there are none, as if the dump lacks the root.
+    pub fn is_empty(&self) -> bool
+        ensures { result ≡ (finite.len self.now.memory == 0) }
+    {
+        self.len() == 0
+    }
 }
 
 /// Reads the tables that a root leads to, those that the dump has, and tells `progress` of each.
 ///
-/// A walk from the root meets the words that the dump has for it, and so finds the same mappings. The memory holds each
-/// table once, whatever names it.
+/// A walk from the root meets the words that the dump has, and so there are the same mappings. The memory holds each table
+/// once, whatever names it.
 ///
 /// # Errors
 ///

@@ -42,10 +42,7 @@ pub fn read_memory<S: ByteSource, G: Progress>(
 }
 
 /// Returns the numbers of frames, in order and each once.
-fn numbers_of(
-    alloc: Global,
-    frames: &[Vec<PhysFrame<Size4KiB>>],
-) -> Result<Vec<u64>, AllocError>
+fn numbers_of(alloc: Global, frames: &[Vec<PhysFrame<Size4KiB>>]) -> Result<Vec<u64>, AllocError>
     ensures numbers { IfOk result (λ numbers. (frame : ℕ) → is_frame frame ≡ true →
         has_number numbers.items frame ≡ is_in (frames_of frames.now) frame) }
     ensures below { IfOk result (λ numbers. AreNumbers numbers.items) }
@@ -90,10 +87,7 @@ fn empty_memory(alloc: Global, places: &[u64]) -> Result<PhysMemory, AllocError>
 /// # Errors
 ///
 /// The error of the read, or one of the kind `UnexpectedEof` if the dump lacks the frame.
-fn read_words<S: ByteSource>(
-    dump: &Dump<S>,
-    frame: PhysFrame<Size4KiB>,
-) -> io::Result<[u64; 512]>
+fn read_words<S: ByteSource>(dump: &Dump<S>, frame: PhysFrame<Size4KiB>) -> io::Result<[u64; 512]>
     ensures words { S.IsKnown → IfOk result (λ words.
         Some words ≡ words_of_dump (opened S.bytes dump.now) frame) }
     ensures succeeds { S.IsKnown → IsSome (words_of_dump (opened S.bytes dump.now) frame) → IsOk result }

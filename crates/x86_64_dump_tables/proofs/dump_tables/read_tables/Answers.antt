@@ -2,6 +2,7 @@ use Rattle.std.proofs.Common.{◌≡◌, List, ℕ, ◌∙◌, sym, ap, subst}
 use Rattle.x86_64_dump.specs.Dump.{words_of_dump}
 use Rattle.x86_64_dump.specs.Opened.{opened}
 use Rattle.x86_64_dump.specs.declared.error.DumpError.{DumpError}
+use Rattle.x86_64_model.specs.Memory.{words_of, identity_places}
 use Rattle.x86_64_dump_tables.specs.Loaded.{MayFail, frames_of}
 use Rattle.x86_64_dump_tables.specs.Tables.{tables_by_level, words_in_frames, AreThere}
 use Rattle.x86_64_dump_tables.proofs.Closed.{same_below_root, levels_are_there}
@@ -15,6 +16,7 @@ use Rattle.x86_64_dump_tables.proofs.dump_tables.read_tables.Goals.{After-read_m
 levels : (g : Over) (c : After-read_memory g) → g.S.ByteSource.IsKnown
     → frames_of c.deref.result.now ≡ tables_by_level g.L.LevelCount.LEVELS (words_of_dump (opened g.S.ByteSource.bytes c.args.dump.now)) c.args.root
 levels g c known = ap frames_of c.deref.ensures.value ∙ c.in_ok-frames.ensures.frames known
+    ∙ ap (λ n. tables_by_level n (words_of_dump (opened g.S.ByteSource.bytes c.args.dump.now)) c.args.root) c.LEVELS.ensures
 
 pub returns-in_err-memory-clause-errors : goal.returns-in_err-memory-clause-errors
 returns-in_err-memory-clause-errors g c =
@@ -29,11 +31,15 @@ returns-in_err-memory-clause-errors g c =
 pub returns-clause-same : goal.returns-clause-same
 returns-clause-same g c known =
     let W = words_of_dump (opened g.S.ByteSource.bytes c.args.dump.now) in
-    same_below_root g.L.LevelCount.LEVELS W c.args.root _ (c.in_ok-memory.ensures.words known
+    same_below_root g.L.LevelCount.LEVELS W c.args.root (words_of c.in_ok-memory.memory identity_places) (c.in_ok-memory.ensures.words known
     ∙ ap (λ frames. words_in_frames frames W) (levels g (goal.at.returns-clause-same g c).After-read_memory known))
 
 pub returns-clause-mappings : goal.returns-clause-mappings
-returns-clause-mappings g c known = same_mappings _ _ _ _ (returns-clause-same g c known)
+returns-clause-mappings g c known =
+    let W = words_of_dump (opened g.S.ByteSource.bytes c.args.dump.now) in
+    same_mappings g.L.LevelCount.LEVELS (words_of c.in_ok-memory.memory identity_places) W c.args.root (returns-clause-same g c known)
 
 pub returns-clause-walks : goal.returns-clause-walks
-returns-clause-walks g c known p = same_walks _ _ _ _ p (returns-clause-same g c known)
+returns-clause-walks g c known p =
+    let W = words_of_dump (opened g.S.ByteSource.bytes c.args.dump.now) in
+    same_walks g.L.LevelCount.LEVELS (words_of c.in_ok-memory.memory identity_places) W c.args.root p (returns-clause-same g c known)
