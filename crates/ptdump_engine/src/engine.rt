@@ -116,7 +116,9 @@ fn report<L: LevelCount, S: ByteSource, W: Write, E: Write, G: Progress>(
         (words_of_dump (opened S.bytes dump.now)) root (W.contents writer.old) (W.contents writer.new)) }
     ensures errors { S.IsKnown → IfErr result IsForced }
 {
-    let tables = read_tables::<L, S, G>(alloc, dump, root, progress)?;
+    let tables = read_tables::<L, S, G>(alloc, dump, root, progress);
+    progress.end();
+    let tables = tables?;
     let memory = tables.memory();
     let summaries = Summaries::new(alloc, memory, &IdentityMapping, tables.frames(), None)?;
     let loaded = Loaded::<L> {

@@ -1,5 +1,5 @@
 -- Frames: the segment that has a frame is found one by one, and the words of a part are those of the file.
-use Rattle.std.proofs.Common.{◌≡◌, ℕ, zero, suc, ◌+◌, ◌*◌, ◌≤◌, ◌<◌, Bool, true, false, cond, List, [], ◌∷◌, Option, Some, None, is_some, map, take, eq-eqb, ◌%◌, ◌^◌, length, refl, ap, sym, ◌∙◌, arith}
+use Rattle.std.proofs.Common.{◌≡◌, ℕ, ◌+◌, ◌*◌, ◌≤◌, ◌<◌, Bool, true, false, cond, List, [], ◌∷◌, Option, Some, None, is_some, map, take, eq-eqb, ◌%◌, ◌^◌, length, refl, ap, sym, ◌∙◌, arith}
 use Rattle.std.specs.List.{find, range_with_len}
 use Rattle.std.specs.Option.{option_map}
 use Rattle.x86_64_model.specs.Entry.{is_frame, address}
@@ -9,7 +9,7 @@ use Rattle.x86_64_dump.specs.declared.segment.Segment.{Segment}
 use Rattle.std.proofs.lemmas.List.{take_all}
 use Rattle.x86_64_dump.specs.Source.{part_of}
 use Rattle.x86_64_model.proofs.Lemmas.Entries.Words.{address-multiple}
-use Rattle.x86_64_dump.proofs.Parts.{Shows, part_shows, u64_shown}
+use Rattle.x86_64_dump.proofs.Parts.{Shows, part_shows, u64_shown, map_range_same}
 
 pub frame_offset_here : (size frame : ℕ) (segment : Segment) (segments : List Segment) → has_frame size frame segment ≡ true → frame_offset size (segment ∷ segments) frame ≡ Some (offset_in segment frame)
 unfolding frame_offset
@@ -22,13 +22,6 @@ frame_offset_later size frame segment segments lacks = ap (λ b. option_map (λ 
 pub frame_offset_nowhere : (size frame : ℕ) → frame_offset size [] frame ≡ None
 unfolding frame_offset
 frame_offset_nowhere size frame = refl
-
-map_range_same : (f g : ℕ → ℕ) (a n : ℕ) → ((i : ℕ) → a ≤ i → i < a + n → f i ≡ g i) → map f (range_with_len a n) ≡ map g (range_with_len a n)
-map_range_same f g a zero same = refl
-map_range_same f g a (suc n) same =
-    let first = same a (omega arith) (omega arith) in
-    let rest = map_range_same f g (a + 1) n (λ i low high. same i (omega arith) (omega arith)) in
-    cc
 
 words_map_shown : (part file : List ℕ) (offset size n : ℕ) → Shows part file offset size → 8 * n ≤ size → map (λ i. u64_at part (0 + 8 * i)) (range_with_len 0 n) ≡ map (λ i. u64_at file (offset + 8 * i)) (range_with_len 0 n)
 words_map_shown part file offset size n shows fits = map_range_same _ _ 0 n (λ i low high. ap (u64_at part) (omega arith) ∙ u64_shown part file (8 * i) offset size shows (omega arith))

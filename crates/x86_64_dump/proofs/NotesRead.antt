@@ -3,7 +3,8 @@ use Rattle.std.proofs.Common.{◌≡◌, ℕ, zero, suc, ◌+◌, ◌-◌, ◌/�
 use Rattle.std.proofs.lemmas.Bool.{lt-leb}
 use Rattle.x86_64_dump.specs.Numbers.{byte_at, u32_at, u64_at}
 use Rattle.x86_64_dump.specs.Source.{part_of}
-use Rattle.x86_64_dump.specs.Notes.{padded, is_qemu, note_at, is_whole, if_qemu, qemu_notes, notes_size, notes_in, notes_within, is_note_cut, register_of}
+use Rattle.x86_64_dump.specs.Notes.{padded, is_qemu, note_at, notes_size, is_note_cut, register_of}
+use Rattle.x86_64_dump.specs.private.NotesLeft.{is_whole, if_qemu, qemu_notes, notes_left_in, notes_within}
 use Rattle.x86_64_dump.specs.declared.note.Note.{Note}
 use Rattle.x86_64_dump.specs.declared.segment.Segment.{Segment}
 use Rattle.x86_64_dump.specs.declared.error.Fault.TheVariants as faults
@@ -124,7 +125,7 @@ nothing = record { kind = 0; offset = 0; address = 0; size = 0 }
 -- there is room for the notes of the next segment
 pub within_step : (file : List ℕ) (segments : List Segment) (i room size rest : ℕ) (segment : Segment) (notes added all : List Note) → drop i segments ≡ segment ∷ drop (suc i) segments → size ≡ notes_size (length file) segment → size ≤ room → rest ≡ room - size
     → ◌≡◌ {A = Result (List Note) Fault} (Ok (notes ++ qemu_notes (size / 12) file segment.offset size)) (Ok added) → notes ++ notes_within room file (drop i segments) ≡ all → added ++ notes_within rest file (drop (i + 1) segments) ≡ all
-unfolding notes_in
+unfolding notes_left_in
 within_step file segments i room size rest segment notes added all here sized fits left told before =
     let own = qemu_notes (size / 12) file segment.offset size in
     let later = notes_within rest file (drop (suc i) segments) in
@@ -147,7 +148,7 @@ pub within_stop : (file : List ℕ) (segments : List Segment) (i room size : ℕ
 within_stop file segments i room size segment notes all here sized full before =
     let closed : nat_le (notes_size (length file) segment) room ≡ false = ap (λ n. nat_le n room) (sym sized) ∙ lt-leb _ _ full in
     let none : notes_within room file (segment ∷ drop (suc i) segments) ≡ [] =
-    ap (λ b. cond b (notes_in file segment ++ notes_within (room - notes_size (length file) segment) file (drop (suc i) segments)) []) closed in
+    ap (λ b. cond b (notes_left_in file segment ++ notes_within (room - notes_size (length file) segment) file (drop (suc i) segments)) []) closed in
     ap Ok (sym before ∙ ap (λ after. notes ++ notes_within room file after) here ∙ ap (λ items. notes ++ items) none ∙ append-nil notes)
 
 pub within_end : (file : List ℕ) (segments : List Segment) (i room : ℕ) (notes all : List Note) → drop i segments ≡ [] → notes ++ notes_within room file (drop i segments) ≡ all → ◌≡◌ {A = Result (List Note) Fault} (Ok all) (Ok notes)

@@ -1,6 +1,7 @@
 -- Parts: a part that was read of a file shows the file's numbers.
-use Rattle.std.proofs.Common.{◌≡◌, ℕ, zero, suc, ◌+◌, ◌-◌, ◌≤◌, ◌<◌, List, ◌++◌, length, get_or, take, drop, replicate, ap, sym, ◌∙◌, arith, min, ⊎_elim}
+use Rattle.std.proofs.Common.{◌≡◌, ℕ, zero, suc, ◌+◌, ◌-◌, ◌≤◌, ◌<◌, List, ◌++◌, map, refl, length, get_or, take, drop, replicate, ap, sym, ◌∙◌, arith, add_assoc, min, ⊎_elim}
 use Rattle.std.specs.Int.{byte_worth, sum_through}
+use Rattle.std.specs.List.{range_with_len}
 use Rattle.std.proofs.lemmas.Bool.{cases_lt}
 use Rattle.std.proofs.lemmas.List.{length-take, get_or_append_left, get_or-take, get_or-drop, get_or-replicate, get_or_past, get_or-append_right}
 use Rattle.x86_64_dump.specs.Numbers.{u16_at, u32_at, u64_at}
@@ -22,6 +23,13 @@ sum_through_same f g (suc k) same =
     let top = same (suc k) (omega arith) in
     cc
 
+pub map_range_same : {X : Type 0} (f g : ℕ → X) (a n : ℕ) → ((i : ℕ) → a ≤ i → i < a + n → f i ≡ g i) → map f (range_with_len a n) ≡ map g (range_with_len a n)
+map_range_same f g a zero same = refl
+map_range_same f g a (suc n) same =
+    let first = same a (omega arith) (omega arith) in
+    let rest = map_range_same f g (a + 1) n (λ i low high. same i (omega arith) (omega arith)) in
+    cc
+
 from_shown : (part file : List ℕ) (at offset count : ℕ) (k : ℕ) → Shows part file offset count → at + suc k ≤ count → sum_through (λ i. byte_worth i (get_or (drop at part) i 0)) k ≡ sum_through (λ i. byte_worth i (get_or (drop (offset + at) file) i 0)) k
 from_shown part file at offset count k shows fits = sum_through_same _ _ k (λ i h.
     ap (byte_worth i) (get_or-drop at part i 0 ∙ shows.bytes (at + i) (omega arith) ∙ ap (λ n. get_or file n 0) (omega arith) ∙ sym (get_or-drop (offset + at) file i 0)))
@@ -38,16 +46,13 @@ pub u64_shown : (part file : List ℕ) (at offset count : ℕ) → Shows part fi
 unfolding u64_at
 u64_shown part file at offset count shows fits = from_shown part file at offset count 7 shows fits
 
-add_zero : (n : ℕ) → n + 0 ≡ n
-add_zero n = omega arith
-
-pub segment_shown : (part file : List ℕ) (offset : ℕ) → Shows part file offset 56 → segment_at part 0 ≡ segment_at file offset
+pub segment_shown : (part file : List ℕ) (at offset count : ℕ) → Shows part file offset count → at + 56 ≤ count → segment_at part at ≡ segment_at file (offset + at)
 unfolding segment_at
-segment_shown part file offset shows =
-    let kind = u32_shown part file 0 offset 56 shows (omega arith) ∙ ap (u32_at file) (add_zero offset) in
-    let at = u64_shown part file 8 offset 56 shows (omega arith) in
-    let address = u64_shown part file 24 offset 56 shows (omega arith) in
-    let size = u64_shown part file 32 offset 56 shows (omega arith) in
+segment_shown part file at offset count shows fits =
+    let kind = u32_shown part file at offset count shows (omega arith) in
+    let place = u64_shown part file (at + 8) offset count shows (omega arith) ∙ ap (u64_at file) (sym (add_assoc offset at 8)) in
+    let address = u64_shown part file (at + 24) offset count shows (omega arith) ∙ ap (u64_at file) (sym (add_assoc offset at 24)) in
+    let size = u64_shown part file (at + 32) offset count shows (omega arith) ∙ ap (u64_at file) (sym (add_assoc offset at 32)) in
     cc
 
 pub header_shown : (front file : List ℕ) → Shows front file 0 64 → header_of front ≡ header_of file

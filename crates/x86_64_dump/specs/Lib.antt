@@ -4,5 +4,6 @@ pub mod Opening
 pub mod Opened
 pub mod Notes
 pub mod Source
+pub mod private
 pub use Rattle.x86_64_model.specs.Entry
 pub use Rattle.x86_64_model.specs.Memory

@@ -1,6 +1,7 @@
 -- Notes: QEMU's notes of processors among those of a core file. System V ABI, "Note Section": the sizes of a name and of a descriptor, a
 -- type, and then both, each filled up to a multiple of four bytes.
-use Rattle.std.specs.Prelude.{ℕ, zero, suc, ◌+◌, ◌-◌, ◌*◌, ◌/◌, ◌==◌, ◌&&◌, ◌||◌, Bool, cond, if◌then◌else◌, min, List, [], ◌∷◌, ◌++◌, length, nat_lt, nat_le, Result, Ok, Err}
+use Rattle.std.specs.Prelude.{ℕ, zero, suc, ◌+◌, ◌-◌, ◌*◌, ◌/◌, ◌==◌, ◌&&◌, ◌||◌, Bool, cond, if◌then◌else◌, min, List, [], ◌∷◌, length, nat_lt, nat_le, Result, Ok, Err}
+use Rattle.std.specs.List.{filter, flat_map, take_while}
 use Rattle.x86_64_dump.specs.Numbers.{byte_at, u32_at, u64_at}
 use Rattle.x86_64_dump.specs.Dump.{Contents}
 use Rattle.x86_64_dump.specs.declared.segment.Segment.{Segment}
@@ -25,36 +26,36 @@ note_at file at = record {
   span = 12 + padded (u32_at file at) + padded (u32_at file (at + 4));
 }
 
--- whether its descriptor ends in the bytes that are left
-unfoldable pub is_whole : (file : List ℕ) → (at left : ℕ) → Bool
-is_whole file at left = nat_le (12 + padded (u32_at file at) + u32_at file (at + 4)) left
+-- notes from an offset on, one after the other, whatever the bytes are
+abbrev pub notes_from : (file : List ℕ) → (at count : ℕ) → List Note
+notes_from file at zero = []
+notes_from file at (suc count) = note_at file at ∷ notes_from file (at + (note_at file at).span) count
 
-abbrev pub if_qemu : Note → List Note
-if_qemu note = cond note.is_qemu (note ∷ []) []
+-- whether a note's descriptor ends at an offset at the latest
+abbrev pub ends_by : (end : ℕ) → Note → Bool
+ends_by end note = nat_le (note.offset + note.size) end
 
--- QEMU's notes in the bytes that are left, as long as the notes are whole; no more notes than `most`
-abbrev pub qemu_notes : (most : ℕ) → (file : List ℕ) → (at left : ℕ) → List Note
-qemu_notes zero file at left = []
-qemu_notes (suc most) file at left = cond (is_whole file at left)
-    (if_qemu (note_at file at) ++ qemu_notes most file (at + (note_at file at).span) (left - (note_at file at).span)) []
+-- QEMU's notes in a part of the file: those up to the first one that doesn't end in it. A note has twelve bytes at least
+unfoldable pub notes_between : (file : List ℕ) → (start end : ℕ) → List Note
+notes_between file start end = filter (λ note. note.is_qemu) (take_while (ends_by end) (notes_from file start ((end - start) / 12)))
 
 -- how many bytes of notes a segment has in the file
 abbrev pub notes_size : (file_length : ℕ) → Segment → ℕ
 notes_size file_length segment = cond (segment.kind == 4) (min segment.size (file_length - segment.offset)) 0
 
--- QEMU's notes in a segment of notes: each has twelve bytes at least
-unfoldable pub notes_in : (file : List ℕ) → Segment → List Note
-notes_in file segment = qemu_notes (notes_size (length file) segment / 12) file segment.offset (notes_size (length file) segment)
+-- QEMU's notes in a segment
+abbrev pub notes_in : (file : List ℕ) → Segment → List Note
+notes_in file segment = notes_between file segment.offset (segment.offset + notes_size (length file) segment)
 
--- QEMU's notes in segments, as long as these have no more bytes of notes than `room`
-abbrev pub notes_within : (room : ℕ) → (file : List ℕ) → List Segment → List Note
-notes_within room file [] = []
-notes_within room file (segment ∷ segments) = cond (nat_le (notes_size (length file) segment) room)
-    (notes_in file segment ++ notes_within (room - notes_size (length file) segment) file segments) []
+-- the elements from the front on whose sizes together are at most this
+abbrev pub fitting : {A : Type 0} → (room : ℕ) → (size : A → ℕ) → List A → List A
+fitting room size [] = []
+fitting room size (x ∷ xs) = cond (nat_le (size x) room) (x ∷ fitting (room - size x) size xs) []
 
--- the notes of the processors of a dump, in order; segments of notes that don't overlap have no more bytes than the file
+-- the notes of the processors of a dump, in order; segments of notes count as long as they have no more bytes than the file, so all do
+-- that don't overlap
 abbrev pub processors_of : Contents → List Note
-processors_of dump = notes_within (length dump.file) dump.file dump.segments
+processors_of dump = flat_map (notes_in dump.file) (fitting (length dump.file) (notes_size (length dump.file)) dump.segments)
 
 -- whether a note's descriptor ends before the register of eight bytes at an offset does, or the file
 abbrev pub is_note_cut : (file_length : ℕ) → Note → (at : ℕ) → Bool

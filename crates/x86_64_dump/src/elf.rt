@@ -1,5 +1,5 @@
 //! Reads the headers of ELF core files.
-ghost use Rattle.std.specs.Prelude.{◌≡◌, ◌+◌, ◌*◌, ◌≤◌, ◌<◌, ◌^◌, length, nat_lt, IsOk, IfOk, IfNone, Ok};
+ghost use Rattle.std.specs.Prelude.{◌≡◌, ◌+◌, ◌*◌, ◌/◌, ◌≤◌, ◌<◌, ◌^◌, ◌++◌, length, nat_lt, IsOk, IfOk, IfNone, OnOk, Ok};
 ghost use Rattle.x86_64_dump.specs.Numbers.{u32_at};
 ghost use Rattle.x86_64_dump.specs.Dump.{segment_at, segments_at};
 ghost use Rattle.x86_64_dump.specs.Opening.{header_of, header_fault, table_fault, count_of, elf_segments, segments_of, raw_segment, is_elf, is_compressed, Gives};
@@ -9,7 +9,7 @@ use crate::header::Header;
 use crate::numbers::{read_u16, read_u32, read_u64};
 use crate::segment::Segment;
 use crate::source::ByteSource;
-use std::alloc::Global;
+use std::alloc::{AllocError, Global};
 use std::io;
 
 /// The size of an ELF header, and of a section header.
@@ -17,6 +17,9 @@ const HEADER_SIZE: u64 = 64;
 
 /// The size of a program header.
 const ENTRY_SIZE: u64 = 56;
+
+/// How many program headers are read at once.
+const PIECE: u32 = 73;
 
 /// The count that says that section header 0 has it, as `PN_XNUM`.
 const COUNT_ELSEWHERE: u16 = 65535;
@@ -192,7 +195,7 @@ fn read_count<S: ByteSource>(source: &S, header: &Header) -> io::Result<u32>
     Ok(read_u32(&section, 44))
 }
 
-/// Reads the segments of program headers, one after the other.
+/// Reads the segments of program headers, a few of them at once.
 fn read_table<S: ByteSource>(
     alloc: Global,
     source: &S,
@@ -204,33 +207,62 @@ fn read_table<S: ByteSource>(
         Gives (λ v. v.items) result (Ok (segments_at (S.bytes source.now) offset count)) }
 {
     let mut segments = Vec::new(alloc);
-    for i in 0..count {
-        let segment = read_segment(source, offset + ENTRY_SIZE * u64::from(i))?;
-        segments.push(segment)?;
+    let mut done = 0;
+    while done < count {
+        let more = (count - done).min(PIECE);
+        add_piece(
+            source,
+            offset + ENTRY_SIZE * u64::from(done),
+            more,
+            &mut segments,
+        )?;
+        done += more;
     }
     Ok(segments)
 }
 
-/// Reads the segment of the program header at an offset.
-fn read_segment<S: ByteSource>(source: &S, offset: u64) -> io::Result<Segment>
-    ensures value { S.IsKnown → IfOk result (λ segment. segment ≡ segment_at (S.bytes source.now) offset) }
-    ensures succeeds { S.IsKnown → offset + 56 ≤ length (S.bytes source.now) → IsOk result }
+/// Adds the segments of a few program headers, which are read at once.
+fn add_piece<S: ByteSource>(
+    source: &S,
+    offset: u64,
+    count: u32,
+    segments: &mut Vec<Segment>,
+) -> Result<(), DumpError>
+    requires few { count ≤ 73 }
+    requires fits { offset + 56 * count < 2 ^ 64 }
+    ensures { S.IsKnown → offset + 56 * count ≤ length (S.bytes source.now) →
+        Gives (λ _. segments.new.items) result
+        (Ok (segments.old.items ++ segments_at (S.bytes source.now) offset count)) }
 {
-    let mut entry = [0; 56];
-    source.read_exact_at(&mut entry, offset)?;
-    Ok(segment_in(&entry))
+    let mut bytes = [0; 4088];
+    let size = (ENTRY_SIZE * u64::from(count)) as usize;
+    let entries = &mut bytes[..size];
+    source.read_exact_at(entries, offset)?;
+    push_segments(entries, segments)?;
+    Ok(())
 }
 
-/// Gives the segment of a program header.
+/// Adds the segments of program headers.
+fn push_segments(entries: &[u8], segments: &mut Vec<Segment>) -> Result<(), AllocError>
+    ensures { OnOk result (segments.new.items ≡
+        segments.old.items ++ segments_at entries.now 0 (length entries.now / 56)) }
+{
+    for i in 0..entries.len() / 56 {
+        segments.push(segment_in(entries, 56 * i))?;
+    }
+    Ok(())
+}
+
+/// Gives the segment of the program header at an offset.
 #[tactic(auto, unfolding(crate::specs::Dump::segment_at))]
-fn segment_in(entry: &[u8]) -> Segment
-    requires { length entry.now ≡ 56 }
-    ensures { result ≡ segment_at entry.now 0 }
+fn segment_in(entries: &[u8], offset: usize) -> Segment
+    requires { offset + 56 ≤ length entries.now }
+    ensures { result ≡ segment_at entries.now offset }
 {
     Segment {
-        kind: read_u32(entry, 0),
-        offset: read_u64(entry, 8),
-        address: read_u64(entry, 24),
-        size: read_u64(entry, 32),
+        kind: read_u32(entries, offset),
+        offset: read_u64(entries, offset + 8),
+        address: read_u64(entries, offset + 24),
+        size: read_u64(entries, offset + 32),
     }
 }

@@ -2,7 +2,8 @@
 ghost use Rattle.std.specs.Prelude.{◌≡◌, ◌+◌, ◌*◌, ◌/◌, ◌≤◌, ◌<◌, ◌^◌, ◌++◌, length, cond, Some, None, IsOk, IfOk, OnOk, Ok};
 ghost use Rattle.x86_64_dump.specs.Numbers.{byte_at, u32_at};
 ghost use Rattle.x86_64_dump.specs.Opening.{Gives, GivesAtOnce};
-ghost use Rattle.x86_64_dump.specs.Notes.{padded, is_qemu, note_at, is_whole, if_qemu, qemu_notes, notes_size, notes_within, is_note_cut, register_of};
+ghost use Rattle.x86_64_dump.specs.Notes.{padded, is_qemu, note_at, notes_size, is_note_cut, register_of};
+ghost use Rattle.x86_64_dump.specs.private.NotesLeft.{is_whole, if_qemu, qemu_notes, notes_within};
 
 use crate::elf::ends_after;
 use crate::error::{DumpError, Fault};

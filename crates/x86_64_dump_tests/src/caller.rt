@@ -3,10 +3,11 @@ ghost use Rattle.std.specs.Prelude.{◌≡◌, IfOk, Ok};
 ghost use Rattle.x86_64_dump.specs.Dump.{Contents, words_of_dump};
 ghost use Rattle.x86_64_dump.specs.Opening.{contents_of};
 
-use crate::builder::{CORE, FRAME, push_core};
+use crate::dumps::FRAME;
 use std::alloc::Global;
 use x86_64_addr::addr::PhysAddr;
 use x86_64_dump::{Dump, DumpError};
+use x86_64_dump_builder::{CORE, push_core};
 use x86_64_page::frame::PhysFrame;
 use x86_64_page::page::Size4KiB;
 

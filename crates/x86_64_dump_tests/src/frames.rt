@@ -1,6 +1,7 @@
 //! Tests of the frames that a dump has.
-use crate::builder::{BEHIND, CORE, Elf, ends_of, fault_of, push_core, push_words};
+use crate::dumps::{BEHIND, ends_of, fault_of};
 use x86_64_dump::{Dump, Segment};
+use x86_64_dump_builder::{CORE, Elf, push_core, push_words};
 
 /// A frame at 0x1000, behind the headers of `CORE` and one more program header.
 const FIRST: Segment = Segment {

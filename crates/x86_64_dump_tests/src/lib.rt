@@ -2,9 +2,13 @@
 #![tactic(auto)]
 
 #[cfg(test)]
-mod builder;
-#[cfg(test)]
 mod caller;
+#[cfg(test)]
+mod core_files;
+#[cfg(test)]
+mod dumps;
+#[cfg(test)]
+mod fields;
 #[cfg(test)]
 mod frames;
 #[cfg(test)]
@@ -13,5 +17,7 @@ mod notes;
 mod opening;
 #[cfg(test)]
 mod reads;
+#[cfg(test)]
+mod refusals;
 #[cfg(test)]
 mod texts;

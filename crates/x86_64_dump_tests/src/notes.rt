@@ -1,13 +1,14 @@
 //! Tests of QEMU's notes.
 ghost use Rattle.std.specs.Prelude.{◌<◌};
 
-use crate::builder::{BEHIND, CORE, Elf, fault_of, push_core, push_elf, push_segment, push_words};
+use crate::dumps::{BEHIND, fault_of, register};
 use std::alloc::{AllocError, Global};
 use std::process::Abort;
 use x86_64_dump::{ByteSource, Dump, DumpError, Fault, Segment};
+use x86_64_dump_builder::{CORE, Elf, push_core, push_elf, push_note, push_segment, push_words};
 
 /// Adds a note with a name that is filled up, and a descriptor of words from `first` on.
-fn push_note(
+fn push_words_note(
     bytes: &mut Vec<u8>,
     name: &[u8],
     name_size: u32,
@@ -16,10 +17,7 @@ fn push_note(
 ) -> Result<(), AllocError>
     requires { words < 1000 }
 {
-    bytes.extend_from_slice(&name_size.to_le_bytes())?;
-    bytes.extend_from_slice(&(8 * words).to_le_bytes())?;
-    bytes.extend_from_slice(&[0; 4])?;
-    bytes.extend_from_slice(name)?;
+    push_note(bytes, name, name_size, 8 * words)?;
     push_words(bytes, first, u64::from(words))
 }
 
@@ -40,20 +38,11 @@ fn push_file(bytes: &mut Vec<u8>, size: u64) -> Result<(), AllocError> {
 
 /// Adds five notes, three of which are QEMU's.
 fn push_notes(bytes: &mut Vec<u8>) -> Result<(), AllocError> {
-    push_note(bytes, b"CORE\0\0\0\0", 5, 900, 42)?;
-    push_note(bytes, b"QEMU\0\0\0\0", 5, 100, 55)?;
-    push_note(bytes, b"QEMU!\0\0\0", 6, 300, 55)?;
-    push_note(bytes, b"QEMU\0\0\0\0", 5, 500, 53)?;
-    push_note(bytes, b"QEMU\0\0\0\0", 5, 700, 10)
-}
-
-/// What a register is, or why it isn't read.
-fn register(rt: impl Abort + Copy, read: Result<u64, DumpError>) -> Result<u64, Fault> {
-    match read {
-        Ok(value) => Ok(value),
-        Err(DumpError::Fault(fault)) => Err(fault),
-        Err(_) => panic!(rt; "the register wasn't read"),
-    }
+    push_words_note(bytes, b"CORE\0\0\0\0", 5, 900, 42)?;
+    push_words_note(bytes, b"QEMU\0\0\0\0", 5, 100, 55)?;
+    push_words_note(bytes, b"QEMU!\0\0\0", 6, 300, 55)?;
+    push_words_note(bytes, b"QEMU\0\0\0\0", 5, 500, 53)?;
+    push_words_note(bytes, b"QEMU\0\0\0\0", 5, 700, 10)
 }
 
 /// Counts the processors of a dump.

@@ -1,16 +1,17 @@
 //! Tests of which files are dumps.
-use crate::builder::{BEHIND, CORE, Elf, FRAME, ends_of, fault_of, push_core, push_words};
+use crate::dumps::{BEHIND, FRAME, ends_of, fault_of};
 use std::alloc::Global;
 use std::fs::File;
 use std::io::Read;
 use std::process::Abort;
 use x86_64_dump::{ByteSource, Dump, Fault, FileSource};
+use x86_64_dump_builder::{CORE, Elf, push_core, push_words};
 
 /// The length of a file with the headers of `CORE` and one frame.
 const LENGTH: u64 = BEHIND + 4096;
 
 /// Headers in which one field is another, and why they are refused. If they aren't, the dump has no frame.
-const CHANGED: [(Elf, Option<Fault>); 21] = [
+const CHANGED: [(Elf, Option<Fault>); 23] = [
     (
         Elf { class: 0, ..CORE },
         Some(Fault::WrongClass { class: 0 }),
@@ -138,6 +139,26 @@ const CHANGED: [(Elf, Option<Fault>); 21] = [
             length: LENGTH,
         }),
     ),
+    (
+        Elf {
+            count: 65535,
+            sections: u64::MAX,
+            ..CORE
+        },
+        Some(Fault::SectionOutside {
+            offset: u64::MAX,
+            length: LENGTH,
+        }),
+    ),
+    // The file's own header as section header 0 says that there are none.
+    (
+        Elf {
+            count: 65535,
+            sections: 0,
+            ..CORE
+        },
+        None,
+    ),
 ];
 
 #[test]
@@ -149,38 +170,6 @@ fn each_field_of_the_header_counts(rt: HostRuntime) {
         assert_eq!(rt; fault_of(rt, &opened), wanted, "{elf:?}");
         if let Ok(dump) = opened {
             assert_eq!(rt; ends_of(rt, &dump, 0x1000), None, "{elf:?}");
-        }
-    }
-}
-
-#[test]
-fn each_prefix_has_what_it_has(rt: HostRuntime) {
-    let mut bytes = Vec::new(rt.alloc());
-    assert!(rt; push_core(&mut bytes, CORE, &[FRAME], 7, 512).is_ok());
-    assert_eq!(rt; bytes.len() as u64, LENGTH);
-    for length in 0..bytes.len() + 1 {
-        let size = length as u64;
-        let opened = Dump::open(rt.alloc(), &bytes[..length], None);
-        let wanted = match size {
-            0..4 => None,
-            4..64 => Some(Fault::HeaderCut { length: size }),
-            64..120 => Some(Fault::HeadersOutside {
-                offset: 64,
-                count: 1,
-                length: size,
-            }),
-            _ => None,
-        };
-        assert_eq!(rt; fault_of(rt, &opened), wanted, "of {length} bytes");
-        if let Ok(dump) = opened {
-            let is_whole = size == LENGTH;
-            let words = if is_whole { Some((7, 518)) } else { None };
-            assert_eq!(rt;
-                dump.is_short(),
-                size >= BEHIND && !is_whole,
-                "of {length} bytes"
-            );
-            assert_eq!(rt; ends_of(rt, &dump, 0x1000), words, "of {length} bytes");
         }
     }
 }

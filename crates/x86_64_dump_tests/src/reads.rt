@@ -1,8 +1,9 @@
 //! Tests of reads that fail in the middle of a file.
-use crate::builder::{CORE, FRAME, push_core};
+use std::alloc::Global;
 use std::io::{self, ErrorKind};
 use x86_64_addr::addr::PhysAddr;
 use x86_64_dump::{ByteSource, Dump, DumpError};
+use x86_64_dump_builder::{Memory, Processor, push_core_file};
 use x86_64_page::frame::PhysFrame;
 
 /// A file of which only so many bytes, the first ones, can be read.
@@ -35,49 +36,106 @@ impl<'a> ByteSource for BrokenSource<'a> {
     }
 }
 
-/// Says what comes of a file and of its frame at 0x1000.
+/// Says what comes of a call.
 #[derive(Clone, Copy, Debug, PartialEq)]
 enum Outcome {
-    /// The file isn't opened, since a read failed.
-    NotOpened,
-    /// The file is opened, and the read of the frame failed.
-    NotRead,
-    /// The frame is read.
-    Read,
+    /// It isn't made, since one before it failed.
+    NotMade,
+    /// A read failed.
+    Failed,
+    /// It is done.
+    Done,
     /// Something else.
     Other,
 }
 
-/// How many bytes can be read of a file with 64 bytes of header, 56 of a program header, and a frame; and what comes of it.
-const CASES: [(u64, Outcome); 7] = [
-    (0, Outcome::NotOpened),
-    (63, Outcome::NotOpened),
-    (64, Outcome::NotOpened),
-    (119, Outcome::NotOpened),
-    (120, Outcome::NotRead),
-    (4215, Outcome::NotRead),
-    (4216, Outcome::Read),
-];
+impl Outcome {
+    /// What came of a call.
+    fn of<T>(call: &Result<T, DumpError>) -> Outcome {
+        match call {
+            Ok(_) => Outcome::Done,
+            Err(DumpError::Read(_)) => Outcome::Failed,
+            Err(_) => Outcome::Other,
+        }
+    }
+}
+
+/// What comes of an opening, and then of a frame, the notes, CR3 and CR4.
+fn outcomes(alloc: Global, source: BrokenSource<'_>) -> [Outcome; 5] {
+    let mut outcomes = [Outcome::NotMade; 5];
+    let opened = Dump::open(alloc, source, None);
+    outcomes[0] = Outcome::of(&opened);
+    let Ok(dump) = opened else { return outcomes };
+    let frame = PhysFrame::containing_address(PhysAddr::new_truncate(0x1000));
+    outcomes[1] = match dump.read_frame(frame) {
+        Ok(Some(_)) => Outcome::Done,
+        Ok(None) => Outcome::Other,
+        Err(_) => Outcome::Failed,
+    };
+    let notes = dump.processors(alloc);
+    outcomes[2] = Outcome::of(&notes);
+    if let Ok(notes) = notes {
+        if let Some(note) = notes.first() {
+            outcomes[3] = Outcome::of(&dump.cr3(note));
+            outcomes[4] = Outcome::of(&dump.cr4(note));
+        }
+    }
+    outcomes
+}
+
+/// Where the headers end: one of ELF, and 82 program headers, which are read in two pieces.
+const HEADERS: u64 = 64 + 82 * 56;
+
+/// What comes of the calls if so many bytes can be read.
+fn wanted(readable: u64) -> [Outcome; 5] {
+    let until = |needed: u64| {
+        if readable < needed {
+            Outcome::Failed
+        } else {
+            Outcome::Done
+        }
+    };
+    let notes = until(HEADERS + 17);
+    if readable < HEADERS {
+        let none = Outcome::NotMade;
+        [Outcome::Failed, none, none, none, none]
+    } else if notes == Outcome::Failed {
+        let none = Outcome::NotMade;
+        [Outcome::Done, Outcome::Failed, notes, none, none]
+    } else {
+        let frame = until(HEADERS + 460 + 4096);
+        [
+            Outcome::Done,
+            frame,
+            notes,
+            until(HEADERS + 444),
+            until(HEADERS + 452),
+        ]
+    }
+}
 
 #[test]
-fn failed_reads_are_passed_on(rt: HostRuntime) {
+fn each_failed_read_is_passed_on(rt: HostRuntime) {
+    let mut memory = [Memory {
+        address: 0,
+        bytes: &[],
+    }; 81];
+    let frame = [0; 4096];
+    memory[80] = Memory {
+        address: 0x1000,
+        bytes: &frame,
+    };
     let mut bytes = Vec::new(rt.alloc());
-    assert!(rt; push_core(&mut bytes, CORE, &[FRAME], 7, 512).is_ok());
-    let frame = PhysFrame::containing_address(PhysAddr::new_truncate(0x1000));
-    for (readable, wanted) in CASES {
+    assert!(rt; push_core_file(&mut bytes, &[Processor { cr3: 0, cr4: 0 }], &memory).is_ok());
+    for readable in 0..bytes.len() as u64 + 1 {
         let source = BrokenSource {
             bytes: bytes.as_slice(),
             readable,
         };
-        let found = match Dump::open(rt.alloc(), source, None) {
-            Ok(dump) => match dump.read_frame(frame) {
-                Ok(Some(_)) => Outcome::Read,
-                Ok(None) => Outcome::Other,
-                Err(_) => Outcome::NotRead,
-            },
-            Err(DumpError::Read(_)) => Outcome::NotOpened,
-            Err(_) => Outcome::Other,
-        };
-        assert_eq!(rt; found, wanted, "{readable} bytes");
+        assert_eq!(rt;
+            outcomes(rt.alloc(), source),
+            wanted(readable),
+            "{readable} bytes"
+        );
     }
 }

@@ -9,7 +9,7 @@ mod region_list;
 pub mod text;
 
 pub use listing::{
-    Mappings, Mappings57, MappingsIn, maps_page, mappings, mappings_57, mappings_from, span,
+    Mappings, Mappings57, MappingsIn, mappings, mappings_57, mappings_from, maps_page, span,
 };
 pub use mapping::{Mapping, Mapping57, MappingIn};
 pub use region::{Region, Region57, RegionIn};

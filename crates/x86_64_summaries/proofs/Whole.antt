@@ -97,12 +97,6 @@ asked_chain asked n f s r =
     let all = chain_filter (is_wanted asked.wanted) 0 (position_count n) (mappings_of n asked.words f) (mappings_chain n asked.words f) in
     subst (λ z. IsChain z (s + position_count n) (map (placed s r) (asked_mappings asked n f))) (let e : s + 0 ≡ s = omega arith in e) (placed_chain s 0 (position_count n) r (asked_mappings asked n f) all)
 
--- there are none if they count as none
-pub none_asked : (s : ℕ) (r : Rights) (ms : List Mapping) → (summary_of ms).count ≡ 0 → map (placed s r) ms ≡ []
-unfolding summary_of
-none_asked s r [] h = refl
-none_asked s r (m ∷ ms) h = absurd (omega (arith, h))
-
 -- they fill the span if their sizes add up to it
 pub whole_span : (asked : Asked) (n f s : ℕ) (r : Allowed) (b : Summary) → b ≡ lessened r (summary_of (asked_mappings asked n f)) → b.bytes ≡ span (n + 1) → b.some ≡ b.all
     → AreWhole s (s + position_count n) (seen_rights b.all) (map (placed s (seen_rights r)) (asked_mappings asked n f))

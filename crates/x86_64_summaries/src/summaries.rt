@@ -21,7 +21,8 @@ use x86_64_tables::phys_memory::{PageTableFrameMapping, Rights, TableMemory};
 /// How many levels of tables there may be.
 const LEVEL_COUNT: usize = 5;
 
-/// Knows what tables of a memory map, each at the levels at which it stands: all mappings, or those that lead to a physical address.
+/// Knows what tables of a memory map, each at the levels at which it stands: all mappings count, or those alone that lead to a
+/// physical address. So tables that are shared, or name each other in a circle, cost no more than others.
 ///
 /// A table of any level is seen as the root of a hierarchy of so many levels.
 #[derive(Drop)]
@@ -45,10 +46,11 @@ impl<'a, T: TableMemory, P: PageTableFrameMapping> Model for Summaries<'a, T, P>
 }
 
 impl<'a, T: TableMemory, P: PageTableFrameMapping> Summaries<'a, T, P> {
-    /// Finds out what tables map: `frames` are those of level one, those of level two, and so on. More than five levels don't count.
+    /// Finds out what tables map: `frames` are the frames of those of level one, of those of level two, and so on. Levels above
+    /// five don't count.
     ///
-    /// A frame may stand at several levels, and more than once. A table whose summary would need that of one that isn't among
-    /// them has none, and so has one whose numbers don't fit. A frame that has no table in the memory maps nothing.
+    /// A frame may stand at several levels. A table has no summary where one below it has a table in the memory and no summary,
+    /// or where the numbers don't fit. A frame without a table in the memory maps nothing.
     ///
     /// # Errors
     ///
@@ -124,7 +126,8 @@ fn table_summary<T: TableMemory, P: PageTableFrameMapping>(
     requires few { length below.now < 5 }
     requires known { AreLevels (asked_of T.tables P.places (asking query.now)) below.now }
     ensures { let asked = asked_of T.tables P.places (asking query.now) in
-        IfSome result (λ summary. summary ≡ summary_of (asked_mappings asked (length below.now + 1) frame)) }
+        let mappings = asked_mappings asked (length below.now + 1) frame in
+        IfSome result (λ summary. summary ≡ summary_of mappings) }
 {
     let Some(table) = query.table(frame) else {
         return Some(Summary::NONE);

@@ -11,9 +11,9 @@ pub struct Summary {
     pub count: u64,
     /// How many bytes they map.
     pub bytes: u64,
-    /// What some mapping allows.
+    /// The rights that some mapping has.
     pub some: Rights,
-    /// What all mappings allow.
+    /// The rights that all mappings have, which are all rights where there is no mapping.
     pub all: Rights,
 }
 

@@ -20,7 +20,7 @@ use x86_64_tables::phys_memory::{PageTableFrameMapping, Rights, TableMemory, has
 
 /// Visits all wanted mappings below a root, in order of their starts.
 ///
-/// A table that maps nothing that is wanted is passed over if that is known, so it takes as long as what is visited.
+/// A table that is known to map nothing that is wanted is passed over.
 ///
 /// # Errors
 ///
@@ -110,7 +110,8 @@ fn maps_nothing<T: TableMemory, P: PageTableFrameMapping>(
     }
 }
 
-/// Visits the wanted mappings by the entries of a table of level one, whose span starts at a position, below entries that allow so much.
+/// Visits the wanted mappings by the entries of a table of level one, whose span starts at a position, below entries that allow so
+/// much.
 fn visit_small_pages<
     L: LevelCount,
     T: TableMemory,
@@ -127,7 +128,8 @@ fn visit_small_pages<
     requires aligned { start % span_of 1 ≡ 0 }
     requires inside { start + 512 * span_of 1 ≤ position_count L.LEVELS }
     ensures { let asked = asked_of T.tables P.places (asking query.now) in
-        OnOk result (V.Visits visitor.old visitor.new (asked_on asked 1 start (seen_rights above) entries.now)) }
+        let mappings = asked_on asked 1 start (seen_rights above) entries.now in
+        OnOk result (V.Visits visitor.old visitor.new mappings) }
 {
     let mut start = start;
     for entry in entries {

@@ -1,14 +1,17 @@
-use Rattle.std.proofs.Common.{◌≡◌, ◌+◌, ◌*◌, ◌++◌, [], ◌∷◌, arith}
-use Rattle.std.proofs.lemmas.List.FromFn.{map-range_with_len_more}
-use Rattle.x86_64_dump.specs.Dump.{segment_at}
+use Rattle.std.proofs.Common.{arith}
+use Rattle.x86_64_dump.proofs.Headers.{next_piece}
 use Rattle.x86_64_dump.proofs.elf.read_table.Goals as goal
 
-pub loop-i-preserved : goal.loop-i-preserved
-loop-i-preserved g c known fits =
-    let file = g.S.ByteSource.bytes c.args.source.now in
-    let before = c.loop-i.invariant known fits in
-    let pushed : c.push.new.self.items ≡ c.loop-i.segments.items ++ c.in_ok-segment.segment ∷ [] = c.in_ok-push.ensures.items in
-    let next : c.in_ok-segment.segment ≡ segment_at file (c.args.offset + 56 * c.from.result) = c.in_ok-segment.ensures.value known in
-    let same = c.from.ensures in
-    let more = map-range_with_len_more (λ i. segment_at file (c.args.offset + 56 * i)) 0 c.loop-i.i c.loop-i.i (omega arith) in
-    cc
+pub loop-done-preserved : goal.loop-done-preserved
+loop-done-preserved g c = record {
+  within = omega (arith, c.min-more.ensures, c.loop-done.invariant.within);
+  told = λ known fits.
+      let file = g.S.ByteSource.bytes c.args.source.now in
+      let done = c.loop-done.done in
+      let more = c.min-more.result in
+      let before = c.loop-done.invariant.told known fits in
+      let added = c.in_ok-add_piece.ensures known (omega (arith, c.min-more.ensures, c.from.ensures, c.loop-done.invariant.within, c.loop-done-test.true)) in
+      let at = c.from.ensures in
+      let next = next_piece file c.args.offset done more in
+      cc;
+}

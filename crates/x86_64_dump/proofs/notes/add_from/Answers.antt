@@ -1,5 +1,5 @@
 use Rattle.std.proofs.Common.{refl, ◌≡◌, ◌+◌, ◌-◌, ◌/◌, ◌++◌, suc, arith}
-use Rattle.x86_64_dump.specs.Notes.{qemu_notes}
+use Rattle.x86_64_dump.specs.private.NotesLeft.{qemu_notes}
 use Rattle.x86_64_dump.proofs.NotesRead.{qemu_notes_end, no_qemu_notes, added_all, added_one}
 use Rattle.x86_64_dump.proofs.notes.add_from.Goals as goal
 

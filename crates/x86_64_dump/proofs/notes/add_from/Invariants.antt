@@ -1,5 +1,5 @@
 use Rattle.std.proofs.Common.{◌≡◌, ◌+◌, ◌-◌, ◌/◌, ◌++◌}
-use Rattle.x86_64_dump.specs.Notes.{qemu_notes}
+use Rattle.x86_64_dump.specs.private.NotesLeft.{qemu_notes}
 use Rattle.x86_64_dump.proofs.notes.add_from.Given as goal
 
 -- the notes so far, and those in what is left, are all

@@ -1,7 +1,8 @@
 use Rattle.std.proofs.Common.{◌∙◌, ap, arith, length, get_or}
 use Rattle.std.proofs.Math.Seq.{drop-cons}
 use Rattle.std.proofs.lemmas.List.{drop_all}
-use Rattle.x86_64_dump.specs.Notes.{notes_within, notes_size}
+use Rattle.x86_64_dump.specs.Notes.{notes_size}
+use Rattle.x86_64_dump.specs.private.NotesLeft.{notes_within}
 use Rattle.x86_64_dump.proofs.NotesRead.{within_step, within_stop, within_end, nothing}
 use Rattle.x86_64_dump.proofs.notes.read_notes.Goals as goal
 

@@ -1,5 +1,5 @@
 use Rattle.std.proofs.Common.{◌≡◌, ◌++◌, drop, length}
-use Rattle.x86_64_dump.specs.Notes.{notes_within}
+use Rattle.x86_64_dump.specs.private.NotesLeft.{notes_within}
 use Rattle.x86_64_dump.proofs.notes.read_notes.Given as goal
 
 -- the notes so far, and those of the segments that are left, are all

@@ -1,20 +1,26 @@
-//! Builds files, and reads them as dumps.
+//! Headers of ELF files.
+use crate::words::push_words;
 use std::alloc::AllocError;
-use std::process::Abort;
-use x86_64_addr::addr::PhysAddr;
-use x86_64_dump::{ByteSource, Dump, DumpError, Fault, Segment};
-use x86_64_page::frame::PhysFrame;
+use x86_64_dump::Segment;
 
 /// The fields of an ELF header that tests change.
 #[derive(Clone, Copy, Debug)]
 pub struct Elf {
+    /// `EI_CLASS`.
     pub class: u8,
+    /// `EI_DATA`.
     pub order: u8,
+    /// `e_type`.
     pub file_type: u16,
+    /// `e_machine`.
     pub machine: u16,
+    /// `e_phoff`.
     pub headers: u64,
+    /// `e_shoff`.
     pub sections: u64,
+    /// `e_phentsize`.
     pub entry_size: u16,
+    /// `e_phnum`.
     pub count: u16,
 }
 
@@ -30,18 +36,11 @@ pub const CORE: Elf = Elf {
     count: 1,
 };
 
-/// Where the bytes behind the header of `CORE` and its program header begin.
-pub const BEHIND: u64 = 120;
-
-/// A segment of a frame behind the headers of `CORE`.
-pub const FRAME: Segment = Segment {
-    kind: Segment::LOAD,
-    offset: BEHIND,
-    address: 0x1000,
-    size: 4096,
-};
-
-/// Adds an ELF header.
+/// Adds an ELF header, of 64 bytes.
+///
+/// # Errors
+///
+/// Where memory is refused, as of each function that adds bytes.
 pub fn push_elf(bytes: &mut Vec<u8>, elf: Elf) -> Result<(), AllocError> {
     bytes.extend_from_slice(b"\x7fELF")?;
     bytes.extend_from_slice(&[elf.class, elf.order, 1])?;
@@ -59,7 +58,7 @@ pub fn push_elf(bytes: &mut Vec<u8>, elf: Elf) -> Result<(), AllocError> {
     bytes.extend_from_slice(&[0; 6])
 }
 
-/// Adds a program header.
+/// Adds a program header, of 56 bytes.
 pub fn push_segment(bytes: &mut Vec<u8>, segment: Segment) -> Result<(), AllocError> {
     bytes.extend_from_slice(&segment.kind.to_le_bytes())?;
     bytes.extend_from_slice(&[0; 4])?;
@@ -68,14 +67,6 @@ pub fn push_segment(bytes: &mut Vec<u8>, segment: Segment) -> Result<(), AllocEr
     bytes.extend_from_slice(&segment.address.to_le_bytes())?;
     bytes.extend_from_slice(&segment.size.to_le_bytes())?;
     bytes.extend_from_slice(&[0; 16])
-}
-
-/// Adds numbers of eight bytes, from `first` on.
-pub fn push_words(bytes: &mut Vec<u8>, first: u64, count: u64) -> Result<(), AllocError> {
-    for n in 0..count {
-        bytes.extend_from_slice(&first.wrapping_add(n).to_le_bytes())?;
-    }
-    Ok(())
 }
 
 /// Adds headers, and behind them numbers of eight bytes from `first` on.
@@ -91,29 +82,4 @@ pub fn push_core(
         push_segment(bytes, *segment)?;
     }
     push_words(bytes, first, words)
-}
-
-/// The fault for which a file isn't opened, or `None` if it is.
-pub fn fault_of<S: ByteSource>(
-    rt: impl Abort + Copy,
-    opened: &Result<Dump<S>, DumpError>,
-) -> Option<Fault> {
-    match opened {
-        Ok(_) => None,
-        Err(DumpError::Fault(fault)) => Some(*fault),
-        Err(_) => panic!(rt; "the file wasn't read"),
-    }
-}
-
-/// The first and the last word of a frame, or `None` if the dump lacks it.
-pub fn ends_of<S: ByteSource>(
-    rt: impl Abort + Copy,
-    dump: &Dump<S>,
-    address: u64,
-) -> Option<(u64, u64)> {
-    let frame = PhysFrame::containing_address(PhysAddr::new_truncate(address));
-    match dump.read_frame(frame) {
-        Ok(words) => words.map(|words| (words[0], words[511])),
-        Err(_) => panic!(rt; "the frame wasn't read"),
-    }
 }

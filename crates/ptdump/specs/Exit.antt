@@ -1,0 +1,22 @@
+-- The exit status of the program.
+use Rattle.std.specs.Prelude.{ℕ, Result, Ok, Err, if◌then◌else◌}
+use Rattle.ptdump_engine.specs.Failure.{status_of}
+use Rattle.ptdump_engine.specs.declared.request.Outcome.{Outcome}
+use Rattle.ptdump.specs.declared.stop.Stop.{Stop}
+use Rattle.ptdump.specs.declared.stop.Stop.TheVariants.{Help, Usage, NoText, NoCommand, NoNumber, NoLevels, Unopened, Failed}
+
+-- 0: help was asked for; 2: the command line; 3: the file; else that of the run that failed
+abbrev pub stop_status : Stop → ℕ
+stop_status (Help text) = 0
+stop_status (Usage error) = 2
+stop_status NoText = 2
+stop_status (NoCommand name) = 2
+stop_status (NoNumber argument text) = 2
+stop_status (NoLevels text) = 2
+stop_status (Unopened path error) = 3
+stop_status (Failed failure) = status_of failure
+
+-- 0: the report is complete; 1: there are findings, or an address doesn't arrive or isn't found
+abbrev pub exit_status_of : Result Outcome Stop → ℕ
+exit_status_of (Ok outcome) = if outcome.is_complete then 0 else 1
+exit_status_of (Err stop) = stop_status stop

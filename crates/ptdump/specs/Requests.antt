@@ -1,0 +1,61 @@
+-- Which request the words of a command line make.
+use Rattle.std.specs.Prelude.{◌≡◌, ◌⊎◌, ℕ, List, [], Option, None, Some, All, codes, map, option_map, unwrap_or}
+use Rattle.std.specs.Borrow.{Bor}
+use Rattle.clap.specs.Matches.{first_value, matched_of, raw_values}
+use Rattle.clap.specs.declared.parser.matches.Found.{Found}
+use Rattle.ptdump_engine.specs.declared.request.Command.{Command}
+use Rattle.ptdump_engine.specs.declared.request.Command.TheVariants.{Regions, Pages, Walk, Find, Check, Image, Picture}
+use Rattle.ptdump_engine.specs.declared.request.Levels.{Levels}
+use Rattle.ptdump_engine.specs.declared.request.Levels.TheVariants.{Four, Five}
+use Rattle.ptdump_engine.specs.declared.request.Request.{Request}
+use Rattle.ptdump_engine.specs.declared.failure.Failure.TheVariants.{OutOfMemory}
+use Rattle.ptdump.specs.declared.stop.Stop.{Stop}
+use Rattle.ptdump.specs.declared.stop.Stop.TheVariants.{Failed, NoCommand}
+use Rattle.x86_64_numbers.specs.Numbers.{IsNumber, number_of}
+
+-- each text is a number, and these are they
+abbrev pub AreNumbers : (texts : List (List ℕ)) → (numbers : List ℕ) → Type 0
+AreNumbers texts numbers = All IsNumber texts × (numbers ≡ map number_of texts)
+
+-- the command has this name, and these addresses if it takes some
+abbrev pub IsCommand : (name : List ℕ) → (addresses : List (List ℕ)) → Command → Type 0
+IsCommand name addresses Regions = name ≡ codes "regions"
+IsCommand name addresses Pages = name ≡ codes "pages"
+IsCommand name addresses (Walk numbers) = (name ≡ codes "walk") × AreNumbers addresses numbers.items
+IsCommand name addresses (Find numbers) = (name ≡ codes "find") × AreNumbers addresses numbers.items
+IsCommand name addresses Check = name ≡ codes "check"
+IsCommand name addresses Image = name ≡ codes "image"
+IsCommand name addresses Picture = name ≡ codes "picture"
+
+-- an option that is given has its number, and one that is left out none
+abbrev pub IsOption : (text : Option (List ℕ)) → Option ℕ → Type 0
+IsOption None number = number ≡ None
+IsOption (Some text) number = IsNumber text × (number ≡ Some (number_of text))
+
+abbrev pub count : Levels → ℕ
+count Four = 4
+count Five = 5
+
+-- the same of the number of levels
+abbrev pub IsLevels : (text : Option (List ℕ)) → Option Levels → Type 0
+IsLevels text levels = IsOption text (option_map count levels)
+
+-- the texts of the arguments of a name
+abbrev pub values : Found → (name : List ℕ) → List (List ℕ)
+values found name = unwrap_or (option_map raw_values (matched_of found name)) []
+
+-- the request is of the command with this name, with what its arguments say
+pub record IsRequest (name : List ℕ) (found : Found) (request : Request) : Type 0 where
+  pub command : IsCommand name (values found (codes "addresses")) request.command
+  pub cr3 : IsOption (first_value found (codes "cr3")) request.cr3
+  pub levels : IsLevels (first_value found (codes "levels")) request.levels
+  pub base : IsOption (first_value found (codes "base")) request.base
+  pub cpu : IsOption (first_value found (codes "cpu")) request.cpu
+
+-- memory was refused, or there is nothing of which this holds
+abbrev pub IsUnread : {T : Type 0} → (Holds : T → Type 0) → Stop → Type 0
+IsUnread {T} Holds stop = (stop ≡ Failed OutOfMemory) ⊎ ((value : T) → ¬ (Holds value))
+
+-- the same, or no command has this name
+abbrev pub IsRefused : {T : Type 0} → (name : Bor (List ℕ)) → (Holds : T → Type 0) → Stop → Type 0
+IsRefused name Holds stop = (stop ≡ NoCommand name) ⊎ IsUnread Holds stop

@@ -1,0 +1,81 @@
+//! The command line: which words the program takes.
+
+use crate::help::{COMMANDS, CommandHelp, MORE, Operands};
+use clap::{Arg, ArgAction, Command, Error};
+use std::alloc::Global;
+
+/// Returns the command line of the program.
+///
+/// # Errors
+///
+/// If memory is refused.
+pub fn command_line<'a>(alloc: Global) -> Result<Command<'a>, Error> {
+    let mut command = Command::new(alloc, "ptdump")
+        .about("Prints what the page tables in a dump of physical memory map")
+        .version("1.0.0")
+        .arg_required_else_help(true)
+        .subcommand_required(true)
+        .after_help(MORE);
+    for help in &COMMANDS {
+        command = command.subcommand(subcommand(alloc, help)?)?;
+    }
+    Ok(command)
+}
+
+/// Returns the command line of a command.
+fn subcommand<'a>(alloc: Global, help: &CommandHelp) -> Result<Command<'a>, Error> {
+    let command = Command::new(alloc, help.name)
+        .about(help.about)
+        .after_help(help.more)
+        .arg(file(alloc))?;
+    let command = match help.operands {
+        Operands::None => command,
+        Operands::Addresses(text) => command.arg(addresses(alloc, text))?,
+    };
+    Ok(
+        command
+            .arg(option(
+                alloc,
+                "cr3",
+                "CR3 [default: as the core's note of the processor says]",
+            ))?
+            .arg(option(
+                alloc,
+                "levels",
+                "Levels of tables, 4 or 5 [default: as that note says, or 4]",
+            ))?
+            .arg(option(
+                alloc,
+                "base",
+                "Address of a raw file's first byte [default: 0]",
+            ))?
+            .arg(option(
+                alloc,
+                "cpu",
+                "Processor whose note counts, from 0 on [default: 0]",
+            ))?,
+    )
+}
+
+/// Returns the argument that is the dump.
+fn file<'a>(alloc: Global) -> Arg<'a> {
+    Arg::new(alloc, "file")
+        .value_name("FILE")
+        .required(true)
+        .help("The dump: an ELF core, or a raw file of physical memory")
+}
+
+/// Returns the argument that is one address or more.
+fn addresses<'a>(alloc: Global, help: &'static str) -> Arg<'a> {
+    Arg::new(alloc, "addresses")
+        .value_name("ADDRESS")
+        .required(true)
+        .num_args(1..)
+        .action(ArgAction::Append)
+        .help(help)
+}
+
+/// Returns an option that takes a number.
+fn option<'a>(alloc: Global, name: &'static str, help: &'static str) -> Arg<'a> {
+    Arg::new(alloc, name).long(name).value_name("N").help(help)
+}

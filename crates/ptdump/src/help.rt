@@ -1,0 +1,224 @@
+//! What help says of the commands, each with an example that can be tried.
+
+/// Says what follows the file on the command line.
+#[derive(Clone, Copy)]
+pub enum Operands {
+    /// Nothing.
+    None,
+    /// Addresses, with what help says of them.
+    Addresses(&'static str),
+}
+
+/// Says what a command is for.
+pub struct CommandHelp {
+    /// The word on the command line.
+    pub name: &'static str,
+    /// What it does, in a line.
+    pub about: &'static str,
+    /// What follows the file.
+    pub operands: Operands,
+    /// What it prints, and an example.
+    pub more: &'static str,
+}
+
+/// What help says of the program, after the list of commands.
+pub const MORE: &str = "\
+FILE is a dump of an x86-64 machine's physical memory:
+- an ELF core, as QEMU's `dump-guest-memory FILE` and Linux's kdump write it,
+- or a raw file, which holds the bytes of memory from an address on, as QEMU's
+  `pmemsave` writes it. Say by --base which address that is, if it isn't 0.
+
+Page tables are found by CR3. QEMU's cores have it, and how many levels there
+are; for other files give --cr3 and --levels, as `info registers` in QEMU's
+monitor prints them (bit 12 of CR4 set means five levels).
+
+Numbers are decimal, or hexadecimal after 0x. Rights are four letters, or - for
+each one that is missing: r may be read, w written, x executed, u by user code.
+The last line, on standard error, counts tables and mappings.
+
+The exit status is 0 if all went well, 1 if there are findings or an address
+isn't found, 2 for mistakes in the command line, 3 for a file that can't be
+read, 4 for want of memory, 5 if the output can't be written.
+
+Example, of a dump that the source of ptdump has in the folder examples:
+
+  $ ptdump regions machine.elf --cpu 0
+  0x0-0x1fffff 2MiB rwx-
+  0x400000-0x402fff 12KiB r-xu
+  0x403000-0x403fff 4KiB r--u
+  0x405000-0x406fff 8KiB rw-u
+  0x10000000-0x103fffff 4MiB rw-u
+  0x7fffffffc000-0x7fffffffdfff 8KiB rw-u
+  0xffff800000000000-0xffff80003fffffff 1GiB rw--
+  0xffffffff80000000-0xffffffff80000fff 4KiB r-x-
+  0xffffffff80001000-0xffffffff80002fff 8KiB r---
+  0xffffffff80003000-0xffffffff80004fff 8KiB rw--
+  0xffffffffff600000-0xffffffffff600fff 4KiB r-xu
+  tables 13, mappings 18, mapped 1054776KiB
+
+`ptdump COMMAND --help` has an example of each command.";
+
+/// The commands, in the order in which help lists them.
+pub static COMMANDS: [CommandHelp; 7] = [
+    CommandHelp {
+        name: "regions",
+        about: "List what is mapped, region by region",
+        operands: Operands::None,
+        more: "\
+A region is as long as addresses go on without a gap and with the same rights.
+Each line is FIRST-LAST SIZE RIGHTS: its first and last address, how long it is,
+and what may be done there: r read, w write, x execute, u by user code.
+
+Example:
+
+  $ ptdump regions machine.elf
+  0x0-0x1fffff 2MiB rwx-
+  0x400000-0x402fff 12KiB r-xu
+  0x403000-0x403fff 4KiB r--u
+  0x405000-0x406fff 8KiB rw-u
+  0x10000000-0x103fffff 4MiB rw-u
+  0x7fffffffc000-0x7fffffffdfff 8KiB rw-u
+  0xffff800000000000-0xffff80003fffffff 1GiB rw--
+  0xffffffff80000000-0xffffffff80000fff 4KiB r-x-
+  0xffffffff80001000-0xffffffff80002fff 8KiB r---
+  0xffffffff80003000-0xffffffff80004fff 8KiB rw--
+  0xffffffffff600000-0xffffffffff600fff 4KiB r-xu
+  tables 13, mappings 18, mapped 1054776KiB",
+    },
+    CommandHelp {
+        name: "pages",
+        about: "List all mappings, page by page",
+        operands: Operands::None,
+        more: "\
+Each line is START SIZE FRAME RIGHTS FLAGS: the page's first address, its size,
+the physical address to which it leads, what may be done there (r read, w write,
+x execute, u by user code; what all entries on the way allow), and the flags of
+the page's own entry, bits 0 to 11 and 52 to 63.
+
+Example:
+
+  $ ptdump pages machine.elf
+  0x0 2MiB 0x0 rwx- 0xa3
+  0x400000 4KiB 0x200000 r-xu 0x5
+  0x401000 4KiB 0x201000 r-xu 0x5
+  0x402000 4KiB 0x202000 r-xu 0x5
+  0x403000 4KiB 0x203000 r--u 0x8000000000000005
+  0x405000 4KiB 0x204000 rw-u 0x8000000000000067
+  0x406000 4KiB 0x207000 rw-u 0x8000000000000007
+  0x10000000 2MiB 0x400000 rw-u 0x8000000000000087
+  0x10200000 2MiB 0x600000 rw-u 0x8000000000000087
+  0x7fffffffc000 4KiB 0x20a000 rw-u 0x8000000000000007
+  0x7fffffffd000 4KiB 0x209000 rw-u 0x8000000000000067
+  0xffff800000000000 1GiB 0x0 rw-- 0x8000000000000183
+  0xffffffff80000000 4KiB 0x100000 r-x- 0x121
+  0xffffffff80001000 4KiB 0x220000 r--- 0x8000000000000101
+  0xffffffff80002000 4KiB 0x221000 r--- 0x8000000000000101
+  0xffffffff80003000 4KiB 0x222000 rw-- 0x8000000000000163
+  0xffffffff80004000 4KiB 0x223000 rw-- 0x8000000000000103
+  0xffffffffff600000 4KiB 0x226000 r-xu 0x105
+  tables 13, mappings 18, mapped 1054776KiB",
+    },
+    CommandHelp {
+        name: "walk",
+        about: "Show how the processor finds an address, word by word",
+        operands: Operands::Addresses("The addresses to walk to"),
+        more: "\
+For each address a line for each word that is read on the way,
+level L 0xTABLE[INDEX] 0xWORD, and then the physical address with what may be
+done there (r read, w write, x execute, u by user code), or why there is none.
+
+Example:
+
+  $ ptdump walk machine.elf 0x405123 0x404000
+  level 4 0x101000[0] 0x102027
+  level 3 0x102000[0] 0x103027
+  level 2 0x103000[2] 0x104027
+  level 1 0x104000[5] 0x8000000000204067
+  0x204123 rw-u
+  level 4 0x101000[0] 0x102027
+  level 3 0x102000[0] 0x103027
+  level 2 0x103000[2] 0x104027
+  level 1 0x104000[4] 0x5a0000
+  not present
+  tables 13, mappings 18, mapped 1054776KiB",
+    },
+    CommandHelp {
+        name: "find",
+        about: "Find the addresses that lead to a physical address",
+        operands: Operands::Addresses("The physical addresses to look for"),
+        more: "\
+For each physical address a line for each address that leads to it, with what
+may be done there: r read, w write, x execute, u by user code.
+
+Example:
+
+  $ ptdump find machine.elf 0x204123
+  0x405123 rw-u
+  0xffff800000204123 rw--
+  tables 13, mappings 18, mapped 1054776KiB",
+    },
+    CommandHelp {
+        name: "check",
+        about: "Find what is seldom meant, as memory that may be written and executed",
+        operands: Operands::None,
+        more: "\
+Findings are: regions that may be written and executed, regions of the upper
+half that user code reaches, tables that several words name, tables that aren't
+in the dump, and HUGE_PAGE at a level that has no pages. The exit status is 1 if
+there are any.
+
+Example:
+
+  $ ptdump check machine.elf
+  writable and executable 0x0-0x1fffff 2MiB rwx-
+  user reaches upper half 0xffffffffff600000-0xffffffffff600fff 4KiB r-xu
+  findings: 2
+  tables 13, mappings 18, mapped 1054776KiB",
+    },
+    CommandHelp {
+        name: "image",
+        about: "Write the tables as an image that pagetab reads",
+        operands: Operands::None,
+        more: "\
+pagetab maps, unmaps and translates pages on an image of page tables. Tables get
+new addresses, from 0x1000 on. Standard error says which, which words were left
+out, how pagetab is called, and why it would refuse the image.
+
+Example:
+
+  $ ptdump image machine.elf > image.txt
+  new         old               level
+  0x1000      0x101000          4
+  0x2000      0x102000          3
+  0x3000      0x105000          3
+  0x4000      0x108000          3
+  0x5000      0x109000          3
+  0x6000      0x103000          2
+  0x7000      0x106000          2
+  0x8000      0x10a000          2
+  0x9000      0x10c000          2
+  0xa000      0x104000          1
+  0xb000      0x107000          1
+  0xc000      0x10b000          1
+  0xd000      0x10d000          1
+  words without PRESENT above level one, left out: 0
+  places: 14
+  run: ./pagetab direct 14 < IMAGE
+  tables 13, mappings 18, mapped 1054776KiB
+  $ echo walk 0x405123 | cat image.txt - | pagetab direct 14
+  0x204123 write=1 user=1",
+    },
+    CommandHelp {
+        name: "picture",
+        about: "Draw the regions and the tables, as an SVG picture",
+        operands: Operands::None,
+        more: "\
+The picture shows the regions of each half of the addresses, coloured by their
+rights, and the tables as a tree. A browser shows it.
+
+Example:
+
+  $ ptdump picture machine.elf > machine.svg
+  tables 13, mappings 18, mapped 1054776KiB",
+    },
+];

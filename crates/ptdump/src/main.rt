@@ -1,0 +1,115 @@
+//! Prints what the page tables in a dump of physical memory map.
+#![tactic(auto)]
+
+ghost use Rattle.std.specs.Prelude.{◌≡◌, ◌⊎◌};
+ghost use Rattle.std.specs.Process.{exit_status};
+ghost use Rattle.ptdump.specs.Exit.{exit_status_of};
+ghost use Rattle.ptdump_engine.specs.Failure.{status_of};
+ghost use Rattle.ptdump_engine.specs.declared.failure.Failure.TheVariants.{Output};
+
+mod command_line;
+mod help;
+mod progress;
+mod request;
+mod stop;
+
+use clap::ArgMatches;
+use command_line::command_line;
+use progress::ProgressLine;
+use ptdump_engine::{Failure, Outcome, Request};
+use request::request_of;
+use std::fs::File;
+use std::io::{ErrorKind, IsTerminal};
+use std::process::ExitCode;
+use std::{env, io};
+use stop::Stop;
+use x86_64_dump::FileSource;
+
+fn main(rt: HostRuntime) -> ExitCode {
+    match words(&rt) {
+        Ok(words) => report(&rt, run(&rt, words.as_slice())),
+        Err(error) => report(&rt, Err(stop_of(&error))),
+    }
+}
+
+/// Lists the words of the command line, with the program's name.
+fn words(rt: &HostRuntime) -> io::Result<Vec<String>> {
+    Ok(env::args(rt)?.collect(rt.alloc())?)
+}
+
+/// Says why the words can't be listed: memory was refused, or one of them is no text.
+fn stop_of(error: &io::Error) -> Stop<'static> {
+    if error.kind() == ErrorKind::OutOfMemory {
+        Stop::Failed(Failure::OutOfMemory)
+    } else {
+        Stop::NoText
+    }
+}
+
+/// Does what the words of a command line ask for.
+fn run<'a>(rt: &HostRuntime, words: &'a [String]) -> Result<Outcome, Stop<'a>> {
+    let command = command_line(rt.alloc())?;
+    let matches = command.try_get_matches_from(words)?;
+    match matches.subcommand() {
+        Some((name, arguments)) => {
+            let request = request_of(rt.alloc(), name, arguments)?;
+            report_on(rt, path_of(arguments), &request)
+        }
+        None => Err(Stop::NoCommand("")),
+    }
+}
+
+/// Returns the path of the dump, which a command line has to give.
+fn path_of<'a>(arguments: &ArgMatches<'a>) -> &'a str {
+    arguments.get_str("file").unwrap_or("")
+}
+
+/// Reports on a dump.
+fn report_on<'a>(rt: &HostRuntime, path: &'a str, request: &Request) -> Result<Outcome, Stop<'a>> {
+    let source = match open(rt, path) {
+        Ok(source) => source,
+        Err(error) => return Err(Stop::Unopened { path, error }),
+    };
+    let mut progress = ProgressLine::new(rt, rt.stderr().is_terminal());
+    let mut writer = rt.stdout();
+    let mut errors = rt.stderr();
+    let outcome = ptdump_engine::run(
+        rt.alloc(),
+        source,
+        request,
+        &mut writer,
+        &mut errors,
+        &mut progress,
+    )?;
+    Ok(outcome)
+}
+
+/// Opens a dump.
+fn open(rt: &HostRuntime, path: &str) -> io::Result<FileSource> {
+    FileSource::new(File::open(rt, path)?)
+}
+
+/// Tells how a run ended, and gives the exit code: that of a failed write if this fails.
+fn report(rt: &(impl Print + Eprint), ended: Result<Outcome, Stop<'_>>) -> ExitCode
+    ensures { (exit_status result ≡ exit_status_of ended.entry) ⊎ (exit_status result ≡ status_of Output) }
+{
+    let told = match &ended {
+        Ok(_) => Ok(()),
+        Err(stop) => stop.tell(rt),
+    };
+    match told {
+        Ok(()) => exit_code(&ended),
+        Err(_) => ExitCode::from(Failure::Output.status()),
+    }
+}
+
+/// Gives the exit code of a run that ended so.
+fn exit_code(ended: &Result<Outcome, Stop<'_>>) -> ExitCode
+    ensures { exit_status result ≡ exit_status_of ended.now }
+{
+    match ended {
+        Ok(outcome) if outcome.is_complete => ExitCode::SUCCESS,
+        Ok(_) => ExitCode::FAILURE,
+        Err(stop) => ExitCode::from(stop.status()),
+    }
+}

@@ -1,0 +1,123 @@
+//! Why the program ends without the report that was asked for.
+ghost use Rattle.std.specs.Prelude.{◌≡◌};
+ghost use Rattle.ptdump.specs.Exit.{stop_status};
+
+use clap::error::ErrorKind;
+use ptdump_engine::Failure;
+use std::alloc::AllocFailed;
+use std::error::Error;
+use std::fmt::{Display, Formatter, Result as FmtResult, Write};
+use std::io;
+
+/// Says why the program ends without the report that was asked for.
+#[derive(Debug, Drop)]
+pub enum Stop<'a> {
+    /// Help or the version was asked for.
+    Help(clap::Error),
+    /// The words are no command line that the program takes.
+    Usage(clap::Error),
+    /// A word of the command line is no text.
+    NoText,
+    /// There is no such command.
+    NoCommand(&'a str),
+    /// The value of an argument is no number.
+    NoNumber {
+        /// The argument.
+        argument: &'static str,
+        /// What stands there.
+        text: &'a str,
+    },
+    /// There are no page tables with so many levels.
+    NoLevels(&'a str),
+    /// The file can't be opened.
+    Unopened {
+        /// The file.
+        path: &'a str,
+        /// Why it can't.
+        error: io::Error,
+    },
+    /// The run failed, or memory was refused before.
+    Failed(Failure),
+}
+
+impl Stop<'_> {
+    /// Gives the exit status: 2 for the command line, 3 for the file, 4 for want of memory, 5 for a failed write.
+    pub fn status(&self) -> u8
+        ensures { result ≡ stop_status self.now }
+    {
+        match self {
+            Stop::Help(_) => 0,
+            Stop::Usage(_)
+            | Stop::NoText
+            | Stop::NoCommand(_)
+            | Stop::NoNumber { .. }
+            | Stop::NoLevels(_) => 2,
+            Stop::Unopened { .. } => 3,
+            Stop::Failed(failure) => failure.status(),
+        }
+    }
+
+    /// Tells why: help and the version on standard output, all else on standard error.
+    ///
+    /// # Errors
+    ///
+    /// Where it can't be written.
+    pub fn tell(&self, rt: &(impl Print + Eprint)) -> io::Result<()> {
+        match self {
+            Stop::Help(text) | Stop::Usage(text) => text.print(rt),
+            _ => eprintln!(rt; "error: {self}"),
+        }
+    }
+}
+
+impl Display for Stop<'_> {
+    fn fmt<W: Write>(&self, f: &mut Formatter<W>) -> FmtResult {
+        match self {
+            Stop::Help(text) | Stop::Usage(text) => write!(f, "{text}"),
+            Stop::NoText => f.write_str("a word of the command line is no text: write it in UTF-8"),
+            Stop::NoCommand(name) => write!(
+                f,
+                "{name} is no command: `ptdump --help` lists those that are"
+            ),
+            Stop::NoNumber { argument, text } => write!(
+                f,
+                "{argument} {text} is no number below 2^64: write decimal digits, or hexadecimal ones after 0x"
+            ),
+            Stop::NoLevels(text) => write!(
+                f,
+                "--levels {text}: give 4 or 5, which page tables have"
+            ),
+            Stop::Unopened { path, error } => write!(f, "{path} can't be opened: {error}"),
+            Stop::Failed(failure) => write!(f, "{failure}"),
+        }
+    }
+}
+
+impl Error for Stop<'_> {}
+
+impl<T: Drop> From<AllocFailed<T>> for Stop<'_> {
+    ghost use Rattle.ptdump_engine.specs.declared.failure.Failure.TheVariants.{OutOfMemory};
+    ghost use Rattle.ptdump.specs.declared.stop.Stop.TheVariants.{Failed};
+
+    ghost from_gives = { λ _ stop. stop ≡ Failed OutOfMemory };
+
+    fn from(_error: AllocFailed<T>) -> Self {
+        Stop::Failed(Failure::OutOfMemory)
+    }
+}
+
+impl From<Failure> for Stop<'_> {
+    fn from(failure: Failure) -> Self {
+        Stop::Failed(failure)
+    }
+}
+
+impl From<clap::Error> for Stop<'_> {
+    fn from(error: clap::Error) -> Self {
+        match error.kind() {
+            ErrorKind::OutOfMemory => Stop::Failed(Failure::OutOfMemory),
+            ErrorKind::DisplayHelp | ErrorKind::DisplayVersion => Stop::Help(error),
+            _ => Stop::Usage(error),
+        }
+    }
+}

@@ -1,0 +1,92 @@
+//! The report that is an image for `pagetab`.
+
+use crate::failure::Failure;
+use crate::loaded::Loaded;
+use crate::output::Output;
+use ptdump_findings::{Image, Table};
+use std::alloc::Global;
+use std::io::Write;
+use x86_64_addr::level_count::LevelCount;
+use x86_64_dump::{ByteSource, Dump};
+
+/// Writes an image of the tables to the output, and how it came about to `errors`.
+///
+/// The tables are read again, each for its lines and for what `pagetab` refuses.
+///
+/// # Errors
+///
+/// `Failure::Read` if the dump can't be read, `Failure::OutOfMemory` if memory is refused, `Failure::Output` if a write fails.
+pub fn write_image<L: LevelCount, S: ByteSource, W: Write, E: Write>(
+    alloc: Global,
+    dump: &Dump<S>,
+    loaded: &Loaded<'_, L>,
+    output: &mut Output<'_, W>,
+    errors: &mut Output<'_, E>,
+) -> Result<(), Failure> {
+    let image = Image::read(alloc, dump, loaded.root, L::LEVELS)?;
+    write_words(dump, &image, output)?;
+    write_report(dump, &image, errors)
+}
+
+/// Writes the lines of an image.
+fn write_words<S: ByteSource, W: Write>(
+    dump: &Dump<S>,
+    image: &Image,
+    output: &mut Output<'_, W>,
+) -> Result<(), Failure> {
+    for table in image.tables() {
+        if let Some(words) = dump.read_frame(table.frame).map_err(Failure::Read)? {
+            let lines = image.word_lines(table, &words);
+            write!(output, "{lines}")?;
+        }
+    }
+    Ok(())
+}
+
+/// Writes the report on an image: the old address of each table, what is left out, why `pagetab` refuses the image, and the
+/// command line that reads it.
+fn write_report<S: ByteSource, E: Write>(
+    dump: &Dump<S>,
+    image: &Image,
+    errors: &mut Output<'_, E>,
+) -> Result<(), Failure> {
+    writeln!(errors, "new         old               level")?;
+    write_rows(image, image.tables(), errors)?;
+    write_rows(image, image.outside(), errors)?;
+    let left_out = image.left_out();
+    writeln!(errors, "words without PRESENT above level one, left out: {left_out}")?;
+    if image.is_refused() {
+        writeln!(errors, "pagetab refuses this image:")?;
+        write_refusals(dump, image, errors)?;
+    }
+    let end = image.report_end();
+    write!(errors, "{end}")
+}
+
+/// Writes the lines of tables.
+fn write_rows<E: Write>(
+    image: &Image,
+    tables: &[Table],
+    errors: &mut Output<'_, E>,
+) -> Result<(), Failure> {
+    for table in tables {
+        let row = image.row(table);
+        writeln!(errors, "{row}")?;
+    }
+    Ok(())
+}
+
+/// Writes why `pagetab` refuses entries.
+fn write_refusals<S: ByteSource, E: Write>(
+    dump: &Dump<S>,
+    image: &Image,
+    errors: &mut Output<'_, E>,
+) -> Result<(), Failure> {
+    for table in image.tables() {
+        if let Some(words) = dump.read_frame(table.frame).map_err(Failure::Read)? {
+            let refusals = image.refusals(table, &words);
+            write!(errors, "{refusals}")?;
+        }
+    }
+    Ok(())
+}

@@ -1,0 +1,96 @@
+//! Sizes and counts as texts.
+ghost use Rattle.std.specs.Prelude.{◌<◌, ◌≤◌};
+
+use std::fmt::{Display, Formatter, Result as FmtResult, Write};
+use x86_64_mappings::text::write_size;
+
+/// A number of bytes, written in the largest of KiB, MiB, GiB and TiB that is no more. What the unit doesn't divide has one decimal
+/// place, which isn't rounded up.
+#[derive(Clone, Copy)]
+pub(crate) struct ShortSize(pub u64);
+
+impl Display for ShortSize {
+    fn fmt<W: Write>(&self, f: &mut Formatter<W>) -> FmtResult {
+        let ShortSize(bytes) = *self;
+        let (unit, name) = unit_of(bytes);
+        let whole = bytes / unit;
+        let rest = bytes % unit;
+        if rest == 0 || whole >= 1000 {
+            write!(f, "{whole}{name}")
+        } else {
+            let tenths = rest * 10 / unit;
+            write!(f, "{whole}.{tenths}{name}")
+        }
+    }
+}
+
+/// Gives the largest of KiB, MiB, GiB and TiB that is no more than a number of bytes, and its name; KiB if there is none.
+fn unit_of(bytes: u64) -> (u64, &'static str)
+    ensures some { 0 < result.0 }
+    ensures low { result.0 ≤ 0x100_0000_0000 }
+{
+    if bytes >= 1 << 40 {
+        (1 << 40, "TiB")
+    } else if bytes >= 1 << 30 {
+        (1 << 30, "GiB")
+    } else if bytes >= 1 << 20 {
+        (1 << 20, "MiB")
+    } else {
+        (1 << 10, "KiB")
+    }
+}
+
+/// A number of bytes, written exactly.
+#[derive(Clone, Copy)]
+pub(crate) struct ExactSize(pub u64);
+
+impl Display for ExactSize {
+    fn fmt<W: Write>(&self, f: &mut Formatter<W>) -> FmtResult {
+        write_size(f, self.0)
+    }
+}
+
+/// A number of things, with what they are called.
+#[derive(Clone, Copy)]
+pub(crate) struct Count {
+    count: u64,
+    one: &'static str,
+    several: &'static str,
+}
+
+impl Count {
+    /// Makes a number of mappings.
+    pub fn mappings(count: u64) -> Count {
+        Count {
+            count,
+            one: "mapping",
+            several: "mappings",
+        }
+    }
+
+    /// Makes a number of regions.
+    pub fn regions(count: u64) -> Count {
+        Count {
+            count,
+            one: "region",
+            several: "regions",
+        }
+    }
+
+    /// Makes a number of tables.
+    pub fn tables(count: u64) -> Count {
+        Count {
+            count,
+            one: "table",
+            several: "tables",
+        }
+    }
+}
+
+impl Display for Count {
+    fn fmt<W: Write>(&self, f: &mut Formatter<W>) -> FmtResult {
+        let count = self.count;
+        let name = if count == 1 { self.one } else { self.several };
+        write!(f, "{count} {name}")
+    }
+}

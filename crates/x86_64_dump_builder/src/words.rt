@@ -1,0 +1,24 @@
+//! Words of eight bytes.
+use std::alloc::AllocError;
+
+/// Adds numbers of eight bytes, from `first` on.
+pub fn push_words(bytes: &mut Vec<u8>, first: u64, count: u64) -> Result<(), AllocError> {
+    for n in 0..count {
+        bytes.extend_from_slice(&first.wrapping_add(n).to_le_bytes())?;
+    }
+    Ok(())
+}
+
+/// Adds a frame that holds a page table: the given words at their indices, the last one that is given for an index, and 0 elsewhere.
+pub fn push_table(bytes: &mut Vec<u8>, words: &[(usize, u64)]) -> Result<(), AllocError> {
+    let mut table = [0; 512];
+    for (index, word) in words {
+        if *index < 512 {
+            table[*index] = *word;
+        }
+    }
+    for word in &table {
+        bytes.extend_from_slice(&word.to_le_bytes())?;
+    }
+    Ok(())
+}
