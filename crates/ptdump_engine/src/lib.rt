@@ -3,17 +3,21 @@
 
 mod access;
 mod arguments;
+mod check;
 mod engine;
 mod failure;
 mod finder;
+mod image;
 mod lines;
 mod loaded;
 mod output;
+mod picture;
 mod report;
 mod request;
 mod start;
 mod totals;
 mod walk;
+mod word_read;
 
 pub use engine::run;
 pub use failure::Failure;
