@@ -36,6 +36,11 @@ argument_failure levels (commands.Walk addresses) =
 argument_failure levels (commands.Find addresses) = option_map (λ a. failures.NotPhysical a) (find (λ a. nat_le (2 ^ 52) a) addresses.items)
 argument_failure levels command = None
 
+-- the physical addresses of a search are below 2^52
+abbrev pub IsTested : Command → Type 0
+IsTested (commands.Find addresses) = find (λ a. nat_le (2 ^ 52) a) addresses.items ≡ None
+IsTested command = ⊤
+
 -- a walk says itself that the root isn't in the dump
 abbrev pub is_walk : Command → Bool
 is_walk (commands.Walk addresses) = true
@@ -43,6 +48,12 @@ is_walk command = false
 
 abbrev pub root_failure : Command → Words → (root : ℕ) → Option Failure
 root_failure command T root = if is_walk command || is_some (T root) then None else Some (failures.NoRoot root)
+
+-- where walks start in a dump, once what is asked is tested
+unfoldable pub start_for : Request → Contents → Result Start Failure
+start_for request dump = and_then (start_of request dump) (λ start.
+    and_then (unless (argument_failure start.levels request.command) start) (λ tested.
+    unless (root_failure request.command (words_of_dump dump) start.root) start))
 
 -- what a dump holds, and where walks start in it
 pub record Opened : Type 0 where
@@ -52,9 +63,7 @@ pub record Opened : Type 0 where
 -- what is opened on request, or why the request or the file can't be used
 unfoldable pub opened_for : Request → (file : List ℕ) → Result Opened Failure
 opened_for request file = and_then (of_dump (contents_of file request.base)) (λ dump.
-    and_then (start_of request dump) (λ start.
-    and_then (unless (argument_failure start.levels request.command) start) (λ _.
-    unless (root_failure request.command (words_of_dump dump) start.root) (record { dump = dump; start = start }))))
+    and_then (start_for request dump) (λ start. Ok (record { dump = dump; start = start })))
 
 -- ---- what is written
 

@@ -17,6 +17,12 @@ abbrev pub unless : {A : Type 0} → Option Failure → A → Result A Failure
 unless None a = Ok a
 unless (Some failure) a = Err failure
 
+-- memory was refused, or a write failed
+abbrev pub IsForced : Failure → Type 0
+IsForced failures.OutOfMemory = ⊤
+IsForced failures.Output = ⊤
+IsForced failure = ⊥
+
 -- a call fails with the failure that was to be found, unless memory was refused or a write failed
 abbrev pub FailsBy : {A : Type 0} → Failure → Result A Failure → Type 0
 FailsBy failures.OutOfMemory found = ⊤

@@ -1,6 +1,7 @@
 //! Why runs fail.
 ghost use Rattle.std.specs.Prelude.{◌≡◌};
 
+use crate::output::OutputError;
 use crate::request::Levels;
 use std::alloc::AllocError;
 use std::error::Error;
@@ -115,6 +116,19 @@ impl From<AllocError> for Failure {
 
     fn from(_error: AllocError) -> Failure {
         Failure::OutOfMemory
+    }
+}
+
+impl From<OutputError> for Failure {
+    ghost use Rattle.ptdump_engine.specs.Failure.{failure_by};
+
+    ghost from_gives = { λ error failure. failure ≡ failure_by error };
+
+    fn from(error: OutputError) -> Failure {
+        match error {
+            OutputError::OutOfMemory => Failure::OutOfMemory,
+            OutputError::Write => Failure::Output,
+        }
     }
 }
 

@@ -2,8 +2,7 @@
 ghost use Rattle.std.specs.Prelude.{◌≡◌, false};
 
 use crate::access::Access;
-use crate::failure::Failure;
-use crate::output::Output;
+use crate::output::{Output, OutputError};
 use std::io::Write;
 use x86_64_addr::addr::{PhysAddr, VirtAddrIn};
 use x86_64_addr::level_count::LevelCount;
@@ -50,7 +49,7 @@ impl<'a, 'b, W: Write> Finder<'a, 'b, W> {
 }
 
 impl<L: LevelCount, W: Write> Visitor<MappingIn<L>> for Finder<'_, '_, W> {
-    type Error = Failure;
+    type Error = OutputError;
 
     ghost use Rattle.ptdump_engine.specs.private.Finding.{IsSearched};
     ghost use Rattle.ptdump_engine.specs.private.Searched.{searched_nothing, searched_both};
@@ -58,7 +57,7 @@ impl<L: LevelCount, W: Write> Visitor<MappingIn<L>> for Finder<'_, '_, W> {
     ghost Visits = { λ old new mappings. IsSearched W.contents L.LEVELS old new mappings };
 
     /// Writes the virtual address in a mapping that leads to the physical one.
-    fn visit(&mut self, mapping: MappingIn<L>) -> Result<(), Failure> {
+    fn visit(&mut self, mapping: MappingIn<L>) -> Result<(), OutputError> {
         let start = mapping.frame.start_address().as_u64();
         let offset = self.physical.as_u64().saturating_sub(start);
         let address = VirtAddrIn::<L>::new_truncate(mapping.start.position() + offset);

@@ -3,6 +3,7 @@
 
 mod access;
 mod arguments;
+mod engine;
 mod failure;
 mod finder;
 mod lines;
@@ -11,9 +12,12 @@ mod output;
 mod report;
 mod request;
 mod start;
+mod totals;
 mod walk;
 
+pub use engine::run;
 pub use failure::Failure;
 pub use loaded::Loaded;
-pub use output::Output;
+pub use output::{Output, OutputError};
 pub use request::{Command, Levels, Outcome, Request};
+pub use x86_64_dump_tables::{NoProgress, Progress};

@@ -5,21 +5,20 @@ ghost use Rattle.ptdump_engine.specs.Output.{Puts};
 ghost use Rattle.ptdump_engine.specs.Walks.{line};
 ghost use Rattle.ptdump_engine.specs.private.Puts.{puts_nothing, puts_each};
 
-use crate::failure::Failure;
-use crate::output::Output;
+use crate::output::{Output, OutputError};
 use std::io::Write;
 use x86_64_addr::level_count::LevelCount;
 use x86_64_mappings::{MappingIn, RegionIn};
 use x86_64_summaries::Visitor;
 
 impl<L: LevelCount, W: Write> Visitor<MappingIn<L>> for Output<'_, W> {
-    type Error = Failure;
+    type Error = OutputError;
 
     ghost Visits = { λ old new mappings.
         Puts W.contents old new (flat_map (λ m. line (mapping_text L.LEVELS m)) mappings) };
 
     /// Puts a line in for a mapping.
-    fn visit(&mut self, mapping: MappingIn<L>) -> Result<(), Failure> {
+    fn visit(&mut self, mapping: MappingIn<L>) -> Result<(), OutputError> {
         writeln!(self, "{mapping}")
     }
 
@@ -30,13 +29,13 @@ impl<L: LevelCount, W: Write> Visitor<MappingIn<L>> for Output<'_, W> {
 }
 
 impl<L: LevelCount, W: Write> Visitor<RegionIn<L>> for Output<'_, W> {
-    type Error = Failure;
+    type Error = OutputError;
 
     ghost Visits = { λ old new regions.
         Puts W.contents old new (flat_map (λ r. line (region_text L.LEVELS r)) regions) };
 
     /// Puts a line in for a region.
-    fn visit(&mut self, region: RegionIn<L>) -> Result<(), Failure> {
+    fn visit(&mut self, region: RegionIn<L>) -> Result<(), OutputError> {
         writeln!(self, "{region}")
     }
 

@@ -1,13 +1,31 @@
 //! Output that is collected, and handed on in large pieces.
 ghost use Rattle.std.specs.Prelude.{◌≡◌, IfSome, OnOk, string_bytes, []};
 
-use crate::failure::Failure;
-use std::alloc::Global;
+use std::alloc::{AllocError, Global};
 use std::fmt::Display;
 use std::io::Write;
 
 /// How many bytes are collected before they are handed on.
 const PIECE: usize = 0x1_0000;
+
+/// Says why a text wasn't put into an output.
+#[derive(Clone, Copy, Debug, PartialEq, Eq)]
+pub enum OutputError {
+    /// Memory was refused.
+    OutOfMemory,
+    /// A write failed.
+    Write,
+}
+
+impl From<AllocError> for OutputError {
+    ghost use Rattle.ptdump_engine.specs.declared.output.OutputError.TheVariants.{OutOfMemory};
+
+    ghost from_gives = { λ _ error. error ≡ OutOfMemory };
+
+    fn from(_error: AllocError) -> OutputError {
+        OutputError::OutOfMemory
+    }
+}
 
 /// Collects text for a writer, and hands it on in pieces of 64 KiB and more, the rest at the end.
 ///
@@ -51,8 +69,8 @@ impl<W: Write> Output<'_, W> {
     ///
     /// # Errors
     ///
-    /// `Failure::OutOfMemory` if memory is refused, `Failure::Output` if a write fails.
-    pub fn write_fmt<D: Display + Drop>(&mut self, text: D) -> Result<(), Failure>
+    /// `OutputError::OutOfMemory` if memory is refused, `OutputError::Write` if a write fails.
+    pub fn write_fmt<D: Display + Drop>(&mut self, text: D) -> Result<(), OutputError>
         ensures { OnOk result (IfSome (D.output text) (Puts W.contents self.old self.new)) }
     {
         self.text.write(text)?;
@@ -66,22 +84,22 @@ impl<W: Write> Output<'_, W> {
     ///
     /// # Errors
     ///
-    /// `Failure::Output` if a write fails.
-    pub fn finish(&mut self) -> Result<(), Failure>
+    /// `OutputError::Write` if a write fails.
+    pub fn finish(&mut self) -> Result<(), OutputError>
         ensures same { OnOk result (Puts W.contents self.old self.new []) }
         ensures all { OnOk result (string_bytes self.new.text ≡ []) }
     {
         self.hand_on()?;
-        self.writer.flush().map_err(|_| Failure::Output)
+        self.writer.flush().map_err(|_| OutputError::Write)
     }
 
     /// Hands on what is collected.
-    fn hand_on(&mut self) -> Result<(), Failure>
+    fn hand_on(&mut self) -> Result<(), OutputError>
         ensures same { OnOk result (Puts W.contents self.old self.new []) }
         ensures all { OnOk result (string_bytes self.new.text ≡ []) }
     {
         let text = self.text.as_bytes();
-        self.writer.write_all(text).map_err(|_| Failure::Output)?;
+        self.writer.write_all(text).map_err(|_| OutputError::Write)?;
         self.text.clear();
         Ok(())
     }

@@ -1,16 +1,15 @@
 //! Reports of regions, mappings, walks and searches.
-ghost use Rattle.std.specs.Prelude.{◌≡◌, ◌<◌, ◌^◌, All, OnOk, IfOk};
-ghost use Rattle.std.specs.List.{list_any};
+ghost use Rattle.std.specs.Prelude.{◌≡◌, ◌^◌, nat_le, None, OnOk, IfOk};
+ghost use Rattle.std.specs.List.{find, list_any};
 ghost use Rattle.x86_64_model.specs.Mappings.{mappings_of};
 ghost use Rattle.x86_64_summaries.specs.Wanted.{leads_to};
 ghost use Rattle.ptdump_engine.specs.Loaded.{IsLoaded, words_loaded};
 ghost use Rattle.ptdump_engine.specs.Output.{Puts};
 ghost use Rattle.ptdump_engine.specs.Reports as reports;
 
-use crate::failure::Failure;
 use crate::finder::Finder;
 use crate::loaded::Loaded;
-use crate::output::Output;
+use crate::output::{Output, OutputError};
 
 use crate::walk::write_walk;
 use std::alloc::Global;
@@ -29,7 +28,7 @@ use x86_64_tables::phys_memory::{IdentityMapping, PhysMemory};
 pub fn write_regions<L: LevelCount, W: Write>(
     loaded: &Loaded<'_, L>,
     output: &mut Output<'_, W>,
-) -> Result<(), Failure>
+) -> Result<(), OutputError>
     requires { IsLoaded loaded.now }
     ensures { let text = reports.regions_text L.LEVELS (words_loaded loaded.now) loaded.now.root in
         OnOk result (Puts W.contents output.old output.new text) }
@@ -50,7 +49,7 @@ pub fn write_regions<L: LevelCount, W: Write>(
 pub fn write_pages<L: LevelCount, W: Write>(
     loaded: &Loaded<'_, L>,
     output: &mut Output<'_, W>,
-) -> Result<(), Failure>
+) -> Result<(), OutputError>
     requires { IsLoaded loaded.now }
     ensures { let text = reports.pages_text L.LEVELS (words_loaded loaded.now) loaded.now.root in
         OnOk result (Puts W.contents output.old output.new text) }
@@ -71,7 +70,7 @@ pub fn write_walks<L: LevelCount, W: Write>(
     loaded: &Loaded<'_, L>,
     addresses: &[u64],
     output: &mut Output<'_, W>,
-) -> Result<bool, Failure>
+) -> Result<bool, OutputError>
     ensures text { let text = reports.walks_text L.LEVELS (words_loaded loaded.now) loaded.now.root addresses.now in
         OnOk result (Puts W.contents output.old output.new text) }
     ensures complete { let complete = reports.all_arrive L.LEVELS (words_loaded loaded.now) loaded.now.root addresses.now in
@@ -80,7 +79,8 @@ pub fn write_walks<L: LevelCount, W: Write>(
     let mut is_complete = true;
     for address in addresses {
         let address = VirtAddrIn::<L>::new_truncate(*address);
-        is_complete &= write_walk(loaded, address, output)?;
+        let arrives = write_walk(loaded, address, output)?;
+        is_complete &= arrives;
     }
     Ok(is_complete)
 }
@@ -95,8 +95,8 @@ pub fn write_found<L: LevelCount, W: Write>(
     loaded: &Loaded<'_, L>,
     addresses: &[u64],
     output: &mut Output<'_, W>,
-) -> Result<bool, Failure>
-    requires { All (λ a. a < 2 ^ 52) addresses.now }
+) -> Result<bool, OutputError>
+    requires { find (λ a. nat_le (2 ^ 52) a) addresses.now ≡ None }
     ensures text { let text = reports.find_text L.LEVELS (words_loaded loaded.now) loaded.now.root addresses.now in
         OnOk result (Puts W.contents output.old output.new text) }
     ensures complete { let complete = reports.all_found L.LEVELS (words_loaded loaded.now) loaded.now.root addresses.now in
@@ -105,7 +105,8 @@ pub fn write_found<L: LevelCount, W: Write>(
     let mut is_complete = true;
     for address in addresses {
         let physical = PhysAddr::new(*address);
-        is_complete &= write_addresses_to(alloc, loaded, physical, output)?;
+        let is_found = write_addresses_to(alloc, loaded, physical, output)?;
+        is_complete &= is_found;
     }
     Ok(is_complete)
 }
@@ -116,7 +117,7 @@ fn write_addresses_to<L: LevelCount, W: Write>(
     loaded: &Loaded<'_, L>,
     physical: PhysAddr,
     output: &mut Output<'_, W>,
-) -> Result<bool, Failure>
+) -> Result<bool, OutputError>
     ensures text { let text = reports.addresses_text L.LEVELS (words_loaded loaded.now) loaded.now.root physical in
         OnOk result (Puts W.contents output.old output.new text) }
     ensures found { let mappings = mappings_of L.LEVELS (words_loaded loaded.now) loaded.now.root in

@@ -2,7 +2,7 @@
 ghost use Rattle.std.specs.Prelude.{◌≡◌, ◌≤◌, ◌+◌, ◌%◌, true, OnOk, IfOk};
 ghost use Rattle.x86_64_dump_tables.specs.Loaded.{words_in};
 ghost use Rattle.x86_64_mappings.specs.Views.{seen_rights};
-ghost use Rattle.x86_64_model.specs.Mappings.{Rights, maps_page as page_mapped};
+ghost use Rattle.x86_64_model.specs.Mappings.{Rights as Allowed, maps_page as page_mapped};
 ghost use Rattle.x86_64_model.specs.Memory.{words_of, identity_places};
 ghost use Rattle.x86_64_model.specs.PageWalk.{page_start};
 ghost use Rattle.x86_64_model.specs.Position.{span as span_of};
@@ -12,9 +12,8 @@ ghost use Rattle.ptdump_engine.specs.Walks as walks;
 ghost use Rattle.ptdump_engine.specs.private.WalkLines.{lines_below, is_arrival};
 
 use crate::access::Access;
-use crate::failure::Failure;
 use crate::loaded::Loaded;
-use crate::output::Output;
+use crate::output::{Output, OutputError};
 use bitflags::Flags;
 use std::io::Write;
 use x86_64_addr::addr::VirtAddrIn;
@@ -32,11 +31,12 @@ use x86_64_tables::phys_memory::{
 /// # Errors
 ///
 /// If memory is refused, or a write fails.
+#[tactic(auto, unfolding(crate::specs::Walks::walk_text, crate::specs::private::WalkLines::lines_below))]
 pub fn write_walk<L: LevelCount, W: Write>(
     loaded: &Loaded<'_, L>,
     address: VirtAddrIn<L>,
     output: &mut Output<'_, W>,
-) -> Result<bool, Failure>
+) -> Result<bool, OutputError>
     ensures text { let walk = walks.walk_of L.LEVELS (words_loaded loaded.now) loaded.now.root address in
         OnOk result (Puts W.contents output.old output.new (walks.walk_text walk)) }
     ensures arrives { let walk = walks.walk_of L.LEVELS (words_loaded loaded.now) loaded.now.root address in
@@ -55,7 +55,7 @@ fn walk_on<W: Write>(
     frame: PhysFrame<Size4KiB>,
     above: Rights,
     output: &mut Output<'_, W>,
-) -> Result<bool, Failure>
+) -> Result<bool, OutputError>
     requires low { 1 ≤ level }
     requires high { level ≤ 5 }
     ensures text { let walk = walks.walk_from (words_of memory.now identity_places) position level frame in
@@ -91,8 +91,8 @@ fn walk_on<W: Write>(
 fn write_missing<W: Write>(
     frame: PhysFrame<Size4KiB>,
     output: &mut Output<'_, W>,
-) -> Result<(), Failure>
-    ensures { (r : Rights) → OnOk result (Puts W.contents output.old output.new
+) -> Result<(), OutputError>
+    ensures { (r : Allowed) → OnOk result (Puts W.contents output.old output.new
         (walks.line (walks.end_text r (walks.no_table frame)))) }
 {
     let start = frame.start_address().as_u64();
@@ -106,8 +106,8 @@ fn write_word<W: Write>(
     index: usize,
     entry: &PageTableEntry,
     output: &mut Output<'_, W>,
-) -> Result<(), Failure>
-    ensures { let read = record { level = level; table = frame; index = index; word = entry.now } in
+) -> Result<(), OutputError>
+    ensures { let read : walks.WordRead = record { level = level; table = frame; index = index; word = entry.now } in
         OnOk result (Puts W.contents output.old output.new (walks.line (walks.word_text read))) }
 {
     let table = frame.start_address().as_u64();
@@ -116,8 +116,8 @@ fn write_word<W: Write>(
 }
 
 /// Writes that a word of a level has `HUGE_PAGE`, though none of the level maps a page.
-fn write_huge<W: Write>(level: u64, output: &mut Output<'_, W>) -> Result<(), Failure>
-    ensures { (r : Rights) → OnOk result (Puts W.contents output.old output.new
+fn write_huge<W: Write>(level: u64, output: &mut Output<'_, W>) -> Result<(), OutputError>
+    ensures { (r : Allowed) → OnOk result (Puts W.contents output.old output.new
         (walks.line (walks.end_text r (walks.huge_page level)))) }
 {
     writeln!(output, "HUGE_PAGE at level {level}")
@@ -130,7 +130,7 @@ fn write_arrival<W: Write>(
     entry: &PageTableEntry,
     rights: Rights,
     output: &mut Output<'_, W>,
-) -> Result<(), Failure>
+) -> Result<(), OutputError>
     requires low { 1 ≤ level }
     requires page { page_mapped level entry.now ≡ true }
     ensures { let address = page_start level entry.now + position % span_of level in

@@ -1,0 +1,87 @@
+-- The mappings that are visited are those of the reports.
+use Rattle.std.proofs.Common.{◌≡◌, ◌∙◌, ◌+◌, ◌-◌, ◌≤◌, ◌<◌, ◌%◌, ◌++◌, ◌&&◌, ◌||◌, ℕ, Bool, true, false, cond, List, [], ◌∷◌, Option, None, Some, String, filter, nat_le, nat_lt, refl, sym, ap, subst, arith}
+use Rattle.std.proofs.Math.Nat.{mod-eq_of_lt}
+use Rattle.std.proofs.lemmas.Bool.{ltb-true, leb-true, and_parts}
+use Rattle.std.specs.List.{flat_map, list_any, AllByRecursion}
+use Rattle.x86_64_model.specs.Mappings.{Mapping, mappings_of}
+use Rattle.x86_64_model.specs.Memory.{Words, identity_places}
+use Rattle.x86_64_model.specs.Position.{position_count, raw}
+use Rattle.x86_64_model.proofs.Lemmas.Mappings.Placed.{mappings_fit}
+use Rattle.x86_64_summaries.specs.Wanted.{asked_mappings, asked_of, is_wanted, leads_to}
+use Rattle.ptdump_engine.specs.Loaded.{IsLoaded, words_loaded}
+use Rattle.ptdump_engine.specs.Reports.{addresses_text, found_text}
+use Rattle.ptdump_engine.specs.Walks.{line, access_text}
+use Rattle.ptdump_engine.specs.declared.loaded.Loaded.{Loaded}
+use Rattle.ptdump_engine.specs.Output.{Puts}
+use Rattle.ptdump_engine.specs.declared.finder.Finder.{Finder}
+use Rattle.ptdump_engine.specs.declared.output.Output.{Output}
+use Rattle.ptdump_engine.specs.private.Finding.{IsSearched, address_text, some_there}
+use Rattle.std.specs.declared.alloc.Global.{Global}
+
+-- all mappings are wanted
+all_wanted : (ms : List Mapping) → filter (is_wanted None) ms ≡ ms
+all_wanted [] = refl
+all_wanted (m ∷ ms) = ap (λ rest. m ∷ rest) (all_wanted ms)
+
+-- the mappings that a report's summaries speak of are those of its tables
+pub all_asked : {X : Type 0} (loaded : Loaded X) → IsLoaded loaded → (L root : ℕ)
+    → asked_mappings (asked_of (λ memory. memory) (λ mapping. identity_places) loaded.summaries.now) L root ≡ mappings_of L (words_loaded loaded) root
+all_asked loaded is L root =
+    ap (λ wanted. asked_mappings (asked_of (λ memory. memory) (λ mapping. identity_places) (record loaded.summaries.now { wanted = wanted })) L root) is.all
+    ∙ ap (λ memory. asked_mappings (asked_of (λ memory. memory) (λ mapping. identity_places) (record loaded.summaries.now { memory = memory; wanted = None })) L root) is.memory
+    ∙ all_wanted (mappings_of L (words_loaded loaded) root)
+
+-- ---- searches
+
+-- the virtual address in a mapping that leads to a physical one is one of its own
+inside : (a : ℕ) (m : Mapping) (count : ℕ) → leads_to a m ≡ true → m.start + m.size ≤ count → m.start + (a - m.frame) < count
+inside a m count leads fits =
+    let parts = and_parts (nat_le m.frame a) (nat_lt a (m.frame + m.size)) leads in
+    let low : m.frame ≤ a = leb-true m.frame a parts.0 in
+    let high : a < m.frame + m.size = ltb-true a (m.frame + m.size) parts.1 in
+    omega arith
+
+same_lines : (L a : ℕ) (ms : List Mapping) → AllByRecursion (λ m. m.start + m.size ≤ position_count L) ms
+    → flat_map (λ m. line (address_text L a m)) (filter (leads_to a) ms) ≡ flat_map (λ m. line (found_text L a m)) (filter (leads_to a) ms)
+same_lines L a [] fit = refl
+same_lines L a (m ∷ ms) fit = by (leads_to a m) refl (same_lines L a ms fit.1)
+  where
+    by : (b : Bool) → leads_to a m ≡ b
+        → flat_map (λ m. line (address_text L a m)) (filter (leads_to a) ms) ≡ flat_map (λ m. line (found_text L a m)) (filter (leads_to a) ms)
+        → flat_map (λ m. line (address_text L a m)) (cond b (m ∷ filter (leads_to a) ms) (filter (leads_to a) ms))
+        ≡ flat_map (λ m. line (found_text L a m)) (cond b (m ∷ filter (leads_to a) ms) (filter (leads_to a) ms))
+    by true leads rest = ap (λ p. line (access_text (raw L p) m.rights) ++ flat_map (λ m. line (address_text L a m)) (filter (leads_to a) ms))
+        (mod-eq_of_lt (inside a m (position_count L) leads fit.0))
+        ∙ ap (λ lines. line (found_text L a m) ++ lines) rest
+    by false leads rest = rest
+
+pub lines_found : (L : ℕ) (T : Words) (root a : ℕ)
+    → flat_map (λ m. line (address_text L a m)) (filter (leads_to a) (mappings_of L T root)) ≡ addresses_text L T root a
+unfolding addresses_text
+lines_found L T root a = same_lines L a (mappings_of L T root) (mappings_fit L T root)
+
+-- a mapping is found exactly if one leads to the address
+pub some_found : (a : ℕ) (ms : List Mapping) → some_there (filter (leads_to a) ms) ≡ list_any (leads_to a) ms
+some_found a [] = refl
+some_found a (m ∷ ms) = by (leads_to a m) (some_found a ms)
+  where
+    by : (b : Bool) → some_there (filter (leads_to a) ms) ≡ list_any (leads_to a) ms → some_there (cond b (m ∷ filter (leads_to a) ms) (filter (leads_to a) ms)) ≡ (b || list_any (leads_to a) ms)
+    by true same = refl
+    by false same = same
+
+-- a search that begins with nothing found leaves the lines of its address
+pub puts_found : {W : Type 0} (contents : W → Option (List ℕ)) (L : ℕ) (T : Words) (root a : ℕ) (before after : Finder W) (old new : Output W (String Global))
+    → IsSearched contents L before after (filter (leads_to a) (mappings_of L T root)) → before.physical ≡ a → before.output.now ≡ old → new ≡ after.output.now
+    → Puts contents old new (addresses_text L T root a)
+puts_found contents L T root a before after old new searched physical begun ended =
+    let ms = filter (leads_to a) (mappings_of L T root) in
+    let put : Puts contents before.output.now after.output.now (flat_map (λ m. line (address_text L a m)) ms) =
+    subst (λ b. Puts contents before.output.now after.output.now (flat_map (λ m. line (address_text L b m)) ms)) physical searched.puts in
+    subst (λ o. Puts contents o new (addresses_text L T root a)) begun
+    (subst (λ o. Puts contents before.output.now o (addresses_text L T root a)) (sym ended)
+    (subst (Puts contents before.output.now after.output.now) (lines_found L T root a) put))
+
+pub finds_any : {W : Type 0} (contents : W → Option (List ℕ)) (L : ℕ) (T : Words) (root a : ℕ) (before after : Finder W)
+    → IsSearched contents L before after (filter (leads_to a) (mappings_of L T root)) → before.is_found ≡ false → after.is_found ≡ list_any (leads_to a) (mappings_of L T root)
+finds_any contents L T root a before after searched begun =
+    searched.found ∙ ap (λ b. b || some_there (filter (leads_to a) (mappings_of L T root))) begun ∙ some_found a (mappings_of L T root)

@@ -1,0 +1,14 @@
+use Rattle.std.proofs.Common.{◌≡◌, ◌%◌, take}
+use Rattle.std.specs.List.{flat_map}
+use Rattle.x86_64_model.specs.Position.{position_count}
+use Rattle.ptdump_engine.specs.Loaded.{words_loaded}
+use Rattle.ptdump_engine.specs.Output.{Puts}
+use Rattle.ptdump_engine.specs.Reports.{all_arrive, walks_text}
+use Rattle.ptdump_engine.proofs.report.write_walks.Given as goal
+
+-- the walks so far are written
+abbrev pub invariant-loop-address : goal.invariant-loop-address
+invariant-loop-address g l =
+    let L = g.L.LevelCount.LEVELS in
+    Puts g.W.Write.contents l.fn.output l.output (walks_text L (words_loaded l.loaded) l.loaded.root (take l.address-index l.addresses))
+    × (l.is_complete ≡ all_arrive L (words_loaded l.loaded) l.loaded.root (take l.address-index l.addresses))

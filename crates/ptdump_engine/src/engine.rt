@@ -1,0 +1,180 @@
+//! The run.
+ghost use Rattle.std.specs.Prelude.{◌≡◌, None, OnOk, IfOk, IfErr, IfSome};
+ghost use Rattle.x86_64_dump.specs.Dump.{words_of_dump};
+ghost use Rattle.x86_64_dump.specs.Opened.{opened};
+ghost use Rattle.ptdump_engine.specs.Loaded.{IsLoaded, words_loaded};
+ghost use Rattle.ptdump_engine.specs.Output.{Puts};
+ghost use Rattle.ptdump_engine.specs.Program as program;
+ghost use Rattle.ptdump_engine.specs.Steps.{Finds, IsForced};
+
+use crate::arguments::{argument_failure, root_failure};
+use crate::failure::Failure;
+use crate::loaded::Loaded;
+use crate::output::{Output, OutputError};
+use crate::report::{write_found, write_pages, write_regions, write_walks};
+use crate::request::{Command, Levels, Outcome, Request};
+use crate::start::{Start, start_of};
+use crate::totals::Totals;
+use std::alloc::Global;
+use std::io::Write;
+use std::marker::PhantomData;
+use x86_64_addr::level_count::{FiveLevels, FourLevels, LevelCount};
+use x86_64_dump::{ByteSource, Dump};
+use x86_64_dump_tables::{Progress, read_tables};
+use x86_64_page::frame::PhysFrame;
+use x86_64_page::page::Size4KiB;
+use x86_64_summaries::Summaries;
+use x86_64_tables::phys_memory::IdentityMapping;
+
+/// Runs the program on the bytes of a file: opens it as a dump, reads the tables that a root leads to, and writes to `writer` the
+/// report that is asked for. What is asked is tested before anything is written. `progress` is told of the tables as they are read.
+///
+/// `errors` gets what standard error holds besides: that the file is shorter than its headers say, how an image came about, and at
+/// last how many tables were read and how much they map.
+///
+/// # Errors
+///
+/// If the file is no dump, if where walks start can't be found out, if an address is none or the root isn't in the dump, each before
+/// anything is written to `writer`. If memory is refused, or a read or a write fails.
+pub fn run<S: ByteSource, W: Write, E: Write, G: Progress>(
+    alloc: Global,
+    source: S,
+    request: &Request,
+    writer: &mut W,
+    errors: &mut E,
+    progress: &mut G,
+) -> Result<Outcome, Failure>
+    ensures { S.IsKnown →
+        program.Runs request.now (S.bytes source) (W.contents writer.old) (W.contents writer.new) result }
+{
+    let mut notes = Output::new(alloc, errors);
+    let dump = Dump::open(alloc, source, request.base)?;
+    write_short(&dump, &mut notes)?;
+    let start = start_for(alloc, &dump, request)?;
+    let command = &request.command;
+    let root = start.root;
+    match start.levels {
+        Levels::Four => {
+            report::<FourLevels, S, W, E, G>(alloc, &dump, root, command, writer, &mut notes, progress)
+        }
+        Levels::Five => {
+            report::<FiveLevels, S, W, E, G>(alloc, &dump, root, command, writer, &mut notes, progress)
+        }
+    }
+}
+
+/// Writes at once if the file is shorter than its headers say.
+fn write_short<S: ByteSource, E: Write>(
+    dump: &Dump<S>,
+    notes: &mut Output<'_, E>,
+) -> Result<(), OutputError>
+{
+    if dump.is_short() {
+        writeln!(
+            notes,
+            "the file is shorter than its headers say: frames behind its end are missing"
+        )?;
+        notes.finish()?;
+    }
+    Ok(())
+}
+
+/// Finds out where walks start, and tests what is asked.
+#[tactic(auto, unfolding(crate::specs::Program::start_for))]
+fn start_for<S: ByteSource>(
+    alloc: Global,
+    dump: &Dump<S>,
+    request: &Request,
+) -> Result<Start, Failure>
+    ensures start { S.IsKnown → Finds result (program.start_for request.now (opened S.bytes dump.now)) }
+    ensures arguments { IfOk result (λ start.
+        program.argument_failure start.levels request.now.command ≡ None) }
+{
+    let start = start_of(alloc, dump, request)?;
+    if let Some(failure) = argument_failure(&request.command, start.levels) {
+        return Err(failure);
+    }
+    if let Some(failure) = root_failure(dump, &request.command, start.root) {
+        return Err(failure);
+    }
+    Ok(start)
+}
+
+/// Reads the tables that a root leads to, and writes a command's report of them, and what they are all together.
+fn report<L: LevelCount, S: ByteSource, W: Write, E: Write, G: Progress>(
+    alloc: Global,
+    dump: &Dump<S>,
+    root: PhysFrame<Size4KiB>,
+    command: &Command,
+    writer: &mut W,
+    notes: &mut Output<'_, E>,
+    progress: &mut G,
+) -> Result<Outcome, Failure>
+    requires { program.IsTested command.now }
+    ensures written { S.IsKnown → IfOk result (program.Reports command.now L.LEVELS
+        (words_of_dump (opened S.bytes dump.now)) root (W.contents writer.old) (W.contents writer.new)) }
+    ensures errors { S.IsKnown → IfErr result IsForced }
+{
+    let tables = read_tables::<L, S, G>(alloc, dump, root, progress)?;
+    let memory = tables.memory();
+    let summaries = Summaries::new(alloc, memory, &IdentityMapping, tables.frames(), None)?;
+    let loaded = Loaded::<L> {
+        root,
+        tables: &tables,
+        summaries: &summaries,
+        levels: PhantomData,
+    };
+    let mut output = Output::new(alloc, writer);
+    let is_complete = write_report(alloc, &loaded, command, &mut output)?;
+    output.finish()?;
+    write_totals(&loaded, notes)?;
+    Ok(Outcome { is_complete })
+}
+
+/// Writes a command's report, and tells whether all is as asked.
+fn write_report<L: LevelCount, W: Write>(
+    alloc: Global,
+    loaded: &Loaded<'_, L>,
+    command: &Command,
+    output: &mut Output<'_, W>,
+) -> Result<bool, OutputError>
+    requires loaded { IsLoaded loaded.now }
+    requires tested { program.IsTested command.now }
+    ensures text { let text = program.report_of command.now L.LEVELS (words_loaded loaded.now) loaded.now.root in
+        OnOk result (IfSome text (Puts W.contents output.old output.new)) }
+    ensures complete { let complete = program.completeness_of command.now L.LEVELS (words_loaded loaded.now) loaded.now.root in
+        IfOk result (λ is. IfSome complete (λ all. is ≡ all)) }
+{
+    match command {
+        Command::Regions => {
+            write_regions(loaded, output)?;
+            Ok(true)
+        }
+        Command::Pages => {
+            write_pages(loaded, output)?;
+            Ok(true)
+        }
+        Command::Walk(addresses) => write_walks(loaded, addresses, output),
+        Command::Find(addresses) => write_found(alloc, loaded, addresses, output),
+        Command::Check | Command::Image | Command::Picture => Ok(true),
+    }
+}
+
+/// Writes how many tables were read, and how much they map. A root that isn't there maps nothing.
+fn write_totals<L: LevelCount, E: Write>(
+    loaded: &Loaded<'_, L>,
+    notes: &mut Output<'_, E>,
+) -> Result<(), OutputError>
+{
+    let (mappings, bytes) = match loaded.summaries.of(L::LEVELS, loaded.root) {
+        Some(summary) => (summary.count, summary.bytes),
+        None => (0, 0),
+    };
+    let totals = Totals {
+        tables: loaded.tables.len(),
+        mappings,
+        bytes,
+    };
+    writeln!(notes, "{totals}")?;
+    notes.finish()
+}

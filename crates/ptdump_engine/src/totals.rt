@@ -1,0 +1,24 @@
+//! What was read, and what it maps, all together.
+
+use std::fmt::{Display, Formatter, Result as FmtResult, Write};
+use x86_64_mappings::text::write_size;
+
+/// Says how many tables were read, and how much they map.
+#[derive(Clone, Copy, Debug, PartialEq, Eq)]
+pub struct Totals {
+    /// How many tables there are.
+    pub tables: usize,
+    /// How many mappings there are.
+    pub mappings: u64,
+    /// How many bytes are mapped.
+    pub bytes: u64,
+}
+
+impl Display for Totals {
+    fn fmt<W: Write>(&self, f: &mut Formatter<W>) -> FmtResult {
+        let tables = self.tables;
+        let mappings = self.mappings;
+        write!(f, "tables {tables}, mappings {mappings}, mapped ")?;
+        write_size(f, self.bytes)
+    }
+}
