@@ -1,0 +1,2 @@
+mod NumberTexts
+mod Refusals

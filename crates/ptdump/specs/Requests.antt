@@ -1,5 +1,6 @@
 -- Which request the words of a command line make.
-use Rattle.std.specs.Prelude.{◌≡◌, ℕ, List, [], Option, None, Some, All, codes, map, option_map, unwrap_or}
+use Rattle.std.specs.Prelude.{◌≡◌, ◌⊎◌, ℕ, List, [], Option, None, Some, All, codes, map, option_map, unwrap_or}
+use Rattle.std.specs.Borrow.{Bor}
 use Rattle.clap.specs.Matches.{first_value, matched_of, raw_values}
 use Rattle.clap.specs.declared.parser.matches.Found.{Found}
 use Rattle.ptdump_engine.specs.declared.request.Command.{Command}
@@ -7,6 +8,9 @@ use Rattle.ptdump_engine.specs.declared.request.Command.TheVariants.{Regions, Pa
 use Rattle.ptdump_engine.specs.declared.request.Levels.{Levels}
 use Rattle.ptdump_engine.specs.declared.request.Levels.TheVariants.{Four, Five}
 use Rattle.ptdump_engine.specs.declared.request.Request.{Request}
+use Rattle.ptdump_engine.specs.declared.failure.Failure.TheVariants.{OutOfMemory}
+use Rattle.ptdump.specs.declared.stop.Stop.{Stop}
+use Rattle.ptdump.specs.declared.stop.Stop.TheVariants.{Failed, NoCommand}
 use Rattle.x86_64_numbers.specs.Numbers.{IsNumber, number_of}
 
 -- each text is a number, and these are they
@@ -47,3 +51,11 @@ pub record IsRequest (name : List ℕ) (found : Found) (request : Request) : Typ
   pub levels : IsLevels (first_value found (codes "levels")) request.levels
   pub base : IsOption (first_value found (codes "base")) request.base
   pub cpu : IsOption (first_value found (codes "cpu")) request.cpu
+
+-- memory was refused, or there is nothing of which this holds
+abbrev pub IsUnread : {T : Type 0} → (Holds : T → Type 0) → Stop → Type 0
+IsUnread {T} Holds stop = (stop ≡ Failed OutOfMemory) ⊎ ((value : T) → ¬ (Holds value))
+
+-- the same, or no command has this name
+abbrev pub IsRefused : {T : Type 0} → (name : Bor (List ℕ)) → (Holds : T → Type 0) → Stop → Type 0
+IsRefused name Holds stop = (stop ≡ NoCommand name) ⊎ IsUnread Holds stop

@@ -12,7 +12,6 @@ mod help;
 mod progress;
 mod request;
 mod stop;
-mod stub;
 
 use clap::ArgMatches;
 use command_line::command_line;
@@ -74,7 +73,7 @@ fn report_on<'a>(rt: &HostRuntime, path: &'a str, request: &Request) -> Result<O
     let mut progress = ProgressLine::new(rt, rt.stderr().is_terminal());
     let mut writer = rt.stdout();
     let mut errors = rt.stderr();
-    let outcome = stub::run(
+    let outcome = ptdump_engine::run(
         rt.alloc(),
         source,
         request,

@@ -1,6 +1,6 @@
 //! The progress of a read, shown to whoever waits for it.
 
-use crate::stub::Progress;
+use ptdump_engine::Progress;
 
 /// How many tables are read from one text to the next.
 const STEP: usize = 4096;

@@ -1,10 +1,11 @@
 //! Requests, made of the words of a command line.
-ghost use Rattle.std.specs.Prelude.{IfOk, map};
+ghost use Rattle.std.specs.Prelude.{ℕ, Option, IfOk, IfErr, map};
 ghost use Rattle.std.specs.Option.{option_copied};
 ghost use Rattle.std.specs.Result.{OkIff};
 ghost use Rattle.clap.specs.Matches.{found_of};
 ghost use Rattle.x86_64_numbers.specs.Numbers.{IsNumber, number_of};
-ghost use Rattle.ptdump.specs.Requests.{AreNumbers, IsCommand, IsLevels, IsOption, IsRequest};
+ghost use Rattle.ptdump.specs.Requests.{AreNumbers, IsCommand, IsLevels, IsOption, IsRequest, IsRefused, IsUnread};
+ghost use Rattle.ptdump_engine.specs.declared.request.Levels.{Levels};
 
 use crate::stop::Stop;
 use clap::ArgMatches;
@@ -22,7 +23,8 @@ pub fn request_of<'a>(
     name: &'a str,
     arguments: &ArgMatches<'a>,
 ) -> Result<Request, Stop<'a>>
-    ensures { IfOk result (IsRequest name.now (found_of arguments.now)) }
+    ensures ok { IfOk result (IsRequest name.now (found_of arguments.now)) }
+    ensures err { IfErr result (IsRefused name.entry (IsRequest name.now (found_of arguments.now))) }
 {
     let addresses = arguments.get_strs("addresses").unwrap_or(&[]);
     Ok(Request {
@@ -36,7 +38,9 @@ pub fn request_of<'a>(
 
 /// Returns the command of a name, with its addresses.
 fn command_of<'a>(alloc: Global, name: &'a str, addresses: &[&'a str]) -> Result<Command, Stop<'a>>
-    ensures { IfOk result (IsCommand name.now (map (λ text. text.now) addresses.now)) }
+    ensures ok { IfOk result (IsCommand name.now (map (λ text. text.now) addresses.now)) }
+    ensures err { IfErr result (IsRefused name.entry
+        (IsCommand name.now (map (λ text. text.now) addresses.now))) }
 {
     match name.as_bytes() {
         b"regions" => Ok(Command::Regions),
@@ -52,7 +56,8 @@ fn command_of<'a>(alloc: Global, name: &'a str, addresses: &[&'a str]) -> Result
 
 /// Reads addresses.
 fn numbers_of<'a>(alloc: Global, texts: &[&'a str]) -> Result<Vec<u64>, Stop<'a>>
-    ensures { IfOk result (λ numbers. AreNumbers (map (λ text. text.now) texts.now) numbers.items) }
+    ensures ok { IfOk result (λ numbers. AreNumbers (map (λ text. text.now) texts.now) numbers.items) }
+    ensures err { IfErr result (IsUnread (AreNumbers (map (λ text. text.now) texts.now))) }
 {
     let mut numbers = Vec::new(alloc);
     for text in texts {
@@ -63,7 +68,8 @@ fn numbers_of<'a>(alloc: Global, texts: &[&'a str]) -> Result<Vec<u64>, Stop<'a>
 
 /// Reads the number of levels, if it is given.
 fn levels_of<'a>(text: Option<&'a str>) -> Result<Option<Levels>, Stop<'a>>
-    ensures { IfOk result (IsLevels (option_copied text.entry)) }
+    ensures ok { IfOk result (IsLevels (option_copied text.entry)) }
+    ensures err { IfErr result (λ _. (levels : Option Levels) → ¬ (IsLevels (option_copied text.entry) levels)) }
 {
     let Some(text) = text else {
         return Ok(None);
@@ -77,7 +83,8 @@ fn levels_of<'a>(text: Option<&'a str>) -> Result<Option<Levels>, Stop<'a>>
 
 /// Reads the number of an option, if it is given.
 fn option_of<'a>(option: &'static str, text: Option<&'a str>) -> Result<Option<u64>, Stop<'a>>
-    ensures { IfOk result (IsOption (option_copied text.entry)) }
+    ensures ok { IfOk result (IsOption (option_copied text.entry)) }
+    ensures err { IfErr result (λ _. (number : Option ℕ) → ¬ (IsOption (option_copied text.entry) number)) }
 {
     match text {
         Some(text) => Ok(Some(number_of(option, text)?)),

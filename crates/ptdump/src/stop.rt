@@ -96,6 +96,11 @@ impl Display for Stop<'_> {
 impl Error for Stop<'_> {}
 
 impl<T: Drop> From<AllocFailed<T>> for Stop<'_> {
+    ghost use Rattle.ptdump_engine.specs.declared.failure.Failure.TheVariants.{OutOfMemory};
+    ghost use Rattle.ptdump.specs.declared.stop.Stop.TheVariants.{Failed};
+
+    ghost from_gives = { λ _ stop. stop ≡ Failed OutOfMemory };
+
     fn from(_error: AllocFailed<T>) -> Self {
         Stop::Failed(Failure::OutOfMemory)
     }

@@ -12,11 +12,7 @@ use Rattle.ptdump_engine.specs.Loaded.{IsLoaded, words_loaded}
 use Rattle.ptdump_engine.specs.Reports.{addresses_text, found_text}
 use Rattle.ptdump_engine.specs.Walks.{line, access_text}
 use Rattle.ptdump_engine.specs.declared.loaded.Loaded.{Loaded}
-use Rattle.ptdump_engine.specs.Output.{Puts}
-use Rattle.ptdump_engine.specs.declared.finder.Finder.{Finder}
-use Rattle.ptdump_engine.specs.declared.output.Output.{Output}
-use Rattle.ptdump_engine.specs.private.Finding.{IsSearched, address_text, some_there}
-use Rattle.std.specs.declared.alloc.Global.{Global}
+use Rattle.ptdump_engine.specs.private.Finding.{address_text, some_there}
 
 -- all mappings are wanted
 all_wanted : (ms : List Mapping) → filter (is_wanted None) ms ≡ ms
@@ -68,20 +64,3 @@ some_found a (m ∷ ms) = by (leads_to a m) (some_found a ms)
     by : (b : Bool) → some_there (filter (leads_to a) ms) ≡ list_any (leads_to a) ms → some_there (cond b (m ∷ filter (leads_to a) ms) (filter (leads_to a) ms)) ≡ (b || list_any (leads_to a) ms)
     by true same = refl
     by false same = same
-
--- a search that begins with nothing found leaves the lines of its address
-pub puts_found : {W : Type 0} (contents : W → Option (List ℕ)) (L : ℕ) (T : Words) (root a : ℕ) (before after : Finder W) (old new : Output W (String Global))
-    → IsSearched contents L before after (filter (leads_to a) (mappings_of L T root)) → before.physical ≡ a → before.output.now ≡ old → new ≡ after.output.now
-    → Puts contents old new (addresses_text L T root a)
-puts_found contents L T root a before after old new searched physical begun ended =
-    let ms = filter (leads_to a) (mappings_of L T root) in
-    let put : Puts contents before.output.now after.output.now (flat_map (λ m. line (address_text L a m)) ms) =
-    subst (λ b. Puts contents before.output.now after.output.now (flat_map (λ m. line (address_text L b m)) ms)) physical searched.puts in
-    subst (λ o. Puts contents o new (addresses_text L T root a)) begun
-    (subst (λ o. Puts contents before.output.now o (addresses_text L T root a)) (sym ended)
-    (subst (Puts contents before.output.now after.output.now) (lines_found L T root a) put))
-
-pub finds_any : {W : Type 0} (contents : W → Option (List ℕ)) (L : ℕ) (T : Words) (root a : ℕ) (before after : Finder W)
-    → IsSearched contents L before after (filter (leads_to a) (mappings_of L T root)) → before.is_found ≡ false → after.is_found ≡ list_any (leads_to a) (mappings_of L T root)
-finds_any contents L T root a before after searched begun =
-    searched.found ∙ ap (λ b. b || some_there (filter (leads_to a) (mappings_of L T root))) begun ∙ some_found a (mappings_of L T root)

@@ -5,3 +5,4 @@ pub mod Results
 pub mod WalkLaws
 pub mod WalkLines
 pub mod Walking
+pub mod Wholly

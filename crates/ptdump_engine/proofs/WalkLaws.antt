@@ -12,7 +12,8 @@ use Rattle.x86_64_model.specs.Position.{index, span}
 use Rattle.x86_64_model.specs.private.Found.{every_right, narrowed, page_at, found_on, found}
 use Rattle.x86_64_model.proofs.Lemmas.Mappings.Walked.{walk_finds}
 use Rattle.ptdump_engine.specs.Laws.{WrittenWalksArrive}
-use Rattle.ptdump_engine.specs.Walks.{End, Walk, arrives_at, not_present, huge_page, no_table, WordRead, after, behind, ends, arrival_with, arrival_of, walk_from, walk_of, walk_rights}
+use Rattle.ptdump_engine.specs.Walks.{End, Walk, arrives_at, not_present, huge_page, no_table, after, behind, ends, arrival_with, arrival_of, walk_from, walk_of, walk_rights}
+use Rattle.ptdump_engine.specs.declared.word_read.WordRead.{WordRead}
 use Rattle.ptdump_engine.specs.private.WalkLines.{both_rights, is_arrival}
 use Rattle.ptdump_engine.proofs.WalkLines.{narrowed_first, rights_kept, word_read}
 

@@ -8,7 +8,8 @@ use Rattle.x86_64_model.specs.Memory.{Words}
 use Rattle.x86_64_model.specs.PageWalk.{read}
 use Rattle.x86_64_model.specs.Position.{index}
 use Rattle.x86_64_model.specs.private.Found.{every_right, narrowed}
-use Rattle.ptdump_engine.specs.Walks.{WordRead, Walk, End, no_table, after, behind, ends, end_text, line, walk_from, walk_rights, walk_text, word_text}
+use Rattle.ptdump_engine.specs.Walks.{Walk, End, no_table, after, behind, ends, end_text, line, walk_from, walk_rights, walk_text, word_text}
+use Rattle.ptdump_engine.specs.declared.word_read.WordRead.{WordRead}
 use Rattle.ptdump_engine.specs.private.WalkLines.{both_rights, lines_below}
 
 -- the word at an index of a table of a level in a walk to a position

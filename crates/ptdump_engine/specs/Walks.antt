@@ -10,13 +10,7 @@ use Rattle.x86_64_model.specs.Memory.{Words}
 use Rattle.x86_64_model.specs.PageWalk.{Walked, arrives, page_start, read}
 use Rattle.x86_64_model.specs.Position.{index, span}
 use Rattle.x86_64_mappings.specs.Texts.{rights_text}
-
--- a word that is read: that at an index of a frame's table, which is one of a level
-pub record WordRead : Type 0 where
-  pub level : ℕ
-  pub table : ℕ
-  pub index : ℕ
-  pub word : ℕ
+use Rattle.ptdump_engine.specs.declared.word_read.WordRead.{WordRead}
 
 -- how a walk ends: it arrives at a physical address, or a word lacks PRESENT, or a table isn't there, or a word of a level at which no
 -- entry maps a page has HUGE_PAGE
@@ -77,6 +71,10 @@ line text = text ++ 10 ∷ []
 abbrev pub word_text : WordRead → List ℕ
 word_text w = codes "level " ++ decimal w.level ++ codes " " ++ hexadecimal w.table ++ codes "[" ++ decimal w.index ++ codes "] " ++ hexadecimal w.word
 
+-- table 0xFRAME is not in the dump
+abbrev pub missing_text : (frame : ℕ) → List ℕ
+missing_text frame = codes "table " ++ hexadecimal frame ++ codes " is not in the dump"
+
 -- 0xADDRESS RIGHTS
 abbrev pub access_text : (address : ℕ) → Rights → List ℕ
 access_text address rights = hexadecimal address ++ codes " " ++ rights_text rights.write rights.user rights.execute
@@ -85,7 +83,7 @@ access_text address rights = hexadecimal address ++ codes " " ++ rights_text rig
 abbrev pub end_text : Rights → End → List ℕ
 end_text rights (arrives_at to) = access_text to rights
 end_text rights not_present = codes "not present"
-end_text rights (no_table frame) = codes "table " ++ hexadecimal frame ++ codes " is not in the dump"
+end_text rights (no_table frame) = missing_text frame
 end_text rights (huge_page level) = codes "HUGE_PAGE at level " ++ decimal level
 
 -- a line for each word, and one for the end

@@ -1,3 +1,4 @@
+pub mod Asked
 pub mod Finding
 pub mod Puts
 pub mod Searched

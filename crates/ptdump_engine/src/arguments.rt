@@ -1,5 +1,6 @@
 //! Tests of what is asked.
-ghost use Rattle.std.specs.Prelude.{◌≡◌};
+ghost use Rattle.std.specs.Prelude.{◌≡◌, ◌^◌, nat_le, not};
+ghost use Rattle.std.specs.List.{find};
 ghost use Rattle.x86_64_dump.specs.Dump.{words_of_dump};
 ghost use Rattle.x86_64_dump.specs.Opened.{opened};
 ghost use Rattle.ptdump_engine.specs.Program as program;
@@ -19,18 +20,37 @@ pub fn argument_failure(command: &Command, levels: Levels) -> Option<Failure>
     ensures { result ≡ program.argument_failure levels command.now }
 {
     match command {
-        Command::Walk(addresses) => addresses
-            .iter()
-            .copied()
-            .find(|address| !is_canonical(*address, levels))
-            .map(|address| Failure::NotCanonical { address, levels }),
-        Command::Find(addresses) => addresses
-            .iter()
-            .copied()
-            .find(|address| *address >= PHYSICAL_END)
-            .map(|address| Failure::NotPhysical { address }),
+        Command::Walk(addresses) => {
+            let address = first_not_canonical(addresses, levels)?;
+            Some(Failure::NotCanonical { address, levels })
+        }
+        Command::Find(addresses) => {
+            let address = first_not_physical(addresses)?;
+            Some(Failure::NotPhysical { address })
+        }
         _ => None,
     }
+}
+
+/// Gives the first address that isn't canonical.
+fn first_not_canonical(addresses: &[u64], levels: Levels) -> Option<u64>
+    ensures { let levels = program.level_count levels in
+        result ≡ find (λ a. not (program.is_canonical levels a)) addresses.now }
+{
+    addresses
+        .iter()
+        .copied()
+        .find(|address| !is_canonical(*address, levels))
+}
+
+/// Gives the first address that isn't below 2^52.
+fn first_not_physical(addresses: &[u64]) -> Option<u64>
+    ensures { result ≡ find (λ a. nat_le (2 ^ 52) a) addresses.now }
+{
+    addresses
+        .iter()
+        .copied()
+        .find(|address| *address >= PHYSICAL_END)
 }
 
 /// Tells whether an address is canonical.

@@ -1,5 +1,6 @@
 //! The run.
 ghost use Rattle.std.specs.Prelude.{◌≡◌, None, OnOk, IfOk, IfErr, IfSome};
+ghost use Rattle.std.specs.Io.KnownBytes.{Appends};
 ghost use Rattle.x86_64_dump.specs.Dump.{words_of_dump};
 ghost use Rattle.x86_64_dump.specs.Opened.{opened};
 ghost use Rattle.ptdump_engine.specs.Loaded.{IsLoaded, words_loaded};
@@ -115,7 +116,9 @@ fn report<L: LevelCount, S: ByteSource, W: Write, E: Write, G: Progress>(
         (words_of_dump (opened S.bytes dump.now)) root (W.contents writer.old) (W.contents writer.new)) }
     ensures errors { S.IsKnown → IfErr result IsForced }
 {
-    let tables = read_tables::<L, S, G>(alloc, dump, root, progress)?;
+    let tables = read_tables::<L, S, G>(alloc, dump, root, progress);
+    progress.end();
+    let tables = tables?;
     let memory = tables.memory();
     let summaries = Summaries::new(alloc, memory, &IdentityMapping, tables.frames(), None)?;
     let loaded = Loaded::<L> {
@@ -124,11 +127,29 @@ fn report<L: LevelCount, S: ByteSource, W: Write, E: Write, G: Progress>(
         summaries: &summaries,
         levels: PhantomData,
     };
-    let mut output = Output::new(alloc, writer);
-    let is_complete = write_report(alloc, &loaded, command, &mut output)?;
-    output.finish()?;
+    let is_complete = write_whole(alloc, &loaded, command, writer)?;
     write_totals(&loaded, notes)?;
     Ok(Outcome { is_complete })
+}
+
+/// Writes a command's whole report, and tells whether all is as asked.
+fn write_whole<L: LevelCount, W: Write>(
+    alloc: Global,
+    loaded: &Loaded<'_, L>,
+    command: &Command,
+    writer: &mut W,
+) -> Result<bool, OutputError>
+    requires loaded { IsLoaded loaded.now }
+    requires tested { program.IsTested command.now }
+    ensures text { let text = program.report_of command.now L.LEVELS (words_loaded loaded.now) loaded.now.root in
+        OnOk result (IfSome text (Appends (W.contents writer.old) (W.contents writer.new))) }
+    ensures complete { let complete = program.completeness_of command.now L.LEVELS (words_loaded loaded.now) loaded.now.root in
+        IfOk result (λ is. IfSome complete (λ all. is ≡ all)) }
+{
+    let mut output = Output::new(alloc, writer);
+    let is_complete = write_report(alloc, loaded, command, &mut output)?;
+    output.finish()?;
+    Ok(is_complete)
 }
 
 /// Writes a command's report, and tells whether all is as asked.

@@ -14,6 +14,7 @@ mod request;
 mod start;
 mod totals;
 mod walk;
+mod word_read;
 
 pub use engine::run;
 pub use failure::Failure;

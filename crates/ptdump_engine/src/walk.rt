@@ -14,6 +14,7 @@ ghost use Rattle.ptdump_engine.specs.private.WalkLines.{lines_below, is_arrival}
 use crate::access::Access;
 use crate::loaded::Loaded;
 use crate::output::{Output, OutputError};
+use crate::word_read::{MissingTable, WordRead};
 use bitflags::Flags;
 use std::io::Write;
 use x86_64_addr::addr::VirtAddrIn;
@@ -69,7 +70,13 @@ fn walk_on<W: Write>(
     };
     let index = index_of(position, level);
     let entry = &table[index];
-    write_word(level, frame, index, entry, output)?;
+    let read = WordRead {
+        level,
+        table: frame,
+        index,
+        word: word_of(entry),
+    };
+    write_word(read, output)?;
     let rights = above.below(entry);
     if !has_flag(entry, PageTableFlags::PRESENT) {
         writeln!(output, "not present")?;
@@ -92,33 +99,23 @@ fn write_missing<W: Write>(
     frame: PhysFrame<Size4KiB>,
     output: &mut Output<'_, W>,
 ) -> Result<(), OutputError>
-    ensures { (r : Allowed) → OnOk result (Puts W.contents output.old output.new
-        (walks.line (walks.end_text r (walks.no_table frame)))) }
+    ensures { OnOk result (Puts W.contents output.old output.new (walks.line (walks.missing_text frame))) }
 {
-    let start = frame.start_address().as_u64();
-    writeln!(output, "table 0x{start:x} is not in the dump")
+    let missing = MissingTable(frame);
+    writeln!(output, "{missing}")
 }
 
 /// Writes a word that a walk reads.
-fn write_word<W: Write>(
-    level: u64,
-    frame: PhysFrame<Size4KiB>,
-    index: usize,
-    entry: &PageTableEntry,
-    output: &mut Output<'_, W>,
-) -> Result<(), OutputError>
-    ensures { let read : walks.WordRead = record { level = level; table = frame; index = index; word = entry.now } in
-        OnOk result (Puts W.contents output.old output.new (walks.line (walks.word_text read))) }
+fn write_word<W: Write>(read: WordRead, output: &mut Output<'_, W>) -> Result<(), OutputError>
+    ensures { OnOk result (Puts W.contents output.old output.new (walks.line (walks.word_text read))) }
 {
-    let table = frame.start_address().as_u64();
-    let word = word_of(entry);
-    writeln!(output, "level {level} 0x{table:x}[{index}] 0x{word:x}")
+    writeln!(output, "{read}")
 }
 
 /// Writes that a word of a level has `HUGE_PAGE`, though none of the level maps a page.
 fn write_huge<W: Write>(level: u64, output: &mut Output<'_, W>) -> Result<(), OutputError>
-    ensures { (r : Allowed) → OnOk result (Puts W.contents output.old output.new
-        (walks.line (walks.end_text r (walks.huge_page level)))) }
+    ensures { (rights : Allowed) → OnOk result (Puts W.contents output.old output.new
+        (walks.line (walks.end_text rights (walks.huge_page level)))) }
 {
     writeln!(output, "HUGE_PAGE at level {level}")
 }

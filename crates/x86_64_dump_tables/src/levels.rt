@@ -13,8 +13,7 @@ use x86_64_dump::{ByteSource, Dump, DumpError};
 use x86_64_page::frame::PhysFrame;
 use x86_64_page::page::Size4KiB;
 
-/// Reads which frames' tables a root leads to, level one first, those of a level in the order in which they are
-/// met.
+/// Reads which frames' tables a root leads to, level one first, those of a level in the order in which they are met.
 pub fn read_levels<S: ByteSource>(
     alloc: Global,
     dump: &Dump<S>,
@@ -43,10 +42,9 @@ fn root_level<S: ByteSource>(
     alloc: Global,
     dump: &Dump<S>,
     root: PhysFrame<Size4KiB>,
-) -> Result<Vec<PhysFrame<Size4KiB>>, DumpError>
-    ensures frames { S.IsKnown → IfOk result (λ frames.
+) -> Result<Vec<PhysFrame<Size4KiB>>, AllocError>
+    ensures { S.IsKnown → IfOk result (λ frames.
         frames.items ≡ if_there (words_of_dump (opened S.bytes dump.now)) root) }
-    ensures errors { IfErr result (MayFail S.IsKnown) }
 {
     let mut frames = Vec::new(alloc);
     if dump.has_frame(root) {

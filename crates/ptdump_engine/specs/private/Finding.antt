@@ -11,6 +11,10 @@ use Rattle.ptdump_engine.specs.declared.finder.Finder.{Finder}
 abbrev pub address_text : (L physical : ℕ) → Mapping → List ℕ
 address_text L a m = access_text (raw L ((m.start + (a - m.frame)) % position_count L)) m.rights
 
+-- a line for each mapping that is visited
+abbrev pub visited_text : (L physical : ℕ) → List Mapping → List ℕ
+visited_text L a ms = flat_map (λ m. line (address_text L a m)) ms
+
 abbrev pub some_there : List Mapping → Bool
 some_there [] = false
 some_there (m ∷ ms) = true
@@ -19,5 +23,5 @@ some_there (m ∷ ms) = true
 pub record IsSearched {W : Type 0} (contents : W → Option (List ℕ)) (L : ℕ) (old new : Finder W) (ms : List Mapping) : Type 0 where
   pub output : new.output.ghost_name ≡ old.output.ghost_name
   pub physical : new.physical ≡ old.physical
-  pub puts : Puts contents old.output.now new.output.now (flat_map (λ m. line (address_text L old.physical m)) ms)
+  pub puts : Puts contents old.output.now new.output.now (visited_text L old.physical ms)
   pub found : new.is_found ≡ (old.is_found || some_there ms)

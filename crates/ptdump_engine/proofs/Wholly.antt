@@ -1,0 +1,81 @@
+-- Whole reports: what the writer gets of all that was put in, and reports of other words that map the same.
+use Rattle.std.proofs.Common.{◌≡◌, ◌∙◌, ◌%◌, ◌++◌, ℕ, List, [], Option, None, Some, String, IfSome, IfOk, IfErr, Result, Ok, Err, is_some, filter, refl, sym, ap, subst, append-nil}
+use Rattle.std.proofs.KnownBytes.{Appends-trans}
+use Rattle.std.specs.Io.KnownBytes.{Appends, append_known}
+use Rattle.std.specs.List.{flat_map, list_all, list_any}
+use Rattle.std.specs.String.{string_bytes}
+use Rattle.std.specs.declared.alloc.Global.{Global}
+use Rattle.x86_64_dump_tables.specs.Reached.{SameBelow}
+use Rattle.x86_64_mappings.specs.Texts.{mapping_text, region_text}
+use Rattle.x86_64_model.specs.Mappings.{mappings_of}
+use Rattle.x86_64_model.specs.Memory.{Words}
+use Rattle.x86_64_model.specs.PageWalk.{page_walk}
+use Rattle.x86_64_model.specs.Position.{position_count}
+use Rattle.x86_64_model.specs.Regions.{regions_in}
+use Rattle.x86_64_summaries.specs.Wanted.{leads_to}
+use Rattle.ptdump_engine.specs.Output.{Puts, put_in}
+use Rattle.ptdump_engine.specs.Program.{Opened, Reports, ReportsOf, Runs, completeness_of, opened_for, report_of}
+use Rattle.ptdump_engine.specs.Reports.{addresses_text, find_text, found_text, pages_text, regions_text, walks_text}
+use Rattle.ptdump_engine.specs.Steps.{IsForced}
+use Rattle.ptdump_engine.specs.Walks.{line, walk_text}
+use Rattle.ptdump_engine.specs.declared.failure.Failure.{Failure}
+use Rattle.ptdump_engine.specs.declared.output.Output.{Output}
+use Rattle.ptdump_engine.specs.declared.request.Command.{Command}
+use Rattle.ptdump_engine.specs.declared.request.Command.TheVariants as commands
+use Rattle.ptdump_engine.specs.declared.request.Outcome.{Outcome}
+use Rattle.ptdump_engine.specs.declared.request.Request.{Request}
+use Rattle.ptdump_engine.proofs.Failing.{forced_fails}
+use Rattle.ptdump_engine.proofs.WalkLaws.{same_walk}
+
+-- what follows from a fact of a value that is there
+pub if_some : {X : Type 0} {P Q : X → Type 0} (o : Option X) → ((x : X) → P x → Q x) → IfSome o P → IfSome o Q
+if_some None f p = tt
+if_some (Some x) f p = f x p
+
+-- nothing is collected
+known_alone : (known : Option (List ℕ)) → append_known known [] ≡ known
+known_alone None = refl
+known_alone (Some bytes) = ap Some (append-nil bytes)
+
+-- all that was put in is written once nothing is collected any more
+pub written_whole : {W : Type 0} (contents : W → Option (List ℕ)) (begun now ended : Output W (String Global)) (text : List ℕ)
+    → string_bytes begun.text ≡ [] → string_bytes ended.text ≡ [] → Puts contents begun now text → Puts contents now ended []
+    → Appends (contents begun.writer.now) (contents ended.writer.now) text
+written_whole contents begun now ended text none all puts rest =
+    let before : put_in contents begun ≡ contents begun.writer.now = ap (append_known (contents begun.writer.now)) none ∙ known_alone (contents begun.writer.now) in
+    let after : put_in contents ended ≡ contents ended.writer.now = ap (append_known (contents ended.writer.now)) all ∙ known_alone (contents ended.writer.now) in
+    subst (λ k. Appends k (contents ended.writer.now) text) before
+    (subst (λ k. Appends (put_in contents begun) k text) after
+    (subst (Appends (put_in contents begun) (put_in contents ended)) (append-nil text) (Appends-trans _ _ _ text [] puts.appends rest.appends)))
+
+-- ---- words that map the same
+
+pub same_report : (command : Command) (L : ℕ) (T W : Words) (root : ℕ) → mappings_of L T root ≡ mappings_of L W root → SameBelow L T W root
+    → report_of command L T root ≡ report_of command L W root
+unfolding regions_text pages_text walks_text find_text addresses_text
+same_report commands.Regions L T W root same below = ap (λ ms. Some (flat_map (λ r. line (region_text L r)) (regions_in L ms))) same
+same_report commands.Pages L T W root same below = ap (λ ms. Some (flat_map (λ m. line (mapping_text L m)) ms)) same
+same_report (commands.Walk addresses) L T W root same below = λ i. Some (flat_map (λ a. walk_text (same_walk T W (a % position_count L) L root below i)) addresses.items)
+same_report (commands.Find addresses) L T W root same below =
+    ap (λ ms. Some (flat_map (λ a. flat_map (λ m. line (found_text L a m)) (filter (leads_to a) ms)) addresses.items)) same
+same_report commands.Check L T W root same below = refl
+same_report commands.Image L T W root same below = refl
+same_report commands.Picture L T W root same below = refl
+
+pub same_completeness : (command : Command) (L : ℕ) (T W : Words) (root : ℕ) → mappings_of L T root ≡ mappings_of L W root
+    → ((p : ℕ) → page_walk L T root p ≡ page_walk L W root p) → completeness_of command L T root ≡ completeness_of command L W root
+same_completeness commands.Regions L T W root same walks = refl
+same_completeness commands.Pages L T W root same walks = refl
+same_completeness (commands.Walk addresses) L T W root same walks = λ i. Some (list_all (λ a. is_some (walks (a % position_count L) i)) addresses.items)
+same_completeness (commands.Find addresses) L T W root same walks = ap (λ ms. Some (list_all (λ a. list_any (leads_to a) ms) addresses.items)) same
+same_completeness commands.Check L T W root same walks = refl
+same_completeness commands.Image L T W root same walks = refl
+same_completeness commands.Picture L T W root same walks = refl
+
+-- ---- the run
+
+-- a run that opened what was asked for reports of it, or fails for memory or a write
+pub runs_by : (request : Request) (file : List ℕ) (before after : Option (List ℕ)) (o : Opened) (result : Result Outcome Failure) → opened_for request file ≡ Ok o
+    → IfOk result (λ outcome. ReportsOf request before after outcome o) → IfErr result IsForced → Runs request file before after result
+runs_by request file before after o (Ok outcome) opened reports forced = (o, opened, reports)
+runs_by request file before after o (Err failure) opened reports forced = forced_fails failure (opened_for request file) forced

@@ -1,5 +1,0 @@
-use Rattle.std.proofs.Common.{append_assoc}
-use Rattle.ptdump_engine.proofs.walk.write_word.Goals as goal
-
-pub returns : goal.returns
-returns g c = simp append_assoc c.writeln.ensures
