@@ -45,7 +45,7 @@ impl<'a> ByteSource for BrokenSource<'a> {
 const AT_ONCE: usize = 29;
 
 /// Writes a core file of the machine `MIXED`.
-fn mixed(rt: impl Abort, alloc: Global) -> Vec<u8> {
+fn mixed(rt: impl Abort + Copy, alloc: Global) -> Vec<u8> {
     let processors = [Processor {
         cr3: 0x5000,
         ..PROCESSOR

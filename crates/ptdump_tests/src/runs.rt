@@ -145,7 +145,7 @@ pub fn status_of(ended: &Result<Outcome, Failure>) -> u8 {
 }
 
 /// Gives a value that memory isn't refused for.
-pub fn unwrap<T: Drop>(rt: impl Abort, value: Result<T, AllocError>) -> T {
+pub fn unwrap<T: Drop>(rt: impl Abort + Copy, value: Result<T, AllocError>) -> T {
     match value {
         Ok(value) => value,
         Err(_) => panic!(rt; "out of memory"),
@@ -153,7 +153,7 @@ pub fn unwrap<T: Drop>(rt: impl Abort, value: Result<T, AllocError>) -> T {
 }
 
 /// Gives bytes as text.
-pub fn text_of<'a>(rt: impl Abort, bytes: &'a [u8]) -> &'a str {
+pub fn text_of<'a>(rt: impl Abort + Copy, bytes: &'a [u8]) -> &'a str {
     match str::from_utf8(bytes) {
         Ok(text) => text,
         Err(_) => panic!(rt; "no text was written"),

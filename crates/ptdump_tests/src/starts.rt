@@ -53,14 +53,29 @@ const FIRST_OF_FIVE: End = End {
     ..SILENT
 };
 
-/// A mistake in what is asked, and a part of what is said of it.
-const fn mistake(message: &'static str) -> End {
-    End {
-        status: 2,
-        message,
-        ..SILENT
-    }
-}
+/// A mistake in what is asked.
+const MISTAKE: End = End {
+    status: 2,
+    ..SILENT
+};
+
+/// The note of a processor is needed, and isn't there.
+const NO_NOTE: End = End {
+    message: "--cpu",
+    ..MISTAKE
+};
+
+/// Nothing says CR3.
+const NO_CR3: End = End {
+    message: "--cr3",
+    ..MISTAKE
+};
+
+/// A core file has no base.
+const BASE_OF_CORE: End = End {
+    message: "base",
+    ..MISTAKE
+};
 
 /// What is asked of a core with three processors.
 const OF_NOTES: [(Asked, End); 17] = [
@@ -132,14 +147,14 @@ const OF_NOTES: [(Asked, End); 17] = [
             cpu: Some(3),
             ..PLAIN
         },
-        mistake("--cpu"),
+        NO_NOTE,
     ),
     (
         Asked {
             cpu: Some(u64::MAX),
             ..PLAIN
         },
-        mistake("--cpu"),
+        NO_NOTE,
     ),
     (
         Asked {
@@ -147,7 +162,7 @@ const OF_NOTES: [(Asked, End); 17] = [
             cr3: Some(0x3000),
             ..PLAIN
         },
-        mistake("--cpu"),
+        NO_NOTE,
     ),
     (
         Asked {
@@ -155,14 +170,14 @@ const OF_NOTES: [(Asked, End); 17] = [
             levels: Some(Levels::Four),
             ..PLAIN
         },
-        mistake("--cpu"),
+        NO_NOTE,
     ),
     (
         Asked {
             base: Some(0),
             ..PLAIN
         },
-        mistake("base"),
+        BASE_OF_CORE,
     ),
     // The root isn't in the dump.
     (
@@ -205,13 +220,13 @@ const OF_NOTES: [(Asked, End); 17] = [
 
 /// What is asked of a core without notes, and of a raw file.
 const WITHOUT_NOTES: [(Asked, End); 4] = [
-    (PLAIN, mistake("--cr3")),
+    (PLAIN, NO_CR3),
     (
         Asked {
             levels: Some(Levels::Five),
             ..PLAIN
         },
-        mistake("--cr3"),
+        NO_CR3,
     ),
     (
         Asked {
@@ -288,7 +303,8 @@ fn walks_start_where_the_options_and_the_notes_say(rt: HostRuntime) {
             levels: Some(levels),
             ..PLAIN
         };
-        check_run(rt, rt.alloc(), &with_notes, asked, mistake(message));
+        let wanted = End { message, ..MISTAKE };
+        check_run(rt, rt.alloc(), &with_notes, asked, wanted);
     }
 }
 
@@ -321,7 +337,7 @@ fn what_is_no_dump_is_refused(rt: HostRuntime) {
     };
     check_run(rt, rt.alloc(), &bytes, PLAIN, no_core);
     // An empty file is a raw one.
-    check_run(rt, rt.alloc(), b"", PLAIN, mistake("--cr3"));
+    check_run(rt, rt.alloc(), b"", PLAIN, NO_CR3);
 }
 
 #[test]
