@@ -5,6 +5,9 @@ use Rattle.std.specs.Io.KnownBytes.{Appends, append_known}
 use Rattle.std.specs.List.{flat_map, list_all, list_any}
 use Rattle.std.specs.String.{string_bytes}
 use Rattle.std.specs.declared.alloc.Global.{Global}
+use Rattle.x86_64_dump.specs.Dump.{Contents}
+use Rattle.x86_64_dump.specs.Opening.{Fails, contents_of}
+use Rattle.x86_64_dump.specs.declared.error.DumpError.{DumpError}
 use Rattle.x86_64_dump_tables.specs.Reached.{SameBelow}
 use Rattle.x86_64_mappings.specs.Texts.{mapping_text, region_text}
 use Rattle.x86_64_model.specs.Mappings.{mappings_of}
@@ -14,9 +17,10 @@ use Rattle.x86_64_model.specs.Position.{position_count}
 use Rattle.x86_64_model.specs.Regions.{regions_in}
 use Rattle.x86_64_summaries.specs.Wanted.{leads_to}
 use Rattle.ptdump_engine.specs.Output.{Puts, put_in}
-use Rattle.ptdump_engine.specs.Program.{Opened, Reports, ReportsOf, Runs, completeness_of, opened_for, report_of}
+use Rattle.ptdump_engine.specs.Failure.{failure_of}
+use Rattle.ptdump_engine.specs.Program.{Opened, Reports, ReportsOf, Runs, completeness_of, opened_for, report_of, start_for}
 use Rattle.ptdump_engine.specs.Reports.{addresses_text, find_text, found_text, pages_text, regions_text, walks_text}
-use Rattle.ptdump_engine.specs.Steps.{IsForced}
+use Rattle.ptdump_engine.specs.Steps.{FailsBy, IsForced, and_then, of_dump}
 use Rattle.ptdump_engine.specs.Walks.{line, walk_text}
 use Rattle.ptdump_engine.specs.declared.failure.Failure.{Failure}
 use Rattle.ptdump_engine.specs.declared.output.Output.{Output}
@@ -24,7 +28,8 @@ use Rattle.ptdump_engine.specs.declared.request.Command.{Command}
 use Rattle.ptdump_engine.specs.declared.request.Command.TheVariants as commands
 use Rattle.ptdump_engine.specs.declared.request.Outcome.{Outcome}
 use Rattle.ptdump_engine.specs.declared.request.Request.{Request}
-use Rattle.ptdump_engine.proofs.Failing.{forced_fails}
+use Rattle.ptdump_engine.specs.declared.start.Start.{Start}
+use Rattle.ptdump_engine.proofs.Failing.{dump_fails, fails_then, forced_fails}
 use Rattle.ptdump_engine.proofs.WalkLaws.{same_walk}
 
 -- what follows from a fact of a value that is there
@@ -73,6 +78,26 @@ same_completeness commands.Image L T W root same walks = refl
 same_completeness commands.Picture L T W root same walks = refl
 
 -- ---- the run
+
+-- what is opened where the file is a dump, and it is found out where walks start
+pub opens : (request : Request) (file : List ℕ) (dump : Contents) (start : Start) → contents_of file request.base ≡ Ok dump → start_for request dump ≡ Ok start
+    → opened_for request file ≡ Ok (record { dump = dump; start = start })
+unfolding opened_for
+opens request file dump start contents starts =
+    ap (λ found. and_then (of_dump found) (λ dump. and_then (start_for request dump) (λ start. Ok (record { dump = dump; start = start })))) contents
+    ∙ ap (λ found. and_then found (λ start. Ok (record { dump = dump; start = start }))) starts
+
+-- why nothing is opened
+pub no_dump : (request : Request) (file : List ℕ) (error : DumpError) → Fails error (contents_of file request.base) → FailsBy (failure_of error) (opened_for request file)
+unfolding opened_for
+no_dump request file error fails = dump_fails error (contents_of file request.base) _ fails
+
+pub no_start : (request : Request) (file : List ℕ) (dump : Contents) (failure : Failure) → contents_of file request.base ≡ Ok dump → FailsBy failure (start_for request dump)
+    → FailsBy failure (opened_for request file)
+unfolding opened_for
+no_start request file dump failure contents fails =
+    subst (λ found. FailsBy failure (and_then (of_dump found) (λ dump. and_then (start_for request dump) (λ start. Ok (record { dump = dump; start = start }))))) (sym contents)
+    (fails_then failure (start_for request dump) (λ start. Ok (record { dump = dump; start = start })) fails)
 
 -- a run that opened what was asked for reports of it, or fails for memory or a write
 pub runs_by : (request : Request) (file : List ℕ) (before after : Option (List ℕ)) (o : Opened) (result : Result Outcome Failure) → opened_for request file ≡ Ok o

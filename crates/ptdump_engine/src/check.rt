@@ -1,9 +1,8 @@
 //! The report of what is amiss.
 ghost use Rattle.std.specs.Prelude.{⊤};
 
-use crate::failure::Failure;
 use crate::loaded::Loaded;
-use crate::output::Output;
+use crate::output::{Output, OutputError};
 use ptdump_findings::table_findings;
 use std::alloc::Global;
 use std::io::Write;
@@ -49,11 +48,11 @@ struct FlawedRegions<'a, 'b, W: Write> {
 }
 
 impl<L: LevelCount, W: Write> Visitor<RegionIn<L>> for FlawedRegions<'_, '_, W> {
-    type Error = Failure;
+    type Error = OutputError;
 
     ghost Visits = { λ _ _ _. ⊤ };
 
-    fn visit(&mut self, region: RegionIn<L>) -> Result<(), Failure> {
+    fn visit(&mut self, region: RegionIn<L>) -> Result<(), OutputError> {
         if self.flaw.is_in(&region) {
             let text = self.flaw.text();
             writeln!(self.output, "{text} {region}")?;
@@ -71,12 +70,12 @@ impl<L: LevelCount, W: Write> Visitor<RegionIn<L>> for FlawedRegions<'_, '_, W> 
 ///
 /// # Errors
 ///
-/// `Failure::OutOfMemory` if memory is refused, `Failure::Output` if a write fails.
+/// `OutputError::OutOfMemory` if memory is refused, `OutputError::Write` if a write fails.
 pub fn write_findings<L: LevelCount, W: Write>(
     alloc: Global,
     loaded: &Loaded<'_, L>,
     output: &mut Output<'_, W>,
-) -> Result<u64, Failure> {
+) -> Result<u64, OutputError> {
     let executable = write_regions(loaded, Flaw::WritableAndExecutable, output)?;
     let upper = write_regions(loaded, Flaw::UserInUpperHalf, output)?;
     let tables = write_tables(alloc, loaded, output)?;
@@ -90,7 +89,7 @@ fn write_regions<L: LevelCount, W: Write>(
     loaded: &Loaded<'_, L>,
     flaw: Flaw,
     output: &mut Output<'_, W>,
-) -> Result<u64, Failure> {
+) -> Result<u64, OutputError> {
     let mut regions = FlawedRegions {
         flaw,
         output,
@@ -105,7 +104,7 @@ fn write_tables<L: LevelCount, W: Write>(
     alloc: Global,
     loaded: &Loaded<'_, L>,
     output: &mut Output<'_, W>,
-) -> Result<u64, Failure> {
+) -> Result<u64, OutputError> {
     let tables = loaded.tables;
     let findings = table_findings(alloc, tables.memory(), tables.frames(), loaded.root)?;
     for finding in &findings {

@@ -9,9 +9,12 @@ ghost use Rattle.ptdump_engine.specs.Program as program;
 ghost use Rattle.ptdump_engine.specs.Steps.{Finds, IsForced};
 
 use crate::arguments::{argument_failure, root_failure};
+use crate::check::write_findings;
 use crate::failure::Failure;
+use crate::image::write_image;
 use crate::loaded::Loaded;
 use crate::output::{Output, OutputError};
+use crate::picture::write_picture;
 use crate::report::{write_found, write_pages, write_regions, write_walks};
 use crate::request::{Command, Levels, Outcome, Request};
 use crate::start::{Start, start_of};
@@ -127,44 +130,50 @@ fn report<L: LevelCount, S: ByteSource, W: Write, E: Write, G: Progress>(
         summaries: &summaries,
         levels: PhantomData,
     };
-    let is_complete = write_whole(alloc, &loaded, command, writer)?;
+    let is_complete = write_whole(alloc, dump, &loaded, command, writer, notes)?;
     write_totals(&loaded, notes)?;
     Ok(Outcome { is_complete })
 }
 
 /// Writes a command's whole report, and tells whether all is as asked.
-fn write_whole<L: LevelCount, W: Write>(
+fn write_whole<L: LevelCount, S: ByteSource, W: Write, E: Write>(
     alloc: Global,
+    dump: &Dump<S>,
     loaded: &Loaded<'_, L>,
     command: &Command,
     writer: &mut W,
-) -> Result<bool, OutputError>
+    notes: &mut Output<'_, E>,
+) -> Result<bool, Failure>
     requires loaded { IsLoaded loaded.now }
     requires tested { program.IsTested command.now }
     ensures text { let text = program.report_of command.now L.LEVELS (words_loaded loaded.now) loaded.now.root in
         OnOk result (IfSome text (Appends (W.contents writer.old) (W.contents writer.new))) }
     ensures complete { let complete = program.completeness_of command.now L.LEVELS (words_loaded loaded.now) loaded.now.root in
         IfOk result (λ is. IfSome complete (λ all. is ≡ all)) }
+    ensures errors { S.IsKnown → IfErr result IsForced }
 {
     let mut output = Output::new(alloc, writer);
-    let is_complete = write_report(alloc, loaded, command, &mut output)?;
+    let is_complete = write_report(alloc, dump, loaded, command, &mut output, notes)?;
     output.finish()?;
     Ok(is_complete)
 }
 
 /// Writes a command's report, and tells whether all is as asked.
-fn write_report<L: LevelCount, W: Write>(
+fn write_report<L: LevelCount, S: ByteSource, W: Write, E: Write>(
     alloc: Global,
+    dump: &Dump<S>,
     loaded: &Loaded<'_, L>,
     command: &Command,
     output: &mut Output<'_, W>,
-) -> Result<bool, OutputError>
+    notes: &mut Output<'_, E>,
+) -> Result<bool, Failure>
     requires loaded { IsLoaded loaded.now }
     requires tested { program.IsTested command.now }
     ensures text { let text = program.report_of command.now L.LEVELS (words_loaded loaded.now) loaded.now.root in
         OnOk result (IfSome text (Puts W.contents output.old output.new)) }
     ensures complete { let complete = program.completeness_of command.now L.LEVELS (words_loaded loaded.now) loaded.now.root in
         IfOk result (λ is. IfSome complete (λ all. is ≡ all)) }
+    ensures errors { S.IsKnown → IfErr result IsForced }
 {
     match command {
         Command::Regions => {
@@ -175,27 +184,27 @@ fn write_report<L: LevelCount, W: Write>(
             write_pages(loaded, output)?;
             Ok(true)
         }
-        Command::Walk(addresses) => write_walks(loaded, addresses, output),
-        Command::Find(addresses) => write_found(alloc, loaded, addresses, output),
-        Command::Check | Command::Image | Command::Picture => Ok(true),
+        Command::Walk(addresses) => Ok(write_walks(loaded, addresses, output)?),
+        Command::Find(addresses) => Ok(write_found(alloc, loaded, addresses, output)?),
+        Command::Check => Ok(write_findings(alloc, loaded, output)? == 0),
+        Command::Image => {
+            write_image(alloc, dump, loaded, output, notes)?;
+            Ok(true)
+        }
+        Command::Picture => {
+            write_picture(alloc, loaded, output)?;
+            Ok(true)
+        }
     }
 }
 
-/// Writes how many tables were read, and how much they map. A root that isn't there maps nothing.
+/// Writes how many tables were read, and how much they map.
 fn write_totals<L: LevelCount, E: Write>(
     loaded: &Loaded<'_, L>,
     notes: &mut Output<'_, E>,
 ) -> Result<(), OutputError>
 {
-    let (mappings, bytes) = match loaded.summaries.of(L::LEVELS, loaded.root) {
-        Some(summary) => (summary.count, summary.bytes),
-        None => (0, 0),
-    };
-    let totals = Totals {
-        tables: loaded.tables.len(),
-        mappings,
-        bytes,
-    };
+    let totals = Totals::of(loaded);
     writeln!(notes, "{totals}")?;
     notes.finish()
 }

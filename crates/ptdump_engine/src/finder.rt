@@ -11,16 +11,18 @@ use x86_64_summaries::Visitor;
 use x86_64_tables::phys_memory::Rights;
 
 /// Writes a line for each virtual address that leads to a physical one, by the mappings that it visits.
-pub struct Finder<'a, 'b, W: Write> {
+///
+/// The lines are put into an [`Output`], which is a parameter so that contracts know it again once it is given back.
+pub struct Finder<'a, O> {
     /// Where the lines are put.
-    output: &'a mut Output<'b, W>,
+    output: &'a mut O,
     /// The physical address.
     physical: PhysAddr,
     /// Whether a mapping was visited.
     pub is_found: bool,
 }
 
-impl<W: Write> Drop for Finder<'_, '_, W> {
+impl<O> Drop for Finder<'_, O> {
     fn drop(self)
         ensures { self.exit.0.now ≡ self.entry.output.now }
     {
@@ -32,9 +34,9 @@ impl<W: Write> Drop for Finder<'_, '_, W> {
     }
 }
 
-impl<'a, 'b, W: Write> Finder<'a, 'b, W> {
+impl<'a, O> Finder<'a, O> {
     /// Begins a search for a physical address.
-    pub fn new(output: &'a mut Output<'b, W>, physical: PhysAddr) -> Self
+    pub fn new(output: &'a mut O, physical: PhysAddr) -> Self
         ensures name { result.output.ghost_name ≡ output.entry.ghost_name }
         ensures now { result.output.now ≡ output.old }
         ensures physical { result.physical ≡ physical }
@@ -48,7 +50,7 @@ impl<'a, 'b, W: Write> Finder<'a, 'b, W> {
     }
 }
 
-impl<L: LevelCount, W: Write> Visitor<MappingIn<L>> for Finder<'_, '_, W> {
+impl<L: LevelCount, W: Write> Visitor<MappingIn<L>> for Finder<'_, Output<'_, W>> {
     type Error = OutputError;
 
     ghost use Rattle.ptdump_engine.specs.private.Finding.{IsSearched};

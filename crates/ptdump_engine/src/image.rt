@@ -1,8 +1,10 @@
 //! The report that is an image for `pagetab`.
+ghost use Rattle.std.specs.Prelude.{IfErr};
+ghost use Rattle.ptdump_engine.specs.Steps.{IsForced};
 
 use crate::failure::Failure;
 use crate::loaded::Loaded;
-use crate::output::Output;
+use crate::output::{Output, OutputError};
 use ptdump_findings::{Image, Table};
 use std::alloc::Global;
 use std::io::Write;
@@ -22,7 +24,9 @@ pub fn write_image<L: LevelCount, S: ByteSource, W: Write, E: Write>(
     loaded: &Loaded<'_, L>,
     output: &mut Output<'_, W>,
     errors: &mut Output<'_, E>,
-) -> Result<(), Failure> {
+) -> Result<(), Failure>
+    ensures { S.IsKnown → IfErr result IsForced }
+{
     let image = Image::read(alloc, dump, loaded.root, L::LEVELS)?;
     write_words(dump, &image, output)?;
     write_report(dump, &image, errors)
@@ -33,7 +37,9 @@ fn write_words<S: ByteSource, W: Write>(
     dump: &Dump<S>,
     image: &Image,
     output: &mut Output<'_, W>,
-) -> Result<(), Failure> {
+) -> Result<(), Failure>
+    ensures { S.IsKnown → IfErr result IsForced }
+{
     for table in image.tables() {
         if let Some(words) = dump.read_frame(table.frame).map_err(Failure::Read)? {
             let lines = image.word_lines(table, &words);
@@ -49,7 +55,9 @@ fn write_report<S: ByteSource, E: Write>(
     dump: &Dump<S>,
     image: &Image,
     errors: &mut Output<'_, E>,
-) -> Result<(), Failure> {
+) -> Result<(), Failure>
+    ensures { S.IsKnown → IfErr result IsForced }
+{
     writeln!(errors, "new         old               level")?;
     write_rows(image, image.tables(), errors)?;
     write_rows(image, image.outside(), errors)?;
@@ -60,7 +68,8 @@ fn write_report<S: ByteSource, E: Write>(
         write_refusals(dump, image, errors)?;
     }
     let end = image.report_end();
-    write!(errors, "{end}")
+    write!(errors, "{end}")?;
+    Ok(())
 }
 
 /// Writes the lines of tables.
@@ -68,7 +77,7 @@ fn write_rows<E: Write>(
     image: &Image,
     tables: &[Table],
     errors: &mut Output<'_, E>,
-) -> Result<(), Failure> {
+) -> Result<(), OutputError> {
     for table in tables {
         let row = image.row(table);
         writeln!(errors, "{row}")?;
@@ -81,7 +90,9 @@ fn write_refusals<S: ByteSource, E: Write>(
     dump: &Dump<S>,
     image: &Image,
     errors: &mut Output<'_, E>,
-) -> Result<(), Failure> {
+) -> Result<(), Failure>
+    ensures { S.IsKnown → IfErr result IsForced }
+{
     for table in image.tables() {
         if let Some(words) = dump.read_frame(table.frame).map_err(Failure::Read)? {
             let refusals = image.refusals(table, &words);

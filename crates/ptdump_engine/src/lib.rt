@@ -3,12 +3,15 @@
 
 mod access;
 mod arguments;
+mod check;
 mod engine;
 mod failure;
 mod finder;
+mod image;
 mod lines;
 mod loaded;
 mod output;
+mod picture;
 mod report;
 mod request;
 mod start;

@@ -144,7 +144,7 @@ fn write_addresses_by<L: LevelCount, W: Write>(
         found ≡ some_there (mappings_asked summaries.now L.LEVELS loaded.now.root)) }
 {
     let mut finder = Finder::new(output, physical);
-    visit_mappings::<L, PhysMemory, IdentityMapping, Finder<'_, '_, W>>(
+    visit_mappings::<L, PhysMemory, IdentityMapping, Finder<'_, Output<'_, W>>>(
         summaries,
         loaded.root,
         &mut finder,

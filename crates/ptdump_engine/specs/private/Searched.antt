@@ -1,5 +1,5 @@
 -- What a search leaves after parts of the mappings, and after all that lead to its address.
-use Rattle.std.proofs.Common.{◌≡◌, ◌∙◌, ◌+◌, ◌-◌, ◌≤◌, ◌<◌, ◌%◌, ◌++◌, ◌&&◌, ◌||◌, ℕ, Bool, true, false, List, [], ◌∷◌, Option, refl, sym, ap, subst, filter, nat_le, nat_lt, arith}
+use Rattle.std.proofs.Common.{◌≡◌, ◌∙◌, ◌+◌, ◌-◌, ◌≤◌, ◌<◌, ◌%◌, ◌++◌, ◌&&◌, ◌||◌, ℕ, Bool, true, false, List, [], ◌∷◌, Option, String, refl, sym, ap, subst, filter, nat_le, nat_lt, arith}
 use Rattle.std.proofs.Math.Bool.{or_assoc, or-false}
 use Rattle.std.specs.List.{flat_map, list_any, AllByRecursion}
 use Rattle.x86_64_model.specs.Mappings.{Mapping}
@@ -10,16 +10,18 @@ use Rattle.ptdump_engine.specs.Reports.{found_text}
 use Rattle.ptdump_engine.specs.Walks.{line, access_text}
 use Rattle.ptdump_engine.specs.private.Finding.{IsSearched, address_text, some_there}
 use Rattle.ptdump_engine.specs.declared.finder.Finder.{Finder}
+use Rattle.ptdump_engine.specs.declared.output.Output.{Output}
+use Rattle.std.specs.declared.alloc.Global.{Global}
 use Rattle.ptdump_engine.specs.private.Puts.{puts_nothing, puts_each}
 
-pub searched_nothing : {W : Type 0} (contents : W → Option (List ℕ)) (L : ℕ) (finder : Finder W) → IsSearched contents L finder finder []
+pub searched_nothing : {W : Type 0} (contents : W → Option (List ℕ)) (L : ℕ) (finder : Finder (Output W (String Global))) → IsSearched contents L finder finder []
 searched_nothing contents L finder = record { output = refl; physical = refl; puts = puts_nothing contents finder.output.now; found = sym (or-false finder.is_found) }
 
 some-append : (ms ns : List Mapping) → some_there (ms ++ ns) ≡ (some_there ms || some_there ns)
 some-append [] ns = refl
 some-append (m ∷ ms) ns = refl
 
-pub searched_both : {W : Type 0} (contents : W → Option (List ℕ)) (L : ℕ) (before between after : Finder W) (front back : List Mapping)
+pub searched_both : {W : Type 0} (contents : W → Option (List ℕ)) (L : ℕ) (before between after : Finder (Output W (String Global))) (front back : List Mapping)
     → IsSearched contents L before between front → IsSearched contents L between after back → IsSearched contents L before after (front ++ back)
 searched_both contents L before between after front back first second = record {
   output = second.output ∙ first.output;

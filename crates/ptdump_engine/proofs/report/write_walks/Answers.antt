@@ -1,4 +1,4 @@
-use Rattle.std.proofs.Common.{◌≡◌, ◌∙◌, ◌%◌, ◌&&◌, get_or, is_some, list_all, ap, ap₂, sym, subst, take, refl}
+use Rattle.std.proofs.Common.{◌≡◌, ◌∙◌, ◌%◌, ◌&&◌, get_or, is_some, ap, ap₂, sym, subst, take, refl}
 use Rattle.x86_64_model.specs.PageWalk.{page_walk}
 use Rattle.x86_64_model.specs.Position.{position_count}
 use Rattle.ptdump_engine.specs.Loaded.{words_loaded}
