@@ -95,7 +95,10 @@ fn each_failed_read_ends_a_run(rt: HostRuntime) {
                 break;
             }
             assert_eq!(rt; status_of(&ended), 3, "{words:?}, {reads} reads");
-            assert!(rt; matches!(ended, Err(Failure::Read(_))), "{words:?}, {reads} reads");
+            assert!(rt;
+                matches!(ended, Err(Failure::Read(_))),
+                "{words:?}, {reads} reads"
+            );
             failed = reads + 1;
         }
         // The header, the program headers, the note, two registers and six tables are read at least.
@@ -141,7 +144,10 @@ fn each_failed_write_ends_a_run(rt: HostRuntime) {
             assert_eq!(rt; status, 5, "{words:?}, {room} bytes");
             assert_eq!(rt; taken[..], errors[..room], "{words:?}, {room} bytes");
         }
-        let (first, second) = (Sink::new(alloc, 1, usize::MAX), Sink::new(alloc, 1, usize::MAX));
+        let (first, second) = (
+            Sink::new(alloc, 1, usize::MAX),
+            Sink::new(alloc, 1, usize::MAX),
+        );
         let (status, taken, told) = write_to(rt, alloc, &file, words, first, second);
         assert!(rt; status < 2, "{words:?}");
         assert_eq!(rt; taken, output, "{words:?}");
@@ -230,6 +236,9 @@ fn each_growth_may_be_refused(rt: HostRuntime) {
             assert!(rt; output.is_empty(), "{words:?}, {room} bytes");
             room += ROOM_STEP;
         }
-        assert!(rt; 4096 < room && room < MOST_ROOMS * ROOM_STEP, "{words:?}, {room} bytes");
+        assert!(rt;
+            4096 < room && room < MOST_ROOMS * ROOM_STEP,
+            "{words:?}, {room} bytes"
+        );
     }
 }

@@ -116,12 +116,10 @@ tables 4, mappings 5, mapped 20KiB
         base: 0,
         cr3: 0x7000,
         levels: Levels::Four,
-        tables: &[
-            Table {
-                address: 0x7000,
-                words: &[(0, 0x5003), (1, 0x5003)],
-            },
-        ],
+        tables: &[Table {
+            address: 0x7000,
+            words: &[(0, 0x5003), (1, 0x5003)],
+        }],
         end: End {
             output: "word 0x1000 0 0x2003
 word 0x1000 1 0x2003
@@ -144,12 +142,10 @@ tables 2, mappings 0, mapped 0KiB
         base: 0,
         cr3: 0x7000,
         levels: Levels::Four,
-        tables: &[
-            Table {
-                address: 0x7000,
-                words: &[(0, 0x1_0003), (2, 0x5003)],
-            },
-        ],
+        tables: &[Table {
+            address: 0x7000,
+            words: &[(0, 0x1_0003), (2, 0x5003)],
+        }],
         end: End {
             output: "word 0x1000 0 0x3003
 word 0x1000 2 0x2003
@@ -205,12 +201,10 @@ tables 2, mappings 1, mapped 4KiB
         base: 0,
         cr3: 0x7000,
         levels: Levels::Four,
-        tables: &[
-            Table {
-                address: 0x7000,
-                words: &[(510, 0x7003), (511, 0x7003)],
-            },
-        ],
+        tables: &[Table {
+            address: 0x7000,
+            words: &[(510, 0x7003), (511, 0x7003)],
+        }],
         end: End {
             output: "word 0x1000 510 0x1003
 word 0x1000 511 0x1003
@@ -233,12 +227,10 @@ tables 1, mappings 16, mapped 64KiB
         base: 0,
         cr3: 0x7000,
         levels: Levels::Four,
-        tables: &[
-            Table {
-                address: 0x7000,
-                words: &[(0, 0x5083)],
-            },
-        ],
+        tables: &[Table {
+            address: 0x7000,
+            words: &[(0, 0x5083)],
+        }],
         end: End {
             output: "word 0x1000 0 0x2083
 ",

@@ -1,8 +1,8 @@
 //! Runs of the program, and how they end.
+use ptdump_engine::{Command, Failure, Levels, NoProgress, Outcome, Request, run};
 use std::alloc::{AllocError, Global};
 use std::io::{self, ErrorKind, Write};
 use std::process::Abort;
-use ptdump_engine::{Command, Failure, Levels, NoProgress, Outcome, Request, run};
 
 /// A command, with its addresses.
 #[derive(Clone, Copy, Debug)]

@@ -360,8 +360,14 @@ fn a_short_file_has_the_tables_that_it_has(rt: HostRuntime) {
         &mut NoProgress,
     );
     assert_eq!(rt; status_of(&ended), 1);
-    assert_eq!(rt; text_of(rt, &output.bytes), "table 0x3000 is not in the dump\n");
+    assert_eq!(rt;
+        text_of(rt, &output.bytes),
+        "table 0x3000 is not in the dump\n"
+    );
     let errors = text_of(rt, &errors.bytes);
     assert!(rt; errors.contains("shorter"), "{errors}");
-    assert!(rt; errors.ends_with("\ntables 0, mappings 0, mapped 0KiB\n"), "{errors}");
+    assert!(rt;
+        errors.ends_with("\ntables 0, mappings 0, mapped 0KiB\n"),
+        "{errors}"
+    );
 }
