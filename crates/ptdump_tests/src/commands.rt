@@ -1,7 +1,7 @@
 //! Tests of the commands that print mappings.
 use crate::machines::{FIVE, MIXED, PROCESSOR, core_file, raw_file};
-use crate::runs::{Asked, End, PLAIN, SILENT, Sink, Words, check_run, text_of, unwrap};
-use ptdump_engine::{Levels, NoProgress, run};
+use crate::runs::{Asked, End, PLAIN, SILENT, Words, check_run, run_on, text_of, unwrap};
+use ptdump_engine::Levels;
 use x86_64_dump_builder::Processor;
 
 /// Commands on the machine `MIXED`, and what is printed.
@@ -236,19 +236,10 @@ fn a_picture_shows_regions_and_tables(rt: HostRuntime) {
         cr3: Some(0x5000),
         ..PLAIN
     };
-    let request = unwrap(rt, asked.request(rt.alloc()));
-    let (mut output, mut errors) = (Sink::wide(rt.alloc()), Sink::wide(rt.alloc()));
-    let ended = run(
-        rt.alloc(),
-        file.as_slice(),
-        &request,
-        &mut output,
-        &mut errors,
-        &mut NoProgress,
-    );
-    assert!(rt; ended.is_ok_and(|outcome| outcome.is_complete));
-    assert_eq!(rt; text_of(rt, &errors.bytes), TOTALS);
-    let text = text_of(rt, &output.bytes);
+    let ran = run_on(rt, rt.alloc(), &file, asked);
+    assert_eq!(rt; ran.status(), 0);
+    assert_eq!(rt; text_of(rt, &ran.errors.bytes), TOTALS);
+    let text = text_of(rt, &ran.output.bytes);
     assert!(rt; text.starts_with("<svg"), "{text}");
     assert!(rt; text.trim_end().ends_with("</svg>"), "{text}");
     for shown in SHOWN {

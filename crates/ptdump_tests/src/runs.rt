@@ -1,8 +1,9 @@
 //! Runs of the program, and how they end.
-use ptdump_engine::{Command, Failure, Levels, NoProgress, Outcome, Request, run};
+use ptdump_engine::{Command, Failure, Levels, Outcome, Progress, Request, run};
 use std::alloc::{AllocError, Global};
 use std::io::{self, ErrorKind, Write};
 use std::process::Abort;
+use x86_64_dump::ByteSource;
 
 /// A command, with its addresses.
 #[derive(Clone, Copy, Debug)]
@@ -135,12 +136,42 @@ pub const SILENT: End = End {
     message: "",
 };
 
-/// The status with which the program ends.
-pub fn status_of(ended: &Result<Outcome, Failure>) -> u8 {
-    match ended {
-        Ok(outcome) if outcome.is_complete => 0,
-        Ok(_) => 1,
-        Err(failure) => failure.status(),
+/// What was written by a run, and how it ended.
+#[derive(Drop)]
+pub struct Ran {
+    pub output: Sink,
+    pub errors: Sink,
+    pub ended: Result<Outcome, Failure>,
+}
+
+impl Ran {
+    /// The status with which the program ends.
+    pub fn status(&self) -> u8 {
+        match &self.ended {
+            Ok(outcome) if outcome.is_complete => 0,
+            Ok(_) => 1,
+            Err(failure) => failure.status(),
+        }
+    }
+}
+
+/// Hears of tables as they are read.
+#[derive(Clone, Copy)]
+struct Watcher {
+    count: usize,
+    ends: usize,
+    is_in_order: bool,
+}
+
+impl Progress for Watcher {
+    fn tables(&mut self, count: usize) {
+        let is_next = count == self.count.saturating_add(1);
+        self.is_in_order = self.is_in_order && is_next && self.ends == 0;
+        self.count = count;
+    }
+
+    fn end(&mut self) {
+        self.ends = self.ends.saturating_add(1);
     }
 }
 
@@ -160,22 +191,58 @@ pub fn text_of<'a>(rt: impl Abort + Copy, bytes: &'a [u8]) -> &'a str {
     }
 }
 
-/// Runs the program on a file, and compares how it ends.
-pub fn check_run(rt: impl Abort + Copy, alloc: Global, file: &[u8], asked: Asked, wanted: End) {
+/// Runs the program with these writers, and compares what is heard of tables with what is told of them at last.
+pub fn run_into<S: ByteSource>(
+    rt: impl Abort + Copy,
+    alloc: Global,
+    source: S,
+    asked: Asked,
+    mut output: Sink,
+    mut errors: Sink,
+) -> Ran {
     let request = unwrap(rt, asked.request(alloc));
-    let (mut output, mut errors) = (Sink::wide(alloc), Sink::wide(alloc));
+    let mut watcher = Watcher {
+        count: 0,
+        ends: 0,
+        is_in_order: true,
+    };
     let ended = run(
         alloc,
-        file,
+        source,
         &request,
         &mut output,
         &mut errors,
-        &mut NoProgress,
+        &mut watcher,
     );
-    assert_eq!(rt; text_of(rt, &output.bytes), wanted.output, "{asked:?}");
-    assert_eq!(rt; text_of(rt, &errors.bytes), wanted.errors, "{asked:?}");
-    assert_eq!(rt; status_of(&ended), wanted.status, "{asked:?}");
-    let message = match ended {
+    assert!(rt; watcher.is_in_order, "{asked:?}");
+    if ended.is_ok() {
+        assert_eq!(rt; watcher.ends, 1, "{asked:?}");
+        let count = watcher.count;
+        let told = unwrap(rt, format!(in alloc; "tables {count}, "));
+        assert!(rt;
+            text_of(rt, &errors.bytes).contains(&told),
+            "{asked:?}: {told}"
+        );
+    }
+    Ran {
+        output,
+        errors,
+        ended,
+    }
+}
+
+/// Runs the program.
+pub fn run_on(rt: impl Abort + Copy, alloc: Global, file: &[u8], asked: Asked) -> Ran {
+    run_into(rt, alloc, file, asked, Sink::wide(alloc), Sink::wide(alloc))
+}
+
+/// Runs the program on a file, and compares how it ends.
+pub fn check_run(rt: impl Abort + Copy, alloc: Global, file: &[u8], asked: Asked, wanted: End) {
+    let ran = run_on(rt, alloc, file, asked);
+    assert_eq!(rt; text_of(rt, &ran.output.bytes), wanted.output, "{asked:?}");
+    assert_eq!(rt; text_of(rt, &ran.errors.bytes), wanted.errors, "{asked:?}");
+    assert_eq!(rt; ran.status(), wanted.status, "{asked:?}");
+    let message = match &ran.ended {
         Ok(_) => String::new(alloc),
         Err(failure) => unwrap(rt, format!(in alloc; "{failure}")),
     };

@@ -1,7 +1,7 @@
 //! Tests of tables that are shared beyond all measure: their paths are too many to be gone through one by one.
 use crate::machines::push_alike;
-use crate::runs::{Asked, End, PLAIN, SILENT, Sink, Words, check_run, status_of, text_of, unwrap};
-use ptdump_engine::{Levels, NoProgress, run};
+use crate::runs::{Asked, End, PLAIN, SILENT, Words, check_run, run_on, text_of, unwrap};
+use ptdump_engine::Levels;
 use std::alloc::{AllocError, Global};
 use std::process::Abort;
 
@@ -154,19 +154,10 @@ fn shared_tables_are_reported_on_at_once(rt: HostRuntime) {
 /// Makes the picture of tables, and looks for the counts in it.
 fn check_picture(rt: impl Abort + Copy, alloc: Global, file: &[u8], case: &Case) {
     let asked = asked_of(Words::Picture, case.levels);
-    let request = unwrap(rt, asked.request(alloc));
-    let (mut output, mut errors) = (Sink::wide(alloc), Sink::wide(alloc));
-    let ended = run(
-        alloc,
-        file,
-        &request,
-        &mut output,
-        &mut errors,
-        &mut NoProgress,
-    );
-    assert_eq!(rt; status_of(&ended), 0);
-    assert_eq!(rt; text_of(rt, &errors.bytes), case.totals);
-    let text = text_of(rt, &output.bytes);
+    let ran = run_on(rt, alloc, file, asked);
+    assert_eq!(rt; ran.status(), 0);
+    assert_eq!(rt; text_of(rt, &ran.errors.bytes), case.totals);
+    let text = text_of(rt, &ran.output.bytes);
     for count in case.counts {
         assert!(rt; text.contains(count), "{count} in {text}");
     }

@@ -1,8 +1,12 @@
 //! Tests of where walks start, and of what isn't done.
 use crate::machines::{PROCESSOR, Table, core_file, raw_file};
-use crate::runs::{Asked, End, PLAIN, SILENT, Sink, Words, check_run, status_of, text_of, unwrap};
-use ptdump_engine::{Levels, NoProgress, run};
-use x86_64_dump_builder::{CORE, Elf, Processor, push_core};
+use crate::runs::{Asked, End, PLAIN, SILENT, Words, check_run, run_on, text_of, unwrap};
+use ptdump_engine::Levels;
+use std::alloc::AllocError;
+use x86_64_dump::Segment;
+use x86_64_dump_builder::{
+    CORE, Elf, Processor, push_core, push_elf, push_note, push_segment, push_table, push_words,
+};
 
 /// Two roots, at 0x1000 and at 0x3000, that map a page of 1GiB each.
 const TWO_ROOTS: &[Table] = &[
@@ -348,26 +352,61 @@ fn a_short_file_has_the_tables_that_it_has(rt: HostRuntime) {
         words: Words::Walk(&[0x80_0000_0000]),
         ..PLAIN
     };
-    let request = unwrap(rt, asked.request(rt.alloc()));
-    let (mut output, mut errors) = (Sink::wide(rt.alloc()), Sink::wide(rt.alloc()));
     let short = &whole[..whole.len().saturating_sub(1)];
-    let ended = run(
-        rt.alloc(),
-        short,
-        &request,
-        &mut output,
-        &mut errors,
-        &mut NoProgress,
-    );
-    assert_eq!(rt; status_of(&ended), 1);
-    assert_eq!(rt;
-        text_of(rt, &output.bytes),
-        "table 0x3000 is not in the dump\n"
-    );
-    let errors = text_of(rt, &errors.bytes);
+    let ran = run_on(rt, rt.alloc(), short, asked);
+    assert_eq!(rt; ran.status(), 1);
+    let output = text_of(rt, &ran.output.bytes);
+    assert_eq!(rt; output, "table 0x3000 is not in the dump\n");
+    let errors = text_of(rt, &ran.errors.bytes);
     assert!(rt; errors.contains("shorter"), "{errors}");
     assert!(rt;
         errors.ends_with("\ntables 0, mappings 0, mapped 0KiB\n"),
         "{errors}"
     );
+}
+
+/// Adds a core file whose only note, of a processor with its root at 0x1000, ends behind CR3.
+fn push_core_with_short_note(file: &mut Vec<u8>) -> Result<(), AllocError> {
+    let notes = Segment {
+        kind: Segment::NOTE,
+        offset: 64 + 2 * 56,
+        address: 0,
+        size: 20 + 424,
+    };
+    let memory = Segment {
+        kind: Segment::LOAD,
+        offset: notes.offset + notes.size,
+        address: 0x1000,
+        size: 2 * 4096,
+    };
+    push_elf(file, Elf { count: 2, ..CORE })?;
+    push_segment(file, notes)?;
+    push_segment(file, memory)?;
+    push_note(file, b"QEMU\0\0\0\0", 5, 424)?;
+    file.extend_from_slice(&[0; 416])?;
+    push_words(file, 0x1000, 1)?;
+    push_table(file, &[(0, 0x2003)])?;
+    push_table(file, &[(0, 0x83)])
+}
+
+#[test]
+fn a_short_note_is_refused_if_it_is_needed(rt: HostRuntime) {
+    let mut file = Vec::new(rt.alloc());
+    assert!(rt; push_core_with_short_note(&mut file).is_ok());
+    let refused = End {
+        status: 3,
+        message: "note",
+        ..SILENT
+    };
+    check_run(rt, rt.alloc(), &file, PLAIN, refused);
+    let with_cr3 = Asked {
+        cr3: Some(0x1000),
+        ..PLAIN
+    };
+    check_run(rt, rt.alloc(), &file, with_cr3, refused);
+    let with_levels = Asked {
+        levels: Some(Levels::Four),
+        ..PLAIN
+    };
+    check_run(rt, rt.alloc(), &file, with_levels, FIRST);
 }
