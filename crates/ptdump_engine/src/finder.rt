@@ -1,5 +1,7 @@
 //! The search for a physical address.
-ghost use Rattle.std.specs.Prelude.{◌≡◌, false};
+ghost use Rattle.std.specs.Prelude.{◌≡◌, ◌++◌, ℕ, List, [], false, OnOk};
+ghost use Rattle.x86_64_mappings.specs.Views.{seen_rights};
+ghost use Rattle.ptdump_engine.specs.Walks.{line, access_text};
 
 use crate::access::Access;
 use crate::output::{Output, OutputError};
@@ -10,10 +12,42 @@ use x86_64_mappings::MappingIn;
 use x86_64_summaries::Visitor;
 use x86_64_tables::phys_memory::Rights;
 
+/// Takes lines that say what is allowed at addresses.
+pub trait AccessLines {
+    /// That a text was put in.
+    ghost puts: { Self → Self → List ℕ → Type 0 };
+
+    ghost nothing: { (output : Self) → puts output output [] };
+
+    ghost parts: { (before between after : Self) (front back : List ℕ) →
+        puts before between front → puts between after back → puts before after (front ++ back) };
+
+    /// Puts a line in.
+    fn write_access(&mut self, access: Access) -> Result<(), OutputError>
+        ensures { OnOk result (puts self.old self.new
+            (line (access_text access.address (seen_rights access.rights)))) };
+}
+
+impl<W: Write> AccessLines for Output<'_, W> {
+    ghost use Rattle.ptdump_engine.specs.Output.{Puts};
+    ghost use Rattle.ptdump_engine.specs.private.Puts.{puts_nothing, puts_both};
+
+    ghost puts = { λ old new text. Puts W.contents old new text };
+
+    ghost nothing = { λ output. puts_nothing W.contents output };
+
+    ghost parts = { λ before between after front back.
+        puts_both W.contents before between after front back };
+
+    fn write_access(&mut self, access: Access) -> Result<(), OutputError> {
+        writeln!(self, "{access}")
+    }
+}
+
 /// Writes a line for each virtual address that leads to a physical one, by the mappings that it visits.
 ///
 /// The lines are put into an [`Output`], which is a parameter so that contracts know it again once it is given back.
-pub struct Finder<'a, O> {
+pub struct Finder<'a, O: AccessLines> {
     /// Where the lines are put.
     output: &'a mut O,
     /// The physical address.
@@ -22,7 +56,7 @@ pub struct Finder<'a, O> {
     pub is_found: bool,
 }
 
-impl<O> Drop for Finder<'_, O> {
+impl<O: AccessLines> Drop for Finder<'_, O> {
     fn drop(self)
         ensures { self.exit.0.now ≡ self.entry.output.now }
     {
@@ -34,7 +68,7 @@ impl<O> Drop for Finder<'_, O> {
     }
 }
 
-impl<'a, O> Finder<'a, O> {
+impl<'a, O: AccessLines> Finder<'a, O> {
     /// Begins a search for a physical address.
     pub fn new(output: &'a mut O, physical: PhysAddr) -> Self
         ensures name { result.output.ghost_name ≡ output.entry.ghost_name }
@@ -50,13 +84,13 @@ impl<'a, O> Finder<'a, O> {
     }
 }
 
-impl<L: LevelCount, W: Write> Visitor<MappingIn<L>> for Finder<'_, Output<'_, W>> {
+impl<L: LevelCount, O: AccessLines> Visitor<MappingIn<L>> for Finder<'_, O> {
     type Error = OutputError;
 
     ghost use Rattle.ptdump_engine.specs.private.Finding.{IsSearched};
     ghost use Rattle.ptdump_engine.specs.private.Searched.{searched_nothing, searched_both};
 
-    ghost Visits = { λ old new mappings. IsSearched W.contents L.LEVELS old new mappings };
+    ghost Visits = { λ old new mappings. IsSearched O.puts L.LEVELS old new mappings };
 
     /// Writes the virtual address in a mapping that leads to the physical one.
     fn visit(&mut self, mapping: MappingIn<L>) -> Result<(), OutputError> {
@@ -73,10 +107,10 @@ impl<L: LevelCount, W: Write> Visitor<MappingIn<L>> for Finder<'_, Output<'_, W>
             rights,
         };
         self.is_found = true;
-        writeln!(self.output, "{access}")
+        self.output.write_access(access)
     }
 
-    ghost none = { λ finder. searched_nothing W.contents L.LEVELS finder };
+    ghost none = { λ finder. searched_nothing O.puts O.nothing L.LEVELS finder };
 
-    ghost both = { searched_both W.contents L.LEVELS };
+    ghost both = { searched_both O.puts O.parts L.LEVELS };
 }

@@ -9,7 +9,7 @@ ghost use Rattle.ptdump_engine.specs.Reports as reports;
 ghost use Rattle.ptdump_engine.specs.private.Asked.{mappings_asked};
 ghost use Rattle.ptdump_engine.specs.private.Finding.{some_there, visited_text};
 
-use crate::finder::Finder;
+use crate::finder::{AccessLines, Finder};
 use crate::loaded::Loaded;
 use crate::output::{Output, OutputError};
 use crate::walk::write_walk;
@@ -127,23 +127,23 @@ fn write_addresses_to<L: LevelCount, W: Write>(
     let memory = loaded.tables.memory();
     let frames = loaded.tables.frames();
     let summaries = Summaries::new(alloc, memory, &IdentityMapping, frames, Some(physical))?;
-    write_addresses_by(&summaries, loaded, physical, output)
+    write_addresses_by::<L, Output<'_, W>>(&summaries, loaded, physical, output)
 }
 
 /// Writes the virtual addresses in all mappings of summaries that lead to a physical one, and tells whether there are any.
-fn write_addresses_by<L: LevelCount, W: Write>(
+fn write_addresses_by<L: LevelCount, O: AccessLines>(
     summaries: &Summaries<'_, PhysMemory, IdentityMapping>,
     loaded: &Loaded<'_, L>,
     physical: PhysAddr,
-    output: &mut Output<'_, W>,
+    output: &mut O,
 ) -> Result<bool, OutputError>
-    ensures text { OnOk result (Puts W.contents output.old output.new
+    ensures text { OnOk result (O.puts output.old output.new
         (visited_text L.LEVELS physical (mappings_asked summaries.now L.LEVELS loaded.now.root))) }
     ensures found { IfOk result (λ found.
         found ≡ some_there (mappings_asked summaries.now L.LEVELS loaded.now.root)) }
 {
     let mut finder = Finder::new(output, physical);
-    visit_mappings::<L, PhysMemory, IdentityMapping, Finder<'_, Output<'_, W>>>(
+    visit_mappings::<L, PhysMemory, IdentityMapping, Finder<'_, O>>(
         summaries,
         loaded.root,
         &mut finder,

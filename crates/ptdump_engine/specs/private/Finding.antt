@@ -1,13 +1,10 @@
 -- Finding: what is written of mappings that are visited in search of a physical address.
-use Rattle.std.specs.Prelude.{◌≡◌, ℕ, ◌+◌, ◌-◌, ◌%◌, ◌||◌, Bool, true, false, List, [], ◌∷◌, Option, String}
+use Rattle.std.specs.Prelude.{◌≡◌, ℕ, ◌+◌, ◌-◌, ◌%◌, ◌||◌, Bool, true, false, List, [], ◌∷◌}
 use Rattle.std.specs.List.{flat_map}
 use Rattle.x86_64_model.specs.Mappings.{Mapping}
 use Rattle.x86_64_model.specs.Position.{position_count, raw}
-use Rattle.ptdump_engine.specs.Output.{Puts}
 use Rattle.ptdump_engine.specs.Walks.{line, access_text}
 use Rattle.ptdump_engine.specs.declared.finder.Finder.{Finder}
-use Rattle.ptdump_engine.specs.declared.output.Output.{Output}
-use Rattle.std.specs.declared.alloc.Global.{Global}
 
 -- the virtual address that leads to a physical one, whatever the mapping
 abbrev pub address_text : (L physical : ℕ) → Mapping → List ℕ
@@ -22,8 +19,8 @@ some_there [] = false
 some_there (m ∷ ms) = true
 
 -- mappings were visited: each is a line, and any of them is found
-pub record IsSearched {W : Type 0} (contents : W → Option (List ℕ)) (L : ℕ) (old new : Finder (Output W (String Global))) (ms : List Mapping) : Type 0 where
+pub record IsSearched {O : Type 0} (puts : O → O → List ℕ → Type 0) (L : ℕ) (old new : Finder O) (ms : List Mapping) : Type 0 where
   pub output : new.output.ghost_name ≡ old.output.ghost_name
   pub physical : new.physical ≡ old.physical
-  pub puts : Puts contents old.output.now new.output.now (visited_text L old.physical ms)
+  pub put : puts old.output.now new.output.now (visited_text L old.physical ms)
   pub found : new.is_found ≡ (old.is_found || some_there ms)
