@@ -96,7 +96,7 @@ pub no_start : (request : Request) (file : List ℕ) (dump : Contents) (failure 
     → FailsBy failure (opened_for request file)
 unfolding opened_for
 no_start request file dump failure contents fails =
-    subst (λ found. FailsBy failure (and_then (of_dump found) (λ dump. and_then (start_for request dump) (λ start. Ok (record { dump = dump; start = start }))))) (sym contents)
+    subst (λ found. FailsBy {A = Opened} failure (and_then (of_dump found) (λ dump. and_then (start_for request dump) (λ start. Ok (record { dump = dump; start = start }))))) (sym contents)
     (fails_then failure (start_for request dump) (λ start. Ok (record { dump = dump; start = start })) fails)
 
 -- a run that opened what was asked for reports of it, or fails for memory or a write

@@ -59,10 +59,14 @@ pub fn run<S: ByteSource, W: Write, E: Write, G: Progress>(
     let root = start.root;
     match start.levels {
         Levels::Four => {
-            report::<FourLevels, S, W, E, G>(alloc, &dump, root, command, writer, &mut notes, progress)
+            report::<FourLevels, S, W, E, G>(
+                alloc, &dump, root, command, writer, &mut notes, progress,
+            )
         }
         Levels::Five => {
-            report::<FiveLevels, S, W, E, G>(alloc, &dump, root, command, writer, &mut notes, progress)
+            report::<FiveLevels, S, W, E, G>(
+                alloc, &dump, root, command, writer, &mut notes, progress,
+            )
         }
     }
 }
@@ -71,8 +75,7 @@ pub fn run<S: ByteSource, W: Write, E: Write, G: Progress>(
 fn write_short<S: ByteSource, E: Write>(
     dump: &Dump<S>,
     notes: &mut Output<'_, E>,
-) -> Result<(), OutputError>
-{
+) -> Result<(), OutputError> {
     if dump.is_short() {
         writeln!(
             notes,
@@ -202,8 +205,7 @@ fn write_report<L: LevelCount, S: ByteSource, W: Write, E: Write>(
 fn write_totals<L: LevelCount, E: Write>(
     loaded: &Loaded<'_, L>,
     notes: &mut Output<'_, E>,
-) -> Result<(), OutputError>
-{
+) -> Result<(), OutputError> {
     let totals = Totals::of(loaded);
     writeln!(notes, "{totals}")?;
     notes.finish()

@@ -62,7 +62,10 @@ fn write_report<S: ByteSource, E: Write>(
     write_rows(image, image.tables(), errors)?;
     write_rows(image, image.outside(), errors)?;
     let left_out = image.left_out();
-    writeln!(errors, "words without PRESENT above level one, left out: {left_out}")?;
+    writeln!(
+        errors,
+        "words without PRESENT above level one, left out: {left_out}"
+    )?;
     if image.is_refused() {
         writeln!(errors, "pagetab refuses this image:")?;
         write_refusals(dump, image, errors)?;

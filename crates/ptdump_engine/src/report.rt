@@ -12,7 +12,6 @@ ghost use Rattle.ptdump_engine.specs.private.Finding.{some_there, visited_text};
 use crate::finder::Finder;
 use crate::loaded::Loaded;
 use crate::output::{Output, OutputError};
-
 use crate::walk::write_walk;
 use std::alloc::Global;
 use std::io::Write;

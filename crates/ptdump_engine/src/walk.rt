@@ -45,7 +45,14 @@ pub fn write_walk<L: LevelCount, W: Write>(
 {
     let memory = loaded.tables.memory();
     let position = address.position();
-    walk_on(memory, position, L::LEVELS, loaded.root, Rights::ALL, output)
+    walk_on(
+        memory,
+        position,
+        L::LEVELS,
+        loaded.root,
+        Rights::ALL,
+        output,
+    )
 }
 
 /// Writes how the walk to a position goes on from a frame's table of a level, below words that allow so much.

@@ -1,10 +1,9 @@
 //! Which tables name which.
-use x86_64_page::frame::PhysFrame;
-use x86_64_page::page::Size4KiB;
-
 mod listing;
 
 pub use listing::table_links;
+use x86_64_page::frame::PhysFrame;
+use x86_64_page::page::Size4KiB;
 
 /// Says that an entry of a table names a table one level below.
 #[derive(Clone, Copy)]

@@ -15,7 +15,7 @@ use x86_64_page::page::Size4KiB;
 
 /// Reads the physical memory that a dump holds, frame by frame, where it lies in the file.
 ///
-/// Contracts see it as its file and its segments. Only [`open`](Dump::open) takes memory, for the segments.
+/// Contracts see it as its file and its segments. No more than the segments is kept in memory.
 #[derive(Drop)]
 pub struct Dump<S: ByteSource> {
     source: S,

@@ -124,6 +124,10 @@ same_below (suc n) T W frames none same f (inr lacks) =
 
 -- ---- from a root
 
+pub none_either : (b : Bool) → cond {A = Option (List ℕ)} b None None ≡ None
+none_either true = refl
+none_either false = refl
+
 reversed : (levels : List (List ℕ)) (f : ℕ) → is_in (reverse levels) f ≡ is_in levels f
 reversed levels f = sym (list_any-IsPermutation (λ frames. is_among frames f) levels (reverse levels) (IsPermutation-reverse levels))
 
@@ -133,11 +137,7 @@ unfolding tables_by_level
 same_below_root L W root T is = same_below L T W (if_there W root) none same root (by (W root) refl)
   where
     none : (f : ℕ) → W f ≡ None → T f ≡ None
-    none f lacks = (λ k. is k f) ∙ ap (λ o. cond (is_in (reverse (tables_from L W (if_there W root))) f) o None) lacks ∙ either (is_in (reverse (tables_from L W (if_there W root))) f)
-      where
-        either : (b : Bool) → cond {A = Option (List ℕ)} b None None ≡ None
-        either true = refl
-        either false = refl
+    none f lacks = (λ k. is k f) ∙ ap (λ o. cond (is_in (reverse (tables_from L W (if_there W root))) f) o None) lacks ∙ none_either (is_in (reverse (tables_from L W (if_there W root))) f)
 
     same : (f : ℕ) → is_in (tables_from L W (if_there W root)) f ≡ true → T f ≡ W f
     same f h = (λ k. is k f) ∙ ap (λ b. cond b (W f) None) (reversed (tables_from L W (if_there W root)) f ∙ h)

@@ -8,7 +8,7 @@ use Rattle.std.specs.Ordering.{nat_cmp, eq_by_cmp}
 use Rattle.std.proofs.lemmas.Bool.{cases_eq}
 use Rattle.std.proofs.lemmas.List.{take_all}
 use Rattle.std.proofs.lemmas.List.Folds.{list_any_at, list_any_more, list_any-append}
-use Rattle.std.proofs.Math.Bool.{or_assoc}
+use Rattle.std.proofs.Math.Bool.{or_assoc, or-false, or-true}
 use Rattle.x86_64_model.specs.Entry.{is_frame, address}
 use Rattle.x86_64_model.proofs.Lemmas.Entries.Bits.{same_frame}
 use Rattle.x86_64_model.proofs.Lemmas.Entries.Words.{address-multiple, address_aligned}
@@ -17,6 +17,7 @@ use Rattle.x86_64_model.specs.Memory.{Memory, Words, words_of, identity_places}
 use Rattle.x86_64_tables.specs.PageTable.{zero_words}
 use Rattle.x86_64_dump_tables.specs.Loaded.{frames_of}
 use Rattle.x86_64_dump_tables.specs.Tables.{is_among, is_in, words_in_frames}
+use Rattle.x86_64_dump_tables.proofs.Closed.{none_either}
 use Rattle.x86_64_dump_tables.specs.private.Numbers.{has_number, AreNumbers, HoldsFor}
 
 -- ---- numbers
@@ -27,10 +28,6 @@ same_number f g a b = ⊎_elim
     (λ same. ap (λ n. f / 4096 == n / 4096) (sym same) ∙ eq-eqb (f / 4096) (f / 4096) refl ∙ sym (eq-eqb f g same))
     (λ other. ne_eqb (f / 4096) (g / 4096) (λ same. other (same_frame f g a b same)) ∙ sym (ne_eqb f g other))
     (cases_eq f g)
-
-or-false : (b : Bool) → (b || false) ≡ b
-or-false true = refl
-or-false false = refl
 
 -- one more number
 number_added : (numbers : List ℕ) (f g : ℕ) → is_frame f ≡ true → g % 4096 ≡ 0 → g < 2 ^ 52 → has_number (numbers ++ g / 4096 ∷ []) f ≡ (has_number numbers f || (f == g))
@@ -100,10 +97,6 @@ place_filled W numbers i memory words within read held place =
     one_more : (b : Bool) → (place == get_or numbers i 0) ≡ b → list_any (λ n. place == n) (take (i + 1) numbers) ≡ (list_any (λ n. place == n) (take i numbers) || b)
     one_more b is = list_any_more (λ n. place == n) numbers i 0 within ∙ ap (λ b. list_any (λ n. place == n) (take i numbers) || b) is
 
-    or-true : (b : Bool) → (b || true) ≡ true
-    or-true true = refl
-    or-true false = refl
-
     here : place ≡ get_or numbers i 0 → cond (eq_by_cmp nat_cmp place (get_or numbers i 0)) (Some words) (get memory place) ≡ cond (list_any (λ n. place == n) numbers) (so_far W numbers (i + 1) place) None
     here same =
         let is = eq-eqb place (get_or numbers i 0) same in
@@ -124,10 +117,6 @@ pub words_filled : (W : Words) (numbers : List ℕ) (i : ℕ) (memory : Memory) 
     → ((f : ℕ) → is_frame f ≡ true → has_number numbers f ≡ is_in levels f) → HoldsFor numbers (so_far W numbers i) memory → words_of memory identity_places ≡ words_in_frames levels W
 words_filled W numbers i memory levels all only same held = λ k f. at f k
   where
-    either : (b : Bool) → cond {A = Option (List ℕ)} b None None ≡ None
-    either true = refl
-    either false = refl
-
     twice : (b : Bool) (o p : Option (List ℕ)) → cond b (cond b o p) None ≡ cond b o None
     twice true o p = refl
     twice false o p = refl
@@ -143,5 +132,5 @@ words_filled W numbers i memory levels all only same held = λ k f. at f k
     at : (f : ℕ) → words_of memory identity_places f ≡ words_in_frames levels W f
     at f = elim (is_frame f) as (λ b. is_frame f ≡ b → cond b (get memory (f / 4096)) None ≡ cond (is_in levels f) (W f) None) [
       | true ↦ λ is. frame f is
-      | false ↦ λ no. sym (ap (λ o. cond (is_in levels f) o None) (only f no) ∙ either (is_in levels f))
+      | false ↦ λ no. sym (ap (λ o. cond (is_in levels f) o None) (only f no) ∙ none_either (is_in levels f))
     ] refl

@@ -14,7 +14,7 @@ use Rattle.x86_64_summaries.specs.private.Placed.{placed}
 
 -- ---- lists
 
-pub flat_map-mapped : {X Y Z : Type 0} (p : Y → Z) (g : X → List Z) (h : X → List Y) → ((x : X) → g x ≡ map p (h x)) → (xs : List X) → flat_map g xs ≡ map p (flat_map h xs)
+flat_map-mapped : {X Y Z : Type 0} (p : Y → Z) (g : X → List Z) (h : X → List Y) → ((x : X) → g x ≡ map p (h x)) → (xs : List X) → flat_map g xs ≡ map p (flat_map h xs)
 flat_map-mapped p g h same [] = refl
 flat_map-mapped p g h same (x ∷ xs) = ap₂ (λ ys zs. ys ++ zs) (same x) (flat_map-mapped p g h same xs) ∙ sym (map-append p (h x) (flat_map h xs))
 
@@ -70,7 +70,7 @@ module _ (T : Words) where
       by true false true = refl
       by true false false = table
 
-  pub listed_placed : (n s : ℕ) (r : Rights) (f : ℕ) → listed_on T n s r f ≡ map (placed s r) (listed_on T n 0 every_right f)
+  listed_placed : (n s : ℕ) (r : Rights) (f : ℕ) → listed_on T n s r f ≡ map (placed s r) (listed_on T n 0 every_right f)
   listed_placed zero s r f = refl
   listed_placed (suc n) s r f = flat_map-mapped (placed s r) _ _ (λ i. by_word n s (i * span (suc n)) r (read T f i) (listed_placed n)) indices
 

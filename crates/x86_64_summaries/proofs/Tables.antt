@@ -82,16 +82,13 @@ module _ (asked : Asked) (level s : ℕ) (r : Rights) where
       ∙ ap (λ s. asked_on asked level s r rest) (next i))
 
 -- where there is no table, there are none
+none_read : (T : Words) (f : ℕ) (k : ℕ → ℕ → List Mapping) → T f ≡ None → (is : List ℕ) → flat_map (λ i. list_and_then (k i) (read T f i)) is ≡ []
+none_read T f k none [] = refl
+none_read T f k none (i ∷ is) = ap₂ (λ ms ns. ms ++ ns) (ap (λ o. list_and_then (k i) (option_map (λ words. get_or words i 0) o)) none) (none_read T f k none is)
+
 pub asked_none : (asked : Asked) (level f : ℕ) → asked.words f ≡ None → asked_mappings asked level f ≡ []
 asked_none asked zero f none = ap (filter (is_wanted asked.wanted)) (mappings_listed zero asked.words f)
-asked_none asked (suc n) f none = ap (filter (is_wanted asked.wanted)) (mappings_listed (suc n) asked.words f ∙ empty indices)
-  where
-    at : ℕ → List Mapping
-    at i = list_and_then (λ e. listed_by (0 + i * span (suc n)) (suc n) every_right e (listed_on asked.words n (0 + i * span (suc n)) (narrowed every_right e) (address e))) (read asked.words f i)
-
-    empty : (is : List ℕ) → flat_map (λ i. list_and_then (λ e. listed_by (0 + i * span (suc n)) (suc n) every_right e (listed_on asked.words n (0 + i * span (suc n)) (narrowed every_right e) (address e))) (read asked.words f i)) is ≡ []
-    empty [] = refl
-    empty (i ∷ is) = ap₂ (λ ms ns. ms ++ ns) (ap (λ o. list_and_then (λ e. listed_by (0 + i * span (suc n)) (suc n) every_right e (listed_on asked.words n (0 + i * span (suc n)) (narrowed every_right e) (address e))) (option_map (λ words. get_or words i 0) o)) none) (empty is)
+asked_none asked (suc n) f none = ap (filter (is_wanted asked.wanted)) (mappings_listed (suc n) asked.words f ∙ none_read asked.words f _ none indices)
 
 indices_by : (n : ℕ) → n ≡ 512 → indices ≡ range_with_len 0 n
 unfolding indices

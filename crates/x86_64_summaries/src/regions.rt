@@ -119,7 +119,7 @@ fn join_below<L: LevelCount, T: TableMemory, P: PageTableFrameMapping, V: Visito
         let mappings = map (placed start (seen_rights above)) (asked_mappings asked level frame) in
         OnOk result (Joins V.Visits L.LEVELS mappings joiner.old visitor.old joiner.new visitor.new) }
 {
-    match extent_of(summaries, level, frame, above) {
+    match extent_of(summaries.of(level, frame), level, above) {
         Extent::Nothing => Ok(()),
         Extent::Whole(rights) => joiner.push(region_of_span(level, start, rights), visitor),
         Extent::Mixture => join_table(summaries, level, frame, start, above, joiner, visitor),

@@ -1,15 +1,16 @@
 //! How much of its span a table maps.
-ghost use Rattle.std.specs.Prelude.{◌≡◌, ◌<◌, ◌≤◌, ◌↔◌, ℕ, IsTrue, map};
+ghost use Rattle.std.specs.Prelude.{◌≡◌, ◌+◌, ◌<◌, ◌≤◌, ◌↔◌, ℕ, IfSome, IsTrue, map};
 ghost use Rattle.x86_64_mappings.specs.Views.{seen_rights};
-ghost use Rattle.x86_64_summaries.specs.Wanted.{asked_of, asked_mappings};
+ghost use Rattle.x86_64_model.specs.Position.{span as span_of};
+ghost use Rattle.x86_64_summaries.specs.Summaries.{summary_of};
+ghost use Rattle.x86_64_summaries.specs.Wanted.{Asked, asked_mappings};
 ghost use Rattle.x86_64_summaries.specs.private.Extents.{IsExtent};
+ghost use Rattle.x86_64_summaries.specs.private.Merged.{lessened};
 ghost use Rattle.x86_64_summaries.specs.private.Placed.{placed};
 
-use crate::summaries::Summaries;
+use crate::summary::Summary;
 use x86_64_mappings::span;
-use x86_64_page::frame::PhysFrame;
-use x86_64_page::page::Size4KiB;
-use x86_64_tables::phys_memory::{PageTableFrameMapping, Rights, TableMemory};
+use x86_64_tables::phys_memory::Rights;
 
 /// Says how much of its span a table maps, as far as it is known.
 #[derive(Clone, Copy)]
@@ -22,20 +23,19 @@ pub(super) enum Extent {
     Mixture,
 }
 
-/// Tells how much of its span a frame's table of a level maps, below entries that allow so much.
-pub(super) fn extent_of<T: TableMemory, P: PageTableFrameMapping>(
-    summaries: &Summaries<'_, T, P>,
-    level: u64,
-    frame: PhysFrame<Size4KiB>,
-    above: Rights,
-) -> Extent
+/// Tells how much of its span a table of a level maps, below entries that allow so much, by its summary if that is known.
+pub(super) fn extent_of(summary: Option<Summary>, level: u64, above: Rights) -> Extent
     requires low { 1 ≤ level }
     requires high { level < 5 }
-    ensures { (start : ℕ) → let asked = asked_of T.tables P.places summaries.now in
-        let mappings = map (placed start (seen_rights above)) (asked_mappings asked level frame) in
-        IsExtent level start mappings result }
+    ensures extent { (asked : Asked) (frame start : ℕ) → let mappings = asked_mappings asked level frame in
+        IfSome summary (λ summary. summary ≡ summary_of mappings)
+        → IsExtent level start (map (placed start (seen_rights above)) mappings) result }
+    ensures nothing { IfSome summary (λ summary. summary.count ≡ 0 → result ≡ Extent.Nothing) }
+    ensures whole { IfSome summary (λ summary. let below = lessened above summary in
+        0 < summary.count → below.bytes ≡ span_of (level + 1) → below.some ≡ below.all
+        → result ≡ Extent.Whole below.all) }
 {
-    let Some(summary) = summaries.of(level, frame) else {
+    let Some(summary) = summary else {
         return Extent::Mixture;
     };
     if summary.count == 0 {

@@ -23,9 +23,10 @@ loop-address-preserved g c =
     let root = c.args.loaded.now.root in
     let xs = c.args.addresses.now in
     let i = c.loop-address.address-index in
-    let at = c.new_truncate-address.ensures in
-    (puts_more g.W.Write.contents (λ a. walk_text (walk_of L T root (a % position_count L))) c.args.output.now c.loop-address.output c.write_walk.new.output xs i c.loop-address-test.true
-    c.loop-address.invariant.0
-    (subst (λ p. Puts g.W.Write.contents c.loop-address.output c.write_walk.new.output (walk_text (walk_of L T root p))) at c.in_ok-arrives.ensures.text),
-    ap₂ (λ b d. b && d) c.loop-address.invariant.1 (c.in_ok-arrives.ensures.arrives ∙ is_arrival-walk L T root c.new_truncate-address.result ∙ ap (λ p. is_some (page_walk L T root p)) at)
-    ∙ sym (all_more (λ a. is_some (page_walk L T root (a % position_count L))) xs i c.loop-address-test.true))
+    let at = c.new_truncate-address.ensures in (
+      puts_more g.W.Write.contents (λ a. walk_text (walk_of L T root (a % position_count L))) c.args.output.now c.loop-address.output c.write_walk.new.output xs i c.loop-address-test.true
+          c.loop-address.invariant.0
+          (subst (λ p. Puts g.W.Write.contents c.loop-address.output c.write_walk.new.output (walk_text (walk_of L T root p))) at c.in_ok-arrives.ensures.text),
+      ap₂ (λ b d. b && d) c.loop-address.invariant.1 (c.in_ok-arrives.ensures.arrives ∙ is_arrival-walk L T root c.new_truncate-address.result ∙ ap (λ p. is_some (page_walk L T root p)) at)
+          ∙ sym (all_more (λ a. is_some (page_walk L T root (a % position_count L))) xs i c.loop-address-test.true),
+    )

@@ -1,4 +1,4 @@
-use Rattle.std.proofs.Common.{◌≡◌, ◌≤◌, ◌<◌, ◌+◌, ◌-◌, ◌*◌, ◌%◌, ◌^◌, List, [], ◌∷◌, None, Some, refl, sym, ap, ◌∙◌, subst, subst₂, arith, get_or, length, take, filter, map}
+use Rattle.std.proofs.Common.{◌≡◌, ◌≤◌, ◌<◌, ◌+◌, ◌-◌, ◌*◌, ◌%◌, ◌^◌, [], ◌∷◌, None, Some, refl, sym, ap, ◌∙◌, subst, subst₂, arith, get_or, length, take, filter, map}
 use Rattle.std.proofs.Math.Pow.{pow_mono}
 use Rattle.std.proofs.lemmas.List.{get_or_read, take_all}
 use Rattle.std.proofs.lemmas.Nat.{pow_pos}
@@ -37,7 +37,8 @@ join_below-join_table-requires g t c κs within =
 
 pub join_below-returns-in-Nothing : goal.join_below-returns-in-Nothing
 join_below-returns-in-Nothing g t c =
-    subst (λ ms. Joins g.V.Visitor.Visits g.L.LevelCount.LEVELS ms c.args.joiner.now c.args.visitor.now c.args.joiner.now c.args.visitor.now) (sym (c.in-Nothing.ensures c.args.start))
+    let asked = asked_of g.T.TableMemory.tables g.P.PageTableFrameMapping.places c.args.summaries.now in
+    subst (λ ms. Joins g.V.Visitor.Visits g.L.LevelCount.LEVELS ms c.args.joiner.now c.args.visitor.now c.args.joiner.now c.args.visitor.now) (sym (c.in-Nothing.ensures.extent asked c.args.frame c.args.start c.of.ensures))
     (joins_none g.V.Visitor.Visits g.L.LevelCount.LEVELS g.met.V.Visitor.none _ _)
 
 pub join_below-returns-in-Whole : goal.join_below-returns-in-Whole
@@ -47,7 +48,7 @@ join_below-returns-in-Whole g t c =
     let asked = asked_of g.T.TableMemory.tables g.P.PageTableFrameMapping.places c.args.summaries.now in
     let mappings = map (placed c.args.start (seen_rights c.args.above)) (asked_mappings asked c.args.level c.args.frame) in
     on_ok_weaker c.push.result
-    (joins_whole g.V.Visitor.Visits L c.args.start (c.args.start + position_count c.args.level) (seen_rights c.in-Whole.rights) mappings (omega (arith, some)) (c.in-Whole.ensures c.args.start)
+    (joins_whole g.V.Visitor.Visits L c.args.start (c.args.start + position_count c.args.level) (seen_rights c.in-Whole.rights) mappings (omega (arith, some)) (c.in-Whole.ensures.extent asked c.args.frame c.args.start c.of.ensures)
     (span_in_half L c.args.level c.args.start c.requires.high c.requires.aligned) c.region_of_span.result c.region_of_span.ensures _ _ _ _)
     c.push.ensures
 

@@ -10,7 +10,7 @@ loop-count-preserved c =
     let texts = c.loop-count.invariant.0 in
     let field = c.in-Some.field.now in
     let next = rw c.in-Some.is at c.next_field.ensures in
-    let number = rw (c.in_ok-number-in-Some.was) at c.parse.ensures in
+    let number = rw (c.in_ok-number-in-Some.was) at c.parse_number.ensures in
     let small : c.loop-count.count < length c.loop-count.numbers = omega arith in
     let split = c.loop-count.invariant.1 ∙ ap (λ (fs : List (List ℕ)). texts ++ fs) next ∙ sym (append_assoc texts (field ∷ []) (fields_of c.next_field.new.self.text.now)) in (
       texts ++ field ∷ [],
@@ -24,7 +24,7 @@ pub returns-in_err-number-in-Some-clause-none : goal.returns-in_err-number-in-So
 returns-in_err-number-in-Some-clause-none c =
     let texts = c.loop-count.invariant.0 in
     let next = rw c.in-Some.is at c.next_field.ensures in
-    let none = rw (c.in_err-number-in-Some.was) at c.parse.ensures in
+    let none = rw (c.in_err-number-in-Some.was) at c.parse_number.ensures in
     let split = c.loop-count.invariant.1 ∙ ap (λ (fs : List (List ℕ)). texts ++ fs) next in
     let all : (others : List ℕ) → length others ≤ 4 → ¬ (AreNumbers (fields_of c.args.self.now.text.now) others) =
     λ others few are. none (number_among texts c.in-Some.field.now (fields_of c.next_field.new.self.text.now) others (subst (λ (fs : List (List ℕ)). AreNumbers fs others) split are)) in

@@ -1,0 +1,20 @@
+use Rattle.std.proofs.Common.{rules, ◌≡◌, subst}
+use Rattle.ptdump_engine.specs.Output.{Puts}
+use Rattle.ptdump_engine.specs.private.Asked.{mappings_asked}
+use Rattle.ptdump_engine.specs.private.Finding.{IsSearched, visited_text}
+use Rattle.ptdump_engine.proofs.report.write_addresses_by.Goals as goal
+
+pub returns-clause-text : goal.returns-clause-text
+returns-clause-text g c =
+    let contents = g.W.Write.contents in
+    let L = g.L.LevelCount.LEVELS in
+    let a = c.args.physical in
+    let finder = c.new-finder.result in
+    let visitor = c.visit_mappings.new.visitor in
+    let ms = mappings_asked c.args.summaries.now L c.args.loaded.now.root in
+    let searched : IsSearched contents L finder visitor ms = c.in_ok-visit_mappings.ensures in
+    let name : c.visit_mappings.new.visitor.output.ghost_name ≡ c.new-finder.result.output.ghost_name = searched.output in
+    let put : Puts contents c.args.output.now c.visit_mappings.new.visitor.output.now (visited_text L c.args.physical (mappings_asked c.args.summaries.now L c.args.loaded.now.root)) =
+    subst (λ o. Puts contents o visitor.output.now (visited_text L a ms)) c.new-finder.ensures.now
+    (subst (λ b. Puts contents finder.output.now visitor.output.now (visited_text L b ms)) c.new-finder.ensures.physical searched.puts) in
+    search rules
