@@ -1,7 +1,7 @@
 //! Tests of reads and writes that fail, and of memory that is refused.
 use crate::machines::{MIXED, PROCESSOR, core_file, push_alike, raw_file};
 use crate::runs::{Asked, EACH, PLAIN, Ran, Sink, Words, run_into, run_on, unwrap};
-use ptdump_engine::{Failure, NoProgress, run};
+use ptdump_engine::{Failure, NoProgress, Request, run};
 use std::alloc::Global;
 use std::cell::Cell;
 use std::io::{self, ErrorKind};
@@ -42,7 +42,7 @@ impl<'a> ByteSource for BrokenSource<'a> {
 }
 
 /// How many bytes a writer takes at once whose next write fails.
-const AT_ONCE: usize = 29;
+const AT_ONCE: usize = 211;
 
 /// Writes a core file of the machine `MIXED`.
 fn mixed(rt: impl Abort + Copy, alloc: Global) -> Vec<u8> {
@@ -138,62 +138,82 @@ fn much_output_is_written_in_large_pieces(rt: HostRuntime) {
     assert_eq!(rt; ran.output.small_pieces, 1);
 }
 
-/// How much more room each run has than the one before.
-const ROOM_STEP: usize = 1024;
+/// How many rooms are tried at most.
+const MOST_ROOMS: usize = 60;
 
-/// How many runs are tried at most.
-const MOST_ROOMS: usize = 512;
+/// Makes a run of each command that is still to come, with writers that need no memory.
+fn runs_to_come(rt: impl Abort + Copy, alloc: Global) -> Vec<(Request, Ran)> {
+    let mut runs = Vec::new(alloc);
+    for words in EACH {
+        let request = unwrap(rt, Asked { words, ..PLAIN }.request(alloc));
+        let mut ran = Ran {
+            output: Sink::wide(alloc),
+            errors: Sink::wide(alloc),
+            ended: Err(Failure::Output),
+        };
+        assert!(rt; ran.output.bytes.reserve(0x1_0000).is_ok());
+        assert!(rt; ran.errors.bytes.reserve(0x1_0000).is_ok());
+        assert!(rt; runs.push((request, ran)).is_ok());
+    }
+    runs
+}
 
-/// Runs the program where there is room for one block of a size.
+/// Runs each command where there is room for one block of a size.
 fn run_with_room(
     rt: impl Abort + Copy,
     alloc: Global,
     file: &[u8],
-    asked: Asked,
     room: usize,
-) -> Ran {
-    let request = unwrap(rt, asked.request(alloc));
-    let (mut output, mut errors) = (Sink::wide(alloc), Sink::wide(alloc));
-    assert!(rt; output.bytes.reserve(0x1_0000).is_ok());
-    assert!(rt; errors.bytes.reserve(0x1_0000).is_ok());
+) -> Vec<(Request, Ran)> {
+    let mut runs = runs_to_come(rt, alloc);
     let hoard = unwrap(rt, Hoard::past(alloc, &[room]));
-    let ended = run(
-        alloc,
-        file,
-        &request,
-        &mut output,
-        &mut errors,
-        &mut NoProgress,
-    );
-    drop(hoard);
-    Ran {
-        output,
-        errors,
-        ended,
+    for (request, ran) in &mut runs {
+        ran.ended = run(
+            alloc,
+            file,
+            request,
+            &mut ran.output,
+            &mut ran.errors,
+            &mut NoProgress,
+        );
     }
+    drop(hoard);
+    runs
+}
+
+/// Compares what a run wrote, whole or until memory was refused, and tells whether it is whole.
+fn is_whole(rt: impl Abort + Copy, request: &Request, ran: &Ran, wanted: &Ran) -> bool {
+    let (taken, whole) = (&ran.output.bytes, &wanted.output.bytes);
+    if ran.status() == wanted.status() {
+        assert_eq!(rt; taken, whole, "{request:?}");
+        return true;
+    }
+    assert_eq!(rt; ran.status(), 4, "{request:?}");
+    assert!(rt; whole.starts_with(taken), "{request:?}");
+    false
 }
 
 #[test]
 fn each_growth_may_be_refused(rt: HostRuntime) {
     let (alloc, file) = (rt.alloc(), mixed(rt, rt.alloc()));
-    for words in EACH {
-        let asked = Asked { words, ..PLAIN };
-        let wanted = run_on(rt, alloc, &file, asked).output.bytes;
-        let mut room = 0;
-        for _ in 0..MOST_ROOMS {
-            let ran = run_with_room(rt, alloc, &file, asked, room);
-            if ran.status() < 2 {
-                assert_eq!(rt; ran.output.bytes, wanted, "{words:?}, {room} bytes");
-                break;
-            }
-            assert_eq!(rt; ran.status(), 4, "{words:?}, {room} bytes");
-            assert!(rt;
-                wanted.starts_with(&ran.output.bytes),
-                "{words:?}, {room} bytes"
-            );
-            room += ROOM_STEP;
+    let mut room = 0;
+    let mut done = 0;
+    for _ in 0..MOST_ROOMS {
+        let runs = run_with_room(rt, alloc, &file, room);
+        done = 0;
+        for (words, (request, ran)) in EACH.iter().zip(runs.iter()) {
+            let asked = Asked {
+                words: *words,
+                ..PLAIN
+            };
+            let wanted = run_on(rt, alloc, &file, asked);
+            done += usize::from(is_whole(rt, request, ran, &wanted));
         }
-        let needs_room = 4096 < room && room < MOST_ROOMS * ROOM_STEP;
-        assert!(rt; needs_room, "{words:?}, {room} bytes");
+        assert!(rt; room > 0 || done == 0, "{done} runs need no memory");
+        if done == EACH.len() {
+            break;
+        }
+        room += 1024 + room / 16;
     }
+    assert_eq!(rt; done, EACH.len(), "{room} bytes");
 }
