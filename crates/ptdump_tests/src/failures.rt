@@ -196,8 +196,7 @@ fn is_whole(rt: impl Abort + Copy, request: &Request, ran: &Ran, wanted: &Ran) -
 #[test]
 fn each_growth_may_be_refused(rt: HostRuntime) {
     let (alloc, file) = (rt.alloc(), mixed(rt, rt.alloc()));
-    let mut room = 0;
-    let mut done = 0;
+    let (mut room, mut done) = (0_usize, 0_usize);
     for _ in 0..MOST_ROOMS {
         let runs = run_with_room(rt, alloc, &file, room);
         done = 0;
@@ -207,13 +206,15 @@ fn each_growth_may_be_refused(rt: HostRuntime) {
                 ..PLAIN
             };
             let wanted = run_on(rt, alloc, &file, asked);
-            done += usize::from(is_whole(rt, request, ran, &wanted));
+            if is_whole(rt, request, ran, &wanted) {
+                done = done.saturating_add(1);
+            }
         }
         assert!(rt; room > 0 || done == 0, "{done} runs need no memory");
         if done == EACH.len() {
             break;
         }
-        room += 1024 + room / 16;
+        room = room.saturating_add(1024).saturating_add(room / 16);
     }
     assert_eq!(rt; done, EACH.len(), "{room} bytes");
 }
