@@ -13,7 +13,7 @@ struct Case {
     end: End,
 }
 
-/// What `tools/dump_to_image` makes of the same memory, and the counts.
+/// Images of the same memory, what is told of them, and the counts.
 const CASES: [Case; 9] = [
     // Tables at scattered frames, pages of all sizes, and words without `PRESENT`.
     Case {
