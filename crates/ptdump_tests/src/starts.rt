@@ -250,36 +250,72 @@ const WITHOUT_NOTES: [(Asked, End); 4] = [
 ];
 
 /// Addresses that aren't canonical, and physical ones that are none. Those that are stand before and behind them.
-const ADDRESSES: [(Words, Levels, &str); 6] = [
+const ADDRESSES: [(Asked, End); 6] = [
     (
-        Words::Walk(&[0, 0x8000_0000_0000, 0]),
-        Levels::Four,
-        "0x800000000000",
+        Asked {
+            words: Words::Walk(&[0, 0x8000_0000_0000, 0]),
+            levels: Some(Levels::Four),
+            ..PLAIN
+        },
+        End {
+            message: "0x800000000000",
+            ..MISTAKE
+        },
     ),
     (
-        Words::Walk(&[0xffff_7fff_ffff_ffff]),
-        Levels::Four,
-        "0xffff7fffffffffff",
+        Asked {
+            words: Words::Walk(&[0xffff_7fff_ffff_ffff]),
+            levels: Some(Levels::Four),
+            ..PLAIN
+        },
+        End {
+            message: "0xffff7fffffffffff",
+            ..MISTAKE
+        },
     ),
     (
-        Words::Walk(&[0x100_0000_0000_0000]),
-        Levels::Five,
-        "0x100000000000000",
+        Asked {
+            words: Words::Walk(&[0x100_0000_0000_0000]),
+            levels: Some(Levels::Five),
+            ..PLAIN
+        },
+        End {
+            message: "0x100000000000000",
+            ..MISTAKE
+        },
     ),
     (
-        Words::Walk(&[u64::MAX, 0x8000_0000_0000_0000]),
-        Levels::Five,
-        "0x8000000000000000",
+        Asked {
+            words: Words::Walk(&[u64::MAX, 0x8000_0000_0000_0000]),
+            levels: Some(Levels::Five),
+            ..PLAIN
+        },
+        End {
+            message: "0x8000000000000000",
+            ..MISTAKE
+        },
     ),
     (
-        Words::Find(&[0, 0x10_0000_0000_0000]),
-        Levels::Four,
-        "0x10000000000000",
+        Asked {
+            words: Words::Find(&[0, 0x10_0000_0000_0000]),
+            levels: Some(Levels::Four),
+            ..PLAIN
+        },
+        End {
+            message: "0x10000000000000",
+            ..MISTAKE
+        },
     ),
     (
-        Words::Find(&[u64::MAX, 0]),
-        Levels::Five,
-        "0xffffffffffffffff",
+        Asked {
+            words: Words::Find(&[u64::MAX, 0]),
+            levels: Some(Levels::Five),
+            ..PLAIN
+        },
+        End {
+            message: "0xffffffffffffffff",
+            ..MISTAKE
+        },
     ),
 ];
 
@@ -301,14 +337,13 @@ fn walks_start_where_the_options_and_the_notes_say(rt: HostRuntime) {
         };
         check_run(rt, rt.alloc(), &raw_from, from, wanted);
     }
-    for (words, levels, message) in ADDRESSES {
-        let asked = Asked {
-            words,
-            levels: Some(levels),
-            ..PLAIN
-        };
-        let wanted = End { message, ..MISTAKE };
-        check_run(rt, rt.alloc(), &with_notes, asked, wanted);
+}
+
+#[test]
+fn addresses_that_are_none_are_refused(rt: HostRuntime) {
+    let core = unwrap(rt, core_file(rt.alloc(), &PROCESSORS, TWO_ROOTS));
+    for (asked, wanted) in ADDRESSES {
+        check_run(rt, rt.alloc(), &core, asked, wanted);
     }
 }
 
