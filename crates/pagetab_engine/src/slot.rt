@@ -3,8 +3,7 @@ ghost use Rattle.std.specs.Prelude.{◌≡◌, ◌<◌, ◌*◌, ◌/◌, ◌↔
 ghost use Rattle.pagetab_engine.specs.Slot.{word_in, stored};
 ghost use Rattle.pagetab_engine.specs.Starts.{IsTableStart};
 
-use bitflags::Flags;
-use x86_64::structures::paging::page_table::{PageTableEntry, PageTableFlags, PageTableIndex};
+use x86_64::structures::paging::page_table::PageTableIndex;
 use x86_64::structures::paging::{PageSize, PhysFrame, Size4KiB};
 use x86_64::{FramePlace, PhysAddr, PhysMemory};
 
@@ -46,7 +45,7 @@ impl Slot {
         ensures { result ≡ word_in memory.now self.place self.index }
     {
         match memory.table(self.place) {
-            Some(table) => word_of(&table[self.index]),
+            Some(table) => table[self.index].word(),
             None => 0,
         }
     }
@@ -56,7 +55,7 @@ impl Slot {
         ensures { memory.new ≡ stored memory.old self.place self.index word }
     {
         if let Some(table) = memory.table_mut(self.place) {
-            set_word_of(&mut table[self.index], word);
+            table[self.index].set_word(word);
         }
     }
 }
@@ -85,18 +84,4 @@ pub fn slot_at(start: u64, index: u64, places: u64) -> Option<Slot>
     ensures index { IfSome result (λ slot. slot.index ≡ index) }
 {
     Slot::new(frame_at(start, places)?, index)
-}
-
-/// Gives the word of an entry.
-fn word_of(entry: &PageTableEntry) -> u64
-    ensures { result ≡ entry.now }
-{
-    entry.addr().as_u64() | entry.flags().bits()
-}
-
-/// Sets the word of an entry.
-fn set_word_of(entry: &mut PageTableEntry, word: u64)
-    ensures { entry.new ≡ word }
-{
-    entry.set_addr(PhysAddr::zero(), PageTableFlags::from_bits_retain(word));
 }

@@ -15,7 +15,6 @@ use crate::access::Access;
 use crate::loaded::Loaded;
 use crate::output::{Output, OutputError};
 use crate::word_read::{MissingTable, WordRead};
-use bitflags::Flags;
 use std::io::Write;
 use x86_64_addr::addr::VirtAddrIn;
 use x86_64_addr::level_count::LevelCount;
@@ -81,7 +80,7 @@ fn walk_on<W: Write>(
         level,
         table: frame,
         index,
-        word: word_of(entry),
+        word: entry.word(),
     };
     write_word(read, output)?;
     let rights = above.below(entry);
@@ -144,11 +143,4 @@ fn write_arrival<W: Write>(
     let address = entry.addr().as_u64() / size * size + position % size;
     let access = Access { address, rights };
     writeln!(output, "{access}")
-}
-
-/// Gives the word of an entry.
-fn word_of(entry: &PageTableEntry) -> u64
-    ensures { result ≡ entry.now }
-{
-    entry.addr().as_u64() | entry.flags().bits()
 }

@@ -7,11 +7,11 @@ ghost use Rattle.x86_64_dump_tables.specs.Loaded.{MayFail, frames_of};
 ghost use Rattle.x86_64_dump_tables.specs.Tables.{table_named, tables_named, met, each_once, tables_by_level, if_there};
 
 use crate::frame_set::FrameSet;
-use crate::words::entry_of;
 use std::alloc::{AllocError, Global};
 use x86_64_dump::{ByteSource, Dump, DumpError};
 use x86_64_page::frame::PhysFrame;
 use x86_64_page::page::Size4KiB;
+use x86_64_tables::page_table::PageTableEntry;
 
 /// Reads which frames' tables a root leads to, level one first, those of a level in the order in which they are met.
 pub fn read_levels<S: ByteSource>(
@@ -107,7 +107,7 @@ fn add_named<S: ByteSource>(
 fn table_named<S: ByteSource>(dump: &Dump<S>, word: u64) -> Option<PhysFrame<Size4KiB>>
     ensures { S.IsKnown → result ≡ table_named (words_of_dump (opened S.bytes dump.now)) word }
 {
-    let frame = entry_of(word).frame().ok()?;
+    let frame = PageTableEntry::from_word(word).frame().ok()?;
     if dump.has_frame(frame) {
         Some(frame)
     } else {

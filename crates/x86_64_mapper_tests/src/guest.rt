@@ -10,7 +10,6 @@ ghost use Rattle.x86_64.specs.Runs.{FitsPool};
 
 use crate::assertions::{assert_equal, unwrap};
 use crate::beside::{empty_tables, frame, map, pool_from, run_on};
-use bitflags::Flags;
 use std::alloc::{AllocError, Global};
 use std::process::Abort;
 use x86_64::structures::paging::{PageSize, PageTable, PageTableIndex, PhysFrame, Size4KiB};
@@ -42,12 +41,11 @@ fn table_in(tables: &[PageTable], frame: PhysFrame<Size4KiB>) -> Option<&PageTab
 }
 
 /// Returns the word at an index of the table in a frame, or `None` if there is none.
-#[tactic(auto, using(x86_64_model::proofs::Lemmas::Entries::Bits::whole))]
 fn word_in(tables: &[PageTable], frame: PhysFrame<Size4KiB>, index: PageTableIndex) -> Option<u64>
     ensures { result ≡ read (words_of (numbered tables.now) identity_places) frame index }
 {
     match table_in(tables, frame) {
-        Some(table) => Some(table[index].addr().as_u64() | table[index].flags().bits()),
+        Some(table) => Some(table[index].word()),
         None => None,
     }
 }

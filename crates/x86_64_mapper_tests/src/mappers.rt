@@ -29,7 +29,7 @@ use x86_64_page::frame::PhysFrame;
 use x86_64_page::page::{PageIn, PageSize, Size4KiB};
 use x86_64_tables::frame_alloc::FramePool;
 use x86_64_tables::mapper::{MappedFrame, Tables, TranslateResult};
-use x86_64_tables::page_table::{PageTableEntry, PageTableFlags};
+use x86_64_tables::page_table::PageTableFlags;
 use x86_64_tables::phys_memory::{
     FramePlace, IdentityMapping, PageTableFrameMapping, PhysMemory, TableMemory, is_valid_hierarchy,
 };
@@ -88,7 +88,7 @@ fn check_words(rt: impl Abort + Copy, memory: &PhysMemory, words: &[Word]) {
             let is_it = |word: &&Word| word.0 == place && word.1 == index;
             let expected = words.iter().find(is_it).map_or(0, |word| word.2);
             let entry = &table[PageTableIndex::new(index)];
-            assert_equal_in(rt, (place, index), word_of(entry), expected);
+            assert_equal_in(rt, (place, index), entry.word(), expected);
         }
     }
 }
@@ -116,11 +116,6 @@ fn page<S: PageSize, L: LevelCount>(address: u64) -> PageIn<S, L> {
     PageIn::containing_address(VirtAddrIn::new_truncate(address))
 }
 
-/// Gives the word of an entry.
-fn word_of(entry: &PageTableEntry) -> u64 {
-    entry.addr().as_u64() | entry.flags().bits()
-}
-
 /// Gives what an address is mapped to.
 fn mapped(frame: MappedFrame, offset: u64, flags: u64) -> TranslateResult {
     let flags = PageTableFlags::from_bits_retain(flags);
@@ -146,7 +141,7 @@ fn check_mapper(rt: impl Abort + Copy, alloc: Global, memory: &mut PhysMemory) {
     let mapper = MappedPageTable::new(memory, root, IdentityMapping);
     assert!(rt; unwrap(rt, mapper.is_valid(alloc)));
     assert_equal(rt, mapper.recursive_index(), None);
-    assert_equal(rt, word_of(&mapper.level_4_table()[0]), 0x2003);
+    assert_equal(rt, mapper.level_4_table()[0].word(), 0x2003);
     let place = mapper.page_table_frame_mapping().frame_to_pointer(root);
     assert_equal(rt, place.number(), 1);
     let address = address_by(&mapper, VirtAddr::new(0x1abc));

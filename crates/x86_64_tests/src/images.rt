@@ -27,9 +27,6 @@ use x86_64_mappers::mapped_page_table::MappedPageTableIn;
 use x86_64_mappers::recursive_page_table::RecursivePageTableIn;
 use x86_64_tables::phys_memory::Active;
 
-/// The bits of a word that are flags.
-const FLAGS_MASK: u64 = 0xfff0_0000_0000_0fff;
-
 /// How many words a table has.
 pub const WORD_COUNT: u16 = 512;
 
@@ -54,9 +51,7 @@ pub fn flags_of(bits: u64) -> PageTableFlags {
 /// Sets the word at an index of the table in a frame.
 pub fn set_word(rt: impl Abort + Copy, memory: &mut PhysMemory, frame: u64, index: u16, word: u64) {
     let table = unwrap_some(rt, memory.table_mut(FramePlace::new(frame / 0x1000)));
-    let entry = &mut table[PageTableIndex::new_truncate(index)];
-    let frame = frame_at::<Size4KiB>(word);
-    entry.set_addr(frame.start_address(), flags_of(word & FLAGS_MASK));
+    table[PageTableIndex::new_truncate(index)].set_word(word);
 }
 
 /// Makes all words of the table in a frame full of ones.
@@ -69,8 +64,7 @@ pub fn fill(rt: impl Abort + Copy, memory: &mut PhysMemory, frame: u64) {
 /// Gives the word at an index of the table in a frame.
 pub fn word_at(rt: impl Abort + Copy, memory: &PhysMemory, frame: u64, index: u16) -> u64 {
     let table = unwrap_some(rt, memory.table(FramePlace::new(frame / 0x1000)));
-    let entry = &table[PageTableIndex::new_truncate(index)];
-    entry.addr().as_u64() | entry.flags().bits()
+    table[PageTableIndex::new_truncate(index)].word()
 }
 
 /// Makes a pool of free frames, with numbers below a limit.

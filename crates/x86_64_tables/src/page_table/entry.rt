@@ -31,6 +31,7 @@ pub enum FrameError {
 ///
 /// Bits 12 to 51 name an address, the other bits are flags. Intel SDM vol. 3A, "Formats of paging-structure entries".
 #[derive(Clone, Drop)]
+#[repr(C)]
 pub struct PageTableEntry(u64);
 
 impl Model for PageTableEntry {
@@ -39,6 +40,8 @@ impl Model for PageTableEntry {
     ghost Value = { ℕ };
 
     ghost view = { λ entry. entry.0 };
+
+    ghost inverse = { λ word. record { 0 = word } };
 }
 
 impl PageTableEntry {
@@ -47,6 +50,27 @@ impl PageTableEntry {
         ensures { result ≡ 0 }
     {
         PageTableEntry(0)
+    }
+
+    /// Makes the entry of a word.
+    pub fn from_word(word: u64) -> PageTableEntry
+        ensures { result ≡ word }
+    {
+        PageTableEntry(word)
+    }
+
+    /// Returns the word.
+    pub fn word(&self) -> u64
+        ensures { result ≡ self.now }
+    {
+        self.0
+    }
+
+    /// Sets the word.
+    pub fn set_word(&mut self, word: u64)
+        ensures { self.new ≡ word }
+    {
+        self.0 = word;
     }
 
     /// Tells whether the entry is unused: its word is 0.

@@ -18,6 +18,7 @@ const ENTRY_COUNT: usize = 512;
 ///
 /// An entry is reached by its index, as in `table[15]`. Condition: an index that is a `usize` is below 512.
 #[derive(Clone, Drop)]
+#[repr(C)]
 pub struct PageTable {
     entries: [PageTableEntry; ENTRY_COUNT],
 }
@@ -28,6 +29,8 @@ impl Model for PageTable {
     ghost Value = { List ℕ };
 
     ghost view = { λ table. table.entries };
+
+    ghost inverse = { λ words. record { entries = words } };
 }
 
 impl PageTable {

@@ -77,7 +77,6 @@ impl<'a, T: TableMemory, P: PageTableFrameMapping> HierarchyView<'a, T, P> {
     }
 
     /// Gives the word at an index of the table in a frame, 0 where there is none.
-    #[tactic(auto, using(x86_64_model::proofs::Lemmas::Entries::Bits::whole))]
     pub(super) fn word(&self, frame: PhysFrame<Size4KiB>, index: usize) -> u64
         requires { index < 512 }
         ensures { let view = self.now in let places = P.places view.mapping in
@@ -85,7 +84,7 @@ impl<'a, T: TableMemory, P: PageTableFrameMapping> HierarchyView<'a, T, P> {
             result ≡ word words frame index }
     {
         match self.entry(frame, index) {
-            Some(entry) => entry.addr().as_u64() | entry.flags().bits(),
+            Some(entry) => entry.word(),
             None => 0,
         }
     }

@@ -151,11 +151,6 @@ fn flags_have_texts(rt: HostRuntime) {
     );
 }
 
-/// Gives the word of an entry.
-fn word_of(entry: &PageTableEntry) -> u64 {
-    entry.addr().as_u64() | entry.flags().bits()
-}
-
 /// The address and the flags of an entry, its word, and the frame that it names, or why it names none.
 type EntryRow = (u64, u64, u64, Result<u64, FrameError>);
 
@@ -210,7 +205,7 @@ fn entries_are_changed(rt: HostRuntime) {
     entry.set_flags(PageTableFlags::NO_EXECUTE);
     assert_equal(
         rt,
-        (word_of(&entry), word_of(&copy)),
+        (entry.word(), copy.word()),
         (0x8000_0000_0000_6000, 0x6003),
     );
     entry.set_unused();
@@ -239,15 +234,15 @@ fn tables_are_lists_of_words(rt: HostRuntime) {
     table[1].set_addr(PhysAddr::new(0x5000), PageTableFlags::PRESENT);
     table[PageTableIndex::new(511)].set_addr(PhysAddr::new(0x6000), PageTableFlags::WRITABLE);
     let words = (
-        word_of(&table[PageTableIndex::new(1)]),
-        word_of(&table[511]),
+        table[PageTableIndex::new(1)].word(),
+        table[511].word(),
     );
     assert_equal(rt, words, (0x5001, 0x6002));
     assert!(rt; !table.is_empty() && table[2].is_unused());
     let copy = unwrap(rt, table.clone());
     table.zero();
     assert!(rt; table.is_empty());
-    assert_equal(rt, word_of(&copy[511]), 0x6002);
+    assert_equal(rt, copy[511].word(), 0x6002);
 }
 
 #[test]
@@ -284,7 +279,7 @@ fn entries_come_in_order(rt: HostRuntime) {
     assert_equal(rt, entries.size_hint(), (512, Some(512)));
     for index in 0..512 {
         let entry = unwrap_some(rt, entries.next());
-        let words = (word_of(entry), word_of(&table[index]));
+        let words = (entry.word(), table[index].word());
         assert_equal(rt, words, (index as u64, index as u64));
     }
     assert_equal(rt, entries.size_hint(), (0, Some(0)));
@@ -304,5 +299,5 @@ fn entries_are_lent_in_order(rt: HostRuntime) {
     }
     assert_equal(rt, entries.size_hint(), (0, Some(0)));
     assert!(rt; entries.next().is_none() && entries.next().is_none());
-    assert_equal(rt, (word_of(&table[0]), word_of(&table[511])), (0x0, 0x1ff));
+    assert_equal(rt, (table[0].word(), table[511].word()), (0x0, 0x1ff));
 }

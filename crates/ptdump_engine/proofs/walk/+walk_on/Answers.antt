@@ -27,7 +27,7 @@ returns-then-not-has_flag-clause-text g t c =
     let read : IsRead T c.args.position c.args.level c.args.frame e = is_read T c.args.position c.args.level c.args.frame e c.in-Some.table.now c.index_of-index.result
     c.requires.low c.in-Some.ensures c.index_of-index.ensures.value c.index-entry.ensures.0 in
     let word = subst (λ w. Puts g.W.Write.contents c.args.output.now c.write_word.new.output (line (word_text (record { level = c.args.level; table = c.args.frame; index = c.index_of-index.result; word = w }))))
-    c.word_of.ensures c.in_ok-write_word.ensures in
+    c.word.ensures c.in_ok-write_word.ensures in
     let rights : seen_rights c.below-rights.result ≡ narrowed (seen_rights c.args.above) e =
     λ i. record { write = c.below-rights.ensures.write i; user = c.below-rights.ensures.user i; execute = c.below-rights.ensures.execute i } in
     let absent : present e ≡ false = search rules in
@@ -50,7 +50,7 @@ returns-then-maps_page-clause-text g t c =
     let read : IsRead T c.args.position c.args.level c.args.frame e = is_read T c.args.position c.args.level c.args.frame e c.in-Some.table.now c.index_of-index.result
     c.requires.low c.in-Some.ensures c.index_of-index.ensures.value c.index-entry.ensures.0 in
     let word = subst (λ w. Puts g.W.Write.contents c.args.output.now c.write_word.new.output (line (word_text (record { level = c.args.level; table = c.args.frame; index = c.index_of-index.result; word = w }))))
-    c.word_of.ensures c.in_ok-write_word.ensures in
+    c.word.ensures c.in_ok-write_word.ensures in
     let rights : seen_rights c.below-rights.result ≡ narrowed (seen_rights c.args.above) e =
     λ i. record { write = c.below-rights.ensures.write i; user = c.below-rights.ensures.user i; execute = c.below-rights.ensures.execute i } in
     let there : present e ≡ true = search rules in
@@ -75,7 +75,7 @@ returns-then-has_flag-clause-text g t c =
     let read : IsRead T c.args.position c.args.level c.args.frame e = is_read T c.args.position c.args.level c.args.frame e c.in-Some.table.now c.index_of-index.result
     c.requires.low c.in-Some.ensures c.index_of-index.ensures.value c.index-entry.ensures.0 in
     let word = subst (λ w. Puts g.W.Write.contents c.args.output.now c.write_word.new.output (line (word_text (record { level = c.args.level; table = c.args.frame; index = c.index_of-index.result; word = w }))))
-    c.word_of.ensures c.in_ok-write_word.ensures in
+    c.word.ensures c.in_ok-write_word.ensures in
     let rights : seen_rights c.below-rights.result ≡ narrowed (seen_rights c.args.above) e =
     λ i. record { write = c.below-rights.ensures.write i; user = c.below-rights.ensures.user i; execute = c.below-rights.ensures.execute i } in
     let there : present e ≡ true = search rules in
@@ -103,7 +103,7 @@ returns-clause-text g t c =
     let read : IsRead T c.args.position c.args.level c.args.frame e = is_read T c.args.position c.args.level c.args.frame e c.in-Some.table.now c.index_of-index.result
     c.requires.low c.in-Some.ensures c.index_of-index.ensures.value c.index-entry.ensures.0 in
     let word = subst (λ w. Puts g.W.Write.contents c.args.output.now c.write_word.new.output (line (word_text (record { level = c.args.level; table = c.args.frame; index = c.index_of-index.result; word = w }))))
-    c.word_of.ensures c.in_ok-write_word.ensures in
+    c.word.ensures c.in_ok-write_word.ensures in
     let rights : seen_rights c.below-rights.result ≡ narrowed (seen_rights c.args.above) e =
     λ i. record { write = c.below-rights.ensures.write i; user = c.below-rights.ensures.user i; execute = c.below-rights.ensures.execute i } in
     let there : present e ≡ true = search rules in
