@@ -1,7 +1,6 @@
 -- What a caller hands in: which hierarchy it is, and which status says what is wrong with it.
 use Rattle.std.specs.Prelude.{ℕ, ◌-◌, ◌/◌, ◌%◌, ◌^◌, ◌==◌, ◌&&◌, ◌||◌, nat_le, nat_lt, Bool, cond, List, Option, Some, None}
 use Rattle.std.specs.Option.{option_or}
-use Rattle.x86_64_model.specs.Entry.{is_frame}
 use Rattle.x86_64_model.specs.Mapper as mapper
 use Rattle.x86_64_model.specs.Memory.{Memory, Places}
 use Rattle.x86_64_model.specs.Path.{path_at}
@@ -30,9 +29,13 @@ places_of located = shifted_places located.mapping.first
 abbrev pub unless : (test : Bool) → (status : ℕ) → Option ℕ
 unless test s = cond test None (Some s)
 
--- whether a frame has one of the tables
+-- whether a frame of a size starts at a physical address
+abbrev pub starts_frame : (size start : ℕ) → Bool
+starts_frame size f = nat_lt f (2 ^ 52) && (f % size == 0)
+
+-- whether the 4KiB frame at an address has one of the tables
 abbrev pub has_table : (first count frame : ℕ) → Bool
-has_table first count f = is_frame f && nat_le first (f / 4096) && nat_lt (f / 4096 - first) count
+has_table first count f = starts_frame 4096 f && (nat_le first (f / 4096) && nat_lt (f / 4096 - first) count)
 
 -- what is wrong with a hierarchy in an array of tables
 abbrev pub bad_hierarchy : Hierarchy → (count : ℕ) → Option ℕ
@@ -80,4 +83,4 @@ path_of_page L page = path_at L (level_of page.size) (position_of L page.start)
 
 -- what is wrong with a frame of a size
 abbrev pub bad_frame : (size frame : ℕ) → Option ℕ
-bad_frame size frame = unless (nat_lt frame (2 ^ 52) && (frame % size == 0)) status.bad_frame
+bad_frame size frame = unless (starts_frame size frame) status.bad_frame

@@ -1,5 +1,5 @@
 -- What a listing of mappings writes.
-use Rattle.std.specs.Prelude.{◌≡◌, ℕ, List, [], ◌∷◌, ◌++◌, length, map, take, drop, nat_min}
+use Rattle.std.specs.Prelude.{◌≡◌, ℕ, List, [], ◌∷◌, ◌++◌, length, map, take, drop}
 use Rattle.x86_64_model.specs.Mappings as model
 use Rattle.x86_64_model.specs.Position.{raw}
 use Rattle.x86_64_c.specs.Status as status
@@ -24,6 +24,6 @@ TellsRest L (m ∷ ms) s before next = (s ≡ status.more) × (next ≡ raw L m.
 
 -- The array gets as many of all mappings as it has room for, from its start on, and keeps what it holds behind them.
 pub record Lists (L : ℕ) (all : List model.Mapping) (before : List Mapping) (status : ℕ) (after : List Mapping) (count was next : ℕ) : Type 0 where
-  pub count : count ≡ nat_min (length all) (length before)
-  pub array : after ≡ map (written L) (take count all) ++ drop count before
+  pub number : count ≡ length (take (length before) all)
+  pub array : after ≡ map (written L) (take (length before) all) ++ drop count before
   pub rest : TellsRest L (drop (length before) all) status was next

@@ -1,5 +1,5 @@
 //! What callers hand in.
-ghost use Rattle.std.specs.Prelude.{◌≡◌, ◌<◌, ◌%◌, Some, None, IfOk, IfErr, IfSome, IfNone};
+ghost use Rattle.std.specs.Prelude.{◌≡◌, true, false, Some, None, IfOk, IfErr, IfSome, IfNone};
 ghost use Rattle.x86_64_c.specs.Given as given;
 ghost use Rattle.x86_64_tables.specs.Shifted.{shifted_places};
 
@@ -8,6 +8,7 @@ use x86_64::structures::paging::{PageSize, PhysFrame, Size4KiB};
 use x86_64::{PhysAddr, ShiftMapping};
 
 /// A hierarchy of page tables in an array of tables.
+#[derive(Drop)]
 #[repr(C)]
 pub struct Hierarchy {
     /// The number of the frame that table 0 is: table i is that of the frame of number `first` + i.
@@ -19,6 +20,7 @@ pub struct Hierarchy {
 }
 
 /// A page.
+#[derive(Drop)]
 #[repr(C)]
 pub struct Page {
     /// The first address, canonical and a multiple of the size.
@@ -44,23 +46,36 @@ pub fn locate(hierarchy: &Hierarchy, table_count: usize) -> Result<Located, u32>
     if hierarchy.levels != 4 && hierarchy.levels != 5 {
         return Err(status::BAD_LEVELS);
     }
-    let Some(root) = frame_at::<Size4KiB>(hierarchy.root) else {
-        return Err(status::BAD_ROOT);
-    };
-    let number = hierarchy.root / Size4KiB::SIZE;
-    if number < hierarchy.first || number - hierarchy.first >= table_count as u64 {
-        return Err(status::BAD_ROOT);
+    match root_of(hierarchy, table_count) {
+        Some(root) => Ok(Located {
+            root,
+            mapping: ShiftMapping::new(hierarchy.first),
+        }),
+        None => Err(status::BAD_ROOT),
     }
-    Ok(Located {
-        root,
-        mapping: ShiftMapping::new(hierarchy.first),
-    })
+}
+
+/// Returns the frame of a hierarchy's root, if it has one of so many tables.
+fn root_of(hierarchy: &Hierarchy, table_count: usize) -> Option<PhysFrame<Size4KiB>>
+    ensures some { IfSome result (λ root. root ≡ hierarchy.now.root) }
+    ensures there { IfSome result (λ _.
+        given.has_table hierarchy.now.first table_count hierarchy.now.root ≡ true) }
+    ensures none { IfNone result (given.has_table hierarchy.now.first table_count hierarchy.now.root ≡ false) }
+{
+    let root = frame_at::<Size4KiB>(hierarchy.root)?;
+    let number = hierarchy.root / Size4KiB::SIZE;
+    if hierarchy.first <= number && number - hierarchy.first < table_count as u64 {
+        Some(root)
+    } else {
+        None
+    }
 }
 
 /// Returns the frame that starts at an address, if one does.
 pub fn frame_at<S: PageSize>(start: u64) -> Option<PhysFrame<S>>
-    ensures good { IfSome result (λ frame. frame ≡ start × given.bad_frame S.SIZE start ≡ None) }
-    ensures bad { IfNone result (given.bad_frame S.SIZE start ≡ Some 21) }
+    ensures some { IfSome result (λ frame. frame ≡ start) }
+    ensures there { IfSome result (λ _. given.starts_frame S.SIZE start ≡ true) }
+    ensures none { IfNone result (given.starts_frame S.SIZE start ≡ false) }
 {
     PhysFrame::from_start_address(PhysAddr::try_new(start).ok()?).ok()
 }

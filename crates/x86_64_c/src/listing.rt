@@ -1,5 +1,5 @@
 //! What is mapped.
-ghost use Rattle.std.specs.Prelude.{◌≡◌, ℕ, ◌++◌, length, map, take, drop, nat_min, Some, None};
+ghost use Rattle.std.specs.Prelude.{◌≡◌, ℕ, ◌++◌, length, map, take, drop, Some, None};
 ghost use Rattle.x86_64_c.specs.Given as given;
 ghost use Rattle.x86_64_c.specs.Listing as listing;
 ghost use Rattle.x86_64_model.specs.Mapper.{words};
@@ -18,6 +18,7 @@ use x86_64::{
 use x86_64_addr::addr::VirtAddrIn;
 
 /// What a leaf maps: the addresses from `start` on, `size` bytes, to those from `frame` on.
+#[derive(Drop)]
 #[repr(C)]
 pub struct Mapping {
     /// The first address.
@@ -57,6 +58,7 @@ impl Mapping {
 ///
 /// Writes as many mappings as the array has room for, and their number to `count`. Returns `OK` if these are all, or `MORE` if there
 /// are others; then `next` is the address to go on from. Or returns what is wrong with an argument; then nothing is written.
+#[tactic(auto, using(crate::proofs::Arguments::handed_back))]
 #[unsafe(no_mangle)]
 pub extern "C" fn x64_mappings(
     hierarchy: &Hierarchy,
@@ -122,10 +124,10 @@ fn fill<L: LevelCount, T: TableMemory, P: PageTableFrameMapping>(
     coming: &mut MappingsIn<'_, L, T, P>,
     mappings: &mut [Mapping],
 ) -> usize
-    ensures count { result ≡ nat_min (length coming.old) (length mappings.old) }
+    ensures count { result ≡ length (take (length mappings.old) coming.old) }
     ensures rest { coming.new ≡ drop (length mappings.old) coming.old }
     ensures array { mappings.new
-        ≡ map (listing.written L.LEVELS) (take result coming.old) ++ drop result mappings.old }
+        ≡ map (listing.written L.LEVELS) (take (length mappings.old) coming.old) ++ drop result mappings.old }
 {
     for n in 0..mappings.len() {
         match coming.next() {

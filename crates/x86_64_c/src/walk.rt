@@ -4,7 +4,8 @@ ghost use Rattle.x86_64_c.specs.Given as given;
 ghost use Rattle.x86_64_c.specs.Reads as reads;
 ghost use Rattle.x86_64_mappers.specs.Layouts.{direct_at};
 ghost use Rattle.x86_64_model.specs.Layout.{Valid as ValidIn, walk as walk_of, read_entry};
-ghost use Rattle.x86_64_model.specs.Mapper.{Valid, walk, translation};
+ghost use Rattle.x86_64_model.specs.Mapper.{Valid, walk};
+ghost use Rattle.x86_64_model.specs.Mapper as mapper;
 ghost use Rattle.x86_64_model.specs.Translation.{translate};
 
 use crate::given::{Hierarchy, Located, locate};
@@ -18,6 +19,7 @@ use x86_64_mappers::calls;
 use x86_64_mappers::mapped_page_table::MappedPageTableIn;
 
 /// Where a page walk arrives, and what all entries on its way allow.
+#[derive(Drop)]
 #[repr(C)]
 pub struct Walked {
     /// The physical address.
@@ -29,6 +31,7 @@ pub struct Walked {
 }
 
 /// What an address is mapped to.
+#[derive(Drop)]
 #[repr(C)]
 pub struct Translation {
     /// The physical address of the frame's start.
@@ -44,6 +47,7 @@ pub struct Translation {
 /// Walks to an address as the processor does, whatever words the tables hold.
 ///
 /// Returns `OK` with where the walk arrives, `NOT_MAPPED`, or what is wrong with an argument; then nothing is written.
+#[tactic(auto, using(crate::proofs::Arguments::handed_back))]
 #[unsafe(no_mangle)]
 pub extern "C" fn x64_page_walk(
     hierarchy: &Hierarchy,
@@ -103,6 +107,7 @@ fn walk_in<L: LevelCount, T: TableMemory>(
 ///
 /// Requires that the hierarchy is valid, which `x64_is_valid` tests. Returns `OK` with the translation, `NOT_MAPPED`, or what is wrong
 /// with an argument; then nothing is written.
+#[tactic(auto, using(crate::proofs::Arguments::handed_back))]
 #[unsafe(no_mangle)]
 pub extern "C" fn x64_translate(
     hierarchy: &Hierarchy,
@@ -115,7 +120,7 @@ pub extern "C" fn x64_translate(
     ensures bad { (status : ℕ) → given.bad_read hierarchy.now (length tables.old) address ≡ Some status
         → (result ≡ status) × (translation.new ≡ translation.old) }
     ensures told { let h = given.hierarchy_in hierarchy.now tables.old in
-        let translated = translation h (given.position_of h.layout.levels address) in
+        let translated = mapper.translation h (given.position_of h.layout.levels address) in
         given.bad_read hierarchy.now (length tables.old) address ≡ None
         → reads.TellsTranslation translated result translation.old translation.new }
     ensures tables { tables.new ≡ tables.old }
