@@ -1,10 +1,13 @@
 -- What is wrong with arguments, once the hierarchy is right.
-use Rattle.std.proofs.Common.{◌≡◌, ℕ, nat_eq, Bool, true, false, Option, Some, None, List, rules, sym, ap, ◌∙◌, cond}
+use Rattle.std.proofs.Common.{◌≡◌, ℕ, nat_eq, ◌≤◌, Bool, true, false, Option, Some, None, List, rules, sym, ap, ◌∙◌, cond, arith}
 use Rattle.std.specs.Option.{option_or}
 use Rattle.x86_64_tables.specs.LentMemory.{numbered, tables_in_order}
 use Rattle.x86_64_tables.proofs.NumberedTables.{in_order-numbered}
-use Rattle.x86_64_c.specs.Given.{bad_hierarchy, bad_address, bad_read, unless}
+use Rattle.x86_64_c.specs.Calls.{bad_on_page, bad_on_table, is_table_level}
+use Rattle.x86_64_c.specs.Given.{bad_hierarchy, bad_address, bad_page, bad_read, unless}
+use Rattle.x86_64_c.specs.Status.{bad_levels}
 use Rattle.x86_64_c.specs.declared.given.Hierarchy.{Hierarchy}
+use Rattle.x86_64_c.specs.declared.given.Page.{Page}
 
 -- a hierarchy with other than four levels has five
 pub five : (h : Hierarchy) (n : ℕ) → bad_hierarchy h n ≡ None → (h.levels ≡ 4 → ⊥) → h.levels ≡ 5
@@ -13,6 +16,19 @@ five h n good other = search rules
 -- for a call that reads at an address, where the hierarchy has L levels
 pub reads_at : (h : Hierarchy) (n a L : ℕ) → bad_hierarchy h n ≡ None → h.levels ≡ L → bad_read h n a ≡ bad_address L a
 reads_at h n a L good levels = ap (λ o. option_or o (bad_address h.levels a)) good ∙ ap (λ l. bad_address l a) levels
+
+-- for a call on a page
+pub page_at : (h : Hierarchy) (n : ℕ) (page : Page) (L : ℕ) → bad_hierarchy h n ≡ None → h.levels ≡ L → bad_on_page h n page ≡ bad_page L page
+page_at h n page L good levels = ap (λ o. option_or o (bad_page h.levels page)) good ∙ ap (λ l. bad_page l page) levels
+
+-- for a call on a table's entry of a level that there is
+pub table_at : (h : Hierarchy) (n level : ℕ) (page : Page) (L : ℕ) → bad_hierarchy h n ≡ None → is_table_level h.levels level ≡ true → h.levels ≡ L → bad_on_table h n level page ≡ bad_page L page
+table_at h n level page L good there levels =
+    ap (λ o. option_or o (option_or (unless (is_table_level h.levels level) bad_levels) (bad_page h.levels page))) good
+    ∙ ap (λ b. option_or (unless b bad_levels) (bad_page h.levels page)) there ∙ ap (λ l. bad_page l page) levels
+
+pub there : (h : Hierarchy) (level : ℕ) → 2 ≤ level → level ≤ h.levels → is_table_level h.levels level ≡ true
+there h level low high = grind (arith, low, high)
 
 -- the tables of a memory over a slice, in order, are the slice
 pub handed_back : (ts : List (List ℕ)) → tables_in_order (numbered ts) ≡ ts

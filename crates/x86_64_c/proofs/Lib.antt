@@ -1,2 +1,4 @@
 pub mod Arguments
+pub mod EntryChanges
+pub mod Located
 pub mod Filling

@@ -1,5 +1,5 @@
 -- What a caller hands in: which hierarchy it is, and which status says what is wrong with it.
-use Rattle.std.specs.Prelude.{ℕ, ◌-◌, ◌/◌, ◌%◌, ◌^◌, ◌==◌, ◌&&◌, ◌||◌, nat_le, nat_lt, Bool, cond, List, Option, Some, None}
+use Rattle.std.specs.Prelude.{◌≡◌, ℕ, ◌-◌, ◌/◌, ◌%◌, ◌^◌, ◌==◌, ◌&&◌, ◌||◌, nat_le, nat_lt, Bool, cond, List, Option, Some, None}
 use Rattle.std.specs.Option.{option_or}
 use Rattle.x86_64_model.specs.Mapper as mapper
 use Rattle.x86_64_model.specs.Memory.{Memory, Places}
@@ -11,6 +11,8 @@ use Rattle.x86_64_tables.specs.Shifted.{shifted_places}
 use Rattle.x86_64_c.specs.Status as status
 use Rattle.x86_64_c.specs.declared.given.Hierarchy.{Hierarchy}
 use Rattle.x86_64_c.specs.declared.given.Located.{Located}
+use Rattle.x86_64_c.specs.declared.given.AnyPage.{AnyPage}
+use Rattle.x86_64_c.specs.declared.given.AnyPage.TheVariants.{Of4KiB, Of2MiB, Of1GiB}
 use Rattle.x86_64_c.specs.declared.given.Page.{Page}
 
 -- the hierarchy in a memory where the frame of number `first` lies at place 0, the next at place 1, and so on
@@ -24,6 +26,10 @@ hierarchy_in h tables = located_in h (numbered tables)
 -- the places of frames in a located hierarchy
 abbrev pub places_of : Located → Places
 places_of located = shifted_places located.mapping.first
+
+-- the hierarchy of so many levels at a root, in a memory
+abbrev pub at : (levels : ℕ) → Located → Memory → mapper.Hierarchy (Unit {0})
+at levels located memory = owned_at levels (places_of located) located.root memory tt
 
 -- the status if a test fails
 abbrev pub unless : (test : Bool) → (status : ℕ) → Option ℕ
@@ -70,8 +76,12 @@ position_of L a = a % position_count L
 abbrev pub is_size : (size : ℕ) → Bool
 is_size size = (size == 0x1000) || (size == 0x20_0000) || (size == 0x4000_0000)
 
+-- whether a page of a size starts at an address: as sizes divide 2^48, its position is a multiple of the size if the address is
+abbrev pub starts_page : (L size start : ℕ) → Bool
+starts_page L size start = is_canonical L start && (position_of L start % size == 0)
+
 abbrev pub bad_page : (L : ℕ) → Page → Option ℕ
-bad_page L page = unless (is_size page.size && is_canonical L page.start && (page.start % page.size == 0)) status.bad_page
+bad_page L page = unless (is_size page.size && starts_page L page.size page.start) status.bad_page
 
 -- the level of the entries that map pages of a size
 abbrev pub level_of : (size : ℕ) → ℕ
@@ -80,6 +90,22 @@ level_of size = cond (size == 0x1000) 1 (cond (size == 0x20_0000) 2 3)
 -- the path of a page
 abbrev pub path_of_page : (L : ℕ) → Page → List ℕ
 path_of_page L page = path_at L (level_of page.size) (position_of L page.start)
+
+-- the level of the entries that map a page, and the position of its start
+abbrev pub any_level : {L : Type 0} → AnyPage L → ℕ
+any_level (Of4KiB p) = 1
+any_level (Of2MiB p) = 2
+any_level (Of1GiB p) = 3
+
+abbrev pub any_position : {L : Type 0} → AnyPage L → ℕ
+any_position (Of4KiB p) = p
+any_position (Of2MiB p) = p
+any_position (Of1GiB p) = p
+
+-- the level and the position are those of a page
+pub record IsPageOf (L : ℕ) (page : Page) (level position : ℕ) : Type 0 where
+  pub level_is : level ≡ level_of page.size
+  pub position_is : position ≡ position_of L page.start
 
 -- what is wrong with a frame of a size
 abbrev pub bad_frame : (size frame : ℕ) → Option ℕ

@@ -1,11 +1,14 @@
 //! What callers hand in.
 ghost use Rattle.std.specs.Prelude.{◌≡◌, true, false, Some, None, IfOk, IfErr, IfSome, IfNone};
 ghost use Rattle.x86_64_c.specs.Given as given;
+ghost use Rattle.x86_64_c.specs.Status as status;
 ghost use Rattle.x86_64_tables.specs.Shifted.{shifted_places};
 
 use crate::status;
-use x86_64::structures::paging::{PageSize, PhysFrame, Size4KiB};
-use x86_64::{PhysAddr, ShiftMapping};
+use x86_64::structures::paging::{PageSize, PhysFrame, Size1GiB, Size2MiB, Size4KiB};
+use x86_64::{LevelCount, PhysAddr, ShiftMapping};
+use x86_64_addr::addr::VirtAddrIn;
+use x86_64_page::page::PageIn;
 
 /// A hierarchy of page tables in an array of tables.
 #[derive(Drop)]
@@ -27,6 +30,28 @@ pub struct Page {
     pub start: u64,
     /// The size in bytes: 4KiB, 2MiB or 1GiB.
     pub size: u64,
+}
+
+/// A page to be mapped, and how.
+#[derive(Drop)]
+#[repr(C)]
+pub struct MapRequest {
+    /// The page.
+    pub page: Page,
+    /// The physical address of the frame, of the page's size.
+    pub frame: u64,
+    /// The flags of the page's entry.
+    pub flags: u64,
+    /// The flags that the entries above it get.
+    pub parent_flags: u64,
+}
+
+/// A page of one of the three sizes.
+#[derive(Clone, Copy)]
+pub enum AnyPage<L: LevelCount> {
+    Of4KiB(PageIn<Size4KiB, L>),
+    Of2MiB(PageIn<Size2MiB, L>),
+    Of1GiB(PageIn<Size1GiB, L>),
 }
 
 /// Where a hierarchy starts, and where frames lie.
@@ -78,4 +103,27 @@ pub fn frame_at<S: PageSize>(start: u64) -> Option<PhysFrame<S>>
     ensures none { IfNone result (given.starts_frame S.SIZE start ≡ false) }
 {
     PhysFrame::from_start_address(PhysAddr::try_new(start).ok()?).ok()
+}
+
+/// Returns a page, if it is one with `L` levels of tables.
+pub fn page_of<L: LevelCount>(page: &Page) -> Option<AnyPage<L>>
+    ensures some { IfSome result (λ any. given.IsPageOf L.LEVELS page.now (given.any_level any) (given.any_position any)) }
+    ensures good { IfSome result (λ _. given.bad_page L.LEVELS page.now ≡ None) }
+    ensures bad { IfNone result (given.bad_page L.LEVELS page.now ≡ Some status.bad_page) }
+{
+    Some(match page.size {
+        Size4KiB::SIZE => AnyPage::Of4KiB(page_at(page.start)?),
+        Size2MiB::SIZE => AnyPage::Of2MiB(page_at(page.start)?),
+        Size1GiB::SIZE => AnyPage::Of1GiB(page_at(page.start)?),
+        _ => return None,
+    })
+}
+
+/// Returns the page of a size that starts at an address, if one does.
+fn page_at<S: PageSize, L: LevelCount>(start: u64) -> Option<PageIn<S, L>>
+    ensures some { IfSome result (λ page. page ≡ given.position_of L.LEVELS start) }
+    ensures good { IfSome result (λ _. given.starts_page L.LEVELS S.SIZE start ≡ true) }
+    ensures bad { IfNone result (given.starts_page L.LEVELS S.SIZE start ≡ false) }
+{
+    PageIn::from_start_address(VirtAddrIn::checked_new(start)?).ok()
 }

@@ -1,4 +1,9 @@
 //! The statuses that calls return.
+ghost use Rattle.std.specs.Prelude.{◌≡◌};
+ghost use Rattle.x86_64_c.specs.Calls as calls;
+ghost use Rattle.x86_64_tables.specs.MapperAnswers.{update_refusal};
+
+use x86_64::structures::paging::mapper::FlagUpdateError;
 
 /// Done.
 pub const OK: u32 = 0;
@@ -47,3 +52,13 @@ pub const BAD_PAGE: u32 = 20;
 
 /// The frame's start isn't below 2^52 or no multiple of the size.
 pub const BAD_FRAME: u32 = 21;
+
+/// Returns the status of a refused change of flags.
+pub fn flags_status(error: FlagUpdateError) -> u32
+    ensures { result ≡ calls.refusal_status (update_refusal error) }
+{
+    match error {
+        FlagUpdateError::PageNotMapped => PAGE_NOT_MAPPED,
+        FlagUpdateError::ParentEntryHugePage => PARENT_ENTRY_HUGE_PAGE,
+    }
+}

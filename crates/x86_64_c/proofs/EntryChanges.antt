@@ -1,0 +1,67 @@
+-- A change of one entry, stated of the words in the caller's memory.
+use Rattle.std.proofs.Common.{◌≡◌, ◌≤◌, ◌<◌, inr, ℕ, Bool, true, cond, List, ◌∷◌, refl, sym, ap, ◌∙◌, subst, arith}
+use Rattle.std.proofs.lemmas.List.Sorted.{IsPermutation-refl}
+use Rattle.x86_64_model.specs.Call.{Call, IsCall, Answered, NotAllowed}
+use Rattle.x86_64_model.specs.Entry.{IsParentFlags}
+use Rattle.x86_64_model.specs.Layout.{Layout, IsReady}
+use Rattle.x86_64_model.specs.Machine.{AfterCall, only_reply, do_call, step}
+use Rattle.x86_64_model.specs.Mapper.{Hierarchy, Does, PoolFits, allows, machine_of, state_in}
+use Rattle.x86_64_model.specs.Memory.{Memory}
+use Rattle.x86_64_model.specs.Path.{IsPage, path_at}
+use Rattle.x86_64_model.specs.Pool.{TakesBack}
+use Rattle.x86_64_model.specs.Refusal.{Answer}
+use Rattle.x86_64_model.proofs.Lemmas.Machines.Effects.{page_at_level}
+use Rattle.x86_64_model.proofs.Lemmas.Machines.Fitting.{ready_of_fits}
+use Rattle.x86_64_model.proofs.Lemmas.Machines.Giving.{giving_from}
+use Rattle.x86_64_mappers.specs.private.ImplLaws.{no_flags}
+use Rattle.x86_64.specs.Runs.{KeepsPool}
+use Rattle.x86_64.proofs.Keeping.{keeps_step}
+use Rattle.x86_64_c.specs.Calls.{Changes, answer_status, to_front}
+
+-- a layout's hierarchy in a memory
+abbrev pub of : Layout → Memory → Hierarchy (Unit {0})
+of l m = record { layout = l; memory = m; lent = tt }
+
+gives : TakesBack to_front
+gives = giving_from to_front (λ held f. IsPermutation-refl (f ∷ held))
+
+-- a pool that fitted the hierarchy still does
+keeps : {Lent : Type 0} (h after : Hierarchy Lent) (call : Call) (answer : Answer) → IsParentFlags h.layout.added_flags → IsCall h.layout.levels call → allows h call ≡ true
+    → Does h call answer after → (serves : ℕ → Bool) (pool : List ℕ) → PoolFits h serves pool → KeepsPool h.layout serves h.memory pool after.memory pool
+keeps h after call answer adds is may does serves pool fits =
+    let machine = machine_of h.layout to_front in
+    let before = state_in h.layout h.memory pool in
+    let did = subst (λ l. do_call machine before call ≡ record { state = state_in l after.memory pool; reply = Answered answer }) does.layout (does.outcome pool to_front) in
+    let one : step machine before call ≡ record { state = state_in h.layout after.memory pool; reply = Answered answer } =
+    ap (λ b. cond b (do_call machine before call) (only_reply before NotAllowed)) may ∙ did in
+    keeps_step h.layout adds to_front gives serves h.memory pool fits call is after.memory pool (sym (ap (λ (x : AfterCall). x.state) one))
+    (subst (λ l. IsReady l after.memory pool) does.layout (does.fits pool (ready_of_fits h.layout h.memory serves pool fits))) (λ k none. does.others k (λ f table. none f (inr table)))
+
+-- what a mapper did, of the words alone
+seen : {Lent : Type 0} (h after : Hierarchy Lent) (call : Call) (answer : Answer) → Does h call answer after → Does (of h.layout h.memory) call answer (of after.layout after.memory)
+seen h after call answer does = record {
+  outcome = does.outcome;
+  valid = does.valid;
+  fits = does.fits;
+  others = does.others;
+  refused = does.refused;
+  layout = does.layout;
+  lent = refl;
+}
+
+pub changes : {Lent : Type 0} (h after : Hierarchy Lent) (l : Layout) (m n : Memory) → h.layout ≡ l → h.memory ≡ m → after.memory ≡ n
+    → (call : Call) (answer : Answer) (status : ℕ) → IsParentFlags l.added_flags → IsCall l.levels call → allows (of l m) call ≡ true
+    → Does h call answer after → status ≡ answer_status answer → Changes (of l m) call answer (of l n) status
+changes h after l m n layout memory left call answer status adds is may does told =
+    let did = subst (λ l. Does (of l m) call answer (of l n)) layout
+    (subst (λ m. Does (of h.layout m) call answer (of h.layout n)) memory
+    (subst (λ n. Does (of h.layout h.memory) call answer (of h.layout n)) left
+    (subst (λ k. Does (of h.layout h.memory) call answer (of k after.memory)) does.layout (seen h after call answer does)))) in
+    record { does = did; status_is = told; keeps = keeps (of l m) (of l n) call answer adds is may did }
+
+-- a mapper without recursive index adds no flags to the parent flags
+pub plain : IsParentFlags 0
+plain = no_flags.adds
+
+pub is_page : (L : ℕ) → 3 < L → (level : ℕ) → 1 ≤ level → level ≤ 3 → (page : ℕ) → IsPage L (path_at L level page)
+is_page L some level low high page = page_at_level L level page low high (omega (arith, some, high))
