@@ -1,0 +1,21 @@
+-- A pool of free frames in an array that its owner lends.
+use Rattle.std.specs.Prelude.{ℕ, ◌==◌, ◌≤◌, Bool, List, None, length, take, reverse}
+use Rattle.std.specs.List.{list_any}
+use Rattle.x86_64_model.specs.Hierarchy.{paths_of}
+use Rattle.x86_64_model.specs.Memory.{Words}
+use Rattle.x86_64_model.specs.Pool.{Fits}
+
+-- the free frames in an array whose first entries are the free frames: the last of them first, since it is handed out first
+abbrev pub stacked : (entries : List ℕ) → (count : ℕ) → List ℕ
+stacked entries count = reverse (take count entries)
+
+-- whether a frame is in a list
+abbrev pub is_in : (frames : List ℕ) → (frame : ℕ) → Bool
+is_in frames f = list_any (λ g. g == f) frames
+
+-- The hierarchy is valid, a pool fits it, and an array has room for every frame that the pool may ever hold: its own frames, and
+-- those of the tables below the root.
+pub record FitsRoom (L : ℕ) (T : Words) (root capacity : ℕ) (pool : List ℕ) : Type 0 where
+  pub own : List ℕ
+  pub few : length own ≤ capacity
+  pub fits : Fits L None T root (paths_of L T root) (is_in own) pool
