@@ -15,8 +15,9 @@ pub use calls::{
     ReplyIn, SizeCall, SizeCall57, SizeCallIn, SizeReply, SizeReply57, SizeReplyIn,
 };
 pub use runs::{
-    is_outside_window, is_outside_window as is_outside_window_57, run, run as run_57, run_flushed,
-    run_flushed as run_flushed_57, run_pair, run_pair as run_pair_57,
+    is_outside_window, is_outside_window as is_outside_window_57, run, run as run_57, run_call,
+    run_call as run_call_57, run_flushed, run_flushed as run_flushed_57, run_pair,
+    run_pair as run_pair_57,
 };
 pub use x86_64_addr::addr;
 pub use x86_64_addr::addr::{PhysAddr, VirtAddr, VirtAddr57};

@@ -68,6 +68,33 @@ pub fn run<L: LevelCount, P5: LevelFiveFlags<L>, M: TableAccess + TablesIn<L>, F
     Ok(())
 }
 
+/// Answers one call, as [`run`] answers each of a list, and takes no memory. With five levels its name is `run_call_57`, too.
+///
+/// Requires that the hierarchy is valid, and that the frame store fits it, as `run` does.
+pub fn run_call<L: LevelCount, P5: LevelFiveFlags<L>, M: TableAccess + TablesIn<L>, F: FrameStore>(
+    mapper: &mut M,
+    frames: &mut F,
+    call: CallIn<L, P5>,
+) -> ReplyIn<L>
+    requires { PoolFits (M.hierarchy mapper.old) (F.serves frames.old) (F.supply frames.old) }
+    ensures step { let layout = (M.hierarchy mapper.old).layout in
+        let start = state_in layout (M.hierarchy mapper.old).memory (F.supply frames.old) in
+        let after = state_in layout (M.hierarchy mapper.new).memory (F.supply frames.new) in
+        step_by (machine_of layout F.take_back) start (asks P5.bits call)
+        ≡ record { state = after; reply = Some result } }
+    ensures unchanged { let memory = (M.hierarchy mapper.old).memory in
+        changes_nothing result ≡ true → (M.hierarchy mapper.new).memory ≡ memory }
+    ensures free { let h = M.hierarchy mapper.old in let pool = F.supply frames.old in
+        let asked = machine_call h.layout.levels (asks P5.bits call) in
+        let back = back_by (machine_of h.layout F.take_back) (state_in h.layout h.memory pool) asked in
+        KeepsFree h.layout h.memory pool back (M.hierarchy mapper.new).memory (F.supply frames.new) }
+    ensures keeps { let h = M.hierarchy mapper.old in
+        Kept h (F.serves frames.old) (F.supply frames.old) (M.hierarchy mapper.new) (F.supply frames.new) }
+    ensures serves { F.serves frames.new ≡ F.serves frames.old }
+{
+    serve(mapper, frames, call, &mut Ignored)
+}
+
 /// Answers calls in order, for which there is room.
 fn serve_all<
     L: LevelCount,
