@@ -1,8 +1,8 @@
-//! Page tables of x86-64: virtual and physical addresses, pages and frames, tables of four and five levels, and mappers over a
-//! physical memory that consists of page tables.
+//! Page tables of x86-64: virtual and physical addresses, pages and frames, page tables of four and five levels, and
+//! mappers over a physical memory that consists of page tables.
 //!
-//! The names and paths are those of the Rust crate `x86_64`. What is lent to a mapper here is a
-//! [`TableMemory`]: a [`PhysMemory`], which owns its tables, or a [`LentMemory`] over tables of the caller's.
+//! Names and paths are those of the Rust crate `x86_64`. Here, a mapper borrows a [`TableMemory`], which is a
+//! [`PhysMemory`] that owns its tables, or a [`LentMemory`] over tables of the caller.
 #![tactic(auto)]
 
 mod calls;
