@@ -7,5 +7,6 @@ pub mod WordsSeen
 pub mod ViewMarks
 pub mod AlikeSteps
 pub mod Pools
+pub mod Stacks
 pub mod Tested
 pub mod LentSteps

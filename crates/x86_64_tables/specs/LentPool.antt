@@ -1,6 +1,8 @@
 -- A pool of free frames in an array that its owner lends.
-use Rattle.std.specs.Prelude.{ℕ, ◌==◌, ◌≤◌, Bool, List, None, length, take, reverse}
+use Rattle.std.specs.Prelude.{ℕ, ◌==◌, ◌≤◌, Bool, List, [], ◌∷◌, None, length, take, reverse}
 use Rattle.std.specs.List.{list_any}
+use Rattle.std.specs.Coded.{×_prop, →_prop, Unit-prop}
+use Rattle.x86_64_model.specs.Lists.{EachOnce}
 use Rattle.x86_64_model.specs.Hierarchy.{paths_of}
 use Rattle.x86_64_model.specs.Memory.{Words}
 use Rattle.x86_64_model.specs.Pool.{Fits}
@@ -19,3 +21,8 @@ pub record FitsRoom (L : ℕ) (T : Words) (root capacity : ℕ) (pool : List ℕ
   pub own : List ℕ
   pub few : length own ≤ capacity
   pub fits : Fits L None T root (paths_of L T root) (is_in own) pool
+
+-- that each element is there once has one proof at most, as a fact that a value keeps must
+pub EachOnce-prop : (frames : List ℕ) → IsProp (EachOnce frames)
+EachOnce-prop [] = Unit-prop
+EachOnce-prop (f ∷ frames) = ×_prop (→_prop (λ e. absurd e)) (EachOnce-prop frames)
