@@ -1,5 +1,5 @@
 -- Stacks of frames in an array: what a push and a pop change, and that a frame that comes back has room.
-use Rattle.std.proofs.Common.{◌≡◌, ◌≢◌, ◌⊎◌, inl, inr, ⊎_elim, ℕ, ◌+◌, ◌<◌, ◌≤◌, ◌%◌, ◌^◌, ◌||◌, true, List, [], ◌∷◌, ◌++◌, length, take, reverse, get_or, slice_set, refl, sym, ap, subst, ◌∙◌, arith, length-append}
+use Rattle.std.proofs.Common.{◌≡◌, inl, inr, ⊎_elim, ℕ, ◌+◌, ◌<◌, ◌≤◌, ◌%◌, ◌^◌, ◌||◌, true, List, [], ◌∷◌, ◌++◌, length, take, reverse, get_or, slice_set, refl, sym, ap, subst, ◌∙◌, arith, length-append}
 use Rattle.std.proofs.lemmas.Bool.{eq-eqb}
 use Rattle.std.proofs.lemmas.Bool.Decides.{eqb_tells}
 use Rattle.std.proofs.lemmas.List.{take_more, take_more_set, take-set, reverse-append, length-reverse, length-take-le}

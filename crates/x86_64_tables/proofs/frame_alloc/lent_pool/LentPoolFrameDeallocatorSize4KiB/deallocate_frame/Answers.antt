@@ -1,4 +1,4 @@
-use Rattle.std.proofs.Common.{◌≡◌, ◌∙◌, ◌<◌, ◌+◌, ◌≤◌, ℕ, List, ◌∷◌, true, length, slice_set, ⊎_elim, subst, sym, ap, arith}
+use Rattle.std.proofs.Common.{◌≡◌, ◌∙◌, ◌<◌, ◌+◌, ◌≤◌, ℕ, ◌∷◌, true, length, slice_set, ⊎_elim, subst, sym, ap, arith}
 use Rattle.std.proofs.lemmas.List.{length-set}
 use Rattle.x86_64_model.specs.Entry.{is_frame}
 use Rattle.x86_64_model.specs.Lists.{In, EachOnce}
