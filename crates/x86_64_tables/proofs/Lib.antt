@@ -8,5 +8,6 @@ pub mod ViewMarks
 pub mod AlikeSteps
 pub mod Pools
 pub mod Stacks
+pub mod LentPools
 pub mod Tested
 pub mod LentSteps

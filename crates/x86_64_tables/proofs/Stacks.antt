@@ -1,13 +1,15 @@
 -- Stacks of frames in an array: what a push and a pop change, and that a frame that comes back has room.
-use Rattle.std.proofs.Common.{◌≡◌, inl, inr, ⊎_elim, ℕ, ◌+◌, ◌<◌, ◌≤◌, ◌%◌, ◌^◌, ◌||◌, true, List, [], ◌∷◌, ◌++◌, length, take, reverse, get_or, slice_set, refl, sym, ap, subst, ◌∙◌, arith, length-append}
-use Rattle.std.proofs.lemmas.Bool.{eq-eqb}
+use Rattle.std.proofs.Common.{◌≡◌, inl, inr, ⊎_elim, ℕ, ◌+◌, ◌<◌, ◌≤◌, ◌%◌, ◌^◌, ◌*◌, ◌==◌, ◌||◌, true, cond, List, [], ◌∷◌, ◌++◌, length, take, reverse, get_or, slice_set, refl, sym, ap, subst, ◌∙◌, arith, length-append}
+use Rattle.std.specs.Borrow.{GName}
+use Rattle.std.proofs.lemmas.Bool.{eq-eqb, ne_eqb}
 use Rattle.std.proofs.lemmas.Bool.Decides.{eqb_tells}
 use Rattle.std.proofs.lemmas.List.{take_more, take_more_set, take-set, reverse-append, length-reverse, length-take-le}
-use Rattle.x86_64_model.specs.Entry.{is_frame, address}
-use Rattle.x86_64_model.proofs.Lemmas.Entries.Words.{address_within, address_aligned}
+use Rattle.x86_64_model.specs.Entry.{is_frame}
+use Rattle.x86_64_model.proofs.Lemmas.Entries.Words.{address_within}
 use Rattle.x86_64_model.specs.Lists.{In, EachOnce}
 use Rattle.x86_64_model.proofs.Lemmas.Lists.Members.{in_left, in_right, in_append}
-use Rattle.x86_64_tables.specs.LentPool.{stacked, is_in}
+use Rattle.x86_64_tables.specs.LentPool.{stacked, is_in, served_by}
+use Rattle.x86_64_tables.specs.private.PoolLaws.{is_address}
 
 -- ---- what is in a list
 
@@ -76,12 +78,36 @@ has_room own entries n f inside few once served fits out =
 pub top_in : (entries : List ℕ) (n : ℕ) → n < length entries → In (stacked entries (n + 1)) (get_or entries n 0)
 top_in entries n below = subst (λ fs. In fs (get_or entries n 0)) (sym (stacked-pop entries n below)) (inl refl)
 
-is_address : (f : ℕ) → is_frame f ≡ true → address f ≡ f
-is_address f is = elim (eqb_tells (address f) f) [ inl same ↦ same.1 | inr other ↦ cc ]
-
--- an address of a frame is below 2^52, and a multiple of 4096
+-- the address of a frame is below 2^52
 pub frame_below : (f : ℕ) → is_frame f ≡ true → f < 2 ^ 52
 frame_below f is = subst (λ a. a < 2 ^ 52) (is_address f is) (address_within f)
 
-pub frame_aligned : (f : ℕ) → is_frame f ≡ true → f % 4096 ≡ 0
-frame_aligned f is = subst (λ a. a % 4096 ≡ 0) (is_address f is) (address_aligned f)
+-- ---- what a pool serves
+
+-- what is served stays, so the loans stay
+pub same_array : (own own' : List ℕ) (array count array' count' : GName) → served_by own' array' count' ≡ served_by own array count → array' ≡ array
+same_array own own' array count array' count' same =
+    let f : ℕ = 4096 * array + 1 in
+    let other = ne_eqb (f % 4096) 0 (omega arith) in
+    let known : served_by own array count f ≡ true =
+    ap (λ b. cond b (is_in own f) (f == 4096 * array + 1 || f == 4096 * count + 2)) other ∙ ap (λ b. b || f == 4096 * count + 2) (eq-eqb f f refl) in
+    let again : (f == 4096 * array' + 1 || f == 4096 * count' + 2) ≡ true =
+    sym (ap (λ b. cond b (is_in own' f) (f == 4096 * array' + 1 || f == 4096 * count' + 2)) other) ∙ ap (λ s. s f) same ∙ known in
+    elim (eqb_tells f (4096 * array' + 1)) [
+      | inl is ↦ let e = is.1 in omega (arith, e)
+      | inr apart ↦ elim (eqb_tells f (4096 * count' + 2)) [ inl is ↦ let e = is.1 in omega (arith, e) | inr other' ↦ cc ]
+    ]
+
+pub same_count : (own own' : List ℕ) (array count array' count' : GName) → served_by own' array' count' ≡ served_by own array count → count' ≡ count
+same_count own own' array count array' count' same =
+    let f : ℕ = 4096 * count + 2 in
+    let other = ne_eqb (f % 4096) 0 (omega arith) in
+    let first = ne_eqb f (4096 * array + 1) (omega arith) in
+    let known : served_by own array count f ≡ true =
+    ap (λ b. cond b (is_in own f) (f == 4096 * array + 1 || f == 4096 * count + 2)) other ∙ ap (λ b. f == 4096 * array + 1 || b) (eq-eqb f f refl) ∙ ap (λ b. b || true) first in
+    let again : (f == 4096 * array' + 1 || f == 4096 * count' + 2) ≡ true =
+    sym (ap (λ b. cond b (is_in own' f) (f == 4096 * array' + 1 || f == 4096 * count' + 2)) other) ∙ ap (λ s. s f) same ∙ known in
+    elim (eqb_tells f (4096 * count' + 2)) [
+      | inl is ↦ let e = is.1 in omega (arith, e)
+      | inr apart ↦ elim (eqb_tells f (4096 * array' + 1)) [ inl is ↦ let e = is.1 in omega (arith, e) | inr other' ↦ cc ]
+    ]

@@ -3,7 +3,8 @@ ghost use Rattle.std.specs.Prelude.{◌≡◌, ℕ, List, ◌∷◌, ◌≤◌, 
 ghost use Rattle.std.specs.Borrow.{ftrue};
 ghost use Rattle.x86_64_model.specs.Entry.{is_frame};
 ghost use Rattle.x86_64_model.specs.Lists.{In, EachOnce};
-ghost use Rattle.x86_64_tables.specs.LentPool.{stacked, is_in, EachOnce-prop};
+ghost use Rattle.x86_64_tables.specs.LentPool.{stacked, is_in, served_by};
+ghost use Rattle.x86_64_tables.specs.private.PoolLaws.{EachOnce-prop};
 
 use super::{FrameAllocator, FrameDeallocator, FrameKeeper, FrameStore};
 use std::marker::Model;
@@ -60,7 +61,8 @@ impl<'a> LentPool<'a> {
         requires are_frames { (f : ℕ) → In (stacked entries.old count.old) f → is_frame f ≡ true }
         requires served { (f : ℕ) → In (stacked entries.old count.old) f → is_in own.frames f ≡ true }
         ensures supply { ⟦<Self as FrameAllocator<Size4KiB>>⟧.supply result ≡ stacked entries.old count.old }
-        ensures serves { ⟦<Self as FrameKeeper<Size4KiB>>⟧.serves result ≡ is_in own.frames }
+        ensures serves { ⟦<Self as FrameKeeper<Size4KiB>>⟧.serves result
+            ≡ served_by own.frames entries.entry.ghost_name count.entry.ghost_name }
     {
         LentPool {
             entries,
@@ -85,10 +87,12 @@ impl<'a> Drop for LentPool<'a> {
 }
 
 impl<'a> FrameKeeper<Size4KiB> for LentPool<'a> {
-    ghost serves = { λ pool. is_in pool.own.frames };
+    ghost serves = { λ pool. served_by pool.own.frames pool.entries.ghost_name pool.count.ghost_name };
 }
 
 impl<'a> FrameAllocator<Size4KiB> for LentPool<'a> {
+    ghost use Rattle.x86_64_tables.specs.private.PoolLaws.{served_frame};
+
     ghost supply = { λ pool. stacked pool.entries.now pool.count.now };
 
     // Few maps of pages make a table, so this stays out of the way of the others.
@@ -104,22 +108,26 @@ impl<'a> FrameAllocator<Size4KiB> for LentPool<'a> {
         Some(PhysFrame::from_start_address_unchecked(address))
     }
 
-    ghost supply_is_served = { λ pool. pool.served };
+    ghost supply_is_served = { λ pool frame free. served_frame pool.own.frames pool.entries.ghost_name
+        pool.count.ghost_name frame (pool.are_frames frame free) (pool.served frame free) };
 }
 
 impl<'a> FrameDeallocator<Size4KiB> for LentPool<'a> {
     ghost use Rattle.std.proofs.lemmas.List.Sorted.{IsPermutation-refl};
+    ghost use Rattle.x86_64_tables.specs.private.PoolLaws.{served_frame};
 
     ghost held = { λ pool. stacked pool.entries.now pool.count.now };
 
     ghost take_back = { λ held frame. frame ∷ held };
 
     fn deallocate_frame(&mut self, frame: PhysFrame<Size4KiB>)
-        requires served { is_in self.old.own.frames frame ≡ true }
+        requires served { served_by self.old.own.frames self.old.entries.ghost_name self.old.count.ghost_name frame
+            ≡ true }
         requires not_held { In (stacked self.old.entries.now self.old.count.now) frame → ⊥ }
         ensures held { stacked self.new.entries.now self.new.count.now
             ≡ frame ∷ stacked self.old.entries.now self.old.count.now }
-        ensures own { self.new.own.frames ≡ self.old.own.frames }
+        ensures serves { served_by self.new.own.frames self.new.entries.ghost_name self.new.count.ghost_name
+            ≡ served_by self.old.own.frames self.old.entries.ghost_name self.old.count.ghost_name }
     {
         // The frame is served and not among the others, so these are fewer than the entries.
         let end = *self.count;
@@ -127,7 +135,8 @@ impl<'a> FrameDeallocator<Size4KiB> for LentPool<'a> {
         *self.count = end + 1;
     }
 
-    ghost held_is_served = { λ pool. pool.served };
+    ghost held_is_served = { λ pool frame free. served_frame pool.own.frames pool.entries.ghost_name
+        pool.count.ghost_name frame (pool.are_frames frame free) (pool.served frame free) };
 
     ghost take_back_rearranges = { λ held frame. IsPermutation-refl (frame ∷ held) };
 }

@@ -3,7 +3,8 @@ use Rattle.x86_64_model.specs.Entry.{is_frame}
 use Rattle.x86_64_model.specs.Lists.{In}
 use Rattle.x86_64_tables.specs.LentPool.{stacked}
 use Rattle.x86_64_tables.specs.declared.frame_alloc.lent_pool.LentPool.{LentPool}
-use Rattle.x86_64_tables.proofs.Stacks.{top_in, frame_below, frame_aligned}
+use Rattle.x86_64_tables.specs.private.PoolLaws.{frame_aligned}
+use Rattle.x86_64_tables.proofs.Stacks.{top_in, frame_below}
 use Rattle.x86_64_tables.proofs.frame_alloc.lent_pool.LentPoolFrameAllocatorSize4KiB.allocate_frame.Goals as goal
 
 -- the entry on top of a pool that holds a frame is a frame

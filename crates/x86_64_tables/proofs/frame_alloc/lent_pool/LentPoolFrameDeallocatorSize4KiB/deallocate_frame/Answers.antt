@@ -5,13 +5,20 @@ use Rattle.x86_64_model.specs.Lists.{In, EachOnce}
 use Rattle.x86_64_model.proofs.Lemmas.Entries.Words.{address-multiple}
 use Rattle.std.proofs.lemmas.Bool.{eq-eqb}
 use Rattle.x86_64_tables.specs.LentPool.{stacked, is_in}
+use Rattle.x86_64_tables.specs.private.PoolLaws.{served_aligned}
 use Rattle.x86_64_tables.proofs.Stacks.{has_room, stacked-push}
 use Rattle.x86_64_tables.proofs.frame_alloc.lent_pool.LentPoolFrameDeallocatorSize4KiB.deallocate_frame.Goals as goal
+
+-- a frame is served by the list of frames
+pub among : (c : goal.After-as_u64) → is_in c.args.self.now.own.frames c.args.frame ≡ true
+among c =
+    let pool = c.args.self.now in
+    sym (served_aligned pool.own.frames pool.entries.ghost_name pool.count.ghost_name c.args.frame c.start_address.ensures.aligned_to_4kib) ∙ c.requires.served
 
 pub bounds-self-end : goal.bounds-self-end
 bounds-self-end c =
     let pool = c.args.self.now in
-    has_room pool.own.frames pool.entries.now pool.count.now c.args.frame pool.in_array pool.room pool.each_once pool.served c.requires.served c.requires.not_held
+    has_room pool.own.frames pool.entries.now pool.count.now c.args.frame pool.in_array pool.room pool.each_once pool.served (among c) c.requires.not_held
 
 pub invariant_of-self : goal.invariant_of-self
 invariant_of-self c =
@@ -30,5 +37,5 @@ invariant_of-self c =
       room = room;
       each_once = subst EachOnce (sym pushed) (c.requires.not_held, pool.each_once);
       are_frames = λ f is. ⊎_elim (λ same. subst (λ f. is_frame f ≡ true) same (eq-eqb _ _ (address-multiple frame start.aligned_to_4kib start.below))) (pool.are_frames f) (subst (λ fs. In fs f) pushed is);
-      served = λ f is. ⊎_elim (λ same. subst (λ f. is_in pool.own.frames f ≡ true) same c.requires.served) (pool.served f) (subst (λ fs. In fs f) pushed is);
+      served = λ f is. ⊎_elim (λ same. subst (λ f. is_in pool.own.frames f ≡ true) same (among c)) (pool.served f) (subst (λ fs. In fs f) pushed is);
     }
