@@ -12,7 +12,7 @@ use x86_64_addr::addr::PhysAddr;
 use x86_64_page::frame::PhysFrame;
 use x86_64_page::page::Size4KiB;
 
-/// The frames that a pool may ever hold, a list that only contracts read. It takes no memory.
+/// The frames that a pool may ever hold: a list that only contracts read. It takes no memory.
 #[derive(Drop)]
 pub struct OwnFrames {
     pub ghost frames: { List ℕ },
@@ -23,7 +23,7 @@ impl Model for OwnFrames {
 }
 
 impl OwnFrames {
-    /// Returns the list of frames that the caller's contract names.
+    /// Returns the list that the caller's contract names.
     pub fn of() -> OwnFrames
         ghost own: { List ℕ }
         ensures { result.frames ≡ own }
@@ -32,28 +32,29 @@ impl OwnFrames {
     }
 }
 
-/// Holds free 4KiB frames in an array that is lent, with the number of free frames, and takes no memory.
+/// Holds free 4KiB frames in an array that is lent, beside their number, and takes no memory.
 ///
-/// The first `count` entries of the array are the addresses of the free frames. They are a stack: the last of them is handed out first,
-/// and a frame that comes back goes on top. Each call takes constant time.
+/// The first `count` entries of the array are the addresses of the free frames, a stack: the last of them is handed out first, and
+/// a frame that comes back goes on top. Each call takes constant time.
 ///
-/// The pool serves a list of frames that has at most as many as the array has entries, so a frame that comes back always has an entry.
-/// Once the loan ends, the owner of the array and of the number knows which frames are free.
+/// It serves the frames of a list, [`OwnFrames`], which is no longer than the array: so there is an entry for each frame that comes
+/// back. Two numbers that it serves are no frames and name the loans. So a call that keeps what is served keeps the loans too, and
+/// once they end, the owner of the array and of the count knows which frames are free.
 pub struct LentPool<'a> {
     entries: &'a mut [u64],
     count: &'a mut usize,
     own: OwnFrames,
     ghost in_array: { count.now ≤ length entries.now },
     ghost room: { length own.frames ≤ length entries.now },
-    ghost each_once: { EachOnce (stacked entries.now count.now) } by { EachOnce-prop (stacked entries.now count.now) },
+    ghost each_once: { EachOnce (stacked entries.now count.now) } by { EachOnce-prop _ },
     ghost are_frames: { (f : ℕ) → In (stacked entries.now count.now) f → is_frame f ≡ true },
     ghost served: { (f : ℕ) → In (stacked entries.now count.now) f → is_in own.frames f ≡ true },
 }
 
 impl<'a> LentPool<'a> {
-    /// Makes a pool of an array whose first `count` entries are the addresses of free frames. `own` are the frames that it serves.
+    /// Makes a pool of an array whose first `count` entries are the addresses of the free frames.
     ///
-    /// Requires that each free frame is among those once, and that the array has an entry for each frame that is served.
+    /// Requires that each free frame is there once, that `own` has it, and that the array has an entry for each frame of `own`.
     pub fn new(entries: &'a mut [u64], count: &'a mut usize, own: OwnFrames) -> LentPool<'a>
         requires in_array { count.old ≤ length entries.old }
         requires room { length own.frames ≤ length entries.old }
@@ -121,13 +122,12 @@ impl<'a> FrameDeallocator<Size4KiB> for LentPool<'a> {
     ghost take_back = { λ held frame. frame ∷ held };
 
     fn deallocate_frame(&mut self, frame: PhysFrame<Size4KiB>)
-        requires served { served_by self.old.own.frames self.old.entries.ghost_name self.old.count.ghost_name frame
-            ≡ true }
+        requires served { ⟦<Self as FrameKeeper<Size4KiB>>⟧.serves self.old frame ≡ true }
         requires not_held { In (stacked self.old.entries.now self.old.count.now) frame → ⊥ }
         ensures held { stacked self.new.entries.now self.new.count.now
             ≡ frame ∷ stacked self.old.entries.now self.old.count.now }
-        ensures serves { served_by self.new.own.frames self.new.entries.ghost_name self.new.count.ghost_name
-            ≡ served_by self.old.own.frames self.old.entries.ghost_name self.old.count.ghost_name }
+        ensures serves { ⟦<Self as FrameKeeper<Size4KiB>>⟧.serves self.new
+            ≡ ⟦<Self as FrameKeeper<Size4KiB>>⟧.serves self.old }
     {
         // The frame is served and not among the others, so these are fewer than the entries.
         let end = *self.count;
