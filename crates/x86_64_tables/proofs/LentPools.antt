@@ -1,5 +1,5 @@
 -- A pool in a lent array fits a hierarchy: by the list of its own frames, and by what it serves.
-use Rattle.std.proofs.Common.{◌≡◌, ◌∙◌, ℕ, ◌≤◌, ◌&&◌, nat_lt, Bool, true, false, cond, List, ◌∷◌, length, Option, Some, None, sym, subst}
+use Rattle.std.proofs.Common.{◌≡◌, ◌∙◌, ℕ, ◌≤◌, ◌&&◌, nat_lt, Bool, true, false, cond, List, ◌∷◌, length, Option, Some, None, sym, subst, ap}
 use Rattle.std.specs.Borrow.{GName}
 use Rattle.x86_64_model.specs.Entry.{is_frame, address, names_table}
 use Rattle.x86_64_model.specs.Hierarchy.{paths_of}
@@ -8,7 +8,7 @@ use Rattle.x86_64_model.specs.PathMap.{PathMap, entry, table_of, table_at}
 use Rattle.x86_64_model.specs.Pool.{Fits}
 use Rattle.x86_64_model.specs.Window.{Window}
 use Rattle.x86_64_model.proofs.Lemmas.Entries.Bits.{is_frame_address}
-use Rattle.x86_64_tables.specs.LentPool.{is_in, served_by, FitsRoom}
+use Rattle.x86_64_tables.specs.LentPool.{is_in, served_by, stacked, FitsRoom}
 use Rattle.x86_64_tables.specs.private.PoolLaws.{frame_aligned, served_aligned, served_frame}
 
 -- a table below the root stands in a frame
@@ -35,19 +35,24 @@ fits_by L window T root paths pool serves serves' also fits = record {
   serves_tables = λ i q f leads. also f (table_is_frame L root paths i q f leads) (fits.serves_tables i q f leads);
 }
 
-module _ (L : ℕ) (window : Option Window) (T : Words) (root : ℕ) (paths : PathMap) (own : List ℕ) (array count : GName) (pool : List ℕ) where
-  pub fits_served : Fits L window T root paths (is_in own) pool → Fits L window T root paths (served_by own array count) pool
-  fits_served = fits_by L window T root paths pool (is_in own) (served_by own array count) (served_frame own array count)
+-- a store that serves what such a pool serves fits where its own frames do
+pub fits_served : {L : ℕ} {window : Option Window} {T : Words} {root : ℕ} {paths : PathMap} {pool : List ℕ} {serves : ℕ → Bool} (own : List ℕ) (array count : GName)
+    → serves ≡ served_by own array count → Fits L window T root paths (is_in own) pool → Fits L window T root paths serves pool
+fits_served {L} {window} {T} {root} {paths} {pool} {serves} own array count same = fits_by L window T root paths pool (is_in own) serves
+    (λ f is among. ap (λ s. s f) same ∙ served_frame own array count f is among)
 
-  pub fits_own : Fits L window T root paths (served_by own array count) pool → Fits L window T root paths (is_in own) pool
-  fits_own = fits_by L window T root paths pool (served_by own array count) (is_in own)
-      (λ f is served. sym (served_aligned own array count f (frame_aligned f is)) ∙ served)
+-- and its own frames fit where it does
+pub fits_own : {L : ℕ} {window : Option Window} {T : Words} {root : ℕ} {paths : PathMap} {pool : List ℕ} {serves : ℕ → Bool} (own : List ℕ) (array count : GName)
+    → serves ≡ served_by own array count → Fits L window T root paths serves pool → Fits L window T root paths (is_in own) pool
+fits_own {L} {window} {T} {root} {paths} {pool} {serves} own array count same = fits_by L window T root paths pool serves (is_in own)
+    (λ f is served. sym (ap (λ s. s f) same ∙ served_aligned own array count f (frame_aligned f is)) ∙ served)
 
--- what a call leaves fits again, with room
-pub fits_room : (L : ℕ) (T : Words) (root capacity : ℕ) (own : List ℕ) (array count : GName) (pool : List ℕ) → length own ≤ capacity
-    → Fits L None T root (paths_of L T root) (served_by own array count) pool → FitsRoom L T root capacity pool
-fits_room L T root capacity own array count pool few fits = record {
+-- so the array that the pool leaves fits, with room
+pub fits_room : {L : ℕ} {T : Words} {root : ℕ} {pool : List ℕ} {serves : ℕ → Bool} (own : List ℕ) (array count : GName) (entries : List ℕ) (n : ℕ)
+    → serves ≡ served_by own array count → Fits L None T root (paths_of L T root) serves pool → length own ≤ length entries → stacked entries n ≡ pool
+    → FitsRoom L T root (length entries) (stacked entries n)
+fits_room {L} {T} {root} own array count entries n same fits few left = record {
   own = own;
   few = few;
-  fits = fits_own L None T root (paths_of L T root) own array count pool fits;
+  fits = subst (Fits L None T root (paths_of L T root) (is_in own)) (sym left) (fits_own own array count same fits);
 }
