@@ -32,7 +32,9 @@ pub use x86_64_mappings::{
     mappings_from as mappings_from_57, regions, regions_57,
 };
 pub use x86_64_page::range::Block;
-pub use x86_64_tables::frame_alloc::{FrameKeeper, FramePool, FrameStore, PoolRefusal};
+pub use x86_64_tables::frame_alloc::{
+    FrameKeeper, FramePool, FrameStore, LentPool, OwnFrames, PoolRefusal,
+};
 pub use x86_64_tables::mapper::{
     FlushItem, FlushRecorder, PageTables, PageTables57, Tables, TablesIn, parent_flags,
 };

@@ -7,5 +7,7 @@ pub mod WordsSeen
 pub mod ViewMarks
 pub mod AlikeSteps
 pub mod Pools
+pub mod Stacks
+pub mod LentPools
 pub mod Tested
 pub mod LentSteps
