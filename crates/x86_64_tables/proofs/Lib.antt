@@ -6,6 +6,7 @@ pub mod NumberedTables
 pub mod WordsSeen
 pub mod ViewMarks
 pub mod AlikeSteps
+pub mod Pigeonhole
 pub mod Pools
 pub mod Tested
 pub mod LentSteps
