@@ -8,5 +8,8 @@ pub mod ViewMarks
 pub mod AlikeSteps
 pub mod Pigeonhole
 pub mod Pools
+pub mod FrameAddresses
+pub mod CountedMarks
+pub mod Rooms
 pub mod Tested
 pub mod LentSteps

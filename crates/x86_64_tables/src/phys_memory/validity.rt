@@ -22,7 +22,7 @@ use x86_64_page::frame::PhysFrame;
 use x86_64_page::page::{PageSize, Size4KiB};
 
 /// How many frames there are.
-const FRAME_COUNT: u64 = 1 << 40;
+pub(super) const FRAME_COUNT: u64 = 1 << 40;
 
 /// Tells whether the words below the root are a valid hierarchy of four levels.
 ///
@@ -263,9 +263,9 @@ fn limit_of(pool: Option<&FramePool>) -> u64
 /// Holds a hierarchy to be tested. The frames of its tables, but for the root, and those of a pool have numbers from 1
 /// to `limit` - 1.
 #[derive(Drop)]
-struct HierarchyTest<'a, T, P> {
-    view: HierarchyView<'a, T, P>,
-    limit: u64,
+pub(super) struct HierarchyTest<'a, T, P> {
+    pub(super) view: HierarchyView<'a, T, P>,
+    pub(super) limit: u64,
 }
 
 impl<'a, T: TableMemory, P: PageTableFrameMapping> HierarchyTest<'a, T, P> {
@@ -294,7 +294,12 @@ impl<'a, T: TableMemory, P: PageTableFrameMapping> HierarchyTest<'a, T, P> {
     }
 
     /// Tells the first of these by marks, one for each place, which are all clear at first.
-    fn is_sound_by(&self, levels: u8, pool: Option<&FramePool>, marks: &mut [bool]) -> bool
+    pub(super) fn is_sound_by(
+        &self,
+        levels: u8,
+        pool: Option<&FramePool>,
+        marks: &mut [bool],
+    ) -> bool
         requires length { length marks.old ≡ length (keys (T.tables self.now.view.memory.now)) }
         requires clear { (k : ℕ) → k < length (keys (T.tables self.now.view.memory.now))
             → slice_index_or marks.old k true ≡ false }
@@ -316,7 +321,12 @@ impl<'a, T: TableMemory, P: PageTableFrameMapping> HierarchyTest<'a, T, P> {
     }
 
     /// Marks the table in a frame and those below it, through so many levels, if each may be met and was not before.
-    fn mark_tables(&self, marks: &mut [bool], frame: PhysFrame<Size4KiB>, levels: u8) -> bool
+    pub(super) fn mark_tables(
+        &self,
+        marks: &mut [bool],
+        frame: PhysFrame<Size4KiB>,
+        levels: u8,
+    ) -> bool
         requires { length marks.old ≡ length (keys (T.tables self.now.view.memory.now)) }
         ensures { let view = self.now.view in let places = P.places view.mapping in
             let words = seen (T.tables view.memory.now) places view.root view.recursive in
@@ -358,7 +368,7 @@ impl<'a, T: TableMemory, P: PageTableFrameMapping> HierarchyTest<'a, T, P> {
 
     /// Marks a frame, if it may be met and was not before.
     #[tactic(auto, unfolding(x86_64_model::specs::private::Marks::mark_one))]
-    fn mark(&self, marks: &mut [bool], frame: PhysFrame<Size4KiB>) -> bool
+    pub(super) fn mark(&self, marks: &mut [bool], frame: PhysFrame<Size4KiB>) -> bool
         requires { length marks.old ≡ length (keys (T.tables self.now.view.memory.now)) }
         ensures { let view = self.now.view in let places = P.places view.mapping in
             let slot = mark_slot (T.tables view.memory.now) places view.root self.now.limit in
