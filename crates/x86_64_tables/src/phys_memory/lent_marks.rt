@@ -78,8 +78,8 @@ pub fn pool_fits_by_marks<L: LevelCount, T: TableMemory, P: PageTableFrameMappin
 }
 
 impl<'a, T: TableMemory, P: PageTableFrameMapping> HierarchyTest<'a, T, P> {
-    /// Returns whether the tables, through so many levels below the root, and these frames are sound, and are at most one more than
-    /// the capacity, by marks that are all clear at first.
+    /// Returns whether the tables, of `levels` levels below the root's, and these frames are sound, and there are at most one more
+    /// of them than the capacity, by marks that are all clear at first.
     fn has_room_by(&self, levels: u8, frames: &[u64], capacity: usize, marks: &mut [bool]) -> bool
         requires { marks.old ≡ replicate (length (map.keys (T.tables self.now.view.memory.now))) false }
         ensures { let view = self.now.view in let places = P.places view.mapping in
@@ -98,7 +98,7 @@ impl<'a, T: TableMemory, P: PageTableFrameMapping> HierarchyTest<'a, T, P> {
             return false;
         }
         // The root is marked too.
-        set_marks(marks) <= capacity.saturating_add(1)
+        count_set(marks) <= capacity.saturating_add(1)
     }
 
     /// Marks the frame at each address, if there is one that may be met and was not before.
@@ -108,8 +108,8 @@ impl<'a, T: TableMemory, P: PageTableFrameMapping> HierarchyTest<'a, T, P> {
             let slot = mark_slot (T.tables view.memory.now) places view.root self.now.limit in
             (if result then Some marks.new else None) ≡ mark_all slot marks.old frames.now }
     {
-        for n in 0..frames.len() {
-            if !self.mark_at(marks, frames[n]) {
+        for &address in frames {
+            if !self.mark_at(marks, address) {
                 return false;
             }
         }
@@ -139,7 +139,7 @@ fn frame_at(address: u64) -> Option<PhysFrame<Size4KiB>>
 }
 
 /// Returns how many marks are set.
-fn set_marks(marks: &[bool]) -> usize
+fn count_set(marks: &[bool]) -> usize
     ensures { result ≡ count_by (λ mark. mark) marks.now }
 {
     marks.iter().filter(|mark| **mark).count()

@@ -46,9 +46,9 @@ returns g c =
     let at_first = none_marked c.args.marks.now (length (keys memory)) c.requires in
     let with_tables = marked_all slot c.args.marks.now c.mark_tables.new.marks tables (sym c.if-not-mark_tables.ensures) in
     let with_frames = marked_all slot c.mark_tables.new.marks c.mark_frames.new.marks c.args.frames.now (sym c.if-not-mark_frames.ensures) in
-    let all : c.set_marks.result ≡ length tables + length c.args.frames.now = c.set_marks.ensures ∙ omega (arith, at_first, with_tables, with_frames) in
+    let all : c.count_set.result ≡ length tables + length c.args.frames.now = c.count_set.ensures ∙ omega (arith, at_first, with_tables, with_frames) in
     let most = c.saturating_add.ensures in
-    let below = c.set_marks.type_inv in (
-      λ h. (accepted.0 refl, let le = leb-true c.set_marks.result c.saturating_add.result h in omega (arith, le, most, all)),
-      λ room. le-leb c.set_marks.result c.saturating_add.result (let few = room.1 in omega (arith, few, most, below, all)),
+    let below = c.count_set.type_inv in (
+      λ h. (accepted.0 refl, let le = leb-true c.count_set.result c.saturating_add.result h in omega (arith, le, most, all)),
+      λ room. le-leb c.count_set.result c.saturating_add.result (let few = room.1 in omega (arith, few, most, below, all)),
     )

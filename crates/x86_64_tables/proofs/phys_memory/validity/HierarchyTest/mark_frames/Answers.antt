@@ -9,17 +9,17 @@ pub returns-then-not-mark_at : goal.returns-then-not-mark_at
 returns-then-not-mark_at g c =
     let self = c.args.self.now in
     let slot = mark_slot (g.T.TableMemory.tables self.view.memory.now) (g.P.PageTableFrameMapping.places self.view.mapping) self.view.root self.limit in
-    sym (c.loop-n.invariant ∙ pool_more slot c.args.frames.now c.loop-n.n 0 c.loop-n.marks None c.loop-n-test.true c.if-not-mark_at.ensures)
+    sym (c.loop-address.invariant ∙ pool_more slot c.args.frames.now c.loop-address.address-index 0 c.loop-address.marks None c.loop-address-test.true c.if-not-mark_at.ensures)
 
-pub loop-n-preserved : goal.loop-n-preserved
-loop-n-preserved g c =
+pub loop-address-preserved : goal.loop-address-preserved
+loop-address-preserved g c =
     let self = c.args.self.now in
     let slot = mark_slot (g.T.TableMemory.tables self.view.memory.now) (g.P.PageTableFrameMapping.places self.view.mapping) self.view.root self.limit in
-    c.loop-n.invariant ∙ pool_more slot c.args.frames.now c.loop-n.n 0 c.loop-n.marks (Some c.mark_at.new.marks) c.loop-n-test.true c.if-not-mark_at.ensures
+    c.loop-address.invariant ∙ pool_more slot c.args.frames.now c.loop-address.address-index 0 c.loop-address.marks (Some c.mark_at.new.marks) c.loop-address-test.true c.if-not-mark_at.ensures
 
 pub returns : goal.returns
 unfolding mark_all
 returns g c =
     let self = c.args.self.now in
     let slot = mark_slot (g.T.TableMemory.tables self.view.memory.now) (g.P.PageTableFrameMapping.places self.view.mapping) self.view.root self.limit in
-    sym (c.loop-n.invariant ∙ ap (mark_all slot c.loop-n.marks) (drop_all c.loop-n.n c.args.frames.now c.loop-n-test.false))
+    sym (c.loop-address.invariant ∙ ap (mark_all slot c.loop-address.marks) (drop_all c.loop-address.address-index c.args.frames.now c.loop-address-test.false))
