@@ -1,6 +1,6 @@
 -- A pool fits a hierarchy, and an array has room for it, exactly if the tables and the pool are sound, and together they are
 -- at most one more than the array holds: the root needs no place in it.
-use Rattle.std.proofs.Common.{◌≡◌, ◌≢◌, ◌↔◌, inl, inr, ⊎_elim, ◌<◌, ◌≤◌, ◌+◌, ◌^◌, ◌/◌, ◌&&◌, ◌==◌, ℕ, zero, suc, true, false, List, [], ◌∷◌, ◌++◌, length, reverse, Some, None, refl, sym, ap, ap₂, ◌∙◌, subst, arith, lt-ltb, eqb-true, eq-eqb}
+use Rattle.std.proofs.Common.{◌≡◌, ◌≢◌, ◌↔◌, inl, inr, ⊎_elim, ◌≤◌, ◌+◌, ◌^◌, ◌/◌, ◌&&◌, ◌==◌, ℕ, zero, suc, true, false, List, [], ◌∷◌, ◌++◌, length, reverse, Some, None, refl, sym, ap, ap₂, ◌∙◌, subst, arith, lt-ltb, eqb-true, eq-eqb}
 use Rattle.std.proofs.lemmas.Bool.{cases_lt, or_cases, or_left, or_right}
 use Rattle.std.proofs.lemmas.List.{length-append, reverse-reverse}
 use Rattle.std.proofs.lemmas.List.Sorted.{IsPermutation-reverse}
@@ -12,13 +12,13 @@ use Rattle.x86_64_model.specs.PathMap.{PathMap, table_at}
 use Rattle.x86_64_model.specs.Pool.{IsTable, TakesBack, serves_below}
 use Rattle.x86_64_model.specs.private.Tables.{tables_from, SoundTables}
 use Rattle.x86_64_model.proofs.Lemmas.Entries.Bits.{same_frame, is_frame_address}
-use Rattle.x86_64_model.proofs.Lemmas.Entries.Words.{address_within}
 use Rattle.x86_64_model.proofs.Lemmas.Lists.Members.{in_left, in_right, in_append}
 use Rattle.x86_64_model.proofs.Lemmas.Machines.Giving.{giving_from}
 use Rattle.x86_64_model.proofs.Lemmas.Tables.Exact.{valid_sound}
 use Rattle.x86_64_model.proofs.Lemmas.Tables.Meant.{valid_means, fits_means}
 use Rattle.x86_64_model.proofs.Lemmas.Tables.Walked.{table_at_frame, in_tables, from_tables}
 use Rattle.x86_64_tables.specs.LentPool.{is_in, FitsRoom}
+use Rattle.x86_64_tables.proofs.FrameAddresses.{frame_bounds}
 use Rattle.x86_64_tables.proofs.Pigeonhole.{members_fit}
 
 -- ---- lists
@@ -52,8 +52,7 @@ once_back xs once = subst EachOnce (reverse-reverse xs) (once_reverse (reverse x
 served : (f : ℕ) → is_frame f ≡ true → f ≢ 0 → serves_below (2 ^ 40) f ≡ true
 unfolding address
 served f frame other =
-    let is : address f ≡ f = eqb-true _ f frame in
-    let within : f < 2 ^ 52 = subst (λ a. a < 2 ^ 52) is (address_within f) in
+    let bounds = frame_bounds f frame in
     ap₂ (λ a b. a && b)
     (lt-ltb 0 (f / 4096) (⊎_elim (λ l. l) (λ l. absurd (other (same_frame f 0 frame (is_frame_address 0) (omega arith)))) (cases_lt 0 (f / 4096))))
     (lt-ltb (f / 4096) (2 ^ 40) (omega arith))
@@ -62,6 +61,11 @@ root_first : (n : ℕ) (T : Words) (root : ℕ) → (below : List ℕ) × (table
 unfolding tables_from
 root_first zero T root = (_, refl)
 root_first (suc n) T root = (_, refl)
+
+-- the tables and a pool are sound, and together at most one more than an array holds
+abbrev IsSoundWithin : (levels : ℕ) → Words → (root capacity : ℕ) → (pool : List ℕ) → Type 0
+IsSoundWithin levels T root capacity pool =
+    SoundTables levels T root (serves_below (2 ^ 40)) pool × (length (tables_from levels T root) + length pool ≤ suc capacity)
 
 module _ (n : ℕ) (T : Words) (root : ℕ) (frames : OnlyFrames T) (capacity : ℕ) (pool : List ℕ) where
   abbrev M : PathMap
@@ -82,16 +86,16 @@ module _ (n : ℕ) (T : Words) (root : ℕ) (frames : OnlyFrames T) (capacity : 
   leads : (f : ℕ) → In (tables_from n T root) f → IsTable (suc n) root M f
   leads f i = let r = from_tables n T root f i in (r.0, table_at_frame n T root r.0 ∙ r.1)
 
-  has_room : SoundTables n T root (serves_below (2 ^ 40)) pool → length (tables_from n T root) + length pool ≤ suc capacity → FitsRoom (suc n) T root capacity (reverse pool)
-  has_room sound few =
-      let fits = (fits_means n None T root (2 ^ 40) pool frames tt).0 sound in
+  has_room : IsSoundWithin n T root capacity pool → FitsRoom (suc n) T root capacity (reverse pool)
+  has_room within =
+      let fits = (fits_means n None T root (2 ^ 40) pool frames tt).0 within.0 in
       let in_pool : (f : ℕ) → In (reverse pool) f → In pool f = λ f. (in_reverse pool f).0 in
       let below_root : (i : ℕ) (q : List ℕ) (f : ℕ) → table_at (suc n) root M (i ∷ q) ≡ Some f → In below f = λ i q f e.
       ⊎_elim (λ is. absurd (let t : [] ≡ i ∷ q = fits.valid.valid.own_frames [] (i ∷ q) f (ap Some is) e in cc)) (λ i. i)
       (subst (λ xs. In xs f) first (listed (i ∷ q) f e)) in
       record {
         own = below ++ pool;
-        few = let sum = length-append below pool in let all = count in omega (arith, few);
+        few = let sum = length-append below pool in let all = count in let most = within.1 in omega arith;
         fits = record {
           valid = fits.valid;
           each_once = once_reverse pool fits.each_once;
@@ -134,16 +138,15 @@ module _ (n : ℕ) (T : Words) (root : ℕ) (frames : OnlyFrames T) (capacity : 
         (λ f i. ⊎_elim (owned_table f) (λ i. is_in_means room.own f (room.fits.serves_pool f (of_pool f i))) (in_append below pool f i)) in
         let sum = length-append below pool in let all = count in let most = room.few in omega arith
 
-  room_means : (SoundTables n T root (serves_below (2 ^ 40)) pool × (length (tables_from n T root) + length pool ≤ suc capacity)) ↔ FitsRoom (suc n) T root capacity (reverse pool)
-  room_means = (λ all. has_room all.0 all.1, λ room. (sound room, few room))
+  room_means : IsSoundWithin n T root capacity pool ↔ FitsRoom (suc n) T root capacity (reverse pool)
+  room_means = (has_room, λ room. (sound room, few room))
 
--- ---- over the number of levels, of which one is below the root's
+-- ---- through L levels, the root's and those below it
 
 pub valid_if_sound : (levels L : ℕ) (T : Words) (root : ℕ) → suc levels ≡ L → SoundTables levels T root (serves_below (2 ^ 40)) [] ↔ IsValid L T root (paths_of L T root)
 valid_if_sound levels L T root more = subst (λ L. SoundTables levels T root (serves_below (2 ^ 40)) [] ↔ IsValid L T root (paths_of L T root)) more (valid_means levels T root)
 
 pub room_if_sound : (levels L : ℕ) (T : Words) (root : ℕ) → OnlyFrames T → (capacity : ℕ) (pool : List ℕ) → suc levels ≡ L
-    → (SoundTables levels T root (serves_below (2 ^ 40)) pool × (length (tables_from levels T root) + length pool ≤ suc capacity)) ↔ FitsRoom L T root capacity (reverse pool)
+    → IsSoundWithin levels T root capacity pool ↔ FitsRoom L T root capacity (reverse pool)
 room_if_sound levels L T root frames capacity pool more =
-    subst (λ L. (SoundTables levels T root (serves_below (2 ^ 40)) pool × (length (tables_from levels T root) + length pool ≤ suc capacity)) ↔ FitsRoom L T root capacity (reverse pool)) more
-    (room_means levels T root frames capacity pool)
+    subst (λ L. IsSoundWithin levels T root capacity pool ↔ FitsRoom L T root capacity (reverse pool)) more (room_means levels T root frames capacity pool)
