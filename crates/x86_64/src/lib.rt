@@ -40,7 +40,8 @@ pub use x86_64_tables::mapper::{
 };
 pub use x86_64_tables::phys_memory::{
     ActiveMemory, ActiveMemory57, FramePlace, IdentityMapping, LentMemory, PhysMemory,
-    PlacesRefusal, ShiftMapping, TableMemory, Walked, is_valid_hierarchy, is_valid_hierarchy_57,
-    is_valid_recursive, is_valid_recursive_57, page_walk, page_walk_57, pool_fits, pool_fits_57,
-    pool_fits_recursive, pool_fits_recursive_57, tables_alike, tables_alike_57,
+    PlacesRefusal, ShiftMapping, TableMemory, Walked, is_valid_by_marks, is_valid_hierarchy,
+    is_valid_hierarchy_57, is_valid_recursive, is_valid_recursive_57, page_walk, page_walk_57,
+    pool_fits, pool_fits_57, pool_fits_by_marks, pool_fits_recursive, pool_fits_recursive_57,
+    tables_alike, tables_alike_57,
 };
