@@ -20,16 +20,9 @@ use Rattle.x86_64_model.proofs.Lemmas.Tables.Walked.{table_at_frame, in_tables, 
 use Rattle.x86_64_tables.specs.LentPool.{is_in, FitsRoom}
 use Rattle.x86_64_tables.proofs.FrameAddresses.{frame_bounds}
 use Rattle.x86_64_tables.proofs.Pigeonhole.{members_fit}
+use Rattle.x86_64_tables.proofs.Stacks.{in_list, is_in_list}
 
 -- ---- lists
-
-in_is : (frames : List ℕ) (f : ℕ) → In frames f → is_in frames f ≡ true
-in_is [] f i = absurd i
-in_is (g ∷ frames) f i = ⊎_elim (λ e. or_left (g == f) _ (eq-eqb g f e)) (λ i. or_right (g == f) _ (in_is frames f i)) i
-
-is_in_means : (frames : List ℕ) (f : ℕ) → is_in frames f ≡ true → In frames f
-is_in_means [] f h = let t : false ≡ true = h in cc
-is_in_means (g ∷ frames) f h = ⊎_elim (λ e. inl (eqb-true g f e)) (λ h. inr (is_in_means frames f h)) (or_cases _ _ h)
 
 -- to reverse is to rearrange
 reverses : TakesBack (λ held f. reverse (f ∷ held))
@@ -103,8 +96,8 @@ module _ (n : ℕ) (T : Words) (root : ℕ) (frames : OnlyFrames T) (capacity : 
           are_frames = λ f i. fits.are_frames f (in_pool f i);
           not_zero = λ i. fits.not_zero (in_pool 0 i);
           no_table = λ f i. fits.no_table f (in_pool f i);
-          serves_pool = λ f i. in_is (below ++ pool) f (in_right below pool f (in_pool f i));
-          serves_tables = λ i q f e. in_is (below ++ pool) f (in_left below pool f (below_root i q f e));
+          serves_pool = λ f i. is_in_list (below ++ pool) f (in_right below pool f (in_pool f i));
+          serves_tables = λ i q f e. is_in_list (below ++ pool) f (in_left below pool f (below_root i q f e));
         };
       }
 
@@ -130,12 +123,12 @@ module _ (n : ℕ) (T : Words) (root : ℕ) (frames : OnlyFrames T) (capacity : 
       where
         by : (q : List ℕ) → table_at (suc n) root M q ≡ Some f → In room.own f
         by [] e = absurd (once.0 (in_left below pool root (subst (In below) (let t : Some root ≡ Some f = e in cc) i)))
-        by (j ∷ q) e = is_in_means room.own f (room.fits.serves_tables j q f e)
+        by (j ∷ q) e = in_list room.own f (room.fits.serves_tables j q f e)
 
     few : length (tables_from n T root) + length pool ≤ suc capacity
     few =
         let fit = members_fit (below ++ pool) room.own once.1
-        (λ f i. ⊎_elim (owned_table f) (λ i. is_in_means room.own f (room.fits.serves_pool f (of_pool f i))) (in_append below pool f i)) in
+        (λ f i. ⊎_elim (owned_table f) (λ i. in_list room.own f (room.fits.serves_pool f (of_pool f i))) (in_append below pool f i)) in
         let sum = length-append below pool in let all = count in let most = room.few in omega arith
 
   room_means : IsSoundWithin n T root capacity pool ↔ FitsRoom (suc n) T root capacity (reverse pool)
