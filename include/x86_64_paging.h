@@ -22,8 +22,8 @@
  * Each function says what has to hold when it is called. If it doesn't, the behavior is undefined, as in any C library: the proof says
  * nothing of such calls. There are three kinds of conditions:
  *
- * 1. Pointers. An array of n elements is a pointer to n elements, or any pointer (also null) if n is 0; a null array with n > 0 is
- *    refused. All other pointers point to one object and are not null. Each is aligned as its type is (a table to 8 bytes here; the
+ * 1. Pointers. An array of n elements is a pointer to n elements, which is null at most if n is 0. All other pointers point to one
+ *    object and are not null. Each is aligned as its type is (a table to 8 bytes here; the
  *    tables that a processor uses have to be aligned to 4096). What a call writes through one pointer overlaps with nothing that it
  *    reaches through another.
  *
@@ -38,8 +38,8 @@
  * Conditions 2 and 3 hold again after every call, whatever its status is. So it suffices to test them once, if the tables and the pool
  * are changed by these calls alone. All other arguments are tested by each call, which returns one of the X64_BAD_ statuses.
  *
- * Calls that change tables or a pool must not run at the same time as any other call on the same memory. Calls that only read may run at
- * the same time as each other.
+ * Calls on the same memory must not run at the same time. Those that read the tables alone write to nothing but their out parameters and
+ * marks, so they may; this is tested, and not proved.
  *
  * TABLES THAT A PROCESSOR USES
  *
@@ -89,7 +89,7 @@ enum {
 
     X64_BAD_LEVELS = 16,  /* hierarchy->levels is neither 4 nor 5, or there is no such level */
     X64_BAD_ROOT = 17,    /* hierarchy->root isn't the address of a frame in the array of tables */
-    X64_BAD_ARRAY = 18,   /* an array is null but has a length, or is too short */
+    X64_BAD_ARRAY = 18,   /* an array is too short: for its free frames, or for a mark for each table */
     X64_BAD_ADDRESS = 19, /* an address isn't canonical */
     X64_BAD_PAGE = 20,    /* a page's size is none of the three, or its start isn't canonical or no multiple of its size */
     X64_BAD_FRAME = 21    /* the frame isn't a multiple of the page's size, or not below 2^52 */
@@ -171,7 +171,7 @@ typedef struct x64_map_request {
 /*
  * CALLS THAT READ
  *
- * Each may return X64_BAD_LEVELS, X64_BAD_ROOT or X64_BAD_ARRAY.
+ * Each may return X64_BAD_LEVELS or X64_BAD_ROOT.
  */
 
 /*
@@ -218,7 +218,7 @@ uint32_t x64_mappings(const x64_hierarchy *hierarchy, const x64_table *tables, s
  *
  * Condition: pointers alone. The tables may hold anything, cycles too.
  *
- * Returns X64_OK if it is valid; X64_NOT_VALID; X64_BAD_ARRAY also if there are too few marks.
+ * Returns X64_OK if it is valid; X64_NOT_VALID; X64_BAD_ARRAY if there are too few marks.
  */
 uint32_t x64_is_valid(const x64_hierarchy *hierarchy, const x64_table *tables, size_t table_count, bool *marks, size_t mark_count);
 
@@ -229,7 +229,7 @@ uint32_t x64_is_valid(const x64_hierarchy *hierarchy, const x64_table *tables, s
  *
  * Condition: pointers alone. The tables and the pool may hold anything.
  *
- * Returns X64_OK if the pool fits; X64_NOT_VALID; X64_BAD_ARRAY also if free_count > capacity, or there are too few marks.
+ * Returns X64_OK if the pool fits; X64_NOT_VALID; X64_BAD_ARRAY if free_count > capacity, or there are too few marks.
  */
 uint32_t x64_pool_fits(const x64_hierarchy *hierarchy, const x64_table *tables, size_t table_count, const uint64_t *pool,
                        size_t capacity, size_t free_count, bool *marks, size_t mark_count);
@@ -237,7 +237,7 @@ uint32_t x64_pool_fits(const x64_hierarchy *hierarchy, const x64_table *tables, 
 /*
  * CALLS THAT CHANGE TABLES
  *
- * Each may return X64_BAD_LEVELS, X64_BAD_ROOT or X64_BAD_ARRAY. No word changes but in the root, the tables below it and, if x64_map
+ * Each may return X64_BAD_LEVELS or X64_BAD_ROOT. No word changes but in the root, the tables below it and, if x64_map
  * makes tables of them, frames that were free.
  */
 
@@ -254,7 +254,7 @@ uint32_t x64_pool_fits(const x64_hierarchy *hierarchy, const x64_table *tables, 
  *   X64_FRAME_ALLOCATION_FAILED  if a table is missing and the pool is empty
  *   X64_PARENT_ENTRY_HUGE_PAGE   if an entry above the page has X64_HUGE_PAGE
  *   X64_PAGE_ALREADY_MAPPED      if the page's entry isn't 0
- *   X64_BAD_ARRAY also if *free_count > capacity; X64_BAD_PAGE; X64_BAD_FRAME
+ *   X64_BAD_ARRAY if *free_count > capacity; X64_BAD_PAGE; X64_BAD_FRAME
  *
  * With the three refusals in the middle the page's entry hasn't changed, but entries above it may have got the parent flags, and new
  * tables may have been made: they are part of the hierarchy, and x64_clean_up takes them back if they are empty.
@@ -317,7 +317,7 @@ uint32_t x64_set_table_flags(const x64_hierarchy *hierarchy, x64_table *tables, 
  *
  * Condition: the pool fits the hierarchy (x64_pool_fits).
  *
- * Returns X64_OK; X64_BAD_ARRAY also if *free_count > capacity; X64_BAD_PAGE for either page.
+ * Returns X64_OK; X64_BAD_ARRAY if *free_count > capacity; X64_BAD_PAGE for either page.
  */
 uint32_t x64_clean_up(const x64_hierarchy *hierarchy, x64_table *tables, size_t table_count, uint64_t *pool, size_t capacity,
                       size_t *free_count, uint64_t first_page, uint64_t last_page);

@@ -34,12 +34,7 @@ fn print_words(space: &AddressSpace) {
 
 /// Prints the free frames, that which is handed out first before the others.
 fn print_pool(space: &AddressSpace) {
-    let frames: String = space
-        .free_frames()
-        .iter()
-        .rev()
-        .map(|frame| format!(" {frame:#x}"))
-        .collect();
+    let frames: String = space.free_frames().iter().rev().map(|frame| format!(" {frame:#x}")).collect();
     println!("pool{frames}");
 }
 
@@ -47,12 +42,7 @@ fn print_pool(space: &AddressSpace) {
 fn translate(space: &AddressSpace, address: u64) -> Result<(), Error> {
     match space.translate(address)? {
         Some(found) => {
-            let (size, frame, offset, flags) = (
-                size_name(found.size),
-                found.frame,
-                found.offset,
-                found.flags,
-            );
+            let (size, frame, offset, flags) = (size_name(found.size), found.frame, found.offset, found.flags);
             println!("translate {address:#x}: mapped {size} {frame:#x} {offset:#x} {flags:#x}");
         }
         None => println!("translate {address:#x}: not mapped"),
@@ -65,10 +55,7 @@ fn walk(space: &AddressSpace, address: u64) -> Result<(), Error> {
     match space.page_walk(address)? {
         Some(walked) => {
             let (write, user) = (u8::from(walked.write), u8::from(walked.user));
-            println!(
-                "walk {address:#x}: {:#x} write={write} user={user}",
-                walked.address
-            );
+            println!("walk {address:#x}: {:#x} write={write} user={user}", walked.address);
         }
         None => println!("walk {address:#x}: none"),
     }
@@ -81,8 +68,7 @@ fn list(space: &AddressSpace) {
         let write = if found.write { 'w' } else { '-' };
         let execute = if found.execute { 'x' } else { '-' };
         let user = if found.user { 'u' } else { '-' };
-        let (start, size, frame, flags) =
-            (found.start, size_name(found.size), found.frame, found.flags);
+        let (start, size, frame, flags) = (found.start, size_name(found.size), found.frame, found.flags);
         println!("listed {start:#x} {size} {frame:#x} r{write}{execute}{user} {flags:#x}");
     }
 }
@@ -91,21 +77,12 @@ fn main() -> Result<(), Error> {
     let mut tables = [Table([0; 512]); TABLES];
     // the free frames: the last one is handed out first
     let mut frames = [0x4000, 0x3000, 0x2000, 0];
-    let memory = Memory {
-        tables: &mut tables,
-        first: 1,
-    };
-    let pool = Pool {
-        frames: &mut frames,
-        free: 3,
-    };
+    let memory = Memory { tables: &mut tables, first: 1 };
+    let pool = Pool { frames: &mut frames, free: 3 };
     let mut space = AddressSpace::new(memory, pool, 0x1000, 4, &mut [false; TABLES])?;
     print_pool(&space);
 
-    let page = Page {
-        start: 0x1000,
-        size: Size::Size4KiB,
-    };
+    let page = Page { start: 0x1000, size: Size::Size4KiB };
     space.map_to(page, 0x5000, PRESENT | WRITABLE, PRESENT | WRITABLE)?;
     println!("map 4KiB 0x1000: done");
     print_words(&space);

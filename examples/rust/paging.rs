@@ -102,20 +102,8 @@ struct MapRequest {
 
 #[link(name = "x86_64_paging", kind = "static")]
 unsafe extern "C" {
-    fn x64_page_walk(
-        h: &Hierarchy,
-        tables: *const Table,
-        n: usize,
-        address: u64,
-        walked: &mut Walked,
-    ) -> u32;
-    fn x64_translate(
-        h: &Hierarchy,
-        tables: *const Table,
-        n: usize,
-        address: u64,
-        found: &mut Translation,
-    ) -> u32;
+    fn x64_page_walk(h: &Hierarchy, tables: *const Table, n: usize, address: u64, walked: &mut Walked) -> u32;
+    fn x64_translate(h: &Hierarchy, tables: *const Table, n: usize, address: u64, found: &mut Translation) -> u32;
     fn x64_mappings(
         h: &Hierarchy,
         tables: *const Table,
@@ -132,7 +120,7 @@ unsafe extern "C" {
         n: usize,
         pool: *const u64,
         capacity: usize,
-        free_count: usize,
+        free: usize,
         marks: *mut bool,
         mark_count: usize,
     ) -> u32;
@@ -142,32 +130,19 @@ unsafe extern "C" {
         n: usize,
         pool: *mut u64,
         capacity: usize,
-        free_count: &mut usize,
+        free: &mut usize,
         request: &MapRequest,
     ) -> u32;
     fn x64_unmap(h: &Hierarchy, tables: *mut Table, n: usize, page: &Page, frame: &mut u64) -> u32;
-    fn x64_update_flags(
-        h: &Hierarchy,
-        tables: *mut Table,
-        n: usize,
-        page: &Page,
-        flags: u64,
-    ) -> u32;
-    fn x64_set_table_flags(
-        h: &Hierarchy,
-        tables: *mut Table,
-        n: usize,
-        page: &Page,
-        level: u64,
-        flags: u64,
-    ) -> u32;
+    fn x64_update_flags(h: &Hierarchy, tables: *mut Table, n: usize, page: &Page, flags: u64) -> u32;
+    fn x64_set_table_flags(h: &Hierarchy, tables: *mut Table, n: usize, page: &Page, level: u64, flags: u64) -> u32;
     fn x64_clean_up(
         h: &Hierarchy,
         tables: *mut Table,
         n: usize,
         pool: *mut u64,
         capacity: usize,
-        free_count: &mut usize,
+        free: &mut usize,
         first_page: u64,
         last_page: u64,
     ) -> u32;
@@ -222,18 +197,8 @@ impl<'a> AddressSpace<'a> {
     ///
     /// `NotValid` if the hierarchy isn't valid or the pool doesn't fit it, `BadLevels`, `BadRoot`, or `BadArray` if there are too few
     /// marks or more frames are free than the pool has.
-    pub fn new(
-        memory: Memory<'a>,
-        pool: Pool<'a>,
-        root: u64,
-        levels: u64,
-        marks: &mut [bool],
-    ) -> Result<AddressSpace<'a>, Error> {
-        let hierarchy = Hierarchy {
-            first: memory.first,
-            root,
-            levels,
-        };
+    pub fn new(memory: Memory<'a>, pool: Pool<'a>, root: u64, levels: u64, marks: &mut [bool]) -> Result<AddressSpace<'a>, Error> {
+        let hierarchy = Hierarchy { first: memory.first, root, levels };
         let (tables, frames) = (&*memory.tables, &*pool.frames);
         // SAFETY: each pointer and length are those of a slice, which is borrowed for the call.
         result_of(unsafe {
@@ -248,11 +213,7 @@ impl<'a> AddressSpace<'a> {
                 marks.len(),
             )
         })?;
-        Ok(AddressSpace {
-            memory,
-            pool,
-            hierarchy,
-        })
+        Ok(AddressSpace { memory, pool, hierarchy })
     }
 
     /// Returns the tables.
@@ -266,19 +227,8 @@ impl<'a> AddressSpace<'a> {
     }
 
     /// Maps a page to a frame. The entries above it get `parent_flags` besides their own.
-    pub fn map_to(
-        &mut self,
-        page: Page,
-        frame: u64,
-        flags: u64,
-        parent_flags: u64,
-    ) -> Result<(), Error> {
-        let request = MapRequest {
-            page,
-            frame,
-            flags,
-            parent_flags,
-        };
+    pub fn map_to(&mut self, page: Page, frame: u64, flags: u64, parent_flags: u64) -> Result<(), Error> {
+        let request = MapRequest { page, frame, flags, parent_flags };
         let (tables, pool) = (&mut *self.memory.tables, &mut self.pool);
         // SAFETY: the slices are borrowed for the call, and the pool fits: `new` tested it, and each call keeps it.
         result_of(unsafe {
@@ -298,15 +248,7 @@ impl<'a> AddressSpace<'a> {
     pub fn unmap(&mut self, page: Page) -> Result<u64, Error> {
         let (tables, mut frame) = (&mut *self.memory.tables, 0);
         // SAFETY: the slice is borrowed for the call, and the hierarchy is valid: `new` tested it, and each call keeps it.
-        match unsafe {
-            x64_unmap(
-                &self.hierarchy,
-                tables.as_mut_ptr(),
-                tables.len(),
-                &page,
-                &mut frame,
-            )
-        } {
+        match unsafe { x64_unmap(&self.hierarchy, tables.as_mut_ptr(), tables.len(), &page, &mut frame) } {
             9 => Err(Error::InvalidFrameAddress(frame)),
             status => result_of(status).map(|()| frame),
         }
@@ -316,31 +258,14 @@ impl<'a> AddressSpace<'a> {
     pub fn update_flags(&mut self, page: Page, flags: u64) -> Result<(), Error> {
         let tables = &mut *self.memory.tables;
         // SAFETY: as in `unmap`.
-        result_of(unsafe {
-            x64_update_flags(
-                &self.hierarchy,
-                tables.as_mut_ptr(),
-                tables.len(),
-                &page,
-                flags,
-            )
-        })
+        result_of(unsafe { x64_update_flags(&self.hierarchy, tables.as_mut_ptr(), tables.len(), &page, flags) })
     }
 
     /// Sets the flags of the entry of a level, from 2 up, on the way to a page.
     pub fn set_table_flags(&mut self, page: Page, level: u64, flags: u64) -> Result<(), Error> {
         let tables = &mut *self.memory.tables;
         // SAFETY: as in `unmap`.
-        result_of(unsafe {
-            x64_set_table_flags(
-                &self.hierarchy,
-                tables.as_mut_ptr(),
-                tables.len(),
-                &page,
-                level,
-                flags,
-            )
-        })
+        result_of(unsafe { x64_set_table_flags(&self.hierarchy, tables.as_mut_ptr(), tables.len(), &page, level, flags) })
     }
 
     /// Takes away the empty tables on the way to pages of 4KiB, by the starts of the first and the last one.
@@ -365,15 +290,7 @@ impl<'a> AddressSpace<'a> {
     pub fn translate(&self, address: u64) -> Result<Option<Translation>, Error> {
         let (tables, mut found) = (self.tables(), Translation::default());
         // SAFETY: as in `unmap`.
-        match unsafe {
-            x64_translate(
-                &self.hierarchy,
-                tables.as_ptr(),
-                tables.len(),
-                address,
-                &mut found,
-            )
-        } {
+        match unsafe { x64_translate(&self.hierarchy, tables.as_ptr(), tables.len(), address, &mut found) } {
             NOT_MAPPED => Ok(None),
             status => result_of(status).map(|()| Some(found)),
         }
@@ -381,24 +298,14 @@ impl<'a> AddressSpace<'a> {
 
     /// Returns the physical address that an address is mapped to, or `None` if it is mapped nowhere.
     pub fn translate_addr(&self, address: u64) -> Result<Option<u64>, Error> {
-        Ok(self
-            .translate(address)?
-            .map(|found| found.frame + found.offset))
+        Ok(self.translate(address)?.map(|found| found.frame + found.offset))
     }
 
     /// Returns where the processor arrives from an address, or `None` if it arrives nowhere.
     pub fn page_walk(&self, address: u64) -> Result<Option<Walked>, Error> {
         let (tables, mut walked) = (self.tables(), Walked::default());
         // SAFETY: the slice is borrowed for the call.
-        match unsafe {
-            x64_page_walk(
-                &self.hierarchy,
-                tables.as_ptr(),
-                tables.len(),
-                address,
-                &mut walked,
-            )
-        } {
+        match unsafe { x64_page_walk(&self.hierarchy, tables.as_ptr(), tables.len(), address, &mut walked) } {
             NOT_MAPPED => Ok(None),
             status => result_of(status).map(|()| Some(walked)),
         }
