@@ -412,7 +412,8 @@ static const struct row set_table_flags[] = {
     ROW("level one", X64_BAD_LEVELS, SET(level, 1)),
     ROW("level six", X64_BAD_LEVELS, SET(level, 6)),
     ROW("level five of four", X64_BAD_LEVELS, SET(level, 5), SET(only, 4)),
-    ROW("a bad level before a bad root", X64_BAD_LEVELS, SET(level, 1), SET(root_offset, 8)),
+    ROW("a bad root before a bad level", X64_BAD_ROOT, SET(level, 1), SET(root_offset, 8)),
+    ROW("a bad level before a bad page", X64_BAD_LEVELS, SET(level, 1), SET(size, 0)),
     ROW("a bad page before bad flags", X64_BAD_PAGE, SET(start, 1), SET(flags, 0x1000)),
 };
 
