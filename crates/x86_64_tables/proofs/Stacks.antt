@@ -1,5 +1,5 @@
 -- Stacks of frames in an array: what a push and a pop change, and that a frame that comes back has room.
-use Rattle.std.proofs.Common.{◌≡◌, inl, inr, ⊎_elim, ℕ, ◌+◌, ◌<◌, ◌≤◌, ◌%◌, ◌^◌, ◌*◌, ◌==◌, ◌||◌, true, cond, List, [], ◌∷◌, ◌++◌, length, take, reverse, get_or, slice_set, refl, sym, ap, subst, ◌∙◌, arith, length-append}
+use Rattle.std.proofs.Common.{◌≡◌, inl, inr, ⊎_elim, ℕ, zero, suc, ◌+◌, ◌-◌, ◌<◌, ◌≤◌, ◌%◌, ◌^◌, ◌*◌, ◌==◌, ◌||◌, true, cond, List, [], ◌∷◌, ◌++◌, length, take, reverse, get_or, slice_set, refl, sym, ap, subst, ◌∙◌, arith, length-append}
 use Rattle.std.specs.Borrow.{GName}
 use Rattle.std.proofs.lemmas.Bool.{eq-eqb, ne_eqb}
 use Rattle.std.proofs.lemmas.Bool.Decides.{eqb_tells}
@@ -42,6 +42,29 @@ stacked-above entries n f = ap reverse (take-set entries n f)
 
 pub length-stacked : (entries : List ℕ) (n : ℕ) → n ≤ length entries → length (stacked entries n) ≡ n
 length-stacked entries n inside = length-reverse (take n entries) ∙ length-take-le n entries inside
+
+-- ---- a lower stack of the same entries
+
+lower_by : (entries : List ℕ) (n k : ℕ) → n + k ≤ length entries
+    → (EachOnce (stacked entries (n + k)) → EachOnce (stacked entries n)) × ((f : ℕ) → In (stacked entries n) f → In (stacked entries (n + k)) f)
+lower_by entries n zero inside =
+    let same : n + zero ≡ n = omega arith in
+    (subst (λ m. EachOnce (stacked entries m)) same, λ f. subst (λ m. In (stacked entries m) f) (sym same))
+lower_by entries n (suc k) inside =
+    let rest = lower_by entries n k (omega (arith, inside)) in
+    let next : n + suc k ≡ (n + k) + 1 = omega arith in
+    let higher = ap (stacked entries) next ∙ stacked-pop entries (n + k) (omega (arith, inside)) in
+    (λ once. rest.0 (subst EachOnce higher once).1, λ f is. subst (λ fs. In fs f) (sym higher) (inr (rest.1 f is)))
+
+pub lower_once : (entries : List ℕ) (n m : ℕ) → m ≤ length entries → EachOnce (stacked entries m) → n ≤ m → EachOnce (stacked entries n)
+lower_once entries n m inside once lower =
+    let whole : n + (m - n) ≡ m = omega (arith, lower) in
+    (lower_by entries n (m - n) (omega (arith, whole, inside))).0 (subst (λ m. EachOnce (stacked entries m)) (sym whole) once)
+
+pub lower_in : (entries : List ℕ) (n m f : ℕ) → m ≤ length entries → In (stacked entries n) f → n ≤ m → In (stacked entries m) f
+lower_in entries n m f inside is lower =
+    let whole : n + (m - n) ≡ m = omega (arith, lower) in
+    subst (λ m. In (stacked entries m) f) whole ((lower_by entries n (m - n) (omega (arith, whole, inside))).1 f is)
 
 -- ---- room
 

@@ -6,7 +6,7 @@ use Rattle.x86_64_model.proofs.Lemmas.Entries.Words.{address-multiple}
 use Rattle.std.proofs.lemmas.Bool.{eq-eqb}
 use Rattle.x86_64_tables.specs.LentPool.{stacked, is_in}
 use Rattle.x86_64_tables.specs.private.PoolLaws.{served_aligned}
-use Rattle.x86_64_tables.proofs.Stacks.{has_room, stacked-push}
+use Rattle.x86_64_tables.proofs.Stacks.{has_room, stacked-push, lower_once, lower_in}
 use Rattle.x86_64_tables.proofs.frame_alloc.lent_pool.LentPoolFrameDeallocatorSize4KiB.deallocate_frame.Goals as goal
 
 -- a frame is served by the list of frames
@@ -30,12 +30,16 @@ invariant_of-self c =
     let pushed : stacked (slice_set entries count c.as_u64.result) (count + 1) ≡ frame ∷ stacked entries count =
     stacked-push entries count c.as_u64.result below ∙ ap (λ f. f ∷ stacked entries count) same in
     let size = length-set entries count c.as_u64.result in
-    let inside : count + 1 ≤ length (slice_set entries count c.as_u64.result) = omega (arith, below, size) in
-    let room : length pool.own.frames ≤ length (slice_set entries count c.as_u64.result) = let few = pool.room in omega (arith, few, size) in
+    let now = slice_set entries count c.as_u64.result in
+    let few = pool.room in
+    let inside : count + 1 ≤ length now = omega (arith, below, size) in
+    let among_free = λ (f : ℕ) (is : In (stacked now (count + 1)) f). subst (λ fs. In fs f) pushed is in
     record {
-      in_array = inside;
-      room = room;
-      each_once = subst EachOnce (sym pushed) (c.requires.not_held, pool.each_once);
-      are_frames = λ f is. ⊎_elim (λ same. subst (λ f. is_frame f ≡ true) same (eq-eqb _ _ (address-multiple frame start.aligned_to_4kib start.below))) (pool.are_frames f) (subst (λ fs. In fs f) pushed is);
-      served = λ f is. ⊎_elim (λ same. subst (λ f. is_in pool.own.frames f ≡ true) same (among c)) (pool.served f) (subst (λ fs. In fs f) pushed is);
+      in_array = omega (arith, below, size);
+      room = omega (arith, few, size);
+      each_once = lower_once now _ (count + 1) inside (subst EachOnce (sym pushed) (c.requires.not_held, pool.each_once)) (omega arith);
+      are_frames = λ f is. ⊎_elim (λ same. subst (λ f. is_frame f ≡ true) same (eq-eqb _ _ (address-multiple frame start.aligned_to_4kib start.below)))
+          (pool.are_frames f) (among_free f (lower_in now _ (count + 1) f inside is (omega arith)));
+      served = λ f is. ⊎_elim (λ same. subst (λ f. is_in pool.own.frames f ≡ true) same (among c)) (pool.served f)
+          (among_free f (lower_in now _ (count + 1) f inside is (omega arith)));
     }
