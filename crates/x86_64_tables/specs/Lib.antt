@@ -11,6 +11,7 @@ pub mod ActiveMemory
 pub mod Translations
 pub mod MapperAnswers
 pub mod FramePool
+pub mod LentPool
 pub mod Shifted
 pub mod FlushRecorder
 pub mod private
