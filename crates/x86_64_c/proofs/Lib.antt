@@ -1,4 +1,5 @@
 pub mod Arguments
 pub mod EntryChanges
 pub mod Located
+pub mod LentRuns
 pub mod Filling

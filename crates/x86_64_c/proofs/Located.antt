@@ -1,6 +1,6 @@
 -- A located hierarchy is the one in the caller's tables.
-use Rattle.std.proofs.Common.{◌≡◌, ℕ, List, sym, ap, ◌∙◌, subst}
-use Rattle.x86_64_model.specs.Mapper.{Hierarchy}
+use Rattle.std.proofs.Common.{◌≡◌, ℕ, Bool, List, refl, sym, ap, ◌∙◌, subst}
+use Rattle.x86_64_model.specs.Mapper.{Hierarchy, PoolFits}
 use Rattle.x86_64_model.specs.Memory.{Memory}
 use Rattle.x86_64_mappers.specs.Layouts.{owned_at}
 use Rattle.x86_64_tables.specs.LentMemory.{numbered}
@@ -21,3 +21,7 @@ module _ (h : Given) (located : Located) (L : ℕ) (levels : h.levels ≡ L) (ro
   given ts us m n before after P holds =
       subst (λ a. P a h.levels (hierarchy_in h us)) (located_is m ts before)
       (subst (λ b. P (at L located m) h.levels b) (located_is n us after) (subst (λ l. P (at L located m) l (at L located n)) (sym levels) holds))
+
+  -- so a pool that fits the hierarchy in the caller's tables fits the located one
+  pub fits : (ts : List (List ℕ)) (serves : ℕ → Bool) (pool : List ℕ) → PoolFits (hierarchy_in h ts) serves pool → PoolFits (at L located (numbered ts)) serves pool
+  fits ts serves pool = subst (λ a. PoolFits a serves pool) (sym (located_is (numbered ts) ts refl))

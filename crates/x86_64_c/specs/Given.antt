@@ -63,6 +63,11 @@ bad_read h count a = option_or (bad_hierarchy h count) (bad_address h.levels a)
 abbrev pub bad_test : Hierarchy → (count marks : ℕ) → Option ℕ
 bad_test h count marks = option_or (bad_hierarchy h count) (unless (nat_le count marks) status.bad_array)
 
+-- what is wrong with what a test of a pool is given
+abbrev pub bad_fit : Hierarchy → (count capacity free marks : ℕ) → Option ℕ
+bad_fit h count capacity free marks =
+    option_or (bad_hierarchy h count) (unless (nat_le free capacity && nat_le count marks) status.bad_array)
+
 -- the status of a test
 abbrev pub test_status : (passed : Bool) → ℕ
 test_status passed = cond passed status.ok status.not_valid

@@ -120,7 +120,7 @@ pub fn page_of<L: LevelCount>(page: &Page) -> Option<AnyPage<L>>
 }
 
 /// Returns the page of a size that starts at an address, if one does.
-fn page_at<S: PageSize, L: LevelCount>(start: u64) -> Option<PageIn<S, L>>
+pub fn page_at<S: PageSize, L: LevelCount>(start: u64) -> Option<PageIn<S, L>>
     ensures some { IfSome result (λ page. page ≡ given.position_of L.LEVELS start) }
     ensures good { IfSome result (λ _. given.starts_page L.LEVELS S.SIZE start ≡ true) }
     ensures bad { IfNone result (given.starts_page L.LEVELS S.SIZE start ≡ false) }

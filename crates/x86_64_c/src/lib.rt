@@ -7,5 +7,7 @@
 mod changes;
 mod given;
 mod listing;
+mod runs;
 mod status;
+mod tests;
 mod walk;

@@ -1,0 +1,15 @@
+use Rattle.std.proofs.Common.{◌≡◌, ◌≤◌, Some, None, refl, sym, ◌∙◌, length, arith}
+use Rattle.x86_64_c.specs.Calls.{bad_range}
+use Rattle.x86_64_c.proofs.Arguments.{four_or_five, with_pool}
+use Rattle.x86_64_c.proofs.runs.x64_clean_up.Goals as goal
+
+pub clean_up_call-requires : goal.clean_up_call-requires
+clean_up_call-requires g c = four_or_five c.args.hierarchy.now _ c.in-Ok.ensures.good
+
+pub returns-in-Some-clause-bad : goal.returns-in-Some-clause-bad
+returns-in-Some-clause-bad g c = λ status is.
+    let h = c.args.hierarchy.now in
+    let within : c.args.free_count.now ≤ length c.args.pool.now = omega (arith, c.if-pool-free_count.false) in
+    let good = with_pool h _ (length c.args.pool.now) c.args.free_count.now h.levels (λ L. bad_range L c.args.first_page c.args.last_page) c.in-Ok.ensures.good within refl in
+    let none : None ≡ Some status = sym c.in-Some.ensures.good ∙ sym good ∙ is in
+    cc
