@@ -1,5 +1,6 @@
 //! All that page tables map is listed.
-ghost use Rattle.std.specs.Prelude.{◌≡◌, ◌&&◌, IfOk, find};
+ghost use Rattle.std.specs.Prelude.{◌≡◌, ◌&&◌, IfOk};
+ghost use Rattle.std.specs.List.{find};
 ghost use Rattle.x86_64_model.specs.Mappings.{mappings_of};
 ghost use Rattle.x86_64_model.specs.Memory.{identity_places, words_of};
 ghost use Rattle.x86_64_model.specs.Regions.{regions_of};
@@ -20,10 +21,15 @@ pub fn list_all<T: TableMemory>(
     mappings(memory, &IdentityMapping, root).collect(alloc)
 }
 
-/// Returns the first region that can be both written and executed.
+/// Returns the first region that can be both written and executed, or `None` if there is none.
 pub fn writable_code<T: TableMemory>(memory: &T, root: PhysFrame<Size4KiB>) -> Option<Region>
     ensures { let words = words_of (T.tables memory.now) identity_places in
         result ≡ find (λ region. region.rights.write && region.rights.execute) (regions_of 4 words root) }
 {
-    regions(memory, &IdentityMapping, root).find(|region| region.write && region.execute)
+    for region in regions(memory, &IdentityMapping, root) {
+        if region.write && region.execute {
+            return Some(region);
+        }
+    }
+    None
 }
