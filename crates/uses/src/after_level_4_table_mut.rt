@@ -1,4 +1,4 @@
-//! A root's table is changed by hand.
+//! Changes the root's table by hand.
 ghost use Rattle.std.specs.Prelude.{IfOk, IfSome};
 ghost use Rattle.x86_64_model.specs.Layout.{Valid as ValidIn};
 ghost use Rattle.x86_64_model.specs.Memory.{identity_places};

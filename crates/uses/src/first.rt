@@ -1,4 +1,4 @@
-//! A page is mapped.
+//! Maps a page, by any mapper.
 ghost use Rattle.std.specs.Prelude.{◌≡◌, true, IfOk, IsTrue};
 ghost use Rattle.x86_64_model.specs.Entry.{present};
 ghost use Rattle.x86_64_model.specs.Mapper.{ArrivesIn, SupplyFits};

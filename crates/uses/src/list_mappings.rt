@@ -1,4 +1,4 @@
-//! All that page tables map is listed.
+//! Lists what page tables map.
 ghost use Rattle.std.specs.Prelude.{◌≡◌, ◌&&◌, IfOk};
 ghost use Rattle.std.specs.List.{find};
 ghost use Rattle.x86_64_model.specs.Mappings.{mappings_of};

@@ -1,4 +1,4 @@
-//! The segments of a program are mapped.
+//! Maps the segments of a program.
 ghost use Rattle.std.specs.Prelude.{IfOk, IsTrue};
 ghost use Rattle.std.specs.List.{All};
 ghost use Rattle.x86_64_loader.specs.Segments.{IsLoaded, small_pages};

@@ -1,4 +1,4 @@
-//! An allocator of one's own.
+//! A frame allocator over a queue.
 use std::collections::VecDeque;
 use x86_64::FrameKeeper;
 use x86_64::structures::paging::{FrameAllocator, PhysFrame, Size4KiB};

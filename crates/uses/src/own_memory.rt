@@ -1,4 +1,4 @@
-//! A page is mapped in tables that the caller has.
+//! Maps a page in the caller's own tables.
 ghost use Rattle.std.specs.Prelude.{◌≡◌, true, IfOk, IsTrue};
 ghost use Rattle.x86_64_mappers.specs.Layouts.{direct, owned};
 ghost use Rattle.x86_64_model.specs.Entry.{present};
@@ -8,11 +8,12 @@ ghost use Rattle.x86_64_model.specs.Memory.{identity_places};
 ghost use Rattle.x86_64_tables.specs.LentMemory.{numbered};
 ghost use Rattle.x86_64_tables.specs.PageTableFlags.{bits_of};
 
+use std::alloc::{AllocError, Global};
 use x86_64::structures::paging::mapper::MapToError;
 use x86_64::structures::paging::{
     MappedPageTable, Mapper, Page, PageTable, PageTableFlags, PhysFrame, Size4KiB,
 };
-use x86_64::{FramePool, IdentityMapping, LentMemory, TableMemory, parent_flags};
+use x86_64::{FramePool, IdentityMapping, LentMemory, TableMemory, parent_flags, pool_fits};
 
 /// Maps a page in any memory. Returns false if it may not be mapped with these flags.
 pub fn map_in<T: TableMemory>(
@@ -36,6 +37,20 @@ pub fn map_in<T: TableMemory>(
     }
     mapper.map_to(page, frame, flags, pool)?.ignore();
     Ok(true)
+}
+
+/// Returns whether the tables of a slice are a valid hierarchy that a pool fits. Then pages can be mapped in it.
+pub fn is_ready(
+    alloc: Global,
+    tables: &mut [PageTable],
+    root: PhysFrame<Size4KiB>,
+    pool: &FramePool,
+) -> Result<bool, AllocError>
+    ensures { IfOk result (λ ready. IsTrue ready →
+        IsReady (direct identity_places root) (numbered tables.new) pool.now.frames) }
+{
+    let memory = LentMemory::new(tables);
+    pool_fits(alloc, &memory, &IdentityMapping, root, pool)
 }
 
 /// Maps a page in tables that are a slice, as the memory of a guest is.

@@ -1,4 +1,4 @@
-//! An address is translated in a dump.
+//! Walks to an address in a dump.
 ghost use Rattle.std.specs.Prelude.{◌≡◌, None, Ok, IfOk, option_map};
 ghost use Rattle.x86_64_dump.specs.Dump.{Contents, words_of_dump};
 ghost use Rattle.x86_64_dump.specs.Opening.{contents_of};
