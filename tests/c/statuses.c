@@ -1,0 +1,654 @@
+/*
+ * Meets each status of each function, row by row, and compares what the call left: how many words changed, the pool, and what
+ * was written through out parameters. A row is tried with four levels and with five, and with tables from frame 0 on and from
+ * frame 16 on. While a call reads, its tables stand in memory that can't be written.
+ */
+#define _DEFAULT_SOURCE
+#include <inttypes.h>
+#include <stdio.h>
+#include <stdlib.h>
+#include <string.h>
+#include <sys/mman.h>
+
+#include "x86_64_paging.h"
+
+enum { TABLES = 16, ROOM = 12, FREE = 3, LISTED = 8, MAPPED = 6, SETTINGS = 6, STATUSES = 22 };
+
+/* Addresses that aren't canonical: the first with four levels, the second with five, too. */
+#define NOT_CANONICAL_4 UINT64_C(0x800000000000)
+#define NOT_CANONICAL UINT64_C(0x100000000000000)
+#define MISSING UINT64_C(0x8000000000) /* a page with no tables below level four */
+#define LAST_PAGE UINT64_C(0xfffffffffffff000)
+
+/* ---- what a call is made with */
+
+/* The arguments of all functions. A row sets those that differ from the usual ones. */
+struct arguments {
+    uint64_t only; /* 4 or 5 if the row is tried with so many levels alone */
+    uint64_t levels, root, root_offset, table_count, null_tables;
+    uint64_t capacity, free_count, null_pool;
+    uint64_t mark_count, null_marks;
+    uint64_t list_capacity, null_list;
+    uint64_t address, start, size, frame, flags, parent_flags, level, first_page, last_page;
+    /* before the call the word at an index of a table gets these flags and the address of the table with a number */
+    uint64_t word_table, word_index, word_flags, word_names;
+    /* before the call the first free frame of the pool becomes the table with a number, plus an offset; or the frame 0 */
+    uint64_t pool_table, pool_offset, pool_zero;
+};
+
+#define SET(field, value) {offsetof(struct arguments, field), value}
+#define USUAL {0, 0}
+
+/* A row: by which arguments a call has which status, and what it leaves. */
+struct row {
+    const char *what;
+    uint32_t status;
+    struct {
+        size_t at;
+        uint64_t value;
+    } set[SETTINGS];
+    size_t words;         /* how many words of the memory change */
+    size_t words_above;   /* how many more change with each level above three */
+    int taken;            /* how many frames leave the pool, negative if frames come back */
+    uint64_t out[4];      /* what is written through out parameters, field by field */
+};
+
+/* A row whose call changes and writes nothing, or writes through out parameters, or changes words. */
+#define ROW(what, status, ...) {what, status, {__VA_ARGS__}, 0, 0, 0, {0}}
+#define OUT(...) {__VA_ARGS__}
+#define WRITES(what, status, out, ...) {what, status, {__VA_ARGS__}, 0, 0, 0, out}
+#define CHANGES(what, status, words, ...) {what, status, {__VA_ARGS__}, words, 0, 0, {0}}
+
+/* ---- the memory */
+
+struct world {
+    x64_table tables[TABLES];
+    uint64_t pool[ROOM];
+    size_t free_count;
+    bool marks[TABLES];
+    x64_walked walked;
+    x64_translation translation;
+    x64_mapping mappings[LISTED];
+    size_t count;
+    uint64_t next;
+    uint64_t frame;
+};
+
+static _Alignas(4096) struct world world, before;
+static uint64_t first;
+
+/* Returns the address of a table. */
+static uint64_t table(uint64_t number) {
+    return (first + number) * 4096;
+}
+
+/* Makes the memory: tables that map pages of all sizes and refuse for all reasons, and three free frames that hold rubbish. */
+static void fill(uint64_t levels) {
+    memset(&world, 0xa5, sizeof world);
+    memset(world.tables, 0, sizeof world.tables);
+    x64_table *t = world.tables;
+    size_t top = levels == 5 ? 2 : 1;
+    if (levels == 5)
+        t[1].words[0] = table(2) | 0x3;
+    t[top].words[0] = table(3) | 0x3;
+    t[3].words[0] = table(4) | 0x3;
+    t[4].words[0] = table(5) | 0x3;
+    t[5].words[1] = 0x5003;     /* 0x1000 is mapped to 0x5000 */
+    t[5].words[2] = 0x6002;     /* 0x2000 lacks PRESENT */
+    t[5].words[3] = 0x7083;     /* 0x3000 has bit 7 */
+    t[4].words[1] = 0x400083;   /* 0x200000 is mapped by 2 MiB */
+    t[4].words[2] = 0x601083;   /* so is 0x400000, with an address that is no multiple */
+    t[4].words[3] = 0x800082;   /* 0x600000 lacks PRESENT */
+    t[4].words[4] = table(6) | 0x2; /* the table for 0x800000 lacks PRESENT and is empty */
+    t[3].words[1] = 0x80000083; /* 0x40000000 is mapped by 1 GiB */
+    t[3].words[2] = 0xc0001083; /* so is 0x80000000, with an address that is no multiple */
+    t[3].words[3] = table(7) | 0x3; /* the table for 0xc0000000 is empty */
+    for (size_t n = 0; n < FREE; n++) {
+        memset(&t[8 + n], 0x5a, sizeof t[8 + n]);
+        world.pool[n] = table(10 - n);
+    }
+}
+
+/* ---- the functions */
+
+enum function {
+    PAGE_WALK,
+    TRANSLATE,
+    MAPPINGS,
+    IS_VALID,
+    POOL_FITS,
+    MAP,
+    UNMAP,
+    UPDATE_FLAGS,
+    SET_TABLE_FLAGS,
+    CLEAN_UP,
+    FUNCTIONS
+};
+
+static const char *const names[FUNCTIONS] = {
+    "x64_page_walk", "x64_translate", "x64_mappings",     "x64_is_valid",        "x64_pool_fits",
+    "x64_map",       "x64_unmap",     "x64_update_flags", "x64_set_table_flags", "x64_clean_up",
+};
+
+/* Returns the arguments that rows change. */
+static struct arguments usual(uint64_t levels) {
+    return (struct arguments){
+        .levels = levels,
+        .root = table(1),
+        .table_count = TABLES,
+        .capacity = ROOM,
+        .free_count = FREE,
+        .mark_count = TABLES,
+        .list_capacity = LISTED,
+        .start = 0x4000,
+        .size = X64_SIZE_4KIB,
+        .frame = 0x9000,
+        .flags = 0x3,
+        .parent_flags = 0x3,
+        .level = 4,
+        .last_page = LAST_PAGE,
+    };
+}
+
+/* Makes a call. */
+static uint32_t call(enum function function, const struct arguments *a) {
+    x64_hierarchy hierarchy = {.first = first, .root = a->root + a->root_offset, .levels = a->levels};
+    const x64_hierarchy *h = &hierarchy;
+    x64_table *tables = a->null_tables ? NULL : world.tables;
+    uint64_t *pool = a->null_pool ? NULL : world.pool;
+    bool *marks = a->null_marks ? NULL : world.marks;
+    x64_mapping *list = a->null_list ? NULL : world.mappings;
+    x64_page page = {.start = a->start, .size = a->size};
+    x64_map_request request = {.page = page, .frame = a->frame, .flags = a->flags, .parent_flags = a->parent_flags};
+    size_t n = a->table_count;
+    switch (function) {
+    case PAGE_WALK:
+        return x64_page_walk(h, tables, n, a->address, &world.walked);
+    case TRANSLATE:
+        return x64_translate(h, tables, n, a->address, &world.translation);
+    case MAPPINGS:
+        return x64_mappings(h, tables, n, a->address, list, a->list_capacity, &world.count, &world.next);
+    case IS_VALID:
+        return x64_is_valid(h, tables, n, marks, a->mark_count);
+    case POOL_FITS:
+        return x64_pool_fits(h, tables, n, pool, a->capacity, a->free_count, marks, a->mark_count);
+    case MAP:
+        return x64_map(h, tables, n, pool, a->capacity, &world.free_count, &request);
+    case UNMAP:
+        return x64_unmap(h, tables, n, &page, &world.frame);
+    case UPDATE_FLAGS:
+        return x64_update_flags(h, tables, n, &page, a->flags);
+    case SET_TABLE_FLAGS:
+        return x64_set_table_flags(h, tables, n, &page, a->level, a->flags);
+    case CLEAN_UP:
+        return x64_clean_up(h, tables, n, pool, a->capacity, &world.free_count, a->first_page, a->last_page);
+    case FUNCTIONS:
+        break;
+    }
+    abort();
+}
+
+/* ---- the rows */
+
+/* Bad arguments of every function. What is tested first is said first. */
+static const struct row every[] = {
+    ROW("three levels", X64_BAD_LEVELS, SET(levels, 3)),
+    ROW("six levels", X64_BAD_LEVELS, SET(levels, 6)),
+    ROW("levels beyond 32 bits", X64_BAD_LEVELS, SET(levels, UINT64_C(0x100000004))),
+    ROW("bad levels before a bad root", X64_BAD_LEVELS, SET(levels, 0), SET(root_offset, 1)),
+    ROW("a root that is no multiple of 4096", X64_BAD_ROOT, SET(root_offset, 8)),
+    ROW("a root with a flag", X64_BAD_ROOT, SET(root_offset, 1)),
+    ROW("a root beyond the tables", X64_BAD_ROOT, SET(root_offset, (TABLES - 1) * 4096)),
+    ROW("a root from 2^52 on", X64_BAD_ROOT, SET(root, UINT64_C(1) << 52)),
+    ROW("a root with high bits", X64_BAD_ROOT, SET(root_offset, UINT64_C(1) << 63)),
+    ROW("too few tables for the root", X64_BAD_ROOT, SET(table_count, 1)),
+    ROW("no tables", X64_BAD_ROOT, SET(table_count, 0)),
+    ROW("no tables, and null", X64_BAD_ROOT, SET(table_count, 0), SET(null_tables, 1)),
+    ROW("a bad root before all others", X64_BAD_ROOT, SET(root_offset, 8), SET(capacity, 0), SET(mark_count, 0),
+        SET(address, NOT_CANONICAL), SET(size, 0), SET(first_page, 1)),
+};
+
+static const struct row page_walk[] = {
+    WRITES("4 KiB", X64_OK, OUT(0x5abc, 1, 0, 0), SET(address, 0x1abc)),
+    WRITES("4 KiB with bit 7", X64_OK, OUT(0x7fff, 1, 0, 0), SET(address, 0x3fff)),
+    WRITES("2 MiB", X64_OK, OUT(0x434567, 1, 0, 0), SET(address, 0x234567)),
+    WRITES("2 MiB, an address that is rounded down", X64_OK, OUT(0x600123, 1, 0, 0), SET(address, 0x400123)),
+    WRITES("1 GiB", X64_OK, OUT(0x80123456, 1, 0, 0), SET(address, 0x40123456)),
+    WRITES("an entry above without WRITABLE", X64_OK, OUT(0x5000, 0, 0, 0), SET(address, 0x1000), SET(word_table, 4),
+        SET(word_flags, 0x5), SET(word_names, 5)),
+    ROW("no PRESENT", X64_NOT_MAPPED, SET(address, 0x2000)),
+    ROW("no PRESENT above", X64_NOT_MAPPED, SET(address, 0x800000)),
+    ROW("no tables there", X64_NOT_MAPPED, SET(address, MISSING)),
+    ROW("the upper half", X64_NOT_MAPPED, SET(address, UINT64_MAX)),
+    ROW("a table beyond the array", X64_NOT_MAPPED, SET(address, 0x1200000), SET(word_table, 4), SET(word_index, 9),
+        SET(word_flags, 0x3), SET(word_names, 40)),
+    ROW("HUGE_PAGE in the root", X64_NOT_MAPPED, SET(word_table, 1), SET(word_flags, 0x83)),
+    ROW("not canonical", X64_BAD_ADDRESS, SET(address, NOT_CANONICAL)),
+    ROW("not canonical with four levels", X64_BAD_ADDRESS, SET(address, NOT_CANONICAL_4), SET(only, 4)),
+    ROW("canonical with five levels", X64_NOT_MAPPED, SET(address, NOT_CANONICAL_4), SET(only, 5)),
+};
+
+static const struct row translate[] = {
+    WRITES("4 KiB", X64_OK, OUT(0x5000, 0x1000, 0xabc, 0x3), SET(address, 0x1abc)),
+    WRITES("4 KiB without PRESENT", X64_OK, OUT(0x6000, 0x1000, 0x1, 0x2), SET(address, 0x2001)),
+    WRITES("4 KiB with bit 7", X64_OK, OUT(0x7000, 0x1000, 0xfff, 0x83), SET(address, 0x3fff)),
+    WRITES("2 MiB", X64_OK, OUT(0x400000, 0x200000, 0x34567, 0x83), SET(address, 0x234567)),
+    WRITES("2 MiB, an address that is rounded down", X64_OK, OUT(0x600000, 0x200000, 0x123, 0x83), SET(address, 0x400123)),
+    WRITES("1 GiB", X64_OK, OUT(0x80000000, 0x40000000, 0x123456, 0x83), SET(address, 0x40123456)),
+    WRITES("all flags", X64_OK, OUT(0x9000, 0x1000, 0, UINT64_C(0xfff0000000000fff)), SET(address, 0x9000), SET(word_table, 5),
+        SET(word_index, 9), SET(word_flags, UINT64_C(0xfff0000000009fff))),
+    ROW("2 MiB without PRESENT", X64_NOT_MAPPED, SET(address, 0x600000)),
+    ROW("no PRESENT above", X64_NOT_MAPPED, SET(address, 0x800000)),
+    ROW("an unused entry", X64_NOT_MAPPED, SET(address, 0)),
+    ROW("no tables there", X64_NOT_MAPPED, SET(address, MISSING)),
+    ROW("not canonical", X64_BAD_ADDRESS, SET(address, NOT_CANONICAL)),
+    ROW("not canonical with four levels", X64_BAD_ADDRESS, SET(address, NOT_CANONICAL_4), SET(only, 4)),
+    ROW("canonical with five levels", X64_NOT_MAPPED, SET(address, NOT_CANONICAL_4), SET(only, 5)),
+};
+
+/* The number, and the first one's start and frame. */
+static const struct row mappings[] = {
+    WRITES("all", X64_OK, OUT(MAPPED, 0x1000, 0x5000, 0), USUAL),
+    WRITES("from the first one's last byte on", X64_OK, OUT(MAPPED, 0x1000, 0x5000, 0), SET(address, 0x1fff)),
+    WRITES("from the byte after it on", X64_OK, OUT(MAPPED - 1, 0x3000, 0x7000, 0), SET(address, 0x2000)),
+    WRITES("from inside a larger page on", X64_OK, OUT(2, 0x40000000, 0x80000000, 0), SET(address, 0x40123456)),
+    ROW("from the last address on", X64_OK, SET(address, UINT64_MAX)),
+    WRITES("an array that is just long enough", X64_OK, OUT(MAPPED, 0x1000, 0x5000, 0), SET(list_capacity, MAPPED)),
+    WRITES("an array for one", X64_MORE, OUT(1, 0x1000, 0x5000, 0), SET(list_capacity, 1)),
+    WRITES("an array for all but one", X64_MORE, OUT(MAPPED - 1, 0x1000, 0x5000, 0), SET(list_capacity, MAPPED - 1)),
+    ROW("an array of no length", X64_MORE, SET(list_capacity, 0)),
+    ROW("no array", X64_MORE, SET(list_capacity, 0), SET(null_list, 1)),
+    ROW("no array, and none to list", X64_OK, SET(list_capacity, 0), SET(null_list, 1), SET(address, LAST_PAGE)),
+    WRITES("a table that is its own child", X64_OK, OUT(5, 0x1201000, 0x400000, 0), SET(address, 0x1201000), SET(word_table, 4),
+        SET(word_index, 9), SET(word_flags, 0x3), SET(word_names, 4)),
+    ROW("not canonical", X64_BAD_ADDRESS, SET(address, NOT_CANONICAL)),
+};
+
+/* These are tried with x64_pool_fits, too. */
+static const struct row is_valid[] = {
+    ROW("valid", X64_OK, USUAL),
+    ROW("two entries name one table", X64_NOT_VALID, SET(word_table, 4), SET(word_index, 9), SET(word_flags, 3),
+        SET(word_names, 5)),
+    ROW("an entry names its own table", X64_NOT_VALID, SET(word_table, 4), SET(word_index, 9), SET(word_flags, 3),
+        SET(word_names, 4)),
+    ROW("an entry names the root", X64_NOT_VALID, SET(word_table, 4), SET(word_index, 9), SET(word_flags, 3), SET(word_names, 1)),
+    ROW("the root names itself", X64_NOT_VALID, SET(word_table, 1), SET(word_index, 511), SET(word_flags, 3), SET(word_names, 1)),
+    ROW("an entry names frame 0", X64_NOT_VALID, SET(word_table, 4), SET(word_index, 9), SET(word_flags, 3)),
+    ROW("a table beyond the array", X64_NOT_VALID, SET(word_table, 4), SET(word_index, 9), SET(word_flags, 3),
+        SET(word_names, TABLES)),
+    ROW("the same without PRESENT", X64_NOT_VALID, SET(word_table, 4), SET(word_index, 9), SET(word_flags, 2),
+        SET(word_names, TABLES)),
+    ROW("HUGE_PAGE in the root", X64_NOT_VALID, SET(word_table, 1), SET(word_index, 9), SET(word_flags, 0x83)),
+    ROW("HUGE_PAGE at level four", X64_NOT_VALID, SET(word_table, 2), SET(word_index, 9), SET(word_flags, 0x83), SET(only, 5)),
+    ROW("too few marks", X64_BAD_ARRAY, SET(mark_count, TABLES - 1)),
+    ROW("no marks", X64_BAD_ARRAY, SET(null_marks, 1), SET(mark_count, 0)),
+};
+
+static const struct row pool_fits[] = {
+    ROW("no free frame", X64_OK, SET(free_count, 0)),
+    ROW("room for just all, with four levels", X64_OK, SET(capacity, FREE + 5), SET(only, 4)),
+    ROW("room for just all, with five levels", X64_OK, SET(capacity, FREE + 6), SET(only, 5)),
+    ROW("room for one too few, with four levels", X64_NOT_VALID, SET(capacity, FREE + 4), SET(only, 4)),
+    ROW("room for one too few, with five levels", X64_NOT_VALID, SET(capacity, FREE + 5), SET(only, 5)),
+    ROW("no room, and null", X64_NOT_VALID, SET(free_count, 0), SET(capacity, 0), SET(null_pool, 1)),
+    ROW("a free frame twice", X64_NOT_VALID, SET(pool_table, 9)),
+    ROW("a free frame that is the root", X64_NOT_VALID, SET(pool_table, 1)),
+    ROW("a free frame that is a table", X64_NOT_VALID, SET(pool_table, 5)),
+    ROW("a free frame that is a table without PRESENT", X64_NOT_VALID, SET(pool_table, 6)),
+    ROW("a free frame beyond the array", X64_NOT_VALID, SET(pool_table, TABLES)),
+    ROW("a free frame that is no multiple of 4096", X64_NOT_VALID, SET(pool_table, 10), SET(pool_offset, 8)),
+    ROW("a free frame with high bits", X64_NOT_VALID, SET(pool_table, 10), SET(pool_offset, UINT64_C(1) << 52)),
+    ROW("frame 0", X64_NOT_VALID, SET(pool_zero, 1)),
+    ROW("more free frames than room", X64_BAD_ARRAY, SET(capacity, FREE - 1)),
+};
+
+static const struct row map[] = {
+    CHANGES("4 KiB", X64_OK, 1, USUAL),
+    CHANGES("2 MiB", X64_OK, 1, SET(start, 0xa00000), SET(size, X64_SIZE_2MIB), SET(frame, 0x800000)),
+    CHANGES("1 GiB", X64_OK, 1, SET(start, 0x100000000), SET(size, X64_SIZE_1GIB), SET(frame, 0x80000000)),
+    CHANGES("2 MiB with HUGE_PAGE", X64_OK, 1, SET(start, 0xa00000), SET(size, X64_SIZE_2MIB), SET(frame, 0), SET(flags, 0x83)),
+    {"three new tables", X64_OK, {SET(start, MISSING)}, 1 + 3 * 512, 0, 3, {0}},
+    {"parents get USER_ACCESSIBLE", X64_OK, {SET(parent_flags, 0x7)}, 3, 1, 0, {0}},
+    CHANGES("a parent gets PRESENT", X64_OK, 2, SET(start, 0x800000)),
+    CHANGES("no parent flags are needed", X64_OK, 1, SET(parent_flags, 0)),
+    CHANGES("the last frame", X64_OK, 1, SET(frame, UINT64_C(0xffffffffff000))),
+    ROW("frame 0 with no flags", X64_OK, SET(frame, 0), SET(flags, 0)),
+    ROW("an address in the flags", X64_NOT_ALLOWED, SET(flags, 0x1003)),
+    ROW("an address in the parent flags", X64_NOT_ALLOWED, SET(parent_flags, 0x1003)),
+    ROW("HUGE_PAGE in the parent flags", X64_NOT_ALLOWED, SET(parent_flags, 0x83)),
+    ROW("HUGE_PAGE for 4 KiB", X64_NOT_ALLOWED, SET(flags, 0x83)),
+    ROW("a new parent would lack PRESENT", X64_NOT_ALLOWED, SET(start, MISSING), SET(parent_flags, 0x2)),
+    ROW("a parent would still lack PRESENT", X64_NOT_ALLOWED, SET(start, 0x800000), SET(parent_flags, 0x2)),
+    ROW("not allowed before no frame", X64_NOT_ALLOWED, SET(start, MISSING), SET(parent_flags, 0), SET(free_count, 0)),
+    ROW("no free frame", X64_FRAME_ALLOCATION_FAILED, SET(start, MISSING), SET(free_count, 0)),
+    {"one free frame of three", X64_FRAME_ALLOCATION_FAILED, {SET(start, MISSING), SET(free_count, 1)}, 1 + 512, 0, 1, {0}},
+    ROW("below 2 MiB", X64_PARENT_ENTRY_HUGE_PAGE, SET(start, 0x200000)),
+    {"below 2 MiB, and parents get USER_ACCESSIBLE", X64_PARENT_ENTRY_HUGE_PAGE, {SET(start, 0x200000),
+        SET(parent_flags, 0x7)}, 2, 1, 0, {0}},
+    ROW("2 MiB below 1 GiB", X64_PARENT_ENTRY_HUGE_PAGE, SET(start, 0x40000000), SET(size, X64_SIZE_2MIB), SET(frame, 0)),
+    ROW("mapped", X64_PAGE_ALREADY_MAPPED, SET(start, 0x1000)),
+    ROW("used without PRESENT", X64_PAGE_ALREADY_MAPPED, SET(start, 0x2000)),
+    ROW("a table is there", X64_PAGE_ALREADY_MAPPED, SET(start, 0), SET(size, X64_SIZE_2MIB), SET(frame, 0)),
+    ROW("more free frames than room", X64_BAD_ARRAY, SET(capacity, FREE - 1)),
+    ROW("no pool, but free frames", X64_BAD_ARRAY, SET(null_pool, 1), SET(capacity, 0)),
+    ROW("a bad array before a bad page", X64_BAD_ARRAY, SET(capacity, 0), SET(size, 0)),
+    ROW("a bad page before a bad frame", X64_BAD_PAGE, SET(start, 1), SET(frame, 1)),
+    ROW("a frame that is no multiple", X64_BAD_FRAME, SET(frame, 0x9800)),
+    ROW("a frame that is no multiple of 2 MiB", X64_BAD_FRAME, SET(start, 0xa00000), SET(size, X64_SIZE_2MIB)),
+    ROW("a frame from 2^52 on", X64_BAD_FRAME, SET(frame, UINT64_C(1) << 52)),
+    ROW("a bad frame before bad flags", X64_BAD_FRAME, SET(frame, 1), SET(flags, 0x1000)),
+};
+
+/* Bad pages of every function that takes one. */
+static const struct row pages[] = {
+    ROW("a page of no size", X64_BAD_PAGE, SET(size, 0)),
+    ROW("a page of 8 KiB", X64_BAD_PAGE, SET(size, 0x2000)),
+    ROW("a page of 512 GiB", X64_BAD_PAGE, SET(start, 0), SET(size, UINT64_C(1) << 39)),
+    ROW("a start that is no multiple", X64_BAD_PAGE, SET(start, 0x1800)),
+    ROW("a start that is no multiple of 2 MiB", X64_BAD_PAGE, SET(size, X64_SIZE_2MIB)),
+    ROW("a start that is no multiple of 1 GiB", X64_BAD_PAGE, SET(start, 0x200000), SET(size, X64_SIZE_1GIB)),
+    ROW("a start that isn't canonical", X64_BAD_PAGE, SET(start, NOT_CANONICAL)),
+    ROW("a start that isn't canonical with four levels", X64_BAD_PAGE, SET(start, NOT_CANONICAL_4), SET(only, 4)),
+};
+
+static const struct row unmap[] = {
+    {"4 KiB", X64_OK, {SET(start, 0x1000)}, 1, 0, 0, {0x5000}},
+    {"2 MiB", X64_OK, {SET(start, 0x200000), SET(size, X64_SIZE_2MIB)}, 1, 0, 0, {0x400000}},
+    {"1 GiB", X64_OK, {SET(start, 0x40000000), SET(size, X64_SIZE_1GIB)}, 1, 0, 0, {0x80000000}},
+    ROW("an unused entry", X64_PAGE_NOT_MAPPED, USUAL),
+    ROW("no PRESENT", X64_PAGE_NOT_MAPPED, SET(start, 0x2000)),
+    ROW("2 MiB without PRESENT", X64_PAGE_NOT_MAPPED, SET(start, 0x600000), SET(size, X64_SIZE_2MIB)),
+    ROW("no PRESENT above", X64_PAGE_NOT_MAPPED, SET(start, 0x800000)),
+    ROW("no tables there", X64_PAGE_NOT_MAPPED, SET(start, MISSING)),
+    ROW("below 2 MiB", X64_PARENT_ENTRY_HUGE_PAGE, SET(start, 0x200000)),
+    ROW("2 MiB below 1 GiB", X64_PARENT_ENTRY_HUGE_PAGE, SET(start, 0x40000000), SET(size, X64_SIZE_2MIB)),
+    ROW("4 KiB with bit 7", X64_PARENT_ENTRY_HUGE_PAGE, SET(start, 0x3000)),
+    ROW("a table is there", X64_PARENT_ENTRY_HUGE_PAGE, SET(start, 0), SET(size, X64_SIZE_2MIB)),
+    WRITES("2 MiB, an address that is no multiple", X64_INVALID_FRAME_ADDRESS, OUT(0x601000, 0, 0, 0), SET(start, 0x400000),
+        SET(size, X64_SIZE_2MIB)),
+    WRITES("1 GiB, an address that is no multiple", X64_INVALID_FRAME_ADDRESS, OUT(0xc0001000, 0, 0, 0), SET(start, 0x80000000),
+        SET(size, X64_SIZE_1GIB)),
+};
+
+static const struct row update_flags[] = {
+    CHANGES("4 KiB", X64_OK, 1, SET(start, 0x1000), SET(flags, 0x1)),
+    CHANGES("4 KiB to bit 7", X64_OK, 1, SET(start, 0x1000), SET(flags, 0x83)),
+    CHANGES("4 KiB without PRESENT", X64_OK, 1, SET(start, 0x2000)),
+    CHANGES("2 MiB keeps HUGE_PAGE", X64_OK, 1, SET(start, 0x200000), SET(size, X64_SIZE_2MIB), SET(flags, 0)),
+    ROW("2 MiB has these flags", X64_OK, SET(start, 0x200000), SET(size, X64_SIZE_2MIB)),
+    CHANGES("1 GiB", X64_OK, 1, SET(start, 0x40000000), SET(size, X64_SIZE_1GIB), SET(flags, 0x1)),
+    ROW("an address in the flags", X64_NOT_ALLOWED, SET(start, 0x1000), SET(flags, 0x1001)),
+    ROW("not allowed before not mapped", X64_NOT_ALLOWED, SET(flags, 0x1001)),
+    ROW("an unused entry", X64_PAGE_NOT_MAPPED, USUAL),
+    ROW("no PRESENT above", X64_PAGE_NOT_MAPPED, SET(start, 0x800000)),
+    ROW("no tables there", X64_PAGE_NOT_MAPPED, SET(start, MISSING)),
+    ROW("a table is there", X64_PAGE_NOT_MAPPED, SET(start, 0), SET(size, X64_SIZE_2MIB)),
+    ROW("below 2 MiB", X64_PARENT_ENTRY_HUGE_PAGE, SET(start, 0x200000)),
+    ROW("a bad page before bad flags", X64_BAD_PAGE, SET(start, 1), SET(flags, 0x1000)),
+};
+
+static const struct row set_table_flags[] = {
+    CHANGES("level four", X64_OK, 1, SET(flags, 0x7)),
+    CHANGES("level five", X64_OK, 1, SET(level, 5), SET(flags, 0x7), SET(only, 5)),
+    CHANGES("level three", X64_OK, 1, SET(level, 3), SET(flags, 0x7)),
+    CHANGES("level two", X64_OK, 1, SET(level, 2), SET(flags, 0x1)),
+    CHANGES("level two without PRESENT", X64_OK, 1, SET(level, 2), SET(flags, 0)),
+    CHANGES("HUGE_PAGE stays", X64_OK, 1, SET(start, 0x200000), SET(level, 2), SET(flags, 0x87)),
+    ROW("an address in the flags", X64_NOT_ALLOWED, SET(flags, 0x1003)),
+    ROW("HUGE_PAGE at level four", X64_NOT_ALLOWED, SET(flags, 0x83)),
+    ROW("HUGE_PAGE at level five", X64_NOT_ALLOWED, SET(level, 5), SET(flags, 0x83), SET(only, 5)),
+    ROW("a table would become a page", X64_NOT_ALLOWED, SET(level, 2), SET(flags, 0x83)),
+    ROW("a page of 2 MiB would become a table", X64_NOT_ALLOWED, SET(start, 0x200000), SET(level, 2)),
+    ROW("a page of 1 GiB would become a table", X64_NOT_ALLOWED, SET(start, 0x40000000), SET(level, 3)),
+    ROW("the level of the page", X64_PARENT_ENTRY_HUGE_PAGE, SET(start, 0x200000), SET(size, X64_SIZE_2MIB), SET(level, 2)),
+    ROW("a level below that of the page", X64_PARENT_ENTRY_HUGE_PAGE, SET(start, 0x40000000), SET(size, X64_SIZE_1GIB),
+        SET(level, 2)),
+    ROW("below 1 GiB", X64_PARENT_ENTRY_HUGE_PAGE, SET(start, 0x40000000), SET(level, 2)),
+    ROW("an unused entry", X64_PAGE_NOT_MAPPED, SET(start, 0xa00000), SET(level, 2)),
+    ROW("an unused entry, and HUGE_PAGE", X64_PAGE_NOT_MAPPED, SET(start, 0xa00000), SET(level, 2), SET(flags, 0x83)),
+    ROW("no tables there", X64_PAGE_NOT_MAPPED, SET(start, MISSING), SET(level, 2)),
+    ROW("no PRESENT above", X64_PAGE_NOT_MAPPED, SET(level, 2), SET(word_table, 3), SET(word_flags, 0x2), SET(word_names, 4)),
+    ROW("level 0", X64_BAD_LEVELS, SET(level, 0)),
+    ROW("level one", X64_BAD_LEVELS, SET(level, 1)),
+    ROW("level six", X64_BAD_LEVELS, SET(level, 6)),
+    ROW("level five of four", X64_BAD_LEVELS, SET(level, 5), SET(only, 4)),
+    ROW("a bad root before a bad level", X64_BAD_ROOT, SET(level, 1), SET(root_offset, 8)),
+    ROW("a bad level before a bad page", X64_BAD_LEVELS, SET(level, 1), SET(size, 0)),
+    ROW("a bad page before bad flags", X64_BAD_PAGE, SET(start, 1), SET(flags, 0x1000)),
+};
+
+/* The table that comes back last. */
+static const struct row clean_up[] = {
+    {"all", X64_OK, {USUAL}, 1, 0, -1, {7}},
+    {"the page alone", X64_OK, {SET(first_page, 0xc0000000), SET(last_page, 0xc0000000)}, 1, 0, -1, {7}},
+    ROW("all before it", X64_OK, SET(last_page, 0xbffff000)),
+    ROW("all after it", X64_OK, SET(first_page, 0x100000000)),
+    ROW("the last page before the first one", X64_OK, SET(first_page, LAST_PAGE), SET(last_page, 0)),
+    ROW("more free frames than room", X64_BAD_ARRAY, SET(capacity, FREE - 1)),
+    ROW("a first page that is no multiple", X64_BAD_PAGE, SET(first_page, 0x800)),
+    ROW("a last page that is no multiple", X64_BAD_PAGE, SET(last_page, UINT64_MAX)),
+    ROW("a first page that isn't canonical", X64_BAD_PAGE, SET(first_page, NOT_CANONICAL)),
+    ROW("a last page that isn't canonical", X64_BAD_PAGE, SET(last_page, NOT_CANONICAL)),
+};
+
+/* ---- the test */
+
+static size_t checked, failed;
+static bool met[FUNCTIONS][STATUSES];
+
+/* Says what is wrong with a row. */
+static void fail(enum function function, const struct row *row, uint64_t levels, const char *format, uint64_t is, uint64_t wanted) {
+    failed++;
+    fprintf(stderr, "%s: %s (%" PRIu64 " levels, frames from %" PRIu64 " on): ", names[function], row->what, levels, first);
+    fprintf(stderr, format, is, wanted);
+    fprintf(stderr, "\n");
+}
+
+/* Sets in the memory what a row wants otherwise. */
+static void prepare(const struct arguments *a) {
+    if (a->word_table != 0)
+        world.tables[a->word_table].words[a->word_index] = (a->word_names != 0 ? table(a->word_names) : 0) | a->word_flags;
+    if (a->pool_table != 0)
+        world.pool[0] = table(a->pool_table) + a->pool_offset;
+    if (a->pool_zero)
+        world.pool[0] = 0;
+    world.free_count = a->free_count;
+}
+
+/* Returns how many words differ. */
+static size_t changed_words(void) {
+    size_t count = 0;
+    for (size_t n = 0; n < TABLES; n++)
+        for (size_t index = 0; index < 512; index++)
+            count += world.tables[n].words[index] != before.tables[n].words[index];
+    return count;
+}
+
+/* Reads what a call wrote through its out parameters, as a row has it, and puts back what was there before. */
+static void read_out(enum function function, uint64_t out[4]) {
+    memset(out, 0, 4 * sizeof *out);
+    switch (function) {
+    case PAGE_WALK:
+        out[0] = world.walked.address, out[1] = world.walked.write, out[2] = world.walked.user;
+        world.walked = before.walked;
+        break;
+    case TRANSLATE:
+        out[0] = world.translation.frame, out[1] = world.translation.size;
+        out[2] = world.translation.offset, out[3] = world.translation.flags;
+        world.translation = before.translation;
+        break;
+    case MAPPINGS:
+        out[0] = world.count;
+        if (world.count != 0)
+            out[1] = world.mappings[0].start, out[2] = world.mappings[0].frame;
+        memcpy(world.mappings, before.mappings, world.count * sizeof *world.mappings);
+        world.count = before.count;
+        break;
+    case UNMAP:
+        out[0] = world.frame;
+        world.frame = before.frame;
+        break;
+    default:
+        break;
+    }
+}
+
+/* Whether a call with this status writes through out parameters. */
+static bool writes(uint32_t status) {
+    return status == X64_OK || status == X64_MORE || status == X64_INVALID_FRAME_ADDRESS;
+}
+
+/* Makes the call of a row. */
+static uint32_t call_row(enum function function, const struct arguments *a) {
+    if (function > POOL_FITS)
+        return call(function, a);
+    if (mprotect(world.tables, sizeof world.tables, PROT_READ) != 0)
+        abort();
+    uint32_t status = call(function, a);
+    if (mprotect(world.tables, sizeof world.tables, PROT_READ | PROT_WRITE) != 0)
+        abort();
+    return status;
+}
+
+/* Lists on from where a call stopped, and checks that together they are all. */
+static void go_on(const struct row *row, const struct arguments *a) {
+    struct arguments more = *a;
+    size_t listed = world.count;
+    x64_mapping list[LISTED];
+    memcpy(list, world.mappings, sizeof list);
+    more.address = world.next;
+    more.list_capacity = LISTED;
+    more.null_list = 0;
+    if (call(MAPPINGS, &more) != X64_OK || listed + world.count != MAPPED)
+        fail(MAPPINGS, row, a->levels, "%" PRIu64 " mappings and not %" PRIu64, listed + world.count, MAPPED);
+    world.count = listed;
+    world.next = before.next;
+    memcpy(world.mappings, list, sizeof list);
+}
+
+/* Checks the pool, and puts back what was there before. */
+static void check_pool(enum function function, const struct row *row, uint64_t levels) {
+    if (world.free_count + (size_t)row->taken != before.free_count)
+        fail(function, row, levels, "%" PRIu64 " free frames and not %" PRIu64, world.free_count,
+             before.free_count - (size_t)row->taken);
+    if (row->taken < 0 && world.pool[world.free_count - 1] != table(row->out[0]))
+        fail(function, row, levels, "the frame 0x%" PRIx64 " came back, and not 0x%" PRIx64, world.pool[world.free_count - 1],
+             table(row->out[0]));
+    if (row->taken < 0)
+        memcpy(world.pool + before.free_count, before.pool + before.free_count, (size_t)-row->taken * sizeof *world.pool);
+    world.free_count = before.free_count;
+}
+
+/* Returns the arguments of a row. */
+static struct arguments arguments_of(const struct row *row, uint64_t levels) {
+    struct arguments arguments = usual(levels);
+    for (size_t n = 0; n < SETTINGS; n++)
+        if (row->set[n].at != 0 || row->set[n].value != 0)
+            memcpy((char *)&arguments + row->set[n].at, &row->set[n].value, sizeof row->set[n].value);
+    return arguments;
+}
+
+/* Whether a row is tried with so many levels. */
+static bool is_tried(const struct row *row, uint64_t levels) {
+    uint64_t only = arguments_of(row, levels).only;
+    return only == 0 || only == levels;
+}
+
+/* Tries a row. */
+static void try_row(enum function function, const struct row *row, uint64_t levels) {
+    struct arguments arguments = arguments_of(row, levels);
+    fill(levels);
+    prepare(&arguments);
+    memcpy(&before, &world, sizeof world);
+
+    uint32_t status = call_row(function, &arguments);
+    checked++;
+    if (status != row->status) {
+        fail(function, row, levels, "status %" PRIu64 " and not %" PRIu64, status, row->status);
+        return;
+    }
+    met[function][status] = true;
+
+    size_t words = row->words + row->words_above * (levels - 3);
+    if (changed_words() != words)
+        fail(function, row, levels, "%" PRIu64 " words changed, and not %" PRIu64, changed_words(), words);
+    if (words != 0)
+        memcpy(world.tables, before.tables, sizeof world.tables);
+    check_pool(function, row, levels);
+    if (status < X64_BAD_LEVELS)
+        memcpy(world.marks, before.marks, sizeof world.marks);
+    if (function == MAPPINGS && status == X64_MORE)
+        go_on(row, &arguments);
+    if (writes(status)) {
+        uint64_t out[4];
+        read_out(function, out);
+        for (size_t n = 0; n < 4 && function != CLEAN_UP; n++)
+            if (out[n] != row->out[n])
+                fail(function, row, levels, "it wrote 0x%" PRIx64 " and not 0x%" PRIx64, out[n], row->out[n]);
+    }
+    /* all that a call may write was put back, so that nothing may differ now */
+    if (memcmp(&world, &before, sizeof world) != 0)
+        fail(function, row, levels, "it wrote what it may not write", 0, 0);
+}
+
+/* Tries rows with all numbers of levels and with tables from two frames on. */
+static void try_rows(enum function function, const struct row *rows, size_t count) {
+    static const uint64_t firsts[] = {0, 16};
+    for (size_t n = 0; n < count; n++)
+        for (size_t k = 0; k < 2; k++)
+            for (uint64_t levels = 4; levels <= 5; levels++)
+                if (is_tried(&rows[n], levels)) {
+                    first = firsts[k];
+                    try_row(function, &rows[n], levels);
+                }
+}
+
+#define TRY(function, rows) try_rows(function, rows, sizeof rows / sizeof *rows)
+
+/* Checks that a function met just the statuses that the header says it may return, which come after X64_OK and end with it. */
+static void check_statuses(enum function function, const uint32_t *statuses) {
+    bool may[STATUSES] = {[X64_OK] = true, [X64_BAD_LEVELS] = true, [X64_BAD_ROOT] = true};
+    for (; *statuses != X64_OK; statuses++)
+        may[*statuses] = true;
+    for (uint32_t status = 0; status < STATUSES; status++)
+        if (met[function][status] != may[status]) {
+            failed++;
+            fprintf(stderr, "%s: no row is about status %" PRIu32 "\n", names[function], status);
+        }
+}
+
+int main(void) {
+    for (int function = 0; function < FUNCTIONS; function++)
+        TRY((enum function)function, every);
+    for (int function = MAP; function < CLEAN_UP; function++)
+        TRY((enum function)function, pages);
+    TRY(PAGE_WALK, page_walk);
+    TRY(TRANSLATE, translate);
+    TRY(MAPPINGS, mappings);
+    TRY(IS_VALID, is_valid);
+    TRY(POOL_FITS, is_valid);
+    TRY(POOL_FITS, pool_fits);
+    TRY(MAP, map);
+    TRY(UNMAP, unmap);
+    TRY(UPDATE_FLAGS, update_flags);
+    TRY(SET_TABLE_FLAGS, set_table_flags);
+    TRY(CLEAN_UP, clean_up);
+
+    static const uint32_t statuses[FUNCTIONS][8] = {
+        [PAGE_WALK] = {X64_NOT_MAPPED, X64_BAD_ADDRESS},
+        [TRANSLATE] = {X64_NOT_MAPPED, X64_BAD_ADDRESS},
+        [MAPPINGS] = {X64_MORE, X64_BAD_ADDRESS},
+        [IS_VALID] = {X64_NOT_VALID, X64_BAD_ARRAY},
+        [POOL_FITS] = {X64_NOT_VALID, X64_BAD_ARRAY},
+        [MAP] = {X64_NOT_ALLOWED, X64_FRAME_ALLOCATION_FAILED, X64_PARENT_ENTRY_HUGE_PAGE, X64_PAGE_ALREADY_MAPPED,
+                 X64_BAD_ARRAY, X64_BAD_PAGE, X64_BAD_FRAME},
+        [UNMAP] = {X64_PARENT_ENTRY_HUGE_PAGE, X64_PAGE_NOT_MAPPED, X64_INVALID_FRAME_ADDRESS, X64_BAD_PAGE},
+        [UPDATE_FLAGS] = {X64_NOT_ALLOWED, X64_PARENT_ENTRY_HUGE_PAGE, X64_PAGE_NOT_MAPPED, X64_BAD_PAGE},
+        [SET_TABLE_FLAGS] = {X64_NOT_ALLOWED, X64_PARENT_ENTRY_HUGE_PAGE, X64_PAGE_NOT_MAPPED, X64_BAD_PAGE},
+        [CLEAN_UP] = {X64_BAD_ARRAY, X64_BAD_PAGE},
+    };
+    for (int function = 0; function < FUNCTIONS; function++)
+        check_statuses((enum function)function, statuses[function]);
+    printf("statuses: %zu calls checked, %zu faults\n", checked, failed);
+    return failed == 0 ? EXIT_SUCCESS : EXIT_FAILURE;
+}
