@@ -7,6 +7,6 @@ use Rattle.pagetab_engine.specs.Program.{IsRun}
 use Rattle.pagetab_engine.specs.declared.ending.Ending.{Ending}
 use Rattle.pagetab_engine.specs.declared.reply.Reply.{Reply}
 
--- the exit code is that of a run by these words, with some input
+-- the exit code is that of a run on these words, with some input
 abbrev pub EndsRun : (words : List (List ℕ)) → ExitCode → Type 0
 EndsRun words code = (input : List ℕ) × (ending : Ending) × (replies : List Reply) × IsRun words input ending replies × (exit_status code ≡ status_of ending)

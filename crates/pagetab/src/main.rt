@@ -31,7 +31,7 @@ fn run(rt: &HostRuntime, words: &[String]) -> ExitCode
     report(rt, ending)
 }
 
-/// Gives the words after the program's name.
+/// Returns the words after the program's name.
 fn arguments(rt: &HostRuntime) -> io::Result<Vec<String>> {
     let mut words = Vec::new(rt.alloc());
     for word in env::args(rt)?.skip(1) {
@@ -40,7 +40,7 @@ fn arguments(rt: &HostRuntime) -> io::Result<Vec<String>> {
     Ok(words)
 }
 
-/// Says why the arguments can't be listed: memory was refused, or one of them is no text.
+/// Returns the fault if the arguments can't be listed: memory allocation failed, or one of them is no text.
 fn fault_of(error: &io::Error) -> Fault {
     if error.kind() == ErrorKind::OutOfMemory {
         Fault::OutOfMemory
@@ -49,7 +49,8 @@ fn fault_of(error: &io::Error) -> Fault {
     }
 }
 
-/// Writes the text of a fault to standard error, and gives the exit code: that of a failed write where this fails.
+/// Writes the text of a fault to standard error, and returns the exit code, which is that of a failed write if this
+/// write fails.
 fn report(rt: &impl Eprint, ending: Ending) -> ExitCode
     ensures { (exit_status result ≡ status_of ending) ⊎ (exit_status result ≡ status_of (Stopped Output)) }
 {
@@ -63,7 +64,7 @@ fn report(rt: &impl Eprint, ending: Ending) -> ExitCode
     }
 }
 
-/// Gives the exit code of an ending.
+/// Returns the exit code of an ending.
 fn exit_code(ending: Ending) -> ExitCode
     ensures { exit_status result ≡ status_of ending }
 {

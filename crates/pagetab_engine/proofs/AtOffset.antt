@@ -1,4 +1,4 @@
--- What a call of the mapper at an offset leaves of the program's hierarchy.
+-- The effect of a call of the mapper at an offset on the program's hierarchy.
 use Rattle.std.proofs.Common.{◌≡◌, ◌∙◌, ℕ, List, Some, Result, sym, ap, subst}
 use Rattle.std.specs.Result.{IfOk}
 use Rattle.std.proofs.lemmas.Result.{IfOk-weaker}
@@ -23,7 +23,7 @@ use Rattle.pagetab_engine.specs.Frames.{direct_layout}
 abbrev pub layout_at : (levels offset : ℕ) → Layout
 layout_at levels offset = direct_at levels (offset_places levels offset) 0x1000
 
--- what is answered at an offset is answered
+-- the reply to a call at an offset is that of the direct layout
 pub answered_alike : (levels offset : ℕ) (before : Memory) (free : List ℕ) (call : MapperCall) (after : Memory) (rest : List ℕ) (reply : Reply) → OffsetFits levels before offset → OffsetFits levels after offset
     → IsAnswered (layout_at levels offset) before free call after rest reply → IsAnswered (direct_layout levels) before free call after rest reply
 answered_alike levels offset before free call after rest reply first last answered =
@@ -39,20 +39,20 @@ pub at_offset : (levels offset : ℕ) (m : Memory) (limit : ℕ) (free : List �
 at_offset levels offset m limit free reached fits = (offset_fits levels m offset reached 0x1000 (serves_below limit) free).0 fits
 
 module _ (levels offset limit : ℕ) (m : Memory) (free rest : List ℕ) (reached : OffsetFits levels m offset) (fits : runs.FitsPool (direct_layout levels) m (serves_below limit) free) where
-  -- what is kept at the offset, by the mapper's layout and by its memory before and after
+  -- what is kept at the offset, by the mapper's layout and its memory before and after
   kept_at : (l : Layout) (before after n : Memory) → n ≡ after → l ≡ layout_at levels offset → before ≡ m → runs.KeepsPool l (serves_below limit) before free after rest → runs.KeepsPool (layout_at levels offset) (serves_below limit) m free n rest
   kept_at l before after n last is first = moved (λ (l : Layout) (m n : Memory). runs.KeepsPool l (serves_below limit) m free n rest) l (layout_at levels offset) before m after n is first last
 
-  -- so the places are reached still
+  -- so the places are still reached
   pub reached_after : (l : Layout) (before after n : Memory) → n ≡ after → l ≡ layout_at levels offset → before ≡ m → runs.KeepsPool l (serves_below limit) before free after rest → OffsetFits levels n offset
   reached_after l before after n last is first kept = offsets_fit_still (layout_at levels offset) (serves_below limit) m n free rest (at_offset levels offset m limit free reached fits) (kept_at l before after n last is first kept) levels offset reached
 
-  -- and what is kept at the offset is kept
+  -- what is kept at the offset is kept in the direct layout
   pub kept_after : (l : Layout) (before after n : Memory) → n ≡ after → l ≡ layout_at levels offset → before ≡ m → runs.KeepsPool l (serves_below limit) before free after rest → runs.KeepsPool (direct_layout levels) (serves_below limit) m free n rest
   kept_after l before after n last is first kept =
       same_kept levels offset 0x1000 (serves_below limit) m n free rest reached (reached_after l before after n last is first kept) (kept_at l before after n last is first kept)
 
-  -- and so is what is answered
+  -- the reply at the offset is that in the direct layout
   pub answered_after : {E : Type 0} (call : MapperCall) (result : Result Reply E) (l : Layout) (before after n : Memory) → n ≡ after → l ≡ layout_at levels offset → before ≡ m
       → runs.KeepsPool l (serves_below limit) before free after rest → IfOk result (IsAnswered l before free call after rest) → IfOk result (IsAnswered (direct_layout levels) m free call n rest)
   answered_after call result l before after n last is first kept =

@@ -9,7 +9,7 @@ use Rattle.pagetab_engine.specs.Lines.{is_line_feed, without_empty_last, lines_o
 abbrev pub HasNoFeed : List ℕ → Type 0
 HasNoFeed text = All (λ byte. is_line_feed byte ≡ false) text
 
--- there is a first part, and a text without a line feed is the front of it
+-- there is a first part, which begins with a text that has no line feed
 first_part : (input : List ℕ) → (part : List ℕ) × (parts : List (List ℕ)) × (slice_split is_line_feed input ≡ part ∷ parts)
 first_part [] = ([], [], refl)
 first_part (byte ∷ bytes) = by (is_line_feed byte) (first_part bytes)
@@ -25,7 +25,7 @@ first_part_begins (byte ∷ text) input none =
     let (part, parts, is) = first_part_begins text input (All-tail (λ b. is_line_feed b ≡ false) byte text none) in
     (part, parts, slice_split-cons_no is_line_feed byte (text ++ input) (All-head (λ b. is_line_feed b ≡ false) byte text none) ∙ ap (onto_first byte) is)
 
--- no byte is no line
+-- an empty input has no lines
 pub lines_empty : lines_of [] ≡ []
 unfolding lines_of
 lines_empty = refl
@@ -57,7 +57,7 @@ lines_too_long text rest long none =
     let (part, parts, is) = first_part_begins text rest none in
     subst (λ (ps : List (List ℕ)). BeginsTooLong (without_empty_last ps)) (sym is) (long_first (text ++ part) parts (λ few. absurd (omega (arith, length-append text part))))
 
--- where the bytes of a text were taken and then none is left, there was no line, or the text was the last one
+-- If the bytes of a text were taken and then none is left, there was no line, or the text was the last one.
 pub ends_empty : (old left new : Option (List ℕ)) → Consumes old left [] → TakesByte left new None → TracesBack (IsInput old) (IsInput new) (λ bytes rest. lines_of bytes ≡ [])
 ends_empty None left new taken next = λ rest may. ([], tt, lines_empty)
 ends_empty (Some bytes) None new taken next = absurd taken
@@ -71,7 +71,7 @@ ends_last (Some bytes) (Some rest) None text taken next some none = absurd next.
 ends_last (Some bytes) (Some rest) (Some more) text taken next some none = λ end may.
     (bytes, refl, ap lines_of (taken ∙ ap (λ end. text ++ end) next.0 ∙ append-nil text) ∙ lines_last text some none ∙ ap (λ end. text ∷ lines_of end) (sym (may ∙ next.1 ∙ next.0)))
 
--- where a line feed is next, the text was a line
+-- if a line feed is next, the text was a line
 pub ends_at_feed : (old left new : Option (List ℕ)) (text : List ℕ) → Consumes old left text → TakesByte left new (Some 10) → HasNoFeed text
     → TracesBack (IsInput old) (IsInput new) (λ bytes rest. TakesLine bytes text rest)
 ends_at_feed None left new text taken next none = λ rest may. (text ++ 10 ∷ rest, tt, lines_first text rest none)
@@ -80,12 +80,12 @@ ends_at_feed (Some bytes) (Some rest) None text taken next none = absurd next
 ends_at_feed (Some bytes) (Some rest) (Some more) text taken next none = λ end may.
     (bytes, refl, ap lines_of (taken ∙ ap (λ end. text ++ end) next) ∙ lines_first text more none ∙ ap (λ end. text ∷ lines_of end) (sym may))
 
--- more than 256 bytes without a line feed begin with a line that is too long, whatever comes behind them
+-- more than 256 bytes without a line feed begin with a line that is too long, whatever follows
 long_text : (text rest : List ℕ) (byte : ℕ) → is_line_feed byte ≡ false → 256 ≤ length text → HasNoFeed text → BeginsTooLong (lines_of ((text ++ byte ∷ []) ++ rest))
 long_text text rest byte other long none = lines_too_long (text ++ byte ∷ []) rest (omega (arith, length-append text (byte ∷ [])))
     (All-append (λ b. is_line_feed b ≡ false) text (byte ∷ []) none (All-cons (λ b. is_line_feed b ≡ false) byte [] other (All-nil (λ b. is_line_feed b ≡ false))))
 
--- where another byte comes after 256 bytes, the line is too long
+-- if another byte follows 256 bytes, the line is too long
 pub ends_too_long : (old left new : Option (List ℕ)) (text : List ℕ) (byte : ℕ) → Consumes old left text → TakesByte left new (Some byte) → is_line_feed byte ≡ false → 256 ≤ length text → HasNoFeed text
     → TracesBack (IsInput old) (IsInput new) (λ bytes rest. BeginsTooLong (lines_of bytes))
 ends_too_long None left new text byte taken next other long none = λ rest may. ((text ++ byte ∷ []) ++ rest, tt, long_text text rest byte other long none)

@@ -1,4 +1,4 @@
--- The hierarchy of a mode as one of a number of levels, and what the mapper of the mode makes of it.
+-- The hierarchy of a mode for a number of levels, and what the mapper of the mode does with it.
 use Rattle.std.proofs.Common.{◌≡◌, ◌||◌, ℕ, true, false, not, cond, List, [], Some, sym, ap, ap₂, ◌∙◌, subst}
 use Rattle.x86_64_model.specs.Alike.{Alike}
 use Rattle.x86_64_model.specs.Layout.{Layout, paths}
@@ -20,7 +20,7 @@ use Rattle.pagetab_engine.specs.declared.hierarchy.Hierarchy.{Hierarchy}
 use Rattle.pagetab_engine.specs.declared.request.Request.{Request}
 use Rattle.pagetab_engine.proofs.Keeping.{kept_by}
 
--- the layout of a mode with so many levels
+-- the layout of a mode with this number of levels
 abbrev pub layout_in : Mode → (levels : ℕ) → Memory → Layout
 layout_in (Direct known) levels memory = direct_layout levels
 layout_in (Offset offset) levels memory = direct_layout levels
@@ -55,9 +55,9 @@ module _ (before : Hierarchy) (levels : ℕ) (known : count (levels_of before.mo
       kept_by before after same serves mode is (same_layout mode levels n here ∙ still ∙ sym (same_layout mode levels m here)) reached twin
       (subst (λ (l : Layout). runs.KeepsPool l (serves_below before.frames.pool.limit) m before.frames.pool.frames n after.frames.pool.frames) (sym (same_layout mode levels m here)) kept)
 
--- ---- of a call that a mapper is asked
+-- ---- a call that a mapper executes
 
--- it is one of as many levels, and doesn't name the recursive index of a pair
+-- the call is for the mode's number of levels, and doesn't name the recursive index of a pair
 pub is_asked : (mode : Mode) (request : Request) → has_levels (levels_of mode) request ≡ true → is_named mode request ≡ false → is_refused mode request ≡ false
 is_asked mode request has unnamed = ap₂ (λ has named. not has || named) has unnamed
 
@@ -68,7 +68,7 @@ module _ (before : Hierarchy) (request : Request) (taken : is_refused before.mod
   pub back_asked : call_back before request ≡ asked_back (machine_of before) (hierarchy_state before) (asked request)
   back_asked = ap (λ b. cond b [] (asked_back (machine_of before) (hierarchy_state before) (asked request))) taken
 
--- ---- of two hierarchies
+-- ---- two hierarchies
 
 -- path maps are alike in the words of a pair
 pub alike_as_pair : (levels index : ℕ) (l k : Layout) (m n one other : Memory) → Alike levels (paths l m) (paths k n) → l ≡ direct_layout levels → k ≡ recursive_layout levels other index → m ≡ one → n ≡ other
@@ -81,6 +81,6 @@ alike_as_pair levels index l k m n one other alike lies also here there =
     (subst (λ (l : Layout). Alike levels (paths l m) (paths second n)) lies
     (subst (λ (k : Layout). Alike levels (paths l m) (paths k n)) also alike)))
 
--- the recursive mapper's of a pair, where the mode has so many levels
+-- the recursive mapper's hierarchy of a pair, if the mode has this number of levels
 pub twin_in : (known levels index : ℕ) (memory : Memory) (free : List ℕ) (twin : Frames) → known ≡ levels → IsTwin levels index memory free twin → IsTwin known index memory free twin
 twin_in known levels index memory free twin same = subst (λ n. IsTwin n index memory free twin) (sym same)

@@ -1,4 +1,4 @@
--- A line that says something has ASCII characters alone, so it is a text.
+-- A line with a statement has only ASCII characters, so it is a text.
 use Rattle.std.proofs.Common.{◌≡◌, ◌≤◌, ◌<◌, ℕ, Bool, true, false, refl, sym, cond, nat_lt, codes, drop, filter, List, [], ◌∷◌, ◌++◌, Option, Some, None, IsUtf8, arith, subst}
 use Rattle.std.specs.List.{All, AllByRecursion, slice_split, onto_first, list_all}
 use Rattle.std.specs.Char.{digit_value}
@@ -62,7 +62,7 @@ rest_low : (size : Option Size) (texts : List (List ℕ)) → AllByRecursion Are
 rest_low None texts low = low
 rest_low (Some size) texts low = (tested (size_text size) (size_test size), low)
 
--- the parts without bytes have no others
+-- the empty parts have no other bytes
 parts_low : (parts : List (List ℕ)) → AllByRecursion AreLow (filter has_bytes parts) → AllByRecursion AreLow parts
 parts_low [] low = tt
 parts_low ([] ∷ parts) low = (All-nil IsLow, parts_low parts low)
@@ -85,7 +85,7 @@ line_low : (line : List ℕ) → AllByRecursion AreLow (fields_of line) → AreL
 unfolding fields_of
 line_low line low = split_low line (parts_low (slice_split is_space line) low)
 
--- a line that says something is a text
+-- a line with a statement is a text
 pub is_text : (line : List ℕ) (name : Name) (size : Option Size) (numbers : List ℕ) → Says line name size numbers → IsUtf8 line
 is_text line name size numbers says =
     let fields : AllByRecursion AreLow (name_text name ∷ (size_texts size ++ says.0)) = (tested (name_text name) (name_test name), rest_low size says.0 (numbers_low says.0 numbers says.2)) in

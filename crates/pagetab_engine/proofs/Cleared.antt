@@ -1,4 +1,4 @@
--- A memory without the self-entry has the path map that the recursive mapper's has with it, and what fits that fits this.
+-- The path map of a memory without the self-entry is that of the recursive mapper with it, and what fits one fits the other.
 use Rattle.std.proofs.Common.{◌≡◌, ◌==◌, ℕ, Bool, true, false, cond, List, ◌∷◌, set, Option, Some, None, IsSome, option_map, inl, refl, sym, ap, ◌∙◌, subst, eqb-true}
 use Rattle.std.specs.FinMap.{get}
 use Rattle.x86_64_model.proofs.Lemmas.Hierarchies.Held.{is_some-set}
@@ -20,7 +20,7 @@ module _ (levels : Levels) (m : Memory) (r : ℕ) where
   abbrev T : Words
   T = words_of m identity_places
 
-  -- where there is no root no word changes
+  -- if there is no root, no word changes
   no_root : T 0x1000 ≡ None → T ≡ set_word T 0x1000 r 0
   unfolding set_word
   no_root none = λ n f. by f (f == 0x1000) refl n

@@ -1,4 +1,4 @@
--- The arguments and the input decide the lines that are written and the ending.
+-- The arguments and the input determine the lines that are written and the ending.
 use Rattle.std.proofs.Common.{◌≡◌, ◌⊎◌, inl, inr, ℕ, List, [], ◌∷◌, ◌++◌, refl, sym, ap, ap₂, ◌∙◌, subst, subst₂}
 use Rattle.pagetab_engine.specs.Arguments.{Says}
 use Rattle.pagetab_engine.specs.Decided.{Decides, IsForcedEnd, IsFront, RunsAreDecided, lines_told}
@@ -26,7 +26,7 @@ use Rattle.pagetab_engine.proofs.SameImages.{SameImage, empty_same, loads_same, 
 
 -- ---- outcomes
 
--- both end so, without a reply more
+-- both end, without another reply
 both_end : (end ending other : Ending) (replies others : List Reply) → ending ≡ end → replies ≡ [] → other ≡ end → others ≡ [] → Decides ending other replies others
 both_end end ending other replies others first none last nothing = inr (inr (first ∙ sym last, ap lines_told (none ∙ sym nothing)))
 
@@ -34,11 +34,11 @@ both_end end ending other replies others first none last nothing = inr (inr (fir
 no_lines : (replies others : List Reply) → replies ≡ [] → IsFront replies others
 no_lines replies others none = (lines_told others, sym (ap (λ rs. lines_told rs ++ lines_told others) none))
 
--- the first one was forced to stop here
+-- the first run was forced to stop here
 forced_end : (ending other : Ending) (replies others : List Reply) → IsForcedEnd ending → replies ≡ [] → Decides ending other replies others
 forced_end ending other replies others forced none = inl (forced, no_lines replies others none)
 
--- the second one was
+-- the second run was forced to stop here
 other_forced : (ending other : Ending) (replies others : List Reply) → IsForcedEnd other → others ≡ [] → Decides ending other replies others
 other_forced ending other replies others forced none = inr (inl (forced, no_lines others replies none))
 
@@ -51,7 +51,7 @@ after_reply ending other reply told replies others line (inl first) = inl (first
 after_reply ending other reply told replies others line (inr (inl second)) = inr (inl (second.0, front_then told reply others replies (sym line) second.1))
 after_reply ending other reply told replies others line (inr (inr both)) = inr (inr (both.0, ap₂ (λ (l : List ℕ) (ls : List (List ℕ)). l ∷ ls) line both.1))
 
--- ---- what a line says
+-- ---- the statement of a line
 
 module _ (arguments : Arguments) (line : Numbered) where
   never_both : (asked : Asked) (image : ImageLine) → SaysCommand arguments line asked → SaysImage arguments line image → ⊥
@@ -65,7 +65,7 @@ module _ (arguments : Arguments) (line : Numbered) where
 
 -- ---- the commands
 
--- what serving a line is: by the statement that it says, of a bad line, or a forced stop
+-- the ways to serve a line: by its statement, as a bad line, or with a forced stop
 data ServesLine (arguments : Arguments) (line : Numbered) (lines : List Numbered) (before : Hierarchy) (ending : Ending) (replies : List Reply) : Type 0 where
   answered : (asked : Asked) (reply : Reply) (after : Hierarchy) (more : List Reply) → SaysCommand arguments line asked → Answers asked before reply after → Serves arguments lines after ending more
       → replies ≡ reply ∷ more → ServesLine arguments line lines before ending replies
@@ -73,7 +73,7 @@ data ServesLine (arguments : Arguments) (line : Numbered) (lines : List Numbered
   bad : IsBad arguments line.line → ending ≡ Stopped (BadLine line.number) → replies ≡ [] → ServesLine arguments line lines before ending replies
   forced : IsForcedEnd ending → replies ≡ [] → ServesLine arguments line lines before ending replies
 
--- what serving lines begins with
+-- the first step of serving lines
 abbrev ServesNext : (arguments : Arguments) → (lines : List Numbered) → Hierarchy → Ending → List Reply → Type 0
 ServesNext arguments [] before ending replies = ((ending ≡ Done) ⊎ IsForcedEnd ending) × (replies ≡ [])
 ServesNext arguments (line ∷ lines) before ending replies = ServesLine arguments line lines before ending replies
@@ -86,7 +86,7 @@ served_next arguments lines before ending replies (serve_late_image line more im
 served_next arguments lines before ending replies (serve_gives_up [] hierarchy fault is) = (inr is, refl)
 served_next arguments lines before ending replies (serve_gives_up (line ∷ more) hierarchy fault is) = forced is refl
 
--- that serving lines is decided
+-- the lines that are served determine the result
 abbrev ServesDecided : (arguments : Arguments) → (lines : List Numbered) → Type 0
 ServesDecided arguments lines = (h k : Hierarchy) → IsSame h k → (ending other : Ending) (replies others : List Reply) → Serves arguments lines h ending replies → Serves arguments lines k other others → Decides ending other replies others
 
@@ -132,7 +132,7 @@ end_decided arguments lines h k same ending other replies others (fitting fits f
 end_decided arguments lines h k same ending other replies others (fitting fits first is serves) (fitting too last is_too serves_too) =
     serves_decided arguments lines first last (first_same h k same first last is is_too) ending other replies others serves serves_too
 
--- what reading a line is
+-- the ways to read a line
 data ReadsLine (arguments : Arguments) (line : Numbered) (lines : List Numbered) (before : Hierarchy) (ending : Ending) (replies : List Reply) : Type 0 where
   loaded : (image : ImageLine) (after : Hierarchy) → SaysImage arguments line image → Loads image before after → Reads arguments lines after ending replies → ReadsLine arguments line lines before ending replies
   refused : (image : ImageLine) → SaysImage arguments line image → ¬ (IsLoadable before.frames image) → ending ≡ Stopped (BadLine line.number) → replies ≡ [] → ReadsLine arguments line lines before ending replies
@@ -144,7 +144,7 @@ abbrev ReadsNext : (arguments : Arguments) → (lines : List Numbered) → Hiera
 ReadsNext arguments [] before ending replies = EndsImage arguments [] before ending replies ⊎ (IsForcedEnd ending × (replies ≡ []))
 ReadsNext arguments (line ∷ lines) before ending replies = ReadsLine arguments line lines before ending replies
 
--- where the image was read
+-- the image was read
 ended_next : (arguments : Arguments) (lines : List Numbered) (before : Hierarchy) (ending : Ending) (replies : List Reply) → IsRead arguments lines → EndsImage arguments lines before ending replies → ReadsNext arguments lines before ending replies
 ended_next arguments [] before ending replies is ends = inl ends
 ended_next arguments (line ∷ lines) before ending replies is ends = ended is.0 is.1 ends
@@ -201,7 +201,7 @@ reads_decided arguments (line ∷ lines) h k same ending other replies others fi
 
 -- ---- the run
 
--- what a run is: it has no arguments, its mapper doesn't reach each place, it reads, or it was forced to stop
+-- a run has no valid arguments, doesn't reach each place, reads its input, or was forced to stop
 data Runs (words : List (List ℕ)) (input : List ℕ) (ending : Ending) (replies : List Reply) : Type 0 where
   misused : ((arguments : Arguments) → ¬ (Says words arguments)) → ending ≡ Stopped Usage → replies ≡ [] → Runs words input ending replies
   unreached : (arguments : Arguments) (h : Hierarchy) → Says words arguments → IsEmpty arguments h → ¬ (IsReached h.mode h.frames.memory) → ending ≡ Stopped Usage → replies ≡ [] → Runs words input ending replies

@@ -1,4 +1,4 @@
--- The arguments and the input decide the bytes that are written.
+-- The arguments and the input determine the bytes that are written.
 use Rattle.std.proofs.Common.{◌≡◌, ◌⊎◌, inl, inr, ℕ, List, [], ◌∷◌, ◌++◌, Some, refl, sym, ap, ap₂, ◌∙◌, subst, append-nil, append_assoc}
 use Rattle.std.proofs.lemmas.Grind.{flat_map-append}
 use Rattle.std.specs.List.{flat_map}
@@ -11,7 +11,7 @@ use Rattle.pagetab_engine.specs.declared.ending.Fault.TheVariants.{BadLine, Inva
 use Rattle.pagetab_engine.specs.declared.reply.Reply.{Reply}
 use Rattle.pagetab_engine.proofs.Decided.{runs_are_decided}
 
--- of two front parts of one list one is a front part of the other
+-- of two first parts of one list, one is a first part of the other
 one_front : (xs ys zs ws : List ℕ) → xs ++ ys ≡ zs ++ ws → IsFrontOf xs zs ⊎ IsFrontOf zs xs
 one_front [] ys zs ws same = inl (zs, refl)
 one_front (x ∷ xs) ys [] ws same = inr (x ∷ xs, refl)
@@ -24,7 +24,7 @@ one_front (x ∷ xs) ys (z ∷ zs) ws same =
     by head (inl (left, is)) = inl (left, ap₂ (λ (b : ℕ) (bs : List ℕ). b ∷ bs) (sym head) is)
     by head (inr (left, is)) = inr (left, ap₂ (λ (b : ℕ) (bs : List ℕ). b ∷ bs) head is)
 
--- ---- lines, and their bytes
+-- ---- the bytes of lines
 
 abbrev joined : List (List ℕ) → List ℕ
 joined [] = []
@@ -44,7 +44,7 @@ front_of_told replies others left is =
 
 -- ---- what is written
 
--- all of these bytes, or a front part where the run was forced to stop
+-- all of these bytes, or a first part if the run was forced to stop
 abbrev Wrote : Ending → (bytes all : List ℕ) → Type 0
 Wrote ending bytes all = (IsForcedEnd ending × IsFrontOf bytes all) ⊎ (bytes ≡ all)
 
@@ -64,7 +64,7 @@ wrote bytes (Stopped Output) replies (whole, last, front, is, (byte, left, line)
   ),
 )
 
--- a front part of all is one of more
+-- a first part of a list is a first part of a longer one
 more_front : (bytes all more left : List ℕ) → more ≡ all ++ left → IsFrontOf bytes all → IsFrontOf bytes more
 more_front bytes all more left is (rest, front) = (rest ++ left, is ∙ ap (λ bytes. bytes ++ left) front ∙ append_assoc bytes rest left)
 
@@ -77,7 +77,7 @@ turned ending other bytes others (inl first) = inr (inl first)
 turned ending other bytes others (inr (inl second)) = inl second
 turned ending other bytes others (inr (inr both)) = inr (inr (sym both.0, sym both.1))
 
--- the first run was forced to stop, and its bytes are a front part of all that the second one was to write
+-- the first run was forced to stop, and its bytes are a first part of all that the second one was to write
 front_decided : (ending other : Ending) (bytes others all : List ℕ) → IsForcedEnd ending → IsFrontOf bytes all → Wrote other others all → DecidesBytes ending other bytes others
 front_decided ending other bytes others all forced front (inr same) = inl (forced, (front.0, same ∙ front.1))
 front_decided ending other bytes others all forced front (inl (forced_too, front_too)) = by (one_front bytes front.0 others front_too.0 (sym front.1 ∙ front_too.1))
@@ -86,7 +86,7 @@ front_decided ending other bytes others all forced front (inl (forced_too, front
     by (inl first) = inl (forced, first)
     by (inr second) = inr (inl (forced_too, second))
 
--- both were to write the same
+-- both were to write equal bytes
 both_decided : (ending other : Ending) (bytes others all : List ℕ) → ending ≡ other → Wrote ending bytes all → Wrote other others all → DecidesBytes ending other bytes others
 both_decided ending other bytes others all same (inl (forced, front)) second = front_decided ending other bytes others all forced front second
 both_decided ending other bytes others all same (inr first) (inl (forced, front)) = inr (inl (forced, (front.0, first ∙ front.1)))

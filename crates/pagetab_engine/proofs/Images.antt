@@ -1,4 +1,4 @@
--- What an image that fits makes of a hierarchy.
+-- The hierarchy after an image that fits.
 use Rattle.std.proofs.Common.{◌≡◌, ◌↔◌, ◌∙◌, IsTrue, Bool, ℕ, List, [], Some, None, if◌then◌else◌, nat_lt, sym, ap, subst, subst₂}
 use Rattle.std.specs.Cmp.{nat_cmp_total}
 use Rattle.std.specs.FinMap.{get, same_map, nat_cmp-IsAntisymmetric}
@@ -18,7 +18,7 @@ use Rattle.pagetab_engine.specs.declared.frames.Frames.{Frames}
 use Rattle.pagetab_engine.specs.declared.hierarchy.Hierarchy.{Hierarchy}
 use Rattle.pagetab_engine.proofs.Cleared.{cleared_alike, cleared_fits}
 
--- two memories of as many places that no line was loaded into have one image
+-- two memories with equally many places, into which no line was loaded, have the same image
 pub empty_copy : (levels : Levels) (index : ℕ) (frames copy : Frames) (places copied : ℕ) → copied ≡ places
     → ((place : ℕ) → get frames.memory place ≡ (if nat_lt place places then Some zero_words else None)) → ((place : ℕ) → get copy.memory place ≡ (if nat_lt place copied then Some zero_words else None))
     → frames.pool.frames ≡ [] → copy.pool.frames ≡ [] → frames.pool.limit ≡ places → copy.pool.limit ≡ copied → IsCopy (Pair levels index) frames copy
@@ -33,7 +33,8 @@ empty_copy levels index frames copy places copied same words others free none li
 abbrev pub first_hierarchy : Mode → (frames twin : Frames) → Hierarchy
 first_hierarchy mode frames twin = record { mode = mode; frames = record { memory = first_memory mode frames.memory; pool = frames.pool }; twin = twin }
 
--- The image fits, and each place is reached, exactly if the hierarchy of the first commands is valid and fits, in a pair that with another alike.
+-- The image fits and each place is reached if and only if the hierarchy of the first commands is valid and fits, in a pair with
+-- an alike one.
 pub fits_at_end : (mode : Mode) (frames twin : Frames) → IsCopy mode frames twin → (FitsIn mode frames twin × IsReached mode frames.memory) ↔ IsHierarchy (first_hierarchy mode frames twin)
 fits_at_end (Direct levels) frames twin copied = (λ fits. record { fits = fits.0; reached = tt; twin = tt }, λ is. (is.fits, tt))
 fits_at_end (Offset offset) frames twin copied = (λ fits. record { fits = fits.0; reached = fits.1; twin = tt }, λ is. (is.fits, is.reached))

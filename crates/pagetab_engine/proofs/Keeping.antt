@@ -1,4 +1,4 @@
--- What no command changes, and so no commands one after another.
+-- What no command changes, and so no list of commands.
 use Rattle.std.proofs.Common.{◌≡◌, ◌↔◌, ℕ, true, cond, List, [], refl, sym, ap, ◌∙◌, subst, subst₂}
 use Rattle.x86_64_model.specs.Layout.{Layout}
 use Rattle.x86_64_model.specs.Layout.{Owns, KeepsOthers}
@@ -34,7 +34,7 @@ by_number (Offset offset) memory = refl
 by_number (Recursive levels index) memory = refl
 by_number (Pair levels index) memory = refl
 
--- what a mapper keeps is kept, where it is the mode's
+-- what the mapper of the mode keeps is kept in the hierarchy
 pub kept_by : (before after : Hierarchy) → after.mode ≡ before.mode → serves_below after.frames.pool.limit ≡ serves_below before.frames.pool.limit
     → (mode : Mode) → before.mode ≡ mode → layout mode after.frames.memory ≡ layout mode before.frames.memory → IsReached mode after.frames.memory → HasTwin mode after.frames after.twin
     → runs.KeepsPool (layout mode before.frames.memory) (serves_below before.frames.pool.limit) before.frames.memory before.frames.pool.frames after.frames.memory after.frames.pool.frames → KeepsHierarchy before after
@@ -56,7 +56,7 @@ kept_by before after same serves mode is still reached twin kept =
       others = subst₂ (λ (l : Layout) (places : Places). KeepsOthers places (Owns l m free) m n) (sym first) (by_number mode m) kept.others;
     }
 
--- what is kept is kept as by a mapper
+-- what is kept in the hierarchy is what a mapper keeps
 pub kept_as : (before after : Hierarchy) → KeepsHierarchy before after → runs.KeepsPool (layout_of before) (serves_below before.frames.pool.limit) before.frames.memory before.frames.pool.frames after.frames.memory after.frames.pool.frames
 kept_as before after kept =
     let m = before.frames.memory in let n = after.frames.memory in
@@ -68,10 +68,10 @@ kept_as before after kept =
 
 -- ---- the words of free frames
 
--- where nothing changes none came back
+-- if nothing changes, no frame was returned
 pub free_itself : (hierarchy : Hierarchy) (back : List ℕ) → back ≡ [] → KeepsFree hierarchy back hierarchy
 free_itself hierarchy back none = subst (λ back. KeepsFree hierarchy back hierarchy) (sym none) (nothing_keeps_free (layout_of hierarchy) hierarchy.frames.memory hierarchy.frames.pool.frames)
 
--- a call that no mapper is asked gives no frame back
+-- a call that no mapper executes returns no frame
 pub none_back : (hierarchy : Hierarchy) (request : Request) → is_refused hierarchy.mode request ≡ true → call_back hierarchy request ≡ []
 none_back hierarchy request refused = ap (λ b. cond b [] (asked_back (machine_of hierarchy) (hierarchy_state hierarchy) (asked request))) refused

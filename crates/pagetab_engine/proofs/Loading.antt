@@ -1,4 +1,4 @@
--- What loading a line of an image leaves of a memory.
+-- The effect of loading a line of an image on a memory.
 use Rattle.std.proofs.Common.{◌≡◌, ◌==◌, ℕ, Bool, true, false, List, Option, Some, None, IsSome, refl, sym, ap, ◌∙◌, subst, eqb-true}
 use Rattle.std.proofs.lemmas.Bool.{eqb-false}
 use Rattle.std.specs.FinMap.{get}
@@ -13,7 +13,7 @@ use Rattle.pagetab_engine.specs.declared.frames.Frames.{Frames}
 use Rattle.pagetab_engine.specs.declared.statement.ImageLine.{ImageLine}
 use Rattle.pagetab_engine.specs.declared.statement.ImageLine.TheVariants.{Word, Free}
 
--- a memory with a word set has no other places
+-- a memory has no other places after a word was set
 same_places : (m : Memory) (at index word place : ℕ) → IsSome (get (stored m at index word) place) → IsSome (get m place)
 same_places m at index word place = by (get m at) refl
   where
@@ -32,7 +32,7 @@ same_places_after : (frames : Frames) (image : ImageLine) (place : ℕ) → IsSo
 same_places_after frames (Word slot value) place = same_places frames.memory slot.place slot.index value place
 same_places_after frames (Free frame) place = λ there. there
 
--- so a mapper that reached each place does so
+-- so a mapper that reached each place still does
 pub reached_after : (mode : Mode) (frames : Frames) (image : ImageLine) (after : Memory) → after ≡ memory_after frames image → IsReached mode frames.memory → IsReached mode after
 reached_after (Offset offset) frames image after is reached = λ place there. reached place (same_places_after frames image place (subst (λ (m : Memory). IsSome (get m place)) is there))
 reached_after (Direct levels) frames image after is reached = tt

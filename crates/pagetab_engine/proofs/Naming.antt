@@ -1,4 +1,4 @@
--- Each name stands in the list of all names.
+-- Each name is in the list of all names.
 use Rattle.std.proofs.Common.{◌≡◌, ℕ, ◌<◌, nat_lt, true, List, [], ◌∷◌, get_or, refl, arith}
 use Rattle.pagetab_engine.specs.declared.fields.Name.{Name}
 use Rattle.pagetab_engine.specs.declared.fields.Name.TheVariants.{Word, Free, Translate, Addr, Walk, Show, Pool, Map, MapWith, Identity, Unmap, Update, P5, P4, P3, P2, TranslatePage, CleanUp, CleanUpRange}
@@ -6,7 +6,7 @@ use Rattle.pagetab_engine.specs.declared.fields.Name.TheVariants.{Word, Free, Tr
 abbrev pub all : List Name
 all = Word ∷ Free ∷ Translate ∷ Addr ∷ Walk ∷ Show ∷ Pool ∷ Map ∷ MapWith ∷ Identity ∷ Unmap ∷ Update ∷ P5 ∷ P4 ∷ P3 ∷ P2 ∷ TranslatePage ∷ CleanUp ∷ CleanUpRange ∷ []
 
--- where a name stands
+-- the position of a name in the list
 abbrev pub place : Name → ℕ
 place Word = 0
 place Free = 1

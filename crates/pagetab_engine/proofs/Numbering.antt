@@ -1,4 +1,4 @@
--- Lines are counted as they are read, and blank ones passed over.
+-- Lines are counted as they are read, and blank ones are skipped.
 use Rattle.std.proofs.Common.{◌≡◌, ◌≤◌, ℕ, refl, sym, ap, subst, ◌∙◌, suc, Bool, true, false, cond, List, [], ◌∷◌, length, Option, Some, None, arith}
 use Rattle.std.specs.Bool.{⊤}
 use Rattle.std.proofs.lemmas.Bool.Decides.{nat_tests}
@@ -8,11 +8,11 @@ use Rattle.pagetab_engine.specs.Lines.{Numbered, numbered_from, is_blank, lines_
 use Rattle.pagetab_engine.specs.declared.arguments.Arguments.{Arguments}
 use Rattle.pagetab_engine.specs.declared.statement.Statement.{Statement}
 
--- lines with numbers that may be left behind so many lines
+-- lines with numbers that may be left after this number of lines
 abbrev pub MayFollow : (number : ℕ) (known : Option (List ℕ)) → List Numbered → Type 0
 MayFollow number known numbered = (bytes : List ℕ) × IsInput known bytes × (numbered ≡ numbered_from (suc number) (lines_of bytes))
 
--- some may always be left
+-- there are always some that may be left
 pub some_input : (known : Option (List ℕ)) → ForSome (IsInput known) (λ input. ⊤)
 some_input None = ([], tt, tt)
 some_input (Some known) = (known, refl, tt)
@@ -20,7 +20,7 @@ some_input (Some known) = (known, refl, tt)
 pub some_lines : (number : ℕ) (known : Option (List ℕ)) → ForSome (MayFollow number known) (λ numbered. ⊤)
 some_lines number known = let some = some_input known in (numbered_from (suc number) (lines_of some.0), (some.0, some.1, refl), tt)
 
--- what was passed over was blank: lines that may be left now may have been left before
+-- what was skipped was blank: lines that may be left now may have been left before
 abbrev pub PassesBlank : (old now : List Numbered → Type 0) → Type 0
 PassesBlank old now = (lines : List Numbered) → now lines → old lines
 
@@ -30,7 +30,7 @@ behind_blank old now new P passed next = λ rest may. let lines = next rest may 
 pub begins_behind : (old now : List Numbered → Type 0) (P : List Numbered → Type 0) → PassesBlank old now → ForSome now P → ForSome old P
 begins_behind old now P passed some = (some.0, passed some.0 some.1, some.2)
 
--- a blank line is passed over
+-- a blank line is skipped
 pub blank_passed : (number next : ℕ) (old new : Option (List ℕ)) (line : List ℕ) → next ≡ suc number → is_blank line ≡ true → TracesBack (IsInput old) (IsInput new) (λ bytes rest. TakesLine bytes line rest)
     → PassesBlank (MayFollow number old) (MayFollow next new)
 blank_passed number next old new line counted blank takes = λ lines may.
@@ -41,7 +41,7 @@ blank_passed number next old new line counted blank takes = λ lines may.
     ∙ ap (λ b. cond b (numbered_from (suc (suc number)) (lines_of rest)) (record { number = suc number; line = line } ∷ numbered_from (suc (suc number)) (lines_of rest))) blank in
     (bytes.0, bytes.1, may.2 ∙ ap (λ n. numbered_from (suc n) (lines_of rest)) counted ∙ sym numbered)
 
--- another line is the first one
+-- a line that isn't blank is the first one
 line_next : (number : ℕ) (bytes line rest : List ℕ) → is_blank line ≡ false → lines_of bytes ≡ line ∷ lines_of rest
     → numbered_from (suc number) (lines_of bytes) ≡ record { number = suc number; line = line } ∷ numbered_from (suc (suc number)) (lines_of rest)
 line_next number bytes line rest some takes =
@@ -79,7 +79,7 @@ bad_taken arguments number next old new line counted some takes bad =
 long_line : (line : List ℕ) → ¬ (length line ≤ 256) → is_blank line ≡ false
 long_line line long = grind (arith, nat_tests)
 
--- where the first line is too long, it is bad
+-- if the first line is too long, it is bad
 pub long_taken : (arguments : Arguments) (number next : ℕ) (old new : Option (List ℕ)) → next ≡ suc number → TracesBack (IsInput old) (IsInput new) (λ bytes rest. BeginsTooLong (lines_of bytes))
     → ForSome (MayFollow number old) (λ lines. BeginsBad arguments lines next)
 long_taken arguments number next old new counted long =
@@ -94,13 +94,13 @@ long_taken arguments number next old new counted long =
         ap (λ b. cond b (numbered_from (suc (suc number)) lines) (record { number = suc number; line = line } ∷ numbered_from (suc (suc number)) lines)) (long_line line too_long) in
         subst (λ (numbered : List Numbered). BeginsBad arguments numbered next) (sym first) (sym counted, λ fits. absurd (too_long fits))
 
--- where there is no line, none is left
+-- if there is no line, none is left
 pub none_taken : (number next : ℕ) (old new : Option (List ℕ)) → TracesBack (IsInput old) (IsInput new) (λ bytes rest. lines_of bytes ≡ [])
     → TracesBack (MayFollow number old) (MayFollow next new) (λ lines rest. lines ≡ [])
 none_taken number next old new none = λ lines may.
     let bytes = none may.0 may.1 in
     (numbered_from (suc number) (lines_of bytes.0), (bytes.0, bytes.1, refl), ap (numbered_from (suc number)) bytes.2)
 
--- a line that fits is blank exactly where it has spaces alone
+-- a line that fits is blank if and only if it has only spaces
 pub blank_line : (line : List ℕ) (spaces : Bool) → length line ≤ 256 → spaces ≡ list_all is_space line → is_blank line ≡ spaces
 blank_line line spaces fits same = grind (arith, nat_tests)

@@ -1,4 +1,4 @@
--- The words of a run say one list of arguments.
+-- The words of a run mean one list of arguments.
 use Rattle.std.proofs.Common.{◌≡◌, ℕ, ◌-◌, ◌^◌, sym, ap₂, ◌∙◌, nat_lt, if◌then◌else◌, cond, bytes_eq, codes, List, [], ◌∷◌, arith}
 use Rattle.std.proofs.lemmas.Bool.Decides.{nat_tests}
 use Rattle.x86_64_model.specs.Position.{raw, lower_half, position_count}
@@ -13,12 +13,12 @@ use Rattle.pagetab_engine.specs.declared.arguments.Mode.TheVariants.{Direct, Off
 pub position : (L value : ℕ) → ℕ
 position L n = if nat_lt n (lower_half L) then n else n - (2 ^ 64 - position_count L)
 
--- a position is read back from its raw value
+-- a position is recovered from its raw value
 pub position_read : (L p : ℕ) → position L (raw L p) ≡ p
 unfolding position
 position_read L p = grind (arith, nat_tests)
 
--- the mode that a word says, with the text that may follow
+-- the mode of a word, with the text that may follow
 abbrev mode_of : (word : List ℕ) → (more : List (List ℕ)) → Mode
 mode_of word [] = cond (bytes_eq word (codes "direct")) (Direct Four) (Direct Five)
 mode_of word (text ∷ more) =
@@ -28,7 +28,7 @@ mode_of word (text ∷ more) =
     cond (bytes_eq word (codes "recursive5")) (Recursive Five n) (
     cond (bytes_eq word (codes "pair")) (Pair Four n) (Pair Five n))))
 
--- a mode is read back from words that say it
+-- a mode is recovered from its words
 mode_read : (word : List ℕ) (more : List (List ℕ)) (mode : Mode) → SaysMode word more mode → mode_of word more ≡ mode
 mode_read word [] (Direct Four) says = cc
 mode_read word [] (Direct Five) says = cc
@@ -39,7 +39,7 @@ mode_read word (text ∷ []) (Pair Four index) says = cc
 mode_read word (text ∷ []) (Pair Five index) says = cc
 mode_read word more mode says = absurd says
 
--- words say one mode and one number of places
+-- words mean one mode and one number of places
 pub one_arguments : (words : List (List ℕ)) (a b : Arguments) → Says words a → Says words b → a ≡ b
 one_arguments [] a b says also = absurd says
 one_arguments (word ∷ []) a b says also = absurd says

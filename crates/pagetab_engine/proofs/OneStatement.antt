@@ -1,4 +1,4 @@
--- A line says one statement, and then it is not bad.
+-- A line is at most one statement, and a line that is one is not bad.
 use Rattle.std.proofs.Common.{◌≡◌, ℕ, ◌*◌, ◌/◌, refl, ap, ap₂, ◌∙◌, List, [], ◌∷◌, Option, Some, None, arith}
 use Rattle.std.proofs.Math.Nat.{mul-div_cancel}
 use Rattle.x86_64.specs.Calls.{size_asks, no_bits}
@@ -36,15 +36,16 @@ flags_of bits = record { 0 = bits }
 abbrev slot_of : (frame index : ℕ) → Slot
 slot_of frame index = record { place = frame / 4096; index = index }
 
--- a slot is read back from the start of its table and its index
+-- a slot is recovered from the start of its table and its index
 slot_read : (slot : Slot) → slot_of (slot.place * 4096) slot.index ≡ slot
 slot_read slot = ap (λ place. record slot { place = place }) (mul-div_cancel slot.place (omega arith))
 
--- ---- with any number of levels, where `set_p5` is the call that sets the flags of an entry of level five, any other one where there is none
+-- ---- for any number of levels; `set_p5` is the call that sets the flags of an entry of level five, or any other if there is
+-- none
 
 module _ {L P5 : Type 0} (levels : ℕ) (bits : P5 → ℕ) (set_p5 : (S : Type 0) → (page flags : ℕ) → SizeCallIn S L P5)
     (set_read : (S : Type 0) (page : ℕ) (flags : P5) → set_p5 S page (bits flags) ≡ SetFlagsP5 page flags) where
-  -- the call on a page that a name and numbers write, any other one where they write none
+  -- the call on a page that a name and numbers write, or any other if they write none
   abbrev size_call : {S : Type 0} → Name → (numbers : List ℕ) → SizeCallIn S L P5
   size_call name.Map (page ∷ frame ∷ flags ∷ []) = MapTo (position levels page) frame (flags_of flags)
   size_call name.MapWith (page ∷ frame ∷ flags ∷ parent_flags ∷ []) = MapToWithTableFlags (position levels page) frame (flags_of flags) (flags_of parent_flags)
@@ -58,14 +59,14 @@ module _ {L P5 : Type 0} (levels : ℕ) (bits : P5 → ℕ) (set_p5 : (S : Type 
   size_call name (page ∷ numbers) = TranslatePage (position levels page)
   size_call name [] = TranslatePage 0
 
-  -- a call is read back from what writes it
+  -- a call is recovered from its written form
   size_call_read : {S : Type 0} (call : SizeCallIn S L P5) → size_call (page_call_name (size_asks bits call)) (page_call_numbers levels (size_asks bits call)) ≡ call
   size_call_read (IdentityMap frame flags) = refl
   size_call_read {S = S} (SetFlagsP5 page flags) = ap (λ at. set_p5 S at (bits flags)) (position_read levels page) ∙ set_read S page flags
   size_call_read call = simp (position_read levels)
 
   module _ (call : CallIn L P5 → Statement) (walk : ℕ → Statement) where
-    -- the statement that SIZE or none, a name and numbers write, any other one where they write none
+    -- the statement that SIZE or none, a name and numbers write, or any other if they write none
     abbrev statement_in : Option Size → Name → (numbers : List ℕ) → Statement
     statement_in None name.Word (frame ∷ index ∷ value ∷ []) = Image (Word (slot_of frame index) value)
     statement_in None name.Free (frame ∷ []) = Image (Free frame)
@@ -80,7 +81,7 @@ module _ {L P5 : Type 0} (levels : ℕ) (bits : P5 → ℕ) (set_p5 : (S : Type 
     statement_in None name.Walk (addr ∷ []) = walk (position levels addr)
     statement_in None name numbers = call CleanUp
 
-    -- a call is read back from what writes it
+    -- a call is recovered from its written form
     call_read : (c : CallIn L P5) → let fields = call_written levels bits c in statement_in fields.size fields.name fields.numbers ≡ call c
     call_read (Of4KiB c) = ap (λ c. call (Of4KiB c)) (size_call_read c)
     call_read (Of2MiB c) = ap (λ c. call (Of2MiB c)) (size_call_read c)
@@ -109,11 +110,11 @@ statement_of : Levels → Option Size → Name → (numbers : List ℕ) → Stat
 statement_of levels.Four size name numbers = statement_in 4 no_bits no_p5 no_p5_read (λ call. Command (command.Call (Four call))) (λ addr. Command (command.Walk (address.Four addr))) size name numbers
 statement_of levels.Five size name numbers = statement_in 5 bits_of p5 p5_read (λ call. Command (command.Call (Five call))) (λ addr. Command (command.Walk (address.Five addr))) size name numbers
 
--- a statement is read back from what writes it
+-- a statement is recovered from its written form
 abbrev IsRead : Levels → Statement → Type 0
 IsRead levels statement = let fields = written statement in statement_of levels fields.size fields.name fields.numbers ≡ statement
 
--- each statement is, where there are as many levels as it has
+-- this holds for each statement with the right number of levels
 statement_read : (levels : Levels) (statement : Statement) → HasLevels levels statement → IsRead levels statement
 unfolding statement_of
 statement_read levels.Four (Image (Word slot value)) has = ap (λ slot. Image (Word slot value)) (slot_read slot)
@@ -133,7 +134,7 @@ statement_read levels.Five (Command command.Pool) has = refl
 
 -- ---- lines
 
--- a line says one statement
+-- a line is at most one statement
 pub one_statement : (arguments : Arguments) (line : List ℕ) (s t : Statement) → SaysAccepted arguments line s → SaysAccepted arguments line t → s ≡ t
 one_statement arguments line s t says also =
     let fields = written s in
@@ -143,6 +144,6 @@ one_statement arguments line s t says also =
     let second = statement_read (levels_of arguments.mode) t also.2.1 in
     cc (same.0, same.1, same.2)
 
--- a line that says a statement is not bad
+-- a line that is a statement is not bad
 pub said_not_bad : (arguments : Arguments) (line : List ℕ) (s : Statement) → SaysAccepted arguments line s → IsBad arguments line → ⊥
 said_not_bad arguments line s says bad = let fields = written s in bad says.0 fields.name fields.size fields.numbers says.1 says.2.0

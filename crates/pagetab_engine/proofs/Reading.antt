@@ -1,4 +1,4 @@
--- Texts are read as numbers, one after another.
+-- Texts are parsed as numbers, one after another.
 use Rattle.std.proofs.Common.{◌≡◌, ◌<◌, ℕ, List, [], ◌∷◌, ◌++◌, length, arith}
 use Rattle.x86_64_numbers.specs.Numbers.{IsNumber, number_of}
 use Rattle.pagetab_engine.specs.Fields.{AreNumbers}
@@ -10,7 +10,7 @@ numbers_more [] (n ∷ numbers) text number before is value = absurd before
 numbers_more (t ∷ texts) [] text number before is value = absurd before
 numbers_more (t ∷ texts) (n ∷ numbers) text number before is value = (before.0, before.1, numbers_more texts numbers text number before.2 is value)
 
--- what stands among texts of numbers is one
+-- each text in a list of texts of numbers is one
 pub number_among : (texts : List (List ℕ)) (text : List ℕ) (rest : List (List ℕ)) (numbers : List ℕ) → AreNumbers (texts ++ text ∷ rest) numbers → IsNumber text
 number_among [] text rest [] all = absurd all
 number_among [] text rest (n ∷ numbers) all = all.0

@@ -1,4 +1,4 @@
--- What a call leaves that no mapper is asked.
+-- The effect of a call that no mapper executes.
 use Rattle.std.proofs.Common.{◌≡◌, ◌||◌, Bool, true, false, not, cond, Some, refl, ap, ◌∙◌}
 use Rattle.x86_64.specs.Replies.{Reply}
 use Rattle.x86_64.specs.Runs as runs
@@ -18,7 +18,7 @@ or_true false = refl
 abbrev pub refused : Hierarchy → AfterStep Reply
 refused hierarchy = record { state = hierarchy_state hierarchy; reply = Some NotAllowed }
 
--- a call that names the recursive index of a pair is asked of no mapper
+-- no mapper executes a call that names the recursive index of a pair
 pub named_refused : (mode : Mode) (request : Request) → is_named mode request ≡ true → is_refused mode request ≡ true
 named_refused mode request named = let others = not (has_levels (levels_of mode) request) in ap (λ b. others || b) named ∙ or_true others
 

@@ -1,4 +1,4 @@
--- A command answers alike, and leaves the same, where hierarchies are the same to commands.
+-- A command has the same reply and effect on hierarchies that commands can't tell apart.
 use Rattle.std.proofs.Common.{◌≡◌, ◌*◌, ℕ, cond, List, [], ◌∷◌, ◌++◌, Option, Some, None, option_map, refl, sym, ap, ◌∙◌, subst}
 use Rattle.x86_64_model.specs.Layout.{Layout, paths}
 use Rattle.x86_64_model.specs.Machine.{State}
@@ -36,7 +36,7 @@ use Rattle.pagetab_engine.specs.declared.statement.Command.TheVariants as comman
 use Rattle.pagetab_engine.proofs.Keeping.{by_number, kept_as}
 use Rattle.pagetab_engine.proofs.SameWalks.{same_walk_to, slot_word}
 
--- hierarchies of one mode, layout and state, in memories with the same words
+-- hierarchies of one mode, layout and state, in memories with equal words
 pub record IsSame (h k : Hierarchy) : Type 0 where
   pub mode : h.mode ≡ k.mode
   pub layout : layout_of h ≡ layout_of k
@@ -45,7 +45,7 @@ pub record IsSame (h k : Hierarchy) : Type 0 where
 
 -- ---- lines of replies
 
--- the line that tells of a reply to a call
+-- the line of a reply to a call
 line_by_call : Option CallReply → List ℕ
 line_by_call (Some told) = call_text told ++ 10 ∷ []
 line_by_call None = []
@@ -55,7 +55,7 @@ unfolding line_by_call
 told_call h call (reply.Answered answer) is = ap line_by_call is
 told_call h call told is = absurd is
 
--- the line that tells of an arrival
+-- the line of an arrival
 line_by_walk : Option Arrival → List ℕ
 line_by_walk arrival = walked_text (option_map (λ (a : Arrival). record { address = a.address; write = a.write; user = a.user }) arrival) ++ 10 ∷ []
 
@@ -78,7 +78,7 @@ told_pool h told is = absurd is
 
 -- ---- one command
 
--- what a call leaves, by mode, layout and state
+-- the result of a call, by mode, layout and state
 abbrev step_by : Mode → Layout → State → Request → AfterStep CallReply
 step_by mode l s call = cond (is_refused mode call) (record { state = s; reply = Some NotAllowed }) (runs.step_by (machine_by l) s (asked call))
 
@@ -123,7 +123,7 @@ module _ (h k : Hierarchy) (same : IsSame h k) where
     left_by : (before after : Hierarchy) (told : Reply) → Answers asked before told after → IsLeft (layout_of before) before.frames.memory before.frames.pool.frames (back_of before asked) after.frames.memory after.frames.pool.frames
     left_by before after told answers = record { serves = serves_below before.frames.pool.limit; keeps = kept_as before after answers.keeps; free = answers.free }
 
-    -- what is left of the second, in the layout of the first
+    -- the second memory after the command, in the layout of the first
     other_left : IsLeft (layout_of h) k.frames.memory h.frames.pool.frames (back_of h asked) b.frames.memory a.frames.pool.frames
     other_left =
         subst (λ (at : Layout × List ℕ × List ℕ × List ℕ). IsLeft at.0 k.frames.memory at.1 at.2 b.frames.memory at.3) (sym (λ i. (same.layout i, (same.state i).pool, same_back asked i, (after_state i).pool))) (left_by k b other also)
@@ -142,7 +142,7 @@ module _ (h k : Hierarchy) (same : IsSame h k) where
     after_same : IsSame a b
     after_same = record { mode = answers.keeps.mode ∙ same.mode ∙ sym also.keeps.mode; layout = after_layout; state = after_state; words = after_words }
 
--- the lines of the replies are equal, and what is left is the same again
+-- the lines of the replies are equal, and the hierarchies remain equal to commands
 pub one_answer : (arguments : Arguments) (line : Numbered) (asked : Command) → SaysCommand arguments line asked → (h k : Hierarchy) → IsSame h k → (told other : Reply) (a b : Hierarchy)
     → Answers asked h told a → Answers asked k other b → (reply_line told ≡ reply_line other) × IsSame a b
 one_answer arguments line asked says h k same told other a b answers also = (same_line h k same arguments line asked says told other answers.reply also.reply, after_same h k same asked told other a b answers also)

@@ -1,4 +1,4 @@
--- Lines of an image leave the same, and are tested alike, where the same was loaded before.
+-- Lines of an image have the same effect and are tested alike if the same lines were loaded before.
 use Rattle.std.proofs.Common.{◌≡◌, ◌/◌, ◌<◌, ℕ, List, [], ◌++◌, ◌∷◌, sym, ap, ◌∙◌, subst}
 use Rattle.std.specs.Cmp.{nat_cmp_total}
 use Rattle.std.specs.FinMap.{same_map, nat_cmp-IsAntisymmetric}
@@ -21,7 +21,7 @@ use Rattle.pagetab_engine.specs.declared.statement.ImageLine.{ImageLine}
 use Rattle.pagetab_engine.specs.declared.statement.ImageLine.TheVariants.{Word, Free}
 use Rattle.pagetab_engine.proofs.SameCommands.{IsSame}
 
--- the same words, free frames in the same order, and as many places
+-- equal words, free frames in the same order, and equally many places
 pub record SameFrames (f g : Frames) : Type 0 where
   pub memory : f.memory ≡ g.memory
   pub free : f.pool.frames ≡ g.pool.frames
@@ -96,7 +96,7 @@ image_turned h k same = record { mode = sym same.mode; frames = turned h.frames 
 pub reached_same : (h k : Hierarchy) → SameImage h k → IsReached h.mode h.frames.memory → IsReached k.mode k.frames.memory
 reached_same h k same = subst (λ (at : Mode × Memory). IsReached at.0 at.1) (λ i. (same.mode i, same.frames.memory i))
 
--- the hierarchies of the first commands are the same to commands
+-- commands can't tell the hierarchies of the first commands apart
 pub first_same : (h k : Hierarchy) → SameImage h k → (a b : Hierarchy) → IsFirst h a → IsFirst k b → IsSame a b
 first_same h k same a b is also =
     let mode : a.mode ≡ b.mode = is.mode ∙ same.mode ∙ sym also.mode in

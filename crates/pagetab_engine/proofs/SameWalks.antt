@@ -1,4 +1,4 @@
--- Memories with the same words lead walks to the same places.
+-- In memories with equal words, page walks arrive at the same addresses.
 use Rattle.std.proofs.Common.{◌≡◌, ◌+◌, ◌*◌, ◌/◌, ◌%◌, ◌^◌, ◌<◌, ◌&&◌, ℕ, zero, suc, nat_le, nat_lt, Bool, true, cond, get_or, List, Option, Some, None, option_and_then, option_map, refl, sym, ap, ◌∙◌, arith, eq-eqb, lt-ltb}
 use Rattle.std.proofs.Math.Nat.{mul-div_cancel}
 use Rattle.std.specs.FinMap.{get}
@@ -15,7 +15,7 @@ use Rattle.pagetab_engine.specs.Slot as slots
 use Rattle.pagetab_engine.specs.declared.request.Address.{Address}
 use Rattle.pagetab_engine.specs.declared.request.Address.TheVariants.{Four, Five}
 
--- where there is no table a word is read as 0
+-- if there is no table, a word is read as 0
 read_word : (F : ℕ → Option Walked) → F 0 ≡ None → (T : Words) (frame i : ℕ) → i < 512 → option_and_then F (read T frame i) ≡ F (word T frame i)
 unfolding word
 read_word F none T frame i small = by (T frame) ∙ ap (λ b. F (cond b (word_in (T frame) i) 0)) (sym (lt-ltb i 512 small))
@@ -44,7 +44,7 @@ module _ (T U : Words) (same : SameWords T U) (p : ℕ) where
       (same_walk_on (suc n) (w && writable (word U frame (index level p))) (u && user (word U frame (index level p))) (address (word U frame (index level p))))
       ∙ sym (read_word (F U) (leads_nowhere _) U frame (index level p) (index_small level p))
 
--- so they lead those of an address, of four levels or of five
+-- so page walks of an address arrive at the same address, with four levels and with five
 pub same_walk_to : (T U : Words) → SameWords T U → (root : ℕ) (address : Address) → walk_to T root address ≡ walk_to U root address
 unfolding page_walk
 same_walk_to T U same root (Four addr) = same_walk_on T U same addr 4 true true root

@@ -1,11 +1,11 @@
--- What words say, and that others say nothing.
+-- The meaning of the words of a mode, and that other words have none.
 use Rattle.std.proofs.Common.{◌≢◌, ℕ, List, [], ◌∷◌, codes, Option, Some, None, IfNone}
 use Rattle.pagetab_engine.specs.Arguments.{SaysMode}
 use Rattle.pagetab_engine.specs.declared.arguments.Levels.TheVariants.{Four, Five}
 use Rattle.pagetab_engine.specs.declared.arguments.Mode.{Mode}
 use Rattle.pagetab_engine.specs.declared.arguments.Mode.TheVariants.{Direct, Offset, Recursive, Pair}
 
--- a word with a text says no mode where it is not `offset`, and none of a recursive index, with four levels or five
+-- a word with a text means no mode unless it is `offset` or the word of a mode with a recursive index, for four levels or five
 pub says_no_mode : (result : Option Mode) (word text : List ℕ) → word ≢ codes "offset"
     → ((index : ℕ) → ¬ (SaysMode word (text ∷ []) (Recursive Four index))) → ((index : ℕ) → ¬ (SaysMode word (text ∷ []) (Pair Four index)))
     → IfNone result ((index : ℕ) → ¬ (SaysMode word (text ∷ []) (Recursive Five index))) → IfNone result ((index : ℕ) → ¬ (SaysMode word (text ∷ []) (Pair Five index)))

@@ -40,7 +40,7 @@ module _ (arguments : Arguments) (first : Command) (before : Hierarchy) (old : O
       by behind line says Input stops = absurd stops
       by behind line says Usage stops = absurd stops
 
-  -- the first command is answered
+  -- the first command gets its reply
   pub first_served : (after : Hierarchy) (new : Option (List ℕ)) → Replies first before after old new
       → TracesBack start start (λ behind left. ServedUntil arguments first behind before old new left after)
   first_served after new replied = λ behind may. (
@@ -55,7 +55,7 @@ module _ (arguments : Arguments) (first : Command) (before : Hierarchy) (old : O
 
   module _ (between : Hierarchy) (held : Option (List ℕ)) (left : List Numbered → Type 0)
       (served : TracesBack start left (λ behind lines. ServedUntil arguments first behind before old held lines between)) where
-    -- the next one is answered
+    -- the next command gets its reply
     pub next_served : (next : List Numbered → Type 0) (number : ℕ) (command : Command) (after : Hierarchy) (new : Option (List ℕ))
         → TracesBack left next (λ lines rest. TakesStatement arguments lines number rest (says.Command command)) → Replies command between after held new
         → TracesBack start next (λ behind rest. ServedUntil arguments first behind before old new rest after)
@@ -87,7 +87,7 @@ module _ (arguments : Arguments) (first : Command) (before : Hierarchy) (old : O
               (until.0, subst (λ replies. Serves arguments (line ∷ all.0) before ending replies) (append-nil until.0) (until.2 ending [] serves), written until.0 until.1),
         )
 
-    -- the program stops at the next one
+    -- the program stops at the next command
     pub next_stops : (next : List Numbered → Type 0) → ForSome next (λ rest. ⊤) → (number : ℕ) (command : Command) (after : Hierarchy) (new : Option (List ℕ)) (fault : Fault)
         → TracesBack left next (λ lines rest. TakesStatement arguments lines number rest (says.Command command)) → StopsAt command between after held new fault
         → ForSome start (λ behind. Served arguments first behind before old new (Stopped fault))
@@ -122,7 +122,7 @@ module _ (arguments : Arguments) (first : Command) (before : Hierarchy) (old : O
         let lines = none some.0 some.1 in
         ended lines.0 lines.1 Done held (subst (λ lines. Serves arguments lines between Done []) (sym lines.2) (ends between)) (λ replies written. written)
 
-    -- a line says one of an image
+    -- a line is a line of an image
     pub image_too_late : (next : List Numbered → Type 0) → ForSome next (λ rest. ⊤) → (number : ℕ) (image : ImageLine)
         → TracesBack left next (λ lines rest. TakesStatement arguments lines number rest (says.Image image)) → ForSome start (λ behind. Served arguments first behind before old held (Stopped (BadLine number)))
     image_too_late next some number image takes =

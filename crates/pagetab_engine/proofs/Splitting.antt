@@ -1,4 +1,4 @@
--- Fields are taken off the front of a line.
+-- Fields are taken from the front of a line.
 use Rattle.std.proofs.Common.{◌≡◌, ◌≢◌, ◌<◌, ◌==◌, ℕ, refl, arith, sym, ap, ◌∙◌, inl, inr, true, false, List, [], ◌∷◌, ◌++◌, length, drop, get_or, Some, None, lit<, filter}
 use Rattle.std.specs.List.{All}
 use Rattle.std.specs.Str.Pattern.{FindsCharPrefix, CutsPrefixes, IsFullyTrimmed}
@@ -24,7 +24,7 @@ pub fields_empty : (text : List ℕ) → true ≡ (length text == 0) → fields_
 fields_empty [] none = no_fields
 fields_empty (byte ∷ bytes) none = absurd (let e : length (byte ∷ bytes) ≡ 0 = eqb-true _ _ (sym none) in omega arith)
 
--- nor do all the spaces in front
+-- all the spaces in front change no field
 pub fields_trimmed : (line cuts rest : List ℕ) → CutsPrefixes (FindsCharPrefix 32) line cuts rest → fields_of line ≡ fields_of rest
 fields_trimmed line [] rest same = ap fields_of (sym same)
 fields_trimmed line (n ∷ cuts) rest (m, before, space, is) =
@@ -47,13 +47,13 @@ pub fields_last : (byte : ℕ) (bytes : List ℕ) → ((i : ℕ) → i < length 
 unfolding fields_of
 fields_last byte bytes none = ap (filter has_bytes) (slice_split_none is_space (byte ∷ bytes) (no_spaces (byte ∷ bytes) none))
 
--- the text before the first space is one
+-- the text before the first space is a field
 pub fields_first : (byte : ℕ) (bytes rest : List ℕ) → ((i : ℕ) → i < length (byte ∷ bytes) → get_or (byte ∷ bytes) i 0 ≢ 32)
     → fields_of ((byte ∷ bytes) ++ (32 ∷ rest)) ≡ (byte ∷ bytes) ∷ fields_of rest
 unfolding fields_of
 fields_first byte bytes rest none = ap (filter has_bytes) (slice_split_at is_space (byte ∷ bytes) 32 rest (no_spaces (byte ∷ bytes) none) refl)
 
--- the same of a trimmed text, whose first part has bytes
+-- this for a trimmed text, whose first part has bytes
 pub first_field : (text field rest : List ℕ) → ((xs : List ℕ) → text ≢ 32 ∷ xs) → text ≡ field ++ (32 ∷ rest) → ((i : ℕ) → i < length field → get_or field i 0 ≢ 32)
     → fields_of text ≡ field ∷ fields_of rest
 first_field text [] rest trimmed split none = absurd (trimmed rest split)

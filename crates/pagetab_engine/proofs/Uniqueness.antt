@@ -1,4 +1,4 @@
--- A line says one name, SIZE or none, and one list of numbers.
+-- A line has at most one name, SIZE or none, and one list of numbers.
 use Rattle.std.proofs.Common.{◌≡◌, ◌≤◌, ◌<◌, ℕ, refl, sym, ap, ap₂, subst, ◌∙◌, cond, bytes_eq, List, [], ◌∷◌, ◌++◌, length, Option, Some, None, arith}
 use Rattle.x86_64_numbers.specs.Numbers.{IsNumber}
 use Rattle.pagetab_engine.specs.Fields.{name_text, size_text, size_texts, AreNumbers, Says}
@@ -11,7 +11,7 @@ use Rattle.pagetab_engine.specs.declared.fields.Size.{Size}
 use Rattle.pagetab_engine.specs.declared.fields.Size.TheVariants.{Size4KiB, Size2MiB, Size1GiB}
 use Rattle.pagetab_engine.proofs.Reading.{number_among}
 
--- the first of these names that has a text
+-- the first of these names with a text
 abbrev name_among : List Name → (text : List ℕ) → Name
 name_among [] text = name.Word
 name_among (first ∷ names) text = cond (bytes_eq (name_text first) text) first (name_among names text)
@@ -44,7 +44,7 @@ one_list (text ∷ texts) [] others are also = absurd are
 one_list (text ∷ texts) (n ∷ numbers) [] are also = absurd also
 one_list (text ∷ texts) (n ∷ numbers) (m ∷ others) are also = ap₂ (λ (k : ℕ) (ks : List ℕ). k ∷ ks) (sym are.1 ∙ also.1) (one_list texts numbers others are.2 also.2)
 
--- the letter after the first digit is none
+-- the letter after the first digit is no digit
 size_no_number : (size : Size) → IsNumber (size_text size) → ⊥
 size_no_number Size4KiB is = let letter : 20 < 10 = is.0.1.1.0 in omega arith
 size_no_number Size2MiB is = let letter : 22 < 10 = is.0.1.1.0 in omega arith
@@ -72,7 +72,7 @@ one_reading line name other size another numbers others says also =
     let rest = one_rest size another says.0 also.0 numbers others after says.2 also.2 in
     (one_name name other first, rest.0, rest.1)
 
--- a list that five numbers or more would refute has at most four
+-- a list has at most four numbers if five or more would contradict P
 few : (P : List ℕ → Type 0) → ((a b c d e : ℕ) (rest : List ℕ) → P (a ∷ b ∷ c ∷ d ∷ e ∷ rest) → ⊥) → (numbers : List ℕ) → P numbers → length numbers ≤ 4
 few P none [] is = omega arith
 few P none (a ∷ []) is = omega arith

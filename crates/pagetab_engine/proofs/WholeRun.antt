@@ -1,4 +1,4 @@
--- How the parts of a run make the whole.
+-- How the parts of a run make up the whole.
 use Rattle.std.proofs.Common.{◌≡◌, ◌∙◌, ℕ, suc, List, [], Option, Some, None, sym, ap, subst}
 use Rattle.std.specs.Bool.{⊤}
 use Rattle.pagetab_engine.specs.Arguments.{Says}
@@ -20,7 +20,7 @@ use Rattle.pagetab_engine.specs.declared.statement.Command.{Command}
 use Rattle.pagetab_engine.proofs.Numbering.{MayFollow, some_input}
 use Rattle.pagetab_engine.proofs.Written.{appends_nothing}
 
--- where nothing is written no reply is
+-- if nothing is written, there is no reply
 unwritten : (held : Option (List ℕ)) (fault : Fault) → IsUnread fault → IsWritten held held (Stopped fault) []
 unwritten held (BadLine number) is = appends_nothing held
 unwritten held Input is = appends_nothing held
@@ -29,7 +29,7 @@ unwritten held OutOfMemory is = absurd is
 unwritten held Output is = absurd is
 unwritten held Usage is = absurd is
 
--- what is so of all lines is so of those of the input
+-- what holds for all lines holds for those of the input
 pub of_input : (P : List Numbered → Type 0) (number : ℕ) (left remaining : Option (List ℕ)) → number ≡ 0 → left ≡ remaining → ForSome (MayFollow number left) P
     → ForSome (IsInput remaining) (λ input. P (numbered_from 1 (lines_of input)))
 of_input P number left remaining none same of =

@@ -1,4 +1,4 @@
--- The arguments of the program.
+-- The program's arguments.
 use Rattle.std.specs.Prelude.{◌≡◌, ◌≤◌, ◌<◌, ℕ, List, [], ◌∷◌, codes}
 use Rattle.x86_64_model.specs.Position.{raw}
 use Rattle.x86_64_numbers.specs.Numbers.{IsNumber, number_of}
@@ -8,11 +8,11 @@ use Rattle.pagetab_engine.specs.declared.arguments.Levels.TheVariants.{Four, Fiv
 use Rattle.pagetab_engine.specs.declared.arguments.Mode.{Mode}
 use Rattle.pagetab_engine.specs.declared.arguments.Mode.TheVariants.{Direct, Offset, Recursive, Pair}
 
--- a number of places, from 2 to 65536
+-- a number of places, from 2 to 65536 (a place is the index of a table in memory)
 abbrev pub IsPlaces : List ℕ → Type 0
 IsPlaces text = IsNumber text × (2 ≤ number_of text) × (number_of text ≤ 65536)
 
--- the number that is the raw value of an address
+-- a number that is the raw value of an address
 abbrev pub IsAddress : List ℕ → (address : ℕ) → Type 0
 IsAddress text address = IsNumber text × (raw 4 address ≡ number_of text)
 
@@ -46,7 +46,7 @@ abbrev pub pair_word : Levels → List ℕ
 pair_word Four = codes "pair"
 pair_word Five = codes "pair5"
 
--- the word of the direct mapper alone, the word `offset` and an address, or that of the recursive one or of a pair and an index
+-- the word of the direct mapper alone, `offset` and an address, or the word of the recursive mapper or of a pair and an index
 abbrev pub SaysMode : (word : List ℕ) → (more : List (List ℕ)) → Mode → Type 0
 SaysMode word [] (Direct levels) = word ≡ direct_word levels
 SaysMode word (text ∷ []) (Offset address) = (word ≡ codes "offset") × IsAddress text address
@@ -54,7 +54,7 @@ SaysMode word (text ∷ []) (Recursive levels index) = (word ≡ recursive_word 
 SaysMode word (text ∷ []) (Pair levels index) = (word ≡ pair_word levels) × IsIndex text × (index ≡ number_of text)
 SaysMode word more mode = ⊥
 
--- a mode, with the number of places after its word
+-- the word of a mode, the number of places, and the text that the mode needs
 abbrev pub Says : (words : List (List ℕ)) → Arguments → Type 0
 Says (word ∷ places ∷ more) arguments = IsPlaces places × (arguments.places ≡ number_of places) × SaysMode word more arguments.mode
 Says words arguments = ⊥

@@ -54,6 +54,6 @@ AreNumbers [] [] = ⊤
 AreNumbers (text ∷ texts) (number ∷ numbers) = IsNumber text × (number_of text ≡ number) × AreNumbers texts numbers
 AreNumbers texts numbers = ⊥
 
--- the fields of a line are the texts of a name, of a size where there is one, and of numbers
+-- the fields of a line are the texts of a name, of a size if there is one, and of numbers
 abbrev pub Says : (line : List ℕ) → Name → Option Size → (numbers : List ℕ) → Type 0
 Says line name size numbers = (texts : List (List ℕ)) × (fields_of line ≡ name_text name ∷ (size_texts size ++ texts)) × AreNumbers texts numbers

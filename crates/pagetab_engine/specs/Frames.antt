@@ -1,4 +1,4 @@
--- The frames of a hierarchy, and what the lines of an image make of them. The root stands in the frame 0x1000.
+-- The frames of a hierarchy, and how the lines of an image change them. The root is in the frame 0x1000.
 use Rattle.std.specs.Prelude.{◌≡◌, ◌≢◌, ◌<◌, ◌≤◌, ◌/◌, ℕ, ⊤, List, [], ◌∷◌, ◌++◌}
 use Rattle.x86_64_model.specs.Layout.{Layout}
 use Rattle.x86_64_model.specs.Lists.{In}
@@ -14,11 +14,11 @@ use Rattle.pagetab_engine.specs.declared.frames.Frames.{Frames}
 use Rattle.pagetab_engine.specs.declared.statement.ImageLine.{ImageLine}
 use Rattle.pagetab_engine.specs.declared.statement.ImageLine.TheVariants.{Word, Free}
 
--- each frame lies at the place of its number
+-- each frame lies at the place of its number (a place is the index of a table in memory)
 abbrev pub direct_layout : (levels : ℕ) → Layout
 direct_layout levels = direct_at levels identity_places 0x1000
 
--- the same with a recursive index, and the self-entry that is the root's word there now
+-- this with a recursive index, and the root's present word there as self-entry
 abbrev pub recursive_layout : (levels : ℕ) → Memory → (index : ℕ) → Layout
 recursive_layout levels memory index = recursive_now_at levels memory 0x1000 index
 
@@ -30,12 +30,12 @@ FitsBy layout frames = FitsPool layout frames.memory (serves_below frames.pool.l
 abbrev pub without_self_entry : (index : ℕ) → Memory → Memory
 without_self_entry index memory = stored memory 1 index 0
 
--- a frame that is to be free is not frame 0, has a number below the limit, and is not free yet
+-- a frame can become free if it is not frame 0, has a number below the limit, and is not free yet
 abbrev pub IsLoadable : Frames → ImageLine → Type 0
 IsLoadable frames (Word slot value) = ⊤
 IsLoadable frames (Free frame) = (frame ≢ 0) × (frame / 4096 < frames.pool.limit) × (In frames.pool.frames frame → ⊥)
 
--- why a line is refused
+-- the reason why a line is refused
 abbrev pub IsRefusedFor : Frames → ImageLine → PoolRefusal → Type 0
 IsRefusedFor frames (Word slot value) why = ⊥
 IsRefusedFor frames (Free frame) Zero = frame ≡ 0

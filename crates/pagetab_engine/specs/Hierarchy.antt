@@ -1,4 +1,4 @@
--- The hierarchy that the program reads, in a pair two of one image, and the machine that it is.
+-- The hierarchy that the program reads, or two with one image in a pair, as a machine.
 use Rattle.std.specs.Prelude.{◌≡◌, ◌↔◌, ℕ, ⊤, cond, false, List, [], Some}
 use Rattle.x86_64_model.specs.Alike.{Alike}
 use Rattle.x86_64_model.specs.Layout.{Layout, paths}
@@ -33,7 +33,7 @@ IsCopy mode frames copy = ⊤
 abbrev pub HasCopy : Hierarchy → Type 0
 HasCopy hierarchy = IsCopy hierarchy.mode hierarchy.frames hierarchy.twin
 
--- the hierarchy is valid, and the free frames fit it; in a pair the recursive mapper's
+-- the hierarchy is valid, and the free frames fit it; in a pair this is the recursive mapper's
 abbrev pub FitsIn : Mode → (frames copy : Frames) → Type 0
 FitsIn (Direct levels) frames copy = FitsBy (direct_layout (count levels)) frames
 FitsIn (Offset offset) frames copy = FitsBy (direct_layout 4) frames
@@ -43,7 +43,7 @@ FitsIn (Pair levels index) frames copy = FitsBy (recursive_layout (count levels)
 abbrev pub FitsImage : Hierarchy → Type 0
 FitsImage hierarchy = FitsIn hierarchy.mode hierarchy.frames hierarchy.twin
 
--- the memory of the first commands: in a pair the other mapper's lacks the self-entry
+-- the memory of the first commands; in a pair the direct mapper's lacks the self-entry
 abbrev pub first_memory : Mode → Memory → Memory
 first_memory (Pair levels index) memory = without_self_entry index memory
 first_memory mode memory = memory
@@ -62,26 +62,26 @@ layout_of hierarchy = layout hierarchy.mode hierarchy.frames.memory
 abbrev pub machine_of : Hierarchy → Machine
 machine_of hierarchy = machine_by (layout_of hierarchy)
 
--- what the words mean, and the free frames
+-- the path map that the words mean, and the free frames
 abbrev pub hierarchy_state : Hierarchy → State
 hierarchy_state hierarchy = runs.state_in (layout_of hierarchy) hierarchy.frames.memory hierarchy.frames.pool.frames
 
--- what a call leaves: what the machine's step does, but a call that no mapper is asked is not allowed
+-- the result of a call: the machine's step, or `NotAllowed` with no change if no mapper executes the call
 abbrev pub call_step : Hierarchy → Request → AfterStep Reply
 call_step hierarchy request = cond (is_refused hierarchy.mode request)
     (record { state = hierarchy_state hierarchy; reply = Some NotAllowed })
     (runs.step_by (machine_of hierarchy) (hierarchy_state hierarchy) (asked request))
 
--- the frames that a call gives back, where a mapper is asked: those of the tables that a clean up takes away
+-- the frames that a call returns if a mapper executes it: those of the tables that a clean up removes
 abbrev pub call_back : Hierarchy → Request → List ℕ
 call_back hierarchy request = cond (is_refused hierarchy.mode request) [] (asked_back (machine_of hierarchy) (hierarchy_state hierarchy) (asked request))
 
--- the words of free frames are those of before, or 0 where the frames came back
+-- free frames keep their words, except that returned frames hold zeros
 abbrev pub KeepsFree : (before : Hierarchy) → (back : List ℕ) → (after : Hierarchy) → Type 0
 KeepsFree before back after = KeepsFreeFrames (layout_of before) before.frames.memory before.frames.pool.frames back after.frames.memory after.frames.pool.frames
 
--- The recursive mapper of a pair answers a call in its own frames, by this reply: the reply and the state that it leaves are its machine's, the
--- free frames fit its hierarchy again, and no other word changes.
+-- In a pair, the recursive mapper executes a call in its own frames. The reply and the state after it are those of its machine,
+-- the free frames fit its hierarchy again, and no other word changes.
 pub record TwinAnswers (levels index : ℕ) (before : Frames) (asked : MapperCall) (after : Frames) (reply : Reply) : Type 0 where
   pub answered : IsAnswered (recursive_layout levels before.memory index) before.memory before.pool.frames asked after.memory after.pool.frames reply
   pub layout : recursive_layout levels after.memory index ≡ recursive_layout levels before.memory index
@@ -93,7 +93,7 @@ abbrev pub TwinTells : Mode → (asked : MapperCall) → (before after : Frames)
 TwinTells (Pair levels index) asked before after reply = TwinAnswers (count levels) index before asked after reply
 TwinTells mode asked before after reply = ⊤
 
--- where mappers are asked
+-- this holds if the mappers execute the call
 abbrev pub BothAnswer : Mode → Request → Reply → (before after : Frames) → Type 0
 BothAnswer mode request reply before after = is_refused mode request ≡ false → TwinTells mode (asked request) before after reply
 
@@ -102,18 +102,19 @@ abbrev pub IsReached : Mode → Memory → Type 0
 IsReached (Offset offset) memory = OffsetFits 4 memory offset
 IsReached mode memory = ⊤
 
--- The recursive mapper's hierarchy is valid for the index, its free frames fit it and are those of the other one, and the path maps are alike.
+-- The recursive mapper's hierarchy is valid for the index, the path maps are alike, and its free frames fit it and are equal to
+-- the direct mapper's.
 pub record IsTwin (levels index : ℕ) (memory : Memory) (free : List ℕ) (twin : Frames) : Type 0 where
   pub fits : FitsBy (recursive_layout levels twin.memory index) twin
   pub alike : Alike levels (paths (direct_layout levels) memory) (paths (recursive_layout levels twin.memory index) twin.memory)
   pub same_free : free ≡ twin.pool.frames
 
--- in a pair the two are alike
+-- in a pair the two hierarchies are alike
 abbrev pub HasTwin : Mode → (frames twin : Frames) → Type 0
 HasTwin (Pair levels index) frames twin = IsTwin (count levels) index frames.memory frames.pool.frames twin
 HasTwin mode frames twin = ⊤
 
--- the hierarchy is valid, the free frames fit it, and the mapper reaches each place; in a pair both are so, alike
+-- the hierarchy is valid, the free frames fit it, and the mapper reaches each place; in a pair both hierarchies are so, and alike
 pub record IsHierarchy (hierarchy : Hierarchy) : Type 0 where
   pub fits : FitsBy (layout_of hierarchy) hierarchy.frames
   pub reached : IsReached hierarchy.mode hierarchy.frames.memory
@@ -123,8 +124,8 @@ pub record IsHierarchy (hierarchy : Hierarchy) : Type 0 where
 abbrev pub IsOwn : Hierarchy → (frame : ℕ) → Type 0
 IsOwn hierarchy frame = Owns (layout_of hierarchy) hierarchy.frames.memory hierarchy.frames.pool.frames frame
 
--- the mode, the layout and the frames that the pool serves stay, the free frames fit the valid hierarchy again, these and the tables stay one
--- set, and no word changes but in them and the root
+-- The mode, the layout and the frames that the pool serves stay, and the free frames fit the valid hierarchy again. Free frames
+-- and tables together are the same set as before, and no word outside them and the root changed.
 pub record KeepsHierarchy (before after : Hierarchy) : Type 0 where
   pub mode : after.mode ≡ before.mode
   pub layout : layout_of after ≡ layout_of before

@@ -17,13 +17,13 @@ use Rattle.pagetab_engine.specs.declared.statement.Statement.{Statement}
 abbrev pub is_line_feed : ℕ → Bool
 is_line_feed byte = byte == 10
 
--- what is behind the last line feed is a line unless it is empty
+-- the part after the last line feed is a line unless it is empty
 abbrev pub without_empty_last : List (List ℕ) → List (List ℕ)
 without_empty_last [] = []
 without_empty_last (part ∷ []) = cond (has_bytes part) (part ∷ []) []
 without_empty_last (part ∷ other ∷ parts) = part ∷ without_empty_last (other ∷ parts)
 
--- what stands between line feeds; the last line may lack its own
+-- the parts between line feeds; the last line may lack its own
 unfoldable pub lines_of : List ℕ → List (List ℕ)
 lines_of input = without_empty_last (slice_split is_line_feed input)
 
@@ -36,35 +36,35 @@ pub record Numbered : Type 0 where
   pub number : ℕ
   pub line : List ℕ
 
--- the lines that aren't blank, where the first of all has this number
+-- the lines that aren't blank, if the first of all lines has this number
 abbrev pub numbered_from : (number : ℕ) → List (List ℕ) → List Numbered
 numbered_from number [] = []
 numbered_from number (line ∷ lines) =
     cond (is_blank line) (numbered_from (suc number) lines)
     (record { number = number; line = line } ∷ numbered_from (suc number) lines)
 
--- the bytes that are not taken yet, where they are known: those in the buffer, and then those that the reader has left
+-- the bytes that are not taken yet, if they are known: those in the buffer, followed by those that the reader has left
 abbrev pub bytes_left : {R : Type 0} → (remaining : R → Option (List ℕ)) → Lines R → Option (List ℕ)
 bytes_left remaining lines = prepend_known (slice_range lines.buffer lines.at lines.end) (remaining lines.reader.now)
 
--- bytes that an input may have: the known ones, or any where none are known
+-- the bytes that an input may have: the known ones, or any if they aren't known
 abbrev pub IsInput : (known : Option (List ℕ)) → (bytes : List ℕ) → Type 0
 IsInput None bytes = ⊤
 IsInput (Some known) bytes = bytes ≡ known
 
--- lines that may be left and aren't blank, with their numbers
+-- the lines that may be left and aren't blank, with their numbers
 abbrev pub MayBeLeft : {R : Type 0} → (remaining : R → Option (List ℕ)) → Lines R → List Numbered → Type 0
 MayBeLeft remaining lines numbered = (bytes : List ℕ) × IsInput (bytes_left remaining lines) bytes × (numbered ≡ numbered_from (suc lines.number) (lines_of bytes))
 
--- this is so of some that may be there
+-- some of the possible ones satisfy P
 abbrev pub ForSome : {A : Type 0} → (may_be : A → Type 0) → (A → Type 0) → Type 0
 ForSome may_be P = (all : _) × may_be all × P all
 
--- whatever may be left after, there may have been some before of which this is so
+-- whatever may be left after, something may have been left before that is related to it by P
 abbrev pub TracesBack : {A : Type 0} → (before after : A → Type 0) → (A → A → Type 0) → Type 0
 TracesBack before after P = (rest : _) → after rest → ForSome before (λ all. P all rest)
 
--- a byte was taken off the front of known bytes, or there was none to take
+-- a byte was taken from the front of known bytes, or there was none to take
 abbrev pub TakesByte : (old new : Option (List ℕ)) → Option ℕ → Type 0
 TakesByte old new (Some byte) = Consumes old new (byte ∷ [])
 TakesByte old new None = IsAtEnd old × Keeps old new
@@ -75,7 +75,7 @@ FitsLine (Text length) = length ≤ 256
 FitsLine TooLong = ⊤
 FitsLine End = ⊤
 
--- the first line is this one, and the bytes behind it are left
+-- the first line is this one, and the bytes after it are left
 abbrev pub TakesLine : (bytes line rest : List ℕ) → Type 0
 TakesLine bytes line rest = lines_of bytes ≡ line ∷ lines_of rest
 
@@ -84,27 +84,27 @@ abbrev pub BeginsTooLong : List (List ℕ) → Type 0
 BeginsTooLong [] = ⊥
 BeginsTooLong (line ∷ lines) = ¬ (length line ≤ 256)
 
--- what was read of the next line of these bytes, where `line` begins with its text
+-- what was read of the next line of these bytes, if `line` begins with its text
 abbrev pub ReadsLine : (bytes rest line : List ℕ) → Line → Type 0
 ReadsLine bytes rest line (Text length) = TakesLine bytes (take length line) rest
 ReadsLine bytes rest line TooLong = BeginsTooLong (lines_of bytes)
 ReadsLine bytes rest line End = lines_of bytes ≡ []
 
--- the line says a statement about what the arguments say
+-- the line is a statement for these arguments
 abbrev pub SaysAccepted : (arguments : Arguments) (line : List ℕ) → Statement → Type 0
 SaysAccepted arguments line statement = (length line ≤ 256) × SaysStatement line statement × IsAccepted arguments statement
 
--- the line has more than 256 bytes, or says no statement about what the arguments say
+-- the line has more than 256 bytes, or is no statement for these arguments
 abbrev pub IsBad : (arguments : Arguments) (line : List ℕ) → Type 0
 IsBad arguments line =
     (length line ≤ 256) → (name : Name) (size : Option Size) (numbers : List ℕ) → Says line name size numbers → ¬ (IsStatement arguments name size numbers)
 
--- the first line has this number and says this statement, and the lines behind it are left
+-- the first line has this number and is this statement, and the lines after it are left
 abbrev pub TakesStatement : (arguments : Arguments) (lines : List Numbered) (number : ℕ) (rest : List Numbered) → Statement → Type 0
 TakesStatement arguments lines number rest statement =
     (line : List ℕ) × (lines ≡ record { number = number; line = line } ∷ rest) × SaysAccepted arguments line statement
 
--- what was read of these lines: the statement of the first one, of this number; or that there is none
+-- what was read of these lines: the first one's statement, with this number, or that there is none
 abbrev pub ReadsStatement : (arguments : Arguments) (lines : List Numbered) (number : ℕ) (rest : List Numbered) → Option Statement → Type 0
 ReadsStatement arguments lines number rest (Some statement) = TakesStatement arguments lines number rest statement
 ReadsStatement arguments lines number rest None = lines ≡ []
@@ -124,7 +124,7 @@ ExplainsRead arguments lines fault = ⊥
 abbrev pub IsCounted : (old new : ℕ) → Type 0
 IsCounted old new = (old < new) × (new < 2 ^ 64)
 
--- the line of this number is bad, or a read failed
+-- the line with this number is bad, or a read failed
 abbrev pub IsReadFault : (number : ℕ) → Fault → Type 0
 IsReadFault number (BadLine line) = line ≡ number
 IsReadFault number Input = ⊤

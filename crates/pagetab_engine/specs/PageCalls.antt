@@ -1,4 +1,4 @@
--- How lines write calls: a name, a size where they are on a page of a size, and numbers.
+-- How lines write calls: a name, a size for calls on a page of a size, and numbers.
 use Rattle.std.specs.Prelude.{◌≡◌, ◌==◌, cond, ℕ, List, [], ◌∷◌, Option, Some, None}
 use Rattle.x86_64_addr.specs.Position.{raw}
 use Rattle.x86_64_tables.specs.PageTableFlags.{bits_of}
@@ -15,7 +15,7 @@ use Rattle.pagetab_engine.specs.declared.fields.Size.TheVariants.{Size4KiB, Size
 use Rattle.pagetab_engine.specs.declared.request.Request.{Request}
 use Rattle.pagetab_engine.specs.declared.request.Request.TheVariants.{Four, Five}
 
--- whether a name, and numbers past a size, are a call where there are so many levels: start addresses that are the size's, and flags, which are any
+-- whether a name, and the numbers after a size, are a call with these levels: start addresses that suit the size, and any flags
 abbrev pub IsPageCall : (levels size : ℕ) → Name → List ℕ → Type 0
 IsPageCall levels size name.Map (page ∷ frame ∷ flags ∷ []) = IsPageStart levels size page × IsFrameStart size frame
 IsPageCall levels size name.MapWith (page ∷ frame ∷ flags ∷ parent_flags ∷ []) = IsPageStart levels size page × IsFrameStart size frame
@@ -35,7 +35,7 @@ bytes_of Size4KiB = 0x1000
 bytes_of Size2MiB = 0x20_0000
 bytes_of Size1GiB = 0x4000_0000
 
--- what a line writes: a name, a size where there is one, and numbers
+-- what a line writes: a name, a size if there is one, and numbers
 pub record Written : Type 0 where
   pub name : Name
   pub size : Option Size
@@ -49,7 +49,7 @@ without_size name numbers = written_by name None numbers
 
 -- ---- calls on pages
 
--- the name that writes the call that sets the flags of the entry of a level
+-- the name of the call that sets the flags of the entry of a level
 abbrev pub flags_name : (level : ℕ) → Name
 flags_name level = cond (level == 5) name.P5 (cond (level == 4) name.P4 (cond (level == 3) name.P3 name.P2))
 
@@ -77,7 +77,7 @@ page_written levels size call = written_by (page_call_name call) (Some size) (pa
 
 -- ---- calls
 
--- with any number of levels, where the flags of level five have these bits
+-- for any number of levels; bits are those of the flags of level five
 abbrev pub call_written : {L P5 : Type 0} → (levels : ℕ) → (bits : P5 → ℕ) → CallIn L P5 → Written
 call_written levels bits (Of4KiB call) = page_written levels Size4KiB (size_asks bits call)
 call_written levels bits (Of2MiB call) = page_written levels Size2MiB (size_asks bits call)

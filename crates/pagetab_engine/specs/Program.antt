@@ -20,7 +20,7 @@ use Rattle.pagetab_engine.specs.declared.statement.Command.{Command}
 use Rattle.pagetab_engine.specs.declared.statement.ImageLine.{ImageLine}
 use Rattle.pagetab_engine.specs.declared.statement.Statement.TheVariants as says
 
--- not the arguments or the input stop the program: memory was refused, or a read or a write failed
+-- neither the arguments nor the input stop the program: memory allocation, a read or a write failed
 abbrev pub IsForced : Fault → Type 0
 IsForced OutOfMemory = ⊤
 IsForced Input = ⊤
@@ -29,15 +29,15 @@ IsForced fault = ⊥
 
 -- ---- the commands
 
--- the line says this command
+-- the line is this command
 abbrev pub SaysCommand : (arguments : Arguments) → Numbered → Command → Type 0
 SaysCommand arguments line command = SaysAccepted arguments line.line (says.Command command)
 
--- the line says this line of an image
+-- the line is this line of an image
 abbrev pub SaysImage : (arguments : Arguments) → Numbered → ImageLine → Type 0
 SaysImage arguments line image = SaysAccepted arguments line.line (says.Image image)
 
--- The reply to a command, and what it leaves of the hierarchy, in a pair of both.
+-- The reply to a command, and its effect on the hierarchy, or on both hierarchies in a pair.
 pub record Answers (command : Command) (before : Hierarchy) (answer : Reply) (after : Hierarchy) : Type 0 where
   pub reply : IsReply before command answer
   pub state : hierarchy_state after ≡ state_after before command
@@ -46,7 +46,7 @@ pub record Answers (command : Command) (before : Hierarchy) (answer : Reply) (af
   pub keeps : KeepsHierarchy before after
   pub both : IsToldByBoth before command answer after
 
--- Where the image is read, each line that says a command is answered, and the first other one is bad.
+-- After the image, each line that is a command gets its reply, and the first other line is bad.
 pub data Serves (arguments : Arguments) : (lines : List Numbered) → Hierarchy → Ending → (replies : List Reply) → Type 0 where
   ends : (hierarchy : Hierarchy) → Serves arguments [] hierarchy Done []
   answers : (line : Numbered) (lines : List Numbered) (command : Command) (before : Hierarchy) (reply : Reply) (after : Hierarchy) (ending : Ending) (replies : List Reply)
@@ -66,7 +66,7 @@ pub record IsEmpty (arguments : Arguments) (hierarchy : Hierarchy) : Type 0 wher
   pub limit : hierarchy.frames.pool.limit ≡ arguments.places
   pub copy : HasCopy hierarchy
 
--- A line of the image sets its word, or adds its frame at the back of the free ones; in a pair the other mapper gets it too.
+-- A line of the image sets its word, or adds its frame behind the other free ones; in a pair the other mapper gets it too.
 pub record Loads (image : ImageLine) (before after : Hierarchy) : Type 0 where
   pub accepted : IsLoadable before.frames image
   pub memory : after.frames.memory ≡ memory_after before.frames image
@@ -75,19 +75,20 @@ pub record Loads (image : ImageLine) (before after : Hierarchy) : Type 0 where
   pub mode : after.mode ≡ before.mode
   pub copy : HasCopy after
 
--- The hierarchy of the first command: in a pair the mapper that isn't recursive lacks the self-entry.
+-- The hierarchy of the first command; in a pair the memory of the direct mapper lacks the self-entry.
 pub record IsFirst (image first : Hierarchy) : Type 0 where
   pub memory : first.frames.memory ≡ first_memory image.mode image.frames.memory
   pub pool : first.frames.pool ≡ image.frames.pool
   pub mode : first.mode ≡ image.mode
   pub twin : first.twin ≡ image.twin
 
--- the image is read: the next line says a command, or there is none
+-- the image is complete: the next line is a command, or there is none
 abbrev pub IsRead : (arguments : Arguments) → List Numbered → Type 0
 IsRead arguments [] = ⊤
 IsRead arguments (line ∷ lines) = (command : Command) × SaysCommand arguments line command
 
--- Each line that says one of an image is loaded. The first other one ends the image, which is tested then, as it is at the end of the input.
+-- Each line of the image is loaded. The first command, or the end of the input, ends the image, which is then tested. Other
+-- lines are bad, and so are lines of the image that can't be loaded.
 pub data Reads (arguments : Arguments) : (lines : List Numbered) → Hierarchy → Ending → (replies : List Reply) → Type 0 where
   loads : (line : Numbered) (lines : List Numbered) (image : ImageLine) (before after : Hierarchy) (ending : Ending) (replies : List Reply)
       → SaysImage arguments line image → Loads image before after → Reads arguments lines after ending replies → Reads arguments (line ∷ lines) before ending replies
@@ -101,7 +102,8 @@ pub data Reads (arguments : Arguments) : (lines : List Numbered) → Hierarchy �
 
 -- ---- the run
 
--- The arguments say a mode and a number of places, and the mapper reaches each place; then the input is read. It may be forced to stop at each line.
+-- The input is read if the arguments are a mode and a number of places, and the mapper reaches each place. The run may be forced
+-- to stop at each line.
 pub data IsRun (words : List (List ℕ)) (input : List ℕ) : Ending → (replies : List Reply) → Type 0 where
   usage : ((arguments : Arguments) → ¬ (Says words arguments)) → IsRun words input (Stopped Usage) []
   unreached : (arguments : Arguments) (hierarchy : Hierarchy)
@@ -111,24 +113,24 @@ pub data IsRun (words : List (List ℕ)) (input : List ℕ) : Ending → (replie
       → Reads arguments (numbered_from 1 (lines_of input)) hierarchy ending replies → IsRun words input ending replies
   gives_up : (fault : Fault) → IsForced fault → IsRun words input (Stopped fault) []
 
--- a front part of a line, and not all of it
+-- a first part of a line, but not all of it
 abbrev pub IsFrontPart : (front line : List ℕ) → Type 0
 IsFrontPart front line = (byte : ℕ) × (left : List ℕ) × (line ≡ front ++ byte ∷ left)
 
--- of a line that was to be written a front part alone was
+-- only a first part of the line was written
 abbrev pub AppendsFront : (before after : Option (List ℕ)) → (line : List ℕ) → Type 0
 AppendsFront before after line = (front : List ℕ) × IsFrontPart front line × Appends before after front
 
--- the replies before the last are written, each in a line, and of the last one's line a front part alone
+-- the replies before the last are written as lines, and only a first part of the last one's line
 abbrev pub IsCutShort : (before after : Option (List ℕ)) → (replies : List Reply) → Type 0
 IsCutShort before after replies = (whole : List Reply) × (last : Reply) × (front : List ℕ)
     × (replies ≡ whole ++ last ∷ []) × IsFrontPart front (reply_line last) × Appends before after (flat_map reply_line whole ++ front)
 
--- The replies are written in order, each in a line, and nothing else is. Where a write failed it was that of the last one.
+-- The replies, and nothing else, are written in order as lines. If a write failed, it was that of the last reply.
 abbrev pub IsWritten : (before after : Option (List ℕ)) → Ending → (replies : List Reply) → Type 0
 IsWritten before after (Stopped Output) replies = IsCutShort before after replies
 IsWritten before after ending replies = Appends before after (flat_map reply_line replies)
 
--- the replies that say what a run does and how it ends are written
+-- the replies of a run with this ending are written
 abbrev pub Runs : (words : List (List ℕ)) (input : List ℕ) (before after : Option (List ℕ)) → Ending → Type 0
 Runs words input before after ending = (replies : List Reply) × IsRun words input ending replies × IsWritten before after ending replies

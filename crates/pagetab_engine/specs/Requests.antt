@@ -1,4 +1,4 @@
--- Calls of the mappers of both numbers of levels.
+-- Calls of mappers with four or five levels.
 use Rattle.std.specs.Prelude.{ℕ, ◌||◌, Bool, true, false, not, Option}
 use Rattle.x86_64_model.specs.Memory.{Words}
 use Rattle.x86_64_model.specs.PageWalk.{Walked, page_walk}
@@ -18,23 +18,23 @@ use Rattle.pagetab_engine.specs.declared.request.Answer.TheVariants as answer
 use Rattle.pagetab_engine.specs.declared.request.Request.{Request}
 use Rattle.pagetab_engine.specs.declared.request.Request.TheVariants.{Four, Five}
 
--- whether a call is one where there are so many levels
+-- whether a call is for this number of levels
 abbrev pub has_levels : Levels → Request → Bool
 has_levels levels.Four (Four call) = true
 has_levels levels.Five (Five call) = true
 has_levels other request = false
 
--- what a call asks of a mapper
+-- the call as a call on numbers
 abbrev pub asked : Request → MapperCall
 asked (Four call) = asks no_bits call
 asked (Five call) = asks bits_of call
 
--- whether a call's page or address has this index of the highest level, which a clean up has not
+-- whether a call's page or address has this index of the highest level; a clean up has none
 abbrev pub request_names : Request → (index : ℕ) → Bool
 request_names (Four call) index = names 4 no_bits call index
 request_names (Five call) index = names 5 bits_of call index
 
--- whether the recursive index of a pair is one that is named
+-- whether the recursive index of a pair is among these names
 abbrev pub is_index_named : Mode → (names : ℕ → Bool) → Bool
 is_index_named (Pair levels index) names = names index
 is_index_named mode names = false
@@ -43,16 +43,16 @@ is_index_named mode names = false
 abbrev pub is_named : Mode → Request → Bool
 is_named mode request = is_index_named mode (request_names request)
 
--- whether no mapper is asked: the call is one of another number of levels, or names the recursive index of a pair
+-- whether no mapper executes the call: it is for another number of levels, or names the recursive index of a pair
 abbrev pub is_refused : Mode → Request → Bool
 is_refused mode request = not (has_levels (levels_of mode) request) || is_named mode request
 
--- the reply that an answer is
+-- the reply in an answer
 abbrev pub reply_in : Answer → Reply
 reply_in (answer.Four reply) = reply
 reply_in (answer.Five reply) = reply
 
--- where the processor arrives, through as many levels as the address has
+-- where the page walk arrives, through the address's number of levels
 abbrev pub walk_to : Words → (root : ℕ) → Address → Option Walked
 walk_to words root (address.Four addr) = page_walk 4 words root addr
 walk_to words root (address.Five addr) = page_walk 5 words root addr

@@ -1,4 +1,4 @@
--- Words in memory, by the places of tables.
+-- Words in memory, by the places of tables (a place is the index of a table in memory).
 use Rattle.std.specs.Prelude.{ℕ, List, Option, Some, None, slice_set, slice_index}
 use Rattle.std.specs.FinMap.{get, insert}
 use Rattle.x86_64_model.specs.Memory.{Memory}
@@ -7,7 +7,7 @@ abbrev pub word_of_table : Option (List ℕ) → (index : ℕ) → ℕ
 word_of_table None index = 0
 word_of_table (Some table) index = slice_index table index
 
--- the word at an index of the table at a place, 0 where there is no table
+-- the word at an index of the table at a place, or 0 if there is no table
 abbrev pub word_in : Memory → (place index : ℕ) → ℕ
 word_in memory place index = word_of_table (get memory place) index
 
@@ -15,6 +15,6 @@ abbrev pub stored_in : Memory → (place index word : ℕ) → Option (List ℕ)
 stored_in memory place index word None = memory
 stored_in memory place index word (Some table) = insert memory place (slice_set table index word)
 
--- the memory after a word was set, the same where there is no table
+-- the memory after a word was set, unchanged if there is no table
 abbrev pub stored : Memory → (place index word : ℕ) → Memory
 stored memory place index word = stored_in memory place index word (get memory place)

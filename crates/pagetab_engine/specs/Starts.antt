@@ -2,13 +2,13 @@
 use Rattle.std.specs.Prelude.{◌≡◌, ◌<◌, ◌/◌, ◌%◌, ◌^◌, ℕ}
 use Rattle.x86_64_addr.specs.Position.{IsCanonical}
 
--- the start of a page where there are so many levels
+-- the start of a page with this number of levels
 abbrev pub IsPageStart : (levels size start : ℕ) → Type 0
 IsPageStart levels size start = IsCanonical levels start × (start % size ≡ 0)
 
 abbrev pub IsFrameStart : (size start : ℕ) → Type 0
 IsFrameStart size start = (start < 2 ^ 52) × (start % size ≡ 0)
 
--- the start of a 4KiB frame in a memory of so many places
+-- the start of a 4KiB frame in a memory with this number of places (a place is the index of a table in memory)
 abbrev pub IsTableStart : (places start : ℕ) → Type 0
 IsTableStart places start = IsFrameStart 4096 start × (start / 4096 < places)

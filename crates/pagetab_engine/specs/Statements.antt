@@ -1,4 +1,4 @@
--- How lines write statements: a name, SIZE where they are about a page of a size, and numbers.
+-- How lines write statements: a name, SIZE for statements about a page of a size, and numbers.
 use Rattle.std.specs.Prelude.{◌≡◌, ◌<◌, ◌*◌, ℕ, ⊤, true, List, [], ◌∷◌, Option, Some, None}
 use Rattle.x86_64_addr.specs.Position.{raw, IsCanonical}
 use Rattle.pagetab_engine.specs.Fields.{Says}
@@ -19,7 +19,7 @@ use Rattle.pagetab_engine.specs.declared.statement.Command.TheVariants as comman
 use Rattle.pagetab_engine.specs.declared.statement.Statement.{Statement}
 use Rattle.pagetab_engine.specs.declared.statement.Statement.TheVariants.{Image, Command}
 
--- whether a name and numbers with no size between them are a command on addresses, where there are so many levels
+-- whether a name and numbers without SIZE are a command on addresses, with this number of levels
 abbrev pub IsOnAddresses : (levels : ℕ) → Name → List ℕ → Type 0
 IsOnAddresses levels name.Translate (addr ∷ []) = IsCanonical levels addr
 IsOnAddresses levels name.Addr (addr ∷ []) = IsCanonical levels addr
@@ -28,7 +28,7 @@ IsOnAddresses levels name.CleanUp [] = ⊤
 IsOnAddresses levels name.CleanUpRange (first ∷ last ∷ []) = IsPageStart levels 4096 first × IsPageStart levels 4096 last
 IsOnAddresses levels other numbers = ⊥
 
--- whether they are a statement about a memory of so many places, and so many levels
+-- whether they are a statement, for this number of places and levels
 abbrev pub IsPlain : (places levels : ℕ) → Name → List ℕ → Type 0
 IsPlain places levels name.Word (frame ∷ index ∷ value ∷ []) = IsTableStart places frame × (index < 512)
 IsPlain places levels name.Free (frame ∷ []) = IsTableStart places frame
@@ -36,16 +36,16 @@ IsPlain places levels name.Show (frame ∷ index ∷ []) = IsTableStart places f
 IsPlain places levels name.Pool [] = ⊤
 IsPlain places levels other numbers = IsOnAddresses levels other numbers
 
--- the number of levels that the arguments say
+-- the arguments' number of levels
 abbrev pub levels_in : Arguments → ℕ
 levels_in arguments = count (levels_of arguments.mode)
 
--- whether these fields are a statement about what the arguments say
+-- whether these fields are a statement for these arguments
 abbrev pub IsStatement : Arguments → Name → Option Size → List ℕ → Type 0
 IsStatement arguments name None numbers = IsPlain arguments.places (levels_in arguments) name numbers
 IsStatement arguments name (Some size) numbers = IsPageCall (levels_in arguments) (bytes_of size) name numbers
 
--- ---- what writes a command, and a statement
+-- ---- how a command and a statement are written
 
 abbrev pub command_written : Asked → Written
 command_written (command.Call request) = request_written request
@@ -59,7 +59,7 @@ written (Image (Word slot value)) = without_size name.Word ((slot.place * 4096) 
 written (Image (Free frame)) = without_size name.Free (frame ∷ [])
 written (Command asked) = command_written asked
 
--- a call is one of so many levels, and so is the address of a walk
+-- a call is for this number of levels, and so is the address of a walk
 abbrev pub CommandHas : Levels → Asked → Type 0
 CommandHas levels (command.Call request) = has_levels levels request ≡ true
 CommandHas levels.Four (command.Walk (address.Four addr)) = ⊤
@@ -72,7 +72,7 @@ abbrev pub HasLevels : Levels → Statement → Type 0
 HasLevels levels (Image line) = ⊤
 HasLevels levels (Command asked) = CommandHas levels asked
 
--- a line says a statement, and it is one about what the arguments say
+-- a line is a statement
 abbrev pub SaysStatement : (line : List ℕ) → Statement → Type 0
 SaysStatement line statement = let fields = written statement in Says line fields.name fields.size fields.numbers
 

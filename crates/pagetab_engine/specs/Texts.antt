@@ -1,4 +1,4 @@
--- What the program prints: the text of each reply, and of each fault.
+-- The texts that the program prints, for each reply and each fault.
 use Rattle.std.specs.Prelude.{ℕ, Bool, if◌then◌else◌, List, [], ◌∷◌, ◌++◌, flat_map, codes, decimal, Option, Some, None, Ok, Err}
 use Rattle.x86_64_numbers.specs.Numbers.{hexadecimal}
 use Rattle.x86_64_tables.specs.PageTableFlags.{bits_of}
@@ -26,7 +26,7 @@ use Rattle.pagetab_engine.specs.declared.ending.Fault.TheVariants.{BadLine, Inva
 use Rattle.pagetab_engine.specs.declared.reply.Reply.{Reply}
 use Rattle.pagetab_engine.specs.declared.reply.Reply.TheVariants.{Answered, Arrival, Word, Pool}
 
--- what is so is 1, and what is not is 0
+-- 1 if it holds, otherwise 0
 abbrev pub bit : Bool → ℕ
 bit holds = if holds then 1 else 0
 

@@ -1,4 +1,4 @@
-//! The arguments of the program.
+//! The program's arguments.
 ghost use Rattle.std.specs.Prelude.{◌<◌, ℕ, [], ◌∷◌, map, string_bytes, IfSome, IfNone};
 ghost use Rattle.std.specs.Option.{SomeIff};
 ghost use Rattle.pagetab_engine.specs.Arguments.{IsPlaces, IsAddress, IsIndex, Says, SaysMode};
@@ -10,12 +10,12 @@ use x86_64::VirtAddr;
 use x86_64::structures::paging::PageTableIndex;
 use x86_64_numbers::parse_number;
 
-/// Says how many levels of page tables there are.
+/// The number of levels of page tables.
 #[derive(Clone, Copy)]
 pub enum Levels {
-    /// Four, for addresses of 48 bits.
+    /// Four levels, for 48-bit addresses.
     Four,
-    /// Five, for addresses of 57 bits.
+    /// Five levels, for 57-bit addresses.
     Five,
 }
 
@@ -23,7 +23,7 @@ impl Levels {
     ghost use Rattle.std.specs.Prelude.{◌≡◌};
     ghost use Rattle.pagetab_engine.specs.Arguments.{recursive_word, pair_word};
 
-    /// Gives the word of the recursive mapper.
+    /// Returns the word for the recursive mapper.
     fn recursive_word(self) -> &'static str
         ensures { result.now ≡ recursive_word self }
     {
@@ -33,7 +33,7 @@ impl Levels {
         }
     }
 
-    /// Gives the word of a pair of mappers.
+    /// Returns the word for a pair of mappers.
     fn pair_word(self) -> &'static str
         ensures { result.now ≡ pair_word self }
     {
@@ -44,17 +44,18 @@ impl Levels {
     }
 }
 
-/// Says how tables are found in the memory, and how many levels there are.
+/// How tables are found in memory, and the number of levels. A place is the index of a table in memory.
 #[derive(Clone, Copy)]
 pub enum Mode {
     /// Each frame lies at the place of its number.
     Direct(Levels),
-    /// The whole memory stands in the virtual address space from this address on. There are four levels.
+    /// The whole memory is mapped into the virtual address space from this address on. There are four levels.
     Offset(VirtAddr),
-    /// Each frame lies at the place of its number, and tables are reached through the root's entry for itself at this index.
+    /// Each frame lies at the place of its number, and tables are reached through the root's entry for itself, which
+    /// is at this index.
     Recursive(Levels, PageTableIndex),
-    /// Two memories have one image, and calls are answered by both of the mappers above: in one of them each frame lies at the
-    /// place of its number, and in the other the root has an entry for itself at this index.
+    /// Two memories have one image, and each call is executed by two mappers. One is the direct mapper. The other is
+    /// the recursive mapper with the root's entry for itself at this index.
     Pair(Levels, PageTableIndex),
 }
 
@@ -63,7 +64,7 @@ impl Mode {
     ghost use Rattle.pagetab_engine.specs.Arguments.{levels_of};
     ghost use Rattle.pagetab_engine.specs.Requests.{is_named};
 
-    /// Gives the number of levels.
+    /// Returns the number of levels.
     pub fn levels(self) -> Levels
         ensures { result ≡ levels_of self }
     {
@@ -73,7 +74,7 @@ impl Mode {
         }
     }
 
-    /// Tells whether a call names the recursive index of a pair.
+    /// Returns true if a call names the recursive index of a pair.
     pub fn is_named(self, request: &Request) -> bool
         ensures { result ≡ is_named self request.now }
     {
@@ -84,18 +85,18 @@ impl Mode {
     }
 }
 
-/// Says what the arguments say.
+/// The parsed arguments.
 #[derive(Clone, Copy)]
 pub struct Arguments {
-    /// How tables are found, and how many levels there are.
+    /// How tables are found, and the number of levels.
     pub mode: Mode,
-    /// How many places the memory has, from 2 to 65536.
+    /// The number of places of the memory, from 2 to 65536.
     pub places: u64,
 }
 
 impl Arguments {
-    /// Reads `direct N`, `offset N OFF`, `recursive N R` or `pair N R`, or one of the same with five levels, which are `direct5 N`,
-    /// `recursive5 N R` and `pair5 N R`. Answers `None` exactly where the words are none of these.
+    /// Parses `direct N`, `offset N OFF`, `recursive N R` or `pair N R`, or for five levels `direct5 N`, `recursive5
+    /// N R` or `pair5 N R`. Returns `None` if and only if the words are none of these.
     pub fn parse(words: &[String]) -> Option<Arguments>
         ensures says { IfSome result (Says (map string_bytes words.now)) }
         ensures none { IfNone result ((arguments : Arguments) →
@@ -115,7 +116,7 @@ impl Arguments {
     }
 }
 
-/// Reads the word of a mode without a number: `direct` or `direct5`. Answers `None` exactly where it is neither.
+/// Parses the word of a mode without a number, `direct` or `direct5`. Returns `None` if it is neither.
 fn parse_word(word: &str) -> Option<Mode>
     ensures says { IfSome result (SaysMode word.now []) }
     ensures none { IfNone result ((mode : Mode) → ¬ (SaysMode word.now [] mode)) }
@@ -127,8 +128,8 @@ fn parse_word(word: &str) -> Option<Mode>
     }
 }
 
-/// Reads the word of a mode with a number: `offset` with OFF, or `recursive`, `recursive5`, `pair` or `pair5` with R. Answers
-/// `None` exactly where they are none of these.
+/// Parses the word of a mode with a number: `offset` with OFF, or `recursive`, `recursive5`, `pair` or `pair5` with
+/// R. Returns `None` if they are none of these.
 fn parse_mode(word: &str, number: &str) -> Option<Mode>
     ensures says { IfSome result (SaysMode word.now (number.now ∷ [])) }
     ensures none { IfNone result ((mode : Mode) → ¬ (SaysMode word.now (number.now ∷ []) mode)) }
@@ -142,7 +143,8 @@ fn parse_mode(word: &str, number: &str) -> Option<Mode>
     }
 }
 
-/// Reads the word of a mode with a recursive index, for a number of levels. Answers `None` exactly where it is none of these.
+/// Parses the word and the index of a mode with a recursive index, for a number of levels. Returns `None` if they are
+/// no such mode.
 fn parse_recursive(levels: Levels, word: &str, number: &str) -> Option<Mode>
     ensures says { IfSome result (SaysMode word.now (number.now ∷ [])) }
     ensures not_recursive { IfNone result ((index : ℕ) →
@@ -159,7 +161,7 @@ fn parse_recursive(levels: Levels, word: &str, number: &str) -> Option<Mode>
     }
 }
 
-/// Reads a number of places, from 2 to 65536. Answers `None` exactly where the text is none.
+/// Parses a number of places, from 2 to 65536. Returns `None` if the text is no such number.
 fn parse_places(text: &str) -> Option<u64>
     ensures { SomeIff result (IsPlaces text.now) (number_of text.now) }
 {
@@ -171,7 +173,7 @@ fn parse_places(text: &str) -> Option<u64>
     }
 }
 
-/// Reads an address by its raw value. Answers `None` exactly where the text is none.
+/// Parses an address from its raw value. Returns `None` if the text is no canonical address.
 fn parse_address(text: &str) -> Option<VirtAddr>
     ensures value { IfSome result (IsAddress text.now) }
     ensures none { IfNone result ((address : ℕ) → ¬ (IsAddress text.now address)) }
@@ -179,7 +181,7 @@ fn parse_address(text: &str) -> Option<VirtAddr>
     VirtAddr::try_new(parse_number(text)?).ok()
 }
 
-/// Reads an index of a table. Answers `None` exactly where the text is none.
+/// Parses an index of a table. Returns `None` if the text is no index.
 fn parse_index(text: &str) -> Option<PageTableIndex>
     ensures { SomeIff result (IsIndex text.now) (number_of text.now) }
 {

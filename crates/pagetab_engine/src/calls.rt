@@ -1,4 +1,4 @@
-//! Calls by the mappers, one at a time, and the replies to them.
+//! Execution of single calls by the mappers.
 ghost use Rattle.std.specs.Prelude.{◌≡◌, false, IfOk, OnErr};
 ghost use Rattle.x86_64_model.specs.Pool.{serves_below};
 ghost use Rattle.x86_64_model.specs.Mapper.{PoolFits};
@@ -23,13 +23,13 @@ use x86_64_mappers::offset_page_table::OffsetPageTableIn;
 use x86_64_mappers::recursive_page_table::RecursivePageTableIn;
 use x86_64_tables::phys_memory::Active;
 
-/// Runs the list of one call by a mapper, and gives the reply.
+/// Runs the list of one call with a mapper, and returns the reply.
 ///
-/// Condition: the mapper's hierarchy is valid, and the pool fits it.
+/// Requires that the mapper's hierarchy is valid, and that the pool fits it.
 ///
 /// # Errors
 ///
-/// `AllocError` where memory is refused; then nothing changes.
+/// `AllocError` if memory allocation fails. Then nothing changes.
 fn answer_by<L: LevelCount, P5: LevelFiveFlags<L>, M: TableAccess + TablesIn<L>>(
     alloc: Global,
     mapper: &mut M,
@@ -53,13 +53,14 @@ fn answer_by<L: LevelCount, P5: LevelFiveFlags<L>, M: TableAccess + TablesIn<L>>
     Ok(replies[0])
 }
 
-/// Runs the list of one call where each frame lies at the place of its number, and gives the reply.
+/// Runs the list of one call in a memory where each frame lies at the place of its number (a place is the index of a
+/// table in memory), and returns the reply.
 ///
-/// Condition: the hierarchy is valid, and the pool fits it.
+/// Requires that the hierarchy is valid, and that the pool fits it.
 ///
 /// # Errors
 ///
-/// `AllocError` where memory is refused; then nothing changes.
+/// `AllocError` if memory allocation fails. Then nothing changes.
 pub fn answer_direct<L: LevelCount, P5: LevelFiveFlags<L>>(
     alloc: Global,
     memory: &mut PhysMemory,
@@ -78,13 +79,13 @@ pub fn answer_direct<L: LevelCount, P5: LevelFiveFlags<L>>(
     answer_by(alloc, &mut mapper, pool, call)
 }
 
-/// Runs the list of one call where the memory stands at an offset, and gives the reply.
+/// Runs the list of one call in a memory that is mapped at an offset, and returns the reply.
 ///
-/// Conditions: the hierarchy is valid, the pool fits it, and the offset fits the memory.
+/// Requires that the hierarchy is valid, that the pool fits it, and that the offset fits the memory.
 ///
 /// # Errors
 ///
-/// `AllocError` where memory is refused; then nothing changes.
+/// `AllocError` if memory allocation fails. Then nothing changes.
 pub fn answer_at_offset<L: LevelCount, P5: LevelFiveFlags<L>>(
     alloc: Global,
     memory: &mut PhysMemory,
@@ -107,13 +108,14 @@ pub fn answer_at_offset<L: LevelCount, P5: LevelFiveFlags<L>>(
     answer_by(alloc, &mut mapper, pool, call)
 }
 
-/// Runs the list of one call where tables are reached through the root's entry for itself at an index, and gives the reply.
+/// Runs the list of one call with tables that are reached through the root's entry for itself at an index, and
+/// returns the reply.
 ///
-/// Condition: the hierarchy is valid for the index, and the pool fits it.
+/// Requires that the hierarchy is valid for the index, and that the pool fits it.
 ///
 /// # Errors
 ///
-/// `AllocError` where memory is refused; then nothing changes.
+/// `AllocError` if memory allocation fails. Then nothing changes.
 pub fn answer_recursively<L: LevelCount, P5: LevelFiveFlags<L>>(
     alloc: Global,
     memory: &mut PhysMemory,
@@ -137,14 +139,16 @@ pub fn answer_recursively<L: LevelCount, P5: LevelFiveFlags<L>>(
     answer_by(alloc, &mut mapper, pool, call)
 }
 
-/// Runs the list of one call where each frame lies at the place of its number, and in frames of their own through the root's entry
-/// for itself at an index, and gives the one reply.
+/// Runs the list of one call with two mappers, and returns the reply that both give. One mapper finds each frame at
+/// the place of its number. The other has frames of its own, and reaches tables through the root's entry for itself
+/// at an index.
 ///
-/// Conditions: both hierarchies are valid, alike, and the pools fit them and are equal; the call doesn't name the index.
+/// Requires that both hierarchies are valid and alike, that the pools fit them and are equal, and that the call
+/// doesn't name the index.
 ///
 /// # Errors
 ///
-/// `AllocError` where memory is refused; then nothing changes.
+/// `AllocError` if memory allocation fails. Then nothing changes.
 pub fn answer_by_both<L: LevelCount, P5: LevelFiveFlags<L>>(
     alloc: Global,
     memory: &mut PhysMemory,

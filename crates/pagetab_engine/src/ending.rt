@@ -1,4 +1,4 @@
-//! How runs of the program end.
+//! The ways in which a run of the program ends.
 ghost use Rattle.std.specs.Prelude.{◌≡◌, Some};
 ghost use Rattle.pagetab_engine.specs.Ending.{status_of};
 ghost use Rattle.pagetab_engine.specs.Texts.{fault_text};
@@ -6,18 +6,18 @@ ghost use Rattle.pagetab_engine.specs.Texts.{fault_text};
 use std::alloc::AllocError;
 use std::fmt::{Display, Formatter, Result as FmtResult, Write};
 
-/// What is printed where the arguments were not those of the program.
+/// Printed if the arguments are not those of the program.
 const USAGE: &str =
     "usage: pagetab direct N | offset N OFF | recursive N R | pair N R | direct5 N | recursive5 N R | pair5 N R";
 
-/// Says why a run ended before its input did.
+/// The reason why a run ended before its input did.
 #[derive(Clone, Copy, Debug, PartialEq, Eq)]
 pub enum Fault {
-    /// The line of this number, counted from 1, could not be read, or stood at the wrong place.
+    /// The line with this number, counted from 1, could not be parsed, or came at the wrong point of the input.
     BadLine(u64),
     /// The image is no valid hierarchy of page tables, or its free frames do not fit it.
     InvalidHierarchy,
-    /// Memory was refused.
+    /// Memory allocation failed.
     OutOfMemory,
     /// A read failed.
     Input,
@@ -27,17 +27,17 @@ pub enum Fault {
     Usage,
 }
 
-/// Says how a run ended.
+/// How a run ended.
 #[derive(Clone, Copy, Debug, PartialEq, Eq)]
 pub enum Ending {
-    /// The whole input was read, and each command answered.
+    /// The whole input was read, and every command has its reply.
     Done,
-    /// The run stopped at a fault. Replies that were given before it stay.
+    /// The run stopped at a fault. Replies that were written before it remain.
     Stopped(Fault),
 }
 
 impl Ending {
-    /// Gives the exit status of the program.
+    /// Returns the exit status of the program.
     pub fn status(self) -> u8
         ensures { result ≡ status_of self }
     {

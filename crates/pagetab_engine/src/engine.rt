@@ -17,24 +17,24 @@ use crate::statement::{Command, Statement};
 use std::alloc::{AllocError, Global};
 use std::io::{ErrorKind, Read, Write};
 
-/// Runs the program on its arguments: reads an image and commands from `reader`, and writes a reply to each command.
+/// Runs the program on its arguments. Reads an image and commands from `reader`, and writes a reply to each command.
 ///
-/// The arguments are one of these, for a memory of N places:
+/// The arguments are one of these, for a memory of N places (a place is the index of a table in memory):
 ///
 /// - `direct N`: each frame lies at the place of its number.
-/// - `offset N OFF`: the memory stands in the virtual address space from the address OFF on.
+/// - `offset N OFF`: the memory is mapped into the virtual address space from the address OFF on.
 /// - `recursive N R`: tables are reached through the root's entry for itself at the index R.
-/// - `pair N R`: the mappers of `direct` and of `recursive` answer together, each in a memory of its own that has the image,
-///   the first one's without the root's word R. A call that names the index R is not allowed, also where it only reads;
-///   `walk`, `show` and `pool` look at the memory and the free frames of the first one.
-/// - `direct5 N`, `recursive5 N R`, `pair5 N R`: the same with five levels of page tables, where addresses have 57 bits.
+/// - `pair N R`: the mappers of `direct` and of `recursive` execute each call together. Each has a memory of its own
+///   with the image, and the first one's image lacks the root's word R. A call that names the index R is not allowed,
+///   even if it only reads. `walk`, `show` and `pool` read the memory and the free frames of the first mapper.
+/// - `direct5 N`, `recursive5 N R`, `pair5 N R`: these with five levels of page tables and 57-bit addresses.
 ///
-/// Each reply is a line, written by one call of `write` where the writer takes it whole. The arguments and the input alone decide
-/// the replies and the ending, unless memory is refused, or a read or a write fails: then the replies given so far are whole, but
-/// for the one whose write failed, of which a front part is written.
+/// Each reply is a line, written by one call of `write` if the writer takes it whole. The replies and the ending
+/// depend on the arguments and the input alone, unless memory allocation, a read or a write fails. Then the replies
+/// written so far are complete, except for the one whose write failed, of which only a first part is written.
 ///
-/// The input is what the reader has left, where that is known, as of bytes in memory. Of a file or a terminal it is not: there the
-/// contract says that the run is one of some input.
+/// The input is what the reader has left, if that is known, as for bytes in memory. For a file or a terminal it isn't
+/// known, and the contract says that the run is that of some input.
 pub fn run<R: Read, W: Write>(
     alloc: Global,
     words: &[String],
@@ -51,7 +51,7 @@ pub fn run<R: Read, W: Write>(
     }
 }
 
-/// Does what [`run`] does.
+/// The implementation of [`run`].
 fn serve<R: Read, W: Write>(
     alloc: Global,
     words: &[String],
@@ -72,7 +72,7 @@ fn serve<R: Read, W: Write>(
     serve_lines(alloc, &arguments, &mut hierarchy, reader, writer)
 }
 
-/// Loads the image into a hierarchy, and answers the commands that follow.
+/// Loads the image into a hierarchy, and executes the commands that follow.
 fn serve_lines<R: Read, W: Write>(
     alloc: Global,
     arguments: &Arguments,
@@ -99,7 +99,7 @@ fn serve_lines<R: Read, W: Write>(
     }
 }
 
-/// Loads the image, and gives the command that follows, or `None` at the end of the input.
+/// Loads the image, and returns the command that follows it, or `None` at the end of the input.
 fn read_image<R: Read>(
     lines: &mut Lines<'_, R>,
     hierarchy: &mut Hierarchy,
@@ -129,7 +129,7 @@ fn read_image<R: Read>(
     Ok(None)
 }
 
-/// Answers the first command and those that follow it.
+/// Executes the first command and those that follow it.
 fn answer_commands<R: Read, W: Write>(
     alloc: Global,
     lines: &mut Lines<'_, R>,
@@ -153,7 +153,7 @@ fn answer_commands<R: Read, W: Write>(
     Ok(())
 }
 
-/// Answers a command, and writes the line of the reply.
+/// Executes a command, and writes the reply as a line.
 fn write_reply<W: Write>(
     alloc: Global,
     hierarchy: &mut Hierarchy,
@@ -172,13 +172,13 @@ fn write_reply<W: Write>(
     write_line(text.as_bytes(), writer)
 }
 
-/// Writes a line, in one call of `write` where the writer takes it whole. A call that is interrupted is made again.
+/// Writes a line, by one call of `write` if the writer takes it whole. An interrupted call is repeated.
 ///
-/// Condition: the line is not empty.
+/// Requires that the line is not empty.
 ///
 /// # Errors
 ///
-/// `Fault::Output` where a write fails, or takes no byte; then a front part of the line is written, and not all of it.
+/// `Fault::Output` if a write fails or takes no byte. Then a first part of the line is written, but not all of it.
 fn write_line<W: Write>(line: &[u8], writer: &mut W) -> Result<(), Fault>
     requires { 0 < length line.now }
     ensures whole { OnOk result (Appends (W.contents writer.old) (W.contents writer.new) line.now) }
@@ -201,11 +201,11 @@ fn write_line<W: Write>(line: &[u8], writer: &mut W) -> Result<(), Fault>
     Err(Fault::Output)
 }
 
-/// Answers a command.
+/// Executes a command, and returns the reply.
 ///
 /// # Errors
 ///
-/// `AllocError` where memory is refused; then nothing changes.
+/// `AllocError` if memory allocation fails. Then nothing changes.
 fn answer(alloc: Global, hierarchy: &mut Hierarchy, command: Command) -> Result<Reply, AllocError>
     requires { IsHierarchy hierarchy.old }
     ensures reply { IfOk result (IsReply hierarchy.old command) }

@@ -1,13 +1,13 @@
-//! The fields of a line, which spaces part.
+//! The fields of a line, which are separated by spaces.
 ghost use Rattle.std.specs.Prelude.{◌≡◌, ◌≢◌, ◌≤◌, ℕ, Option, List, [], ◌∷◌, ◌++◌, length, MatchOption, IfSome, IfNone, take};
 ghost use Rattle.pagetab_engine.specs.Fields.{fields_of, name_text, size_text, size_texts, AreNumbers, Says};
 
 use x86_64_numbers::parse_number;
 
-/// How many numbers a line has at most.
+/// The maximum number of numbers in a line.
 const MOST_NUMBERS: usize = 4;
 
-/// The first field of a line, which says what the numbers are of.
+/// The first field of a line, which says what the line means.
 #[derive(Clone, Copy)]
 pub enum Name {
     /// `word`.
@@ -74,7 +74,7 @@ impl Name {
         Name::CleanUpRange,
     ];
 
-    /// Gives the name as a line has it.
+    /// Returns the name as it is written in a line.
     fn text(self) -> &'static str
         ensures { result.now ≡ name_text self }
     {
@@ -101,7 +101,7 @@ impl Name {
         }
     }
 
-    /// Reads a name.
+    /// Parses a name.
     fn parse(field: &str) -> Option<Name>
         ensures found { IfSome result (λ name. name_text name ≡ field.now) }
         ensures none { IfNone result ((name : Name) → name_text name ≢ field.now) }
@@ -115,7 +115,7 @@ impl Name {
     }
 }
 
-/// The size of a page, as a line names it.
+/// The size of a page, as it is written in a line.
 #[derive(Clone, Copy)]
 pub enum Size {
     /// `4KiB`.
@@ -127,7 +127,7 @@ pub enum Size {
 }
 
 impl Size {
-    /// Reads SIZE.
+    /// Parses SIZE.
     fn parse(field: &str) -> Option<Size>
         ensures found { IfSome result (λ size. size_text size ≡ field.now) }
         ensures none { IfNone result ((size : Size) → size_text size ≢ field.now) }
@@ -141,12 +141,12 @@ impl Size {
     }
 }
 
-/// What stands in a line: a name, then SIZE where the line is about a page of a size, then numbers.
+/// The contents of a line: a name, then SIZE if the line is about a page of a size, then numbers.
 #[derive(Drop)]
 pub struct Fields {
     /// The name.
     pub name: Name,
-    /// SIZE, if the second field is one.
+    /// SIZE, if the second field is a size.
     pub size: Option<Size>,
     numbers: [u64; MOST_NUMBERS],
     count: usize,
@@ -154,7 +154,8 @@ pub struct Fields {
 }
 
 impl Fields {
-    /// Reads a line. Answers `None` exactly where it has no name, a field that is no number, or more numbers than any statement.
+    /// Parses a line. Returns `None` if and only if it has no name, a field that is no number, or more numbers than
+    /// any statement has.
     pub fn parse(line: &str) -> Option<Fields>
         ensures says { IfSome result (λ fields.
             Says line.now fields.name fields.size (take fields.count fields.numbers)) }
@@ -177,7 +178,7 @@ impl Fields {
         })
     }
 
-    /// Gives the numbers.
+    /// Returns the numbers.
     pub fn numbers(&self) -> &[u64]
         ensures { result.now ≡ take self.now.count self.now.numbers }
     {
@@ -185,14 +186,14 @@ impl Fields {
     }
 }
 
-/// The fields of a line that aren't read yet.
+/// The fields of a line that are not parsed yet.
 #[derive(Drop)]
 struct Rest<'a> {
     text: &'a str,
 }
 
 impl<'a> Rest<'a> {
-    /// Gives the next field, or `None` where only spaces are left.
+    /// Returns the next field, or `None` if only spaces are left.
     fn next_field(&mut self) -> Option<&'a str>
         ensures { let fields = fields_of self.old.text.now in
             MatchOption result (fields ≡ []) (λ field. fields ≡ field.now ∷ fields_of self.new.text.now) }
@@ -209,7 +210,7 @@ impl<'a> Rest<'a> {
         Some(field)
     }
 
-    /// Reads SIZE, and leaves the next field where it is none.
+    /// Parses SIZE, and leaves the next field if it is no size.
     fn next_size(&mut self) -> Option<Size>
         ensures read { fields_of self.old.text.now ≡ size_texts result ++ fields_of self.new.text.now }
         ensures none { IfNone result ((size : Size) (rest : List (List ℕ)) →
@@ -221,7 +222,7 @@ impl<'a> Rest<'a> {
         Some(size)
     }
 
-    /// Reads all fields that are left as numbers, and gives how many they are.
+    /// Parses all remaining fields as numbers, and returns how many there are.
     fn read_numbers(&mut self, numbers: &mut [u64; MOST_NUMBERS]) -> Option<usize>
         ensures few { IfSome result (λ count. count ≤ 4) }
         ensures read { IfSome result (λ count.

@@ -1,4 +1,5 @@
-//! The frames of a hierarchy: the root stands in the frame 0x1000, and each frame lies at the place of its number.
+//! The frames of a hierarchy. The root is in the frame 0x1000, and each frame lies at the place of its number (a
+//! place is the index of a table in memory).
 ghost use Rattle.std.specs.Prelude.{◌≡◌, ◌↔◌, [], ℕ, if◌then◌else◌, IsOk, IfOk, IfErr, OnOk, OnErr, IsTrue, Some, None, nat_lt, option_map};
 ghost use Rattle.std.specs.FinMap as map;
 ghost use Rattle.x86_64_model.specs.Memory.{words_of, identity_places};
@@ -20,7 +21,7 @@ use x86_64::{
     pool_fits_57, pool_fits_recursive, pool_fits_recursive_57,
 };
 
-/// Holds page tables in a memory, and the frames that are free for new ones.
+/// Page tables in a memory, and the frames that are free for new ones.
 #[derive(Drop)]
 pub struct Frames {
     /// The tables.
@@ -30,11 +31,11 @@ pub struct Frames {
 }
 
 impl Frames {
-    /// Makes a memory of so many places, where all words are 0, and none of whose frames is free.
+    /// Creates a memory with this number of places, with all words 0 and no free frames.
     ///
     /// # Errors
     ///
-    /// `AllocError` where memory is refused.
+    /// `AllocError` if memory allocation fails.
     pub fn new(alloc: Global, places: u64) -> Result<Frames, AllocError>
         ensures memory { IfOk result (λ frames. (place : ℕ) →
             map.get frames.memory place ≡ (if nat_lt place places then Some zero_words else None)) }
@@ -47,11 +48,11 @@ impl Frames {
         })
     }
 
-    /// Loads a line of the image: sets its word, or adds its frame at the back of the free ones.
+    /// Loads a line of the image: sets its word, or adds its frame behind the other free ones.
     ///
     /// # Errors
     ///
-    /// Those of [`FramePool::try_add`]; then nothing changes.
+    /// Those of [`FramePool::try_add`]. Then nothing changes.
     pub fn load(&mut self, line: &ImageLine) -> Result<(), PoolRefusal>
         ensures accepted { IsOk result ↔ IsLoadable self.old line.now }
         ensures memory { OnOk result (self.new.memory ≡ memory_after self.old line.now) }
@@ -69,7 +70,7 @@ impl Frames {
         }
     }
 
-    /// Sets the root's word at a recursive index to 0.
+    /// Sets the root's word at a recursive index to 0. The recursive index is that of the root's entry for itself.
     pub fn clear_self_entry(&mut self, index: PageTableIndex)
         ensures memory { self.new.memory ≡ without_self_entry index self.old.memory }
         ensures pool { self.new.pool ≡ self.old.pool }
@@ -77,11 +78,11 @@ impl Frames {
         Slot::at(root(), index).set_word(&mut self.memory, 0);
     }
 
-    /// Tells whether the hierarchy is valid, and the free frames fit it.
+    /// Returns true if the hierarchy is valid, and the free frames fit it.
     ///
     /// # Errors
     ///
-    /// `AllocError` where memory is refused.
+    /// `AllocError` if memory allocation fails.
     pub fn fits(&self, alloc: Global, levels: Levels) -> Result<bool, AllocError>
         ensures { IfOk result (λ fits. IsTrue fits ↔ FitsBy (direct_layout (count levels)) self.now) }
     {
@@ -92,11 +93,11 @@ impl Frames {
         }
     }
 
-    /// Tells whether the hierarchy is valid for a recursive index, and the free frames fit it.
+    /// Returns true if the hierarchy is valid for a recursive index, and the free frames fit it.
     ///
     /// # Errors
     ///
-    /// `AllocError` where memory is refused.
+    /// `AllocError` if memory allocation fails.
     pub fn fits_recursive(
         &self,
         alloc: Global,
@@ -113,14 +114,14 @@ impl Frames {
         }
     }
 
-    /// Gives the word in a slot, 0 where the memory lacks the table.
+    /// Returns the word in a slot, or 0 if the memory lacks the table.
     pub fn word(&self, slot: Slot) -> u64
         ensures { result ≡ word_in self.now.memory slot.place slot.index }
     {
         slot.word(&self.memory)
     }
 
-    /// Walks to an address as the processor does, or gives `None` where the walk arrives nowhere.
+    /// Returns where the page walk of an address arrives, or `None` if the address isn't mapped.
     pub fn walk(&self, address: Address) -> Option<Walked>
         ensures { let words = words_of self.now.memory identity_places in
             option_map walked_of result ≡ walk_to words 0x1000 address }
@@ -131,11 +132,11 @@ impl Frames {
         }
     }
 
-    /// Gives the free frames, in order.
+    /// Returns the free frames, in order.
     ///
     /// # Errors
     ///
-    /// `AllocError` where memory is refused.
+    /// `AllocError` if memory allocation fails.
     pub fn free_frames(&self, alloc: Global) -> Result<Vec<PhysFrame<Size4KiB>>, AllocError>
         ensures { IfOk result (λ frames. frames.items ≡ self.now.pool.frames) }
     {
@@ -149,7 +150,7 @@ impl Frames {
     }
 }
 
-/// Gives the root's frame.
+/// Returns the root's frame.
 pub fn root() -> PhysFrame<Size4KiB>
     ensures { result ≡ 0x1000 }
 {

@@ -1,4 +1,4 @@
-//! The hierarchy of the program, or in a pair two of one image, and how calls are answered.
+//! The program's hierarchy, or two hierarchies with one image in a pair, and the execution of calls.
 ghost use Rattle.std.specs.Prelude.{◌≡◌, ◌↔◌, [], ℕ, if◌then◌else◌, IsOk, IfOk, IfErr, OnOk, OnErr, IsTrue, true, false, Some, None, nat_lt};
 ghost use Rattle.std.specs.FinMap as map;
 ghost use Rattle.x86_64_tables.specs.PageTable.{zero_words};
@@ -19,23 +19,24 @@ use x86_64::structures::paging::OffsetPageTable;
 use x86_64::{CallIn, LevelCount, LevelFiveFlags, PoolRefusal, ReplyIn};
 use x86_64_addr::addr::VirtAddrIn;
 
-/// Holds the frames of a hierarchy, and says by which mapper calls are answered.
+/// The frames of a hierarchy, and the mapper that executes calls.
 ///
-/// In a pair calls are answered by two mappers, and the recursive one has frames of its own.
+/// In a pair two mappers execute each call, and the recursive one has frames of its own.
 #[derive(Drop)]
 pub struct Hierarchy {
     mode: Mode,
     frames: Frames,
-    // The recursive mapper's in a pair, else a memory without places.
+    // The frames of the recursive mapper in a pair, otherwise a memory without places.
     twin: Frames,
 }
 
 impl Hierarchy {
-    /// Makes an empty hierarchy in a memory of as many places as the arguments say, none of whose frames is free.
+    /// Creates an empty hierarchy without free frames, in a memory with as many places as the arguments say. A place
+    /// is the index of a table in memory.
     ///
     /// # Errors
     ///
-    /// `AllocError` where memory is refused.
+    /// `AllocError` if memory allocation fails.
     pub fn new(alloc: Global, arguments: Arguments) -> Result<Hierarchy, AllocError>
         ensures mode { IfOk result (λ hierarchy. hierarchy.mode ≡ arguments.mode) }
         ensures memory { IfOk result (λ hierarchy. (place : ℕ) → map.get hierarchy.frames.memory place
@@ -55,14 +56,14 @@ impl Hierarchy {
         })
     }
 
-    /// Gives the frames. In a pair they are those of the mapper that finds each at the place of its number.
+    /// Returns the frames. In a pair, they are those of the mapper that finds each frame at the place of its number.
     pub fn frames(&self) -> &Frames
         ensures { result.now ≡ self.now.frames }
     {
         &self.frames
     }
 
-    /// Tells whether the mapper reaches each place of the memory.
+    /// Returns true if the mapper reaches each place of the memory.
     pub fn is_reached(&self) -> bool
         ensures { IsTrue result ↔ IsReached self.now.mode self.now.frames.memory }
     {
@@ -72,11 +73,12 @@ impl Hierarchy {
         }
     }
 
-    /// Loads a line of the image: sets its word, or adds its frame at the back of the free ones. In a pair both mappers get it.
+    /// Loads a line of the image: sets its word, or adds its frame behind the other free ones. In a pair, both
+    /// mappers get it.
     ///
     /// # Errors
     ///
-    /// Those of [`FramePool::try_add`](x86_64::FramePool::try_add); then nothing changes.
+    /// Those of [`FramePool::try_add`](x86_64::FramePool::try_add). Then nothing changes.
     pub fn load(&mut self, line: &ImageLine) -> Result<(), PoolRefusal>
         requires { HasCopy self.old }
         ensures accepted { IsOk result ↔ IsLoadable self.old.frames line.now }
@@ -97,14 +99,14 @@ impl Hierarchy {
         }
     }
 
-    /// Ends the image: tells whether the hierarchy is valid, and its free frames fit it. In a pair the hierarchy is the recursive
-    /// mapper's, and the root's word at the index becomes 0 for the other one.
+    /// Ends the image. Returns true if the hierarchy is valid, and its free frames fit it. In a pair, this tests the
+    /// recursive mapper's hierarchy, and sets the root's word at the index to 0 for the other mapper.
     ///
-    /// Condition: the mapper reaches each place.
+    /// Requires that the mapper reaches each place.
     ///
     /// # Errors
     ///
-    /// `AllocError` where memory is refused.
+    /// `AllocError` if memory allocation fails.
     pub fn end_image(&mut self, alloc: Global) -> Result<bool, AllocError>
         requires copy { HasCopy self.old }
         requires reached { IsReached self.old.mode self.old.frames.memory }
@@ -121,7 +123,7 @@ impl Hierarchy {
         Ok(fits)
     }
 
-    /// Sets the root's word at the recursive index of a pair to 0 for the mapper that isn't recursive.
+    /// In a pair, sets the root's word at the recursive index to 0 for the mapper that isn't recursive.
     fn clear_self_entry(&mut self)
         ensures memory { self.new.frames.memory ≡ first_memory self.old.mode self.old.frames.memory }
         ensures pool { self.new.frames.pool ≡ self.old.frames.pool }
@@ -135,11 +137,11 @@ impl Hierarchy {
         }
     }
 
-    /// Tells whether the hierarchy is valid, and its free frames fit it, as the image says both.
+    /// Returns true if the hierarchy and its free frames, as the image has them, are valid and fit.
     ///
     /// # Errors
     ///
-    /// `AllocError` where memory is refused.
+    /// `AllocError` if memory allocation fails.
     fn fits(&self, alloc: Global) -> Result<bool, AllocError>
         ensures { IfOk result (λ fits. IsTrue fits ↔ FitsImage self.now) }
     {
@@ -151,14 +153,16 @@ impl Hierarchy {
         }
     }
 
-    /// Runs the list of one call, by the mapper of the mode, and gives the answer. A call for another number of levels is not
-    /// allowed, and in a pair none that names the recursive index, also where it only reads.
+    /// Runs the list of one call with the mapper of the mode, and returns the answer. A call for another number of
+    /// levels is not allowed. In a pair, a call that names the recursive index is not allowed either, even if it only
+    /// reads.
     ///
-    /// Condition: the hierarchy is valid, its free frames fit it, and the mapper reaches each place; in a pair both are, alike.
+    /// Requires that the hierarchy is valid, that its free frames fit it, and that the mapper reaches each place. In
+    /// a pair, both hierarchies must be valid and alike.
     ///
     /// # Errors
     ///
-    /// `AllocError` where memory is refused; then nothing changes.
+    /// `AllocError` if memory allocation fails. Then nothing changes.
     pub fn answer_call(&mut self, alloc: Global, request: Request) -> Result<Answer, AllocError>
         requires { IsHierarchy self.old }
         ensures answer { IfOk result (λ answer. Some (reply_in answer) ≡ (call_step self.old request).reply) }
@@ -182,11 +186,12 @@ impl Hierarchy {
         }
     }
 
-    /// Runs the list of one call, for as many levels as the hierarchy has, by the mapper of the mode, and returns the reply.
+    /// Runs the list of one call, for the hierarchy's number of levels, with the mapper of the mode, and returns the
+    /// reply.
     ///
     /// # Errors
     ///
-    /// `AllocError` if memory is refused; then nothing changes.
+    /// `AllocError` if memory allocation fails. Then nothing changes.
     fn answer<L: LevelCount, P5: LevelFiveFlags<L>>(
         &mut self,
         alloc: Global,

@@ -1,4 +1,4 @@
-//! Runs the program `pagetab`: reads an image of page tables, tests it, and answers commands on it.
+//! The engine of the program `pagetab`, which reads an image of page tables, tests it, and executes commands on it.
 #![tactic(auto)]
 
 mod arguments;

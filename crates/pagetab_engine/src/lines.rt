@@ -11,13 +11,13 @@ use crate::ending::Fault;
 use crate::statement::Statement;
 use std::io::{self, Read};
 
-/// How many bytes a line has at most, without its line feed.
+/// The maximum number of bytes of a line, without its line feed.
 const LONGEST: usize = 256;
 
-/// How many bytes are read at once.
+/// The number of bytes that are read at once.
 const BUFFER: usize = 512;
 
-/// Reads statements from the lines of a reader and counts the lines.
+/// A parser of statements from the lines of a reader, which counts the lines.
 #[derive(Drop)]
 pub struct Lines<'a, R> {
     reader: &'a mut R,
@@ -29,9 +29,9 @@ pub struct Lines<'a, R> {
     ghost small: { end ≤ 512 },
 }
 
-/// Says what was read of a line.
+/// What was read of a line.
 enum Line {
-    /// The line has this many bytes.
+    /// The line has this number of bytes.
     Text(usize),
     /// The line has more bytes than are allowed.
     TooLong,
@@ -42,7 +42,7 @@ enum Line {
 impl<'a, R: Read> Lines<'a, R> {
     ghost use Rattle.pagetab_engine.specs.Lines.{bytes_left};
 
-    /// Begins at the first line.
+    /// Starts at the first line.
     pub fn new(reader: &'a mut R) -> Self
         ensures number { result.number ≡ 0 }
         ensures bytes { bytes_left R.remaining result ≡ R.remaining reader.old }
@@ -60,12 +60,13 @@ impl<'a, R: Read> Lines<'a, R> {
 impl<R: Read> Lines<'_, R> {
     ghost use Rattle.pagetab_engine.specs.Lines.{bytes_left, ExplainsRead, FitsLine, ForSome, IsCounted, IsInput, IsReadFault, MayBeLeft, ReadsLine, ReadsStatement, TakesByte, TracesBack};
 
-    /// Reads the next statement about what the arguments say, or `None` at the end. Empty lines are passed over.
+    /// Returns the next statement, or `None` at the end of the input. The arguments say which memory and levels it is
+    /// about. Empty lines are skipped.
     ///
     /// # Errors
     ///
-    /// `Fault::BadLine` where the line can't be read, and `Fault::Input` where the reader fails or has more lines than a
-    /// `u64` counts.
+    /// `Fault::BadLine` if the line can't be parsed. `Fault::Input` if the reader fails, or has more lines than a
+    /// `u64` can count.
     pub fn next_statement(&mut self, arguments: &Arguments) -> Result<Option<Statement>, Fault>
         ensures next { let before = MayBeLeft R.remaining self.old in
             let after = MayBeLeft R.remaining self.new in
@@ -97,7 +98,7 @@ impl<R: Read> Lines<'_, R> {
         Err(Fault::Input)
     }
 
-    /// Gives the fault that the line that was read last is bad.
+    /// Returns the fault that the line read last is bad.
     pub fn fault(&self) -> Fault
         ensures { result ≡ BadLine self.now.number }
     {
@@ -125,7 +126,7 @@ impl<R: Read> Lines<'_, R> {
         }
     }
 
-    /// Reads the next byte, or `None` at the end.
+    /// Returns the next byte, or `None` at the end of the input.
     fn next_byte(&mut self) -> io::Result<Option<u8>>
         ensures byte { IfOk result (λ next.
             TakesByte (bytes_left R.remaining self.old) (bytes_left R.remaining self.new) next) }
@@ -139,7 +140,7 @@ impl<R: Read> Lines<'_, R> {
         Ok(Some(byte))
     }
 
-    /// Reads into the buffer, of which nothing is left. Answers `false` at the end of the input.
+    /// Fills the buffer, which must be used up. Returns `false` at the end of the input.
     fn fill(&mut self) -> io::Result<bool>
         requires { self.old.at ≡ self.old.end }
         ensures bytes { Keeps (bytes_left R.remaining self.old) (bytes_left R.remaining self.new) }
@@ -154,7 +155,7 @@ impl<R: Read> Lines<'_, R> {
     }
 }
 
-/// Tests whether a line has spaces alone.
+/// Returns true if a line has only spaces.
 fn is_blank(line: &[u8]) -> bool
     ensures { result ≡ list_all is_space line.now }
 {

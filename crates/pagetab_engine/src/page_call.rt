@@ -12,9 +12,9 @@ use x86_64::{CallIn, LevelCount, LevelFiveFlags, PhysAddr, SizeCallIn};
 use x86_64_addr::addr::VirtAddrIn;
 use x86_64_page::page::PageIn;
 
-/// Reads a call on a page of a size: a page and a frame are written as their start addresses.
+/// Parses a call on a page of a size. A page and a frame are written as their start addresses.
 ///
-/// Returns `None` exactly if the name isn't that of such a call, or the numbers aren't its.
+/// Returns `None` if and only if the name isn't that of such a call, or the numbers don't suit it.
 pub fn parse_call<L: LevelCount, P5: LevelFiveFlags<L>>(
     name: Name,
     size: Size,
@@ -31,7 +31,7 @@ pub fn parse_call<L: LevelCount, P5: LevelFiveFlags<L>>(
     })
 }
 
-/// Does what [`parse_call`] does, for one size.
+/// The implementation of [`parse_call`] for one size.
 fn parse_size_call<S: PageSize, L: LevelCount, P5: LevelFiveFlags<L>>(
     name: Name,
     numbers: &[u64],
@@ -90,7 +90,8 @@ fn parse_size_call<S: PageSize, L: LevelCount, P5: LevelFiveFlags<L>>(
     }
 }
 
-/// Returns the page that starts at an address, or `None` exactly if the address isn't canonical or isn't a multiple of the size.
+/// Returns the page that starts at an address, or `None` if the address isn't canonical or isn't a multiple of the
+/// size.
 pub fn page_at<S: PageSize, L: LevelCount>(start: u64) -> Option<PageIn<S, L>>
     ensures fits { IsSome result ↔ IsPageStart L.LEVELS S.SIZE start }
     ensures start { IfSome result (λ page. raw L.LEVELS page ≡ start) }
@@ -99,9 +100,8 @@ pub fn page_at<S: PageSize, L: LevelCount>(start: u64) -> Option<PageIn<S, L>>
     PageIn::from_start_address(address).ok()
 }
 
-/// Gives the frame that starts at an address.
-///
-/// Answers `None` exactly where the address isn't below 2^52 or isn't a multiple of the size.
+/// Returns the frame that starts at an address, or `None` if the address isn't below 2^52 or isn't a multiple of the
+/// size.
 fn frame_at<S: PageSize>(start: u64) -> Option<PhysFrame<S>>
     ensures fits { IsSome result ↔ IsFrameStart S.SIZE start }
     ensures start { IfSome result (λ frame. frame ≡ start) }

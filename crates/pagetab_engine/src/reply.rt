@@ -17,15 +17,15 @@ use x86_64_numbers::write_hexadecimal;
 /// The reply to a call on a page that is not mapped.
 const PAGE_NOT_MAPPED: &str = "page not mapped";
 
-/// The reply to a call on a page above which an entry maps a larger one.
+/// The reply to a call on a page that an entry above maps as part of a larger one.
 const PARENT_ENTRY_HUGE_PAGE: &str = "parent entry huge page";
 
-/// Answers a command.
+/// The reply to a command.
 #[derive(Drop)]
 pub enum Reply {
-    /// What the mapper answers to a call.
+    /// The mapper's answer to a call.
     Answered(Answer),
-    /// Where the processor arrives, or `None`.
+    /// Where the page walk arrives, or `None` if the address isn't mapped.
     Arrival(Option<Walked>),
     /// A word.
     Word(u64),
@@ -48,7 +48,7 @@ impl Display for Reply {
     }
 }
 
-/// Writes where the processor arrives.
+/// Writes where a page walk arrives.
 fn write_walked<W: Write>(f: &mut Formatter<W>, walked: Walked) -> FmtResult
     ensures { WritesOnOk W.write_str_gives f.old result (texts.walked_text (Some walked)) f.new }
 {
@@ -70,7 +70,7 @@ fn write_pool<W: Write>(f: &mut Formatter<W>, frames: &[PhysFrame<Size4KiB>]) ->
     Ok(())
 }
 
-/// The reply to a call, whatever its pages are.
+/// The reply to a call, for any type of pages.
 type AnyReply<P, Q, R> = MapperReply<
     PageReply<P, Size4KiB>,
     PageReply<Q, Size2MiB>,
@@ -114,7 +114,7 @@ fn write_page_reply<P, S: PageSize, W: Write>(
     }
 }
 
-/// Writes why a page was not mapped.
+/// Writes the reason why a page was not mapped.
 fn write_map_error<S: PageSize, W: Write>(f: &mut Formatter<W>, error: &MapToError<S>) -> FmtResult
     ensures { WritesOnOk W.write_str_gives f.old result (texts.map_error_text error.now) f.new }
 {
@@ -128,7 +128,7 @@ fn write_map_error<S: PageSize, W: Write>(f: &mut Formatter<W>, error: &MapToErr
     }
 }
 
-/// Writes why a page was not unmapped.
+/// Writes the reason why a page was not unmapped.
 fn write_unmap_error<W: Write>(f: &mut Formatter<W>, error: &UnmapError) -> FmtResult
     ensures { WritesOnOk W.write_str_gives f.old result (texts.unmap_error_text error.now) f.new }
 {
@@ -139,7 +139,7 @@ fn write_unmap_error<W: Write>(f: &mut Formatter<W>, error: &UnmapError) -> FmtR
     }
 }
 
-/// Writes why flags were not set.
+/// Writes the reason why flags were not set.
 fn write_flags_error<W: Write>(f: &mut Formatter<W>, error: &FlagUpdateError) -> FmtResult
     ensures { WritesOnOk W.write_str_gives f.old result (texts.flags_error_text error.now) f.new }
 {
@@ -149,7 +149,7 @@ fn write_flags_error<W: Write>(f: &mut Formatter<W>, error: &FlagUpdateError) ->
     })
 }
 
-/// Writes why a page has no frame.
+/// Writes the reason why a page has no frame.
 fn write_frame_error<W: Write>(f: &mut Formatter<W>, error: &TranslateError) -> FmtResult
     ensures { WritesOnOk W.write_str_gives f.old result (texts.frame_error_text error.now) f.new }
 {
@@ -160,7 +160,7 @@ fn write_frame_error<W: Write>(f: &mut Formatter<W>, error: &TranslateError) -> 
     }
 }
 
-/// Writes that a page's entry has no address of a frame of its size.
+/// Writes that the address in a page's entry isn't that of a frame of the page's size.
 fn write_invalid_address<W: Write>(f: &mut Formatter<W>, address: PhysAddr) -> FmtResult
     ensures { WritesOnOk W.write_str_gives f.old result (texts.invalid_frame_address address) f.new }
 {
@@ -168,7 +168,7 @@ fn write_invalid_address<W: Write>(f: &mut Formatter<W>, address: PhysAddr) -> F
     write_address(f, address)
 }
 
-/// Writes where an address is mapped to.
+/// Writes what an address is mapped to.
 fn write_translation<W: Write>(f: &mut Formatter<W>, translation: &TranslateResult) -> FmtResult
     ensures { WritesOnOk W.write_str_gives f.old result (texts.translation_text translation.now) f.new }
 {
@@ -190,7 +190,7 @@ fn write_translation<W: Write>(f: &mut Formatter<W>, translation: &TranslateResu
     }
 }
 
-/// Gives the name of a frame's size.
+/// Returns the name of a frame's size.
 fn size_name(frame: &MappedFrame) -> &'static str
     ensures { result.now ≡ texts.size_name frame.now }
 {

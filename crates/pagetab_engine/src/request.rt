@@ -1,4 +1,4 @@
-//! Calls of the mappers of both numbers of levels, and the answers to them.
+//! Calls of mappers with four or five levels, and the answers to them.
 ghost use Rattle.std.specs.Prelude.{◌≡◌};
 ghost use Rattle.x86_64.specs.declared.calls.MapperReply.TheVariants.{NotAllowed};
 ghost use Rattle.pagetab_engine.specs.Requests.{reply_in, request_names};
@@ -9,14 +9,14 @@ use x86_64::{Call, Call57, Reply, Reply57, VirtAddr, VirtAddr57};
 /// A call of a mapper.
 #[derive(Clone, Copy)]
 pub enum Request {
-    /// A call where there are four levels.
+    /// A call for four levels.
     Four(Call),
-    /// A call where there are five.
+    /// A call for five levels.
     Five(Call57),
 }
 
 impl Request {
-    /// Tells whether the call's page or address has this index of the highest level. A clean up names no index.
+    /// Returns true if the call's page or address has this index of the highest level. A clean up names no index.
     pub fn names(&self, index: PageTableIndex) -> bool
         ensures { result ≡ request_names self.now index }
     {
@@ -26,7 +26,7 @@ impl Request {
         }
     }
 
-    /// Gives the answer that the call is not allowed.
+    /// Returns the answer that the call is not allowed.
     pub fn refusal(&self) -> Answer
         ensures { reply_in result ≡ NotAllowed }
     {
@@ -37,20 +37,20 @@ impl Request {
     }
 }
 
-/// The answer of a mapper to a call.
+/// A mapper's answer to a call.
 #[derive(Clone, Copy)]
 pub enum Answer {
-    /// The reply where there are four levels.
+    /// The reply with four levels.
     Four(Reply),
-    /// The reply where there are five.
+    /// The reply with five levels.
     Five(Reply57),
 }
 
-/// An address to which the processor walks.
+/// The address of a page walk.
 #[derive(Clone, Copy)]
 pub enum Address {
-    /// An address of 48 bits, to which it walks through four levels.
+    /// A 48-bit address, for a walk through four levels.
     Four(VirtAddr),
-    /// An address of 57 bits, to which it walks through five.
+    /// A 57-bit address, for a walk through five levels.
     Five(VirtAddr57),
 }

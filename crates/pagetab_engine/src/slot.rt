@@ -7,7 +7,7 @@ use x86_64::structures::paging::page_table::PageTableIndex;
 use x86_64::structures::paging::{PageSize, PhysFrame, Size4KiB};
 use x86_64::{FramePlace, PhysAddr, PhysMemory};
 
-/// Names a word in memory: the place of a table and an index in it.
+/// A word in memory, as the place of a table (its index in memory) and an index in the table.
 #[derive(Clone, Copy)]
 pub struct Slot {
     place: FramePlace,
@@ -15,7 +15,7 @@ pub struct Slot {
 }
 
 impl Slot {
-    /// Gives the slot at an index of the table in a frame, where each frame lies at the place of its number.
+    /// Returns the slot at an index of the table in a frame, if each frame lies at the place of its number.
     pub fn at(frame: PhysFrame<Size4KiB>, index: PageTableIndex) -> Slot
         ensures place { result.place ≡ frame / 4096 }
         ensures index { result.index ≡ index }
@@ -27,7 +27,7 @@ impl Slot {
         }
     }
 
-    /// Does what [`at`](Self::at) does, where the index is a number. Answers `None` exactly where it isn't below 512.
+    /// Returns the slot of [`at`](Self::at) for an index given as a number, or `None` if it isn't below 512.
     pub fn new(frame: PhysFrame<Size4KiB>, index: u64) -> Option<Slot>
         ensures fits { IsSome result ↔ (index < 512) }
         ensures place { IfSome result (λ slot. slot.place ≡ frame / 4096) }
@@ -40,7 +40,7 @@ impl Slot {
         }
     }
 
-    /// Gives the word, 0 where the memory lacks the table.
+    /// Returns the word, or 0 if the memory lacks the table.
     pub fn word(self, memory: &PhysMemory) -> u64
         ensures { result ≡ word_in memory.now self.place self.index }
     {
@@ -50,7 +50,7 @@ impl Slot {
         }
     }
 
-    /// Sets the word. Changes nothing where the memory lacks the table.
+    /// Sets the word. Changes nothing if the memory lacks the table.
     pub fn set_word(self, memory: &mut PhysMemory, word: u64)
         ensures { memory.new ≡ stored memory.old self.place self.index word }
     {
@@ -60,9 +60,9 @@ impl Slot {
     }
 }
 
-/// Gives the 4KiB frame that starts at an address, for a memory of so many places.
+/// Returns the 4KiB frame that starts at an address, for a memory with this number of places.
 ///
-/// Answers `None` exactly where no such frame starts there, or its number isn't below `places`.
+/// Returns `None` if and only if no such frame starts there, or its number isn't below `places`.
 pub fn frame_at(start: u64, places: u64) -> Option<PhysFrame<Size4KiB>>
     ensures fits { IsSome result ↔ IsTableStart places start }
     ensures start { IfSome result (λ frame. frame ≡ start) }
@@ -75,9 +75,10 @@ pub fn frame_at(start: u64, places: u64) -> Option<PhysFrame<Size4KiB>>
     }
 }
 
-/// Gives the slot at an index of the table in the 4KiB frame that starts at an address, for a memory of so many places.
+/// Returns the slot at an index of the table in the 4KiB frame that starts at an address, for a memory with this
+/// number of places.
 ///
-/// Answers `None` exactly where [`frame_at`] does, or `index` isn't below 512.
+/// Returns `None` if and only if [`frame_at`] does, or `index` isn't below 512.
 pub fn slot_at(start: u64, index: u64, places: u64) -> Option<Slot>
     ensures fits { IsSome result ↔ (IsTableStart places start × (index < 512)) }
     ensures start { IfSome result (λ slot. slot.place * 4096 ≡ start) }

@@ -1,4 +1,4 @@
-//! What lines say.
+//! The statements that lines write.
 ghost use Rattle.std.specs.Prelude.{◌≡◌, ◌↔◌, ℕ, Option, List, IsSome, IfSome, IfNone};
 ghost use Rattle.x86_64_tables.specs.PageTableFlags.{bits_of};
 ghost use Rattle.x86_64.specs.Calls.{no_bits};
@@ -20,13 +20,13 @@ use x86_64::{CallIn, FiveLevels, FourLevels, LevelCount, LevelFiveFlags, NoLevel
 use x86_64_addr::addr::VirtAddrIn;
 use x86_64_page::page::PageIn;
 
-/// Asks something of the hierarchy.
+/// A question about the hierarchy, or a call on it.
 #[derive(Clone, Copy)]
 pub enum Command {
-    /// `translate ADDR`, `addr ADDR`, `cleanup`, `cleanup-range FIRST LAST`, or a command on a page of a size: a call of the
-    /// mapper.
+    /// A call of the mapper: `translate ADDR`, `addr ADDR`, `cleanup`, `cleanup-range FIRST LAST`, or a command on a
+    /// page of a size.
     Call(Request),
-    /// `walk ADDR`: where the processor arrives.
+    /// `walk ADDR`: where the page walk arrives.
     Walk(Address),
     /// `show FRAME INDEX`: the word in the slot.
     Show(Slot),
@@ -34,16 +34,16 @@ pub enum Command {
     Pool,
 }
 
-/// Says what the image has.
+/// A part of the image.
 #[derive(Clone, Copy)]
 pub enum ImageLine {
-    /// `word FRAME INDEX VALUE`: the value in the slot.
+    /// `word FRAME INDEX VALUE`: the slot has the value.
     Word { slot: Slot, value: u64 },
-    /// `free FRAME`: the frame among the free ones.
+    /// `free FRAME`: the frame is one of the free ones.
     Free(PhysFrame<Size4KiB>),
 }
 
-/// Says what a line says.
+/// The statement of a line.
 #[derive(Clone, Copy)]
 pub enum Statement {
     /// A line of the image.
@@ -53,8 +53,8 @@ pub enum Statement {
 }
 
 impl Statement {
-    /// Reads a line without its line feed, about the memory and the levels of the arguments. Answers `None` exactly where it says no
-    /// statement.
+    /// Parses a line without its line feed, for the memory and the levels of the arguments. Returns `None` if and
+    /// only if the line is no statement.
     pub fn parse(line: &[u8], arguments: &Arguments) -> Option<Statement>
         ensures says { IfSome result (λ statement. SaysStatement line.now statement) }
         ensures accepted { IfSome result (λ statement. IsAccepted arguments.now statement) }
@@ -65,7 +65,7 @@ impl Statement {
         Self::from_fields(fields.name, fields.size, fields.numbers(), arguments)
     }
 
-    /// Gives the statement that fields write, or `None` exactly where there is none.
+    /// Returns the statement that fields write, or `None` if there is none.
     fn from_fields(
         name: Name,
         size: Option<Size>,
@@ -88,7 +88,7 @@ impl Statement {
         }
     }
 
-    /// Does what [`from_fields`](Self::from_fields) does where the line has no SIZE.
+    /// The part of [`from_fields`](Self::from_fields) for lines without SIZE.
     fn from_plain_fields(name: Name, numbers: &[u64], arguments: &Arguments) -> Option<Statement>
         ensures accepted { let about = arguments.now in
             IsSome result ↔ IsPlain about.places (levels_in about) name numbers.now }
@@ -122,7 +122,7 @@ impl Statement {
 }
 
 impl Command {
-    /// Returns the command with four levels.
+    /// Returns the command for four levels.
     fn of_four_levels(command: AddressCommand<FourLevels, NoLevelFive>) -> Command
         ensures written { command_written result ≡ address_command_written 4 no_bits command }
         ensures levels { CommandHas Four result }
@@ -133,7 +133,7 @@ impl Command {
         }
     }
 
-    /// Returns the command with five levels.
+    /// Returns the command for five levels.
     fn of_five_levels(command: AddressCommand<FiveLevels, PageTableFlags>) -> Command
         ensures written { command_written result ≡ address_command_written 5 bits_of command }
         ensures levels { CommandHas Five result }
@@ -145,7 +145,7 @@ impl Command {
     }
 }
 
-/// Asks something about addresses: a call, or a walk.
+/// A question about addresses: a call, or a page walk.
 #[derive(Clone, Copy)]
 enum AddressCommand<L: LevelCount, P5: Copy> {
     Call(CallIn<L, P5>),
@@ -153,7 +153,7 @@ enum AddressCommand<L: LevelCount, P5: Copy> {
 }
 
 impl<L: LevelCount, P5: LevelFiveFlags<L>> AddressCommand<L, P5> {
-    /// Gives what a name and numbers without SIZE ask about addresses, or `None` exactly if they ask nothing.
+    /// Parses a question about addresses from a name and numbers without SIZE, or returns `None` if they are none.
     fn parse(name: Name, numbers: &[u64]) -> Option<Self>
         ensures accepted { IsSome result ↔ IsOnAddresses L.LEVELS name numbers.now }
         ensures written { let fields = without_size name numbers.now in

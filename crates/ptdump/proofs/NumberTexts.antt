@@ -9,7 +9,7 @@ use Rattle.std.specs.Borrow.{Bor}
 use Rattle.x86_64_numbers.specs.Numbers.{IsNumber, number_of}
 use Rattle.ptdump.specs.Requests.{AreNumbers}
 
--- one number more
+-- one more number
 pub numbers_more : (texts : List (List ℕ)) (numbers : List ℕ) (text : List ℕ) → AreNumbers texts numbers → IsNumber text → AreNumbers (texts ++ text ∷ []) (numbers ++ number_of text ∷ [])
 numbers_more texts numbers text before is =
     (All-push IsNumber texts text before.0 is, ap (λ (ns : List ℕ). ns ++ number_of text ∷ []) before.1 ∙ sym (map_push number_of texts text))
@@ -20,7 +20,7 @@ number_at texts numbers i d below are =
     let now : Bor (List ℕ) → List ℕ = λ text. text.now in
     subst IsNumber (get_or-map now texts i d) (are.0 i (now d) (subst (λ n. i < n) (sym (length-map texts now)) below))
 
--- the texts that are given are those of the values
+-- the given texts are those of the values
 pub texts_given : (texts : Option (Bor (List (Bor (List ℕ))))) (none : Bor (List (Bor (List ℕ)))) (all : Option MatchedArg) → none.now ≡ []
     → option_map (λ s. map (λ v. v.now) s.now) texts ≡ option_map raw_values all → map (λ v. v.now) (unwrap_or texts none).now ≡ unwrap_or (option_map raw_values all) []
 texts_given None none all empty same = ap (map (λ (v : Bor (List ℕ)). v.now)) empty ∙ ap (λ (o : Option (List (List ℕ))). unwrap_or o []) same

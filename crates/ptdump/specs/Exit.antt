@@ -5,7 +5,7 @@ use Rattle.ptdump_engine.specs.declared.request.Outcome.{Outcome}
 use Rattle.ptdump.specs.declared.stop.Stop.{Stop}
 use Rattle.ptdump.specs.declared.stop.Stop.TheVariants.{Help, Usage, NoText, NoCommand, NoNumber, NoLevels, Unopened, Failed}
 
--- 0: help was asked for; 2: the command line; 3: the file; else that of the run that failed
+-- 0: help; 2: the command line; 3: the file; else that of the run that failed
 abbrev pub stop_status : Stop → ℕ
 stop_status (Help text) = 0
 stop_status (Usage error) = 2

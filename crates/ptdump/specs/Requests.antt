@@ -1,4 +1,4 @@
--- Which request the words of a command line make.
+-- The requests that the words of a command line describe.
 use Rattle.std.specs.Prelude.{◌≡◌, ◌⊎◌, ℕ, List, [], Option, None, Some, All, codes, map, option_map, unwrap_or}
 use Rattle.std.specs.Borrow.{Bor}
 use Rattle.clap.specs.Matches.{first_value, matched_of, raw_values}
@@ -13,11 +13,11 @@ use Rattle.ptdump.specs.declared.stop.Stop.{Stop}
 use Rattle.ptdump.specs.declared.stop.Stop.TheVariants.{Failed, NoCommand}
 use Rattle.x86_64_numbers.specs.Numbers.{IsNumber, number_of}
 
--- each text is a number, and these are they
+-- each text is a number, and these are their numbers
 abbrev pub AreNumbers : (texts : List (List ℕ)) → (numbers : List ℕ) → Type 0
 AreNumbers texts numbers = All IsNumber texts × (numbers ≡ map number_of texts)
 
--- the command has this name, and these addresses if it takes some
+-- the command has this name, and these addresses if it takes addresses
 abbrev pub IsCommand : (name : List ℕ) → (addresses : List (List ℕ)) → Command → Type 0
 IsCommand name addresses Regions = name ≡ codes "regions"
 IsCommand name addresses Pages = name ≡ codes "pages"
@@ -27,7 +27,7 @@ IsCommand name addresses Check = name ≡ codes "check"
 IsCommand name addresses Image = name ≡ codes "image"
 IsCommand name addresses Picture = name ≡ codes "picture"
 
--- an option that is given has its number, and one that is left out none
+-- an option is None if its text is missing, and is the number of its text otherwise
 abbrev pub IsOption : (text : Option (List ℕ)) → Option ℕ → Type 0
 IsOption None number = number ≡ None
 IsOption (Some text) number = IsNumber text × (number ≡ Some (number_of text))
@@ -36,15 +36,15 @@ abbrev pub count : Levels → ℕ
 count Four = 4
 count Five = 5
 
--- the same of the number of levels
+-- likewise for the number of levels
 abbrev pub IsLevels : (text : Option (List ℕ)) → Option Levels → Type 0
 IsLevels text levels = IsOption text (option_map count levels)
 
--- the texts of the arguments of a name
+-- the texts of the arguments with a name
 abbrev pub values : Found → (name : List ℕ) → List (List ℕ)
 values found name = unwrap_or (option_map raw_values (matched_of found name)) []
 
--- the request is of the command with this name, with what its arguments say
+-- the request is that of the command with this name and these arguments
 pub record IsRequest (name : List ℕ) (found : Found) (request : Request) : Type 0 where
   pub command : IsCommand name (values found (codes "addresses")) request.command
   pub cr3 : IsOption (first_value found (codes "cr3")) request.cr3
@@ -52,10 +52,10 @@ pub record IsRequest (name : List ℕ) (found : Found) (request : Request) : Typ
   pub base : IsOption (first_value found (codes "base")) request.base
   pub cpu : IsOption (first_value found (codes "cpu")) request.cpu
 
--- memory was refused, or there is nothing of which this holds
+-- memory allocation failed, or no value has this property
 abbrev pub IsUnread : {T : Type 0} → (Holds : T → Type 0) → Stop → Type 0
 IsUnread {T} Holds stop = (stop ≡ Failed OutOfMemory) ⊎ ((value : T) → ¬ (Holds value))
 
--- the same, or no command has this name
+-- likewise, or no command has this name
 abbrev pub IsRefused : {T : Type 0} → (name : Bor (List ℕ)) → (Holds : T → Type 0) → Stop → Type 0
 IsRefused name Holds stop = (stop ≡ NoCommand name) ⊎ IsUnread Holds stop

@@ -1,4 +1,4 @@
-//! The command line: which words the program takes.
+//! The command line that the program accepts.
 
 use crate::help::{COMMANDS, CommandHelp, MORE, Operands};
 use clap::{Arg, ArgAction, Command, Error};
@@ -8,7 +8,7 @@ use std::alloc::Global;
 ///
 /// # Errors
 ///
-/// If memory is refused.
+/// An error if memory allocation fails.
 pub fn command_line<'a>(alloc: Global) -> Result<Command<'a>, Error> {
     let mut command = Command::new(alloc, "ptdump")
         .about("Prints what the page tables in a dump of physical memory map")
@@ -57,7 +57,7 @@ fn subcommand<'a>(alloc: Global, help: &CommandHelp) -> Result<Command<'a>, Erro
     )
 }
 
-/// Returns the argument that is the dump.
+/// Returns the argument for the dump.
 fn file<'a>(alloc: Global) -> Arg<'a> {
     Arg::new(alloc, "file")
         .value_name("FILE")
@@ -65,7 +65,7 @@ fn file<'a>(alloc: Global) -> Arg<'a> {
         .help("The dump: an ELF core, or a raw file of physical memory")
 }
 
-/// Returns the argument that is one address or more.
+/// Returns the argument for one or more addresses.
 fn addresses<'a>(alloc: Global, help: &'static str) -> Arg<'a> {
     Arg::new(alloc, "addresses")
         .value_name("ADDRESS")

@@ -1,27 +1,27 @@
-//! What help says of the commands, each with an example that can be tried.
+//! The help texts of the commands, each with an example that can be tried.
 
-/// Says what follows the file on the command line.
+/// The arguments after the file on the command line.
 #[derive(Clone, Copy)]
 pub enum Operands {
-    /// Nothing.
+    /// No arguments.
     None,
-    /// Addresses, with what help says of them.
+    /// Addresses, with their help text.
     Addresses(&'static str),
 }
 
-/// Says what a command is for.
+/// The description of a command.
 pub struct CommandHelp {
     /// The word on the command line.
     pub name: &'static str,
-    /// What it does, in a line.
+    /// What it does, in one line.
     pub about: &'static str,
-    /// What follows the file.
+    /// The arguments after the file.
     pub operands: Operands,
     /// What it prints, and an example.
     pub more: &'static str,
 }
 
-/// What help says of the program, after the list of commands.
+/// The help text of the program after the list of commands.
 pub const MORE: &str = "\
 FILE is a dump of an x86-64 machine's physical memory:
 - an ELF core, as QEMU's `dump-guest-memory FILE` and Linux's kdump write it,
@@ -58,7 +58,7 @@ Example, of a dump that the source of ptdump has in the folder examples:
 
 `ptdump COMMAND --help` has an example of each command.";
 
-/// The commands, in the order in which help lists them.
+/// The commands, in the order of the help text.
 pub static COMMANDS: [CommandHelp; 7] = [
     CommandHelp {
         name: "regions",

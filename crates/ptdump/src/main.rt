@@ -32,12 +32,12 @@ fn main(rt: HostRuntime) -> ExitCode {
     }
 }
 
-/// Lists the words of the command line, with the program's name.
+/// Lists the words of the command line, including the program's name.
 fn words(rt: &HostRuntime) -> io::Result<Vec<String>> {
     Ok(env::args(rt)?.collect(rt.alloc())?)
 }
 
-/// Says why the words can't be listed: memory was refused, or one of them is no text.
+/// Returns why the words can't be listed: memory allocation failed, or one of them isn't text.
 fn stop_of(error: &io::Error) -> Stop<'static> {
     if error.kind() == ErrorKind::OutOfMemory {
         Stop::Failed(Failure::OutOfMemory)
@@ -46,7 +46,7 @@ fn stop_of(error: &io::Error) -> Stop<'static> {
     }
 }
 
-/// Does what the words of a command line ask for.
+/// Parses the words of a command line, and runs the command.
 fn run<'a>(rt: &HostRuntime, words: &'a [String]) -> Result<Outcome, Stop<'a>> {
     let command = command_line(rt.alloc())?;
     let matches = command.try_get_matches_from(words)?;
@@ -59,7 +59,7 @@ fn run<'a>(rt: &HostRuntime, words: &'a [String]) -> Result<Outcome, Stop<'a>> {
     }
 }
 
-/// Returns the path of the dump, which a command line has to give.
+/// Returns the path of the dump, which the command line requires.
 fn path_of<'a>(arguments: &ArgMatches<'a>) -> &'a str {
     arguments.get_str("file").unwrap_or("")
 }
@@ -89,7 +89,8 @@ fn open(rt: &HostRuntime, path: &str) -> io::Result<FileSource> {
     FileSource::new(File::open(rt, path)?)
 }
 
-/// Tells how a run ended, and gives the exit code: that of a failed write if this fails.
+/// Prints the reason if a run stopped early, and returns the exit code. If printing fails, the exit code is that of a failed
+/// write.
 fn report(rt: &(impl Print + Eprint), ended: Result<Outcome, Stop<'_>>) -> ExitCode
     ensures { (exit_status result ≡ exit_status_of ended.entry) ⊎ (exit_status result ≡ status_of Output) }
 {
@@ -103,7 +104,7 @@ fn report(rt: &(impl Print + Eprint), ended: Result<Outcome, Stop<'_>>) -> ExitC
     }
 }
 
-/// Gives the exit code of a run that ended so.
+/// Returns the exit code for the end of a run.
 fn exit_code(ended: &Result<Outcome, Stop<'_>>) -> ExitCode
     ensures { exit_status result ≡ exit_status_of ended.now }
 {

@@ -1,11 +1,11 @@
-//! The progress of a read, shown to whoever waits for it.
+//! The progress of reading tables, shown on a terminal.
 
 use ptdump_engine::Progress;
 
-/// How many tables are read from one text to the next.
+/// The number of tables between two updates.
 const STEP: usize = 4096;
 
-/// Shows how many tables are read so far, on the last line of a terminal.
+/// A line on a terminal with the number of tables that have been read.
 #[derive(Drop)]
 pub struct ProgressLine<'a, R: Eprint> {
     rt: &'a R,
@@ -14,7 +14,7 @@ pub struct ProgressLine<'a, R: Eprint> {
 }
 
 impl<'a, R: Eprint> ProgressLine<'a, R> {
-    /// Makes a line that shows nothing yet, and never does if standard error is no terminal.
+    /// Creates a line that shows nothing yet, and never does if standard error isn't a terminal.
     pub fn new(rt: &'a R, is_terminal: bool) -> Self {
         ProgressLine {
             rt,
@@ -27,7 +27,7 @@ impl<'a, R: Eprint> ProgressLine<'a, R> {
 impl<R: Eprint> Progress for ProgressLine<'_, R> {
     fn tables(&mut self, count: usize) {
         if self.is_terminal && count % STEP == 0 {
-            // a terminal that fails shows no progress, and the report says what counts
+            // if the terminal fails, only the progress is missing: the report is unaffected
             let _ = eprint!(self.rt; "\rtables read: {count}");
             self.is_shown = true;
         }

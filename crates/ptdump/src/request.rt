@@ -1,4 +1,4 @@
-//! Requests, made of the words of a command line.
+//! Requests from the words of a command line.
 ghost use Rattle.std.specs.Prelude.{ℕ, Option, IfOk, IfErr, map};
 ghost use Rattle.std.specs.Option.{option_copied};
 ghost use Rattle.std.specs.Result.{OkIff};
@@ -13,11 +13,11 @@ use ptdump_engine::{Command, Levels, Request};
 use std::alloc::Global;
 use x86_64_numbers::parse_number;
 
-/// Returns the request that a command and its arguments make.
+/// Returns the request for a command and its arguments.
 ///
 /// # Errors
 ///
-/// `Failure::OutOfMemory` where memory is refused, and else what is wrong with the words.
+/// `Failure::OutOfMemory` if memory allocation fails, otherwise what is wrong with the words.
 pub fn request_of<'a>(
     alloc: Global,
     name: &'a str,
@@ -36,7 +36,7 @@ pub fn request_of<'a>(
     })
 }
 
-/// Returns the command of a name, with its addresses.
+/// Returns the command with a name and addresses.
 fn command_of<'a>(alloc: Global, name: &'a str, addresses: &[&'a str]) -> Result<Command, Stop<'a>>
     ensures ok { IfOk result (IsCommand name.now (map (λ text. text.now) addresses.now)) }
     ensures err { IfErr result (IsRefused name.entry

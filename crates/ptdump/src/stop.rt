@@ -1,4 +1,4 @@
-//! Why the program ends without the report that was asked for.
+//! Why the program ends without the requested report.
 ghost use Rattle.std.specs.Prelude.{◌≡◌};
 ghost use Rattle.ptdump.specs.Exit.{stop_status};
 
@@ -9,39 +9,40 @@ use std::error::Error;
 use std::fmt::{Display, Formatter, Result as FmtResult, Write};
 use std::io;
 
-/// Says why the program ends without the report that was asked for.
+/// The reason why the program ends without the requested report.
 #[derive(Debug, Drop)]
 pub enum Stop<'a> {
-    /// Help or the version was asked for.
+    /// Help or the version was requested.
     Help(clap::Error),
-    /// The words are no command line that the program takes.
+    /// The words aren't a command line that the program accepts.
     Usage(clap::Error),
-    /// A word of the command line is no text.
+    /// A word of the command line isn't text.
     NoText,
-    /// There is no such command.
+    /// There is no command with this name.
     NoCommand(&'a str),
-    /// The value of an argument is no number.
+    /// The value of an argument isn't a number.
     NoNumber {
         /// The argument.
         argument: &'static str,
-        /// What stands there.
+        /// Its value.
         text: &'a str,
     },
-    /// There are no page tables with so many levels.
+    /// There are no page tables with this number of levels.
     NoLevels(&'a str),
     /// The file can't be opened.
     Unopened {
-        /// The file.
+        /// The path of the file.
         path: &'a str,
-        /// Why it can't.
+        /// The error of opening it.
         error: io::Error,
     },
-    /// The run failed, or memory was refused before.
+    /// The run failed, or memory allocation failed before it.
     Failed(Failure),
 }
 
 impl Stop<'_> {
-    /// Gives the exit status: 2 for the command line, 3 for the file, 4 for want of memory, 5 for a failed write.
+    /// Returns the exit status: 0 for help, 2 for the command line, 3 for the file, 4 for a failed memory allocation, 5 for a
+    /// failed write.
     pub fn status(&self) -> u8
         ensures { result ≡ stop_status self.now }
     {
@@ -57,11 +58,11 @@ impl Stop<'_> {
         }
     }
 
-    /// Tells why: help and the version on standard output, all else on standard error.
+    /// Prints the reason: help and the version on standard output, everything else on standard error.
     ///
     /// # Errors
     ///
-    /// Where it can't be written.
+    /// An error if it can't be written.
     pub fn tell(&self, rt: &(impl Print + Eprint)) -> io::Result<()> {
         match self {
             Stop::Help(text) | Stop::Usage(text) => text.print(rt),

@@ -1,4 +1,4 @@
--- The mappings that are visited are those of the reports.
+-- The visited mappings are those of the reports.
 use Rattle.std.proofs.Common.{◌≡◌, ◌∙◌, ◌+◌, ◌-◌, ◌≤◌, ◌<◌, ◌%◌, ◌++◌, ◌&&◌, ◌||◌, ℕ, Bool, true, false, cond, List, [], ◌∷◌, Option, None, Some, String, filter, nat_le, nat_lt, refl, sym, ap, subst, arith}
 use Rattle.std.proofs.Math.Nat.{mod-eq_of_lt}
 use Rattle.std.proofs.lemmas.Bool.{ltb-true, leb-true, and_parts}
@@ -19,7 +19,7 @@ all_wanted : (ms : List Mapping) → filter (is_wanted None) ms ≡ ms
 all_wanted [] = refl
 all_wanted (m ∷ ms) = ap (λ rest. m ∷ rest) (all_wanted ms)
 
--- the mappings that a report's summaries speak of are those of its tables
+-- the mappings of a report's summaries are those of its tables
 pub all_asked : {X : Type 0} (loaded : Loaded X) → IsLoaded loaded → (L root : ℕ)
     → asked_mappings (asked_of (λ memory. memory) (λ mapping. identity_places) loaded.summaries.now) L root ≡ mappings_of L (words_loaded loaded) root
 all_asked loaded is L root =
@@ -29,7 +29,7 @@ all_asked loaded is L root =
 
 -- ---- searches
 
--- the virtual address in a mapping that leads to a physical one is one of its own
+-- the virtual address in a mapping that leads to a physical address is an address of the mapping
 inside : (a : ℕ) (m : Mapping) (count : ℕ) → leads_to a m ≡ true → m.start + m.size ≤ count → m.start + (a - m.frame) < count
 inside a m count leads fits =
     let parts = and_parts (nat_le m.frame a) (nat_lt a (m.frame + m.size)) leads in
@@ -56,7 +56,7 @@ pub lines_found : (L : ℕ) (T : Words) (root a : ℕ)
 unfolding addresses_text
 lines_found L T root a = same_lines L a (mappings_of L T root) (mappings_fit L T root)
 
--- a mapping is found exactly if one leads to the address
+-- a mapping is found if and only if one leads to the address
 pub some_found : (a : ℕ) (ms : List Mapping) → some_there (filter (leads_to a) ms) ≡ list_any (leads_to a) ms
 some_found a [] = refl
 some_found a (m ∷ ms) = by (leads_to a m) (some_found a ms)

@@ -11,7 +11,7 @@ use Rattle.ptdump_engine.specs.declared.failure.Failure.TheVariants as failures
 use Rattle.ptdump_engine.specs.declared.output.OutputError.{OutputError}
 use Rattle.ptdump_engine.specs.declared.output.OutputError.TheVariants as output
 
--- the failure that was to be found
+-- the expected failure
 pub fails_by : {A : Type 0} (failure : Failure) (found : Result A Failure) → found ≡ Err failure → FailsBy failure found
 fails_by failures.OutOfMemory found is = tt
 fails_by failures.Output found is = tt
@@ -23,7 +23,7 @@ fails_by (failures.NoRoot root) found is = is
 fails_by (failures.Dump fault) found is = is
 fails_by (failures.Read error) found is = is
 
--- what fails goes on failing
+-- a failure remains after further steps
 pub fails_then : {A B : Type 0} (failure : Failure) (found : Result A Failure) (next : A → Result B Failure) → FailsBy failure found → FailsBy failure (and_then found next)
 fails_then failures.OutOfMemory found next is = tt
 fails_then failures.Output found next is = tt
@@ -35,7 +35,7 @@ fails_then (failures.NoRoot root) found next is = ap (λ r. and_then r next) is
 fails_then (failures.Dump fault) found next is = ap (λ r. and_then r next) is
 fails_then (failures.Read error) found next is = ap (λ r. and_then r next) is
 
--- memory or a write may always fail
+-- failures of memory allocation and of writes are always allowed
 pub forced_fails : {A : Type 0} (failure : Failure) (found : Result A Failure) → IsForced failure → FailsBy failure found
 forced_fails failures.OutOfMemory found is = tt
 forced_fails failures.Output found is = tt
@@ -51,7 +51,7 @@ pub output_forced : (error : OutputError) → IsForced (failure_by error)
 output_forced output.OutOfMemory = tt
 output_forced output.Write = tt
 
--- the dump says why it can't be opened
+-- a run fails for the reason why the dump can't be opened
 pub dump_fails : {A B : Type 0} (error : DumpError) (found : Result A Fault) (next : A → Result B Failure) → Fails error found → FailsBy (failure_of error) (and_then (of_dump found) next)
 dump_fails errors.OutOfMemory found next is = tt
 dump_fails (errors.Read error) found next is = absurd is

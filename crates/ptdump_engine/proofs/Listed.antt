@@ -1,4 +1,4 @@
--- Lists that are gone through one by one.
+-- Lists that are visited element by element.
 use Rattle.std.proofs.Common.{◌≡◌, ◌∙◌, ◌+◌, ◌<◌, ◌++◌, ◌&&◌, ℕ, Bool, List, [], ◌∷◌, Option, None, Some, String, take, get_or, length, refl, sym, ap, subst, append-nil, zero, suc, true, false, cond, arith}
 use Rattle.std.proofs.Math.Bool.{and_assoc, and-true}
 use Rattle.std.proofs.lemmas.Grind.{flat_map-append}
@@ -21,11 +21,11 @@ all-append : (p : ℕ → Bool) (xs : List ℕ) (y : ℕ) → list_all p (xs ++ 
 all-append p [] y = and-true (p y)
 all-append p (x ∷ xs) y = ap (λ b. p x && b) (all-append p xs y) ∙ sym (and_assoc (p x) (list_all p xs) (p y))
 
--- one more passes the test, or doesn't
+-- one more element passes the test, or doesn't
 pub all_more : (p : ℕ → Bool) (xs : List ℕ) (i : ℕ) → i < length xs → list_all p (take (i + 1) xs) ≡ (list_all p (take i xs) && p (get_or xs i 0))
 all_more p xs i below = ap (list_all p) (take_more xs i 0 below) ∙ all-append p (take i xs) (get_or xs i 0)
 
--- where nothing is found, no element passes the test
+-- if nothing is found, no element passes the test
 pub none_passes : (p : ℕ → Bool) (xs : List ℕ) (i : ℕ) → find p xs ≡ None → i < length xs → p (get_or xs i 0) ≡ false
 none_passes p [] i none below = absurd (omega arith)
 none_passes p (x ∷ xs) zero none below = by (p x) none

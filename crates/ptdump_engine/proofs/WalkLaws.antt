@@ -1,4 +1,4 @@
--- Walks that are written arrive where the page walk does, and are those of any words that agree on their way.
+-- Written walks arrive if and only if the page walks do, and are equal in words that agree on the way.
 use Rattle.std.proofs.Common.{◌≡◌, ◌∙◌, ◌+◌, ◌-◌, ◌%◌, ◌&&◌, ℕ, zero, suc, Bool, true, false, cond, get_or, List, Option, Some, None, option_map, option_and_then, is_some, refl, sym, ap}
 use Rattle.std.specs.Option.{option_map_or}
 use Rattle.std.proofs.Math.Nat.{mod-eq-sub-div-mul}
@@ -17,18 +17,18 @@ use Rattle.ptdump_engine.specs.declared.word_read.WordRead.{WordRead}
 use Rattle.ptdump_engine.specs.private.WalkLines.{both_rights, is_arrival}
 use Rattle.ptdump_engine.proofs.WalkLines.{narrowed_first, rights_kept, word_read}
 
--- where a walk arrives, below words that allow so much
+-- the arrival of a walk, below words that allow these rights
 abbrev arrival_below : Rights → Walk → Option Walked
 arrival_below r walk = arrival_with (both_rights r (walk_rights walk)) walk.end
 
--- a word that is read only narrows the rights
+-- reading a word only narrows the rights
 arrival-after : (r : Rights) (w : WordRead) (walk : Walk) → arrival_below r (after w walk) ≡ arrival_below (narrowed r w.word) walk
 arrival-after r w walk = ap (λ s. arrival_with s walk.end) (narrowed_first r w walk)
 
 arrival-ends : (r : Rights) (end : End) → arrival_below r (ends end) ≡ arrival_with r end
 arrival-ends r end = ap (λ s. arrival_with s end) (rights_kept r end)
 
--- what is found by a word, where this is found below it
+-- the mapping that is found from a word, if `below` is found in the table that it names
 abbrev found_by : (p level : ℕ) → Rights → (e : ℕ) → Option Mapping → Option Mapping
 found_by p level r e below = cond (present e) (cond (maps_page level e) (Some (page_at p level r e)) (cond (huge e) None below)) None
 
@@ -60,7 +60,7 @@ pub written_walks_arrive : WrittenWalksArrive
 unfolding found
 written_walks_arrive L T root p = walked T p L every_right root ∙ sym (walk_finds L T root p)
 
--- whether a walk arrives, the page walk says
+-- a walk arrives if and only if the page walk does
 pub is_arrival-walk : (L : ℕ) (T : Words) (root p : ℕ) → is_arrival (walk_of L T root p).end ≡ is_some (page_walk L T root p)
 is_arrival-walk L T root p = by (walk_of L T root p) ∙ ap is_some (written_walks_arrive L T root p)
   where
@@ -73,7 +73,7 @@ is_arrival-walk L T root p = by (walk_of L T root p) ∙ ap is_some (written_wal
     by : (walk : Walk) → is_arrival walk.end ≡ is_some (arrival_of walk)
     by walk = each (walk_rights walk) walk.end
 
--- the walk is the same in words that agree on its way
+-- walks are equal in words that agree on the way
 pub same_walk : (T W : Words) (p level f : ℕ) → SameBelow level T W f → walk_from T p level f ≡ walk_from W p level f
 unfolding walk_from
 same_walk T W p zero f same = refl

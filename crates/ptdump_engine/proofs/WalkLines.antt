@@ -12,13 +12,13 @@ use Rattle.ptdump_engine.specs.Walks.{Walk, End, no_table, after, behind, ends, 
 use Rattle.ptdump_engine.specs.declared.word_read.WordRead.{WordRead}
 use Rattle.ptdump_engine.specs.private.WalkLines.{both_rights, lines_below}
 
--- the word at an index of a table of a level in a walk to a position
+-- the word at the index for a position in a table of a level
 abbrev pub word_read : (p level frame word : ℕ) → WordRead
 word_read p level f e = record { level = level; table = f; index = index level p; word = e }
 
 -- ---- rights
 
--- what words allow below another one
+-- the rights of words below another word
 pub narrowed_first : (r : Rights) (w : WordRead) (walk : Walk) → both_rights r (walk_rights (after w walk)) ≡ both_rights (narrowed r w.word) (walk_rights walk)
 narrowed_first r w walk = let below = walk_rights walk in λ i. record {
   write = sym (and_assoc r.write (writable w.word) below.write) i;
@@ -26,7 +26,7 @@ narrowed_first r w walk = let below = walk_rights walk in λ i. record {
   execute = sym (and_assoc r.execute (not (no_execute w.word)) below.execute) i;
 }
 
--- no words lessen rights
+-- a walk without words keeps the rights
 pub rights_kept : (r : Rights) (end : End) → both_rights r (walk_rights (ends end)) ≡ r
 rights_kept r end = λ i. record { write = and-true r.write i; user = and-true r.user i; execute = and-true r.execute i }
 
@@ -49,14 +49,14 @@ lines-whole walk = refl
 
 -- ---- steps
 
--- what a walk reads first in a table that is there
+-- the first word that a walk reads, if the table exists
 pub walk_from-there : (T : Words) (p level f e : ℕ) → 1 ≤ level → read T f (index level p) ≡ Some e
     → walk_from T p level f ≡ after (word_read p level f e) (behind p level e (walk_from T p (level - 1) (address e)))
 unfolding walk_from
 walk_from-there T p zero f e low there = absurd (omega arith)
 walk_from-there T p (suc n) f e low there = rw there (ap (λ m. after (word_read p (suc n) f e) (behind p (suc n) e (walk_from T p m (address e)))) (omega arith))
 
--- a table that isn't there
+-- the walk if the table is missing
 pub walk_from-missing : (T : Words) (p level f : ℕ) → 1 ≤ level → T f ≡ None → walk_from T p level f ≡ ends (no_table f)
 unfolding walk_from
 walk_from-missing T p zero f low missing = absurd (omega arith)

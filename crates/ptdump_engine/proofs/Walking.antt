@@ -1,4 +1,4 @@
--- What a walk writes at a table, by what is written behind.
+-- The lines that a walk writes at a table, from the lines that are written below it.
 use Rattle.std.proofs.Common.{◌≡◌, ◌∙◌, ◌≤◌, ◌+◌, ◌-◌, ◌%◌, ◌++◌, ℕ, Bool, true, false, cond, get_or, slice_index, List, Option, String, Some, None, option_map, refl, sym, ap, subst}
 use Rattle.std.specs.declared.alloc.Global.{Global}
 use Rattle.x86_64_model.specs.Entry.{address, present, huge}
@@ -25,7 +25,7 @@ is_read T p level f e words i low table at entry = record {
   there = ap (option_map (λ words. get_or words (index level p) 0)) (sym table) ∙ ap (λ j. Some (slice_index words j)) (sym at) ∙ ap Some (sym entry);
 }
 
--- ---- what follows the word
+-- ---- after the word
 
 pub behind_absent : (p level e : ℕ) (below : Walk) → present e ≡ false → behind p level e below ≡ ends not_present
 behind_absent p level e below absent =
@@ -68,7 +68,7 @@ module _ {W : Type 0} (contents : W → Option (List ℕ)) where
       subst (λ j. Puts contents old between (line (word_text (record { level = level; table = f; index = j; word = e })))) at word in
       subst (Puts contents old new) (sym lines) (puts_both contents old between new _ _ first rest)
 
-  -- the walk ends behind the word
+  -- the walk ends after the word
   pub puts_end : (old between new : Output W (String Global)) (T : Words) (p level f e i : ℕ) (r s : Rights) (end : End) → IsRead T p level f e → i ≡ index level p → s ≡ narrowed r e
       → behind p level e (walk_from T p (level - 1) (address e)) ≡ ends end
       → Puts contents old between (line (word_text (record { level = level; table = f; index = i; word = e })))
@@ -77,7 +77,7 @@ module _ {W : Type 0} (contents : W → Option (List ℕ)) where
   puts_end old between new T p level f e i r s end is at rights on word rest =
       puts_below old between new T p level f e i r s (ends end) is at rights on word (subst (Puts contents between new) (sym (lines-ends s end)) rest)
 
--- whether the walk arrives is said behind the word
+-- whether the walk arrives is decided after the word
 pub arrival_behind : (T : Words) (p level f e : ℕ) (walk : Walk) → IsRead T p level f e → behind p level e (walk_from T p (level - 1) (address e)) ≡ walk
     → is_arrival walk.end ≡ is_arrival (walk_from T p level f).end
 arrival_behind T p level f e walk is on =

@@ -1,4 +1,4 @@
--- Whole reports: what the writer gets of all that was put in, and reports of other words that map the same.
+-- Whole reports: the writer receives all that was put in, and words with equal mappings have equal reports.
 use Rattle.std.proofs.Common.{◌≡◌, ◌∙◌, ◌%◌, ◌++◌, ℕ, List, [], Option, None, Some, String, IfSome, IfOk, IfErr, Result, Ok, Err, is_some, filter, refl, sym, ap, subst, append-nil}
 use Rattle.std.proofs.KnownBytes.{Appends-trans}
 use Rattle.std.specs.Io.KnownBytes.{Appends, append_known}
@@ -32,12 +32,12 @@ use Rattle.ptdump_engine.specs.declared.start.Start.{Start}
 use Rattle.ptdump_engine.proofs.Failing.{dump_fails, fails_then, forced_fails}
 use Rattle.ptdump_engine.proofs.WalkLaws.{same_walk}
 
--- what follows from a fact of a value that is there
+-- a consequence of a fact about the value of an option
 pub if_some : {X : Type 0} {P Q : X → Type 0} (o : Option X) → ((x : X) → P x → Q x) → IfSome o P → IfSome o Q
 if_some None f p = tt
 if_some (Some x) f p = f x p
 
--- nothing is collected
+-- if nothing is collected
 known_alone : (known : Option (List ℕ)) → append_known known [] ≡ known
 known_alone None = refl
 known_alone (Some bytes) = ap Some (append-nil bytes)
@@ -53,7 +53,7 @@ written_whole contents begun now ended text none all puts rest =
     (subst (λ k. Appends (put_in contents begun) k text) after
     (subst (Appends (put_in contents begun) (put_in contents ended)) (append-nil text) (Appends-trans _ _ _ text [] puts.appends rest.appends)))
 
--- ---- words that map the same
+-- ---- words with equal mappings
 
 pub same_report : (command : Command) (L : ℕ) (T W : Words) (root : ℕ) → mappings_of L T root ≡ mappings_of L W root → SameBelow L T W root
     → report_of command L T root ≡ report_of command L W root
@@ -79,7 +79,7 @@ same_completeness commands.Picture L T W root same walks = refl
 
 -- ---- the run
 
--- what is opened where the file is a dump, and it is found out where walks start
+-- what is opened if the file is a dump and the start of page walks is found
 pub opens : (request : Request) (file : List ℕ) (dump : Contents) (start : Start) → contents_of file request.base ≡ Ok dump → start_for request dump ≡ Ok start
     → opened_for request file ≡ Ok (record { dump = dump; start = start })
 unfolding opened_for
@@ -99,7 +99,7 @@ no_start request file dump failure contents fails =
     subst (λ found. FailsBy {A = Opened} failure (and_then (of_dump found) (λ dump. and_then (start_for request dump) (λ start. Ok (record { dump = dump; start = start }))))) (sym contents)
     (fails_then failure (start_for request dump) (λ start. Ok (record { dump = dump; start = start })) fails)
 
--- a run that opened what was asked for reports of it, or fails for memory or a write
+-- a run that opened what was asked for reports on it, or fails because of memory or a write
 pub runs_by : (request : Request) (file : List ℕ) (before after : Option (List ℕ)) (o : Opened) (result : Result Outcome Failure) → opened_for request file ≡ Ok o
     → IfOk result (λ outcome. ReportsOf request before after outcome o) → IfErr result IsForced → Runs request file before after result
 runs_by request file before after o (Ok outcome) opened reports forced = (o, opened, reports)

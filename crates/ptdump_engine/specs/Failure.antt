@@ -8,7 +8,7 @@ use Rattle.ptdump_engine.specs.declared.failure.Failure.TheVariants as failures
 use Rattle.ptdump_engine.specs.declared.output.OutputError.{OutputError}
 use Rattle.ptdump_engine.specs.declared.output.OutputError.TheVariants as output
 
--- 2: what was asked; 3: the file; 4: want of memory; 5: a failed write
+-- 2: the request; 3: the file; 4: memory allocation; 5: a failed write
 abbrev pub status_of : Failure → ℕ
 status_of failures.NoCr3 = 2
 status_of (failures.NoProcessor cpu count) = 2
@@ -21,12 +21,12 @@ status_of (failures.Read error) = 3
 status_of failures.OutOfMemory = 4
 status_of failures.Output = 5
 
--- a run fails as putting text into an output did
+-- the failure of a run, from that of putting text into an output
 abbrev pub failure_by : OutputError → Failure
 failure_by output.OutOfMemory = failures.OutOfMemory
 failure_by output.Write = failures.Output
 
--- a run fails as reading the dump did
+-- the failure of a run, from that of reading the dump
 abbrev pub failure_of : DumpError → Failure
 failure_of dump.OutOfMemory = failures.OutOfMemory
 failure_of (dump.Read cause) = failures.Read cause

@@ -1,14 +1,14 @@
--- Outputs: text that is collected for a writer, and handed to it in large pieces.
+-- Outputs: text that is collected for a writer, and passed to it in large pieces.
 use Rattle.std.specs.Prelude.{◌≡◌, ℕ, List, Option, String, string_bytes}
 use Rattle.std.specs.Io.KnownBytes.{Appends, append_known}
 use Rattle.std.specs.declared.alloc.Global.{Global}
 use Rattle.ptdump_engine.specs.declared.output.Output.{Output}
 
--- what the writer holds, and behind it what is collected
+-- the contents of the writer, followed by the collected text
 abbrev pub put_in : {W : Type 0} → (contents : W → Option (List ℕ)) → Output W (String Global) → Option (List ℕ)
 put_in contents output = append_known (contents output.writer.now) (string_bytes output.text)
 
--- text was put in, and the writer is the same
+-- text was put in, and the output still has the writer that it had
 pub record Puts {W : Type 0} (contents : W → Option (List ℕ)) (old new : Output W (String Global)) (text : List ℕ) : Type 0 where
   pub writer : new.writer.ghost_name ≡ old.writer.ghost_name
   pub appends : Appends (put_in contents old) (put_in contents new) text

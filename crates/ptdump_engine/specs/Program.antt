@@ -1,4 +1,4 @@
--- What the program writes of a file, or why it fails.
+-- The output of the program for a file, or why it fails.
 use Rattle.std.specs.Prelude.{◌≡◌, ℕ, ◌-◌, ◌^◌, ◌&&◌, ◌||◌, nat_le, nat_lt, not, true, false, Bool, if◌then◌else◌, List, [], Option, None, Some, IfSome, is_some, option_map, Result, Ok, Err, ⊤}
 use Rattle.std.specs.List.{find}
 use Rattle.std.specs.Io.KnownBytes.{Appends}
@@ -23,13 +23,13 @@ abbrev pub level_count : Levels → ℕ
 level_count Four = 4
 level_count Five = 5
 
--- ---- what is tested before anything is written
+-- ---- tests before anything is written
 
--- whether the bits above the highest bit of a position are copies of it
+-- whether an address is canonical: all bits above the highest translated bit equal that bit
 abbrev pub is_canonical : (L address : ℕ) → Bool
 is_canonical L a = nat_lt a (lower_half L) || (nat_le (2 ^ 64 - lower_half L) a && nat_lt a (2 ^ 64))
 
--- why the addresses of a command are none
+-- the first invalid address of a command, as a failure
 abbrev pub argument_failure : Levels → Command → Option Failure
 argument_failure levels (commands.Walk addresses) =
     option_map (λ a. failures.NotCanonical a levels) (find (λ a. not (is_canonical (level_count levels) a)) addresses.items)
@@ -41,7 +41,7 @@ abbrev pub IsTested : Command → Type 0
 IsTested (commands.Find addresses) = find (λ a. nat_le (2 ^ 52) a) addresses.items ≡ None
 IsTested command = ⊤
 
--- a walk says itself that the root isn't in the dump
+-- a walk reports itself that the root isn't in the dump
 abbrev pub is_walk : Command → Bool
 is_walk (commands.Walk addresses) = true
 is_walk command = false
@@ -49,25 +49,25 @@ is_walk command = false
 abbrev pub root_failure : Command → Words → (root : ℕ) → Option Failure
 root_failure command T root = if is_walk command || is_some (T root) then None else Some (failures.NoRoot root)
 
--- where walks start in a dump, once what is asked is tested
+-- the start of page walks in a dump, after the tests of the request
 unfoldable pub start_for : Request → Contents → Result Start Failure
 start_for request dump = and_then (start_of request dump) (λ start.
     and_then (unless (argument_failure start.levels request.command) start) (λ tested.
     unless (root_failure request.command (words_of_dump dump) start.root) start))
 
--- what a dump holds, and where walks start in it
+-- the contents of a dump, and the start of page walks in it
 pub record Opened : Type 0 where
   pub dump : Contents
   pub start : Start
 
--- what is opened on request, or why the request or the file can't be used
+-- what is opened for a request, or why the request or the file can't be used
 unfoldable pub opened_for : Request → (file : List ℕ) → Result Opened Failure
 opened_for request file = and_then (of_dump (contents_of file request.base)) (λ dump.
     and_then (start_for request dump) (λ start. Ok (record { dump = dump; start = start })))
 
--- ---- what is written
+-- ---- the output
 
--- the report of a command; of those that aren't listed nothing is said here
+-- the report of a command, or None if it isn't specified here
 abbrev pub report_of : Command → (L : ℕ) → Words → (root : ℕ) → Option (List ℕ)
 report_of commands.Regions L T root = Some (regions_text L T root)
 report_of commands.Pages L T root = Some (pages_text L T root)
@@ -75,14 +75,15 @@ report_of (commands.Walk addresses) L T root = Some (walks_text L T root address
 report_of (commands.Find addresses) L T root = Some (find_text L T root addresses.items)
 report_of command L T root = None
 
--- whether all is as asked: each walk arrives, each physical address is found
+-- whether the request is fulfilled: each walk arrives, each physical address is found. None for a check, which isn't specified
+-- here
 abbrev pub completeness_of : Command → (L : ℕ) → Words → (root : ℕ) → Option Bool
 completeness_of (commands.Walk addresses) L T root = Some (all_arrive L T root addresses.items)
 completeness_of (commands.Find addresses) L T root = Some (all_found L T root addresses.items)
 completeness_of commands.Check L T root = None
 completeness_of command L T root = Some true
 
--- a command's report was written of words, and the outcome says what it is to say
+-- the report of a command on words was written, and the outcome is as specified
 pub record Reports (command : Command) (L : ℕ) (T : Words) (root : ℕ) (before after : Option (List ℕ)) (outcome : Outcome) : Type 0 where
   pub text : IfSome (report_of command L T root) (Appends before after)
   pub complete : IfSome (completeness_of command L T root) (λ b. outcome.is_complete ≡ b)
@@ -91,7 +92,7 @@ abbrev pub ReportsOf : Request → (before after : Option (List ℕ)) → Outcom
 ReportsOf request before after outcome o =
     Reports request.command (level_count o.start.levels) (words_of_dump o.dump) o.start.root before after outcome
 
--- what a run on a file does
+-- the result and the output of a run on a file
 abbrev pub Runs : Request → (file : List ℕ) → (before after : Option (List ℕ)) → Result Outcome Failure → Type 0
 Runs request file before after (Ok outcome) = (o : Opened) × (opened_for request file ≡ Ok o) × ReportsOf request before after outcome o
 Runs request file before after (Err failure) = FailsBy failure (opened_for request file)

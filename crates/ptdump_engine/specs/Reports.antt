@@ -1,4 +1,4 @@
--- Reports: what the program writes of words, where there are L levels of tables below a root.
+-- Reports: the texts of the program for words, with L levels of tables below a root.
 use Rattle.std.specs.Prelude.{ℕ, ◌+◌, ◌-◌, ◌%◌, Bool, List, filter, is_some}
 use Rattle.std.specs.List.{flat_map, list_all, list_any}
 use Rattle.x86_64_model.specs.Mappings.{Mapping, mappings_of}
@@ -22,24 +22,24 @@ pages_text L T root = flat_map (λ m. line (mapping_text L m)) (mappings_of L T 
 unfoldable pub walks_text : (L : ℕ) → Words → (root : ℕ) → (addresses : List ℕ) → List ℕ
 walks_text L T root addresses = flat_map (λ a. walk_text (walk_of L T root (a % position_count L))) addresses
 
--- the virtual address in a mapping that leads to a physical one
+-- the line for the virtual address in a mapping that leads to a physical address
 abbrev pub found_text : (L physical : ℕ) → Mapping → List ℕ
 found_text L a m = access_text (raw L (m.start + (a - m.frame))) m.rights
 
--- a line for each virtual address that leads to a physical one, in order
+-- a line for each virtual address that leads to a physical address, in order
 unfoldable pub addresses_text : (L : ℕ) → Words → (root physical : ℕ) → List ℕ
 addresses_text L T root a = flat_map (λ m. line (found_text L a m)) (filter (leads_to a) (mappings_of L T root))
 
--- the same for each physical address
+-- likewise for each of several physical addresses
 unfoldable pub find_text : (L : ℕ) → Words → (root : ℕ) → (physical : List ℕ) → List ℕ
 find_text L T root physical = flat_map (addresses_text L T root) physical
 
--- ---- whether all is as asked
+-- ---- whether the request is fulfilled
 
 -- whether the page walks to virtual addresses all arrive
 abbrev pub all_arrive : (L : ℕ) → Words → (root : ℕ) → (addresses : List ℕ) → Bool
 all_arrive L T root addresses = list_all (λ a. is_some (page_walk L T root (a % position_count L))) addresses
 
--- whether a virtual address leads to each of these physical ones
+-- whether a virtual address leads to each of these physical addresses
 abbrev pub all_found : (L : ℕ) → Words → (root : ℕ) → (physical : List ℕ) → Bool
 all_found L T root physical = list_all (λ a. list_any (leads_to a) (mappings_of L T root)) physical

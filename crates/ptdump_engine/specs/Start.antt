@@ -1,4 +1,4 @@
--- Start: the root and the number of levels, by what is asked and by QEMU's note of a processor.
+-- Start: the root and the number of levels, from the request and from QEMU's note of a processor.
 -- Intel SDM vol. 3A, "Control Registers": bits 12 to 51 of CR3 are the address of the root's table, bit 12 of CR4 is LA57.
 use Rattle.std.specs.Prelude.{ℕ, Bool, ◌||◌, if◌then◌else◌, List, [], ◌∷◌, length, slice_get, Option, None, Some, is_none, Result, Ok, Err}
 use Rattle.std.specs.Option.{option_map_or, unwrap_or}
@@ -14,12 +14,12 @@ use Rattle.ptdump_engine.specs.declared.request.Request.{Request}
 use Rattle.ptdump_engine.specs.declared.start.Start.{Start}
 use Rattle.ptdump_engine.specs.Steps.{and_then, of_dump}
 
--- a processor's note among those that there are; none is missed where there is none at all
+-- the note of a processor; it is no failure if the file has no notes at all
 abbrev pub note_of : (cpu : ℕ) → (notes : List Note) → Result (Option Note) Failure
 note_of cpu [] = Ok None
 note_of cpu (note ∷ notes) = option_map_or (λ n. Ok (Some n)) (slice_get (note ∷ notes) cpu) (Err (failures.NoProcessor cpu (length (note ∷ notes))))
 
--- notes are read only where an option doesn't stand in for them
+-- notes are read only if CR3 or the number of levels isn't given
 abbrev pub note_needed : Request → Contents → Result (Option Note) Failure
 note_needed request dump =
     if is_none request.cr3 || is_none request.levels then note_of (unwrap_or request.cpu 0) (processors_of dump) else Ok None

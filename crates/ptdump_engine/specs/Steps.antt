@@ -1,4 +1,4 @@
--- Steps: what is to be found one after the other, and calls that find it.
+-- Steps: expected results, step by step, and calls that return them.
 use Rattle.std.specs.Prelude.{◌≡◌, Option, None, Some, Result, Ok, Err, ⊤}
 use Rattle.x86_64_dump.specs.declared.error.Fault.{Fault}
 use Rattle.ptdump_engine.specs.declared.failure.Failure.{Failure}
@@ -8,7 +8,7 @@ abbrev pub and_then : {A B : Type 0} → Result A Failure → (A → Result B Fa
 and_then (Ok a) f = f a
 and_then (Err failure) f = Err failure
 
--- what a dump says
+-- the result of reading a dump, as a step of a run
 abbrev pub of_dump : {A : Type 0} → Result A Fault → Result A Failure
 of_dump (Ok a) = Ok a
 of_dump (Err fault) = Err (failures.Dump fault)
@@ -17,19 +17,19 @@ abbrev pub unless : {A : Type 0} → Option Failure → A → Result A Failure
 unless None a = Ok a
 unless (Some failure) a = Err failure
 
--- memory was refused, or a write failed
+-- memory allocation or a write failed
 abbrev pub IsForced : Failure → Type 0
 IsForced failures.OutOfMemory = ⊤
 IsForced failures.Output = ⊤
 IsForced failure = ⊥
 
--- a call fails with the failure that was to be found, unless memory was refused or a write failed
+-- a call fails with the expected failure, unless memory allocation or a write failed
 abbrev pub FailsBy : {A : Type 0} → Failure → Result A Failure → Type 0
 FailsBy failures.OutOfMemory found = ⊤
 FailsBy failures.Output found = ⊤
 FailsBy failure found = found ≡ Err failure
 
--- a call gives what was to be found
+-- a call returns the expected result, unless memory allocation or a write failed
 abbrev pub Finds : {A : Type 0} → Result A Failure → Result A Failure → Type 0
 Finds (Ok a) found = found ≡ Ok a
 Finds (Err failure) found = FailsBy failure found

@@ -1,5 +1,6 @@
--- Walks: which words the page walk to a position reads, one below the other, and how it ends.
--- Intel SDM vol. 3A, "Linear-Address Translation with 4-Level Paging and 5-Level Paging"; AMD APM vol. 2, "Long-Mode Page Translation".
+-- Walks: the words that the page walk to a position reads, one below the other, and how it ends. The position of an address is
+-- its number counted without the gap of non-canonical addresses. Intel SDM vol. 3A, "Linear-Address Translation with 4-Level
+-- Paging and 5-Level Paging"; AMD APM vol. 2, "Long-Mode Page Translation".
 use Rattle.std.specs.Prelude.{zero, suc, ℕ, ◌+◌, ◌%◌, ◌++◌, Bool, true, false, cond, List, [], ◌∷◌, map, Option, Some, None, codes, decimal}
 use Rattle.std.specs.List.{flat_map}
 use Rattle.std.specs.Option.{option_map_or}
@@ -12,8 +13,8 @@ use Rattle.x86_64_model.specs.Position.{index, span}
 use Rattle.x86_64_mappings.specs.Texts.{rights_text}
 use Rattle.ptdump_engine.specs.declared.word_read.WordRead.{WordRead}
 
--- how a walk ends: it arrives at a physical address, or a word lacks PRESENT, or a table isn't there, or a word of a level at which no
--- entry maps a page has HUGE_PAGE
+-- the end of a walk: it arrives at a physical address, a word lacks PRESENT, a table is missing, or a word has HUGE_PAGE at a
+-- level at which no entry maps a page
 pub data End : Type 0 where
   arrives_at : (address : ℕ) → End
   not_present : End
@@ -24,7 +25,7 @@ pub record Walk : Type 0 where
   pub words : List WordRead
   pub end : End
 
--- a walk that ends so, and reads no word before
+-- a walk that reads no word and has this end
 abbrev pub ends : End → Walk
 ends end = record { words = []; end = end }
 
@@ -32,14 +33,14 @@ ends end = record { words = []; end = end }
 abbrev pub after : WordRead → Walk → Walk
 after word walk = record { words = word ∷ walk.words; end = walk.end }
 
--- what follows a word of a level in a walk to position p, where the walk goes on so in the table that the word names
+-- the rest of a walk to position p after a word of a level, if `below` is the walk in the table that the word names
 abbrev pub behind : (p level word : ℕ) → (below : Walk) → Walk
 behind p level e below = cond (present e)
     (cond (maps_page level e) (ends (arrives_at (page_start level e + p % span level)))
     (cond (huge e) (ends (huge_page level)) below))
     (ends not_present)
 
--- the walk on to position p from a frame's table of a level
+-- the rest of the walk to position p from the table of a level in a frame
 unfoldable pub walk_from : Words → (p level frame : ℕ) → Walk
 walk_from T p zero frame = ends not_present
 walk_from T p (suc n) frame = let level = suc n in option_map_or
@@ -50,11 +51,11 @@ walk_from T p (suc n) frame = let level = suc n in option_map_or
 abbrev pub walk_of : (L : ℕ) → Words → (root p : ℕ) → Walk
 walk_of L T root p = walk_from T p L root
 
--- what all words of a walk allow
+-- the rights that all words of a walk allow
 abbrev pub walk_rights : Walk → Rights
 walk_rights walk = rights_of (map (λ w. w.word) walk.words)
 
--- where a walk arrives, as the page walk says it
+-- the arrival of a walk, in the form of the page walk's result
 abbrev pub arrival_with : Rights → End → Option Walked
 arrival_with rights (arrives_at to) = arrives to rights.write rights.user
 arrival_with rights end = None
@@ -67,25 +68,25 @@ arrival_of walk = arrival_with (walk_rights walk) walk.end
 abbrev pub line : (text : List ℕ) → List ℕ
 line text = text ++ 10 ∷ []
 
--- level L 0xTABLE[INDEX] 0xWORD
+-- the text "level L 0xTABLE[INDEX] 0xWORD"
 abbrev pub word_text : WordRead → List ℕ
 word_text w = codes "level " ++ decimal w.level ++ codes " " ++ hexadecimal w.table ++ codes "[" ++ decimal w.index ++ codes "] " ++ hexadecimal w.word
 
--- table 0xFRAME is not in the dump
+-- the text "table 0xFRAME is not in the dump"
 abbrev pub missing_text : (frame : ℕ) → List ℕ
 missing_text frame = codes "table " ++ hexadecimal frame ++ codes " is not in the dump"
 
--- 0xADDRESS RIGHTS
+-- the text "0xADDRESS RIGHTS"
 abbrev pub access_text : (address : ℕ) → Rights → List ℕ
 access_text address rights = hexadecimal address ++ codes " " ++ rights_text rights.write rights.user rights.execute
 
--- where the walk arrives, or why it arrives nowhere
+-- the address at which the walk arrives, or why it doesn't arrive
 abbrev pub end_text : Rights → End → List ℕ
 end_text rights (arrives_at to) = access_text to rights
 end_text rights not_present = codes "not present"
 end_text rights (no_table frame) = missing_text frame
 end_text rights (huge_page level) = codes "HUGE_PAGE at level " ++ decimal level
 
--- a line for each word, and one for the end
+-- a line for each word, and a line for the end
 unfoldable pub walk_text : Walk → List ℕ
 walk_text walk = flat_map (λ w. line (word_text w)) walk.words ++ line (end_text (walk_rights walk) walk.end)

@@ -1,4 +1,4 @@
-//! Addresses, with what is allowed there.
+//! Addresses with their rights.
 ghost use Rattle.std.specs.Prelude.{Some};
 
 use std::fmt::{Display, Formatter, Result as FmtResult, Write};
@@ -6,12 +6,12 @@ use x86_64_mappings::text::write_rights;
 use x86_64_numbers::write_hexadecimal;
 use x86_64_tables::phys_memory::Rights;
 
-/// Says what is allowed at an address.
+/// An address with the rights that are allowed there.
 #[derive(Clone, Copy)]
 pub struct Access {
     /// The address.
     pub address: u64,
-    /// What is allowed there.
+    /// The rights.
     pub rights: Rights,
 }
 

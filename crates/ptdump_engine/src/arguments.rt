@@ -1,4 +1,4 @@
-//! Tests of what is asked.
+//! Tests of the request.
 ghost use Rattle.std.specs.Prelude.{◌≡◌, ◌^◌, nat_le, not};
 ghost use Rattle.std.specs.List.{find};
 ghost use Rattle.x86_64_dump.specs.Dump.{words_of_dump};
@@ -12,10 +12,10 @@ use x86_64_dump::{ByteSource, Dump};
 use x86_64_page::frame::PhysFrame;
 use x86_64_page::page::Size4KiB;
 
-/// The number that physical addresses are below.
+/// The end of the physical addresses.
 const PHYSICAL_END: u64 = 1 << 52;
 
-/// Says why an address of a command is none: the first one that isn't.
+/// Returns a failure for the first invalid address of a command, or `None` if all are valid.
 pub fn argument_failure(command: &Command, levels: Levels) -> Option<Failure>
     ensures { result ≡ program.argument_failure levels command.now }
 {
@@ -32,7 +32,7 @@ pub fn argument_failure(command: &Command, levels: Levels) -> Option<Failure>
     }
 }
 
-/// Gives the first address that isn't canonical.
+/// Returns the first address that isn't canonical.
 fn first_not_canonical(addresses: &[u64], levels: Levels) -> Option<u64>
     ensures { let levels = program.level_count levels in
         result ≡ find (λ a. not (program.is_canonical levels a)) addresses.now }
@@ -43,7 +43,7 @@ fn first_not_canonical(addresses: &[u64], levels: Levels) -> Option<u64>
         .find(|address| !is_canonical(*address, levels))
 }
 
-/// Gives the first address that isn't below 2^52.
+/// Returns the first address that isn't below 2^52.
 fn first_not_physical(addresses: &[u64]) -> Option<u64>
     ensures { result ≡ find (λ a. nat_le (2 ^ 52) a) addresses.now }
 {
@@ -53,7 +53,7 @@ fn first_not_physical(addresses: &[u64]) -> Option<u64>
         .find(|address| *address >= PHYSICAL_END)
 }
 
-/// Tells whether an address is canonical.
+/// Returns true if the address is canonical.
 fn is_canonical(address: u64, levels: Levels) -> bool
     ensures { result ≡ program.is_canonical (program.level_count levels) address }
 {
@@ -63,7 +63,8 @@ fn is_canonical(address: u64, levels: Levels) -> bool
     }
 }
 
-/// Says why nothing can be reported of a root: the dump lacks its table, and the command isn't a walk, which says that itself.
+/// Returns a failure if nothing can be reported on a root: the dump lacks its table, and the command isn't a walk, which
+/// reports that itself.
 pub fn root_failure<S: ByteSource>(
     dump: &Dump<S>,
     command: &Command,

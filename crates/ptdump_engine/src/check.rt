@@ -1,4 +1,4 @@
-//! The report of what is amiss.
+//! The report of a check.
 ghost use Rattle.std.specs.Prelude.{⊤};
 
 use crate::loaded::Loaded;
@@ -10,17 +10,17 @@ use x86_64_addr::level_count::LevelCount;
 use x86_64_mappings::RegionIn;
 use x86_64_summaries::{Visitor, visit_regions};
 
-/// Says what is amiss with regions.
+/// A flaw of a region.
 #[derive(Clone, Copy)]
 enum Flaw {
-    /// What may be written may be executed, too.
+    /// Writable memory is also executable.
     WritableAndExecutable,
-    /// User code reaches the upper half.
+    /// User code can access the upper half.
     UserInUpperHalf,
 }
 
 impl Flaw {
-    /// Tells whether a region has the flaw.
+    /// Returns true if a region has the flaw.
     fn is_in<L: LevelCount>(self, region: &RegionIn<L>) -> bool {
         match self {
             Flaw::WritableAndExecutable => region.write && region.execute,
@@ -30,7 +30,7 @@ impl Flaw {
         }
     }
 
-    /// Returns what is written before a region.
+    /// Returns the text before a region.
     fn text(self) -> &'static str {
         match self {
             Flaw::WritableAndExecutable => "writable and executable",
@@ -39,7 +39,7 @@ impl Flaw {
     }
 }
 
-/// Writes a line for each region with a flaw, and counts them.
+/// A visitor that writes a line for each region with a flaw, and counts them.
 #[derive(Drop)]
 struct FlawedRegions<'a, 'b, W: Write> {
     flaw: Flaw,
@@ -66,11 +66,11 @@ impl<L: LevelCount, W: Write> Visitor<RegionIn<L>> for FlawedRegions<'_, '_, W> 
     ghost both = { λ _ _ _ _ _ _ _. tt };
 }
 
-/// Writes a line for each finding, and how many there are, which is the answer.
+/// Writes a line for each finding and a line with their number, and returns the number.
 ///
 /// # Errors
 ///
-/// `OutputError::OutOfMemory` if memory is refused, `OutputError::Write` if a write fails.
+/// `OutputError::OutOfMemory` if memory allocation fails, `OutputError::Write` if a write fails.
 pub fn write_findings<L: LevelCount, W: Write>(
     alloc: Global,
     loaded: &Loaded<'_, L>,
@@ -84,7 +84,7 @@ pub fn write_findings<L: LevelCount, W: Write>(
     Ok(count)
 }
 
-/// Writes a line for each region with a flaw, and returns how many there are.
+/// Writes a line for each region with a flaw, and returns the number of lines.
 fn write_regions<L: LevelCount, W: Write>(
     loaded: &Loaded<'_, L>,
     flaw: Flaw,
@@ -99,7 +99,7 @@ fn write_regions<L: LevelCount, W: Write>(
     Ok(regions.count)
 }
 
-/// Writes a line for each finding in the tables, and returns how many there are.
+/// Writes a line for each finding in the tables, and returns the number of lines.
 fn write_tables<L: LevelCount, W: Write>(
     alloc: Global,
     loaded: &Loaded<'_, L>,

@@ -1,4 +1,4 @@
-//! The run.
+//! The run of the program.
 ghost use Rattle.std.specs.Prelude.{◌≡◌, None, OnOk, IfOk, IfErr, IfSome};
 ghost use Rattle.std.specs.Io.KnownBytes.{Appends};
 ghost use Rattle.x86_64_dump.specs.Dump.{words_of_dump};
@@ -30,16 +30,17 @@ use x86_64_page::page::Size4KiB;
 use x86_64_summaries::Summaries;
 use x86_64_tables::phys_memory::IdentityMapping;
 
-/// Runs the program on the bytes of a file: opens it as a dump, reads the tables that a root leads to, and writes to `writer` the
-/// report that is asked for. What is asked is tested before anything is written. `progress` is told of the tables as they are read.
+/// Runs the program on the bytes of a file: opens it as a dump, reads the tables that a root leads to, and writes the requested
+/// report to `writer`. The request is tested before anything is written there. `progress` is called as the tables are read.
 ///
-/// `errors` gets what standard error holds besides: that the file is shorter than its headers say, how an image came about, and at
-/// last how many tables were read and how much they map.
+/// `errors` receives the rest of the text for standard error: that the file is shorter than its headers say, how an image was
+/// created, and finally the number of tables that were read and how much they map.
 ///
 /// # Errors
 ///
-/// If the file is no dump, if where walks start can't be found out, if an address is none or the root isn't in the dump, each before
-/// anything is written to `writer`. If memory is refused, or a read or a write fails.
+/// A failure if the file isn't a dump, the start of page walks can't be determined, an address is invalid, or the root isn't in
+/// the dump, all before anything is written to `writer`. A walk reports a missing root itself. A failure if memory allocation,
+/// a read or a write fails.
 pub fn run<S: ByteSource, W: Write, E: Write, G: Progress>(
     alloc: Global,
     source: S,
@@ -71,7 +72,7 @@ pub fn run<S: ByteSource, W: Write, E: Write, G: Progress>(
     }
 }
 
-/// Writes at once if the file is shorter than its headers say.
+/// Writes immediately if the file is shorter than its headers say.
 fn write_short<S: ByteSource, E: Write>(
     dump: &Dump<S>,
     notes: &mut Output<'_, E>,
@@ -86,7 +87,7 @@ fn write_short<S: ByteSource, E: Write>(
     Ok(())
 }
 
-/// Finds out where walks start, and tests what is asked.
+/// Determines the start of page walks, and tests the request.
 #[tactic(auto, unfolding(crate::specs::Program::start_for))]
 fn start_for<S: ByteSource>(
     alloc: Global,
@@ -107,7 +108,7 @@ fn start_for<S: ByteSource>(
     Ok(start)
 }
 
-/// Reads the tables that a root leads to, and writes a command's report of them, and what they are all together.
+/// Reads the tables that a root leads to, and writes a command's report on them, and the totals.
 fn report<L: LevelCount, S: ByteSource, W: Write, E: Write, G: Progress>(
     alloc: Global,
     dump: &Dump<S>,
@@ -138,7 +139,7 @@ fn report<L: LevelCount, S: ByteSource, W: Write, E: Write, G: Progress>(
     Ok(Outcome { is_complete })
 }
 
-/// Writes a command's whole report, and tells whether all is as asked.
+/// Writes a command's whole report, and returns true if the request is fulfilled.
 fn write_whole<L: LevelCount, S: ByteSource, W: Write, E: Write>(
     alloc: Global,
     dump: &Dump<S>,
@@ -161,7 +162,7 @@ fn write_whole<L: LevelCount, S: ByteSource, W: Write, E: Write>(
     Ok(is_complete)
 }
 
-/// Writes a command's report, and tells whether all is as asked.
+/// Writes a command's report, and returns true if the request is fulfilled.
 fn write_report<L: LevelCount, S: ByteSource, W: Write, E: Write>(
     alloc: Global,
     dump: &Dump<S>,
@@ -201,7 +202,7 @@ fn write_report<L: LevelCount, S: ByteSource, W: Write, E: Write>(
     }
 }
 
-/// Writes how many tables were read, and how much they map.
+/// Writes the number of tables that were read, and how much they map.
 fn write_totals<L: LevelCount, E: Write>(
     loaded: &Loaded<'_, L>,
     notes: &mut Output<'_, E>,

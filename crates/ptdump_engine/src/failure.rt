@@ -9,23 +9,23 @@ use std::fmt::{Display, Formatter, Result as FmtResult, Write};
 use std::io;
 use x86_64_dump::{DumpError, Fault};
 
-/// Says why a run failed.
+/// The reason why a run failed.
 #[derive(Debug, Drop)]
 pub enum Failure {
-    /// Neither the request nor a note of the file says the CR3.
+    /// Neither the request nor a note of the file has the CR3.
     NoCr3,
-    /// The file has no note of the processor that was asked for.
+    /// The file has no note of the requested processor.
     NoProcessor {
         /// The processor.
         cpu: u64,
-        /// How many notes of processors there are.
+        /// The number of notes of processors.
         count: usize,
     },
     /// An address to walk to isn't canonical.
     NotCanonical {
         /// The address.
         address: u64,
-        /// How many levels of tables there are.
+        /// The number of levels of tables.
         levels: Levels,
     },
     /// A physical address is 2^52 or more.
@@ -38,11 +38,11 @@ pub enum Failure {
         /// The address of the root's frame.
         root: u64,
     },
-    /// The file is no dump that can be read.
+    /// The file isn't a readable dump.
     Dump(Fault),
     /// A read of the file failed.
     Read(io::Error),
-    /// Memory was refused.
+    /// Memory allocation failed.
     OutOfMemory,
     /// A write failed.
     Output,
@@ -51,7 +51,7 @@ pub enum Failure {
 impl Failure {
     ghost use Rattle.ptdump_engine.specs.Failure.{status_of};
 
-    /// Gives the exit status: 2 for what was asked, 3 for the file, 4 for want of memory, 5 for a failed write.
+    /// Returns the exit status: 2 for the request, 3 for the file, 4 for a failed memory allocation, 5 for a failed write.
     pub fn status(&self) -> u8
         ensures { result ≡ status_of self.now }
     {

@@ -12,7 +12,7 @@ use x86_64_mappings::MappingIn;
 use x86_64_summaries::Visitor;
 use x86_64_tables::phys_memory::Rights;
 
-/// Takes lines that say what is allowed at addresses.
+/// A destination for lines that describe the rights at addresses.
 pub trait AccessLines {
     /// That a text was put in.
     ghost puts: { Self → Self → List ℕ → Type 0 };
@@ -44,11 +44,11 @@ impl<W: Write> AccessLines for Output<'_, W> {
     }
 }
 
-/// Writes a line for each virtual address that leads to a physical one, by the mappings that it visits.
+/// A visitor that writes a line for each virtual address that leads to a physical address, from the mappings that it visits.
 ///
-/// The lines are put into an [`Output`], which is a parameter so that contracts know it again once it is given back.
+/// The lines are put into an [`Output`], which is a type parameter so that contracts can identify it once it is returned.
 pub struct Finder<'a, O: AccessLines> {
-    /// Where the lines are put.
+    /// The destination of the lines.
     output: &'a mut O,
     /// The physical address.
     physical: PhysAddr,
@@ -69,7 +69,7 @@ impl<O: AccessLines> Drop for Finder<'_, O> {
 }
 
 impl<'a, O: AccessLines> Finder<'a, O> {
-    /// Begins a search for a physical address.
+    /// Begins the search for a physical address.
     pub fn new(output: &'a mut O, physical: PhysAddr) -> Self
         ensures name { result.output.ghost_name ≡ output.entry.ghost_name }
         ensures now { result.output.now ≡ output.old }
@@ -92,7 +92,7 @@ impl<L: LevelCount, O: AccessLines> Visitor<MappingIn<L>> for Finder<'_, O> {
 
     ghost Visits = { λ old new mappings. IsSearched O.puts L.LEVELS old new mappings };
 
-    /// Writes the virtual address in a mapping that leads to the physical one.
+    /// Writes the virtual address in a mapping that leads to the physical address.
     fn visit(&mut self, mapping: MappingIn<L>) -> Result<(), OutputError> {
         let start = mapping.frame.start_address().as_u64();
         let offset = self.physical.as_u64().saturating_sub(start);

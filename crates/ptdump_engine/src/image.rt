@@ -11,13 +11,14 @@ use std::io::Write;
 use x86_64_addr::level_count::LevelCount;
 use x86_64_dump::{ByteSource, Dump};
 
-/// Writes an image of the tables to the output, and how it came about to `errors`.
+/// Writes an image of the tables to the output, and how it was created to `errors`.
 ///
 /// The tables are read again, each for its lines and for what `pagetab` refuses.
 ///
 /// # Errors
 ///
-/// `Failure::Read` if the dump can't be read, `Failure::OutOfMemory` if memory is refused, `Failure::Output` if a write fails.
+/// `Failure::Read` if the dump can't be read, `Failure::OutOfMemory` if memory allocation fails, `Failure::Output` if a write
+/// fails.
 pub fn write_image<L: LevelCount, S: ByteSource, W: Write, E: Write>(
     alloc: Global,
     dump: &Dump<S>,

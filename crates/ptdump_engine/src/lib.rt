@@ -1,4 +1,4 @@
-//! Runs the program `ptdump`: reads the page tables of a dump of physical memory, and reports what they map.
+//! The program `ptdump`: reads the page tables of a dump of physical memory, and reports what they map.
 #![tactic(auto)]
 
 mod access;

@@ -17,7 +17,7 @@ impl<L: LevelCount, W: Write> Visitor<MappingIn<L>> for Output<'_, W> {
     ghost Visits = { λ old new mappings.
         Puts W.contents old new (flat_map (λ m. line (mapping_text L.LEVELS m)) mappings) };
 
-    /// Puts a line in for a mapping.
+    /// Writes a line for a mapping.
     fn visit(&mut self, mapping: MappingIn<L>) -> Result<(), OutputError> {
         writeln!(self, "{mapping}")
     }
@@ -34,7 +34,7 @@ impl<L: LevelCount, W: Write> Visitor<RegionIn<L>> for Output<'_, W> {
     ghost Visits = { λ old new regions.
         Puts W.contents old new (flat_map (λ r. line (region_text L.LEVELS r)) regions) };
 
-    /// Puts a line in for a region.
+    /// Writes a line for a region.
     fn visit(&mut self, region: RegionIn<L>) -> Result<(), OutputError> {
         writeln!(self, "{region}")
     }

@@ -1,4 +1,4 @@
-//! What reports are made of.
+//! The data for reports.
 
 use std::marker::PhantomData;
 use x86_64_addr::level_count::LevelCount;
@@ -8,10 +8,10 @@ use x86_64_page::page::Size4KiB;
 use x86_64_summaries::Summaries;
 use x86_64_tables::phys_memory::{IdentityMapping, PhysMemory};
 
-/// Holds what all reports are made of: the tables that a root leads to, with as many levels as `L` says, and what they map.
+/// The data for all reports: the tables that a root leads to, with the number of levels of `L`, and what they map.
 #[derive(Clone, Copy)]
 pub struct Loaded<'a, L: LevelCount> {
-    /// The root's frame.
+    /// The frame of the root.
     pub root: PhysFrame<Size4KiB>,
     /// The tables.
     pub tables: &'a DumpTables,

@@ -1,17 +1,17 @@
-//! Output that is collected, and handed on in large pieces.
+//! Output that is collected, and passed on in large pieces.
 ghost use Rattle.std.specs.Prelude.{◌≡◌, IfSome, OnOk, string_bytes, []};
 
 use std::alloc::{AllocError, Global};
 use std::fmt::Display;
 use std::io::Write;
 
-/// How many bytes are collected before they are handed on.
+/// The number of bytes that are collected before they are passed on.
 const PIECE: usize = 0x1_0000;
 
-/// Says why a text wasn't put into an output.
+/// The reason why a text wasn't put into an output.
 #[derive(Clone, Copy, Debug, PartialEq, Eq)]
 pub enum OutputError {
-    /// Memory was refused.
+    /// Memory allocation failed.
     OutOfMemory,
     /// A write failed.
     Write,
@@ -27,17 +27,17 @@ impl From<AllocError> for OutputError {
     }
 }
 
-/// Collects text for a writer, and hands it on in pieces of 64 KiB and more, the rest at the end.
+/// A buffer for a writer. Text is passed on in pieces of 64 KiB or more, and the rest at the end.
 ///
-/// What the writer holds and what is collected is, one behind the other, what was put in. The text is a `String`; it is a parameter
-/// so that contracts know the writer again that was lent.
+/// The contents of the writer followed by the collected text are all that was put in. The text is a `String`. It is a type
+/// parameter so that contracts can identify the borrowed writer once it is returned.
 pub struct Output<'a, W: Write, T: Drop = String> {
     writer: &'a mut W,
     text: T,
 }
 
 impl<W: Write, T: Drop> Drop for Output<'_, W, T> {
-    /// Gives the writer back as it is. What is still collected is lost.
+    /// Returns the writer as it is. Text that is still collected is lost.
     fn drop(self)
         ensures { self.exit.0.now ≡ self.entry.writer.now }
     {
@@ -49,7 +49,7 @@ impl<W: Write, T: Drop> Drop for Output<'_, W, T> {
 }
 
 impl<'a, W: Write> Output<'a, W> {
-    /// Begins with nothing collected.
+    /// Creates an output with nothing collected.
     pub fn new(alloc: Global, writer: &'a mut W) -> Self
         ensures writer { result.writer.ghost_name ≡ writer.entry.ghost_name }
         ensures now { result.writer.now ≡ writer.old }
@@ -69,7 +69,7 @@ impl<W: Write> Output<'_, W> {
     ///
     /// # Errors
     ///
-    /// `OutputError::OutOfMemory` if memory is refused, `OutputError::Write` if a write fails.
+    /// `OutputError::OutOfMemory` if memory allocation fails, `OutputError::Write` if a write fails.
     pub fn write_fmt<D: Display + Drop>(&mut self, text: D) -> Result<(), OutputError>
         ensures { OnOk result (IfSome (D.output text) (Puts W.contents self.old self.new)) }
     {
@@ -80,7 +80,7 @@ impl<W: Write> Output<'_, W> {
         self.hand_on()
     }
 
-    /// Hands the rest on.
+    /// Passes the rest on, and flushes the writer.
     ///
     /// # Errors
     ///
@@ -93,7 +93,7 @@ impl<W: Write> Output<'_, W> {
         self.writer.flush().map_err(|_| OutputError::Write)
     }
 
-    /// Hands on what is collected.
+    /// Passes on the collected text.
     fn hand_on(&mut self) -> Result<(), OutputError>
         ensures same { OnOk result (Puts W.contents self.old self.new []) }
         ensures all { OnOk result (string_bytes self.new.text ≡ []) }

@@ -12,7 +12,7 @@ use x86_64_mappings::RegionIn;
 use x86_64_summaries::{Visitor, visit_regions};
 use x86_64_tables::phys_memory::IdentityMapping;
 
-/// Collects the regions that it visits.
+/// A visitor that collects the regions.
 #[derive(Drop)]
 struct Collector<L: LevelCount> {
     regions: Vec<RegionIn<L>>,
@@ -37,7 +37,7 @@ impl<L: LevelCount> Visitor<RegionIn<L>> for Collector<L> {
 ///
 /// # Errors
 ///
-/// If memory is refused, or a write fails.
+/// `OutputError::OutOfMemory` if memory allocation fails, `OutputError::Write` if a write fails.
 pub fn write_picture<L: LevelCount, W: Write>(
     alloc: Global,
     loaded: &Loaded<'_, L>,
@@ -64,7 +64,7 @@ pub fn write_picture<L: LevelCount, W: Write>(
     write!(output, "{picture}")
 }
 
-/// Finds out which tables name which, or gives nothing if there are too many to be drawn.
+/// Returns the links between tables, or no links if there are too many tables to be drawn.
 fn links_of<L: LevelCount>(
     alloc: Global,
     loaded: &Loaded<'_, L>,

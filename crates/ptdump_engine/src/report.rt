@@ -24,7 +24,7 @@ use x86_64_tables::phys_memory::{IdentityMapping, PhysMemory};
 ///
 /// # Errors
 ///
-/// If memory is refused, or a write fails.
+/// `OutputError::OutOfMemory` if memory allocation fails, `OutputError::Write` if a write fails.
 #[tactic(auto, unfolding(crate::specs::Reports::regions_text))]
 pub fn write_regions<L: LevelCount, W: Write>(
     loaded: &Loaded<'_, L>,
@@ -45,7 +45,7 @@ pub fn write_regions<L: LevelCount, W: Write>(
 ///
 /// # Errors
 ///
-/// If memory is refused, or a write fails.
+/// `OutputError::OutOfMemory` if memory allocation fails, `OutputError::Write` if a write fails.
 #[tactic(auto, unfolding(crate::specs::Reports::pages_text))]
 pub fn write_pages<L: LevelCount, W: Write>(
     loaded: &Loaded<'_, L>,
@@ -62,11 +62,11 @@ pub fn write_pages<L: LevelCount, W: Write>(
     )
 }
 
-/// Writes the walks to addresses, and tells whether all arrive.
+/// Writes the walks to addresses, and returns true if all arrive.
 ///
 /// # Errors
 ///
-/// If memory is refused, or a write fails.
+/// `OutputError::OutOfMemory` if memory allocation fails, `OutputError::Write` if a write fails.
 pub fn write_walks<L: LevelCount, W: Write>(
     loaded: &Loaded<'_, L>,
     addresses: &[u64],
@@ -86,11 +86,11 @@ pub fn write_walks<L: LevelCount, W: Write>(
     Ok(is_complete)
 }
 
-/// Writes the virtual addresses that lead to physical ones, and tells whether each of these is found.
+/// Writes the virtual addresses that lead to physical addresses, and returns true if there is one for each physical address.
 ///
 /// # Errors
 ///
-/// If memory is refused, or a write fails.
+/// `OutputError::OutOfMemory` if memory allocation fails, `OutputError::Write` if a write fails.
 pub fn write_found<L: LevelCount, W: Write>(
     alloc: Global,
     loaded: &Loaded<'_, L>,
@@ -112,7 +112,7 @@ pub fn write_found<L: LevelCount, W: Write>(
     Ok(is_complete)
 }
 
-/// Writes the virtual addresses that lead to a physical one, and tells whether there are any.
+/// Writes the virtual addresses that lead to a physical address, and returns true if there are any.
 fn write_addresses_to<L: LevelCount, W: Write>(
     alloc: Global,
     loaded: &Loaded<'_, L>,
@@ -130,7 +130,8 @@ fn write_addresses_to<L: LevelCount, W: Write>(
     write_addresses_by::<L, Output<'_, W>>(&summaries, loaded, physical, output)
 }
 
-/// Writes the virtual addresses in all mappings of summaries that lead to a physical one, and tells whether there are any.
+/// Visits the mappings of the summaries that lead to a physical address, writes the virtual addresses, and returns true if
+/// there are any.
 fn write_addresses_by<L: LevelCount, O: AccessLines>(
     summaries: &Summaries<'_, PhysMemory, IdentityMapping>,
     loaded: &Loaded<'_, L>,

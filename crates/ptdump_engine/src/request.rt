@@ -1,6 +1,6 @@
-//! What is asked of a run, and what it answers.
+//! The request to a run, and its outcome.
 
-/// Says how many levels of page tables there are.
+/// The number of levels of page tables.
 #[derive(Clone, Copy, Debug, PartialEq, Eq)]
 pub enum Levels {
     /// Four, with addresses of 48 bits.
@@ -9,7 +9,7 @@ pub enum Levels {
     Five,
 }
 
-/// Says what is to be reported.
+/// The report to write.
 #[derive(Debug, Drop)]
 pub enum Command {
     /// The regions.
@@ -18,34 +18,36 @@ pub enum Command {
     Pages,
     /// The walks to these virtual addresses.
     Walk(Vec<u64>),
-    /// The virtual addresses that lead to each of these physical ones.
+    /// The virtual addresses that lead to each of these physical addresses.
     Find(Vec<u64>),
-    /// What is amiss in the tables.
+    /// The findings in the tables.
     Check,
-    /// The tables as an image that `pagetab` reads.
+    /// The tables as an image for `pagetab`.
     Image,
     /// A picture of the regions and the tables.
     Picture,
 }
 
-/// Says what is asked of a dump.
+/// A request for a report on a dump.
 #[derive(Debug, Drop)]
 pub struct Request {
-    /// What is to be reported.
+    /// The report to write.
     pub command: Command,
-    /// The CR3. If left out it is that of a processor's note in the dump.
+    /// The CR3. If `None`, it is read from a processor's note in the dump.
     pub cr3: Option<u64>,
-    /// How many levels of tables there are. If left out, the CR4 of a processor's note says it, else there are four.
+    /// The number of levels of tables. If `None`, the CR4 in a processor's note determines it, or it is four if there is no
+    /// note.
     pub levels: Option<Levels>,
-    /// The physical address of the first byte of a raw dump, 0 if left out.
+    /// The physical address of the first byte of a raw dump. If `None`, it is 0.
     pub base: Option<u64>,
-    /// Whose note is read, counted from 0 in the order of the notes, the first one if left out.
+    /// The processor whose note is read, counted from 0 in the order of the notes. If `None`, it is the first one.
     pub cpu: Option<u64>,
 }
 
-/// Says how a run that wrote its report ended.
+/// The outcome of a run that wrote its report.
 #[derive(Clone, Copy, Debug, PartialEq, Eq)]
 pub struct Outcome {
-    /// Whether all was as asked: each address of a walk arrives, each physical address of a search is found, a check finds nothing.
+    /// Whether the request is fulfilled: each address of a walk arrives, each physical address of a search is found, a check
+    /// finds nothing.
     pub is_complete: bool,
 }

@@ -1,4 +1,4 @@
-//! Where walks start.
+//! The start of page walks.
 ghost use Rattle.std.specs.Prelude.{◌≡◌, Ok};
 ghost use Rattle.x86_64_dump.specs.Notes.{processors_of};
 ghost use Rattle.x86_64_dump.specs.Opened.{opened};
@@ -17,24 +17,24 @@ use x86_64_page::page::Size4KiB;
 /// The bits of CR3 that are the address of the root's table.
 const ROOT_MASK: u64 = 0x000f_ffff_ffff_f000;
 
-/// The bit of CR4 that says that there are five levels of tables.
+/// The bit of CR4 that enables five levels of tables.
 const LA57: u64 = 0x1000;
 
-/// Says where walks start.
+/// The start of page walks.
 #[derive(Clone, Copy, Debug, PartialEq)]
 pub struct Start {
     /// The frame of the root's table.
     pub root: PhysFrame<Size4KiB>,
-    /// How many levels of tables there are.
+    /// The number of levels of tables.
     pub levels: Levels,
 }
 
-/// Finds out where walks start, by what is asked and by a processor's note.
+/// Determines the start of page walks from the request and a processor's note.
 ///
 /// # Errors
 ///
-/// `Failure::NoCr3` if nothing says the CR3, `Failure::NoProcessor` if a processor's note is needed and isn't among those that there
-/// are, `Failure::Dump` if it is too short.
+/// `Failure::NoCr3` if neither the request nor a note has the CR3, `Failure::NoProcessor` if a note is needed and the file has
+/// notes but not that of the processor, `Failure::Dump` if the note is too short.
 #[tactic(auto, unfolding(crate::specs::Start::start_of))]
 pub fn start_of<S: ByteSource>(
     alloc: Global,
@@ -52,7 +52,7 @@ pub fn start_of<S: ByteSource>(
     })
 }
 
-/// Reads where the note of the processor lies that is asked for, if it is needed.
+/// Finds the note of the requested processor, if it is needed.
 fn needed_note<S: ByteSource>(
     alloc: Global,
     dump: &Dump<S>,
@@ -67,7 +67,7 @@ fn needed_note<S: ByteSource>(
     note_of(&notes, request.cpu.unwrap_or(0))
 }
 
-/// Gives the note of a processor, or `None` if there are none at all.
+/// Returns the note of a processor, or `None` if there are no notes at all.
 fn note_of(notes: &[Note], cpu: u64) -> Result<Option<Note>, Failure>
     ensures { result ≡ starts.note_of cpu notes.now }
 {
@@ -81,7 +81,7 @@ fn note_of(notes: &[Note], cpu: u64) -> Result<Option<Note>, Failure>
     }
 }
 
-/// Gives the CR3 that was given, or reads it from a note.
+/// Returns the CR3 of the request, or reads it from a note.
 fn cr3_of<S: ByteSource>(
     dump: &Dump<S>,
     given: Option<u64>,
@@ -96,7 +96,7 @@ fn cr3_of<S: ByteSource>(
     }
 }
 
-/// Gives the levels that were given, or reads from a note how many there are.
+/// Returns the levels of the request, or reads their number from a note.
 fn levels_of<S: ByteSource>(
     dump: &Dump<S>,
     given: Option<Levels>,
@@ -111,7 +111,7 @@ fn levels_of<S: ByteSource>(
     }
 }
 
-/// Says how many levels there are, by CR4.
+/// Returns the number of levels for a CR4.
 #[tactic(auto, unfolding(x86_64_model::specs::Entry::has))]
 fn levels_by(cr4: u64) -> Levels
     ensures { result ≡ starts.levels_by cr4 }
@@ -123,7 +123,7 @@ fn levels_by(cr4: u64) -> Levels
     }
 }
 
-/// Gives the root's frame, by CR3.
+/// Returns the frame of the root for a CR3.
 #[tactic(auto, using(x86_64_model::proofs::Lemmas::Entries::Words::address_aligned), unfolding(x86_64_model::specs::Entry::address))]
 fn root_of(cr3: u64) -> PhysFrame<Size4KiB>
     ensures { result ≡ address cr3 }

@@ -1,23 +1,23 @@
-//! What was read, and what it maps, all together.
+//! The totals of what was read, and what it maps.
 
 use crate::loaded::Loaded;
 use std::fmt::{Display, Formatter, Result as FmtResult, Write};
 use x86_64_addr::level_count::LevelCount;
 use x86_64_mappings::text::write_size;
 
-/// Says how many tables were read, and how much they map.
+/// The number of tables that were read, and how much they map.
 #[derive(Clone, Copy, Debug, PartialEq, Eq)]
 pub struct Totals {
-    /// How many tables there are.
+    /// The number of tables.
     pub tables: usize,
-    /// How many mappings there are.
+    /// The number of mappings.
     pub mappings: u64,
-    /// How many bytes are mapped.
+    /// The number of mapped bytes.
     pub bytes: u64,
 }
 
 impl Totals {
-    /// Says how many tables were read below a root, and how much they map. A root that isn't there maps nothing.
+    /// Returns the totals of the tables below a root. A missing root maps nothing.
     pub fn of<L: LevelCount>(loaded: &Loaded<'_, L>) -> Totals {
         let (mappings, bytes) = match loaded.summaries.of(L::LEVELS, loaded.root) {
             Some(summary) => (summary.count, summary.bytes),

@@ -26,11 +26,11 @@ use x86_64_tables::phys_memory::{
     IdentityMapping, PhysMemory, Rights, has_flag, index_of, table_in,
 };
 
-/// Writes the walk to an address, a line for each word that it reads and one for its end, and tells whether it arrives.
+/// Writes the walk to an address, with a line for each word that it reads and one for its end, and returns true if it arrives.
 ///
 /// # Errors
 ///
-/// If memory is refused, or a write fails.
+/// `OutputError::OutOfMemory` if memory allocation fails, `OutputError::Write` if a write fails.
 #[tactic(auto, unfolding(crate::specs::Walks::walk_text, crate::specs::private::WalkLines::lines_below))]
 pub fn write_walk<L: LevelCount, W: Write>(
     loaded: &Loaded<'_, L>,
@@ -54,7 +54,8 @@ pub fn write_walk<L: LevelCount, W: Write>(
     )
 }
 
-/// Writes how the walk to a position goes on from a frame's table of a level, below words that allow so much.
+/// Writes the rest of the walk to a position, the number of an address counted without the gap, from the table of a level in a
+/// frame. `above` are the rights that the words above allow.
 fn walk_on<W: Write>(
     memory: &PhysMemory,
     position: u64,
@@ -100,7 +101,7 @@ fn walk_on<W: Write>(
     walk_on(memory, position, level - 1, below, rights, output)
 }
 
-/// Writes that the table in a frame isn't there.
+/// Writes that the table in a frame is missing.
 fn write_missing<W: Write>(
     frame: PhysFrame<Size4KiB>,
     output: &mut Output<'_, W>,
@@ -118,7 +119,7 @@ fn write_word<W: Write>(read: WordRead, output: &mut Output<'_, W>) -> Result<()
     writeln!(output, "{read}")
 }
 
-/// Writes that a word of a level has `HUGE_PAGE`, though none of the level maps a page.
+/// Writes that a word has `HUGE_PAGE` at a level at which no entry maps a page.
 fn write_huge<W: Write>(level: u64, output: &mut Output<'_, W>) -> Result<(), OutputError>
     ensures { (rights : Allowed) → OnOk result (Puts W.contents output.old output.new
         (walks.line (walks.end_text rights (walks.huge_page level)))) }
@@ -126,7 +127,7 @@ fn write_huge<W: Write>(level: u64, output: &mut Output<'_, W>) -> Result<(), Ou
     writeln!(output, "HUGE_PAGE at level {level}")
 }
 
-/// Writes that a walk arrives in the page that an entry of a level maps, with what all entries allow.
+/// Writes that a walk arrives in the page that an entry of a level maps, with the rights that all entries allow.
 fn write_arrival<W: Write>(
     position: u64,
     level: u64,

@@ -1,4 +1,4 @@
-//! What a walk meets, as texts.
+//! The words and missing tables of walks, as texts.
 ghost use Rattle.std.specs.Prelude.{Some};
 
 use std::fmt::{Display, Formatter, Result as FmtResult, Write};
@@ -6,7 +6,7 @@ use x86_64_numbers::write_hexadecimal;
 use x86_64_page::frame::PhysFrame;
 use x86_64_page::page::Size4KiB;
 
-/// Holds a word that a walk reads, and where it stands.
+/// A word that a walk reads, with its table and index.
 #[derive(Clone, Copy, Debug, PartialEq)]
 pub struct WordRead {
     /// The level of its table.
@@ -34,7 +34,7 @@ impl Display for WordRead {
     }
 }
 
-/// Names a frame whose table isn't in the dump.
+/// The frame of a table that isn't in the dump.
 #[derive(Clone, Copy, Debug, PartialEq)]
 pub struct MissingTable(pub PhysFrame<Size4KiB>);
 

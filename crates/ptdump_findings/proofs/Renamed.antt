@@ -1,4 +1,4 @@
--- A word with the address of another frame, and the flags as they are.
+-- A word with the address of another frame and unchanged flags.
 use Rattle.std.proofs.Common.{◌≡◌, ℕ, ap, ◌∙◌, refl, bit_or}
 use Rattle.std.proofs.lemmas.Nat.{and_assoc, and_or_apart, or_comm}
 use Rattle.x86_64_model.specs.Entry.{address, flags}

@@ -1,4 +1,4 @@
--- Texts: what is written of entries and of findings.
+-- Texts: the texts of entries and findings.
 use Rattle.std.specs.Prelude.{ℕ, List, ◌++◌, codes, decimal}
 use Rattle.x86_64_numbers.specs.Numbers.{hexadecimal}
 use Rattle.ptdump_findings.specs.declared.entry.Slot.{Slot}
@@ -14,7 +14,7 @@ slot_text slot = hexadecimal slot.table ++ codes "[" ++ decimal slot.index ++ co
 abbrev pub entry_text : Entry → List ℕ
 entry_text entry = slot_text entry.slot ++ codes " = " ++ hexadecimal entry.word
 
--- the line of a finding, without a line feed
+-- the line of a finding, without its line feed
 abbrev pub finding_text : Finding → List ℕ
 finding_text (NamedOften frame count) =
     codes "table " ++ hexadecimal frame ++ codes " named " ++ decimal count ++ codes " times"

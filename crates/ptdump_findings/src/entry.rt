@@ -1,4 +1,4 @@
-//! Entries, and where they stand.
+//! Page table entries and their slots.
 ghost use Rattle.std.specs.Prelude.{◌≡◌, ◌&&◌, nat_lt, Some};
 ghost use Rattle.x86_64_model.specs.Entry.{present, huge, address, flags};
 
@@ -7,7 +7,7 @@ use x86_64_addr::addr::PhysAddr;
 use x86_64_page::frame::PhysFrame;
 use x86_64_page::page::Size4KiB;
 
-/// The bits of an entry that name an address.
+/// The bits of an entry that are an address.
 const ADDRESS_MASK: u64 = 0x000f_ffff_ffff_f000;
 
 /// The bits of an entry that are flags.
@@ -16,16 +16,16 @@ const FLAGS_MASK: u64 = 0xfff0_0000_0000_0fff;
 /// The highest level at which an entry may map a page.
 const HIGHEST_OF_PAGES: u64 = 3;
 
-/// Names a table: its frame, and the level at which it stands.
+/// A table: its frame and its level.
 #[derive(Clone, Copy, Debug, PartialEq, Eq)]
 pub struct Table {
-    /// The frame in which the table lies.
+    /// The frame of the table.
     pub frame: PhysFrame<Size4KiB>,
     /// The level, counted from 1 for the tables whose entries map pages of 4KiB.
     pub level: u64,
 }
 
-/// Says where an entry stands. Slots are ordered as they lie in memory.
+/// The slot of an entry: a table and an index. Slots are ordered as they are in memory.
 #[derive(Clone, Copy, Debug, PartialEq, Eq, PartialOrd, Ord)]
 pub struct Slot {
     /// The frame of the table.
@@ -46,10 +46,10 @@ impl Display for Slot {
     }
 }
 
-/// Holds the word of an entry, with where it stands.
+/// The word of an entry, with its slot.
 #[derive(Clone, Copy, Debug, PartialEq, Eq)]
 pub struct Entry {
-    /// Where it stands.
+    /// The slot of the entry.
     pub slot: Slot,
     /// The level of its table.
     pub level: u64,
@@ -60,7 +60,7 @@ pub struct Entry {
 impl Entry {
     ghost use Rattle.ptdump_findings.specs.Entries as entries;
 
-    /// Makes the entry at an index of a table.
+    /// Creates the entry at an index of a table.
     pub fn new(table: &Table, index: usize, word: u64) -> Entry
         ensures { result ≡ record {
           slot = record { table = table.now.frame; index = index };
@@ -78,7 +78,7 @@ impl Entry {
         }
     }
 
-    /// Tells whether the entry has `PRESENT`.
+    /// Returns true if the entry has `PRESENT`.
     #[tactic(auto, unfolding(x86_64_model::specs::Entry::has))]
     pub fn is_present(&self) -> bool
         ensures { result ≡ present self.now.word }
@@ -86,7 +86,7 @@ impl Entry {
         self.word & 0x1 == 0x1
     }
 
-    /// Tells whether the entry has `HUGE_PAGE`, whatever its level.
+    /// Returns true if the entry has `HUGE_PAGE`, whatever its level.
     #[tactic(auto, unfolding(x86_64_model::specs::Entry::has))]
     pub fn is_huge(&self) -> bool
         ensures { result ≡ huge self.now.word }
@@ -94,7 +94,7 @@ impl Entry {
         self.word & 0x80 == 0x80
     }
 
-    /// Tells whether the entry means nothing, though it isn't 0: it stands above level one and lacks `PRESENT`.
+    /// Returns true if the entry has no meaning although it isn't 0: it is above level one and lacks `PRESENT`.
     #[tactic(auto, unfolding(x86_64_model::specs::Entry::used))]
     pub fn is_left_out(&self) -> bool
         ensures { result ≡ entries.is_left_out self.now }
@@ -102,14 +102,15 @@ impl Entry {
         self.word != 0 && self.level > 1 && !self.is_present()
     }
 
-    /// Tells whether the entry has `HUGE_PAGE` at a level that has no pages, above level three.
+    /// Returns true if the entry has `HUGE_PAGE` above level three, where no entry maps a page.
     pub fn is_huge_above(&self) -> bool
         ensures { result ≡ (nat_lt 3 self.now.level && huge self.now.word) }
     {
         self.level > HIGHEST_OF_PAGES && self.is_huge()
     }
 
-    /// Tells whether the entry names a table: it has `PRESENT` and maps no page. Above level three `HUGE_PAGE` maps none.
+    /// Returns true if the entry names a table: it is above level one, has `PRESENT` and maps no page. Above level three no
+    /// entry maps a page, even with `HUGE_PAGE`.
     pub fn names_table(&self) -> bool
         ensures { result ≡ entries.names_table self.now }
     {
@@ -124,7 +125,7 @@ impl Entry {
         PhysFrame::from_start_address_unchecked(PhysAddr::new(self.word & ADDRESS_MASK))
     }
 
-    /// Returns the word with the address of another frame, and the flags as they are.
+    /// Returns the word with the address of another frame and unchanged flags.
     #[tactic(auto, unfolding(x86_64_model::specs::Entry::flags))]
     pub fn renamed(&self, frame: PhysFrame<Size4KiB>) -> u64
         ensures flags { flags result ≡ flags self.now.word }

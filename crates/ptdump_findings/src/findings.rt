@@ -1,4 +1,4 @@
-//! What is amiss in page tables that were read from a dump.
+//! Findings in page tables that were read from a dump.
 ghost use Rattle.std.specs.Prelude.{Some};
 
 use crate::entry::Slot;
@@ -9,29 +9,29 @@ use x86_64_page::page::Size4KiB;
 use x86_64_tables::page_table::FrameError;
 use x86_64_tables::phys_memory::{IdentityMapping, PhysMemory, table_in};
 
-/// How many levels, from level one on, have entries that map pages.
+/// The number of levels, from level one on, with entries that map pages.
 const LEVELS_OF_PAGES: usize = 3;
 
-/// Says what is amiss in page tables.
+/// A problem in page tables.
 #[derive(Clone, Copy, Debug, PartialEq, Eq)]
 pub enum Finding {
     /// A frame is named as a table more than once.
     NamedOften {
         /// The frame.
         frame: PhysFrame<Size4KiB>,
-        /// How many entries name it. The root is named once besides.
+        /// The number of entries that name it, and one more for the root.
         count: usize,
     },
     /// An entry names a table that the dump lacks.
     NotInDump {
         /// The frame of the table.
         frame: PhysFrame<Size4KiB>,
-        /// Where the entry stands.
+        /// The slot of the entry.
         by: Slot,
     },
     /// An entry above level three has `HUGE_PAGE`.
     HugePage {
-        /// Where the entry stands.
+        /// The slot of the entry.
         slot: Slot,
         /// The level of its table.
         level: u64,
@@ -59,29 +59,29 @@ impl Display for Finding {
     }
 }
 
-/// Says that an entry names a frame as a table. Names are ordered by the frame.
+/// A frame that an entry names as a table. Names are ordered by the frame first.
 #[derive(Clone, Copy, PartialEq, Eq, PartialOrd, Ord)]
 struct Name {
     frame: PhysFrame<Size4KiB>,
     by: Slot,
 }
 
-/// Says that an entry has `HUGE_PAGE` at a level. They are ordered by where the entry stands.
+/// An entry with `HUGE_PAGE`. These are ordered by the slot first.
 #[derive(Clone, Copy, PartialEq, Eq, PartialOrd, Ord)]
 struct HugePage {
     slot: Slot,
     level: u64,
 }
 
-/// Returns what is amiss in the tables below a root, in the order of reports: frames that are named as a table more than once,
+/// Returns the findings in the tables below a root, in the order of reports: frames that are named as a table more than once,
 /// tables that the dump lacks, and `HUGE_PAGE` above level three, each kind by address.
 ///
-/// `frames[i]` are the frames of the tables of level `i + 1`. A table that stands at several levels is read at each, and its
-/// entries count once. Frames that the memory lacks aren't in the dump.
+/// `frames[i]` are the frames of the tables of level `i + 1`. A table at several levels is read at each, and its entries count
+/// once. Frames that the memory lacks count as missing in the dump.
 ///
 /// # Errors
 ///
-/// `AllocError` if memory is refused.
+/// `AllocError` if memory allocation fails.
 pub fn table_findings(
     alloc: Global,
     memory: &PhysMemory,
@@ -101,7 +101,7 @@ pub fn table_findings(
     Ok(findings)
 }
 
-/// Returns what the entries above level one name as tables, each entry once.
+/// Returns the names of tables in the entries above level one, each entry once, in order.
 fn names_in_order(
     alloc: Global,
     memory: &PhysMemory,
@@ -129,7 +129,7 @@ fn frames_above_level_one(
     Ok(above)
 }
 
-/// Adds what the entries of a table name as tables.
+/// Adds the names of tables in the entries of a table.
 fn add_names(
     memory: &PhysMemory,
     frame: PhysFrame<Size4KiB>,
@@ -152,7 +152,7 @@ fn add_names(
     Ok(())
 }
 
-/// Adds the frames that are named more than once. The root is named once besides.
+/// Adds the frames that are named more than once. The root counts as named once more.
 fn add_named_often(
     names: &[Name],
     root: PhysFrame<Size4KiB>,
@@ -171,7 +171,7 @@ fn add_named_often(
     Ok(())
 }
 
-/// Adds the tables that the memory lacks, for each entry that names one.
+/// Adds the tables that the memory lacks, once for each entry that names one.
 fn add_missing(
     memory: &PhysMemory,
     names: &[Name],
@@ -188,7 +188,7 @@ fn add_missing(
     Ok(())
 }
 
-/// Returns the entries above level three that have `PRESENT` and `HUGE_PAGE`.
+/// Returns the entries above level three that have `PRESENT` and `HUGE_PAGE`, in order.
 fn huge_pages_in_order(
     alloc: Global,
     memory: &PhysMemory,

@@ -15,24 +15,25 @@ use x86_64_dump::{ByteSource, Dump, DumpError};
 use x86_64_page::frame::PhysFrame;
 use x86_64_page::page::{PageSize, Size4KiB};
 
-/// How many places `pagetab` takes at most. The tables of an image stand from the second one on.
+/// The greatest number of places, indices of tables in memory, that `pagetab` takes. The tables of an image begin at the second
+/// place.
 const MOST_PLACES: usize = 65536;
 
-/// Says how a frame was met as a table.
+/// How a frame was first met as a table.
 #[derive(Clone, Copy)]
 struct Meeting {
-    /// Where the first entry that names it stands. The root is met before any entry.
+    /// The slot of the first entry that names it, or `None` for the root, which is met before any entry.
     first: Option<Slot>,
     /// Whether the dump has it.
     is_in_dump: bool,
-    /// How many were met before it, of those that the dump has, or of those that it lacks.
+    /// The number of tables met before it, only those in the dump if it is in the dump, and only those outside if not.
     number: usize,
 }
 
-/// Says why `pagetab` refuses an image with an entry that names a table.
+/// The reason why `pagetab` refuses an image with an entry that names a table.
 #[derive(Clone, Copy, Debug, PartialEq, Eq)]
 enum Fault {
-    /// It names the root, and stands in another table.
+    /// It names the root, and is in another table.
     NamesRoot,
     /// It is a second entry of the root that names the root.
     NamesRootAgain,
@@ -42,12 +43,13 @@ enum Fault {
     Outside,
 }
 
-/// The tables to which a root leads in a dump, each once, level by level in the order in which they are met.
+/// The tables that a root leads to in a dump, each once, level by level in the order in which they are met.
 ///
-/// An entry above level three with `HUGE_PAGE` leads to the table that it names, too, though the processor doesn't go on there.
+/// An entry above level three with `HUGE_PAGE` leads to the table that it names, too, although the processor doesn't go on
+/// there.
 ///
-/// Tables get new addresses, 0x1000 for the root and those after it for the others. Tables that the dump lacks come after all
-/// others. Nothing is mended: an image that `pagetab` refuses is made all the same.
+/// Tables get new addresses, 0x1000 for the root and the following frames for the others. Tables that the dump lacks come after
+/// all others. Nothing is repaired: an image is created even if `pagetab` refuses it.
 #[derive(Drop)]
 pub struct Image {
     root: PhysFrame<Size4KiB>,
@@ -63,11 +65,11 @@ pub struct Image {
 impl Image {
     ghost use Rattle.ptdump_findings.specs.Entries.{names_table};
 
-    /// Reads which tables a root leads to, with so many levels of tables.
+    /// Finds the tables that a root leads to, with this number of levels.
     ///
     /// # Errors
     ///
-    /// `DumpError::OutOfMemory` if memory is refused, `DumpError::Read` if the dump can't be read.
+    /// `DumpError::OutOfMemory` if memory allocation fails, `DumpError::Read` if the dump can't be read.
     pub fn read<S: ByteSource>(
         alloc: Global,
         dump: &Dump<S>,
@@ -89,7 +91,7 @@ impl Image {
         Ok(image)
     }
 
-    /// Makes the image that has the root alone.
+    /// Creates the image that has only the root.
     fn new(alloc: Global, root: PhysFrame<Size4KiB>, levels: u64) -> Result<Image, AllocError> {
         let mut meetings = HashMap::new(alloc);
         let meeting = Meeting {
@@ -115,7 +117,7 @@ impl Image {
         })
     }
 
-    /// Goes through the entries of a table, and adds the tables of the level below that are new to `next`, too.
+    /// Visits the entries of a table, and adds the new tables of the level below to the image and to `next`.
     fn follow<S: ByteSource>(
         &mut self,
         dump: &Dump<S>,
@@ -139,7 +141,7 @@ impl Image {
         Ok(())
     }
 
-    /// Notes that an entry names a table of a level, which is added if it is new.
+    /// Records that an entry names a table of a level, and adds the table if it is new.
     fn meet<S: ByteSource>(
         &mut self,
         dump: &Dump<S>,
@@ -168,7 +170,7 @@ impl Image {
         Ok(())
     }
 
-    /// Notes how the table in a frame is met.
+    /// Records how the table in a frame is met.
     fn note(
         &mut self,
         frame: PhysFrame<Size4KiB>,
@@ -190,17 +192,17 @@ impl Image {
         &self.tables
     }
 
-    /// Returns the tables that are named though the dump lacks them, in order.
+    /// Returns the tables that are named although the dump lacks them, in order.
     pub fn outside(&self) -> &[Table] {
         &self.outside
     }
 
-    /// Returns how many words above level one aren't 0 and lack `PRESENT`. The image has none of them.
+    /// Returns the number of words above level one that aren't 0 and lack `PRESENT`. The image leaves them out.
     pub fn left_out(&self) -> u64 {
         self.left_out
     }
 
-    /// Tells whether `pagetab` refuses the image.
+    /// Returns true if `pagetab` refuses the image.
     pub fn is_refused(&self) -> bool {
         self.has_faults || self.places() > MOST_PLACES
     }
@@ -225,12 +227,12 @@ impl Image {
         ReportEnd::new(self)
     }
 
-    /// Returns how many places the image needs.
+    /// Returns the number of places that the image needs.
     fn places(&self) -> usize {
         self.tables.len().saturating_add(1)
     }
 
-    /// Returns the new frame of the table in a frame, or `None` if none lies there.
+    /// Returns the new frame of the table in a frame, or `None` if the image has no table there.
     fn new_frame(&self, frame: PhysFrame<Size4KiB>) -> Option<PhysFrame<Size4KiB>> {
         let meeting = self.meetings.get(&frame)?;
         let before = if meeting.is_in_dump {
@@ -241,7 +243,7 @@ impl Image {
         Some(nth_frame(before.saturating_add(meeting.number)))
     }
 
-    /// Returns the new address of a table. One that isn't in the image keeps its own.
+    /// Returns the new address of a table. A table that isn't in the image keeps its address.
     fn new_address(&self, table: &Table) -> u64 {
         let frame = self.new_frame(table.frame).unwrap_or(table.frame);
         frame.start_address().as_u64()
@@ -261,7 +263,7 @@ impl Image {
         }
     }
 
-    /// Says why `pagetab` refuses the name that an entry has, or `None` if it doesn't.
+    /// Returns why `pagetab` refuses the table that an entry names, or `None` if it doesn't.
     fn fault_of(&self, entry: &Entry) -> Option<Fault> {
         let meeting = self.meetings.get(&entry.frame())?;
         match meeting.first {
@@ -272,7 +274,7 @@ impl Image {
         }
     }
 
-    /// Says why `pagetab` refuses an entry that names the root, or `None` if it is the first one of the root itself.
+    /// Returns why `pagetab` refuses an entry that names the root, or `None` if it is the first such entry of the root itself.
     fn fault_of_root_name(&self, slot: Slot) -> Option<Fault> {
         if slot.table != self.root {
             Some(Fault::NamesRoot)

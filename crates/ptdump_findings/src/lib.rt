@@ -1,4 +1,4 @@
-//! What is amiss in page tables, and images of page tables for `pagetab`.
+//! Findings in page tables, and images of page tables for `pagetab`.
 #![tactic(auto)]
 
 mod entry;

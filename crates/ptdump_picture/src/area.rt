@@ -1,50 +1,50 @@
-//! Where things stand in the picture, in pixels, and how they are written.
+//! Areas, points and lines of the picture, in pixels, and how they are written.
 use std::fmt::{Display, Formatter, Result as FmtResult, Write};
 
-/// How wide the picture is.
+/// The width of the picture.
 pub(crate) const PICTURE_WIDTH: u64 = 1000;
 
-/// How much is left free at its edges.
+/// The width of the empty margin.
 pub(crate) const MARGIN: u64 = 20;
 
-/// How far apart lines of text are.
+/// The distance between lines of text.
 pub(crate) const LINE_HEIGHT: u64 = 16;
 
 /// A rectangle.
 #[derive(Clone, Copy)]
 pub(crate) struct Area {
-    /// How far its left edge is from that of the picture.
+    /// The distance of its left edge from the left edge of the picture.
     pub left: u64,
-    /// How far its top is from that of the picture.
+    /// The distance of its top from the top of the picture.
     pub top: u64,
-    /// How wide it is.
+    /// Its width.
     pub width: u64,
-    /// How high it is.
+    /// Its height.
     pub height: u64,
 }
 
 impl Area {
-    /// Gives how far its right edge is from the left.
+    /// Returns the distance of its right edge from the left.
     pub fn right(&self) -> u64 {
         self.left.saturating_add(self.width)
     }
 
-    /// Gives how far its bottom is from the top.
+    /// Returns the distance of its bottom from the top.
     pub fn bottom(&self) -> u64 {
         self.top.saturating_add(self.height)
     }
 
-    /// Gives how far its centre is from the left.
+    /// Returns the distance of its centre from the left.
     pub fn centre(&self) -> u64 {
         self.left.saturating_add(self.width / 2)
     }
 
-    /// Gives how far its centre is from the top.
+    /// Returns the distance of its centre from the top.
     pub fn middle(&self) -> u64 {
         self.top.saturating_add(self.height / 2)
     }
 
-    /// Gives its upper left corner.
+    /// Returns its upper left corner.
     pub fn top_left(&self) -> Point {
         Point {
             x: self.left,
@@ -52,7 +52,7 @@ impl Area {
         }
     }
 
-    /// Gives its upper right corner.
+    /// Returns its upper right corner.
     pub fn top_right(&self) -> Point {
         Point {
             x: self.right(),
@@ -60,7 +60,7 @@ impl Area {
         }
     }
 
-    /// Gives its lower left corner.
+    /// Returns its lower left corner.
     pub fn bottom_left(&self) -> Point {
         Point {
             x: self.left,
@@ -68,7 +68,7 @@ impl Area {
         }
     }
 
-    /// Gives its lower right corner.
+    /// Returns its lower right corner.
     pub fn bottom_right(&self) -> Point {
         Point {
             x: self.right(),
@@ -76,7 +76,7 @@ impl Area {
         }
     }
 
-    /// Gives the middle of its left edge.
+    /// Returns the middle of its left edge.
     pub fn middle_left(&self) -> Point {
         Point {
             x: self.left,
@@ -84,7 +84,7 @@ impl Area {
         }
     }
 
-    /// Gives the middle of its right edge.
+    /// Returns the middle of its right edge.
     pub fn middle_right(&self) -> Point {
         Point {
             x: self.right(),
@@ -104,7 +104,7 @@ impl Area {
         write!(f, " class='{class}'/>\n")
     }
 
-    /// Writes where the rectangle stands.
+    /// Writes the start of the rectangle's element, with its position and size.
     fn write_ends<W: Write>(&self, f: &mut Formatter<W>) -> FmtResult {
         let Area {
             left,
@@ -122,14 +122,14 @@ impl Area {
 /// A point.
 #[derive(Clone, Copy)]
 pub(crate) struct Point {
-    /// How far it is from the left.
+    /// The distance from the left.
     pub x: u64,
-    /// How far it is from the top.
+    /// The distance from the top.
     pub y: u64,
 }
 
 impl Point {
-    /// Gives the point that is so much lower.
+    /// Returns the point that is lower by this height.
     pub fn below(self, height: u64) -> Point {
         Point {
             y: self.y.saturating_add(height),
@@ -137,7 +137,7 @@ impl Point {
         }
     }
 
-    /// Writes a text in the style of a class. It begins at the point, or has it in its middle, as the style says.
+    /// Writes a text in the style of a class. The style says whether the text begins, ends or has its middle at the point.
     pub fn write_text<W: Write, T: Display + Drop>(
         self,
         f: &mut Formatter<W>,
@@ -152,9 +152,9 @@ impl Point {
 /// A line from one point to another.
 #[derive(Clone, Copy)]
 pub(crate) struct Line {
-    /// Where it begins.
+    /// Its start.
     pub from: Point,
-    /// Where it ends.
+    /// Its end.
     pub to: Point,
 }
 

@@ -10,26 +10,26 @@ use std::fmt::{Formatter, Result as FmtResult, Write};
 use x86_64_addr::level_count::LevelCount;
 use x86_64_mappings::RegionIn;
 
-/// How wide a bar is.
+/// The width of a bar.
 pub(crate) const BAR_WIDTH: u64 = 84;
 
-/// How high a gap is drawn, whatever its size.
+/// The height of a gap, whatever its size.
 const GAP_HEIGHT: u64 = 24;
 
-/// How much room there is for what stands above a bar.
+/// The height of the heading above a bar.
 const HEADING_HEIGHT: u64 = 2 * LINE_HEIGHT;
 
 /// A half of the address space.
 #[derive(Clone, Copy)]
 pub(crate) enum Half {
-    /// That of low addresses.
+    /// The half of the low addresses.
     Lower,
-    /// That of high addresses.
+    /// The half of the high addresses.
     Upper,
 }
 
 impl Half {
-    /// Gives its first and its last address.
+    /// Returns its first and its last address.
     fn ends<L: LevelCount>(self) -> (u64, u64) {
         let size = L::POSITION_COUNT / 2;
         match self {
@@ -38,7 +38,7 @@ impl Half {
         }
     }
 
-    /// Gives its name.
+    /// Returns its name.
     fn name(self) -> &'static str {
         match self {
             Half::Lower => "Lower half",
@@ -47,17 +47,17 @@ impl Half {
     }
 }
 
-/// What stands at a place of a bar.
+/// A part of a bar.
 #[derive(Clone, Copy)]
 enum Content {
-    /// Nothing is mapped, in so many bytes.
+    /// A gap of this number of bytes, in which nothing is mapped.
     Gap(u64),
-    /// Regions that are drawn as one.
+    /// Regions that are drawn as one box.
     Regions(Piece),
 }
 
 impl Content {
-    /// Gives how high it is drawn.
+    /// Returns its height in the picture.
     fn height(&self) -> u64 {
         match self {
             Content::Gap(_) => GAP_HEIGHT,
@@ -124,7 +124,7 @@ impl Bar {
         }
     }
 
-    /// Adds the gap from one address to before another, if there is one.
+    /// Adds the gap from one address up to another, if there is one.
     fn push_gap(&mut self, free: Option<u64>, next: u64) -> Result<(), AllocError> {
         match free {
             Some(free) if free < next => self.push(Content::Gap(next - free)),
@@ -132,7 +132,7 @@ impl Bar {
         }
     }
 
-    /// Adds something at the bottom.
+    /// Adds a part at the bottom.
     fn push(&mut self, content: Content) -> Result<(), AllocError> {
         let area = Area {
             top: self.area.bottom(),
@@ -144,7 +144,7 @@ impl Bar {
         Ok(())
     }
 
-    /// Gives how far the bottom of all of it is from the top of the picture.
+    /// Returns the distance of its bottom, with the text below, from the top of the picture.
     pub fn bottom(&self) -> u64 {
         self.area.bottom().saturating_add(LINE_HEIGHT)
     }
@@ -161,7 +161,7 @@ impl Bar {
         self.write_ends(f)
     }
 
-    /// Writes what stands above the bar.
+    /// Writes the heading above the bar.
     fn write_heading<W: Write>(&self, f: &mut Formatter<W>) -> FmtResult {
         let name = self.half.name();
         let regions = Count::regions(self.region_count);
@@ -207,7 +207,7 @@ fn write_edge<W: Write>(f: &mut Formatter<W>, area: Area, y: u64) -> FmtResult {
     edge.write(f, "edge")
 }
 
-/// Gives where the text beside something in a bar begins.
+/// Returns the start of the text beside a part of a bar.
 fn beside(area: Area) -> Point {
     Point {
         x: area.right().saturating_add(6),
@@ -225,7 +225,7 @@ fn write_gap<W: Write>(f: &mut Formatter<W>, area: Area, size: u64) -> FmtResult
     f.write_str("</g>\n")
 }
 
-/// Writes the mark that says that a bar is drawn shortened.
+/// Writes the mark of a bar that is drawn shortened.
 pub(crate) fn write_break<W: Write>(f: &mut Formatter<W>, area: Area) -> FmtResult {
     let Area {
         left,

@@ -1,16 +1,16 @@
-//! What the colours mean.
+//! The legend of the colours.
 use crate::area::{Area, MARGIN, Point};
 use crate::bar::{BAR_WIDTH, write_break};
 use crate::rights::{KIND_COUNT, Kind};
 use std::fmt::{Formatter, Result as FmtResult, Write};
 
-/// How high the legend is.
+/// The height of the legend.
 pub(crate) const LEGEND_HEIGHT: u64 = 3 * ENTRY_HEIGHT;
 
-/// How wide an entry is.
+/// The width of an entry.
 const ENTRY_WIDTH: u64 = 240;
 
-/// How high an entry is.
+/// The height of an entry.
 const ENTRY_HEIGHT: u64 = 24;
 
 /// Writes the legend.
@@ -23,7 +23,7 @@ pub(crate) fn write_legend<W: Write>(f: &mut Formatter<W>, top: u64) -> FmtResul
     write_mixture(f, sample(top, 2, 2))
 }
 
-/// Gives where the sample of an entry stands.
+/// Returns the area of the sample of an entry.
 fn sample(top: u64, row: u64, column: u64) -> Area {
     Area {
         left: MARGIN.saturating_add(ENTRY_WIDTH.saturating_mul(column)),
@@ -33,7 +33,7 @@ fn sample(top: u64, row: u64, column: u64) -> Area {
     }
 }
 
-/// Gives where the text beside a sample begins.
+/// Returns the start of the text beside a sample.
 fn beside(sample: Area) -> Point {
     Point {
         x: sample.right().saturating_add(8),
@@ -41,7 +41,7 @@ fn beside(sample: Area) -> Point {
     }
 }
 
-/// Writes what the colour of a kind of rights means.
+/// Writes the meaning of the colour of a kind of rights.
 fn write_kind<W: Write>(f: &mut Formatter<W>, sample: Area, kind: Kind) -> FmtResult {
     kind.write_filled(f, sample)?;
     sample.write_styled(f, "box")?;
@@ -56,7 +56,7 @@ fn write_kind<W: Write>(f: &mut Formatter<W>, sample: Area, kind: Kind) -> FmtRe
     words.write_text(f, "note", format_args!("{holder}: {meaning}"))
 }
 
-/// Writes what a gap means.
+/// Writes the meaning of a gap.
 fn write_gap<W: Write>(f: &mut Formatter<W>, sample: Area) -> FmtResult {
     let gap = Area {
         width: BAR_WIDTH,
@@ -66,7 +66,7 @@ fn write_gap<W: Write>(f: &mut Formatter<W>, sample: Area) -> FmtResult {
     beside(gap).write_text(f, "note", "not mapped, drawn shortened")
 }
 
-/// Writes what a box of several colours means.
+/// Writes the meaning of a box with several colours.
 fn write_mixture<W: Write>(f: &mut Formatter<W>, sample: Area) -> FmtResult {
     let width = sample.width / 4;
     for number in 0..4 {

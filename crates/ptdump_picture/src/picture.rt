@@ -12,19 +12,19 @@ use x86_64_mappings::RegionIn;
 use x86_64_page::frame::PhysFrame;
 use x86_64_page::page::Size4KiB;
 
-/// Where the legend begins, from the top.
+/// The distance of the legend from the top.
 const LEGEND_TOP: u64 = 80;
 
-/// Where the bars begin, from the top.
+/// The distance of the bars from the top.
 const BARS_TOP: u64 = LEGEND_TOP + LEGEND_HEIGHT + 36;
 
-/// Where the bar of the upper half begins, from the left.
+/// The distance of the bar of the upper half from the left.
 const UPPER_LEFT: u64 = PICTURE_WIDTH / 2 + 10;
 
-/// How far the tree is from the bars.
+/// The distance between the bars and the tree.
 const TREE_SPACE: u64 = 44;
 
-/// How the classes look, and the stripes of what user code may reach.
+/// The styles of the classes, and the stripes for memory that user code may access.
 const STYLE: &str =
     "<defs><pattern id='user' width='7' height='7' patternUnits='userSpaceOnUse' patternTransform='rotate(45)'>
 <rect width='2' height='7' fill='#fff'/></pattern></defs>
@@ -48,27 +48,27 @@ text{font:12px sans-serif;fill:#222}
 </style>
 ";
 
-/// What a picture shows: what page tables map, and the tables.
+/// The contents of a picture: what page tables map, and the tables.
 #[derive(Clone, Copy)]
 pub struct Mapped<'a, L: LevelCount> {
-    /// The root's frame.
+    /// The frame of the root.
     pub root: PhysFrame<Size4KiB>,
     /// The regions, in order.
     pub regions: &'a [RegionIn<L>],
-    /// How many mappings there are.
+    /// The number of mappings.
     pub mapping_count: u64,
-    /// How many bytes are mapped.
+    /// The number of mapped bytes.
     pub mapped: u64,
-    /// How many frames hold tables.
+    /// The number of frames that hold tables.
     pub table_count: u64,
-    /// The frames of the tables by level, those of level one first. A frame may stand at several levels.
+    /// The frames of the tables by level, level one first. A frame may be at several levels.
     pub tables: &'a [Vec<PhysFrame<Size4KiB>>],
-    /// Which tables name which. They are looked at only if there are no more tables than
-    /// [`MOST_DRAWN_TABLES`](crate::MOST_DRAWN_TABLES), and may be left out else.
+    /// The links between the tables. They are used only if there are at most [`MOST_DRAWN_TABLES`](crate::MOST_DRAWN_TABLES)
+    /// tables, and may be left out if there are more.
     pub links: &'a [TableLink],
 }
 
-/// A picture, laid out. It is written as an SVG image.
+/// A picture, laid out and ready to be written as an SVG image.
 #[derive(Drop)]
 pub struct Picture {
     root: PhysFrame<Size4KiB>,
@@ -86,7 +86,7 @@ impl Picture {
     ///
     /// # Errors
     ///
-    /// Answers `AllocError` if memory is refused.
+    /// `AllocError` if memory allocation fails.
     pub fn new<L: LevelCount>(alloc: Global, shown: &Mapped<'_, L>) -> Result<Picture, AllocError> {
         let left = Point {
             x: MARGIN,

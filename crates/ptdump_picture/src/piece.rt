@@ -1,4 +1,4 @@
-//! Regions that are drawn as one.
+//! Regions that are drawn as one box.
 ghost use Rattle.std.specs.Prelude.{◌≤◌, ◌<◌, vec_len, IfOk, IfSome};
 
 use crate::rights::{KIND_COUNT, Kind};
@@ -8,24 +8,24 @@ use std::fmt::{Display, Formatter, Result as FmtResult, Write};
 use x86_64_addr::level_count::LevelCount;
 use x86_64_mappings::RegionIn;
 
-/// How many boxes a bar has at most.
+/// The greatest number of boxes in a bar.
 const MOST_PIECES: usize = 40;
 
-/// Regions that are drawn as one box: one region, or neighbours where there are too many for a box each.
+/// Regions that are drawn as one box: a single region, or neighbours if there are too many for a box each.
 #[derive(Clone, Copy)]
 pub(crate) struct Piece {
     /// The first address.
     pub first: u64,
     /// The last address.
     pub last: u64,
-    /// How many regions there are.
+    /// The number of regions.
     pub region_count: u64,
-    /// What is mapped.
+    /// The mapped bytes.
     pub shares: Shares,
 }
 
 impl Piece {
-    /// Makes the piece of one region.
+    /// Creates the piece of a single region.
     fn of<L: LevelCount>(region: &RegionIn<L>) -> Piece {
         let mut shares = Shares {
             bytes: [0; KIND_COUNT],
@@ -39,31 +39,31 @@ impl Piece {
         }
     }
 
-    /// Takes in the next region.
+    /// Adds the next region.
     fn take_in<L: LevelCount>(&mut self, region: &RegionIn<L>) {
         self.shares.add(region);
         self.last = region.last.as_u64();
         self.region_count = self.region_count.saturating_add(1);
     }
 
-    /// Tells whether the next region is near: the smaller of it and the piece, and the gap between them, are together no more than
-    /// `reach`.
+    /// Returns true if the next region is near: its size or that of the piece, whichever is smaller, and the gap between them
+    /// add up to at most `reach`.
     fn is_near<L: LevelCount>(&self, region: &RegionIn<L>, reach: u64) -> bool {
         let distance = region.first.as_u64().saturating_sub(self.last);
         let smaller = region.size().min(self.size());
         smaller.saturating_add(distance.saturating_sub(1)) <= reach
     }
 
-    /// Gives how many bytes there are from the first address to the last one.
+    /// Returns the number of bytes from the first address to the last one.
     pub fn size(&self) -> u64 {
         self.last.saturating_sub(self.first).saturating_add(1)
     }
 }
 
-/// How many bytes are mapped with each kind of rights.
+/// The number of mapped bytes for each kind of rights.
 #[derive(Clone, Copy)]
 pub(crate) struct Shares {
-    /// By the number of the kind.
+    /// The numbers of bytes, indexed by the number of the kind.
     pub bytes: [u64; KIND_COUNT],
 }
 
@@ -74,14 +74,14 @@ impl Shares {
         self.bytes[kind] = self.bytes[kind].saturating_add(region.size());
     }
 
-    /// Gives how many bytes there are.
+    /// Returns the total number of bytes.
     pub fn sum(&self) -> u64 {
         self.bytes
             .iter()
             .fold(0, |sum: u64, bytes| sum.saturating_add(*bytes))
     }
 
-    /// Gives the number of the kind with the most bytes.
+    /// Returns the number of the kind with the most bytes.
     pub fn largest(&self) -> usize {
         let mut most = 0;
         let mut largest = 0;
@@ -94,7 +94,7 @@ impl Shares {
         largest
     }
 
-    /// Gives how many kinds there are.
+    /// Returns the number of kinds that have bytes.
     pub fn kind_count(&self) -> usize {
         self.bytes.iter().filter(|bytes| **bytes > 0).count()
     }
@@ -116,8 +116,8 @@ impl Display for Shares {
     }
 }
 
-/// Gives the pieces as which the regions between two addresses are drawn, in order. Where there are too many regions, small ones are
-/// drawn as one with a neighbour.
+/// Returns the pieces for the regions between two addresses, in order. If there are too many regions, small ones are combined
+/// with a neighbour.
 pub(crate) fn pieces_between<L: LevelCount>(
     alloc: Global,
     regions: &[RegionIn<L>],
@@ -136,7 +136,8 @@ pub(crate) fn pieces_between<L: LevelCount>(
     Ok(Vec::new(alloc))
 }
 
-/// Gives the pieces if a region that is nearer than `reach` is drawn as one with the piece before it, or `None` if there are too many.
+/// Returns the pieces if each region within `reach` of the piece before it is added to that piece, or `None` if there are too
+/// many pieces.
 fn pieces_by<L: LevelCount>(
     alloc: Global,
     regions: &[RegionIn<L>],

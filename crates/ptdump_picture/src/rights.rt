@@ -1,4 +1,4 @@
-//! How rights are drawn.
+//! The drawing of rights.
 ghost use Rattle.std.specs.Prelude.{◌≡◌, ◌<◌};
 ghost use Rattle.ptdump_picture.specs.Colours.{colour_of};
 
@@ -9,17 +9,17 @@ use x86_64_mappings::RegionIn;
 use x86_64_mappings::text::write_rights;
 use x86_64_tables::phys_memory::Rights;
 
-/// How many kinds of rights there are.
+/// The number of kinds of rights.
 pub(crate) const KIND_COUNT: usize = 8;
 
-/// A kind of rights: which of write, user and execute there are.
+/// A kind of rights: which of write, user and execute are allowed.
 #[derive(Clone, Copy)]
 pub(crate) struct Kind {
     rights: Rights,
 }
 
 impl Kind {
-    /// Gives the kind of a region.
+    /// Returns the kind of a region.
     pub fn of<L: LevelCount>(region: &RegionIn<L>) -> Kind {
         Kind {
             rights: Rights {
@@ -30,7 +30,7 @@ impl Kind {
         }
     }
 
-    /// Gives the kind with a number. Those that user code doesn't have come first.
+    /// Returns the kind with a number. The kinds that user code doesn't have come first.
     pub fn with_number(number: usize) -> Kind {
         Kind {
             rights: Rights {
@@ -41,7 +41,7 @@ impl Kind {
         }
     }
 
-    /// Gives its number.
+    /// Returns its number.
     pub fn number(self) -> usize
         ensures { result < KIND_COUNT }
     {
@@ -53,7 +53,7 @@ impl Kind {
         usize::from(write) + 2 * usize::from(execute) + 4 * usize::from(user)
     }
 
-    /// Gives its colour. The colours can be told apart by whoever tells dark from light, or blue from yellow.
+    /// Returns its colour. Whoever can distinguish dark from light, or blue from yellow, can distinguish the colours.
     pub fn colour(self) -> &'static str
         ensures { result.now ≡ colour_of self.rights.write self.rights.execute }
     {
@@ -65,7 +65,7 @@ impl Kind {
         }
     }
 
-    /// Says what it allows.
+    /// Returns what it allows, as a text.
     pub fn meaning(self) -> &'static str {
         match (self.rights.write, self.rights.execute) {
             (false, false) => "read",
@@ -75,12 +75,12 @@ impl Kind {
         }
     }
 
-    /// Says who has it.
+    /// Returns who has it, as a text.
     pub fn holder(self) -> &'static str {
         if self.rights.user { "user" } else { "kernel" }
     }
 
-    /// Fills an area with its colour, and stripes it if user code has it.
+    /// Fills an area with its colour, striped if user code has it.
     pub fn write_filled<W: Write>(self, f: &mut Formatter<W>, area: Area) -> FmtResult {
         area.write_filled(f, self.colour())?;
         if self.rights.user {

@@ -4,8 +4,8 @@ ghost use Rattle.std.specs.Prelude.{◌<◌, ◌≤◌};
 use std::fmt::{Display, Formatter, Result as FmtResult, Write};
 use x86_64_mappings::text::write_size;
 
-/// A number of bytes, written in the largest of KiB, MiB, GiB and TiB that is no more. What the unit doesn't divide has one decimal
-/// place, which isn't rounded up.
+/// A number of bytes, written in the largest of KiB, MiB, GiB and TiB that isn't larger. If the unit doesn't divide it, it has
+/// one decimal place, rounded down, unless it is 1000 units or more.
 #[derive(Clone, Copy)]
 pub(crate) struct ShortSize(pub u64);
 
@@ -24,7 +24,7 @@ impl Display for ShortSize {
     }
 }
 
-/// Gives the largest of KiB, MiB, GiB and TiB that is no more than a number of bytes, and its name; KiB if there is none.
+/// Returns the largest of KiB, MiB, GiB and TiB that is at most a number of bytes, and its name, or KiB if there is none.
 fn unit_of(bytes: u64) -> (u64, &'static str)
     ensures some { 0 < result.0 }
     ensures low { result.0 ≤ 0x100_0000_0000 }
@@ -50,7 +50,7 @@ impl Display for ExactSize {
     }
 }
 
-/// A number of things, with what they are called.
+/// A number of things, with their name.
 #[derive(Clone, Copy)]
 pub(crate) struct Count {
     count: u64,
@@ -59,7 +59,7 @@ pub(crate) struct Count {
 }
 
 impl Count {
-    /// Makes a number of mappings.
+    /// Creates a number of mappings.
     pub fn mappings(count: u64) -> Count {
         Count {
             count,
@@ -68,7 +68,7 @@ impl Count {
         }
     }
 
-    /// Makes a number of regions.
+    /// Creates a number of regions.
     pub fn regions(count: u64) -> Count {
         Count {
             count,
@@ -77,7 +77,7 @@ impl Count {
         }
     }
 
-    /// Makes a number of tables.
+    /// Creates a number of tables.
     pub fn tables(count: u64) -> Count {
         Count {
             count,

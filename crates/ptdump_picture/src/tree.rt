@@ -13,20 +13,20 @@ use table_box::TableBox;
 use x86_64_page::frame::PhysFrame;
 use x86_64_page::page::Size4KiB;
 
-/// How many tables are drawn one by one at most. A table counts at each level where it stands.
+/// The greatest number of tables that are drawn one by one. A table counts once for each of its levels.
 pub const MOST_DRAWN_TABLES: usize = 40;
 
 /// The tables that are drawn.
 #[derive(Clone, Copy)]
 pub(crate) struct Tables<'a> {
-    /// Their frames by level, those of level one first.
+    /// Their frames by level, level one first.
     pub frames: &'a [Vec<PhysFrame<Size4KiB>>],
-    /// Which of them name which.
+    /// The links between them.
     pub links: &'a [TableLink],
 }
 
 impl Tables<'_> {
-    /// Tells whether there are few enough to be drawn one by one.
+    /// Returns true if there are few enough tables to be drawn one by one.
     fn are_few(&self) -> bool {
         let mut count: usize = 0;
         for frames in self.frames {
@@ -35,7 +35,7 @@ impl Tables<'_> {
         count <= MOST_DRAWN_TABLES
     }
 
-    /// Tells whether the table in a frame stands at a level other than that with an index.
+    /// Returns true if the table in a frame is also at another level than the one with this index.
     fn is_elsewhere(&self, index: usize, frame: PhysFrame<Size4KiB>) -> bool {
         let mut levels = self.frames.iter().enumerate();
         levels.any(|(other, frames)| other != index && frames.contains(&frame))
@@ -87,7 +87,7 @@ impl Tree {
         Ok(())
     }
 
-    /// Gives how far its bottom is from the top of the picture.
+    /// Returns the distance of its bottom from the top of the picture.
     pub fn bottom(&self) -> u64 {
         self.bottom
     }
@@ -139,7 +139,7 @@ fn push_lines(
     Ok(())
 }
 
-/// Adds the lines from a table to those that it names.
+/// Adds the lines from a table to the tables that it names.
 fn push_lines_from(
     lines: &mut Vec<Line>,
     parent: &TableBox,

@@ -4,7 +4,7 @@ use crate::runs::{Asked, End, PLAIN, SILENT, Words, check_run, run_on, text_of, 
 use ptdump_engine::Levels;
 use x86_64_dump_builder::Processor;
 
-/// Commands on the machine `MIXED`, and what is printed.
+/// Commands on the machine `MIXED`, and their output.
 const REPORTS: [(Words, &str, u8); 5] = [
     (
         Words::Regions,
@@ -92,7 +92,7 @@ level 3 0x2000[1] 0x400000e7
     ),
 ];
 
-/// What standard error holds then. The bytes are those of 4 pages of 4KiB, 2 of 2MiB and 7 of 1GiB.
+/// The text on standard error. The bytes are those of 4 pages of 4KiB, 2 of 2MiB and 7 of 1GiB.
 const TOTALS: &str = "tables 6, mappings 13, mapped 7344144KiB\n";
 
 #[test]
@@ -132,7 +132,7 @@ fn a_small_machine_is_reported_on(rt: HostRuntime) {
     check_run(rt, rt.alloc(), &core, asked, wanted);
 }
 
-/// Commands on the machine `FIVE`, with a number of levels, and what is printed.
+/// Commands on the machine `FIVE`, with a number of levels, and their output.
 const BY_LEVELS: [(Words, Option<Levels>, &str, &str, u8); 5] = [
     (
         Words::Pages,
@@ -217,7 +217,7 @@ fn levels_are_those_of_the_note_or_the_option(rt: HostRuntime) {
     }
 }
 
-/// What a picture of the machine `MIXED` shows: its root, its counts, the ends of both halves, and a table.
+/// Texts in a picture of the machine `MIXED`: its root, its counts, the ends of both halves, and a table.
 const SHOWN: [&str; 7] = [
     "0x5000",
     "4 levels",

@@ -1,4 +1,4 @@
-//! Tests of reads and writes that fail, and of memory that is refused.
+//! Tests of reads and writes that fail, and of failed memory allocations.
 use crate::machines::{MIXED, PROCESSOR, core_file, push_alike, raw_file};
 use crate::runs::{Asked, EACH, PLAIN, Ran, Sink, Words, run_into, run_on, unwrap};
 use ptdump_engine::{Failure, NoProgress, Request, run};
@@ -10,7 +10,7 @@ use x86_64_dump::ByteSource;
 use x86_64_dump_builder::Processor;
 use x86_64_hoard::Hoard;
 
-/// A file of which so many reads succeed, and none after them.
+/// A file of which only a number of reads succeed, and none after them.
 #[derive(Drop)]
 struct BrokenSource<'a> {
     bytes: &'a [u8],
@@ -41,7 +41,7 @@ impl<'a> ByteSource for BrokenSource<'a> {
     }
 }
 
-/// How many bytes a writer takes at once whose next write fails.
+/// The number of bytes that a writer takes at once if it is to fail later.
 const AT_ONCE: usize = 211;
 
 /// Writes a core file of the machine `MIXED`.
@@ -76,7 +76,7 @@ fn each_failed_read_ends_a_run(rt: HostRuntime) {
             assert!(rt; is_of_read, "{words:?}, {reads} reads");
             failed = reads + 1;
         }
-        // The header, the program headers, the note, two registers and six tables are read at least.
+        // At least the header, the program headers, the note, two registers and six tables are read.
         assert!(rt; (11..1000).contains(&failed), "{words:?}");
     }
 }
@@ -118,7 +118,7 @@ fn each_failed_write_ends_a_run(rt: HostRuntime) {
 
 #[test]
 fn much_output_is_written_in_large_pieces(rt: HostRuntime) {
-    // A table of level two that maps 512 pages of 2MiB, under eight entries of a table of level three.
+    // A table of level two that maps 512 pages of 2MiB, below eight entries of a table of level three.
     let mut file = unwrap(rt, raw_file(rt.alloc(), 0, 1, &[]));
     let tables = [(0, 1, 0x2003), (0, 8, 0x3003), (0, 512, 0x83)];
     for (first, end, word) in tables {
@@ -138,10 +138,10 @@ fn much_output_is_written_in_large_pieces(rt: HostRuntime) {
     assert_eq!(rt; ran.output.small_pieces, 1);
 }
 
-/// How many rooms are tried at most.
+/// The greatest number of rooms that are tried.
 const MOST_ROOMS: usize = 60;
 
-/// Makes a run of each command that is still to come, with writers that need no memory.
+/// Prepares a run of each command, with writers that need no memory.
 fn runs_to_come(rt: impl Abort + Copy, alloc: Global) -> Vec<(Request, Ran)> {
     let mut runs = Vec::new(alloc);
     for words in EACH {
@@ -158,7 +158,7 @@ fn runs_to_come(rt: impl Abort + Copy, alloc: Global) -> Vec<(Request, Ran)> {
     runs
 }
 
-/// Runs each command where there is room for one block of a size.
+/// Runs each command with room for one block of a size.
 fn run_with_room(
     rt: impl Abort + Copy,
     alloc: Global,
@@ -181,7 +181,7 @@ fn run_with_room(
     runs
 }
 
-/// Compares what a run wrote, whole or until memory was refused, and tells whether it is whole.
+/// Checks what a run wrote, whole or until memory allocation failed, and returns true if it is whole.
 fn is_whole(rt: impl Abort + Copy, request: &Request, ran: &Ran, wanted: &Ran) -> bool {
     let (taken, whole) = (&ran.output.bytes, &wanted.output.bytes);
     if ran.status() == wanted.status() {

@@ -1,9 +1,9 @@
-//! Tests of what is found amiss.
+//! Tests of findings.
 use crate::machines::{MIXED, Table, raw_file};
 use crate::runs::{Asked, End, PLAIN, SILENT, Words, check_run, unwrap};
 use ptdump_engine::Levels;
 
-/// A machine, its root and levels, and what is found.
+/// A machine, its root and levels, and the findings.
 struct Case {
     tables: &'static [Table],
     cr3: u64,
@@ -11,7 +11,7 @@ struct Case {
     end: End,
 }
 
-/// Something is found.
+/// A run with findings.
 const FOUND: End = End {
     status: 1,
     ..SILENT
@@ -52,7 +52,7 @@ findings: 9
             ..SILENT
         },
     },
-    // User code reaches what is below the upper half, and the kernel what is in it.
+    // User code accesses memory below the upper half, and the kernel memory in it.
     Case {
         tables: &[
             Table {
@@ -76,7 +76,7 @@ findings: 9
             ..SILENT
         },
     },
-    // Tables that the dump lacks, by the table, by the one that names it, and by the index.
+    // Tables that the dump lacks, ordered by the table, the table that names it, and the index.
     Case {
         tables: &[
             Table {
@@ -107,7 +107,7 @@ findings: 6
             ..FOUND
         },
     },
-    // A root that names itself stands at each level.
+    // A root that names itself is at each level.
     Case {
         tables: &[Table {
             address: 0x1000,
@@ -130,7 +130,7 @@ findings: 8
             ..FOUND
         },
     },
-    // A table of level one and of level two. As one of level one it names nothing, and as one of level two its words count once.
+    // A table at level one and at level two. At level one it names nothing, and at level two its words count once.
     Case {
         tables: &[
             Table {

@@ -4,7 +4,7 @@ use crate::runs::{Asked, End, PLAIN, SILENT, Words, check_run, unwrap};
 use ptdump_engine::Levels;
 use x86_64_dump_builder::Processor;
 
-/// Sixteen frames of memory from an address on, and how the image of them is made.
+/// Sixteen frames of memory from an address on, and the result of making their image.
 struct Case {
     base: u64,
     cr3: u64,
@@ -13,9 +13,9 @@ struct Case {
     end: End,
 }
 
-/// Images of the same memory, what is told of them, and the counts.
+/// Images of memory, and the report on each, with the counts.
 const CASES: [Case; 9] = [
-    // Tables at scattered frames, pages of all sizes, and words without `PRESENT`.
+    // Tables in scattered frames, pages of all sizes, and words without `PRESENT`.
     Case {
         base: 0,
         cr3: 0x8000_0000_0000_9018,
@@ -357,7 +357,7 @@ fn images_are_made_as_by_the_tool(rt: HostRuntime) {
     }
 }
 
-/// The image of the machine `MIXED`, whose tables are renumbered as 0x5000, 0x2000, 0x3000, 0x4000, 0x6000, 0x7000.
+/// The image of the machine `MIXED`. Its tables 0x5000, 0x2000, 0x3000, 0x4000, 0x6000 and 0x7000 are renumbered in this order.
 const OF_CORE: End = End {
     output: "word 0x1000 0 0x2027
 word 0x1000 1 0x2083

@@ -1,4 +1,4 @@
-//! Tests of the program `ptdump`, from outside: small dumps, what is asked of them, and what comes out.
+//! Tests of the program `ptdump`, from outside: small dumps, requests, and the output.
 #![tactic(auto)]
 
 #[cfg(test)]

@@ -9,14 +9,14 @@ pub struct Table {
     pub words: &'static [(usize, u64)],
 }
 
-/// A processor whose tables have four levels, with its root at 0x1000 and flags beside the address.
+/// A processor whose tables have four levels, with the root at 0x1000 and flags next to the address.
 pub const PROCESSOR: Processor = Processor {
     cr3: 0x1018,
     cr4: 0x20,
 };
 
-/// Tables of four levels with the root at 0x5000: pages of three sizes in both halves, with all kinds of rights, a table that the dump
-/// lacks, two that are shared, `HUGE_PAGE` at level four and in a word without `PRESENT`.
+/// Tables of four levels with the root at 0x5000: pages of three sizes in both halves, with all kinds of rights, a table that
+/// the dump lacks, two shared tables, `HUGE_PAGE` at level four and in a word without `PRESENT`.
 pub const MIXED: &[Table] = &[
     Table {
         address: 0x2000,
@@ -56,7 +56,7 @@ pub const MIXED: &[Table] = &[
     },
 ];
 
-/// Tables of five levels with the root at 0x1000, which make sense with four, too.
+/// Tables of five levels with the root at 0x1000, which are also meaningful as tables of four levels.
 pub const FIVE: &[Table] = &[
     Table {
         address: 0x1000,
@@ -76,7 +76,7 @@ pub const FIVE: &[Table] = &[
     },
 ];
 
-/// Writes a core file with the tables of a machine, each a segment, and with notes of its processors.
+/// Writes a core file with the tables of a machine, each as a segment, and with notes of its processors.
 pub fn core_file(
     alloc: Global,
     processors: &[Processor],
@@ -98,7 +98,7 @@ pub fn core_file(
     Ok(file)
 }
 
-/// Writes a raw file of so many frames from an address on, with the tables of a machine.
+/// Writes a raw file of this number of frames from an address on, with the tables of a machine.
 pub fn raw_file(
     alloc: Global,
     base: u64,
@@ -114,7 +114,7 @@ pub fn raw_file(
     Ok(file)
 }
 
-/// Adds a frame whose words from one index to before another are the same, and 0 elsewhere.
+/// Adds a frame with equal words from one index up to another, and 0 elsewhere.
 pub fn push_alike(
     file: &mut Vec<u8>,
     first: usize,

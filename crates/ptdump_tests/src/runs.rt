@@ -28,7 +28,7 @@ pub const EACH: [Words; 7] = [
     Words::Picture,
 ];
 
-/// What is asked of a dump.
+/// A request for a dump.
 #[derive(Clone, Copy, Debug)]
 pub struct Asked {
     pub words: Words,
@@ -38,7 +38,7 @@ pub struct Asked {
     pub cpu: Option<u64>,
 }
 
-/// The regions, without an option.
+/// The regions, without options.
 pub const PLAIN: Asked = Asked {
     words: Words::Regions,
     cr3: None,
@@ -48,7 +48,7 @@ pub const PLAIN: Asked = Asked {
 };
 
 impl Asked {
-    /// Makes the request of it.
+    /// Creates the request.
     pub fn request(&self, alloc: Global) -> Result<Request, AllocError> {
         let command = match self.words {
             Words::Regions => Command::Regions,
@@ -69,21 +69,21 @@ impl Asked {
     }
 }
 
-/// Keeps what is written, as much at once as it takes, until it is full.
+/// A writer that keeps what is written, with a limit on the bytes that it takes at once and in total.
 #[derive(Drop)]
 pub struct Sink {
-    /// What was written.
+    /// The bytes that were written.
     pub bytes: Vec<u8>,
-    /// How many bytes it takes at once.
+    /// The greatest number of bytes that it takes at once.
     pub at_once: usize,
-    /// How many bytes it takes until writes fail.
+    /// The number of bytes that it takes until writes fail.
     pub room: usize,
-    /// How many pieces of less than 64 KiB were to be written.
+    /// The number of writes of less than 64 KiB.
     pub small_pieces: usize,
 }
 
 impl Sink {
-    /// Makes one that takes so many bytes at once, and so many until it is full.
+    /// Creates a writer with these limits.
     pub fn new(alloc: Global, at_once: usize, room: usize) -> Sink {
         Sink {
             bytes: Vec::new(alloc),
@@ -93,7 +93,7 @@ impl Sink {
         }
     }
 
-    /// Makes one that takes all.
+    /// Creates a writer that takes everything.
     pub fn wide(alloc: Global) -> Sink {
         Sink::new(alloc, usize::MAX, usize::MAX)
     }
@@ -118,8 +118,8 @@ impl Write for Sink {
     }
 }
 
-/// How a run ends: its standard output, its standard error, and its status. If it fails, a part of the message, which is no part of
-/// standard error here.
+/// The end of a run: its standard output, its standard error and its status. If it fails, a part of the message, which isn't
+/// part of standard error here.
 #[derive(Clone, Copy, Debug, PartialEq)]
 pub struct End {
     pub output: &'static str,
@@ -128,7 +128,7 @@ pub struct End {
     pub message: &'static str,
 }
 
-/// Nothing is written, and all is as asked.
+/// Nothing is written, and the request is fulfilled.
 pub const SILENT: End = End {
     output: "",
     errors: "",
@@ -136,7 +136,7 @@ pub const SILENT: End = End {
     message: "",
 };
 
-/// What was written by a run, and how it ended.
+/// The output of a run, and how it ended.
 #[derive(Drop)]
 pub struct Ran {
     pub output: Sink,
@@ -145,7 +145,7 @@ pub struct Ran {
 }
 
 impl Ran {
-    /// The status with which the program ends.
+    /// Returns the status with which the program ends.
     pub fn status(&self) -> u8 {
         match &self.ended {
             Ok(outcome) if outcome.is_complete => 0,
@@ -155,7 +155,7 @@ impl Ran {
     }
 }
 
-/// Hears of tables as they are read.
+/// An observer of the tables that are read.
 #[derive(Clone, Copy)]
 struct Watcher {
     count: usize,
@@ -175,7 +175,7 @@ impl Progress for Watcher {
     }
 }
 
-/// Gives a value that memory isn't refused for.
+/// Returns the value, for which memory allocation doesn't fail.
 pub fn unwrap<T: Drop>(rt: impl Abort + Copy, value: Result<T, AllocError>) -> T {
     match value {
         Ok(value) => value,
@@ -183,7 +183,7 @@ pub fn unwrap<T: Drop>(rt: impl Abort + Copy, value: Result<T, AllocError>) -> T
     }
 }
 
-/// Gives bytes as text.
+/// Returns bytes as text.
 pub fn text_of<'a>(rt: impl Abort + Copy, bytes: &'a [u8]) -> &'a str {
     match str::from_utf8(bytes) {
         Ok(text) => text,
@@ -191,7 +191,7 @@ pub fn text_of<'a>(rt: impl Abort + Copy, bytes: &'a [u8]) -> &'a str {
     }
 }
 
-/// Runs the program with these writers, and compares what is heard of tables with what is told of them at last.
+/// Runs the program with these writers, and compares the observed number of tables with the reported one.
 pub fn run_into<S: ByteSource>(
     rt: impl Abort + Copy,
     alloc: Global,
@@ -236,7 +236,7 @@ pub fn run_on(rt: impl Abort + Copy, alloc: Global, file: &[u8], asked: Asked) -
     run_into(rt, alloc, file, asked, Sink::wide(alloc), Sink::wide(alloc))
 }
 
-/// Runs the program on a file, and compares how it ends.
+/// Runs the program on a file, and checks how it ends.
 pub fn check_run(rt: impl Abort + Copy, alloc: Global, file: &[u8], asked: Asked, wanted: End) {
     let ran = run_on(rt, alloc, file, asked);
     assert_eq!(rt; text_of(rt, &ran.output.bytes), wanted.output, "{asked:?}");

@@ -1,21 +1,21 @@
-//! Tests of tables that are shared beyond all measure: their paths are too many to be gone through one by one.
+//! Tests of tables that are shared so often that their paths are too many to be visited one by one.
 use crate::machines::push_alike;
 use crate::runs::{Asked, End, PLAIN, SILENT, Words, check_run, run_on, text_of, unwrap};
 use ptdump_engine::Levels;
 use std::alloc::{AllocError, Global};
 use std::process::Abort;
 
-/// Words of a table that are the same: from one index to before another.
+/// Equal words of a table, from one index up to another.
 type Alike = (usize, usize, u64);
 
-/// Tables one behind the other, from the root at 0x1000 on, and what is printed of them.
+/// Consecutive tables, from the root at 0x1000 on, and the output for them.
 struct Case {
     tables: &'static [Alike],
     levels: Levels,
     regions: &'static str,
     findings: &'static str,
     totals: &'static str,
-    // What the picture shows of the counts.
+    // The counts in the picture.
     counts: [&'static str; 2],
 }
 
@@ -111,7 +111,7 @@ fn file_of(alloc: Global, tables: &[Alike]) -> Result<Vec<u8>, AllocError> {
     Ok(file)
 }
 
-/// Asks for a report on tables from 0x1000 on.
+/// Returns the request for a report on tables from 0x1000 on.
 fn asked_of(words: Words, levels: Levels) -> Asked {
     Asked {
         words,
@@ -151,7 +151,7 @@ fn shared_tables_are_reported_on_at_once(rt: HostRuntime) {
     }
 }
 
-/// Makes the picture of tables, and looks for the counts in it.
+/// Draws the picture of tables, and looks for the counts in it.
 fn check_picture(rt: impl Abort + Copy, alloc: Global, file: &[u8], case: &Case) {
     let asked = asked_of(Words::Picture, case.levels);
     let ran = run_on(rt, alloc, file, asked);
@@ -165,7 +165,7 @@ fn check_picture(rt: impl Abort + Copy, alloc: Global, file: &[u8], case: &Case)
 
 #[test]
 fn rights_of_shared_tables_are_those_of_all_words(rt: HostRuntime) {
-    // Words of the root that are alike in turns of 128: without WRITABLE, with it, with USER_ACCESSIBLE besides, with NO_EXECUTE.
+    // The root has groups of 128 equal words: without WRITABLE, with it, with USER_ACCESSIBLE too, with NO_EXECUTE.
     let mut file = Vec::new(rt.alloc());
     let words = [0x2001, 0x2003, 0x2007, 0x8000_0000_0000_2003];
     for word in words {

@@ -1,4 +1,4 @@
-//! Tests of where walks start, and of what isn't done.
+//! Tests of where page walks start, and of requests that are refused.
 use crate::machines::{PROCESSOR, Table, core_file, raw_file};
 use crate::runs::{Asked, End, PLAIN, SILENT, Words, check_run, run_on, text_of, unwrap};
 use ptdump_engine::Levels;
@@ -24,7 +24,7 @@ const TWO_ROOTS: &[Table] = &[
     },
 ];
 
-/// Processors whose CR3 has flags of caches, a PCID with bit 63, and nothing besides. The last one has five levels.
+/// Processors whose CR3 has cache flags, a PCID with bit 63, and nothing besides the address. The last one has five levels.
 const PROCESSORS: [Processor; 3] = [
     PROCESSOR,
     Processor {
@@ -37,39 +37,39 @@ const PROCESSORS: [Processor; 3] = [
     },
 ];
 
-/// What is written of the first root.
+/// The output for the first root.
 const FIRST: End = End {
     output: "0x0-0x3fffffff 1GiB rwx-\n",
     errors: "tables 2, mappings 1, mapped 1GiB\n",
     ..SILENT
 };
 
-/// What is written of the second root.
+/// The output for the second root.
 const SECOND: End = End {
     output: "0x8000000000-0x803fffffff 1GiB r-x-\n",
     ..FIRST
 };
 
-/// What is written of the first root with five levels. The page's word is one of level four then.
+/// The output for the first root with five levels. The page's word is then at level four.
 const FIRST_OF_FIVE: End = End {
     output: "",
     errors: "tables 2, mappings 0, mapped 0KiB\n",
     ..SILENT
 };
 
-/// A mistake in what is asked.
+/// A mistake in the request.
 const MISTAKE: End = End {
     status: 2,
     ..SILENT
 };
 
-/// The note of a processor is needed, and isn't there.
+/// The note of a processor is needed, and is missing.
 const NO_NOTE: End = End {
     message: "--cpu",
     ..MISTAKE
 };
 
-/// Nothing says CR3.
+/// There is no CR3.
 const NO_CR3: End = End {
     message: "--cr3",
     ..MISTAKE
@@ -81,7 +81,7 @@ const BASE_OF_CORE: End = End {
     ..MISTAKE
 };
 
-/// What is asked of a core with three processors.
+/// Requests on a core with three processors.
 const OF_NOTES: [(Asked, End); 17] = [
     (PLAIN, FIRST),
     (
@@ -145,7 +145,7 @@ const OF_NOTES: [(Asked, End); 17] = [
         },
         SECOND,
     ),
-    // A note is needed that isn't there.
+    // The needed note is missing.
     (
         Asked {
             cpu: Some(3),
@@ -222,7 +222,7 @@ const OF_NOTES: [(Asked, End); 17] = [
     ),
 ];
 
-/// What is asked of a core without notes, and of a raw file.
+/// Requests on a core without notes, and on a raw file.
 const WITHOUT_NOTES: [(Asked, End); 4] = [
     (PLAIN, NO_CR3),
     (
@@ -249,7 +249,7 @@ const WITHOUT_NOTES: [(Asked, End); 4] = [
     ),
 ];
 
-/// Addresses that aren't canonical, and physical ones that are none. Those that are stand before and behind them.
+/// Addresses that aren't canonical, and numbers that aren't physical addresses, some next to valid ones.
 const ADDRESSES: [(Asked, End); 6] = [
     (
         Asked {
@@ -375,7 +375,7 @@ fn what_is_no_dump_is_refused(rt: HostRuntime) {
         ..refused
     };
     check_run(rt, rt.alloc(), &bytes, PLAIN, no_core);
-    // An empty file is a raw one.
+    // An empty file is a raw file.
     check_run(rt, rt.alloc(), b"", PLAIN, NO_CR3);
 }
 
@@ -400,7 +400,7 @@ fn a_short_file_has_the_tables_that_it_has(rt: HostRuntime) {
     );
 }
 
-/// Adds a core file whose only note, of a processor with its root at 0x1000, ends behind CR3.
+/// Adds a core file whose only note, of a processor with its root at 0x1000, ends after CR3.
 fn push_core_with_short_note(file: &mut Vec<u8>) -> Result<(), AllocError> {
     let notes = Segment {
         kind: Segment::NOTE,

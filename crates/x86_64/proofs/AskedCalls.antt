@@ -1,4 +1,4 @@
--- What a call of a list asks is a call of the machine.
+-- The machine's call for a call of a list is a well-formed one.
 use Rattle.std.proofs.Common.{◌≡◌, ◌<◌, ◌≤◌, ℕ, List, [], ◌∷◌, lit≤, sym, subst, arith}
 use Rattle.std.specs.Prelude.{⊤}
 use Rattle.x86_64_model.specs.Laws.Steps.{AllCalls}
@@ -11,7 +11,7 @@ use Rattle.x86_64.specs.declared.calls.SizeCallIn.TheVariants as size
 use Rattle.x86_64.specs.declared.calls.CallIn.{CallIn}
 use Rattle.x86_64.specs.declared.calls.CallIn.TheVariants as call
 
--- where the call names a level, the level has table entries
+-- if the call names a level, that level has table entries
 abbrev HasTables : (L : ℕ) → PageCall → Type 0
 HasTables L (MapTo page frame flags) = ⊤
 HasTables L (MapToWithTableFlags page frame flags parent_flags) = ⊤

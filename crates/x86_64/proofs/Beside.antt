@@ -1,4 +1,4 @@
--- A second hierarchy beside the calls of a first one.
+-- A second hierarchy beside calls on a first one.
 use Rattle.std.proofs.Common.{◌≡◌, ◌<◌, inl, inr, ⊎_elim, ℕ, Bool, true, List, Some, None, Option, IsSome, cond, sym, ap, ◌∷◌, subst}
 use Rattle.x86_64_model.specs.Layout.{Layout, words, paths, Valid}
 use Rattle.x86_64_model.specs.Layout.{Owns}
@@ -13,7 +13,7 @@ use Rattle.x86_64_model.proofs.Lemmas.Hierarchies.Unset.{is_some-unset}
 use Rattle.x86_64.specs.Runs.{FitsPool, KeepsPool}
 use Rattle.x86_64.specs.SecondHierarchies.{IsSecond, Stays, SecondHierarchiesStay}
 
--- a table that is there without the self-entry is there
+-- a table that is there without the self-entry is also there with it
 there_with_it : (window : Option Window) (root : ℕ) (T : Words) (f : ℕ) → IsSome (outside_window window root T f) → IsSome (T f)
 there_with_it None root T f h = h
 there_with_it (Some w) root T f h = is_some-unset T root w.index 0 f h

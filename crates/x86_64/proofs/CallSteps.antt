@@ -1,4 +1,4 @@
--- What a mapper's call leaves and answers is the machine's step.
+-- The result of a mapper's call is the machine's step.
 use Rattle.std.proofs.Common.{◌≡◌, ℕ, List, Option, Some, option_map, refl, ap, sym, ◌∙◌, subst}
 use Rattle.x86_64_model.specs.Memory.{Memory}
 use Rattle.x86_64_model.specs.Layout.{Layout, read_entry}

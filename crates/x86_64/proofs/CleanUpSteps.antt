@@ -1,4 +1,4 @@
--- What a clean up leaves is the machine's step.
+-- The result of a clean up is the machine's step.
 use Rattle.std.proofs.Common.{◌≡◌, ℕ, Bool, List, inr, sym, ap, ◌∙◌, subst}
 use Rattle.x86_64_model.specs.Call as machine
 use Rattle.x86_64_model.specs.Entry.{IsParentFlags}
@@ -14,7 +14,7 @@ use Rattle.x86_64.specs.Runs.{machine_of, state_in, Kept}
 use Rattle.x86_64.proofs.FreeFrames.{clean_up_keeps_free}
 use Rattle.x86_64.proofs.Keeping.{keeps_step}
 
--- a hierarchy and the pool that fits it, which is what a frame store holds
+-- a hierarchy with a pool that fits it, which a frame store holds
 module _ {Lent : Type 0} (h : Hierarchy Lent) (serves : ℕ → Bool) (pool held : List ℕ) (same : pool ≡ held) (fits : PoolFits h serves pool) where
   pub held_may_clean_up : MayCleanUp h serves held
   held_may_clean_up = subst (MayCleanUp h serves) same (may_clean_up h serves pool fits)
@@ -24,7 +24,7 @@ module _ {Lent : Type 0} (h : Hierarchy Lent) (serves : ℕ → Bool) (pool held
     one = ap (λ fs. do_call (machine_of h.layout take_back) (state_in h.layout h.memory fs) (machine.CleanUp low high)) same ∙ cleans.outcome
         ∙ ap (λ fs. record { state = state_in after.layout after.memory fs; reply = machine.Cleaned }) (sym last) ∙ ap (λ l. record { state = state_in l after.memory rest; reply = machine.Cleaned }) cleans.layout
 
-    -- the frames that are held then are those that were, with those that came back
+    -- the frames held afterwards are those held before and the returned ones
     all_back : left ≡ given_back take_back held (back h low high)
     unfolding do_call
     all_back = sym (ap (λ (x : AfterCall). x.state.pool) cleans.outcome)

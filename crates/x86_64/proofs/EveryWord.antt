@@ -1,4 +1,4 @@
--- What a list of calls leaves decides every word of the memory.
+-- The result of a list of calls determines every word of the memory.
 use Rattle.std.proofs.Common.{◌≡◌, ⊎_elim, ℕ, ◌==◌, Bool, true, false, cond, List, [], ◌∷◌, ◌++◌, Option, Some, None, refl, sym, ap, ◌∙◌, subst, eqb-true}
 use Rattle.std.proofs.lemmas.Bool.{eqb-false}
 use Rattle.std.specs.FinMap.{get}
@@ -26,12 +26,12 @@ stable a b never = by (a == b) refl
     by true is = eqb-true a b is
     by false is = absurd (never (eqb-false a b is))
 
--- the word at an index of a path's table is the entry there
+-- the word at an index of the table of a path is the entry there
 word_of_table : (L : ℕ) (T : Words) (root : ℕ) (M : PathMap) (q : List ℕ) (f i : ℕ) → ((q : List ℕ) (i : ℕ) → entry M (q ++ i ∷ []) ≡ entry_in T (table_at L root M q) i) → table_at L root M q ≡ Some f
     → word T f i ≡ entry M (q ++ i ∷ [])
 word_of_table L T root M q f i entries leads = sym (entries q i ∙ ap (λ t. entry_in T t i) leads)
 
--- the path map and the self-entry decide the words of tables
+-- the path map and the self-entry determine the words of tables
 table_words : (L : ℕ) (window : Option Window) (T U : Words) (root : ℕ) (M : PathMap) → IsValidFor L window T root M → IsValidFor L window U root M → (f i : ℕ) → IsTable L root M f → word T f i ≡ word U f i
 table_words L None T U root M valid other f i table =
     word_of_table L T root M table.0 f i valid.valid.holds.entries table.1 ∙ sym (word_of_table L U root M table.0 f i other.valid.holds.entries table.1)
@@ -51,7 +51,7 @@ module _ (l : Layout) (mapping : IsMapping l.places) (m n : Memory) (pool back r
   own_is_covered : (f : ℕ) → Owns l n rest f → l.places.covers f ≡ true
   own_is_covered f own = covered n l.places f (own_there l.levels l.window (words l n) l.root left.serves (state_in l n rest) left.keeps.fits f own)
 
-  -- a frame that is neither free nor a table has the words of before
+  -- a frame that is neither free nor a table keeps its words
   other_words : (f : ℕ) → l.places.covers f ≡ true → (Owns l n rest f → ⊥) → words l n f ≡ words l m f
   other_words f cover none = ap (λ o. cond (l.places.covers f) o None) (left.keeps.others (l.places.place f) (λ g own e.
       let after = (left.keeps.conserved g).0 own in

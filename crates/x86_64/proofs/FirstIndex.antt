@@ -4,7 +4,7 @@ use Rattle.x86_64_model.specs.Position.{index, page_path}
 use Rattle.x86_64_model.specs.Path.{path_at}
 use Rattle.x86_64_model.specs.Window.{Window, begins_with}
 
--- whether there is a recursive index, and it is this one
+-- whether there is a recursive index equal to this one
 abbrev pub is_index : (r : Option ℕ) → (i : ℕ) → Bool
 is_index None i = false
 is_index (Some r) i = i == r
@@ -17,14 +17,14 @@ first_index (Some w) (suc n) level p some low =
     let one : suc n + 1 - level ≡ suc (n + 1 - level) = omega (arith, some, low) in
     ap (λ k. begins_with (Some w) (take k (index (suc n) p ∷ page_path n p))) one
 
--- and that of the path of an address
+-- the first index of an address's path
 pub first_of_all : (window : Option Window) (L p : ℕ) → 3 < L → begins_with window (page_path L p) ≡ is_index (option_map (λ w. w.index) window) (index L p)
 unfolding page_path
 first_of_all None L p some = refl
 first_of_all (Some w) zero p some = absurd (omega (arith, some))
 first_of_all (Some w) (suc n) p some = refl
 
--- where there is a recursive index r, a page lies outside it if its index of the highest level is another
+-- if there is a recursive index r, a page is outside it if its index of the highest level differs from r
 pub is_outside_test : (window : Option Window) (L n level p : ℕ) → L ≡ n → 3 < n → level ≤ 3 → (r i : ℕ) → option_map (λ w. w.index) window ≡ Some r → i ≡ index n p
     → (test : Bool) → test ≡ not (i == r) → test ≡ not (begins_with window (path_at L level p))
 is_outside_test window L n level p levels some low r i recursive of_page test tests =

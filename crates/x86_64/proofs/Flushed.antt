@@ -1,4 +1,4 @@
--- What is recorded of calls is what the machine records of its calls, so it suffices.
+-- The flush records of calls are those of the machine, so they suffice.
 use Rattle.std.proofs.Common.{zero, suc, inl, inr, ◌≡◌, ◌++◌, ℕ, Bool, List, [], ◌∷◌, map, take, drop, Option, Some, None, option_map, Result, Err, refl, sym, ap, ap₂, ◌∙◌, subst}
 use Rattle.std.proofs.lemmas.List.{map-append, take-map, drop-map}
 use Rattle.x86_64_model.specs.Call as machine
@@ -28,7 +28,7 @@ use Rattle.x86_64.proofs.AskedCalls.{are_calls}
 
 -- ---- of one call
 
--- the items of a reply to a call on a page, none where there is no such reply
+-- the items of a reply to a call on a page, or none if there is no such reply
 abbrev told_items : {S : Type 0} → (levels size : ℕ) → Option (Option (SizeReply S)) → List FlushItem
 told_items levels size None = []
 told_items levels size (Some answer) = items_where levels size answer
@@ -80,7 +80,7 @@ item_is : (L size page : ℕ) → IsLevelCount L → item_of (page_item L page s
 item_is L size page (inl four) = rw four refl
 item_is L size page (inr five) = rw five refl
 
--- the items of a reply, none where there is none
+-- the items of a reply, or none if there is no reply
 abbrev reply_items : (levels : ℕ) → Option Reply → List FlushItem
 reply_items levels None = []
 reply_items levels (Some answer) = items_of levels answer

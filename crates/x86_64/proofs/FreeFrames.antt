@@ -1,4 +1,4 @@
--- What calls leave of the words of free frames.
+-- The words of free frames after calls.
 use Rattle.std.proofs.Common.{◌≡◌, ◌⊎◌, inl, inr, ⊎_elim, ℕ, ◌==◌, Bool, true, false, cond, List, [], ◌∷◌, ◌++◌, None, refl, sym, ap, ◌∙◌, subst, append-nil, append_assoc, eqb-true}
 use Rattle.std.proofs.lemmas.Bool.{eqb-false}
 use Rattle.x86_64_model.specs.Layout.{Layout, words, paths}
@@ -24,13 +24,13 @@ module _ (l : Layout) (mapping : IsMapping l.places) (serves : ℕ → Bool) (m 
   own_is_covered : (f : ℕ) → Owns l m pool f → l.places.covers f ≡ true
   own_is_covered f own = covered m l.places f (own_there l.levels l.window (words l m) l.root serves (state_in l m pool) fits f own)
 
-  -- a frame that is free before and after keeps its words, where none changed but in tables and in frames that were taken
+  -- a frame that is free before and after keeps its words, if only tables and taken frames changed
   stays : (n : Memory) (rest : List ℕ) → KeepsOthers l.places (λ g. Table g ⊎ (In pool g × (In rest g → ⊥))) m n → (f : ℕ) → In rest f → In pool f → words l n f ≡ words l m f
   stays n rest others f left was = ap (λ o. cond (l.places.covers f) o None) (others (l.places.place f) (λ g changed e.
       let same : g ≡ f = mapping.distinct g f (own_is_covered g (⊎_elim (λ t. inr t) (λ taken. inl taken.0) changed)) (own_is_covered f (inl was)) e in
       ⊎_elim (λ t. fits.no_table f was (subst Table same t)) (λ taken. taken.1 (subst (In rest) (sym same) left)) changed))
 
-  -- a map, which takes frames off the front
+  -- a map, which takes frames from the front of the pool
   pub map_keeps_free : (n : Memory) (taken rest : List ℕ) → pool ≡ taken ++ rest → KeepsOthers l.places (λ f. Owns l m pool f × (In rest f → ⊥)) m n → KeepsFree l m pool [] n rest
   map_keeps_free n taken rest first others = record {
     came_back = λ f left back. absurd back;
@@ -57,7 +57,7 @@ module _ (l : Layout) (mapping : IsMapping l.places) (serves : ℕ → Bool) (m 
       was : (f : ℕ) → In rest f → (In back f → ⊥) → In pool f
       was f left none = ⊎_elim (λ came. absurd (none came)) (λ i. i) (in_append back pool f ((given_frames take_back gives pool back f).0 (subst (λ fs. In fs f) is left)))
 
--- a call on a page gives no frame back
+-- a call on a page returns no frame
 pub page_keeps_free : (l : Layout) (m : Memory) (pool : List ℕ) (take_back : List ℕ → ℕ → List ℕ) (level : ℕ) (call : PageCall) (n : Memory) (rest : List ℕ) → KeepsFree l m pool [] n rest
     → KeepsFree l m pool (back_by (machine_of l take_back) (state_in l m pool) (page_call l.levels level call)) n rest
 page_keeps_free l m pool take_back level (MapTo page frame flags) n rest keeps = keeps
@@ -94,7 +94,7 @@ module _ (l : Layout) (m n o : Memory) (pool rest last back more : List ℕ) (on
     same_words = λ f left none. let never = apart f none in next.same_words f left never.1 ∙ one.same_words f (next.was_free f left never.1) never.0;
   }
 
--- what the free frames keep so far, and what is to come back yet of all that comes back
+-- the effect on free frames so far, with the frames that are still to be returned
 pub record FreeSoFar (l : Layout) (m : Memory) (pool all left : List ℕ) (n : Memory) (rest : List ℕ) : Type 0 where
   pub back : List ℕ
   pub keeps : KeepsFree l m pool back n rest

@@ -1,4 +1,4 @@
--- One call keeps what a list of calls keeps, and so do calls one after another.
+-- What a list of calls keeps is kept by each call, and by one call after another.
 use Rattle.std.proofs.Common.{◌≡◌, ℕ, Bool, List, refl, sym, ◌∙◌, subst}
 use Rattle.x86_64_model.specs.Entry.{IsParentFlags}
 use Rattle.x86_64_model.specs.Memory.{Memory}
@@ -22,7 +22,7 @@ keeps_then l serves m n o pool rest last one next = record {
   others = λ k none. next.others k (λ f own. none f ((one.conserved f).1 own)) ∙ one.others k none;
 }
 
--- a step of the machine, where the words mean the state after it and are as a mapper leaves them
+-- a step of the machine, if the words mean the state after it and are as a mapper leaves them
 pub keeps_step : (l : Layout) → IsParentFlags l.added_flags → (take_back : List ℕ → ℕ → List ℕ) → TakesBack take_back → (serves : ℕ → Bool) (m : Memory) (pool : List ℕ) → FitsPool l m serves pool
     → (call : Call) → IsCall l.levels call → (n : Memory) (rest : List ℕ) → state_in l n rest ≡ (step (machine_of l take_back) (state_in l m pool) call).state
     → IsReady l n rest → KeepsOthers l.places (Owns l m pool) m n → KeepsPool l serves m pool n rest

@@ -1,4 +1,4 @@
--- A call of a list that names no recursive index is one of the machine's that names none.
+-- A call that names no recursive index becomes a call of the machine that names none.
 use Rattle.std.proofs.Common.{◌≡◌, ◌≤◌, ◌<◌, ◌&&◌, ℕ, Bool, true, false, nat_lt, List, [], ◌∷◌, Option, Some, None, refl, ap, ◌∙◌, lit≤}
 use Rattle.x86_64_model.specs.Alike.{names_index}
 use Rattle.x86_64_model.specs.Laws.Pairs as machine

@@ -1,4 +1,4 @@
--- What a list of calls leaves in a memory at an offset is what it leaves where each frame lies at the place of its number.
+-- The result of a list of calls in a memory at an offset is the one with each frame at the place of its number.
 use Rattle.std.specs.Prelude.{◌≡◌, ◌↔◌, ℕ, Bool, List, None}
 use Rattle.std.proofs.Common.{sym, ap, ◌∙◌, subst}
 use Rattle.x86_64_model.specs.Hierarchy.{paths_of}
@@ -17,7 +17,7 @@ use Rattle.x86_64.specs.Runs.{KeepsPool, state_in}
 same_paths : (levels offset root : ℕ) (m : Memory) → OffsetFits levels m offset → paths (direct_at levels (offset_places levels offset) root) m ≡ paths (direct_at levels identity_places root) m
 same_paths levels offset root m reached = ap (λ tables. paths_of levels (outside_window None root tables) root) (offset_words levels m offset reached)
 
--- the words mean the same state
+-- the words mean one state with both mappings
 pub same_state : (levels offset root : ℕ) (m : Memory) (pool : List ℕ) → OffsetFits levels m offset → state_in (direct_at levels (offset_places levels offset) root) m pool ≡ state_in (direct_at levels identity_places root) m pool
 same_state levels offset root m pool reached = ap (λ (M : PathMap). record { paths = M; pool = pool }) (same_paths levels offset root m reached)
 
@@ -26,7 +26,7 @@ same_own levels offset root m pool reached f =
     let same = same_paths levels offset root m reached in
     (subst (λ (M : PathMap). IsOwn levels root M pool f) same, subst (λ (M : PathMap). IsOwn levels root M pool f) (sym same))
 
--- and what is kept is the same
+-- what is kept is equal with both mappings
 pub same_kept : (levels offset root : ℕ) (serves : ℕ → Bool) (m n : Memory) (pool rest : List ℕ) → OffsetFits levels m offset → OffsetFits levels n offset
     → KeepsPool (direct_at levels (offset_places levels offset) root) serves m pool n rest → KeepsPool (direct_at levels identity_places root) serves m pool n rest
 same_kept levels offset root serves m n pool rest before after kept = record {
@@ -38,7 +38,7 @@ same_kept levels offset root serves m n pool rest before after kept = record {
   others = λ place none. kept.others place (λ f own. none f ((same_own levels offset root m pool before f).0 own));
 }
 
--- and so are the words of free frames
+-- the words of free frames are equal with both mappings
 pub same_free : (levels offset root : ℕ) (m n : Memory) (pool back rest : List ℕ) → OffsetFits levels m offset → OffsetFits levels n offset
     → KeepsFree (direct_at levels (offset_places levels offset) root) m pool back n rest → KeepsFree (direct_at levels identity_places root) m pool back n rest
 same_free levels offset root m n pool back rest before after keeps =

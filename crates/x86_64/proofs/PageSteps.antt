@@ -1,4 +1,4 @@
--- What a mapper's call on a page leaves and answers is the machine's step.
+-- The result of a mapper's call on a page is the machine's step.
 use Rattle.std.proofs.Common.{◌≡◌, ◌<◌, ◌≤◌, ℕ, Bool, true, cond, List, [], ◌++◌, Some, option_map, Result, Ok, Err, inr, refl, ap, sym, ◌∙◌, subst, arith}
 use Rattle.std.proofs.lemmas.Option.{same_Some}
 use Rattle.std.specs.Result.{IfOk}
@@ -36,7 +36,7 @@ use Rattle.x86_64_model.proofs.Lemmas.Maps.Takes.{map_takes}
 use Rattle.x86_64.proofs.FreeFrames.{map_keeps_free, change_keeps_free, nothing_keeps_free}
 use Rattle.x86_64.proofs.Keeping.{keeps_step}
 
--- ---- results that answers are
+-- ---- results from answers
 
 map_error_back : {S : Type 0} (why : MapToError S) → map_error (map_refusal why) ≡ Some why
 map_error_back map_to.FrameAllocationFailed = refl
@@ -85,7 +85,7 @@ translate_result : (r : Result ℕ TranslateError) → result_of (λ f. f) trans
 translate_result (Ok frame) = refl
 translate_result (Err why) = ap (option_map Err) (translate_error_back why)
 
--- a reply that tells of a refusal is one to an answer that refuses
+-- a reply with a refusal comes from an answer that refuses
 unmap_refuses : (told r : Result (ℕ × ℕ) UnmapError) → told ≡ r → is_refused told ≡ true → refuses (unmap_answer r) ≡ true
 unmap_refuses told (Ok x) tells refused = cc
 unmap_refuses told (Err why) tells refused = refl
@@ -97,7 +97,7 @@ flags_refuse frame (Err why) (Err same) tells refused = refl
 
 -- ---- steps
 
--- what a call on a page that an entry of the level maps begins with: a hierarchy of more than three levels and a pool that fits it
+-- the start of a call on a page that an entry of the level maps: a hierarchy of more than three levels and a pool that fits it
 pub record Start (l : Layout) (take_back : List ℕ → ℕ → List ℕ) (serves : ℕ → Bool) (m : Memory) (pool : List ℕ) (level : ℕ) : Type 0 where
   pub at_least_four : 3 < l.levels
   pub adds : IsParentFlags l.added_flags
@@ -107,7 +107,7 @@ pub record Start (l : Layout) (take_back : List ℕ → ℕ → List ℕ) (serve
   pub low : 1 ≤ level
   pub high : level ≤ 3
 
--- the call's step in the machine, what it keeps, and that a reply that says so leaves all as it was
+-- the call's step in the machine, what it keeps, and that nothing changed if the reply says so
 pub record Serves (S : Type 0) (l : Layout) (take_back : List ℕ → ℕ → List ℕ) (serves : ℕ → Bool) (m : Memory) (pool : List ℕ) (level : ℕ) (call : PageCall) (n : Memory) (rest : List ℕ) (answer : SizeReply S) : Type 0 where
   pub step : size_step (machine_of l take_back) level (state_in l m pool) call ≡ record { state = state_in l n rest; reply = Some (Some answer) }
   pub keeps : KeepsPool l serves m pool n rest
@@ -117,11 +117,11 @@ pub record Serves (S : Type 0) (l : Layout) (take_back : List ℕ → ℕ → Li
 is_page : {l : Layout} {take_back : List ℕ → ℕ → List ℕ} {serves : ℕ → Bool} {m : Memory} {pool : List ℕ} {level : ℕ} → Start l take_back serves m pool level → (page : ℕ) → IsPage l.levels (path_at l.levels level page)
 is_page {l = l} {level = level} start page = page_at_level l.levels level page start.low start.high (omega (arith, start.at_least_four, start.high))
 
--- that the call is served so if it is allowed
+-- the call is served if it is allowed
 abbrev pub IsServed : (S : Type 0) (l : Layout) (take_back : List ℕ → ℕ → List ℕ) (serves : ℕ → Bool) (m : Memory) (pool : List ℕ) (level : ℕ) (call : PageCall) (n : Memory) (rest : List ℕ) (answer : SizeReply S) → Type 0
 IsServed S l take_back serves m pool level call n rest answer = allowed l.levels l.window (paths l m) (page_call l.levels level call) ≡ true → Serves S l take_back serves m pool level call n rest answer
 
--- the outcome of a call, in the layout that no call changes
+-- the result of a call, in the layout that no call changes
 stepped : {Lent : Type 0} (h : Hierarchy Lent) (take_back : List ℕ → ℕ → List ℕ) (pool : List ℕ) (on : machine.Call) (answer : Answer) (after : Hierarchy Lent) (rest : List ℕ) → after.layout ≡ h.layout
     → Steps h pool on answer after rest → do_call (machine_of h.layout take_back) (state_in h.layout h.memory pool) on ≡ record { state = state_in h.layout after.memory rest; reply = machine.Answered answer }
 stepped h take_back pool on answer after rest same steps =
@@ -130,7 +130,7 @@ stepped h take_back pool on answer after rest same steps =
 -- ---- frames that a map takes
 
 module _ {Lent : Type 0} (h : Hierarchy Lent) {take_back : List ℕ → ℕ → List ℕ} {serves : ℕ → Bool} {pool : List ℕ} {level : ℕ} (start : Start h.layout take_back serves h.memory pool level) where
-  -- what a map by a call leaves of the pool, at whose front are the frames that it took
+  -- the rest of the pool after a map, which took frames from the pool's front
   abbrev Takes : (call : PageCall) → Type 0
   Takes call = (rest : List ℕ) → (do_call (machine_of h.layout take_back) (state_in h.layout h.memory pool) (page_call h.layout.levels level call)).state.pool ≡ rest → (taken : List ℕ) × (pool ≡ taken ++ rest)
 
@@ -230,7 +230,7 @@ module _ {Lent S : Type 0} (h : Hierarchy Lent) {take_back : List ℕ → ℕ �
   translate_served page r answers = answered (TranslatePage page) (is_page start page) h.memory pool (page_translation h (path_at h.layout.levels level page)) refl
       (ready_of_fits h.layout h.memory serves pool start.fits) (λ k none. refl) (nothing_keeps_free h.layout h.memory pool) (reply.Frame r) (ap (λ a. option_map reply.Frame (result_of (λ f. f) translate_error a)) (sym answers) ∙ ap (option_map reply.Frame) (translate_result r)) (λ unchanged. refl)
 
--- ---- the layout and what was lent stay
+-- ---- the layout and the loan stay
 
 abbrev pub IsKept : {Lent : Type 0} → (h after : Hierarchy Lent) → Type 0
 IsKept h after = (after.layout ≡ h.layout) × (after.lent ≡ h.lent)

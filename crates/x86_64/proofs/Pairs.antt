@@ -1,4 +1,4 @@
--- Two mappers whose path maps are alike give one list of replies, and stay alike.
+-- Two mappers with alike path maps give the same list of replies, and stay alike.
 use Rattle.std.proofs.Common.{◌≡◌, ◌<◌, ℕ, Bool, List, [], ◌∷◌, map, Option, Some, refl, sym, ap, ap₂, ◌∙◌, subst, subst₂}
 use Rattle.std.proofs.lemmas.List.Sorted.{IsPermutation-refl}
 use Rattle.x86_64_model.specs.Alike.{Alike}
@@ -58,7 +58,7 @@ pub record IsPair {C : Type 0} (asks : C → MapperCall) (L : ℕ) {Lent Other :
   pub unnamed : NoneNames asks L h.layout.window calls
   pub other_unnamed : NoneNames asks L k.layout.window calls
 
--- after them, where the first has these replies: so has the second
+-- after the calls: if the first mapper gave these replies, so did the second
 pub record IsPairAfter {C : Type 0} (asks : C → MapperCall) (L : ℕ) {Lent Other : Type 0} (k : Hierarchy Other) (others : List ℕ) (calls : List C) (told : List Reply) (after : Hierarchy Lent) (rest : List ℕ) (other_after : Hierarchy Other) (other_rest : List ℕ) : Type 0 where
   pub ran : Ran asks put_first k others calls [] told other_after other_rest
   pub alike : Alike L (paths after) (paths other_after)
@@ -68,7 +68,7 @@ module _ {C : Type 0} (asks : C → MapperCall) (L : ℕ) (is_call : (call : C) 
   abbrev asked : List C → List machine.Call
   asked calls = calls_by asks L calls
 
-  -- after the calls, as the machine of their levels leaves it
+  -- after the calls, as the machine with these levels leaves it
   ends : {Lent : Type 0} (h after : Hierarchy Lent) (pool rest : List ℕ) (calls : List C) (told : List Reply) → h.layout.levels ≡ L → after.layout ≡ h.layout → Ran asks put_first h pool calls [] told after rest
       → state_in after.layout after.memory rest ≡ state_after (machine_of h.layout put_first) (state_in h.layout h.memory pool) (asked calls)
   ends h after pool rest calls told levels layout ran =
@@ -121,7 +121,7 @@ module _ {C : Type 0} (asks : C → MapperCall) (L : ℕ) (is_call : (call : C) 
         pools = ap (λ (s : State). s.pool) one ∙ runs.pools ∙ sym (ap (λ (s : State). s.pool) other);
       }
 
--- where there was none before
+-- if there were no replies before
 pub from_none : {C : Type 0} (asks : C → MapperCall) {Lent : Type 0} (h : Hierarchy Lent) (pool : List ℕ) (calls : List C) (before told : List Reply) (after : Hierarchy Lent) (rest : List ℕ) → before ≡ []
     → Ran asks put_first h pool calls before told after rest → Ran asks put_first h pool calls [] told after rest
 from_none asks h pool calls before told after rest none ran = subst (λ before. Ran asks put_first h pool calls before told after rest) none ran

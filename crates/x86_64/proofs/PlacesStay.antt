@@ -1,4 +1,5 @@
--- Calls keep which places a memory has: frames of the hierarchy and its pool are in the memory before and after, and all other places stay.
+-- Calls keep the places of a memory: frames of the hierarchy and its pool are in the memory before and after, and all other
+-- places stay.
 use Rattle.std.specs.Prelude.{◌≡◌, ◌≢◌, ℕ, Bool, true, false, cond, List, Option, Some, None, IsSome}
 use Rattle.std.specs.FinMap.{get}
 use Rattle.std.proofs.Common.{refl, sym, ap, ◌∙◌, subst}
@@ -9,22 +10,22 @@ use Rattle.x86_64_model.proofs.Lemmas.Machines.Fitting.{own_there}
 use Rattle.x86_64.specs.PlacesStay.{PlacesStay, OffsetsFitStill}
 use Rattle.x86_64.specs.Runs.{FitsPool, state_in}
 
--- a frame that has a table lies at a place that is there
+-- a frame with a table has its place in the memory
 there_if : (c : Bool) (table : Option (List ℕ)) → IsSome (cond c table None) → IsSome table
 there_if true table there = there
 there_if false table there = cc there
 
--- the place of a frame of the hierarchy or its pool is there
+-- the place of a frame of the hierarchy or of its pool is in the memory
 own_place : (l : Layout) (serves : ℕ → Bool) (m : Memory) (pool : List ℕ) → FitsPool l m serves pool → (f : ℕ) → Owns l m pool f → IsSome (get m (l.places.place f))
 own_place l serves m pool fits f own =
     there_if (l.places.covers f) (get m (l.places.place f)) (own_there l.levels l.window (words l m) l.root serves (state_in l m pool) fits f own)
 
--- a place is there where it would be the same one if it weren't
+-- a place is in the memory if it would be unchanged in case it weren't
 there_by : {X : Type 0} (t u : Option X) → IsSome u → (t ≡ None → t ≡ u) → IsSome t
 there_by (Some x) u there same = cc
 there_by None u there same = subst IsSome (sym (same refl)) there
 
--- what isn't there is no place of a frame that is
+-- a place that isn't in the memory isn't that of a frame which is
 no_own : (place at : ℕ) (m : Memory) → get m place ≡ None → IsSome (get m at) → at ≢ place
 no_own place at m none there same = let gone : IsSome {T = List ℕ} None = subst IsSome (ap (get m) same ∙ none) there in cc gone
 

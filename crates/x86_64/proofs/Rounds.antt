@@ -1,4 +1,4 @@
--- One more call of a list: what is left to be done after it, with what is done, is what was left before it.
+-- One more call of a list: what is left after it, together with what is done, is what was left before it.
 use Rattle.std.proofs.Common.{zero, suc, ◌≡◌, ◌+◌, ◌<◌, ◌≤◌, ◌++◌, ℕ, Bool, true, false, refl, List, [], ◌∷◌, length, map, drop, get_or, Option, Some, ap, sym, ◌∙◌, subst, append_assoc, add-one, drop-cons, arith}
 use Rattle.std.proofs.Math.Nat.{le_refl}
 use Rattle.std.proofs.Math.Seq.{drop-append_seam}
@@ -34,7 +34,7 @@ module _ {C : Type 0} (asks : C → MapperCall) (m : Machine) (s t : State) (r :
   pub rest_next : (all : State) → state_after m s (calls_by asks m.levels (drop i calls)) ≡ all → state_after m t (calls_by asks m.levels (drop (i + 1) calls)) ≡ all
   rest_next all before = ap (λ (x : AfterStep Reply). state_after m x.state (calls_by asks m.levels (drop (i + 1) calls))) (sym one) ∙ ap (λ cs. state_after m s (calls_by asks m.levels cs)) (sym (left calls i call here item)) ∙ before
 
-  -- the frames that come back from here on
+  -- the frames that are returned from here on
   pub back_next : all_back m s (calls_by asks m.levels (drop i calls)) ≡ back_by m s (machine_call m.levels (asks call)) ++ all_back m t (calls_by asks m.levels (drop (i + 1) calls))
   back_next =
       ap (λ cs. all_back m s (calls_by asks m.levels cs)) (left calls i call here item)
@@ -75,7 +75,7 @@ replies_long : {C : Type 0} (asks : C → MapperCall) (m : Machine) (s : State) 
 replies_long asks m s [] = refl
 replies_long asks m s (call ∷ calls) = ap suc (replies_long asks m (step_by m s (asks call)).state calls)
 
--- where no call is left
+-- no call is left
 pub told_last : {C : Type 0} (asks : C → MapperCall) (m : Machine) (s : State) (calls : List C) (i : ℕ) → length calls ≤ i → (items : List Reply) (all : List (Option Reply)) → map Some items ++ replies_to asks m s (drop i calls) ≡ all → map Some items ≡ all
 told_last asks m s calls i past items all told = sym (append-nil (map Some items)) ∙ ap (λ cs. map Some items ++ replies_to asks m s cs) (sym (drop_all i calls past)) ∙ told
 
@@ -90,12 +90,12 @@ pub one_each : {C : Type 0} (asks : C → MapperCall) (m : Machine) (s : State) 
 one_each asks m s calls before after told =
     sym (length-map after Some) ∙ ap length told ∙ length-append (map Some before) (replies_to asks m s calls) ∙ ap (λ n. n + length (replies_to asks m s calls)) (length-map before Some) ∙ ap (λ n. length before + n) (replies_long asks m s calls)
 
--- they are the machine's
+-- the appended replies are the machine's
 pub appended_told : {R : Type 0} (before after : List R) (told : List (Option R)) → map Some after ≡ map Some before ++ told → map Some (appended before after) ≡ told
 appended_told before after told e =
     sym (drop-map Some (length before) after) ∙ ap (drop (length before)) e ∙ ap (λ n. drop n (map Some before ++ told)) (sym (length-map before Some)) ∙ drop-append_seam (map Some before) told
 
--- where none was appended no item is recorded
+-- if no reply was appended, no item is recorded
 pub items_first : (levels : ℕ) (b : Bool) (before : List Reply) (held : List FlushItem) → held ≡ held ++ recorded b (items_told levels (appended before before))
 items_first levels b before held = sym (ap (λ told. held ++ recorded b (items_told levels told)) (drop_all (length before) before (le_refl (length before))) ∙ ap (λ xs. held ++ xs) (recorded_none b) ∙ append-nil held)
   where
@@ -103,7 +103,7 @@ items_first levels b before held = sym (ap (λ told. held ++ recorded b (items_t
     recorded_none true = refl
     recorded_none false = refl
 
--- with room for some there is room for one
+-- room for k + 1 tokens is room for one
 pub room_for_one : (has_room : ℕ → Type 0) → ((n : ℕ) → has_room (n + 1) → has_room n) → (k : ℕ) → has_room (k + 1) → has_room 1
 room_for_one has_room fewer zero room = room
 room_for_one has_room fewer (suc k) room =

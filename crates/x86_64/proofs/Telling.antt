@@ -1,4 +1,4 @@
--- The machine's reply to a call, read back from the reply that tells of it.
+-- The machine's reply to a call, recovered from the Rust reply.
 use Rattle.std.proofs.Common.{◌≡◌, ℕ, ◌==◌, Bool, true, false, cond, Option, Some, None, option_map, Result, Ok, Err, refl, sym, ap, ◌∙◌, eqb-true}
 use Rattle.std.proofs.lemmas.Option.{same_Some}
 use Rattle.x86_64_model.specs.Call as machine

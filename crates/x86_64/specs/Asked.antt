@@ -1,10 +1,11 @@
--- What a call of a list asks, with four levels as with five: the call of the machine that it is, and which index of the highest level it names.
+-- Calls as numbers, for any number of levels: the machine's call for each, and the index of the highest level that it names. The
+-- machine is the abstract mapper of the model.
 use Rattle.std.specs.Prelude.{ℕ, ◌==◌, ◌-◌, ◌&&◌, nat_lt, Bool, false, List, map}
 use Rattle.x86_64_model.specs.Call as machine
 use Rattle.x86_64_model.specs.Path.{path_at}
 use Rattle.x86_64_model.specs.Position.{index, lower_half, position_count}
 
--- on a page, by its position; flags by their bits
+-- a call on a page: pages are positions (addresses counted without the gap), and flags are bits
 pub data PageCall : Type 0 where
   MapTo : (page frame flags : ℕ) → PageCall
   MapToWithTableFlags : (page frame flags parent_flags : ℕ) → PageCall
@@ -12,7 +13,7 @@ pub data PageCall : Type 0 where
   IdentityMap : (frame flags : ℕ) → PageCall
   Unmap : (page : ℕ) → PageCall
   UpdateFlags : (page flags : ℕ) → PageCall
-  -- of the entry of the level on the page's path
+  -- of the entry of this level on the page's path
   SetFlags : (level page flags : ℕ) → PageCall
   TranslatePage : (page : ℕ) → PageCall
 
@@ -27,7 +28,7 @@ pub data MapperCall : Type 0 where
   -- of the positions from low to high
   CleanUpRange : (low high : ℕ) → MapperCall
 
--- the call on a page that an entry of a level maps, where there are L levels
+-- the machine's call for a call on a page that an entry of a level maps, with L levels
 abbrev pub page_call : (L level : ℕ) → PageCall → machine.Call
 page_call L level (MapTo page frame flags) = machine.MapTo (path_at L level page) frame flags
 page_call L level (MapToWithTableFlags page frame flags parent_flags) = machine.MapToWithTableFlags (path_at L level page) frame flags parent_flags
@@ -46,13 +47,14 @@ machine_call L (TranslateAddr position) = machine.TranslateAddress position
 machine_call L CleanUp = machine.CleanUp 0 (position_count L - 1)
 machine_call L (CleanUpRange low high) = machine.CleanUp low high
 
--- of calls that ask so
+-- the machine's calls for a list of calls
 abbrev pub calls_by : {C : Type 0} → (asks : C → MapperCall) → (L : ℕ) → List C → List machine.Call
 calls_by asks L calls = map (λ call. machine_call L (asks call)) calls
 
 -- ---- the index of the highest level
 
--- whether the page has this index of the highest level, an identity map's page where it has one: an address of the lower half is its own position
+-- whether the page has this index of the highest level; an identity map has one if the frame's address is in the lower half, and
+-- so is its own position
 abbrev pub page_names : (L : ℕ) → PageCall → (i : ℕ) → Bool
 page_names L (MapTo page frame flags) i = index L page == i
 page_names L (MapToWithTableFlags page frame flags parent_flags) i = index L page == i
@@ -62,7 +64,7 @@ page_names L (UpdateFlags page flags) i = index L page == i
 page_names L (SetFlags at page flags) i = index L page == i
 page_names L (TranslatePage page) i = index L page == i
 
--- whether the call's page or address has this index of the highest level, which a clean up has not
+-- whether the call's page or address has this index of the highest level; a clean up has none
 abbrev pub names_by : (L : ℕ) → MapperCall → (i : ℕ) → Bool
 names_by L (Of4KiB call) i = page_names L call i
 names_by L (Of2MiB call) i = page_names L call i

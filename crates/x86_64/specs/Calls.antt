@@ -1,4 +1,4 @@
--- What a call asks, with any number of levels: the calls of the machine that those of a list are, and which index of the highest level they name.
+-- Rust calls as calls on numbers, for any number of levels, and the index of the highest level that they name.
 use Rattle.std.specs.Prelude.{ℕ, ◌+◌, nat_lt, Bool, cond, Option, Some, None}
 use Rattle.x86_64_model.specs.Position.{lower_half}
 use Rattle.x86_64_tables.specs.PageTableFlags.{bits_of}
@@ -10,11 +10,11 @@ use Rattle.std.specs.declared.convert.Infallible.{Infallible}
 use Rattle.x86_64.specs.declared.calls.CallIn.{CallIn}
 use Rattle.x86_64.specs.declared.calls.CallIn.TheVariants.{Of4KiB, Of2MiB, Of1GiB, Translate, TranslateAddr, CleanUp, CleanUpRange}
 
--- the bits of flags of level five where there are four levels: there are no such flags
+-- the bits of flags of level five with four levels, when there are no such flags
 abbrev pub no_bits : Infallible → ℕ
 no_bits = elim [ ]
 
--- what a call on a page of a size asks, where the flags of level five, of which there are none with four levels, have these bits
+-- the call on numbers for a call on a page; bits are those of the flags of level five
 abbrev pub size_asks : {S L P5 : Type 0} → (bits : P5 → ℕ) → SizeCallIn S L P5 → PageCall
 size_asks bits (MapTo page frame flags) = asked.MapTo page frame (bits_of flags)
 size_asks bits (MapToWithTableFlags page frame flags parent_flags) = asked.MapToWithTableFlags page frame (bits_of flags) (bits_of parent_flags)
@@ -27,7 +27,7 @@ size_asks bits (SetFlagsP3 page flags) = asked.SetFlags 3 page (bits_of flags)
 size_asks bits (SetFlagsP2 page flags) = asked.SetFlags 2 page (bits_of flags)
 size_asks bits (TranslatePage page) = asked.TranslatePage page
 
--- what a call asks
+-- the call on numbers for a call of a mapper
 abbrev pub asks : {L P5 : Type 0} → (bits : P5 → ℕ) → CallIn L P5 → MapperCall
 asks bits (Of4KiB call) = asked.Of4KiB (size_asks bits call)
 asks bits (Of2MiB call) = asked.Of2MiB (size_asks bits call)
@@ -37,7 +37,7 @@ asks bits (TranslateAddr addr) = asked.TranslateAddr addr
 asks bits CleanUp = asked.CleanUp
 asks bits (CleanUpRange range) = asked.CleanUpRange range.start (range.end + 0xfff)
 
--- the page at a frame's own address: an address of the lower half is its own position, and one from there on is none of a page
+-- the page at a frame's own address; an address of the lower half is its own position, and no other frame address is a page's
 abbrev pub identity_page : (L frame : ℕ) → Option ℕ
 identity_page L frame = cond (nat_lt frame (lower_half L)) (Some frame) None
 
@@ -45,6 +45,6 @@ identity_page L frame = cond (nat_lt frame (lower_half L)) (Some frame) None
 abbrev pub size_names : {S L P5 : Type 0} → (levels : ℕ) → (bits : P5 → ℕ) → SizeCallIn S L P5 → (i : ℕ) → Bool
 size_names levels bits call i = page_names levels (size_asks bits call) i
 
--- whether the call's page or address has this index of the highest level, which a clean up has not
+-- whether the call's page or address has this index of the highest level; a clean up has none
 abbrev pub names : {L P5 : Type 0} → (levels : ℕ) → (bits : P5 → ℕ) → CallIn L P5 → (i : ℕ) → Bool
 names levels bits call i = names_by levels (asks bits call) i

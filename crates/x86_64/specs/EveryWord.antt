@@ -1,21 +1,21 @@
--- What a list of calls leaves decides every word of the memory.
+-- The result of a list of calls determines every word of the memory.
 use Rattle.std.specs.Prelude.{◌≡◌, ℕ, Bool, List}
 use Rattle.x86_64_model.specs.Layout.{Layout, words, paths}
 use Rattle.x86_64_model.specs.Memory.{Memory, Words, IsMapping, word}
 use Rattle.x86_64.specs.FreeFrames.{KeepsFree}
 use Rattle.x86_64.specs.Runs.{KeepsPool}
 
--- the tables in all frames have the same words
+-- the tables in all frames have equal words
 abbrev pub SameWords : Words → Words → Type 0
 SameWords T U = (f i : ℕ) → word T f i ≡ word U f i
 
--- what is known of the words after calls: which frames came back, and what is kept
+-- what is known of the words after calls: the frames that were returned, and what is kept
 pub record IsLeft (layout : Layout) (m : Memory) (pool back : List ℕ) (n : Memory) (rest : List ℕ) : Type 0 where
   pub serves : ℕ → Bool
   pub keeps : KeepsPool layout serves m pool n rest
   pub free : KeepsFree layout m pool back n rest
 
--- Where two memories had the same words, and the same frames came back, the path maps at the end decide the words: of equal ones all are the same.
+-- If two memories had equal words and the same frames were returned, equal path maps at the end mean that all words are equal.
 abbrev pub EveryWordIsDecided : Type 0
 EveryWordIsDecided = (layout : Layout) → IsMapping layout.places → (m k n o : Memory) (pool back rest : List ℕ)
     → SameWords (words layout m) (words layout k) → IsLeft layout m pool back n rest → IsLeft layout k pool back o rest → paths layout n ≡ paths layout o

@@ -1,4 +1,4 @@
--- What is recorded of calls: an item for the token of each that was accepted, in order, and no other.
+-- The flush records of calls: one item for the token of each accepted call, in order, and no others.
 use Rattle.std.specs.Prelude.{◌≡◌, ◌==◌, ℕ, false, cond, take, drop, List, [], ◌∷◌, ◌++◌, Result, Ok, Err}
 use Rattle.std.specs.List.{AllByRecursion}
 use Rattle.x86_64_model.specs.Arrivals.{KeepsArrival}
@@ -20,7 +20,7 @@ use Rattle.x86_64.specs.Replies.{SizeReply, Reply}
 use Rattle.x86_64.specs.declared.calls.PageReply.TheVariants.{Map, Unmap, Update, TableFlags, Frame}
 use Rattle.x86_64.specs.declared.calls.MapperReply.TheVariants as reply
 
--- the item of a page of a size, where the call was accepted
+-- the item of a page of a size, if the call was accepted
 abbrev pub page_items : {E : Type 0} → (levels size : ℕ) → Result ℕ E → List FlushItem
 page_items levels size (Ok page) = page_item levels page size ∷ []
 page_items levels size (Err why) = []
@@ -29,12 +29,12 @@ abbrev pub unmapped_items : {E : Type 0} → (levels size : ℕ) → Result (ℕ
 unmapped_items levels size (Ok unmapped) = page_item levels unmapped.1 size ∷ []
 unmapped_items levels size (Err why) = []
 
--- a change to a table entry: all pages
+-- a change to a table entry flushes all pages
 abbrev pub all_items : {X E : Type 0} → Result X E → List FlushItem
 all_items (Ok done) = All ∷ []
 all_items (Err why) = []
 
--- the items of a call on a page of a size that has this reply
+-- the items of a call on a page of a size, from its reply
 abbrev pub size_items : {S : Type 0} → (levels size : ℕ) → SizeReply S → List FlushItem
 size_items levels size (Map mapped) = page_items levels size mapped
 size_items levels size (Unmap unmapped) = unmapped_items levels size unmapped
@@ -42,7 +42,7 @@ size_items levels size (Update updated) = page_items levels size updated
 size_items levels size (TableFlags done) = all_items done
 size_items levels size (Frame frame) = []
 
--- the items of a call that has this reply
+-- the items of a call, from its reply
 abbrev pub items_of : (levels : ℕ) → Reply → List FlushItem
 items_of levels (reply.Of4KiB answer) = size_items levels 0x1000 answer
 items_of levels (reply.Of2MiB answer) = size_items levels 0x20_0000 answer
@@ -52,7 +52,7 @@ items_of levels (reply.Address address) = []
 items_of levels reply.Cleaned = []
 items_of levels reply.NotAllowed = []
 
--- the items of calls that have these replies, one after another
+-- the items of a list of calls, from their replies
 abbrev pub items_told : (levels : ℕ) → List Reply → List FlushItem
 items_told levels [] = []
 items_told levels (answer ∷ answers) = items_of levels answer ++ items_told levels answers
@@ -61,7 +61,7 @@ items_told levels (answer ∷ answers) = items_of levels answer ++ items_told le
 abbrev pub level_of_size : (size : ℕ) → ℕ
 level_of_size size = cond (size == 0x1000) 1 (cond (size == 0x20_0000) 2 3)
 
--- what an item covers: the positions of the page of its size that starts there, or all
+-- the positions that an item covers: those of the page of its size that starts there, or all
 abbrev pub item_of : FlushItem → flush.Item
 item_of (Page start size) = flush.OnePage (path_at 4 (level_of_size size) start)
 item_of (Page57 start size) = flush.OnePage (path_at 5 (level_of_size size) start)
@@ -70,16 +70,16 @@ item_of All = flush.Everything
 abbrev pub NoneCovers : (levels : ℕ) → List FlushItem → (position : ℕ) → Type 0
 NoneCovers levels items p = AllByRecursion (λ item. flush.covers levels (item_of item) p ≡ false) items
 
--- The walks that a cache may still hold after calls that have these replies: where the processor arrives, from a position outside the recursive
--- index, in words that mean the state after the first k calls, and no item of a later call covers the position, there it arrives in words that mean
--- the last state too, at the same address, with no right lost.
+-- The records cover every walk that a TLB may still hold. Take words V that mean the state after the first k calls, a position
+-- outside the recursive index, and suppose that no item of a later call covers it. If a walk in V arrives, the walk in U, the
+-- words after all calls, arrives at the same address, with no right lost.
 abbrev pub FlushesSuffice : {C : Type 0} → (asks : C → MapperCall) → Layout → (take_back : List ℕ → ℕ → List ℕ) → State → List C → List Reply → Words → Type 0
 FlushesSuffice asks l take_back start calls replies U =
     (k : ℕ) (V : Words) (p : ℕ) → let then = state_after (machine_of l take_back) start (calls_by asks l.levels (take k calls)) in
     IsValidFor l.levels l.window V l.root then.paths → begins_with l.window (page_path l.levels p) ≡ false → NoneCovers l.levels (items_told l.levels (drop k replies)) p
     → KeepsArrival (page_walk l.levels V l.root p) (page_walk l.levels U l.root p)
 
--- What is recorded of calls: after the items of before one for each accepted call, and these suffice.
+-- The records after calls: the items before, one for each token of an accepted call, and these suffice.
 pub record Flushed {C Lent : Type 0} (asks : C → MapperCall) (take_back : List ℕ → ℕ → List ℕ) (h : Hierarchy Lent) (pool : List ℕ) (calls : List C) (told : List Reply) (before now : List FlushItem) (after : Hierarchy Lent) : Type 0 where
   pub items : now ≡ before ++ items_told h.layout.levels told
   pub suffice : FlushesSuffice asks h.layout take_back (state_in h.layout h.memory pool) calls told (words h.layout after.memory)

@@ -1,4 +1,4 @@
--- The replies to calls that the machine's replies are, with four levels as with five: none where a call never gets such a reply of the machine.
+-- The replies for the machine's replies, for any number of levels, or none if a call never gets that reply of the machine.
 use Rattle.std.specs.Prelude.{ℕ, ◌==◌, cond, Bool, true, false, Option, Some, None, option_map, Result, Ok, Err}
 use Rattle.x86_64_model.specs.Call as machine
 use Rattle.x86_64_model.specs.Refusal as refusal
@@ -25,7 +25,7 @@ use Rattle.x86_64.specs.declared.calls.PageReply.TheVariants as page_reply
 use Rattle.x86_64.specs.declared.calls.MapperReply.{MapperReply}
 use Rattle.x86_64.specs.declared.calls.MapperReply.TheVariants as reply
 
--- a page is its position, with four levels as with five
+-- a page is its position (address counted without the gap), for any number of levels
 abbrev pub SizeReply : (S : Type 0) → Type 0
 SizeReply S = PageReply ℕ S
 
@@ -64,7 +64,7 @@ abbrev pub result_of : {X E : Type 0} → (done : ℕ → X) → (refused : Refu
 result_of done refused (Done frame) = Some (Ok (done frame))
 result_of done refused (Refused why) = option_map Err (refused why)
 
--- the reply to a call on a page that has this answer
+-- the reply to a call on a page, from the machine's answer
 abbrev pub size_reply : {S : Type 0} → PageCall → Answer → Option (SizeReply S)
 size_reply (MapTo page frame flags) answer = option_map page_reply.Map (result_of (λ mapped. page) map_error answer)
 size_reply (MapToWithTableFlags page frame flags parent_flags) answer = option_map page_reply.Map (result_of (λ mapped. page) map_error answer)
@@ -74,7 +74,7 @@ size_reply (UpdateFlags page flags) answer = option_map page_reply.Update (resul
 size_reply (SetFlags at page flags) answer = option_map page_reply.TableFlags (result_of (λ frame. tt) update_error answer)
 size_reply (TranslatePage page) answer = option_map page_reply.Frame (result_of (λ frame. frame) translate_error answer)
 
--- the same, with none for a call that isn't allowed
+-- this, with none for a call that isn't allowed
 abbrev pub size_answer : {S : Type 0} → PageCall → machine.Reply → Option (Option (SizeReply S))
 size_answer call (machine.Answered answer) = option_map Some (size_reply call answer)
 size_answer call machine.NotAllowed = Some None
@@ -93,7 +93,7 @@ abbrev pub sized : {S : Type 0} → (SizeReply S → Reply) → Option (SizeRepl
 sized wrap None = reply.NotAllowed
 sized wrap (Some answer) = wrap answer
 
--- the reply to a call that the machine answers so
+-- the reply to a call, from the machine's reply
 abbrev pub reply_of : MapperCall → machine.Reply → Option Reply
 reply_of (Of4KiB call) answer = option_map (sized reply.Of4KiB) (size_answer call answer)
 reply_of (Of2MiB call) answer = option_map (sized reply.Of2MiB) (size_answer call answer)
@@ -113,7 +113,8 @@ abbrev pub is_refused : {X E : Type 0} → Result X E → Bool
 is_refused (Ok done) = false
 is_refused (Err why) = true
 
--- a translation, or a refusal, but for that of a map, which may have made tables on its way
+-- whether a call on a page changes nothing: a translation, or a refused call other than a map, which may have created tables
+-- before
 abbrev pub size_changes_nothing : {S : Type 0} → SizeReply S → Bool
 size_changes_nothing (page_reply.Map mapped) = false
 size_changes_nothing (page_reply.Unmap unmapped) = is_refused unmapped

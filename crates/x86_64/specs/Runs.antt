@@ -1,4 +1,4 @@
--- What a list of calls makes of a mapper and a frame store: they are a machine and its state.
+-- The effect of a list of calls on a mapper and a frame store, which are a machine and its state.
 use Rattle.std.specs.Prelude.{◌≡◌, ◌↔◌, ℕ, Bool, true, List, [], ◌∷◌, ◌++◌, ◌+◌, length, map, drop, Option, Some}
 use Rattle.std.specs.List.{AllByRecursion}
 use Rattle.x86_64_model.specs.Memory.{Memory}
@@ -16,18 +16,18 @@ use Rattle.x86_64.specs.Replies.{Reply, reply_of, changes_nothing}
 abbrev pub FitsPool : Layout → Memory → (serves : ℕ → Bool) → (pool : List ℕ) → Type 0
 FitsPool layout memory serves pool = Fits layout.levels layout.window (words layout memory) layout.root (paths layout memory) serves pool
 
--- what a call leaves: the machine's state, and the reply, none where the call never gets such a reply of the machine
+-- the result of a call: the machine's state and the reply, or none if the call never gets that reply of the machine
 pub record AfterStep (R : Type 0) : Type 0 where
   pub state : State
   pub reply : Option R
 
--- the machine's step by what a call asks
+-- the machine's step for a call
 abbrev pub step_by : Machine → State → MapperCall → AfterStep Reply
 step_by machine state call =
     let after = step machine state (machine_call machine.levels call) in
     record { state = after.state; reply = reply_of call after.reply }
 
--- a reply to each call, which asks so, from a state on
+-- the replies to a list of calls, one each, from a state on
 abbrev pub replies_to : {C : Type 0} → (asks : C → MapperCall) → Machine → State → List C → List (Option Reply)
 replies_to asks machine state [] = []
 replies_to asks machine state (call ∷ calls) = let after = step_by machine state (asks call) in after.reply ∷ replies_to asks machine after.state calls
@@ -36,25 +36,26 @@ replies_to asks machine state (call ∷ calls) = let after = step_by machine sta
 abbrev pub appended : {R : Type 0} → (before after : List R) → List R
 appended before after = drop (length before) after
 
--- where every reply says that nothing changed, no word did
+-- if every reply says that nothing changed, no word did
 abbrev pub UnchangedIfRefused : List Reply → (m n : Memory) → Type 0
 UnchangedIfRefused replies m n = AllByRecursion (λ reply. changes_nothing reply ≡ true) replies → n ≡ m
 
--- From a memory m and a pool to a memory n and the rest of the pool: the rest fits the hierarchy again, free and table frames are one set
--- before and after, and no word changed but in the root, the tables and the free frames of the start.
+-- Calls led from the memory m and a pool to the memory n and the rest of the pool. The rest fits the hierarchy again, free frames
+-- and table frames together are the same set as before, and no word changed outside the root, the tables and the frames that were
+-- free before.
 pub record KeepsPool (layout : Layout) (serves : ℕ → Bool) (m : Memory) (pool : List ℕ) (n : Memory) (rest : List ℕ) : Type 0 where
   pub fits : FitsPool layout n serves rest
   pub conserved : (frame : ℕ) → Owns layout m pool frame ↔ Owns layout n rest frame
   pub others : KeepsOthers layout.places (Owns layout m pool) m n
 
--- from a hierarchy and a pool to those after calls: what is kept, in the same layout of the same memory
+-- what calls keep of a hierarchy and a pool: the above, the layout, and the memory that was lent
 pub record Kept {Lent : Type 0} (h : Hierarchy Lent) (serves : ℕ → Bool) (pool : List ℕ) (after : Hierarchy Lent) (rest : List ℕ) : Type 0 where
   pub keeps : KeepsPool h.layout serves h.memory pool after.memory rest
   pub layout : after.layout ≡ h.layout
   pub lent : after.lent ≡ h.lent
 
--- A list of calls, which ask so, was answered: by the replies of the machine, one each, after those of before, and its state is the machine's. Where
--- every reply says that nothing changed, no word did. Free frames keep their words, but those that came back, which have words 0.
+-- A list of calls was executed. The machine's replies, one per call, follow those of before, and the state is the machine's. If
+-- every reply says that nothing changed, no word did. Free frames keep their words, except that returned frames hold zeros.
 pub record Ran {C Lent : Type 0} (asks : C → MapperCall) (take_back : List ℕ → ℕ → List ℕ) (h : Hierarchy Lent) (pool : List ℕ) (calls : List C) (before now : List Reply) (after : Hierarchy Lent) (rest : List ℕ) : Type 0 where
   pub replies : map Some now ≡ map Some before ++ replies_to asks (machine_of h.layout take_back) (state_in h.layout h.memory pool) calls
   pub one_each : length now ≡ length before + length calls

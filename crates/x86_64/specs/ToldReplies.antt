@@ -1,11 +1,12 @@
--- What a reply to a call tells of the machine's reply: all of it, but the frame that a map or a change of flags is done with.
+-- A reply determines the machine's reply to the call, except for the frame in the machine's reply to a map or to a change of
+-- flags.
 use Rattle.std.specs.Prelude.{◌≡◌, Some}
 use Rattle.x86_64_model.specs.Call as machine
 use Rattle.x86_64_model.specs.Refusal.{Done, Refused}
 use Rattle.x86_64.specs.Asked.{PageCall, MapTo, MapToWithTableFlags, IdentityMap, Unmap, UpdateFlags, SetFlags, TranslatePage, MapperCall, Of4KiB, Of2MiB, Of1GiB, Translate, TranslateAddr, CleanUp, CleanUpRange}
 use Rattle.x86_64.specs.Replies.{Reply, reply_of}
 
--- frame 0 in place of the frame
+-- the machine's reply with frame 0 in place of its frame
 abbrev pub without_frame : machine.Reply → machine.Reply
 without_frame (machine.Answered (Done frame)) = machine.Answered (Done 0)
 without_frame (machine.Answered (Refused why)) = machine.Answered (Refused why)
@@ -23,7 +24,7 @@ size_told (UpdateFlags page flags) r = without_frame r
 size_told (SetFlags at page flags) r = without_frame r
 size_told (TranslatePage page) r = r
 
--- what is told of the machine's reply to a call
+-- the part of the machine's reply to a call that the reply determines
 abbrev pub told : MapperCall → machine.Reply → machine.Reply
 told (Of4KiB call) r = size_told call r
 told (Of2MiB call) r = size_told call r
@@ -33,6 +34,6 @@ told (TranslateAddr position) r = r
 told CleanUp r = r
 told (CleanUpRange low high) r = r
 
--- two of the machine's replies to a call that are told by one reply are told alike
+-- if one reply stands for two replies of the machine to a call, these agree in that part
 abbrev pub RepliesTell : Type 0
 RepliesTell = (call : MapperCall) (r s : machine.Reply) (reply : Reply) → reply_of call r ≡ Some reply → reply_of call s ≡ Some reply → told call r ≡ told call s

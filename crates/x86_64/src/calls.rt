@@ -17,26 +17,27 @@ use x86_64_tables::mapper::{
 };
 use x86_64_tables::page_table::PageTableFlags;
 
-/// The flags that a call gives an entry of level five. With four levels there is no such entry, and so no such flags.
+/// The flags of an entry of level five in a call. With four levels there is no such entry, and so there are no such
+/// flags.
 pub trait LevelFiveFlags<L: LevelCount>: Copy {
-    // their bits
+    // the bits of the flags
     ghost bits: { Self → ℕ };
 
-    /// Returns the flags, or no flag if there are none.
+    /// Returns the flags, or no flags for `None`.
     fn page_table_flags(flags: Option<Self>) -> PageTableFlags
         ensures some { IfSome flags (λ given. bits_of result ≡ Self.bits given) }
         ensures none { IfNone flags (bits_of result ≡ 0) };
 
-    /// Makes them of flags, or returns `None` if there is no level five.
+    /// Creates the type's flags from page table flags, or returns `None` if there is no level five.
     fn from_page_table_flags(flags: PageTableFlags) -> Option<Self>
         ensures some { IsSome result ↔ (L.LEVELS ≡ 5) }
         ensures bits { IfSome result (λ given. Self.bits given ≡ bits_of flags) };
 
-    // who has such flags has five levels
+    // a value of the type exists only with five levels
     ghost five: { (flags : Self) → L.LEVELS ≡ 5 };
 }
 
-/// The flags of an entry of level five with four levels: there are none, so no value has this type.
+/// The flags of an entry of level five if there are only four levels: this type has no values.
 pub type NoLevelFive = Infallible;
 
 impl LevelFiveFlags<FourLevels> for Infallible {
@@ -78,31 +79,31 @@ impl LevelFiveFlags<FiveLevels> for PageTableFlags {
     ghost five = { λ flags. refl };
 }
 
-/// A call on a page of a size, with any number of levels. Its names are [`SizeCall`] and [`SizeCall57`].
+/// A call on a page of one size, for any number of levels. Its aliases are [`SizeCall`] and [`SizeCall57`].
 #[derive(Copy, Debug, PartialEq)]
 pub enum SizeCallIn<S: PageSize, L: LevelCount, P5: Copy> {
-    /// Map the page to the frame, as [`map_to`](crate::structures::paging::Mapper::map_to) does.
+    /// Maps the page to the frame, as [`map_to`](crate::structures::paging::Mapper::map_to) does.
     MapTo {
-        /// The page to be mapped.
+        /// The page to map.
         page: PageIn<S, L>,
-        /// The frame that it is mapped to.
+        /// The frame to map the page to.
         frame: PhysFrame<S>,
         /// The flags of the page's entry.
         flags: PageTableFlags,
     },
-    /// Map the page to the frame, as [`map_to_with_table_flags`](crate::structures::paging::Mapper::map_to_with_table_flags)
-    /// does.
+    /// Maps the page to the frame, as
+    /// [`map_to_with_table_flags`](crate::structures::paging::Mapper::map_to_with_table_flags) does.
     MapToWithTableFlags {
-        /// The page to be mapped.
+        /// The page to map.
         page: PageIn<S, L>,
-        /// The frame that it is mapped to.
+        /// The frame to map the page to.
         frame: PhysFrame<S>,
         /// The flags of the page's entry.
         flags: PageTableFlags,
         /// The flags that the entries above it get.
         parent_flags: PageTableFlags,
     },
-    /// Map the page at the frame's own address to the frame, as
+    /// Maps the page at the frame's own address to the frame, as
     /// [`identity_map`](crate::structures::paging::Mapper::identity_map) does.
     IdentityMap {
         /// The frame.
@@ -110,61 +111,62 @@ pub enum SizeCallIn<S: PageSize, L: LevelCount, P5: Copy> {
         /// The flags of the page's entry.
         flags: PageTableFlags,
     },
-    /// Unmap the page, as [`unmap`](crate::structures::paging::Mapper::unmap) does.
+    /// Unmaps the page, as [`unmap`](crate::structures::paging::Mapper::unmap) does.
     Unmap {
-        /// The page to be unmapped.
+        /// The page to unmap.
         page: PageIn<S, L>,
     },
-    /// Set the flags of the page's entry, as [`update_flags`](crate::structures::paging::Mapper::update_flags) does.
+    /// Sets the flags of the page's entry, as [`update_flags`](crate::structures::paging::Mapper::update_flags) does.
     UpdateFlags {
         /// The page.
         page: PageIn<S, L>,
-        /// The flags that its entry gets.
+        /// The new flags of its entry.
         flags: PageTableFlags,
     },
-    /// Set the flags of the entry of level five on the page's path, as
-    /// [`set_flags_p5_entry`](crate::structures::paging::Mapper57::set_flags_p5_entry) does. With four levels there is no such call.
+    /// Sets the flags of the entry of level five on the page's path, as
+    /// [`set_flags_p5_entry`](crate::structures::paging::Mapper57::set_flags_p5_entry) does. With four levels there
+    /// is no such call.
     SetFlagsP5 {
         /// The page.
         page: PageIn<S, L>,
-        /// The flags that the entry gets.
+        /// The new flags of the entry.
         flags: P5,
     },
-    /// Set the flags of the entry of level four on the page's path, as
+    /// Sets the flags of the entry of level four on the page's path, as
     /// [`set_flags_p4_entry`](crate::structures::paging::Mapper::set_flags_p4_entry) does.
     SetFlagsP4 {
         /// The page.
         page: PageIn<S, L>,
-        /// The flags that the entry gets.
+        /// The new flags of the entry.
         flags: PageTableFlags,
     },
-    /// Set the flags of the entry of level three on the page's path, as
+    /// Sets the flags of the entry of level three on the page's path, as
     /// [`set_flags_p3_entry`](crate::structures::paging::Mapper::set_flags_p3_entry) does.
     SetFlagsP3 {
         /// The page.
         page: PageIn<S, L>,
-        /// The flags that the entry gets.
+        /// The new flags of the entry.
         flags: PageTableFlags,
     },
-    /// Set the flags of the entry of level two on the page's path, as
+    /// Sets the flags of the entry of level two on the page's path, as
     /// [`set_flags_p2_entry`](crate::structures::paging::Mapper::set_flags_p2_entry) does.
     SetFlagsP2 {
         /// The page.
         page: PageIn<S, L>,
-        /// The flags that the entry gets.
+        /// The new flags of the entry.
         flags: PageTableFlags,
     },
-    /// Give the page's frame, as [`translate_page`](crate::structures::paging::Mapper::translate_page) does.
+    /// Returns the page's frame, as [`translate_page`](crate::structures::paging::Mapper::translate_page) does.
     TranslatePage {
         /// The page.
         page: PageIn<S, L>,
     },
 }
 
-/// A call on a page of a size.
+/// A call on a page of one size.
 pub type SizeCall<S> = SizeCallIn<S, FourLevels, NoLevelFive>;
 
-/// A call on a page of a size of 57 bits.
+/// A call on a page of one size in the 57-bit address space.
 pub type SizeCall57<S> = SizeCallIn<S, FiveLevels, PageTableFlags>;
 
 impl<S: PageSize, L: LevelCount, P5: Copy> Clone for SizeCallIn<S, L, P5> {
@@ -180,7 +182,8 @@ impl<S: PageSize, L: LevelCount, P5: Copy> Clone for SizeCallIn<S, L, P5> {
 impl<S: PageSize, L: LevelCount, P5: LevelFiveFlags<L>> SizeCallIn<S, L, P5> {
     ghost use Rattle.x86_64.specs.Calls.{size_names};
 
-    /// Tells whether the call's page has this index of the highest level. An identity map's page has it where there is one.
+    /// Returns true if the call's page has this index of the highest level. The page of an identity map counts if
+    /// there is one.
     fn names(&self, index: PageTableIndex) -> bool
         ensures { result ≡ size_names L.LEVELS P5.bits self.now index }
     {
@@ -202,7 +205,7 @@ impl<S: PageSize, L: LevelCount, P5: LevelFiveFlags<L>> SizeCallIn<S, L, P5> {
     }
 }
 
-/// Returns the page at a frame's own address, if that lies in the lower half of the address space.
+/// Returns the page at a frame's own address, or `None` if that isn't in the lower half of the address space.
 pub(crate) fn identity_page<S: PageSize, L: LevelCount>(frame: PhysFrame<S>) -> Option<PageIn<S, L>>
     ensures { result ≡ identity_page L.LEVELS frame }
 {
@@ -214,7 +217,7 @@ pub(crate) fn identity_page<S: PageSize, L: LevelCount>(frame: PhysFrame<S>) -> 
     }
 }
 
-/// A call of a mapper, with any number of levels. Its names are [`Call`] and [`Call57`].
+/// A call of a mapper, for any number of levels. Its aliases are [`Call`] and [`Call57`].
 #[derive(Clone, Copy, Debug, PartialEq)]
 pub enum CallIn<L: LevelCount, P5: Copy> {
     /// A call on a 4KiB page.
@@ -223,14 +226,14 @@ pub enum CallIn<L: LevelCount, P5: Copy> {
     Of2MiB(SizeCallIn<Size2MiB, L, P5>),
     /// A call on a 1GiB page.
     Of1GiB(SizeCallIn<Size1GiB, L, P5>),
-    /// Tell where the address is mapped to, as [`translate`](crate::structures::paging::Translate::translate) does.
+    /// Returns what the address is mapped to, as [`translate`](crate::structures::paging::Translate::translate) does.
     Translate(VirtAddrIn<L>),
-    /// Give the physical address that the address is mapped to, as
+    /// Returns the physical address that the address is mapped to, as
     /// [`translate_addr`](crate::structures::paging::Translate::translate_addr) does.
     TranslateAddr(VirtAddrIn<L>),
-    /// Take away all empty tables, as [`clean_up`](crate::structures::paging::mapper::CleanUp::clean_up) does.
+    /// Removes all empty tables, as [`clean_up`](crate::structures::paging::mapper::CleanUp::clean_up) does.
     CleanUp,
-    /// Take away the empty tables of a range of pages, as
+    /// Removes the empty tables of a range of pages, as
     /// [`clean_up_addr_range`](crate::structures::paging::mapper::CleanUp::clean_up_addr_range) does.
     CleanUpRange(BlockRangeInclusive<PageIn<Size4KiB, L>>),
 }
@@ -238,15 +241,16 @@ pub enum CallIn<L: LevelCount, P5: Copy> {
 /// A call of a mapper.
 pub type Call = CallIn<FourLevels, NoLevelFive>;
 
-/// A call of a mapper of five levels.
+/// A call of a mapper with five levels.
 pub type Call57 = CallIn<FiveLevels, PageTableFlags>;
 
 impl<L: LevelCount, P5: LevelFiveFlags<L>> CallIn<L, P5> {
     ghost use Rattle.x86_64.specs.Calls.{names};
 
-    /// Tells whether the call's page or address has this index of the highest level: of level four, or of level five where there are
-    /// five. An identity map's page has it where there is one, so where the frame starts in the lower half of the address space. A
-    /// clean up names no index, since it never goes through a recursive one.
+    /// Returns true if the call's page or address has this index of the highest level, which is level four, or level
+    /// five if there are five levels. The page of an identity map counts if there is one, that is if the frame starts
+    /// in the lower half of the address space. A clean up names no index, since it never goes through a recursive
+    /// one.
     pub fn names(&self, index: PageTableIndex) -> bool
         ensures { result ≡ names L.LEVELS P5.bits self.now index }
     {
@@ -261,31 +265,32 @@ impl<L: LevelCount, P5: LevelFiveFlags<L>> CallIn<L, P5> {
     }
 }
 
-/// The reply to a call on a page of a size. The pages are those that the tokens of the mapper name.
+/// The reply to a call on a page of one size. The pages in it are those that the mapper's tokens name.
 #[derive(Clone, Copy, Debug, PartialEq)]
 pub enum PageReply<P, S: PageSize> {
-    /// The page that was mapped, or why it was not.
+    /// The page that was mapped, or the error.
     Map(Result<P, MapToError<S>>),
-    /// The frame that the page was mapped to, with the page, or why it was not unmapped.
+    /// The frame that the page was mapped to and the page, or the error.
     Unmap(Result<(PhysFrame<S>, P), UnmapError>),
-    /// The page whose flags were changed, or why they were not.
+    /// The page whose flags were changed, or the error.
     Update(Result<P, FlagUpdateError>),
-    /// Why the flags of a table entry were not changed, if they were not.
+    /// Success if the flags of a table entry were changed, or the error.
     TableFlags(Result<(), FlagUpdateError>),
-    /// The page's frame, or why it has none.
+    /// The page's frame, or the error.
     Frame(Result<PhysFrame<S>, TranslateError>),
 }
 
-/// The reply to a call on a page of a size, with any number of levels.
+/// The reply to a call on a page of one size, for any number of levels.
 pub type SizeReplyIn<S, L> = PageReply<PageIn<S, L>, S>;
 
-/// The reply to a call on a page of a size.
+/// The reply to a call on a page of one size.
 pub type SizeReply<S> = SizeReplyIn<S, FourLevels>;
 
-/// The reply to a call on a page of a size of 57 bits.
+/// The reply to a call on a page of one size in the 57-bit address space.
 pub type SizeReply57<S> = SizeReplyIn<S, FiveLevels>;
 
-/// The reply to a call of a mapper: `Small`, `Large` and `Giant` are the replies to a call on a page of 4KiB, 2MiB and 1GiB.
+/// The reply to a call of a mapper. `Small`, `Large` and `Giant` are the replies to calls on pages of 4KiB, 2MiB and
+/// 1GiB.
 #[derive(Clone, Copy, Debug, PartialEq)]
 pub enum MapperReply<Small, Large, Giant> {
     /// The reply to a call on a 4KiB page.
@@ -294,17 +299,17 @@ pub enum MapperReply<Small, Large, Giant> {
     Of2MiB(Large),
     /// The reply to a call on a 1GiB page.
     Of1GiB(Giant),
-    /// Where the address is mapped to.
+    /// What the address is mapped to.
     Translate(TranslateResult),
-    /// The physical address that the address is mapped to, if it is.
+    /// The physical address that the address is mapped to, if any.
     Address(Option<PhysAddr>),
-    /// The empty tables are gone, and their frames went back.
+    /// The empty tables were removed, and their frames returned.
     Cleaned,
     /// The condition of the call did not hold. Nothing changed.
     NotAllowed,
 }
 
-/// The reply to a call of a mapper, with any number of levels.
+/// The reply to a call of a mapper, for any number of levels.
 pub type ReplyIn<L> = MapperReply<
     SizeReplyIn<Size4KiB, L>,
     SizeReplyIn<Size2MiB, L>,
@@ -314,5 +319,5 @@ pub type ReplyIn<L> = MapperReply<
 /// The reply to a call of a mapper.
 pub type Reply = ReplyIn<FourLevels>;
 
-/// The reply to a call of a mapper of five levels.
+/// The reply to a call of a mapper with five levels.
 pub type Reply57 = ReplyIn<FiveLevels>;

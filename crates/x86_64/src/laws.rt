@@ -1,39 +1,41 @@
-//! Laws of calls and replies, as public functions with empty bodies.
+//! Laws of calls and replies, as public functions with empty bodies. The machine is the abstract mapper of the
+//! specification, which goes from state to state with each call.
 ghost use Rattle.x86_64.specs.EveryWord.{EveryWordIsDecided};
 ghost use Rattle.x86_64.specs.PlacesStay.{PlacesStay, OffsetsFitStill};
 ghost use Rattle.x86_64.specs.SecondHierarchies.{EmptyRootsAreSecond, SecondHierarchiesStay, SomeShare};
 ghost use Rattle.x86_64.specs.ToldReplies.{RepliesTell};
 
-/// A reply tells all of the machine's reply to its call, with four levels as with five, but which frame a map or a change of
-/// flags is done with.
+/// A reply determines the machine's reply to the call, for any number of levels, except for the frame in the
+/// machine's reply to a map or to a change of flags.
 pub fn replies_lose_nothing()
     ensures { RepliesTell }
 {}
 
-/// A second hierarchy of the memory and mapping of a first one, whose root and tables are none of the frames of the first one
-/// and its pool, stays valid with its path map over every list of calls of the first one, and a pool that fitted both still
-/// fits it. Each is still a second one beside the other. What [`run`](crate::run) keeps (`keeps`) is enough.
+/// Take a hierarchy with a pool that fits it, and a second hierarchy in the same memory with the same mapping, whose
+/// root and tables are neither tables of the first nor free frames. After any list of calls on the first, the second
+/// is still valid with the same path map, the pool fits it if it did before, and each is still second beside the
+/// other. This follows from what [`run`](crate::run) ensures in its clause `keeps`.
 pub fn second_hierarchies_stay()
     ensures { SecondHierarchiesStay }
 {}
 
-/// A memory has after every list of calls the places that it had, and so an offset that fitted it fits it still: what
-/// [`run`](crate::run) keeps (`keeps`) is enough.
+/// After any list of calls, a memory has the same places as before (a place is the index of a table in memory). So an
+/// offset that fitted it still does. This follows from what [`run`](crate::run) ensures in its clause `keeps`.
 pub fn places_stay()
     ensures places { PlacesStay }
     ensures offsets { OffsetsFitStill }
 {}
 
-/// A frame that is none of a first hierarchy and its pool, and whose words are all 0, is the root of a second hierarchy, in which
-/// nothing is mapped. So there are memories with two hierarchies that a pool fits.
+/// A frame outside a hierarchy and its pool, whose words are all 0, is the root of a second hierarchy that maps
+/// nothing. So there are memories with two hierarchies that one pool fits.
 pub fn empty_roots_are_second()
     ensures is_second { EmptyRootsAreSecond }
     ensures there_are { SomeShare }
 {}
 
-/// What a list of calls leaves decides every word of the memory: the root's and those of tables by the path map at the end, those
-/// of free frames by which of them came back, and all others stay. What [`run`](crate::run) tells (`ran`) and keeps (`keeps`) is
-/// enough.
+/// The result of a list of calls determines every word of the memory. The path map at the end determines the words of
+/// the root and of the tables, free frames that were returned hold zeros, and all other words stay. This follows from
+/// what [`run`](crate::run) ensures in its clauses `ran` and `keeps`.
 pub fn every_word_is_decided()
     ensures { EveryWordIsDecided }
 {}

@@ -1,8 +1,8 @@
-//! Page tables of x86-64: virtual and physical addresses, pages and frames, tables of four and five levels, and mappers over a
-//! physical memory that consists of page tables.
+//! Page tables of x86-64: virtual and physical addresses, pages and frames, page tables of four and five levels, and
+//! mappers over a physical memory that consists of page tables.
 //!
-//! The names and paths are those of the Rust crate `x86_64`. What is lent to a mapper here is a
-//! [`TableMemory`]: a [`PhysMemory`], which owns its tables, or a [`LentMemory`] over tables of the caller's.
+//! Names and paths are those of the Rust crate `x86_64`. Here, a mapper borrows a [`TableMemory`], which is a
+//! [`PhysMemory`] that owns its tables, or a [`LentMemory`] over tables of the caller.
 #![tactic(auto)]
 
 mod calls;
@@ -15,8 +15,9 @@ pub use calls::{
     ReplyIn, SizeCall, SizeCall57, SizeCallIn, SizeReply, SizeReply57, SizeReplyIn,
 };
 pub use runs::{
-    is_outside_window, is_outside_window as is_outside_window_57, run, run as run_57, run_flushed,
-    run_flushed as run_flushed_57, run_pair, run_pair as run_pair_57,
+    is_outside_window, is_outside_window as is_outside_window_57, run, run as run_57, run_call,
+    run_call as run_call_57, run_flushed, run_flushed as run_flushed_57, run_pair,
+    run_pair as run_pair_57,
 };
 pub use x86_64_addr::addr;
 pub use x86_64_addr::addr::{PhysAddr, VirtAddr, VirtAddr57};

@@ -32,18 +32,19 @@ use x86_64_tables::frame_alloc::FrameStore;
 use x86_64_tables::mapper::{TablesIn, parent_flags};
 use x86_64_tables::page_table::PageTableFlags;
 
-/// Answers calls in order, and appends a reply for each. With five levels its name is `run_57`, too.
+/// Executes calls in order, and appends a reply for each. Also named `run_57`, for five levels.
 ///
-/// One reply for each call is reserved first. A call whose condition does not hold is answered
-/// [`NotAllowed`](crate::MapperReply::NotAllowed) and changes nothing; no other call is. If each call is answered so, or is
-/// refused and no map, or only asks, no word changes. The tokens of the mapper are ignored, so no flush is recorded.
+/// Room for one reply per call is reserved first. A call whose condition does not hold gets the reply
+/// [`NotAllowed`](crate::MapperReply::NotAllowed) and changes nothing. Only such calls get `NotAllowed`. If every
+/// call is not allowed, a query, or a refused call other than a map, no word changes. The mapper's tokens are
+/// ignored, so no flush is recorded.
 ///
-/// Conditions: the hierarchy is valid, and the frame store fits it. For a `FramePool` test both by
-/// [`pool_fits`](crate::pool_fits).
+/// Requires that the hierarchy is valid, and that the frame store fits it. For a `FramePool`,
+/// [`pool_fits`](crate::pool_fits) tests both.
 ///
 /// # Errors
 ///
-/// `AllocError` if the room for the replies is refused; then nothing changes.
+/// `AllocError` if memory allocation fails for the replies. Then nothing changes.
 pub fn run<L: LevelCount, P5: LevelFiveFlags<L>, M: TableAccess + TablesIn<L>, F: FrameStore>(
     mapper: &mut M,
     frames: &mut F,
@@ -68,7 +69,34 @@ pub fn run<L: LevelCount, P5: LevelFiveFlags<L>, M: TableAccess + TablesIn<L>, F
     Ok(())
 }
 
-/// Answers calls in order, for which there is room.
+/// Executes one call, as [`run`] does each of a list, and takes no memory. With five levels its name is `run_call_57`, too.
+///
+/// Requires that the hierarchy is valid, and that the frame store fits it, as `run` does.
+pub fn run_call<L: LevelCount, P5: LevelFiveFlags<L>, M: TableAccess + TablesIn<L>, F: FrameStore>(
+    mapper: &mut M,
+    frames: &mut F,
+    call: CallIn<L, P5>,
+) -> ReplyIn<L>
+    requires { PoolFits (M.hierarchy mapper.old) (F.serves frames.old) (F.supply frames.old) }
+    ensures step { let layout = (M.hierarchy mapper.old).layout in
+        let start = state_in layout (M.hierarchy mapper.old).memory (F.supply frames.old) in
+        let after = state_in layout (M.hierarchy mapper.new).memory (F.supply frames.new) in
+        step_by (machine_of layout F.take_back) start (asks P5.bits call)
+        ≡ record { state = after; reply = Some result } }
+    ensures unchanged { let memory = (M.hierarchy mapper.old).memory in
+        changes_nothing result ≡ true → (M.hierarchy mapper.new).memory ≡ memory }
+    ensures free { let h = M.hierarchy mapper.old in let pool = F.supply frames.old in
+        let asked = machine_call h.layout.levels (asks P5.bits call) in
+        let back = back_by (machine_of h.layout F.take_back) (state_in h.layout h.memory pool) asked in
+        KeepsFree h.layout h.memory pool back (M.hierarchy mapper.new).memory (F.supply frames.new) }
+    ensures keeps { let h = M.hierarchy mapper.old in
+        Kept h (F.serves frames.old) (F.supply frames.old) (M.hierarchy mapper.new) (F.supply frames.new) }
+    ensures serves { F.serves frames.new ≡ F.serves frames.old }
+{
+    serve(mapper, frames, call, &mut Ignored)
+}
+
+/// Executes calls in order. Requires that there is room for their replies.
 fn serve_all<
     L: LevelCount,
     P5: LevelFiveFlags<L>,
@@ -100,7 +128,7 @@ fn serve_all<
     }
 }
 
-/// Answers a call.
+/// Executes a call, and returns the reply.
 fn serve<
     L: LevelCount,
     P5: LevelFiveFlags<L>,
@@ -154,7 +182,7 @@ fn serve<
     }
 }
 
-/// Answers a call on a page, or returns `None` if it is not allowed.
+/// Executes a call on a page, and returns the reply, or `None` if the call is not allowed.
 fn serve_page<
     S: PageSize,
     L: LevelCount,
@@ -241,7 +269,7 @@ fn serve_page<
     })
 }
 
-/// Tells whether the condition of a call on a page holds.
+/// Returns true if the condition of a call on a page holds.
 fn is_allowed<S: PageSize, L: LevelCount, P5: LevelFiveFlags<L>, M: TableAccess + TablesIn<L>>(
     mapper: &M,
     call: &SizeCallIn<S, L, P5>,
@@ -284,7 +312,7 @@ fn is_allowed<S: PageSize, L: LevelCount, P5: LevelFiveFlags<L>, M: TableAccess 
     }
 }
 
-/// Tells whether an entry of level four or five may have these flags: they have no address bits and no `HUGE_PAGE`.
+/// Returns true if an entry of level four or five may have these flags: they have no address bits and no `HUGE_PAGE`.
 #[tactic(auto, unfolding(x86_64_model::specs::Entry::has))]
 fn fit_high_entry(flags: PageTableFlags) -> bool
     ensures { result ≡ no_address (bits_of flags) && not (huge (bits_of flags)) }
@@ -292,9 +320,10 @@ fn fit_high_entry(flags: PageTableFlags) -> bool
     !flags.has_address_bits() && !flags.contains(PageTableFlags::HUGE_PAGE)
 }
 
-/// Tells whether a page lies outside the recursive index of a mapper: whether its index of the highest level is another, or there is
-/// none. It is what [`unmap`](calls::unmap) asks of a page, and a part of what the other calls that write ask. With five levels its
-/// name is `is_outside_window_57`, too.
+/// Returns true if a page is outside a mapper's recursive window: its index of the highest level isn't the recursive
+/// index (the index of the root's entry for itself), or there is no recursive index. This is the condition on the
+/// page for [`unmap`](calls::unmap), and part of the condition of the other calls that write. Also named
+/// `is_outside_window_57`, for five levels.
 pub fn is_outside_window<S: PageSize, L: LevelCount, M: TablesIn<L>>(
     mapper: &M,
     page: PageIn<S, L>,

@@ -1,4 +1,4 @@
--- Raw values aligned down and up have the positions that are aligned so.
+-- Raw values aligned down and up have the positions aligned down and up.
 use Rattle.std.proofs.Common.{◌≡◌, ⊎_elim, inl, inr, ℕ, ◌+◌, ◌-◌, ◌*◌, ◌%◌, ◌^◌, ◌<◌, ◌≤◌, IsTrue, refl, sym, ap, ◌∙◌, arith}
 use Rattle.std.proofs.lemmas.Nat.{pow-add, pow_below, pow_pos}
 use Rattle.std.proofs.lemmas.Bool.{cases_lt}
@@ -11,7 +11,7 @@ use Rattle.x86_64_addr.proofs.PowersOfTwo.{power}
 use Rattle.x86_64_addr.proofs.Alignments.{greatest, least}
 use Rattle.x86_64_addr.proofs.Halves.{gap, by_half}
 
--- where the alignment divides the gap, a position keeps its remainder
+-- if the alignment divides the gap, a position keeps its remainder
 module _ (p a q gap m count : ℕ) (divides : gap ≡ q * a) (whole : gap ≡ m * count) where
   rest : (p + gap) % a ≡ p % a
   rest = ap (λ u. (p + u) % a) divides ∙ add-mul-mod_self_right p q a
@@ -28,7 +28,7 @@ module _ (p a q gap m count : ℕ) (divides : gap ≡ q * a) (whole : gap ≡ m 
       ap (λ r. (p + gap) + (a - r) % a) rest ∙ (let order : (p + gap) + (a - p % a) % a ≡ (p + (a - p % a) % a) + m * count = omega (arith, whole) in order) in
       ap (λ n. n % count) moved ∙ add-mul-mod_self_right (next_multiple_of p a) m count
 
--- the gap is so many times all positions
+-- the gap is a multiple of the number of positions
 gap_multiple : (L : ℕ) → IsLevelCount L → (m : ℕ) × (gap L ≡ m * position_count L)
 gap_multiple L (inl four) = (65535, rw four refl)
 gap_multiple L (inr five) = (127, rw five refl)

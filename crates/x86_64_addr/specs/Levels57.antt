@@ -1,9 +1,9 @@
--- The levels of page tables as numbers, where there are five.
+-- The levels of page tables as numbers, with 5-level paging.
 use Rattle.std.specs.Prelude.{ℕ}
 use Rattle.x86_64_addr.specs.declared.index.level57.PageTableLevel57.{PageTableLevel57}
 use Rattle.x86_64_addr.specs.declared.index.level57.PageTableLevel57.TheVariants.{One, Two, Three, Four, Five}
 
--- the number of a level, counted from the tables whose entries map 4KiB pages
+-- The number of a level, counted from the tables whose entries map 4KiB pages.
 abbrev pub level_number_57 : PageTableLevel57 → ℕ
 level_number_57 One = 1
 level_number_57 Two = 2

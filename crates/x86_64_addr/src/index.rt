@@ -11,7 +11,7 @@ mod level57;
 
 pub use level57::PageTableLevel57;
 
-/// An index of an entry in a page table, a number below 512.
+/// The index of an entry in a page table, a number below 512.
 #[derive(Debug, Clone, Copy, PartialEq, Eq, PartialOrd, Ord, Hash)]
 pub struct PageTableIndex(u16);
 
@@ -26,7 +26,9 @@ impl Model for PageTableIndex {
 }
 
 impl PageTableIndex {
-    /// Makes an index of a number, which must be below 512.
+    /// Creates an index from a number.
+    ///
+    /// Requires that the number is below 512.
     pub fn new(index: u16) -> PageTableIndex
         requires { index < 512 }
         ensures { result ≡ index }
@@ -34,16 +36,16 @@ impl PageTableIndex {
         PageTableIndex(index)
     }
 
-    /// Makes an index of a number modulo 512.
+    /// Creates an index from a number modulo 512.
     pub fn new_truncate(index: u16) -> PageTableIndex
         ensures { result ≡ index % 512 }
     {
         PageTableIndex(index % 512)
     }
 
-    /// Gives the index so many entries on.
+    /// Returns the index `count` entries after `start`.
     ///
-    /// Answers `None` exactly where there is none: where the sum isn't below 512.
+    /// Returns `None` if the sum isn't below 512.
     pub fn forward_checked(start: PageTableIndex, count: usize) -> Option<PageTableIndex>
         ensures { result ≡ forward 512 start count }
     {
@@ -54,9 +56,9 @@ impl PageTableIndex {
         }
     }
 
-    /// Gives the index so many entries before.
+    /// Returns the index `count` entries before `start`.
     ///
-    /// Answers `None` exactly where there is none: where the count is above the index.
+    /// Returns `None` if the count is above the index.
     pub fn backward_checked(start: PageTableIndex, count: usize) -> Option<PageTableIndex>
         ensures { result ≡ backward start count }
     {
@@ -67,9 +69,9 @@ impl PageTableIndex {
         }
     }
 
-    /// Counts the entries from one index up to another, as a lower and an upper bound, which are equal.
+    /// Returns the number of entries from `start` to `end`, as equal lower and upper bounds.
     ///
-    /// Answers `(0, None)` where the second is below the first.
+    /// Returns `(0, None)` if `end` is below `start`.
     pub fn steps_between(start: &PageTableIndex, end: &PageTableIndex) -> (usize, Option<usize>)
         ensures { result ≡ steps_between start.now end.now }
     {
@@ -86,7 +88,7 @@ impl PageTableIndex {
 impl From<PageTableIndex> for u16 {
     ghost from_gives = { λ i n. (n ≡ i) × (n < 512) };
 
-    /// Gives the number, which is below 512.
+    /// Returns the number, which is below 512.
     fn from(index: PageTableIndex) -> u16 {
         index.0
     }
@@ -95,7 +97,7 @@ impl From<PageTableIndex> for u16 {
 impl From<PageTableIndex> for u32 {
     ghost from_gives = { λ i n. (n ≡ i) × (n < 512) };
 
-    /// Gives the number, which is below 512.
+    /// Returns the number, which is below 512.
     fn from(index: PageTableIndex) -> u32 {
         index.0 as u32
     }
@@ -104,7 +106,7 @@ impl From<PageTableIndex> for u32 {
 impl From<PageTableIndex> for u64 {
     ghost from_gives = { λ i n. (n ≡ i) × (n < 512) };
 
-    /// Gives the number, which is below 512.
+    /// Returns the number, which is below 512.
     fn from(index: PageTableIndex) -> u64 {
         index.0 as u64
     }
@@ -113,7 +115,7 @@ impl From<PageTableIndex> for u64 {
 impl From<PageTableIndex> for usize {
     ghost from_gives = { λ i n. (n ≡ i) × (n < 512) };
 
-    /// Gives the number, which is below 512.
+    /// Returns the number, which is below 512.
     fn from(index: PageTableIndex) -> usize {
         index.0 as usize
     }
@@ -134,7 +136,9 @@ impl Model for PageOffset {
 }
 
 impl PageOffset {
-    /// Makes an offset of a number of bytes, which must be below 4096.
+    /// Creates an offset from a number of bytes.
+    ///
+    /// Requires that the number is below 4096.
     pub fn new(offset: u16) -> PageOffset
         requires { offset < 4096 }
         ensures { result ≡ offset }
@@ -142,7 +146,7 @@ impl PageOffset {
         PageOffset(offset)
     }
 
-    /// Makes an offset of a number of bytes modulo 4096.
+    /// Creates an offset from a number of bytes modulo 4096.
     pub fn new_truncate(offset: u16) -> PageOffset
         ensures { result ≡ offset % 4096 }
     {
@@ -153,7 +157,7 @@ impl PageOffset {
 impl From<PageOffset> for u16 {
     ghost from_gives = { λ o n. (n ≡ o) × (n < 4096) };
 
-    /// Gives the number of bytes, which is below 4096.
+    /// Returns the number of bytes, which is below 4096.
     fn from(offset: PageOffset) -> u16 {
         offset.0
     }
@@ -162,7 +166,7 @@ impl From<PageOffset> for u16 {
 impl From<PageOffset> for u32 {
     ghost from_gives = { λ o n. (n ≡ o) × (n < 4096) };
 
-    /// Gives the number of bytes, which is below 4096.
+    /// Returns the number of bytes, which is below 4096.
     fn from(offset: PageOffset) -> u32 {
         offset.0 as u32
     }
@@ -171,7 +175,7 @@ impl From<PageOffset> for u32 {
 impl From<PageOffset> for u64 {
     ghost from_gives = { λ o n. (n ≡ o) × (n < 4096) };
 
-    /// Gives the number of bytes, which is below 4096.
+    /// Returns the number of bytes, which is below 4096.
     fn from(offset: PageOffset) -> u64 {
         offset.0 as u64
     }
@@ -180,7 +184,7 @@ impl From<PageOffset> for u64 {
 impl From<PageOffset> for usize {
     ghost from_gives = { λ o n. (n ≡ o) × (n < 4096) };
 
-    /// Gives the number of bytes, which is below 4096.
+    /// Returns the number of bytes, which is below 4096.
     fn from(offset: PageOffset) -> usize {
         offset.0 as usize
     }
@@ -202,9 +206,9 @@ pub enum PageTableLevel {
 }
 
 impl PageTableLevel {
-    /// Gives the level below: that of the tables which the entries of this level name.
+    /// Returns the level below: that of the tables that entries of this level name.
     ///
-    /// Answers `None` exactly for level one, whose entries name no tables.
+    /// Returns `None` only for level one, whose entries name no tables.
     ///
     /// Intel SDM vol. 3A, "Hierarchical Paging Structures: an Overview".
     pub fn next_lower_level(self) -> Option<PageTableLevel>
@@ -219,9 +223,9 @@ impl PageTableLevel {
         }
     }
 
-    /// Gives the level above: that of the entries which name the tables of this level.
+    /// Returns the level above: that of the entries that name tables of this level.
     ///
-    /// Answers `None` exactly for level four, which is that of the root.
+    /// Returns `None` only for level four, the root's level.
     ///
     /// Intel SDM vol. 3A, "Hierarchical Paging Structures: an Overview".
     pub fn next_higher_level(self) -> Option<PageTableLevel>
@@ -236,7 +240,7 @@ impl PageTableLevel {
         }
     }
 
-    /// Gives the alignment of the addresses that a table of this level describes, which is also how many bytes it describes.
+    /// Returns the alignment of the address range that a table of this level covers, which is also its size in bytes.
     ///
     /// Intel SDM vol. 3A, "Hierarchical Paging Structures: an Overview".
     pub fn table_address_space_alignment(self) -> u64
@@ -245,7 +249,7 @@ impl PageTableLevel {
         table_span(self.number())
     }
 
-    /// Gives the alignment of the addresses that an entry of this level describes, which is also how many bytes it describes.
+    /// Returns the alignment of the address range that an entry of this level covers, which is also its size in bytes.
     ///
     /// Intel SDM vol. 3A, "Hierarchical Paging Structures: an Overview".
     pub fn entry_address_space_alignment(self) -> u64
@@ -253,7 +257,7 @@ impl PageTableLevel {
     {
         table_span(self.number() - 1)
     }
-    /// Gives the number, from one to four.
+    /// Returns the number of the level, from one to four.
     pub(crate) fn number(self) -> u64
         ensures value { result ≡ level_number self }
         ensures one_to_four { (1 ≤ result) × (result ≤ 4) }
@@ -262,7 +266,9 @@ impl PageTableLevel {
     }
 }
 
-/// Gives how many bytes a table of a level describes, which must be five at most; of level zero, how many a page does.
+/// Returns the number of bytes that a table of a level covers. Level zero stands for a 4KiB page.
+///
+/// Requires that the level is at most five.
 fn table_span(level: u64) -> u64
     requires { level ≤ 5 }
     ensures { result ≡ 2 ^ (12 + 9 * level) }

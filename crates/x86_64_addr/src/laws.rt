@@ -1,7 +1,7 @@
-//! Laws of addresses, indices, offsets and levels: their order agrees with equality and with hashes. The bodies are empty;
-//! the contracts are the laws.
+//! Laws of addresses, indices, offsets and levels: their order agrees with equality and with hashes. The bodies are empty; the
+//! contracts are the laws.
 //!
-//! The law of steps stands with their definitions, in `x86_64_model::laws::successors`.
+//! The law of steps is stated with their definitions, in `x86_64_model::laws::successors`.
 ghost use Rattle.std.specs.Prelude.{◌≡◌, ◌==◌, Some, pos};
 ghost use Rattle.std.specs.Ordering.{nat_cmp};
 ghost use Rattle.std.specs.Hash as fed;
@@ -14,7 +14,8 @@ use crate::index::{PageOffset, PageTableIndex, PageTableLevel, PageTableLevel57}
 use crate::level_count::LevelCount;
 use std::hash::Hash;
 
-/// Virtual addresses are equal and ordered as their positions are, and hashed by their raw values.
+/// Virtual addresses are equal and ordered by position (the number of an address counted without the gap in the middle of the
+/// address space), and hashed by raw value.
 pub fn virtual_addresses_are_ordered_by_position<L: LevelCount>(
     left: VirtAddrIn<L>,
     right: VirtAddrIn<L>,
@@ -50,7 +51,7 @@ pub fn offsets_are_ordered_by_number(left: PageOffset, right: PageOffset)
     ensures hash { ⟦<PageOffset as Hash>⟧.hash_input left ≡ fed.u16 left }
 {}
 
-/// Levels are equal, ordered and hashed as their numbers are.
+/// Levels are equal, ordered and hashed by their numbers.
 pub fn levels_are_ordered_by_number(left: PageTableLevel, right: PageTableLevel)
     ensures equality { ⟦<PageTableLevel as PartialEq>⟧.eq left right
         ≡ (level_number left == level_number right) }
@@ -61,7 +62,7 @@ pub fn levels_are_ordered_by_number(left: PageTableLevel, right: PageTableLevel)
     ensures hash { ⟦<PageTableLevel as Hash>⟧.hash_input left ≡ fed.isize (pos (level_number left)) }
 {}
 
-/// Levels where there are five are equal, ordered and hashed as their numbers are.
+/// Levels of 5-level paging are equal, ordered and hashed by their numbers.
 pub fn levels_57_are_ordered_by_number(left: PageTableLevel57, right: PageTableLevel57)
     ensures equality { ⟦<PageTableLevel57 as PartialEq>⟧.eq left right
         ≡ (level_number_57 left == level_number_57 right) }

@@ -1,10 +1,10 @@
-//! How many levels of page tables there are.
+//! The number of levels of page tables.
 ghost use Rattle.std.specs.Prelude.{◌≡◌, ◌<◌, ◌≤◌, ℕ};
 ghost use Rattle.x86_64_addr.specs.Levels.{IsLevelCount};
 ghost use Rattle.x86_64_model.specs.Position.{position_count};
 
 mod sealed {
-    /// Keeps other crates from adding numbers.
+    /// Keeps other crates from adding level counts.
     pub trait Sealed {}
 
     impl Sealed for super::FourLevels {}
@@ -12,7 +12,7 @@ mod sealed {
     impl Sealed for super::FiveLevels {}
 }
 
-/// A number of levels of tables. There are two of them, those of 4-level and of 5-level paging.
+/// A number of levels of page tables: four with 4-level paging, or five with 5-level paging.
 ///
 /// Intel SDM vol. 3A, "Linear-Address Translation with 4-Level Paging and 5-Level Paging".
 pub trait LevelCount: Copy + sealed::Sealed {
@@ -20,27 +20,27 @@ pub trait LevelCount: Copy + sealed::Sealed {
 
     ghost POSITION_COUNT: { ℕ };
 
-    /// The number.
+    /// The number of levels.
     const LEVELS: u64;
 
-    /// How many positions there are.
+    /// The number of positions, which are the numbers of addresses counted without the gap in the middle of the address space.
     const POSITION_COUNT: u64;
 
-    /// What the names of addresses and pages end in, where texts name them.
+    /// The suffix of the names of addresses and pages in formatted text.
     const SUFFIX: &'static str;
 
     ghost known_levels: { IsLevelCount LEVELS };
 
-    // There is a level above those of pages, which are the levels one to three.
+    // There is a level above those that map pages, levels one to three.
     ghost at_least_four: { 3 < LEVELS };
 
-    // Processors know no more.
+    // Processors support no more.
     ghost at_most_five: { LEVELS ≤ 5 };
 
     ghost known_count: { POSITION_COUNT ≡ position_count LEVELS };
 }
 
-/// Four levels of tables, as with 4-level paging.
+/// Four levels of page tables, as with 4-level paging.
 #[derive(Clone, Copy, Debug, PartialEq)]
 pub struct FourLevels;
 
@@ -66,7 +66,7 @@ impl LevelCount for FourLevels {
     ghost known_count = { refl };
 }
 
-/// Five levels of tables, as with 5-level paging.
+/// Five levels of page tables, as with 5-level paging.
 #[derive(Clone, Copy, Debug, PartialEq)]
 pub struct FiveLevels;
 

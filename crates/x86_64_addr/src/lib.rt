@@ -1,4 +1,4 @@
-//! Virtual and physical addresses, and the indices that a virtual address has at each level of the page tables.
+//! Virtual and physical addresses, and the indices of a virtual address at each level of the page tables.
 #![tactic(auto)]
 
 pub mod addr;

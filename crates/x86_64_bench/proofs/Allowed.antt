@@ -1,4 +1,4 @@
--- A map with PRESENT and WRITABLE alone is allowed wherever the page lies outside the window.
+-- A map with only PRESENT and WRITABLE is allowed for every page outside the recursive window.
 use Rattle.std.proofs.Common.{◌≡◌, ℕ, ◌||◌, ◌&&◌, Bool, true, false, Option, List, refl}
 use Rattle.x86_64_model.specs.Allowed.{map_allowed}
 use Rattle.x86_64_model.specs.Entry.{address, has}

@@ -1,4 +1,4 @@
--- A hierarchy that a pool fits may be cleaned up, by a mapper of its layout and memory.
+-- A hierarchy that a pool fits may be cleaned up by a mapper with its layout and memory.
 use Rattle.std.proofs.Common.{◌≡◌, ℕ, Bool, List, sym, subst₂}
 use Rattle.x86_64_model.proofs.Lemmas.Machines.Fitting.{may_clean_up}
 use Rattle.x86_64_model.specs.Layout.{Layout, words, paths}

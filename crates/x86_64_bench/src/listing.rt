@@ -1,13 +1,13 @@
-//! The list of what is mapped.
+//! Lists of mappings.
 use bitflags::Flags;
 use x86_64::structures::paging::{PhysFrame, Size4KiB};
 use x86_64::{IdentityMapping, LevelCount, MappingIn, TableMemory, mappings_from};
 use x86_64_addr::addr::VirtAddrIn;
 
-/// Says how many mappings were listed, and the sum of all that they say.
+/// The number of listed mappings, and the sum of all their contents.
 #[derive(Clone, Copy)]
 pub struct Listed {
-    /// How many there are.
+    /// The number of mappings.
     pub count: u64,
     /// The sum.
     pub sum: u64,
@@ -16,7 +16,7 @@ pub struct Listed {
 /// The rights of a page that may be written and executed, but not by user code, as a number.
 pub const SUPERVISOR_RIGHTS: u64 = 5;
 
-/// Lists the first mappings below a root, at most so many.
+/// Lists the first mappings below a root, at most a given number.
 pub fn list_all<L: LevelCount, T: TableMemory>(
     memory: &T,
     root: PhysFrame<Size4KiB>,
@@ -33,7 +33,7 @@ pub fn list_all<L: LevelCount, T: TableMemory>(
     Listed { count, sum }
 }
 
-/// Gives the sum of all that a mapping says.
+/// Returns the sum of the contents of a mapping.
 fn sum_of<L: LevelCount>(mapping: &MappingIn<L>) -> u64 {
     let rights = u64::from(mapping.write)
         + 2 * u64::from(mapping.user)

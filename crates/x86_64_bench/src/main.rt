@@ -1,11 +1,12 @@
-//! Measures maps, translations, lists and unmaps of 4KiB or 2MiB pages, and the clean up of the tables that the unmaps left, by the
-//! mapper that finds tables by their frames, also over tables that their owner lends, in a memory that lacks every second place and
-//! with five levels, and by the one that reaches them through the root's entry for itself.
+//! Measures maps, translations, lists and unmaps of 4KiB or 2MiB pages, and the clean up of the tables that the
+//! unmaps left. It compares several mappers. The first one finds tables by their frames. It is also used over tables
+//! that their owner lends, in a memory without every second place (a place is the index of a table in memory), and
+//! with five levels. The last mapper reaches tables through the root's entry for itself.
 //!
-//! Without arguments it does a small fixed run, and prints how often each operation was done. With `M contiguous` or `M scattered`,
-//! and a size of pages that is 4KiB if none is given, it does M pages in seven rounds, each by one mapper after another, and prints
-//! a table of the least processor time of each operation on standard error, with how many times as long as by the first mapper it
-//! takes.
+//! Without arguments, it does a small fixed run, and prints the number of times that each operation was done. The
+//! arguments are `M contiguous` or `M scattered`, and a size of pages that is 4KiB by default. With these, it maps M
+//! pages in each of seven rounds, with one mapper after another. It prints a table of the least processor time of
+//! each operation to standard error, with its ratio to the time of the first mapper.
 #![tactic(auto)]
 
 mod listing;
@@ -21,7 +22,7 @@ use std::process::ExitCode;
 use std::{env, io};
 use x86_64::structures::paging::{PageSize, Size2MiB, Size4KiB};
 
-/// How many rounds are measured.
+/// The number of rounds.
 const ROUNDS: usize = 7;
 
 /// The workload of the small run.
@@ -51,7 +52,7 @@ fn main(rt: HostRuntime) -> io::Result<ExitCode> {
     }
 }
 
-/// Reads how many pages there are, and which.
+/// Parses the number of pages, and their pattern.
 fn parse_workload(pages: &str, pattern: &str) -> Option<Workload> {
     let pattern = match pattern {
         "contiguous" => Pattern::Contiguous,
@@ -61,7 +62,8 @@ fn parse_workload(pages: &str, pattern: &str) -> Option<Workload> {
     Some(Workload::new(pages.parse().ok()?, pattern))
 }
 
-/// Does one round of a small workload with each size by each mapper, and prints how often each operation was done.
+/// Does one round of a small workload for each size with each mapper, and prints the number of times that each
+/// operation was done.
 fn run_once(rt: &HostRuntime) -> io::Result<ExitCode> {
     for access in Access::ALL {
         if !count::<Size4KiB>(rt, access)? || !count::<Size2MiB>(rt, access)? {
@@ -71,8 +73,8 @@ fn run_once(rt: &HostRuntime) -> io::Result<ExitCode> {
     Ok(ExitCode::from(0))
 }
 
-/// Does one round of the small workload with pages of a size, and prints how often each operation was done. Tells whether it
-/// could be done.
+/// Does one round of the small workload with pages of a size, and prints the number of times that each operation was
+/// done. Returns true if the round could be done.
 fn count<S: PageSize>(rt: &HostRuntime, access: Access) -> io::Result<bool> {
     let workload = Workload::new(SMALL.0, SMALL.1);
     match measure::<S>(rt.alloc(), rt, access, workload)? {
@@ -84,7 +86,7 @@ fn count<S: PageSize>(rt: &HostRuntime, access: Access) -> io::Result<bool> {
     }
 }
 
-/// Does all rounds with pages of a size, each by one mapper after another, and prints the time of each operation.
+/// Does all rounds with pages of a size, each with one mapper after another, and prints the time of each operation.
 fn compare<S: PageSize>(rt: &HostRuntime, workload: Workload) -> io::Result<ExitCode> {
     let mut rounds = Vec::new(rt.alloc());
     for _ in 0..ROUNDS {
@@ -96,7 +98,7 @@ fn compare<S: PageSize>(rt: &HostRuntime, workload: Workload) -> io::Result<Exit
     Ok(ExitCode::from(0))
 }
 
-/// Does a round by each mapper. Returns whether it could be done.
+/// Does a round with each mapper. Returns true if all could be done.
 fn add_rounds<S: PageSize>(
     rt: &HostRuntime,
     workload: Workload,

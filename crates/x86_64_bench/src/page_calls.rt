@@ -1,4 +1,4 @@
-//! What is done to one page of a workload, by a mapper of any number of levels.
+//! The operations on one page of a workload, with a mapper of any number of levels.
 ghost use Rattle.std.specs.Prelude.{◌≡◌};
 ghost use Rattle.x86_64_model.specs.Mapper.{Valid, SupplyFits};
 
@@ -8,14 +8,14 @@ use x86_64::structures::paging::{FrameAllocator, PageSize, PageTableFlags, Size4
 use x86_64::{LevelCount, TablesIn, is_outside_window};
 use x86_64_mappers::calls::{TableAccess, map_to, translate_addr, unmap};
 
-/// Gives the flags of each page.
+/// Returns the flags of each page.
 fn flags() -> PageTableFlags
     ensures { result.0 ≡ 3 }
 {
     PageTableFlags::PRESENT.union(PageTableFlags::WRITABLE)
 }
 
-/// Maps the `k`-th page, and tells whether it was mapped.
+/// Maps the `k`-th page, and returns true if it was mapped.
 pub fn map_page<
     S: PageSize,
     L: LevelCount,
@@ -38,7 +38,7 @@ pub fn map_page<
     }
 }
 
-/// Unmaps the `k`-th page, and tells whether it was mapped.
+/// Unmaps the `k`-th page, and returns true if it was mapped.
 pub fn unmap_page<S: PageSize, L: LevelCount, M: TableAccess + TablesIn<L>>(
     mapper: &mut M,
     workload: Workload,
@@ -60,7 +60,7 @@ pub fn unmap_page<S: PageSize, L: LevelCount, M: TableAccess + TablesIn<L>>(
     }
 }
 
-/// Tells whether the `k`-th page is translated to its frame.
+/// Returns true if the `k`-th page is translated to its frame.
 pub fn finds_page<S: PageSize, L: LevelCount, M: TableAccess + TablesIn<L>>(
     mapper: &M,
     workload: Workload,

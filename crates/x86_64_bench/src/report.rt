@@ -1,11 +1,12 @@
-//! What is printed of rounds.
+//! The output about rounds.
 use crate::rounds::{Access, Operation, Part, Round};
 use std::io;
 
-/// What a mapper did in a round.
+/// A round, and the mapper that did it.
 pub type Measured = (Access, Round);
 
-/// Prints how often each operation was done in a round on pages of a size, and how many tables were made.
+/// Prints the number of times that each operation was done in a round on pages of a size, and the number of new
+/// tables.
 pub fn report_counts(
     out: &impl Print,
     access: Access,
@@ -20,8 +21,8 @@ pub fn report_counts(
     println!(out; "{access} {size} tables {}", round.tables)
 }
 
-/// Prints a table of the least time of each operation by each mapper, in nanoseconds, and beside it how many times as long as by the
-/// first mapper that is.
+/// Prints a table of the least time of each operation with each mapper, in nanoseconds, and its ratio to the time of
+/// the first mapper.
 pub fn report_table(out: &impl Eprint, rounds: &[Measured]) -> io::Result<()> {
     eprint!(out; "{:<10}", "ns")?;
     for access in Access::ALL {
@@ -52,7 +53,7 @@ fn report_row(out: &impl Eprint, operation: Operation, rounds: &[Measured]) -> i
     eprintln!(out; "")
 }
 
-/// Returns the least time of an operation by a mapper, in tenths of a nanosecond.
+/// Returns the least time of an operation with a mapper, in tenths of a nanosecond.
 fn least_time(operation: Operation, access: Access, rounds: &[Measured]) -> u64 {
     let mut least = u64::MAX;
     for (by, round) in rounds {
@@ -63,7 +64,7 @@ fn least_time(operation: Operation, access: Access, rounds: &[Measured]) -> u64 
     least
 }
 
-/// Returns the time of one operation of a part, in tenths of a nanosecond.
+/// Returns the time per operation of a part, in tenths of a nanosecond.
 fn tenths_each(part: Part) -> u64 {
     let nanos = u64::try_from(part.time.as_nanos()).unwrap_or(u64::MAX);
     nanos.saturating_mul(10) / part.count.max(1)

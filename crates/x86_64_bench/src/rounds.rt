@@ -1,4 +1,5 @@
-//! One round: a new hierarchy in which all pages are mapped, translated, listed and unmapped, and which is cleaned up.
+//! One round: all pages are mapped in a new hierarchy, translated, listed and unmapped, and the hierarchy is cleaned
+//! up.
 ghost use Rattle.std.specs.Prelude.{◌≡◌, ◌↔◌, IfOk, IsTrue};
 ghost use Rattle.x86_64_model.specs.Pool.{serves_below};
 ghost use Rattle.x86_64_model.specs.Memory.{identity_places};
@@ -25,32 +26,32 @@ use x86_64::{
 use x86_64_mappers::calls::{TableAccess, clean_up};
 use x86_64_mappers::mapped_page_table::MappedPageTableIn;
 
-/// How often all pages are translated in a round.
+/// The number of times that all pages are translated in a round.
 const TRANSLATIONS: u64 = 10;
 
 /// The index of the root's entry for itself, which no page has.
 const RECURSIVE_INDEX: u16 = 511;
 
-/// The place of the root, which is also its frame's number.
+/// The place of the root, which is also its frame's number. A place is the index of a table in memory.
 const ROOT: u64 = 1;
 
-/// Says by which mapper a round is done.
+/// The mapper of a round.
 #[derive(Clone, Copy, PartialEq)]
 pub enum Access {
-    /// By the one that reaches tables by their frames.
+    /// The mapper that finds tables by their frames.
     Direct,
-    /// By the same, over tables that their owner lends.
+    /// This mapper over tables that their owner lends.
     Lent,
-    /// By the same, in a memory that lacks every second place.
+    /// This mapper in a memory without every second place.
     Sparse,
-    /// By the same, with five levels of tables.
+    /// This mapper with five levels of page tables.
     FiveLevels,
-    /// By the one that reaches tables through the root's entry for itself.
+    /// The mapper that reaches tables through the root's entry for itself.
     Recursive,
 }
 
 impl Access {
-    /// All, the one that is the measure first.
+    /// All mappers. The others are compared with the first one.
     pub const ALL: [Access; 5] = [
         Access::Direct,
         Access::Lent,
@@ -59,7 +60,7 @@ impl Access {
         Access::Recursive,
     ];
 
-    /// Gives the numbers of so many places: the first ones, or every second one from 1 on.
+    /// Returns the numbers of `count` places: the first ones, or every second one from 1 on.
     pub fn places(self, alloc: Global, count: u64) -> Result<Vec<u64>, AllocError> {
         let mut places = Vec::new(alloc);
         for k in 0..count {
@@ -71,7 +72,7 @@ impl Access {
         Ok(places)
     }
 
-    /// Gives the name.
+    /// Returns the mapper's name.
     pub fn name(self) -> &'static str {
         match self {
             Access::Direct => "direct",
@@ -83,7 +84,7 @@ impl Access {
     }
 }
 
-/// Maps all pages, and gives how many were mapped.
+/// Maps all pages, and returns the number of mapped pages.
 fn map_all<S: PageSize, L: LevelCount, M: TableAccess + TablesIn<L>, A: FrameAllocator<Size4KiB>>(
     mapper: &mut M,
     allocator: &mut A,
@@ -100,7 +101,7 @@ fn map_all<S: PageSize, L: LevelCount, M: TableAccess + TablesIn<L>, A: FrameAll
     mapped
 }
 
-/// Unmaps all pages, and gives how many were unmapped.
+/// Unmaps all pages, and returns the number of unmapped pages.
 fn unmap_all<S: PageSize, L: LevelCount, M: TableAccess + TablesIn<L>>(
     mapper: &mut M,
     workload: Workload,
@@ -116,7 +117,8 @@ fn unmap_all<S: PageSize, L: LevelCount, M: TableAccess + TablesIn<L>>(
     unmapped
 }
 
-/// Translates all pages in an order ten times, and gives how often one is mapped to its frame.
+/// Translates all pages in an order ten times, and returns the number of times that a page was translated to its
+/// frame.
 fn translate_all<S: PageSize, L: LevelCount, M: TableAccess + TablesIn<L>>(
     mapper: &M,
     workload: Workload,
@@ -131,7 +133,7 @@ fn translate_all<S: PageSize, L: LevelCount, M: TableAccess + TablesIn<L>>(
     found
 }
 
-/// Translates all pages in an order, and gives how many are mapped to their frames.
+/// Translates all pages in an order, and returns the number of pages that are translated to their frames.
 fn translate_once<S: PageSize, L: LevelCount, M: TableAccess + TablesIn<L>>(
     mapper: &M,
     workload: Workload,
@@ -147,7 +149,7 @@ fn translate_once<S: PageSize, L: LevelCount, M: TableAccess + TablesIn<L>>(
     found
 }
 
-/// Names an operation that is measured.
+/// An operation that is measured.
 #[derive(Clone, Copy)]
 pub enum Operation {
     /// The maps of all pages.
@@ -158,12 +160,12 @@ pub enum Operation {
     List,
     /// The unmaps of all pages.
     Unmap,
-    /// The clean up of the tables that the unmaps left, counted by the frames that came back.
+    /// The clean up of the tables that the unmaps left, counted by the returned frames.
     CleanUp,
 }
 
 impl Operation {
-    /// All, in the order in which a round does them.
+    /// All operations, in the order in which a round does them.
     pub const ALL: [Operation; 5] = [
         Operation::Map,
         Operation::Translate,
@@ -172,7 +174,7 @@ impl Operation {
         Operation::CleanUp,
     ];
 
-    /// Gives the name.
+    /// Returns the operation's name.
     pub fn name(self) -> &'static str {
         match self {
             Operation::Map => "map",
@@ -184,16 +186,16 @@ impl Operation {
     }
 }
 
-/// Says how often an operation was done, and how long all of these took.
+/// The number of times that an operation was done, and the total time.
 #[derive(Clone, Copy)]
 pub struct Part {
-    /// How often the operation was done and succeeded.
+    /// The number of times that the operation was done and succeeded.
     pub count: u64,
-    /// How long it took.
+    /// The total time.
     pub time: Duration,
 }
 
-/// Says what a round did.
+/// The results of a round.
 #[derive(Clone, Copy)]
 pub struct Round {
     map: Part,
@@ -201,12 +203,12 @@ pub struct Round {
     list: Part,
     unmap: Part,
     clean_up: Part,
-    /// How many frames the new tables took.
+    /// The number of frames that the new tables took.
     pub tables: usize,
 }
 
 impl Round {
-    /// Gives what an operation did.
+    /// Returns the results of an operation.
     pub fn part(&self, operation: Operation) -> Part {
         match operation {
             Operation::Map => self.map,
@@ -218,7 +220,7 @@ impl Round {
     }
 }
 
-/// Maps and then translates all pages of a workload, which are of a size, by a mapper.
+/// Maps and then translates all pages of a workload, which have one size, with a mapper.
 fn measure_maps<S: PageSize, L: LevelCount, M: TableAccess + TablesIn<L>>(
     clock: &impl CpuClock,
     mapper: &mut M,
@@ -260,7 +262,7 @@ fn measure_list<S: PageSize, L: LevelCount, T: TableMemory>(
     Ok(Part { count, time })
 }
 
-/// Unmaps all pages of a workload, which are of a size, by a mapper.
+/// Unmaps all pages of a workload, which have one size, with a mapper.
 fn measure_unmap<S: PageSize, L: LevelCount, M: TableAccess + TablesIn<L>>(
     clock: &impl CpuClock,
     mapper: &mut M,
@@ -279,7 +281,7 @@ fn since(clock: &impl CpuClock, start: Duration) -> io::Result<Duration> {
     Ok(clock.thread_cpu_time()?.saturating_sub(start))
 }
 
-/// Cleans up by a mapper.
+/// Cleans up with a mapper.
 fn measure_clean_up<L: LevelCount, M: TableAccess + TablesIn<L>>(
     clock: &impl CpuClock,
     mapper: &mut M,
@@ -295,7 +297,7 @@ fn measure_clean_up<L: LevelCount, M: TableAccess + TablesIn<L>>(
     Ok(Part { count, time })
 }
 
-/// Does a round with pages of a size by a mapper, in a new hierarchy. Returns `None` if it is no valid one.
+/// Does a round with pages of a size with a mapper, in a new hierarchy. Returns `None` if the hierarchy isn't valid.
 pub fn measure<S: PageSize>(
     alloc: Global,
     clock: &impl CpuClock,
@@ -324,7 +326,7 @@ pub fn measure<S: PageSize>(
     }
 }
 
-/// Makes so many empty tables.
+/// Creates `count` empty tables.
 fn empty_tables(alloc: Global, count: usize) -> Result<Vec<PageTable>, AllocError> {
     let mut tables = Vec::with_capacity(alloc, count)?;
     for _ in 0..count {
@@ -333,11 +335,11 @@ fn empty_tables(alloc: Global, count: usize) -> Result<Vec<PageTable>, AllocErro
     Ok(tables)
 }
 
-/// Tells whether the words below a root are a valid hierarchy of `L` levels, and a pool fits it.
+/// Returns true if the words below a root are a valid hierarchy of `L` levels, and a pool fits it.
 ///
 /// # Errors
 ///
-/// `AllocError` where memory is refused.
+/// `AllocError` if memory allocation fails.
 fn pool_fits_in<L: LevelCount, T: TableMemory>(
     alloc: Global,
     memory: &T,
@@ -355,7 +357,7 @@ fn pool_fits_in<L: LevelCount, T: TableMemory>(
     }
 }
 
-/// Does a round by the mapper of `L` levels that reaches tables by their frames.
+/// Does a round with the mapper of `L` levels that finds tables by their frames.
 fn measure_direct<S: PageSize, L: LevelCount, T: TableMemory>(
     alloc: Global,
     clock: &impl CpuClock,
@@ -395,7 +397,7 @@ fn measure_direct<S: PageSize, L: LevelCount, T: TableMemory>(
     }))
 }
 
-/// Does a round by the mapper that reaches tables through the root's entry for itself, which is made first.
+/// Writes the root's entry for itself, and does a round with the mapper that reaches tables through it.
 fn measure_recursive<S: PageSize>(
     alloc: Global,
     clock: &impl CpuClock,
@@ -450,23 +452,23 @@ fn write_self_entry(memory: &mut PhysMemory, index: PageTableIndex) {
     }
 }
 
-/// Gives the root's frame.
+/// Returns the root's frame.
 pub fn root() -> PhysFrame<Size4KiB> {
     frame_numbered(ROOT)
 }
 
-/// Gives the 4KiB frame with a number modulo 2^40.
+/// Returns the 4KiB frame with a number, modulo 2^40.
 fn frame_numbered(number: u64) -> PhysFrame<Size4KiB> {
     PhysFrame::containing_address(PhysAddr::new_truncate(number.wrapping_mul(4096)))
 }
 
-/// Makes a pool of the frames at all places after the root's.
+/// Creates a pool of the frames at all places after the root's.
 pub fn new_pool(alloc: Global, places: &[u64]) -> Result<FramePool, AllocError> {
     let limit = places.last().copied().unwrap_or(0).saturating_add(1);
     let mut pool = FramePool::new(alloc, limit)?;
     for number in places {
         if *number > ROOT {
-            // None of these frames is refused: each is in range, and is added once.
+            // No frame is refused, since each is in range and added once.
             let _added = pool.try_add(frame_numbered(*number));
         }
     }

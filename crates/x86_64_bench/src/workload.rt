@@ -10,41 +10,41 @@ use x86_64::{LevelCount, PhysAddr};
 use x86_64_addr::addr::VirtAddrIn;
 use x86_64_page::page::PageIn;
 
-/// How many numbers of pages there are in a scattered workload.
+/// The number of page numbers in a scattered workload.
 const SCATTERED_PAGES: u64 = 1 << 22;
 
-/// The frame of the first page has this number.
+/// The number of the first page's frame.
 const FIRST_FRAME: u64 = 1 << 20;
 
-/// Says which pages are mapped.
+/// The pattern of the mapped pages.
 #[derive(Clone, Copy)]
 pub enum Pattern {
-    /// Page after page, from page 0 on.
+    /// Consecutive pages, from page 0 on.
     Contiguous,
-    /// Pages all over 2^22 of them, which is 16GiB of 4KiB pages.
+    /// Pages spread over 2^22 page numbers, which is 16GiB of 4KiB pages.
     Scattered,
 }
 
-/// Names pages and frames of any size, by the order in which they are mapped.
+/// The pages and frames, of any size, in the order in which they are mapped.
 #[derive(Clone, Copy)]
 pub struct Workload {
-    /// How many pages are mapped.
+    /// The number of mapped pages.
     pub pages: u32,
     pattern: Pattern,
 }
 
 impl Workload {
-    /// Makes a workload of so many pages.
+    /// Creates a workload with a number of pages.
     pub fn new(pages: u32, pattern: Pattern) -> Workload {
         Workload { pages, pattern }
     }
 
-    /// Gives the `k`-th page.
+    /// Returns the `k`-th page.
     pub fn page<S: PageSize, L: LevelCount>(self, k: u32) -> PageIn<S, L> {
         PageIn::containing_address(VirtAddrIn::new_truncate(self.page_start::<S>(k)))
     }
 
-    /// Gives the address of the `k`-th page.
+    /// Returns the address of the `k`-th page.
     fn page_start<S: PageSize>(self, k: u32) -> u64 {
         let number = match self.pattern {
             Pattern::Contiguous => u64::from(k),
@@ -53,13 +53,13 @@ impl Workload {
         number.wrapping_mul(S::SIZE)
     }
 
-    /// Gives the frame to which the `k`-th page is mapped.
+    /// Returns the frame that the `k`-th page is mapped to.
     pub fn frame<S: PageSize>(self, k: u32) -> PhysFrame<S> {
         let number = FIRST_FRAME + u64::from(k);
         PhysFrame::containing_address(PhysAddr::new_truncate(number.wrapping_mul(S::SIZE)))
     }
 
-    /// Gives the sum of all that the mappings of the pages say.
+    /// Returns the sum of the contents of all mappings.
     pub fn sum<S: PageSize>(self) -> u64 {
         let flags = if S::LEVEL == 1 { 0x3 } else { 0x83 };
         let mut sum = 0_u64;
@@ -79,8 +79,8 @@ impl Workload {
         sum
     }
 
-    /// Gives a bound on the places that the tables of the hierarchy take, frame 0 and the root's among them. A table maps as
-    /// many pages of any size.
+    /// Returns a bound on the number of places that the hierarchy's tables take, including frame 0 and the root's. A
+    /// place is the index of a table in memory. A table maps equally many pages of any size.
     pub fn places(self) -> u64 {
         let lowest_tables = match self.pattern {
             Pattern::Contiguous => u64::from(self.pages) / 512 + 1,
@@ -89,7 +89,7 @@ impl Workload {
         lowest_tables + lowest_tables / 512 + 8
     }
 
-    /// Gives the numbers of the pages in an order that is shuffled, always in the same way.
+    /// Returns the numbers of the pages in a shuffled order, which is always the same.
     pub fn shuffled(self, alloc: Global) -> Result<Vec<u32>, AllocError> {
         let mut order = Vec::with_capacity(alloc, self.pages as usize)?;
         for k in 0..self.pages {

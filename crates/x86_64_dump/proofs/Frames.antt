@@ -1,4 +1,4 @@
--- Frames: the segment that has a frame is found one by one, and the words of a part are those of the file.
+-- Frames: the search for the segment that has a frame, one segment at a time, and the words of a part of a file.
 use Rattle.std.proofs.Common.{◌≡◌, ℕ, ◌+◌, ◌*◌, ◌≤◌, ◌<◌, Bool, true, false, cond, List, [], ◌∷◌, Option, Some, None, is_some, map, take, eq-eqb, ◌%◌, ◌^◌, length, refl, ap, sym, ◌∙◌, arith}
 use Rattle.std.specs.List.{find, range_with_len}
 use Rattle.std.specs.Option.{option_map}
@@ -41,7 +41,7 @@ none_either : {A : Type 0} (b : Bool) → cond {A = Option A} b None None ≡ No
 none_either true = refl
 none_either false = refl
 
--- what a dump says of a frame that no segment has, and of one that a segment has
+-- the words of a frame that no segment has, and of one that a segment has
 pub no_words : (dump : Contents) (frame size : ℕ) → size ≡ length dump.file → frame_offset size dump.segments frame ≡ None → None ≡ words_of_dump dump frame
 unfolding words_of_dump
 no_words dump frame size long lacks =
@@ -60,7 +60,7 @@ is_some_mapped : {A B : Type 0} (f : A → B) (found : Option A) → is_some fou
 is_some_mapped f None = refl
 is_some_mapped f (Some x) = refl
 
--- a dump says something of a frame exactly if a segment has it
+-- a dump has words of a frame if and only if a segment has the frame
 pub frame_there : (dump : Contents) (frame size : ℕ) → size ≡ length dump.file → is_frame frame ≡ true → is_some (frame_offset size dump.segments frame) ≡ is_some (words_of_dump dump frame)
 unfolding words_of_dump
 frame_there dump frame size long is =

@@ -1,4 +1,4 @@
--- NotesRead: what was read of a note says what it is; notes are read one by one.
+-- NotesRead: the bytes that are read of a note determine it, and notes are read one by one.
 use Rattle.std.proofs.Common.{◌≡◌, ℕ, zero, suc, ◌+◌, ◌-◌, ◌/◌, ◌≤◌, ◌<◌, ◌==◌, ◌&&◌, Bool, true, false, cond, List, [], ◌∷◌, ◌++◌, Option, Some, None, Result, Ok, Err, get_or, length, refl, ap, sym, ◌∙◌, arith, eq-eqb, ne_eqb, nat_le, le-leb, append-nil, append_assoc, add-one, drop}
 use Rattle.std.proofs.lemmas.Bool.{lt-leb}
 use Rattle.x86_64_dump.specs.Numbers.{byte_at, u32_at, u64_at}
@@ -19,7 +19,7 @@ other_name file at size read differs =
 add_zero : (n : ℕ) → n + 0 ≡ n
 add_zero n = omega arith
 
--- by the five bytes of the name
+-- from the five bytes of the name
 pub name_read : (file name : List ℕ) (at size : ℕ) → size ≡ u32_at file at → size ≡ 5 → name ≡ part_of file (at + 12) 5 → is_qemu file at ≡ (u32_at name 0 == 0x554d_4551 && get_or name 4 0 == 0)
 unfolding is_qemu
 name_read file name at size read five given =
@@ -103,11 +103,11 @@ register_read file register note at size value cut long test is read told =
     ap (λ b. cond b (Err (faults.NoteCut note.offset note.size (at + 8))) (Ok (u64_at file (note.offset + at)))) (ap (λ n. is_note_cut n note at) (sym long) ∙ sym test ∙ is)
     ∙ ap Ok (ap (u64_at file) (sym (add_zero (note.offset + at))) ∙ sym (u64_shown _ file 0 (note.offset + at) 8 (part_shows file (note.offset + at) 8) (omega arith)) ∙ ap (λ bytes. u64_at bytes 0) (sym read) ∙ sym told)
 
--- with nothing left to add
+-- if nothing is left to add
 pub added_all : (notes rest old all : List Note) → rest ≡ [] → notes ++ rest ≡ old ++ all → ◌≡◌ {A = Result (List Note) Fault} (Ok (old ++ all)) (Ok notes)
 added_all notes rest old all none told = ap Ok (sym told ∙ ap (λ left. notes ++ left) none ∙ append-nil notes)
 
--- one note was added, and its span passed
+-- after one note is added and its span is passed
 pub added_one : (most next : ℕ) (file : List ℕ) (at left rest : ℕ) (found : Option Note) (note : Note) (notes added all : List Note) → suc next ≡ most → rest ≡ left - note.span
     → found ≡ Some note → found ≡ cond (is_whole file at left) (Some (note_at file at)) None → added ≡ notes ++ if_qemu note → notes ++ qemu_notes most file at left ≡ all → added ++ qemu_notes next file (at + note.span) rest ≡ all
 added_one most next file at left rest found note notes added all less behind is read pushed told =
@@ -118,11 +118,11 @@ added_one most next file at left rest found note notes added all less behind is 
     ∙ ap (λ n. notes ++ qemu_notes n file at left) less
     ∙ told
 
--- what is read past the last segment
+-- the notes after the last segment: none
 abbrev pub nothing : Segment
 nothing = record { kind = 0; offset = 0; address = 0; size = 0 }
 
--- there is room for the notes of the next segment
+-- if there is room for the notes of the next segment
 pub within_step : (file : List ℕ) (segments : List Segment) (i room size rest : ℕ) (segment : Segment) (notes added all : List Note) → drop i segments ≡ segment ∷ drop (suc i) segments → size ≡ notes_size (length file) segment → size ≤ room → rest ≡ room - size
     → ◌≡◌ {A = Result (List Note) Fault} (Ok (notes ++ qemu_notes (size / 12) file segment.offset size)) (Ok added) → notes ++ notes_within room file (drop i segments) ≡ all → added ++ notes_within rest file (drop (i + 1) segments) ≡ all
 unfolding notes_left_in
@@ -142,7 +142,7 @@ within_step file segments i room size rest segment notes added all here sized fi
     ∙ ap (λ after. notes ++ notes_within room file after) (sym here)
     ∙ before
 
--- there is none
+-- if there is no room for them
 pub within_stop : (file : List ℕ) (segments : List Segment) (i room size : ℕ) (segment : Segment) (notes all : List Note) → drop i segments ≡ segment ∷ drop (suc i) segments → size ≡ notes_size (length file) segment → room < size
     → notes ++ notes_within room file (drop i segments) ≡ all → ◌≡◌ {A = Result (List Note) Fault} (Ok all) (Ok notes)
 within_stop file segments i room size segment notes all here sized full before =

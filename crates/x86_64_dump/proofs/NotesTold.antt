@@ -1,4 +1,4 @@
--- NotesTold: the notes that are read, one by one, are the notes of the segments.
+-- NotesTold: the notes that are read one by one are the notes of the segments.
 use Rattle.std.proofs.Common.{◌≡◌, ℕ, zero, suc, ◌+◌, ◌-◌, ◌/◌, ◌<◌, Bool, true, false, cond, List, [], ◌∷◌, ◌++◌, length, refl, ap, sym, ◌∙◌, arith, nat_le, le-leb, ⊎_elim}
 use Rattle.std.specs.List.{filter, flat_map, take_while}
 use Rattle.std.proofs.lemmas.Bool.{lt-leb, cases_lt}
@@ -24,7 +24,7 @@ ends_after_start : (file : List ℕ) (at end : ℕ) → end < at → ends_by end
 unfolding note_at
 ends_after_start file at end past = lt-leb _ _ (omega arith)
 
--- those of some notes that are QEMU's, up to the first one that doesn't end by then
+-- QEMU's notes among some notes, up to the first note that ends after an offset
 qemu_until : (end : ℕ) → List Note → List Note
 qemu_until end notes = filter (λ note. note.is_qemu) (take_while (ends_by end) notes)
 

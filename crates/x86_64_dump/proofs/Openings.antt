@@ -1,4 +1,4 @@
--- Openings: the segments of a file, step by step, and why they aren't read.
+-- Openings: the segments of a file, step by step, and why they can't be read.
 use Rattle.std.proofs.Common.{◌≡◌, ℕ, true, false, not, List, [], ◌∷◌, Option, Some, None, Ok, Err, ap, sym, ◌∙◌, length, cond, is_some}
 use Rattle.std.specs.Option.{unwrap_or}
 use Rattle.x86_64_dump.specs.Opening.{segments_of, elf_segments, header_of, is_elf, is_compressed, header_fault, table_fault, count_of, raw_segment, unless}
@@ -13,7 +13,7 @@ elf_refused file header size fault long told =
     ap (λ first. cond (is_some first) (unless first []) (unless (table_fault (length file) (count_of file header) header) (segments_at file header.headers (count_of file header))))
     (ap (λ n. header_fault n header) (sym long) ∙ told)
 
--- the header has no fault
+-- if the header has no fault
 pub elf_table : (file : List ℕ) (header : Header) (size count : ℕ) (table : Option Fault) → size ≡ length file → header_fault size header ≡ None → count ≡ count_of file header → table_fault size count header ≡ table
     → elf_segments file header ≡ unless table (segments_at file header.headers count)
 unfolding elf_segments

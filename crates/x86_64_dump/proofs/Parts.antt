@@ -1,4 +1,4 @@
--- Parts: a part that was read of a file shows the file's numbers.
+-- Parts: the numbers in a part that was read are the file's numbers.
 use Rattle.std.proofs.Common.{◌≡◌, ℕ, zero, suc, ◌+◌, ◌-◌, ◌≤◌, ◌<◌, List, ◌++◌, map, refl, length, get_or, take, drop, replicate, ap, sym, ◌∙◌, arith, add_assoc, min, ⊎_elim}
 use Rattle.std.specs.Int.{byte_worth, sum_through}
 use Rattle.std.specs.List.{range_with_len}
@@ -9,7 +9,7 @@ use Rattle.x86_64_dump.specs.Dump.{segment_at}
 use Rattle.x86_64_dump.specs.Opening.{header_of}
 use Rattle.x86_64_dump.specs.Source.{part_of}
 
--- the first bytes of a part are those of the file from an offset on, past its end 0
+-- the first bytes of a part are the bytes of the file from an offset on, and 0 past the file's end
 pub record Shows (part file : List ℕ) (offset count : ℕ) : Type 0 where
   pub bytes : (i : ℕ) → i < count → get_or part i 0 ≡ get_or file (offset + i) 0
 
@@ -84,7 +84,7 @@ after_end part file present i long ended below past =
     ∙ zero_of_zeros 64 (present + (i - present)) (omega arith)
     ∙ sym (get_or_past file (0 + i) 0 (omega arith))
 
--- what was read before the file's end, and bytes 0 after it
+-- the bytes up to the file's end, and bytes 0 after it
 pub front_shows : (front part file : List ℕ) (present : ℕ) → front ≡ part ++ drop present (replicate 64 0) → part ≡ part_of file 0 (length {A = ℕ} (take present (replicate 64 0))) → present ≡ min (length file) 64 → Shows front file 0 64
 front_shows front part file present whole read size = record {
   bytes = λ i below.

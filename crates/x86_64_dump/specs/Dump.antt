@@ -1,4 +1,4 @@
--- Dump: what words of physical memory a file holds, by its segments. A file is the list of its bytes.
+-- Dump: the words of physical memory in a file, located by its segments. A file is the list of its bytes.
 -- System V ABI, "Program Header"; its AMD64 supplement.
 use Rattle.std.specs.Prelude.{ℕ, ◌+◌, ◌-◌, ◌*◌, ◌==◌, ◌&&◌, Bool, not, cond, List, length, map, nat_le, nat_lt, Option, None}
 use Rattle.std.specs.List.{find, list_any, range_with_len}
@@ -12,20 +12,20 @@ use Rattle.x86_64_dump.specs.declared.segment.Segment.{Segment}
 unfoldable pub segment_at : (file : List ℕ) → (offset : ℕ) → Segment
 segment_at file offset = record { kind = u32_at file offset; offset = u64_at file (offset + 8); address = u64_at file (offset + 24); size = u64_at file (offset + 32) }
 
--- those of the program headers from an offset on, each of 56 bytes
+-- the segments of the program headers from an offset on, each of 56 bytes
 abbrev pub segments_at : (file : List ℕ) → (offset count : ℕ) → List Segment
 segments_at file offset count = map (λ i. segment_at file (offset + 56 * i)) (range_with_len 0 count)
 
--- where the byte of an address that is in the segment lies in the file
+-- the offset in the file of an address that is in the segment
 abbrev pub offset_in : Segment → (address : ℕ) → ℕ
 offset_in segment address = segment.offset + (address - segment.address)
 
--- whether all 4096 bytes of a frame are in a segment of memory, and in a file of this length
+-- whether a segment of memory contains all 4096 bytes of a frame, and a file of this length too
 abbrev pub has_frame : (file_length frame : ℕ) → Segment → Bool
 has_frame file_length frame segment = segment.kind == 1 && nat_le segment.address frame
     && nat_le (frame + 4096) (segment.address + segment.size) && nat_le (offset_in segment frame + 4096) file_length
 
--- where a frame lies in the file: in the first segment that has it whole
+-- the offset of a frame in the file: in the first segment that contains the whole frame
 unfoldable pub frame_offset : (file_length : ℕ) → List Segment → (frame : ℕ) → Option ℕ
 frame_offset file_length segments frame = option_map (λ segment. offset_in segment frame) (find (has_frame file_length frame) segments)
 
@@ -33,12 +33,12 @@ frame_offset file_length segments frame = option_map (λ segment. offset_in segm
 unfoldable pub words_at : (file : List ℕ) → (offset : ℕ) → List ℕ
 words_at file offset = map (λ i. u64_at file (offset + 8 * i)) (range_with_len 0 512)
 
--- a file, and its segments
+-- a file and its segments
 pub record Contents : Type 0 where
   pub file : List ℕ
   pub segments : List Segment
 
--- the words of each frame that is there
+-- the words of each frame that the dump has
 unfoldable pub words_of_dump : Contents → Words
 words_of_dump dump frame = cond (is_frame frame) (option_map (words_at dump.file) (frame_offset (length dump.file) dump.segments frame)) None
 

@@ -1,5 +1,5 @@
--- Notes: QEMU's notes of processors among those of a core file. System V ABI, "Note Section": the sizes of a name and of a descriptor, a
--- type, and then both, each filled up to a multiple of four bytes.
+-- Notes: QEMU's notes of processors among the notes of a core file. System V ABI, "Note Section": a note is the size of its name,
+-- the size of its descriptor, a type, the name and the descriptor. The last two are each padded to a multiple of four bytes.
 use Rattle.std.specs.Prelude.{ℕ, zero, suc, ◌+◌, ◌-◌, ◌*◌, ◌/◌, ◌==◌, ◌&&◌, ◌||◌, Bool, cond, if◌then◌else◌, min, List, [], ◌∷◌, length, nat_lt, nat_le, Result, Ok, Err}
 use Rattle.std.specs.List.{filter, flat_map, take_while}
 use Rattle.x86_64_dump.specs.Numbers.{byte_at, u32_at, u64_at}
@@ -9,7 +9,7 @@ use Rattle.x86_64_dump.specs.declared.note.Note.{Note}
 use Rattle.x86_64_dump.specs.declared.error.Fault.{Fault}
 use Rattle.x86_64_dump.specs.declared.error.Fault.TheVariants as faults
 
--- a size, filled up to a multiple of four
+-- a size, rounded up to a multiple of four
 abbrev pub padded : (size : ℕ) → ℕ
 padded size = (size + 3) / 4 * 4
 
@@ -26,20 +26,20 @@ note_at file at = record {
   span = 12 + padded (u32_at file at) + padded (u32_at file (at + 4));
 }
 
--- notes from an offset on, one after the other, whatever the bytes are
+-- consecutive notes from an offset on, whatever the bytes are
 abbrev pub notes_from : (file : List ℕ) → (at count : ℕ) → List Note
 notes_from file at zero = []
 notes_from file at (suc count) = note_at file at ∷ notes_from file (at + (note_at file at).span) count
 
--- whether a note's descriptor ends at an offset at the latest
+-- whether a note's descriptor ends at or before an offset
 abbrev pub ends_by : (end : ℕ) → Note → Bool
 ends_by end note = nat_le (note.offset + note.size) end
 
--- QEMU's notes in a part of the file: those up to the first one that doesn't end in it. A note has twelve bytes at least
+-- QEMU's notes in a part of the file, up to the first note that doesn't end in the part. A note has at least twelve bytes
 unfoldable pub notes_between : (file : List ℕ) → (start end : ℕ) → List Note
 notes_between file start end = filter (λ note. note.is_qemu) (take_while (ends_by end) (notes_from file start ((end - start) / 12)))
 
--- how many bytes of notes a segment has in the file
+-- the number of bytes of notes that a segment has in the file
 abbrev pub notes_size : (file_length : ℕ) → Segment → ℕ
 notes_size file_length segment = cond (segment.kind == 4) (min segment.size (file_length - segment.offset)) 0
 
@@ -47,17 +47,17 @@ notes_size file_length segment = cond (segment.kind == 4) (min segment.size (fil
 abbrev pub notes_in : (file : List ℕ) → Segment → List Note
 notes_in file segment = notes_between file segment.offset (segment.offset + notes_size (length file) segment)
 
--- the elements from the front on whose sizes together are at most this
+-- the longest front part of a list whose sizes add up to at most the room
 abbrev pub fitting : {A : Type 0} → (room : ℕ) → (size : A → ℕ) → List A → List A
 fitting room size [] = []
 fitting room size (x ∷ xs) = cond (nat_le (size x) room) (x ∷ fitting (room - size x) size xs) []
 
--- the notes of the processors of a dump, in order; segments of notes count as long as they have no more bytes than the file, so all do
--- that don't overlap
+-- the notes of the processors of a dump, in order. Segments of notes count as long as they have together no more bytes than the
+-- file, so all segments count if they don't overlap
 abbrev pub processors_of : Contents → List Note
 processors_of dump = flat_map (notes_in dump.file) (fitting (length dump.file) (notes_size (length dump.file)) dump.segments)
 
--- whether a note's descriptor ends before the register of eight bytes at an offset does, or the file
+-- whether a note's descriptor, or the file, ends before the register of eight bytes at an offset of the descriptor does
 abbrev pub is_note_cut : (file_length : ℕ) → Note → (at : ℕ) → Bool
 is_note_cut file_length note at = nat_lt note.size (at + 8) || nat_lt file_length (note.offset + (at + 8))
 

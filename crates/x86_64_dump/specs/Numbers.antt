@@ -1,4 +1,4 @@
--- Numbers: those of two, four and eight bytes at an offset of a file, the least byte first. Past its end a file is read as bytes 0.
+-- Numbers: numbers of two, four and eight bytes at an offset of a file, least byte first. Bytes past the end of a file are 0.
 use Rattle.std.specs.Prelude.{ℕ, List, drop, slice_index}
 use Rattle.std.specs.Int.{w16, w32, w64, from_le_bytes}
 

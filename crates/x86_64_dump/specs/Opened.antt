@@ -1,12 +1,12 @@
--- Opened: what an opened dump holds.
+-- Opened: the contents of an opened dump.
 use Rattle.std.specs.Prelude.{ℕ, Bool, is_some, List}
 use Rattle.x86_64_dump.specs.Dump.{Contents, frame_offset}
 use Rattle.x86_64_dump.specs.declared.dump.Dump.{Dump}
 
--- its source's bytes, and the segments
+-- the bytes of its source, and its segments
 abbrev pub opened : {S : Type 0} → (S → List ℕ) → Dump S → Contents
 opened bytes dump = record { file = bytes dump.source; segments = dump.segments.items }
 
--- whether a segment has the frame, in a file as long as its source says
+-- whether a segment has the frame, in a file of the length that the source reports
 abbrev pub holds : {S : Type 0} → (size : S → ℕ) → Dump S → (frame : ℕ) → Bool
 holds size dump frame = is_some (frame_offset (size dump.source) dump.segments.items frame)

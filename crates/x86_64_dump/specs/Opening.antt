@@ -1,4 +1,4 @@
--- Opening: which files are dumps, and of which segments. System V ABI, "ELF Header"; a core file's header is that of any ELF file.
+-- Opening: which files are dumps, and their segments. System V ABI, "ELF Header"; a core file has the header of any ELF file.
 use Rattle.std.specs.Prelude.{◌≡◌, ℕ, ◌+◌, ◌*◌, ◌==◌, ◌&&◌, ◌||◌, Bool, not, cond, if◌then◌else◌, List, [], ◌∷◌, length, nat_lt, Option, None, Some, is_some, Result, Ok, Err, ⊤}
 use Rattle.std.specs.Option.{unwrap_or}
 use Rattle.x86_64_dump.specs.Numbers.{byte_at, u16_at, u32_at, u64_at}
@@ -10,7 +10,7 @@ use Rattle.x86_64_dump.specs.declared.error.Fault.TheVariants as faults
 use Rattle.x86_64_dump.specs.declared.error.DumpError.{DumpError}
 use Rattle.x86_64_dump.specs.declared.error.DumpError.TheVariants as errors
 
--- the fields of a file's header, those past its end 0
+-- the fields of a file's header; fields past the end of the file are 0
 unfoldable pub header_of : (file : List ℕ) → Header
 header_of file = record {
   start = u64_at file 0;
@@ -25,11 +25,11 @@ header_of file = record {
   count = u16_at file 56;
 }
 
--- "\x7fELF"
+-- the magic number is "\x7fELF"
 abbrev pub is_elf : Header → Bool
 is_elf header = header.magic == 0x464c_457f
 
--- "KDUMP   " and "DISKDUMP"
+-- the file begins with "KDUMP   " or "DISKDUMP"
 abbrev pub is_compressed : Header → Bool
 is_compressed header = header.start == 0x2020_2050_4d55_444b || header.start == 0x504d_5544_4b53_4944
 
@@ -45,11 +45,11 @@ header_fault file_length header =
     else if header.count == 65535 && nat_lt file_length (header.sections + 64) then Some (faults.SectionOutside header.sections file_length)
     else None
 
--- how many program headers there are: if `e_phnum` is 65535, `sh_info` of section 0 says it
+-- the number of program headers: `e_phnum`, or `sh_info` of section 0 if `e_phnum` is 65535
 unfoldable pub count_of : (file : List ℕ) → Header → ℕ
 count_of file header = cond (header.count == 65535) (u32_at file (header.sections + 44)) header.count
 
--- why its program headers can't be read
+-- why the program headers can't be read
 unfoldable pub table_fault : (file_length count : ℕ) → Header → Option Fault
 table_fault file_length count header =
     if nat_lt file_length (header.headers + 56 * count) then Some (faults.HeadersOutside header.headers count file_length) else None
@@ -64,11 +64,11 @@ elf_segments file header =
     if is_some (header_fault (length file) header) then unless (header_fault (length file) header) []
     else unless (table_fault (length file) (count_of file header) header) (segments_at file header.headers (count_of file header))
 
--- all bytes of a file as memory from a base on
+-- all bytes of a file as memory from a base address on
 abbrev pub raw_segment : (file_length base : ℕ) → Segment
 raw_segment file_length base = record { kind = 1; offset = 0; address = base; size = file_length }
 
--- the segments of a file that is a dump, or why it is none
+-- the segments of a file, or why it isn't a dump
 unfoldable pub segments_of : (file : List ℕ) → (base : Option ℕ) → Result (List Segment) Fault
 segments_of file base =
     if is_compressed (header_of file) then Err faults.Compressed
@@ -80,22 +80,22 @@ abbrev pub with_file : (file : List ℕ) → Result (List Segment) Fault → Res
 with_file file (Ok segments) = Ok (record { file = file; segments = segments })
 with_file file (Err fault) = Err fault
 
--- what a file holds, or why it is no dump
+-- the contents of a file, or why it isn't a dump
 abbrev pub contents_of : (file : List ℕ) → (base : Option ℕ) → Result Contents Fault
 contents_of file base = with_file file (segments_of file base)
 
--- why nothing is returned
+-- an error agrees with the expected result: a fault is the expected one, no read fails, and memory allocation may always fail
 abbrev pub Fails : {Y : Type 0} → DumpError → Result Y Fault → Type 0
 Fails errors.OutOfMemory found = ⊤
 Fails (errors.Read error) found = ⊥
 Fails (errors.Fault fault) found = found ≡ Err fault
 
--- what is returned, seen by view, is what was to be found, unless memory was refused
+-- the result, seen by `view`, is the expected one, unless memory allocation fails
 abbrev pub Gives : {X Y : Type 0} → (X → Y) → Result X DumpError → Result Y Fault → Type 0
 Gives view (Ok x) found = found ≡ Ok (view x)
 Gives view (Err error) found = Fails error found
 
--- the same of a call that takes no memory
+-- likewise for a call that allocates no memory
 abbrev pub GivesAtOnce : {X Y : Type 0} → (X → Y) → Result X DumpError → Result Y Fault → Type 0
 GivesAtOnce view (Ok x) found = found ≡ Ok (view x)
 GivesAtOnce view (Err errors.OutOfMemory) found = ⊥

@@ -1,4 +1,4 @@
--- Source: what a read of a source of bytes says.
+-- Source: the bytes that a read of a source returns.
 use Rattle.std.specs.Prelude.{ℕ, List, take, drop}
 
 -- the bytes of a part of a file

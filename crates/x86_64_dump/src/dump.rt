@@ -13,9 +13,9 @@ use std::io;
 use x86_64_page::frame::PhysFrame;
 use x86_64_page::page::Size4KiB;
 
-/// Reads the physical memory that a dump holds, frame by frame, where it lies in the file.
+/// The physical memory in a dump file, read frame by frame.
 ///
-/// Contracts see it as its file and its segments. No more than the segments is kept in memory.
+/// Contracts see it as its file and its segments. Only the segments are kept in memory.
 #[derive(Drop)]
 pub struct Dump<S: ByteSource> {
     source: S,
@@ -29,16 +29,17 @@ impl<S: ByteSource> Dump<S> {
     ghost use Rattle.x86_64_dump.specs.Opened.{opened, holds};
     ghost use Rattle.x86_64_dump.specs.Notes.{processors_of, register_of};
 
-    /// Opens a dump: reads which parts of the file are memory.
+    /// Opens a dump and reads which parts of the file are memory.
     ///
-    /// A file that begins with the magic number of ELF has to be a core file of x86-64, of 64 bits and little endian, as
-    /// QEMU's `dump-guest-memory` and Linux's kdump write. Any other file is raw: its bytes are those of physical memory
-    /// from `base` on, 0 if left out.
+    /// A file that begins with the magic number of ELF must be a little-endian, 64-bit core file of x86-64, as QEMU's
+    /// `dump-guest-memory` and Linux's kdump write. Any other file is raw: its bytes are those of physical memory from `base`
+    /// on, or from 0 if `base` is `None`.
     ///
     /// # Errors
     ///
-    /// `DumpError::Fault` exactly where the file is no such dump, or an ELF file though there is a base.
-    /// `DumpError::OutOfMemory` where memory is refused, `DumpError::Read` where the source can't be read.
+    /// `DumpError::Fault` if and only if the file is a compressed dump, an ELF file that isn't such a core file or is damaged,
+    /// or an ELF file although there is a base. `DumpError::OutOfMemory` if memory allocation fails, `DumpError::Read` if the
+    /// source can't be read.
     pub fn open(alloc: Global, source: S, base: Option<u64>) -> Result<Dump<S>, DumpError>
         ensures { S.IsKnown → Gives (opened S.bytes) result (contents_of (S.bytes source) base) }
     {
@@ -46,7 +47,7 @@ impl<S: ByteSource> Dump<S> {
         Ok(Dump { source, segments })
     }
 
-    /// Tells whether the file is shorter than its headers say, as one is that was cut off. It has the frames that it has.
+    /// Returns true if the file is shorter than its headers say, as a truncated dump is. The frames that remain can be read.
     pub fn is_short(&self) -> bool
         ensures { S.IsKnown → result ≡
             is_short (length (opened S.bytes self.now).file) (opened S.bytes self.now).segments }
@@ -54,7 +55,7 @@ impl<S: ByteSource> Dump<S> {
         is_cut_off(&self.segments, self.source.len())
     }
 
-    /// Tells whether the dump has a frame. Nothing is read.
+    /// Returns true if the dump has the frame. Reads nothing.
     pub fn has_frame(&self, frame: PhysFrame<Size4KiB>) -> bool
         ensures held { result ≡ holds S.size self.now frame }
         ensures known { S.IsKnown → result ≡ is_some (words_of_dump (opened S.bytes self.now) frame) }
@@ -62,11 +63,11 @@ impl<S: ByteSource> Dump<S> {
         self.offset_of(frame).is_some()
     }
 
-    /// Reads the 512 words of a frame, or gives `None` if the dump lacks it.
+    /// Reads the 512 words of a frame, or returns `None` if the dump lacks it.
     ///
     /// # Errors
     ///
-    /// Where the source can't be read.
+    /// The error of the source if it can't be read.
     pub fn read_frame(&self, frame: PhysFrame<Size4KiB>) -> io::Result<Option<[u64; 512]>>
         ensures held { IfOk result (λ words. is_some words ≡ holds S.size self.now frame) }
         ensures words { S.IsKnown →
@@ -81,7 +82,7 @@ impl<S: ByteSource> Dump<S> {
         Ok(Some(words_in(&bytes)))
     }
 
-    /// Gives where a frame lies in the file, or `None` if the dump lacks it.
+    /// Returns the offset of a frame in the file, or `None` if the dump lacks it.
     fn offset_of(&self, frame: PhysFrame<Size4KiB>) -> Option<u64>
         ensures frame { is_frame frame ≡ true }
         ensures offset { result ≡ frame_offset (S.size self.now.source) self.now.segments.items frame }
@@ -91,11 +92,11 @@ impl<S: ByteSource> Dump<S> {
         frame_offset(&self.segments, address, self.source.len())
     }
 
-    /// Reads where QEMU's notes of the processors lie, in order.
+    /// Finds QEMU's notes of the processors, and returns them in order.
     ///
     /// # Errors
     ///
-    /// `DumpError::OutOfMemory` where memory is refused, `DumpError::Read` where the source can't be read.
+    /// `DumpError::OutOfMemory` if memory allocation fails, `DumpError::Read` if the source can't be read.
     pub fn processors(&self, alloc: Global) -> Result<Vec<Note>, DumpError>
         ensures { S.IsKnown →
             Gives (λ notes. notes.items) result (Ok (processors_of (opened S.bytes self.now))) }
@@ -107,7 +108,7 @@ impl<S: ByteSource> Dump<S> {
     ///
     /// # Errors
     ///
-    /// `Fault::NoteCut` exactly where its note lacks it, `DumpError::Read` where the source can't be read.
+    /// `Fault::NoteCut` if and only if the note lacks it, `DumpError::Read` if the source can't be read.
     pub fn cr3(&self, processor: &Note) -> Result<u64, DumpError>
         ensures { S.IsKnown →
             GivesAtOnce (λ value. value) result (register_of (opened S.bytes self.now).file processor.now 416) }
@@ -119,7 +120,7 @@ impl<S: ByteSource> Dump<S> {
     ///
     /// # Errors
     ///
-    /// `Fault::NoteCut` exactly where its note lacks it, `DumpError::Read` where the source can't be read.
+    /// `Fault::NoteCut` if and only if the note lacks it, `DumpError::Read` if the source can't be read.
     pub fn cr4(&self, processor: &Note) -> Result<u64, DumpError>
         ensures { S.IsKnown →
             GivesAtOnce (λ value. value) result (register_of (opened S.bytes self.now).file processor.now 424) }

@@ -1,4 +1,4 @@
-//! Reads the headers of ELF core files.
+//! Headers of ELF core files.
 ghost use Rattle.std.specs.Prelude.{◌≡◌, ◌+◌, ◌*◌, ◌/◌, ◌≤◌, ◌<◌, ◌^◌, ◌++◌, length, nat_lt, IsOk, IfOk, IfNone, OnOk, Ok};
 ghost use Rattle.x86_64_dump.specs.Numbers.{u32_at};
 ghost use Rattle.x86_64_dump.specs.Dump.{segment_at, segments_at};
@@ -18,10 +18,10 @@ const HEADER_SIZE: u64 = 64;
 /// The size of a program header.
 const ENTRY_SIZE: u64 = 56;
 
-/// How many program headers are read at once.
+/// The greatest number of program headers that are read at once.
 const PIECE: u32 = 73;
 
-/// The count that says that section header 0 has it, as `PN_XNUM`.
+/// The count, `PN_XNUM`, that refers to section header 0 for the number of program headers.
 const COUNT_ELSEWHERE: u16 = 65535;
 
 /// Reads the segments of a dump.
@@ -46,14 +46,14 @@ pub fn read_segments<S: ByteSource>(
     read_elf(alloc, source, &header)
 }
 
-/// Tells whether a file begins as compressed dumps do.
+/// Returns true if a file begins as compressed dumps do.
 fn is_kdump(header: &Header) -> bool
     ensures { result ≡ is_compressed header.now }
 {
     header.start == 0x2020_2050_4d55_444b || header.start == 0x504d_5544_4b53_4944
 }
 
-/// Gives the segment that is all of a file.
+/// Returns the one segment of a raw file, which is all of its bytes.
 fn raw(length: u64, base: u64) -> Segment
     ensures { result ≡ raw_segment length base }
 {
@@ -84,7 +84,7 @@ fn read_elf<S: ByteSource>(
     read_table(alloc, source, header.headers, count)
 }
 
-/// Tells whether a part of a file ends after the file.
+/// Returns true if a part of a file ends after the end of the file.
 pub fn ends_after(offset: u64, size: u64, length: u64) -> bool
     ensures { result ≡ nat_lt length (offset + size) }
 {
@@ -94,7 +94,7 @@ pub fn ends_after(offset: u64, size: u64, length: u64) -> bool
     }
 }
 
-/// Says why an ELF file isn't a core file of x86-64.
+/// Returns why an ELF file isn't a core file of x86-64, or `None` if it is.
 #[tactic(auto, unfolding(crate::specs::Opening::header_fault))]
 fn fault_of_header(header: &Header, length: u64) -> Option<Fault>
     ensures fault { result ≡ header_fault length header.now }
@@ -132,7 +132,7 @@ fn fault_of_header(header: &Header, length: u64) -> Option<Fault>
     }
 }
 
-/// Says why program headers can't be read.
+/// Returns why the program headers can't be read, or `None` if they can.
 #[tactic(auto, unfolding(crate::specs::Opening::table_fault))]
 fn fault_of_table(header: &Header, length: u64, count: u32) -> Option<Fault>
     ensures fault { result ≡ table_fault length count header.now }
@@ -149,7 +149,7 @@ fn fault_of_table(header: &Header, length: u64, count: u32) -> Option<Fault>
     }
 }
 
-/// Reads the start of a file as an ELF header, as if bytes 0 stood after its end.
+/// Reads the start of a file as an ELF header, with bytes 0 after the end of the file.
 fn read_header<S: ByteSource>(source: &S) -> io::Result<Header>
     ensures value { S.IsKnown → IfOk result (λ header. header ≡ header_of (S.bytes source.now)) }
     ensures succeeds { S.IsKnown → IsOk result }
@@ -160,7 +160,7 @@ fn read_header<S: ByteSource>(source: &S) -> io::Result<Header>
     Ok(header_in(&front))
 }
 
-/// Gives the fields of an ELF header.
+/// Returns the fields of an ELF header.
 #[tactic(auto, unfolding(crate::specs::Opening::header_of))]
 fn header_in(front: &[u8]) -> Header
     requires { length front.now ≡ 64 }
@@ -180,7 +180,7 @@ fn header_in(front: &[u8]) -> Header
     }
 }
 
-/// Reads how many program headers there are.
+/// Reads the number of program headers.
 fn read_count<S: ByteSource>(source: &S, header: &Header) -> io::Result<u32>
     requires { header.now.count ≡ 65535 → header.now.sections + 64 < 2 ^ 64 }
     ensures value { S.IsKnown → IfOk result (λ count. count ≡ count_of (S.bytes source.now) header.now) }
@@ -195,7 +195,7 @@ fn read_count<S: ByteSource>(source: &S, header: &Header) -> io::Result<u32>
     Ok(read_u32(&section, 44))
 }
 
-/// Reads the segments of program headers, a few of them at once.
+/// Reads the segments of the program headers, piece by piece.
 fn read_table<S: ByteSource>(
     alloc: Global,
     source: &S,
@@ -253,7 +253,7 @@ fn push_segments(entries: &[u8], segments: &mut Vec<Segment>) -> Result<(), Allo
     Ok(())
 }
 
-/// Gives the segment of the program header at an offset.
+/// Returns the segment of the program header at an offset.
 #[tactic(auto, unfolding(crate::specs::Dump::segment_at))]
 fn segment_in(entries: &[u8], offset: usize) -> Segment
     requires { offset + 56 ≤ length entries.now }

@@ -7,19 +7,19 @@ use std::error::Error;
 use std::fmt::{Display, Formatter, Result as FmtResult, Write};
 use std::io;
 
-/// Says what of a file makes it no dump that can be read.
+/// The reason why a file isn't a readable dump.
 #[derive(Clone, Copy, Debug, PartialEq, Eq)]
 pub enum Fault {
-    /// The file is one of kdump's or diskdump's, which are compressed.
+    /// The file is a compressed dump of kdump or diskdump.
     Compressed,
-    /// A base was given for an ELF file, which says its addresses itself.
+    /// A base was given for an ELF file, whose headers already have its addresses.
     BaseOfElf,
     /// The file is shorter than an ELF header.
     HeaderCut {
         /// The number of bytes in the file.
         length: u64,
     },
-    /// The ELF file isn't one of 64 bits.
+    /// The ELF file isn't a 64-bit one.
     WrongClass {
         /// `EI_CLASS`.
         class: u8,
@@ -29,56 +29,56 @@ pub enum Fault {
         /// `EI_DATA`.
         order: u8,
     },
-    /// The ELF file is no core file.
+    /// The ELF file isn't a core file.
     WrongType {
         /// `e_type`.
         file_type: u16,
     },
-    /// The ELF file isn't one of x86-64.
+    /// The ELF file isn't for x86-64.
     WrongMachine {
         /// `e_machine`.
         machine: u16,
     },
-    /// The program headers haven't 56 bytes each.
+    /// The size of a program header isn't 56 bytes.
     WrongEntrySize {
         /// `e_phentsize`.
         size: u16,
     },
-    /// The section header that has the count of program headers isn't in the file.
+    /// The section header with the number of program headers isn't within the file.
     SectionOutside {
         /// `e_shoff`.
         offset: u64,
         /// The number of bytes in the file.
         length: u64,
     },
-    /// The program headers aren't all in the file.
+    /// The program headers aren't all within the file.
     HeadersOutside {
         /// `e_phoff`.
         offset: u64,
-        /// How many there are.
+        /// The number of program headers.
         count: u32,
         /// The number of bytes in the file.
         length: u64,
     },
-    /// QEMU's note of a processor is too short for a register, or not all in the file.
+    /// QEMU's note of a processor ends before a register does, or the file ends before.
     NoteCut {
         /// Where the descriptor of the note begins.
         offset: u64,
-        /// How many bytes it has.
+        /// The number of bytes in the descriptor.
         size: u64,
-        /// How many it needs to have, all of them in the file.
+        /// The number of bytes that the descriptor needs, all of them within the file.
         needed: u64,
     },
 }
 
-/// Says why a file wasn't read as a dump.
+/// The reason why a file wasn't read as a dump.
 #[derive(Debug, Drop)]
 pub enum DumpError {
-    /// Memory was refused.
+    /// Memory allocation failed.
     OutOfMemory,
     /// A read of the file failed.
     Read(io::Error),
-    /// The file is no dump that can be read.
+    /// The file isn't a readable dump.
     Fault(Fault),
 }
 

@@ -9,7 +9,7 @@ use crate::segment::Segment;
 /// The size of a frame.
 const FRAME_SIZE: u64 = 4096;
 
-/// Tells whether a segment of memory has a frame whole, in a file of this length.
+/// Returns true if a segment of memory contains the whole frame, and a file of this length does too.
 pub fn has_frame(segment: &Segment, frame: u64, length: u64) -> bool
     requires { frame < 2 ^ 52 }
     ensures { result ≡ has_frame length frame segment.now }
@@ -20,7 +20,7 @@ pub fn has_frame(segment: &Segment, frame: u64, length: u64) -> bool
         && !ends_after(segment.offset, frame - segment.address + FRAME_SIZE, length)
 }
 
-/// Gives where a frame lies in a file of this length, or `None` if no segment has it.
+/// Returns the offset of a frame in a file of this length, or `None` if no segment has it.
 pub fn frame_offset(segments: &[Segment], frame: u64, length: u64) -> Option<u64>
     requires { frame < 2 ^ 52 }
     ensures offset { result ≡ frame_offset length segments.now frame }
@@ -34,7 +34,7 @@ pub fn frame_offset(segments: &[Segment], frame: u64, length: u64) -> Option<u64
     None
 }
 
-/// Tells whether a file of this length is shorter than its segments say.
+/// Returns true if a file of this length is shorter than its segments say.
 pub fn is_cut_off(segments: &[Segment], length: u64) -> bool
     ensures { result ≡ is_short length segments.now }
 {
@@ -42,7 +42,7 @@ pub fn is_cut_off(segments: &[Segment], length: u64) -> bool
         && ends_after(segment.offset, segment.size, length))
 }
 
-/// Gives the words of the 4096 bytes of a frame.
+/// Returns the words of the 4096 bytes of a frame.
 pub fn words_in(bytes: &[u8]) -> [u64; 512]
     requires { length bytes.now ≡ 4096 }
     ensures { result ≡ words_at bytes.now 0 }

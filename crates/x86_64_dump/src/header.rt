@@ -1,26 +1,26 @@
 //! The start of a file, as an ELF header.
 
-/// Holds the fields of the ELF header with which a file begins, where it has one. ELF-64 Object File Format, "ELF header".
+/// The fields of the ELF header at the start of a file, if it has one. ELF-64 Object File Format, "ELF header".
 #[derive(Clone, Copy, Debug, PartialEq, Eq)]
 pub struct Header {
-    /// The first eight bytes, by which other formats are known.
+    /// The first eight bytes, which identify other formats.
     pub start: u64,
     /// The first four bytes.
     pub magic: u32,
-    /// `EI_CLASS`: 2 is 64 bits.
+    /// `EI_CLASS`: 2 for 64 bits.
     pub class: u8,
-    /// `EI_DATA`: 1 is little endian.
+    /// `EI_DATA`: 1 for little endian.
     pub order: u8,
-    /// `e_type`: 4 is a core file.
+    /// `e_type`: 4 for a core file.
     pub file_type: u16,
-    /// `e_machine`: 62 is x86-64.
+    /// `e_machine`: 62 for x86-64.
     pub machine: u16,
-    /// Where the program headers begin, as `e_phoff`.
+    /// The offset of the program headers, `e_phoff`.
     pub headers: u64,
-    /// Where the section headers begin, as `e_shoff`.
+    /// The offset of the section headers, `e_shoff`.
     pub sections: u64,
-    /// The size of a program header, as `e_phentsize`.
+    /// The size of a program header, `e_phentsize`.
     pub entry_size: u16,
-    /// How many program headers there are, as `e_phnum`; 65535 if section header 0 says it.
+    /// The number of program headers, `e_phnum`, or 65535 if section header 0 has it.
     pub count: u16,
 }

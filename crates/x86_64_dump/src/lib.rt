@@ -1,4 +1,4 @@
-//! What words of physical memory a dump file holds.
+//! The words of physical memory in a dump file.
 #![tactic(auto)]
 
 mod dump;

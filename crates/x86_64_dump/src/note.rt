@@ -1,14 +1,14 @@
 //! Notes of core files.
 
-/// Says where a note of a core file lies. System V ABI, "Note Section".
+/// The location of a note in a core file. System V ABI, "Note Section".
 #[derive(Clone, Copy, Debug, PartialEq, Eq)]
 pub struct Note {
-    /// Whether it is one of QEMU's, with the registers of a processor.
+    /// Whether it is a note of QEMU, with the registers of a processor.
     pub is_qemu: bool,
-    /// Where its descriptor begins in the file.
+    /// The offset of its descriptor in the file.
     pub offset: u64,
-    /// How many bytes its descriptor has.
+    /// The number of bytes in its descriptor.
     pub size: u64,
-    /// How many bytes after its own begin the next note begins.
+    /// The number of bytes from the start of this note to the start of the next.
     pub span: u64,
 }

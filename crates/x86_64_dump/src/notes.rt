@@ -1,4 +1,4 @@
-//! Reads QEMU's notes.
+//! QEMU's notes.
 ghost use Rattle.std.specs.Prelude.{◌≡◌, ◌+◌, ◌*◌, ◌/◌, ◌≤◌, ◌<◌, ◌^◌, ◌++◌, length, cond, Some, None, IsOk, IfOk, OnOk, Ok};
 ghost use Rattle.x86_64_dump.specs.Numbers.{byte_at, u32_at};
 ghost use Rattle.x86_64_dump.specs.Opening.{Gives, GivesAtOnce};
@@ -14,11 +14,11 @@ use crate::source::ByteSource;
 use std::alloc::{AllocError, Global};
 use std::io;
 
-/// The size of what a note has before its name.
+/// The number of bytes in a note before its name.
 const HEAD_SIZE: u64 = 12;
 
-/// Reads QEMU's notes in the segments of a file. Segments that overlap so often that they have more bytes of notes than the
-/// file has bytes are left out.
+/// Reads QEMU's notes in the segments of a file. If the segments overlap so much that they have more bytes of notes than the
+/// file has bytes, the segments beyond that are left out.
 pub fn read_notes<S: ByteSource>(
     alloc: Global,
     source: &S,
@@ -79,7 +79,7 @@ fn push_qemu(notes: &mut Vec<Note>, note: Note) -> Result<(), AllocError>
     Ok(())
 }
 
-/// Gives how many bytes of notes a segment has in a file of this length.
+/// Returns the number of bytes of notes that a segment has in a file of this length.
 fn notes_size(segment: &Segment, length: u64) -> u64
     ensures size { result ≡ notes_size length segment.now }
     ensures inside { 0 < result → segment.now.offset + result ≤ length }
@@ -91,7 +91,7 @@ fn notes_size(segment: &Segment, length: u64) -> u64
     }
 }
 
-/// Reads the note at an offset, or gives `None` if its descriptor doesn't end in the bytes that are left.
+/// Reads the note at an offset, or returns `None` if its descriptor doesn't end within the bytes that are left.
 fn read_note<S: ByteSource>(source: &S, at: u64, left: u64) -> io::Result<Option<Note>>
     requires { at + left < 2 ^ 64 }
     ensures value { S.IsKnown → IfOk result (λ note.
@@ -116,14 +116,14 @@ fn read_note<S: ByteSource>(source: &S, at: u64, left: u64) -> io::Result<Option
     }))
 }
 
-/// Fills a size up to a multiple of four.
+/// Rounds a size up to a multiple of four.
 fn padded(size: u32) -> u64
     ensures { result ≡ padded size }
 {
     (u64::from(size) + 3) / 4 * 4
 }
 
-/// Tells whether a note, with a name of this size, is QEMU's.
+/// Returns true if the note at an offset, with a name of this size, is QEMU's.
 fn is_qemu<S: ByteSource>(source: &S, at: u64, name_size: u32) -> io::Result<bool>
     requires { name_size ≡ 5 → at + 17 < 2 ^ 64 }
     ensures value { S.IsKnown → name_size ≡ u32_at (S.bytes source.now) at →
@@ -138,7 +138,7 @@ fn is_qemu<S: ByteSource>(source: &S, at: u64, name_size: u32) -> io::Result<boo
     Ok(read_u32(&name, 0) == 0x554d_4551 && name[4] == 0)
 }
 
-/// Tells whether a note, or the file, ends before the register of eight bytes at an offset of its descriptor does.
+/// Returns true if the note, or the file, ends before the register of eight bytes at an offset of its descriptor does.
 fn is_note_cut(note: &Note, at: u64, length: u64) -> bool
     requires { at < 4096 }
     ensures { result ≡ is_note_cut length note.now at }

@@ -1,8 +1,8 @@
-//! Numbers in bytes, the least byte first.
+//! Numbers in bytes, least byte first.
 ghost use Rattle.std.specs.Prelude.{◌≡◌, ◌+◌, ◌≤◌, length};
 ghost use Rattle.x86_64_dump.specs.Numbers.{u16_at, u32_at, u64_at};
 
-/// Gives the number of the two bytes from an offset on.
+/// Returns the number in the two bytes from an offset on.
 #[tactic(auto, unfolding(crate::specs::Numbers::u16_at))]
 pub fn read_u16(bytes: &[u8], offset: usize) -> u16
     requires { offset + 2 ≤ length bytes.now }
@@ -12,7 +12,7 @@ pub fn read_u16(bytes: &[u8], offset: usize) -> u16
     u16::from_le_bytes([bytes[0], bytes[1]])
 }
 
-/// Gives the number of the four bytes from an offset on.
+/// Returns the number in the four bytes from an offset on.
 #[tactic(auto, unfolding(crate::specs::Numbers::u32_at))]
 pub fn read_u32(bytes: &[u8], offset: usize) -> u32
     requires { offset + 4 ≤ length bytes.now }
@@ -22,7 +22,7 @@ pub fn read_u32(bytes: &[u8], offset: usize) -> u32
     u32::from_le_bytes([bytes[0], bytes[1], bytes[2], bytes[3]])
 }
 
-/// Gives the number of the eight bytes from an offset on.
+/// Returns the number in the eight bytes from an offset on.
 #[tactic(auto, unfolding(crate::specs::Numbers::u64_at))]
 pub fn read_u64(bytes: &[u8], offset: usize) -> u64
     requires { offset + 8 ≤ length bytes.now }

@@ -1,22 +1,22 @@
-//! Segments: parts of a file that a program header describes.
+//! Segments: the parts of a file that program headers describe.
 
-/// Holds what a program header of an ELF core file says of a part of the file. ELF-64 Object File Format, "Program header".
+/// A part of an ELF core file, as its program header describes it. ELF-64 Object File Format, "Program header".
 #[derive(Clone, Copy, Debug, PartialEq, Eq)]
 pub struct Segment {
-    /// What the part holds, as `p_type`: 1 is memory, `PT_LOAD`, 4 is notes, `PT_NOTE`.
+    /// The kind of the part, `p_type`: 1 for memory, `PT_LOAD`, and 4 for notes, `PT_NOTE`.
     pub kind: u32,
-    /// Where the first byte lies in the file, as `p_offset`.
+    /// The offset of the first byte in the file, `p_offset`.
     pub offset: u64,
-    /// The physical address of the first byte, as `p_paddr`.
+    /// The physical address of the first byte, `p_paddr`.
     pub address: u64,
-    /// The number of bytes in the file, as `p_filesz`.
+    /// The number of bytes in the file, `p_filesz`.
     pub size: u64,
 }
 
 impl Segment {
-    /// The kind of memory.
+    /// The kind of a segment of memory.
     pub const LOAD: u32 = 1;
 
-    /// The kind of notes.
+    /// The kind of a segment of notes.
     pub const NOTE: u32 = 4;
 }

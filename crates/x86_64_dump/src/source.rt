@@ -1,4 +1,4 @@
-//! Sources of bytes, which are read at offsets.
+//! Sources of bytes, read at offsets.
 ghost use Rattle.std.specs.Prelude.{◌≡◌, ◌+◌, ◌≤◌, ℕ, List, length, IsOk, OnOk, ⊤, [], refl};
 ghost use Rattle.x86_64_dump.specs.Source.{part_of};
 
@@ -6,15 +6,15 @@ use std::fs::File;
 use std::io::{self, ErrorKind};
 use std::os::unix::fs::FileExt;
 
-/// Has bytes that are read at offsets: a file, or a slice.
+/// A source of bytes that are read at offsets: a file or a slice.
 ///
-/// Its clauses say which bytes a read gives where they are known, as those of a slice are. Of a file nobody knows them, and
+/// Its clauses say which bytes a read returns if they are known, as those of a slice are. The bytes of a file aren't known, and
 /// another program may change them meanwhile.
 pub trait ByteSource: Drop {
     /// That its bytes are known, and stay.
     ghost IsKnown: { Type 0 };
 
-    /// The number of its bytes, as it says it.
+    /// The number of its bytes, as it reports it.
     ghost size: { Self → ℕ };
 
     /// Its bytes, if they are known.
@@ -28,13 +28,14 @@ pub trait ByteSource: Drop {
     ///
     /// # Errors
     ///
-    /// The error of the read, or one of the kind `UnexpectedEof` if there are fewer bytes. The buffer then has any bytes.
+    /// The error of the read, or an error of the kind `UnexpectedEof` if there are fewer bytes. The contents of the buffer are
+    /// then unspecified.
     fn read_exact_at(&self, buffer: &mut [u8], offset: u64) -> io::Result<()>
         ensures bytes { IsKnown →
             OnOk result (buffer.new ≡ part_of (bytes self.now) offset (length buffer.old)) }
         ensures succeeds { IsKnown → offset + length buffer.old ≤ length (bytes self.now) → IsOk result };
 
-    /// What it says is true of known bytes.
+    /// The reported number is the number of known bytes.
     ghost counted: { IsKnown → (source : Self) → size source ≡ length (bytes source) };
 }
 
@@ -65,9 +66,9 @@ impl ByteSource for &[u8] {
     }
 }
 
-/// Reads a file, with the length that it had at first.
+/// A file, with the length that it had when the source was created.
 ///
-/// Nothing is proved of the bytes that it gives.
+/// Nothing is proved of the bytes that it returns.
 #[derive(Drop)]
 pub struct FileSource {
     file: File,
@@ -75,11 +76,11 @@ pub struct FileSource {
 }
 
 impl FileSource {
-    /// Makes a source of a file.
+    /// Creates a source from a file.
     ///
     /// # Errors
     ///
-    /// Where the length of the file can't be read.
+    /// An error if the length of the file can't be read.
     pub fn new(file: File) -> io::Result<FileSource> {
         let length = file.metadata()?.len();
         Ok(FileSource { file, length })

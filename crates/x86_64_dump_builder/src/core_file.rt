@@ -9,15 +9,15 @@ use x86_64_dump::Segment;
 pub struct Memory<'a> {
     /// The physical address of the first byte.
     pub address: u64,
-    /// What it holds.
+    /// The bytes in it.
     pub bytes: &'a [u8],
 }
 
 /// The size of QEMU's note of a processor.
 const NOTE_SIZE: u64 = 460;
 
-/// Adds a core file as QEMU writes it: its headers, that of the notes first, then the notes of the processors, and then the parts of
-/// memory, a segment each.
+/// Adds a core file as QEMU writes it: the headers, with that of the notes first, then the notes of the processors, and then
+/// the parts of memory, each as a segment.
 pub fn push_core_file(
     bytes: &mut Vec<u8>,
     processors: &[Processor],
@@ -46,7 +46,7 @@ pub fn push_core_file(
     Ok(())
 }
 
-/// Adds the program headers of parts of memory whose bytes stand in the file one after the other, from an offset on.
+/// Adds the program headers of parts of memory whose bytes are in the file one after the other, from an offset on.
 fn push_segments(bytes: &mut Vec<u8>, first: u64, memory: &[Memory<'_>]) -> Result<(), AllocError> {
     let mut offset = first;
     for part in memory {

@@ -24,7 +24,7 @@ pub struct Elf {
     pub count: u16,
 }
 
-/// The header of a core file with one program header behind it.
+/// The header of a core file with one program header after it.
 pub const CORE: Elf = Elf {
     class: 2,
     order: 1,
@@ -40,7 +40,7 @@ pub const CORE: Elf = Elf {
 ///
 /// # Errors
 ///
-/// Where memory is refused, as of each function that adds bytes.
+/// An error if memory allocation fails, as for all functions that add bytes.
 pub fn push_elf(bytes: &mut Vec<u8>, elf: Elf) -> Result<(), AllocError> {
     bytes.extend_from_slice(b"\x7fELF")?;
     bytes.extend_from_slice(&[elf.class, elf.order, 1])?;
@@ -69,7 +69,7 @@ pub fn push_segment(bytes: &mut Vec<u8>, segment: Segment) -> Result<(), AllocEr
     bytes.extend_from_slice(&[0; 16])
 }
 
-/// Adds headers, and behind them numbers of eight bytes from `first` on.
+/// Adds headers, followed by numbers of eight bytes from `first` on.
 pub fn push_core(
     bytes: &mut Vec<u8>,
     elf: Elf,

@@ -1,4 +1,4 @@
-//! Builds files for tests of dumps: ELF core files, with headers as they should be or not, memory, page tables and QEMU's notes.
+//! Files for tests of dumps: ELF core files, with valid or invalid headers, memory, page tables and QEMU's notes.
 #![tactic(auto)]
 
 mod core_file;

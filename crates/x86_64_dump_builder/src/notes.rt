@@ -2,16 +2,16 @@
 use crate::words::push_words;
 use std::alloc::AllocError;
 
-/// The registers of a processor that say where its tables are.
+/// The registers of a processor that locate its tables.
 #[derive(Clone, Copy, Debug, PartialEq, Eq)]
 pub struct Processor {
     /// The address of the root, with flags.
     pub cr3: u64,
-    /// Bit 12 says that the tables have five levels.
+    /// Bit 12 is set if the tables have five levels.
     pub cr4: u64,
 }
 
-/// Adds the start of a note: the sizes, and a name that is filled up. Its descriptor is to come.
+/// Adds the start of a note: the sizes, and a padded name. The descriptor must follow.
 pub fn push_note(
     bytes: &mut Vec<u8>,
     name: &[u8],

@@ -9,7 +9,7 @@ pub fn push_words(bytes: &mut Vec<u8>, first: u64, count: u64) -> Result<(), All
     Ok(())
 }
 
-/// Adds a frame that holds a page table: the given words at their indices, the last one that is given for an index, and 0 elsewhere.
+/// Adds a frame with a page table: the given words at their indices, the last one if an index has several, and 0 elsewhere.
 pub fn push_table(bytes: &mut Vec<u8>, words: &[(usize, u64)]) -> Result<(), AllocError> {
     let mut table = [0; 512];
     for (index, word) in words {

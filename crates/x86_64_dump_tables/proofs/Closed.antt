@@ -1,4 +1,4 @@
--- The tables by level are closed: each that a word of one of them names is one of the level below, or isn't there.
+-- The tables by level are closed: each table that a word of one of them names is at the level below, or W lacks it.
 use Rattle.std.proofs.Common.{◌≡◌, ◌⊎◌, inl, inr, ⊎_elim, ℕ, zero, suc, ◌==◌, ◌&&◌, ◌||◌, Bool, true, false, not, cond, List, [], ◌∷◌, ◌++◌, reverse, flat_map, filter_map, get_or, Option, Some, None, IsSome, is_some, option_map, refl, sym, ap, ◌∙◌, subst, eq-eqb, eqb-true}
 use Rattle.std.specs.List.{cons_option, fold}
 use Rattle.std.specs.Option.{unwrap_or}
@@ -57,7 +57,7 @@ fold_from seen (f ∷ frames) g h = ⊎_elim (λ h. ⊎_elim (λ is. inr (inl is
 
 -- ---- the tables that words name
 
--- the table that a present word names is there or not
+-- if W has the table that a present word names, the table is among those that the words name
 named_there : (W : Words) (words : List ℕ) (e : ℕ) → In words e → present e ≡ true → huge e ≡ false → IsSome (W (address e)) → In (filter_map (table_named W) words) (address e)
 named_there W [] e h is small there = absurd h
 named_there W (d ∷ words) e (inl same) is small there =
@@ -79,7 +79,7 @@ there_named W (d ∷ words) f h = one W d (filter_map (table_named W) words) f (
     one W d rest f others true false is h = others h
     one W d rest f others false there is h = others h
 
--- a word that is read and present is one of the frame's words
+-- a word that is read and is present is one of the frame's words
 read_in : (words : List ℕ) (i : ℕ) → present (get_or words i 0) ≡ true → In words (get_or words i 0)
 unfolding has
 read_in [] i is = let none : false ≡ true = is in cc
@@ -94,7 +94,7 @@ word_of_frame W f i e (Some words) is read there =
 
 -- ---- levels
 
--- the table that a word of a frame names is one of the level below, or isn't there
+-- the table that a word of a frame names is at the level below, or W lacks it
 below_or_none : (W : Words) (frames : List ℕ) (f i e : ℕ) → In frames f → read W f i ≡ Some e → present e ≡ true → huge e ≡ false
     → In (each_once (flat_map (tables_named W) frames)) (address e) ⊎ (W (address e) ≡ None)
 below_or_none W frames f i e h is there small = by (W (address e)) refl
@@ -104,7 +104,7 @@ below_or_none W frames f i e h is there small = by (W (address e)) refl
     by (Some words) some = inl (fold_has [] _ (address e) (in_flat_map (tables_named W) frames f (address e) h
         (named_there W (unwrap_or (W f) []) e (word_of_frame W f i e (W f) refl is there) there small (ap is_some some))))
 
--- words are the same below a frame of a level, and below one that isn't there, if they are the same in the frames of the levels
+-- words are equal below a frame of a level, and below a frame that W lacks, if they are equal in the frames of the levels
 same_below : (n : ℕ) (T W : Words) (frames : List ℕ) → ((f : ℕ) → W f ≡ None → T f ≡ None) → ((f : ℕ) → is_in (tables_from n W frames) f ≡ true → T f ≡ W f)
     → (f : ℕ) → In frames f ⊎ (W f ≡ None) → SameBelow n T W f
 same_below zero T W frames none same f h = tt
@@ -131,7 +131,7 @@ none_either false = refl
 reversed : (levels : List (List ℕ)) (f : ℕ) → is_in (reverse levels) f ≡ is_in levels f
 reversed levels f = sym (list_any-IsPermutation (λ frames. is_among frames f) levels (reverse levels) (IsPermutation-reverse levels))
 
--- the words in the tables by level are the same below the root
+-- the words of the tables by level are equal to those of W below the root
 pub same_below_root : (L : ℕ) (W : Words) (root : ℕ) (T : Words) → T ≡ words_in_frames (tables_by_level L W root) W → SameBelow L T W root
 unfolding tables_by_level
 same_below_root L W root T is = same_below L T W (if_there W root) none same root (by (W root) refl)

@@ -1,4 +1,4 @@
--- Why tables aren't read, and which words a dump lacks.
+-- Why tables can't be read, and which words a dump lacks.
 use Rattle.std.proofs.Common.{◌≡◌, ℕ, false, cond, None, Result, Ok, Err, ap}
 use Rattle.std.specs.Result.{IfErr, IsErrAnd}
 use Rattle.std.specs.Option.{option_map}
@@ -13,13 +13,13 @@ pub fails_as : {T : Type 0} (r : Result T DumpError) (P Q : DumpError → Type 0
 fails_as (Ok x) P Q h f = tt
 fails_as (Err e) P Q h f = f e h
 
--- what may fail if more is known may fail if that follows
+-- an error that is possible with further knowledge is possible without it, if the further knowledge follows
 pub fails_knowing : (known more : Type 0) → (known → more) → (e : DumpError) → MayFail (known × more) e → MayFail known e
 fails_knowing known more follows errors.OutOfMemory h = tt
 fails_knowing known more follows (errors.Read error) h = λ k. h (k, follows k)
 fails_knowing known more follows (errors.Fault fault) h = h
 
--- a dump has words of frames alone
+-- a dump has only words of frames
 pub no_frame : (dump : Contents) (f : ℕ) → is_frame f ≡ false → words_of_dump dump f ≡ None
 unfolding words_of_dump
 no_frame dump f lacks = ap (λ b. cond b (option_map (words_at dump.file) (frame_offset (length dump.file) dump.segments f)) None) lacks

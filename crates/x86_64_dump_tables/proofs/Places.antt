@@ -22,7 +22,7 @@ use Rattle.x86_64_dump_tables.specs.private.Numbers.{has_number, AreNumbers, Hol
 
 -- ---- numbers
 
--- frames are the same if their numbers are
+-- frames are equal if and only if their numbers are
 pub same_number : (f g : ℕ) → is_frame f ≡ true → is_frame g ≡ true → (f / 4096 == g / 4096) ≡ (f == g)
 same_number f g a b = ⊎_elim
     (λ same. ap (λ n. f / 4096 == n / 4096) (sym same) ∙ eq-eqb (f / 4096) (f / 4096) refl ∙ sym (eq-eqb f g same))
@@ -75,7 +75,7 @@ pub list_any-dedup : (p : ℕ → Bool) (xs : List ℕ) → list_any p (dedup (�
 list_any-dedup p [] = refl
 list_any-dedup p (x ∷ xs) = list_any-dedup_from p x xs
 
--- a number's frame
+-- the frame of a number
 pub number_there : (numbers : List ℕ) (i : ℕ) → i < length numbers → AreNumbers numbers → (is_frame (get_or numbers i 0 * 4096) ≡ true) × (has_number numbers (get_or numbers i 0 * 4096) ≡ true)
 number_there numbers i within below =
     let n = get_or numbers i 0 in (
@@ -85,7 +85,7 @@ number_there numbers i within below =
 
 -- ---- memories
 
--- the tables of the first i numbers are read
+-- the tables of the first i numbers are read, and the others are zero
 abbrev pub so_far : Words → (numbers : List ℕ) → (i : ℕ) → (place : ℕ) → Option (List ℕ)
 so_far W numbers i place = cond (list_any (λ n. place == n) (take i numbers)) (W (place * 4096)) (Some zero_words)
 
@@ -112,7 +112,7 @@ place_filled W numbers i memory words within read held place =
         ∙ ap (λ b. cond (list_any (λ n. place == n) numbers) (cond b (W (place * 4096)) (Some zero_words)) None)
         (sym (one_more false (ne_eqb place (get_or numbers i 0) other) ∙ or-false (list_any (λ n. place == n) (take i numbers))))
 
--- the memory of all numbers holds the words of their frames
+-- the memory for all numbers holds the words of their frames
 pub words_filled : (W : Words) (numbers : List ℕ) (i : ℕ) (memory : Memory) (levels : List (List ℕ)) → length numbers ≤ i → ((f : ℕ) → is_frame f ≡ false → W f ≡ None)
     → ((f : ℕ) → is_frame f ≡ true → has_number numbers f ≡ is_in levels f) → HoldsFor numbers (so_far W numbers i) memory → words_of memory identity_places ≡ words_in_frames levels W
 words_filled W numbers i memory levels all only same held = λ k f. at f k

@@ -1,4 +1,4 @@
--- Words that are the same wherever walks from a root come make the same mappings and walks.
+-- Words that are equal wherever page walks from a root lead have equal mappings and page walks.
 use Rattle.std.proofs.Common.{◌≡◌, ℕ, zero, suc, ◌+◌, ◌*◌, ◌%◌, ◌&&◌, nat_le, Bool, true, false, cond, List, [], ◌∷◌, flat_map, get_or, Option, Some, None, option_and_then, option_map, refl, sym, ap, ◌∙◌}
 use Rattle.x86_64_model.specs.Entry.{present, writable, user, huge, address}
 use Rattle.x86_64_model.specs.Mappings.{Rights, Mapping, maps_page, mappings_of}
@@ -15,7 +15,7 @@ same_read T W f i same = ap (option_map (λ words. get_or words i 0)) same
 
 -- ---- mappings
 
--- what a word lists, where what it leads to matters only if it names a table
+-- the mappings that a word lists depend on what is below only if the word names a table
 by_word : (start level : ℕ) (r : Rights) (e : ℕ) (xs ys : List Mapping) → (present e ≡ true → huge e ≡ false → xs ≡ ys) → listed_by start level r e xs ≡ listed_by start level r e ys
 by_word start level r e xs ys same = by (present e) (maps_page level e) (huge e) refl refl
   where
@@ -26,7 +26,7 @@ by_word start level r e xs ys same = by (present e) (maps_page level e) (huge e)
     by true false true is big = refl
     by true false false is big = same is big
 
--- what a word of a table lists
+-- the mappings that a word of a table lists
 listed_at : Words → (n start : ℕ) → Rights → (i e : ℕ) → List Mapping
 listed_at V n start r i e = listed_by (start + i * span (suc n)) (suc n) r e (listed_on V n (start + i * span (suc n)) (narrowed r e) (address e))
 
@@ -49,7 +49,7 @@ same_mappings L T W root same = mappings_listed L T root ∙ same_listed L T W 0
 
 -- ---- walks
 
--- a step of a walk, where what is below matters only if the word names a table
+-- a step of a page walk depends on what is below only if the word names a table
 step_on : (p level : ℕ) (w u : Bool) (e : ℕ) (there high : Bool) → Option Walked → Option Walked
 step_on p level w u e there high on = cond there (cond high (cond (nat_le level 3) (arrives (page_start level e + p % span level) (w && writable e) (u && user e)) None) on) None
 

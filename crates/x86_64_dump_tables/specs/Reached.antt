@@ -1,10 +1,10 @@
--- Reached: what walks from a frame's table meet.
+-- Reached: the tables that page walks from a frame's table meet.
 use Rattle.std.specs.Prelude.{◌≡◌, ℕ, zero, suc, true, false, Some}
 use Rattle.x86_64_model.specs.Entry.{present, huge, address}
 use Rattle.x86_64_model.specs.Memory.{Words}
 use Rattle.x86_64_model.specs.PageWalk.{read}
 
--- T holds what W does wherever walks from a frame's table of a level come
+-- T and W have equal words wherever page walks from the table of a level in a frame lead
 abbrev pub SameBelow : (level : ℕ) → (T W : Words) → (frame : ℕ) → Type 0
 SameBelow zero T W frame = Unit {0}
 SameBelow (suc level) T W frame = (T frame ≡ W frame)

@@ -1,4 +1,4 @@
-//! The tables that a root leads to.
+//! The tables below a root.
 ghost use Rattle.std.specs.Prelude.{◌≡◌, ◌==◌, ℕ, IfOk, IfErr};
 ghost use Rattle.std.specs.FinMap as finite;
 ghost use Rattle.x86_64_dump.specs.Dump.{words_of_dump};
@@ -19,7 +19,7 @@ use x86_64_page::frame::PhysFrame;
 use x86_64_page::page::Size4KiB;
 use x86_64_tables::phys_memory::PhysMemory;
 
-/// Holds the tables that a root leads to, as a dump has them.
+/// The page tables that a root leads to, as far as a dump has them.
 #[derive(Drop)]
 pub struct DumpTables {
     memory: PhysMemory,
@@ -27,29 +27,29 @@ pub struct DumpTables {
 }
 
 impl DumpTables {
-    /// Returns the memory that holds the tables, each at the place of its frame's number.
+    /// Returns the memory that holds the tables. Each table's place, its index in memory, is the number of its frame.
     pub fn memory(&self) -> &PhysMemory
         ensures { result.now ≡ self.now.memory }
     {
         &self.memory
     }
 
-    /// Returns the frames of the tables by level, level one first, those of a level in the order in which they are met.
-    /// A frame may stand at several levels.
+    /// Returns the frames of the tables by level, level one first. Those of a level are in the order in which they are found. A
+    /// frame may be at several levels.
     pub fn frames(&self) -> &[Vec<PhysFrame<Size4KiB>>]
         ensures { result.now ≡ self.now.frames.items }
     {
         &self.frames
     }
 
-    /// Returns how many tables there are.
+    /// Returns the number of tables.
     pub fn len(&self) -> usize
         ensures { result ≡ finite.len self.now.memory }
     {
         self.memory.len()
     }
 
-    /// Tells whether there are none, as if the dump lacks the root.
+    /// Returns true if there are no tables, as is the case if the dump lacks the root.
     pub fn is_empty(&self) -> bool
         ensures { result ≡ (finite.len self.now.memory == 0) }
     {
@@ -57,14 +57,14 @@ impl DumpTables {
     }
 }
 
-/// Reads the tables that a root leads to, those that the dump has, and tells `progress` of each.
+/// Reads the tables that a root leads to, as far as the dump has them, and reports each to `progress`.
 ///
-/// A walk from the root meets the words that the dump has, and so there are the same mappings. The memory holds each table
-/// once, whatever names it.
+/// A page walk from the root finds the words that the dump has, so the mappings are those of the dump. The memory holds each
+/// table once, however many entries name it.
 ///
 /// # Errors
 ///
-/// `DumpError::OutOfMemory` if memory is refused, `DumpError::Read` if the source can't be read.
+/// `DumpError::OutOfMemory` if memory allocation fails, `DumpError::Read` if the source can't be read.
 pub fn read_tables<L: LevelCount, S: ByteSource, G: Progress>(
     alloc: Global,
     dump: &Dump<S>,

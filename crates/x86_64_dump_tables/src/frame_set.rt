@@ -8,7 +8,7 @@ use std::marker::Model;
 use x86_64_page::frame::PhysFrame;
 use x86_64_page::page::Size4KiB;
 
-/// Holds frames, each once, in the order in which they came. It is seen as their list.
+/// A set of frames, in the order in which they were first inserted. Its model is their list.
 #[derive(Drop)]
 pub struct FrameSet {
     frames: Vec<PhysFrame<Size4KiB>>,
@@ -29,7 +29,7 @@ impl Model for FrameSet {
 }
 
 impl FrameSet {
-    /// Makes a set of no frames.
+    /// Creates an empty set.
     pub fn new(alloc: Global) -> FrameSet
         ensures { result ≡ [] }
     {
@@ -39,11 +39,11 @@ impl FrameSet {
         }
     }
 
-    /// Adds a frame, unless it is there.
+    /// Adds a frame, unless it is already in the set.
     ///
     /// # Errors
     ///
-    /// `AllocError` if memory is refused.
+    /// `AllocError` if memory allocation fails.
     pub fn insert(&mut self, frame: PhysFrame<Size4KiB>) -> Result<(), AllocError>
         ensures { OnOk result (self.new ≡ met self.old frame) }
     {

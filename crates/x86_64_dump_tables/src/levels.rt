@@ -13,7 +13,8 @@ use x86_64_page::frame::PhysFrame;
 use x86_64_page::page::Size4KiB;
 use x86_64_tables::page_table::PageTableEntry;
 
-/// Reads which frames' tables a root leads to, level one first, those of a level in the order in which they are met.
+/// Finds the tables that a root leads to, and returns their frames by level, level one first. Those of a level are in the order
+/// in which they are found.
 pub fn read_levels<S: ByteSource>(
     alloc: Global,
     dump: &Dump<S>,
@@ -53,7 +54,7 @@ fn root_level<S: ByteSource>(
     Ok(frames)
 }
 
-/// Reads which frames' tables those in some frames name, each once.
+/// Returns the frames of the tables that the tables in some frames name, each once.
 fn read_below<S: ByteSource>(
     alloc: Global,
     dump: &Dump<S>,
@@ -86,7 +87,7 @@ fn read_named<S: ByteSource>(
     Ok(())
 }
 
-/// Adds the frames of the tables that words name.
+/// Adds the frames of the tables that some words name.
 fn add_named<S: ByteSource>(
     dump: &Dump<S>,
     words: &[u64],

@@ -1,4 +1,4 @@
-//! Memories of the tables in frames.
+//! Memories that hold the tables in some frames.
 ghost use Rattle.std.specs.Prelude.{◌≡◌, ◌||◌, ℕ, true, Some, IsSome, IfOk, IfErr, IsOk, OnOk};
 ghost use Rattle.std.specs.List.Sorted.{IsStrictlyIncreasing};
 ghost use Rattle.x86_64_dump.specs.Dump.{words_of_dump};
@@ -19,7 +19,7 @@ use x86_64_page::frame::PhysFrame;
 use x86_64_page::page::{PageSize, Size4KiB};
 use x86_64_tables::phys_memory::{FramePlace, PhysMemory, PlacesRefusal};
 
-/// Reads the tables in frames, each into the place of its frame's number.
+/// Reads the tables in the frames. Each table's place, its index in memory, is the number of its frame.
 pub fn read_memory<S: ByteSource, G: Progress>(
     alloc: Global,
     dump: &Dump<S>,
@@ -41,7 +41,7 @@ pub fn read_memory<S: ByteSource, G: Progress>(
     Ok(memory)
 }
 
-/// Returns the numbers of frames, in order and each once.
+/// Returns the numbers of the frames, in order and each once.
 fn numbers_of(alloc: Global, frames: &[Vec<PhysFrame<Size4KiB>>]) -> Result<Vec<u64>, AllocError>
     ensures numbers { IfOk result (λ numbers. (frame : ℕ) → is_frame frame ≡ true →
         has_number numbers.items frame ≡ is_in (frames_of frames.now) frame) }
@@ -57,7 +57,7 @@ fn numbers_of(alloc: Global, frames: &[Vec<PhysFrame<Size4KiB>>]) -> Result<Vec<
     Ok(numbers)
 }
 
-/// Adds the numbers of frames.
+/// Adds the numbers of the frames.
 fn add_numbers(numbers: &mut Vec<u64>, frames: &[PhysFrame<Size4KiB>]) -> Result<(), AllocError>
     ensures numbers { OnOk result ((frame : ℕ) → is_frame frame ≡ true →
         has_number numbers.new.items frame
@@ -70,7 +70,7 @@ fn add_numbers(numbers: &mut Vec<u64>, frames: &[PhysFrame<Size4KiB>]) -> Result
     Ok(())
 }
 
-/// Makes a memory with places, where all words are 0.
+/// Creates a memory with these places, in which all words are 0.
 fn empty_memory(alloc: Global, places: &[u64]) -> Result<PhysMemory, AllocError>
     requires { IsStrictlyIncreasing places.now }
     ensures { IfOk result (λ memory. HoldsFor places.now (λ _. Some zero_words) memory) }
@@ -86,7 +86,7 @@ fn empty_memory(alloc: Global, places: &[u64]) -> Result<PhysMemory, AllocError>
 ///
 /// # Errors
 ///
-/// The error of the read, or one of the kind `UnexpectedEof` if the dump lacks the frame.
+/// The error of the read, or an error of the kind `UnexpectedEof` if the dump lacks the frame.
 fn read_words<S: ByteSource>(dump: &Dump<S>, frame: PhysFrame<Size4KiB>) -> io::Result<[u64; 512]>
     ensures words { S.IsKnown → IfOk result (λ words.
         Some words ≡ words_of_dump (opened S.bytes dump.now) frame) }

@@ -1,15 +1,15 @@
-//! Progress, as tables are read.
+//! Progress while tables are read.
 
-/// Hears how many tables there are so far, as they are read.
+/// An observer of the number of tables that have been read.
 pub trait Progress {
-    /// Is told of each table as it is read, with how many there are so far.
+    /// Called after each table is read, with the number of tables so far.
     fn tables(&mut self, count: usize);
 
-    /// Is told that no more tables are read.
+    /// Called when no more tables are read.
     fn end(&mut self);
 }
 
-/// Hears nothing.
+/// An observer that ignores all calls.
 #[derive(Clone, Copy, Debug)]
 pub struct NoProgress;
 

@@ -3,7 +3,7 @@ ghost use Rattle.std.specs.Prelude.{◌≡◌, length};
 
 use x86_64_tables::page_table::PageTable;
 
-/// Makes the table of 512 words.
+/// Creates the table with these 512 words.
 pub fn table_of(words: &[u64; 512]) -> PageTable
     ensures { result ≡ words.now }
 {

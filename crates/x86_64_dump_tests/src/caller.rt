@@ -1,4 +1,4 @@
-//! A caller that learns which words a dump in memory holds.
+//! A caller that learns the words in a dump of bytes in memory.
 ghost use Rattle.std.specs.Prelude.{◌≡◌, IfOk, Ok};
 ghost use Rattle.x86_64_dump.specs.Dump.{Contents, words_of_dump};
 ghost use Rattle.x86_64_dump.specs.Opening.{contents_of};

@@ -17,13 +17,13 @@ const PROCESSORS: [Processor; 2] = [
     },
 ];
 
-/// Where the headers of the file end: one of ELF, and three program headers.
+/// The end of the headers in the file: an ELF header and three program headers.
 const HEADERS: u64 = 64 + 3 * 56;
 
-/// Where the notes of the processors end.
+/// The ends of the processors' notes.
 const NOTES: [u64; 2] = [HEADERS + 460, HEADERS + 920];
 
-/// Where the frames end.
+/// The ends of the frames.
 const FRAMES: [u64; 2] = [NOTES[1] + 4096, NOTES[1] + 8192];
 
 #[test]
@@ -49,7 +49,7 @@ fn each_prefix_of_a_core_file_has_what_it_has(rt: HostRuntime) {
     }
 }
 
-/// Compares what so many bytes of the file hold.
+/// Checks the contents of a prefix of the file.
 fn check_prefix(rt: impl Abort + Copy, alloc: Global, bytes: &[u8]) {
     let length = bytes.len() as u64;
     let opened = Dump::open(alloc, bytes, None);
@@ -78,7 +78,7 @@ fn check_prefix(rt: impl Abort + Copy, alloc: Global, bytes: &[u8]) {
     check_processors(rt, alloc, &dump, length);
 }
 
-/// Compares the processors of so many bytes of the file.
+/// Checks the processors in a prefix of the file, of this length.
 fn check_processors(rt: impl Abort + Copy, alloc: Global, dump: &Dump<&[u8]>, length: u64) {
     let Ok(notes) = dump.processors(alloc) else {
         panic!(rt; "the notes weren't read");

@@ -1,13 +1,13 @@
-//! Reads files as dumps.
+//! Reading files as dumps.
 use std::process::Abort;
 use x86_64_addr::addr::PhysAddr;
 use x86_64_dump::{ByteSource, Dump, DumpError, Fault, Segment};
 use x86_64_page::frame::PhysFrame;
 
-/// Where the bytes behind the header of `CORE` and its program header begin.
+/// The offset of the bytes after the header of `CORE` and its program header.
 pub const BEHIND: u64 = 120;
 
-/// A segment of a frame behind the headers of `CORE`.
+/// A segment of one frame after the headers of `CORE`.
 pub const FRAME: Segment = Segment {
     kind: Segment::LOAD,
     offset: BEHIND,
@@ -15,7 +15,7 @@ pub const FRAME: Segment = Segment {
     size: 4096,
 };
 
-/// The fault for which a file isn't opened, or `None` if it is.
+/// Returns the fault for which a file isn't opened, or `None` if it is opened.
 pub fn fault_of<S: ByteSource>(
     rt: impl Abort + Copy,
     opened: &Result<Dump<S>, DumpError>,
@@ -27,7 +27,7 @@ pub fn fault_of<S: ByteSource>(
     }
 }
 
-/// The first and the last word of a frame, or `None` if the dump lacks it.
+/// Returns the first and the last word of a frame, or `None` if the dump lacks it.
 pub fn ends_of<S: ByteSource>(
     rt: impl Abort + Copy,
     dump: &Dump<S>,
@@ -40,7 +40,7 @@ pub fn ends_of<S: ByteSource>(
     }
 }
 
-/// What a register is, or why it isn't read.
+/// Returns the value of a register, or why it can't be read.
 pub fn register(rt: impl Abort + Copy, read: Result<u64, DumpError>) -> Result<u64, Fault> {
     match read {
         Ok(value) => Ok(value),

@@ -1,9 +1,9 @@
-//! Tests of program headers in which one field is another.
+//! Tests of program headers with one field changed.
 use crate::dumps::{FRAME, ends_of, fault_of};
 use x86_64_dump::{Dump, Segment};
 use x86_64_dump_builder::{CORE, push_core};
 
-/// A program header, and what is found.
+/// A program header, and the expected frames.
 struct Case {
     segment: Segment,
     is_short: bool,
@@ -11,13 +11,13 @@ struct Case {
     frames: [Option<(u64, u64)>; 2],
 }
 
-/// The frame behind the headers.
+/// The frame after the headers.
 const BEHIND: Option<(u64, u64)> = Some((7, 518));
 
-/// The frame that the file begins with.
+/// The frame at the start of the file.
 const START: Option<(u64, u64)> = Some((0x0001_0102_464c_457f, 503));
 
-/// Each field 0, all ones, and one more than fits.
+/// Each field as 0, as all ones, and as one more than fits.
 const CHANGED: [Case; 12] = [
     Case {
         segment: Segment { kind: 0, ..FRAME },

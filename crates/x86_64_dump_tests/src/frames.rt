@@ -1,9 +1,9 @@
-//! Tests of the frames that a dump has.
+//! Tests of the frames in a dump.
 use crate::dumps::{BEHIND, ends_of, fault_of};
 use x86_64_dump::{Dump, Segment};
 use x86_64_dump_builder::{CORE, Elf, push_core, push_words};
 
-/// A frame at 0x1000, behind the headers of `CORE` and one more program header.
+/// A frame at 0x1000, after the headers of `CORE` and one more program header.
 const FIRST: Segment = Segment {
     kind: Segment::LOAD,
     offset: BEHIND + 56,
@@ -11,16 +11,16 @@ const FIRST: Segment = Segment {
     size: 4096,
 };
 
-/// The frame behind it in the file.
+/// The frame after it in the file.
 const SECOND: Segment = Segment {
     offset: BEHIND + 56 + 4096,
     ..FIRST
 };
 
-/// Nothing of the file.
+/// An empty part of the file.
 const NOTHING: Segment = Segment { size: 0, ..FIRST };
 
-/// Two segments of a file with the words 0 to 2047 behind its headers; whether it is short; and frames of it.
+/// Two segments of a file with the words 0 to 2047 after its headers, whether it is short, and frames of it.
 struct Case {
     segments: [Segment; 2],
     is_short: bool,
@@ -28,7 +28,7 @@ struct Case {
 }
 
 const CASES: [Case; 9] = [
-    // The first segment that has the frame whole counts.
+    // The first segment that contains the whole frame counts.
     Case {
         segments: [FIRST, SECOND],
         is_short: false,
@@ -45,7 +45,7 @@ const CASES: [Case; 9] = [
         is_short: false,
         frames: [(0x1000, Some((512, 1023))), (0x0, None), (0x2000, None)],
     },
-    // No frame is put together of two segments.
+    // No frame is assembled from two segments.
     Case {
         segments: [
             Segment {
@@ -96,7 +96,7 @@ const CASES: [Case; 9] = [
             (0x5000, None),
         ],
     },
-    // A segment of no bytes may point anywhere.
+    // A segment of no bytes may have any offset.
     Case {
         segments: [
             Segment {
@@ -117,7 +117,7 @@ const CASES: [Case; 9] = [
             (0xf_ffff_ffff_f000, None),
         ],
     },
-    // Segments that go beyond all numbers.
+    // Segments that extend beyond all numbers.
     Case {
         segments: [
             Segment {
@@ -156,7 +156,7 @@ const CASES: [Case; 9] = [
             (0x0, None),
         ],
     },
-    // What is no segment of memory has no frame.
+    // A segment that isn't memory has no frames.
     Case {
         segments: [Segment { kind: 4, ..FIRST }, Segment { kind: 0, ..SECOND }],
         is_short: false,

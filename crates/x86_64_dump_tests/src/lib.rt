@@ -1,4 +1,4 @@
-//! Tests of `x86_64_dump`, from outside: small core files, whole, cut off and damaged.
+//! Tests of `x86_64_dump`, from outside: small core files, whole, truncated and damaged.
 #![tactic(auto)]
 
 #[cfg(test)]

@@ -7,7 +7,7 @@ use std::process::Abort;
 use x86_64_dump::{ByteSource, Dump, DumpError, Fault, Segment};
 use x86_64_dump_builder::{CORE, Elf, push_core, push_elf, push_note, push_segment, push_words};
 
-/// Adds a note with a name that is filled up, and a descriptor of words from `first` on.
+/// Adds a note with a padded name, and a descriptor of words from `first` on.
 fn push_words_note(
     bytes: &mut Vec<u8>,
     name: &[u8],
@@ -21,7 +21,7 @@ fn push_words_note(
     push_words(bytes, first, u64::from(words))
 }
 
-/// The notes of a file behind the headers of `CORE`.
+/// The notes of a file, after the headers of `CORE`.
 const NOTES: Segment = Segment {
     kind: Segment::NOTE,
     offset: BEHIND,
@@ -36,7 +36,7 @@ fn push_file(bytes: &mut Vec<u8>, size: u64) -> Result<(), AllocError> {
     push_notes(bytes)
 }
 
-/// Adds five notes, three of which are QEMU's.
+/// Adds five notes, three of them QEMU's.
 fn push_notes(bytes: &mut Vec<u8>) -> Result<(), AllocError> {
     push_words_note(bytes, b"CORE\0\0\0\0", 5, 900, 42)?;
     push_words_note(bytes, b"QEMU\0\0\0\0", 5, 100, 55)?;
@@ -126,7 +126,7 @@ fn notes_end_with_the_file(rt: HostRuntime) {
     }
 }
 
-/// Two segments of notes, behind two program headers, and how many processors there are.
+/// Two segments of notes, after two program headers, and the number of processors.
 const SEVERAL: [([Segment; 2], usize); 4] = [
     (
         [

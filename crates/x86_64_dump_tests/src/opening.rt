@@ -10,7 +10,7 @@ use x86_64_dump_builder::{CORE, Elf, push_core, push_words};
 /// The length of a file with the headers of `CORE` and one frame.
 const LENGTH: u64 = BEHIND + 4096;
 
-/// Headers in which one field is another, and why they are refused. If they aren't, the dump has no frame.
+/// Headers with one field changed, and why they are refused. If they aren't refused, the dump has no frame.
 const CHANGED: [(Elf, Option<Fault>); 23] = [
     (
         Elf { class: 0, ..CORE },
@@ -150,7 +150,7 @@ const CHANGED: [(Elf, Option<Fault>); 23] = [
             length: LENGTH,
         }),
     ),
-    // The file's own header as section header 0 says that there are none.
+    // The file's own header, read as section header 0, has a count of 0.
     (
         Elf {
             count: 65535,
@@ -183,7 +183,7 @@ fn the_count_of_headers_may_stand_in_section_0(rt: HostRuntime) {
         ..CORE
     };
     assert!(rt; push_core(&mut bytes, elf, &[FRAME], 7, 512).is_ok());
-    // Byte 44 of the section header is the least one of its `sh_info`.
+    // Byte 44 of the section header is the least byte of its `sh_info`.
     assert!(rt; push_words(&mut bytes, 0, 1).is_ok());
     assert!(rt; bytes.extend_from_slice(&[0; 36]).is_ok());
     assert!(rt; bytes.extend_from_slice(&[1, 0, 0, 0]).is_ok());
@@ -195,7 +195,7 @@ fn the_count_of_headers_may_stand_in_section_0(rt: HostRuntime) {
     }
 }
 
-/// Opens a file of a text, and compares why it isn't opened.
+/// Opens a file with this text, and checks why it isn't opened.
 fn check_text(
     rt: impl Abort + Copy,
     alloc: Global,
@@ -239,7 +239,7 @@ fn other_formats_are_known_by_their_start(rt: HostRuntime) {
 
 #[test]
 fn files_are_read_like_slices(rt: HostRuntime) {
-    // The program that runs the test is an ELF file, and no core file.
+    // The program that runs the test is an ELF file, but not a core file.
     let Ok(mut file) = File::open(&rt, "/proc/self/exe") else {
         panic!(rt; "the program's file isn't there");
     };

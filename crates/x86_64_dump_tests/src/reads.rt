@@ -6,7 +6,7 @@ use x86_64_dump::{ByteSource, Dump, DumpError};
 use x86_64_dump_builder::{Memory, Processor, push_core_file};
 use x86_64_page::frame::PhysFrame;
 
-/// A file of which only so many bytes, the first ones, can be read.
+/// A file of which only the first bytes can be read.
 #[derive(Drop)]
 struct BrokenSource<'a> {
     bytes: &'a [u8],
@@ -36,21 +36,21 @@ impl<'a> ByteSource for BrokenSource<'a> {
     }
 }
 
-/// Says what comes of a call.
+/// The outcome of a call.
 #[derive(Clone, Copy, Debug, PartialEq)]
 enum Outcome {
-    /// It isn't made, since one before it failed.
+    /// It isn't made, since a call before it failed.
     NotMade,
     /// A read failed.
     Failed,
-    /// It is done.
+    /// It succeeded.
     Done,
-    /// Something else.
+    /// Anything else.
     Other,
 }
 
 impl Outcome {
-    /// What came of a call.
+    /// Returns the outcome of a call.
     fn of<T>(call: &Result<T, DumpError>) -> Outcome {
         match call {
             Ok(_) => Outcome::Done,
@@ -60,7 +60,7 @@ impl Outcome {
     }
 }
 
-/// What comes of an opening, and then of a frame, the notes, CR3 and CR4.
+/// Returns the outcomes of opening a file, and of reading a frame, the notes, CR3 and CR4.
 fn outcomes(alloc: Global, source: BrokenSource<'_>) -> [Outcome; 5] {
     let mut outcomes = [Outcome::NotMade; 5];
     let opened = Dump::open(alloc, source, None);
@@ -83,10 +83,10 @@ fn outcomes(alloc: Global, source: BrokenSource<'_>) -> [Outcome; 5] {
     outcomes
 }
 
-/// Where the headers end: one of ELF, and 82 program headers, which are read in two pieces.
+/// The end of the headers: an ELF header and 82 program headers, which are read in two pieces.
 const HEADERS: u64 = 64 + 82 * 56;
 
-/// What comes of the calls if so many bytes can be read.
+/// Returns the expected outcomes if this number of bytes can be read.
 fn wanted(readable: u64) -> [Outcome; 5] {
     let until = |needed: u64| {
         if readable < needed {

@@ -1,4 +1,4 @@
-//! Tests in which memory is refused. They fill the address space.
+//! Tests in which memory allocation fails. They fill the address space.
 use crate::dumps::fault_of;
 use std::alloc::Global;
 use std::process::Abort;
@@ -6,10 +6,10 @@ use x86_64_dump::{Dump, DumpError};
 use x86_64_dump_builder::{Memory, Processor, push_core_file};
 use x86_64_hoard::Hoard;
 
-/// Blocks that have room: none, or the first growth of a list of five segments, or of five notes, which grows twice.
+/// Blocks that have room: none, or the first growth of a list of five segments or of five notes, which grows twice.
 const ROOMS: [&[usize]; 2] = [&[], &[4 * 32]];
 
-/// Takes all memory but room for blocks.
+/// Takes all memory except for room for blocks.
 fn hoard_past(rt: impl Abort + Copy, alloc: Global, room: &[usize]) -> Hoard {
     match Hoard::past(alloc, room) {
         Ok(hoard) => hoard,
@@ -17,7 +17,7 @@ fn hoard_past(rt: impl Abort + Copy, alloc: Global, room: &[usize]) -> Hoard {
     }
 }
 
-/// Tells whether memory was refused.
+/// Returns true if memory allocation failed.
 fn is_refused<T: Drop>(call: Result<T, DumpError>) -> bool {
     matches!(call, Err(DumpError::OutOfMemory))
 }

@@ -1,4 +1,4 @@
-//! Tests of what errors print.
+//! Tests of the texts of errors.
 use x86_64_dump::{DumpError, Fault};
 
 /// Faults and their texts.

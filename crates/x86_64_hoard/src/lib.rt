@@ -1,25 +1,26 @@
-//! All memory that there is, for tests in which memory is refused.
+//! A hoard of all available memory, for tests in which memory allocation fails.
 #![tactic(auto)]
 
 use std::alloc::{AllocError, Global};
 
-/// How many blocks are taken at most.
+/// The maximum number of blocks that are taken.
 const BLOCK_COUNT: usize = 100_000;
 
-/// Holds all memory but room for some blocks, until it is dropped.
+/// A holder of all memory except room for some blocks. Returns the memory when dropped.
 #[derive(Drop)]
 pub struct Hoard {
     blocks: Vec<Vec<u8>>,
-    // The list of the blocks that were given back. Were it dropped, there would be room for as much.
+    // The list of the blocks that were given back. It is kept, since its drop would leave room for as many bytes.
     spared: Vec<Vec<u8>>,
 }
 
 impl Hoard {
-    /// Takes all memory that there is, but for room for blocks of these sizes, given in the order in which they are asked for.
+    /// Takes all available memory, except room for blocks of these sizes. The sizes are in the order in which the
+    /// blocks will be requested.
     ///
     /// # Errors
     ///
-    /// Where there is no room for these blocks, or to keep the others.
+    /// `AllocError` if there is no room for these blocks, or for the list of the others.
     pub fn past(alloc: Global, room: &[usize]) -> Result<Hoard, AllocError> {
         let mut spared: Vec<Vec<u8>> = Vec::new(alloc);
         for size in room {
@@ -31,8 +32,8 @@ impl Hoard {
     }
 }
 
-/// Takes all memory, in blocks of falling size. Small ones are of each size, since an allocator may keep what was given back for
-/// blocks of the same size.
+/// Takes all memory, in blocks of decreasing size. The small sizes are all tried, since an allocator may keep freed
+/// blocks for requests of equal size.
 fn take_all(alloc: Global) -> Result<Vec<Vec<u8>>, AllocError> {
     let mut blocks = Vec::with_capacity(alloc, BLOCK_COUNT)?;
     let mut size = 1 << 46;
@@ -46,7 +47,7 @@ fn take_all(alloc: Global) -> Result<Vec<Vec<u8>>, AllocError> {
     Ok(blocks)
 }
 
-/// Takes blocks of a size while there are such, and there is room to keep them.
+/// Takes blocks of a size as long as there are any, and there is room in the list.
 fn take_blocks(alloc: Global, size: usize, blocks: &mut Vec<Vec<u8>>) {
     for _ in 0..20_000 {
         if blocks.len() == blocks.capacity() {

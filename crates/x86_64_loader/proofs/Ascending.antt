@@ -1,4 +1,4 @@
--- Pages that lie one behind the other, and those of a segment.
+-- Pages in ascending order, and those of a segment.
 use Rattle.std.proofs.Common.{zero, suc, ◌≡◌, ◌<◌, ◌≤◌, ◌+◌, ◌-◌, ◌*◌, ◌/◌, ◌%◌, ◌^◌, ◌++◌, ◌==◌, nat_lt, ℕ, Bool, true, false, cond, List, [], ◌∷◌, map, refl, sym, ap, ◌∙◌, subst, subst₂, arith}
 use Rattle.std.proofs.Math.Nat.{add-mul-mod_self_right}
 use Rattle.std.proofs.lemmas.Bool.{ltb-true}
@@ -52,7 +52,7 @@ up_to : (low high : ℕ) (xs : List PageMapping) → Ascends low high xs → low
 up_to low high [] up = up
 up_to low high (x ∷ xs) up = let from = up.0 in let to = up_to (x.page + span x.level) high xs up.1 in omega (arith, from, to)
 
--- they lie between these positions
+-- the pages lie between these positions
 pub ascending_within : (low high : ℕ) (xs : List PageMapping) → Ascends low high xs → AllByRecursion (λ x. (low ≤ x.page) × (x.page + span x.level ≤ high)) xs
 ascending_within low high [] up = tt
 ascending_within low high (x ∷ xs) up = (
@@ -61,7 +61,7 @@ ascending_within low high (x ∷ xs) up = (
       (λ y within. let from = within.0 in let start = up.0 in (omega (arith, from, start), within.1)) xs (ascending_within (x.page + span x.level) high xs up.1),
 )
 
--- and apart from each other
+-- the pages lie apart from each other
 pub ascending_apart : (low high : ℕ) (xs : List PageMapping) → Ascends low high xs → EachApart xs
 ascending_apart low high [] up = tt
 ascending_apart low high (x ∷ xs) up = (
@@ -72,7 +72,7 @@ ascending_apart low high (x ∷ xs) up = (
 
 -- ---- the pages of a segment
 
--- what each of them is
+-- properties of each page of a segment
 pub record IsPageOf {Lent : Type 0} (h : Hierarchy Lent) (s : Segment) (x : PageMapping) : Type 0 where
   pub low : 1 ≤ x.level
   pub high : x.level ≤ 2
@@ -81,7 +81,7 @@ pub record IsPageOf {Lent : Type 0} (h : Hierarchy Lent) (s : Segment) (x : Page
   pub given : x.flags ≡ bits_of s.flags
   pub allowed : allows h (MapTo (path_of h x.level x.page) x.frame x.flags) ≡ true
 
--- where the first page of 2MiB starts, page and frame start at a multiple of its size
+-- at the first page of 2MiB, page and frame start at a multiple of 2MiB
 large_aligned : (s : Segment) → s.page % 0x1000 ≡ 0 → 0 < count_large s → (s.page + count_before s * 0x1000) % 0x20_0000 ≡ 0
 large_aligned s aligned some = by (s.frame / 0x1000 % 512 == s.page / 0x1000 % 512) refl
   where
@@ -149,7 +149,7 @@ module _ {Lent : Type 0} (h : Hierarchy Lent) (some : 3 < h.layout.levels) (s : 
         allowed = may.allowed;
       })
 
-  -- each page is one that may be mapped
+  -- each page may be mapped
   pub segment_pages : (way : Sizes) → AllByRecursion (IsPageOf h s) (pages_by way s)
   segment_pages sizes.Small = part_pages 1 0 s.pages (omega arith) (omega arith) (λ more. omega (arith, aligned)) (omega arith)
   segment_pages sizes.Large =

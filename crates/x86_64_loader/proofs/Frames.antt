@@ -1,4 +1,4 @@
--- The tables on the ways to the pages of segments, and how many there are at most.
+-- The tables on the paths to the pages of segments, and the number of these.
 use Rattle.std.proofs.Common.{zero, suc, ◌≡◌, ◌<◌, ◌≤◌, ◌+◌, ◌-◌, ◌*◌, ◌/◌, ◌%◌, ◌++◌, ◌==◌, ℕ, Bool, true, false, cond, List, [], length, map, take, flat_map, refl, sym, ap, ◌∙◌, subst, arith, eqb-true, pow_pos}
 use Rattle.std.proofs.Math.Nat.{div-add-mod, div-mul-le_self, mod-lt, mul_comm}
 use Rattle.std.proofs.lemmas.Nat.{le-div}
@@ -14,15 +14,15 @@ use Rattle.x86_64_model.proofs.Lemmas.Paths.Pages.{front_in_page, length_taken}
 use Rattle.x86_64_loader.specs.Segments.{entries_of, frames_for, tables_of}
 use Rattle.x86_64_loader.specs.declared.segment.Segment.{Segment}
 
--- the paths of the entries of a level on the ways to a segment's pages
+-- the paths of the entries of a level on the paths to a segment's pages
 abbrev tables_at : (level : ℕ) → Segment → List (List ℕ)
 tables_at level s = map (λ j. path_at 4 level ((s.page / span level + j) * span level)) (range_with_len 0 (entries_of s level))
 
--- of all levels above level one
+-- those of all levels above level one
 abbrev pub tables_in : Segment → List (List ℕ)
 tables_in s = cond (s.pages == 0) [] (tables_at 4 s ++ (tables_at 3 s ++ tables_at 2 s))
 
--- as many as are counted
+-- their number is the one counted
 pub tables_counted : (segments : List Segment) → length (flat_map tables_in segments) ≡ frames_for segments
 tables_counted segments = length-flat_map tables_in segments ∙ (λ i. sum_by (λ s. counted s i) segments)
   where

@@ -1,4 +1,4 @@
--- Positions that are held: by pages that a run made, through later maps, and what the processor does there.
+-- Held positions: they come from runs of maps, stay through later maps, and page walks arrive at their addresses.
 use Rattle.std.proofs.Common.{◌≡◌, ◌<◌, ◌≤◌, ◌+◌, ◌-◌, ◌*◌, ◌/◌, ◌%◌, ℕ, false, List, Some, refl, sym, ap, ◌∙◌, subst, arith, pow_pos}
 use Rattle.std.proofs.Math.Nat.{add-mul-mod_self_right, div-lt_iff_lt-mul, div-mul-le_self, lt-div-mul-add}
 use Rattle.x86_64_model.specs.Arrivals.{NoWorse}
@@ -20,7 +20,7 @@ use Rattle.x86_64_loader.specs.Segments.{ReachesAt}
 use Rattle.x86_64_loader.specs.declared.segment.Segment.{Segment}
 use Rattle.x86_64_loader.proofs.Runs.{no_worse_then}
 
--- ---- what a run holds
+-- ---- the positions of a run
 
 -- position o of a run lies in page o / size
 module _ {Lent : Type 0} (h : Hierarchy Lent) (level size page frame given count : ℕ) (spans : size ≡ span level) (multiple : page % size ≡ 0) (stand : RunStands h level size page frame given count)
@@ -52,10 +52,10 @@ run_outside h after level size page frame given k may layout =
     subst (λ (l : Layout). begins_with l.window (path_at l.levels level (page + k * size)) ≡ false) (sym layout)
     (map_may h.layout.levels h.layout.window (paths h) (path_of h level (page + k * size)) given (parent_part given) may.allowed).outside
 
--- ---- what is held
+-- ---- a held position
 
 module _ {Lent : Type 0} (h : Hierarchy Lent) (p to given : ℕ) (held : IsHeld h p to given) where
-  -- is mapped to where the processor arrives
+  -- is mapped to the address at which the page walk arrives
   pub held_arrives : Valid h → walk h p ≡ Some (record { address = to; write = writable given; user = user given })
   held_arrives valid =
       let start = held.from_start in let end = held.before_end in let lands = held.lands in
@@ -65,7 +65,7 @@ module _ {Lent : Type 0} (h : Hierarchy Lent) (p to given : ℕ) (held : IsHeld 
       ∙ arrives_where_stands h held.level held.page held.frame given valid held.outside held.aligned held.stands (p - held.page) (omega (arith, start, end))
       ∙ ap (λ a. Some (record { address = a; write = writable given; user = user given })) there
 
-  -- stays so through later maps
+  -- is still held after later maps
   pub held_still : {supply : List ℕ} (after : Hierarchy Lent) (rest : List ℕ) → Leaves 3 h supply after rest → IsHeld after p to given
   held_still after rest left = record {
     level = held.level;
@@ -79,15 +79,15 @@ module _ {Lent : Type 0} (h : Hierarchy Lent) (p to given : ℕ) (held : IsHeld 
     lands = held.lands;
   }
 
-  -- and isn't free
+  -- isn't free
   pub held_not_free : (start size : ℕ) → IsFree h start size → start ≤ p → p < start + size → ⊥
   held_not_free start size free from to = free held.level held.page held.frame given held.aligned held.stands p from to held.from_start held.before_end
 
-  -- and is reached
+  -- is reached
   pub held_reached : Valid h → (walked : Walked) × (walk h p ≡ Some walked) × NoWorse (record { address = to; write = writable given; user = user given }) walked
   held_reached valid = (record { address = to; write = writable given; user = user given }, held_arrives valid, record { same_place = refl; write_kept = λ a. a; user_kept = λ a. a })
 
--- where the processor arrived as it should, it is still so after maps
+-- a page walk that arrived as it should still does after maps
 pub reached_after : {Lent : Type 0} {supply : List ℕ} (h after : Hierarchy Lent) (rest : List ℕ) (s : Segment) (o : ℕ) → Kept h supply after rest → ReachesAt h s o → ReachesAt after s o
 reached_after h after rest s o kept before =
     let now = kept.walks (s.page + o) before.0 before.1 in (now.0, now.1, no_worse_then _ before.0 now.0 before.2 now.2)

@@ -1,4 +1,4 @@
--- Pages as lists: runs of them, cut at one, and what holds of each.
+-- Lists of pages: runs, cut at a page, and properties of each page.
 use Rattle.std.proofs.Common.{zero, suc, ◌≡◌, ◌<◌, ◌+◌, ◌*◌, ◌++◌, ℕ, List, [], ◌∷◌, map, length, drop, sym, ap, ◌∙◌, subst, append_assoc, arith}
 use Rattle.std.proofs.Math.Seq.{drop-cons}
 use Rattle.std.proofs.lemmas.List.{take-append-drop}
@@ -26,7 +26,7 @@ module _ (level page frame given : ℕ) where
   pub run_more : (k : ℕ) → run_of level page frame given (k + 1) ≡ run_of level page frame given k ++ nth k ∷ []
   run_more k = map-range_with_len_more nth 0 k k (omega arith)
 
-  -- a run is what comes before one of its pages, the page and the rest
+  -- a run is the pages before one of its pages, that page and the rest
   pub run_cut : (k count : ℕ) → k < count → run_of level page frame given count ≡ run_of level page frame given k ++ nth k ∷ drop (suc k) (run_of level page frame given count)
   run_cut k count below =
       let whole = run_of level page frame given count in
@@ -36,7 +36,7 @@ module _ (level page frame given : ℕ) where
       ∙ ap (λ xs. run_of level page frame given k ++ xs)
       (drop-cons whole k (nth 0) (omega (arith, long, below)) ∙ ap (λ x. x ∷ drop (suc k) whole) (get_or-map-range_with_len nth 0 count k k (nth 0) below (omega arith)))
 
--- a list that is cut at an element, with others before or behind it
+-- a list that is cut at an element, with other elements before or behind it
 pub cut_before : (xs ys before left : List PageMapping) (next : PageMapping) → ys ≡ before ++ next ∷ left → xs ++ ys ≡ (xs ++ before) ++ next ∷ left
 cut_before xs ys before left next cut = ap (λ ys. xs ++ ys) cut ∙ sym (append_assoc xs before (next ∷ left))
 

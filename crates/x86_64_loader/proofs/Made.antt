@@ -1,4 +1,4 @@
--- Lists of maps, one after the other.
+-- Lists of maps, one after another.
 use Rattle.std.proofs.Common.{◌≡◌, ◌<◌, ◌≤◌, ◌++◌, ℕ, Bool, true, cond, List, [], ◌∷◌, map, Result, refl, sym, ap, ap₂, ◌∙◌, subst, subst₂, append_assoc}
 use Rattle.std.proofs.lemmas.List.{map-append}
 use Rattle.std.specs.Result.{IfOk}
@@ -24,14 +24,14 @@ use Rattle.x86_64.proofs.PageSteps.{Serves, Start, map_to_served}
 use Rattle.x86_64_loader.specs.Maps.{Accepts, Kept, Made, Refuses}
 use Rattle.x86_64_loader.specs.Segments.{mapping_of}
 
--- ---- what the machine makes of them
+-- ---- the machine's steps for them
 
--- of none
+-- for no map
 pub accepts_none : {Lent : Type 0} (h : Hierarchy Lent) (supply : List ℕ) → Accepts h supply [] h supply
 accepts_none h supply = record { replies = λ take_back. refl; state = λ take_back. refl }
 
 module _ {Lent : Type 0} (h now after : Hierarchy Lent) (supply between rest : List ℕ) (xs ys : List PageMapping) (same : now.layout ≡ h.layout) where
-  -- of some and then others
+  -- for some maps and then others
   pub made_then : (answers others : List Reply) → Made h supply xs answers now between → Made now between ys others after rest → Made h supply (xs ++ ys) (answers ++ others) after rest
   made_then answers others one two = record {
     replies = λ take_back.
@@ -51,7 +51,7 @@ module _ {Lent : Type 0} (h now after : Hierarchy Lent) (supply between rest : L
   pub accepts_then : Accepts h supply xs now between → Accepts now between ys after rest → Accepts h supply (xs ++ ys) after rest
   accepts_then one two = subst (λ rs. Made h supply (xs ++ ys) rs after rest) (sym (map-append accepted xs ys)) (made_then (map accepted xs) (map accepted ys) one two)
 
--- of some that were accepted, and others of which the last was refused
+-- for accepted maps, followed by others of which the last was refused
 pub refuses_then : {Lent : Type 0} (h now after : Hierarchy Lent) (supply between rest : List ℕ) (xs ys : List PageMapping) → now.layout ≡ h.layout → (next : PageMapping) (why : Refusal)
     → Accepts h supply xs now between → Refuses now between ys next why after rest → Refuses h supply (xs ++ ys) next why after rest
 refuses_then h now after supply between rest xs ys same next why one two =
@@ -60,7 +60,7 @@ refuses_then h now after supply between rest xs ys same next why one two =
     (sym (append_assoc (map accepted xs) (map accepted ys) refused) ∙ ap (λ rs. rs ++ refused) (sym (map-append accepted xs ys)))
     (made_then h now after supply between rest xs (ys ++ next ∷ []) same (map accepted xs) (map accepted ys ++ refused) one two)
 
--- of one
+-- for one map
 pub made_one : {Lent : Type 0} (h : Hierarchy Lent) (supply : List ℕ) (level page frame given : ℕ) (answer : Answer) (after : Hierarchy Lent) (rest : List ℕ)
     → MayMap h supply (MapTo (path_of h level page) frame given) → DoesMap h supply (MapTo (path_of h level page) frame given) answer after rest
     → Made h supply (mapping_of level page frame given ∷ []) (Answered answer ∷ []) after rest
@@ -80,7 +80,7 @@ made_one h supply level page frame given answer after rest may does = record {
 pub gives_first : TakesBack put_first
 gives_first = record { same_frames = λ held f g. (λ i. i, λ i. i); each_once = λ held f once. once }
 
--- none
+-- no map
 pub kept_none : {Lent : Type 0} (h : Hierarchy Lent) (supply : List ℕ) → PoolFits h (λ f. true) supply → Kept h supply h supply
 kept_none h supply fits = record {
   fits = fits;
@@ -91,7 +91,7 @@ kept_none h supply fits = record {
   lent = refl;
 }
 
--- one
+-- one map
 pub kept_one : {Lent : Type 0} {S : Type 0} (h after : Hierarchy Lent) (supply rest : List ℕ) (level page frame given : ℕ) → 1 ≤ level → level ≤ 3 → 3 < h.layout.levels
     → IsParentFlags h.layout.added_flags → IsMapping h.layout.places → (result : Result ℕ (MapToError S)) → IfOk result (λ flush. flush ≡ page)
     → MayMap h supply (MapTo (path_of h level page) frame given) → DoesMap h supply (MapTo (path_of h level page) frame given) (map_answer frame result) after rest → Kept h supply after rest

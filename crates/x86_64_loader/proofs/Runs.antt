@@ -22,7 +22,7 @@ use Rattle.x86_64_loader.specs.Maps.{Kept}
 use Rattle.x86_64_loader.specs.Pages.{IsFree, Leaves, MayBeMapped, RunStands}
 use Rattle.x86_64_loader.specs.Segments.{AllStand}
 
--- what holds up to a number and of it
+-- what holds below a number and for that number
 pub one_more : (P : ℕ → Type 0) (k : ℕ) → ((j : ℕ) → j < k → P j) → P k → (j : ℕ) → j < k + 1 → P j
 one_more P k before this j within = elim (cases_lt j k) [
   | inl lower ↦ before j lower
@@ -36,7 +36,7 @@ no_worse_then w v x one two = record {
   user_kept = λ a. two.user_kept (one.user_kept a);
 }
 
--- maps after maps
+-- maps after other maps
 pub kept_then : {Lent : Type 0} {supply : List ℕ} (h now after : Hierarchy Lent) (between rest : List ℕ) → Kept h supply now between → Kept now between after rest → Kept h supply after rest
 kept_then {supply = supply} h now after between rest one two = record {
   fits = two.fits;
@@ -70,7 +70,7 @@ may_now h now rest level size page frame given k is_present left may = record {
 pub one_more_page : (k size : ℕ) → (k + 1) * size ≡ k * size + size
 one_more_page k size = add-mul k 1 size ∙ ap (λ n. k * size + n) (one-mul size)
 
--- positions that were free, and then others
+-- positions that were free, followed by others
 pub free_then : {Lent : Type 0} {supply : List ℕ} (h now : Hierarchy Lent) (between : List ℕ) (a m b n start size : ℕ) → a ≤ start → b ≤ a + m → start + size ≤ b + n
     → IsFree h a m → Leaves 3 h supply now between → IsFree now b n → IsFree h start size
 free_then h now between a m b n start size from meet to free left this l q f g multiple stands p starts ends its_from its_to = elim (cases_lt p (a + m)) [
@@ -88,7 +88,7 @@ module _ {Lent : Type 0} (h now after : Hierarchy Lent) (rest : List ℕ) (level
   one_more_free between free left this = let more = one_more_page k size in
       free_then h now between page (k * size) (page + k * size) size page ((k + 1) * size) (omega arith) (omega arith) (omega (arith, more)) free left this
 
--- pages that stand do so after maps
+-- pages that stand still do after maps
 pub still_stand : {Lent : Type 0} (h after : Hierarchy Lent) (supply rest : List ℕ) → Leaves 3 h supply after rest → (pages : List PageMapping) → AllStand h pages → AllStand after pages
 still_stand h after supply rest left pages =
     all_mapped (λ x. Stands h x.level x.page x.frame x.flags) (λ x. Stands after x.level x.page x.frame x.flags) (λ x stands. left.pages x.level x.page x.frame x.flags stands.asks.high stands) pages

@@ -1,4 +1,4 @@
--- Loads of segments, one after the other.
+-- Loads of segments, one after another.
 use Rattle.std.proofs.Common.{◌≡◌, ◌<◌, ◌+◌, ◌-◌, ◌*◌, ◌/◌, ◌%◌, ◌^◌, ◌++◌, ℕ, List, [], ◌∷◌, length, take, flat_map, get_or, inl, inr, refl, sym, ap, ◌∙◌, subst, arith}
 use Rattle.std.proofs.lemmas.Bool.{cases_lt}
 use Rattle.std.proofs.lemmas.Grind.{flat_map-append}
@@ -31,11 +31,11 @@ still_allowed h now rest s left allowed = record {
   };
 }
 
--- where pages start at multiples of their size, each position of a segment whose pages are there is
+-- if pages start at multiples of their size, each position of a segment whose pages exist does too
 position_there : (s : Segment) → s.page % 0x1000 ≡ 0 → ((k : ℕ) → k < s.pages → s.page + k * 0x1000 < 2 ^ 48) → (offset : ℕ) → offset < size_of s → s.page + offset < 2 ^ 48
 position_there s aligned pages offset within = let page = pages (offset / 0x1000) (omega (arith, within)) in omega (arith, page, aligned)
 
--- what is held is loaded
+-- a segment that is held is loaded
 pub held_is_loaded : {Lent : Type 0} (pages_of : Segment → List PageMapping) (h first : Hierarchy Lent) (s : Segment) → Valid h → s.page % 0x1000 ≡ 0 → IsAllowed first s → AllStand h (pages_of s) → HoldsSegment h s → IsLoaded pages_of h s
 held_is_loaded pages_of h first s valid aligned allowed stand held = record {
   aligned = aligned;
@@ -45,11 +45,11 @@ held_is_loaded pages_of h first s valid aligned allowed stand held = record {
 }
 
 module _ (segments : List Segment) (i : ℕ) (s : Segment) (here : i < length segments) (item : s ≡ get_or segments i s) where
-  -- the element, whatever stands for one that is missing
+  -- the element, whatever the default for a missing one
   is_at : (d : Segment) → get_or segments i d ≡ s
   is_at d = get_or_from_slice_get segments i s d (slice_get_read segments (length segments) i s refl here item)
 
-  -- what holds of the elements before and of it
+  -- what holds for the elements before and for this one
   pub next_too : (P : Segment → Type 0) → ((j : ℕ) (d : Segment) → j < i → P (get_or segments j d)) → P s → (j : ℕ) (d : Segment) → j < i + 1 → P (get_or segments j d)
   next_too P before this j d = one_more (λ j. P (get_or segments j d)) i (λ j. before j d) (subst P (sym (is_at d)) this) j
 
@@ -97,7 +97,7 @@ module _ (segments : List Segment) (i : ℕ) (s : Segment) (here : i < length se
       },
     )
 
-  -- the pages of the segments up to and with it
+  -- the pages of the segments up to and including this one
   pub pages_next : (pages_of : Segment → List PageMapping) → flat_map pages_of (take (i + 1) segments) ≡ flat_map pages_of (take i segments) ++ pages_of s
   pages_next pages_of =
       ap (flat_map pages_of) (take_more segments i s here ∙ ap (λ t. take i segments ++ t ∷ []) (is_at s))

@@ -1,4 +1,4 @@
--- Parts of a segment, one after the other.
+-- Parts of a segment, one after another.
 use Rattle.std.proofs.Common.{◌≡◌, ◌≤◌, ◌+◌, ◌++◌, ℕ, List, inl, inr, subst, arith}
 use Rattle.std.proofs.lemmas.Bool.{cases_lt}
 use Rattle.x86_64_model.specs.Mapper.{Hierarchy, Stands}
@@ -16,7 +16,7 @@ pub halted_as : {Lent : Type 0} (h after : Hierarchy Lent) (supply rest : List �
     → pages ≡ others → IsHalted h supply s pages low mapped why after rest → IsHalted h supply s others low mapped why after rest
 halted_as h after supply rest s pages others low mapped why same = subst (λ pages. IsHalted h supply s pages low mapped why after rest) same
 
--- a load of pages that was halted is one of more pages behind them
+-- a load of pages that was refused is also one of more pages after them
 pub halted_behind : {Lent : Type 0} (h after : Hierarchy Lent) (supply rest : List ℕ) (s : Segment) (pages more : List PageMapping) (low mapped : ℕ) (why : Refusal)
     → IsHalted h supply s pages low mapped why after rest → IsHalted h supply s (pages ++ more) low mapped why after rest
 halted_behind h after supply rest s pages more low mapped why halted = record {
@@ -34,7 +34,7 @@ halted_behind h after supply rest s pages more low mapped why halted = record {
 
 module _ {Lent : Type 0} (h now after : Hierarchy Lent) (supply between rest : List ℕ) (s : Segment) (pages others : List PageMapping) (first size next low : ℕ) (meet : next ≤ first + size) (from : first ≤ low)
     (one : IsMapped h supply s pages first size now between) where
-  -- what was mapped, and what is mapped after it
+  -- pages that were mapped, followed by others that are
   pub mapped_then : (more total : ℕ) → low + total ≤ next + more → IsMapped now between s others next more after rest → IsMapped h supply s (pages ++ others) low total after rest
   mapped_then more total to two = record {
     held = λ o starts ends. elim (cases_lt o (first + size)) [
@@ -48,7 +48,7 @@ module _ {Lent : Type 0} (h now after : Hierarchy Lent) (supply between rest : L
     accepted = accepts_then h now after supply between rest pages others one.leaves.kept.layout one.accepted two.accepted;
   }
 
-  -- what was mapped, where the load was refused after it
+  -- pages that were mapped, followed by others that were refused
   pub halted_then : (mapped : ℕ) (why : Refusal) → low ≤ next → IsHalted now between s others next mapped why after rest → IsHalted h supply s (pages ++ others) low mapped why after rest
   halted_then mapped why after_low halted = record {
     above = let above = halted.above in omega (arith, above, after_low);

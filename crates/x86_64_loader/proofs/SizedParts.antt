@@ -1,4 +1,4 @@
--- Parts of a segment, mapped by pages of one size.
+-- Parts of a segment, mapped with pages of one size.
 use Rattle.std.proofs.Common.{zero, suc, ◌≡◌, ◌<◌, ◌≤◌, ◌+◌, ◌-◌, ◌*◌, ◌/◌, ◌%◌, ◌^◌, ℕ, ◌||◌, not, Bool, true, false, List, [], ◌∷◌, drop, take, Option, Some, None, refl, sym, ap, ◌∙◌, subst, subst₂, arith, eq-eqb, pow_pos}
 use Rattle.std.proofs.Math.Nat.{mul_assoc, mul-le-mul_right}
 use Rattle.std.proofs.lemmas.Bool.{and_from, and_parts}
@@ -25,7 +25,7 @@ use Rattle.x86_64_model.proofs.Lemmas.Machines.PageMappings.{will_be_present}
 use Rattle.x86_64_loader.proofs.Listed.{all_in_run, run_cut}
 use Rattle.x86_64_loader.proofs.Runs.{one_more_page}
 
--- ---- where a page of 4KiB may be mapped, a larger one may be
+-- ---- if a page of 4KiB may be mapped, a larger one may be
 
 outside_alike : (window : Option Window) (k j : ℕ) (t : List ℕ) → 1 ≤ k → 1 ≤ j → begins_with window (take k t) ≡ false → begins_with window (take j t) ≡ false
 outside_alike window zero j t low low' h = absurd (omega (arith, low))
@@ -45,7 +45,7 @@ or_is : (b c : Bool) → b ≡ false → (b || c) ≡ true → c ≡ true
 or_is true c h e = cc
 or_is false c h e = e
 
--- with PRESENT, where a page of 4KiB may be mapped, one of any size outside the window may be
+-- with PRESENT, if a page of 4KiB may be mapped, one of any size outside the window may be
 pub elsewhere_allowed : (L : ℕ) (window : Option Window) (M : PathMap) (p given : ℕ) (q : List ℕ) → present given ≡ true
     → map_allowed L window M (path_at L 1 p) given (parent_part given) ≡ true → begins_with window q ≡ false → map_allowed L window M q given (parent_part given) ≡ true
 elsewhere_allowed L window M p given q is_present allowed outside =
@@ -61,7 +61,7 @@ larger_allowed L window M level p given low high is_present allowed =
 
 -- ---- the pages of a part
 
--- pages of 4KiB in one of a level
+-- the number of 4KiB pages in a page of a level
 small_pages : (level : ℕ) → 1 ≤ level → level ≤ 3 → span level ≡ (span level / 0x1000) * 0x1000
 small_pages zero low high = absurd (omega arith)
 small_pages (suc zero) low high = refl
@@ -69,7 +69,7 @@ small_pages (suc (suc zero)) low high = refl
 small_pages (suc (suc (suc zero))) low high = refl
 small_pages (suc (suc (suc (suc n)))) low high = absurd (omega arith)
 
--- a part starts at a multiple of its size where larger pages than those of 4KiB do
+-- a part starts at a multiple of its size, if this is so for sizes above 4KiB
 pub part_aligned : (level size start : ℕ) → size ≡ span level → 1 ≤ level → (1 < level → start % size ≡ 0) → start % 0x1000 ≡ 0 → start % size ≡ 0
 part_aligned zero size start spans low large small = absurd (omega (arith, low))
 part_aligned (suc zero) size start spans low large small = ap (λ z. start % z) spans ∙ small
@@ -80,14 +80,14 @@ module _ {Lent : Type 0} (h : Hierarchy Lent) (s : Segment) (level size first co
   whole : size ≡ size / 0x1000 * 0x1000
   whole = spans ∙ small_pages level low high ∙ ap (λ z. z / 0x1000 * 0x1000) (sym spans)
 
-  -- page k of the part begins with this page of the segment
+  -- page k of the part begins with this 4KiB page of the segment
   in_small : (k : ℕ) → first * 0x1000 + k * size ≡ (first + k * (size / 0x1000)) * 0x1000
   in_small k = let each : k * size ≡ k * (size / 0x1000) * 0x1000 = ap (λ z. k * z) whole ∙ sym (mul_assoc k (size / 0x1000) 0x1000) in omega (arith, each)
 
   some : 0 < size
   some = subst (λ z. 0 < z) (sym spans) (pow_pos (12 + 9 * (level - 1)))
 
-  -- as far from a start as page k of the part is from that of the segment
+  -- page k of the part begins with this 4KiB page, counted from any start
   moved : (start k : ℕ) → start + first * 0x1000 + k * size ≡ start + (first + k * (size / 0x1000)) * 0x1000
   moved start k = let is = in_small k in omega (arith, is)
 
@@ -115,7 +115,7 @@ module _ {Lent : Type 0} (h : Hierarchy Lent) (s : Segment) (level size first co
       }
 
   module _ (after : Hierarchy Lent) (rest : List ℕ) (levels : level ≤ h.layout.levels) (aligned : (s.page + first * 0x1000) % size ≡ 0) where
-    -- so many of its pages that stand hold as much of the segment
+    -- if the part's first n pages stand, their positions are held
     pub part_held : (n : ℕ) → n ≤ count → after.layout ≡ h.layout → RunStands after level size (s.page + first * 0x1000) (s.frame + first * 0x1000) (bits_of s.flags) n
         → HoldsPart after s (first * 0x1000) (first * 0x1000 + n * size)
     part_held n few layout stand o from to =
@@ -126,7 +126,7 @@ module _ {Lent : Type 0} (h : Hierarchy Lent) (s : Segment) (level size first co
         (λ k less. run_outside h after level size (s.page + first * 0x1000) (s.frame + first * 0x1000) (bits_of s.flags) k (part_may levels k (omega (arith, less, few))) layout)
         (o - first * 0x1000) (omega (arith, from, to)))
 
-    -- and they stand
+    -- the part's first n pages stand
     pub part_stand : (n : ℕ) → RunStands after level size (s.page + first * 0x1000) (s.frame + first * 0x1000) (bits_of s.flags) n → AllStand after (part_of level s first n)
     part_stand n stand = all_in_run level (s.page + first * 0x1000) (s.frame + first * 0x1000) (bits_of s.flags) (λ x. Stands after x.level x.page x.frame x.flags) n
         (λ k below. subst (λ z. Stands after level (s.page + first * 0x1000 + k * z) (s.frame + first * 0x1000 + k * z) (bits_of s.flags)) spans (stand k below))

@@ -1,4 +1,4 @@
--- No map of a load is refused, if nothing is mapped in its way, no two segments overlap and there are frames enough.
+-- No map of a load is refused if nothing is mapped in its way, no two segments overlap and there are enough frames.
 use Rattle.std.proofs.Common.{zero, suc, inl, inr, ◌≡◌, ◌<◌, ◌≤◌, ◌+◌, ◌%◌, ◌++◌, ℕ, true, List, [], ◌∷◌, length, map, take, drop, flat_map, get_or, refl, sym, ap, ◌∙◌, subst, append_assoc, arith, lit≤}
 use Rattle.std.proofs.lemmas.Grind.{flat_map-append}
 use Rattle.std.proofs.lemmas.List.{append_cancel_left, get_or-take, length-take-le, map-append, take-append-drop}
@@ -45,13 +45,13 @@ apart_both : (xs ys : List PageMapping) → EachApart xs → EachApart ys → Al
 apart_both [] ys one two each = two
 apart_both (x ∷ xs) ys one two each = (all_both_lists (AreApart x) xs ys one.0 each.0, apart_both xs ys one.1 two each.1)
 
--- ---- the pages of segments that do not overlap lie apart
+-- ---- the pages of segments that do not overlap are apart
 
 module _ (way : Sizes) where
   abbrev cut : Segment → List PageMapping
   cut = pages_by way
 
-  -- a page that lies in a segment lies apart from those of segments that do not overlap it
+  -- a page in a segment is apart from those of segments that do not overlap it
   apart_from : (s : Segment) (x : PageMapping) → (s.page ≤ x.page) × (x.page + span x.level ≤ s.page + size_of s) → (others : List Segment)
       → ((j : ℕ) (d : Segment) → j < length others → (p : ℕ) → Has s p → Has (get_or others j d) p → ⊥) → AllByRecursion (AreApart x) (flat_map cut others)
   apart_from s x within [] apart = tt
@@ -74,7 +74,7 @@ module _ (way : Sizes) where
       (λ x within. apart_from s x within segments (λ j d below. apart 0 (suc j) d (omega arith) (omega (arith, below))))
       (cut s) (ascending_within s.page (s.page + size_of s) (cut s) (segment_ascends way s))))
 
--- what holds of the pages of each segment holds of all
+-- what holds for the pages of each segment holds for all
 each_segment : (P : PageMapping → Type 0) (cut : Segment → List PageMapping) (segments : List Segment) → ((j : ℕ) (d : Segment) → j < length segments → AllByRecursion P (cut (get_or segments j d)))
     → AllByRecursion P (flat_map cut segments)
 each_segment P cut [] each = tt
@@ -109,7 +109,7 @@ module _ {Lent : Type 0} (h : Hierarchy Lent) (supply : List ℕ) (way : Sizes) 
   abbrev tables : List (List ℕ)
   tables = flat_map tables_in segments
 
-  -- the pages of a segment may be mapped, and are not
+  -- the pages of a segment may be mapped, and are unmapped
   mappable : (j : ℕ) (d : Segment) → j < length segments → (get_or segments j d).page % 0x1000 ≡ 0 → AllByRecursion (IsMappable machine (paths h)) (pages_by way (get_or segments j d))
   mappable j d below aligned =
       let t = get_or segments j d in
@@ -126,7 +126,7 @@ module _ {Lent : Type 0} (h : Hierarchy Lent) (supply : List ℕ) (way : Sizes) 
       })
       (pages_by way t) (segment_pages h (omega (arith, four)) t aligned (allowed j d below) way) (suffices.unmapped j d below)
 
-  -- the tables on their ways are counted
+  -- the tables on their paths are counted
   covered : (j : ℕ) (d : Segment) → j < length segments → (get_or segments j d).page % 0x1000 ≡ 0
       → AllByRecursion (λ x. AllByRecursion (In tables) (parents (entry_path L x))) (pages_by way (get_or segments j d))
   covered j d below aligned =
@@ -140,7 +140,7 @@ module _ {Lent : Type 0} (h : Hierarchy Lent) (supply : List ℕ) (way : Sizes) 
       (pages_by way t) (segment_pages h (omega (arith, four)) t aligned (allowed j d below) way) (ascending_within t.page (t.page + size_of t) (pages_by way t) (segment_ascends way t))
 
   module _ (n : ℕ) (few : n ≤ length segments) (aligned : (j : ℕ) (d : Segment) → j < n → (get_or segments j d).page % 0x1000 ≡ 0) where
-    -- what holds of the pages of each of the first so many segments
+    -- what holds for the pages of each of the first segments
     of_first : (P : PageMapping → Type 0) → ((j : ℕ) (d : Segment) → j < length segments → (get_or segments j d).page % 0x1000 ≡ 0 → AllByRecursion P (pages_by way (get_or segments j d)))
         → AllByRecursion P (flat_map (pages_by way) (take n segments))
     of_first P each = each_segment P (pages_by way) (take n segments)
@@ -149,7 +149,7 @@ module _ {Lent : Type 0} (h : Hierarchy Lent) (supply : List ℕ) (way : Sizes) 
         let less : j < n = omega (arith, below, long) in
         subst (λ t. AllByRecursion P (pages_by way t)) (sym (get_or-take n segments j d less)) (each j d (omega (arith, less, few)) (aligned j d less)))
 
-    -- no page of theirs is refused
+    -- none of their pages is refused
     pub none_refused : (done left : List PageMapping) (next : PageMapping) (why : Refusal) (after : Hierarchy Lent) (rest : List ℕ)
         → flat_map (pages_by way) (take n segments) ≡ done ++ next ∷ left → Refuses h supply done next why after rest → ⊥
     none_refused done left next why after rest cut refused =
@@ -167,7 +167,7 @@ module _ {Lent : Type 0} (h : Hierarchy Lent) (supply : List ℕ) (way : Sizes) 
         let succeed = mappings_succeed machine is (words h) h.layout.root (λ f. true) (state_of h supply) fits pages may apart tables (covers_missing L (paths h) tables pages ways) frames in
         no_refusal next why (map accepted done) (sym (map-append accepted done (next ∷ [])) ∙ sym succeed ∙ refused.replies put_first)
 
--- where a load was refused
+-- a load can't have been refused
 pub cannot_be_refused : {Lent : Type 0} (h : Hierarchy Lent) (supply : List ℕ) (way : Sizes) (segments : List Segment) → h.layout.levels ≡ 4 → IsParentFlags h.layout.added_flags → SupplyFits h supply
     → All (IsAllowed h) segments → Suffices (pages_by way) h supply segments → (error : LoadError) (after : Hierarchy Lent) (rest : List ℕ)
     → ((j : ℕ) (d : Segment) → j < error.segment + 1 → (get_or segments j d).page % 0x1000 ≡ 0) → IsRefused (pages_by way) h supply segments error after rest → ⊥

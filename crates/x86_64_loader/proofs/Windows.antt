@@ -1,4 +1,4 @@
--- Pages that lie outside the recursive index, and which segments may be loaded, by one look at each.
+-- Pages outside the recursive index, and the test of segments that looks at each once.
 use Rattle.std.proofs.Common.{◌≡◌, ◌⊎◌, inl, inr, ◌<◌, ◌≤◌, ◌+◌, ◌-◌, ◌*◌, ◌/◌, ◌%◌, ◌^◌, ◌↔◌, ◌==◌, ◌&&◌, ℕ, Bool, true, false, Option, Some, None, option_map, refl, sym, ap, ◌∙◌, subst, arith, lit≤, eq-eqb, eqb-true, nat_lt, ◌||◌, IsTrue}
 use Rattle.std.proofs.Math.Nat.{mod-eq_of_lt}
 use Rattle.std.proofs.lemmas.Bool.{and_from, and_parts, cases_lt, ltb-true, lt-ltb, true≢false}
@@ -14,7 +14,7 @@ use Rattle.x86_64_loader.specs.Pages.{MayBeMapped}
 use Rattle.x86_64_loader.specs.private.Windows.{AreOutside}
 use Rattle.x86_64_loader.proofs.SizedParts.{elsewhere_allowed}
 
--- the index of level four rises with the position
+-- the index of level four grows with the position
 index_is : (p : ℕ) → p < 2 ^ 48 → index 4 p ≡ p / 2 ^ 39
 unfolding index
 index_is p low = mod-eq_of_lt (omega (arith, low))
@@ -24,7 +24,7 @@ module _ (window : Option Window) (L : ℕ) (four : L ≡ 4) where
   begins_is : (p : ℕ) → begins_with window (path_at L 1 p) ≡ is_index (option_map (λ w. w.index) window) (index 4 p)
   begins_is p = subst (λ n. begins_with window (path_at n 1 p) ≡ is_index (option_map (λ w. w.index) window) (index 4 p)) (sym four) (first_index window 4 1 p (lit≤ tt) (lit≤ tt))
 
-  -- where there is none, each page lies outside
+  -- if there is none, each page is outside
   pub none_outside : option_map (λ w. w.index) window ≡ None → (p : ℕ) → begins_with window (path_at L 1 p) ≡ false
   none_outside none p = begins_is p ∙ ap (λ o. is_index o (index 4 p)) none
 
@@ -32,7 +32,7 @@ module _ (window : Option Window) (L : ℕ) (four : L ≡ 4) where
     begins_with_index : (p : ℕ) → begins_with window (path_at L 1 p) ≡ (index 4 p == r)
     begins_with_index p = begins_is p ∙ ap (λ o. is_index o (index 4 p)) some
 
-    -- pages between lie outside, where the index lies below that of the first or above that of the last
+    -- pages in between are outside if the index is below that of the first or above that of the last
     pub apart_outside : (r < index 4 first) ⊎ (index 4 last < r) → (p : ℕ) → first ≤ p → p ≤ last → p % 0x1000 ≡ 0 → begins_with window (path_at L 1 p) ≡ false
     apart_outside apart p from to multiple =
         begins_with_index p ∙ differs (index 4 p == r) refl
@@ -50,7 +50,7 @@ module _ (window : Option Window) (L : ℕ) (four : L ≡ 4) where
             let at = index_is p (omega (arith, to, low)) in let start = index_is first (omega (arith, ordered, low)) in let end = index_is last low in
             absurd (elim apart [ inl below ↦ omega (arith, below, same, at, start, down) | inr above ↦ omega (arith, above, same, at, end, up) ])
 
-    -- and only then, where pages of 4KiB are meant
+    -- pages of 4KiB in between are outside only then
     pub outside_apart : first % 0x1000 ≡ 0 → ((p : ℕ) → first ≤ p → p ≤ last → p % 0x1000 ≡ 0 → begins_with window (path_at L 1 p) ≡ false) → (r < index 4 first) ⊎ (index 4 last < r)
     outside_apart aligned outside = elim (cases_lt r (index 4 first)) [
       | inl below ↦ inl below
@@ -83,7 +83,7 @@ either_true true c h = refl
 either_true false c (inl h) = cc
 either_true false c (inr h) = h
 
--- what is tested of the indices of two pages
+-- the test of the indices of two pages
 pub outside_tested : (window : Option Window) (L : ℕ) → L ≡ 4 → (r first last : ℕ) → option_map (λ w. w.index) window ≡ Some r → last < 2 ^ 48 → first ≤ last → first % 0x1000 ≡ 0
     → (i j : ℕ) → i ≡ index 4 first → j ≡ index 4 last
     → IsTrue (nat_lt r i || nat_lt j r) ↔ ((p : ℕ) → first ≤ p → p ≤ last → p % 0x1000 ≡ 0 → begins_with window (path_at L 1 p) ≡ false)
@@ -98,13 +98,13 @@ outside_tested window L four r first last some low ordered aligned i j is_first 
   ]),
 )
 
--- ---- the pages of a segment up to that of a number
+-- ---- the pages of a segment up to one with a given number
 
 module _ {Lent : Type 0} (h : Hierarchy Lent) (four : h.layout.levels ≡ 4) (page frame given last : ℕ) (is_present : present given ≡ true) (aligned : page % 0x1000 ≡ 0) where
   abbrev Each : Type 0
   Each = (k : ℕ) → k ≤ last → MayBeMapped h 1 0x1000 page frame given k
 
-  -- all may be mapped, where the first one may, the last one is there, and all lie outside the window
+  -- all pages may be mapped if the first one may, the last one exists, and all are outside the window
   pub each_may : page + last * 0x1000 < 2 ^ 48 → frame + last * 0x1000 < 2 ^ 52 → allows_map h (path_of h 1 page) given (parent_part given) ≡ true → AreOutside h page (page + last * 0x1000) → Each
   each_may page_there frame_there allowed outside k within = record {
     page_there = omega (arith, page_there, within);
@@ -123,7 +123,7 @@ module _ {Lent : Type 0} (h : Hierarchy Lent) (four : h.layout.levels ≡ 4) (pa
   pub first_may : Each → allows_map h (path_of h 1 page) given (parent_part given) ≡ true
   first_may each = subst (λ p. allows_map h (path_of h 1 p) given (parent_part given) ≡ true) (let e : page + 0 * 0x1000 ≡ page = omega arith in e) (each 0 (omega arith)).allowed
 
-  -- what is tested of them
+  -- the test of these pages
   pub each_tested : (there allowed outside : Bool) → page + last * 0x1000 < 2 ^ 48 → (IsTrue there ↔ (frame + last * 0x1000 < 2 ^ 52)) → allowed ≡ allows_map h (path_of h 1 page) given (parent_part given)
       → (IsTrue outside ↔ AreOutside h page (page + last * 0x1000)) → IsTrue (there && allowed && outside) ↔ Each
   each_tested there allowed outside page_there frames may tests = (

@@ -1,27 +1,28 @@
--- Runs of pages of one size, which are mapped to a run of frames with the same flags, and what maps of them leave.
+-- Runs of pages of one size, mapped to a run of frames with equal flags, and the effect of such maps. A page stands if it is
+-- mapped as `map_to` maps it.
 use Rattle.std.specs.Prelude.{◌≡◌, ◌+◌, ◌*◌, ◌^◌, ◌%◌, ◌<◌, ◌≤◌, ℕ, true, List}
 use Rattle.x86_64_model.specs.Call.{MapTo}
 use Rattle.x86_64_model.specs.Mapper.{Hierarchy, Stands, allows, path_of}
 use Rattle.x86_64_model.specs.Position.{span}
 use Rattle.x86_64_loader.specs.Maps.{Kept}
 
--- page k of a run may be mapped to its frame: both are there, and `map_to` allows it
+-- page k of a run may be mapped to its frame: both exist, and `map_to` allows it
 pub record MayBeMapped {Lent : Type 0} (h : Hierarchy Lent) (level size page frame flags k : ℕ) : Type 0 where
   pub page_there : page + k * size < 2 ^ 48
   pub frame_there : frame + k * size < 2 ^ 52
   pub allowed : allows h (MapTo (path_of h level (page + k * size)) (frame + k * size) flags) ≡ true
 
--- the first so many pages of a run stand
+-- the first `count` pages of a run stand
 abbrev pub RunStands : {Lent : Type 0} → Hierarchy Lent → (level size page frame flags count : ℕ) → Type 0
 RunStands h level size page frame given count = (k : ℕ) → k < count → Stands h level (page + k * size) (frame + k * size) given
 
--- no page that stands has one of so many positions from a start on
+-- no page that stands overlaps these `size` positions from a start on
 abbrev pub IsFree : {Lent : Type 0} → Hierarchy Lent → (start size : ℕ) → Type 0
 IsFree h start size =
     (level page frame given : ℕ) → page % span level ≡ 0 → Stands h level page frame given
     → (p : ℕ) → start ≤ p → p < start + size → page ≤ p → p < page + span level → ⊥
 
--- what maps leave: what they keep, and the pages up to a level that stood still stand
+-- the effect of maps: what they keep, and pages up to a level that stood still stand
 pub record Leaves {Lent : Type 0} (highest : ℕ) (h : Hierarchy Lent) (supply : List ℕ) (after : Hierarchy Lent) (rest : List ℕ) : Type 0 where
   pub kept : Kept h supply after rest
   pub pages : (level page frame given : ℕ) → level ≤ highest → Stands h level page frame given → Stands after level page frame given

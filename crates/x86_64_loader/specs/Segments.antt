@@ -1,4 +1,4 @@
--- Segments of a program, and what it is for them to be loaded: pages of 4KiB one after the other, mapped to frames one after the other.
+-- Segments of a program and what it means to load them: consecutive pages of 4KiB are mapped to consecutive frames.
 use Rattle.std.specs.Prelude.{◌≡◌, ◌+◌, ◌-◌, ◌*◌, ◌/◌, ◌%◌, ◌^◌, ◌<◌, ◌≤◌, ◌==◌, nat_lt, ℕ, true, cond, List, ◌∷◌, ◌++◌, length, map, take, flat_map, get_or, Some}
 use Rattle.std.specs.List.{All, AllByRecursion, range_with_len, sum_by}
 use Rattle.x86_64_model.specs.Arrivals.{NoWorse}
@@ -14,42 +14,42 @@ use Rattle.x86_64_loader.specs.declared.segment.LoadError.{LoadError}
 use Rattle.x86_64_loader.specs.Maps.{Refuses}
 use Rattle.x86_64_loader.specs.Pages.{MayBeMapped}
 
--- how many bytes a segment has
+-- the number of bytes of a segment
 abbrev pub size_of : Segment → ℕ
 size_of s = s.pages * 0x1000
 
--- each page of the segment may be mapped to its frame with its flags, and these have PRESENT
+-- each page of the segment may be mapped to its frame with its flags, which have PRESENT
 pub record IsAllowed {Lent : Type 0} (h : Hierarchy Lent) (s : Segment) : Type 0 where
   pub is_present : present (bits_of s.flags) ≡ true
   pub each_page : (k : ℕ) → k < s.pages → MayBeMapped h 1 0x1000 s.page s.frame (bits_of s.flags) k
 
--- the segment's last page of 4KiB is there, if it has one
+-- the segment's last page of 4KiB exists, if it has any pages
 abbrev pub IsInside : Segment → Type 0
 IsInside s = 0 < s.pages → s.page + (s.pages - 1) * 0x1000 < 2 ^ 48
 
--- whether a position is one of the segment's
+-- a position (address counted without the gap) is in the segment
 abbrev pub Has : Segment → (position : ℕ) → Type 0
 Has s p = (s.page ≤ p) × (p < s.page + size_of s)
 
--- no two of the first so many segments have a position in common
+-- no two of the first `count` segments have a position in common
 abbrev pub AreApart : List Segment → (count : ℕ) → Type 0
 AreApart segments n = (i j : ℕ) (d : Segment) → i < j → j < n → (p : ℕ) → Has (get_or segments i d) p → Has (get_or segments j d) p → ⊥
 
--- no two of them
+-- no two of the segments have a position in common
 abbrev pub Disjoint : List Segment → Type 0
 Disjoint segments = AreApart segments (length segments)
 
--- ---- by which pages a segment is mapped
+-- ---- the pages with which a segment is mapped
 
 -- a page of a level, to be mapped to a frame with these flags
 abbrev pub mapping_of : (level page frame flags : ℕ) → PageMapping
 mapping_of level page frame given = record { level = level; page = page; frame = frame; flags = given }
 
--- so many of them from a page on, to the frames from a frame on, with the same flags
+-- a number of pages of a level from a page on, for the frames from a frame on, with equal flags
 abbrev pub run_of : (level page frame flags count : ℕ) → List PageMapping
 run_of level page frame given count = map (λ k. mapping_of level (page + k * span level) (frame + k * span level) given) (range_with_len 0 count)
 
--- so many pages of a level from the segment's page of 4KiB with a number on
+-- a number of pages of a level, from the segment's 4KiB page with this number on
 abbrev pub part_of : (level : ℕ) → Segment → (first count : ℕ) → List PageMapping
 part_of level s first count = run_of level (s.page + first * 0x1000) (s.frame + first * 0x1000) (bits_of s.flags) count
 
@@ -57,45 +57,47 @@ part_of level s first count = run_of level (s.page + first * 0x1000) (s.frame + 
 abbrev pub small_pages : Segment → List PageMapping
 small_pages s = part_of 1 s 0 s.pages
 
--- how many pages of 4KiB there are before the first of 2MiB: all, if page and frame lie at different offsets in theirs of 2MiB
+-- the number of 4KiB pages before the first of 2MiB: all, if page and frame have different offsets in their 2MiB pages
 abbrev pub count_before : Segment → ℕ
 count_before s = let number = s.page / 0x1000 % 512 in let before = (512 - number) % 512 in
     cond (s.frame / 0x1000 % 512 == number) (cond (nat_lt before s.pages) before s.pages) s.pages
 
--- how many of 2MiB there are
+-- the number of pages of 2MiB
 abbrev pub count_large : Segment → ℕ
 count_large s = (s.pages - count_before s) / 512
 
--- pages of 2MiB where page and frame start at a multiple of it and enough of the segment is left, and of 4KiB before and after these
+-- pages of 2MiB if page and frame start at a multiple of 2MiB and enough of the segment is left, and pages of 4KiB before and
+-- after them
 abbrev pub large_pages : Segment → List PageMapping
 large_pages s = let first = count_before s in let behind = first + count_large s * 512 in
     part_of 1 s 0 first ++ (part_of 2 s first (count_large s) ++ part_of 1 s behind (s.pages - behind))
 
--- ---- what a load leaves
+-- ---- the effect of a load
 
--- each of these pages stands
+-- each of these pages stands (is mapped as `map_to` maps it)
 abbrev pub AllStand : {Lent : Type 0} → Hierarchy Lent → List PageMapping → Type 0
 AllStand h pages = AllByRecursion (λ x. Stands h x.level x.page x.frame x.flags) pages
 
--- The segment starts at the start of a page, its positions are there, and its pages stand, so each with all of its flags. From each address of it the
--- processor arrives as far from the start of its first frame, with just the rights of its flags.
+-- The segment starts at the start of a page, its positions exist, and its pages stand, so each is mapped with all of its flags.
+-- The page walk of each of its addresses arrives at the first frame's start plus the offset in the segment, with exactly the
+-- rights of its flags.
 pub record IsLoaded {Lent : Type 0} (pages_of : Segment → List PageMapping) (h : Hierarchy Lent) (s : Segment) : Type 0 where
   pub aligned : s.page % 0x1000 ≡ 0
   pub there : (offset : ℕ) → offset < size_of s → s.page + offset < 2 ^ 48
   pub stand : AllStand h (pages_of s)
   pub arrives : ArrivesIn h (size_of s) s.page s.frame (bits_of s.flags)
 
--- from this offset in the segment the processor arrives where it should, and no right is missing
+-- the page walk of this offset in the segment arrives where it should, with no right missing
 abbrev pub ReachesAt : {Lent : Type 0} → Hierarchy Lent → Segment → (offset : ℕ) → Type 0
 ReachesAt h s o = (walked : Walked) × (walk h (s.page + o) ≡ Some walked)
     × NoWorse (record { address = s.frame + o; write = writable (bits_of s.flags); user = user (bits_of s.flags) }) walked
 
--- so it does from each of the first so many
+-- this holds for each of the first `size` offsets
 abbrev pub IsReached : {Lent : Type 0} → Hierarchy Lent → Segment → (size : ℕ) → Type 0
 IsReached h s size = (offset : ℕ) → offset < size → ReachesAt h s offset
 
--- The load was refused at a page of the segment, the next one after those before it: all pages before were accepted, and the last map was its own,
--- which was refused for the reason told. The segments before are reached, and so are the pages of this one before the page.
+-- The load was refused at a page of the segment. All maps before were accepted, and the last map was the one of this page, which
+-- was refused for the reason reported. The segments before are reached, and so are the pages of this segment before the page.
 pub record IsRefusedAt {Lent : Type 0} (pages_of : Segment → List PageMapping) (h : Hierarchy Lent) (supply : List ℕ) (segments : List Segment) (error : LoadError) (after : Hierarchy Lent) (rest : List ℕ) (s : Segment) : Type 0 where
   pub there : error.segment < length segments
   pub is_segment : s ≡ get_or segments error.segment s
@@ -113,21 +115,21 @@ pub record IsRefusedAt {Lent : Type 0} (pages_of : Segment → List PageMapping)
 abbrev pub IsRefused : {Lent : Type 0} → (pages_of : Segment → List PageMapping) → Hierarchy Lent → (supply : List ℕ) → List Segment → LoadError → (after : Hierarchy Lent) → (rest : List ℕ) → Type 0
 IsRefused pages_of h supply segments error after rest = (s : Segment) × IsRefusedAt pages_of h supply segments error after rest s
 
--- ---- how many frames suffice
+-- ---- the number of frames that suffices
 
--- how many entries of a level lie on the ways to the segment's pages of 4KiB, if it has some
+-- the number of entries of a level on the paths to the segment's pages of 4KiB, if it has any
 abbrev pub entries_of : Segment → (level : ℕ) → ℕ
 entries_of s level = (s.page + (s.pages - 1) * 0x1000) / span level - s.page / span level + 1
 
--- how many tables they name, with four levels
+-- the number of tables that they name, with four levels
 abbrev pub tables_of : Segment → ℕ
 tables_of s = cond (s.pages == 0) 0 (entries_of s 4 + entries_of s 3 + entries_of s 2)
 
--- a frame for each table
+-- one frame for each table
 abbrev pub frames_for : List Segment → ℕ
 frames_for segments = sum_by tables_of segments
 
--- nothing is mapped where the pages are to be, no two segments overlap, and there are as many frames
+-- nothing is mapped in the way of the pages, no two segments overlap, and there are enough frames
 pub record Suffices {Lent : Type 0} (pages_of : Segment → List PageMapping) (h : Hierarchy Lent) (supply : List ℕ) (segments : List Segment) : Type 0 where
   pub unmapped : All (λ s. AllByRecursion (λ x. IsUnmapped (paths h) (entry_path h.layout.levels x)) (pages_of s)) segments
   pub disjoint : Disjoint segments

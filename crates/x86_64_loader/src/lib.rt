@@ -1,5 +1,5 @@
-//! A program loader: it maps the segments of a program by any mapper. It is a client of the library, and calls its public items
-//! alone.
+//! A program loader, which maps the segments of a program with any mapper. It is a client of the library, and calls
+//! only its public items.
 #![tactic(auto)]
 
 mod loader;

@@ -12,31 +12,34 @@ use crate::segment::{LoadError, Segment};
 use x86_64::structures::paging::mapper::MapperAllSizes;
 use x86_64::structures::paging::{FrameAllocator, Size2MiB, Size4KiB};
 
-/// Maps the pages of segments to their frames, one segment after the other, by pages of 4KiB.
+/// Maps the pages of segments to their frames, one segment after another, with pages of 4KiB.
 ///
-/// It makes the call [`map_to`](x86_64::structures::paging::Mapper::map_to) for each page in order, up to and with the first one
-/// that is refused, and no other.
+/// Calls [`map_to`](x86_64::structures::paging::Mapper::map_to) for each page in order, up to and including the first
+/// page that is refused, and makes no other calls.
 ///
-/// If it succeeds, each page is mapped with all of its flags. From each address of a segment the processor arrives at the one as far
-/// from the start of the first frame, with the right to write exactly if `WRITABLE`, and that of a user exactly if
-/// `USER_ACCESSIBLE`, is among its flags. No two segments have an address in common.
+/// If it succeeds, each page is mapped with all of its flags. The page walk of each address of a segment arrives at
+/// the first frame's start plus the address's offset in the segment. It has the right to write if and only if
+/// `WRITABLE` is among the flags, and that of a user if and only if `USER_ACCESSIBLE` is. No two segments have an
+/// address in common.
 ///
-/// It succeeds if no page of a segment has a used entry or lies in a larger page, no two segments have an address in common, and the
-/// allocator has as many frames as [`frames_needed`](crate::frames_needed) tells.
+/// It succeeds if no page of a segment has a used entry or lies in a larger page, no two segments have an address in
+/// common, and the allocator has as many frames as [`frames_needed`](crate::frames_needed) returns.
 ///
-/// In any case an address where the processor arrived before still leads to the same place, with no right lost. The hierarchy
-/// is valid, a pool that fitted it fits it again, and frames are conserved, as after a list of calls by [`run`](x86_64::run).
+/// Whether it succeeds or not, each page walk that arrived before still arrives at its address, with no right lost.
+/// The hierarchy is valid, a pool that fitted it still fits it, and frames are conserved, as after a list of calls by
+/// [`run`](x86_64::run).
 ///
-/// The tokens of the maps are spent without a flush: nothing was mapped before where a page is mapped.
+/// The tokens of the maps are consumed without a flush, since the pages were not mapped before.
 ///
-/// Conditions: the hierarchy is valid, the allocator's frames are as in a pool that fits it, and
-/// [`segments_allowed`](crate::segments_allowed) holds.
+/// Requires that the hierarchy is valid, that the allocator's frames are as in a pool that fits it, and that
+/// [`segments_allowed`](crate::segments_allowed) returns true.
 ///
 /// # Errors
 ///
-/// The segment and its first page that was refused as one of 4KiB, and why: the page or a part of it was mapped before, also by
-/// this load if segments overlap, or a table was missing and there was no frame for it. The segments before, and the pages of this
-/// one before the page, are mapped: the processor arrives in them as it should, with no right missing.
+/// The segment, its first 4KiB page that was refused, and the reason. Either the page or a part of it was mapped
+/// before, possibly by this load if segments overlap, or a table was missing and there was no frame for it. The
+/// segments before, and the pages of this segment before the page, are mapped: page walks in them arrive where they
+/// should, with no right missing.
 pub fn load<M: MapperAllSizes, A: FrameAllocator<Size4KiB>>(
     mapper: &mut M,
     frames: &mut A,
@@ -62,11 +65,12 @@ pub fn load<M: MapperAllSizes, A: FrameAllocator<Size4KiB>>(
     load_each(mapper, frames, segments, Sizes::Small)
 }
 
-/// Maps the pages of segments as [`load`] does, but by pages of 2MiB where a page and its frame both start at a multiple of it
-/// and enough of the segment is left.
+/// Maps the pages of segments as [`load`] does, but with pages of 2MiB if a page and its frame both start at a
+/// multiple of 2MiB and enough of the segment is left.
 ///
-/// The conditions are those of [`load`], and so are the errors, but a page of 2MiB is refused too if a table stands where it is to be
-/// mapped; such a page is named by the first one of 4KiB in it. So it succeeds as [`load`] does if no such table stands there.
+/// Conditions and errors are those of [`load`], except that a page of 2MiB is also refused if its entry names a
+/// table. A refused page of 2MiB is reported as the first 4KiB page in it. So it succeeds whenever [`load`] does, if
+/// no page of 2MiB has such a table.
 pub fn load_large<M: MapperAllSizes, A: FrameAllocator<Size4KiB>>(
     mapper: &mut M,
     frames: &mut A,
@@ -92,16 +96,16 @@ pub fn load_large<M: MapperAllSizes, A: FrameAllocator<Size4KiB>>(
     load_each(mapper, frames, segments, Sizes::Large)
 }
 
-/// Says by which pages a segment is mapped.
+/// The sizes of the pages with which a segment is mapped.
 #[derive(Clone, Copy)]
 enum Sizes {
     /// Pages of 4KiB alone.
     Small,
-    /// Pages of 2MiB where they fit.
+    /// Pages of 2MiB if they fit.
     Large,
 }
 
-/// Maps the pages of segments, one segment after the other.
+/// Maps the pages of segments, one segment after another.
 fn load_each<M: MapperAllSizes, A: FrameAllocator<Size4KiB>>(
     mapper: &mut M,
     frames: &mut A,
@@ -159,7 +163,7 @@ fn load_segment<M: MapperAllSizes, A: FrameAllocator<Size4KiB>>(
     }
 }
 
-/// Maps a segment by pages of 4KiB.
+/// Maps a segment with pages of 4KiB.
 fn load_small_pages<M: MapperAllSizes, A: FrameAllocator<Size4KiB>>(
     mapper: &mut M,
     frames: &mut A,
@@ -175,7 +179,7 @@ fn load_small_pages<M: MapperAllSizes, A: FrameAllocator<Size4KiB>>(
     map_part::<Size4KiB, M, A>(mapper, frames, segment, 0, segment.pages)
 }
 
-/// Maps a segment by pages of 2MiB where they fit, and by pages of 4KiB before and after these.
+/// Maps a segment with pages of 2MiB if they fit, and with pages of 4KiB before and after them.
 fn load_large_pages<M: MapperAllSizes, A: FrameAllocator<Size4KiB>>(
     mapper: &mut M,
     frames: &mut A,

@@ -15,16 +15,16 @@ use x86_64::structures::paging::{
     FrameAllocator, Mapper, Page, PageSize, PageTableFlags, PhysFrame, Size4KiB,
 };
 
-/// Says where a run of pages was stopped.
+/// The page at which a run of maps stopped.
 #[derive(Clone, Copy)]
 pub(crate) struct Stopped<S: PageSize> {
-    /// How many pages were mapped before the one that was refused.
+    /// The number of pages mapped before the refused one.
     pub(crate) mapped: u64,
-    /// Why it was.
+    /// The reason for the refusal.
     pub(crate) why: MapToError<S>,
 }
 
-/// Gives the page so many pages on, which must be there.
+/// Returns the page this number of pages after a page. Requires that it exists.
 pub(crate) fn page_after<S: PageSize>(page: Page<S>, count: u64) -> Page<S>
     requires { page + count * S.SIZE < 2 ^ 48 }
     ensures { result ≡ page + count * S.SIZE }
@@ -35,7 +35,7 @@ pub(crate) fn page_after<S: PageSize>(page: Page<S>, count: u64) -> Page<S>
     }
 }
 
-/// Maps a page with `PRESENT`. Its token is spent without a flush: no walk arrived in the page before.
+/// Maps a page with `PRESENT`. Consumes the token without a flush, since no page walk arrived in the page before.
 pub(crate) fn map_page<S: PageSize, M: Mapper<S>, A: FrameAllocator<Size4KiB>>(
     mapper: &mut M,
     frames: &mut A,
@@ -62,7 +62,7 @@ pub(crate) fn map_page<S: PageSize, M: Mapper<S>, A: FrameAllocator<Size4KiB>>(
     Ok(())
 }
 
-/// Maps so many pages from a page on to the frames from a frame on, one after the other, with `PRESENT`.
+/// Maps a number of pages, from a page on, to the frames from a frame on, in order and with `PRESENT`.
 pub(crate) fn map_pages<S: PageSize, M: Mapper<S>, A: FrameAllocator<Size4KiB>>(
     mapper: &mut M,
     frames: &mut A,

@@ -1,4 +1,4 @@
-//! Maps of parts of a segment by pages of one size.
+//! Maps of parts of a segment with pages of one size.
 ghost use Rattle.std.specs.Prelude.{◌≡◌, ◌+◌, ◌*◌, ◌%◌, ◌<◌, ◌≤◌};
 ghost use Rattle.x86_64_loader.specs.private.Loads.{LoadsPart};
 ghost use Rattle.x86_64_loader.specs.Segments.{IsAllowed, count_before, part_of, size_of};
@@ -10,8 +10,8 @@ use crate::segment::Segment;
 use x86_64::structures::paging::mapper::MapToError;
 use x86_64::structures::paging::{FrameAllocator, Mapper, Page, PageSize, PhysFrame, Size4KiB};
 
-/// Maps so many pages of a size, from a page of a segment on. Where these are larger than 4KiB, it starts at a multiple of the size, as
-/// its frame does.
+/// Maps a number of pages of one size, from a page of a segment on. For sizes above 4KiB, this page and its frame
+/// must start at a multiple of the size.
 pub(crate) fn map_part<S: PageSize, M: Mapper<S>, A: FrameAllocator<Size4KiB>>(
     mapper: &mut M,
     frames: &mut A,
@@ -46,7 +46,7 @@ pub(crate) fn map_part<S: PageSize, M: Mapper<S>, A: FrameAllocator<Size4KiB>>(
     }
 }
 
-/// Gives the same reason for a page of 4KiB: the frame is the one that starts where the page's does.
+/// Returns the reason as one for a page of 4KiB. The frame in it is the one at the start of the page's frame.
 fn in_4kib<S: PageSize>(why: MapToError<S>) -> MapToError<Size4KiB>
     ensures { map_refusal result ≡ map_refusal why }
 {
@@ -60,8 +60,8 @@ fn in_4kib<S: PageSize>(why: MapToError<S>) -> MapToError<Size4KiB>
     }
 }
 
-/// Counts the pages of a segment before the first that a page of 2MiB may begin with. These are all, where the first page and
-/// the first frame lie at different offsets in theirs of 2MiB.
+/// Returns the number of 4KiB pages of a segment before the first possible page of 2MiB. These are all pages if the
+/// first page and the first frame have different offsets in their 2MiB pages.
 #[tactic(auto, unfolding(x86_64_model::specs::Position::index))]
 pub(crate) fn pages_before_large(segment: &Segment) -> u64
     ensures counts { result ≡ count_before segment.now }

@@ -1,4 +1,4 @@
-//! Segments, the test of them, and why they are not loaded.
+//! Segments, the tests of them, and the errors of loads.
 ghost use Rattle.std.specs.Prelude.{◌≡◌, ◌+◌, ◌-◌, ◌*◌, ◌/◌, ◌^◌, ◌<◌, ◌≤◌, ◌↔◌, ℕ, true, None, IsTrue, IfSome};
 ghost use Rattle.std.specs.List.{All};
 ghost use Rattle.x86_64_loader.specs.Pages.{MayBeMapped};
@@ -13,40 +13,41 @@ use x86_64::structures::paging::mapper::{MapToError, Tables};
 use x86_64::structures::paging::{Mapper, Page, PageTableFlags, PhysFrame, Size4KiB};
 use x86_64::{VirtAddr, parent_flags};
 
-/// Says which pages are mapped to which frames: so many pages from the first one on, in the order of their positions, each to
-/// the frame as far from the first.
+/// Pages and the frames that they are mapped to: a number of pages from the first one on, in the order of their
+/// positions (addresses counted without the gap), and as many frames from the first one on.
 #[derive(Clone, Copy, Debug, PartialEq)]
 pub struct Segment {
     /// The first page.
     pub page: Page<Size4KiB>,
-    /// The frame to which the first page is mapped.
+    /// The frame that the first page is mapped to.
     pub frame: PhysFrame<Size4KiB>,
-    /// How many pages there are.
+    /// The number of pages.
     pub pages: u64,
-    /// The flags with which each page is mapped.
+    /// The flags that each page is mapped with.
     pub flags: PageTableFlags,
 }
 
-/// Says at which page a load was refused, and why. The segments before are mapped, and the pages of this one before the page.
+/// The page at which a load was refused, and the reason. The segments before are mapped, and so are the pages of this
+/// segment before the page.
 #[derive(Clone, Copy, Debug, PartialEq)]
 pub struct LoadError {
     /// The index of the segment.
     pub segment: usize,
     /// The page that was refused.
     pub page: Page<Size4KiB>,
-    /// How many pages of the segment are mapped.
+    /// The number of pages of the segment that are mapped.
     pub mapped: u64,
-    /// Why the page was refused.
+    /// The reason for the refusal.
     pub why: MapToError<Size4KiB>,
 }
 
-/// Tells whether segments may be loaded: the flags of each have `PRESENT`, each of its pages and frames is there, and each page
-/// may be mapped with its flags, as [`map_allowed`](Mapper::map_allowed) tells.
+/// Returns true if segments may be loaded: the flags of each have `PRESENT`, each of its pages and frames exists, and
+/// each page may be mapped with its flags, as [`map_allowed`](Mapper::map_allowed) says.
 ///
-/// It looks at each segment once, however many pages it has: with `PRESENT` among the flags, which pages may be mapped depends on
-/// the flags and on the recursive index alone.
+/// Looks at each segment once, however many pages it has. With `PRESENT` among the flags, whether a page may be
+/// mapped depends only on the flags and on the recursive index (the index of the root's entry for itself).
 ///
-/// Condition: the hierarchy is valid.
+/// Requires that the hierarchy is valid.
 pub fn segments_allowed<M: Mapper<Size4KiB>>(mapper: &M, segments: &[Segment]) -> bool
     requires { Valid (M.hierarchy mapper.now) }
     ensures allowed { IsTrue result ↔ All (IsAllowed (M.hierarchy mapper.now)) segments.now }
@@ -60,7 +61,7 @@ pub fn segments_allowed<M: Mapper<Size4KiB>>(mapper: &M, segments: &[Segment]) -
     true
 }
 
-/// Tells whether a segment may be loaded.
+/// Returns true if a segment may be loaded.
 #[tactic(auto, unfolding(x86_64_model::specs::Entry::has))]
 fn segment_allowed<M: Mapper<Size4KiB>>(mapper: &M, segment: &Segment) -> bool
     requires { Valid (M.hierarchy mapper.now) }
@@ -75,7 +76,8 @@ fn segment_allowed<M: Mapper<Size4KiB>>(mapper: &M, segment: &Segment) -> bool
     pages_allowed(mapper, segment, segment.pages - 1)
 }
 
-/// Tells whether the pages of a segment up to that of a number may be mapped to their frames, where its flags have `PRESENT`.
+/// Returns true if the pages of a segment, up to the one with number `last`, may be mapped to their frames. Requires
+/// that the segment's flags have `PRESENT`.
 fn pages_allowed<M: Mapper<Size4KiB>>(mapper: &M, segment: &Segment, last: u64) -> bool
     requires valid { Valid (M.hierarchy mapper.now) }
     requires is_present { present (bits_of segment.now.flags) ≡ true }
@@ -91,7 +93,8 @@ fn pages_allowed<M: Mapper<Size4KiB>>(mapper: &M, segment: &Segment, last: u64) 
     there & allowed & outside
 }
 
-/// Tells whether each page from a first to a last one lies outside the recursive index.
+/// Returns true if every page from the first to the last one is outside the recursive window: its index of level four
+/// isn't the recursive index.
 fn are_outside_window<M: Mapper<Size4KiB>>(
     mapper: &M,
     first: Page<Size4KiB>,
@@ -109,7 +112,7 @@ fn are_outside_window<M: Mapper<Size4KiB>>(
     (index < first) | (last < index)
 }
 
-/// Tells whether there is a frame so many frames after one.
+/// Returns true if there is a frame this number of frames after another.
 fn frame_is_there(frame: PhysFrame<Size4KiB>, count: u64) -> bool
     ensures { IsTrue result ↔ (frame + count * 0x1000 < 2 ^ 52) }
 {
@@ -119,12 +122,12 @@ fn frame_is_there(frame: PhysFrame<Size4KiB>, count: u64) -> bool
     }
 }
 
-/// Gives a number of frames that are enough to load segments: one for each table on the ways to their pages, as if none were there
-/// and no two segments had one in common. It is `None` if the number has more than 64 bits.
+/// Returns a number of frames that suffices to load segments: one for each table on the paths to their pages, as if
+/// no table existed and no two segments shared one. Returns `None` if the number has more than 64 bits.
 ///
-/// [`load`](crate::load) and [`load_large`](crate::load_large) tell what else they need to succeed.
+/// [`load`](crate::load) and [`load_large`](crate::load_large) say what else they need to succeed.
 ///
-/// Condition: the last page of each segment is there, as [`segments_allowed`] tells.
+/// Requires that the last page of each segment exists, which [`segments_allowed`] tests.
 pub fn frames_needed(segments: &[Segment]) -> Option<u64>
     requires { All IsInside segments.now }
     ensures count { IfSome result (λ count. count ≡ frames_for segments.now) }
@@ -137,7 +140,7 @@ pub fn frames_needed(segments: &[Segment]) -> Option<u64>
     Some(count)
 }
 
-/// Counts the tables on the ways to the pages of a segment.
+/// Returns the number of tables on the paths to the pages of a segment.
 fn tables_needed(segment: &Segment) -> u64
     requires { IsInside segment.now }
     ensures { result ≡ tables_of segment.now }
@@ -153,7 +156,8 @@ fn tables_needed(segment: &Segment) -> u64
         + entries_between(first, last, 0x20_0000)
 }
 
-/// Counts the entries, each of so many positions, that lie on the ways to positions from a first to a last one.
+/// Returns the number of entries, each of which spans `span` positions, on the paths to the positions from `first` to
+/// `last`.
 fn entries_between(first: u64, last: u64, span: u64) -> u64
     requires some { 0 < span }
     requires ordered { first ≤ last }

@@ -1,4 +1,4 @@
--- After a list of calls at an offset that fits, the offset fits the memory still, and so does the pool.
+-- After a list of calls at an offset that fits the memory, the offset still fits it, and the pool fits too.
 use Rattle.std.proofs.Common.{◌≡◌, ℕ, Bool, List, sym, subst}
 use Rattle.x86_64_model.specs.Layout.{Layout}
 use Rattle.x86_64_model.specs.Memory.{Memory, identity_places}

@@ -23,7 +23,7 @@ slice_get-empty n place = elim (cases_lt place n) [
       ∙ sym (ap (λ b. if b then Some zero_words else None) (le-ltb place n past))
 ]
 
--- each place below their number has the empty table
+-- each place below the number of tables has the empty table
 pub empty_memory : (tables : List (List ℕ)) (n : ℕ) → tables ≡ replicate n zero_words → (place : ℕ)
     → get (numbered tables) place ≡ (if nat_lt place n then Some zero_words else None)
 empty_memory tables n are place = sym (get-numbered tables place) ∙ ap (λ ts. slice_get ts place) are ∙ slice_get-empty n place

@@ -1,4 +1,4 @@
--- A page of 4KiB that stands is a mapping, and is listed.
+-- A page of 4KiB that stands (is mapped as `map_to` maps it) is a mapping, and is listed.
 use Rattle.std.proofs.Common.{◌≡◌, inl, inr, ⊎_elim, ◌<◌, ◌+◌, ◌*◌, ◌/◌, ◌-◌, ◌%◌, ◌^◌, ◌&&◌, ℕ, Bool, true, false, not, cond, List, [], ◌∷◌, Option, Some, None, filter_map, get_or, bit_and, bit_or, refl, sym, ap, ◌∙◌, subst, subst₂, arith}
 use Rattle.std.proofs.lemmas.Bool.{and_from, and_parts, and_right}
 use Rattle.std.specs.List.{All, cons_option, list_all, range_with_len}
@@ -32,7 +32,7 @@ use Rattle.x86_64_model.proofs.Lemmas.Maps.Arrives.{part_has}
 use Rattle.x86_64_model.proofs.Lemmas.Walks.Walked.{index_small}
 use Rattle.x86_64_mappers.proofs.Way.PagePaths.{start_of_path}
 
--- what an element gives is in the list of what all give
+-- what h returns for an element is in the list of all its results
 in_filter_map : {X Y : Type 0} (h : X → Option Y) (xs : List X) (x : X) (y : Y) → In xs x → h x ≡ Some y → In (filter_map h xs) y
 in_filter_map h [] x y i is = absurd i
 in_filter_map {X} {Y} h (z ∷ xs) x y i is = ⊎_elim
@@ -43,7 +43,7 @@ in_filter_map {X} {Y} h (z ∷ xs) x y i is = ⊎_elim
     by None i = i
     by (Some w) i = inr i
 
--- a right that each word above the last one has if the last one has it
+-- all words have a right if and only if the last one has it, provided that each word above then has it too
 all_but_last : (right : ℕ → Bool) (a b c e : ℕ) (v : Bool) → right e ≡ v → (v ≡ true → (right a ≡ true) × (right b ≡ true) × (right c ≡ true)) → list_all right (a ∷ b ∷ c ∷ e ∷ []) ≡ v
 all_but_last right a b c e true last above = let on = above refl in and_from _ _ on.0 (and_from _ _ on.1 (and_from _ _ on.2 (and_from _ _ last refl)))
 all_but_last right a b c e false last above =
@@ -94,7 +94,7 @@ module _ (T : Words) (root : ℕ) (M : PathMap) (valid : IsValidFor 4 None T roo
   unfolding mappings_of
   mapping_listed = in_filter_map (mapping_at 4 T root) (paths_below 4 []) path mapping (in_paths_below 4 [] i (j ∷ k ∷ l ∷ []) (omega arith) below) is_mapped
 
-  -- what it says
+  -- the mapping's contents
   pub frame_is : mapping.frame ≡ frame
   frame_is =
       ap (λ e. address e / 4096 * 4096) own_is

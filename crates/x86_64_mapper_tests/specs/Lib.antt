@@ -1,2 +1,2 @@
--- What callers among the tests promise.
+-- What callers in the tests ensure.
 pub mod Listed

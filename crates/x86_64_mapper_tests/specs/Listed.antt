@@ -1,4 +1,4 @@
--- What a list of mappings says of a segment that is loaded by pages of 4KiB.
+-- What a list of mappings says about a segment that is loaded with pages of 4KiB.
 use Rattle.std.specs.Prelude.{◌≡◌, ◌+◌, ◌*◌, ◌<◌, ◌≤◌, ℕ, true, false, List, Some}
 use Rattle.std.specs.List.{find}
 use Rattle.x86_64_loader.specs.declared.segment.Segment.{Segment}
@@ -6,8 +6,8 @@ use Rattle.x86_64_model.specs.Entry.{writable, user, no_execute, flags}
 use Rattle.x86_64_model.specs.Mappings.{Mapping, has_position}
 use Rattle.x86_64_tables.specs.PageTableFlags.{bits_of}
 
--- The list has the mapping of this page of 4KiB to a frame, with the flags: it is the one that is found at each position of the page. Writes, and user
--- code, are allowed exactly if the flags say so, and execution isn't if they have NO_EXECUTE.
+-- The list has the mapping of this 4KiB page to a frame with these flags, which is found at each position of the page. The
+-- mapping allows writes and user code if and only if the flags do, and doesn't allow execution if they have NO_EXECUTE.
 pub record IsListed (mappings : List Mapping) (page to given : ℕ) : Type 0 where
   pub mapping : Mapping
   pub found : (p : ℕ) → page ≤ p → p < page + 0x1000 → find (has_position p) mappings ≡ Some mapping

@@ -1,5 +1,5 @@
-//! Two hierarchies in one memory, as of two programs: calls on one leave the other as it was, and they may share a pool. The memory
-//! is any, also a slice of tables that its owner lends.
+//! Two hierarchies in one memory, like those of two programs. Calls on one leave the other as it was, and they may
+//! share a pool. The memory may be of any kind, such as a slice of tables that its owner lends.
 ghost use Rattle.std.specs.Prelude.{◌≡◌, ◌<◌, ℕ, if◌then◌else◌, nat_lt, replicate, Some, None};
 ghost use Rattle.std.specs.FinMap.{get};
 ghost use Rattle.x86_64_mappers.specs.Layouts.{direct};
@@ -25,10 +25,10 @@ use x86_64::{
     TableMemory, VirtAddr, page_walk, pool_fits, run,
 };
 
-/// The number of places, and the limit of the pool.
+/// The number of places, and the limit of the pool. A place is the index of a table in memory.
 const PLACES: u64 = 0x10;
 
-/// Answers calls by any mapper, whose calls are those of three traits.
+/// Executes calls with any mapper, whose calls are those of three traits.
 fn run_by<M: MapperAllSizes + Translate + CleanUp>(
     mapper: &mut M,
     pool: &mut FramePool,
@@ -43,8 +43,8 @@ fn run_by<M: MapperAllSizes + Translate + CleanUp>(
     run(mapper, pool, calls, replies)
 }
 
-/// Answers calls by a mapper of a hierarchy, which is dropped then. The pool fits it again, and each other hierarchy in the
-/// memory stays as it was.
+/// Executes calls with a mapper of a hierarchy, which is then dropped. The pool fits it again, and each other
+/// hierarchy in the memory stays as it was.
 pub fn run_on<T: TableMemory>(
     memory: &mut T,
     root: PhysFrame<Size4KiB>,
@@ -67,7 +67,7 @@ pub fn run_on<T: TableMemory>(
     run_by(&mut mapper, pool, calls, replies)
 }
 
-/// Answers calls of a first hierarchy, and then of a second one, which isn't tested again. The pool fits both again.
+/// Executes calls on a first hierarchy, and then on a second one, which isn't tested again. The pool fits both again.
 fn run_in_turn<T: TableMemory>(
     memory: &mut T,
     first: PhysFrame<Size4KiB>,
@@ -86,7 +86,8 @@ fn run_in_turn<T: TableMemory>(
     run_on(memory, second, pool, calls.1, replies)
 }
 
-/// Answers calls of two hierarchies in a slice of tables, which isn't copied. Its owner knows that the pool fits both again.
+/// Executes calls on two hierarchies in a slice of tables, without a copy. Its owner knows that the pool fits both
+/// again.
 fn run_in_slice(
     tables: &mut [PageTable],
     first: PhysFrame<Size4KiB>,
@@ -104,7 +105,7 @@ fn run_in_slice(
     run_in_turn(&mut memory, first, second, pool, calls, replies)
 }
 
-/// Makes a pool that fits two empty roots in a memory of empty tables.
+/// Creates a pool that fits two empty roots in a memory of empty tables.
 fn pool_of_two<T: TableMemory>(
     rt: impl Abort + Copy,
     alloc: Global,
@@ -130,7 +131,7 @@ fn pool_of_two<T: TableMemory>(
     pool
 }
 
-/// Makes as many empty tables as there are places.
+/// Creates as many empty tables as there are places.
 pub fn empty_tables(rt: impl Abort + Copy, alloc: Global) -> Vec<PageTable>
     ensures { result.items ≡ replicate 0x10 zero_words }
 {
@@ -141,7 +142,7 @@ pub fn empty_tables(rt: impl Abort + Copy, alloc: Global) -> Vec<PageTable>
     tables
 }
 
-/// Makes a pool of the frames from an address on.
+/// Creates a pool of the frames from an address on.
 pub fn pool_from(rt: impl Abort + Copy, alloc: Global, address: u64) -> FramePool {
     let mut pool = unwrap(rt, FramePool::new(alloc, PLACES));
     for number in address / 0x1000..PLACES {
@@ -150,12 +151,12 @@ pub fn pool_from(rt: impl Abort + Copy, alloc: Global, address: u64) -> FramePoo
     pool
 }
 
-/// Gives the frame that contains an address.
+/// Returns the frame that contains an address.
 pub fn frame(address: u64) -> PhysFrame<Size4KiB> {
     PhysFrame::containing_address(PhysAddr::new_truncate(address))
 }
 
-/// Gives the call that maps the page that contains an address.
+/// Returns the call that maps the page that contains an address.
 pub fn map(address: u64, to: u64) -> Call {
     Call::Of4KiB(SizeCall::MapTo {
         page: Page::containing_address(VirtAddr::new_truncate(address)),
@@ -164,14 +165,14 @@ pub fn map(address: u64, to: u64) -> Call {
     })
 }
 
-/// Says where the processor arrives from an address.
+/// Returns where the page walk of an address arrives.
 fn walk<T: TableMemory>(memory: &T, root: PhysFrame<Size4KiB>, address: u64) -> Option<u64> {
     let address = VirtAddr::new_truncate(address);
     let walked = page_walk(memory, &IdentityMapping, root, address)?;
     Some(walked.address.as_u64())
 }
 
-/// Maps a page in each of two hierarchies, and compares where the processor arrives from it.
+/// Maps a page in each of two hierarchies, and compares where its page walks arrive.
 fn map_in_both<T: TableMemory>(
     rt: impl Abort + Copy,
     alloc: Global,
@@ -227,7 +228,7 @@ fn map_pages_in_both<T: TableMemory>(rt: impl Abort + Copy, alloc: Global, memor
     assert_equal(rt, pool.len(), 3);
 }
 
-/// Maps the same pages in a slice of empty tables.
+/// Maps these pages in a slice of empty tables.
 fn map_pages_in_slice(rt: impl Abort + Copy, alloc: Global, tables: &mut [PageTable])
     requires { tables.old ≡ replicate 0x10 zero_words }
 {

@@ -1,4 +1,4 @@
-//! A guest whose memory is a vector of tables: its owner has a list of calls answered in it, where it is, and reads it again.
+//! A guest whose memory is a vector of tables. Its owner executes a list of calls on it in place, and reads it again.
 ghost use Rattle.std.specs.Prelude.{◌≡◌, IfOk, IsTrue};
 ghost use Rattle.std.specs.Option.{option_copied};
 ghost use Rattle.x86_64_mappers.specs.Layouts.{direct};
@@ -15,7 +15,7 @@ use std::process::Abort;
 use x86_64::structures::paging::{PageSize, PageTable, PageTableIndex, PhysFrame, Size4KiB};
 use x86_64::{Call, FramePool, IdentityMapping, LentMemory, Reply, pool_fits};
 
-/// Answers calls in a slice of tables, which isn't copied. The pool fits the hierarchy again.
+/// Executes calls on a slice of tables, without a copy. The pool fits the hierarchy again.
 fn run_in_tables(
     tables: &mut [PageTable],
     root: PhysFrame<Size4KiB>,
@@ -50,7 +50,7 @@ fn word_in(tables: &[PageTable], frame: PhysFrame<Size4KiB>, index: PageTableInd
     }
 }
 
-/// Answers calls of a guest, and returns the word that its root has at an index then.
+/// Executes calls of a guest, and returns the word that its root has at an index afterwards.
 fn run_and_read(
     tables: &mut Vec<PageTable>,
     root: PhysFrame<Size4KiB>,
@@ -70,7 +70,7 @@ fn run_and_read(
     Ok(word_in(tables, root, index))
 }
 
-/// Returns whether a pool fits the hierarchy of a guest, which is tested where it is.
+/// Returns whether a pool fits the hierarchy of a guest, which is tested in place.
 fn fits(
     rt: impl Abort + Copy,
     alloc: Global,

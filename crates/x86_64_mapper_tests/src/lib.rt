@@ -1,5 +1,5 @@
-//! Tests of what mappers have of their own, and of the loader, one module a crate. They stand here and not in the crates, so that each
-//! crate is proved once.
+//! Tests of what is particular to each mapper, and of the loader, with one module per crate. They are not in the
+//! crates themselves, so that each crate is proved only once.
 #![tactic(auto)]
 
 #[cfg(test)]

@@ -1,4 +1,4 @@
-//! What a load has mapped: a caller loads segments, lets go of the mapper, and lists all that is mapped below the root.
+//! The result of a load: a caller loads segments, drops the mapper, and lists all mappings below the root.
 ghost use Rattle.std.specs.Prelude.{◌≡◌, IfOk, IfSome, IsSome, IsTrue};
 ghost use Rattle.std.specs.List.{All};
 ghost use Rattle.x86_64_loader.specs.Segments.{IsAllowed, IsLoaded, Suffices, small_pages};
@@ -17,7 +17,7 @@ use x86_64::structures::paging::{MappedPageTable, PhysFrame, Size4KiB};
 use x86_64::{FramePool, IdentityMapping, Mapping, TableMemory, mappings, pool_fits};
 use x86_64_loader::{Segment, load, segments_allowed};
 
-/// Loads segments by any mapper, if they may be loaded, and tells whether all were.
+/// Loads segments with any mapper, if they may be loaded, and returns true if all of them were.
 fn load_by<M: MapperAllSizes>(mapper: &mut M, pool: &mut FramePool, segments: &[Segment]) -> bool
     requires { SupplyFits (M.hierarchy mapper.old) pool.old.frames }
     ensures loaded { IsTrue result → All (IsLoaded small_pages (M.hierarchy mapper.new)) segments.now }
@@ -34,7 +34,7 @@ fn load_by<M: MapperAllSizes>(mapper: &mut M, pool: &mut FramePool, segments: &[
     load(mapper, pool, segments).is_ok()
 }
 
-/// Loads segments by a mapper that is dropped then, if they may be loaded, and tells whether all were.
+/// Loads segments with a mapper that is then dropped, if they may be loaded, and returns true if all of them were.
 fn load_into<T: TableMemory>(
     memory: &mut T,
     root: PhysFrame<Size4KiB>,
@@ -66,14 +66,15 @@ fn list_all<T: TableMemory>(
     mappings(memory, &IdentityMapping, root).collect(alloc)
 }
 
-/// Loads segments by pages of 4KiB, lets go of the mapper, and lists all mappings below the root. Each page of the segments has one
-/// among them. It answers `None` if the segments may not be loaded or not all were.
+/// Loads segments with pages of 4KiB, drops the mapper, and lists all mappings below the root. Each page of the
+/// segments is among them. Returns `None` if the segments may not be loaded, or not all of them were.
 ///
-/// Condition: the hierarchy is valid, and the pool fits it, as [`pool_fits`] tells. It fits again.
+/// Requires that the hierarchy is valid and that the pool fits it, which [`pool_fits`] tests. It fits again
+/// afterwards.
 ///
 /// # Errors
 ///
-/// `AllocError` where memory for the list is refused. The segments are loaded then.
+/// `AllocError` if memory allocation for the list fails. The segments are loaded then.
 pub fn load_and_list<T: TableMemory>(
     alloc: Global,
     memory: &mut T,
@@ -99,7 +100,7 @@ pub fn load_and_list<T: TableMemory>(
     Ok(Some(listed))
 }
 
-/// What is mapped once a text that a user reads and data that it writes are loaded.
+/// The mappings after a load of code that a user reads and of data that a user writes.
 const LINES: [&str; 4] = [
     "0x400000 4KiB 0x800000 r-xu 0x5",
     "0x401000 4KiB 0x801000 r-xu 0x5",

@@ -16,32 +16,32 @@ use x86_64::{
 };
 use x86_64_loader::{LoadError, Segment, frames_needed, load, load_large, segments_allowed};
 
-/// The number of places, and the limit of pools.
+/// The number of places (a place is the index of a table in memory), and the limit of pools.
 const PLACES: u64 = 0x20;
 
-/// Gives the flags of pages that a user reads.
+/// Returns the flags of pages that a user reads.
 pub fn read() -> PageTableFlags {
     PageTableFlags::PRESENT.union(PageTableFlags::USER_ACCESSIBLE)
 }
 
-/// Gives the flags of pages that a user reads and writes.
+/// Returns the flags of pages that a user reads and writes.
 pub fn write() -> PageTableFlags {
     read()
         .union(PageTableFlags::WRITABLE)
         .union(PageTableFlags::NO_EXECUTE)
 }
 
-/// Gives the frame that contains an address.
+/// Returns the frame that contains an address.
 pub fn frame(address: u64) -> PhysFrame<Size4KiB> {
     PhysFrame::containing_address(PhysAddr::new_truncate(address))
 }
 
-/// Gives the page that contains an address.
+/// Returns the page that contains an address.
 fn page(address: u64) -> Page<Size4KiB> {
     Page::containing_address(VirtAddr::new_truncate(address))
 }
 
-/// Gives a segment by the addresses of its first page and frame.
+/// Returns the segment with these addresses of its first page and frame.
 pub fn segment(start: u64, to: u64, pages: u64, flags: PageTableFlags) -> Segment {
     Segment {
         page: page(start),
@@ -51,8 +51,8 @@ pub fn segment(start: u64, to: u64, pages: u64, flags: PageTableFlags) -> Segmen
     }
 }
 
-/// Loads segments that do not overlap, where nothing is mapped, if there are as many frames as are needed, and tells whether there
-/// are. Then no map is refused.
+/// Loads segments that do not overlap, into addresses where nothing is mapped, if there are as many frames as needed.
+/// Returns true if there are. Then no map is refused.
 pub fn load_unmapped<M: MapperAllSizes>(
     mapper: &mut M,
     pool: &mut FramePool,
@@ -81,14 +81,14 @@ pub fn load_unmapped<M: MapperAllSizes>(
     }
 }
 
-/// Says by which call a program is loaded.
+/// The call that loads a program.
 #[derive(Clone, Copy)]
 enum Way {
     Small,
     Large,
 }
 
-/// Holds an empty hierarchy, whose pool has all frames from 0x2000 on.
+/// An empty hierarchy, with a pool of all frames from 0x2000 on.
 #[derive(Drop)]
 pub struct Machine {
     pub memory: PhysMemory,
@@ -105,7 +105,7 @@ impl Machine {
         Machine { memory, pool }
     }
 
-    /// Loads a program, or answers `None` where it isn't allowed.
+    /// Loads a program, or returns `None` if it isn't allowed.
     fn load(
         &mut self,
         rt: impl Abort + Copy,
@@ -126,7 +126,7 @@ impl Machine {
         })
     }
 
-    /// Gives how many frames are enough for a program, or `None` where it isn't allowed.
+    /// Returns the number of frames that suffices for a program, or `None` if it isn't allowed.
     fn frames_needed(
         &mut self,
         rt: impl Abort + Copy,
@@ -143,7 +143,7 @@ impl Machine {
         frames_needed(segments)
     }
 
-    /// Says where the processor arrives from an address, and whether it may write and a user may use it.
+    /// Returns where the page walk of an address arrives, and whether it may write and a user may use it.
     fn walk(&self, address: u64) -> Option<(u64, bool, bool)> {
         let address = VirtAddr::new_truncate(address);
         let walked = page_walk(&self.memory, &IdentityMapping, frame(0x1000), address)?;
@@ -156,7 +156,7 @@ impl Machine {
     }
 }
 
-/// Makes a program: 3 pages to read, 517 to write from below one border of 2MiB to above the next, and a page of the kernel.
+/// Returns a program with 3 pages to read, 517 to write that cross two borders of 2MiB, and a page of the kernel.
 fn program() -> [Segment; 3] {
     [
         segment(0x40_0000, 0x80_0000, 3, read()),
@@ -165,7 +165,7 @@ fn program() -> [Segment; 3] {
     ]
 }
 
-/// Where the processor arrives once the program is loaded.
+/// Where page walks arrive after the load of the program.
 const WALKS: [(u64, Option<(u64, bool, bool)>); 8] = [
     (0x3f_ffff, None),
     (0x40_0000, Some((0x80_0000, false, true))),
@@ -177,8 +177,8 @@ const WALKS: [(u64, Option<(u64, bool, bool)>); 8] = [
     (0xffff_8000_0000_0fff, Some((0x5fff, false, false))),
 ];
 
-/// Loads the program in one way, and compares where the processor arrives, and how many frames are left. Of 30 frames the
-/// tables take eight, of which one is for pages of 4KiB where one of 2MiB fits.
+/// Loads the program with one call, and compares where page walks arrive and how many frames are left. Of 30 frames
+/// the tables take eight, one of them for pages of 4KiB that a page of 2MiB could replace.
 fn check_program(rt: impl Abort + Copy, alloc: Global, way: Way, left: usize) {
     let mut machine = Machine::new(rt, alloc);
     assert_equal(rt, machine.frames_needed(rt, alloc, &program()), Some(11));
@@ -200,7 +200,7 @@ fn programs_are_loaded_by_pages_of_2mib_where_they_fit(rt: HostRuntime) {
     check_program(rt, rt.alloc(), Way::Large, 23)
 }
 
-/// Loads two segments that overlap in one way, and compares where the load stops, and where the processor arrives.
+/// Loads two overlapping segments with one call, and compares where the load stops and where page walks arrive.
 fn check_overlap(rt: impl Abort + Copy, alloc: Global, way: Way) {
     let segments = [
         segment(0x40_0000, 0x80_0000, 4, read()),
@@ -226,7 +226,7 @@ fn segments_that_overlap_are_refused(rt: HostRuntime) {
     }
 }
 
-/// Finds that a segment isn't allowed.
+/// Asserts that a segment isn't allowed.
 fn check_refused(rt: impl Abort + Copy, alloc: Global, segment: Segment) {
     let mut machine = Machine::new(rt, alloc);
     let loaded = machine.load(rt, alloc, Way::Small, &[segment]);

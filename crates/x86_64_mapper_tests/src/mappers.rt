@@ -1,4 +1,4 @@
-//! What a mapper says of its own, and its root's table, which it lends.
+//! Information about each mapper, and its root's table, which it lends.
 ghost use Rattle.std.specs.Prelude.{◌≡◌, ◌/◌};
 ghost use Rattle.std.specs.FinMap.{insert};
 ghost use Rattle.x86_64_tables.specs.PageTable.{zero_words};
@@ -37,7 +37,7 @@ use x86_64_tables::phys_memory::{
 /// A word, after the number of its frame and its index.
 type Word = (u64, u16, u64);
 
-/// The words of the tables on the way to the page 0x1000, which is mapped to the frame at 0x5000.
+/// The words of the tables on the path of the page 0x1000, which is mapped to the frame at 0x5000.
 const WORDS: [Word; 4] = [
     (1, 0, 0x2003),
     (2, 0, 0x3003),
@@ -45,7 +45,7 @@ const WORDS: [Word; 4] = [
     (4, 1, 0x5003),
 ];
 
-/// The same with five levels of tables and the frame at 0x6000.
+/// These with five levels of tables, and the frame at 0x6000.
 const WORDS_57: [Word; 5] = [
     (1, 0, 0x2003),
     (2, 0, 0x3003),
@@ -64,14 +64,14 @@ fn set_words<T: TableMemory>(rt: impl Abort + Copy, memory: &mut T, words: &[Wor
     }
 }
 
-/// Makes a memory of 8 places with these words.
+/// Creates a memory of 8 places with these words. A place is the index of a table in memory.
 fn image(rt: impl Abort + Copy, alloc: Global, words: &[Word]) -> PhysMemory {
     let mut memory = unwrap(rt, PhysMemory::new(alloc, 8));
     set_words(rt, &mut memory, words);
     memory
 }
 
-/// Makes a pool of these frames, below the number 8.
+/// Creates a pool of these frames, with numbers below 8.
 fn pool_of(rt: impl Abort + Copy, alloc: Global, frames: &[u64]) -> FramePool {
     let mut pool = unwrap(rt, FramePool::new(alloc, 8));
     for frame in frames {
@@ -80,7 +80,7 @@ fn pool_of(rt: impl Abort + Copy, alloc: Global, frames: &[u64]) -> FramePool {
     pool
 }
 
-/// Compares the words of the tables at the places from 1 on: each is 0 but for these.
+/// Compares the words of the tables at the places from 1 on, which are 0 except for these.
 fn check_words(rt: impl Abort + Copy, memory: &PhysMemory, words: &[Word]) {
     for place in 1..memory.len() as u64 {
         let table = unwrap_some(rt, memory.table(FramePlace::new(place)));
@@ -93,10 +93,10 @@ fn check_words(rt: impl Abort + Copy, memory: &PhysMemory, words: &[Word]) {
     }
 }
 
-/// What calls leave: the frames of the pool in order, and the words of the memory that aren't 0.
+/// The result of calls: the frames of the pool in order, and the words of the memory that aren't 0.
 type Left<'a> = (&'a [u64], &'a [Word]);
 
-/// Compares the frames of a pool and the words of a memory with those that calls left.
+/// Compares the frames of a pool and the words of a memory with the result of calls.
 fn check_left(rt: impl Abort + Copy, memory: &PhysMemory, pool: &FramePool, left: Left<'_>) {
     let (frames, words) = left;
     assert_equal(rt, pool.len(), frames.len());
@@ -106,17 +106,17 @@ fn check_left(rt: impl Abort + Copy, memory: &PhysMemory, pool: &FramePool, left
     check_words(rt, memory, words)
 }
 
-/// Gives the 4KiB frame that contains an address.
+/// Returns the 4KiB frame that contains an address.
 fn small(address: u64) -> PhysFrame<Size4KiB> {
     PhysFrame::containing_address(PhysAddr::new_truncate(address))
 }
 
-/// Gives the page of a size that contains an address.
+/// Returns the page of a size that contains an address.
 fn page<S: PageSize, L: LevelCount>(address: u64) -> PageIn<S, L> {
     PageIn::containing_address(VirtAddrIn::new_truncate(address))
 }
 
-/// Gives what an address is mapped to.
+/// Returns the translation of an address that is mapped to a frame.
 fn mapped(frame: MappedFrame, offset: u64, flags: u64) -> TranslateResult {
     let flags = PageTableFlags::from_bits_retain(flags);
     TranslateResult::Mapped {
@@ -126,14 +126,14 @@ fn mapped(frame: MappedFrame, offset: u64, flags: u64) -> TranslateResult {
     }
 }
 
-/// Gives the physical address by any mapper.
+/// Returns the physical address of an address, with any mapper.
 fn address_by<M: Translate>(mapper: &M, addr: VirtAddr) -> Option<PhysAddr>
     requires { Valid (M.hierarchy mapper.now).layout (M.hierarchy mapper.now).memory }
 {
     mapper.translate_addr(addr)
 }
 
-/// Asks a mapper of its tables.
+/// Compares what a mapper says about its tables.
 fn check_mapper(rt: impl Abort + Copy, alloc: Global, memory: &mut PhysMemory) {
     let root = small(0x1000);
     let tested = is_valid_hierarchy(alloc, memory, &IdentityMapping, root);
@@ -171,7 +171,7 @@ fn frames_of_translations_have_a_size(rt: HostRuntime) {
     );
 }
 
-/// Makes the entries of the root unused. The owner knows what the memory holds then.
+/// Makes the entries of the root unused. The owner knows the memory's contents afterwards.
 fn clear_root(memory: &mut PhysMemory, root: PhysFrame<Size4KiB>)
     requires { Valid (direct identity_places root) memory.old }
     ensures { memory.new ≡ insert memory.old (root / 4096) zero_words }

@@ -1,4 +1,4 @@
--- What a mapper is once a table or an entry that it lent comes back.
+-- What a mapper becomes when a table or an entry that it lent comes back.
 use Rattle.std.specs.Prelude.{ℕ, List, [], unwrap_or}
 use Rattle.std.specs.Borrow.{Lends, MutBor, Fml, RattleType}
 use Rattle.std.specs.FinMap.{insert}
@@ -15,6 +15,6 @@ table_in l m f = unwrap_or (words l m f) []
 abbrev pub put_table : {Lent : Type 0} → Hierarchy Lent → (frame : ℕ) → List ℕ → Memory
 put_table h f table = insert h.memory (h.layout.places.place f) table
 
--- a mapper of a type ends as F makes it of the last word behind r
+-- a mapper ends as F of the last word behind the lent reference r
 abbrev pub LendsEntryBy : (mapper : RattleType) → MutBor mapper.Denot → (r : MutBor ℕ) → (F : ℕ → mapper.Denot) → Fml
 LendsEntryBy mapper s r F = Lends mapper entry_row s r F

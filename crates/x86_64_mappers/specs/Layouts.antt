@@ -4,19 +4,19 @@ use Rattle.x86_64_model.specs.Layout.{Layout, words}
 use Rattle.x86_64_model.specs.Memory.{Memory, Places, words_of}
 use Rattle.x86_64_model.specs.Mapper.{Hierarchy}
 
--- so many levels of tables from a root, without a recursive index: a new table entry gets the parent flags alone
+-- a layout without a recursive index: a new table entry gets the parent flags alone
 abbrev pub direct_at : (levels : ℕ) → Places → (root : ℕ) → Layout
 direct_at levels places root = record { levels = levels; places = places; root = root; window = None; added_flags = 0 }
 
--- four of them
+-- the layout of four levels
 abbrev pub direct : Places → (root : ℕ) → Layout
 direct places root = direct_at 4 places root
 
--- such a hierarchy in a memory, and which memory was lent, and what finds frames in it
+-- a hierarchy with such a layout in a memory; lent says which memory was lent and what finds frames in it
 abbrev pub owned_at : {Lent : Type 0} → (levels : ℕ) → Places → (root : ℕ) → Memory → Lent → Hierarchy Lent
 owned_at levels places root memory lent = record { layout = direct_at levels places root; memory = memory; lent = lent }
 
--- one of four levels
+-- the hierarchy of four levels
 abbrev pub owned : {Lent : Type 0} → Places → (root : ℕ) → Memory → Lent → Hierarchy Lent
 owned places root memory lent = owned_at 4 places root memory lent
 

@@ -1,4 +1,4 @@
--- What a mapper is once a table that it lent comes back.
+-- What a mapper becomes when a table that it lent comes back.
 use Rattle.std.specs.Prelude.{ℕ, Bool, true, false, cond, List, [], None, IsSome}
 use Rattle.std.specs.Borrow.{Lends, MutBor, Fml, RattleType}
 use Rattle.std.specs.FinMap.{get}
@@ -16,7 +16,7 @@ use Rattle.x86_64_addr.specs.contracts.level_count.FourLevels as four
 use Rattle.x86_64_addr.specs.contracts.level_count.FourLevelsLevelCount.TheImpl as four_count
 use Rattle.x86_64_mappers.specs.contracts.mapped_page_table.Direct.{the_row as mapper_row}
 
--- the root stays in a memory that keeps its places
+-- the root stays in a memory that keeps its places (a place is the index of a table in memory)
 pub root_stays : (places : Places) (root : ℕ) (before after : Memory) → ((place : ℕ) → IsSome (get before place) → IsSome (get after place))
     → HasRoot places root before → HasRoot places root after
 root_stays places root before after stays = by (places.covers root)
@@ -35,12 +35,12 @@ LendsDirectRoot P L T G N H s r = Lends (mapper_row (record { mir = named 1; lft
       has_root = root_stays places s.now.root (H.tables now) (H.tables after) (H.keeps_places now (places.place s.now.root) table) s.now.has_root;
     })
 
--- the same at four levels
+-- this at four levels
 abbrev pub LendsRootTable : (P T : RattleType) (G : Ghosts P.Denot) (H : Held T.Denot)
     → MutBor (Direct P.Denot four.the_row.Denot T.Denot G four_count.ghosts H) → MutBor (List ℕ) → Fml
 LendsRootTable P T G H s r = LendsDirectRoot P four.the_row T G four_count.ghosts H s r
 
--- the same at five levels
+-- this at five levels
 abbrev pub LendsRootTable57 : (P T : RattleType) (G : Ghosts P.Denot) (H : Held T.Denot)
     → MutBor (Direct P.Denot five.the_row.Denot T.Denot G five_count.ghosts H) → MutBor (List ℕ) → Fml
 LendsRootTable57 P T G H s r = LendsDirectRoot P five.the_row T G five_count.ghosts H s r

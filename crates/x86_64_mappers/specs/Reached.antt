@@ -1,4 +1,4 @@
--- A table that words lead to along a path, where each entry on the way is present and names a table.
+-- Tables that words lead to along a path, on which each entry is present and names a table.
 use Rattle.std.specs.Prelude.{◌≡◌, ℕ, List, Some, IsSome}
 use Rattle.x86_64_model.specs.Arrivals.{leads}
 use Rattle.x86_64_model.specs.Layout.{Layout, words}
@@ -6,7 +6,8 @@ use Rattle.x86_64_model.specs.Memory.{Memory}
 use Rattle.x86_64_model.specs.Mapper.{Hierarchy}
 use Rattle.x86_64_model.specs.Window.{SelfEntry}
 
--- the root is there too, and its self-entry where there is a recursive index
+-- The words lead along the path to the table in the frame, which is in the memory. So is the root, with its self-entry if there
+-- is a recursive index.
 pub record IsReached (l : Layout) (m : Memory) (path : List ℕ) (frame : ℕ) : Type 0 where
   pub way : leads (words l m) l.root path ≡ Some frame
   pub there : IsSome (words l m frame)

@@ -12,23 +12,24 @@ use Rattle.x86_64_tables.specs.contracts.page_table.table.PageTable.{the_row as 
 use Rattle.x86_64_mappers.specs.contracts.recursive_page_table.Recursive.{the_row as recursive_row}
 use Rattle.x86_64_mappers.specs.declared.recursive_page_table.Recursive.{Recursive}
 
--- so many levels of tables from a root with a window: a new table entry gets PRESENT and WRITABLE beside the parent flags
+-- a layout with a recursive index and the root's word there: a new table entry gets PRESENT and WRITABLE in addition to the
+-- parent flags
 abbrev pub recursive_at : (levels : ℕ) → (root : ℕ) → Window → Layout
 recursive_at levels root window = record { levels = levels; places = identity_places; root = root; window = Some window; added_flags = 3 }
 
--- such a hierarchy in a memory, and which memory was lent
+-- a hierarchy with such a layout in a memory; lent says which memory was lent
 abbrev pub owned_by : {Lent : Type 0} → (levels : ℕ) → (root : ℕ) → Window → Memory → Lent → Hierarchy Lent
 owned_by levels root window memory lent = record { layout = recursive_at levels root window; memory = memory; lent = lent }
 
--- the layout of so many levels for a recursive index, with the word that the root has there now
+-- such a layout for an index, with the word that the root has there now
 abbrev pub recursive_now_at : (levels : ℕ) → Memory → (root index : ℕ) → Layout
 recursive_now_at levels memory root r = recursive_at levels root (window_at (words_of memory identity_places) root r)
 
--- the window of an index where the root's word names the root and has these flags
+-- an index, and the root's word there if it names the root and has these flags
 abbrev pub window_with : (root index flags : ℕ) → Window
 window_with root r flags = record { index = r; self_entry = bit_or root flags }
 
--- the memory that it was made of, as it is
+-- the memory that the mapper was created from, as it is now
 abbrev pub active_in : {A L : Type 0} → Recursive A L → A
 active_in mapper = mapper.active
 
@@ -36,10 +37,10 @@ active_in mapper = mapper.active
 abbrev pub LendsRootWindowAt : (A L : RattleType) → (with : A.Denot → ℕ → List ℕ → A.Denot) → MutBor (Recursive A.Denot L.Denot) → (root : ℕ) → MutBor (List ℕ) → Fml
 LendsRootWindowAt A L with s root r = Lends (recursive_row A L) table_row s r (λ table. record s.now { active = with s.now.active root table })
 
--- the same at four levels
+-- this at four levels
 abbrev pub LendsRootWindow : (A : RattleType) → (with : A.Denot → ℕ → List ℕ → A.Denot) → MutBor (Recursive A.Denot four.the_row.Denot) → (root : ℕ) → MutBor (List ℕ) → Fml
 LendsRootWindow A with s root r = LendsRootWindowAt A four.the_row with s root r
 
--- the same at five levels
+-- this at five levels
 abbrev pub LendsRootWindow57 : (A : RattleType) → (with : A.Denot → ℕ → List ℕ → A.Denot) → MutBor (Recursive A.Denot five.the_row.Denot) → (root : ℕ) → MutBor (List ℕ) → Fml
 LendsRootWindow57 A with s root r = LendsRootWindowAt A five.the_row with s root r

@@ -1,4 +1,4 @@
-//! Tables by the paths that lead to them: what all mappers have in common.
+//! Access to tables by the paths that lead to them, which all mappers have in common.
 ghost use Rattle.std.specs.Prelude.{◌≡◌, ◌<◌, ℕ, List, length, slice_set, Some, IsSome};
 ghost use Rattle.std.specs.Borrow.{sem};
 ghost use Rattle.x86_64_model.specs.Memory.{word};
@@ -24,28 +24,29 @@ use x86_64_page::page::Size4KiB;
 use x86_64_tables::mapper::Tables;
 use x86_64_tables::page_table::{PageTable, PageTableEntry, PageTableFlags};
 
-/// Reaches the tables of a hierarchy, each by the path that leads to it or by its frame, whichever the mapper needs.
+/// Access to the tables of a hierarchy. Each table is named by the path that leads to it and by its frame, and a
+/// mapper uses whichever it needs.
 ///
-/// A path has an index for each level from the root's down; the path of no index leads to the root's table.
+/// A path has one index per level, from the root's level down. The empty path leads to the root's table.
 pub trait TableAccess: Tables {
     /// The mapper with another table in a frame.
     ghost with_table: { Self → ℕ → List ℕ → Self };
 
-    /// Gives the root's frame.
+    /// Returns the root's frame.
     fn root(&self) -> PhysFrame<Size4KiB>
         ensures { result ≡ (Self.hierarchy self.now).layout.root };
 
-    /// Gives the flags that the entry of a new table gets beside the parent flags.
+    /// Returns the flags that the entry of a new table gets in addition to the parent flags.
     fn new_table_flags(&self) -> PageTableFlags
         ensures { bits_of result ≡ (Self.hierarchy self.now).layout.added_flags };
 
-    /// Gives the table to which a path leads, in the frame.
+    /// Returns the table in the frame that a path leads to.
     fn table(&self, path: &[PageTableIndex], frame: PhysFrame<Size4KiB>) -> &PageTable
         requires reached { Reaches (Self.hierarchy self.now) path.now frame }
         requires short { length path.now < (Self.hierarchy self.now).layout.levels }
         ensures { words (Self.hierarchy self.now) frame ≡ Some result.now };
 
-    /// Lends the table to which a path leads, in the frame.
+    /// Lends the table in the frame that a path leads to.
     fn table_mut(&mut self, path: &[PageTableIndex], frame: PhysFrame<Size4KiB>) -> &mut PageTable
         requires reached { Reaches (Self.hierarchy self.old) path.now frame }
         requires short { length path.now < (Self.hierarchy self.old).layout.levels }
@@ -62,7 +63,7 @@ pub trait TableAccess: Tables {
         (Self.Tables.hierarchy (with_table s f t)).lent ≡ (Self.Tables.hierarchy s).lent };
 }
 
-/// Gives the entry at an index of the table to which a path leads.
+/// Returns the entry at an index of the table that a path leads to.
 fn entry<'m, M: TableAccess>(
     mapper: &'m M,
     path: &[PageTableIndex],
@@ -77,7 +78,7 @@ fn entry<'m, M: TableAccess>(
     &mapper.table(path, frame)[usize::from(index)]
 }
 
-/// Lends the entry at an index of the table to which a path leads.
+/// Lends the entry at an index of the table that a path leads to.
 fn entry_mut<'m, M: TableAccess>(
     mapper: &'m mut M,
     path: &[PageTableIndex],

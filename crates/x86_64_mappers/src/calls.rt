@@ -1,6 +1,6 @@
 //! The calls of mappers, over any number of levels. The methods of [`Mapper`](crate::mapper::Mapper),
-//! [`Translate`](crate::mapper::Translate) and [`CleanUp`](crate::mapper::CleanUp), and those of five levels, are these, and say more
-//! of each: what it does, and where the manuals have it.
+//! [`Translate`](crate::mapper::Translate) and [`CleanUp`](crate::mapper::CleanUp), and those of five levels, call
+//! these. Their documentation says more about each call.
 ghost use Rattle.std.specs.Prelude.{◌≡◌, ◌<◌, ◌≤◌, ◌-◌, ℕ, true, IfOk};
 ghost use Rattle.x86_64_model.specs.Call.{MapTo, MapToWithTableFlags, IdentityMap, Unmap, UpdateFlags, SetFlags};
 ghost use Rattle.x86_64_model.specs.Entry.{present};
@@ -26,9 +26,10 @@ use x86_64_tables::mapper::{
 };
 use x86_64_tables::page_table::PageTableFlags;
 
-/// Maps a page to a frame, and gives the entries above it the parent flags.
+/// Maps a page to a frame, and adds the parent flags to the entries above it.
 ///
-/// Conditions and errors are those of [`Mapper::map_to_with_table_flags`](crate::mapper::Mapper::map_to_with_table_flags).
+/// Conditions and errors are those of
+/// [`Mapper::map_to_with_table_flags`](crate::mapper::Mapper::map_to_with_table_flags).
 pub fn map_to_with_table_flags<
     S: PageSize,
     L: LevelCount,
@@ -64,8 +65,8 @@ pub fn map_to_with_table_flags<
     Ok(MapperFlushIn::new(page))
 }
 
-/// Maps a page to a frame, and gives the entries above it those of `PRESENT`, `WRITABLE` and `USER_ACCESSIBLE` that are among the
-/// flags.
+/// Maps a page to a frame. The entries above it get `PRESENT`, `WRITABLE` and `USER_ACCESSIBLE` as far as the flags
+/// have them.
 ///
 /// Conditions and errors are those of [`Mapper::map_to`](crate::mapper::Mapper::map_to).
 pub fn map_to<
@@ -98,8 +99,8 @@ pub fn map_to<
 
 /// Maps the page that starts at a frame's own address to the frame.
 ///
-/// Conditions: those of [`map_to`] for this page, and the frame's address lies in the lower half of the address space. Errors are
-/// those of [`map_to`].
+/// Requires the conditions of [`map_to`] for this page, and that the frame's address is in the lower half of the
+/// address space. Errors are those of [`map_to`].
 pub fn identity_map<
     S: PageSize,
     L: LevelCount,
@@ -134,9 +135,9 @@ pub fn identity_map<
     )
 }
 
-/// Tells whether a page may be mapped with these flags and parent flags.
+/// Returns true if a page may be mapped with these flags and parent flags.
 ///
-/// Condition: the hierarchy is valid.
+/// Requires that the hierarchy is valid.
 pub fn map_allowed<S: PageSize, L: LevelCount, M: TableAccess + TablesIn<L>>(
     mapper: &M,
     page: PageIn<S, L>,
@@ -189,9 +190,10 @@ pub fn update_flags<S: PageSize, L: LevelCount, M: TableAccess + TablesIn<L>>(
     Ok(MapperFlushIn::new(page))
 }
 
-/// Sets the flags of the entry of a level from two up on a page's path.
+/// Sets the flags of the entry of a level, two or above, on a page's path.
 ///
-/// Conditions and errors are those of [`Mapper::set_flags_p4_entry`](crate::mapper::Mapper::set_flags_p4_entry) and its kin.
+/// Conditions and errors are those of [`Mapper::set_flags_p4_entry`](crate::mapper::Mapper::set_flags_p4_entry) and
+/// of the methods for the other levels.
 pub fn set_table_flags<S: PageSize, L: LevelCount, M: TableAccess + TablesIn<L>>(
     mapper: &mut M,
     page: PageIn<S, L>,
@@ -211,9 +213,9 @@ pub fn set_table_flags<S: PageSize, L: LevelCount, M: TableAccess + TablesIn<L>>
     Ok(MapperFlushAll::new())
 }
 
-/// Tells whether the flags of the entry of level three or two on a page's path may be set to these.
+/// Returns true if the flags of the entry of level three or two on a page's path may be set to these.
 ///
-/// Condition: the hierarchy is valid.
+/// Requires that the hierarchy is valid.
 pub fn table_flags_allowed<S: PageSize, L: LevelCount, M: TableAccess + TablesIn<L>>(
     mapper: &M,
     page: PageIn<S, L>,
@@ -232,7 +234,8 @@ pub fn table_flags_allowed<S: PageSize, L: LevelCount, M: TableAccess + TablesIn
 
 /// Returns the frame that a page's entry names, `PRESENT` or not.
 ///
-/// Condition: the hierarchy is valid. Errors are those of [`Mapper::translate_page`](crate::mapper::Mapper::translate_page).
+/// Requires that the hierarchy is valid. Errors are those of
+/// [`Mapper::translate_page`](crate::mapper::Mapper::translate_page).
 pub fn translate_page<S: PageSize, L: LevelCount, M: TableAccess + TablesIn<L>>(
     mapper: &M,
     page: PageIn<S, L>,
@@ -245,9 +248,9 @@ pub fn translate_page<S: PageSize, L: LevelCount, M: TableAccess + TablesIn<L>>(
     translations::translate_path(mapper, path.indices())
 }
 
-/// Takes away the empty tables of the whole address space, and gives their frames back.
+/// Removes the empty tables of the whole address space, and returns their frames to the deallocator.
 ///
-/// Conditions: those of [`clean_up_range`].
+/// Requires the conditions of [`clean_up_range`].
 pub fn clean_up<L: LevelCount, M: TableAccess + TablesIn<L>, D: FrameDeallocator<Size4KiB>>(
     mapper: &mut M,
     frame_deallocator: &mut D,

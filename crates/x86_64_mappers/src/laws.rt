@@ -1,4 +1,4 @@
-//! Laws of mappers. The bodies are empty; the contracts are the laws.
+//! Laws of mappers. The bodies are empty, the contracts are the laws.
 ghost use Rattle.std.specs.Prelude.{◌≡◌, ◌↔◌, ℕ, Bool, List, None};
 ghost use Rattle.x86_64_model.specs.Layout.{Valid, words, paths};
 ghost use Rattle.x86_64_model.specs.Memory.{identity_places, words_of};
@@ -11,8 +11,8 @@ use x86_64_addr::addr::VirtAddrIn;
 use x86_64_addr::level_count::LevelCount;
 use x86_64_tables::phys_memory::TableMemory;
 
-/// In a memory that an offset fits, each frame has the table at the offset that it has by the identity mapping: the same
-/// hierarchies are valid, and the same pools fit them.
+/// If an offset fits a memory, each frame has the same table at the offset as by the identity mapping. So the same
+/// hierarchies are valid with both mappings, and the same pools fit them.
 #[tactic(auto, using(crate::proofs::Memory::OffsetTables::offset_words))]
 pub fn offset_has_the_tables_of_the_identity<L: LevelCount, T: TableMemory>(
     memory: &T,
@@ -31,8 +31,8 @@ pub fn offset_has_the_tables_of_the_identity<L: LevelCount, T: TableMemory>(
         ↔ Fits L.LEVELS None (words (offset root) m) root (paths (offset root) m) serves pool }
 {}
 
-/// Where an entry of the root names the root itself, the walk of a window arrives at the table that it is for, whatever all
-/// other words hold.
+/// If an entry of the root names the root itself, the page walk of a window arrives at the window's table, whatever
+/// all other words are.
 #[tactic(auto, using(crate::proofs::Window::Windows::windows_show_tables))]
 pub fn windows_show_their_tables()
     ensures { WindowsShowTables }

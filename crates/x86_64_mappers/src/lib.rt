@@ -1,4 +1,4 @@
-//! Mappers: they read and change the page tables of a physical memory that was lent to them.
+//! Mappers, which read and change the page tables of a physical memory that is lent to them.
 #![tactic(auto)]
 
 mod access;

@@ -1,4 +1,4 @@
-//! The mapper that finds tables by a frame mapping.
+//! The mapper that finds page tables by a frame mapping.
 ghost use Rattle.std.specs.Prelude.{◌≡◌, ◌↔◌, Some, IfOk, IsTrue};
 ghost use Rattle.x86_64_model.specs.Layout.{Valid as ValidIn};
 ghost use Rattle.x86_64_model.specs.Mapper.{Valid};
@@ -20,9 +20,9 @@ use x86_64_tables::phys_memory::{
     is_valid_hierarchy_57,
 };
 
-/// Maps pages in a hierarchy of `L` levels of tables, which it finds in a memory by a frame mapping.
+/// A mapper for a hierarchy of `L` levels of page tables, which it finds in a memory by a frame mapping.
 ///
-/// It has the memory lent until it is dropped. Its hierarchy has no recursive index.
+/// It borrows the memory until it is dropped. Its hierarchy has no recursive index.
 pub struct Direct<'a, P: PageTableFrameMapping, L: LevelCount, T: TableMemory = PhysMemory> {
     memory: &'a mut T,
     root: PhysFrame<Size4KiB>,
@@ -31,9 +31,10 @@ pub struct Direct<'a, P: PageTableFrameMapping, L: LevelCount, T: TableMemory = 
     ghost has_root: { HasRoot (P.places mapping) root (T.tables memory.now) },
 }
 
-/// The frame mapping that a caller gives.
+/// A frame mapping given by the caller.
 ///
-/// It is a type of its own so that [`MappedPageTable::new`] and [`OffsetPageTable::new`] are apart, which take another argument each.
+/// It is a type of its own to keep apart [`MappedPageTable::new`] and [`OffsetPageTable::new`], which take different
+/// arguments.
 ///
 /// [`OffsetPageTable::new`]: crate::offset_page_table::OffsetPageTable
 #[derive(Drop)]
@@ -61,13 +62,13 @@ impl<P: PageTableFrameMapping> PageTableFrameMapping for GivenMapping<P> {
     ghost is_mapping = { P.is_mapping };
 }
 
-/// The mapper of a hierarchy of any number of levels of tables.
+/// A mapper for a hierarchy of any number of levels of page tables.
 pub type MappedPageTableIn<'a, P, L, T = PhysMemory> = Direct<'a, GivenMapping<P>, L, T>;
 
-/// The mapper of a hierarchy of four levels of tables.
+/// A mapper for a hierarchy of four levels of page tables.
 pub type MappedPageTable<'a, P, T = PhysMemory> = MappedPageTableIn<'a, P, FourLevels, T>;
 
-/// The mapper of five levels of tables.
+/// A mapper for a hierarchy of five levels of page tables.
 pub type MappedPageTable57<'a, P, T = PhysMemory> = MappedPageTableIn<'a, P, FiveLevels, T>;
 
 impl<'a, P: PageTableFrameMapping + Drop, L: LevelCount, T: TableMemory> Drop
@@ -86,10 +87,10 @@ impl<'a, P: PageTableFrameMapping + Drop, L: LevelCount, T: TableMemory> Drop
 }
 
 impl<'a, P: PageTableFrameMapping, L: LevelCount, T: TableMemory> Direct<'a, P, L, T> {
-    /// Makes a mapper of the hierarchy that starts at a root, in a memory where the mapping says where frames lie.
+    /// Creates a mapper for the hierarchy with this root, in a memory whose frames lie where the mapping says.
     ///
-    /// Condition: the hierarchy is valid. Test that by
-    /// [`is_valid_hierarchy`](x86_64_tables::phys_memory::is_valid_hierarchy) with the same mapping.
+    /// Requires that the hierarchy is valid, which
+    /// [`is_valid_hierarchy`](x86_64_tables::phys_memory::is_valid_hierarchy) tests with the same mapping.
     pub(crate) fn over(memory: &'a mut T, root: PhysFrame<Size4KiB>, mapping: P) -> Self
         requires { ValidIn (direct_at L.LEVELS (P.places mapping) root) (T.tables memory.old) }
         ensures lent { let lent = (⟦<Self as Tables>⟧.hierarchy result).lent in
@@ -106,7 +107,7 @@ impl<'a, P: PageTableFrameMapping, L: LevelCount, T: TableMemory> Direct<'a, P, 
         }
     }
 
-    /// Gives what finds frames.
+    /// Returns the frame mapping.
     pub(crate) fn mapping(&self) -> &P
         ensures mapping { result.now ≡ (⟦<Self as Tables>⟧.hierarchy self.now).lent.1 }
         ensures places { P.places result.now ≡ (⟦<Self as Tables>⟧.hierarchy self.now).layout.places }
@@ -121,10 +122,10 @@ impl<'a, P: PageTableFrameMapping, L: LevelCount, T: TableMemory> Direct<
     L,
     T,
 > {
-    /// Makes a mapper of the hierarchy that starts at a root, in a memory where the mapping says where frames lie.
+    /// Creates a mapper for the hierarchy with this root, in a memory whose frames lie where the mapping says.
     ///
-    /// Condition: the hierarchy is valid. Test that by
-    /// [`is_valid_hierarchy`](x86_64_tables::phys_memory::is_valid_hierarchy) with the same mapping.
+    /// Requires that the hierarchy is valid, which
+    /// [`is_valid_hierarchy`](x86_64_tables::phys_memory::is_valid_hierarchy) tests with the same mapping.
     pub fn new(memory: &'a mut T, root: PhysFrame<Size4KiB>, mapping: P) -> Self
         requires { ValidIn (direct_at L.LEVELS (P.places mapping) root) (T.tables memory.old) }
         ensures lent { let lent = (⟦<Self as Tables>⟧.hierarchy result).lent in
@@ -136,7 +137,7 @@ impl<'a, P: PageTableFrameMapping, L: LevelCount, T: TableMemory> Direct<
         Direct::over(memory, root, GivenMapping { mapping })
     }
 
-    /// Gives the frame mapping that the mapper was made with.
+    /// Returns the frame mapping that the mapper was created with.
     pub fn page_table_frame_mapping(&self) -> &P
         ensures mapping { result.now ≡ (⟦<Self as Tables>⟧.hierarchy self.now).lent.1 }
         ensures places { P.places result.now ≡ (⟦<Self as Tables>⟧.hierarchy self.now).layout.places }
@@ -149,14 +150,14 @@ impl<'a, P: PageTableFrameMapping, T: TableMemory> Direct<'a, P, FourLevels, T> 
     ghost use Rattle.std.specs.Borrow.{sem};
     ghost use Rattle.x86_64_mappers.specs.Lending.{LendsRootTable};
 
-    /// Gives the table of level four, in the root's frame.
+    /// Returns the table of level four, which is in the root's frame.
     pub fn level_4_table(&self) -> &PageTable
         ensures { root_table (⟦<Self as Tables>⟧.hierarchy self.now) ≡ Some result.now }
     {
         self.table(&[], self.root)
     }
 
-    /// Lends the table of level four to be changed.
+    /// Lends the table of level four, to be changed.
     pub fn level_4_table_mut(&mut self) -> &mut PageTable
         ensures* lends { sem 𝓛 (
             LendsRootTable P.row T.row ⟦<P as PageTableFrameMapping>⟧ ⟦<T as TableMemory>⟧ self.entry result) }
@@ -166,11 +167,11 @@ impl<'a, P: PageTableFrameMapping, T: TableMemory> Direct<'a, P, FourLevels, T> 
         self.table_mut(&[], root)
     }
 
-    /// Tells whether the hierarchy is valid now.
+    /// Returns whether the hierarchy is valid now.
     ///
     /// # Errors
     ///
-    /// `AllocError` where memory is refused.
+    /// `AllocError` if memory allocation fails.
     pub fn is_valid(&self, alloc: Global) -> Result<bool, AllocError>
         ensures { IfOk result (λ valid. IsTrue valid ↔ Valid (⟦<Self as Tables>⟧.hierarchy self.now)) }
     {
@@ -182,14 +183,14 @@ impl<'a, P: PageTableFrameMapping, T: TableMemory> Direct<'a, P, FiveLevels, T> 
     ghost use Rattle.std.specs.Borrow.{sem};
     ghost use Rattle.x86_64_mappers.specs.Lending.{LendsRootTable57};
 
-    /// Gives the table of level five, in the root's frame.
+    /// Returns the table of level five, which is in the root's frame.
     pub fn level_5_table(&self) -> &PageTable
         ensures { root_table (⟦<Self as Tables>⟧.hierarchy self.now) ≡ Some result.now }
     {
         self.table(&[], self.root)
     }
 
-    /// Lends the table of level five to be changed.
+    /// Lends the table of level five, to be changed.
     pub fn level_5_table_mut(&mut self) -> &mut PageTable
         ensures* lends { sem 𝓛 (
             LendsRootTable57 P.row T.row ⟦<P as PageTableFrameMapping>⟧ ⟦<T as TableMemory>⟧ self.entry result) }
@@ -199,11 +200,11 @@ impl<'a, P: PageTableFrameMapping, T: TableMemory> Direct<'a, P, FiveLevels, T> 
         self.table_mut(&[], root)
     }
 
-    /// Tells whether the hierarchy is valid now.
+    /// Returns whether the hierarchy is valid now.
     ///
     /// # Errors
     ///
-    /// `AllocError` where memory is refused.
+    /// `AllocError` if memory allocation fails.
     pub fn is_valid(&self, alloc: Global) -> Result<bool, AllocError>
         ensures { IfOk result (λ valid. IsTrue valid ↔ Valid (⟦<Self as Tables>⟧.hierarchy self.now)) }
     {

@@ -1,4 +1,4 @@
-//! Translations of addresses and maps of pages, over any mapper's access to its tables.
+//! Translates addresses and maps pages, over any mapper's access to its tables.
 ghost use Rattle.std.specs.Prelude.{◌≡◌, ◌<◌, ◌^◌, ℕ, true, Some, option_map, IfOk};
 ghost use Rattle.x86_64_model.specs.Mapper.{Valid, walk, translation};
 ghost use Rattle.x86_64_model.specs.Translation.{address_of};
@@ -29,16 +29,16 @@ use x86_64_tables::page_table::PageTableFlags;
 pub trait Translate: TableAccess + PageTables {
     ghost use Rattle.x86_64_tables.specs.Translations.{translation_of, reaches};
 
-    /// Tells where an address is mapped to.
+    /// Returns what an address is mapped to.
     ///
-    /// The entries of levels four, three and two need `PRESENT`, else it is `NotMapped`. With `HUGE_PAGE` an entry of level
-    /// three maps a page of 1GiB, one of level two a page of 2MiB. An entry of level one maps a page of 4KiB unless it is
-    /// unused, also without `PRESENT`. The page walk arrives exactly where the answer's flags have `PRESENT`, at the same
-    /// address.
+    /// The address is `NotMapped` if an entry of level four, three or two on its path lacks `PRESENT`. With
+    /// `HUGE_PAGE`, an entry of level three maps a page of 1GiB, and an entry of level two a page of 2MiB. An entry
+    /// of level one maps a page of 4KiB unless it is unused, even without `PRESENT`. The page walk succeeds if and
+    /// only if the flags in the result have `PRESENT`, and arrives at the address of the result.
     ///
     /// Intel SDM vol. 3A, "Linear-Address Translation with 4-Level Paging and 5-Level Paging".
     ///
-    /// Condition: the hierarchy is valid.
+    /// Requires that the hierarchy is valid.
     final fn translate(&self, addr: VirtAddr) -> TranslateResult
         requires { Valid (Self.hierarchy self.now) }
         ensures answer { translation_of result ≡ Some (translation (Self.hierarchy self.now) addr) }
@@ -48,10 +48,10 @@ pub trait Translate: TableAccess + PageTables {
         calls::translate(self, addr)
     }
 
-    /// Gives the physical address that an address is mapped to, `PRESENT` or not: the frame's start plus the offset. It is
-    /// `None` where [`translate`](Self::translate) answers no mapping.
+    /// Returns the physical address that an address is mapped to, `PRESENT` or not: the frame's start plus the
+    /// offset. Returns `None` if [`translate`](Self::translate) finds no mapping.
     ///
-    /// Condition: the hierarchy is valid.
+    /// Requires that the hierarchy is valid.
     final fn translate_addr(&self, addr: VirtAddr) -> Option<PhysAddr>
         requires { Valid (Self.hierarchy self.now) }
         ensures { result ≡ address_of (translation (Self.hierarchy self.now) addr) }
@@ -62,9 +62,9 @@ pub trait Translate: TableAccess + PageTables {
 
 impl<M: TableAccess + PageTables> Translate for M {}
 
-/// Maps and unmaps pages of a size, and changes the flags of the entries on their paths.
+/// Maps and unmaps pages of one size, and changes the flags of the entries on their paths.
 ///
-/// The parents of a page are the entries on its path from the root down to the one above its own.
+/// The parents of a page are the entries on its path from the root down to the one above the page's own.
 pub trait Mapper<S: PageSize>: TableAccess + PageTables {
     ghost use Rattle.x86_64_model.specs.Call.{MapTo, MapToWithTableFlags, IdentityMap, Unmap, UpdateFlags, SetFlags};
     ghost use Rattle.x86_64_model.specs.Entry.{present};
@@ -73,22 +73,25 @@ pub trait Mapper<S: PageSize>: TableAccess + PageTables {
 
     /// Maps a page to a frame with these flags, and `HUGE_PAGE` for 2MiB and 1GiB.
     ///
-    /// From level four down, each missing table gets the first frame of the allocator, which is cleared and entered with
-    /// the parent flags, and each used parent gets the parent flags added. The frames may hold any words.
+    /// From level four down, each missing table gets the next frame of the allocator. The frame is cleared, and its
+    /// new entry gets the parent flags. A parent that is already used gets the parent flags added. The frames may
+    /// hold any words.
     ///
     /// Intel SDM vol. 3A, "Hierarchical Paging Structures: an Overview".
     ///
-    /// Conditions: the hierarchy is valid, the allocator's frames are as in a pool that fits it, and
-    /// [`map_allowed`](Self::map_allowed) holds.
+    /// Requires that the hierarchy is valid, that the allocator's frames are as in a pool that fits it, and that
+    /// [`map_allowed`](Self::map_allowed) returns true.
     ///
     /// # Errors
     ///
-    /// `ParentEntryHugePage` where a parent maps a larger page; else `FrameAllocationFailed` where the allocator has too
-    /// few frames; else `PageAlreadyMapped` with the frame asked for where the page's entry is used. What a refused map
-    /// did on its way stays: new tables, and flags added to parents.
+    /// - `ParentEntryHugePage` if a parent maps a larger page.
+    /// - Otherwise `FrameAllocationFailed` if the allocator has too few frames.
+    /// - Otherwise `PageAlreadyMapped` with the given frame if the page's entry is used.
     ///
-    /// Also after a refused map, where a page walk arrived before it still arrives, at the same address, with no right lost,
-    /// and none gained that the parent flags lack.
+    /// The changes made before the refusal remain: new tables, and flags added to parents.
+    ///
+    /// Even after a refused map, each page walk that succeeded before still arrives at its address. It loses no
+    /// right, and gains none that the parent flags lack.
     final fn map_to_with_table_flags<A: FrameAllocator<Size4KiB>>(
         &mut self,
         page: Page<S>,
@@ -110,12 +113,12 @@ pub trait Mapper<S: PageSize>: TableAccess + PageTables {
         calls::map_to_with_table_flags(self, page, frame, flags, parent_flags, frame_allocator)
     }
 
-    /// Maps a page as [`map_to_with_table_flags`](Self::map_to_with_table_flags) does, where the parent flags are those of
-    /// `PRESENT`, `WRITABLE` and `USER_ACCESSIBLE` that are among the flags.
+    /// Maps a page as [`map_to_with_table_flags`](Self::map_to_with_table_flags) does. The parent flags are
+    /// `PRESENT`, `WRITABLE` and `USER_ACCESSIBLE`, as far as the flags have them.
     ///
-    /// Where it succeeds with `PRESENT`, a page walk arrives from each address of the page, at the frame's start plus the
-    /// offset in the page, with the right to write exactly if `WRITABLE`, and that of a user exactly if `USER_ACCESSIBLE`, is
-    /// among the flags.
+    /// If it succeeds with `PRESENT`, the page walk of each address of the page arrives at the frame's start plus the
+    /// offset in the page. It has the right to write if and only if `WRITABLE` is among the flags, and that of a user
+    /// if and only if `USER_ACCESSIBLE` is.
     final fn map_to<A: FrameAllocator<Size4KiB>>(
         &mut self,
         page: Page<S>,
@@ -140,7 +143,7 @@ pub trait Mapper<S: PageSize>: TableAccess + PageTables {
 
     /// Maps the page that starts at a frame's own address to the frame, as [`map_to`](Self::map_to) does.
     ///
-    /// Conditions: those of [`map_to`](Self::map_to) for this page, and the frame starts below 2^47.
+    /// Requires the conditions of [`map_to`](Self::map_to) for this page, and that the frame starts below 2^47.
     final fn identity_map<A: FrameAllocator<Size4KiB>>(
         &mut self,
         frame: PhysFrame<S>,
@@ -163,13 +166,13 @@ pub trait Mapper<S: PageSize>: TableAccess + PageTables {
         calls::identity_map(self, frame, flags, frame_allocator)
     }
 
-    /// Tells whether a page may be mapped with these flags and parent flags.
+    /// Returns true if a page may be mapped with these flags and parent flags.
     ///
-    /// Neither has address bits. `HUGE_PAGE` is not in the parent flags, nor in the flags of a 4KiB page. The parent flags
-    /// have `PRESENT`, or every parent has it, down to and with the first that also has `HUGE_PAGE`. The page's index of
-    /// level four isn't the recursive index.
+    /// Neither may have address bits. `HUGE_PAGE` may not be in the parent flags, nor in the flags of a 4KiB page.
+    /// The parent flags must have `PRESENT`, unless every parent has it, down to and including the first that also
+    /// has `HUGE_PAGE`. The page's index of level four must not be the recursive index.
     ///
-    /// Condition: the hierarchy is valid.
+    /// Requires that the hierarchy is valid.
     final fn map_allowed(
         &self,
         page: Page<S>,
@@ -183,16 +186,21 @@ pub trait Mapper<S: PageSize>: TableAccess + PageTables {
         calls::map_allowed(self, page, flags, parent_flags)
     }
 
-    /// Unmaps a page, and gives the frame that it was mapped to. No table is taken away.
+    /// Unmaps a page, and returns the frame that it was mapped to. Tables that become empty stay.
     ///
-    /// Conditions: the hierarchy is valid, and the page's index of level four isn't the recursive index.
+    /// Requires that the hierarchy is valid, and that the page's index of level four isn't the recursive index.
     ///
     /// # Errors
     ///
-    /// `PageNotMapped` where a parent, or else the page's own entry, lacks `PRESENT`; `ParentEntryHugePage` where a parent
-    /// before it has `HUGE_PAGE`, or the page's own entry has it with 4KiB or lacks it with 2MiB and 1GiB;
-    /// `InvalidFrameAddress` where the entry of a 2MiB or 1GiB page names an address that isn't a multiple of the size.
-    /// A refusal changes nothing.
+    /// The first parent that lacks `PRESENT` or has `HUGE_PAGE` refuses the call: with `PageNotMapped` if it lacks
+    /// `PRESENT`, otherwise with `ParentEntryHugePage`. After the parents, the page's own entry refuses it:
+    ///
+    /// - with `PageNotMapped` if it lacks `PRESENT`;
+    /// - otherwise with `ParentEntryHugePage` if it has `HUGE_PAGE` and the page is one of 4KiB, or lacks it and the
+    ///   page is one of 2MiB or 1GiB;
+    /// - otherwise with `InvalidFrameAddress` if its address isn't a multiple of the page's size.
+    ///
+    /// A refused call changes nothing.
     final fn unmap(&mut self, page: Page<S>) -> Result<(PhysFrame<S>, MapperFlush<S>), UnmapError>
         requires { let h = Self.hierarchy self.old in
             May h (Unmap (path_of h S.LEVEL page)) }
@@ -203,15 +211,18 @@ pub trait Mapper<S: PageSize>: TableAccess + PageTables {
         calls::unmap(self, page)
     }
 
-    /// Sets the flags of a page's own entry, with `HUGE_PAGE` for 2MiB and 1GiB, and keeps its frame.
+    /// Sets the flags of a page's own entry, and `HUGE_PAGE` for 2MiB and 1GiB. The entry keeps its frame.
     ///
-    /// Conditions: the hierarchy is valid, the flags have no address bits, and the page's index of level four isn't the
-    /// recursive index.
+    /// Requires that the hierarchy is valid, that the flags have no address bits, and that the page's index of level
+    /// four isn't the recursive index.
     ///
     /// # Errors
     ///
-    /// `PageNotMapped` or `ParentEntryHugePage` where a parent lacks `PRESENT` or has `HUGE_PAGE`; else `PageNotMapped` where
-    /// the page's own entry is unused, or lacks `HUGE_PAGE` with 2MiB and 1GiB. A refusal changes nothing.
+    /// - `PageNotMapped` or `ParentEntryHugePage` if a parent lacks `PRESENT` or has `HUGE_PAGE`, as for
+    ///   [`unmap`](Self::unmap).
+    /// - Otherwise `PageNotMapped` if the page's own entry is unused, or lacks `HUGE_PAGE` for 2MiB and 1GiB.
+    ///
+    /// A refused call changes nothing.
     final fn update_flags(
         &mut self,
         page: Page<S>,
@@ -227,14 +238,14 @@ pub trait Mapper<S: PageSize>: TableAccess + PageTables {
         calls::update_flags(self, page, flags)
     }
 
-    /// Sets the flags of the entry of level four on a page's path, and keeps its address.
+    /// Sets the flags of the entry of level four on a page's path. The entry keeps its address.
     ///
-    /// Conditions: the hierarchy is valid, the flags have no address bits and no `HUGE_PAGE`, and the page's index of level four
-    /// isn't the recursive index.
+    /// Requires that the hierarchy is valid, that the flags have no address bits and no `HUGE_PAGE`, and that the
+    /// page's index of level four isn't the recursive index.
     ///
     /// # Errors
     ///
-    /// `PageNotMapped` where the entry is unused. A refusal changes nothing.
+    /// `PageNotMapped` if the entry is unused. A refused call changes nothing.
     final fn set_flags_p4_entry(
         &mut self,
         page: Page<S>,
@@ -249,14 +260,16 @@ pub trait Mapper<S: PageSize>: TableAccess + PageTables {
         calls::set_table_flags(self, page, 4, flags)
     }
 
-    /// Sets the flags of the entry of level three on a page's path, and keeps its address.
+    /// Sets the flags of the entry of level three on a page's path. The entry keeps its address.
     ///
-    /// Conditions: the hierarchy is valid, and [`p3_flags_allowed`](Self::p3_flags_allowed) holds.
+    /// Requires that the hierarchy is valid, and that [`p3_flags_allowed`](Self::p3_flags_allowed) returns true.
     ///
     /// # Errors
     ///
-    /// `ParentEntryHugePage` for a 1GiB page, whose own entry this is; else `PageNotMapped` where the parent lacks `PRESENT`,
-    /// or the entry is unused. A refusal changes nothing.
+    /// - `ParentEntryHugePage` for a 1GiB page, whose own entry this is.
+    /// - Otherwise `PageNotMapped` if the parent lacks `PRESENT`, or the entry is unused.
+    ///
+    /// A refused call changes nothing.
     final fn set_flags_p3_entry(
         &mut self,
         page: Page<S>,
@@ -271,14 +284,18 @@ pub trait Mapper<S: PageSize>: TableAccess + PageTables {
         calls::set_table_flags(self, page, 3, flags)
     }
 
-    /// Sets the flags of the entry of level two on a page's path, and keeps its address.
+    /// Sets the flags of the entry of level two on a page's path. The entry keeps its address.
     ///
-    /// Conditions: the hierarchy is valid, and [`p2_flags_allowed`](Self::p2_flags_allowed) holds.
+    /// Requires that the hierarchy is valid, and that [`p2_flags_allowed`](Self::p2_flags_allowed) returns true.
     ///
     /// # Errors
     ///
-    /// `ParentEntryHugePage` for a 2MiB or 1GiB page; else `PageNotMapped` or `ParentEntryHugePage` where a parent lacks
-    /// `PRESENT` or has `HUGE_PAGE`; else `PageNotMapped` where the entry is unused. A refusal changes nothing.
+    /// - `ParentEntryHugePage` for a 2MiB or 1GiB page.
+    /// - Otherwise `PageNotMapped` or `ParentEntryHugePage` if a parent lacks `PRESENT` or has `HUGE_PAGE`, as for
+    ///   [`unmap`](Self::unmap).
+    /// - Otherwise `PageNotMapped` if the entry is unused.
+    ///
+    /// A refused call changes nothing.
     final fn set_flags_p2_entry(
         &mut self,
         page: Page<S>,
@@ -293,11 +310,12 @@ pub trait Mapper<S: PageSize>: TableAccess + PageTables {
         calls::set_table_flags(self, page, 2, flags)
     }
 
-    /// Tells whether the flags of the entry of level three on a page's path may be set to these: they have no address bits, the
-    /// page's index of level four isn't the recursive index, and where
-    /// [`set_flags_p3_entry`](Self::set_flags_p3_entry) doesn't refuse, `HUGE_PAGE` is in the flags exactly if the entry has it.
+    /// Returns true if the flags of the entry of level three on a page's path may be set to these. They may have no
+    /// address bits, and the page's index of level four must not be the recursive index. Unless
+    /// [`set_flags_p3_entry`](Self::set_flags_p3_entry) would be refused, the flags must have `HUGE_PAGE` if and only
+    /// if the entry has it.
     ///
-    /// Condition: the hierarchy is valid.
+    /// Requires that the hierarchy is valid.
     final fn p3_flags_allowed(&self, page: Page<S>, flags: PageTableFlags) -> bool
         requires { Valid (Self.hierarchy self.now) }
         ensures { let h = Self.hierarchy self.now in
@@ -306,11 +324,12 @@ pub trait Mapper<S: PageSize>: TableAccess + PageTables {
         calls::table_flags_allowed(self, page, 3, flags)
     }
 
-    /// Tells whether the flags of the entry of level two on a page's path may be set to these: they have no address bits, the
-    /// page's index of level four isn't the recursive index, and where
-    /// [`set_flags_p2_entry`](Self::set_flags_p2_entry) doesn't refuse, `HUGE_PAGE` is in the flags exactly if the entry has it.
+    /// Returns true if the flags of the entry of level two on a page's path may be set to these. They may have no
+    /// address bits, and the page's index of level four must not be the recursive index. Unless
+    /// [`set_flags_p2_entry`](Self::set_flags_p2_entry) would be refused, the flags must have `HUGE_PAGE` if and only
+    /// if the entry has it.
     ///
-    /// Condition: the hierarchy is valid.
+    /// Requires that the hierarchy is valid.
     final fn p2_flags_allowed(&self, page: Page<S>, flags: PageTableFlags) -> bool
         requires { Valid (Self.hierarchy self.now) }
         ensures { let h = Self.hierarchy self.now in
@@ -319,15 +338,17 @@ pub trait Mapper<S: PageSize>: TableAccess + PageTables {
         calls::table_flags_allowed(self, page, 2, flags)
     }
 
-    /// Gives the frame that a page's entry names, `PRESENT` or not.
+    /// Returns the frame that a page's entry names, `PRESENT` or not.
     ///
-    /// Condition: the hierarchy is valid.
+    /// Requires that the hierarchy is valid.
     ///
     /// # Errors
     ///
-    /// `PageNotMapped` or `ParentEntryHugePage` where a parent lacks `PRESENT` or has `HUGE_PAGE`; else `PageNotMapped` where
-    /// the page's own entry is unused; else `InvalidFrameAddress` where the entry of a 2MiB or 1GiB page names a table, or an
-    /// address that isn't a multiple of the size.
+    /// - `PageNotMapped` or `ParentEntryHugePage` if a parent lacks `PRESENT` or has `HUGE_PAGE`, as for
+    ///   [`unmap`](Self::unmap).
+    /// - Otherwise `PageNotMapped` if the page's own entry is unused.
+    /// - Otherwise `InvalidFrameAddress` if the entry of a 2MiB or 1GiB page names a table, or an address that isn't
+    ///   a multiple of the size.
     final fn translate_page(&self, page: Page<S>) -> Result<PhysFrame<S>, TranslateError>
         requires { Valid (Self.hierarchy self.now) }
         ensures { let h = Self.hierarchy self.now in

@@ -1,4 +1,4 @@
-//! The mapper that finds tables where the whole memory stands in the virtual address space, at an offset.
+//! The mapper for a memory that is mapped as a whole into the virtual address space, at an offset.
 ghost use Rattle.std.specs.Prelude.{◌≡◌, ◌↔◌, IsTrue};
 ghost use Rattle.x86_64_model.specs.Layout.{Valid as ValidIn};
 ghost use Rattle.x86_64_model.specs.Mapper.{Valid};
@@ -17,25 +17,27 @@ use x86_64_page::page::Size4KiB;
 use x86_64_tables::mapper::Tables;
 use x86_64_tables::phys_memory::{PhysMemory, TableMemory};
 
-/// Maps pages in a hierarchy of any number of levels of tables, which it finds in a memory that stands in the virtual address space
-/// from an address on, the offset.
+/// A mapper for a hierarchy of any number of levels of page tables, in a memory that is mapped as a whole into the
+/// virtual address space. The virtual address at which it begins is the offset.
 ///
-/// It has the memory lent until it is dropped. Its hierarchy has no recursive index.
+/// It borrows the memory until it is dropped. Its hierarchy has no recursive index.
 pub type OffsetPageTableIn<'a, L, T = PhysMemory> = Direct<'a, PhysOffset<L>, L, T>;
 
-/// Maps pages in a hierarchy of four levels of tables, as [`OffsetPageTableIn`] does.
+/// An [`OffsetPageTableIn`] with four levels of page tables.
 pub type OffsetPageTable<'a, T = PhysMemory> = OffsetPageTableIn<'a, FourLevels, T>;
 
-/// Maps pages in a hierarchy of five levels of tables, as [`OffsetPageTableIn`] does.
+/// An [`OffsetPageTableIn`] with five levels of page tables.
 pub type OffsetPageTable57<'a, T = PhysMemory> = OffsetPageTableIn<'a, FiveLevels, T>;
 
 impl<'a, L: LevelCount, T: TableMemory> Direct<'a, PhysOffset<L>, L, T> {
-    /// Makes a mapper of the hierarchy that starts at a root, in a memory that stands at an offset.
+    /// Creates a mapper for the hierarchy with this root, in a memory that is mapped at an offset.
     ///
-    /// Conditions: the hierarchy is valid, with each frame at the place of its number, and the offset fits the memory. Test that
-    /// by [`is_valid_hierarchy`](x86_64_tables::phys_memory::is_valid_hierarchy), or
-    /// [`is_valid_hierarchy_57`](x86_64_tables::phys_memory::is_valid_hierarchy_57) with five levels, with
-    /// [`IdentityMapping`](x86_64_tables::phys_memory::IdentityMapping), and by [`offset_fits`](Self::offset_fits).
+    /// Requires that the hierarchy is valid with each frame at the place of its number (a place is the index of a
+    /// table in memory), and that the offset fits the memory. The first is tested by
+    /// [`is_valid_hierarchy`](x86_64_tables::phys_memory::is_valid_hierarchy), or by
+    /// [`is_valid_hierarchy_57`](x86_64_tables::phys_memory::is_valid_hierarchy_57) for five levels, with
+    /// [`IdentityMapping`](x86_64_tables::phys_memory::IdentityMapping), and the second by
+    /// [`offset_fits`](Self::offset_fits).
     pub fn new(memory: &'a mut T, root: PhysFrame<Size4KiB>, phys_offset: VirtAddrIn<L>) -> Self
         requires valid { ValidIn (direct_at L.LEVELS identity_places root) (T.tables memory.old) }
         requires fits { OffsetFits L.LEVELS (T.tables memory.old) phys_offset }
@@ -50,8 +52,8 @@ impl<'a, L: LevelCount, T: TableMemory> Direct<'a, PhysOffset<L>, L, T> {
         Direct::over(memory, root, mapping)
     }
 
-    /// Tells whether an offset fits a memory: the offset's address plus that of each place's frame is canonical, and so below
-    /// 2^64.
+    /// Returns true if an offset fits a memory: for the frame of each place, the sum of the offset and of the frame's
+    /// address is canonical, and so below 2^64.
     pub fn offset_fits(memory: &T, phys_offset: VirtAddrIn<L>) -> bool
         ensures { IsTrue result ↔ OffsetFits L.LEVELS (T.tables memory.now) phys_offset }
     {
@@ -65,7 +67,7 @@ impl<'a, L: LevelCount, T: TableMemory> Direct<'a, PhysOffset<L>, L, T> {
         true
     }
 
-    /// Gives the offset that the mapper was made with.
+    /// Returns the offset that the mapper was created with.
     pub fn phys_offset(&self) -> VirtAddrIn<L>
         ensures offset { result ≡ (⟦<Self as Tables>⟧.hierarchy self.now).lent.1 }
         ensures places { let places = (⟦<Self as Tables>⟧.hierarchy self.now).layout.places in

@@ -1,4 +1,5 @@
-//! The mapper that reaches tables through the root's entry for itself, and the windows in which it finds them.
+//! The mapper that reaches page tables through the root's entry for itself, and the windows (pages) at which it finds
+//! them.
 ghost use Rattle.std.specs.Prelude.{◌≡◌, Some, bit_or};
 ghost use Rattle.std.specs.Borrow.{sem};
 ghost use Rattle.x86_64_model.specs.Layout.{Valid as ValidIn};
@@ -34,12 +35,12 @@ use x86_64_tables::mapper::{Tables, TablesIn};
 use x86_64_tables::page_table::{PageTable, PageTableFlags};
 use x86_64_tables::phys_memory::{Active, PhysMemory};
 
-/// Says why no mapper was made.
+/// The reason why no recursive mapper was created.
 #[derive(Clone, Copy, Debug, PartialEq)]
 pub enum InvalidPageTable {
-    /// The address isn't one whose indices are all the same and whose offset in the page is 0.
+    /// The address has indices that differ, or an offset in the page other than 0.
     NotRecursive,
-    /// The table isn't the one from which walks start, or its entry at the index doesn't name it.
+    /// The table isn't the one at which page walks start, or its entry at the index doesn't name it.
     NotActive,
 }
 
@@ -52,12 +53,14 @@ impl Display for InvalidPageTable {
     }
 }
 
-/// Maps pages in a hierarchy of `L` levels of tables. It is handed no memory: each table is reached at its window, by a walk
-/// through the tables as they are at that moment, which goes through the root's entry for itself.
+/// A mapper for a hierarchy of `L` levels of page tables, which reaches each table at its window. The window is a
+/// page whose walk goes through the root's entry for itself, and through the tables as they are at that moment. The
+/// index of that entry is the recursive index. The mapper is handed no memory.
 ///
-/// A new table's entry gets `PRESENT` and `WRITABLE` beside the parent flags, since the table is reached only once it is named.
-/// Of an address that begins with the recursive index, [`translate`](crate::mapper::Translate::translate) and
-/// [`translate_page`](crate::mapper::Mapper::translate_page) tell what the rest of its path says, as the processor does.
+/// A new table's entry gets `PRESENT` and `WRITABLE` in addition to the parent flags, since the table can be reached
+/// only once the entry names it. For an address that begins with the recursive index,
+/// [`translate`](crate::mapper::Translate::translate) and [`translate_page`](crate::mapper::Mapper::translate_page)
+/// follow the rest of its path, as the processor does.
 #[derive(Drop)]
 pub struct Recursive<A, L> {
     active: A,
@@ -66,13 +69,13 @@ pub struct Recursive<A, L> {
     levels: PhantomData<L>,
 }
 
-/// The mapper of an active memory with any number of levels of tables.
+/// A mapper for an active memory with any number of levels of page tables.
 pub type RecursivePageTableIn<'a, L, T = PhysMemory> = Recursive<Active<'a, L, T>, L>;
 
-/// The mapper of an active memory with four levels of tables.
+/// A mapper for an active memory with four levels of page tables.
 pub type RecursivePageTable<'a, T = PhysMemory> = RecursivePageTableIn<'a, FourLevels, T>;
 
-/// The mapper of an active memory with five levels of tables.
+/// A mapper for an active memory with five levels of page tables.
 pub type RecursivePageTable57<'a, T = PhysMemory> = RecursivePageTableIn<'a, FiveLevels, T>;
 
 impl<'a, L: LevelCount> RecursivePageTableIn<'a, L> {
@@ -82,16 +85,16 @@ impl<'a, L: LevelCount> RecursivePageTableIn<'a, L> {
     ghost use Rattle.x86_64_mappers.specs.InvalidPageTables.{refuses_at};
     ghost use Rattle.x86_64_mappers.specs.Recursive.{active_in, recursive_now_at};
 
-    /// Makes a mapper of the hierarchy whose root is the table in a frame, which the walk of an address arrives at.
+    /// Creates a mapper for the hierarchy whose root is the table in a frame, given the address of the root's window.
     ///
-    /// Where it is refused no word changes.
+    /// If it is refused, no word changes.
     ///
-    /// Condition: unless [`refusal`](Self::refusal) tells why not, the hierarchy is valid for the index of the address, whose
-    /// indices are all one then.
+    /// Requires that the hierarchy is valid for the index of the address, unless [`refusal`](Self::refusal) returns
+    /// an error.
     ///
     /// # Errors
     ///
-    /// What [`refusal`](Self::refusal) tells.
+    /// The error that [`refusal`](Self::refusal) returns.
     pub fn new(
         active: Active<'a, L>,
         table: PhysFrame<Size4KiB>,
@@ -123,7 +126,7 @@ impl<A: WalkedTables<L>, L: LevelCount> Recursive<A, L> {
     ghost use Rattle.x86_64_mappers.specs.InvalidPageTables.{refuses_at};
     ghost use Rattle.x86_64_mappers.specs.Recursive.{active_in};
 
-    /// Tells why no mapper is made of a table at an address, if none is.
+    /// Returns the reason why no mapper is created for a table at an address, or `None` if one is.
     pub fn refusal(
         active: &A,
         table: PhysFrame<Size4KiB>,
@@ -142,9 +145,10 @@ impl<A: WalkedTables<L>, L: LevelCount> Recursive<A, L> {
         None
     }
 
-    /// Makes a mapper of the hierarchy whose root stands in the frame at which walks start, with the recursive index.
+    /// Creates a mapper with a recursive index for the hierarchy whose root is in the frame at which page walks
+    /// start.
     ///
-    /// Condition: the hierarchy is valid for the index.
+    /// Requires that the hierarchy is valid for the index.
     pub fn new_unchecked(active: A, index: PageTableIndex) -> Self
         requires { let memory = A.memory active in
             ValidIn (recursive_now_at L.LEVELS memory (A.root active) index) memory }
@@ -161,7 +165,7 @@ impl<A: WalkedTables<L>, L: LevelCount> Recursive<A, L> {
         }
     }
 
-    /// Gives the flags of the root's entry at an index, or none where the mapper is refused.
+    /// Returns the flags of the root's entry at an index, or no flags if the mapper is refused.
     fn flags_unless(
         refusal: Option<InvalidPageTable>,
         active: &A,
@@ -190,7 +194,7 @@ impl<A: WalkedTables<L>, L: LevelCount> Recursive<A, L> {
         self.table(&[], self.active.cr3())
     }
 
-    /// Lends the root's table to be changed, through its window.
+    /// Lends the root's table through its window, to be changed.
     fn root_window_mut(&mut self) -> &mut PageTable
         requires { Valid (⟦<Self as Tables>⟧.hierarchy self.old) }
         ensures* lends { let root = A.root self.old.active in
@@ -205,9 +209,9 @@ impl<A: WalkedTables<L>, L: LevelCount> Recursive<A, L> {
 impl<A: WalkedTables<FourLevels>> Recursive<A, FourLevels> {
     ghost use Rattle.x86_64_mappers.specs.Recursive.{LendsRootWindow};
 
-    /// Gives the table of level four, through its window.
+    /// Returns the table of level four, through its window.
     ///
-    /// Condition: the hierarchy is valid.
+    /// Requires that the hierarchy is valid.
     pub fn level_4_table(&self) -> &PageTable
         requires { Valid (⟦<Self as Tables>⟧.hierarchy self.now) }
         ensures { root_table (⟦<Self as Tables>⟧.hierarchy self.now) ≡ Some result.now }
@@ -215,9 +219,9 @@ impl<A: WalkedTables<FourLevels>> Recursive<A, FourLevels> {
         self.root_window()
     }
 
-    /// Lends the table of level four to be changed, through its window.
+    /// Lends the table of level four through its window, to be changed.
     ///
-    /// Condition: the hierarchy is valid.
+    /// Requires that the hierarchy is valid.
     pub fn level_4_table_mut(&mut self) -> &mut PageTable
         requires { Valid (⟦<Self as Tables>⟧.hierarchy self.old) }
         ensures* lends { let root = A.root self.old.active in
@@ -231,9 +235,9 @@ impl<A: WalkedTables<FourLevels>> Recursive<A, FourLevels> {
 impl<A: WalkedTables<FiveLevels>> Recursive<A, FiveLevels> {
     ghost use Rattle.x86_64_mappers.specs.Recursive.{LendsRootWindow57};
 
-    /// Gives the table of level five, through its window.
+    /// Returns the table of level five, through its window.
     ///
-    /// Condition: the hierarchy is valid.
+    /// Requires that the hierarchy is valid.
     pub fn level_5_table(&self) -> &PageTable
         requires { Valid (⟦<Self as Tables>⟧.hierarchy self.now) }
         ensures { root_table (⟦<Self as Tables>⟧.hierarchy self.now) ≡ Some result.now }
@@ -241,9 +245,9 @@ impl<A: WalkedTables<FiveLevels>> Recursive<A, FiveLevels> {
         self.root_window()
     }
 
-    /// Lends the table of level five to be changed, through its window.
+    /// Lends the table of level five through its window, to be changed.
     ///
-    /// Condition: the hierarchy is valid.
+    /// Requires that the hierarchy is valid.
     pub fn level_5_table_mut(&mut self) -> &mut PageTable
         requires { Valid (⟦<Self as Tables>⟧.hierarchy self.old) }
         ensures* lends { let root = A.root self.old.active in
@@ -254,14 +258,14 @@ impl<A: WalkedTables<FiveLevels>> Recursive<A, FiveLevels> {
     }
 }
 
-/// Tells whether an address is the root's window: its indices are one, and its page offset is 0.
+/// Returns true if an address is the root's window: its indices are all equal, and its offset in the page is 0.
 fn is_root_window<L: LevelCount>(addr: VirtAddrIn<L>) -> bool
     ensures { result ≡ is_root_window L.LEVELS addr }
 {
     addr.position() == window_position::<L>(addr.root_index(), &[])
 }
 
-/// Gives the flags of the root's entry for itself.
+/// Returns the flags of the root's entry for itself.
 fn self_flags<A: WalkedTables<L>, L: LevelCount>(
     active: &A,
     index: PageTableIndex,

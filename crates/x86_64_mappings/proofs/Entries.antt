@@ -1,4 +1,4 @@
--- The entries that are left of a table: where they come from, those behind some of them, and the table below the first.
+-- The remaining entries of a table: where they come from, the entries after some of them, and the table below the first.
 use Rattle.std.proofs.Common.{zero, suc, ◌≡◌, ◌<◌, ◌≤◌, ◌+◌, ◌-◌, ◌*◌, ◌/◌, ◌%◌, ℕ, true, false, cond, List, [], length, get_or, drop, Some, None, option_map, sym, ap, ◌∙◌, subst, arith, ⊎_elim}
 use Rattle.std.proofs.lemmas.Bool.{cases_lt}
 use Rattle.std.proofs.lemmas.List.{get_or-drop, length-drop}
@@ -32,7 +32,7 @@ pub index_below : (level p : ℕ) → index level p < 512
 unfolding index
 index_below level p = omega arith
 
--- a table's entries from an index on end where its span does
+-- the entries of a table from an index on end within the address space
 table_room : (L level p : ℕ) → 1 ≤ level → level ≤ L → p < position_count L → p / span level * span level + (512 - index level p) * span level ≤ position_count L
 table_room L zero p low high inside = absurd (omega arith)
 table_room L (suc n) p low high inside =
@@ -61,7 +61,7 @@ module _ (L : ℕ) (T : Words) (root : ℕ) where
     reads = λ i x few from at. absurd (omega (arith, few));
   }
 
-  -- those of a table from the position's on
+  -- the entries of a table from the one that spans the position on
   pub on_table : (next level : ℕ) (r : Rights) (frame : ℕ) (table : List ℕ) → 1 ≤ level → level ≤ L → next < position_count L
       → LeadsTo L T root next level r frame → T frame ≡ Some table → length table ≡ 512 → IsOn L T root next level r (drop (index level next) table)
   unfolding index
@@ -108,7 +108,7 @@ module _ (L : ℕ) (T : Words) (root next level : ℕ) (r : Rights) (rest : List
   pub within : (k : ℕ) → k ≤ length rest → next / s * s + k * s ≤ position_count L
   within k few = let most : k * s ≤ length rest * s = mul-le-mul_right s few in let room = on.room in omega (arith, most, room)
 
-  -- there is a position in the span of each
+  -- if entries remain, the position is within the address space
   pub next_inside : 0 < length rest → next < position_count L
   next_inside some = let all = within 1 (omega (arith, some)) in let to = span_end_after level next in omega (arith, all, to)
 
@@ -118,7 +118,7 @@ module _ (L : ℕ) (T : Words) (root next level : ℕ) (r : Rights) (rest : List
   pub next_before : (k : ℕ) → 1 ≤ k → next < next / s * s + k * s
   next_before k some = let to = span_end_after level next in let one : 1 * s ≤ k * s = mul-le-mul_right s some in omega (arith, to, one)
 
-  -- those behind the first k
+  -- the entries after the first k
   pub on_past : (k : ℕ) → 1 ≤ k → k ≤ length rest → IsOn L T root (next / s * s + k * s) level r (drop k rest)
   on_past k some few = let p = next / s * s + k * s in record {
     low = on.low;
@@ -137,7 +137,7 @@ module _ (L : ℕ) (T : Words) (root next level : ℕ) (r : Rights) (rest : List
         ∙ ap (found_by T x level r) (sym (get_or-drop k rest i 0));
   }
 
-  -- where nothing is found at the positions of the first k, nothing is found before those behind
+  -- if nothing is found in the spans of the first k entries, nothing is found before the span of the next
   pub none_before : (k : ℕ) → k ≤ length rest → ((i x : ℕ) → i < k → found_by T x level r (get_or rest i 0) ≡ None)
       → (x : ℕ) → next ≤ x → x < next / s * s + k * s → found L T root x ≡ None
   none_before k few none x from to =
@@ -150,7 +150,7 @@ module _ (L : ℕ) (T : Words) (root next level : ℕ) (r : Rights) (rest : List
   pub first_found : 0 < length rest → found L T root next ≡ found_by T next level r (get_or rest 0 0)
   first_found some = on.reads 0 next some (omega arith) (omega arith)
 
-  -- the way leads on below the first, where it names a table
+  -- the walk continues below the first entry if it names a table
   pub leads_below : 0 < length rest → (let e = get_or rest 0 0 in present e ≡ true → maps_page level e ≡ false → huge e ≡ false → LeadsTo L T root next (level - 1) (narrowed r e) (address e))
   leads_below some there no_page table = let e = get_or rest 0 0 in record {
     on = λ x from to.

@@ -1,4 +1,4 @@
--- The mapping that an entry makes, by its parts.
+-- The mapping by an entry, part by part.
 use Rattle.std.proofs.Common.{not, ◌≡◌, ◌≢◌, ◌<◌, ◌-◌, ◌*◌, ◌/◌, ◌%◌, ◌==◌, ◌&&◌, ◌||◌, ℕ, Bool, true, false, sym, ap, ◌∙◌, arith, eqb-true, ne_eqb}
 use Rattle.std.proofs.Math.Nat.{div-add-mod, div-mul-le_self, mod-eq_of_lt, mul_comm}
 use Rattle.x86_64_model.specs.Entry.{huge, address, writable, user, no_execute, flags}
@@ -23,7 +23,7 @@ third level e page one two = by (level == 1) (level == 2) (level == 3) (huge e) 
     by false false false true is no_a no_b yes_t = absurd (let e : false ≡ true = is in cc)
     by false false false false is no_a no_b yes_t = absurd (let e : false ≡ true = is in cc)
 
--- a frame that contains an address starts where a page of a size would
+-- the frame that contains the address of an entry starts where the page starts
 pub sized : (level n size start e : ℕ) → level ≡ n → size ≡ span n → start ≡ address e - address e % size → (size ≡ span level) × (start ≡ page_start level e)
 sized level n size start e is_level is_size is =
     let same : size ≡ span level = is_size ∙ ap span (sym is_level) in

@@ -1,4 +1,4 @@
--- Steps of a listing: what each of them leaves to come.
+-- Steps of a listing, and the mappings still to come after each.
 use Rattle.std.proofs.Common.{zero, suc, ◌≡◌, ◌<◌, ◌≤◌, ◌+◌, ◌-◌, ◌*◌, ◌/◌, ◌==◌, ◌&&◌, ◌||◌, ℕ, Bool, true, false, cond, List, [], ◌∷◌, length, get_or, drop, Option, Some, None, option_map, refl, sym, ap, ◌∙◌, subst, arith, eqb-true}
 use Rattle.std.specs.Prelude.{⊤}
 use Rattle.std.specs.Iterator.{MakesProgress, item_count}
@@ -16,7 +16,7 @@ use Rattle.x86_64_mappings.specs.declared.listing.cursor.Cursor.{Cursor}
 use Rattle.x86_64_mappings.specs.Views.{seen_rights}
 use Rattle.x86_64_mappings.proofs.Entries.{index_below, on_table, next_inside, next_before, within, on_past, none_before, first_found, leads_below}
 
--- ---- the way that is left
+-- ---- the bound on the steps to the end
 
 pub way_most : (L next level : ℕ) (rest : List ℕ) → level ≤ 7 → way_left L next level rest ≤ (position_count L - next) * 8 + 7
 way_most L next level [] few = omega arith
@@ -42,7 +42,7 @@ pub there_first : (L next level : ℕ) (rest : List ℕ) → 0 < length rest →
 there_first L next level [] some = absurd (omega arith)
 there_first L next level (e ∷ rest) some = refl
 
--- at the end no entries are left, and all positions are behind
+-- at the end, if no entries remain, all positions are past
 pub there_last : (L next level : ℕ) (rest : List ℕ) → length rest ≤ 0 → is_there L next level rest ≡ true → next ≡ position_count L
 there_last L next level [] none there = eqb-true next (position_count L) there
 there_last L next level (e ∷ rest) none there = absurd (omega (arith, none))
@@ -62,13 +62,13 @@ small_first level (e ∷ rest) small =
       page = and_from (present e) (maps_page level e) parts.1 (ap (λ b. b || (huge e && ((level == 2) || (level == 3)))) parts.0);
     }
 
--- ---- what an entry does not say
+-- ---- what is found by an entry
 
 -- an entry without PRESENT
 pub absent_says : (T : Words) (x level : ℕ) (r : Rights) (e : ℕ) → present e ≡ false → found_by T x level r e ≡ None
 absent_says T x level r e absent = ap (λ b. cond b (cond (maps_page level e) (Some (page_at x level r e)) (cond (huge e) None (found_on T x (level - 1) (narrowed r e) (address e)))) None) absent
 
--- where there is no table, nothing is found
+-- if there is no table, nothing is found
 no_table : (T : Words) (x level : ℕ) (r : Rights) (f : ℕ) → T f ≡ None → found_on T x level r f ≡ None
 unfolding found_on
 no_table T x zero r f none = refl
@@ -113,12 +113,12 @@ module _ (L : ℕ) (T : Words) (root : ℕ) where
   unfolding found
   no_root next inside none = from_past L T root next (position_count L) (omega (arith, inside)) (omega arith) (λ x from to. no_table T x L every_right root none)
 
-  -- past the last position nothing comes
+  -- there are no mappings past the last position
   pub none_last : listed_from L T root (position_count L) ≡ []
   none_last = from_last L T root
 
 module _ (L : ℕ) (T : Words) (root next level : ℕ) (r : Rights) (rest : List ℕ) (on : IsOn L T root next level r rest) where
-  -- past entries that say nothing
+  -- past entries that map nothing
   same_past : (k : ℕ) → 1 ≤ k → k ≤ length rest → ((i x : ℕ) → i < k → found_by T x level r (get_or rest i 0) ≡ None)
       → listed_from L T root next ≡ listed_from L T root (next / span level * span level + k * span level)
   same_past k some few none = from_past L T root next (next / span level * span level + k * span level)
@@ -171,7 +171,7 @@ module _ (L : ℕ) (T : Words) (root next level : ℕ) (r : Rights) (rest : List
 -- ---- steps of cursors
 
 module _ (L : ℕ) (T : Words) (root : ℕ) (from to : Cursor) (high : L ≤ 5) (on : IsCursor L T root from) where
-  -- past some entries, which say nothing
+  -- past some entries that map nothing
   pub past_step : (k : ℕ) → 1 ≤ k → k ≤ length from.rest.now
       → to.next ≡ from.next / span from.level * span from.level + k * span from.level → to.level ≡ from.level → to.rights ≡ from.rights → to.rest.now ≡ drop k from.rest.now
       → listed_from L T root from.next ≡ listed_from L T root (from.next / span from.level * span from.level + k * span from.level) → IsStep L T root from to

@@ -1,11 +1,11 @@
--- The texts of mappings and regions.
+-- Mappings and regions as text.
 use Rattle.std.specs.Prelude.{ℕ, Bool, ◌==◌, ◌+◌, ◌-◌, ◌/◌, ◌%◌, ◌++◌, if◌then◌else◌, List, codes, decimal}
 use Rattle.x86_64_numbers.specs.Numbers.{hexadecimal}
 use Rattle.x86_64_model.specs.Mappings.{Mapping}
 use Rattle.x86_64_model.specs.Regions.{Region}
 use Rattle.x86_64_model.specs.Position.{raw}
 
--- a number of bytes in the largest of KiB, MiB, GiB and TiB that divides it; none of them is 0KiB
+-- a number of bytes in the largest of KiB, MiB, GiB and TiB that divides it; 0 bytes are 0KiB
 abbrev pub size_text : (bytes : ℕ) → List ℕ
 size_text bytes =
     if bytes == 0 then decimal 0 ++ codes "KiB"
@@ -14,11 +14,11 @@ size_text bytes =
     else (if bytes % 0x10_0000 == 0 then decimal (bytes / 0x10_0000) ++ codes "MiB"
     else decimal (bytes / 0x400) ++ codes "KiB")))
 
--- a right's letter, or - without it
+-- the letter of a right, or - without the right
 abbrev pub letter_text : Bool → (letter : List ℕ) → List ℕ
 letter_text holds letter = if holds then letter else codes "-"
 
--- four letters, of which each mapping has r
+-- four letters, the first of which is always r
 unfoldable pub rights_text : (write user execute : Bool) → List ℕ
 rights_text w u x = codes "r" ++ letter_text w (codes "w") ++ letter_text x (codes "x") ++ letter_text u (codes "u")
 

@@ -1,4 +1,4 @@
--- A mapping as code holds it.
+-- Mappings as code represents them.
 use Rattle.std.specs.Prelude.{◌≡◌, ℕ, Bool, ◌==◌, if◌then◌else◌, refl}
 use Rattle.x86_64_model.specs.Mappings.{Mapping, Rights}
 use Rattle.x86_64_tables.specs.PageTableFlags.{bits_of}
@@ -8,11 +8,11 @@ use Rattle.x86_64_tables.specs.declared.mapper.MappedFrame.TheVariants.{Size4KiB
 use Rattle.x86_64_tables.specs.declared.phys_memory.walk.Rights.{Rights as Allowed}
 use Rattle.x86_64_tables.specs.declared.page_table.flags.PageTableFlags.{PageTableFlags}
 
--- what entries allow
+-- the rights of the code, as rights of the model
 abbrev pub seen_rights : Allowed → Rights
 seen_rights r = record { write = r.write; user = r.user; execute = r.execute }
 
--- what is mapped from a start on
+-- the mapping from a start on to a frame, with flags and rights
 abbrev pub mapping_to : (start : ℕ) → MappedFrame → PageTableFlags → (write user execute : Bool) → Mapping
 mapping_to start frame flags w u x = record {
   start = start;
@@ -22,12 +22,12 @@ mapping_to start frame flags w u x = record {
   rights = record { write = w; user = u; execute = x };
 }
 
--- the frame of one of the three sizes at a start
+-- the frame of one of the three sizes with a start
 abbrev pub frame_at : (size start : ℕ) → MappedFrame
 frame_at size start =
     if size == 0x1000 then Size4KiB start else (if size == 0x20_0000 then Size2MiB start else Size1GiB start)
 
--- a frame is the one of its size at its start
+-- a frame is determined by its size and its start
 pub frame_at_frame : (frame : MappedFrame) → frame_at (frame_size frame) (frame_start frame) ≡ frame
 frame_at_frame (Size4KiB start) = refl
 frame_at_frame (Size2MiB start) = refl

@@ -1,5 +1,5 @@
-//! What page tables map below a root, all of it: mappings one by one, and the regions that they form, for any words in the tables,
-//! with four or five levels.
+//! Everything that page tables map below a root, with four or five levels and for any words in the tables: the mappings one
+//! by one, and the regions that they form.
 #![tactic(auto)]
 
 mod listing;

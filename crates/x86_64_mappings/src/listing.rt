@@ -16,11 +16,11 @@ use x86_64_page::frame::PhysFrame;
 use x86_64_page::page::Size4KiB;
 use x86_64_tables::phys_memory::{PageTableFrameMapping, TableMemory};
 
-/// Gives the mappings below a root in order of their starts, each once, and then `None` for good. It is seen as the list of the
-/// mappings that are still to come.
+/// An iterator over the mappings below a root, each once, in order of their starts. After the last it always returns `None`.
+/// Contracts see it as the list of the mappings that are still to come.
 ///
-/// It takes no memory of the heap. It goes through a table entry by entry, and walks down from the root again only after a table below
-/// ended. A table that several entries name is gone through for each of them.
+/// It allocates no memory. It reads a table entry by entry, and walks down from the root again only after a lower table
+/// ends. A table that several entries name is read for each of them.
 #[derive(Drop)]
 pub struct MappingsIn<'a, L: LevelCount, T: TableMemory, P: PageTableFrameMapping> {
     memory: &'a T,
@@ -30,10 +30,10 @@ pub struct MappingsIn<'a, L: LevelCount, T: TableMemory, P: PageTableFrameMappin
     levels: PhantomData<L>,
 }
 
-/// The mappings below a root with four levels of tables.
+/// The iterator over the mappings below a root with four levels of page tables.
 pub type Mappings<'a, T, P> = MappingsIn<'a, FourLevels, T, P>;
 
-/// The mappings below a root with five levels of tables.
+/// The iterator over the mappings below a root with five levels of page tables.
 pub type Mappings57<'a, T, P> = MappingsIn<'a, FiveLevels, T, P>;
 
 impl<'a, L: LevelCount, T: TableMemory, P: PageTableFrameMapping> Model
@@ -65,7 +65,7 @@ impl<'a, L: LevelCount, T: TableMemory, P: PageTableFrameMapping> Iterator
     fn next(&mut self) -> Option<MappingIn<L>> {
         let cursor = self.cursor;
         if cursor.is_at_small_page() {
-            // The level is known here, and so is all that follows from it.
+            // The level is a constant here, and so is all that follows from it.
             let entry = &cursor.rest[0];
             self.cursor = cursor.past(1);
             return Some(MappingIn::of_page(1, cursor.next, entry, cursor.rights));
@@ -80,11 +80,12 @@ impl<'a, L: LevelCount, T: TableMemory, P: PageTableFrameMapping> Iterator
     }
 }
 
-/// Gives the mappings below a root with four levels of tables, in order of their starts.
+/// Returns an iterator over the mappings below a root with four levels of page tables, in order of their starts.
 ///
-/// The tables may be any words, and it ends for any: a table that names itself is read again at each level alone. Nothing is mapped
-/// below an entry whose frame isn't covered by the mapping, or lies at a place that the memory lacks, nor by an entry above level three
-/// with `HUGE_PAGE`. [`page_walk`](x86_64_tables::phys_memory::page_walk) arrives at exactly the addresses that are mapped.
+/// The tables may contain any words, and the iterator ends for all of them: a table that names itself is read again only as
+/// a table of the level below, down to level one. Nothing is mapped below an entry whose frame isn't covered by the mapping,
+/// or lies at a place (the number of a table in the memory) that the memory lacks, nor by an entry above level three with
+/// `HUGE_PAGE`. [`page_walk`](x86_64_tables::phys_memory::page_walk) arrives for exactly the addresses that are mapped.
 ///
 /// Intel SDM vol. 3A, "4-Level Paging and 5-Level Paging"; AMD APM vol. 2, "Long-Mode Page Translation".
 pub fn mappings<'a, T: TableMemory, P: PageTableFrameMapping>(
@@ -97,7 +98,7 @@ pub fn mappings<'a, T: TableMemory, P: PageTableFrameMapping>(
     all_mappings(memory, mapping, root)
 }
 
-/// Gives the mappings below a root with five levels of tables, as [`mappings`] does with four.
+/// Returns an iterator over the mappings below a root with five levels of page tables, like [`mappings`] for four levels.
 pub fn mappings_57<'a, T: TableMemory, P: PageTableFrameMapping>(
     memory: &'a T,
     mapping: &'a P,
@@ -108,7 +109,7 @@ pub fn mappings_57<'a, T: TableMemory, P: PageTableFrameMapping>(
     all_mappings(memory, mapping, root)
 }
 
-/// Gives the mappings below a root with any number of levels.
+/// Returns an iterator over the mappings below a root with `L::LEVELS` levels of page tables.
 pub(crate) fn all_mappings<'a, L: LevelCount, T: TableMemory, P: PageTableFrameMapping>(
     memory: &'a T,
     mapping: &'a P,
@@ -120,8 +121,8 @@ pub(crate) fn all_mappings<'a, L: LevelCount, T: TableMemory, P: PageTableFrameM
     mappings_from(memory, mapping, root, VirtAddrIn::zero())
 }
 
-/// Gives the mappings below a root from the first on that has an address or lies behind it, as [`mappings`] gives all. There are as
-/// many levels of tables as the address has.
+/// Returns an iterator over the mappings below a root like [`mappings`], but from the first on that contains an address or
+/// lies after it. There are as many levels of page tables as the address has.
 pub fn mappings_from<'a, L: LevelCount, T: TableMemory, P: PageTableFrameMapping>(
     memory: &'a T,
     mapping: &'a P,

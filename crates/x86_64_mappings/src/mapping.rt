@@ -1,4 +1,4 @@
-//! What a leaf of page tables maps.
+//! Mappings: what the leaves of page tables map.
 ghost use Rattle.std.specs.Prelude.{◌≡◌, ◌<◌, ◌≤◌, true, Some};
 ghost use Rattle.x86_64_model.specs.Mappings.{maps_page};
 ghost use Rattle.x86_64_model.specs.Position.{position_count};
@@ -19,12 +19,12 @@ use x86_64_tables::mapper::MappedFrame;
 use x86_64_tables::page_table::{PageTableEntry, PageTableFlags};
 use x86_64_tables::phys_memory::Rights;
 
-/// Says what a leaf maps, with as many levels of page tables as `L` says: the addresses from `start` on, as many bytes as the frame
-/// has, to the frame.
+/// What a leaf maps, with `L::LEVELS` levels of page tables: the addresses from `start` on, for as many bytes as the frame
+/// has, are mapped to the frame.
 ///
-/// A leaf is an entry where page walks arrive: it and all entries above it have `PRESENT`, and it is of level one, or has
-/// `HUGE_PAGE` at level two or three. Intel SDM vol. 3A, "4-Level Paging and 5-Level Paging"; AMD APM vol. 2, "Long-Mode Page
-/// Translation".
+/// A leaf is an entry at which page walks arrive: it and all entries above it have `PRESENT`, and it is of level one, or has
+/// `HUGE_PAGE` at level two or three. Intel SDM vol. 3A, "4-Level Paging and 5-Level Paging"; AMD APM vol. 2, "Long-Mode
+/// Page Translation".
 #[derive(Clone, Copy)]
 #[derive_where(Debug, PartialEq)]
 pub struct MappingIn<L: LevelCount> {
@@ -34,11 +34,11 @@ pub struct MappingIn<L: LevelCount> {
     pub frame: MappedFrame,
     /// The flags of the leaf's entry.
     pub flags: PageTableFlags,
-    /// Tells whether the leaf and all entries above it have `WRITABLE`.
+    /// Whether the leaf and all entries above it have `WRITABLE`.
     pub write: bool,
-    /// Tells whether the leaf and all entries above it have `USER_ACCESSIBLE`.
+    /// Whether the leaf and all entries above it have `USER_ACCESSIBLE`.
     pub user: bool,
-    /// Tells whether neither the leaf nor an entry above it has `NO_EXECUTE`.
+    /// Whether neither the leaf nor an entry above it has `NO_EXECUTE`.
     pub execute: bool,
 }
 
@@ -70,7 +70,11 @@ impl<L: LevelCount> Model for MappingIn<L> {
 }
 
 impl<L: LevelCount> MappingIn<L> {
-    /// Makes the mapping by an entry of a level that maps a page, at a position of the page, below entries that allow `above`.
+    /// Creates the mapping by an entry of a level that maps a page, below entries that allow `above`. The position (the number
+    /// of an address counted without the gap) lies in the page.
+    ///
+    /// Requires that the level is at least one, that `maps_page` is true for the entry, and that the position is within the
+    /// address space.
     pub fn of_page(level: u64, position: u64, entry: &PageTableEntry, above: Rights) -> MappingIn<L>
         requires low { 1 ≤ level }
         requires page { maps_page level entry.now ≡ true }
@@ -93,7 +97,7 @@ impl<L: LevelCount> MappingIn<L> {
         }
     }
 
-    /// Gives the size in bytes: 4KiB, 2MiB or 1GiB.
+    /// Returns the size in bytes: 4KiB, 2MiB or 1GiB.
     pub fn size(&self) -> u64
         ensures { result ≡ self.now.size }
     {
@@ -119,7 +123,7 @@ impl<L: LevelCount> Display for MappingIn<L> {
     }
 }
 
-/// Writes a mapping.
+/// Writes a mapping: its start, its size, the start of its frame, its rights, and its flags.
 fn write_line<W: Write>(
     f: &mut Formatter<W>,
     start: u64,

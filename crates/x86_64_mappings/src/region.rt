@@ -1,4 +1,4 @@
-//! Where consecutive mappings allow the same.
+//! Regions: consecutive mappings with equal rights.
 ghost use Rattle.std.specs.Prelude.{◌≡◌, ◌+◌, ◌-◌, ◌≤◌, Some};
 ghost use Rattle.x86_64_model.specs.Position.{position_count};
 ghost use Rattle.x86_64_model.specs.Regions as model;
@@ -10,8 +10,8 @@ use std::marker::Model;
 use x86_64_addr::addr::VirtAddrIn;
 use x86_64_addr::level_count::{FiveLevels, FourLevels, LevelCount};
 
-/// Says what consecutive mappings allow, with as many levels of page tables as `L` says: a run of them, as long as can be, each
-/// of which starts where the one before ended, all in one half of the address space, with the same rights.
+/// A region, with `L::LEVELS` levels of page tables: a run of mappings as long as possible, in which each starts where the
+/// one before ended, in one half of the address space, with equal rights.
 #[derive(Clone, Copy)]
 #[derive_where(Debug, PartialEq)]
 pub struct RegionIn<L: LevelCount> {
@@ -19,11 +19,11 @@ pub struct RegionIn<L: LevelCount> {
     pub first: VirtAddrIn<L>,
     /// The last address.
     pub last: VirtAddrIn<L>,
-    /// Tells whether all entries that lead to a page of the region have `WRITABLE`.
+    /// Whether all entries that lead to a page of the region have `WRITABLE`.
     pub write: bool,
-    /// Tells whether all entries that lead to a page of the region have `USER_ACCESSIBLE`.
+    /// Whether all entries that lead to a page of the region have `USER_ACCESSIBLE`.
     pub user: bool,
-    /// Tells whether no entry that leads to a page of the region has `NO_EXECUTE`.
+    /// Whether no entry that leads to a page of the region has `NO_EXECUTE`.
     pub execute: bool,
 }
 
@@ -57,7 +57,9 @@ impl<L: LevelCount> Model for RegionIn<L> {
 }
 
 impl<L: LevelCount> RegionIn<L> {
-    /// Makes the region of one mapping.
+    /// Creates the region of one mapping.
+    ///
+    /// Requires that the mapping ends within the address space.
     pub fn of(mapping: &MappingIn<L>) -> RegionIn<L>
         requires { mapping.now.start + mapping.now.size ≤ position_count L.LEVELS }
         ensures { result ≡ model.region_of mapping.now }
@@ -72,7 +74,7 @@ impl<L: LevelCount> RegionIn<L> {
         }
     }
 
-    /// Tells whether a region follows on this one: it starts at the next address, not in the other half, and allows the same.
+    /// Returns true if a region follows this one: it starts at the next address, not in the other half, with equal rights.
     pub fn is_followed_by(&self, next: &RegionIn<L>) -> bool
         ensures { result ≡ model.follows L.LEVELS self.now next.now }
     {
@@ -84,7 +86,7 @@ impl<L: LevelCount> RegionIn<L> {
             && self.execute == next.execute
     }
 
-    /// Gives the region that goes on to the last address of another.
+    /// Returns this region, extended to the last address of another.
     pub fn grown_to(self, next: &RegionIn<L>) -> RegionIn<L>
         ensures { result ≡ model.grown_to self next.now }
     {
@@ -94,7 +96,7 @@ impl<L: LevelCount> RegionIn<L> {
         }
     }
 
-    /// Gives how many bytes there are from the first address to the last one.
+    /// Returns the number of bytes from the first address to the last.
     pub fn size(&self) -> u64
         ensures { result ≡ self.now.last + 1 - self.now.first }
     {

@@ -13,20 +13,20 @@ use x86_64_page::frame::PhysFrame;
 use x86_64_page::page::Size4KiB;
 use x86_64_tables::phys_memory::{PageTableFrameMapping, TableMemory};
 
-/// Gives the regions below a root in order of their addresses, each once, and then `None` for good. It is seen as the list of the
-/// regions that are still to come.
+/// An iterator over the regions below a root, each once, in order of their addresses. After the last it always returns
+/// `None`. Contracts see it as the list of the regions that are still to come.
 ///
-/// It takes no memory: it goes over the mappings, and is one ahead.
+/// It allocates no memory. It iterates over the mappings, and reads one mapping ahead.
 #[derive(Drop)]
 pub struct RegionsIn<'a, L: LevelCount, T: TableMemory, P: PageTableFrameMapping> {
     ahead: Option<MappingIn<L>>,
     mappings: MappingsIn<'a, L, T, P>,
 }
 
-/// The regions below a root with four levels of tables.
+/// The iterator over the regions below a root with four levels of page tables.
 pub type Regions<'a, T, P> = RegionsIn<'a, FourLevels, T, P>;
 
-/// The regions below a root with five levels of tables.
+/// The iterator over the regions below a root with five levels of page tables.
 pub type Regions57<'a, T, P> = RegionsIn<'a, FiveLevels, T, P>;
 
 impl<'a, L: LevelCount, T: TableMemory, P: PageTableFrameMapping> Model for RegionsIn<'a, L, T, P> {
@@ -67,7 +67,7 @@ impl<'a, L: LevelCount, T: TableMemory, P: PageTableFrameMapping> Iterator
     }
 }
 
-/// Gives the regions below a root with four levels of tables.
+/// Returns an iterator over the regions below a root with four levels of page tables.
 pub fn regions<'a, T: TableMemory, P: PageTableFrameMapping>(
     memory: &'a T,
     mapping: &'a P,
@@ -78,7 +78,7 @@ pub fn regions<'a, T: TableMemory, P: PageTableFrameMapping>(
     all_regions(memory, mapping, root)
 }
 
-/// Gives the regions below a root with five levels of tables.
+/// Returns an iterator over the regions below a root with five levels of page tables.
 pub fn regions_57<'a, T: TableMemory, P: PageTableFrameMapping>(
     memory: &'a T,
     mapping: &'a P,
@@ -89,7 +89,7 @@ pub fn regions_57<'a, T: TableMemory, P: PageTableFrameMapping>(
     all_regions(memory, mapping, root)
 }
 
-/// Gives the regions below a root.
+/// Returns an iterator over the regions below a root with `L::LEVELS` levels of page tables.
 #[tactic(auto, using(x86_64_model::proofs::Lemmas::Mappings::Placed::mappings_fit, crate::proofs::Ahead::ahead_fits))]
 fn all_regions<'a, L: LevelCount, T: TableMemory, P: PageTableFrameMapping>(
     memory: &'a T,

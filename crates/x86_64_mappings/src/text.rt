@@ -1,11 +1,12 @@
-//! The texts of sizes and rights.
+//! Sizes and rights as text.
 ghost use Rattle.std.specs.Prelude.{◌≡◌, ◌<◌, ◌/◌, ◌++◌, decimal};
 ghost use Rattle.std.specs.Fmt.{WritesOnOk};
 ghost use Rattle.x86_64_mappings.specs.Texts as texts;
 
 use std::fmt::{Formatter, Result as FmtResult, Write};
 
-/// Writes a number of bytes in the largest of KiB, MiB, GiB and TiB that divides it.
+/// Writes a number of bytes in the largest of KiB, MiB, GiB and TiB that divides it. Writes 0 bytes as 0KiB, and rounds down
+/// to KiB if none of them divides the number.
 pub fn write_size<W: Write>(f: &mut Formatter<W>, bytes: u64) -> FmtResult
     ensures { WritesOnOk W.write_str_gives f.old result (texts.size_text bytes) f.new }
 {
@@ -14,7 +15,8 @@ pub fn write_size<W: Write>(f: &mut Formatter<W>, bytes: u64) -> FmtResult
     write!(f, "{count}{name}")
 }
 
-/// Gives the largest of KiB, MiB, GiB and TiB that divides a number of bytes, and its name. None of them divides less than a KiB.
+/// Returns the largest of KiB, MiB, GiB and TiB that divides a number of bytes, and its name. For 0, or if none of them
+/// divides the number, this is KiB.
 fn unit_of(bytes: u64) -> (u64, &'static str)
     ensures some { 0 < result.0 }
     ensures text { texts.size_text bytes ≡ decimal (bytes / result.0) ++ result.1.now }
@@ -32,7 +34,8 @@ fn unit_of(bytes: u64) -> (u64, &'static str)
     }
 }
 
-/// Writes the letters of what may be read, written, executed, and reached by user code.
+/// Writes the letters `rwxu`: whether pages may be read, written, executed, and accessed by user code. A letter is replaced
+/// by `-` if its right is missing.
 #[tactic(auto, unfolding(crate::specs::Texts::rights_text))]
 pub fn write_rights<W: Write>(
     f: &mut Formatter<W>,

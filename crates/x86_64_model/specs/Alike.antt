@@ -1,4 +1,5 @@
--- Path maps that are alike: equal but for WRITABLE of table entries, as where one mapper adds flags to new tables.
+-- Path maps that are alike: equal except for WRITABLE of table entries, as happens if one of two mappers adds flags to new
+-- tables.
 use Rattle.std.specs.Prelude.{◌≡◌, ◌⊎◌, ℕ, ◌<◌, ◌&&◌, nat_lt, Bool, true, false, List, length, Option, bit_and}
 use Rattle.x86_64_model.specs.Position.{lower_half, page_path}
 use Rattle.x86_64_model.specs.Entry.{names_table}
@@ -15,11 +16,12 @@ pub record AlikeTables (e f : ℕ) : Type 0 where
   pub other_names : names_table f ≡ true
   pub same_else : without_writable e ≡ without_writable f
 
--- the entries at each path are equal, or both are table entries, equal but for WRITABLE
+-- At each path the entries are equal, or both are table entries that differ at most in WRITABLE.
 abbrev pub Alike : (L : ℕ) → PathMap → PathMap → Type 0
 Alike L m n = (q : List ℕ) → (entry m q ≡ entry n q) ⊎ ((length q < L) × AlikeTables (entry m q) (entry n q))
 
--- whether a call's page or address lies in the window, an identity map's page where it has one
+-- Whether a call names a page or an address in the recursive window. An identity map names a page if its frame lies below the
+-- middle of the address space.
 abbrev pub names_index : (L : ℕ) → Option Window → Call → Bool
 names_index L window (MapTo q frame given) = begins_with window q
 names_index L window (MapToWithTableFlags q frame given parent_flags) = begins_with window q

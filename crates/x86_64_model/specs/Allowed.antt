@@ -1,4 +1,4 @@
--- Which calls are allowed. A call that isn't is answered so and changes nothing.
+-- Which calls are allowed. A call that isn't allowed gets the reply `NotAllowed` and changes nothing.
 use Rattle.std.specs.Prelude.{ℕ, ◌&&◌, ◌||◌, nat_lt, Bool, true, false, not, cond, List, find, Option, Some, None}
 use Rattle.x86_64_model.specs.Position.{lower_half}
 use Rattle.x86_64_model.specs.Entry.{present, huge, no_address}
@@ -10,16 +10,17 @@ use Rattle.x86_64_model.specs.MapRule.{parent_part}
 use Rattle.x86_64_model.specs.PageRules.{set_flags}
 use Rattle.x86_64_model.specs.Call.{Call, MapTo, MapToWithTableFlags, IdentityMap, Unmap, UpdateFlags, SetFlags, TranslatePage, Translate, TranslateAddress, CleanUp}
 
--- there is no such parent, or it is present
+-- There is no such parent, or it is present.
 abbrev pub none_absent : PathMap → Option (List ℕ) → Bool
 none_absent paths None = true
 none_absent paths (Some p) = present (entry paths p)
 
--- the parent flags have PRESENT, or every parent is present, down to and with the first huge one
+-- The parent flags have PRESENT, or every parent is present, down to and including the first huge one.
 abbrev pub parents_present : PathMap → (parent_flags : ℕ) → List ℕ → Bool
 parents_present paths parent_flags q = present parent_flags || none_absent paths (find (λ p. not (present (entry paths p)) || huge (entry paths p)) (parents q))
 
--- No address bits in either flags, no HUGE_PAGE in the parent flags nor in those of a 4KiB page, parents that will be present, and a page outside the window.
+-- A map is allowed if neither flags have address bits, the parent flags lack HUGE_PAGE, as do the flags of a 4KiB page, all
+-- parents will be present, and the page is outside the recursive window.
 abbrev pub map_allowed : (L : ℕ) → Option Window → PathMap → List ℕ → (flags parent_flags : ℕ) → Bool
 map_allowed L window paths q given parent_flags =
     no_address given && no_address parent_flags && not (huge parent_flags) && (not (is_small L q) || not (huge given))
@@ -32,7 +33,8 @@ refuses (Refused why) = true
 abbrev pub both_or_none : Bool → Bool → Bool
 both_or_none a b = cond a b (not b)
 
--- above level three no HUGE_PAGE; in levels three and two, where the call isn't refused, HUGE_PAGE as in the entry
+-- Above level three the flags must lack HUGE_PAGE. At levels three and two HUGE_PAGE must be as in the entry, unless the call is
+-- refused.
 abbrev pub set_flags_allowed : (L : ℕ) (E : List ℕ → ℕ) → PathMap → (level : ℕ) (page : List ℕ) (flags : ℕ) → Bool
 set_flags_allowed L E paths level page given = cond (nat_lt 3 level) (not (huge given))
     (refuses (set_flags L E paths level page given).answer || both_or_none (huge given) (huge (E (front_at L level page))))

@@ -1,40 +1,40 @@
--- Comparisons of walks: where one arrives, another does, no worse.
+-- Comparisons of page walks: if one arrives, another arrives too, and no worse.
 use Rattle.std.specs.Prelude.{◌≡◌, ◌⊎◌, ◌+◌, ◌%◌, ◌≤◌, ℕ, Bool, true, List, [], ◌∷◌, length, Option, Some, None, option_and_then, cond, ◌&&◌, not}
 use Rattle.x86_64_model.specs.Position.{span}
 use Rattle.x86_64_model.specs.Entry.{present, huge, writable, user, address}
 use Rattle.x86_64_model.specs.Memory.{Words}
 use Rattle.x86_64_model.specs.PageWalk.{Walked, read}
 
--- the same place, and no right lost
+-- Walk v arrives at the address of walk w, and has each right that w has.
 pub record NoWorse (w v : Walked) : Type 0 where
   pub same_place : v.address ≡ w.address
   pub write_kept : w.write ≡ true → v.write ≡ true
   pub user_kept : w.user ≡ true → v.user ≡ true
 
--- where x arrives, y does, no worse
+-- If x arrives, y arrives, and no worse.
 abbrev pub KeepsArrival : Option Walked → Option Walked → Type 0
 KeepsArrival x y = (w : Walked) → x ≡ Some w → (v : Walked) × (y ≡ Some v) × NoWorse w v
 
--- no worse, and no right besides but the parent flags'
+-- Walk v is no worse than w, and gains only rights that the parent flags grant.
 pub record Better (parent_flags : ℕ) (w v : Walked) : Type 0 where
   pub no_worse : NoWorse w v
   pub write_gained : v.write ≡ true → (w.write ≡ true) ⊎ (writable parent_flags ≡ true)
   pub user_gained : v.user ≡ true → (w.user ≡ true) ⊎ (user parent_flags ≡ true)
 
--- where x arrives, y does, no worse and with no right gained that the parent flags lack
+-- If x arrives, y arrives, no worse, and gains only rights that the parent flags grant.
 abbrev pub Arrives : (parent_flags : ℕ) → Option Walked → Option Walked → Type 0
 Arrives parent_flags x y = (w : Walked) → x ≡ Some w → (v : Walked) × (y ≡ Some v) × Better parent_flags w v
 
--- the walk reaches the address, whatever its rights
+-- The walk arrives at the address, with whatever rights.
 abbrev pub Reaches : Option Walked → (to : ℕ) → Type 0
 Reaches walk to = (w : Bool) × (u : Bool) × (walk ≡ Some (record { address = to; write = w; user = u }))
 
--- the frame that the words lead to from a frame along indices, where each word is present and not huge
+-- The frame reached from a frame by following the words at these indices, if each word is present and not huge.
 abbrev pub leads : Words → (frame : ℕ) → List ℕ → Option ℕ
 leads T f [] = Some f
 leads T f (i ∷ q) = option_and_then (λ e. cond (present e && not (huge e)) (leads T (address e) q) None) (read T f i)
 
--- what a `map_to` of a page at a level asks for: flags with PRESENT and no address bits, and a frame of the page's size
+-- The request of a `map_to` of a page at a level: flags with PRESENT and no address bits, and a frame of the page's size.
 pub record Asks (L level : ℕ) (q : List ℕ) (frame flags : ℕ) : Type 0 where
   pub is_present : present flags ≡ true
   pub no_address : address flags ≡ 0

@@ -1,4 +1,5 @@
--- Clean up: which empty tables go back, and in which order. One condition on paths says it.
+-- Clean up: which empty tables are freed, and in which order. One condition on paths defines it.
+-- Positions are the numbers of addresses counted without the gap of the address space.
 use Rattle.std.specs.Prelude.{ℕ, ◌+◌, ◌-◌, ◌&&◌, ◌||◌, nat_lt, nat_le, Bool, not, List, [], length, filter, map}
 use Rattle.std.specs.List.{list_all}
 use Rattle.std.specs.FinMap.{keys, retain_keys}
@@ -6,15 +7,15 @@ use Rattle.x86_64_model.specs.Entry.{present, huge, address}
 use Rattle.x86_64_model.specs.Path.{parents, is_below, span_start, span_size, paths_below}
 use Rattle.x86_64_model.specs.PathMap.{PathMap, entry}
 
--- whether the path's span and the positions from low to high have one in common
+-- Whether the path's span overlaps the positions from low to high, inclusive.
 abbrev pub meets : (L low high : ℕ) → List ℕ → Bool
 meets L low high q = nat_le low high && nat_le (span_start L q) high && nat_lt low (span_start L q + span_size L q)
 
--- a present table entry whose span meets the range
+-- A present table entry whose span overlaps the range.
 abbrev pub in_range : (L : ℕ) → PathMap → (low high : ℕ) → List ℕ → Bool
 in_range L paths low high q = nat_lt (length q) L && present (entry paths q) && not (huge (entry paths q)) && meets L low high q
 
--- q and all its parents are present table entries whose spans meet the range, and so is every used entry below it
+-- The entry at q, all its parents and every used entry below it are present table entries whose spans overlap the range.
 unfoldable pub is_removed : (L : ℕ) → PathMap → (low high : ℕ) → List ℕ → Bool
 is_removed L paths low high q = in_range L paths low high q && list_all (in_range L paths low high) (parents q)
     && list_all (λ p. not (is_below q p) || in_range L paths low high p) (keys paths)
@@ -23,7 +24,8 @@ pub record AfterCleanUp : Type 0 where
   pub paths : PathMap
   pub back : List ℕ
 
--- the removed paths become absent, and the frames of their tables go back, a path before its front parts, else in order of the first index that differs
+-- The removed entries become absent, and the frames of their tables are freed, each after those below it, otherwise in ascending
+-- order of indices.
 unfoldable pub clean_up : (L : ℕ) → PathMap → (low high : ℕ) → AfterCleanUp
 clean_up L paths low high = record {
   paths = retain_keys paths (λ q. not (is_removed L paths low high q));

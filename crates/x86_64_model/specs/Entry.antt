@@ -1,28 +1,28 @@
--- Entries: the words of page tables. Bits 12 to 51 name an address, every other bit is a flag.
+-- Entries: the words of page tables. Bits 12 to 51 hold an address, and every other bit is a flag.
 -- Intel SDM vol. 3A, "Formats of paging-structure entries"; AMD APM vol. 2, "Long-Mode Page Translation".
 use Rattle.std.specs.Prelude.{◌≡◌, ℕ, ◌==◌, ◌&&◌, Bool, not, bit_and}
 
--- whether all bits of a mask are set
+-- Whether all bits of a mask are set.
 unfoldable pub has : (entry mask : ℕ) → Bool
 has entry mask = bit_and entry mask == mask
 
--- PRESENT: the processor uses the entry
+-- PRESENT: the processor uses the entry.
 abbrev pub present : (entry : ℕ) → Bool
 present entry = has entry 0x1
 
--- WRITABLE
+-- WRITABLE: the entry allows writes.
 abbrev pub writable : (entry : ℕ) → Bool
 writable entry = has entry 0x2
 
--- USER_ACCESSIBLE
+-- USER_ACCESSIBLE: the entry allows accesses from user mode.
 abbrev pub user : (entry : ℕ) → Bool
 user entry = has entry 0x4
 
--- HUGE_PAGE, the bit PS: above level one the entry maps a page in place of naming a table
+-- HUGE_PAGE, the PS bit: above level one the entry maps a page instead of naming a table.
 abbrev pub huge : (entry : ℕ) → Bool
 huge entry = has entry 0x80
 
--- NO_EXECUTE: no instruction is fetched from what the entry maps or leads to
+-- NO_EXECUTE: no instruction is fetched through the entry.
 abbrev pub no_execute : (entry : ℕ) → Bool
 no_execute entry = has entry 0x8000_0000_0000_0000
 
@@ -32,23 +32,23 @@ address entry = bit_and entry 0x000f_ffff_ffff_f000
 unfoldable pub flags : (entry : ℕ) → ℕ
 flags entry = bit_and entry 0xfff0_0000_0000_0fff
 
--- whether this is the address of a 4KiB frame: address bits alone
+-- Whether this is the address of a 4KiB frame, with address bits only.
 abbrev pub is_frame : (frame : ℕ) → Bool
 is_frame frame = address frame == frame
 
--- the absent entry is the word 0, every other one is used, present or not
+-- The absent entry is the word 0. Every other entry is used, present or not.
 unfoldable pub used : (entry : ℕ) → Bool
 used entry = not (entry == 0)
 
--- used and not huge: above level one the entry names a table, present or not
+-- Used and not huge: above level one the entry names a table, present or not.
 abbrev pub names_table : (entry : ℕ) → Bool
 names_table entry = used entry && not (huge entry)
 
--- whether flags have no address bits
+-- Whether flags have no address bits.
 abbrev pub no_address : (flags : ℕ) → Bool
 no_address given = address given == 0
 
--- flags that an entry above a page may get: no address bits and no HUGE_PAGE
+-- Flags that an entry above a page may get: no address bits and no HUGE_PAGE.
 pub record IsParentFlags (given : ℕ) : Type 0 where
   pub no_address : address given ≡ 0
   pub not_huge : bit_and given 0x80 ≡ 0

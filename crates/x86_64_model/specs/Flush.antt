@@ -1,4 +1,4 @@
--- What is recorded of accepted calls, so that a cache of walks can be flushed.
+-- Items recorded for accepted calls, so that cached translations can be flushed.
 -- Intel SDM vol. 3A, "Invalidation of TLBs and Paging-Structure Caches".
 use Rattle.std.specs.Prelude.{ℕ, Bool, true, List, [], ◌∷◌, ◌++◌}
 use Rattle.x86_64_model.specs.Position.{page_path}
@@ -11,12 +11,12 @@ pub data Item : Type 0 where
   OnePage : (page : List ℕ) → Item
   Everything : Item
 
--- whether an item covers a position
+-- Whether an item covers a position (the number of an address counted without the gap of the address space).
 abbrev pub covers : (L : ℕ) → Item → (position : ℕ) → Bool
 covers L (OnePage q) p = begins q (page_path L p)
 covers L Everything p = true
 
--- the item, if the call was accepted
+-- The item, if the call was accepted.
 abbrev pub if_done : Reply → Item → List Item
 if_done (Answered (Done frame)) item = item ∷ []
 if_done (Answered (Refused why)) item = []
@@ -25,7 +25,7 @@ if_done (Position t) item = []
 if_done (Address a) item = []
 if_done Cleaned item = []
 
--- the items of a call that was answered so
+-- The items recorded for a call with this reply.
 abbrev pub items_of : (L : ℕ) → Call → Reply → List Item
 items_of L (MapTo q frame given) reply = if_done reply (OnePage q)
 items_of L (MapToWithTableFlags q frame given parent_flags) reply = if_done reply (OnePage q)
@@ -38,7 +38,7 @@ items_of L (Translate p) reply = []
 items_of L (TranslateAddress p) reply = []
 items_of L (CleanUp low high) reply = []
 
--- the items of a list of calls
+-- The items recorded for a list of calls.
 abbrev pub all_items : Machine → State → List Call → List Item
 all_items m s [] = []
 all_items m s (call ∷ calls) = items_of m.levels call (step m s call).reply ++ all_items m (step m s call).state calls

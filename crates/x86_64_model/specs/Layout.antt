@@ -1,4 +1,4 @@
--- What a mapper is, beside the memory that it was lent: what none of its calls changes.
+-- The fixed part of a mapper: all but the memory that it was lent. No call changes it.
 use Rattle.std.specs.Prelude.{◌≡◌, ◌≢◌, ℕ, true, List, Option}
 use Rattle.std.specs.FinMap.{get}
 use Rattle.x86_64_model.specs.PathMap.{PathMap}
@@ -8,8 +8,8 @@ use Rattle.x86_64_model.specs.PageWalk.{Walked, page_walk}
 use Rattle.x86_64_model.specs.Pool.{IsOwn, Fits}
 use Rattle.x86_64_model.specs.Window.{Window, outside_window, entry_at, IsValidFor}
 
--- how many levels of tables there are, where frames lie, the root's frame, the recursive index and the self-entry where there is one,
--- and the flags that a new table entry gets beside the parent flags
+-- The number of table levels, the places of frames (a place is the index of a table in memory), the root's frame, the recursive
+-- index with its self-entry if there is one, and the flags that a new table entry gets in addition to the parent flags.
 pub record Layout : Type 0 where
   pub levels : ℕ
   pub places : Places
@@ -17,34 +17,34 @@ pub record Layout : Type 0 where
   pub window : Option Window
   pub added_flags : ℕ
 
--- the table in each frame
+-- The table in each frame.
 abbrev pub words : Layout → Memory → Words
 words l m = words_of m l.places
 
--- the path map that the memory's words hold, without the root's word at the recursive index
+-- The path map that the memory's words hold, with the root's word at the recursive index left out.
 abbrev pub paths : Layout → Memory → PathMap
 paths l m = paths_of l.levels (outside_window l.window l.root (words l m)) l.root
 
--- the entry that is read at a path, through the window where there is one
+-- The entry read at a path, through the recursive window if there is one.
 abbrev pub read_entry : Layout → Memory → List ℕ → ℕ
 read_entry l m q = entry_at l.window (paths l m) q
 
--- the hierarchy is valid now, for the recursive index where there is one
+-- The hierarchy in the memory is valid, including the self-entry if there is a recursive index.
 abbrev pub Valid : Layout → Memory → Type 0
 Valid l m = IsValidFor l.levels l.window (words l m) l.root (paths l m)
 
--- where the processor arrives from a position
+-- The result of the processor's page walk at a position (the number of an address counted without the gap of the address space).
 abbrev pub walk : Layout → Memory → (position : ℕ) → Option Walked
 walk l m p = page_walk l.levels (words l m) l.root p
 
--- the hierarchy is valid now, and the supply's frames are as in a pool that fits
+-- The hierarchy in the memory is valid, and the frames of the supply (those to hand out, in order) are as in a pool that fits.
 abbrev pub IsReady : Layout → Memory → (supply : List ℕ) → Type 0
 IsReady l m supply = Fits l.levels l.window (words l m) l.root (paths l m) (λ f. true) supply
 
--- the root, a table, or a frame of the supply
+-- The frame holds the root or another table, or is in the supply.
 abbrev pub Owns : Layout → Memory → (supply : List ℕ) → (frame : ℕ) → Type 0
 Owns l m supply f = IsOwn l.levels l.root (paths l m) supply f
 
--- the places where none of these frames lies keep their words
+-- Every place where none of these frames lies keeps its words.
 abbrev pub KeepsOthers : Places → (frames : ℕ → Type 0) → Memory → Memory → Type 0
 KeepsOthers places frames m n = (k : ℕ) → ((f : ℕ) → frames f → places.place f ≢ k) → get n k ≡ get m k

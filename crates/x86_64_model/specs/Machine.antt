@@ -1,4 +1,4 @@
--- The machine: what each call makes of a path map and a pool of free frames, and what a list of calls makes of them.
+-- The machine: the effect of each call, and of a list of calls, on a path map and a pool of free frames.
 use Rattle.std.specs.Prelude.{ℕ, if◌then◌else◌, List, [], ◌∷◌, Option}
 use Rattle.x86_64_model.specs.Entry.{IsParentFlags}
 use Rattle.x86_64_model.specs.Path.{path_at}
@@ -12,8 +12,8 @@ use Rattle.x86_64_model.specs.Pool.{TakesBack, given_back}
 use Rattle.x86_64_model.specs.Call.{Call, MapTo, MapToWithTableFlags, IdentityMap, Unmap, UpdateFlags, SetFlags, TranslatePage, Translate, TranslateAddress, CleanUp, Reply, NotAllowed, Answered, Position, Address, Cleaned}
 use Rattle.x86_64_model.specs.Allowed.{allowed}
 
--- What no call changes: the number of levels, the recursive index where there is one, the flags that a new table entry gets beside the parent flags,
--- and where the pool puts a frame that comes back.
+-- The parameters that no call changes: the number of levels, the recursive window if there is one, the flags that a new table
+-- entry gets in addition to the parent flags, and where the pool puts a returned frame.
 pub record Machine : Type 0 where
   pub levels : ℕ
   pub window : Option Window
@@ -28,28 +28,28 @@ pub record State : Type 0 where
   pub paths : PathMap
   pub pool : List ℕ
 
--- what a call leaves: the state after it, and the reply to it
+-- The result of a call: the state after it, and its reply.
 pub record AfterCall : Type 0 where
   pub state : State
   pub reply : Reply
 
--- a call that changes nothing
+-- The result of a call that changes nothing.
 abbrev pub only_reply : State → Reply → AfterCall
 only_reply s reply = record { state = s; reply = reply }
 
--- a map, by what its rule leaves
+-- The result of a map call, from its rule.
 abbrev pub after_map : AfterMap → AfterCall
 after_map a = record { state = record { paths = a.paths; pool = a.supply }; reply = Answered a.answer }
 
--- a change of one entry, by what its rule leaves; the pool stays
+-- The result of a call on one entry, from its rule. The pool stays.
 abbrev pub after_change : (pool : List ℕ) → AfterChange → AfterCall
 after_change pool a = record { state = record { paths = a.paths; pool = pool }; reply = Answered a.answer }
 
--- a clean up: the frames of the tables that are gone go back to the pool
+-- The result of a clean up: the frames of the removed tables return to the pool.
 abbrev pub after_clean_up : (take_back : List ℕ → ℕ → List ℕ) → (pool : List ℕ) → AfterCleanUp → AfterCall
 after_clean_up take_back pool a = record { state = record { paths = a.paths; pool = given_back take_back pool a.back }; reply = Cleaned }
 
--- an allowed call
+-- The result of an allowed call.
 unfoldable pub do_call : Machine → State → Call → AfterCall
 do_call m s (MapTo q frame given) = after_map (map_call m.levels s.paths s.pool (parent_part given) m.added_flags q frame given)
 do_call m s (MapToWithTableFlags q frame given parent_flags) = after_map (map_call m.levels s.paths s.pool parent_flags m.added_flags q frame given)
@@ -62,11 +62,11 @@ do_call m s (Translate p) = only_reply s (Position (translate m.levels (entry_at
 do_call m s (TranslateAddress p) = only_reply s (Address (address_of (translate m.levels (entry_at m.window s.paths) p)))
 do_call m s (CleanUp low high) = after_clean_up m.take_back s.pool (clean_up m.levels s.paths low high)
 
--- one call: where it isn't allowed it is answered so, and changes nothing
+-- The result of any call. A call that isn't allowed gets the reply `NotAllowed` and changes nothing.
 abbrev pub step : Machine → State → Call → AfterCall
 step m s call = if allowed m.levels m.window s.paths call then do_call m s call else only_reply s NotAllowed
 
--- a list of calls: one reply for each, and the state at the end
+-- A list of calls: one reply for each call, and the state at the end.
 abbrev pub replies_of : Machine → State → List Call → List Reply
 replies_of m s [] = []
 replies_of m s (call ∷ calls) = (step m s call).reply ∷ replies_of m (step m s call).state calls

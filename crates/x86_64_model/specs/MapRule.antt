@@ -1,4 +1,5 @@
--- What a map call leaves and answers, stated at once. A page is the path of its entry, and a frame its address.
+-- The effect and the answer of a map call, stated as one rule. A page is named by the path of its entry, and a frame by its
+-- address.
 use Rattle.std.specs.Prelude.{ℕ, ◌&&◌, nat_lt, not, cond, List, [], length, drop, filter, fold, zip, bit_and, bit_or}
 use Rattle.std.specs.List.{list_any}
 use Rattle.x86_64_model.specs.Entry.{used, huge}
@@ -6,11 +7,11 @@ use Rattle.x86_64_model.specs.Path.{parents, is_small}
 use Rattle.x86_64_model.specs.PathMap.{PathMap, entry, put}
 use Rattle.x86_64_model.specs.Refusal.{Answer, Done, Refused, ParentEntryHugePage, PageAlreadyMapped, FrameAllocationFailed}
 
--- flags added to the entries at these paths
+-- The path map with flags added to the entries at these paths.
 abbrev pub with_flags : PathMap → (given : ℕ) → List (List ℕ) → PathMap
 with_flags paths given ps = fold (λ m p. put m p (bit_or (entry m p) given)) paths ps
 
--- new tables at these paths, in the frames in order, as far as there are frames
+-- The path map with new tables at these paths, in the given frames in order, as far as they go.
 abbrev pub with_tables : PathMap → (given : ℕ) → List (List ℕ) → (frames : List ℕ) → PathMap
 with_tables paths given ps frames = fold (λ m x. put m x.0 (bit_or x.1 given)) paths (zip ps frames)
 
@@ -19,10 +20,12 @@ pub record AfterMap : Type 0 where
   pub supply : List ℕ
   pub answer : Answer
 
--- ps are the parents of q, and e the entry asked for at q, which names the frame.
--- Each used parent gets the parent flags. If one is huge, and only the last used one can be, the call is refused and nothing else changes.
--- Else the other parents become new tables in the first frames of the supply, as far as it goes. If it ends too soon, or q is used, the call is refused.
--- Else the entry stands at q.
+-- Here ps are the parents of q, and e is the requested entry at q, which names the frame. The supply is the frames to hand out,
+-- in order.
+-- Each used parent gets the parent flags. A huge parent, necessarily the last used one, refuses the call, and nothing else
+-- changes.
+-- Otherwise the unused parents become new tables in the first frames of the supply, as far as it goes.
+-- The call is refused if the supply runs out or q is used. Otherwise e is written at q.
 unfoldable pub map_rule : PathMap → (supply : List ℕ) → (parent_flags added_flags : ℕ) → (ps : List (List ℕ)) → (q : List ℕ) (e frame : ℕ) → AfterMap
 map_rule paths supply parent_flags added_flags ps q e frame =
     let marked = with_flags paths parent_flags (filter (λ p. used (entry paths p)) ps) in
@@ -36,13 +39,13 @@ map_rule paths supply parent_flags added_flags ps q e frame =
     (record { paths = built; supply = drop (length missing) supply; answer = Refused (PageAlreadyMapped frame) })
     (record { paths = put built q e; supply = drop (length missing) supply; answer = Done frame })))
 
--- the entry of a mapped page: the frame and the flags, with HUGE_PAGE for 2MiB and 1GiB
+-- The entry of a mapped page: the frame and the flags, with HUGE_PAGE for a 2MiB or 1GiB page.
 abbrev pub leaf_entry : (L : ℕ) → List ℕ → (frame flags : ℕ) → ℕ
 leaf_entry L q frame given = bit_or frame (cond (is_small L q) given (bit_or given 0x80))
 
 abbrev pub map_call : (L : ℕ) → PathMap → (supply : List ℕ) → (parent_flags added_flags : ℕ) → (q : List ℕ) (frame flags : ℕ) → AfterMap
 map_call L paths supply parent_flags added_flags q frame given = map_rule paths supply parent_flags added_flags (parents q) q (leaf_entry L q frame given) frame
 
--- the parent flags of `map_to`: PRESENT, WRITABLE and USER_ACCESSIBLE as they are asked for
+-- The parent flags of `map_to`: those of PRESENT, WRITABLE and USER_ACCESSIBLE that the page's flags have.
 abbrev pub parent_part : (flags : ℕ) → ℕ
 parent_part given = bit_and given 0x7

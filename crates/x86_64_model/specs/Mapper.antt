@@ -1,4 +1,4 @@
--- What the calls of a mapper ask for and leave, over one record: the hierarchy that the mapper owns for a while.
+-- The conditions and effects of a mapper's calls, over one record: the hierarchy that the mapper owns for a while.
 use Rattle.std.specs.Prelude.{◌≡◌, ◌<◌, ◌+◌, ℕ, Bool, true, List, ◌∷◌, Some, Option}
 use Rattle.x86_64_model.specs.Allowed.{allowed, map_allowed, refuses}
 use Rattle.x86_64_model.specs.Arrivals.{Arrives}
@@ -19,7 +19,7 @@ use Rattle.x86_64_model.specs.Refusal.{Answer}
 use Rattle.x86_64_model.specs.Standing.{StandsAt}
 use Rattle.x86_64_model.specs.Translation.{Translated, translate}
 
--- what no call changes, the memory now, and which memory was lent and what finds frames in it
+-- The fixed layout, the current memory, and what was lent: the memory, and what finds frames in it.
 pub record Hierarchy (Lent : Type 0) : Type 0 where
   pub layout : Layout
   pub memory : Memory
@@ -27,94 +27,95 @@ pub record Hierarchy (Lent : Type 0) : Type 0 where
 
 -- ---- what it means now
 
--- the table in each frame
+-- The table in each frame.
 abbrev pub words : {Lent : Type 0} → Hierarchy Lent → Words
 words h = words_in h.layout h.memory
 
--- the path map that its words hold
+-- The path map that its words hold.
 abbrev pub paths : {Lent : Type 0} → Hierarchy Lent → PathMap
 paths h = paths_in h.layout h.memory
 
--- the entry that is read at a path, through the recursive index where there is one
+-- The entry read at a path, through the recursive index if there is one.
 abbrev pub read_entry : {Lent : Type 0} → Hierarchy Lent → List ℕ → ℕ
 read_entry h q = read_entry_in h.layout h.memory q
 
--- where the processor arrives from a position
+-- The result of the processor's page walk at a position (the number of an address counted without the gap of the address space).
 abbrev pub walk : {Lent : Type 0} → Hierarchy Lent → (position : ℕ) → Option Walked
 walk h p = walk_in h.layout h.memory p
 
--- what `translate` answers of a position
+-- The answer of `translate` at a position.
 abbrev pub translation : {Lent : Type 0} → Hierarchy Lent → (position : ℕ) → Translated
 translation h p = translate h.layout.levels (read_entry h) p
 
--- the path of the entry of a level at a position
+-- The path of the entry of a level at a position.
 abbrev pub path_of : {Lent : Type 0} → Hierarchy Lent → (level position : ℕ) → List ℕ
 path_of h level p = path_at h.layout.levels level p
 
--- what `translate_page` answers
+-- The answer of `translate_page`.
 abbrev pub page_translation : {Lent : Type 0} → Hierarchy Lent → (page : List ℕ) → Answer
 page_translation h q = translate_page h.layout.levels (read_entry h) q
 
--- the hierarchy is valid
+-- The hierarchy is valid.
 abbrev pub Valid : {Lent : Type 0} → Hierarchy Lent → Type 0
 Valid h = ValidIn h.layout h.memory
 
--- it is valid, and a pool fits it
+-- The hierarchy is valid, and a pool fits it.
 abbrev pub PoolFits : {Lent : Type 0} → Hierarchy Lent → (serves : ℕ → Bool) → (pool : List ℕ) → Type 0
 PoolFits h serves pool = Fits h.layout.levels h.layout.window (words h) h.layout.root (paths h) serves pool
 
--- it is valid, and a supply of frames fits it, whatever serves them
+-- The hierarchy is valid, and a supply (the frames to hand out, in order) fits it, whatever serves them.
 abbrev pub SupplyFits : {Lent : Type 0} → Hierarchy Lent → (supply : List ℕ) → Type 0
 SupplyFits h supply = PoolFits h (λ f. true) supply
 
--- the root, a table, or a frame of the supply
+-- The frame holds the root or another table, or is in the supply.
 abbrev pub Owns : {Lent : Type 0} → Hierarchy Lent → (supply : List ℕ) → (frame : ℕ) → Type 0
 Owns h supply f = IsOwn h.layout.levels h.layout.root (paths h) supply f
 
--- no word changed but in these frames
+-- Only words in these frames changed.
 abbrev pub KeepsOthers : {Lent : Type 0} → (frames : ℕ → Type 0) → (h after : Hierarchy Lent) → Type 0
 KeepsOthers frames h after = KeepOthers h.layout.places frames h.memory after.memory
 
 -- ---- what a call asks for
 
--- whether a call's condition holds
+-- Whether the condition of a call holds.
 abbrev pub allows : {Lent : Type 0} → Hierarchy Lent → Call → Bool
 allows h call = allowed h.layout.levels h.layout.window (paths h) call
 
--- whether the page of a path may be mapped with these flags and parent flags, to whichever frame
+-- Whether the page at a path may be mapped with these flags and parent flags, to any frame.
 abbrev pub allows_map : {Lent : Type 0} → Hierarchy Lent → (page : List ℕ) → (flags parent_flags : ℕ) → Bool
 allows_map h q given parent_flags = map_allowed h.layout.levels h.layout.window (paths h) q given parent_flags
 
--- a call may be made: the hierarchy is valid, and the call's condition holds
+-- A call may be made if the hierarchy is valid and the call's condition holds.
 pub record May {Lent : Type 0} (h : Hierarchy Lent) (call : Call) : Type 0 where
   pub valid : Valid h
   pub allowed : allows h call ≡ true
 
--- a map may be made: the supply of frames fits besides
+-- A map may be made if, in addition, the supply of frames fits.
 pub record MayMap {Lent : Type 0} (h : Hierarchy Lent) (supply : List ℕ) (call : Call) : Type 0 where
   pub fits : SupplyFits h supply
   pub allowed : allows h call ≡ true
 
 -- ---- what it leaves
 
--- the machine that a layout is, where a pool puts a frame that comes back so
+-- The machine of a layout, with a pool that puts a returned frame where `take_back` says.
 abbrev pub machine_of : Layout → (take_back : List ℕ → ℕ → List ℕ) → Machine
 machine_of layout take_back = record { levels = layout.levels; window = layout.window; added_flags = layout.added_flags; take_back = take_back }
 
--- its state: what the memory's words mean in the layout, and the free frames
+-- The machine's state: the path map that the memory's words hold in the layout, and the free frames.
 abbrev pub state_in : Layout → Memory → (pool : List ℕ) → State
 state_in layout memory pool = record { paths = paths_in layout memory; pool = pool }
 
 abbrev pub state_of : {Lent : Type 0} → Hierarchy Lent → (pool : List ℕ) → State
 state_of h pool = state_in h.layout h.memory pool
 
--- An allowed call makes of this hierarchy and pool those, and has this answer: so does the machine, whose pool puts frames back as it will.
+-- The allowed call turns this hierarchy and pool into those after it, with this answer. The machine does so too, wherever its
+-- pool puts returned frames.
 abbrev pub Steps : {Lent : Type 0} → (h : Hierarchy Lent) → (pool : List ℕ) → Call → Answer → (after : Hierarchy Lent) → (rest : List ℕ) → Type 0
 Steps h pool call answer after rest =
     (take_back : List ℕ → ℕ → List ℕ) → do_call (machine_of h.layout take_back) (state_of h pool) call ≡ record { state = state_of after rest; reply = Answered answer }
 
--- A call that takes no frames: its outcome is the machine's, the hierarchy is valid again and a supply that fitted it still does, no word
--- changed but in the root and the tables, and none where the call was refused.
+-- The effect of a call that takes no frames. Its outcome is the machine's, the hierarchy is valid again, and a supply that fitted
+-- still fits. Only words in the root and the tables change, and a refused call changes none.
 pub record Does {Lent : Type 0} (h : Hierarchy Lent) (call : Call) (answer : Answer) (after : Hierarchy Lent) : Type 0 where
   pub outcome : (pool : List ℕ) → Steps h pool call answer after pool
   pub valid : Valid after
@@ -124,9 +125,9 @@ pub record Does {Lent : Type 0} (h : Hierarchy Lent) (call : Call) (answer : Ans
   pub layout : after.layout ≡ h.layout
   pub lent : after.lent ≡ h.lent
 
--- A map, of which the rest of the supply was left: its outcome is the machine's, the rest fits the hierarchy, and no word changed but in the
--- root, the tables and the frames that were taken. Where the processor arrived it still does, at the same address, with no right lost and none
--- gained that the parent flags lack.
+-- The effect of a map, after which the rest of the supply is left. Its outcome is the machine's, the rest fits the hierarchy, and
+-- only words in the root, the tables and the taken frames change. Each page walk that arrived still arrives at the same address,
+-- loses no right, and gains only rights that the parent flags grant.
 pub record DoesMap {Lent : Type 0} (h : Hierarchy Lent) (supply : List ℕ) (call : Call) (answer : Answer) (after : Hierarchy Lent) (rest : List ℕ) : Type 0 where
   pub outcome : Steps h supply call answer after rest
   pub fits : SupplyFits after rest
@@ -135,36 +136,37 @@ pub record DoesMap {Lent : Type 0} (h : Hierarchy Lent) (supply : List ℕ) (cal
   pub layout : after.layout ≡ h.layout
   pub lent : after.lent ≡ h.lent
 
--- the frame that the entry named whose flags a call changes
+-- The frame that is named by the entry whose flags the call changes.
 abbrev pub named : {Lent : Type 0} → Hierarchy Lent → Call → ℕ
 named h (UpdateFlags q given) = address (read_entry h q)
 named h (SetFlags level q given) = address (read_entry h (front_at h.layout.levels level q))
 named h call = 0
 
--- from each position of a page of a size the processor arrives at the frame's start plus the offset, with just the rights that the flags have
+-- The page walk at each offset of a page of this size arrives at the frame's start plus the offset, with exactly the rights of
+-- the flags.
 abbrev pub ArrivesIn : {Lent : Type 0} → Hierarchy Lent → (size page frame flags : ℕ) → Type 0
 ArrivesIn h size page frame given =
     (offset : ℕ) → offset < size → walk h (page + offset) ≡ Some (record { address = frame + offset; write = writable given; user = user given })
 
--- a page of a level stands: it is mapped to the frame as a `map_to` with these flags maps it
+-- A page of a level stands: it is mapped to the frame as a `map_to` with these flags maps it.
 abbrev pub Stands : {Lent : Type 0} → Hierarchy Lent → (level page frame flags : ℕ) → Type 0
 Stands h level page frame given = StandsAt h.layout.levels level (paths h) (path_of h level page) frame given
 
 -- ---- clean ups
 
--- the frames that a clean up of the positions from low to high gives back, in order
+-- The frames that a clean up of the positions from low to high frees, in order.
 abbrev pub back : {Lent : Type 0} → Hierarchy Lent → (low high : ℕ) → List ℕ
 back h low high = (clean_up h.layout.levels (paths h) low high).back
 
--- a clean up may be made: the hierarchy is valid, and the frame of each table but the root is served and not held
+-- A clean up may be made if the hierarchy is valid, and the frame of each table but the root is served and not held.
 pub record MayCleanUp {Lent : Type 0} (h : Hierarchy Lent) (serves : ℕ → Bool) (held : List ℕ) : Type 0 where
   pub valid : Valid h
   pub serves_tables : (i : ℕ) (q : List ℕ) (f : ℕ) → table_at h.layout.levels h.layout.root (paths h) (i ∷ q) ≡ Some f → serves f ≡ true
   pub none_held : (i : ℕ) (q : List ℕ) (f : ℕ) → table_at h.layout.levels h.layout.root (paths h) (i ∷ q) ≡ Some f → In held f → ⊥
 
--- A clean up, where the frames that are held take one that comes back as put says: its outcome is the machine's, the hierarchy is valid again,
--- and a supply that fitted it and got the frames that came back still does. These have words 0 alone, and no word changed but in the root and
--- the tables.
+-- The effect of a clean up, after which each freed frame is held where `take_back` puts it. Its outcome is the machine's, the
+-- hierarchy is valid again, and a supply that fitted still fits with the freed frames added. The freed frames have only words 0,
+-- and only words in the root and the tables change.
 pub record CleansUp {Lent : Type 0} (h : Hierarchy Lent) (take_back : List ℕ → ℕ → List ℕ) (held : List ℕ) (low high : ℕ) (after : Hierarchy Lent) (rest : List ℕ) : Type 0 where
   pub outcome : do_call (machine_of h.layout take_back) (state_of h held) (CleanUp low high) ≡ record { state = state_of after rest; reply = Cleaned }
   pub valid : Valid after

@@ -1,4 +1,4 @@
--- Mappings: what words map below a root, all of it. The words may be any, and there may be any number L of levels.
+-- Mappings: everything that words map below a root. The words are arbitrary, and L is any number of levels.
 -- Intel SDM vol. 3A, "4-Level Paging and 5-Level Paging"; AMD APM vol. 2, "Long-Mode Page Translation".
 use Rattle.std.specs.Prelude.{ℕ, ◌+◌, ◌-◌, ◌==◌, ◌&&◌, ◌||◌, nat_lt, nat_le, Bool, false, not, cond, List, [], ◌∷◌, filter, Option, Some, None, option_and_then, option_map, unwrap_or}
 use Rattle.std.specs.List.{filter_map, list_all, last_or}
@@ -9,18 +9,19 @@ use Rattle.x86_64_model.specs.Path.{level_of, span_start, span_size, paths_below
 
 -- ---- leaves: paths at whose end a page walk arrives
 
--- the words that are read along a path from a frame's table down, each but the first in the frame that the word before names
+-- The words read along a path from a frame's table down, each but the first in the frame that the word before it names.
 unfoldable pub words_along : Words → (frame : ℕ) → List ℕ → Option (List ℕ)
 words_along tables frame [] = Some []
 words_along tables frame (i ∷ q) = option_and_then
     (λ e. option_map (λ below. e ∷ below) (words_along tables (address e) q))
     (read tables frame i)
 
--- whether an entry of a level maps a page: at level one any does, at levels two and three those with HUGE_PAGE
+-- Whether an entry of a level maps a page: at level one every entry does, at levels two and three those with HUGE_PAGE.
 abbrev pub maps_page : (level entry : ℕ) → Bool
 maps_page level e = (level == 1) || (huge e && ((level == 2) || (level == 3)))
 
--- whether words, the first of them of a level, are those of a leaf: all are present, the last one maps a page, none before it is huge
+-- Whether words, the first of this level, are those of a leaf: all are present, the last one maps a page, and none before it is
+-- huge.
 unfoldable pub is_leaf : (level : ℕ) → (words : List ℕ) → Bool
 is_leaf level [] = false
 is_leaf level (e ∷ []) = present e && maps_page level e
@@ -28,7 +29,7 @@ is_leaf level (e ∷ f ∷ below) = present e && not (huge e) && is_leaf (level 
 
 -- ---- mappings
 
--- what all words of a leaf allow: each has WRITABLE, each has USER_ACCESSIBLE, none has NO_EXECUTE
+-- The rights that all words of a leaf grant: each has WRITABLE, each has USER_ACCESSIBLE, none has NO_EXECUTE.
 pub record Rights : Type 0 where
   pub write : Bool
   pub user : Bool
@@ -41,8 +42,8 @@ rights_of words = record {
   execute = list_all (λ e. not (no_execute e)) words;
 }
 
--- what a leaf maps: the positions of its path's span, by the first one and how many there are; the frame and the flags are those of its
--- last word
+-- What a leaf maps: the span of its path, as its first position and its size, with the frame and the flags of the last word. A
+-- position is the number of an address counted without the gap of the address space.
 pub record Mapping : Type 0 where
   pub start : ℕ
   pub size : ℕ
@@ -62,14 +63,14 @@ mapping_of L q words = record {
   rights = rights_of words;
 }
 
--- the mapping of a path's words, if they are those of a leaf
+-- The mapping of a path's words, if they are those of a leaf.
 unfoldable pub leaf_of : (L : ℕ) (path words : List ℕ) → Option Mapping
 leaf_of L q words = cond (is_leaf L words) (Some (mapping_of L q words)) None
 
 unfoldable pub mapping_at : (L : ℕ) → Words → (root : ℕ) (path : List ℕ) → Option Mapping
 mapping_at L tables root q = option_and_then (leaf_of L q) (words_along tables root q)
 
--- the mappings below a root: those of all leaves, in the order of their paths
+-- The mappings of all leaves below a root, in the order of their paths.
 unfoldable pub mappings_of : (L : ℕ) → Words → (root : ℕ) → List Mapping
 mappings_of L tables root = filter_map (mapping_at L tables root) (paths_below L [])
 
@@ -78,6 +79,6 @@ mappings_of L tables root = filter_map (mapping_at L tables root) (paths_below L
 abbrev pub has_position : (position : ℕ) → Mapping → Bool
 has_position p m = nat_le m.start p && nat_lt p (m.start + m.size)
 
--- those that end at a position or after it
+-- The mappings that end at a position or after it.
 unfoldable pub mappings_from : (position : ℕ) → List Mapping → List Mapping
 mappings_from p = filter (λ m. nat_lt p (m.start + m.size))

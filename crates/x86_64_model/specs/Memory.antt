@@ -1,4 +1,5 @@
--- Memory: a finite map from places to tables of words, and which frames lie at which places. A frame is named by its address.
+-- Memory: a finite map from places to tables of words, and which frames lie at which places.
+-- A place is the index of a table in memory, and a frame is named by its address.
 use Rattle.std.specs.Prelude.{◌≡◌, ℕ, Bool, true, cond, List, Option, Some, None, IsSome, option_map, get_or, set, ◌==◌, ◌/◌, nat_lt}
 use Rattle.std.specs.Ordering.{nat_cmp}
 use Rattle.std.specs.FinMap.{FinMap, get}
@@ -7,29 +8,29 @@ use Rattle.x86_64_model.specs.Entry.{is_frame}
 abbrev pub Memory : Type 0
 Memory = FinMap nat_cmp (List ℕ)
 
--- the frames that are covered, and the places of these
+-- The covered frames, and the place of each.
 pub record Places : Type 0 where
   pub covers : ℕ → Bool
   pub place : ℕ → ℕ
 
--- distinct covered frames have distinct places
+-- Distinct covered frames have distinct places.
 abbrev pub Distinct : Places → Type 0
 Distinct places = (f g : ℕ) → places.covers f ≡ true → places.covers g ≡ true → places.place f ≡ places.place g → f ≡ g
 
--- a frame mapping: what is covered are frames, and distinct ones have distinct places
+-- A frame mapping: only frames are covered, and distinct ones have distinct places.
 pub record IsMapping (places : Places) : Type 0 where
   pub frames : (f : ℕ) → places.covers f ≡ true → is_frame f ≡ true
   pub distinct : Distinct places
 
--- each frame at the place of its number
+-- Each frame is at the place of its frame number.
 abbrev pub identity_places : Places
 identity_places = record { covers = is_frame; place = λ f. f / 4096 }
 
--- the table in each frame that is covered and in the memory
+-- The table in each frame that is covered and in the memory.
 abbrev pub Words : Type 0
 Words = ℕ → Option (List ℕ)
 
--- only frames have tables
+-- Only frames have tables.
 abbrev pub OnlyFrames : Words → Type 0
 OnlyFrames tables = (f : ℕ) → IsSome (tables f) → is_frame f ≡ true
 
@@ -40,10 +41,10 @@ abbrev pub word_in : Option (List ℕ) → (i : ℕ) → ℕ
 word_in None i = 0
 word_in (Some words) i = get_or words i 0
 
--- word i of the table in a frame, 0 past the last word and where there is no table
+-- Word i of the table in a frame, 0 past the last word or if there is no table.
 unfoldable pub word : Words → (frame i : ℕ) → ℕ
 word tables frame i = cond (nat_lt i 512) (word_in (tables frame) i) 0
 
--- the tables after a word of a frame was set
+-- The tables after a word of a frame is set.
 unfoldable pub set_word : Words → (frame i value : ℕ) → Words
 set_word tables frame i value = λ f. cond (f == frame) (option_map (λ words. set words i value) (tables f)) (tables f)

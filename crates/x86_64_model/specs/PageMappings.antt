@@ -1,4 +1,4 @@
--- Pages to be mapped, one after the other: which page, to which frame, with which flags.
+-- Lists of pages to map one after another: which page, to which frame, with which flags.
 use Rattle.std.specs.Prelude.{◌≡◌, ◌+◌, ◌<◌, ◌≤◌, ℕ, false, List, [], ◌∷◌, map}
 use Rattle.std.specs.List.{AllByRecursion}
 use Rattle.x86_64_model.specs.Call.{Call, MapTo, Reply, Answered}
@@ -8,38 +8,39 @@ use Rattle.x86_64_model.specs.PathMap.{PathMap, entry}
 use Rattle.x86_64_model.specs.Position.{span}
 use Rattle.x86_64_model.specs.Refusal.{Done}
 
--- a page of a level by its first position, to be mapped to a frame with these flags
+-- A page of a level, by its first position (the number of an address counted without the gap), to be mapped to a frame with these
+-- flags.
 pub record PageMapping : Type 0 where
   pub level : ℕ
   pub page : ℕ
   pub frame : ℕ
   pub flags : ℕ
 
--- the path of the page's entry
+-- The path of the page's entry.
 abbrev pub entry_path : (L : ℕ) → PageMapping → List ℕ
 entry_path L x = path_at L x.level x.page
 
--- the `map_to` that maps it
+-- The `map_to` that maps the page.
 abbrev pub map_call_of : (L : ℕ) → PageMapping → Call
 map_call_of L x = MapTo (entry_path L x) x.frame x.flags
 
 abbrev pub map_calls : (L : ℕ) → List PageMapping → List Call
 map_calls L xs = map (λ x. map_call_of L x) xs
 
--- the reply that accepts it
+-- The reply that accepts this call.
 abbrev pub accepted : PageMapping → Reply
 accepted x = Answered (Done x.frame)
 
--- the entry at a path is unused, and none on the way to it is huge
+-- The entry at a path is unused, and none of its parents is huge.
 pub record IsUnmapped (paths : PathMap) (q : List ℕ) : Type 0 where
   pub unused : used (entry paths q) ≡ false
   pub none_huge : AllByRecursion (λ p. huge (entry paths p) ≡ false) (parents q)
 
--- no position lies in both pages
+-- No position lies in both pages.
 abbrev pub AreApart : PageMapping → PageMapping → Type 0
 AreApart x y = (p : ℕ) → x.page ≤ p → p < x.page + span x.level → y.page ≤ p → p < y.page + span y.level → ⊥
 
--- no position lies in two of the pages
+-- No position lies in two of the pages.
 abbrev pub EachApart : List PageMapping → Type 0
 EachApart [] = Unit {0}
 EachApart (x ∷ xs) = AllByRecursion (AreApart x) xs × EachApart xs

@@ -1,5 +1,5 @@
--- What the calls on one entry answer and leave: `unmap`, `update_flags`, `translate_page` and `set_flags`.
--- E is the entry at a path, as it is read. A refusal changes nothing, a success one entry.
+-- The answers and effects of the calls on one entry: `unmap`, `update_flags`, `translate_page` and `set_flags`.
+-- E is the entry read at a path. A refused call changes nothing, an accepted one at most one entry.
 use Rattle.std.specs.Prelude.{ℕ, ◌%◌, ◌==◌, nat_le, not, cond, List, Option, Some, None, bit_or}
 use Rattle.x86_64_model.specs.Entry.{present, used, huge, address}
 use Rattle.x86_64_model.specs.Path.{is_small, level_of, front_at, span_size}
@@ -11,51 +11,53 @@ pub record AfterChange : Type 0 where
   pub paths : PathMap
   pub answer : Answer
 
--- nothing changes if there is a refusal
+-- A refusal changes nothing. Otherwise the next outcome applies.
 abbrev pub refused_or : PathMap → Option Refusal → (next : AfterChange) → AfterChange
 refused_or paths None next = next
 refused_or paths (Some why) next = record { paths = paths; answer = Refused why }
 
--- ---- the refusals by the page's own entry e, once no parent refuses
+-- ---- refusals by the page's own entry e, if no parent refuses
 
--- it has to be present, huge exactly for 2MiB and 1GiB, with an address that is a multiple of the page's size
+-- The entry must be present. It must be huge if and only if the page is a 2MiB or 1GiB page, and then its address must be a
+-- multiple of the page's size.
 abbrev pub unmap_refusal : (L : ℕ) (page : List ℕ) (e : ℕ) → Option Refusal
 unmap_refusal L q e = refused_if (not (present e)) PageNotMapped
     (cond (is_small L q)
     (refused_if (huge e) ParentEntryHugePage None)
     (refused_if (not (huge e)) ParentEntryHugePage (refused_if (not (address e % span_size L q == 0)) (InvalidFrameAddress (address e)) None)))
 
--- it has to be used, and huge for 2MiB and 1GiB
+-- The entry must be used, and huge for a 2MiB or 1GiB page.
 abbrev pub update_refusal : (L : ℕ) (page : List ℕ) (e : ℕ) → Option Refusal
 update_refusal L q e = refused_if (not (used e)) PageNotMapped (cond (is_small L q) None (refused_if (not (huge e)) PageNotMapped None))
 
--- it has to be used, and for 2MiB and 1GiB huge with an address that is a multiple of the page's size
+-- The entry must be used. For a 2MiB or 1GiB page it must be huge, with an address that is a multiple of the page's size.
 abbrev pub translate_refusal : (L : ℕ) (page : List ℕ) (e : ℕ) → Option Refusal
 translate_refusal L q e = refused_if (not (used e)) PageNotMapped
     (cond (is_small L q) None (refused_if (not (huge e)) (InvalidFrameAddress (address e)) (refused_if (not (address e % span_size L q == 0)) (InvalidFrameAddress (address e)) None)))
 
 -- ---- the calls
 
--- where nothing refuses, the page's entry becomes absent
+-- Unless the call is refused, the page's entry becomes absent.
 unfoldable pub unmap : (L : ℕ) (E : List ℕ → ℕ) → PathMap → (page : List ℕ) → AfterChange
 unmap L E paths q = let e = E q in
     refused_or paths (first_stop E q)
     (refused_or paths (unmap_refusal L q e)
     (record { paths = put paths q 0; answer = Done (address e) }))
 
--- where nothing refuses, the flags of the page's entry become those given, with HUGE_PAGE for 2MiB and 1GiB
+-- Unless the call is refused, the flags of the page's entry become those given, with HUGE_PAGE for a 2MiB or 1GiB page.
 unfoldable pub update_flags : (L : ℕ) (E : List ℕ → ℕ) → PathMap → (page : List ℕ) (flags : ℕ) → AfterChange
 update_flags L E paths q given = let e = E q in
     refused_or paths (first_stop E q)
     (refused_or paths (update_refusal L q e)
     (record { paths = put paths q (leaf_entry L q (address e) given); answer = Done (address e) }))
 
--- where nothing refuses, the answer is the frame of the page's entry
+-- Unless the call is refused, the answer is the frame of the page's entry.
 unfoldable pub translate_page : (L : ℕ) (E : List ℕ → ℕ) → (page : List ℕ) → Answer
 translate_page L E q = let e = E q in
     answer_unless (first_stop E q) (answer_unless (translate_refusal L q e) (Done (address e)))
 
--- On the entry of a level on the page's path: a level that isn't above the page's own is refused, the entry has to be used, and its flags become those given.
+-- A call on the entry of a level on the page's path. A level that isn't above the page's own is refused. The entry must be used,
+-- and its flags become those given.
 unfoldable pub set_flags : (L : ℕ) (E : List ℕ → ℕ) → PathMap → (level : ℕ) (page : List ℕ) (flags : ℕ) → AfterChange
 set_flags L E paths level page given =
     cond (nat_le level (level_of L page)) (record { paths = paths; answer = Refused ParentEntryHugePage })

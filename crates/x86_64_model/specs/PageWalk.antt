@@ -1,11 +1,12 @@
 -- The page walk of L levels, 4 or 5, over raw words: where the processor finds an address, and with which rights.
--- Intel SDM vol. 3A, "Linear-Address Translation with 4-Level Paging and 5-Level Paging"; AMD APM vol. 2, "Long-Mode Page Translation".
+-- Intel SDM vol. 3A, "Linear-Address Translation with 4-Level Paging and 5-Level Paging"; AMD APM vol. 2, "Long-Mode Page
+-- Translation".
 use Rattle.std.specs.Prelude.{zero, suc, ℕ, ◌+◌, ◌*◌, ◌/◌, ◌%◌, ◌&&◌, nat_le, Bool, true, cond, get_or, Option, Some, None, option_and_then, option_map}
 use Rattle.x86_64_model.specs.Position.{span, index}
 use Rattle.x86_64_model.specs.Entry.{present, writable, user, huge, address}
 use Rattle.x86_64_model.specs.Memory.{Words}
 
--- where a walk arrives, and whether all words that it read have WRITABLE, and USER_ACCESSIBLE
+-- The address where a walk arrives, whether all words that it read have WRITABLE, and whether all have USER_ACCESSIBLE.
 pub record Walked : Type 0 where
   pub address : ℕ
   pub write : Bool
@@ -14,17 +15,18 @@ pub record Walked : Type 0 where
 abbrev pub arrives : (to : ℕ) (write user : Bool) → Option Walked
 arrives to w u = Some (record { address = to; write = w; user = u })
 
--- word i of a frame, None where the frame isn't covered or not in the memory
+-- Word i of a frame, None if the frame isn't covered or isn't in the memory.
 abbrev pub read : Words → (frame i : ℕ) → Option ℕ
 read tables frame i = option_map (λ words. get_or words i 0) (tables frame)
 
--- a huge entry's address, rounded down to the size of its level's page
+-- A huge entry's address, rounded down to the page size of its level.
 abbrev pub page_start : (level entry : ℕ) → ℕ
 page_start level e = address e / span level * span level
 
--- The walk on at position p from a frame's table of a level, where w and u say whether all words above have WRITABLE and USER_ACCESSIBLE.
--- At level one a present word leads to a 4KiB page, whatever its bit 7. Above, a present word leads to the next table;
--- with HUGE_PAGE it leads to a page at levels two and three, and nowhere above.
+-- The rest of the walk at position p (the number of an address counted without the gap), from a frame's table of a level. Here w
+-- and u say whether all words above have WRITABLE and USER_ACCESSIBLE.
+-- At level one a present word leads to a 4KiB page, whatever its bit 7. Above, a present word leads to the next table. With
+-- HUGE_PAGE it leads to a page at levels two and three, and nowhere above.
 unfoldable pub walk_on : Words → (p level : ℕ) → (w u : Bool) → (frame : ℕ) → Option Walked
 walk_on tables p zero w u frame = None
 walk_on tables p (suc zero) w u frame = option_and_then

@@ -1,4 +1,4 @@
--- Pools: lists of free frames, and what it is for one to fit a hierarchy.
+-- Pools: lists of free frames, and what it means that a pool fits a hierarchy.
 use Rattle.std.specs.Prelude.{◌≡◌, ◌⊎◌, ◌↔◌, ◌/◌, ◌&&◌, nat_lt, ℕ, Bool, true, List, [], ◌∷◌, Option, Some, IsSome}
 use Rattle.x86_64_model.specs.Lists.{In, EachOnce}
 use Rattle.x86_64_model.specs.Entry.{is_frame}
@@ -6,20 +6,20 @@ use Rattle.x86_64_model.specs.PathMap.{PathMap, table_at}
 use Rattle.x86_64_model.specs.Memory.{Words}
 use Rattle.x86_64_model.specs.Window.{Window, IsValidFor}
 
--- whether a path leads to the frame's table, and which; the root is the table of the path of no index
+-- A path leads to the table in this frame. The empty path leads to the root.
 abbrev pub IsTable : (L root : ℕ) → PathMap → (frame : ℕ) → Type 0
 IsTable L root paths frame = (q : List ℕ) × (table_at L root paths q ≡ Some frame)
 
--- a frame that is free or a table
+-- The frame is free or holds a table.
 abbrev pub IsOwn : (L root : ℕ) → PathMap → (pool : List ℕ) → (frame : ℕ) → Type 0
 IsOwn L root paths pool f = In pool f ⊎ IsTable L root paths f
 
--- the frames with numbers 1 to limit - 1
+-- The frames with numbers from 1 to limit - 1.
 abbrev pub serves_below : (limit : ℕ) → (frame : ℕ) → Bool
 serves_below limit f = nat_lt 0 (f / 4096) && nat_lt (f / 4096) limit
 
--- The hierarchy is valid, and the pool fits it: its frames are distinct, in the memory, none of them frame 0, the root or a table,
--- and the pool serves them and every table frame.
+-- The hierarchy is valid, and the pool fits it. The pool's frames are distinct and in the memory, and none of them is frame 0,
+-- the root or a table. The pool serves them and the frame of every table but the root.
 pub record Fits (L : ℕ) (window : Option Window) (tables : Words) (root : ℕ) (paths : PathMap) (serves : ℕ → Bool) (pool : List ℕ) : Type 0 where
   pub valid : IsValidFor L window tables root paths
   pub each_once : EachOnce pool
@@ -30,12 +30,12 @@ pub record Fits (L : ℕ) (window : Option Window) (tables : Words) (root : ℕ)
   pub serves_pool : (f : ℕ) → In pool f → serves f ≡ true
   pub serves_tables : (i : ℕ) (q : List ℕ) (f : ℕ) → table_at L root paths (i ∷ q) ≡ Some f → serves f ≡ true
 
--- take_back held f is the pool after the frame f came back: a rearrangement of f and the frames that are held
+-- take_back held f is the pool after frame f is returned: a rearrangement of f and the frames held before.
 pub record TakesBack (take_back : List ℕ → ℕ → List ℕ) : Type 0 where
   pub same_frames : (held : List ℕ) (f g : ℕ) → In (take_back held f) g ↔ In (f ∷ held) g
   pub each_once : (held : List ℕ) (f : ℕ) → EachOnce (f ∷ held) → EachOnce (take_back held f)
 
--- the pool after these frames came back, one at a time
+-- The pool after these frames are returned, one at a time.
 abbrev pub given_back : (take_back : List ℕ → ℕ → List ℕ) → (held back : List ℕ) → List ℕ
 given_back take_back held [] = held
 given_back take_back held (f ∷ fs) = given_back take_back (take_back held f) fs

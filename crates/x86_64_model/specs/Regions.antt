@@ -1,11 +1,11 @@
--- Regions: mappings that follow on each other with the same rights, as far as they go, in one half of the address space.
+-- Regions: runs of adjacent mappings with the same rights, as long as possible, in one half of the address space.
 use Rattle.std.specs.Prelude.{ℕ, ◌+◌, ◌-◌, ◌==◌, ◌&&◌, nat_le, Bool, not, cond, List, [], ◌∷◌}
 use Rattle.std.specs.Bool.{beq}
 use Rattle.x86_64_model.specs.Memory.{Words}
 use Rattle.x86_64_model.specs.Position.{lower_half}
 use Rattle.x86_64_model.specs.Mappings.{Mapping, Rights, mappings_of}
 
--- the positions from the first one to the last one, and their rights
+-- The positions from the first to the last, and their rights. A position is the number of an address counted without the gap.
 pub record Region : Type 0 where
   pub first : ℕ
   pub last : ℕ
@@ -17,20 +17,20 @@ region_of m = record { first = m.start; last = m.start + m.size - 1; rights = m.
 abbrev pub same_rights : (r s : Rights) → Bool
 same_rights r s = beq r.write s.write && beq r.user s.user && beq r.execute s.execute
 
--- whether s follows on r: it starts where r ended, not in the other half, with the same rights
+-- Whether s follows on r: it starts just after r ends, in the same half, with the same rights.
 abbrev pub follows : (L : ℕ) (r s : Region) → Bool
 follows L r s = (s.first == r.last + 1) && not (s.first == lower_half L) && same_rights r.rights s.rights
 
--- a region that goes on to the last position of another
+-- Region r, extended to the last position of s.
 abbrev pub grown_to : (r s : Region) → Region
 grown_to r s = record { first = r.first; last = s.last; rights = r.rights }
 
--- a region before others, as one with the first of them if that follows on it
+-- Region r in front of others, merged with the first of them if that follows on r.
 abbrev pub put_before : (L : ℕ) → Region → List Region → List Region
 put_before L r [] = r ∷ []
 put_before L r (s ∷ rest) = cond (follows L r s) (grown_to r s ∷ rest) (r ∷ s ∷ rest)
 
--- the regions that mappings form, in their order
+-- The regions that mappings form, in their order.
 unfoldable pub regions_in : (L : ℕ) → List Mapping → List Region
 regions_in L [] = []
 regions_in L (m ∷ rest) = put_before L (region_of m) (regions_in L rest)

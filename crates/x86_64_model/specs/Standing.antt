@@ -7,12 +7,12 @@ use Rattle.x86_64_model.specs.MapRule.{leaf_entry, parent_part}
 use Rattle.x86_64_model.specs.Path.{parents}
 use Rattle.x86_64_model.specs.PathMap.{PathMap, entry}
 
--- the entry names a table, and has each of these flags
+-- The entry names a table, and has each of these flags.
 pub record IsParent (given e : ℕ) : Type 0 where
   pub is_table : names_table e ≡ true
   pub has_flags : (flag : ℕ) → has given flag ≡ true → has e flag ≡ true
 
--- The page of a level at a path is mapped to the frame as a `map_to` with these flags maps it: its own entry is the one asked for, and each
+-- The page at a path is mapped to the frame as a `map_to` with these flags maps it: its own entry is the requested one, and each
 -- parent names a table and has the parent flags.
 pub record StandsAt (L level : ℕ) (paths : PathMap) (page : List ℕ) (frame flags : ℕ) : Type 0 where
   pub asks : Asks L level page frame flags

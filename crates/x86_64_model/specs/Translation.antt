@@ -1,4 +1,4 @@
--- What `translate` answers of a position, from the entries at its path's front parts.
+-- The answer of `translate` at a position (the number of an address counted without the gap), from the entries along its path.
 use Rattle.std.specs.Prelude.{zero, suc, ◌≡◌, ℕ, ◌+◌, ◌%◌, ◌&&◌, nat_le, cond, List, [], ◌∷◌, ◌++◌, Option, Some, None, option_map}
 use Rattle.x86_64_model.specs.Position.{span, index}
 use Rattle.x86_64_model.specs.Entry.{present, huge, address, flags, used}
@@ -8,8 +8,9 @@ pub data Translated : Type 0 where
   NotMapped : Translated
   Mapped : (size frame offset flags : ℕ) → Translated
 
--- What the entries say of position p from a level on, where E is the entry at a path and q the path so far.
--- Above level one an entry has to be present, and HUGE_PAGE is looked at in levels two and three alone. At level one it has to be used.
+-- The answer for position p from a level down. E is the entry at a path, and q the path so far.
+-- Above level one an entry must be present, and HUGE_PAGE matters only at levels two and three. At level one the entry must be
+-- used.
 unfoldable pub translate_on : (E : List ℕ → ℕ) (p level : ℕ) → List ℕ → Translated
 translate_on E p zero q = NotMapped
 translate_on E p (suc zero) q = let e = E (q ++ index 1 p ∷ []) in
@@ -22,16 +23,16 @@ translate_on E p (suc (suc n)) q = let level = suc (suc n) in let e = E (q ++ in
 unfoldable pub translate : (L : ℕ) (E : List ℕ → ℕ) (p : ℕ) → Translated
 translate L E p = translate_on E p L []
 
--- where an address leads: the frame's start plus the offset
+-- The physical address: the frame's start plus the offset.
 abbrev pub address_of : Translated → Option ℕ
 address_of NotMapped = None
 address_of (Mapped size frame offset given) = Some (frame + offset)
 
--- where a present mapping leads
+-- The physical address of a present mapping.
 abbrev pub present_to : Translated → Option ℕ
 present_to NotMapped = None
 present_to (Mapped size frame offset given) = cond (present given) (Some (frame + offset)) None
 
--- a present mapping is named exactly where the walk arrives, at the same address
+-- `translate` names a present mapping if and only if the walk arrives, and at the same address.
 abbrev pub Agrees : Translated → Option Walked → Type 0
 Agrees answer walked = option_map (λ w. w.address) walked ≡ present_to answer

@@ -1,5 +1,6 @@
 -- The page walk and `translate` of four and of five levels, written out word by word.
--- `page_walk 4`, `page_walk 5`, `translate 4` and `translate 5` are these, so that nobody has to trust a recursion.
+-- `page_walk 4`, `page_walk 5`, `translate 4` and `translate 5` equal these, so that nobody has to trust a recursion.
+-- A position is the number of an address counted without the gap of the address space.
 use Rattle.std.specs.Prelude.{ℕ, ◌+◌, ◌*◌, ◌/◌, ◌%◌, ◌^◌, ◌&&◌, not, Bool, cond, List, [], ◌∷◌, take, Option, Some, None, option_and_then, option_map}
 use Rattle.std.specs.List.{list_all}
 use Rattle.x86_64_model.specs.Position.{index}
@@ -11,15 +12,15 @@ use Rattle.x86_64_model.specs.Translation.{Translated, NotMapped, Mapped}
 abbrev pub path_of : (position : ℕ) → List ℕ
 path_of p = index 4 p ∷ index 3 p ∷ index 2 p ∷ index 1 p ∷ []
 
--- a 2MiB or 1GiB entry's address, rounded down to the size
+-- The address of a 2MiB or 1GiB entry, rounded down to the size.
 abbrev pub start : (size entry : ℕ) → ℕ
 start size e = address e / size * size
 
--- the walk arrives, having read these words
+-- The walk arrives at this address, having read these words.
 abbrev pub arrives : (to : ℕ) (words : List ℕ) → Option Walked
 arrives to words = Some (record { address = to; write = list_all writable words; user = list_all user words })
 
--- the walk on from level one, two, three, below the words of the levels above
+-- The rest of the walk from level one, two and three, below the words of the levels above.
 abbrev pub walk_1 : Words → (p w4 w3 w2 : ℕ) → Option Walked
 walk_1 tables p w4 w3 w2 = option_and_then
     (λ w1. cond (present w1) (arrives (address w1 + p % 2 ^ 12) (w4 ∷ w3 ∷ w2 ∷ w1 ∷ [])) None)
@@ -38,7 +39,7 @@ walk_3 tables p w4 = option_and_then
 unfoldable pub walk_4 : Words → (root p : ℕ) → Option Walked
 walk_4 tables root p = option_and_then (λ w4. cond (present w4 && not (huge w4)) (walk_3 tables p w4) None) (read tables root (index 4 p))
 
--- from the entries at the first one, two, three, four indices
+-- The answer of `translate` from the entries at the first one, two, three and four indices.
 abbrev pub answered : (p e1 e2 e3 e4 : ℕ) → Translated
 answered p e1 e2 e3 e4 =
     cond (present e1)
@@ -47,13 +48,13 @@ answered p e1 e2 e3 e4 =
     (cond (used e4) (Mapped (2 ^ 12) (address e4) (p % 2 ^ 12) (flags e4)) NotMapped))
     NotMapped)) NotMapped) NotMapped
 
--- E is the entry at a path
+-- E is the entry at a path.
 unfoldable pub translate_4 : (E : List ℕ → ℕ) (p : ℕ) → Translated
 translate_4 E p = answered p (E (take 1 (path_of p))) (E (take 2 (path_of p))) (E (take 3 (path_of p))) (E (path_of p))
 
 -- ---- five levels: one level above four
 
--- an arrival with the rights that the word above grants
+-- An arrival with only those rights that the word above grants too.
 abbrev pub narrowed : (w u : Bool) → Option Walked → Option Walked
 narrowed w u = option_map (λ v. record { address = v.address; write = w && v.write; user = u && v.user })
 

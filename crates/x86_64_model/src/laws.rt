@@ -1,4 +1,4 @@
-// The laws of the definitions. Each function's contract is a law, stated in `specs/Laws`; its body is empty.
+// The laws of the definitions. The contract of each function is a law, stated in `specs/Laws`; its body is empty.
 
 pub mod clean_ups;
 pub mod hierarchies;

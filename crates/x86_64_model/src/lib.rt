@@ -1,4 +1,4 @@
-// What page tables mean: definitions in `specs/`, and the laws that pin them.
+// The meaning of page tables: definitions in `specs/`, and the laws that pin them down.
 #![tactic(auto)]
 
 pub mod laws;

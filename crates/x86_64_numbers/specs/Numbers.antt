@@ -1,28 +1,28 @@
--- Numbers as texts: decimal digits, or `0x` and hexadecimal digits of either case.
+-- Numbers as text: decimal digits, or `0x` and hexadecimal digits of either case.
 use Rattle.std.specs.Prelude.{ℕ, ◌<◌, ◌^◌, ◌++◌, cond, Bool, false, List, codes, drop, nat_eq}
 use Rattle.std.specs.Fmt.{digits}
 use Rattle.std.specs.List.{starts_with}
 use Rattle.std.specs.Str.Parse.{IsNumeral, digits_value}
 
--- the text begins with `0x`
+-- Whether the text begins with `0x`.
 abbrev pub is_hexadecimal : List ℕ → Bool
 is_hexadecimal text = starts_with nat_eq text (codes "0x")
 
 abbrev pub radix_of : List ℕ → ℕ
 radix_of text = cond (is_hexadecimal text) 16 10
 
--- the text without `0x`
+-- The text without `0x`.
 abbrev pub digits_of : List ℕ → List ℕ
 digits_of text = cond (is_hexadecimal text) (drop 2 text) text
 
--- the number that a text writes
+-- The number that a text denotes.
 abbrev pub number_of : List ℕ → ℕ
 number_of text = digits_value (radix_of text) (digits_of text)
 
--- one digit or more and nothing else, of a number below 2^64
+-- The text has one digit or more and nothing else, and its number is below 2^64.
 abbrev pub IsNumber : List ℕ → Type 0
 IsNumber text = IsNumeral (radix_of text) (digits_of text) × (number_of text < 2 ^ 64)
 
--- `0x` and the digits of base 16, in lower case and without leading zeros
+-- `0x` and the digits in base 16, in lower case and without leading zeros.
 abbrev pub hexadecimal : ℕ → List ℕ
 hexadecimal number = codes "0x" ++ digits 16 false number

@@ -1,4 +1,4 @@
-//! Numbers as texts: read in base 10 or 16, written in base 16.
+//! Numbers as text, read in base 10 or 16 and written in base 16.
 #![tactic(auto)]
 
 ghost use Rattle.std.specs.Prelude.{◌≤◌, ◌<◌, ◌^◌};
@@ -9,9 +9,9 @@ ghost use Rattle.x86_64_numbers.specs.Numbers.{IsNumber, number_of, hexadecimal}
 
 use std::fmt::{Formatter, Result as FmtResult, Write};
 
-/// Reads a number below 2^64: decimal digits, or `0x` and hexadecimal digits of either case.
+/// Parses a number below 2^64: decimal digits, or `0x` and hexadecimal digits of either case.
 ///
-/// Returns `None` exactly if the text isn't one. A sign, `0X` and `_` are no digits, leading zeros are.
+/// Returns `None` if and only if the text isn't such a number. Leading zeros are accepted. Signs, `0X` and `_` are not.
 pub fn parse_number(text: &str) -> Option<u64>
     ensures { SomeIff result (IsNumber text.now) (number_of text.now) }
 {
@@ -21,7 +21,10 @@ pub fn parse_number(text: &str) -> Option<u64>
     }
 }
 
-/// Reads a number below 2^64 in a radix, all of whose characters are digits.
+/// Parses a number below 2^64 in a radix. Returns `None` unless the text consists of one or more digits, with a number below
+/// 2^64.
+///
+/// Requires that the radix is from 2 to 36.
 fn parse_digits(digits: &str, radix: u32) -> Option<u64>
     requires lower_bound { 2 ≤ radix }
     requires upper_bound { radix ≤ 36 }
@@ -34,7 +37,7 @@ fn parse_digits(digits: &str, radix: u32) -> Option<u64>
     u64::from_str_radix(digits, radix).ok()
 }
 
-/// Writes a number in base 16, after `0x`: in lower case, without leading zeros.
+/// Writes a number in base 16, after `0x`, in lower case and without leading zeros.
 pub fn write_hexadecimal<W: Write>(f: &mut Formatter<W>, number: u64) -> FmtResult
     ensures { WritesOnOk W.write_str_gives f.old result (hexadecimal number) f.new }
 {

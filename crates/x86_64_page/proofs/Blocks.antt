@@ -1,4 +1,4 @@
--- Lists of blocks: how many there are, the first and the last, and what is left once some were taken.
+-- Lists of blocks: their number, the first and the last, and what is left after some are taken.
 use Rattle.std.proofs.Common.{◌≡◌, ◌⊎◌, ℕ, zero, suc, ◌+◌, ◌-◌, ◌*◌, ◌/◌, ◌%◌, ◌<◌, ◌≤◌, List, [], ◌∷◌, ◌++◌, length, inl, inr, refl, sym, ap, ◌∙◌, subst, arith, ap₂, Bool, true, false, Some, None, slice_get, reverse}
 use Rattle.std.specs.Prelude.{min, cond, nat_lt, nat_le, ⊤}
 use Rattle.std.specs.Iterator.{MakesProgress, item_count}
@@ -46,7 +46,7 @@ filled z s e k = by_size (λ z. s % z ≡ 0 → e % z ≡ 0 → s ≤ e → s + 
 pub none_between : (size start end : ℕ) → IsBlockSize size → end ≤ start → (end - start) / size ≡ 0
 none_between z s e k = by_size (λ z. e ≤ s → (e - s) / z ≡ 0) (λ l. omega arith) (λ l. omega arith) (λ l. omega arith) z k
 
--- the block with the number n from a place on, and from the back, where there are more than n
+-- block n from a place on, and from the back, if there are more than n
 pub record Nth (size start end n : ℕ) : Type 0 where
   pub within : start + n * size + size ≤ end
   pub aligned : (start + n * size) % size ≡ 0
@@ -60,7 +60,7 @@ nth_between z s e n k = by_size (λ z. s % z ≡ 0 → e % z ≡ 0 → n < (e - 
     (λ a b l. record { within = omega arith; aligned = omega arith; after = omega arith; back_aligned = omega arith; before = omega arith })
     (λ a b l. record { within = omega arith; aligned = omega arith; after = omega arith; back_aligned = omega arith; before = omega arith }) z k
 
--- so many whole blocks, counted by their bytes
+-- a number of whole blocks, counted by their bytes
 pub whole_blocks : (size count : ℕ) → IsBlockSize size → count * size / size ≡ count
 whole_blocks z n k = by_size (λ z. n * z / z ≡ n) (omega arith) (omega arith) (omega arith) z k
 
@@ -83,7 +83,7 @@ below_limit z m p k (inr (inr h)) = rw h (by_size (λ z. p % z ≡ 0 → p < 0x2
 
 -- ---- lists between two places
 
--- how many blocks there are between two places, from their list
+-- the number of blocks between two places, from their list
 counted : (size start end n : ℕ) → n < length (blocks size start end) → n < (end - start) / size
 counted z s e n l = let c = length-blocks_from z s ((e - s) / z) in omega arith
 
@@ -93,7 +93,7 @@ counted_past z s e n l = let c = length-blocks_from z s ((e - s) / z) in omega a
 pub nth_front : (size start end n : ℕ) → IsBlockSize size → start % size ≡ 0 → end % size ≡ 0 → n < length (blocks size start end) → Nth size start end n
 nth_front z s e n k a b l = nth_between z s e n k a b (counted z s e n l)
 
--- the same where a call has the places and the length as numbers
+-- the same for a call that has the places and the length as numbers
 pub nth_known : (size start end n start' end' len : ℕ) → IsBlockSize size → start' ≡ start → start' % size ≡ 0 → end' ≡ end → end' % size ≡ 0
     → len ≡ length (blocks size start end) → n < len → Nth size start' end' n
 nth_known z s e n s' e' len k s-is a e-is b len-is l = nth_front z s' e' n k a b (rw (s-is, e-is) (omega arith))
@@ -130,7 +130,7 @@ bytes z s e k a b =
 pub bytes_inclusive : (size start end : ℕ) → IsBlockSize size → start % size ≡ 0 → end % size ≡ 0 → end + size - start ≡ length (blocks_inclusive size start end) * size
 bytes_inclusive z s e k a b = bytes z s (e + z) k a (by_size (λ z. e % z ≡ 0 → (e + z) % z ≡ 0) (λ b. omega arith) (λ b. omega arith) (λ b. omega arith) z k b)
 
--- the last block of a list that leaves its end out
+-- the last block of a list that excludes its end
 count_last : (size start end : ℕ) → IsBlockSize size → start % size ≡ 0 → end % size ≡ 0 → start < end
     → ((end - start) / size ≡ suc ((end - size - start) / size)) × (start + (end - size - start) / size * size ≡ end - size) × (size ≤ end)
 count_last z s e k = by_size (λ z. s % z ≡ 0 → e % z ≡ 0 → s < e → ((e - s) / z ≡ suc ((e - z - s) / z)) × (s + (e - z - s) / z * z ≡ e - z) × (z ≤ e))
@@ -143,12 +143,12 @@ blocks-last z s e k a b l =
     let c = count_last z s e k a b l in
     ap (blocks_from z s) c.0 ∙ (from-last z s ((e - z - s) / z) ∙ ap (λ p. blocks z s (e - z) ++ p ∷ []) c.1)
 
--- ---- ends of a range that leaves its end out
+-- ---- ends of a range that excludes its end
 
 least_some : (size start end n : ℕ) → n < length (blocks size start end) → min (n + 1) (length (blocks size start end)) ≡ n + 1
 least_some z s e n l = min-eq_left (omega arith)
 
--- where no more than n are there, all are taken: they lead from the start to the end, or there is none
+-- if there are at most n, all are taken: they lead from the start to the end, or there is none
 least_all : (size start end n : ℕ) → IsBlockSize size → start % size ≡ 0 → end % size ≡ 0 → length (blocks size start end) ≤ n → start ≤ end
     → start + min (n + 1) (length (blocks size start end)) * size ≡ end
 least_all z s e n k a b l o =
@@ -187,7 +187,7 @@ one_lowered z s e k a b l =
     let some : 0 < length (blocks z s e) = rw (length-blocks_from z s ((e - s) / z)) (omega arith) in
     back-some z s e 0 (e - z) some (omega arith)
 
--- ---- ends of a range with its end, once a block was left at the front or at the back
+-- ---- ends of a range that includes its end, after a block is left at the front or at the back
 
 -- what `leave_at_front` leaves
 abbrev pub FrontLeft : (size limit end block start' end' : ℕ) → Type 0

@@ -1,4 +1,4 @@
--- Taking n + 1 blocks from a range is taking n, and then one more.
+-- Taking n + 1 blocks from a range equals taking n and then one more.
 use Rattle.std.specs.Prelude.{◌≡◌, ◌⊎◌, ℕ, zero, suc, ◌+◌, ◌-◌, ◌*◌, ◌/◌, ◌%◌, ◌<◌, ◌≤◌, min, nat_le, true, false, length}
 use Rattle.std.proofs.Common.{inl, inr, refl, sym, ap, subst, arith}
 use Rattle.std.proofs.Math.Nat.{min-eq_left, min-eq_right, min-zero, zero-min}
@@ -16,19 +16,19 @@ pub length-blocks_from : (size start count : ℕ) → length (blocks_from size s
 length-blocks_from z s zero = refl
 length-blocks_from z s (suc n) = ap suc (length-blocks_from z (s + z) n)
 
--- where more than n were left, one more is left after n
+-- if more than n were left, one more is left after n
 pub left_some : (size start end n : ℕ) → IsBlockSize size → start % size ≡ 0 → end % size ≡ 0 → n < (end - start) / size
     → (1 ≤ (end - (start + n * size)) / size) × (1 ≤ (end - n * size - start) / size)
 left_some z s e n k = by_size (λ z. s % z ≡ 0 → e % z ≡ 0 → n < (e - s) / z → (1 ≤ (e - (s + n * z)) / z) × (1 ≤ (e - n * z - s) / z))
     (λ a b l. (omega arith, omega arith)) (λ a b l. (omega arith, omega arith)) (λ a b l. (omega arith, omega arith)) z k
 
--- where all were taken, none is left
+-- if all were taken, none is left
 pub left_none : (size start end : ℕ) → IsBlockSize size → start % size ≡ 0 → end % size ≡ 0
     → ((end - (start + (end - start) / size * size)) / size ≡ 0) × ((end - (end - start) / size * size - start) / size ≡ 0)
 left_none z s e k = by_size (λ z. s % z ≡ 0 → e % z ≡ 0 → ((e - (s + (e - s) / z * z)) / z ≡ 0) × ((e - (e - s) / z * z - s) / z ≡ 0))
     (λ a b. (omega arith, omega arith)) (λ a b. (omega arith, omega arith)) (λ a b. (omega arith, omega arith)) z k
 
--- the same in numbers, of the start that is raised and of the end that is lowered
+-- the same in numbers, for the start that is raised and for the end that is lowered
 pub raised : (size start end n count : ℕ) → IsBlockSize size → start % size ≡ 0 → end % size ≡ 0 → count ≡ (end - start) / size
     → ((nat_le (suc n) count ≡ true) × (suc n ≤ count)) ⊎ ((nat_le (suc n) count ≡ false) × (count < suc n))
     → start + min n count * size + min 1 ((end - (start + min n count * size)) / size) * size ≡ start + min (n + 1) count * size

@@ -1,4 +1,4 @@
--- The same of a range that has its end.
+-- Taking n + 1 blocks from a range that includes its end equals taking n and then one more.
 use Rattle.std.specs.Prelude.{◌≡◌, ◌⊎◌, ℕ, suc, ◌+◌, ◌-◌, ◌*◌, ◌/◌, ◌%◌, ◌<◌, ◌≤◌, min, cond, nat_lt, nat_le, Bool, true, false, length}
 use Rattle.std.proofs.Common.{inl, inr, refl, sym, ap, ap₂, ◌∙◌, arith}
 use Rattle.std.proofs.Math.Nat.{min-eq_left, min-eq_right, min-zero, zero-min}
@@ -14,7 +14,7 @@ two_fit z m k (inl h) = rw h (by_size (λ z. z + z ≤ 0x1_0000_0000_0000) (omeg
 two_fit z m k (inr (inl h)) = rw h (by_size (λ z. z + z ≤ 0x10_0000_0000_0000) (omega arith) (omega arith) (omega arith) z k)
 two_fit z m k (inr (inr h)) = rw h (by_size (λ z. z + z ≤ 0x200_0000_0000_0000) (omega arith) (omega arith) (omega arith) z k)
 
--- where blocks that were taken lead to the limit, the end lies there too
+-- if blocks that were taken lead to the limit, the end is at the limit too
 reaches : (size limit start end n count : ℕ) → IsBlockSize size → start % size ≡ 0 → end % size ≡ 0 → count ≡ (end - start) / size → start < limit
     → ((nat_le (suc n) count ≡ true) × (suc n ≤ count)) ⊎ ((nat_le (suc n) count ≡ false) × (count < suc n))
     → limit ≤ start + min n count * size → limit ≤ end
@@ -26,7 +26,7 @@ reaches z m s e n c k a b is o (inr y) =
     let i : min n c ≡ c = min-eq_right (omega (arith, y.1)) in
     rw (i, is) (by_size (λ z. s % z ≡ 0 → e % z ≡ 0 → m ≤ s + (e - s) / z * z → m ≤ e) (λ a b h. omega arith) (λ a b h. omega arith) (λ a b h. omega arith) z k a b)
 
--- how many bytes are taken in turn
+-- the number of bytes that are taken in turn
 added : (size start end n count : ℕ) → IsBlockSize size → start % size ≡ 0 → end % size ≡ 0 → count ≡ (end - start) / size
     → ((nat_le (suc n) count ≡ true) × (suc n ≤ count)) ⊎ ((nat_le (suc n) count ≡ false) × (count < suc n))
     → min n count * size + min 1 ((end - min n count * size - start) / size) * size ≡ min (n + 1) count * size

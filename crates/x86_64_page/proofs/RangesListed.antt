@@ -24,7 +24,7 @@ blocks_from_are_starts size first count =
 pub blocks_are_the_range : BlocksAreTheRange
 blocks_are_the_range size start end = blocks_from_are_starts size start ((end - start) / size)
 
--- how many blocks there are with the one at the end
+-- the number of blocks with the one at the end
 count_inclusive : (size start end : ℕ) → 0 < size → start ≤ end → (end + size - start) / size ≡ (end - start) / size + 1
 count_inclusive size start end positive up =
     let bytes : end + size - start ≡ (end - start) + size = omega arith in

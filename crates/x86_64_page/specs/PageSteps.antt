@@ -1,10 +1,11 @@
--- The laws of steps along the pages of a size.
+-- The laws of steps through the pages of a size.
 use Rattle.std.specs.Prelude.{◌≡◌, ℕ, ◌+◌, ◌*◌, ◌<◌, Some}
 use Rattle.x86_64_addr.specs.Position.{position_count}
 use Rattle.x86_64_model.specs.Successor.{forward, backward}
 use Rattle.x86_64_page.specs.Steps.{pages_between}
 
--- steps by m pages and then by n are steps by m + n, steps back undo steps on and the other way round, and `steps_between` counts them
+-- Steps by m pages and then by n are steps by m + n. Steps back undo steps forward, and the other way round. `pages_between`
+-- counts them.
 pub record AreStepsBelow (limit size : ℕ) : Type 0 where
   pub compose : (start m n middle end : ℕ) → forward limit start (m * size) ≡ Some middle → forward limit middle (n * size) ≡ Some end
       → forward limit start ((m + n) * size) ≡ Some end
@@ -14,6 +15,7 @@ pub record AreStepsBelow (limit size : ℕ) : Type 0 where
   pub redone : (start n end : ℕ) → start < limit → backward start (n * size) ≡ Some end → forward limit end (n * size) ≡ Some start
   pub counted : (start n end : ℕ) → forward limit start (n * size) ≡ Some end → pages_between size start end ≡ (n, Some n)
 
--- along pages, which lie below the number of positions where there are L levels of tables
+-- Steps through pages, whose positions (the numbers of addresses counted without the gap) are below the number of positions with
+-- L levels of tables.
 abbrev pub ArePageSteps : (L size : ℕ) → Type 0
 ArePageSteps L size = AreStepsBelow (position_count L) size

@@ -1,9 +1,9 @@
--- The law of lists of blocks: they are the ranges of the definition.
+-- The laws of lists of blocks: they equal the ranges of the definition.
 use Rattle.std.specs.Prelude.{◌≡◌, ℕ, ◌<◌}
 use Rattle.x86_64_model.specs.Range.{exclusive_range, inclusive_range}
 use Rattle.x86_64_page.specs.Blocks.{blocks, blocks_inclusive}
 
--- for all ends, multiples of the size or not, also where the range is empty
+-- The blocks equal the range for all ends, multiples of the size or not, even if the range is empty.
 abbrev pub BlocksAreTheRange : Type 0
 BlocksAreTheRange = (size start end : ℕ) → blocks size start end ≡ exclusive_range size start end
 

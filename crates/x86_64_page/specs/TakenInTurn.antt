@@ -1,8 +1,8 @@
--- Taking blocks from a range in turn: taking n + 1 is taking n, and then one more.
+-- Taking blocks from a range in turn: taking n + 1 equals taking n and then one more.
 use Rattle.std.specs.Prelude.{◌≡◌, ℕ, ◌+◌, ◌%◌}
 use Rattle.x86_64_page.specs.Blocks.{Ends, front_taken, back_taken}
 
--- of a range whose ends are multiples of the size: taking none changes nothing, and each block more is one more call
+-- If the ends of a range are multiples of the size, taking no block changes nothing, and each further block equals one more call.
 pub record AreTakenInTurn (size : ℕ) : Type 0 where
   pub none : (r : Ends) → front_taken size 0 r ≡ r
   pub front : (r : Ends) (n : ℕ) → r.start % size ≡ 0 → r.end % size ≡ 0 → front_taken size 1 (front_taken size n r) ≡ front_taken size (n + 1) r

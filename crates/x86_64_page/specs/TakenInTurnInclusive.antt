@@ -1,8 +1,9 @@
--- Taking blocks in turn from a range that has its end.
+-- Taking blocks in turn from a range that includes its end.
 use Rattle.std.specs.Prelude.{◌≡◌, ℕ, ◌+◌, ◌%◌, ◌<◌}
 use Rattle.x86_64_page.specs.Blocks.{front_taken_inclusive, back_taken_inclusive, Ends}
 
--- of a range between multiples of the size below the limit: taking none changes nothing, and each block more is one more call
+-- If the ends of a range are multiples of the size below the limit, taking no block changes nothing, and each further block
+-- equals one more call.
 pub record AreTakenInTurnInclusive (size limit : ℕ) : Type 0 where
   pub none : (r : Ends) → r.start < limit → front_taken_inclusive size limit 0 r ≡ r
   pub front : (r : Ends) (n : ℕ) → r.start % size ≡ 0 → r.end % size ≡ 0 → r.start < limit → r.end < limit

@@ -13,7 +13,7 @@ mod ranges;
 pub use number::PfnNotValid;
 pub use ranges::{PhysFrameRange, PhysFrameRangeInclusive};
 
-/// A frame of a size: it starts at a multiple of the size.
+/// A frame of size `S`, which starts at a multiple of the size.
 ///
 /// Contracts see it as its start address. Equality, order and hash are those of the start address.
 #[derive(Clone, Copy, PartialEq, Eq, PartialOrd, Ord, Hash)]
@@ -35,9 +35,11 @@ impl<S: PageSize> Model for PhysFrame<S> {
 }
 
 impl<S: PageSize> PhysFrame<S> {
-    /// Gives the frame that starts at an address.
+    /// Returns the frame that starts at an address.
     ///
-    /// Answers `AddressNotAligned` exactly where the address isn't a multiple of the size.
+    /// # Errors
+    ///
+    /// `AddressNotAligned` if the address isn't a multiple of the size.
     pub fn from_start_address(address: PhysAddr) -> Result<Self, AddressNotAligned>
         ensures aligned { IsOk result ↔ (address % S.SIZE ≡ 0) }
         ensures value { IfOk result (λ f. f ≡ address) }
@@ -49,13 +51,15 @@ impl<S: PageSize> PhysFrame<S> {
         }
     }
 
-    /// Gives the frame that starts at an address, which must be a multiple of the size. Test that by
-    /// [`from_start_address`](Self::from_start_address), or by [`PhysAddr::is_aligned`].
+    /// Returns the frame that starts at an address.
+    ///
+    /// Requires that the address is a multiple of the size. Check this with [`from_start_address`](Self::from_start_address) or
+    /// [`PhysAddr::is_aligned`].
     pub fn from_start_address_unchecked(start_address: PhysAddr) -> Self
         requires { start_address % S.SIZE ≡ 0 }
         ensures { result ≡ start_address }
     {
-        // Each physical address is below 2^52, as each frame has to be.
+        // Each physical address is below 2^52, as the start of each frame must be.
         let _number = start_address.as_u64();
         PhysFrame {
             start_address,
@@ -63,7 +67,7 @@ impl<S: PageSize> PhysFrame<S> {
         }
     }
 
-    /// Gives the frame that contains an address: its start is the address rounded down to the size.
+    /// Returns the frame that contains an address: it starts at the address rounded down to the size.
     #[tactic(auto, using(crate::proofs::Multiples::rounded_down))]
     pub fn containing_address(address: PhysAddr) -> Self
         ensures { result ≡ address - address % S.SIZE }
@@ -75,7 +79,7 @@ impl<S: PageSize> PhysFrame<S> {
         }
     }
 
-    /// Gives the start address.
+    /// Returns the start address.
     pub fn start_address(self) -> PhysAddr
         ensures value { result ≡ self }
         ensures below { self < 2 ^ 52 }
@@ -85,7 +89,7 @@ impl<S: PageSize> PhysFrame<S> {
         self.start_address
     }
 
-    /// Gives the size in bytes.
+    /// Returns the size in bytes.
     pub fn size(self) -> u64
         ensures { result ≡ S.SIZE }
     {

@@ -1,4 +1,4 @@
-//! Sizes of pages, and the frames of physical memory that pages are mapped to.
+//! Pages, the frames of physical memory that they are mapped to, and ranges of both.
 #![tactic(auto)]
 
 pub mod frame;

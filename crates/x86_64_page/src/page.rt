@@ -31,7 +31,7 @@ mod sealed {
     impl Sealed for super::Size1GiB {}
 }
 
-/// A size of pages and frames. There are three of them.
+/// A size of pages and frames: 4KiB, 2MiB or 1GiB.
 pub trait PageSize: Copy + Eq + PartialOrd + Ord + sealed::Sealed {
     ghost SIZE: { ℕ };
 
@@ -40,18 +40,18 @@ pub trait PageSize: Copy + Eq + PartialOrd + Ord + sealed::Sealed {
     /// The size in bytes.
     const SIZE: u64;
 
-    /// The size as texts name it.
+    /// The name of the size in formatted text.
     const DEBUG_STR: &'static str;
 
-    /// The level of the entries that map pages of the size.
+    /// The level of the entries that map pages of this size.
     const LEVEL: u64;
 
-    // Only the entries of levels one, two and three map pages.
+    // Only entries of levels one, two and three map pages.
     ghost low: { 1 ≤ LEVEL };
 
     ghost high: { LEVEL ≤ 3 };
 
-    // A page has the size that an entry of its level spans.
+    // The size of a page is the span of an entry of its level.
     ghost size: { SIZE ≡ span LEVEL };
 }
 
@@ -60,7 +60,7 @@ pub trait NotGiantPageSize: PageSize {
     ghost not_giant: { Self.LEVEL ≤ 2 };
 }
 
-/// The size of 4KiB, of pages that an entry of level one maps.
+/// The size 4KiB, of pages that entries of level one map.
 #[derive(Debug, Clone, Copy, PartialEq, Eq, PartialOrd, Ord, Hash)]
 pub struct Size4KiB;
 
@@ -90,7 +90,7 @@ impl NotGiantPageSize for Size4KiB {
     ghost not_giant = { lit≤ tt };
 }
 
-/// The size of 2MiB, of pages that an entry of level two maps.
+/// The size 2MiB, of pages that entries of level two map.
 #[derive(Debug, Clone, Copy, PartialEq, Eq, PartialOrd, Ord, Hash)]
 pub struct Size2MiB;
 
@@ -120,7 +120,7 @@ impl NotGiantPageSize for Size2MiB {
     ghost not_giant = { lit≤ tt };
 }
 
-/// The size of 1GiB, of pages that an entry of level three maps.
+/// The size 1GiB, of pages that entries of level three map.
 #[derive(Debug, Clone, Copy, PartialEq, Eq, PartialOrd, Ord, Hash)]
 pub struct Size1GiB;
 
@@ -144,7 +144,7 @@ impl PageSize for Size1GiB {
     ghost size = { refl };
 }
 
-/// An address was not aligned to the size.
+/// The error for an address that isn't aligned to the size.
 #[derive(Debug, PartialEq, Drop)]
 pub struct AddressNotAligned;
 
@@ -154,10 +154,10 @@ impl Display for AddressNotAligned {
     }
 }
 
-/// A page of a size, with as many levels of page tables as `L` says: it starts at a multiple of the size.
+/// A page of size `S`, with `L` levels of page tables. It starts at a multiple of the size.
 ///
-/// Contracts see it as the position of its start address. Equality, order and hash are those of the start address, and so
-/// those of the position.
+/// Contracts see it as the position of its start address: the number of the address counted without the gap in the middle of the
+/// address space. Equality, order and hash are those of the start address. Equality and order are also those of the position.
 #[derive(Clone, Copy)]
 #[derive_where(PartialEq, Eq, PartialOrd, Ord, Hash)]
 pub struct PageIn<S: PageSize, L: LevelCount> {
@@ -165,10 +165,10 @@ pub struct PageIn<S: PageSize, L: LevelCount> {
     size: PhantomData<S>,
 }
 
-/// A page of a size, with four levels of page tables.
+/// A page of size `S`, with four levels of page tables.
 pub type Page<S> = PageIn<S, FourLevels>;
 
-/// A page of a size, with five levels of page tables.
+/// A page of size `S`, with five levels of page tables.
 pub type Page57<S> = PageIn<S, FiveLevels>;
 
 impl<S: PageSize, L: LevelCount> Model for PageIn<S, L> {
@@ -186,9 +186,11 @@ impl<S: PageSize, L: LevelCount> Model for PageIn<S, L> {
 }
 
 impl<S: PageSize, L: LevelCount> PageIn<S, L> {
-    /// Gives the page that starts at an address.
+    /// Returns the page that starts at an address.
     ///
-    /// Answers `AddressNotAligned` exactly where the address isn't a multiple of the size.
+    /// # Errors
+    ///
+    /// `AddressNotAligned` if the address isn't a multiple of the size.
     pub fn from_start_address(address: VirtAddrIn<L>) -> Result<Self, AddressNotAligned>
         ensures aligned { IsOk result ↔ (address % S.SIZE ≡ 0) }
         ensures value { IfOk result (λ page. page ≡ address) }
@@ -196,13 +198,15 @@ impl<S: PageSize, L: LevelCount> PageIn<S, L> {
         places::starting_at(address.position())
     }
 
-    /// Gives the page that starts at an address, which must be a multiple of the size. Test that by
-    /// [`from_start_address`](Self::from_start_address), or by [`VirtAddrIn::is_aligned`].
+    /// Returns the page that starts at an address.
+    ///
+    /// Requires that the address is a multiple of the size. Check this with [`from_start_address`](Self::from_start_address) or
+    /// [`VirtAddrIn::is_aligned`].
     pub fn from_start_address_unchecked(start_address: VirtAddrIn<L>) -> Self
         requires { start_address % S.SIZE ≡ 0 }
         ensures { result ≡ start_address }
     {
-        // Each position is below the number of positions, as each page has to be.
+        // Each position is below the number of positions, as the start of each page must be.
         let _raw = start_address.as_u64();
         PageIn {
             start_address,
@@ -210,14 +214,14 @@ impl<S: PageSize, L: LevelCount> PageIn<S, L> {
         }
     }
 
-    /// Gives the page that contains an address: its start is the address rounded down to the size.
+    /// Returns the page that contains an address: it starts at the address rounded down to the size.
     pub fn containing_address(address: VirtAddrIn<L>) -> Self
         ensures { result ≡ address - address % S.SIZE }
     {
         places::containing(address.position())
     }
 
-    /// Gives the start address.
+    /// Returns the start address.
     pub fn start_address(self) -> VirtAddrIn<L>
         ensures value { result ≡ self }
         ensures aligned { self % S.SIZE ≡ 0 }
@@ -225,28 +229,30 @@ impl<S: PageSize, L: LevelCount> PageIn<S, L> {
         self.start_address
     }
 
-    /// Gives the size in bytes, which is also the constant `SIZE` of [`Block`](crate::range::Block).
+    /// Returns the size in bytes, which is also the constant `SIZE` of [`Block`](crate::range::Block).
     pub fn size(self) -> u64
         ensures { result ≡ S.SIZE }
     {
         S::SIZE
     }
 
-    /// Gives the index of level four.
+    /// Returns the index of level four.
     pub fn p4_index(self) -> PageTableIndex
         ensures { result ≡ index 4 self }
     {
         self.start_address.p4_index()
     }
 
-    /// Gives the index of level three.
+    /// Returns the index of level three.
     pub fn p3_index(self) -> PageTableIndex
         ensures { result ≡ index 3 self }
     {
         self.start_address.p3_index()
     }
 
-    /// Returns the index of a level, by its number, which must be one of the levels that there are.
+    /// Returns the index of a level.
+    ///
+    /// Requires that the level is from one to the number of levels.
     pub fn table_index(self, level: u64) -> PageTableIndex
         requires { (1 ≤ level) × (level ≤ L.LEVELS) }
         ensures { result ≡ index level self }
@@ -256,7 +262,7 @@ impl<S: PageSize, L: LevelCount> PageIn<S, L> {
 }
 
 impl<S: PageSize> Page<S> {
-    /// Gives the index of a level.
+    /// Returns the index of a level.
     pub fn page_table_index(self, level: PageTableLevel) -> PageTableIndex
         ensures { result ≡ index (level_number level) self }
     {
@@ -265,14 +271,14 @@ impl<S: PageSize> Page<S> {
 }
 
 impl<S: PageSize> Page57<S> {
-    /// Gives the index of a level.
+    /// Returns the index of a level.
     pub fn page_table_index(self, level: PageTableLevel57) -> PageTableIndex
         ensures { result ≡ index (level_number_57 level) self }
     {
         self.start_address.page_table_index(level)
     }
 
-    /// Gives the index of level five.
+    /// Returns the index of level five.
     pub fn p5_index(self) -> PageTableIndex
         ensures { result ≡ index 5 self }
     {
@@ -281,7 +287,7 @@ impl<S: PageSize> Page57<S> {
 }
 
 impl<S: NotGiantPageSize, L: LevelCount> PageIn<S, L> {
-    /// Gives the index of level two.
+    /// Returns the index of level two.
     pub fn p2_index(self) -> PageTableIndex
         ensures { result ≡ index 2 self }
     {
@@ -290,7 +296,7 @@ impl<S: NotGiantPageSize, L: LevelCount> PageIn<S, L> {
 }
 
 impl<L: LevelCount> PageIn<Size4KiB, L> {
-    /// Gives the index of level one.
+    /// Returns the index of level one.
     pub fn p1_index(self) -> PageTableIndex
         ensures { result ≡ index 1 self }
     {

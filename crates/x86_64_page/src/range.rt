@@ -1,6 +1,7 @@
-//! Ranges of pages and of frames: lists of blocks, by where each block starts.
+//! Ranges of pages and of frames: lists of blocks, each named by its place, where it starts.
 //!
-//! A range of pages goes by positions, so it goes on after the gap of the address space.
+//! The place of a page is its position, the number of its address counted without the gap, so a range of pages continues after
+//! the gap of the address space. The place of a frame is its address.
 ghost use Rattle.std.specs.Prelude.{◌≡◌, ℕ, ◌+◌, ◌*◌, ◌%◌, ◌<◌, ◌↔◌, IsTrue, IfSome, Some, option_map, [], length, slice_get, reverse};
 ghost use Rattle.std.specs.Iterator.{YieldsFirstBy, YieldsLastBy, item_count, UpTo, at_most};
 ghost use Rattle.std.specs.Iterator.SizeHint.{IsWithinCount};
@@ -27,34 +28,36 @@ mod sealed {
     impl<S: PageSize> Sealed for PhysFrame<S> {}
 }
 
-/// A page or a frame: a block of memory of one of the three sizes, which starts at a multiple of the size.
+/// A page or a frame: a block of memory of one of the three sizes, which starts at a multiple of its size.
 pub trait Block: Copy + sealed::Sealed {
     ghost SIZE: { ℕ };
 
     ghost LIMIT: { ℕ };
 
-    // Where a block starts: the position of a page, the address of a frame.
+    // The start of a block: the position of a page, the address of a frame.
     ghost place: { Self → ℕ };
 
     /// The size in bytes.
     const SIZE: u64;
 
-    /// Where the last block ends.
+    /// The end of the last block.
     const LIMIT: u64;
 
-    /// The name of a range that leaves its end out.
+    /// The name of a range that excludes its end.
     const RANGE: &'static str;
 
-    /// The name of a range that has its end.
+    /// The name of a range that includes its end.
     const RANGE_INCLUSIVE: &'static str;
 
-    /// Gives where the block starts: the position of a page, the address of a frame.
+    /// Returns the start of the block: the position of a page, the address of a frame.
     fn place(&self) -> u64
         ensures value { result ≡ place self.now }
         ensures aligned { result % SIZE ≡ 0 }
         ensures below { result < LIMIT };
 
-    /// Gives the block that starts at a place.
+    /// Returns the block that starts at a place.
+    ///
+    /// Requires that the place is a multiple of the size and below the limit.
     fn at(start: u64) -> Self
         requires aligned { start % SIZE ≡ 0 }
         requires below { start < LIMIT }
@@ -65,7 +68,7 @@ pub trait Block: Copy + sealed::Sealed {
     ghost known_limit: { IsLimit LIMIT };
 }
 
-/// The blocks from `start` up to `end`, which is left out. It is empty unless `start` lies before `end`.
+/// The blocks from `start` up to but excluding `end`. The range is empty unless `start` lies before `end`.
 #[derive(Clone, Copy, PartialEq, Eq, Hash)]
 pub struct BlockRange<B: Block> {
     /// The first block.
@@ -75,21 +78,21 @@ pub struct BlockRange<B: Block> {
 }
 
 impl<B: Block> BlockRange<B> {
-    /// Tells whether there is no block in the range.
+    /// Returns true if the range has no block.
     pub fn is_empty(&self) -> bool
         ensures { IsTrue result ↔ (blocks B.SIZE (B.place self.now.start) (B.place self.now.end) ≡ []) }
     {
         self.end.place() <= self.start.place()
     }
 
-    /// Gives how many blocks there are.
+    /// Returns the number of blocks.
     pub fn len(&self) -> u64
         ensures { result ≡ length (blocks B.SIZE (B.place self.now.start) (B.place self.now.end)) }
     {
         self.size() / B::SIZE
     }
 
-    /// Gives how many bytes there are in the blocks.
+    /// Returns the number of bytes in the blocks.
     pub fn size(&self) -> u64
         ensures { let start = B.place self.now.start in let end = B.place self.now.end in
             result ≡ length (blocks B.SIZE start end) * B.SIZE }
@@ -97,7 +100,7 @@ impl<B: Block> BlockRange<B> {
         self.end.place().saturating_sub(self.start.place())
     }
 
-    /// Drops `n` blocks and takes one, in constant time. The range is left as `n + 1` calls of `next` leave it.
+    /// Skips `n` blocks and returns the next one, in constant time. Leaves the range as `n + 1` calls of `next` do.
     pub fn nth(&mut self, n: usize) -> Option<B>
         ensures item { let start = B.place self.old.start in let end = B.place self.old.end in
             option_map B.place result ≡ slice_get (blocks B.SIZE start end) n }
@@ -117,8 +120,8 @@ impl<B: Block> BlockRange<B> {
         None
     }
 
-    /// Drops `n` blocks from the back and takes one, in constant time. The range is left as `n + 1` calls of `next_back` leave
-    /// it.
+    /// Skips `n` blocks from the back and returns the next one, in constant time. Leaves the range as `n + 1` calls of
+    /// `next_back` do.
     pub fn nth_back(&mut self, n: usize) -> Option<B>
         ensures item { let start = B.place self.old.start in let end = B.place self.old.end in
             option_map B.place result ≡ slice_get (reverse (blocks B.SIZE start end)) n }

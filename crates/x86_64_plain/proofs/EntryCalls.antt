@@ -1,4 +1,4 @@
--- What refuses a call on one entry: the first of two refusals.
+-- The refusal of a call on one entry: the first of two refusals.
 use Rattle.std.proofs.Common.{◌≡◌, ℕ, ◌<◌, ◌≤◌, not, cond, List, Option, Some, None, bit_or, refl, sym, ap, ◌∙◌, IfOk, Result, subst}
 use Rattle.std.specs.declared.alloc.AllocError.{AllocError}
 use Rattle.std.proofs.lemmas.Bool.{le-leb, lt-leb}
@@ -14,7 +14,7 @@ use Rattle.x86_64_plain.specs.Calls.{refusals_of, answer_of}
 use Rattle.x86_64_plain.specs.declared.calls.Refusal.{Refusal}
 use Rattle.x86_64_plain.specs.declared.calls.Answer.{Answer}
 
--- a change that is one for a refusal, and the same for an equal change
+-- the expected change of a call may be replaced by an equal one
 pub changed_along : (r : Result Answer AllocError) (after : PathMap) (x y : AfterChange) → x ≡ y → IfOk r (λ answer. ◌≡◌ {A = AfterChange} (record { paths = after; answer = answer_of answer }) x) → IfOk r (λ answer. ◌≡◌ {A = AfterChange} (record { paths = after; answer = answer_of answer }) y)
 changed_along r after x y e h = subst (λ x. IfOk r (λ answer. ◌≡◌ {A = AfterChange} (record { paths = after; answer = answer_of answer }) x)) e h
 

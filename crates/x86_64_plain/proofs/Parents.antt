@@ -5,7 +5,7 @@ use Rattle.x86_64_model.specs.Entry.{present, huge}
 use Rattle.x86_64_model.specs.Path.{parents}
 use Rattle.x86_64_model.specs.Refusal.{Refusal, PageNotMapped, ParentEntryHugePage, first_stop}
 
--- the proper front parts of so many indices and more
+-- the proper front parts with at least a number of indices
 abbrev pub rest : List ℕ → ℕ → List (List ℕ)
 rest q n = map (λ m. take m q) (range_with_len n (length q - n))
 

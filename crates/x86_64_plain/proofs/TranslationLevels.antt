@@ -1,4 +1,4 @@
--- What the entries say of a position, level by level.
+-- The translation of a position by its entries, level by level.
 use Rattle.std.proofs.Common.{◌≡◌, ◌≢◌, ◌⊎◌, ⊎_elim, ℕ, zero, suc, ◌-◌, ◌%◌, ◌≤◌, ◌<◌, ◌&&◌, nat_le, true, false, cond, List, [], ◌∷◌, ◌++◌, refl, sym, ap, ◌∙◌, arith}
 use Rattle.std.proofs.lemmas.Bool.{le-leb, lt-leb, and_left, and_right}
 use Rattle.x86_64_model.specs.Position.{span, index}

@@ -1,4 +1,4 @@
--- The calls, replies and refusals that those of the plain program are.
+-- The calls, replies and refusals of the plain program as those of the model.
 use Rattle.std.specs.Prelude.{ℕ, List, Option, Some, None}
 use Rattle.x86_64_model.specs.PathMap.{PathMap}
 use Rattle.x86_64_model.specs.PageRules.{AfterChange}
@@ -32,11 +32,11 @@ abbrev pub answer_of : Answer → refusal.Answer
 answer_of (Done frame) = refusal.Done frame
 answer_of (Refused why) = refusal.Refused (refusal_of why)
 
--- the path map and the answer after a call on one entry
+-- The path map and the answer after a call on one entry.
 abbrev pub changed : PathMap → Answer → AfterChange
 changed paths answer = record { paths = paths; answer = answer_of answer }
 
--- the path map, the free frames and the answer after a map
+-- The path map, the free frames and the answer after a map.
 abbrev pub mapped : PathMap → (supply : List ℕ) → Answer → AfterMap
 mapped paths supply answer = record { paths = paths; supply = supply; answer = answer_of answer }
 

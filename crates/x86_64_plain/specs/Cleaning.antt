@@ -1,4 +1,4 @@
--- What a clean up makes of some paths.
+-- The effect of a clean up on some paths.
 use Rattle.std.specs.Prelude.{◌≡◌, ℕ, ◌^◌, ◌≤◌, ◌||◌, Bool, not, List, Option, MatchOption, filter, map}
 use Rattle.x86_64_model.specs.Entry.{address}
 use Rattle.x86_64_model.specs.PathMap.{PathMap, entry}
@@ -6,22 +6,22 @@ use Rattle.x86_64_model.specs.Path.{is_below}
 use Rattle.x86_64_model.specs.CleanUp.{AfterCleanUp, in_range, is_removed}
 use Rattle.x86_64_plain.specs.declared.entries.PathEntry.{PathEntry}
 
--- a number, or none where it is 2^64 or more
+-- The number, or None if it is 2^64 or more.
 abbrev pub FitsOrNone : Option ℕ → ℕ → Type 0
 FitsOrNone word number = MatchOption word (2 ^ 64 ≤ number) (λ n. n ≡ number)
 
--- whether p, if it is below q, is the path of a present table entry whose span meets the range
+-- Whether p, if it is below q, is the path of a present table entry whose span overlaps the range.
 abbrev pub in_range_if_below : (L : ℕ) → PathMap → (low high : ℕ) → (q p : List ℕ) → Bool
 in_range_if_below L paths low high q p = not (is_below q p) || in_range L paths low high p
 
--- the frames of the tables at the removed ones among these paths
+-- The frames of the tables at those of the paths that are removed.
 abbrev pub frames : (L : ℕ) → PathMap → (low high : ℕ) → List (List ℕ) → List ℕ
 frames L paths low high ps = map (λ q. address (entry paths q)) (filter (is_removed L paths low high) ps)
 
--- whether an item's path isn't removed
+-- Whether an item's path isn't removed.
 abbrev pub stays : (L : ℕ) → PathMap → (low high : ℕ) → PathEntry → Bool
 stays L paths low high item = not (is_removed L paths low high item.path.items)
 
--- the path map after a clean up, and the frames that went back
+-- The path map after a clean up, and the freed frames.
 abbrev pub cleaned : PathMap → (back : List ℕ) → AfterCleanUp
 cleaned paths back = record { paths = paths; back = back }

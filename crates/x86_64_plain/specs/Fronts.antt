@@ -4,18 +4,18 @@ use Rattle.x86_64_model.specs.Entry.{used, present, huge}
 use Rattle.x86_64_model.specs.Allowed.{none_absent}
 use Rattle.x86_64_model.specs.PathMap.{PathMap, entry}
 
--- the front parts of these lengths
+-- The front parts of these lengths.
 abbrev pub fronts : List ℕ → (lengths : List ℕ) → List (List ℕ)
 fronts q lengths = map (λ n. take n q) lengths
 
--- whether there is a used entry, or whether there is none
+-- Whether the entry is used if `wanted`, or unused otherwise.
 abbrev pub is_wanted : PathMap → (wanted : Bool) → List ℕ → Bool
 is_wanted paths wanted p = cond wanted (used (entry paths p)) (not (used (entry paths p)))
 
--- whether there is a used and huge entry
+-- Whether the entry is used and huge.
 abbrev pub has_huge_page : PathMap → List ℕ → Bool
 has_huge_page paths p = used (entry paths p) && huge (entry paths p)
 
--- whether the first of the paths that is absent or huge is present, or there is none
+-- Whether the first of the paths that is absent or huge is present, or there is none.
 abbrev pub first_present : PathMap → List (List ℕ) → Bool
 first_present paths ps = none_absent paths (find (λ p. not (present (entry paths p)) || huge (entry paths p)) ps)

@@ -1,4 +1,4 @@
--- What the types of the plain program mean.
+-- The meaning of the plain program's types.
 pub mod PathEntries
 pub mod Windows
 pub mod Calls

@@ -1,4 +1,4 @@
--- The machine and the states that those of the plain program are.
+-- The plain program's machine and states as those of the model.
 use Rattle.std.specs.Prelude.{ℕ, ◌+◌, ◌^◌, ◌<◌, List, ◌∷◌}
 use Rattle.x86_64_model.specs.Translation.{Translated, NotMapped, Mapped}
 use Rattle.x86_64_model.specs.Call.{Call}
@@ -9,7 +9,7 @@ use Rattle.x86_64_plain.specs.declared.calls.PlainReply.{PlainReply}
 use Rattle.x86_64_plain.specs.declared.machine.PlainMachine.{PlainMachine}
 use Rattle.x86_64_plain.specs.declared.machine.PlainState.{PlainState}
 
--- a frame that comes back is put in front
+-- A returned frame is put in front.
 abbrev pub put_in_front : List ℕ → ℕ → List ℕ
 put_in_front held frame = frame ∷ held
 
@@ -19,15 +19,15 @@ machine_of m = record { levels = m.levels; window = window_of m.window; added_fl
 abbrev pub plain_state : PlainState → State
 plain_state s = record { paths = s.paths; pool = s.pool.items }
 
--- the state after a call, and the reply
+-- The state after a call, and the reply.
 abbrev pub outcome : PlainState → PlainReply → AfterCall
 outcome state reply = record { state = plain_state state; reply = reply_of reply }
 
--- what comes of a call that is allowed
+-- The outcome of an allowed call.
 abbrev pub allowed_outcome : PlainMachine → PlainState → Call → AfterCall
 allowed_outcome m state call = do_call (machine_of m) (plain_state state) call
 
--- the sum of the frame and the offset fits a word
+-- The sum of the frame and the offset fits a word.
 abbrev pub CanAdd : Translated → Type 0
 CanAdd NotMapped = Unit {0}
 CanAdd (Mapped size frame offset given) = frame + offset < 2 ^ 64

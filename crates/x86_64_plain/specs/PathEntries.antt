@@ -5,18 +5,18 @@ use Rattle.std.specs.FinMap.{from_entries}
 use Rattle.x86_64_model.specs.PathMap.{PathMap}
 use Rattle.x86_64_plain.specs.declared.entries.PathEntry.{PathEntry}
 
--- each path with its entry
+-- Each path with its entry.
 abbrev pub pairs : List PathEntry → List (List ℕ × ℕ)
 pairs items = map (λ item. (item.path.items, item.word)) items
 
--- at a path that stands twice, the first entry counts
+-- If a path occurs twice, its first entry counts.
 abbrev pub paths_of_items : List PathEntry → PathMap
 paths_of_items items = from_entries (pairs items)
 
--- the first word that stands at a path
+-- The first word stored for a path.
 abbrev pub found : List PathEntry → List ℕ → Option ℕ
 found items q = option_map (λ item. item.word) (find (λ item. bytes_eq item.path.items q) items)
 
--- the items at other paths
+-- The items at other paths.
 abbrev pub without : List PathEntry → List ℕ → List PathEntry
 without items q = filter (λ item. not (bytes_eq item.path.items q)) items

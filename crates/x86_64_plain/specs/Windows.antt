@@ -1,4 +1,4 @@
--- The recursive index that a window of the plain program is, and the entries that are read through it.
+-- The plain program's recursive index as that of the model, and the entries read through it.
 use Rattle.std.specs.Prelude.{ℕ, List, Option, Some, None}
 use Rattle.x86_64_model.specs.PathMap.{PathMap}
 use Rattle.x86_64_model.specs.Window.{Window, entry_at}
@@ -11,6 +11,6 @@ abbrev pub window_of : Option PlainWindow → Option Window
 window_of None = None
 window_of (Some w) = Some (the_window w)
 
--- the entry that is read at each path
+-- The entry read at each path.
 abbrev pub entry_read : Option PlainWindow → PathMap → List ℕ → ℕ
 entry_read window paths = entry_at (window_of window) paths

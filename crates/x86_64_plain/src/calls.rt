@@ -1,35 +1,35 @@
 //! Calls, replies and refusals.
 
-/// Says why a call on a page is refused.
+/// The reason why a call on a page is refused.
 #[derive(Clone, Copy, Debug, PartialEq, Eq)]
 pub enum Refusal {
     /// The page isn't mapped.
     PageNotMapped,
     /// A parent of the page's entry has HUGE_PAGE.
     ParentEntryHugePage,
-    /// The page's entry names this address, which is no frame of the page's size.
+    /// The page's entry names this address, which isn't that of a frame of the page's size.
     InvalidFrameAddress(u64),
-    /// The page is mapped already, so not to this frame.
+    /// The page is mapped already, so it isn't mapped to this frame.
     PageAlreadyMapped(u64),
     /// There is no free frame for a table.
     FrameAllocationFailed,
 }
 
-/// Answers a call on a page.
+/// The answer to a call on a page.
 #[derive(Clone, Copy, Debug, PartialEq, Eq)]
 pub enum Answer {
-    /// The call is done, at an entry that names this address.
+    /// The call is done. The entry names this address.
     Done(u64),
     /// The call is refused.
     Refused(Refusal),
 }
 
-/// Says where a position leads.
+/// The result of translating a position: the number of an address counted without the gap in the middle of the address space.
 #[derive(Clone, Copy, Debug, PartialEq, Eq)]
 pub enum Translated {
-    /// Nowhere.
+    /// The position isn't mapped.
     NotMapped,
-    /// To an offset in a frame of a size, by an entry with these flags.
+    /// The position is mapped to an offset in a frame of a size, by an entry with these flags.
     Mapped {
         size: u64,
         frame: u64,
@@ -38,7 +38,7 @@ pub enum Translated {
     },
 }
 
-/// A call. A page is the path of its entry, a frame its address.
+/// A call. A page is named by the path of its entry, a frame by its address.
 #[derive(Debug, Drop)]
 pub enum PlainCall {
     /// Maps a page to a frame.
@@ -54,7 +54,7 @@ pub enum PlainCall {
         flags: u64,
         parent_flags: u64,
     },
-    /// Maps the page of a level at the frame's own address to the frame.
+    /// Maps the page of a level that starts at the frame's own address to the frame.
     IdentityMap {
         level: usize,
         frame: u64,
@@ -75,35 +75,35 @@ pub enum PlainCall {
         page: Vec<u64>,
         flags: u64,
     },
-    /// Asks for the frame of a mapped page.
+    /// Returns the frame of a mapped page.
     TranslatePage {
         page: Vec<u64>,
     },
-    /// Asks where a position leads.
+    /// Translates a position.
     Translate {
         position: u64,
     },
-    /// Asks for the address that a position leads to.
+    /// Returns the physical address to which a position is mapped.
     TranslateAddress {
         position: u64,
     },
-    /// Gives back the empty tables of the positions from low to high.
+    /// Frees the empty tables of the positions from low to high.
     CleanUp {
         low: u64,
         high: u64,
     },
 }
 
-/// Replies to a call.
+/// The reply to a call.
 #[derive(Clone, Copy, Debug, PartialEq, Eq)]
 pub enum PlainReply {
     /// The call isn't allowed.
     NotAllowed,
     /// The answer to a call on a page.
     Answered(Answer),
-    /// Where a position leads.
+    /// The result of translating a position.
     Position(Translated),
-    /// The address that a position leads to.
+    /// The physical address to which a position is mapped.
     Address(Option<u64>),
     /// The clean up is done.
     Cleaned,

@@ -16,7 +16,7 @@ use crate::windows::{PlainWindow, entry_at, first_stop};
 use crate::words::{HUGE_PAGE, address, is_huge, is_present, is_used};
 use std::alloc::AllocError;
 
-/// Gives the entry of a mapped page: the frame and the flags, with HUGE_PAGE for 2MiB and 1GiB.
+/// Returns the entry of a mapped page: the frame and the flags, with HUGE_PAGE for a 2MiB or 1GiB page.
 pub fn leaf_entry(levels: usize, page: &[u64], frame: u64, flags: u64) -> u64
     ensures { result ≡ leaf_entry_of levels page.now frame flags }
 {
@@ -27,7 +27,7 @@ pub fn leaf_entry(levels: usize, page: &[u64], frame: u64, flags: u64) -> u64
     }
 }
 
-/// Refuses, or sets the entry at a path.
+/// Sets the entry at a path, unless there is a refusal.
 fn change(
     paths: &mut PathEntries,
     refusal: Option<Refusal>,
@@ -47,7 +47,7 @@ fn change(
     }
 }
 
-/// Refuses, or names a frame.
+/// Returns the answer with a frame, unless there is a refusal.
 fn answer(refusal: Option<Refusal>, frame: u64) -> Answer
     ensures { answer_of result ≡ answer_unless (refusals_of refusal) (Done frame) }
 {
@@ -57,7 +57,7 @@ fn answer(refusal: Option<Refusal>, frame: u64) -> Answer
     }
 }
 
-/// Tells whether the address in a word is a multiple of the size of a page.
+/// Returns true if the address in a word is a multiple of the size of a page.
 fn is_aligned(levels: usize, page: &[u64], word: u64) -> bool
     requires { levels ≤ 5 }
     ensures { result ≡ (address_of word % span_size_of levels page.now == 0) }
@@ -65,7 +65,7 @@ fn is_aligned(levels: usize, page: &[u64], word: u64) -> bool
     address(word) % span_size(levels, page) == 0
 }
 
-/// Refuses to unmap a page by its own entry.
+/// Returns the refusal to unmap a page by its own entry, if any.
 fn unmap_refusal(levels: usize, page: &[u64], word: u64) -> Option<Refusal>
     requires { levels ≤ 5 }
     ensures { refusals_of result ≡ unmap_refusal_of levels page.now word }
@@ -82,9 +82,12 @@ fn unmap_refusal(levels: usize, page: &[u64], word: u64) -> Option<Refusal>
     None
 }
 
-/// Unmaps a page. Its entry has to be present, huge exactly for 2MiB and 1GiB, with an address that is a
-/// multiple of the page's size.
-/// Fails only where memory is refused, and then says nothing of the entries.
+/// Unmaps a page. Its entry must be present. It must be huge if and only if the page is a 2MiB or 1GiB page, and then its address
+/// must be a multiple of the page's size.
+///
+/// # Errors
+///
+/// `AllocError` if memory allocation fails. The entries are then unspecified.
 pub fn unmap(
     levels: usize,
     window: Option<PlainWindow>,
@@ -100,7 +103,7 @@ pub fn unmap(
     change(paths, refusal, page, 0, address(word))
 }
 
-/// Refuses to change a page's flags by its own entry.
+/// Returns the refusal to change a page's flags by its own entry, if any.
 fn update_refusal(levels: usize, page: &[u64], word: u64) -> Option<Refusal>
     ensures { refusals_of result ≡ update_refusal_of levels page.now word }
 {
@@ -111,8 +114,11 @@ fn update_refusal(levels: usize, page: &[u64], word: u64) -> Option<Refusal>
     }
 }
 
-/// Sets the flags of a page. Its entry has to be used, and huge for 2MiB and 1GiB.
-/// Fails only where memory is refused, and then says nothing of the entries.
+/// Sets the flags of a page. Its entry must be used, and huge for a 2MiB or 1GiB page.
+///
+/// # Errors
+///
+/// `AllocError` if memory allocation fails. The entries are then unspecified.
 pub fn update_flags(
     levels: usize,
     window: Option<PlainWindow>,
@@ -135,7 +141,7 @@ pub fn update_flags(
     )
 }
 
-/// Refuses to name a page's frame by its own entry.
+/// Returns the refusal to name a page's frame by its own entry, if any.
 fn translate_refusal(levels: usize, page: &[u64], word: u64) -> Option<Refusal>
     requires { levels ≤ 5 }
     ensures { refusals_of result ≡ translate_refusal_of levels page.now word }
@@ -149,7 +155,7 @@ fn translate_refusal(levels: usize, page: &[u64], word: u64) -> Option<Refusal>
     None
 }
 
-/// Names the frame of a page. Its entry has to be used, and for 2MiB and 1GiB huge with an address that is a
+/// Returns the frame of a page. Its entry must be used. For a 2MiB or 1GiB page it must be huge, with an address that is a
 /// multiple of the page's size.
 pub fn translate_page(
     levels: usize,
@@ -165,7 +171,7 @@ pub fn translate_page(
     answer(refusal, address(word))
 }
 
-/// Gives the front of a path of so many indices, or all of it.
+/// Returns the first `length` indices of a path, or all of it if it is shorter.
 pub fn front(path: &[u64], length: usize) -> &[u64]
     ensures { result.now ≡ take length path.now }
 {
@@ -176,7 +182,7 @@ pub fn front(path: &[u64], length: usize) -> &[u64]
     }
 }
 
-/// Gives the front of a path that names the entry of a level.
+/// Returns the front part of a path that names the entry of a level.
 pub fn front_at(levels: usize, level: usize, path: &[u64]) -> &[u64]
     requires { levels ≤ 5 }
     ensures { result.now ≡ front_at_of levels level path.now }
@@ -184,7 +190,7 @@ pub fn front_at(levels: usize, level: usize, path: &[u64]) -> &[u64]
     front(path, (levels + 1).saturating_sub(level))
 }
 
-/// Refuses to change an absent entry.
+/// Returns the refusal to change an entry if it is absent.
 fn unused_refusal(word: u64) -> Option<Refusal>
     ensures { refusals_of result ≡ refused_if (not (used word)) PageNotMapped None }
 {
@@ -195,9 +201,11 @@ fn unused_refusal(word: u64) -> Option<Refusal>
     }
 }
 
-/// Sets the flags of the entry of a level on a page's path. The level has to be above the page's own, and the
-/// entry has to be used.
-/// Fails only where memory is refused, and then says nothing of the entries.
+/// Sets the flags of the entry of a level on a page's path. The level must be above the page's own, and the entry must be used.
+///
+/// # Errors
+///
+/// `AllocError` if memory allocation fails. The entries are then unspecified.
 pub fn set_flags(
     levels: usize,
     window: Option<PlainWindow>,

@@ -1,4 +1,6 @@
-//! Clean up: which empty tables go back, and in which order.
+//! Clean up: which empty tables are freed, and in which order.
+//!
+//! Positions are the numbers of addresses counted without the gap in the middle of the address space.
 ghost use Rattle.std.specs.Prelude.{◌≡◌, ◌≤◌, ◌+◌, ◌*◌, ◌++◌, ◌∷◌, [], OnOk, IfOk, fold, not, filter};
 ghost use Rattle.std.specs.List.{list_all};
 ghost use Rattle.std.specs.FinMap.{keys, retain_keys};
@@ -12,8 +14,7 @@ use crate::positions::span_size;
 use crate::words::{address, is_huge, is_present};
 use std::alloc::{AllocError, Global};
 
-/// Gives the number that the indices of a path write in base 512 behind the digits so far, if it is below
-/// 2^64.
+/// Returns the number with the digits so far followed by the indices of a path as digits in base 512, if it is below 2^64.
 #[tactic(auto, using(crate::proofs::CleanUps::number_past_product, crate::proofs::CleanUps::number_past_sum))]
 fn number(so_far: u64, path: &[u64]) -> Option<u64>
     ensures { FitsOrNone result (fold (λ n i. n * 512 + i) so_far path.now) }
@@ -30,7 +31,7 @@ fn number(so_far: u64, path: &[u64]) -> Option<u64>
     }
 }
 
-/// Gives the first position of a path's span, if it is below 2^64.
+/// Returns the first position of a path's span, if it is below 2^64.
 fn span_start(levels: usize, path: &[u64]) -> Option<u64>
     requires { levels ≤ 5 }
     ensures { FitsOrNone result (span_start_of levels path.now) }
@@ -41,7 +42,7 @@ fn span_start(levels: usize, path: &[u64]) -> Option<u64>
     }
 }
 
-/// Tells whether a path's span and the positions from low to high have one in common.
+/// Returns true if a path's span overlaps the positions from low to high.
 fn meets(levels: usize, low: u64, high: u64, path: &[u64]) -> bool
     requires { levels ≤ 5 }
     ensures { result ≡ meets_of levels low high path.now }
@@ -54,7 +55,7 @@ fn meets(levels: usize, low: u64, high: u64, path: &[u64]) -> bool
     }
 }
 
-/// Tells whether there is a present table entry at a path whose span meets the range.
+/// Returns true if a path has a present table entry whose span overlaps the range.
 fn in_range(levels: usize, paths: &PathEntries, low: u64, high: u64, path: &[u64]) -> bool
     requires { levels ≤ 5 }
     ensures { result ≡ in_range_of levels paths.now low high path.now }
@@ -63,7 +64,7 @@ fn in_range(levels: usize, paths: &PathEntries, low: u64, high: u64, path: &[u64
     path.len() < levels && is_present(word) && !is_huge(word) && meets(levels, low, high, path)
 }
 
-/// Tells whether a path goes on from another.
+/// Returns true if a path is longer than another and begins with it.
 fn is_below(above: &[u64], path: &[u64]) -> bool
     ensures { result ≡ is_below_of above.now path.now }
 {
@@ -76,7 +77,7 @@ fn is_below(above: &[u64], path: &[u64]) -> bool
     }
 }
 
-/// Tells whether all parents of a path are present table entries whose spans meet the range.
+/// Returns true if all parents of a path are present table entries whose spans overlap the range.
 fn parents_in_range(levels: usize, paths: &PathEntries, low: u64, high: u64, path: &[u64]) -> bool
     requires { levels ≤ 5 }
     ensures { result ≡ list_all (in_range_of levels paths.now low high) (parents path.now) }
@@ -89,7 +90,7 @@ fn parents_in_range(levels: usize, paths: &PathEntries, low: u64, high: u64, pat
     true
 }
 
-/// Tells whether each of the items below a path is a present table entry whose span meets the range.
+/// Returns true if each item below a path is a present table entry whose span overlaps the range.
 fn items_in_range(
     levels: usize,
     paths: &PathEntries,
@@ -106,7 +107,7 @@ fn items_in_range(
         | in_range(levels, paths, low, high, &item.path))
 }
 
-/// Tells whether each used entry below a path is a present table entry whose span meets the range.
+/// Returns true if each used entry below a path is a present table entry whose span overlaps the range.
 fn all_below_in_range(levels: usize, paths: &PathEntries, low: u64, high: u64, path: &[u64]) -> bool
     requires { levels ≤ 5 }
     ensures { result ≡ list_all (in_range_if_below levels paths.now low high path.now) (keys paths.now) }
@@ -114,8 +115,8 @@ fn all_below_in_range(levels: usize, paths: &PathEntries, low: u64, high: u64, p
     items_in_range(levels, paths, low, high, path, &paths.items)
 }
 
-/// Tells whether a path and all its parents are present table entries whose spans meet the range, and so is
-/// every used entry below it.
+/// Returns true if the entry at a path, all its parents and every used entry below it are present table entries whose spans
+/// overlap the range.
 #[tactic(auto, unfolding(x86_64_model::specs::CleanUp::is_removed))]
 pub fn is_removed(levels: usize, paths: &PathEntries, low: u64, high: u64, path: &[u64]) -> bool
     requires { levels ≤ 5 }
@@ -126,7 +127,7 @@ pub fn is_removed(levels: usize, paths: &PathEntries, low: u64, high: u64, path:
         && all_below_in_range(levels, paths, low, high, path)
 }
 
-/// Gives a path with an index more.
+/// Returns a path with one more index.
 fn extended(alloc: Global, path: &[u64], index: u64) -> Result<Vec<u64>, AllocError>
     ensures { IfOk result (λ below. below.items ≡ path.now ++ index ∷ []) }
 {
@@ -154,8 +155,8 @@ fn add_frame(
     Ok(())
 }
 
-/// Adds the frames of the removed tables of up to so many more indices below a path. Below a path that isn't
-/// in the range nothing is removed.
+/// Adds the frames of the removed tables below a path, of at most `depth` more indices. Nothing is removed below a path that
+/// isn't in the range.
 fn add_frames(
     alloc: Global,
     levels: usize,
@@ -207,7 +208,7 @@ fn add_left(
     Ok(())
 }
 
-/// Gives the entries at paths that aren't removed.
+/// Returns the entries at paths that aren't removed.
 fn left_entries(
     alloc: Global,
     levels: usize,
@@ -226,9 +227,12 @@ fn left_entries(
     Ok(PathEntries { items: left })
 }
 
-/// Makes the removed paths absent, and gives the frames of their tables: a path before its front parts, else
-/// in order of the first index that differs.
-/// Fails only where memory is refused, and then says nothing of the entries.
+/// Removes the entries at the removed paths, and returns the frames of their tables, each after those below it, otherwise in
+/// ascending order of indices.
+///
+/// # Errors
+///
+/// `AllocError` if memory allocation fails. The entries are then unspecified.
 #[tactic(auto, unfolding(x86_64_model::specs::CleanUp::clean_up))]
 pub fn clean_up(
     alloc: Global,

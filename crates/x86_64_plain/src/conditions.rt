@@ -17,14 +17,14 @@ use crate::windows::{PlainWindow, begins_with, entry_at, first_stop};
 use crate::words::{is_huge, is_present, is_used, no_address};
 use std::alloc::{AllocError, Global};
 
-/// Gives the parent flags of a map: PRESENT, WRITABLE and USER_ACCESSIBLE as they are asked for.
+/// Returns the parent flags of a map: those of PRESENT, WRITABLE and USER_ACCESSIBLE that the page's flags have.
 pub fn parent_part(flags: u64) -> u64
     ensures { result ≡ parent_part_of flags }
 {
     flags & 0x7
 }
 
-/// Tells whether the first parent that is absent or huge is present, or there is none.
+/// Returns true if the first parent that is absent or huge is present, or if there is none.
 fn none_absent(paths: &PathEntries, path: &[u64]) -> bool
     ensures { result ≡ first_present paths.now (parents path.now) }
 {
@@ -40,14 +40,14 @@ fn none_absent(paths: &PathEntries, path: &[u64]) -> bool
     true
 }
 
-/// Tells whether the parents of a path will be present.
+/// Returns true if the parents of a path will be present.
 fn parents_present(paths: &PathEntries, parent_flags: u64, path: &[u64]) -> bool
     ensures { result ≡ parents_present_of paths.now parent_flags path.now }
 {
     is_present(parent_flags) | none_absent(paths, path)
 }
 
-/// Tells whether a map of a page is allowed.
+/// Returns true if a map of a page is allowed.
 fn map_allowed(
     levels: usize,
     window: Option<PlainWindow>,
@@ -66,7 +66,7 @@ fn map_allowed(
         & !begins_with(window, page)
 }
 
-/// Tells whether a map of a page is allowed, with the parent flags that its flags ask for.
+/// Returns true if a map of a page is allowed with the parent flags from its own flags.
 fn map_to_allowed(
     levels: usize,
     window: Option<PlainWindow>,
@@ -80,7 +80,7 @@ fn map_to_allowed(
     map_allowed(levels, window, paths, page, flags, parent_part(flags))
 }
 
-/// Tells whether a map of the page of a level at the frame's own address is allowed.
+/// Returns true if a map of the page of a level at the frame's own address is allowed.
 fn is_identity_map_allowed(
     alloc: Global,
     levels: usize,
@@ -98,7 +98,7 @@ fn is_identity_map_allowed(
     Ok((frame < lower_half(levels)) & map_to_allowed(levels, window, paths, &page, flags))
 }
 
-/// Tells whether `set_flags` is refused, whatever the flags.
+/// Returns true if `set_flags` is refused, whatever the flags.
 fn set_flags_refuses(
     levels: usize,
     window: Option<PlainWindow>,
@@ -116,14 +116,14 @@ fn set_flags_refuses(
         | !is_used(entry_at(window, paths, path))
 }
 
-/// Tells whether both hold or none does.
+/// Returns true if both hold or neither does.
 fn both_or_none(first: bool, second: bool) -> bool
     ensures { result ≡ both_or_none_of first second }
 {
     if first { second } else { !second }
 }
 
-/// Tells whether the flags for the entry of a level on a page's path are allowed.
+/// Returns true if the flags are allowed for the entry of a level on a page's path.
 fn set_flags_allowed(
     levels: usize,
     window: Option<PlainWindow>,
@@ -144,7 +144,7 @@ fn set_flags_allowed(
         | both_or_none(is_huge(flags), is_huge(word))
 }
 
-/// Tells whether setting the flags of the entry of a level on a page's path is allowed.
+/// Returns true if setting the flags of the entry of a level on a page's path is allowed.
 fn is_set_flags_allowed(
     levels: usize,
     window: Option<PlainWindow>,
@@ -161,7 +161,7 @@ fn is_set_flags_allowed(
         & set_flags_allowed(levels, window, paths, level, page, flags)
 }
 
-/// Tells whether a call is allowed.
+/// Returns true if a call is allowed.
 pub fn is_allowed(
     alloc: Global,
     levels: usize,

@@ -16,7 +16,7 @@ pub struct PathEntry {
     pub word: u64,
 }
 
-/// The entries by their paths, seen as a path map. The first that stands at a path counts.
+/// The entries by path, seen as a path map. If a path occurs twice, its first entry counts.
 #[derive(Drop)]
 pub struct PathEntries {
     /// The paths and entries.
@@ -40,7 +40,7 @@ impl Model for PathEntries {
 }
 
 impl PathEntries {
-    /// Makes a path map without entries.
+    /// Creates a path map without entries.
     pub fn new(alloc: Global) -> Self
         ensures { result ≡ empty }
     {
@@ -49,7 +49,7 @@ impl PathEntries {
         }
     }
 
-    /// Gives the entry at a path, 0 where there is none.
+    /// Returns the entry at a path, or 0 if there is none.
     #[tactic(auto, using(crate::proofs::Lists::entry_items))]
     pub fn entry(&self, path: &[u64]) -> u64
         ensures { result ≡ entry_of self.now path.now }
@@ -57,8 +57,11 @@ impl PathEntries {
         word_at(&self.items, path).unwrap_or(0)
     }
 
-    /// Sets the entry at a path: a used entry is stored, an absent one is not.
-    /// Fails only where memory is refused, and then says nothing of the entries.
+    /// Sets the entry at a path. A used entry is stored, an absent one is removed.
+    ///
+    /// # Errors
+    ///
+    /// `AllocError` if memory allocation fails. The entries are then unspecified.
     pub fn put(&mut self, path: &[u64], word: u64) -> Result<(), AllocError>
         ensures { OnOk result (self.new ≡ put_of self.old path.now word) }
     {
@@ -71,7 +74,7 @@ impl PathEntries {
     }
 }
 
-/// Gives the first word that stands at a path.
+/// Returns the first word stored for a path.
 fn word_at(items: &[PathEntry], path: &[u64]) -> Option<u64>
     ensures { result ≡ found items.now path.now }
 {
@@ -81,7 +84,7 @@ fn word_at(items: &[PathEntry], path: &[u64]) -> Option<u64>
         .map(|item| item.word)
 }
 
-/// Leaves out what stands at a path.
+/// Removes all items at a path.
 fn leave_out(items: &mut Vec<PathEntry>, path: &[u64])
     ensures { items.new.items ≡ without items.old.items path.now }
 {

@@ -1,5 +1,5 @@
-//! The plain slow program: the machine's step, computed over lists of paths and entries, for tests that
-//! compare faster bodies with it.
+//! The plain, slow program: the machine's step, computed over lists of paths and entries, for tests that compare faster code with
+//! it.
 #![tactic(auto)]
 
 pub mod calls;

@@ -20,9 +20,10 @@ use crate::translations::translate;
 use crate::windows::PlainWindow;
 use std::alloc::{AllocError, Global};
 
-/// What no call changes: the number of levels, the recursive index where there is one, and the flags that a
-/// new table entry gets beside the parent flags.
-/// A frame that comes back is put in front of the pool.
+/// The parameters that no call changes: the number of levels, the recursive index if there is one, and the flags that a new table
+/// entry gets in addition to the parent flags.
+///
+/// A returned frame is put in front of the pool.
 #[derive(Clone, Copy, Debug, PartialEq, Eq)]
 pub struct PlainMachine {
     pub levels: usize,
@@ -30,14 +31,15 @@ pub struct PlainMachine {
     pub added_flags: u64,
 }
 
-/// The entries by their paths, and the pool of free frames.
+/// The entries by path, and the pool of free frames.
 #[derive(Drop)]
 pub struct PlainState {
     pub paths: PathEntries,
     pub pool: Vec<u64>,
 }
 
-/// Gives the address that a position leads to: the frame's start plus the offset.
+/// Returns the physical address of a translated position: the frame's start plus the offset. A position is the number of an
+/// address counted without the gap in the middle of the address space.
 fn address_of(translated: Translated) -> Option<u64>
     requires { CanAdd (translated_of translated) }
     ensures { result ≡ address_of_translated (translated_of translated) }
@@ -48,7 +50,7 @@ fn address_of(translated: Translated) -> Option<u64>
     }
 }
 
-/// Puts frames in front of a pool, one after the other.
+/// Puts frames in front of a pool, one after another.
 fn give_back(pool: &mut Vec<u64>, frames: &[u64]) -> Result<(), AllocError>
     ensures { OnOk result (pool.new.items ≡ given_back put_in_front pool.old.items frames.now) }
 {
@@ -62,7 +64,7 @@ fn give_back(pool: &mut Vec<u64>, frames: &[u64]) -> Result<(), AllocError>
 }
 
 impl PlainMachine {
-    /// Says where a position leads.
+    /// Translates a position.
     fn translate(
         &self,
         alloc: Global,
@@ -103,7 +105,7 @@ impl PlainMachine {
         Ok(PlainReply::Answered(answer))
     }
 
-    /// Makes the page of a level at the frame's own address, and maps it.
+    /// Maps the page of a level that starts at the frame's own address.
     #[tactic(auto, unfolding(x86_64_model::specs::Machine::do_call))]
     fn map_identity(
         &self,
@@ -171,7 +173,7 @@ impl PlainMachine {
         Ok(PlainReply::Answered(answer))
     }
 
-    /// Says which frame the entry of a page names, or why none.
+    /// Returns the frame that a page's entry names, or why there is none.
     fn translate_page(&self, paths: &PathEntries, page: &[u64]) -> PlainReply
         requires { self.now.levels ≤ 5 }
         ensures { let read = entry_read self.now.window paths.now in
@@ -180,7 +182,7 @@ impl PlainMachine {
         PlainReply::Answered(translate_page(self.levels, self.window, paths, page))
     }
 
-    /// Says which address a position leads to.
+    /// Returns the physical address to which a position is mapped.
     fn translate_address(
         &self,
         alloc: Global,
@@ -196,7 +198,7 @@ impl PlainMachine {
         Ok(PlainReply::Address(address_of(translated)))
     }
 
-    /// Gives back the empty tables of the positions from low to high.
+    /// Frees the empty tables of the positions from low to high.
     #[tactic(auto, unfolding(x86_64_model::specs::Machine::do_call))]
     fn clean_up(
         &self,
@@ -214,7 +216,7 @@ impl PlainMachine {
         Ok(PlainReply::Cleaned)
     }
 
-    /// Does an allowed call.
+    /// Carries out an allowed call.
     #[tactic(auto, unfolding(x86_64_model::specs::Machine::do_call))]
     fn do_call(&self, state: &mut PlainState, call: &PlainCall) -> Result<PlainReply, AllocError>
         requires { self.now.levels ≤ 5 }
@@ -255,8 +257,11 @@ impl PlainMachine {
         }
     }
 
-    /// Makes one call. A call that isn't allowed is answered so and changes nothing.
-    /// Fails only where memory is refused, and then says nothing of the state.
+    /// Carries out one call. A call that isn't allowed gets the reply `NotAllowed` and changes nothing.
+    ///
+    /// # Errors
+    ///
+    /// `AllocError` if memory allocation fails. The state is then unspecified.
     pub fn step(&self, state: &mut PlainState, call: &PlainCall) -> Result<PlainReply, AllocError>
         requires { self.now.levels ≤ 5 }
         ensures { let expected = step_of (machine_of self.now) (plain_state state.old) (call_of call.now) in

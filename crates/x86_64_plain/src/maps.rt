@@ -12,7 +12,7 @@ use crate::entries::PathEntries;
 use crate::words::{is_used, is_used_and_huge};
 use std::alloc::{AllocError, Global};
 
-/// Gives the lengths of the parents of a path at which there is a used entry, or at which there is none.
+/// Returns the lengths of the parents of a path whose entry is used, or of those whose entry is unused.
 fn parents_where(
     alloc: Global,
     paths: &PathEntries,
@@ -31,7 +31,7 @@ fn parents_where(
     Ok(lengths)
 }
 
-/// Tells whether a parent of a path is used and huge.
+/// Returns true if a parent of a path is used and huge.
 fn has_huge_parent(paths: &PathEntries, path: &[u64]) -> bool
     ensures { result ≡ list_any (has_huge_page paths.now) (parents path.now) }
 {
@@ -43,7 +43,7 @@ fn has_huge_parent(paths: &PathEntries, path: &[u64]) -> bool
     false
 }
 
-/// Adds flags to the entries at the fronts of a path of these lengths.
+/// Adds flags to the entries at the front parts of a path of these lengths.
 fn add_flags(
     paths: &mut PathEntries,
     flags: u64,
@@ -63,8 +63,7 @@ fn add_flags(
     }
 }
 
-/// Makes new tables at the fronts of a path of these lengths, in the frames in order, as far as there are
-/// frames.
+/// Creates tables at the front parts of a path of these lengths, in the given frames in order, as far as they go.
 fn make_tables(
     paths: &mut PathEntries,
     flags: u64,
@@ -86,7 +85,7 @@ fn make_tables(
     }
 }
 
-/// Takes the first so many frames out of a pool, as far as there are frames.
+/// Removes the first `count` frames from a pool, or all if there are fewer.
 fn take_frames(pool: &mut Vec<u64>, count: usize)
     ensures { pool.new.items ≡ drop count pool.old.items }
 {
@@ -94,7 +93,10 @@ fn take_frames(pool: &mut Vec<u64>, count: usize)
 }
 
 /// Maps a page to a frame, with these flags for the page's parents, and the added flags for new ones.
-/// Fails only where memory is refused, and then says nothing of the entries and the pool.
+///
+/// # Errors
+///
+/// `AllocError` if memory allocation fails. The entries and the pool are then unspecified.
 pub fn map_call(
     levels: usize,
     paths: &mut PathEntries,

@@ -1,11 +1,12 @@
-//! Spans, indices and paths of positions.
+//! Spans, indices and paths of positions, which are the numbers of addresses counted without the gap in the middle of the address
+//! space.
 ghost use Rattle.std.specs.Prelude.{◌≡◌, ◌≤◌, IfOk};
 ghost use Rattle.x86_64_model.specs.Position.{span as span_of, index as index_of, page_path as page_path_of, lower_half as lower_half_of};
 ghost use Rattle.x86_64_model.specs.Path.{path_at as path_at_of, is_small as is_small_of, level_of as level_of_path, span_size as span_size_of};
 
 use std::alloc::{AllocError, Global};
 
-/// Gives how many positions an entry of a level spans.
+/// Returns the number of positions that an entry of a level spans.
 pub fn span(level: usize) -> u64
     requires { level ≤ 6 }
     ensures value { result ≡ span_of level }
@@ -14,7 +15,7 @@ pub fn span(level: usize) -> u64
     1 << (12 + 9 * level.saturating_sub(1))
 }
 
-/// Gives the index of a level at a position.
+/// Returns the index of a level at a position.
 #[tactic(auto, unfolding(x86_64_model::specs::Position::index))]
 pub fn index(level: usize, position: u64) -> u64
     requires { level ≤ 6 }
@@ -23,7 +24,7 @@ pub fn index(level: usize, position: u64) -> u64
     position / span(level) % 512
 }
 
-/// Gives how many positions the lower half of the address space has.
+/// Returns the number of positions in the lower half of the address space.
 pub fn lower_half(levels: usize) -> u64
     requires { levels ≤ 5 }
     ensures { result ≡ lower_half_of levels }
@@ -31,7 +32,7 @@ pub fn lower_half(levels: usize) -> u64
     1 << (11 + 9 * levels)
 }
 
-/// Gives the indices at a position from a level down to level one.
+/// Returns the indices at a position, from a level down to level one.
 #[tactic(auto, using(crate::proofs::PositionPaths::page_path_more), unfolding(x86_64_model::specs::Position::page_path))]
 pub fn page_path(alloc: Global, level: usize, position: u64) -> Result<Vec<u64>, AllocError>
     requires { level ≤ 6 }
@@ -44,7 +45,7 @@ pub fn page_path(alloc: Global, level: usize, position: u64) -> Result<Vec<u64>,
     Ok(path)
 }
 
-/// Gives the path of the entry of a level at a position.
+/// Returns the path of the entry of a level at a position.
 pub fn path_at(
     alloc: Global,
     levels: usize,
@@ -59,14 +60,14 @@ pub fn path_at(
     Ok(path)
 }
 
-/// Tells whether the entry at a path is one of level one.
+/// Returns true if the entry at a path is of level one.
 pub fn is_small(levels: usize, path: &[u64]) -> bool
     ensures { result ≡ is_small_of levels path.now }
 {
     path.len() == levels
 }
 
-/// Gives the level of the entry at a path.
+/// Returns the level of the entry at a path.
 pub fn level_of(levels: usize, path: &[u64]) -> usize
     requires { levels ≤ 5 }
     ensures value { result ≡ level_of_path levels path.now }
@@ -75,7 +76,7 @@ pub fn level_of(levels: usize, path: &[u64]) -> usize
     (levels + 1).saturating_sub(path.len())
 }
 
-/// Gives how many positions an entry at a path spans.
+/// Returns the number of positions that the entry at a path spans.
 pub fn span_size(levels: usize, path: &[u64]) -> u64
     requires { levels ≤ 5 }
     ensures value { result ≡ span_size_of levels path.now }

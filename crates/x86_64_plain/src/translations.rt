@@ -1,4 +1,4 @@
-//! Where positions lead.
+//! Translation of positions: the numbers of addresses counted without the gap in the middle of the address space.
 ghost use Rattle.std.specs.Prelude.{◌≡◌, ◌≤◌, ◌%◌, ◌++◌, ◌∷◌, OnOk, IfOk, []};
 ghost use Rattle.x86_64_model.specs.PageWalk.{page_start as page_start_of};
 ghost use Rattle.x86_64_model.specs.Position.{span as span_of, index as index_of};
@@ -13,7 +13,7 @@ use crate::windows::{PlainWindow, entry_at};
 use crate::words::{address, flags, is_huge, is_present, is_used};
 use std::alloc::{AllocError, Global};
 
-/// Gives a huge entry's address, rounded down to the size of its level's page.
+/// Returns a huge entry's address, rounded down to the page size of its level.
 fn page_start(level: usize, word: u64) -> u64
     requires { level ≤ 6 }
     ensures { result ≡ page_start_of level word }
@@ -21,7 +21,7 @@ fn page_start(level: usize, word: u64) -> u64
     address(word) / span(level) * span(level)
 }
 
-/// Says that an entry of a level maps a position to an offset in the frame.
+/// Returns the translation of a position by an entry of a level that maps it.
 fn mapped(level: usize, position: u64, frame: u64, flags: u64) -> Translated
     requires { level ≤ 6 }
     ensures { translated_of result ≡ Mapped (span_of level) frame (position % span_of level) flags }
@@ -36,7 +36,7 @@ fn mapped(level: usize, position: u64, frame: u64, flags: u64) -> Translated
     }
 }
 
-/// Goes on along a path by the index of a level at a position, and gives the entry there.
+/// Extends a path by the index of a level at a position, and returns the entry there.
 fn next_entry(
     window: Option<PlainWindow>,
     paths: &PathEntries,
@@ -53,7 +53,7 @@ fn next_entry(
     Ok(entry_at(window, paths, path))
 }
 
-/// Says what the entries say of a position from a level on, where the path leads to that level's table.
+/// Returns the translation of a position from a level down, given the path that leads to that level's table.
 fn translate_on(
     window: Option<PlainWindow>,
     paths: &PathEntries,
@@ -84,7 +84,7 @@ fn translate_on(
     translate_on(window, paths, position, level - 1, path)
 }
 
-/// Says where a position leads.
+/// Returns the translation of a position.
 #[tactic(auto, unfolding(x86_64_model::specs::Translation::translate))]
 pub fn translate(
     alloc: Global,

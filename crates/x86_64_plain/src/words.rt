@@ -2,7 +2,7 @@
 ghost use Rattle.std.specs.Prelude.{◌≡◌, ◌&&◌};
 ghost use Rattle.x86_64_model.specs.Entry.{present, huge, used, address as address_of, flags as flags_of, no_address as has_no_address};
 
-/// The bits of an entry that name an address.
+/// The bits of an entry that hold an address.
 pub const ADDRESS_MASK: u64 = 0x000f_ffff_ffff_f000;
 
 /// The other bits of an entry.
@@ -14,7 +14,7 @@ pub const PRESENT: u64 = 0x1;
 /// HUGE_PAGE.
 pub const HUGE_PAGE: u64 = 0x80;
 
-/// Tells whether a word has PRESENT.
+/// Returns true if a word has PRESENT.
 #[tactic(auto, unfolding(x86_64_model::specs::Entry::has))]
 pub fn is_present(word: u64) -> bool
     ensures { result ≡ present word }
@@ -22,7 +22,7 @@ pub fn is_present(word: u64) -> bool
     word & PRESENT == PRESENT
 }
 
-/// Tells whether a word has HUGE_PAGE.
+/// Returns true if a word has HUGE_PAGE.
 #[tactic(auto, unfolding(x86_64_model::specs::Entry::has))]
 pub fn is_huge(word: u64) -> bool
     ensures { result ≡ huge word }
@@ -30,7 +30,7 @@ pub fn is_huge(word: u64) -> bool
     word & HUGE_PAGE == HUGE_PAGE
 }
 
-/// Tells whether a word is another one than that of the absent entry.
+/// Returns true if a word isn't 0, the absent entry.
 #[tactic(auto, unfolding(x86_64_model::specs::Entry::used))]
 pub fn is_used(word: u64) -> bool
     ensures { result ≡ used word }
@@ -38,14 +38,14 @@ pub fn is_used(word: u64) -> bool
     word != 0
 }
 
-/// Tells whether a word is used and has HUGE_PAGE.
+/// Returns true if a word is used and has HUGE_PAGE.
 pub fn is_used_and_huge(word: u64) -> bool
     ensures { result ≡ (used word && huge word) }
 {
     is_used(word) && is_huge(word)
 }
 
-/// Gives the address that a word names.
+/// Returns the address that a word holds.
 #[tactic(auto, unfolding(x86_64_model::specs::Entry::address))]
 pub fn address(word: u64) -> u64
     ensures { result ≡ address_of word }
@@ -53,7 +53,7 @@ pub fn address(word: u64) -> u64
     word & ADDRESS_MASK
 }
 
-/// Gives the flags of a word.
+/// Returns the flags of a word.
 #[tactic(auto, unfolding(x86_64_model::specs::Entry::flags))]
 pub fn flags(word: u64) -> u64
     ensures { result ≡ flags_of word }
@@ -61,7 +61,7 @@ pub fn flags(word: u64) -> u64
     word & FLAGS_MASK
 }
 
-/// Tells whether flags have no address bits.
+/// Returns true if flags have no address bits.
 pub fn no_address(flags: u64) -> bool
     ensures { result ≡ has_no_address flags }
 {

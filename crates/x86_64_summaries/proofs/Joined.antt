@@ -1,4 +1,5 @@
--- Regions that are joined as they come are those that the mappings form. Mappings without a gap and with the same rights are joined at once.
+-- Regions that are joined as they arrive are those that the mappings form. Mappings without a gap and with equal rights are
+-- joined at once.
 use Rattle.std.proofs.Common.{◌≡◌, ◌≢◌, ◌⊎◌, inl, inr, ⊎_elim, ◌<◌, ◌≤◌, ◌+◌, ◌-◌, ◌==◌, ℕ, Bool, true, false, not, cond, List, [], ◌∷◌, ◌++◌, filter, Option, Some, None, refl, sym, ap, ◌∙◌, subst, subst₂, arith, append-nil, append_assoc}
 use Rattle.std.proofs.lemmas.Bool.{and_from, eq-eqb, eqb-true}
 use Rattle.x86_64_model.specs.Position.{lower_half}
@@ -8,7 +9,7 @@ use Rattle.x86_64_model.proofs.Lemmas.Mappings.Regions.{begun, from_follows, sam
 use Rattle.x86_64_summaries.specs.private.Extents.{AreWhole}
 use Rattle.x86_64_summaries.specs.private.Joined.{region_between, held_with, given_with, held_after, given_after, listed, JoinsRegion, Joins}
 
--- ---- mappings, some first
+-- ---- mappings, in two parts
 
 held_after-append : (L : ℕ) (held : Option Region) (ms ns : List Mapping) → held_after L held (ms ++ ns) ≡ held_after L (held_after L held ms) ns
 unfolding held_after
@@ -53,7 +54,7 @@ follows_from L r s next apart same = and_from _ _ (and_from _ _ (eq-eqb _ _ next
     differ true e = absurd (apart (eqb-true _ _ e))
     differ false e = e
 
--- a region that others follow on, up to a position
+-- a region that others follow, up to a position
 grown_whole : (L : ℕ) (r : Region) (a b : ℕ) (ms : List Mapping) → r.last + 1 ≡ a → AreWhole a b r.rights ms → (b ≤ lower_half L) ⊎ (lower_half L < a)
     → (held_after L (Some r) ms ≡ Some (record { first = r.first; last = b - 1; rights = r.rights })) × (given_after L (Some r) ms ≡ [])
 unfolding held_after given_after
@@ -75,7 +76,7 @@ grown_whole L r a b (m ∷ ms) next h half = let s = region_of m in
     is_next : follows L r (region_of m) ≡ true
     is_next = follows_from L r (region_of m) (h.0 ∙ sym next) not_middle (sym h.2)
 
--- the same with one more in front
+-- mappings without a gap arrive as one region
 whole_joined : (L : ℕ) (held : Option Region) (a b : ℕ) (rights : Rights) (ms : List Mapping) → a < b → AreWhole a b rights ms → (b ≤ lower_half L) ⊎ (lower_half L ≤ a)
     → (let s = region_between a b rights in (held_after L held ms ≡ Some (held_with L held s)) × (given_after L held ms ≡ given_with L held s))
 unfolding held_after given_after
@@ -118,7 +119,7 @@ module _ {V : Type 0} (visits : V → V → List Region → Type 0) (L : ℕ) wh
         held = back.held ∙ ap (λ h. held_after L h ns) middle ∙ sym (held_after-append L a ms ns);
       }
 
-  -- the region of a mapping came, if the mapping is wanted
+  -- the region of a mapping arrives, if the mapping is wanted
   pub joins_wanted : (p : Mapping → Bool) (m : Mapping) (s : Region) → s ≡ region_of m → p m ≡ true
       → (a b : Option Region) (u v : V) → JoinsRegion visits L s a u b v → Joins visits L (filter p (m ∷ [])) a u b v
   unfolding held_after given_after
@@ -131,7 +132,7 @@ module _ {V : Type 0} (visits : V → V → List Region → Type 0) (L : ℕ) wh
       → Joins visits L (filter p (m ∷ [])) held visitor held visitor
   joins_unwanted none p m unwanted held visitor = subst (λ t. Joins visits L (cond t (m ∷ []) []) held visitor held visitor) (sym unwanted) (joins_none none held visitor)
 
-  -- the region of mappings without a gap came
+  -- the region of mappings without a gap arrives
   pub joins_whole : (a b : ℕ) (rights : Rights) (ms : List Mapping) → a < b → AreWhole a b rights ms → (b ≤ lower_half L) ⊎ (lower_half L ≤ a)
       → (s : Region) → s ≡ region_between a b rights → (h k : Option Region) (u v : V) → JoinsRegion visits L s h u k v → Joins visits L ms h u k v
   joins_whole a b rights ms some whole half s is h k u v joins =
@@ -141,7 +142,7 @@ module _ {V : Type 0} (visits : V → V → List Region → Type 0) (L : ℕ) wh
         held = joins.held ∙ ap (λ s. Some (held_with L h s)) is ∙ sym all.0;
       }
 
-  -- all came, and what was held back is handed out
+  -- all regions have arrived, and the one that is held back is handed out
   pub joins_last : ((u v w : V) (xs ys : List Region) → visits u v xs → visits v w ys → visits u w (xs ++ ys))
       → (ms : List Mapping) (after : Option Region) (u v w : V) → Joins visits L ms None u after v → visits v w (listed after) → visits u w (regions_in L ms)
   joins_last both ms after u v w joins last = subst (visits u w) (ap (λ h. given_after L None ms ++ listed h) joins.held ∙ sym (regions_joined L ms))

@@ -1,4 +1,4 @@
--- Levels that are known, and one more.
+-- The levels that are known, and one more.
 use Rattle.std.proofs.Common.{zero, suc, ◌+◌, ℕ, List, [], ◌∷◌, ◌++◌, length, slice_get}
 use Rattle.std.specs.Prelude.{IfSome}
 use Rattle.x86_64_summaries.specs.Wanted.{Asked}

@@ -1,4 +1,4 @@
--- The mappings of a table, listed from another start and below other words, are those of the table alone, placed.
+-- The mappings of a table, listed from another start and below other words, are the placed mappings of the table alone.
 use Rattle.std.proofs.Common.{zero, suc, ◌≡◌, ◌+◌, ◌*◌, ℕ, Bool, true, false, not, cond, List, [], ◌∷◌, ◌++◌, map, flat_map, Option, Some, None, refl, sym, ap, ap₂, ◌∙◌, arith}
 use Rattle.std.proofs.Math.Bool.{and_assoc}
 use Rattle.std.proofs.lemmas.List.{map-append}
@@ -51,7 +51,7 @@ page_placed s k level r e =
     λ i. page_from (start i) level r e
 
 module _ (T : Words) where
-  -- those by a word that is read
+  -- the mappings by a word that is read
   by_word : (n s k : ℕ) (r : Rights) (o : Option ℕ) → ((s : ℕ) (r : Rights) (f : ℕ) → listed_on T n s r f ≡ map (placed s r) (listed_on T n 0 every_right f))
       → list_and_then (λ e. listed_by (s + k) (suc n) r e (listed_on T n (s + k) (narrowed r e) (address e))) o
       ≡ map (placed s r) (list_and_then (λ e. listed_by (0 + k) (suc n) every_right e (listed_on T n (0 + k) (narrowed every_right e) (address e))) o)

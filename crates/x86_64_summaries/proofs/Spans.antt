@@ -1,4 +1,4 @@
--- The span of a table below the root: it is that of 512 entries, and lies in one half of the address space.
+-- The span of a table below the root consists of the spans of 512 entries, and lies in one half of the address space.
 use Rattle.std.proofs.Common.{zero, suc, ◌≡◌, ◌⊎◌, inl, inr, ⊎_elim, ◌<◌, ◌≤◌, ◌+◌, ◌-◌, ◌*◌, ◌/◌, ◌%◌, ◌^◌, ℕ, sym, ap, ◌∙◌, subst, arith}
 use Rattle.std.proofs.lemmas.Bool.{cases_lt}
 use Rattle.std.proofs.lemmas.Nat.{pow-add}
@@ -7,11 +7,11 @@ use Rattle.x86_64_model.specs.Position.{lower_half, span, position_count}
 use Rattle.x86_64_model.proofs.Lemmas.Mappings.SpanEnds.{span-next, count-next}
 use Rattle.x86_64_summaries.proofs.Visited.{aligned_below}
 
--- positions from one on to before another
+-- the positions from one up to another, which is excluded, lie in one half
 abbrev pub AreInHalf : (L from to : ℕ) → Type 0
 AreInHalf L a b = (b ≤ lower_half L) ⊎ (lower_half L ≤ a)
 
--- the middle is a multiple of the size of the span of each table below the root
+-- the middle of the address space is a multiple of the size of each span of a table below the root
 middle : (L n : ℕ) → n < L → 2 ^ (9 * (L - n) - 1) * position_count n ≡ lower_half L
 middle L n below = sym (pow-add 2 (9 * (L - n) - 1) (12 + 9 * n)) ∙ ap (λ k. 2 ^ k) (let e : 9 * (L - n) - 1 + (12 + 9 * n) ≡ 11 + 9 * L = omega (arith, below) in e)
 

@@ -1,4 +1,4 @@
--- What mappings are together, by parts.
+-- Summaries of mappings, part by part.
 use Rattle.std.proofs.Common.{◌≡◌, ◌<◌, ◌+◌, ◌-◌, ◌*◌, ◌==◌, ℕ, ◌&&◌, ◌||◌, Bool, true, false, cond, List, [], ◌∷◌, ◌++◌, length, get_or, take, map, filter, sum_by, Option, Some, None, refl, sym, ap, ◌∙◌, arith, length-append}
 use Rattle.std.specs.List.{list_all, list_any}
 use Rattle.std.proofs.Math.Dec.{eqb-suc-zero}
@@ -44,7 +44,7 @@ sum-placed s r [] = refl
 sum-placed s r (m ∷ ms) =
     sum_by-cons (λ m. m.size) (placed s r m) (map (placed s r) ms) ∙ ap (λ n. m.size + n) (sum-placed s r ms) ∙ sym (sum_by-cons (λ m. m.size) m ms)
 
--- a test of mappings that also asks for b
+-- a test of placed mappings that also requires b
 any-placed : (s : ℕ) (r : Rights) (b : Bool) (p : Mapping → Bool) → ((m : Mapping) → p (placed s r m) ≡ (b && p m)) → (ms : List Mapping) → list_any p (map (placed s r) ms) ≡ (b && list_any p ms)
 any-placed s r true p same [] = refl
 any-placed s r false p same [] = refl
@@ -111,7 +111,7 @@ of_nothing = refl
 pub of_none : (ms : List Mapping) → ms ≡ [] → no_summary ≡ summary_of ms
 of_none ms none = of_nothing ∙ ap summary_of (sym none)
 
--- none are counted
+-- if the count is 0, there are no mappings
 pub none_counted : (ms : List Mapping) (s : Summary) → s ≡ summary_of ms → (s.count == 0) ≡ true → ms ≡ []
 none_counted [] s is zero = refl
 none_counted (m ∷ ms) s is zero = absurd (true≢false (sym zero ∙ ap (λ s. s.count == 0) is ∙ not_none m ms))
@@ -133,7 +133,7 @@ of_one m r same = λ i. record {
     and_all b true e = e
     and_all b false e = e
 
--- a mapping from another start, which is wanted as well
+-- a mapping with another start is wanted exactly if the mapping is
 wanted_at : (wanted : Option ℕ) (m : Mapping) (start : ℕ) → is_wanted wanted (record m { start = start }) ≡ is_wanted wanted m
 wanted_at None m start = refl
 wanted_at (Some a) m start = refl
@@ -150,7 +150,7 @@ of_unwanted wanted m start is = let n : Mapping = record m { start = start } in
 
 -- ---- entry by entry
 
--- the summary of those by an entry that names a table
+-- the summary of the mappings by an entry that names a table
 pub of_table : (asked : Asked) (n start e f : ℕ) (r : Allowed) (s : Summary) → Table f ≡ target_of (n + 1) e → seen_rights r ≡ narrowed every_right e
     → s ≡ summary_of (asked_mappings asked n f) → lessened r s ≡ summary_of (asked_by asked (n + 1) start every_right e)
 of_table asked n start e f r s named rights is =

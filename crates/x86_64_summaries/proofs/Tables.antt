@@ -1,4 +1,5 @@
--- The mappings of a table are those of its words one after the other, where a word that names a table has the mappings of that table, placed.
+-- The mappings of a table are those by its words, one after the other. A word that names a table has the placed mappings of
+-- that table.
 use Rattle.std.proofs.Common.{zero, suc, ◌≡◌, ◌+◌, ◌-◌, ◌*◌, ◌<◌, ◌≤◌, ℕ, Bool, true, false, cond, List, [], ◌∷◌, ◌++◌, length, get_or, take, map, filter, flat_map, Option, Some, None, option_map, refl, sym, ap, ap₂, ◌∙◌, arith, append-nil, append_assoc, length-take, Bor, ◌/◌, ◌%◌}
 use Rattle.std.specs.List.{range_with_len}
 use Rattle.std.specs.Option.{option_copied}
@@ -22,7 +23,7 @@ use Rattle.x86_64_summaries.proofs.Placed.{flat_map-same, mappings_placed}
 -- ---- by the words that are read
 
 module _ (T : Words) where
-  -- those by a word
+  -- the mappings by a word
   by_leads : (n s : ℕ) (r : Rights) (e : ℕ) → listed_by s (suc n) r e (listed_on T n s (narrowed r e) (address e)) ≡ mapped_by T (suc n) s r e (target_of (suc n) e)
   by_leads n s r e = by (present e) (maps_page (suc n) e) (huge e)
     where
@@ -37,7 +38,7 @@ module _ (T : Words) where
       by true false true = refl
       by true false false = table
 
-  -- those of a frame's table, placed
+  -- the placed mappings of a frame's table
   pub mappings_read : (n s : ℕ) (r : Rights) (f : ℕ) → map (placed s r) (mappings_of (suc n) T f)
       ≡ flat_map (λ i. list_and_then (λ e. mapped_by T (suc n) (s + i * span (suc n)) r e (target_of (suc n) e)) (read T f i)) indices
   mappings_read n s r f = sym (mappings_placed T (suc n) s r f) ∙ flat_map-same _ _ (λ i. by (s + i * span (suc n)) (read T f i)) indices
@@ -47,7 +48,7 @@ module _ (T : Words) where
       by start None = refl
       by start (Some e) = by_leads n start r e
 
--- ---- the wanted ones, by the words of the table
+-- ---- the wanted mappings, by the words of the table
 
 pub filter-placed : (wanted : Option ℕ) (s : ℕ) (r : Rights) (ms : List Mapping) → filter (is_wanted wanted) (map (placed s r) ms) ≡ map (placed s r) (filter (is_wanted wanted) ms)
 filter-placed wanted s r [] = refl
@@ -81,7 +82,7 @@ module _ (asked : Asked) (level s : ℕ) (r : Rights) where
       (on_words all (i + 1) rest (λ k. ap (λ j. get_or all j 0) (let e : i + 1 + k ≡ i + suc k = omega arith in e) ∙ reads (suc k))
       ∙ ap (λ s. asked_on asked level s r rest) (next i))
 
--- where there is no table, there are none
+-- without a table there are no mappings
 none_read : (T : Words) (f : ℕ) (k : ℕ → ℕ → List Mapping) → T f ≡ None → (is : List ℕ) → flat_map (λ i. list_and_then (k i) (read T f i)) is ≡ []
 none_read T f k none [] = refl
 none_read T f k none (i ∷ is) = ap₂ (λ ms ns. ms ++ ns) (ap (λ o. list_and_then (k i) (option_map (λ words. get_or words i 0) o)) none) (none_read T f k none is)
@@ -94,7 +95,7 @@ indices_by : (n : ℕ) → n ≡ 512 → indices ≡ range_with_len 0 n
 unfolding indices
 indices_by n e = ap (range_with_len 0) (sym e)
 
--- those of a table, placed
+-- the placed wanted mappings of a table
 pub asked_table : (asked : Asked) (level s : ℕ) (r : Rights) (f : ℕ) (words : List ℕ) → 1 ≤ level → asked.words f ≡ Some words → length words ≡ 512
     → map (placed s r) (asked_mappings asked level f) ≡ asked_on asked level s r words
 asked_table asked zero s r f words low there size = absurd (omega arith)
@@ -139,7 +140,7 @@ by_table asked level s r e f is =
     ap (λ t. filter (is_wanted asked.wanted) (mapped_by asked.words level s r e t)) (sym is)
     ∙ filter-placed asked.wanted s (narrowed r e) (mappings_of (level - 1) asked.words f)
 
--- a page that is wanted, or isn't
+-- the mapping of a page, if it is wanted
 pub by_page : (asked : Asked) (level s : ℕ) (r : Rights) (e : ℕ) (m : Mapping) → Page ≡ target_of level e → m ≡ page_at s level r e → s % span level ≡ 0
     → asked_by asked level s r e ≡ cond (is_wanted asked.wanted m) (m ∷ []) []
 by_page asked level s r e m is at aligned =
@@ -148,7 +149,7 @@ by_page asked level s r e m is at aligned =
     ap (λ t. filter (is_wanted asked.wanted) (mapped_by asked.words level s r e t)) (sym is)
     ∙ ap (λ m. cond (is_wanted asked.wanted m) (m ∷ []) []) same
 
--- ---- those of a table where it stands
+-- ---- the mappings of a table that isn't moved
 
 placed_here : (ms : List Mapping) → map (placed 0 every_right) ms ≡ ms
 placed_here [] = refl
@@ -157,7 +158,7 @@ placed_here (m ∷ ms) = ap₂ (λ m ms. m ∷ ms) (ap (λ s. record m { start =
 pub asked_here : (asked : Asked) (level f : ℕ) → map (placed 0 every_right) (asked_mappings asked level f) ≡ asked_mappings asked level f
 asked_here asked level f = placed_here (asked_mappings asked level f)
 
--- ---- as they are read
+-- ---- tables as they are read
 
 pub none_copied : {X : Type 0} (o : Option (Bor X)) → ((x : Bor X) → o ≡ Some x → ⊥) → option_copied o ≡ None
 none_copied None not_some = refl

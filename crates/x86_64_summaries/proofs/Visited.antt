@@ -23,7 +23,7 @@ start_inside s i w most less inside =
 pub start_aligned : (s i w : ℕ) → s % w ≡ 0 → (s + i * w) % w ≡ 0
 start_aligned s i w aligned = add-mul-mod_self_right s i w ∙ aligned
 
--- the span of an entry is that of the table below it
+-- the span of an entry is the span of the table below it
 pub span_below : (level : ℕ) → 1 < level → span level ≡ 512 * span (level - 1)
 span_below zero low = absurd (omega arith)
 span_below (suc zero) low = absurd (omega arith)
@@ -45,7 +45,7 @@ small_page e there = ap (λ b. cond b Page Nothing) (sym there)
 pub small_nothing : (e : ℕ) → present e ≡ false → Nothing ≡ target_of 1 e
 small_nothing e absent = ap (λ b. cond b Page Nothing) (sym absent)
 
--- ---- what holds of the mappings by the entries so far, and one more
+-- ---- what holds for the mappings by the entries so far, and by one more
 
 module _ (asked : Asked) (level s : ℕ) (r : Rights) (words : List ℕ) (i : ℕ) (less : i < length words) (P : List Mapping → Type 0) where
   pub visited_more : (back : List Mapping) → asked_by asked level (s + i * span level) r (get_or words i 0) ≡ back

@@ -1,4 +1,4 @@
--- Mappings that fill a span and agree in their rights are without a gap.
+-- Mappings that fill a span and have equal rights leave no gap.
 use Rattle.std.proofs.Common.{suc, ◌≡◌, ◌≤◌, ◌+◌, ◌||◌, ℕ, Bool, true, false, cond, List, [], ◌∷◌, filter, map, inl, inr, refl, sym, ap, ◌∙◌, subst, arith}
 use Rattle.std.specs.List.{AllByRecursion, list_all, list_any, sum_by}
 use Rattle.std.proofs.lemmas.List.Sums.{sum_by-cons}
@@ -61,7 +61,7 @@ none_in f (y ∷ ys) x h (inr i) = none_in f ys x (rest (f y) (list_any f ys) h)
     rest false c h = h
 none_in f [] x h i = absurd i
 
--- where some have a right exactly if all have it, each has it exactly then
+-- if some mapping has a right exactly if all have it, each mapping has it exactly if all have it
 each_alike : (f : Mapping → Bool) (ms : List Mapping) → list_any f ms ≡ list_all f ms → (m : Mapping) → In ms m → f m ≡ list_all f ms
 each_alike f ms same m i = by (list_all f ms) refl
   where
@@ -97,7 +97,7 @@ asked_chain asked n f s r =
     let all = chain_filter (is_wanted asked.wanted) 0 (position_count n) (mappings_of n asked.words f) (mappings_chain n asked.words f) in
     subst (λ z. IsChain z (s + position_count n) (map (placed s r) (asked_mappings asked n f))) (let e : s + 0 ≡ s = omega arith in e) (placed_chain s 0 (position_count n) r (asked_mappings asked n f) all)
 
--- they fill the span if their sizes add up to it
+-- mappings fill the span if their sizes add up to its size
 pub whole_span : (asked : Asked) (n f s : ℕ) (r : Allowed) (b : Summary) → b ≡ lessened r (summary_of (asked_mappings asked n f)) → b.bytes ≡ span (n + 1) → b.some ≡ b.all
     → AreWhole s (s + position_count n) (seen_rights b.all) (map (placed s (seen_rights r)) (asked_mappings asked n f))
 unfolding summary_of

@@ -1,10 +1,10 @@
--- Summaries: what mappings are together.
+-- Summaries of mappings.
 use Rattle.std.specs.Prelude.{List, length, sum_by}
 use Rattle.std.specs.List.{list_all, list_any}
 use Rattle.x86_64_model.specs.Mappings.{Mapping}
 use Rattle.x86_64_summaries.specs.declared.summary.Summary.{Summary}
 
--- how many mappings, how many bytes they have, the rights that some of them has, and those that all have
+-- the number of mappings, their size in bytes, the rights that some of them have, and the rights that all of them have
 unfoldable pub summary_of : List Mapping → Summary
 summary_of ms = record {
   count = length ms;

@@ -1,4 +1,4 @@
-//! What entries of tables lead to.
+//! What entries of page tables lead to.
 ghost use Rattle.std.specs.Prelude.{◌≡◌, ◌<◌, ◌≤◌, true};
 ghost use Rattle.x86_64_model.specs.Mappings.{maps_page as page_mapped};
 ghost use Rattle.x86_64_summaries.specs.declared.entries.Target.TheVariants.{Page, Table};
@@ -10,7 +10,7 @@ use x86_64_page::page::Size4KiB;
 use x86_64_tables::page_table::{PageTableEntry, PageTableFlags};
 use x86_64_tables::phys_memory::has_flag;
 
-/// Says what an entry leads to.
+/// What an entry leads to.
 #[derive(Clone, Copy)]
 pub(crate) enum Target {
     /// It maps nothing.
@@ -21,7 +21,7 @@ pub(crate) enum Target {
     Table(PhysFrame<Size4KiB>),
 }
 
-/// Tells what an entry of a level leads to.
+/// Returns what an entry of a level leads to.
 #[tactic(auto, using(x86_64_model::proofs::Lemmas::Entries::Words::address_aligned))]
 pub(crate) fn target_of(level: u64, entry: &PageTableEntry) -> Target
     requires { 1 ≤ level }

@@ -1,5 +1,5 @@
-//! What the tables of a memory map, known of each table once: so tables that are shared cost by the tables, and not by the ways
-//! that lead to them.
+//! What the page tables of a memory map, computed once for each table, so that the cost of shared tables depends on the
+//! number of tables, and not on the number of paths to them.
 #![tactic(auto)]
 
 mod entries;

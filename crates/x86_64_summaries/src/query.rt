@@ -1,4 +1,4 @@
-//! What is asked of a memory.
+//! Queries: a memory, and which mappings of its tables are wanted.
 ghost use Rattle.std.specs.Prelude.{◌≡◌, ◌<◌, ◌≤◌, ◌∷◌, [], ℕ, true, filter};
 ghost use Rattle.std.specs.Option.{option_copied};
 ghost use Rattle.x86_64_model.specs.Mappings.{maps_page as page_mapped};
@@ -16,19 +16,19 @@ use x86_64_page::page::Size4KiB;
 use x86_64_tables::page_table::{PageTable, PageTableEntry};
 use x86_64_tables::phys_memory::{PageTableFrameMapping, Rights, TableMemory, table_in};
 
-/// Says what is asked of a memory: which of the mappings of its tables are wanted.
+/// A query: a memory, and which mappings of its tables are wanted.
 #[derive(Clone, Copy)]
 pub(crate) struct Query<'a, T, P> {
     /// The memory.
     pub(crate) memory: &'a T,
-    /// Says where frames lie in it.
+    /// The mapping of frames to places, the numbers under which the memory holds tables.
     pub(crate) mapping: &'a P,
-    /// The physical address that wanted mappings lead to. Without it all are wanted.
+    /// The physical address that wanted mappings lead to. If there is none, all mappings are wanted.
     pub(crate) wanted: Option<PhysAddr>,
 }
 
 impl<'a, T: TableMemory, P: PageTableFrameMapping> Query<'a, T, P> {
-    /// Gives the table in a frame, or `None` where there is none in the memory.
+    /// Returns the table in a frame, or `None` if there is none in the memory.
     pub(crate) fn table(&self, frame: PhysFrame<Size4KiB>) -> Option<&'a PageTable>
         ensures { option_copied result ≡ (asked_of T.tables P.places (asking self.now)).words frame }
     {
@@ -37,7 +37,7 @@ impl<'a, T: TableMemory, P: PageTableFrameMapping> Query<'a, T, P> {
 }
 
 impl<'a, T, P> Query<'a, T, P> {
-    /// Tells whether a mapping is wanted.
+    /// Returns true if a mapping is wanted.
     pub(crate) fn wants<L: LevelCount>(&self, mapping: &MappingIn<L>) -> bool
         ensures { result ≡ is_wanted self.now.wanted mapping.now }
     {
@@ -51,7 +51,7 @@ impl<'a, T, P> Query<'a, T, P> {
         }
     }
 
-    /// Says what the mapping is by an entry of a level that maps a page, if it is wanted.
+    /// Returns the summary of the mapping by an entry of a level that maps a page, or of no mappings if it isn't wanted.
     pub(crate) fn page_summary(&self, level: u64, entry: &PageTableEntry) -> Summary
         requires low { 1 ≤ level }
         requires page { page_mapped level entry.now ≡ true }

@@ -26,14 +26,14 @@ use x86_64_page::page::Size4KiB;
 use x86_64_tables::page_table::PageTableEntry;
 use x86_64_tables::phys_memory::{PageTableFrameMapping, Rights, TableMemory};
 
-/// Visits the regions that all wanted mappings below a root form, in order of their addresses.
+/// Visits the regions formed by all wanted mappings below a root, in order of their addresses.
 ///
-/// A table that maps nothing that is wanted is passed over if that is known, and one that maps all of its span with the same rights
-/// is taken at once, so it takes as long as the other tables do.
+/// A table that is known to map nothing wanted is skipped, and a table that is known to map its whole span with equal rights
+/// is taken at once, so the time depends only on the other tables.
 ///
 /// # Errors
 ///
-/// That of the visitor, which ends the visits.
+/// The error of the visitor, which ends the visits.
 pub fn visit_regions<
     L: LevelCount,
     T: TableMemory,
@@ -61,7 +61,8 @@ pub fn visit_regions<
     joiner.finish(visitor)
 }
 
-/// Joins the regions of a frame's table of a level, whose span starts at a position, below entries that allow so much.
+/// Joins the regions of a frame's table of a level, whose span starts at a position (the number of an address counted
+/// without the gap), below entries that allow `above`.
 #[cycle(regions)]
 fn join_table<L: LevelCount, T: TableMemory, P: PageTableFrameMapping, V: Visitor<RegionIn<L>>>(
     summaries: &Summaries<'_, T, P>,
@@ -100,7 +101,7 @@ fn join_table<L: LevelCount, T: TableMemory, P: PageTableFrameMapping, V: Visito
     Ok(())
 }
 
-/// Joins the regions of a table below the root's, by what is known of it.
+/// Joins the regions of a table below the root's, using its summary if that is known.
 #[cycle(regions)]
 fn join_below<L: LevelCount, T: TableMemory, P: PageTableFrameMapping, V: Visitor<RegionIn<L>>>(
     summaries: &Summaries<'_, T, P>,
@@ -151,7 +152,7 @@ fn join_page<L: LevelCount, T: TableMemory, P: PageTableFrameMapping, V: Visitor
     Ok(())
 }
 
-/// Gives the region of the whole span of a table of a level.
+/// Returns the region of the whole span of a table of a level.
 fn region_of_span<L: LevelCount>(level: u64, start: u64, rights: Rights) -> RegionIn<L>
     requires low { 1 ≤ level }
     requires high { level < 5 }

@@ -1,4 +1,4 @@
-//! The summaries of a memory's tables.
+//! The summaries of the tables of a memory.
 ghost use Rattle.std.specs.Prelude.{◌≡◌, ◌+◌, ◌<◌, ◌≤◌, ℕ, length, IfOk, IfSome};
 ghost use Rattle.x86_64_model.specs.private.Found.{every_right};
 ghost use Rattle.x86_64_summaries.specs.Summaries.{summary_of};
@@ -18,17 +18,18 @@ use x86_64_page::page::Size4KiB;
 use x86_64_tables::page_table::PageTableEntry;
 use x86_64_tables::phys_memory::{PageTableFrameMapping, Rights, TableMemory};
 
-/// How many levels of tables there may be.
+/// The largest number of levels of tables.
 const LEVEL_COUNT: usize = 5;
 
-/// Knows what tables of a memory map, each at the levels at which it stands: all mappings count, or those alone that lead to a
-/// physical address. So tables that are shared, or name each other in a circle, cost no more than others.
+/// Summaries of what the tables of a memory map, for each table at the levels at which it is used. All mappings count, or
+/// only those that lead to a physical address. Tables that are shared, or that name each other in a cycle, cost no more than
+/// others.
 ///
-/// A table of any level is seen as the root of a hierarchy of so many levels.
+/// A table of level `n` is treated as the root of a hierarchy of `n` levels.
 #[derive(Drop)]
 pub struct Summaries<'a, T: TableMemory, P: PageTableFrameMapping> {
     query: Query<'a, T, P>,
-    /// The summaries of the tables of level one, by their frames, those of level two, and so on.
+    /// The summaries of the tables of level one by their frames, then those of level two, and so on.
     levels: Vec<HashMap<u64, Summary>>,
 }
 
@@ -46,15 +47,15 @@ impl<'a, T: TableMemory, P: PageTableFrameMapping> Model for Summaries<'a, T, P>
 }
 
 impl<'a, T: TableMemory, P: PageTableFrameMapping> Summaries<'a, T, P> {
-    /// Finds out what tables map: `frames` are the frames of those of level one, of those of level two, and so on. Levels above
-    /// five don't count.
+    /// Computes what tables map. `frames` has the frames of the tables of level one, then of those of level two, and so on.
+    /// Levels above five are ignored.
     ///
-    /// A frame may stand at several levels. A table has no summary where one below it has a table in the memory and no summary,
-    /// or where the numbers don't fit. A frame without a table in the memory maps nothing.
+    /// A frame may occur at several levels. A table gets no summary if it names a frame that has a table in the memory but no
+    /// summary one level below, or if the numbers don't fit. A frame without a table in the memory maps nothing.
     ///
     /// # Errors
     ///
-    /// Where memory is refused.
+    /// `AllocError` if memory allocation fails.
     pub fn new(
         alloc: Global,
         memory: &'a T,
@@ -79,7 +80,7 @@ impl<'a, T: TableMemory, P: PageTableFrameMapping> Summaries<'a, T, P> {
         Ok(Summaries { query, levels })
     }
 
-    /// Gives the summary of the wanted mappings of a frame's table of a level, if it is known.
+    /// Returns the summary of the wanted mappings of a frame's table of a level, if it is known.
     pub fn of(&self, level: u64, frame: PhysFrame<Size4KiB>) -> Option<Summary>
         ensures { IfSome result (λ summary.
             summary ≡ summary_of (asked_mappings (asked_of T.tables P.places self.now) level frame)) }
@@ -89,7 +90,7 @@ impl<'a, T: TableMemory, P: PageTableFrameMapping> Summaries<'a, T, P> {
         known.get(&frame.start_address().as_u64()).copied()
     }
 
-    /// Gives what is asked.
+    /// Returns the query.
     pub(crate) fn query(&self) -> &Query<'a, T, P>
         ensures { asking result.now ≡ self.now }
     {
@@ -97,7 +98,11 @@ impl<'a, T: TableMemory, P: PageTableFrameMapping> Summaries<'a, T, P> {
     }
 }
 
-/// Summarizes the tables of a level, above levels that are known.
+/// Summarizes the tables of a level, given the summaries of the levels below.
+///
+/// # Errors
+///
+/// `AllocError` if memory allocation fails.
 fn summarize<T: TableMemory, P: PageTableFrameMapping>(
     alloc: Global,
     query: &Query<'_, T, P>,
@@ -117,7 +122,8 @@ fn summarize<T: TableMemory, P: PageTableFrameMapping>(
     Ok(level)
 }
 
-/// Summarizes a table, above levels that are known, if it is known what the tables below it map.
+/// Summarizes a table, given the summaries of the levels below. Returns `None` if the summary of a table that it names isn't
+/// known, or the numbers don't fit.
 fn table_summary<T: TableMemory, P: PageTableFrameMapping>(
     query: &Query<'_, T, P>,
     below: &[HashMap<u64, Summary>],
@@ -139,7 +145,8 @@ fn table_summary<T: TableMemory, P: PageTableFrameMapping>(
     Some(sum)
 }
 
-/// Summarizes what an entry of a table maps, above levels that are known, if it is known.
+/// Summarizes what an entry of a table maps, given the summaries of the levels below. Returns `None` if the summary of the
+/// table that it names isn't known.
 fn entry_summary<T: TableMemory, P: PageTableFrameMapping>(
     query: &Query<'_, T, P>,
     below: &[HashMap<u64, Summary>],
@@ -162,7 +169,8 @@ fn entry_summary<T: TableMemory, P: PageTableFrameMapping>(
     }
 }
 
-/// Gives the summary of a table of the highest level that is known. Where there is no table, it maps nothing.
+/// Returns the summary of a frame's table of the highest level that is known, if there is one. A frame without a table maps
+/// nothing.
 fn child_summary<T: TableMemory, P: PageTableFrameMapping>(
     query: &Query<'_, T, P>,
     known: &[HashMap<u64, Summary>],

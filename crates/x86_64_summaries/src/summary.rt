@@ -1,24 +1,24 @@
-//! What mappings are together.
+//! Summaries of mappings.
 ghost use Rattle.std.specs.Prelude.{◌≡◌, ◌+◌, IfSome};
 ghost use Rattle.x86_64_summaries.specs.private.Merged as merged;
 
 use x86_64_tables::phys_memory::Rights;
 
-/// Says what mappings are together.
+/// A summary of mappings.
 #[derive(Clone, Copy)]
 pub struct Summary {
-    /// How many there are.
+    /// The number of mappings.
     pub count: u64,
-    /// How many bytes they map.
+    /// The number of bytes that they map.
     pub bytes: u64,
-    /// The rights that some mapping has.
+    /// The rights that at least one mapping has.
     pub some: Rights,
-    /// The rights that all mappings have, which are all rights where there is no mapping.
+    /// The rights that all mappings have. These are all rights if there is no mapping.
     pub all: Rights,
 }
 
 impl Summary {
-    /// What no mappings are together.
+    /// The summary of no mappings.
     pub(crate) const NONE: Summary = Summary {
         count: 0,
         bytes: 0,
@@ -30,7 +30,7 @@ impl Summary {
         all: Rights::ALL,
     };
 
-    /// Says what one mapping is, by its size and what it allows.
+    /// Returns the summary of one mapping, by its size and what it allows.
     pub(crate) fn of_one(bytes: u64, rights: Rights) -> Summary
         ensures { result ≡ record { count = 1; bytes = bytes; some = rights; all = rights } }
     {
@@ -42,7 +42,7 @@ impl Summary {
         }
     }
 
-    /// Says what these mappings and others are together, or gives `None` if the numbers don't fit.
+    /// Returns the summary of these mappings and others together, or `None` if the numbers don't fit.
     pub(crate) fn with(self, others: Summary) -> Option<Summary>
         ensures { IfSome result (λ both. both ≡ merged.joined self others) }
     {
@@ -58,7 +58,7 @@ impl Summary {
         })
     }
 
-    /// Says what the mappings are below entries that allow so much.
+    /// Returns the summary of the mappings below entries that allow `above`.
     pub(crate) fn below(self, above: Rights) -> Summary
         ensures { result ≡ merged.lessened above self }
     {
@@ -73,7 +73,7 @@ impl Summary {
     }
 }
 
-/// Gives what both allow.
+/// Returns what both allow.
 fn common(some: Rights, others: Rights) -> Rights
     ensures { result ≡ merged.both some others }
 {

@@ -1,19 +1,19 @@
-//! Who takes items, one after the other.
+//! Visitors, which take items one after the other.
 ghost use Rattle.std.specs.Prelude.{List, [], ◌∷◌, ◌++◌, OnOk};
 
-/// Takes items, one after the other.
+/// A visitor, which takes items one after the other.
 pub trait Visitor<T> {
-    /// Why an item isn't taken.
+    /// The reason why an item isn't taken.
     type Error: Drop;
 
-    /// What a visitor is after it took items, in their order.
+    /// How a visitor changes when it takes items, in order: from the visitor before to the visitor after.
     ghost Visits: { Self → Self → List T → Type 0 };
 
     /// Takes an item.
     fn visit(&mut self, item: T) -> Result<(), Self::Error>
         ensures { OnOk result (Visits self.old self.new (item ∷ [])) };
 
-    /// A visitor that took no item is as it was.
+    /// A visitor that takes no item doesn't change.
     ghost none: { (visitor : Self) → Visits visitor visitor [] };
 
     /// Items may be taken in parts.

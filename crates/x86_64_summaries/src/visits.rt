@@ -20,11 +20,11 @@ use x86_64_tables::phys_memory::{PageTableFrameMapping, Rights, TableMemory, has
 
 /// Visits all wanted mappings below a root, in order of their starts.
 ///
-/// A table that is known to map nothing that is wanted is passed over.
+/// A table that is known to map nothing wanted is skipped.
 ///
 /// # Errors
 ///
-/// That of the visitor, which ends the visits.
+/// The error of the visitor, which ends the visits.
 pub fn visit_mappings<
     L: LevelCount,
     T: TableMemory,
@@ -41,7 +41,8 @@ pub fn visit_mappings<
     visit_table::<L, T, P, V>(summaries, L::LEVELS, root, 0, Rights::ALL, visitor)
 }
 
-/// Visits the wanted mappings of a table of a level, whose span starts at a position, below entries that allow so much.
+/// Visits the wanted mappings of a table of a level, whose span starts at a position (the number of an address counted
+/// without the gap), below entries that allow `above`.
 fn visit_table<L: LevelCount, T: TableMemory, P: PageTableFrameMapping, V: Visitor<MappingIn<L>>>(
     summaries: &Summaries<'_, T, P>,
     level: u64,
@@ -95,7 +96,7 @@ fn visit_table<L: LevelCount, T: TableMemory, P: PageTableFrameMapping, V: Visit
     Ok(())
 }
 
-/// Tells whether it is known that a table maps nothing that is wanted.
+/// Returns true if a table is known to map nothing wanted.
 fn maps_nothing<T: TableMemory, P: PageTableFrameMapping>(
     summaries: &Summaries<'_, T, P>,
     level: u64,
@@ -110,8 +111,8 @@ fn maps_nothing<T: TableMemory, P: PageTableFrameMapping>(
     }
 }
 
-/// Visits the wanted mappings by the entries of a table of level one, whose span starts at a position, below entries that allow so
-/// much.
+/// Visits the wanted mappings by the entries of a table of level one, whose span starts at a position, below entries that
+/// allow `above`.
 fn visit_small_pages<
     L: LevelCount,
     T: TableMemory,

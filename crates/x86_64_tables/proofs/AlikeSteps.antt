@@ -1,4 +1,4 @@
--- Hierarchies that are alike, table by table.
+-- Alike hierarchies, compared table by table.
 use Rattle.std.proofs.Common.{◌≡◌, ◌⊎◌, ◌↔◌, inl, inr, ⊎_elim, ◌<◌, ◌≤◌, ◌-◌, ℕ, zero, suc, Bool, true, false, cond, List, [], ◌∷◌, length, Option, Some, None, is_some, refl, sym, ap, ◌∙◌, subst, arith}
 use Rattle.x86_64_model.specs.Alike.{Alike, AlikeTables, without_writable}
 use Rattle.x86_64_model.specs.Entry.{address, names_table}
@@ -30,7 +30,7 @@ same L q e f leaf = ⊎_elim (λ same. same) (λ r. absurd (⊎_elim
 other_names : (L : ℕ) (q : List ℕ) (e f : ℕ) → names_table e ≡ true → AlikeEntries L q e f → names_table f ≡ true
 other_names L q e f names = ⊎_elim (λ same. ap names_table (sym same) ∙ names) (λ r. r.1.other_names)
 
--- one table further up, and down
+-- alike entries at a path with one index more in front, and with one less
 further : (L i : ℕ) (q : List ℕ) (e f : ℕ) → AlikeEntries L q e f → AlikeEntries (suc L) (i ∷ q) e f
 further L i q e f = ⊎_elim (λ same. inl same) (λ r. let l = r.0 in inr (omega (arith, l), r.1))
 
@@ -62,7 +62,7 @@ module _ (T : Words) (f : ℕ) (U : Words) (g : ℕ) where
           (λ r. (each i r.1.0).at p)
           (read_or_in (suc n) T f i p)
 
-  -- the words at the index name no tables, or are of level one
+  -- the case of words at the index that name no tables, or are of level one
   pub leaves : (n i : ℕ) → (n ≤ 0) ⊎ (None ≡ below_word (word T f i)) → word T f i ≡ word U g i → AlikeIndex n i
   leaves n i leaf e = record { at = at }
     where
@@ -81,7 +81,7 @@ module _ (T : Words) (f : ℕ) (U : Words) (g : ℕ) where
       at [] = inl e
       at (j ∷ p) = inl (nothing n T (word T f i) j p leaf ∙ sym (nothing n U (word U g i) j p (subst (λ w. (n ≤ 0) ⊎ (None ≡ below_word w)) e leaf)))
 
-  -- they name tables
+  -- the case of words that name tables
   tables_from : (n i : ℕ) → names_table (word T f i) ≡ true → names_table (word U g i) ≡ true
       → without_writable (word T f i) ≡ without_writable (word U g i)
       → AlikeFrom n T (address (word T f i)) U (address (word U g i)) → AlikeIndex (suc n) i
@@ -123,7 +123,7 @@ module _ (T : Words) (f : ℕ) (U : Words) (g : ℕ) where
       tables_from n i (is_named w a is) (is_named v b other) else (subst (λ n. AlikeFrom n T (address w) U (address v)) e
       (subst (λ a. AlikeFrom (suc n - 1) T a U (address v)) (named_at w a is) (subst (λ b. AlikeFrom (suc n - 1) T a U b) (named_at v b other) below)))
 
-  -- ---- what is alike from the tables is so at each index
+  -- ---- tables that are alike are alike at each index
 
   pub below : (n i a b : ℕ) → 0 < n → Some a ≡ below_word (word T f i) → Some b ≡ below_word (word U g i)
       → AlikeFrom n T f U g → AlikeFrom (n - 1) T a U b
@@ -166,7 +166,7 @@ module _ (L : ℕ) (T : Words) (root : ℕ) (U : Words) (other_root : ℕ) where
   alike_read alike q = entries L q (entry (paths_of L T root) q) (entry (paths_of L U other_root) q) (read_at L T root q) (read_at L U other_root q)
       (entry_paths_of L T root q) (entry_paths_of L U other_root q) (alike q)
 
--- hierarchies are alike from their roots exactly where the path maps that are seen are
+-- hierarchies are alike from their roots exactly if the path maps that are read are alike
 module _ (memory other_memory : Memory) (places other_places : Places) (root other_root : ℕ) (index other_index : Option ℕ) (levels : ℕ) where
   abbrev words : Words
   words = words_of memory (places_for (is_some index) places)

@@ -1,4 +1,5 @@
--- A table behind the slice that a memory holds is lent for all the time that the memory's reference has left, and the memory follows the table. Assumes `Logic`.
+-- A table of the slice that a memory holds is lent for the lifetime of the reference to the memory, and the memory changes
+-- with the table. Assumes `Logic`.
 use Rattle.std.proofs.Common.{◌≡◌, ◌<◌, ◌+◌, ◌*◌, ◌^◌, ℕ, List, [], ◌∷◌, Some, None, length, refl, sym, subst}
 use lib.ListN.{get_or, set, length-map}
 use seplogic.Ra.Ura.{Ura}
@@ -45,7 +46,7 @@ module _ {M : Type 1} {𝓤 : Ura M} {K : Type 0} {𝓛 : Logic 𝓤} {Γ : List
 abbrev pub Y : RattleType
 Y = table.the_row
 
--- a slice's reference as the code's places have its type, with its lifetime erased
+-- the type of a reference to a slice as the places of the code have it, with its lifetime erased
 abbrev pub slice_there : Ty
 slice_there = slice_ty (ty_ref erased mut (pointee Y.written))
 
@@ -85,11 +86,11 @@ module _ {M : Type 1} {𝓤 : Ura M} (𝓛 : Logic 𝓤) (R : RattleType) (κ : 
       rewrite ! 1 (λ (l : List R.Denot). ‵ (follows (Array R 0) R γ γ' (set l i))) (heres_id R xs) refl $
       now ! $ show ! (Element xs i p (get_or xs i dv)) γ' $ move ! (2 ∷ []) $ done !)
 
--- the slice of a memory's field lends a table, and the memory follows it
+-- the slice in a memory's field lends a table, and the memory changes with it
 module _ {M : Type 1} {𝓤 : Ura M} (𝓛 : Logic 𝓤) (N : NamedLft) (κ : Lft) (q : Share) (b o : ℕ) (γ γ₁ : GName) (d : LentMemory) (i : ℕ) where
   open 𝓛 use {H, A}
 
-  -- where the table lies
+  -- the index of the table
   abbrev pub spot : ℕ
   spot = i * (mem Y).size + d.slice.ref_ptr.1
 
@@ -114,12 +115,12 @@ module _ {M : Type 1} {𝓤 : Ura M} (𝓛 : Logic 𝓤) (N : NamedLft) (κ : Lf
       (lends_inner_slice 𝓛 Y erased N.mir κ N.lft (record { ref_ptr = (b, o); ghost_name = γ₁; now = x }) inc (fits, small) q) $ await ! tt $ pick ! (λ γ₂. split3 ! $
       use2 𝓛 (later (some (λ (δ : GName). ‵ ((MutRef erased κ Y).own_val (table_ref δ) (vptr x.ref_ptr.0 spot ∷ [])) ⊛ ‵ (flft κ q) ⊛ ‵ (follows (Array Y 0) Y γ₂ δ (set xs i)))))
       (lends_element 𝓛 Y κ q x.ref_ptr.0 x.ref_ptr.1 γ₂ xs i spot [] (mut_slice_vals x) (at_mul x.ref_ptr.1 (mem Y).size i) lt) $ await ! tt $ pick ! (λ δ. split3 ! $
-      -- [the table's reference; the token; how the list follows, the field and the memory]
+      -- [the table's reference; the token; how the list, the field and the memory change]
       move ! (3 ∷ 2 ∷ []) $ use2 𝓛 (‵ (follows (F N) Y γ₁ δ (λ w. at_last x (set xs i w)))) (follows_then 𝓛 (F N) (Array Y 0) Y (at_last x) (set xs i) γ₁ γ₂ δ) $
       move ! (3 ∷ 0 ∷ []) $ use2 𝓛 (‵ (follows (S N) Y γ δ put_table)) (follows_then 𝓛 (S N) (F N) Y put (λ w. at_last x (set xs i w)) γ γ₁ δ) $
       now ! $ show ! Table δ $ move ! (1 ∷ 2 ∷ 0 ∷ []) $ done !))
 
--- ---- an `Option` of one machine value, made
+-- ---- constructing an `Option` of one machine value
 module _ {M : Type 1} {𝓤 : Ura M} (𝓛 : Logic 𝓤) (R : RattleType) where
   pub some_of : (x : R.Denot) (v : Val) → ent 𝓤 (sem 𝓛 (R.own_val x (v ∷ []))) (sem 𝓛 ((Op.the_row R).own_val (Some x) (live 1 (of_list (v ∷ [])) ∷ [])))
   some_of x v =

@@ -1,4 +1,4 @@
--- The tables of a slice, each at the place of its index.
+-- The tables of a slice, each at the place with its index.
 use Rattle.std.proofs.Common.{◌≡◌, ◌<◌, ◌≤◌, ◌+◌, ℕ, List, [], length, slice_get, slice_set, Some, None, IsSome, is_some, inl, inr, refl, sym, ap, ◌∙◌, arith}
 use Rattle.std.proofs.lemmas.Bool.{cases_lt, false≢true}
 use Rattle.std.proofs.lemmas.List.{length-set}
@@ -25,11 +25,11 @@ module _ (ts : List (List ℕ)) where
   pub len-numbered : len (numbered ts) ≡ length ts
   len-numbered = sym (length_keys (numbered ts)) ∙ ap length keys-numbered ∙ sym same
 
-  -- a slice is the tables of its memory, in their order
+  -- a slice consists of the tables of its memory, in order
   pub in_order-numbered : tables_in_order (numbered ts) ≡ ts
   in_order-numbered = values-tables numbers ts (range_rises (length ts)) same
 
-  -- a number below the length is a place, and stands where it says
+  -- a number below the length is a place, and is its own index
   pub stands : (q : ℕ) → q < length ts → Some q ≡ position (eq_by_cmp nat_cmp q) numbers
   stands q near =
       let at = get_or-range_with_len 0 (length ts) q 0 near in
@@ -69,7 +69,7 @@ module _ (ts : List (List ℕ)) where
       ap (λ n. tables_at (range_with_len 0 n) (slice_set ts q t)) (length-set ts q t)
       ∙ changed numbers ts (numbered ts) same refl q q t (sym (stands q near))
 
--- a place stays there when a table of the slice is set
+-- the memory keeps its places when a table of the slice is set
 pub stays-set : (ts : List (List ℕ)) (q : ℕ) (t : List ℕ) (r : ℕ) → IsSome (get (numbered ts) r) → IsSome (get (numbered (slice_set ts q t)) r)
 stays-set ts q t r has =
     let n = length-set ts q t in let near = there_below ts r has in

@@ -1,11 +1,11 @@
--- What the tests of an entry's flags say of its frame.
+-- Tests of an entry's flags, and the frame that the entry names.
 use Rattle.std.proofs.Common.{◌≡◌, ℕ, true, false, ◌==◌, bit_and, Ok, Err, refl, sym, ap, ◌∙◌}
 use Rattle.x86_64_model.specs.Entry.{has, flags, address}
 use Rattle.x86_64_tables.specs.declared.page_table.entry.FrameError.TheVariants.{FrameNotPresent, HugeFrame}
 use Rattle.x86_64_tables.specs.PageTableEntry.{frame_of}
 use Rattle.x86_64_model.proofs.Lemmas.Entries.Bits.{has_flags}
 
--- a test of a word's flags is the test of the word
+-- testing the flags of a word tests the word
 pub tested : (w f mask : ℕ) → f ≡ flags w → bit_and 0xfff0_0000_0000_0fff mask ≡ mask → has w mask ≡ (bit_and f mask == mask)
 unfolding has
 tested w f mask is known = sym (has_flags w mask known) ∙ ap (λ n. bit_and n mask == mask) (sym is)

@@ -23,7 +23,7 @@ use Rattle.x86_64_tables.specs.PhysMemory.{tables_at, zero_tables_at}
 same_place : (x y : ℕ) → x ≡ y → eq_by_cmp nat_cmp x y ≡ true
 same_place x y e = unsigned_tied x y ∙ eq-eqb x y e
 
--- how many places come before one, or the number of places where it is none of them
+-- the number of places before a place, or the number of all places if it isn't one of them
 abbrev pub rank : List ℕ → (place : ℕ) → ℕ
 rank ps q = position_or_len (eq_by_cmp nat_cmp q) ps
 
@@ -53,11 +53,11 @@ get_set_other (t ∷ ts) zero (suc q) w n = refl
 get_set_other (t ∷ ts) (suc i) zero w n = refl
 get_set_other (t ∷ ts) (suc i) (suc q) w n = get_set_other ts i q w (λ e. n (ap suc e))
 
--- the place of a rank
+-- the place with a rank
 at_rank : (ps : List ℕ) (q : ℕ) → rank ps q < length ps → q ≡ get_or ps (rank ps q) 0
 at_rank ps q h = nat_cmp-IsAntisymmetric q _ ((Equal-is _).0 (passes_at_first (eq_by_cmp nat_cmp q) ps 0 h))
 
--- places of one rank are one place
+-- places of equal rank are equal
 same_rank : (ps : List ℕ) (q r : ℕ) → rank ps q < length ps → rank ps r ≡ rank ps q → r ≡ q
 same_rank ps q r h e =
     let l : rank ps r < length ps = omega (arith, e, h) in
@@ -81,7 +81,7 @@ tables-set ps ts q w n h =
     ∙ get-set ps ts q r w n h
     ∙ sym (get-insert nat_cmp_total (tables_at ps ts) q w r ∙ ap (cond (eq_by_cmp nat_cmp r q) (Some w)) (get-tables ps ts r n)))
 
--- the rank of a place that is found, and of one that isn't
+-- the rank of a place that is found, and of a place that isn't
 has_rank : (ps : List ℕ) (q i : ℕ) → position (eq_by_cmp nat_cmp q) ps ≡ Some i → (rank ps q < length ps) × (rank ps q ≡ i)
 has_rank ps q i e = elim (cases_lt (rank ps q) (length ps)) [
   | inl below ↦ (below, ap (λ o. unwrap_or o 0) (ap (λ b. cond b (Some (rank ps q)) None) (sym (lt-ltb _ _ below)) ∙ e))
@@ -106,11 +106,11 @@ module _ (ps : List ℕ) (ts : List (List ℕ)) (m : Memory) (same : length ts �
   pub within : (i : ℕ) → position (eq_by_cmp nat_cmp q) ps ≡ Some i → i < length ts
   within i e = let found = has_rank ps q i e in omega (arith, found.0, found.1, same)
 
-  -- the element that indexing gives is the table at the place
+  -- the element that indexing returns is the table at the place
   pub read : (i : ℕ) (table : List ℕ) → position (eq_by_cmp nat_cmp q) ps ≡ Some i → table ≡ get_or ts i table → get m q ≡ Some table
   read i table e at = sym (there i e) ∙ slice_get_read ts (length ts) i table refl (within i e) at
 
-  -- a table that is changed is inserted at its place
+  -- changing a table inserts it at its place
   pub changed : (i : ℕ) (w : List ℕ) → position (eq_by_cmp nat_cmp q) ps ≡ Some i → tables_at ps (slice_set ts i w) ≡ insert m q w
   changed i w e =
       let found = has_rank ps q i e in
@@ -121,19 +121,19 @@ module _ (ps : List ℕ) (ts : List (List ℕ)) (m : Memory) (same : length ts �
   found_there has None e = absurd (false≢true (ap is_some (gone (sym e)) ∙ has))
   found_there has (Some i) e = refl
 
--- two accounts of what is lent agree where a part is lent
+-- two descriptions of what is lent agree if they agree when something is lent
 pub lends_alike : {D E T : Type 0} (r : Option (MutBor T)) {F G : E → D} {v u : D}
     → v ≡ u → (IsSome r → (w : E) → F w ≡ G w) → read_of (ghost_name_of r) F v ≡ read_of (ghost_name_of r) G u
 lends_alike None e h = ap inr e
 lends_alike (Some x) e h = ap (λ f. inl (x.ghost_name, f)) (λ i w. h refl w i)
 
--- the element that `get` gives is that of the list
+-- the element that `get` returns is the element of the list
 pub copied_is_element : (r : Option (Bor (List ℕ))) (ts : List (List ℕ)) (i : ℕ)
     → is_some r ≡ nat_lt i (length ts) → IfSome r (λ x. x.now ≡ get_or ts i x.now) → option_copied r ≡ slice_get ts i
 copied_is_element None ts i there value = sym (slice_get_past ts i (grind (arith, there)))
 copied_is_element (Some x) ts i there value = ap Some value ∙ sym (slice_get-get_or ts i x.now (grind (arith, there)))
 
--- the element that `get_mut` lends is that of the list
+-- the element that `get_mut` lends is the element of the list
 pub lent_is_element : (r : Option (MutBor (List ℕ))) (ts : List (List ℕ)) (i : ℕ)
     → (IsSome r → i < length ts) → (i < length ts → IsSome r) → IfSome r (λ x. x.now ≡ get_or ts i x.now)
     → option_copied_mut r ≡ slice_get ts i
@@ -141,7 +141,7 @@ lent_is_element None ts i there lent value =
     sym (slice_get_past ts i (elim (cases_lt i (length ts)) [ inl below ↦ absurd (false≢true (lent below)) | inr past ↦ past ]))
 lent_is_element (Some x) ts i there lent value = ap Some value ∙ sym (slice_get-get_or ts i x.now (there refl))
 
--- a memory where all words are 0
+-- the tables of a memory whose words are all 0
 pub get-zero_tables : (ps : List ℕ) (q : ℕ)
     → get (zero_tables_at ps) q ≡ (if list_any (λ p. q == p) ps then Some zero_words else None)
 get-zero_tables [] q = get-empty nat_cmp q
@@ -178,7 +178,7 @@ range_rises n k h =
     let high = get_or-range_with_len 0 n (k + 1) 0 (omega (arith, long, h)) in
     omega (arith, low, high)
 
--- a memory of the places 0 to n - 1
+-- the tables of a memory with the places 0 to n - 1 and all words 0
 pub get-zero_range : (n q : ℕ) → get (zero_tables_at (range_with_len 0 n)) q ≡ (if nat_lt q n then Some zero_words else None)
 get-zero_range n q = get-zero_tables (range_with_len 0 n) q ∙ ap (λ b. if b then Some zero_words else None) (any_of_range 0 n q ∙ from_zero)
   where

@@ -1,4 +1,4 @@
--- The places of a memory, in their order, and where a search finds one.
+-- The places of a memory in order, and the index at which a search finds one.
 use Rattle.std.proofs.Common.{◌≡◌, ◌≢◌, ◌<◌, ◌≤◌, ◌+◌, ◌-◌, ◌%◌, ◌^◌, ◌&&◌, nat_lt, ℕ, Bool, true, false, cond, List, [], ◌∷◌, length, get_or, slice_get, map, Some, None, IsSome, is_some, Result, Ok, Err, ◌⊎◌, inl, inr, Less, refl, sym, ap, ap₂, subst, ◌∙◌, arith, lt-ltb, le-ltb}
 use Rattle.std.proofs.lemmas.Bool.{cases_lt, false≢true}
 use Rattle.std.proofs.lemmas.List.Kept.{AllPairs-from_increasing}
@@ -67,7 +67,7 @@ module _ (ps : List ℕ) (ts : List (List ℕ)) (up : IsStrictlyIncreasing ps) w
   is_in_order =
       same_map nat_cmp_total nat_cmp-IsAntisymmetric _ _ (λ q. find_pairs ps ts q ∙ sym (get-from_sorted nat_cmp (pairs ps ts) q in_order))
 
-  -- the places are the keys, in their order
+  -- the places are the keys, in order
   pub keys-tables : length ts ≡ length ps → keys (tables_at ps ts) ≡ ps
   keys-tables n =
       ap keys is_in_order ∙ ap (λ es. map (λ e. e.0) es) (entries-from_sorted nat_cmp (pairs ps ts) in_order) ∙ keys_pairs ps ts n
@@ -79,7 +79,7 @@ module _ (ps : List ℕ) (ts : List (List ℕ)) (up : IsStrictlyIncreasing ps) w
       ∙ ap (λ es. map (λ e. e.1) es) (entries-from_sorted nat_cmp (pairs ps ts) in_order) ∙ tables_pairs ps ts n
 
 module _ (ps : List ℕ) (q : ℕ) where
-  -- a place that stands at an index is found there
+  -- a place is found at its index
   pub position_there : IsStrictlyIncreasing ps → (i : ℕ) → i < length ps → get_or ps i 0 ≡ q
       → Some i ≡ position (eq_by_cmp nat_cmp q) ps
   position_there up i l is =
@@ -89,7 +89,7 @@ module _ (ps : List ℕ) (q : ℕ) where
       (λ h. ap (eq_by_cmp nat_cmp q) is ∙ same_key q) in
       sym (ap (λ n. cond (nat_lt n (length ps)) (Some n) None) first ∙ ap (λ b. cond b (Some i) None) (lt-ltb i (length ps) l))
 
-  -- a place that stands at no index isn't found
+  -- a place without an index isn't found
   pub position_gone : ((k : ℕ) → k < length ps → get_or ps k 0 ≢ q) → None ≡ position (eq_by_cmp nat_cmp q) ps
   position_gone apart =
       let n = length ps in
@@ -103,7 +103,7 @@ ordered ps up i j h l = elim (cases_lt i j) [
   | inr same ↦ (let e : i ≡ j = omega (arith, h, same) in let f = ap (λ k. get_or ps k 0) e in omega (arith, f))
 ]
 
--- what halving finds is where the place stands
+-- binary search finds the index of a place
 pub position_searched : (ps : List ℕ) (q : ℕ) (r : Result ℕ ℕ) → IsStrictlyIncreasing ps
     → IsBinarySearchResult (λ y. nat_cmp y q) ps r → result_ok r ≡ position (eq_by_cmp nat_cmp q) ps
 position_searched ps q (Ok i) up found =
@@ -116,7 +116,7 @@ position_searched ps q (Err i) up found =
       | inr after ↦ (let more = split.2 k after l in omega (arith, more, e))
     ])
 
--- where the places are the numbers from 0 on, each stands where its number says
+-- if the places are the numbers from 0 on, each is its own index
 module _ (ps : List ℕ) (q : ℕ) (up : IsStrictlyIncreasing ps) (all : HasRun ps 0 (length ps)) where
   pub position_dense : q < length ps → Some q ≡ position (eq_by_cmp nat_cmp q) ps
   position_dense near = position_there ps q up q near (let is = all.follow q near in omega (arith, is))
@@ -147,7 +147,7 @@ module _ (ps : List ℕ) (ts : List (List ℕ)) (m : Memory) (same : length ts �
     | inr past ↦ slice_get_past ts q past ∙ gone ps ts m same is q (sym (position_past ps q up dense (omega (arith, past, same))))
   ]
 
--- a place in the run stands where its distance from the first says
+-- the index of a place in the run is its distance from the first
 pub position_in_run : (ps : List ℕ) (first run q : ℕ) → IsStrictlyIncreasing ps → HasRun ps first run → q < 2 ^ 64
     → (q + (2 ^ 64 - first)) % 2 ^ 64 < run → Some ((q + (2 ^ 64 - first)) % 2 ^ 64) ≡ position (eq_by_cmp nat_cmp q) ps
 position_in_run ps first run q up has small near =

@@ -1,4 +1,4 @@
--- Frames with marks for their numbers: there is room for one more, and what it changes.
+-- Frames with marks for their numbers: there is room for one more, and adding it changes the marks.
 use Rattle.std.proofs.Common.{◌≡◌, inl, inr, ⊎_elim, ℕ, ◌*◌, ◌/◌, ◌%◌, ◌<◌, ◌≤◌, eqb, if◌then◌else◌, Bool, true, false, List, [], ◌∷◌, ◌++◌, map, length, slice_set, sym, subst, ◌∙◌, arith}
 use Rattle.std.proofs.lemmas.Bool.{ne_eqb}
 use Rattle.std.proofs.lemmas.Bool.Decides.{eqb_tells}
@@ -30,7 +30,7 @@ found_in q (x ∷ xs) h = elim (eqb_tells q x) [
   | inr other ↦ inr (found_in q xs (cc))
 ]
 
--- frames that are each there once, with numbers below the limit, are at most so many
+-- there are at most `limit` distinct frames with numbers below the limit
 at_most : (frames : List ℕ) (limit : ℕ) → EachOnce frames → ((f : ℕ) → In frames f → f % 4096 ≡ 0) → ((f : ℕ) → In frames f → f / 4096 < limit) → length frames ≤ limit
 at_most frames limit once aligned below =
     let number : ℕ → ℕ = λ f. f / 4096 in
@@ -42,7 +42,7 @@ at_most frames limit once aligned below =
 below_limit : (limit f : ℕ) → serves_below limit f ≡ true → f / 4096 < limit
 below_limit limit f h = grind (arith, h)
 
--- one that is served and not among them has room
+-- there is room for a frame that is served and not among them
 pub room : (frames : List ℕ) (marks : List Bool) (limit f : ℕ) → IsMarked frames marks → ((g : ℕ) → In frames g → serves_below limit g ≡ true)
     → (In frames f → ⊥) → f % 4096 ≡ 0 → serves_below limit f ≡ true → length frames < limit
 room frames marks limit f all served out multiple fits =
@@ -53,7 +53,7 @@ room frames marks limit f all served out multiple fits =
 
 -- ---- one more at the back
 
--- where it could be added, or else nothing changed
+-- all frames are served, whether one was added or nothing changed
 pub served_back : (frames : List ℕ) (limit f : ℕ) (b : Bool) (after : List ℕ) → ((g : ℕ) → In frames g → serves_below limit g ≡ true) → serves_below limit f ≡ true
     → after ≡ (if b then frames ++ f ∷ [] else frames) → (g : ℕ) → In after g → serves_below limit g ≡ true
 served_back frames limit f true after served fits e g h =

@@ -1,4 +1,4 @@
--- The tables and free frames of a hierarchy are sound exactly if the tests of it pass.
+-- The tables and free frames of a hierarchy are sound exactly if its tests pass.
 use Rattle.std.proofs.Common.{◌↔◌, suc, ℕ, Option, Some, None}
 use Rattle.x86_64_model.specs.Pool.{serves_below}
 use Rattle.x86_64_model.specs.Memory.{Memory, Places, IsMapping, words_of}

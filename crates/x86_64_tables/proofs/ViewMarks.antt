@@ -1,4 +1,4 @@
--- What the marks of an view tell: whether its tables and the frames of a pool are sound.
+-- The marks of a view show whether its tables and the frames of a pool are sound.
 use Rattle.std.proofs.Common.{◌≡◌, ◌↔◌, ◌<◌, ℕ, Bool, true, false, cond, List, length, get_or, Option, Some, None, IsTrue}
 use Rattle.std.specs.FinMap.{keys}
 use Rattle.x86_64_model.specs.Memory.{Memory, Places, IsMapping, Words, words_of}

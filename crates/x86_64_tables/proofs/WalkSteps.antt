@@ -1,4 +1,4 @@
--- The walk by one level, for code that has the level as a number.
+-- One level of the page walk, for code that has the level as a number.
 use Rattle.std.proofs.Common.{inl, inr, ◌⊎◌, zero, suc, ⊎_elim, ◌≡◌, ◌<◌, ◌≤◌, ◌+◌, ◌-◌, ◌%◌, ◌^◌, ℕ, ◌&&◌, Bool, true, false, cond, Some, None, Option, option_and_then, nat_le, refl, sym, ap, ◌∙◌, arith}
 use Rattle.std.proofs.lemmas.Bool.{cases_lt}
 use Rattle.x86_64_model.specs.Entry.{present, writable, user, huge, address}
@@ -8,17 +8,17 @@ use Rattle.x86_64_model.specs.PageWalk.{page_start, Walked, arrives, read, walk_
 use Rattle.x86_64_model.proofs.Lemmas.Entries.Words.{address_aligned, address_within}
 use Rattle.x86_64_tables.specs.Walks.{ends}
 
--- what a word of level one says of the walk
+-- where the walk arrives by a word of level one
 abbrev pub said_last : (p : ℕ) → (w u : Bool) → ℕ → Option Walked
 said_last p w u e = cond (present e) (arrives (address e + p % span 1) (w && writable e) (u && user e)) None
 
--- what a present word above level one says of it, by its bit 7
+-- where the walk arrives by a present word above level one, by its bit 7
 abbrev pub said_present : Words → (p level : ℕ) → (w u : Bool) → ℕ → Bool → Option Walked
 said_present T p level w u e h = cond h
     (cond (nat_le level 3) (arrives (page_start level e + p % span level) (w && writable e) (u && user e)) None)
     (walk_on T p (level - 1) (w && writable e) (u && user e) (address e))
 
--- what a word above level one says of it
+-- where the walk arrives by a word above level one
 abbrev pub said : Words → (p level : ℕ) → (w u : Bool) → ℕ → Option Walked
 said T p level w u e = cond (present e) (said_present T p level w u e (huge e)) None
 
@@ -36,7 +36,7 @@ walk_on_more T p (suc (suc n)) w u f l = let less : suc n ≡ suc (suc n) - 1 = 
     (cond (huge e) (cond (nat_le (suc (suc n)) 3) (arrives (page_start (suc (suc n)) e + p % span (suc (suc n))) (w && writable e) (u && user e)) None)
     (walk_on T p k (w && writable e) (u && user e) (address e))) None) (read T f (index (suc (suc n)) p))) less
 
--- ---- by what is read
+-- ---- by the word that is read
 
 pub on_none : (T : Words) (p level : ℕ) (w u : Bool) (f : ℕ) → 1 ≤ level → None ≡ read T f (index level p) → None ≡ walk_on T p level w u f
 unfolding walk_on
@@ -86,7 +86,7 @@ module _ (T : Words) (p level : ℕ) (w u : Bool) (f e : ℕ) (is : Some e ≡ r
   on_end low here (inl last) = on_last last here
   on_end low here (inr large) = ⊎_elim (λ more. on_huge more here large) (λ less. on_last (omega (arith, low, less)) here) (cases_lt 1 level)
 
--- a page below 2^52 ends below it
+-- an address in a page lies below 2^52
 pub arrives_within : (e p level : ℕ) → 1 ≤ level → level ≤ 3 → page_start level e + p % span level < 2 ^ 52
 arrives_within e p zero low high = absurd (omega arith)
 arrives_within e p (suc zero) low high = omega (arith, address_within e)

@@ -20,7 +20,7 @@ word-read T f i small = by (T f) ∙ sym (ap (λ b. cond b (word_in (T f) i) 0) 
     by None = refl
     by (Some words) = refl
 
--- the words with one read as 0
+-- the words, with one of them read as 0
 pub word-without_same : (r root : ℕ) (T : Words) (f i : ℕ) → f ≡ root → i ≡ r → 0 ≡ word (without_word (Some r) root T) f i
 word-without_same r root T f i e d = sym (ap₂ (λ f i. word (set_word T root r 0) f i) e d ∙ word_unset T root r)
 
@@ -59,7 +59,7 @@ is_not_named w = by (names_table w)
     by true h = absurd (let t : None ≡ Some (address w) = h in cc)
     by false h = refl
 
--- the word 0 names no frame as present
+-- the word 0 names no frame, since it isn't present
 pub zero_names_no_frame : (f : ℕ) → false ≡ names_frame 0 f
 unfolding has
 zero_names_no_frame f = refl

@@ -1,4 +1,4 @@
--- A memory that was lent, whose tables are reached where walks arrive.
+-- A borrowed memory, whose tables are accessed where page walks arrive.
 use Rattle.std.specs.Prelude.{◌≡◌, ◌==◌, ◌%◌, ◌/◌, ◌-◌, ◌^◌, ℕ, Bool, true, false, cond, List, [], Option, Some, None, option_and_then, unwrap_or}
 use Rattle.std.specs.Borrow.{LendsIf, RestsIfNone, MutBor, Fml, GName, RattleType}
 use mir.Syntax.{named}
@@ -14,23 +14,23 @@ use Rattle.x86_64_tables.specs.contracts.page_table.table.PageTable.{the_row as 
 abbrev pub lent : {L T : Type 0} → Active L T → GName
 lent active = active.memory.ghost_name
 
--- the memory as it is
+-- the memory now
 abbrev pub memory_of : {L T : Type 0} → Active L T → T
 memory_of active = active.memory.now
 
--- the table in each frame, which lies at the place of its number
+-- the table in each frame, which lies at the place with its number
 abbrev pub words_in : {L T : Type 0} → (tables : T → Memory) → Active L T → Words
 words_in tables active = words_of (tables (memory_of active)) identity_places
 
--- the frame in CR3, of which the start is kept
+-- the frame in CR3, by its start
 abbrev pub cr3_of : {L T : Type 0} → Active L T → ℕ
 cr3_of active = let start = active.cr3 % 2 ^ 52 in start - start % 4096
 
--- the frame that starts where a walk arrives
+-- the frame that starts where a walk arrives, none if the address isn't a multiple of 4096
 abbrev pub frame_at : Walked → Option ℕ
 frame_at w = cond (w.address % 4096 == 0) (Some w.address) None
 
--- the frame that starts where the walk of a position down so many levels from the root arrives
+-- the frame that starts where the walk of a position through the levels from the root arrives
 abbrev pub walked_frame : (levels : ℕ) → Words → (root position : ℕ) → Option ℕ
 walked_frame levels T root p = option_and_then frame_at (page_walk levels T root p)
 
@@ -38,23 +38,23 @@ walked_frame levels T root p = option_and_then frame_at (page_walk levels T root
 abbrev pub walked_table : (levels : ℕ) → Words → (root position : ℕ) → Option (List ℕ)
 walked_table levels T root p = option_and_then T (walked_frame levels T root p)
 
--- the same with another table in a frame, by what puts a table at a place
+-- the active memory with another table in a frame; puts replaces the table at a place of the memory
 abbrev pub with_table : {L T : Type 0} → (puts : T → ℕ → List ℕ → T) → Active L T → (frame : ℕ) → List ℕ → Active L T
 with_table puts active frame table = record active { memory = record active.memory { now = puts active.memory.now (frame / 4096) table } }
 
--- it ends with the last table behind r in the frame, and as it was where nothing is lent
+-- the active memory ends with the last table behind r in the frame, or unchanged if nothing is lent
 abbrev pub LendsFrame : (L T : RattleType) → Ghosts T.Denot → MutBor (Active L.Denot T.Denot) → (frame : ℕ) → Option (MutBor (List ℕ)) → Fml
 LendsFrame L T G s frame r = LendsIf (active_row (record { mir = named 1; lft = [] }) L T) table_row s r (with_table G.with_table s.now frame) s.now
 
--- it ends with the last table behind r where the walk of the position arrives, and as it was where nothing is lent
+-- the active memory ends with the last table behind r where the walk of the position arrives, or unchanged if nothing is lent
 abbrev pub LendsWalked : (L T : RattleType) → Ghosts T.Denot → (levels : ℕ) → MutBor (Active L.Denot T.Denot) → (position : ℕ) → Option (MutBor (List ℕ)) → Fml
 LendsWalked L T G levels s p r = LendsFrame L T G s (unwrap_or (walked_frame levels (words_in G.tables s.now) (cr3_of s.now) p) 0) r
 
--- the memory that was lent, where it is kept
+-- the active memory if it is kept
 abbrev pub kept_of : {L T : Type 0} → Active L T → (kept : Bool) → Option (Active L T)
 kept_of active true = Some active
 kept_of active false = None
 
--- r holds the memory that was lent, or the memory ends as it is
+-- r holds the active memory, or the memory that was lent ends unchanged
 abbrev pub RestsUnlessKept : {L : Type 0} → Active L Memory → Option (Active L Memory) → Fml
 RestsUnlessKept active r = RestsIfNone memory_row active.memory lent r (λ memory. memory ≡ active.memory.now)

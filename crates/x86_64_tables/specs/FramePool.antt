@@ -1,4 +1,4 @@
--- A pool of frames: those that are free, in the order in which they are handed out, and the limit of their numbers.
+-- A pool of frames: the free frames, in the order in which they are handed out, and the limit of their numbers.
 use Rattle.std.specs.Prelude.{◌≡◌, ◌↔◌, ℕ, ◌*◌, ◌%◌, ◌<◌, Bool, true, false, List, length, slice_index_or}
 use Rattle.x86_64_model.specs.Lists.{In, EachOnce}
 use Rattle.x86_64_model.specs.Pool.{serves_below}
@@ -9,7 +9,7 @@ pub record FreeFrames : Type 0 where
   pub limit : ℕ
   pub served : (f : ℕ) → In frames f → serves_below limit f ≡ true
 
--- Frames, each once, with a mark for each number below the limit, set where the frame of this number is among them.
+-- The frames are distinct, and each number below the limit has a mark, set exactly if its frame is among them.
 pub record IsMarked (frames : List ℕ) (marks : List Bool) : Type 0 where
   pub aligned : (f : ℕ) → In frames f → f % 4096 ≡ 0
   pub each_once : EachOnce frames

@@ -1,4 +1,4 @@
--- What a table or a memory is once a word or a table that it lent comes back.
+-- What a table or a memory is when the loan of one of its words or tables ends.
 use Rattle.std.specs.Prelude.{ℕ, List, Option, slice_set}
 use Rattle.std.specs.Borrow.{Lends, LendsIf, MutBor, Fml, RattleType}
 use Rattle.std.specs.FinMap.{insert}
@@ -11,7 +11,7 @@ use Rattle.x86_64_tables.specs.contracts.phys_memory.PhysMemory.{the_row as memo
 abbrev pub LendsWord : MutBor (List ℕ) → (index : ℕ) → MutBor ℕ → Fml
 LendsWord table index r = Lends table_row entry_row table r (slice_set table.now index)
 
--- the memory ends with the last table behind r at the place, and as it was where it lacks the place
+-- the memory ends with the last table behind r at the place, or unchanged if it lacks the place
 abbrev pub LendsTable : MutBor Memory → (place : ℕ) → Option (MutBor (List ℕ)) → Fml
 LendsTable memory place r = LendsIf memory_row table_row memory r (insert memory.now place) memory.now
 
@@ -19,10 +19,10 @@ LendsTable memory place r = LendsIf memory_row table_row memory r (insert memory
 abbrev pub LendsTableAt : MutBor Memory → (place : ℕ) → MutBor (List ℕ) → Fml
 LendsTableAt memory place r = Lends memory_row table_row memory r (insert memory.now place)
 
--- what reaches tables ends as F makes it of the last table behind r
+-- the holder of the tables ends as F of the last table behind r
 abbrev pub LendsTableBy : (holder : RattleType) → MutBor holder.Denot → (r : MutBor (List ℕ)) → (F : List ℕ → holder.Denot) → Fml
 LendsTableBy holder s r F = Lends holder table_row s r F
 
--- the same, and as it was where nothing is lent
+-- the holder of the tables ends as F of the last table behind r, or unchanged if nothing is lent
 abbrev pub LendsTableIfBy : (holder : RattleType) → MutBor holder.Denot → (r : Option (MutBor (List ℕ))) → (F : List ℕ → holder.Denot) → Fml
 LendsTableIfBy holder s r F = LendsIf holder table_row s r F s.now

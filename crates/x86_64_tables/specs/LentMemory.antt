@@ -1,4 +1,4 @@
--- A memory of lent tables: the tables of a slice, each at the place of its index.
+-- A memory over a borrowed slice of tables, each at the place with its index.
 use Rattle.std.specs.Prelude.{ℕ, List, length, map}
 use Rattle.std.specs.FinMap.{entries}
 use Rattle.std.specs.List.{range_with_len}

@@ -35,7 +35,7 @@ flag_table =
     (codes "BIT_62", 2 ^ 62) ∷
     (codes "NO_EXECUTE", 2 ^ 63) ∷ []
 
--- the known flags are every bit but 12 to 51
+-- the known flags are all bits except 12 to 51
 pub known_bits-flag_table : known_bits flag_table ≡ 0xfff0_0000_0000_0fff
 unfolding known_from
 known_bits-flag_table = refl

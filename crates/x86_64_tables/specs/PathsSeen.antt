@@ -1,4 +1,4 @@
--- The path map that a test of two hierarchies sees of each.
+-- The path map that a comparison of two hierarchies reads from each.
 use Rattle.std.specs.Prelude.{◌≡◌, ◌⊎◌, ◌<◌, suc, ℕ, List, length, Bool, true, false, Option, is_some}
 use Rattle.x86_64_model.specs.Alike.{AlikeTables}
 use Rattle.x86_64_model.specs.Hierarchy.{read_at, paths_of}
@@ -8,7 +8,7 @@ use Rattle.x86_64_model.specs.Window.{outside_window}
 use Rattle.x86_64_model.proofs.Lemmas.Hierarchies.Memories.{identity_is_mapping}
 use Rattle.x86_64_tables.specs.SelfEntries.{window_in}
 
--- where frames lie: each at the place of its number, or as they are placed
+-- each frame at the place with its number, or the given places
 abbrev pub places_for : (by_number : Bool) → Places → Places
 places_for false places = places
 places_for true places = identity_places
@@ -17,20 +17,20 @@ pub is_mapping_for : (by_number : Bool) (places : Places) → IsMapping places �
 is_mapping_for false places mapping = mapping
 is_mapping_for true places mapping = identity_is_mapping
 
--- the path map of so many levels that the memory's words hold, without the root's word at the recursive index where there is one
+-- the path map of the memory's words, of the given levels, without the root's word at the recursive index if there is one
 abbrev pub paths_seen_at : (levels : ℕ) → Memory → Places → (root : ℕ) → (recursive : Option ℕ) → PathMap
 paths_seen_at levels memory places root recursive =
     let words = words_of memory (places_for (is_some recursive) places) in
     paths_of levels (outside_window (window_in words root recursive) root words) root
 
--- of four levels
+-- the path map of four levels
 abbrev pub paths_seen : Memory → Places → (root : ℕ) → (recursive : Option ℕ) → PathMap
 paths_seen memory places root recursive = paths_seen_at 4 memory places root recursive
 
--- of five levels
+-- the path map of five levels
 abbrev pub paths_seen_57 : Memory → Places → (root : ℕ) → (recursive : Option ℕ) → PathMap
 paths_seen_57 memory places root recursive = paths_seen_at 5 memory places root recursive
 
--- from the tables in two frames, with n levels of tables below each, the entries at each path are alike
+-- the entries at each path from the tables in two frames are alike, with n levels of tables below each
 pub record AlikeFrom (n : ℕ) (T : Words) (f : ℕ) (U : Words) (g : ℕ) : Type 0 where
   pub at : (q : List ℕ) → (read_at (suc n) T f q ≡ read_at (suc n) U g q) ⊎ ((length q < suc n) × AlikeTables (read_at (suc n) T f q) (read_at (suc n) U g q))

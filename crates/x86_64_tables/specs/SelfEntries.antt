@@ -12,11 +12,11 @@ names_frame w f = present w && not (huge w) && (address w == f)
 abbrev pub has_self_entry : Words → (root index : ℕ) → Bool
 has_self_entry T root r = names_frame (word T root r) root
 
--- the window of a recursive index, with the word that the root has there
+-- the recursive window of an index, with the root's word at the index
 abbrev pub window_at : Words → (root index : ℕ) → Window
 window_at T root r = record { index = r; self_entry = word T root r }
 
--- the same, where there is an index
+-- the recursive window, if there is an index
 abbrev pub window_in : Words → (root : ℕ) → (recursive : Option ℕ) → Option Window
 window_in T root None = None
 window_in T root (Some r) = Some (window_at T root r)

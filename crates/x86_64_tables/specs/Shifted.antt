@@ -1,4 +1,4 @@
--- Frames that lie at the places from a first frame on.
+-- The mapping of the frames from a first one on to the places from 0 on.
 use Rattle.std.specs.Prelude.{◌/◌, ◌-◌, ◌&&◌, ℕ, nat_le}
 use Rattle.std.proofs.Common.{arith}
 use Rattle.std.proofs.lemmas.Bool.{and_parts, leb-true}
@@ -6,7 +6,7 @@ use Rattle.x86_64_model.specs.Entry.{is_frame}
 use Rattle.x86_64_model.proofs.Lemmas.Entries.Bits.{same_frame}
 use Rattle.x86_64_model.specs.Memory.{IsMapping, Places}
 
--- each frame from the first number on, at the place of its number less the first
+-- each frame with a number from the first on, at the place with this number minus the first
 abbrev pub shifted_places : (first : ℕ) → Places
 shifted_places first = record { covers = λ f. is_frame f && nat_le first (f / 4096); place = λ f. f / 4096 - first }
 

@@ -1,4 +1,4 @@
--- What the answers of `translate` say.
+-- The results of `translate`, as translations of the model.
 use Rattle.std.specs.Prelude.{◌+◌, ◌^◌, ◌<◌, ℕ, Option, Some, None, option_and_then}
 use Rattle.x86_64_model.specs.Translation.{Translated, NotMapped as Nowhere, Mapped as At, present_to}
 use Rattle.x86_64_tables.specs.PageTableFlags.{bits_of}
@@ -17,17 +17,17 @@ frame_size (Size4KiB start) = 0x1000
 frame_size (Size2MiB start) = 0x20_0000
 frame_size (Size1GiB start) = 0x4000_0000
 
--- the translation that an answer is; an invalid frame address is none
+-- the translation that a result is, none for an invalid frame address
 abbrev pub translation_of : TranslateResult → Option Translated
 translation_of (Mapped frame offset flags) = Some (At (frame_size frame) (frame_start frame) offset (bits_of flags))
 translation_of NotMapped = Some Nowhere
 translation_of (InvalidFrameAddress address) = None
 
--- where a present mapping leads
+-- the address that a present mapping leads to
 abbrev pub reaches : TranslateResult → Option ℕ
 reaches answer = option_and_then present_to (translation_of answer)
 
--- where a mapping leads is a physical address
+-- a mapping leads to a physical address
 abbrev pub StaysBelow : Option Translated → Type 0
 StaysBelow (Some (At size frame offset given)) = frame + offset < 2 ^ 52
 StaysBelow _ = Unit {0}

@@ -1,4 +1,4 @@
--- Where a page walk arrives, as code answers it.
+-- Where a page walk arrives, as code represents it.
 use Rattle.std.specs.Prelude.{ℕ, ◌+◌, ◌%◌, Bool, cond, nat_le, Option, Some, None}
 use Rattle.x86_64_model.specs.Position.{span}
 use Rattle.x86_64_model.specs.PageWalk.{page_start, Walked as Arrival}
@@ -7,10 +7,10 @@ use Rattle.x86_64_tables.specs.declared.phys_memory.walk.Walked.{Walked}
 abbrev pub walked_of : Walked → Arrival
 walked_of w = record { address = w.address; write = w.write; user = w.user }
 
--- the arrival in the page that an entry of a level maps, with these rights
+-- the arrival in the page that an entry of a level maps, with the given rights
 abbrev pub arrival : (level position : ℕ) → (write user : Bool) → (entry : ℕ) → Arrival
 arrival level p w u e = record { address = page_start level e + p % span level; write = w; user = u }
 
--- the same, none above level three, where no entry maps a page
+-- the arrival by an entry of a level, none above level three, since no entry maps a page there
 abbrev pub ends : (level position : ℕ) → (write user : Bool) → (entry : ℕ) → Option Arrival
 ends level p w u e = cond (nat_le level 3) (Some (arrival level p w u e)) None

@@ -1,4 +1,4 @@
-//! Frames that are handed out for new page tables and taken back.
+//! Allocators that hand out frames for new page tables and take them back.
 ghost use Rattle.std.specs.Prelude.{◌≡◌, ℕ, Bool, true, List, ◌∷◌, drop, slice_get, IsPermutation};
 ghost use Rattle.x86_64_model.specs.Lists.{In};
 
@@ -8,20 +8,20 @@ pub use pool::{FramePool, PoolRefusal};
 use x86_64_page::frame::PhysFrame;
 use x86_64_page::page::{PageSize, Size4KiB};
 
-/// Keeps frames of a size: those that may be handed out and taken back are a set that no call changes.
+/// A keeper of frames of one size. It serves the frames that it may hand out and take back, a set that no call changes.
 pub trait FrameKeeper<S: PageSize> {
     /// The frames that may be handed out and taken back.
     ghost serves: { Self → (frame : ℕ) → Bool };
 }
 
-/// Hands out frames, seen as a list: the supply.
+/// An allocator of frames. Its supply is the list of the frames that can be handed out, in order.
 ///
-/// Law: it serves each frame of the supply.
+/// Law: the allocator serves each frame of its supply.
 pub trait FrameAllocator<S: PageSize>: FrameKeeper<S> {
-    /// The frames that can be had, in the order in which they are handed out.
+    /// The frames that can be handed out, in order.
     ghost supply: { Self → List ℕ };
 
-    /// Takes the first frame of the supply, or answers `None` exactly where the supply is empty.
+    /// Takes the first frame of the supply, or returns `None` if and only if the supply is empty.
     fn allocate_frame(&mut self) -> Option<PhysFrame<S>>
         ensures first { result ≡ slice_get (supply self.old) 0 }
         ensures rest { supply self.new ≡ drop 1 (supply self.old) }
@@ -31,19 +31,20 @@ pub trait FrameAllocator<S: PageSize>: FrameKeeper<S> {
         → Self.serves allocator frame ≡ true };
 }
 
-/// Takes frames back, seen as the list of those that it holds.
+/// A deallocator of frames: it takes frames back, and has a list of the frames that it holds.
 ///
-/// Laws: it serves each frame that it holds, and those that it holds after taking a frame back are this frame and those of before, in some order.
+/// Laws: it serves each frame that it holds. After taking a frame back, it holds this frame and those that it held before,
+/// in some order.
 pub trait FrameDeallocator<S: PageSize>: FrameKeeper<S> {
-    /// The frames that came back and were not handed out again.
+    /// The frames that were taken back and not handed out since.
     ghost held: { Self → List ℕ };
 
-    /// The frames that are held once a frame came back. The type fixes it.
+    /// The frames that are held after a frame is taken back, as a function that the type fixes.
     ghost take_back: { (held : List ℕ) → (frame : ℕ) → List ℕ };
 
     /// Takes a frame back.
     ///
-    /// Condition: the frame is served and not held.
+    /// Requires that the frame is served and not held.
     fn deallocate_frame(&mut self, frame: PhysFrame<S>)
         requires served { Self.serves self.old frame ≡ true }
         requires not_held { In (held self.old) frame → ⊥ }
@@ -56,9 +57,9 @@ pub trait FrameDeallocator<S: PageSize>: FrameKeeper<S> {
     ghost take_back_rearranges: { (held : List ℕ) (frame : ℕ) → IsPermutation (frame ∷ held) (take_back held frame) };
 }
 
-/// Hands out 4KiB frames and takes them back.
+/// A store of 4KiB frames, which hands them out and takes them back.
 ///
-/// Law: the frames that can be had are those that it holds, in the same order.
+/// Law: its supply is the list of the frames that it holds.
 pub trait FrameStore: FrameAllocator<Size4KiB> + FrameDeallocator<Size4KiB> {
     ghost one_list: { (store : Self) → Self.supply store ≡ Self.held store };
 }

@@ -1,4 +1,4 @@
-//! Page tables, their entries and flags, and a physical memory that consists of page tables.
+//! Page tables, their entries and flags, the memories that hold them, frame allocation, and what all mappers share.
 #![tactic(auto)]
 
 pub mod frame_alloc;

@@ -1,4 +1,4 @@
-//! Physical memory that consists of page tables, and where frames lie in it.
+//! Physical memory that consists of page tables, and mappings of frames to places in it.
 ghost use Rattle.std.specs.Prelude.{◌≡◌, ◌==◌, ◌/◌, ◌↔◌, ℕ, true, length, Some, IsSome, IfOk, OnOk, OnErr, Err, ◌<◌, nat_lt, if◌then◌else◌};
 ghost use Rattle.std.specs.Option.{option_copied, option_copied_mut};
 ghost use Rattle.std.specs.Borrow.{sem};
@@ -42,7 +42,7 @@ pub use walk::{
 use x86_64_page::frame::PhysFrame;
 use x86_64_page::page::{PageSize, Size4KiB};
 
-/// Names a place in a physical memory, seen as its number.
+/// A place in a physical memory: the number under which it holds a table. Contracts see it as this number.
 #[derive(Clone, Copy, Debug, PartialEq)]
 pub struct FramePlace(u64);
 
@@ -57,14 +57,14 @@ impl Model for FramePlace {
 }
 
 impl FramePlace {
-    /// Makes the place with a number.
+    /// Creates the place with the given number.
     pub fn new(number: u64) -> FramePlace
         ensures { result ≡ number }
     {
         FramePlace(number)
     }
 
-    /// Gives the number.
+    /// Returns the number.
     pub fn number(self) -> u64
         ensures { result ≡ self }
     {
@@ -72,12 +72,12 @@ impl FramePlace {
     }
 }
 
-/// Says why no memory is made with places.
+/// The reason why no memory was created with the given places.
 #[derive(Clone, Copy, Debug, PartialEq)]
 pub enum PlacesRefusal {
     /// A number isn't below the next.
     NotIncreasing,
-    /// Memory is refused.
+    /// Memory allocation failed.
     Alloc(AllocError),
 }
 
@@ -91,10 +91,15 @@ impl From<AllocError> for PlacesRefusal {
     }
 }
 
-/// Holds page tables, seen as a finite map from the numbers of places to tables. The places never change.
+/// A memory that owns page tables. Contracts see it as a finite map from the numbers of places to tables. The places never
+/// change.
 ///
-/// A table is reached by its place, as in `memory[place]`. Condition: the memory has the place. A place is found at once if the
-/// memory has all places between the first and it, or if gaps are spread evenly, else by binary search.
+/// A table is accessed by its place, as in `memory[place]`.
+///
+/// Requires that the memory has the place.
+///
+/// A place is found in constant time if the memory has all places between the first and it, or if gaps are spread evenly,
+/// else by binary search.
 #[derive(Drop)]
 pub struct PhysMemory {
     places: SortedPlaces,
@@ -120,11 +125,11 @@ impl Model for PhysMemory {
 }
 
 impl PhysMemory {
-    /// Makes a memory with the places 0 to `n` - 1, where all words are 0.
+    /// Creates a memory with the places 0 to `n` - 1 and all words 0.
     ///
     /// # Errors
     ///
-    /// `AllocError` where memory is refused. A memory without places needs none.
+    /// `AllocError` if memory allocation fails. A memory without places needs no allocation.
     pub fn new(alloc: Global, n: u64) -> Result<PhysMemory, AllocError>
         ensures made { IfOk result (λ memory.
             (place : ℕ) → map.get memory place ≡ (if nat_lt place n then Some zero_words else None)) }
@@ -137,12 +142,12 @@ impl PhysMemory {
         zero_memory(alloc, numbers)
     }
 
-    /// Makes a memory with places, given by their numbers, where all words are 0.
+    /// Creates a memory with the places of the given numbers and all words 0.
     ///
     /// # Errors
     ///
-    /// `NotIncreasing` where a number isn't below the next, else `Alloc` where memory is refused. A memory without places
-    /// needs none.
+    /// `NotIncreasing` if a number isn't below the next, else `Alloc` if memory allocation fails. A memory without places needs
+    /// no allocation.
     pub fn with_places(alloc: Global, places: &[u64]) -> Result<PhysMemory, PlacesRefusal>
         ensures made { IfOk result (λ memory. (place : ℕ) → map.get memory place
             ≡ (if list_any (λ number. place == number) places.now then Some zero_words else None)) }
@@ -159,14 +164,14 @@ impl PhysMemory {
         Ok(zero_memory(alloc, numbers)?)
     }
 
-    /// Gives the number of places.
+    /// Returns the number of places.
     pub fn len(&self) -> usize
         ensures { result ≡ map.len self.now }
     {
         self.tables.len()
     }
 
-    /// Gives the `n`-th place in the order of their numbers, counted from 0, or `None` where the memory has no more than `n`.
+    /// Returns the `n`-th place in increasing order, counted from 0, or `None` if the memory has no more than `n` places.
     pub fn place_at(&self, n: usize) -> Option<FramePlace>
         ensures { result ≡ slice_get (map.keys self.now) n }
     {
@@ -174,7 +179,7 @@ impl PhysMemory {
         Some(FramePlace::new(number))
     }
 
-    /// Gives the table at a place, or `None` where the memory lacks the place.
+    /// Returns the table at a place, or `None` if the memory lacks the place.
     pub fn table(&self, place: FramePlace) -> Option<&PageTable>
         ensures { option_copied result ≡ map.get self.now place }
     {
@@ -185,7 +190,7 @@ impl PhysMemory {
         }
     }
 
-    /// Lends the table at a place to be changed, or gives `None` where the memory lacks the place.
+    /// Lends the table at a place mutably, or returns `None` if the memory lacks the place.
     pub fn table_mut(&mut self, place: FramePlace) -> Option<&mut PageTable>
         ensures* writes_back { sem 𝓛 (LendsTable self.entry place result) }
         ensures value { option_copied_mut result ≡ map.get self.old place }
@@ -197,22 +202,22 @@ impl PhysMemory {
         }
     }
 
-    /// Gives how many places come before a place, or `None` where the memory lacks it.
+    /// Returns the number of places before a place, or `None` if the memory lacks it.
     fn index_of(&self, place: FramePlace) -> Option<usize>
         ensures { result ≡ position (eq_by_cmp nat_cmp place) (map.keys self.now) }
     {
         self.places.index_of(place.number())
     }
 
-    /// Tells whether the places are known to be all numbers from 0 on, so that each stands where its number says.
+    /// Returns true if the places are known to be all numbers from 0 on, so that the index of each place is its number.
     fn is_dense(&self) -> bool
         ensures { let places = map.keys self.now in result ≡ true → HasRun places 0 (length places) }
     {
         self.places.is_dense()
     }
 
-    /// Gives the table at a place by its index, or `None`. It is a function of its own, as those below are, so that callers
-    /// hold the case of all numbers from 0 on alone.
+    /// Finds the table at a place by the place's index, or returns `None`. This and the functions below are separate, so that
+    /// callers contain only the code for places that are all numbers from 0 on.
     #[cold]
     #[inline(never)]
     fn search(&self, place: FramePlace) -> Option<&PageTable>
@@ -222,7 +227,7 @@ impl PhysMemory {
         self.tables.get(index)
     }
 
-    /// Lends the same table to be changed.
+    /// Finds the table at a place as `search` does, and lends it mutably.
     #[cold]
     #[inline(never)]
     fn search_mut(&mut self, place: FramePlace) -> Option<&mut PageTable>
@@ -233,7 +238,7 @@ impl PhysMemory {
         self.tables.get_mut(index)
     }
 
-    /// Gives the table at a place that is there, by its index.
+    /// Finds the table at a place that the memory has, by the place's index.
     #[cold]
     #[inline(never)]
     fn find(&self, place: FramePlace) -> &PageTable
@@ -244,7 +249,7 @@ impl PhysMemory {
         &self.tables[index]
     }
 
-    /// Lends the same table to be changed.
+    /// Finds the table at a place as `find` does, and lends it mutably.
     #[cold]
     #[inline(never)]
     fn find_mut(&mut self, place: FramePlace) -> &mut PageTable
@@ -257,7 +262,7 @@ impl PhysMemory {
     }
 }
 
-/// Makes a memory with places, given by their numbers, where all words are 0.
+/// Creates a memory with the places of the given numbers and all words 0.
 fn zero_memory(alloc: Global, numbers: Vec<u64>) -> Result<PhysMemory, AllocError>
     requires { IsStrictlyIncreasing numbers.items }
     ensures made { IfOk result (λ memory. memory ≡ zero_tables_at numbers.items) }
@@ -302,20 +307,20 @@ impl IndexMut<FramePlace> for PhysMemory {
     }
 }
 
-/// Says where 4KiB frames lie in a physical memory: which are covered, and at which place each of these lies.
+/// A mapping of 4KiB frames to places in a physical memory. It covers the frames that have a place.
 ///
 /// Law: distinct covered frames have distinct places.
 pub trait PageTableFrameMapping {
     ghost places: { Self → Places };
 
-    /// Gives the place of a frame.
+    /// Returns the place of a frame.
     ///
-    /// Condition: the frame is covered.
+    /// Requires that the frame is covered.
     fn frame_to_pointer(&self, frame: PhysFrame<Size4KiB>) -> FramePlace
         requires { (places self.now).covers frame ≡ true }
         ensures { result ≡ (places self.now).place frame };
 
-    /// Tells whether a frame is covered.
+    /// Returns true if a frame is covered.
     fn covers(&self, frame: PhysFrame<Size4KiB>) -> bool
         ensures { result ≡ (places self.now).covers frame };
 
@@ -336,7 +341,7 @@ impl<P: PageTableFrameMapping> PageTableFrameMapping for &P {
     ghost is_mapping = { λ mapping. P.is_mapping mapping.now };
 }
 
-/// Maps each 4KiB frame to the place of its number. All frames are covered.
+/// The mapping of each 4KiB frame to the place with the frame's number. All frames are covered.
 #[derive(Clone, Copy, Debug)]
 pub struct IdentityMapping;
 

@@ -1,2 +1,2 @@
--- What tests begin with.
+-- The conditions that tests begin with.
 pub mod Pairs

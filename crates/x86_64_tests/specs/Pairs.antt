@@ -1,4 +1,5 @@
--- Two hierarchies that two mappers answer alike: one of frames at the places of their numbers, and one with a recursive index.
+-- Two hierarchies to which two mappers reply alike: one with frames at the places of their numbers, and one with a recursive
+-- index.
 use Rattle.std.specs.Prelude.{◌≡◌, ℕ}
 use Rattle.x86_64_model.specs.Alike.{Alike}
 use Rattle.x86_64_model.specs.Layout.{paths}
@@ -9,7 +10,7 @@ use Rattle.x86_64_mappers.specs.Layouts.{direct_at}
 use Rattle.x86_64_mappers.specs.Recursive.{recursive_now_at}
 use Rattle.x86_64.specs.Runs.{FitsPool}
 
--- both are valid, of so many levels, and their pools fit them, the path maps are alike, and the free frames the same
+-- both are valid with this number of levels and their pools fit them, the path maps are alike, and the free frames equal
 pub record IsPair (levels root index : ℕ) (memory : Memory) (pool : FramePool) (walked : Memory) (walked_pool : FramePool) : Type 0 where
   pub fits : FitsPool (direct_at levels identity_places root) memory (serves_below pool.limit) pool.frames
   pub walked_fits : FitsPool (recursive_now_at levels walked root index) walked (serves_below walked_pool.limit) walked_pool.frames

@@ -1,10 +1,12 @@
-//! Commands that a fixed rule makes, answered by the program in each of its modes and by the plain slow program side by side.
+//! Commands chosen by a fixed rule, executed side by side by the program in each of its modes and by the plain slow
+//! program.
 //!
-//! The reply to each command is compared; after the last one so are the free frames, in order, and every word of the memory (of a
-//! pair, of the first one, which the program shows): those of the root and of each table with the plain state's entries at their
-//! paths, or with the root's entry for itself; those of free frames, which are 0 where a clean up gave the frame back, and else what
-//! they were; and those of the other frames with what they were. At the end each kind of reply that a command can have was met. There
-//! each call is a list of one; in [`lists`] lists of many calls by the same rule are answered by the library.
+//! The replies to each command are compared. After the last command, the free frames are compared in order, and every
+//! word of the memory (in a pair, of the first one, which the program shows). The words of the root and of each table
+//! must be the plain state's entries at their paths, or the root's entry for itself. Those of free frames must be 0
+//! if a clean up returned the frame, and otherwise as before. Those of all other frames must be as before. At the
+//! end, each kind of reply that a command can have must have occurred. Here each call is a list of one. In [`lists`],
+//! the library executes lists of many calls chosen by this rule.
 mod chooser;
 mod commands;
 mod listing;
@@ -24,12 +26,12 @@ use session::Session;
 use std::alloc::Global;
 use std::process::Abort;
 
-/// How many commands are answered on one memory.
+/// The number of commands executed on one memory.
 const COMMANDS: usize = 200;
 
-/// The entries at first, as words, each after those above it. Pages of each size are mapped; a table, a page and
-/// an entry that maps a page of 1GiB lack `PRESENT`; and two entries with `HUGE_PAGE` name an address that isn't a
-/// multiple of their size.
+/// The initial entries as words, each after those above it. Pages of each size are mapped. A table, a page and an
+/// entry that maps a page of 1GiB lack `PRESENT`. Two entries with `HUGE_PAGE` name an address that isn't a multiple
+/// of their size.
 const ENTRIES: [Word; 12] = [
     (ROOT, 3, 0xb003),
     (0xb000, 0, 0x4000_0083),
@@ -45,13 +47,13 @@ const ENTRIES: [Word; 12] = [
     (0xe000, 0, 0x80),
 ];
 
-/// The frame of the table that has the entries which the root has where there are four levels.
+/// The frame of the table with the entries that the root has if there are four levels.
 const LEVEL_4: u64 = 0xf000;
 
-/// The root's entry for it.
+/// The root's entry for this table.
 const LEVEL_5: Word = (ROOT, 0, 0xf003);
 
-/// Gives the entries at first. Those of five levels are those of four below one entry more.
+/// Returns the initial entries. With five levels they are those of four, below one more entry.
 fn entries(rt: impl Abort + Copy, alloc: Global, levels: Levels) -> Vec<Word> {
     if matches!(levels, Levels::Four) {
         return unwrap(rt, Vec::from_slice(alloc, &ENTRIES));
@@ -66,10 +68,11 @@ fn entries(rt: impl Abort + Copy, alloc: Global, levels: Levels) -> Vec<Word> {
     words
 }
 
-/// How many frames are free at most.
+/// The maximum number of free frames.
 const MOST_FREE: usize = 7;
 
-/// Answers commands on a hierarchy of words with so many free frames both ways, and compares. Keeps what was met.
+/// Executes commands both ways on a hierarchy of words with a number of free frames, and compares the results.
+/// Records the replies that occurred.
 fn check_commands(
     rt: impl Abort + Copy,
     alloc: Global,
@@ -86,10 +89,10 @@ fn check_commands(
     session.compare(rt, alloc)
 }
 
-/// How often commands are answered at most until each kind of reply was met.
+/// The maximum number of rounds until each kind of reply has occurred.
 const ROUNDS: usize = 20;
 
-/// Does so in each of some ways with each number of free frames.
+/// Does this in each of several ways with each number of free frames.
 fn check_ways(
     rt: impl Abort + Copy,
     alloc: Global,
@@ -107,7 +110,7 @@ fn check_ways(
     }
 }
 
-/// Does so until each kind of reply was met, and asserts that it was.
+/// Does this until each kind of reply has occurred, and asserts that it has.
 fn check_all_replies(rt: impl Abort + Copy, alloc: Global, ways: &[Way], levels: Levels) {
     let mut chooser = Chooser::new(levels);
     let mut met = Met::new(alloc);
@@ -131,7 +134,7 @@ fn the_program_agrees_with_the_plain_one_in_five_levels(rt: HostRuntime) {
     check_all_replies(rt, rt.alloc(), &ways, Levels::Five)
 }
 
-/// Answers commands on the words of an image both ways, however tables are found, and compares.
+/// Executes commands both ways on the words of an image, for each way to find tables, and compares the results.
 fn check_image(
     rt: impl Abort + Copy,
     alloc: Global,
@@ -146,7 +149,7 @@ fn check_image(
     }
 }
 
-/// Does so on each image that is valid.
+/// Does this for each valid image.
 fn check_images(rt: impl Abort + Copy, alloc: Global, images: &[Image]) {
     let mut chooser = Chooser::new(Levels::Four);
     let mut met = Met::new(alloc);

@@ -1,4 +1,4 @@
-//! Assertions as calls: what a failed one prints stands here once, for the values of all tests.
+//! Assertions as functions, so that the messages of failed ones are here once, for the values of all tests.
 ghost use Rattle.std.specs.Prelude.{◌≡◌, Ok, Some};
 
 use std::fmt::Debug;
@@ -9,7 +9,7 @@ pub fn assert_equal<T: PartialEq + Debug + Drop>(rt: impl Abort + Copy, found: T
     assert_eq!(rt; found, wanted);
 }
 
-/// Aborts unless two values are equal, and names the case that they are about.
+/// Aborts unless two values are equal, and prints the case that they belong to.
 pub fn assert_equal_in<C: Debug + Drop, T: PartialEq + Debug + Drop>(
     rt: impl Abort + Copy,
     case: C,
@@ -19,8 +19,8 @@ pub fn assert_equal_in<C: Debug + Drop, T: PartialEq + Debug + Drop>(
     assert_eq!(rt; found, wanted, "in {case:?}");
 }
 
-/// Gives the value of an answer, and aborts at an error. As a call it has one way out, where `?` has another that lets go of all
-/// that the test owns, and is proved so.
+/// Returns the value of a result, or aborts if it is an error. A call has only one exit. With `?`, a test would have
+/// a second exit that drops all it owns, and this would have to be proved as well.
 pub fn unwrap<T, E: Drop>(rt: impl Abort + Copy, answer: Result<T, E>) -> T
     ensures { answer ≡ Ok result }
 {
@@ -30,7 +30,7 @@ pub fn unwrap<T, E: Drop>(rt: impl Abort + Copy, answer: Result<T, E>) -> T
     }
 }
 
-/// Gives the value that was found, and aborts where there is none.
+/// Returns the value, or aborts if there is none.
 pub fn unwrap_some<T>(rt: impl Abort + Copy, found: Option<T>) -> T
     ensures { found ≡ Some result }
 {

@@ -1,12 +1,12 @@
-//! Calls in numbers, so that tables of them are constants, as calls of a list with any number of levels.
+//! Calls as numbers, so that tables of them can be constants, converted to calls of a list with any number of levels.
 use crate::images::{flags_of, frame_at, page_at};
 use x86_64::addr::VirtAddrIn;
 use x86_64::structures::paging::PageSize;
 use x86_64::structures::paging::page::PageIn;
 use x86_64::{CallIn, LevelCount, LevelFiveFlags, SizeCallIn};
 
-/// A call on a page: the level of the entry whose flags are set, where they are, the page or the frame, then the frame where
-/// a page comes first, the flags and the parent flags.
+/// A call on a page, with those of these numbers that it needs: the level of the entry whose flags are set, the page,
+/// the frame, the flags and the parent flags.
 #[derive(Clone, Copy)]
 pub enum PageCallRow {
     MapTo(u64, u64, u64),
@@ -18,8 +18,8 @@ pub enum PageCallRow {
     TranslatePage(u64),
 }
 
-/// A call: on a page of 4KiB, 2MiB or 1GiB, on an address, or a clean up, of all pages or from a first page to a
-/// last one.
+/// A call on a page of 4KiB, 2MiB or 1GiB or on an address, or a clean up of all pages or of those from a first page
+/// to a last one.
 #[derive(Clone, Copy)]
 pub enum CallRow {
     Small(PageCallRow),
@@ -31,7 +31,7 @@ pub enum CallRow {
     CleanUpRange(u64, u64),
 }
 
-/// Makes the call of a list, if there is such a call with so many levels.
+/// Returns the call of a list, or `None` if there is no such call with this number of levels.
 pub fn call_of<L: LevelCount, P5: LevelFiveFlags<L>>(call_row: CallRow) -> Option<CallIn<L, P5>> {
     Some(match call_row {
         CallRow::Small(call_row) => CallIn::Of4KiB(size_call(call_row)?),
@@ -46,7 +46,7 @@ pub fn call_of<L: LevelCount, P5: LevelFiveFlags<L>>(call_row: CallRow) -> Optio
     })
 }
 
-/// Makes the call on a page of a size.
+/// Returns the call on a page of a size.
 fn size_call<S: PageSize, L: LevelCount, P5: LevelFiveFlags<L>>(
     call_row: PageCallRow,
 ) -> Option<SizeCallIn<S, L, P5>> {
@@ -82,7 +82,7 @@ fn size_call<S: PageSize, L: LevelCount, P5: LevelFiveFlags<L>>(
     })
 }
 
-/// Makes the call that sets the flags of the entry of a level on a page's path.
+/// Returns the call that sets the flags of the entry of a level on a page's path.
 fn set_flags_call<S: PageSize, L: LevelCount, P5: LevelFiveFlags<L>>(
     level: u8,
     page: PageIn<S, L>,

@@ -1,4 +1,4 @@
-//! Memories and pools that tests begin with, runs on them, and what they hold then.
+//! Memories and pools for tests, runs on them, and their contents afterwards.
 ghost use Rattle.std.specs.Prelude.{◌↔◌, IsTrue, IfOk};
 ghost use Rattle.x86_64_model.specs.Pool.{serves_below};
 ghost use Rattle.x86_64_model.specs.Memory.{identity_places};
@@ -27,23 +27,23 @@ use x86_64_mappers::mapped_page_table::MappedPageTableIn;
 use x86_64_mappers::recursive_page_table::RecursivePageTableIn;
 use x86_64_tables::phys_memory::Active;
 
-/// How many words a table has.
+/// The number of words of a table.
 pub const WORD_COUNT: u16 = 512;
 
 /// The address of the root's frame.
 pub const ROOT: u64 = 0x1000;
 
-/// Gives the frame of a size that contains an address.
+/// Returns the frame of a size that contains an address.
 pub fn frame_at<S: PageSize>(address: u64) -> PhysFrame<S> {
     PhysFrame::containing_address(PhysAddr::new_truncate(address))
 }
 
-/// Gives the page of a size that contains an address, with any number of levels.
+/// Returns the page of a size that contains an address, for any number of levels.
 pub fn page_at<S: PageSize, L: LevelCount>(address: u64) -> PageIn<S, L> {
     PageIn::containing_address(VirtAddrIn::new_truncate(address))
 }
 
-/// Gives the flags with these bits, which may have address bits among them.
+/// Returns the flags with these bits, which may include address bits.
 pub fn flags_of(bits: u64) -> PageTableFlags {
     PageTableFlags::from_bits_retain(bits)
 }
@@ -54,20 +54,20 @@ pub fn set_word(rt: impl Abort + Copy, memory: &mut PhysMemory, frame: u64, inde
     table[PageTableIndex::new_truncate(index)].set_word(word);
 }
 
-/// Makes all words of the table in a frame full of ones.
+/// Sets all bits of the words of the table in a frame.
 pub fn fill(rt: impl Abort + Copy, memory: &mut PhysMemory, frame: u64) {
     for index in 0..WORD_COUNT {
         set_word(rt, memory, frame, index, u64::MAX);
     }
 }
 
-/// Gives the word at an index of the table in a frame.
+/// Returns the word at an index of the table in a frame.
 pub fn word_at(rt: impl Abort + Copy, memory: &PhysMemory, frame: u64, index: u16) -> u64 {
     let table = unwrap_some(rt, memory.table(FramePlace::new(frame / 0x1000)));
     table[PageTableIndex::new_truncate(index)].word()
 }
 
-/// Makes a pool of free frames, with numbers below a limit.
+/// Creates a pool of free frames, with numbers below a limit.
 pub fn pool_of(rt: impl Abort + Copy, alloc: Global, limit: u64, frames: &[u64]) -> FramePool {
     let mut pool = unwrap(rt, FramePool::new(alloc, limit));
     for frame in frames {
@@ -76,7 +76,7 @@ pub fn pool_of(rt: impl Abort + Copy, alloc: Global, limit: u64, frames: &[u64])
     pool
 }
 
-/// Tests whether a hierarchy of so many levels is valid and a pool fits it.
+/// Tests whether a hierarchy with this number of levels is valid and a pool fits it.
 fn pool_fits_in<L: LevelCount>(
     alloc: Global,
     memory: &PhysMemory,
@@ -94,7 +94,7 @@ fn pool_fits_in<L: LevelCount>(
     }
 }
 
-/// The same for a recursive index.
+/// This for a recursive index.
 fn pool_fits_recursive_in<L: LevelCount>(
     alloc: Global,
     memory: &PhysMemory,
@@ -113,7 +113,7 @@ fn pool_fits_recursive_in<L: LevelCount>(
     }
 }
 
-/// Tells whether a hierarchy of so many levels is valid and a pool fits it.
+/// Returns whether a hierarchy with this number of levels is valid and a pool fits it.
 pub fn fits<L: LevelCount>(
     rt: impl Abort + Copy,
     alloc: Global,
@@ -127,7 +127,7 @@ pub fn fits<L: LevelCount>(
     unwrap(rt, pool_fits_in::<L>(alloc, memory, root, pool))
 }
 
-/// Tells whether a hierarchy of so many levels is valid for a recursive index and a pool fits it.
+/// Returns whether a hierarchy with this number of levels is valid for a recursive index and a pool fits it.
 pub fn fits_recursive<L: LevelCount>(
     rt: impl Abort + Copy,
     alloc: Global,
@@ -145,8 +145,8 @@ pub fn fits_recursive<L: LevelCount>(
     )
 }
 
-/// Answers calls by a mapper over a frame mapping. The mapper is dropped then, and the owner of the memory
-/// and of the pool knows that they fit again.
+/// Executes calls with a mapper over a frame mapping. The mapper is then dropped, and the owner of the memory and of
+/// the pool knows that they fit again.
 pub fn run_over<P: PageTableFrameMapping + Drop, L: LevelCount, P5: LevelFiveFlags<L>>(
     memory: &mut PhysMemory,
     root: PhysFrame<Size4KiB>,
@@ -164,7 +164,7 @@ pub fn run_over<P: PageTableFrameMapping + Drop, L: LevelCount, P5: LevelFiveFla
     run(&mut mapper, pool, calls, replies)
 }
 
-/// Answers calls by a mapper over the identity mapping, as [`run_over`] does.
+/// Executes calls with a mapper over the identity mapping, like [`run_over`].
 pub fn run_on<L: LevelCount, P5: LevelFiveFlags<L>>(
     memory: &mut PhysMemory,
     root: PhysFrame<Size4KiB>,
@@ -180,7 +180,7 @@ pub fn run_on<L: LevelCount, P5: LevelFiveFlags<L>>(
     run_over(memory, root, IdentityMapping, pool, calls, replies)
 }
 
-/// Answers calls by a mapper of a memory that stands at an offset, as [`run_over`] does.
+/// Executes calls with a mapper of a memory that is mapped at an offset, like [`run_over`].
 pub fn run_at_offset(
     memory: &mut PhysMemory,
     root: PhysFrame<Size4KiB>,
@@ -200,7 +200,7 @@ pub fn run_at_offset(
     run(&mut mapper, pool, calls, replies)
 }
 
-/// Answers calls by a mapper that reaches tables through the root's entry for itself, as [`run_over`] does. That
+/// Executes calls with a mapper that reaches tables through the root's entry for itself, like [`run_over`]. That
 /// entry stays.
 pub fn run_recursive_on<L: LevelCount, P5: LevelFiveFlags<L>>(
     memory: &mut PhysMemory,
@@ -220,7 +220,7 @@ pub fn run_recursive_on<L: LevelCount, P5: LevelFiveFlags<L>>(
     run(&mut mapper, pool, calls, replies)
 }
 
-/// Answers calls by a mapper over the identity mapping, as [`run_on`] does, and records their flushes.
+/// Executes calls with a mapper over the identity mapping, like [`run_on`], and records their flushes.
 pub fn run_flushed_on(
     memory: &mut PhysMemory,
     root: PhysFrame<Size4KiB>,

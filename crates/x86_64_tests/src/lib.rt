@@ -1,7 +1,7 @@
-//! Tests that cross crates, from outside, as tables where they can be.
+//! Tests across crates, from outside of these, as tables if possible.
 //!
-//! A table with references in it is a static: a proof takes it as one value, where it would build a constant part by part in each
-//! function that names it.
+//! A table with references in it is a static. A proof takes it as one value, but would build a constant part by part
+//! in each function that names it.
 #![tactic(auto)]
 
 #[cfg(test)]

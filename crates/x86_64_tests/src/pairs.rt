@@ -1,4 +1,5 @@
-//! Two hierarchies that are alike, of which the second one has a recursive index, and lists of calls by both mappers at once.
+//! Two alike hierarchies, of which the second one has a recursive index, and lists of calls with both mappers at
+//! once.
 ghost use Rattle.std.specs.Prelude.{◌≡◌, false, IsTrue};
 ghost use Rattle.std.specs.List.{AllByRecursion};
 ghost use Rattle.x86_64_model.specs.Alike.{Alike};
@@ -21,7 +22,8 @@ use x86_64_mappers::mapped_page_table::MappedPageTableIn;
 use x86_64_mappers::recursive_page_table::RecursivePageTableIn;
 use x86_64_tables::phys_memory::Active;
 
-/// Tells whether the path maps of two hierarchies of so many levels are alike, of which the second one has a recursive index.
+/// Returns whether the path maps of two hierarchies with this number of levels are alike. The second one has a
+/// recursive index.
 fn are_alike<L: LevelCount>(
     memory: &PhysMemory,
     walked: &PhysMemory,
@@ -40,8 +42,8 @@ fn are_alike<L: LevelCount>(
     }
 }
 
-/// Tells whether two hierarchies of so many levels are valid, the second one for a recursive index, their pools fit them, the path
-/// maps are alike, and the free frames the same.
+/// Returns true if two hierarchies with this number of levels are valid, the second one for a recursive index, their
+/// pools fit them, the path maps are alike, and the free frames equal.
 pub fn is_pair<L: LevelCount>(
     rt: impl Abort + Copy,
     alloc: Global,
@@ -61,7 +63,7 @@ pub fn is_pair<L: LevelCount>(
     fits & walked_fits & alike & same_free
 }
 
-/// Tells whether no call names an index of the highest level.
+/// Returns true if no call names an index of the highest level.
 pub fn none_names<L: LevelCount, P5: LevelFiveFlags<L>>(
     calls: &[CallIn<L, P5>],
     index: PageTableIndex,
@@ -72,8 +74,8 @@ pub fn none_names<L: LevelCount, P5: LevelFiveFlags<L>>(
     calls.iter().all(|call| !call.names(index))
 }
 
-/// Answers calls that don't name the recursive index by the mapper over the identity mapping and by the recursive one. Both
-/// mappers are dropped then, and the owner of the memories knows that they are a pair again.
+/// Executes calls that don't name the recursive index, with the mapper over the identity mapping and with the
+/// recursive one. Both mappers are then dropped, and the owner of the memories knows that they are a pair again.
 pub fn run_pair_on<L: LevelCount, P5: LevelFiveFlags<L>>(
     alloc: Global,
     root: PhysFrame<Size4KiB>,

@@ -1,4 +1,4 @@
-//! Runs of the program `pagetab`, over readers and writers in memory: its rows, line by line.
+//! Runs of the program `pagetab`, line by line, with readers and writers in memory.
 mod bad_lines;
 mod endings;
 mod five_levels;
@@ -14,7 +14,7 @@ use pagetab_engine::engine::run;
 use std::alloc::Global;
 use std::process::Abort;
 
-/// Tells how a run ended, what it wrote, and how often it read and wrote.
+/// How a run ended, what it wrote, and the numbers of its reads and writes.
 #[derive(Drop)]
 struct Outcome {
     ending: Ending,
@@ -23,8 +23,8 @@ struct Outcome {
     writes: u64,
 }
 
-/// Runs the engine on arguments that a space parts, and on an image and lines after it. The read and the write
-/// of these numbers fail, where they aren't 0.
+/// Runs the engine on arguments separated by spaces, and on an image and lines after it. The read and the write with
+/// these numbers fail, unless the number is 0.
 fn run_failing(
     rt: impl Abort + Copy,
     alloc: Global,
@@ -48,7 +48,7 @@ fn run_failing(
     }
 }
 
-/// Gives the words of a text.
+/// Returns the words of a text.
 pub fn words_of(rt: impl Abort + Copy, alloc: Global, text: &str) -> Vec<String> {
     let mut words = Vec::new(alloc);
     for word in text.split_whitespace() {
@@ -77,8 +77,8 @@ fn assert_outcome(
 /// The root's word for itself, at the index 510.
 const SELF_ENTRY: &str = "word 0x1000 510 0x1003\n";
 
-/// Arguments for a memory of 8 places, one for each way to find tables there, with the line that an image needs
-/// besides. The recursive mapper is the last one: it adds flags to the entries of new tables.
+/// Arguments for a memory of 8 places, one for each way to find tables, with the additional line that the image
+/// needs. The recursive mapper is the last one, since it adds flags to the entries of new tables.
 const MODES: [(&str, &str); 4] = [
     ("direct 8", ""),
     ("offset 8 0xffff800000000000", ""),
@@ -86,8 +86,7 @@ const MODES: [(&str, &str); 4] = [
     ("recursive 8 510", SELF_ENTRY),
 ];
 
-/// Runs the engine on arguments, and on an image and lines after it, and asserts how the run ends and what it
-/// writes.
+/// Runs the engine on arguments, and on an image and lines after it, and asserts how the run ends and what it writes.
 fn assert_run(
     rt: impl Abort + Copy,
     alloc: Global,
@@ -102,19 +101,19 @@ fn assert_run(
     assert_outcome(rt, &outcome, ending, written, &title);
 }
 
-/// Modes, an image, and a script of commands on it. An arrow parts a command from its reply, which is the same in these modes; a
-/// line without one has no reply.
+/// Modes, an image, and a script of commands on it. An arrow separates a command from its reply, which is equal in
+/// these modes. A line without an arrow has no reply.
 pub type Session = (
     &'static [(&'static str, &'static str)],
     &'static str,
     &'static str,
 );
 
-/// The words of four tables, which map the page 0x1000 of 4KiB to the frame 0x5000.
+/// The words of four tables, which map the 4KiB page 0x1000 to the frame 0x5000.
 const FIRST: &str =
     "word 0x1000 0 0x2003\nword 0x2000 0 0x3003\nword 0x3000 0 0x4003\nword 0x4000 1 0x5003\n";
 
-/// The words of three tables, which map the page 0x200000 of 2MiB to the frame 0x400000.
+/// The words of three tables, which map the 2MiB page 0x200000 to the frame 0x400000.
 const LARGE: &str = "word 0x1000 0 0x2001\nword 0x2000 0 0x3001\nword 0x3000 1 0x400081\n";
 
 /// Two words of the root that name one table.
@@ -126,7 +125,7 @@ pub fn push_line(rt: impl Abort + Copy, text: &mut String, line: &str) {
     unwrap(rt, text.push('\n'))
 }
 
-/// Asserts the replies to the commands of a script on an image, in some of the modes.
+/// Asserts the replies to the commands of a script on an image, in several modes.
 fn assert_replies(
     rt: impl Abort + Copy,
     alloc: Global,
@@ -152,7 +151,7 @@ fn assert_replies(
     }
 }
 
-/// Asserts the replies to the commands of each of some sessions.
+/// Asserts the replies to the commands of each of several sessions.
 fn assert_sessions(rt: impl Abort + Copy, alloc: Global, sessions: &[Session]) {
     for (modes, image, script) in sessions {
         assert_replies(rt, alloc, modes, image, script);

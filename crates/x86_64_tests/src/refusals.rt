@@ -1,4 +1,4 @@
-//! Tests in which memory is refused. They fill the address space.
+//! Tests in which memory allocation fails. They fill the address space.
 mod attempts;
 mod hoard;
 mod lists;

@@ -1,4 +1,4 @@
-//! Replies of the plain program as those to a list with any number of levels.
+//! Replies of the plain program, converted to replies to a list with any number of levels.
 use crate::call_rows::{CallRow, PageCallRow};
 use crate::images::{flags_of, frame_at, page_at};
 use x86_64::structures::paging::mapper::{
@@ -9,7 +9,7 @@ use x86_64::structures::paging::{PageSize, PhysFrame};
 use x86_64::{LevelCount, MapperReply, PageReply, PhysAddr, ReplyIn, SizeReplyIn};
 use x86_64_plain::{Answer, PlainReply, Refusal, Translated};
 
-/// Gives what the plain program's answer to a map of a page is as an answer of a mapper.
+/// Converts the plain program's answer to a map of a page to a mapper's result.
 fn map_result<S: PageSize, L: LevelCount>(
     page: PageIn<S, L>,
     answer: Answer,
@@ -27,7 +27,7 @@ fn map_result<S: PageSize, L: LevelCount>(
     }
 }
 
-/// The same of an unmap.
+/// This for an unmap.
 fn unmap_result<S: PageSize, L: LevelCount>(
     page: PageIn<S, L>,
     answer: Answer,
@@ -44,7 +44,7 @@ fn unmap_result<S: PageSize, L: LevelCount>(
     }
 }
 
-/// The same of flags that were to be set.
+/// This for a change of flags.
 fn flags_result(answer: Answer) -> Option<Result<(), FlagUpdateError>> {
     match answer {
         Answer::Done(_) => Some(Ok(())),
@@ -56,7 +56,7 @@ fn flags_result(answer: Answer) -> Option<Result<(), FlagUpdateError>> {
     }
 }
 
-/// The same of the translation of a page.
+/// This for the translation of a page.
 fn frame_result<S: PageSize>(answer: Answer) -> Option<Result<PhysFrame<S>, TranslateError>> {
     match answer {
         Answer::Done(frame) => Some(Ok(frame_at(frame))),
@@ -72,7 +72,7 @@ fn frame_result<S: PageSize>(answer: Answer) -> Option<Result<PhysFrame<S>, Tran
     }
 }
 
-/// The same of a translation.
+/// This for the translation of an address.
 fn translate_result(translated: Translated) -> TranslateResult {
     match translated {
         Translated::NotMapped => TranslateResult::NotMapped,
@@ -97,7 +97,7 @@ fn translate_result(translated: Translated) -> TranslateResult {
     }
 }
 
-/// The same of a call on a page.
+/// This for a call on a page.
 fn size_reply<S: PageSize, L: LevelCount>(
     call_row: PageCallRow,
     answer: Answer,
@@ -115,7 +115,7 @@ fn size_reply<S: PageSize, L: LevelCount>(
     })
 }
 
-/// Gives the reply of a list to a call that the plain program replies to so, or `None` where it fits no such call.
+/// Returns the reply of a list for the plain program's reply to a call, or `None` if the reply doesn't fit the call.
 pub fn reply_to<L: LevelCount>(call_row: CallRow, plain: PlainReply) -> Option<ReplyIn<L>> {
     match (plain, call_row) {
         (PlainReply::NotAllowed, _) => Some(MapperReply::NotAllowed),

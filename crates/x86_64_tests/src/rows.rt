@@ -1,4 +1,5 @@
-//! Calls on an empty root, as tables: the replies, every word and free frame that they leave, and where walks arrive then.
+//! Calls on an empty root, as tables: the replies, every word and free frame afterwards, and where page walks arrive
+//! then.
 ghost use Rattle.x86_64_model.specs.Pool.{serves_below};
 ghost use Rattle.x86_64_mappers.specs.Layouts.{direct};
 ghost use Rattle.x86_64.specs.Runs.{FitsPool};
@@ -40,48 +41,48 @@ use x86_64::{
 use x86_64_plain::words::address;
 use x86_64_plain::{Answer, PlainReply};
 
-/// The numbers of the places that the memory has.
+/// The numbers of the memory's places. A place is the index of a table in memory.
 const PLACES: [u64; 8] = [0, 1, 2, 3, 4, 5, 6, 7];
 
-/// A call, and the reply to it.
+/// A call, and its reply.
 type Exchange = (CallRow, PlainReply);
 
-/// Calls on an empty root, where the free frames are full of ones, and what comes of them.
+/// Calls on an empty root, with free frames whose words have all bits set, and their results.
 #[derive(Drop)]
 struct Row<'a> {
     /// The numbers of the memory's places.
     places: &'a [u64],
-    /// The free frames at first.
+    /// The free frames before the calls.
     free: &'a [u64],
     /// The calls, each with its reply.
     calls: &'a [Exchange],
-    /// The words that aren't 0 afterwards. The recursive mapper leaves some more: see [`words_by`].
+    /// The words that aren't 0 afterwards. The recursive mapper leaves some more, see [`words_by`].
     words: &'a [Word],
-    /// The frames that are full of ones afterwards.
+    /// The frames whose words have all bits set afterwards.
     full: &'a [u64],
     /// The free frames afterwards.
     left: &'a [u64],
-    /// Where walks arrive afterwards.
+    /// Where page walks arrive afterwards.
     walks: &'a [Walk],
 }
 
-/// What answers the calls.
+/// The mapper that executes the calls.
 #[derive(Clone, Copy)]
 pub enum By {
-    /// Lists of calls by the mapper over the identity mapping.
+    /// Lists of calls with the mapper over the identity mapping.
     Identity,
-    /// By the one over a reference to the identity mapping.
+    /// Lists of calls with the mapper over a reference to the identity mapping.
     Reference,
-    /// By the one of a memory at an offset.
+    /// Lists of calls with the mapper of a memory at an offset.
     Offset,
-    /// By the one that reaches tables through the root's entry for itself at an index.
+    /// Lists of calls with the mapper that reaches tables through the root's entry for itself at this index.
     Recursive(u16),
-    /// The calls of the mapper over the identity mapping itself.
+    /// The methods of the mapper over the identity mapping, without lists.
     Itself,
 }
 
 impl By {
-    /// Gives what messages call it.
+    /// Returns the mapper's name in messages.
     fn name(self) -> &'static str {
         match self {
             By::Identity => "the identity mapping",
@@ -93,16 +94,16 @@ impl By {
     }
 }
 
-/// The recursive index of rows, which no page of a row has unless the row is one of the recursive mapper.
+/// The recursive index of rows. No page of a row has it unless the row is one of the recursive mapper.
 const RECURSIVE_INDEX: u16 = 510;
 
 /// The recursive mapper of rows.
 const RECURSIVE: By = By::Recursive(RECURSIVE_INDEX);
 
-/// The others.
+/// The other mappers.
 const DIRECT: [By; 4] = [By::Identity, By::Reference, By::Offset, By::Itself];
 
-/// All of them.
+/// All mappers.
 const EACH: [By; 5] = [
     By::Identity,
     By::Reference,
@@ -123,8 +124,7 @@ const FREE: [u64; 3] = [0x2000, 0x3000, 0x4000];
 /// A word, after its frame and its index.
 pub type Word = (u64, u16, u64);
 
-/// The word of each level that maps the page 0x1000 of 4KiB to the frame 0x5000, with `PRESENT` and
-/// `WRITABLE`.
+/// The word of each level that maps the 4KiB page 0x1000 to the frame 0x5000, with `PRESENT` and `WRITABLE`.
 const LEVEL_4: Word = (0x1000, 0, 0x2003);
 
 const LEVEL_3: Word = (0x2000, 0, 0x3003);
@@ -133,32 +133,32 @@ const LEVEL_2: Word = (0x3000, 0, 0x4003);
 
 const LEVEL_1: Word = (0x4000, 1, 0x5003);
 
-/// All of these words.
+/// All these words.
 const WORDS: [Word; 4] = [LEVEL_4, LEVEL_3, LEVEL_2, LEVEL_1];
 
-/// The word of each level that maps the page 0x200000 of 2MiB to the frame 0x400000, with `PRESENT`.
+/// The word of each level that maps the 2MiB page 0x200000 to the frame 0x400000, with `PRESENT`.
 const LARGE_LEVEL_4: Word = (0x1000, 0, 0x2001);
 
 const LARGE_LEVEL_3: Word = (0x2000, 0, 0x3001);
 
 const LARGE_LEVEL_2: Word = (0x3000, 1, 0x40_0081);
 
-/// All of these words.
+/// All these words.
 const LARGE_WORDS: [Word; 3] = [LARGE_LEVEL_4, LARGE_LEVEL_3, LARGE_LEVEL_2];
 
-/// Maps the page 0x1000 of 4KiB to the frame 0x5000.
+/// Maps the 4KiB page 0x1000 to the frame 0x5000.
 const FIRST: Exchange = (
     Small(MapTo(0x1000, 0x5000, 0x3)),
     PlainReply::Answered(Answer::Done(0x5000)),
 );
 
-/// Maps the page 0x200000 of 2MiB to the frame 0x400000.
+/// Maps the 2MiB page 0x200000 to the frame 0x400000.
 const FIRST_LARGE: Exchange = (
     Large(MapTo(0x20_0000, 0x40_0000, 0x1)),
     PlainReply::Answered(Answer::Done(0x40_0000)),
 );
 
-/// A row of the first map, which takes all of three free frames.
+/// A row of the first map, which takes all three free frames.
 const MAPPED: Row<'static> = Row {
     places: &PLACES,
     free: &FREE,
@@ -169,7 +169,7 @@ const MAPPED: Row<'static> = Row {
     walks: &[],
 };
 
-/// A row of the first map of a 2MiB page, which leaves one of them.
+/// A row of the first map of a 2MiB page, which leaves one of the free frames.
 const LARGE_MAPPED: Row<'static> = Row {
     calls: &[FIRST_LARGE],
     words: &LARGE_WORDS,
@@ -187,13 +187,13 @@ const UNTOUCHED: Row<'static> = Row {
     ..MAPPED
 };
 
-/// A row of calls whose tables all go back.
+/// A row of calls whose tables are all returned.
 const CLEANED: Row<'static> = Row {
     full: &[],
     ..UNTOUCHED
 };
 
-/// Gives the word that a row wants at an index of a frame.
+/// Returns the expected word of a row at an index of a frame.
 fn wanted_word(row: &Row<'_>, frame: u64, index: u16) -> u64 {
     if row.full.contains(&frame) {
         return u64::MAX;
@@ -214,7 +214,7 @@ pub fn compare_pool(rt: impl Abort + Copy, pool: &FramePool, frames: &[u64], tit
     }
 }
 
-/// Compares every word of the table at a place, named by the frame of its number, with what a row wants.
+/// Compares every word of the table at a place, given as the frame with its number, with a row.
 fn compare_table(
     rt: impl Abort + Copy,
     memory: &PhysMemory,
@@ -229,7 +229,7 @@ fn compare_table(
     }
 }
 
-/// Compares every word of the memory and the free frames with what a row wants, and where walks arrive.
+/// Compares every word of the memory, the free frames, and where page walks arrive with a row.
 fn compare(
     rt: impl Abort + Copy,
     memory: &PhysMemory,
@@ -244,7 +244,7 @@ fn compare(
     compare_walks(rt, memory, row.walks, title)
 }
 
-/// Makes a memory of numbered places: of the first ones as one without gaps.
+/// Creates a memory with these places. If they are the first ones, it is a memory without gaps.
 fn memory_of(rt: impl Abort + Copy, alloc: Global, places: &[u64], limit: u64) -> PhysMemory {
     if places.len() as u64 == limit {
         return unwrap(rt, PhysMemory::new(alloc, limit));
@@ -252,8 +252,8 @@ fn memory_of(rt: impl Abort + Copy, alloc: Global, places: &[u64], limit: u64) -
     unwrap_some(rt, PhysMemory::with_places(alloc, places).ok())
 }
 
-/// Makes an empty root in a row's memory, with its entry for itself where tables are reached through it, and a pool of the
-/// row's free frames, which are full of ones.
+/// Creates an empty root in a row's memory, with the root's entry for itself if tables are reached through it, and a
+/// pool of the row's free frames, whose words have all bits set.
 fn begin(rt: impl Abort + Copy, alloc: Global, row: &Row<'_>, by: By) -> (PhysMemory, FramePool) {
     let limit = row
         .places
@@ -286,7 +286,7 @@ pub fn assert_fits<P: PageTableFrameMapping>(
     assert!(rt; unwrap(rt, pool_fits(alloc, memory, mapping, root, pool)));
 }
 
-/// Gives the calls of exchanges.
+/// Returns the calls of exchanges.
 fn calls_of(rt: impl Abort + Copy, alloc: Global, exchanges: &[Exchange]) -> Vec<Call> {
     let mut calls = Vec::new(alloc);
     for (call, _) in exchanges {
@@ -295,7 +295,7 @@ fn calls_of(rt: impl Abort + Copy, alloc: Global, exchanges: &[Exchange]) -> Vec
     calls
 }
 
-/// Adds the replies of exchanges to others.
+/// Appends the replies of exchanges.
 fn add_replies(rt: impl Abort + Copy, exchanges: &[Exchange], replies: &mut Vec<Reply>) {
     for (call, reply) in exchanges {
         let wanted = unwrap_some(rt, reply_to::<FourLevels>(*call, *reply));
@@ -303,7 +303,7 @@ fn add_replies(rt: impl Abort + Copy, exchanges: &[Exchange], replies: &mut Vec<
     }
 }
 
-/// Answers the calls of rows by each of these, and compares what comes of them.
+/// Executes the calls of rows with each of these mappers, and compares the results.
 fn check_rows(rt: impl Abort + Copy, alloc: Global, rows: &[Row<'_>], mappers: &[By]) {
     for (number, row) in rows.iter().enumerate() {
         for by in mappers {
@@ -313,24 +313,24 @@ fn check_rows(rt: impl Abort + Copy, alloc: Global, rows: &[Row<'_>], mappers: &
     }
 }
 
-/// Does so by each mapper.
+/// Does this with every mapper.
 fn check_by_each(rt: impl Abort + Copy, alloc: Global, rows: &[Row<'_>]) {
     check_rows(rt, alloc, rows, &EACH)
 }
 
-/// Does so by each but the recursive one.
+/// Does this with every mapper but the recursive one.
 fn check_by_direct(rt: impl Abort + Copy, alloc: Global, rows: &[Row<'_>]) {
     check_rows(rt, alloc, rows, &DIRECT)
 }
 
-/// Does so by the recursive one alone.
+/// Does this with the recursive mapper alone.
 fn check_by_recursive(rt: impl Abort + Copy, alloc: Global, rows: &[Row<'_>]) {
     check_rows(rt, alloc, rows, &[RECURSIVE])
 }
 
-/// Gives the words that aren't 0 after a row's calls by a mapper. In a hierarchy with a recursive index the root
-/// has its entry for itself too, and the entries of new tables have `WRITABLE` whatever the parent flags are. No
-/// row that is compared so takes it from them.
+/// Returns the words that aren't 0 after a row's calls with a mapper. In a hierarchy with a recursive index, the root
+/// also has its entry for itself, and the entries of new tables have `WRITABLE` whatever the parent flags are. No row
+/// compared this way removes the flag from them.
 fn words_by(rt: impl Abort + Copy, alloc: Global, row: &Row<'_>, by: By) -> Vec<Word> {
     let By::Recursive(self_index) = by else {
         return unwrap(rt, Vec::from_slice(alloc, row.words));
@@ -350,7 +350,7 @@ fn words_by(rt: impl Abort + Copy, alloc: Global, row: &Row<'_>, by: By) -> Vec<
     words
 }
 
-/// Compares what calls by a mapper left with what a row wants of it.
+/// Compares the results of calls with a mapper with a row.
 fn compare_by(
     rt: impl Abort + Copy,
     alloc: Global,
@@ -367,7 +367,7 @@ fn compare_by(
     compare(rt, memory, pool, &left, title)
 }
 
-/// Answers a list of calls by the mapper over the identity mapping, by a reference to it or by an offset.
+/// Executes a list of calls with the mapper over the identity mapping, over a reference to it, or at an offset.
 fn answer_list(
     rt: impl Abort + Copy,
     alloc: Global,
@@ -390,7 +390,7 @@ fn answer_list(
     unwrap(rt, answer)
 }
 
-/// Answers a list of calls through the root's entry for itself.
+/// Executes a list of calls with the recursive mapper.
 fn answer_recursively(
     rt: impl Abort + Copy,
     alloc: Global,
@@ -407,7 +407,7 @@ fn answer_recursively(
     )
 }
 
-/// Answers exchanges, where the image and the pool fit.
+/// Executes exchanges, after a test that the hierarchy is valid and the pool fits it.
 fn answer(
     rt: impl Abort + Copy,
     alloc: Global,
@@ -434,7 +434,7 @@ fn answer(
     }
 }
 
-/// Answers a row's calls, the first in a list of its own, after an earlier reply, and compares the replies.
+/// Executes a row's calls, the first one in a list of its own, after an earlier reply, and compares the replies.
 fn answer_exchanges(
     rt: impl Abort + Copy,
     alloc: Global,
@@ -460,7 +460,7 @@ fn answer_exchanges(
     assert_equal_in(rt, title, replies, wanted);
 }
 
-/// Answers a row's calls, compares what comes of them, and gives the memory and the pool.
+/// Executes a row's calls, compares the results, and returns the memory and the pool.
 fn answer_row(
     rt: impl Abort + Copy,
     alloc: Global,
@@ -475,7 +475,7 @@ fn answer_row(
     (memory, pool)
 }
 
-/// Tests that the hierarchy is valid and the pool fits it again.
+/// Asserts that the hierarchy is valid and the pool fits it again.
 fn check_fits(
     rt: impl Abort + Copy,
     alloc: Global,

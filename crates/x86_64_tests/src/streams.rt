@@ -1,20 +1,20 @@
 //! Readers and writers in memory.
 use std::io::{self, Read, Write};
 
-/// How many bytes a source gives at once.
+/// The maximum number of bytes that a source returns per read.
 pub const BYTES_AT_ONCE: usize = 7;
 
-/// Gives its bytes some at a time, and fails at the call of a number, counted from 1.
+/// A reader that returns its bytes a few at a time, and fails at the call with a given number, counted from 1.
 #[derive(Drop)]
 pub struct Source<'a> {
     rest: &'a [u8],
-    /// How often it was read.
+    /// The number of reads.
     pub calls: u64,
     fails_at: u64,
 }
 
 impl<'a> Source<'a> {
-    /// Makes one with these bytes. It never fails where the number is 0.
+    /// Creates a source with these bytes. It never fails if the number is 0.
     pub fn new(bytes: &'a [u8], fails_at: u64) -> Source<'a> {
         Source {
             rest: bytes,
@@ -38,17 +38,17 @@ impl Read for Source<'_> {
     }
 }
 
-/// Gives its bytes, and then one byte for ever, as many at a time as there is room for.
+/// A reader that returns its bytes, and then one byte forever, as many at a time as there is room for.
 #[derive(Drop)]
 pub struct Endless<'a> {
     rest: &'a [u8],
     again: u8,
-    /// How many bytes it gave.
+    /// The number of bytes returned.
     pub given: u64,
 }
 
 impl<'a> Endless<'a> {
-    /// Makes one with these bytes, and the byte that follows them.
+    /// Creates a reader with these bytes, and the byte that follows them.
     pub fn new(bytes: &'a [u8], again: u8) -> Endless<'a> {
         Endless {
             rest: bytes,
@@ -70,18 +70,18 @@ impl Read for Endless<'_> {
     }
 }
 
-/// Keeps what is written, and fails at the call of a number, counted from 1.
+/// A writer that keeps what is written, and fails at the call with a given number, counted from 1.
 #[derive(Drop)]
 pub struct Sink {
-    /// What was written.
+    /// The bytes that were written.
     pub bytes: Vec<u8>,
-    /// How often it was written to.
+    /// The number of writes.
     pub calls: u64,
     fails_at: u64,
 }
 
 impl Sink {
-    /// Makes one that keeps what is written in a vector. It never fails where the number is 0.
+    /// Creates a writer that keeps what is written in a vector. It never fails if the number is 0.
     pub fn new(bytes: Vec<u8>, fails_at: u64) -> Sink {
         Sink {
             bytes,
@@ -106,19 +106,19 @@ impl Write for Sink {
     }
 }
 
-/// Compares what is written with what is wanted, and takes no memory.
+/// A writer that compares what is written with the expected bytes, and takes no memory.
 #[derive(Drop)]
 pub struct Comparison<'a> {
-    /// What is still to be written.
+    /// The bytes that are still to be written.
     pub rest: &'a [u8],
-    /// Tells whether all that was written was wanted.
+    /// Whether all that was written was expected.
     pub agrees: bool,
-    /// How often it was written to.
+    /// The number of writes.
     pub calls: u64,
 }
 
 impl<'a> Comparison<'a> {
-    /// Makes one of what is wanted.
+    /// Creates a writer from the expected bytes.
     pub fn new(wanted: &'a [u8]) -> Comparison<'a> {
         Comparison {
             rest: wanted,

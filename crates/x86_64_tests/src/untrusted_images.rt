@@ -1,4 +1,4 @@
-//! Images that nobody vouches for, and which of them are valid: by the tests of hierarchies, and by walks.
+//! Untrusted images, and which of them are valid, by the tests of hierarchies and by page walks.
 use crate::assertions::{assert_equal_in, unwrap};
 use crate::images::{ROOT, WORD_COUNT, frame_at, set_word};
 use crate::rows::{SELF_ENTRY, Word};
@@ -7,7 +7,7 @@ use std::process::Abort;
 use x86_64::structures::paging::PageTableIndex;
 use x86_64::{IdentityMapping, PhysMemory, is_valid_hierarchy, is_valid_recursive};
 
-/// How many places the memory of an image has.
+/// The number of places of an image's memory. A place is the index of a table in memory.
 const PLACES: u64 = 8;
 
 /// An image: the words below the root that aren't 0.
@@ -15,14 +15,14 @@ const PLACES: u64 = 8;
 pub struct Image {
     /// Words, each after those above it.
     words: &'static [Word],
-    /// The table whose words are full of ones, if there is one.
+    /// The table whose words have all bits set, if there is one.
     full: Option<u64>,
-    /// Where the image is valid, commands that read it, each beside the reply of the program.
+    /// Commands that read the image if it is valid, each beside the program's reply.
     pub replies: Option<&'static str>,
 }
 
 impl Image {
-    /// Gives the words that aren't 0, each after those above it.
+    /// Returns the words that aren't 0, each after those above it.
     pub fn words(&self, rt: impl Abort + Copy, alloc: Global) -> Vec<Word> {
         let mut words = unwrap(rt, Vec::from_slice(alloc, self.words));
         if let Some(frame) = self.full {
@@ -34,14 +34,14 @@ impl Image {
     }
 }
 
-/// Makes a row of an image that isn't valid.
+/// The basis of rows of invalid images.
 const INVALID: Image = Image {
     words: &[],
     full: None,
     replies: None,
 };
 
-/// The images. In the first four the words name each table once.
+/// The images. In the first four, the words name each table once.
 pub static IMAGES: [Image; 16] = [
     Image {
         words: &[],
@@ -56,7 +56,7 @@ pub static IMAGES: [Image; 16] = [
             "translate 0 -> mapped 1GiB 0x40000000 0x0 0x83\nwalk 0 -> 0x40000000 write=1 user=0",
         ),
     },
-    // A 4KiB page is the table that maps it.
+    // A 4KiB page is mapped to the frame of the table that maps it.
     Image {
         words: &[
             (ROOT, 0, 0x2003),
@@ -100,7 +100,7 @@ pub static IMAGES: [Image; 16] = [
         words: &[(ROOT, 0, 0x2003), (ROOT, 1, 0x2002)],
         ..INVALID
     },
-    // A table would lie past the memory, or in frame 0.
+    // A table would be past the memory, or in frame 0.
     Image {
         words: &[(ROOT, 0, 0x8003)],
         ..INVALID
@@ -128,7 +128,7 @@ pub static IMAGES: [Image; 16] = [
     },
 ];
 
-/// Makes a memory with words.
+/// Creates a memory with words.
 fn memory_of(rt: impl Abort + Copy, alloc: Global, words: &[Word]) -> PhysMemory {
     let mut memory = unwrap(rt, PhysMemory::new(alloc, PLACES));
     for (frame, index, word) in words {
@@ -137,7 +137,7 @@ fn memory_of(rt: impl Abort + Copy, alloc: Global, words: &[Word]) -> PhysMemory
     memory
 }
 
-/// Asserts whether a hierarchy is valid, without a recursive index and with one.
+/// Asserts whether a hierarchy is valid, without a recursive index or with one.
 fn assert_validity(
     rt: impl Abort + Copy,
     alloc: Global,

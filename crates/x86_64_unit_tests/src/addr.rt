@@ -1,4 +1,4 @@
-//! Values from outside: the limits of addresses, their indices and their texts.
+//! Tests against independent values: the limits of addresses, their indices and their texts.
 ghost use Rattle.std.specs.Prelude.{◌≡◌, ◌<◌, ◌↔◌, IsTrue};
 ghost use Rattle.x86_64_addr.specs.Levels.{level_number};
 
@@ -16,40 +16,41 @@ mod levels;
 mod operators;
 mod steps;
 
-/// The last address below the gap of four levels.
+/// The last address below the gap with four levels.
 const LAST_LOW: u64 = 0x7fff_ffff_ffff;
 
-/// The first address above it.
+/// The first address above the gap with four levels.
 const FIRST_HIGH: u64 = 0xffff_8000_0000_0000;
 
-/// The last address below the gap of five levels.
+/// The last address below the gap with five levels.
 const LAST_LOW_57: u64 = 0x00ff_ffff_ffff_ffff;
 
-/// The first address above it.
+/// The first address above the gap with five levels.
 const FIRST_HIGH_57: u64 = 0xff00_0000_0000_0000;
 
-/// Equality of addresses is that of their positions.
+/// Returns true if two addresses are equal. They are if and only if their positions are equal. A position is an
+/// address counted without the gap.
 fn are_equal(left: VirtAddr, right: VirtAddr) -> bool
     ensures { IsTrue result ↔ (left ≡ right) }
 {
     left == right
 }
 
-/// Order of addresses is that of their positions.
+/// Returns true if an address is below another one. It is if and only if its position is.
 fn is_below(left: VirtAddr, right: VirtAddr) -> bool
     ensures { IsTrue result ↔ (left < right) }
 {
     left < right
 }
 
-/// Order of levels is that of their numbers.
+/// Returns true if a level is below another one. It is if and only if its number is.
 fn is_lower(left: PageTableLevel, right: PageTableLevel) -> bool
     ensures { IsTrue result ↔ (level_number left < level_number right) }
 {
     left < right
 }
 
-/// Values, and the raw values of the addresses of four levels that they are cut to.
+/// Values, and the raw values of the addresses that they are truncated to, with four levels.
 const TRUNCATED: [(u64, u64); 5] = [
     (0, 0),
     (1 << 47, FIRST_HIGH),
@@ -58,10 +59,10 @@ const TRUNCATED: [(u64, u64); 5] = [
     (0xffff_7fff_ffff_ffff, LAST_LOW),
 ];
 
-/// The same of five levels.
+/// These with five levels.
 const TRUNCATED_57: [(u64, u64); 1] = [(1 << 56, FIRST_HIGH_57)];
 
-/// Compares the raw values of the addresses that values are cut to.
+/// Compares the raw values of the addresses that values are truncated to.
 fn check_truncated<L: LevelCount>(rt: impl Abort + Copy, rows: &[(u64, u64)]) {
     for (value, raw) in rows {
         let address = VirtAddrIn::<L>::new_truncate(*value);
@@ -69,7 +70,7 @@ fn check_truncated<L: LevelCount>(rt: impl Abort + Copy, rows: &[(u64, u64)]) {
     }
 }
 
-/// Values, and whether they are raw values of addresses of four levels.
+/// Values, and whether they are raw values of addresses, with four levels.
 const CANONICAL: [(u64, bool); 6] = [
     (0, true),
     (LAST_LOW, true),
@@ -79,7 +80,7 @@ const CANONICAL: [(u64, bool); 6] = [
     (0xffff_7fff_ffff_ffff, false),
 ];
 
-/// The same of five levels.
+/// These with five levels.
 const CANONICAL_57: [(u64, bool); 7] = [
     (0, true),
     (0x8000_0000_0000, true),
@@ -132,7 +133,7 @@ fn addresses_lie_below_the_gap_or_above_it(rt: HostRuntime) {
     check_limits(rt, VirtAddr57::new(LAST_LOW_57), high);
 }
 
-/// Values, and the physical addresses that they are cut to.
+/// Values, and the physical addresses that they are truncated to.
 const TRUNCATED_PHYSICAL: [(u64, u64); 4] = [
     (0, 0),
     (1 << 52, 0),
@@ -156,7 +157,7 @@ fn physical_addresses_have_52_bits(rt: HostRuntime) {
     assert!(rt; PhysAddr::new_unsafe(0).is_null() && !greatest.is_null());
 }
 
-/// Raw values of addresses of four levels, their indices, the highest level first, and their offsets in a page.
+/// Raw values of addresses with four levels, their indices from the highest level down, and their offsets in a page.
 const INDICES: [(u64, [u16; 4], u16); 5] = [
     (0x1abc, [0, 0, 0, 1], 0xabc),
     (0x80_8060_4005, [1, 2, 3, 4], 5),
@@ -178,7 +179,7 @@ fn addresses_have_indices(rt: HostRuntime) {
     assert!(rt; is_lower(PageTableLevel::Three, PageTableLevel::Four));
 }
 
-/// Gives the indices of an address by the names of their levels.
+/// Returns the indices of an address by the names of their levels.
 fn indices_by_level(address: VirtAddr) -> [PageTableIndex; 4] {
     [
         address.page_table_index(PageTableLevel::Four),
@@ -188,7 +189,7 @@ fn indices_by_level(address: VirtAddr) -> [PageTableIndex; 4] {
     ]
 }
 
-/// Gives the indices of an address from level four down, by the call for each.
+/// Returns the indices of an address from level four down, with the method for each.
 fn low_indices<L: LevelCount>(address: VirtAddrIn<L>) -> [PageTableIndex; 4] {
     [
         address.p4_index(),
@@ -198,7 +199,8 @@ fn low_indices<L: LevelCount>(address: VirtAddrIn<L>) -> [PageTableIndex; 4] {
     ]
 }
 
-/// Raw values of addresses of five levels, the indices of level five, those of the levels below, and the offsets in a page.
+/// Raw values of addresses with five levels, the indices of level five, those of the levels below, and the offsets in
+/// a page.
 const INDICES_57: [(u64, u16, [u16; 4], u16); 4] = [
     (0x0007_0080_8060_4005, 7, [1, 2, 3, 4], 5),
     (LAST_LOW_57, 255, [511, 511, 511, 511], 0xfff),
@@ -221,7 +223,7 @@ fn addresses_have_five_indices(rt: HostRuntime) {
     }
 }
 
-/// Gives the indices of an address from level four down, by the names of their levels.
+/// Returns the indices of an address from level four down, by the names of their levels.
 fn low_indices_by_level(address: VirtAddr57) -> [PageTableIndex; 4] {
     [
         address.page_table_index(PageTableLevel57::Four),

@@ -1,4 +1,4 @@
-//! What the types of addresses, pages, frames, indices, levels and flags have in common: they are copied, ordered and hashed.
+//! Common properties of addresses, pages, frames, indices, levels and flags: they can be copied, ordered and hashed.
 use crate::assertions::{assert_equal, assert_equal_in, unwrap, unwrap_some};
 use crate::page::{frame, page};
 use bitflags::Flags;
@@ -13,12 +13,13 @@ use x86_64_page::page::{PageSize, Size1GiB, Size2MiB, Size4KiB};
 use x86_64_page::range::{Block, BlockRange, BlockRangeInclusive};
 use x86_64_tables::page_table::PageTableFlags;
 
-/// Gives the hash of a value.
+/// Returns the hash of a value.
 fn hash_of<T: Hash + Drop>(value: T) -> u64 {
     BuildHasherDefault::<DefaultHasher>::default().hash_one(value)
 }
 
-/// Compares two equal values that were made apart, and their hashes, and the first one's clone. Another one is not equal.
+/// Compares two equal values that were created separately, their hashes, and the clone of the first one. A third
+/// value must differ.
 fn check_hashed<T: Debug + Copy + Eq + Hash>(rt: impl Abort + Copy, one: T, same: T, other: T) {
     let clone = unwrap(rt, one.clone());
     assert_equal_in(rt, one, (clone, hash_of(one)), (same, hash_of(same)));
@@ -85,7 +86,7 @@ fn check_blocks<B: Block + Debug + Ord + Hash>(rt: impl Abort + Copy, start: B, 
     check_hashed(rt, range, BlockRangeInclusive { start: same, end }, other);
 }
 
-/// Compares two values of a size, which has no other.
+/// Compares two values of a size type, which has no others.
 fn check_unit<S: PageSize + Debug + Hash>(rt: impl Abort + Copy, size: S, same: S) {
     let clone = unwrap(rt, size.clone());
     assert_equal(rt, (clone, hash_of(size)), (same, hash_of(same)));

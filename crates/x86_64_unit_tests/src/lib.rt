@@ -1,5 +1,5 @@
-//! Tests of the public calls of the crates up to mappings, one module a crate. They stand here and not in the crates, so that each crate
-//! is proved once.
+//! Tests of the public calls of the crates up to mappings, with one module per crate. They are not in the crates
+//! themselves, so that each crate is proved only once.
 #![tactic(auto)]
 
 #[cfg(test)]

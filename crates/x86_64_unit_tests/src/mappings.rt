@@ -1,4 +1,5 @@
-//! Tests of lists of mappings and of regions, by the lines that they are printed as, with four levels of tables and with five.
+//! Tests of lists of mappings and of regions, by the lines that they are printed as, with four levels of page tables
+//! and with five.
 ghost use Rattle.std.specs.Iterator.{IsFinite};
 
 use crate::assertions::{assert_equal_in, unwrap, unwrap_some};
@@ -18,7 +19,7 @@ struct Row<'a> {
     regions: &'a [&'a str],
 }
 
-/// Rows with four levels of tables.
+/// Rows with four levels of page tables.
 static ROWS: [Row<'static>; 9] = [
     // A page of each size.
     Row {
@@ -41,7 +42,8 @@ static ROWS: [Row<'static>; 9] = [
             "0x40000000-0x7fffffff 1GiB rwx-",
         ],
     },
-    // Words without `PRESENT` at each level, also with `HUGE_PAGE`; `HUGE_PAGE` at level four; and a table that the memory lacks.
+    // Words without `PRESENT` at each level, with and without `HUGE_PAGE`, `HUGE_PAGE` at level four, and a table
+    // that the memory lacks.
     Row {
         words: &[
             (0x1000, 0, 0x2003),
@@ -82,8 +84,8 @@ static ROWS: [Row<'static>; 9] = [
             "0x40000000-0x7fffffff 1GiB rwx-",
         ],
     },
-    // Rights that each level takes away: writing at level four, user code at level three, execution at level two, and all at level
-    // one. Each table is shared.
+    // Rights that each level takes away: writing at level four, user code at level three, execution at level two, and
+    // all at level one. Each table is shared.
     Row {
         words: &[
             (0x1000, 0, 0x2007),
@@ -131,7 +133,7 @@ static ROWS: [Row<'static>; 9] = [
             "0x8040200000-0x8040201fff 8KiB r---",
         ],
     },
-    // Both ends of both halves of the address space, which nothing joins.
+    // Both ends of both halves of the address space, which are not joined.
     Row {
         words: &[
             (0x1000, 0, 0x2003),
@@ -158,7 +160,7 @@ static ROWS: [Row<'static>; 9] = [
             "0xfffffffffffff000-0xffffffffffffffff 4KiB rwx-",
         ],
     },
-    // Pages of two sizes and of three tables that follow on each other, up to one with other rights.
+    // Adjacent pages of two sizes and in three tables, up to a page with other rights.
     Row {
         words: &[
             (0x1000, 0, 0x2003),
@@ -183,7 +185,7 @@ static ROWS: [Row<'static>; 9] = [
             "0x401000-0x402fff 8KiB r-x-",
         ],
     },
-    // A recursive index, below which the tables are mapped as pages.
+    // A recursive index, through which the tables are mapped as pages.
     Row {
         words: &[(0x1000, 0, 0x2003), (0x1000, 511, 0x1003)],
         mappings: &[
@@ -201,7 +203,7 @@ static ROWS: [Row<'static>; 9] = [
         mappings: &["0x0 4KiB 0x1000 rwx- 0x3"],
         regions: &["0x0-0xfff 4KiB rwx-"],
     },
-    // Nothing.
+    // No words.
     Row {
         words: &[],
         mappings: &[],
@@ -209,7 +211,7 @@ static ROWS: [Row<'static>; 9] = [
     },
 ];
 
-/// Rows with five levels of tables.
+/// Rows with five levels of page tables.
 static ROWS_57: [Row<'static>; 2] = [
     // `HUGE_PAGE` at levels five and four.
     Row {
@@ -257,14 +259,14 @@ static ROWS_57: [Row<'static>; 2] = [
     },
 ];
 
-/// Makes a memory of 16 places with words.
+/// Creates a memory of 16 places with words. A place is the index of a table in memory.
 fn memory_of(rt: impl Abort + Copy, alloc: Global, words: &[Word]) -> PhysMemory {
     let mut memory = unwrap(rt, PhysMemory::new(alloc, 16));
     set_words(rt, &mut memory, words);
     memory
 }
 
-/// Compares items with the lines that they are printed as. There are no more of either.
+/// Compares items with the lines that they are printed as, and their numbers.
 fn check_lines<T: Display + Drop, I: Iterator<Item = T> + Drop>(
     rt: impl Abort + Copy,
     alloc: Global,
@@ -308,7 +310,7 @@ fn mappings_and_their_regions_are_listed_with_five_levels(rt: HostRuntime) {
     }
 }
 
-/// Addresses, and how many of the pages of the first row end before each.
+/// Addresses, and the number of pages of the first row that end before each.
 const STARTS: [(u64, usize); 9] = [
     (0x0, 0),
     (0x1fff, 0),
@@ -362,7 +364,8 @@ fn a_region_may_be_as_large_as_a_half(rt: HostRuntime) {
     check_lines(rt, rt.alloc(), 0, listed, &lines);
 }
 
-/// The words of tables that lie from frame 0x100 on, at their places times 0x1000. One names a frame below these.
+/// The words of tables in the frames from 0x100 on, with their places times 0x1000. One word names a frame below
+/// these.
 const GUEST: [Word; 5] = [
     (0, 0, 0x10_1003),
     (0, 1, 0x1003),

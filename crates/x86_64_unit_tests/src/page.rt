@@ -1,4 +1,5 @@
-//! Values from outside: the sizes, the starts of pages and frames, their indices, steps and sums, and the texts.
+//! Tests against independent values: the sizes, the starts of pages and frames, their indices, steps and sums, and
+//! the texts.
 ghost use Rattle.std.specs.Prelude.{◌≡◌, ◌<◌, ◌↔◌, IsTrue};
 
 mod ranges;
@@ -19,44 +20,44 @@ use x86_64_page::page::{
 };
 use x86_64_page::range::Block;
 
-/// The last page of the lower half of the address space of four levels.
+/// The last page of the lower half of the address space with four levels.
 const LOWER_LAST: u64 = 0x7fff_ffff_f000;
 
-/// The first page of the upper half.
+/// The first page of the upper half with four levels.
 const UPPER_FIRST: u64 = 0xffff_8000_0000_0000;
 
-/// The last page of the lower half of the address space of five levels.
+/// The last page of the lower half of the address space with five levels.
 const LOWER_LAST_57: u64 = 0x00ff_ffff_ffff_f000;
 
-/// The first page of the upper half.
+/// The first page of the upper half with five levels.
 const UPPER_FIRST_57: u64 = 0xff00_0000_0000_0000;
 
-/// The last page of all.
+/// The last page of the address space.
 const LAST: u64 = 0xffff_ffff_ffff_f000;
 
-/// Gives the page that contains a raw address.
+/// Returns the page that contains a raw address.
 pub(crate) fn page<S: PageSize, L: LevelCount>(raw: u64) -> PageIn<S, L> {
     PageIn::containing_address(VirtAddrIn::new_truncate(raw))
 }
 
-/// Gives the frame that contains a physical address.
+/// Returns the frame that contains a physical address.
 pub(crate) fn frame<S: PageSize>(raw: u64) -> PhysFrame<S> {
     PhysFrame::containing_address(PhysAddr::new_truncate(raw))
 }
 
-/// Gives the raw start of a page, if there is one.
+/// Returns the raw start address of a page, if there is one.
 fn raw<S: PageSize, L: LevelCount>(page: Option<PageIn<S, L>>) -> Option<u64> {
     Some(page?.start_address().as_u64())
 }
 
-/// Equality of frames is that of their start addresses.
+/// Returns true if two frames are equal. They are if and only if their start addresses are equal.
 fn are_equal<S: PageSize>(left: PhysFrame<S>, right: PhysFrame<S>) -> bool
     ensures { IsTrue result ↔ (left ≡ right) }
 {
     left == right
 }
 
-/// Order of frames is that of their start addresses.
+/// Returns true if a frame is below another one. It is if and only if its start address is.
 fn is_below<S: PageSize>(left: PhysFrame<S>, right: PhysFrame<S>) -> bool
     ensures { IsTrue result ↔ (left < right) }
 {
@@ -67,7 +68,7 @@ fn is_below_giant<S: NotGiantPageSize>() -> bool {
     S::SIZE < 0x4000_0000
 }
 
-/// Compares the frame that contains an address.
+/// Compares the start of the frame that contains an address.
 fn check_frame<S: PageSize>(rt: impl Abort + Copy, address: u64, start: u64) {
     let (address, start) = (
         PhysAddr::new_truncate(address),
@@ -80,7 +81,7 @@ fn check_frame<S: PageSize>(rt: impl Abort + Copy, address: u64, start: u64) {
     assert_equal(rt, refused, Err(AddressNotAligned));
 }
 
-/// Compares a size's numbers, and the starts of the frames that contain two addresses.
+/// Compares a size's level and number of bytes, and the starts of the frames that contain two addresses.
 fn check_size<S: PageSize>(rt: impl Abort + Copy, level: u64, size: u64, starts: [u64; 2]) {
     assert_equal(rt, (S::LEVEL, S::SIZE), (level, size));
     assert_equal(rt, frame::<S>(0).size(), size);
@@ -142,14 +143,15 @@ fn pages_start_at_multiples(rt: HostRuntime) {
     assert_equal(rt, Page::<Size2MiB>::SIZE, 0x20_0000);
 }
 
-/// Equality of pages is that of their positions, and so is their order.
+/// Returns true if a page is below another one. It is if and only if its position (the address counted without the
+/// gap) is.
 fn are_ordered<S: PageSize, L: LevelCount>(left: PageIn<S, L>, right: PageIn<S, L>) -> bool
     ensures { IsTrue result ↔ (left < right) }
 {
     left < right && left != right
 }
 
-/// Gives the indices of a page, from level four down.
+/// Returns the indices of a page, from level four down.
 fn low_indices<L: LevelCount>(page: PageIn<Size4KiB, L>) -> [PageTableIndex; 4] {
     [
         page.p4_index(),
@@ -215,7 +217,7 @@ fn pages_have_texts(rt: HostRuntime) {
     );
 }
 
-/// The start of a page of 4KiB, a number of steps, and the start of the page that they lead to, if there is one.
+/// The start of a 4KiB page, a number of steps, and the start of the page that they lead to, if any.
 type Steps = (u64, usize, Option<u64>);
 
 const FORWARD: [Steps; 13] = [
@@ -239,7 +241,7 @@ const FORWARD_57: [Steps; 2] = [
     (UPPER_FIRST_57, 1 << 44, None),
 ];
 
-/// Steps forward, and compares where that leads.
+/// Steps forward, and compares the results.
 fn check_forward<L: LevelCount>(rt: impl Abort + Copy, rows: &[Steps]) {
     for (start, count, wanted) in rows {
         let found = PageIn::forward_checked(page::<Size4KiB, L>(*start), *count);
@@ -263,7 +265,7 @@ const BACKWARD: [Steps; 11] = [
 
 const BACKWARD_57: [Steps; 1] = [(UPPER_FIRST_57, 1, Some(LOWER_LAST_57))];
 
-/// Steps backward, and compares where that leads.
+/// Steps backward, and compares the results.
 fn check_backward<L: LevelCount>(rt: impl Abort + Copy, rows: &[Steps]) {
     for (start, count, wanted) in rows {
         let found = PageIn::backward_checked(page::<Size4KiB, L>(*start), *count);
@@ -271,7 +273,7 @@ fn check_backward<L: LevelCount>(rt: impl Abort + Copy, rows: &[Steps]) {
     }
 }
 
-/// Starts of pages of 4KiB, and how many steps lead from the one to the other.
+/// Starts of 4KiB pages, and the number of steps from the first to the second.
 type Between = (u64, u64, (usize, Option<usize>));
 
 const BETWEEN: [Between; 10] = [
@@ -289,7 +291,7 @@ const BETWEEN: [Between; 10] = [
 
 const BETWEEN_57: [Between; 1] = [(LOWER_LAST_57, UPPER_FIRST_57, (1, Some(1)))];
 
-/// Counts the steps between pages, and compares their number.
+/// Counts the steps between pages, and compares the results.
 fn check_between<L: LevelCount>(rt: impl Abort + Copy, rows: &[Between]) {
     for (start, end, wanted) in rows {
         let (start, end) = (page::<Size4KiB, L>(*start), page(*end));
@@ -356,7 +358,8 @@ fn frames_have_sums(rt: HostRuntime) {
     assert_equal(rt, large - zero, 2);
 }
 
-/// Compares the number of the frame that contains 3GiB, the frame of that number, and whether there is one of another number.
+/// Compares the number of the frame that contains 3GiB and the frame with that number, and asserts that no frame has
+/// the number `past`.
 fn check_number<S: PageSize>(rt: impl Abort + Copy, number: u64, past: u64) {
     let frame = frame::<S>(0xc000_0000);
     assert_equal(rt, frame.pfn(), number);
@@ -382,7 +385,7 @@ fn frames_have_numbers(rt: HostRuntime) {
     assert_equal(rt, text.as_str(), "PfnNotValid(0x10000000000)");
 }
 
-/// Calls the laws of a size, which hold of all pages and frames of it.
+/// Calls the laws of a size, which hold for all its pages and frames.
 fn call_laws<S: PageSize + Hash>() {
     let (four, five) = (page::<S, FourLevels>(0), page::<S, FiveLevels>(0));
     pages_are_ordered_by_position(four, four);

@@ -1,4 +1,4 @@
-//! Tests of parent flags, tokens and memory, and the frames of all tests.
+//! Tests of parent flags, tokens and memory, and functions for all tests.
 ghost use Rattle.std.specs.Prelude.{◌≡◌, ◌-◌, ◌%◌, ◌^◌};
 
 mod frame_alloc;
@@ -15,14 +15,14 @@ use x86_64_tables::mapper::{MapperFlush, MapperFlushAll, parent_flags};
 use x86_64_tables::page_table::PageTableFlags;
 use x86_64_tables::phys_memory::{FramePlace, IdentityMapping, PageTableFrameMapping, PhysMemory};
 
-/// Gives the 4KiB frame that contains an address, of which the low 52 bits count.
+/// Returns the 4KiB frame that contains an address, of which the low 52 bits count.
 pub(crate) fn frame_at(address: u64) -> PhysFrame<Size4KiB>
     ensures { let low = address % 2 ^ 52 in result ≡ low - low % 4096 }
 {
     PhysFrame::containing_address(PhysAddr::new_truncate(address))
 }
 
-/// Bits, those that parents get of them, and whether there are address bits among them.
+/// Bits, those of them that parents get, and whether there are address bits among them.
 const PARTS: [(u64, u64, bool); 6] = [
     (0x0, 0x0, false),
     (0x3, 0x3, false),
@@ -50,7 +50,8 @@ fn tokens_name_pages(rt: HostRuntime) {
     MapperFlushAll::new().ignore();
 }
 
-/// Gives the address and the flags of word 3 of the table at a place, if there is one.
+/// Returns the address and the flags of word 3 of the table at a place (the index of a table in memory), if there is
+/// one.
 fn word_at(memory: &PhysMemory, place: FramePlace) -> Option<(u64, u64)> {
     let entry = &memory.table(place)?[3];
     Some((entry.addr().as_u64(), entry.flags().bits()))

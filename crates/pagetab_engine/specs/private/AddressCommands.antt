@@ -1,4 +1,4 @@
--- How lines write commands on addresses, with any number of levels.
+-- How lines write commands on addresses, for any number of levels.
 use Rattle.std.specs.Prelude.{ℕ, [], ◌∷◌}
 use Rattle.x86_64_addr.specs.Position.{raw}
 use Rattle.pagetab_engine.specs.PageCalls.{Written, call_written, without_size}

@@ -1,4 +1,4 @@
--- The parts of a run, by which the functions of the engine say what they do of it.
+-- The parts of a run, for the contracts of the engine's functions.
 use Rattle.std.specs.Prelude.{◌≡◌, ℕ, ⊤, List, [], ◌∷◌, ◌++◌, flat_map, Option, Some, None, Result, Ok, Err}
 use Rattle.std.specs.Io.KnownBytes.{Appends}
 use Rattle.pagetab_engine.specs.Lines.{Numbered, numbered_from, lines_of}
@@ -22,11 +22,11 @@ abbrev pub ending_of : Result (Unit {0}) Fault → Ending
 ending_of (Ok done) = Done
 ending_of (Err fault) = Stopped fault
 
--- a run that goes on so from these lines and this hierarchy goes on so from those
+-- any continuation of a run from the later lines and hierarchy is one from the earlier ones
 abbrev pub Follows : (arguments : Arguments) (lines : List Numbered) (before : Hierarchy) (left : List Numbered) (after : Hierarchy) → Type 0
 Follows arguments lines before left after = (ending : Ending) (replies : List Reply) → Reads arguments left after ending replies → Reads arguments lines before ending replies
 
--- what is left after an image: the line of the first command and those behind it, or no line
+-- the lines left after an image: the line of the first command and those after it, or none
 abbrev pub IsLeft : (arguments : Arguments) → (first : Option Command) → (behind left : List Numbered) → Type 0
 IsLeft arguments None behind left = left ≡ []
 IsLeft arguments (Some command) behind left = (line : Numbered) × SaysCommand arguments line command × (left ≡ line ∷ behind)
@@ -45,27 +45,27 @@ IsUnread fault = ⊥
 abbrev pub StopsInImage : (arguments : Arguments) (lines : List Numbered) → Hierarchy → Fault → Type 0
 StopsInImage arguments lines before fault = IsUnread fault × Reads arguments lines before (Stopped fault) []
 
--- a command was answered, and the reply written
+-- a command was executed, and the reply written
 abbrev pub Replies : Command → (before after : Hierarchy) → (old new : Option (List ℕ)) → Type 0
 Replies command before after old new = (reply : Reply) × Answers command before reply after × Appends old new (reply_line reply)
 
--- a command was answered, and the write of the reply failed
+-- a command was executed, and the write of the reply failed
 abbrev pub IsUnwritten : Command → (before after : Hierarchy) → (old new : Option (List ℕ)) → Type 0
 IsUnwritten command before after old new =
     (reply : Reply) × Answers command before reply after × AppendsFront old new (reply_line reply)
 
--- the program was forced to stop at a command: memory was refused, and nothing more is written, or a write failed
+-- the program was forced to stop at a command: memory allocation failed and nothing more is written, or a write failed
 abbrev pub StopsAt : Command → (before after : Hierarchy) → (old new : Option (List ℕ)) → Fault → Type 0
 StopsAt command before after old new OutOfMemory = Appends old new []
 StopsAt command before after old new Output = IsUnwritten command before after old new
 StopsAt command before after old new fault = ⊥
 
--- where a line says the first command, it and the lines behind it were served
+-- if a line is the first command, that command and the lines after it were served
 abbrev pub Served : (arguments : Arguments) → (first : Command) → (behind : List Numbered) → Hierarchy → (old new : Option (List ℕ)) → Ending → Type 0
 Served arguments first behind before old new ending = (line : Numbered) → SaysCommand arguments line first
     → (replies : List Reply) × Serves arguments (line ∷ behind) before ending replies × IsWritten old new ending replies
 
--- where a line says the first command, it and the lines up to those that are left were served
+-- if a line is the first command, that command and the lines up to those left were served
 abbrev pub ServedUntil : (arguments : Arguments) → (first : Command) → (behind : List Numbered) → (before : Hierarchy) → (old new : Option (List ℕ)) → (left : List Numbered) → (after : Hierarchy) → Type 0
 ServedUntil arguments first behind before old new left after = (line : Numbered) → SaysCommand arguments line first
     → (replies : List Reply) × Appends old new (flat_map reply_line replies)

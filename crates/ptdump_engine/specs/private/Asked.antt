@@ -1,9 +1,9 @@
--- Asked: the mappings that are visited by summaries.
+-- Asked: the mappings that summaries visit.
 use Rattle.std.specs.Prelude.{ℕ, List}
 use Rattle.x86_64_model.specs.Mappings.{Mapping}
 use Rattle.x86_64_model.specs.Memory.{Memory, identity_places}
 use Rattle.x86_64_summaries.specs.Wanted.{Asking, asked_mappings, asked_of}
 
--- those of a memory that has each frame at the place of its number
+-- the mappings of a memory with each table at the place, its index in memory, that is the number of its frame
 abbrev pub mappings_asked : {P : Type 0} → Asking Memory P → (L root : ℕ) → List Mapping
 mappings_asked asking L root = asked_mappings (asked_of (λ memory. memory) (λ mapping. identity_places) asking) L root

@@ -1,4 +1,4 @@
--- Finding: what is written of mappings that are visited in search of a physical address.
+-- Finding: the lines for mappings that are visited in the search for a physical address.
 use Rattle.std.specs.Prelude.{◌≡◌, ℕ, ◌+◌, ◌-◌, ◌%◌, ◌||◌, Bool, true, false, List, [], ◌∷◌}
 use Rattle.std.specs.List.{flat_map}
 use Rattle.x86_64_model.specs.Mappings.{Mapping}
@@ -6,11 +6,11 @@ use Rattle.x86_64_model.specs.Position.{position_count, raw}
 use Rattle.ptdump_engine.specs.Walks.{line, access_text}
 use Rattle.ptdump_engine.specs.declared.finder.Finder.{Finder}
 
--- the virtual address that leads to a physical one, whatever the mapping
+-- the line for the virtual address that leads to a physical address, whatever the mapping
 abbrev pub address_text : (L physical : ℕ) → Mapping → List ℕ
 address_text L a m = access_text (raw L ((m.start + (a - m.frame)) % position_count L)) m.rights
 
--- a line for each mapping that is visited
+-- a line for each visited mapping
 abbrev pub visited_text : (L physical : ℕ) → List Mapping → List ℕ
 visited_text L a ms = flat_map (λ m. line (address_text L a m)) ms
 
@@ -18,7 +18,7 @@ abbrev pub some_there : List Mapping → Bool
 some_there [] = false
 some_there (m ∷ ms) = true
 
--- mappings were visited: each is a line, and any of them is found
+-- mappings were visited: each has a line, and any mapping counts as found
 pub record IsSearched {O : Type 0} (puts : O → O → List ℕ → Type 0) (L : ℕ) (old new : Finder O) (ms : List Mapping) : Type 0 where
   pub output : new.output.ghost_name ≡ old.output.ghost_name
   pub physical : new.physical ≡ old.physical

@@ -1,4 +1,4 @@
--- What a search leaves after parts of the mappings.
+-- The state of a search after parts of the mappings.
 use Rattle.std.proofs.Common.{◌≡◌, ◌∙◌, ◌++◌, ◌||◌, ℕ, List, [], ◌∷◌, refl, sym, ap, subst}
 use Rattle.std.proofs.Math.Bool.{or_assoc, or-false}
 use Rattle.std.proofs.lemmas.Grind.{flat_map-append}

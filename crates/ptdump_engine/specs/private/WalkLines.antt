@@ -1,10 +1,10 @@
--- The lines of the rest of a walk, below words that allow so much.
+-- The lines of the rest of a walk, below words that allow some rights.
 use Rattle.std.specs.Prelude.{ℕ, ◌++◌, ◌&&◌, Bool, true, false, List}
 use Rattle.std.specs.List.{flat_map}
 use Rattle.x86_64_model.specs.Mappings.{Rights}
 use Rattle.ptdump_engine.specs.Walks.{End, arrives_at, Walk, line, word_text, end_text, walk_rights}
 
--- what both allow
+-- the rights that both allow
 abbrev pub both_rights : (above below : Rights) → Rights
 both_rights r s = record { write = r.write && s.write; user = r.user && s.user; execute = r.execute && s.execute }
 

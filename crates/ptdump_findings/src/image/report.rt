@@ -1,9 +1,9 @@
-//! What is told of an image as a whole.
+//! The report on an image as a whole.
 use super::{Image, MOST_PLACES};
 use crate::entry::Table;
 use std::fmt::{Display, Formatter, Result as FmtResult, Write};
 
-/// The line of a report for a table: its new address, its old one, and its level.
+/// The line of a report for a table: its new address, its old address and its level.
 #[derive(Drop)]
 pub struct Row<'a> {
     image: &'a Image,
@@ -11,7 +11,7 @@ pub struct Row<'a> {
 }
 
 impl<'a> Row<'a> {
-    /// Makes the line of a table of an image.
+    /// Creates the line of a table of an image.
     pub(super) fn new(image: &'a Image, table: &'a Table) -> Row<'a> {
         Row { image, table }
     }
@@ -33,7 +33,7 @@ pub struct ReportEnd<'a> {
 }
 
 impl<'a> ReportEnd<'a> {
-    /// Makes the end of the report of an image.
+    /// Creates the end of the report of an image.
     pub(super) fn new(image: &'a Image) -> ReportEnd<'a> {
         ReportEnd { image }
     }

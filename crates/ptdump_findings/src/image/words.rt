@@ -1,9 +1,9 @@
-//! What is written of the words of a table.
+//! The texts for the words of a table.
 use super::{Fault, Image};
 use crate::entry::{Entry, Table};
 use std::fmt::{Display, Formatter, Result as FmtResult, Write};
 
-/// The lines of an image for a table: one for each word that isn't 0, but for entries above level one without `PRESENT`.
+/// The lines of an image for a table: one for each word that isn't 0, except for entries above level one without `PRESENT`.
 #[derive(Drop)]
 pub struct WordLines<'a> {
     image: &'a Image,
@@ -12,7 +12,7 @@ pub struct WordLines<'a> {
 }
 
 impl<'a> WordLines<'a> {
-    /// Makes the lines of a table with these words.
+    /// Creates the lines of a table with these words.
     pub(super) fn new(image: &'a Image, table: &'a Table, words: &'a [u64]) -> WordLines<'a> {
         WordLines {
             image,
@@ -45,7 +45,7 @@ pub struct Refusals<'a> {
 }
 
 impl<'a> Refusals<'a> {
-    /// Makes the refusals of a table with these words.
+    /// Creates the refusals of a table with these words.
     pub(super) fn new(image: &'a Image, table: &'a Table, words: &'a [u64]) -> Refusals<'a> {
         Refusals {
             image,

@@ -8,16 +8,16 @@ use crate::rights::{KIND_COUNT, Kind};
 use crate::size::{Count, ExactSize, ShortSize};
 use std::fmt::{Formatter, Result as FmtResult, Write};
 
-/// How much higher a box is for each doubling of the size.
+/// The height that each doubling of the size adds to a box.
 const DOUBLING_HEIGHT: u64 = 2;
 
-/// How wide the strip of a kind of rights is at least, in a box of several kinds.
+/// The least width of the strip for a kind of rights, in a box with several kinds.
 const STRIP_WIDTH: u64 = 6;
 
-/// How many kinds of rights are named beside a box at most.
+/// The greatest number of kinds of rights that are listed beside a box.
 const MOST_NAMED_KINDS: usize = 3;
 
-/// Gives how high the box of regions is: the higher, the larger they are, and at least so that its text has room.
+/// Returns the height of the box of regions. It grows with their size, and is at least that of the text.
 pub(super) fn region_height(piece: &Piece) -> u64
     ensures low { LINE_HEIGHT ≤ result }
     ensures high { result ≤ 200 }
@@ -27,7 +27,7 @@ pub(super) fn region_height(piece: &Piece) -> u64
     (LINE_HEIGHT + DOUBLING_HEIGHT * doublings).max(LINE_HEIGHT * lines)
 }
 
-/// Writes regions that are drawn as one.
+/// Writes regions that are drawn as one box.
 pub(super) fn write_regions<W: Write>(
     f: &mut Formatter<W>,
     area: Area,
@@ -41,7 +41,7 @@ pub(super) fn write_regions<W: Write>(
     f.write_str("</g>\n")
 }
 
-/// Writes what is shown where the pointer rests on regions.
+/// Writes the text that is shown while the pointer rests on regions.
 fn write_tooltip<W: Write>(f: &mut Formatter<W>, piece: &Piece) -> FmtResult {
     let Piece {
         first,
@@ -57,7 +57,7 @@ fn write_tooltip<W: Write>(f: &mut Formatter<W>, piece: &Piece) -> FmtResult {
     )
 }
 
-/// Fills a box with the colours of rights: that of the most bytes, and strips of the others at the right.
+/// Fills a box with the colours of rights: the colour of the most bytes, and strips of the other colours at the right.
 fn write_colours<W: Write>(f: &mut Formatter<W>, area: Area, shares: &Shares) -> FmtResult {
     let largest = shares.largest();
     Kind::with_number(largest).write_filled(f, area)?;
@@ -78,7 +78,7 @@ fn write_colours<W: Write>(f: &mut Formatter<W>, area: Area, shares: &Shares) ->
     Ok(())
 }
 
-/// Gives how wide the strip of some of the mapped bytes is.
+/// Returns the width of the strip for some of the mapped bytes.
 fn strip_width(bytes: u64, mapped: u64) -> u64
     ensures low { STRIP_WIDTH ≤ result }
     ensures high { result ≤ BAR_WIDTH }
@@ -117,7 +117,7 @@ fn write_label<W: Write>(f: &mut Formatter<W>, area: Area, piece: &Piece) -> Fmt
     }
 }
 
-/// Writes of what regions a box consists.
+/// Writes which regions a box consists of.
 fn write_shares<W: Write>(f: &mut Formatter<W>, area: Area, piece: &Piece) -> FmtResult {
     let place = beside(area).below(7);
     let shares = piece.shares;

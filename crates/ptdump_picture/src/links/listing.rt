@@ -1,4 +1,4 @@
-//! The entries of a memory's tables by which they name tables.
+//! The links between the tables of a memory.
 ghost use Rattle.std.specs.Prelude.{◌<◌, All, IfOk, IfSome, OnOk};
 ghost use Rattle.x86_64_model.specs.Memory.{words_of};
 ghost use Rattle.ptdump_picture.specs.Links.{IsLink};
@@ -9,8 +9,8 @@ use x86_64_page::frame::PhysFrame;
 use x86_64_page::page::Size4KiB;
 use x86_64_tables::phys_memory::{PageTableFrameMapping, TableMemory, table_in};
 
-/// Lists the entries by which tables name tables, given the tables' frames by level, those of level one first. An entry names a table
-/// if it has `PRESENT` and no `HUGE_PAGE`.
+/// Lists the entries by which tables name tables. `tables` has the frames of the tables by level, level one first. An entry
+/// names a table if it has `PRESENT` and no `HUGE_PAGE`.
 pub fn table_links<T: TableMemory, P: PageTableFrameMapping>(
     alloc: Global,
     memory: &T,
@@ -29,7 +29,7 @@ pub fn table_links<T: TableMemory, P: PageTableFrameMapping>(
     Ok(links)
 }
 
-/// Adds the entries by which the table in a frame names tables.
+/// Adds the links by the entries of the table in a frame.
 fn push_links<T: TableMemory, P: PageTableFrameMapping>(
     links: &mut Vec<TableLink>,
     memory: &T,
@@ -48,7 +48,7 @@ fn push_links<T: TableMemory, P: PageTableFrameMapping>(
     Ok(())
 }
 
-/// Gives the link by an entry of the table in a frame, or `None` if the entry names no table.
+/// Returns the link by an entry of the table in a frame, or `None` if the entry names no table.
 fn link_at<T: TableMemory, P: PageTableFrameMapping>(
     memory: &T,
     mapping: &P,

@@ -1,20 +1,20 @@
-//! Where the columns of levels stand.
+//! The columns of the levels.
 ghost use Rattle.std.specs.Prelude.{◌≡◌, ◌+◌, ◌≤◌, ◌<◌};
 
 use crate::area::{Area, MARGIN, PICTURE_WIDTH};
 use x86_64_page::frame::PhysFrame;
 use x86_64_page::page::Size4KiB;
 
-/// How high the box of a table is.
+/// The height of the box of a table.
 const BOX_HEIGHT: u64 = 20;
 
-/// How far apart the boxes of two levels are at most.
+/// The greatest distance between the boxes of two levels.
 const MOST_SPACE: u64 = 120;
 
-/// How much room there is for all columns.
+/// The width of all columns together.
 const TREE_WIDTH: u64 = PICTURE_WIDTH - 2 * MARGIN;
 
-/// The columns of levels.
+/// The columns of the levels.
 #[derive(Clone, Copy)]
 pub(super) struct Columns {
     top: u64,
@@ -24,7 +24,7 @@ pub(super) struct Columns {
 }
 
 impl Columns {
-    /// Makes the columns for tables by level.
+    /// Creates the columns for tables by level.
     pub fn new(tables: &[Vec<PhysFrame<Size4KiB>>], top: u64) -> Columns {
         Columns {
             top,
@@ -33,7 +33,7 @@ impl Columns {
         }
     }
 
-    /// Gives where the first box of a level stands, whose index is counted from level one.
+    /// Returns the area of the first box of a level. The index counts levels from 0 at level one.
     pub fn place(&self, index: usize) -> Area
         ensures { result.left + result.width ≤ PICTURE_WIDTH }
     {
@@ -50,7 +50,7 @@ impl Columns {
     }
 }
 
-/// Gives how wide boxes are, so that the largest of the addresses has room.
+/// Returns the width of the boxes, enough for the largest of the addresses.
 fn box_width(tables: &[Vec<PhysFrame<Size4KiB>>]) -> u64
     ensures { result ≤ 180 }
 {

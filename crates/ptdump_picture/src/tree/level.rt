@@ -8,10 +8,10 @@ use std::fmt::{Formatter, Result as FmtResult, Write};
 use x86_64_page::frame::PhysFrame;
 use x86_64_page::page::Size4KiB;
 
-/// How far apart the boxes of tables are.
+/// The distance between the boxes of tables.
 const BOX_SPACE: u64 = 6;
 
-/// How much higher the one box for all tables is if there are twice as many.
+/// The height that each doubling of the number of tables adds to the one box for all tables.
 const DOUBLING_HEIGHT: u64 = 14;
 
 /// The tables of a level.
@@ -19,7 +19,7 @@ const DOUBLING_HEIGHT: u64 = 14;
 pub(super) struct Level {
     index: usize,
     table_count: u64,
-    /// Where the level begins.
+    /// The area of the first box.
     place: Area,
     /// The one box for all tables, unless there are none or they are drawn one by one.
     pub summary: Option<Area>,
@@ -28,7 +28,7 @@ pub(super) struct Level {
 }
 
 impl Level {
-    /// Makes a level of so many tables, which are drawn as one. Its index is counted from level one.
+    /// Creates a level with this number of tables, drawn as one box. The index counts levels from 0 at level one.
     pub fn new(alloc: Global, index: usize, table_count: usize, place: Area) -> Level {
         let table_count = table_count as u64;
         let place = Area {
@@ -70,7 +70,7 @@ impl Level {
         Ok(())
     }
 
-    /// Gives how far its bottom is from the top of the picture.
+    /// Returns the distance of its bottom from the top of the picture.
     pub fn bottom(&self) -> u64 {
         let area = self.boxes.last().map_or(self.place, |table| table.area);
         self.summary.unwrap_or(area).bottom()
@@ -93,7 +93,7 @@ impl Level {
         Ok(())
     }
 
-    /// Writes what level it is, how many tables there are, and how much an entry spans.
+    /// Writes the number of the level, the number of tables, and how much an entry spans.
     fn write_heading<W: Write>(&self, f: &mut Formatter<W>) -> FmtResult {
         let number = self.index.saturating_add(1);
         let place = Point {
@@ -109,7 +109,7 @@ impl Level {
     }
 }
 
-/// Gives where the one box for all tables of a level stands. It is the higher, the more there are.
+/// Returns the area of the one box for all tables of a level. The more tables there are, the higher it is.
 fn summary_area(table_count: u64, place: Area) -> Area {
     let doublings = u64::from(table_count.max(1).ilog2());
     Area {
@@ -118,7 +118,7 @@ fn summary_area(table_count: u64, place: Area) -> Area {
     }
 }
 
-/// Gives how many bytes an entry of a level spans.
+/// Returns the number of bytes that an entry of a level spans.
 fn entry_span(index: usize) -> u64 {
     match index {
         0 => 1 << 12,

@@ -9,7 +9,7 @@ use x86_64_page::page::Size4KiB;
 /// A table, drawn as a box.
 #[derive(Clone, Copy)]
 pub(super) struct TableBox {
-    /// Where it stands.
+    /// The area of the box.
     pub area: Area,
     index: usize,
     frame: PhysFrame<Size4KiB>,
@@ -19,7 +19,7 @@ pub(super) struct TableBox {
 }
 
 impl TableBox {
-    /// Makes the box of the table in a frame, at the level with an index, counted from level one.
+    /// Creates the box of the table in a frame, at a level whose index counts from 0 at level one.
     pub fn new(
         tables: Tables<'_>,
         index: usize,
@@ -43,17 +43,17 @@ impl TableBox {
         table
     }
 
-    /// Tells whether a link leads to the table.
+    /// Returns true if the link leads to the table.
     fn is_named_by(&self, link: &TableLink) -> bool {
         link.child == self.frame && link.level == (self.index as u64).saturating_add(2)
     }
 
-    /// Tells whether a link leads from the table to another.
+    /// Returns true if a link leads from the table to the other table.
     pub fn names(&self, child: &TableBox, links: &[TableLink]) -> bool {
         links.iter().any(|link| link.parent == self.frame && child.is_named_by(link))
     }
 
-    /// Gives where the middle of the tables is that the table names, from the top, or `None` if it names none.
+    /// Returns the vertical middle of the tables that the table names, or `None` if it names none.
     pub fn middle_of_named(&self, boxes: &[TableBox], links: &[TableLink]) -> Option<u64> {
         let mut first = None;
         let mut last = 0;

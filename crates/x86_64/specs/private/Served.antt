@@ -1,4 +1,4 @@
--- Words of calls on pages, and of what becomes of their tokens.
+-- Notions for calls on pages and for their tokens.
 use Rattle.std.specs.Prelude.{◌≡◌, ◌≤◌, ◌+◌, ℕ, Bool, true, false, List, [], Option, Some, None}
 use Rattle.std.proofs.Common.{arith}
 use Rattle.x86_64_model.specs.Machine.{Machine, State, step}
@@ -9,7 +9,7 @@ use Rattle.x86_64.specs.Flushes.{size_items}
 use Rattle.x86_64.specs.Replies.{SizeReply, size_answer, size_changes_nothing}
 use Rattle.x86_64.specs.Runs.{AfterStep}
 
--- these items where they are recorded
+-- these items if they are recorded, and otherwise none
 abbrev pub recorded : Bool → List FlushItem → List FlushItem
 recorded true items = items
 recorded false items = []
@@ -17,17 +17,17 @@ recorded false items = []
 pub less_room : (n room : ℕ) → n + 1 ≤ room → n ≤ room
 less_room n room h = omega arith
 
--- the items of a reply to a call on a page of a size, none where the call isn't allowed
+-- the items of a reply to a call on a page of a size, or none if the call isn't allowed
 abbrev pub items_where : {S : Type 0} → (levels size : ℕ) → Option (SizeReply S) → List FlushItem
 items_where levels size None = []
 items_where levels size (Some answer) = size_items levels size answer
 
--- whether a reply to a call on a page says that nothing changed, as one does that isn't allowed
+-- whether a reply to a call on a page says that nothing changed, or the call isn't allowed
 abbrev pub changes_nothing_where : {S : Type 0} → Option (SizeReply S) → Bool
 changes_nothing_where None = true
 changes_nothing_where (Some answer) = size_changes_nothing answer
 
--- the machine's step by a call on a page that an entry of the level maps, and the reply, with none for a call that isn't allowed
+-- the machine's step for a call on a page that an entry of the level maps, and the reply, or none if the call isn't allowed
 abbrev pub size_step : {S : Type 0} → Machine → (level : ℕ) → State → PageCall → AfterStep (Option (SizeReply S))
 size_step machine level state call =
     let after = step machine state (page_call machine.levels level call) in

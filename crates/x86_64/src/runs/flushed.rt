@@ -1,4 +1,4 @@
-//! Lists of calls whose flushes are recorded.
+//! Lists of calls whose TLB flushes are recorded.
 ghost use Rattle.std.specs.Prelude.{◌≡◌, ◌+◌, ◌<◌, ◌≤◌, ◌⊎◌, length, OnOk, OnErr, vec_len};
 ghost use Rattle.std.specs.Vec.{vec_capacity};
 ghost use Rattle.x86_64_model.specs.Mapper.{PoolFits};
@@ -14,17 +14,17 @@ use x86_64_mappers::calls::TableAccess;
 use x86_64_tables::frame_alloc::FrameStore;
 use x86_64_tables::mapper::{FlushRecorder, TablesIn};
 
-/// Answers calls in order as [`run`](super::run) does, and flushes the token of each accepted call into a recorder, in order.
-/// With five levels its name is `run_flushed_57`, too.
+/// Executes calls in order as [`run`](super::run) does, and flushes the token of each accepted call into a recorder,
+/// in order. Also named `run_flushed_57`, for five levels.
 ///
-/// One reply and one item for each call are reserved first, so that no token comes back.
+/// Room for one reply and one item per call is reserved first, so that no token comes back.
 ///
-/// Conditions: those of [`run`](super::run).
+/// Requires the conditions of [`run`](super::run).
 ///
 /// # Errors
 ///
-/// `AllocError` where the room for the replies or for the items is refused. Then nothing changes, but that the list of replies
-/// keeps the room for a reply to each call where the room for the items is what was refused.
+/// `AllocError` if memory allocation fails for the replies or for the items. Then nothing changes, except that the
+/// list of replies keeps its reserved room if it was the room for the items that was refused.
 pub fn run_flushed<
     L: LevelCount,
     P5: LevelFiveFlags<L>,

@@ -1,4 +1,4 @@
-//! Lists of calls that two mappers answer alike.
+//! Lists of calls to which two mappers reply alike.
 ghost use Rattle.std.specs.Prelude.{◌≡◌, ◌<◌, [], length, IfOk, OnErr};
 ghost use Rattle.x86_64_model.specs.Alike.{Alike};
 ghost use Rattle.x86_64_model.specs.Pool.{serves_below};
@@ -16,22 +16,23 @@ use x86_64_mappers::calls::TableAccess;
 use x86_64_tables::frame_alloc::FramePool;
 use x86_64_tables::mapper::TablesIn;
 
-/// Answers calls in order by two mappers, and gives the one list that is the replies of both. Each mapper and its pool are
-/// left as [`run`](super::run) leaves them.
+/// Executes calls in order with two mappers, and returns the list of replies, which is the same for both. Each mapper
+/// and its pool are left as [`run`](super::run) leaves them.
 ///
-/// The path maps are alike: equal but for `WRITABLE` of table entries. So they are where one image is loaded twice, and one
-/// of the two lacks the entry at the other's recursive index. They are alike at the end too, and the pools equal.
+/// The path maps must be alike, which means that they are equal except for `WRITABLE` of table entries. They are so,
+/// for example, if one image is loaded twice, and one copy lacks the entry at the other's recursive index. They are
+/// alike at the end too, and the pools are equal.
 ///
-/// Room for the replies is reserved before the first call. The tokens of the mappers are ignored, so no flush is recorded.
+/// Room for the replies is reserved before the first call. The mappers' tokens are ignored, so no flush is recorded.
+/// Also named `run_pair_57`, for five levels.
 ///
-/// Conditions: those of [`run`](super::run) for both; the path maps are alike, and the pools equal; no call names a
-/// recursive index of either. Test the path maps by [`tables_alike`](crate::tables_alike), the pools by `==` and the calls by
-/// [`names`](CallIn::names). With five levels its name is
-/// `run_pair_57`, too.
+/// Requires the conditions of [`run`](super::run) for both mappers, that the path maps are alike and the pools equal,
+/// and that no call names a recursive index of either mapper. [`tables_alike`](crate::tables_alike) tests the path
+/// maps, `==` the pools, and [`names`](CallIn::names) the calls.
 ///
 /// # Errors
 ///
-/// `AllocError` where the room for the replies is refused; then nothing changes. An empty list needs no room.
+/// `AllocError` if memory allocation fails for the replies. Then nothing changes. An empty list needs no memory.
 pub fn run_pair<
     L: LevelCount,
     P5: LevelFiveFlags<L>,

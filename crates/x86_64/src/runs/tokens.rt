@@ -1,4 +1,4 @@
-//! What becomes of the tokens of calls: they are ignored, or flushed into a recorder.
+//! What happens to the tokens of calls: they are ignored, or flushed into a recorder.
 ghost use Rattle.std.specs.Prelude.{◌≡◌, ◌+◌, ◌++◌, [], ◌∷◌, ℕ, Bool, List};
 ghost use Rattle.x86_64_tables.specs.declared.mapper.recorder.FlushItem.{FlushItem as Item};
 ghost use Rattle.x86_64_tables.specs.FlushRecorder.{page_item};
@@ -13,15 +13,15 @@ use x86_64_tables::mapper::{
     FlagUpdateError, FlushItem, FlushRecorder, MapperFlushAll, MapperFlushIn, UnmapError,
 };
 
-/// Takes the tokens of calls that were accepted.
+/// A consumer of the tokens of accepted calls.
 pub trait Tokens {
-    // whether each is recorded
+    // whether tokens are recorded
     ghost records: { Bool };
 
     // the items that were recorded so far
     ghost items: { Self → List Item };
 
-    // whether so many more can be taken
+    // whether this number of tokens can still be taken
     ghost has_room: { Self → ℕ → Type 0 };
 
     ghost fewer: { (tokens : Self) (n : ℕ) → has_room tokens (n + 1) → has_room tokens n };
@@ -41,7 +41,7 @@ pub trait Tokens {
         ensures room { (n : ℕ) → Self.has_room self.old (n + 1) → Self.has_room self.new n };
 }
 
-/// Ignores each token.
+/// A consumer that ignores each token.
 #[derive(Drop)]
 pub struct Ignored;
 
@@ -65,7 +65,7 @@ impl Tokens for Ignored {
     ghost fewer = { λ tokens n room. tt };
 }
 
-/// Flushes each token. Where there is room no memory is asked for, so no token comes back.
+/// Flushes each token. No memory is allocated while there is room, so no token comes back.
 impl Tokens for FlushRecorder {
     ghost use Rattle.std.specs.Prelude.{true, ◌≤◌};
     ghost use Rattle.x86_64.specs.private.Served.{less_room};
@@ -91,7 +91,7 @@ impl Tokens for FlushRecorder {
     ghost fewer = { λ recorder n room. less_room n recorder.room room };
 }
 
-/// Hands on the token of a call that was accepted, and gives its page.
+/// Passes on the token of an accepted call, and returns its page.
 pub fn take<S: PageSize, L: LevelCount, E, K: Tokens>(
     tokens: &mut K,
     flushed: Result<MapperFlushIn<S, L>, E>,
@@ -108,7 +108,7 @@ pub fn take<S: PageSize, L: LevelCount, E, K: Tokens>(
     Ok(page)
 }
 
-/// Hands on the token of an unmap that was accepted, and gives its page beside the frame.
+/// Passes on the token of an accepted unmap, and returns the frame and the token's page.
 pub fn take_unmapped<S: PageSize, L: LevelCount, K: Tokens>(
     tokens: &mut K,
     unmapped: Result<(PhysFrame<S>, MapperFlushIn<S, L>), UnmapError>,
@@ -125,7 +125,7 @@ pub fn take_unmapped<S: PageSize, L: LevelCount, K: Tokens>(
     Ok((frame, page))
 }
 
-/// Hands on the token of a change to a table entry that was accepted.
+/// Passes on the token of an accepted change to a table entry.
 pub fn take_all<K: Tokens>(
     tokens: &mut K,
     flushed: Result<MapperFlushAll, FlagUpdateError>,

@@ -1,4 +1,4 @@
-//! Page tables, and what they map.
+//! Page tables, pages, frames and mappers.
 pub mod mapper;
 pub mod page_table;
 

@@ -7,9 +7,9 @@ ghost use Rattle.x86_64_model.specs.Alignment.{IsGreatestMultiple, IsLeastMultip
 use crate::addr::{PhysAddr, VirtAddrIn};
 use crate::level_count::LevelCount;
 
-/// Gives the greatest multiple of `align` that isn't above `addr`.
+/// Returns the greatest multiple of `align` that isn't above `addr`.
 ///
-/// `align` must be a power of two: test that by [`u64::is_power_of_two`].
+/// Requires that `align` is a power of two. Check this with [`u64::is_power_of_two`].
 pub fn align_down(addr: u64, align: u64) -> u64
     requires { IsTrue (is_power_of_two align) }
     ensures value { result ≡ addr - addr % align }
@@ -18,9 +18,9 @@ pub fn align_down(addr: u64, align: u64) -> u64
     addr - remainder(addr, align)
 }
 
-/// Gives the least multiple of `align` that isn't below `addr`.
+/// Returns the least multiple of `align` that isn't below `addr`.
 ///
-/// `align` must be a power of two, and the multiple below 2^64: test that by [`u64::is_power_of_two`] and
+/// Requires that `align` is a power of two, and that the multiple is below 2^64. Check this with [`u64::is_power_of_two`] and
 /// [`u64::checked_next_multiple_of`].
 #[tactic(auto, using(crate::proofs::Alignments::least))]
 pub fn align_up(addr: u64, align: u64) -> u64
@@ -37,9 +37,9 @@ pub fn align_up(addr: u64, align: u64) -> u64
     }
 }
 
-/// Gives what a number has above the greatest multiple of `align` that isn't above it.
+/// Returns the distance of a number from the greatest multiple of `align` that isn't above it.
 ///
-/// `align` must be a power of two.
+/// Requires that `align` is a power of two.
 #[tactic(auto, using(crate::proofs::Alignments::masked, crate::proofs::Alignments::positive, crate::proofs::Alignments::remainder_below))]
 fn remainder(addr: u64, align: u64) -> u64
     requires { IsTrue (is_power_of_two align) }
@@ -50,10 +50,11 @@ fn remainder(addr: u64, align: u64) -> u64
 }
 
 impl<L: LevelCount> VirtAddrIn<L> {
-    /// Gives the address at the position of the raw value aligned up by [`align_up`], which is the position aligned up.
+    /// Returns the address at the position of the raw value aligned up by [`align_up`], which is the position aligned up, both
+    /// modulo the number of positions. If `align` is at least 2^48, or 2^57 with five levels, this is the address 0.
     ///
-    /// By 2^48 and more that is the address 0, by 2^57 and more where there are five levels. `align` must be a power of two,
-    /// and the raw value aligned up below 2^64: test that by [`u64::is_power_of_two`] and [`u64::checked_next_multiple_of`].
+    /// Requires that `align` is a power of two, and that the raw value aligned up is below 2^64. Check this with
+    /// [`u64::is_power_of_two`] and [`u64::checked_next_multiple_of`].
     pub fn align_up(self, align: u64) -> Self
         requires power { IsTrue (is_power_of_two align) }
         requires fits { next_multiple_of (raw L.LEVELS self) align < 2 ^ 64 }
@@ -63,9 +64,9 @@ impl<L: LevelCount> VirtAddrIn<L> {
         Self::new_truncate(align_up(self.as_u64(), align))
     }
 
-    /// Gives the address at the position of the raw value aligned down by [`align_down`], which is the position aligned down.
+    /// Returns the address at the position of the raw value aligned down by [`align_down`], which is the position aligned down.
     ///
-    /// `align` must be a power of two: test that by [`u64::is_power_of_two`].
+    /// Requires that `align` is a power of two. Check this with [`u64::is_power_of_two`].
     pub fn align_down(self, align: u64) -> Self
         requires { IsTrue (is_power_of_two align) }
         ensures value { let n = raw L.LEVELS self in result ≡ (n - n % align) % position_count L.LEVELS }
@@ -74,10 +75,10 @@ impl<L: LevelCount> VirtAddrIn<L> {
         Self::new_truncate(align_down(self.as_u64(), align))
     }
 
-    /// Tells whether the position is a multiple of `align`. From 2^48 on that is the address 0 alone, from 2^57 on where there
-    /// are five levels.
+    /// Returns true if the position is a multiple of `align`. If `align` is at least 2^48, or 2^57 with five levels, only the
+    /// address 0 is aligned.
     ///
-    /// `align` must be a power of two: test that by [`u64::is_power_of_two`].
+    /// Requires that `align` is a power of two. Check this with [`u64::is_power_of_two`].
     pub fn is_aligned(self, align: u64) -> bool
         requires { IsTrue (is_power_of_two align) }
         ensures { IsTrue result ↔ (self % align ≡ 0) }
@@ -87,10 +88,10 @@ impl<L: LevelCount> VirtAddrIn<L> {
 }
 
 impl PhysAddr {
-    /// Gives the least multiple of `align` that isn't below the address.
+    /// Returns the least multiple of `align` that isn't below the address.
     ///
-    /// `align` must be a power of two, and the multiple below 2^52: test that by [`u64::is_power_of_two`], and by
-    /// [`u64::checked_next_multiple_of`] and [`try_new`](Self::try_new).
+    /// Requires that `align` is a power of two, and that the multiple is below 2^52. Check this with [`u64::is_power_of_two`],
+    /// and with [`u64::checked_next_multiple_of`] and [`try_new`](Self::try_new).
     pub fn align_up(self, align: u64) -> PhysAddr
         requires power { IsTrue (is_power_of_two align) }
         requires fits { next_multiple_of self align < 2 ^ 52 }
@@ -100,9 +101,9 @@ impl PhysAddr {
         PhysAddr::new(align_up(self.as_u64(), align))
     }
 
-    /// Gives the greatest multiple of `align` that isn't above the address.
+    /// Returns the greatest multiple of `align` that isn't above the address.
     ///
-    /// `align` must be a power of two: test that by [`u64::is_power_of_two`].
+    /// Requires that `align` is a power of two. Check this with [`u64::is_power_of_two`].
     pub fn align_down(self, align: u64) -> PhysAddr
         requires { IsTrue (is_power_of_two align) }
         ensures value { result ≡ self - self % align }
@@ -111,9 +112,9 @@ impl PhysAddr {
         PhysAddr::new(align_down(self.as_u64(), align))
     }
 
-    /// Tells whether the address is a multiple of `align`.
+    /// Returns true if the address is a multiple of `align`.
     ///
-    /// `align` must be a power of two: test that by [`u64::is_power_of_two`].
+    /// Requires that `align` is a power of two. Check this with [`u64::is_power_of_two`].
     pub fn is_aligned(self, align: u64) -> bool
         requires { IsTrue (is_power_of_two align) }
         ensures { IsTrue result ↔ (self % align ≡ 0) }

@@ -20,7 +20,7 @@ impl Model for PhysAddr {
     ghost inverse = { λ n. record { 0 = n } };
 }
 
-/// A value was not a physical address: it was not below 2^52.
+/// The error for a value that isn't a physical address because it isn't below 2^52.
 ///
 /// Contains the value.
 #[derive(PartialEq, Drop)]
@@ -34,7 +34,9 @@ impl Debug for PhysAddrNotValid {
 }
 
 impl PhysAddr {
-    /// Makes an address of a number, which must be below 2^52. Test that by [`try_new`](Self::try_new).
+    /// Creates an address from a number.
+    ///
+    /// Requires that the number is below 2^52. Check this with [`try_new`](Self::try_new).
     pub fn new(addr: u64) -> PhysAddr
         requires { addr < 2 ^ 52 }
         ensures { result ≡ addr }
@@ -42,14 +44,16 @@ impl PhysAddr {
         PhysAddr(addr)
     }
 
-    /// Makes the address whose number is a value modulo 2^52.
+    /// Creates an address from a number modulo 2^52.
     pub fn new_truncate(addr: u64) -> PhysAddr
         ensures { result ≡ addr % 2 ^ 52 }
     {
         PhysAddr(addr % (1 << 52))
     }
 
-    /// Makes an address of a number, which must be below 2^52, as [`new`](Self::new) does.
+    /// Creates an address from a number, like [`new`](Self::new).
+    ///
+    /// Requires that the number is below 2^52.
     pub fn new_unsafe(addr: u64) -> PhysAddr
         requires { addr < 2 ^ 52 }
         ensures { result ≡ addr }
@@ -57,9 +61,11 @@ impl PhysAddr {
         Self::new(addr)
     }
 
-    /// Makes an address of a number.
+    /// Creates an address from a number.
     ///
-    /// Answers `PhysAddrNotValid` with the value exactly where it isn't below 2^52.
+    /// # Errors
+    ///
+    /// `PhysAddrNotValid`, with the value, if it isn't below 2^52.
     pub fn try_new(addr: u64) -> Result<PhysAddr, PhysAddrNotValid>
         ensures below { IsOk result ↔ (addr < 2 ^ 52) }
         ensures value { IfOk result (λ a. a ≡ addr) }
@@ -73,14 +79,14 @@ impl PhysAddr {
         }
     }
 
-    /// Gives the address 0.
+    /// Returns the address 0.
     pub fn zero() -> PhysAddr
         ensures { result ≡ 0 }
     {
         PhysAddr(0)
     }
 
-    /// Gives the number.
+    /// Returns the address as a number.
     pub fn as_u64(self) -> u64
         ensures value { result ≡ self }
         ensures below { self < 2 ^ 52 }
@@ -88,7 +94,7 @@ impl PhysAddr {
         self.0
     }
 
-    /// Tells whether the address is 0.
+    /// Returns true if the address is 0.
     pub fn is_null(self) -> bool
         ensures { IsTrue result ↔ (self ≡ 0) }
     {

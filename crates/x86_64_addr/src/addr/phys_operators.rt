@@ -11,7 +11,9 @@ impl Add<u64> for PhysAddr {
 
     ghost add_gives = { λ address count sum. sum ≡ address + count };
 
-    /// Gives the sum, which must be below 2^52: test that by [`u64::checked_add`] and [`PhysAddr::try_new`].
+    /// Returns the sum.
+    ///
+    /// Requires that the sum is below 2^52. Check this with [`u64::checked_add`] and [`PhysAddr::try_new`].
     fn add(self, rhs: u64) -> PhysAddr {
         PhysAddr::new(self.as_u64() + rhs)
     }
@@ -22,7 +24,9 @@ impl AddAssign<u64> for PhysAddr {
 
     ghost add_assign_gives = { λ address count sum. sum ≡ address + count };
 
-    /// Adds to the address. The sum must be below 2^52, as for `+`.
+    /// Adds to the address.
+    ///
+    /// Requires that the sum is below 2^52, as for `+`.
     fn add_assign(&mut self, rhs: u64) {
         *self = *self + rhs;
     }
@@ -35,7 +39,9 @@ impl Sub<u64> for PhysAddr {
 
     ghost sub_gives = { λ address count rest. rest ≡ address - count };
 
-    /// Gives the difference, which must not be below 0: test that by `<=` of the numbers.
+    /// Returns the difference.
+    ///
+    /// Requires that the difference isn't below 0. Check this with `<=` on the numbers.
     fn sub(self, rhs: u64) -> PhysAddr {
         PhysAddr::new(self.as_u64() - rhs)
     }
@@ -46,7 +52,9 @@ impl SubAssign<u64> for PhysAddr {
 
     ghost sub_assign_gives = { λ address count rest. rest ≡ address - count };
 
-    /// Subtracts from the address. The difference must not be below 0, as for `-`.
+    /// Subtracts from the address.
+    ///
+    /// Requires that the difference isn't below 0, as for `-`.
     fn sub_assign(&mut self, rhs: u64) {
         *self = *self - rhs;
     }
@@ -59,7 +67,9 @@ impl Sub<PhysAddr> for PhysAddr {
 
     ghost sub_gives = { λ address other count. count ≡ address - other };
 
-    /// Gives the difference, which must not be below 0: test that by `<=` of the addresses.
+    /// Returns the difference.
+    ///
+    /// Requires that the difference isn't below 0. Check this with `<=` on the addresses.
     fn sub(self, rhs: PhysAddr) -> u64 {
         self.as_u64() - rhs.as_u64()
     }

@@ -1,4 +1,7 @@
-//! Steps along the virtual addresses, in order of their positions: they go on after the gap in the middle of the address space.
+//! Steps through the virtual addresses, in order of their positions: they continue after the gap in the middle of the address
+//! space.
+//!
+//! A position is the number of an address counted without the gap.
 ghost use Rattle.std.specs.Prelude.{◌≡◌, ◌%◌, ◌^◌, ◌<◌};
 ghost use Rattle.x86_64_model.specs.Position.{position_count};
 ghost use Rattle.x86_64_model.specs.Successor.{forward, backward, steps_between};
@@ -7,10 +10,9 @@ use crate::addr::VirtAddrIn;
 use crate::level_count::LevelCount;
 
 impl<L: LevelCount> VirtAddrIn<L> {
-    /// Gives the address so many bytes on.
+    /// Returns the address `count` bytes after `start`.
     ///
-    /// Answers `None` exactly where there is none: where the sum of the position and the count isn't below the number of
-    /// positions, 2^48 or 2^57.
+    /// Returns `None` if the sum of the position and the count isn't below the number of positions, 2^48 or 2^57.
     pub fn forward_checked(start: Self, count: usize) -> Option<Self>
         ensures { result ≡ forward (position_count L.LEVELS) start count }
     {
@@ -23,9 +25,9 @@ impl<L: LevelCount> VirtAddrIn<L> {
         }
     }
 
-    /// Gives the address so many bytes before.
+    /// Returns the address `count` bytes before `start`.
     ///
-    /// Answers `None` exactly where there is none: where the count is above the position.
+    /// Returns `None` if the count is above the position.
     pub fn backward_checked(start: Self, count: usize) -> Option<Self>
         ensures { result ≡ backward start count }
     {
@@ -38,9 +40,9 @@ impl<L: LevelCount> VirtAddrIn<L> {
         }
     }
 
-    /// Counts the bytes from one address up to another, as a lower and an upper bound, which are equal.
+    /// Returns the number of bytes from `start` to `end`, as equal lower and upper bounds.
     ///
-    /// Answers `(0, None)` where the second is below the first.
+    /// Returns `(0, None)` if `end` is below `start`.
     pub fn steps_between(start: &Self, end: &Self) -> (usize, Option<usize>)
         ensures { result ≡ steps_between start.now end.now }
     {

@@ -9,9 +9,10 @@ use crate::level_count::{FiveLevels, FourLevels, LevelCount};
 use std::fmt::{Debug, Formatter, Result as FmtResult, Write};
 use std::marker::{Model, PhantomData};
 
-/// A canonical virtual address, with as many levels of page tables as `L` says.
+/// A canonical virtual address, with `L` levels of page tables.
 ///
-/// Contracts see it as its position. Equality, order and hash are those of the raw value, and so those of the position.
+/// Contracts see it as its position, the number of the address counted without the gap in the middle of the address space.
+/// Equality, order and hash are those of the raw value. Equality and order are also those of the position.
 #[derive(Clone, Copy)]
 #[derive_where(PartialEq, Eq, PartialOrd, Ord, Hash)]
 pub struct VirtAddrIn<L: LevelCount> {
@@ -41,7 +42,7 @@ impl<L: LevelCount> Model for VirtAddrIn<L> {
     ghost inverse_ok = { λ a h. ap (λ n. record { value = n; levels = record {} }) h };
 }
 
-/// A value was not a canonical virtual address: bits 48 to 63 were not copies of bit 47.
+/// The error for a value that isn't a canonical virtual address: bits 48 to 63 aren't copies of bit 47.
 ///
 /// Contains the value.
 #[derive(PartialEq, Drop)]
@@ -54,7 +55,7 @@ impl Debug for VirtAddrNotValid {
     }
 }
 
-/// A value was not a canonical virtual address of 57 bits: bits 57 to 63 were not copies of bit 56.
+/// The error for a value that isn't a canonical virtual address of 57 bits: bits 57 to 63 aren't copies of bit 56.
 ///
 /// Contains the value.
 #[derive(PartialEq, Drop)]
@@ -68,7 +69,9 @@ impl Debug for VirtAddr57NotValid {
 }
 
 impl<L: LevelCount> VirtAddrIn<L> {
-    /// Makes an address of its raw value, which must be canonical. Test that by [`try_new`](VirtAddr::try_new).
+    /// Creates an address from its raw value.
+    ///
+    /// Requires that the value is canonical. Check this with [`try_new`](VirtAddr::try_new).
     #[tactic(auto, using(crate::proofs::Canonical::raw_of_canonical))]
     pub fn new(addr: u64) -> Self
         requires { IsCanonical L.LEVELS addr }
@@ -81,17 +84,17 @@ impl<L: LevelCount> VirtAddrIn<L> {
         }
     }
 
-    /// Makes the address whose position is a value modulo the number of positions, 2^48 or 2^57: the highest bit of the
+    /// Creates the address whose position is a value modulo the number of positions, 2^48 or 2^57. The highest bit of the
     /// position is copied to the bits above it.
     pub fn new_truncate(addr: u64) -> Self
         ensures { result ≡ addr % position_count L.LEVELS }
     {
-        // Compiles to two shifts, and to no branch.
+        // Compiles to two shifts, without a branch.
         let half = L::POSITION_COUNT / 2;
         Self::new((addr.wrapping_add(half) % L::POSITION_COUNT).wrapping_sub(half))
     }
 
-    /// Makes an address of its raw value, or returns `None` exactly if it isn't canonical.
+    /// Creates an address from its raw value, or returns `None` if it isn't canonical.
     pub fn checked_new(addr: u64) -> Option<Self>
         ensures canonical { IsSome result ↔ IsCanonical L.LEVELS addr }
         ensures position { IfSome result (λ a. a ≡ addr % position_count L.LEVELS) }
@@ -105,7 +108,9 @@ impl<L: LevelCount> VirtAddrIn<L> {
         }
     }
 
-    /// Makes an address of its raw value, which must be canonical, as [`new`](Self::new) does.
+    /// Creates an address from its raw value, like [`new`](Self::new).
+    ///
+    /// Requires that the value is canonical.
     pub fn new_unsafe(addr: u64) -> Self
         requires { IsCanonical L.LEVELS addr }
         ensures position { result ≡ addr % position_count L.LEVELS }
@@ -114,7 +119,7 @@ impl<L: LevelCount> VirtAddrIn<L> {
         Self::new(addr)
     }
 
-    /// Gives the address 0.
+    /// Returns the address 0.
     pub fn zero() -> Self
         ensures { result ≡ 0 }
     {
@@ -124,7 +129,7 @@ impl<L: LevelCount> VirtAddrIn<L> {
         }
     }
 
-    /// Gives the raw value.
+    /// Returns the raw value.
     pub fn as_u64(self) -> u64
         ensures value { result ≡ raw L.LEVELS self }
         ensures position { self < position_count L.LEVELS }
@@ -132,7 +137,7 @@ impl<L: LevelCount> VirtAddrIn<L> {
         self.value
     }
 
-    /// Gives the position: the raw value modulo the number of positions.
+    /// Returns the position: the raw value modulo the number of positions.
     pub fn position(self) -> u64
         ensures value { result ≡ self }
         ensures below { result < position_count L.LEVELS }
@@ -140,56 +145,58 @@ impl<L: LevelCount> VirtAddrIn<L> {
         self.value % L::POSITION_COUNT
     }
 
-    /// Tells whether the address is 0.
+    /// Returns true if the address is 0.
     pub fn is_null(self) -> bool
         ensures { IsTrue result ↔ (self ≡ 0) }
     {
         self == Self::zero()
     }
 
-    /// Gives the offset in the 4KiB page that the address lies in: the position modulo 4096.
+    /// Returns the offset in the 4KiB page that contains the address: the position modulo 4096.
     pub fn page_offset(self) -> PageOffset
         ensures { result ≡ self % 4096 }
     {
         PageOffset::new((self.position() % 4096) as u16)
     }
 
-    /// Gives the index in the root's table.
+    /// Returns the index in the root table.
     pub fn root_index(self) -> PageTableIndex
         ensures { result ≡ index L.LEVELS self }
     {
         self.table_index(L::LEVELS)
     }
 
-    /// Gives the index of level one, bits 12 to 20.
+    /// Returns the index of level one, bits 12 to 20.
     pub fn p1_index(self) -> PageTableIndex
         ensures { result ≡ index 1 self }
     {
         self.table_index(1)
     }
 
-    /// Gives the index of level two, bits 21 to 29.
+    /// Returns the index of level two, bits 21 to 29.
     pub fn p2_index(self) -> PageTableIndex
         ensures { result ≡ index 2 self }
     {
         self.table_index(2)
     }
 
-    /// Gives the index of level three, bits 30 to 38.
+    /// Returns the index of level three, bits 30 to 38.
     pub fn p3_index(self) -> PageTableIndex
         ensures { result ≡ index 3 self }
     {
         self.table_index(3)
     }
 
-    /// Gives the index of level four, bits 39 to 47.
+    /// Returns the index of level four, bits 39 to 47.
     pub fn p4_index(self) -> PageTableIndex
         ensures { result ≡ index 4 self }
     {
         self.table_index(4)
     }
 
-    /// Returns the index of a level, by its number, which must be one of the levels that there are.
+    /// Returns the index of a level.
+    ///
+    /// Requires that the level is from one to the number of levels.
     pub fn table_index(self, level: u64) -> PageTableIndex
         requires { (1 ≤ level) × (level ≤ L.LEVELS) }
         ensures { result ≡ index level self }
@@ -199,9 +206,11 @@ impl<L: LevelCount> VirtAddrIn<L> {
 }
 
 impl VirtAddr {
-    /// Makes an address of its raw value.
+    /// Creates an address from its raw value.
     ///
-    /// Answers `VirtAddrNotValid` with the value exactly where it isn't canonical.
+    /// # Errors
+    ///
+    /// `VirtAddrNotValid`, with the value, if it isn't canonical.
     pub fn try_new(addr: u64) -> Result<VirtAddr, VirtAddrNotValid>
         ensures canonical { IsOk result ↔ IsCanonical 4 addr }
         ensures position { IfOk result (λ a. a ≡ addr % 2 ^ 48) }
@@ -211,7 +220,7 @@ impl VirtAddr {
         Self::checked_new(addr).ok_or(VirtAddrNotValid(addr))
     }
 
-    /// Gives the index of a level.
+    /// Returns the index of a level.
     pub fn page_table_index(self, level: PageTableLevel) -> PageTableIndex
         ensures { result ≡ index (level_number level) self }
     {
@@ -220,9 +229,11 @@ impl VirtAddr {
 }
 
 impl VirtAddr57 {
-    /// Makes an address of its raw value.
+    /// Creates an address from its raw value.
     ///
-    /// Answers `VirtAddr57NotValid` with the value exactly where it isn't canonical.
+    /// # Errors
+    ///
+    /// `VirtAddr57NotValid`, with the value, if it isn't canonical.
     pub fn try_new(addr: u64) -> Result<VirtAddr57, VirtAddr57NotValid>
         ensures canonical { IsOk result ↔ IsCanonical 5 addr }
         ensures position { IfOk result (λ a. a ≡ addr % 2 ^ 57) }
@@ -232,14 +243,14 @@ impl VirtAddr57 {
         Self::checked_new(addr).ok_or(VirtAddr57NotValid(addr))
     }
 
-    /// Gives the index of a level.
+    /// Returns the index of a level.
     pub fn page_table_index(self, level: PageTableLevel57) -> PageTableIndex
         ensures { result ≡ index (level_number_57 level) self }
     {
         self.table_index(level.number())
     }
 
-    /// Gives the index of level five, bits 48 to 56.
+    /// Returns the index of level five, bits 48 to 56.
     pub fn p5_index(self) -> PageTableIndex
         ensures { result ≡ index 5 self }
     {

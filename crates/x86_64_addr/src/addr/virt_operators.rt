@@ -1,5 +1,5 @@
-//! Sums and differences of virtual addresses, over raw values: they don't go over the gap in the middle of the address space,
-//! as [`VirtAddrIn::forward_checked`] and [`VirtAddrIn::backward_checked`] do.
+//! Sums and differences of virtual addresses, by raw value. Unlike [`VirtAddrIn::forward_checked`] and
+//! [`VirtAddrIn::backward_checked`], they don't step over the gap in the middle of the address space.
 ghost use Rattle.std.specs.Prelude.{◌≡◌, ◌+◌, ◌-◌, ◌≤◌};
 ghost use Rattle.x86_64_model.specs.Position.{raw, IsCanonical};
 
@@ -14,8 +14,10 @@ impl<L: LevelCount> Add<u64> for VirtAddrIn<L> {
 
     ghost add_gives = { λ address count sum. raw L.LEVELS sum ≡ raw L.LEVELS address + count };
 
-    /// Gives the address whose raw value is the sum, which must be canonical, and so below 2^64: test that by
-    /// [`u64::checked_add`] and [`try_new`](crate::addr::VirtAddr::try_new).
+    /// Returns the address whose raw value is the sum.
+    ///
+    /// Requires that the sum is canonical, and so below 2^64. Check this with [`u64::checked_add`] and
+    /// [`try_new`](crate::addr::VirtAddr::try_new).
     #[tactic(auto, using(crate::proofs::Canonical::canonical_below))]
     fn add(self, rhs: u64) -> Self {
         Self::new(self.as_u64() + rhs)
@@ -27,7 +29,9 @@ impl<L: LevelCount> AddAssign<u64> for VirtAddrIn<L> {
 
     ghost add_assign_gives = { λ address count sum. raw L.LEVELS sum ≡ raw L.LEVELS address + count };
 
-    /// Adds to the raw value. The sum must be canonical, as for `+`.
+    /// Adds to the raw value.
+    ///
+    /// Requires that the sum is canonical, as for `+`.
     fn add_assign(&mut self, rhs: u64) {
         *self = *self + rhs;
     }
@@ -41,8 +45,10 @@ impl<L: LevelCount> Sub<u64> for VirtAddrIn<L> {
 
     ghost sub_gives = { λ address count rest. raw L.LEVELS rest ≡ raw L.LEVELS address - count };
 
-    /// Gives the address whose raw value is the difference, which must be canonical and not below 0: test that by
-    /// [`u64::checked_sub`] and [`try_new`](crate::addr::VirtAddr::try_new).
+    /// Returns the address whose raw value is the difference.
+    ///
+    /// Requires that the difference is canonical and isn't below 0. Check this with [`u64::checked_sub`] and
+    /// [`try_new`](crate::addr::VirtAddr::try_new).
     fn sub(self, rhs: u64) -> Self {
         Self::new(self.as_u64() - rhs)
     }
@@ -54,7 +60,9 @@ impl<L: LevelCount> SubAssign<u64> for VirtAddrIn<L> {
 
     ghost sub_assign_gives = { λ address count rest. raw L.LEVELS rest ≡ raw L.LEVELS address - count };
 
-    /// Subtracts from the raw value. The difference must be canonical and not below 0, as for `-`.
+    /// Subtracts from the raw value.
+    ///
+    /// Requires that the difference is canonical and isn't below 0, as for `-`.
     fn sub_assign(&mut self, rhs: u64) {
         *self = *self - rhs;
     }
@@ -67,8 +75,9 @@ impl<L: LevelCount> Sub<VirtAddrIn<L>> for VirtAddrIn<L> {
 
     ghost sub_gives = { λ address other count. count ≡ raw L.LEVELS address - raw L.LEVELS other };
 
-    /// Gives the difference of the raw values, which must not be below 0: test that by `<=` of the addresses. It counts the
-    /// gap, where that lies between.
+    /// Returns the difference of the raw values, which includes the gap if that lies between the addresses.
+    ///
+    /// Requires that the difference isn't below 0. Check this with `<=` on the addresses.
     fn sub(self, rhs: VirtAddrIn<L>) -> u64 {
         self.as_u64() - rhs.as_u64()
     }

@@ -1,4 +1,4 @@
-//! Levels of page tables where there are five.
+//! Levels of page tables with 5-level paging.
 //!
 //! Intel SDM vol. 3A, "4-Level Paging and 5-Level Paging".
 ghost use Rattle.std.specs.Prelude.{◌≡◌, ◌+◌, ◌-◌, ◌*◌, ◌^◌, ◌<◌, ◌≤◌, ◌↔◌, IsSome, IfSome};
@@ -6,7 +6,7 @@ ghost use Rattle.x86_64_addr.specs.Levels57.{level_number_57};
 
 use crate::index::table_span;
 
-/// A level of page tables where there are five. The root is of level five, and the entries of level one map 4KiB pages.
+/// A level of page tables with 5-level paging. The root is of level five, and the entries of level one map 4KiB pages.
 ///
 /// Levels are ordered by their numbers.
 #[derive(Debug, Clone, Copy, PartialEq, Eq, PartialOrd, Ord, Hash)]
@@ -24,9 +24,9 @@ pub enum PageTableLevel57 {
 }
 
 impl PageTableLevel57 {
-    /// Gives the level below: that of the tables which the entries of this level name.
+    /// Returns the level below: that of the tables that entries of this level name.
     ///
-    /// Answers `None` exactly for level one, whose entries name no tables.
+    /// Returns `None` only for level one, whose entries name no tables.
     ///
     /// Intel SDM vol. 3A, "Hierarchical Paging Structures: an Overview".
     pub fn next_lower_level(self) -> Option<PageTableLevel57>
@@ -42,9 +42,9 @@ impl PageTableLevel57 {
         }
     }
 
-    /// Gives the level above: that of the entries which name the tables of this level.
+    /// Returns the level above: that of the entries that name tables of this level.
     ///
-    /// Answers `None` exactly for level five, which is that of the root.
+    /// Returns `None` only for level five, the root's level.
     ///
     /// Intel SDM vol. 3A, "Hierarchical Paging Structures: an Overview".
     pub fn next_higher_level(self) -> Option<PageTableLevel57>
@@ -60,7 +60,7 @@ impl PageTableLevel57 {
         }
     }
 
-    /// Gives the alignment of the addresses that a table of this level describes, which is also how many bytes it describes.
+    /// Returns the alignment of the address range that a table of this level covers, which is also its size in bytes.
     ///
     /// Intel SDM vol. 3A, "Hierarchical Paging Structures: an Overview".
     pub fn table_address_space_alignment(self) -> u64
@@ -69,7 +69,7 @@ impl PageTableLevel57 {
         table_span(self.number())
     }
 
-    /// Gives the alignment of the addresses that an entry of this level describes, which is also how many bytes it describes.
+    /// Returns the alignment of the address range that an entry of this level covers, which is also its size in bytes.
     ///
     /// Intel SDM vol. 3A, "Hierarchical Paging Structures: an Overview".
     pub fn entry_address_space_alignment(self) -> u64
@@ -78,7 +78,7 @@ impl PageTableLevel57 {
         table_span(self.number() - 1)
     }
 
-    /// Gives the number, from one to five.
+    /// Returns the number of the level, from one to five.
     pub(crate) fn number(self) -> u64
         ensures value { result ≡ level_number_57 self }
         ensures one_to_five { (1 ≤ result) × (result ≤ 5) }

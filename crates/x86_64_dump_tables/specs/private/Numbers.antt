@@ -1,17 +1,17 @@
--- Numbers: frames by their numbers, and memories with tables at the places of some.
+-- Numbers: frames by their numbers, and memories with tables at some places. A place is the index of a table in memory.
 use Rattle.std.specs.Prelude.{◌≡◌, ◌==◌, ◌/◌, ◌*◌, ◌<◌, ◌^◌, ℕ, Bool, cond, List, All, Option, None}
 use Rattle.std.specs.List.{list_any}
 use Rattle.std.specs.FinMap.{get}
 use Rattle.x86_64_model.specs.Memory.{Memory}
 
--- whether the number of a frame is among numbers
+-- whether a frame's number is among some numbers
 abbrev pub has_number : (numbers : List ℕ) → (frame : ℕ) → Bool
 has_number numbers f = list_any (λ n. f / 4096 == n) numbers
 
--- numbers of frames
+-- all of these are numbers of frames
 abbrev pub AreNumbers : (numbers : List ℕ) → Type 0
 AreNumbers numbers = All (λ n. n * 4096 < 2 ^ 52) numbers
 
--- the memory has these tables at these places, and no others
+-- the memory has these tables at these places, and no other places
 abbrev pub HoldsFor : (places : List ℕ) → (tables : ℕ → Option (List ℕ)) → Memory → Type 0
 HoldsFor places tables memory = (place : ℕ) → get memory place ≡ cond (list_any (λ n. place == n) places) (tables place) None

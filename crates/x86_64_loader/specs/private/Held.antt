@@ -1,10 +1,10 @@
--- Positions held: by pages that stand and map them where they should be.
+-- Held positions: those of pages that stand (are mapped as `map_to` maps them) and map them where they should.
 use Rattle.std.specs.Prelude.{◌≡◌, ◌+◌, ◌%◌, ◌<◌, ◌≤◌, ℕ, false}
 use Rattle.x86_64_model.specs.Mapper.{Hierarchy, Stands, path_of}
 use Rattle.x86_64_model.specs.Position.{span}
 use Rattle.x86_64_model.specs.Window.{begins_with}
 
--- a page that stands outside the window has the position and maps it to this address, with these flags
+-- a page that stands outside the recursive window has the position, and maps it to this address with these flags
 pub record IsHeld {Lent : Type 0} (h : Hierarchy Lent) (position to flags : ℕ) : Type 0 where
   pub level : ℕ
   pub page : ℕ
@@ -16,6 +16,6 @@ pub record IsHeld {Lent : Type 0} (h : Hierarchy Lent) (position to flags : ℕ)
   pub before_end : position < page + span level
   pub lands : to + page ≡ frame + position
 
--- so many positions from a page on are held, mapped to the addresses from a frame on
+-- these `size` positions from a page on are held, and mapped to the addresses from a frame on
 abbrev pub AreHeld : {Lent : Type 0} → Hierarchy Lent → (size page frame flags : ℕ) → Type 0
 AreHeld h size page frame given = (offset : ℕ) → offset < size → IsHeld h (page + offset) (frame + offset) given

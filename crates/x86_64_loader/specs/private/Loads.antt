@@ -1,4 +1,4 @@
--- What the load of one segment leaves.
+-- The effect of the load of one segment. A page stands if it is mapped as `map_to` maps it.
 use Rattle.std.specs.Prelude.{◌≡◌, ◌+◌, ◌*◌, ◌<◌, ◌≤◌, ℕ, List, ◌∷◌, ◌++◌, Result, Ok, Err}
 use Rattle.x86_64_model.specs.Mapper.{Hierarchy}
 use Rattle.x86_64_model.specs.PageMappings.{PageMapping}
@@ -15,28 +15,29 @@ use Rattle.x86_64_loader.specs.Maps.{Accepts, Refuses, Kept}
 use Rattle.x86_64_loader.specs.Pages.{IsFree, Leaves, RunStands}
 use Rattle.x86_64_loader.specs.Segments.{AllStand, ReachesAt, large_pages, mapping_of, run_of, size_of, small_pages}
 
--- by which pages a segment is mapped
+-- the pages with which a segment is mapped
 abbrev pub pages_by : Sizes → Segment → List PageMapping
 pages_by sizes.Small = small_pages
 pages_by sizes.Large = large_pages
 
--- A run was stopped at the page after so many, which was refused for this reason: those before it stand, and so do the pages up to its level
--- that stood.
+-- A run of maps stopped after `mapped` pages, at a page that was refused for this reason. The pages before it stand, and pages up
+-- to its level that stood still stand.
 pub record IsStopped {Lent : Type 0} (h : Hierarchy Lent) (supply : List ℕ) (level size page frame flags count mapped : ℕ) (why : Refusal) (after : Hierarchy Lent) (rest : List ℕ) : Type 0 where
   pub within : mapped < count
   pub stand : RunStands after level size page frame flags mapped
   pub leaves : Leaves level h supply after rest
   pub refused : Refuses h supply (run_of level page frame flags mapped) (mapping_of level (page + mapped * span level) (frame + mapped * span level) flags) why after rest
 
--- the positions of the segment from an offset up to before another are held, mapped as they should
+-- the segment's positions from one offset up to another, which isn't included, are held and mapped where they should be
 abbrev pub HoldsPart : {Lent : Type 0} → Hierarchy Lent → Segment → (low high : ℕ) → Type 0
 HoldsPart h s low high = (offset : ℕ) → low ≤ offset → offset < high → IsHeld h (s.page + offset) (s.frame + offset) (bits_of s.flags)
 
--- each position of the segment is
+-- this holds for each position of the segment
 abbrev pub HoldsSegment : {Lent : Type 0} → Hierarchy Lent → Segment → Type 0
 HoldsSegment h s = HoldsPart h s 0 (size_of s)
 
--- the load of these pages of a segment, from an offset on, was refused at the page after so many, for this reason: those before it are reached
+-- the load of these pages, from an offset of the segment on, was refused for this reason after `mapped` pages; those before are
+-- reached
 pub record IsHalted {Lent : Type 0} (h : Hierarchy Lent) (supply : List ℕ) (s : Segment) (pages : List PageMapping) (low mapped : ℕ) (why : Refusal) (after : Hierarchy Lent) (rest : List ℕ) : Type 0 where
   pub above : low ≤ mapped * 0x1000
   pub within : mapped < s.pages
@@ -49,8 +50,8 @@ pub record IsHalted {Lent : Type 0} (h : Hierarchy Lent) (supply : List ℕ) (s 
   pub page : next.page ≡ s.page + mapped * 0x1000
   pub refused : Refuses h supply before next why after rest
 
--- these pages, which are so many bytes of the segment from an offset on, were mapped: they are held, no page that stood had a position of theirs, and
--- what stood stands
+-- These pages, which are `size` bytes of the segment from an offset on, were mapped. They are held, no page that stood overlapped
+-- them, and what stood still stands.
 pub record IsMapped {Lent : Type 0} (h : Hierarchy Lent) (supply : List ℕ) (s : Segment) (pages : List PageMapping) (low size : ℕ) (after : Hierarchy Lent) (rest : List ℕ) : Type 0 where
   pub held : HoldsPart after s low (low + size)
   pub were_free : IsFree h (s.page + low) size
@@ -58,7 +59,7 @@ pub record IsMapped {Lent : Type 0} (h : Hierarchy Lent) (supply : List ℕ) (s 
   pub stand : AllStand after pages
   pub accepted : Accepts h supply pages after rest
 
--- what a load of these pages, so many bytes of the segment from an offset on, leaves by its result
+-- the effect of a load of these pages, which are `size` bytes of the segment from an offset on, by its result
 abbrev pub LoadsPart : {Lent Value Size : Type 0} → Hierarchy Lent → (supply : List ℕ) → Segment → List PageMapping → (low size : ℕ) → Result Value (Stopped Size)
     → (after : Hierarchy Lent) → (rest : List ℕ) → Type 0
 LoadsPart h supply s pages low size (Ok _) after rest = IsMapped h supply s pages low size after rest

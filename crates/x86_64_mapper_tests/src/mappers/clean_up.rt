@@ -1,4 +1,5 @@
-//! Clean ups by any mapper, of a range of pages and of all: by the direct mapper of four levels, and through windows with five.
+//! Clean ups with any mapper, of a range of pages and of all: with the direct mapper of four levels, and through
+//! windows with five.
 ghost use Rattle.x86_64_model.specs.Mapper.{PoolFits};
 ghost use Rattle.x86_64_model.specs.Pool.{serves_below};
 
@@ -17,10 +18,10 @@ use x86_64_tables::phys_memory::{
     pool_fits_recursive_57,
 };
 
-/// The addresses in the first page of a range and in the last one, or none for all pages.
+/// Addresses in the first page of a range and in the last one, or `None` for all pages.
 type Range = Option<(u64, u64)>;
 
-/// Cleans up by any mapper.
+/// Cleans up with any mapper.
 fn clean_up_by<M: CleanUp>(mapper: &mut M, pool: &mut FramePool, range: Range)
     requires { PoolFits (M.hierarchy mapper.old) (serves_below pool.old.limit) pool.old.frames }
 {
@@ -33,7 +34,7 @@ fn clean_up_by<M: CleanUp>(mapper: &mut M, pool: &mut FramePool, range: Range)
     }
 }
 
-/// The same with five levels of tables.
+/// This with five levels of tables.
 fn clean_up_57_by<M: CleanUp57>(mapper: &mut M, pool: &mut FramePool, range: Range)
     requires { PoolFits (M.hierarchy mapper.old) (serves_below pool.old.limit) pool.old.frames }
 {
@@ -46,7 +47,7 @@ fn clean_up_57_by<M: CleanUp57>(mapper: &mut M, pool: &mut FramePool, range: Ran
     }
 }
 
-/// Cleans up the hierarchy with the root in frame 0x1000, by a mapper that is dropped then.
+/// Cleans up the hierarchy with the root in frame 0x1000, with a mapper that is then dropped.
 fn clean_up(
     rt: impl Abort + Copy,
     alloc: Global,
@@ -60,7 +61,7 @@ fn clean_up(
     clean_up_by(&mut mapper, pool, range);
 }
 
-/// Cleans up such a hierarchy of five levels through windows, after which it is valid for the recursive index.
+/// Cleans up such a hierarchy of five levels through windows. It is valid for the recursive index afterwards.
 fn clean_up_57(
     rt: impl Abort + Copy,
     alloc: Global,
@@ -78,7 +79,8 @@ fn clean_up_57(
     assert!(rt; unwrap(rt, is_valid_recursive_57(alloc, memory, root, index)));
 }
 
-/// The tables above the last page of the lower half of the address space, and two above the first one of the upper half.
+/// The tables on the path of the last page of the lower half of the address space, and two on that of the first page
+/// of the upper half.
 const TABLES: [Word; 5] = [
     (1, 255, 0x2001),
     (2, 511, 0x3001),
@@ -87,7 +89,7 @@ const TABLES: [Word; 5] = [
     (5, 0, 0x6001),
 ];
 
-/// Ranges, and what clean ups of them leave, one after the other.
+/// Ranges, and the results of their clean ups, one after another.
 static CLEAN_UPS: [(Range, Left<'static>); 2] = [
     (
         Some((0xffff_8000_0000_0000, 0xffff_8000_0000_0000)),
@@ -109,7 +111,7 @@ fn empty_tables_go_back(rt: HostRuntime) {
     }
 }
 
-/// The same of the tables above an unmapped page with five levels: the first range has none of them.
+/// These for the tables on the path of an unmapped page with five levels. The first range has none of them.
 static CLEAN_UPS_57: [(Range, Left<'static>); 2] = [
     (
         Some((0x1_0000_0000_0000, 0xff_ffff_ffff_f000)),

@@ -1,4 +1,4 @@
-//! Calls by the direct mapper of five levels of tables.
+//! Calls of the direct mapper with five levels of tables.
 ghost use Rattle.std.specs.Prelude.{◌≡◌};
 ghost use Rattle.x86_64_model.specs.Mapper.{Valid, SupplyFits};
 
@@ -26,7 +26,7 @@ use x86_64_tables::phys_memory::{
     IdentityMapping, PhysMemory, is_valid_hierarchy_57, pool_fits_57,
 };
 
-/// Maps a page by any mapper, and records the flush.
+/// Maps a page with any mapper, and records the flush.
 fn map_by<S: PageSize, M: Mapper57<S>>(
     rt: impl Abort + Copy,
     mapper: &mut M,
@@ -44,7 +44,8 @@ fn map_by<S: PageSize, M: Mapper57<S>>(
     Ok(())
 }
 
-/// Maps the page of a size at an address to the frame at another, in a memory with the root in frame 0x1000, and records the flush.
+/// Maps the page of a size at an address to the frame at another, in a memory with the root in frame 0x1000, and
+/// records the flush.
 #[tactic(auto, using(x86_64_model::proofs::Lemmas::Machines::Fitting::ready_of_fits))]
 fn map<S: PageSize>(
     rt: impl Abort + Copy,
@@ -63,7 +64,8 @@ fn map<S: PageSize>(
     map_by(rt, &mut mapper, given, pool, recorder)
 }
 
-/// Tells whether the hierarchy with the root in frame 0x1000 is valid, and so does its mapper.
+/// Returns true if the hierarchy with the root in frame 0x1000 is valid, both by the test of the memory and by that of
+/// the mapper.
 fn is_valid(rt: impl Abort + Copy, alloc: Global, memory: &mut PhysMemory) -> bool {
     let root = small(0x1000);
     let tested = is_valid_hierarchy_57(alloc, memory, &IdentityMapping, root);
@@ -74,8 +76,8 @@ fn is_valid(rt: impl Abort + Copy, alloc: Global, memory: &mut PhysMemory) -> bo
     unwrap(rt, mapper.is_valid(alloc))
 }
 
-/// Maps the page of a size at an address to the frame at another, with flags, in an empty hierarchy that has these free frames, and
-/// compares the answer and what is left. Only where the map is accepted its page is flushed.
+/// Maps the page of a size at an address to the frame at another, with flags, in an empty hierarchy with these free
+/// frames. Compares the answer and what is left. The page is flushed only if the map is accepted.
 fn check_map<S: PageSize + Debug>(
     rt: impl Abort + Copy,
     alloc: Global,
@@ -115,7 +117,7 @@ fn pages_of_57_bits_are_mapped(rt: HostRuntime) {
     check_map::<Size2MiB>(rt, rt.alloc(), &frames, call, Ok(()), (&[0x5000], &words))
 }
 
-/// Gives the address that an address is mapped to.
+/// Returns the address that an address is mapped to.
 fn translate(
     rt: impl Abort + Copy,
     alloc: Global,
@@ -138,7 +140,8 @@ fn pages_of_57_bits_are_translated(rt: HostRuntime) {
     assert_equal(rt, found, None);
 }
 
-/// Sets the flags of the entry of level five or four on the path of the page 0x1000 of 4KiB, by a mapper that is dropped then.
+/// Sets the flags of the entry of level five or four on the path of the 4KiB page 0x1000, with a mapper that is then
+/// dropped.
 #[tactic(auto, unfolding(x86_64_model::specs::Entry::has))]
 fn set_table_flags(
     rt: impl Abort + Copy,
@@ -160,7 +163,7 @@ fn set_table_flags(
     changed.map(MapperFlushAll::ignore)
 }
 
-/// Level, flags, and what comes of setting them, one after the other.
+/// A level, flags, and the result of setting them, one after another.
 const FLAGS: [(u64, u64, Result<(), FlagUpdateError>); 3] = [
     (4, 0x1, Ok(())),
     (5, 0x2, Ok(())),
@@ -198,14 +201,14 @@ fn root_tables_are_lent(rt: HostRuntime) {
     check_words(rt, &memory, &WORDS_57[1..])
 }
 
-/// Spends a token, and gives its page.
+/// Consumes a token, and returns its page.
 fn page_of(flush: MapperFlush57<Size4KiB>) -> Page57<Size4KiB> {
     let page = flush.page();
     flush.ignore();
     page
 }
 
-/// Maps a page with parent flags of its own, and the page at a frame's own address, by any mapper.
+/// Maps a page with given parent flags, and the page at a frame's own address, with any mapper.
 fn map_pages<M: Mapper57<Size4KiB>>(
     rt: impl Abort + Copy,
     mapper: &mut M,
@@ -227,7 +230,7 @@ fn map_pages<M: Mapper57<Size4KiB>>(
     assert_equal(rt, mapped.map(page_of), Ok(same));
 }
 
-/// Sets the flags of a page, and of the entries of levels three and two above it, by any mapper.
+/// Sets the flags of a page, and of the entries of levels three and two above it, with any mapper.
 fn set_flags<M: Mapper57<Size4KiB>>(rt: impl Abort + Copy, mapper: &mut M, page: Page57<Size4KiB>)
     requires { Valid (M.hierarchy mapper.old) }
     ensures { Valid (M.hierarchy mapper.new) }
@@ -244,7 +247,7 @@ fn set_flags<M: Mapper57<Size4KiB>>(rt: impl Abort + Copy, mapper: &mut M, page:
     assert_equal(rt, changed.map(MapperFlushAll::ignore), Ok(()));
 }
 
-/// Translates a page that is mapped to the frame at 0x6000, and unmaps it, by any mapper.
+/// Translates a page that is mapped to the frame at 0x6000, and unmaps it, with any mapper.
 fn unmap<M: Mapper57<Size4KiB> + Translate57>(
     rt: impl Abort + Copy,
     mapper: &mut M,
@@ -262,7 +265,7 @@ fn unmap<M: Mapper57<Size4KiB> + Translate57>(
     assert_equal(rt, answer, Ok((frame, page)));
 }
 
-/// Makes these calls by the direct mapper, which is dropped then.
+/// Makes these calls with the direct mapper, which is then dropped.
 #[tactic(auto, using(x86_64_model::proofs::Lemmas::Machines::Fitting::ready_of_fits))]
 fn make_calls(rt: impl Abort + Copy, alloc: Global, memory: &mut PhysMemory, pool: &mut FramePool) {
     let (root, frame) = (small(0x1000), small(0x6000));

@@ -1,4 +1,4 @@
-//! Lists of calls of five levels whose flushes are recorded.
+//! Lists of calls with five levels, whose flushes are recorded.
 use super::{check_words, image, page, pool_of, small};
 use crate::assertions::{assert_equal, unwrap};
 use bitflags::Flags;
@@ -13,7 +13,7 @@ use x86_64_tables::mapper::{FlushItem, FlushRecorder, MapToError};
 use x86_64_tables::page_table::PageTableFlags;
 use x86_64_tables::phys_memory::{IdentityMapping, PhysMemory, pool_fits_57};
 
-/// Answers calls in a memory with the root in frame 0x1000, and records their flushes.
+/// Executes calls in a memory with the root in frame 0x1000, and records their flushes.
 fn answer_flushed(
     rt: impl Abort + Copy,
     alloc: Global,
@@ -33,7 +33,8 @@ fn answer_flushed(
     replies
 }
 
-/// Makes the calls: two maps of a page, the second of which is refused, a change of the entry of level five, an unmap, a clean up.
+/// Returns the calls: two maps of a page, of which the second is refused, a change of the entry of level five, an
+/// unmap and a clean up.
 fn calls_on(page: Page57<Size4KiB>, flags: PageTableFlags) -> [Call57; 5] {
     let (frame, other) = (small(0x6000), small(0x7000));
     [

@@ -1,4 +1,4 @@
-//! A layer round a mapper: it has all calls of one, and the owner of the memory below it learns what they did.
+//! A layer around a mapper, which has all of a mapper's calls. The owner of the memory below learns what they did.
 ghost use Rattle.std.specs.Prelude.{◌≡◌};
 ghost use Rattle.x86_64_model.specs.Call.{Unmap};
 ghost use Rattle.x86_64_model.specs.Layout.{Valid as ValidIn};
@@ -26,7 +26,7 @@ use x86_64_tables::mapper::{Tables, TablesIn, UnmapError};
 use x86_64_tables::page_table::{PageTable, PageTableFlags};
 use x86_64_tables::phys_memory::{IdentityMapping, PhysMemory, is_valid_hierarchy};
 
-/// Hands on each table of a mapper, and counts those that it lends to be changed.
+/// A layer that passes on each table of a mapper, and counts the tables that it lends to be changed.
 #[derive(Drop)]
 struct Counting<'a, M> {
     mapper: &'a mut M,
@@ -34,7 +34,7 @@ struct Counting<'a, M> {
 }
 
 impl<'a, M> Counting<'a, M> {
-    /// Makes a layer round a mapper. No table was lent yet.
+    /// Creates a layer around a mapper. No table has been lent yet.
     fn new(mapper: &'a mut M) -> Self
         ensures lent { result.mapper.ghost_name ≡ mapper.entry.ghost_name }
         ensures mapper { result.mapper.now ≡ mapper.old }
@@ -102,8 +102,8 @@ impl<'a, M: TableAccess> TableAccess for Counting<'a, M> {
         ap (λ lent. (layer.mapper.ghost_name, lent)) (M.keeps_lent layer.mapper.now frame table) };
 }
 
-/// Unmaps a page by a layer round any mapper, which is dropped then, and tells how many tables it lent to be changed. It did to
-/// the mapper what the call does.
+/// Unmaps a page with a layer around any mapper, and returns the number of tables that the layer lent to be changed.
+/// The layer is then dropped. The call has its usual effect on the mapper.
 fn unmap_by_layer<S: PageSize, M: Mapper<S>>(
     mapper: &mut M,
     page: Page<S>,
@@ -117,7 +117,7 @@ fn unmap_by_layer<S: PageSize, M: Mapper<S>>(
     (answer, layer.count)
 }
 
-/// Does so by a layer round a mapper of a memory. The owner knows what the call did to the memory.
+/// Does this with a layer around a mapper of a memory. The owner knows what the call did to the memory.
 fn unmap_counted<S: PageSize>(
     memory: &mut PhysMemory,
     root: PhysFrame<Size4KiB>,
@@ -146,16 +146,16 @@ fn layers_unmap_pages(rt: HostRuntime) {
     check_words(rt, &memory, &WORDS[..3])
 }
 
-/// How often a table is lent to be changed by the calls below: nine times where the map makes a table below each of three entries
-/// (once to look whether the entry is used, once to set it, once to clear the new table), once each for the page's entry by the
-/// map, the change of flags and the unmap, never for the translation, and once for each of the three entries that the clean up
-/// makes unused.
+/// The number of times that the calls below have a table lent to be changed. Nine are for the three tables that the
+/// map creates: for each, one to see whether the entry is unused, one to set it, and one to clear the new table. The
+/// map, the change of flags and the unmap take one each for the page's entry, the translation none, and the clean up
+/// one for each of the three entries that it makes unused.
 const LOANS: u64 = 15;
 
 /// The frames that are free before these calls and after them.
 const FREE: [u64; 3] = [0x2000, 0x3000, 0x4000];
 
-/// Answers calls by a layer, and gives how many tables were lent to be changed.
+/// Executes calls with a layer, and returns the number of tables that were lent to be changed.
 fn run_counted(
     rt: impl Abort + Copy,
     memory: &mut PhysMemory,

@@ -20,7 +20,7 @@ use x86_64_tables::mapper::UnmapError;
 use x86_64_tables::page_table::PageTable;
 use x86_64_tables::phys_memory::{IdentityMapping, LentMemory, is_valid_hierarchy};
 
-/// Returns whether the tables of a slice are a valid hierarchy, which is tested where they are.
+/// Returns whether the tables of a slice are a valid hierarchy, which is tested in place.
 fn is_valid_slice(
     rt: impl Abort + Copy,
     alloc: Global,
@@ -51,7 +51,7 @@ fn unmap_in_slice<S: PageSize>(
     unmap(&mut memory, root, page)
 }
 
-/// Makes the memory of a guest, of 8 tables with these words.
+/// Creates the memory of a guest, of 8 tables with these words.
 fn guest(rt: impl Abort + Copy, alloc: Global, words: &[Word]) -> Vec<PageTable> {
     let mut tables = Vec::new(alloc);
     for _ in 0..8 {
@@ -61,7 +61,7 @@ fn guest(rt: impl Abort + Copy, alloc: Global, words: &[Word]) -> Vec<PageTable>
     tables
 }
 
-/// Compares the words of tables: each is 0 but for these.
+/// Compares the words of tables, which are 0 except for these.
 fn check_tables(rt: impl Abort + Copy, tables: &[PageTable], words: &[Word]) {
     for (place, table) in tables.iter().enumerate() {
         for index in 0..512 {

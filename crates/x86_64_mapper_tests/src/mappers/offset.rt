@@ -1,4 +1,4 @@
-//! A mapper of a memory that stands at an offset, with four levels of tables and with five.
+//! A mapper of a memory that is mapped at an offset, with four levels of tables and with five.
 ghost use Rattle.x86_64_model.specs.Layout.{Valid};
 ghost use Rattle.x86_64_model.specs.Pool.{serves_below};
 ghost use Rattle.x86_64_model.specs.Memory.{identity_places};
@@ -28,7 +28,7 @@ use x86_64_tables::phys_memory::{
     IdentityMapping, PhysMemory, is_valid_hierarchy, is_valid_hierarchy_57, pool_fits, pool_fits_57,
 };
 
-/// Offsets, and whether they fit a memory of 8 places.
+/// Offsets, and whether they fit a memory of 8 places. A place is the index of a table in memory.
 const OFFSETS: [(u64, bool); 10] = [
     (0xffff_8000_0000_0000, true),
     (0x7fff_ffff_8000, true),
@@ -42,7 +42,7 @@ const OFFSETS: [(u64, bool); 10] = [
     (0x123, true),
 ];
 
-/// The same with five levels: at both ends of the lower half of the addresses, then of the upper half.
+/// These with five levels: at both ends of the lower half of the addresses, then of the upper half.
 const OFFSETS_57: [(u64, bool); 9] = [
     (0x0, true),
     (0x7fff_ffff_9000, true),
@@ -55,7 +55,7 @@ const OFFSETS_57: [(u64, bool); 9] = [
     (0xffff_ffff_ffff_ffff, false),
 ];
 
-/// Compares whether offsets fit, and that any fits a memory without places.
+/// Compares whether offsets fit, and asserts that any offset fits a memory without places.
 fn check_offsets<L: LevelCount>(rt: impl Abort + Copy, alloc: Global, rows: &[(u64, bool)]) {
     let memory = unwrap(rt, PhysMemory::new(alloc, 8));
     let none = unwrap(rt, PhysMemory::new(alloc, 0));
@@ -73,7 +73,7 @@ fn offsets_fit_where_each_place_is_reached(rt: HostRuntime) {
     check_offsets::<FiveLevels>(rt, rt.alloc(), &OFFSETS_57);
 }
 
-/// Answers calls by a mapper at an offset, which is dropped then. The owner knows that another one can be made.
+/// Executes calls with a mapper at an offset, which is then dropped. The owner knows that another one can be created.
 fn run_at_offset<L: LevelCount, P5: LevelFiveFlags<L>>(
     memory: &mut PhysMemory,
     root: PhysFrame<Size4KiB>,
@@ -94,7 +94,7 @@ fn run_at_offset<L: LevelCount, P5: LevelFiveFlags<L>>(
     run(&mut mapper, pool, calls, replies)
 }
 
-/// Answers the same calls twice, each time by a mapper of its own. Whether the offset fits is tested once.
+/// Executes calls twice, each time with a new mapper. Whether the offset fits is tested only once.
 fn run_twice<L: LevelCount, P5: LevelFiveFlags<L>>(
     rt: impl Abort + Copy,
     memory: &mut PhysMemory,
@@ -114,7 +114,7 @@ fn run_twice<L: LevelCount, P5: LevelFiveFlags<L>>(
     unwrap(rt, answered);
 }
 
-/// Answers calls twice by mappers at an offset, in a memory with the root in frame 0x1000.
+/// Executes calls twice with mappers at an offset, in a memory with the root in frame 0x1000.
 fn answer(
     rt: impl Abort + Copy,
     alloc: Global,
@@ -142,7 +142,7 @@ fn offsets_that_fit_fit_after_calls(rt: HostRuntime) {
     check_words(rt, &memory, &WORDS)
 }
 
-/// The same with five levels of tables.
+/// This with five levels of tables.
 fn answer_57(
     rt: impl Abort + Copy,
     alloc: Global,
@@ -163,7 +163,7 @@ fn answer_57(
     replies
 }
 
-/// Makes the calls: a map, and a translation of an address of its page.
+/// Returns the calls: a map, and a translation of an address of its page.
 fn map_and_translate(page: Page57<Size4KiB>, flags: PageTableFlags) -> [Call57; 2] {
     let frame = small(0x6000);
     [
@@ -190,7 +190,7 @@ fn offsets_of_57_bits_that_fit_fit_after_maps(rt: HostRuntime) {
     check_words(rt, &memory, &WORDS_57)
 }
 
-/// Asks a mapper at an offset for it, and for where an address is mapped to.
+/// Compares a mapper's offset, and what it maps an address to.
 fn check_mapper<L: LevelCount>(
     rt: impl Abort + Copy,
     memory: &mut PhysMemory,

@@ -23,13 +23,13 @@ use x86_64_tables::phys_memory::{
     Active, ActiveMemory, ActiveMemory57, PhysMemory, is_valid_recursive, is_valid_recursive_57,
 };
 
-/// The address of the root's window, with four levels of tables.
+/// The address of the root's window, with four levels of tables. A window is the page at which a table is reached.
 const ROOT_WINDOW: u64 = 0xffff_ff7f_bfdf_e000;
 
-/// The address of the root's window, with five.
+/// The address of the root's window, with five levels.
 const ROOT_WINDOW_57: u64 = 0xfffe_ff7f_bfdf_e000;
 
-/// The words on the way to the page 0x1000, which is mapped through windows to the frame at 0x5000.
+/// The words on the path of the page 0x1000, which is mapped through windows to the frame at 0x5000.
 pub const MAPPED: [Word; 5] = [
     (1, 510, 0x1003),
     (1, 0, 0x2003),
@@ -38,7 +38,7 @@ pub const MAPPED: [Word; 5] = [
     (4, 1, 0x5001),
 ];
 
-/// The same with five levels of tables and the frame at 0x6000.
+/// These with five levels of tables, and the frame at 0x6000.
 pub const MAPPED_57: [Word; 6] = [
     (1, 510, 0x1003),
     (1, 0, 0x2003),
@@ -48,12 +48,13 @@ pub const MAPPED_57: [Word; 6] = [
     (5, 1, 0x6001),
 ];
 
-/// The recursive index.
+/// Returns the recursive index, that of the root's entry for itself.
 pub fn recursive_index() -> PageTableIndex {
     PageTableIndex::new(510)
 }
 
-/// Tells why no mapper is made of a table at an address, if none is. The owner knows that the memory is as it was.
+/// Returns the reason why no mapper is created for a table at an address, or `None` if one is. The owner knows that
+/// the memory is as it was.
 fn refusal<L: LevelCount>(
     memory: &mut PhysMemory,
     cr3: PhysFrame<Size4KiB>,
@@ -67,7 +68,7 @@ fn refusal<L: LevelCount>(
     RecursivePageTableIn::refusal(&active, table, virt)
 }
 
-/// Makes a mapper of a table at an address unless it is refused. The owner knows that the memory is as it was.
+/// Creates a mapper for a table at an address unless it is refused. The owner knows that the memory is as it was.
 fn make<L: LevelCount>(
     memory: &mut PhysMemory,
     cr3: PhysFrame<Size4KiB>,
@@ -89,7 +90,7 @@ fn make<L: LevelCount>(
 /// The addresses of the frame in CR3, of a table's frame and of a window.
 type Given = [u64; 3];
 
-/// Makes a mapper of what is given, where the hierarchy is valid unless it is refused.
+/// Creates a mapper from these addresses, with a hierarchy that is valid unless the mapper is refused.
 fn make_tested(
     rt: impl Abort + Copy,
     alloc: Global,
@@ -105,7 +106,7 @@ fn make_tested(
     make(memory, cr3, table, virt)
 }
 
-/// The same with five levels of tables.
+/// This with five levels of tables.
 fn make_tested_57(
     rt: impl Abort + Copy,
     alloc: Global,
@@ -148,7 +149,7 @@ const MADE_57: [(Given, Result<(), InvalidPageTable>); 7] = [
     ([0x1000, 0x1000, ROOT_WINDOW_57], Ok(())),
     ([0x1000, 0x1000, ROOT_WINDOW_57 + 0x1000], NOT_RECURSIVE),
     ([0x1000, 0x1000, ROOT_WINDOW_57 + 8], NOT_RECURSIVE),
-    // The root's window of four levels has the index 511 of level five.
+    // The root's window with four levels has the index 511 of level five.
     ([0x1000, 0x1000, ROOT_WINDOW], NOT_RECURSIVE),
     ([0x1000, 0x2000, ROOT_WINDOW_57], NOT_ACTIVE),
     ([0x2000, 0x1000, ROOT_WINDOW_57], NOT_ACTIVE),
@@ -176,7 +177,8 @@ fn refusals_have_texts(rt: HostRuntime) {
     );
 }
 
-/// Makes the entries of the root unused, and gives the first one's word. The owner knows what the memory holds then.
+/// Makes the entries of the root unused, and returns the first one's word. The owner knows the memory's contents
+/// afterwards.
 fn clear_root(memory: &mut PhysMemory, root: PhysFrame<Size4KiB>, index: PageTableIndex) -> u64
     requires { Valid (recursive_now_at 4 memory.old root index) memory.old }
     ensures { memory.new ≡ insert memory.old (root / 4096) zero_words }
@@ -187,7 +189,7 @@ fn clear_root(memory: &mut PhysMemory, root: PhysFrame<Size4KiB>, index: PageTab
     word
 }
 
-/// The same with five levels of tables.
+/// This with five levels of tables.
 fn clear_root_57(memory: &mut PhysMemory, root: PhysFrame<Size4KiB>, index: PageTableIndex) -> u64
     requires { Valid (recursive_now_at 5 memory.old root index) memory.old }
     ensures { memory.new ≡ insert memory.old (root / 4096) zero_words }

@@ -1,4 +1,4 @@
-//! Unmaps of pages, and what the caller of a mapper learns of them, and the owner of its memory.
+//! Unmaps of pages, and what they ensure for the caller of a mapper and for the owner of its memory.
 ghost use Rattle.std.specs.Prelude.{◌≡◌};
 ghost use Rattle.x86_64_model.specs.Call.{Unmap};
 ghost use Rattle.x86_64_model.specs.Layout.{Valid as ValidIn};
@@ -16,7 +16,7 @@ use x86_64_page::page::{Page, PageSize, Size4KiB};
 use x86_64_tables::mapper::UnmapError;
 use x86_64_tables::phys_memory::{IdentityMapping, TableMemory, is_valid_hierarchy};
 
-/// Unmaps a page by any mapper, whose path is not in the window.
+/// Unmaps a page with any mapper. Requires that its path is not in the recursive window.
 pub fn unmap_by<S: PageSize, M: Mapper<S>>(
     mapper: &mut M,
     page: Page<S>,
@@ -30,7 +30,7 @@ pub fn unmap_by<S: PageSize, M: Mapper<S>>(
     Ok(frame)
 }
 
-/// Unmaps a page by a mapper that is dropped then. The owner of the memory knows what the call did to it.
+/// Unmaps a page with a mapper that is then dropped. The owner of the memory knows what the call did to it.
 pub fn unmap<S: PageSize, T: TableMemory>(
     memory: &mut T,
     root: PhysFrame<Size4KiB>,

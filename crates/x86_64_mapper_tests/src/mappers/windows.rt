@@ -1,4 +1,4 @@
-//! Windows of pages through the recursive index 510, and their walks, with four levels of tables and with five.
+//! Windows of tables through the recursive index 510, and their page walks, with four levels of tables and with five.
 use super::recursive::{MAPPED, MAPPED_57, recursive_index};
 use super::{Word, image, page, set_words, small};
 use crate::assertions::{assert_equal, assert_equal_in};
@@ -10,19 +10,19 @@ use x86_64_mappers::recursive_page_table::{
 use x86_64_page::page::{Page, Page57, PageIn, Size1GiB, Size2MiB, Size4KiB};
 use x86_64_tables::phys_memory::{IdentityMapping, page_walk, page_walk_57};
 
-/// Gives the raw start of a page.
+/// Returns the raw start address of a page.
 fn start<L: LevelCount>(page: PageIn<Size4KiB, L>) -> u64 {
     page.start_address().as_u64()
 }
 
-/// Gives the windows of the tables of level three, two and one for a page.
+/// Returns the windows of the tables of levels three, two and one for a page.
 fn windows(page: Page<Size4KiB>) -> [u64; 3] {
     let index = recursive_index();
     let (three, two) = (p3_window(page, index), p2_window(page, index));
     [start(three), start(two), start(p1_window(page, index))]
 }
 
-/// The same with five levels, after that of level four.
+/// Returns these windows with five levels, after that of level four.
 fn windows_57(page: Page57<Size4KiB>) -> [u64; 4] {
     let index = recursive_index();
     let (four, three) = (p4_window_57(page, index), p3_window_57(page, index));
@@ -30,7 +30,7 @@ fn windows_57(page: Page57<Size4KiB>) -> [u64; 4] {
     [start(four), start(three), start(two), start(one)]
 }
 
-/// Addresses of pages of 4KiB, and their windows.
+/// Addresses of 4KiB pages, and their windows.
 const WINDOWS: [(u64, [u64; 3]); 2] = [
     (
         0,
@@ -66,7 +66,7 @@ fn pages_have_windows(rt: HostRuntime) {
     assert_equal(rt, found, (0xffff_ff7f_bfc0_0000, 0xffff_ff7f_8000_1000));
 }
 
-/// The same of 57 bits.
+/// Addresses of 4KiB pages in the 57-bit address space, and their windows.
 const WINDOWS_57: [(u64, [u64; 4]); 2] = [
     (
         0,
@@ -104,7 +104,7 @@ fn pages_of_57_bits_have_windows(rt: HostRuntime) {
     assert_equal(rt, start(p2_window_57(large, index)), 0xfffe_ff00_0020_1000);
 }
 
-/// Words of other kinds beside the tables on the way to the page 0x1000.
+/// Other words in the table of level one on the path of the page 0x1000.
 const MORE: [Word; 2] = [(4, 0, 0x1fff), (4, 510, 0x80)];
 
 #[test]
@@ -120,7 +120,7 @@ fn windows_are_walked_to_their_tables(rt: HostRuntime) {
     }
 }
 
-/// The same with five levels.
+/// These with five levels.
 const MORE_57: [Word; 2] = [(5, 0, 0x1fff), (5, 510, 0x80)];
 
 #[test]

@@ -1,4 +1,4 @@
--- The range of all pages: its last position is that of the address space.
+-- The range of all pages ends with the last position of the address space.
 use Rattle.std.proofs.Common.{◌≡◌, ◌+◌, ◌-◌, ℕ, inl, inr, ap, refl, sym, ◌∙◌, subst}
 use Rattle.x86_64_addr.specs.Levels.{IsLevelCount}
 use Rattle.x86_64_model.specs.Position.{position_count}

@@ -1,4 +1,4 @@
--- What a clean up of the whole hierarchy leaves, from what became of its tables.
+-- The result of a clean up of the whole hierarchy, from the changes to its tables.
 use Rattle.std.proofs.Common.{◌≡◌, ◌<◌, ℕ, true, List, [], refl, sym, ap, ap₂, ◌∙◌, subst}
 use Rattle.x86_64_model.proofs.Lemmas.CleanUps.Below.{cleaned_below, back_below}
 use Rattle.x86_64_model.proofs.Lemmas.CleanUps.Meets.{empty_clean_up}

@@ -1,4 +1,4 @@
--- Clean ups one after the other: nothing, one after another, and the end of a table that is empty.
+-- Sequences of clean ups: an empty one, one after another, and the removal of an empty table.
 use Rattle.std.proofs.Common.{◌≡◌, ◌≢◌, ⊎_elim, ◌<◌, ℕ, Bool, true, false, cond, nat_lt, List, [], ◌∷◌, ◌++◌, Option, Some, None, IsSome, refl, sym, ap, ◌∙◌, subst}
 use Rattle.x86_64_model.proofs.Lemmas.CleanUps.Trees.{given_frames}
 use Rattle.x86_64_model.proofs.Lemmas.CleanUps.Writes.{removed_written, left_table, not_removed}
@@ -29,11 +29,11 @@ given_more : (take_back : List ℕ → ℕ → List ℕ) (held xs ys : List ℕ)
 given_more take_back held [] ys = refl
 given_more take_back held (x ∷ xs) ys = given_more take_back (take_back held x) xs ys
 
--- a table's frame is there
+-- a table's frame is in the memory
 table_there : (l : Layout) (m : Memory) → Valid l m → (f : ℕ) → IsTable l.levels l.root (paths l m) f → IsSome (words l m f)
 table_there l m valid f t = there_read l.window l.root (words l m) f (valid.valid.holds.in_memory t.0 f t.1)
 
--- what is below a path outside the recursive index is outside it
+-- a path below one outside the recursive index is outside it too
 pub outside_more : (window : Option Window) (q : List ℕ) (i j : ℕ) → begins_with window (q ++ i ∷ []) ≡ false → begins_with window ((q ++ i ∷ []) ++ j ∷ []) ≡ false
 outside_more None q i j out = refl
 outside_more (Some w) [] i j out = out
@@ -54,13 +54,13 @@ module _ (l : Layout) (take_back : List ℕ → ℕ → List ℕ) where
   }
 
   module _ (apart : Distinct l.places) where
-    -- one after another
+    -- one clean up after another
     module _ (m : Memory) (valid : Valid l m) (held : List ℕ) (N : PathMap) (back : List ℕ) (n : Memory) (rest : List ℕ) (a : IsCleaned l take_back m held N back n rest)
         (O : PathMap) (more : List ℕ) (o : Memory) (left : List ℕ) (b : IsCleaned l take_back n rest O more o left) where
       was_table : (f : ℕ) → IsTable l.levels l.root (paths l n) f → IsTable l.levels l.root (paths l m) f
       was_table f t = (t.0, a.left t.0 f t.1)
 
-      -- the words of a frame that was there and is no table any more stay
+      -- the words of a frame that was in the memory and is no longer a table stay
       kept : (f : ℕ) → IsSome (words l n f) → (IsTable l.levels l.root (paths l n) f → ⊥) → words l o f ≡ words l n f
       kept f there none = ap (λ w. cond (l.places.covers f) w None) (b.others (l.places.place f) (λ g t e.
           none (subst (IsTable l.levels l.root (paths l n)) (apart g f (covered n l.places g (table_there l n a.valid g t)) (covered n l.places f there) e) t)))
@@ -80,7 +80,7 @@ module _ (l : Layout) (take_back : List ℕ → ℕ → List ℕ) where
         others = λ k h. b.others k (λ f t. h f (was_table f t)) ∙ a.others k h;
       }
 
-    -- the entry of a table whose words are all 0 goes, and its frame comes back
+    -- if a table's words are all 0, its entry becomes unused and its frame is returned
     module _ (at_least_four : 0 < l.levels) (m : Memory) (valid : Valid l m) (held : List ℕ) (q : List ℕ) (i f : ℕ) (leads : table_at l.levels l.root (paths l m) q ≡ Some f) (small : i < 512)
         (outside : begins_with l.window (q ++ i ∷ []) ≡ false) (g : ℕ) (names : table_at l.levels l.root (paths l m) (q ++ i ∷ []) ≡ Some g) (in_use : used (entry (paths l m) (q ++ i ∷ [])) ≡ true)
         (empty : (j : ℕ) → word (words l m) g j ≡ 0) (n : Memory) (set : IsSet l.places m f i 0 n) where
@@ -120,7 +120,7 @@ module _ (l : Layout) (take_back : List ℕ → ℕ → List ℕ) where
         others = λ k h. set_others l.places apart m f i 0 n set k (λ e. h f (q, leads) (sym e));
       }
 
--- ---- a clean up may go on
+-- ---- the condition of a clean up still holds
 
 pub may_still : {Lent : Type 0} (h : Hierarchy Lent) (take_back : List ℕ → ℕ → List ℕ) → TakesBack take_back → (serves : ℕ → Bool) (held : List ℕ) → MayCleanUp h serves held
     → (N : PathMap) (back : List ℕ) (n : Memory) (rest : List ℕ) → IsCleaned h.layout take_back h.memory held N back n rest → MayCleanUp (record h { memory = n }) serves rest
@@ -133,7 +133,7 @@ may_still h take_back gives serves held may N back n rest c = record {
       (in_append back held f ((given_frames take_back gives held back f).0 (subst (λ fs. In fs f) c.given h)));
 }
 
--- and a table but the root may come back
+-- a table other than the root may be returned
 pub may_give : {Lent : Type 0} (h : Hierarchy Lent) (serves : ℕ → Bool) (held : List ℕ) → MayCleanUp h serves held → (q : List ℕ) (i f : ℕ)
     → table_at h.layout.levels h.layout.root (paths h.layout h.memory) (q ++ i ∷ []) ≡ Some f → (serves f ≡ true) × (In held f → ⊥)
 may_give h serves held may [] i f t = (may.serves_tables i [] f t, may.none_held i [] f t)

@@ -1,4 +1,4 @@
--- Which entries are in the range of a clean up: those that name tables, but for the one through which the root names itself.
+-- Which entries are in the range of a clean up: those that name tables, except the root's entry for itself.
 use Rattle.std.proofs.Common.{◌≡◌, ◌<◌, ◌+◌, ℕ, Bool, true, false, not, cond, List, [], ◌∷◌, ◌++◌, length, Option, Some, None, Ok, Err, sym, ap, ◌∙◌, subst, arith, eqb-true, lt-ltb}
 use Rattle.std.proofs.lemmas.Bool.{and_from, false_from_ne_true}
 use Rattle.x86_64_model.proofs.Lemmas.CleanUps.Removed.{in_range_parts}
@@ -38,7 +38,7 @@ module _ (l : Layout) (m : Memory) (valid : Valid l m) (low high : ℕ) (q : Lis
   word_is : word (words l m) f i ≡ e
   word_is = word_is_entry L l.window (words l m) l.root (paths l m) valid q i f v.leads small out
 
-  -- where the word names a table
+  -- the word names a table
   pub next_visited : length q + 1 < L → meets L low high r ≡ true → (g : ℕ) → Ok g ≡ table_below (word (words l m) f i) → IsNext l m low high q i g
   next_visited room met g names =
       let n = names_below e g (names ∙ ap table_below word_is) in
@@ -48,7 +48,7 @@ module _ (l : Layout) (m : Memory) (valid : Valid l m) (low high : ℕ) (q : Lis
         is = n.address;
       }
 
-  -- where it names none
+  -- the word names no table
   pub refused_out : (why : Refusal) → Err why ≡ table_below (word (words l m) f i) → in_range L (paths l m) low high r ≡ false
   refused_out why refused = false_from_ne_true _ (λ h. let parts = in_range_parts L (paths l m) low high r h in
       clash (present e) (huge e) (refused ∙ ap table_below word_is) parts.1 parts.2)
@@ -58,7 +58,7 @@ module _ (l : Layout) (m : Memory) (valid : Valid l m) (low high : ℕ) (q : Lis
       clash true false refused here plain = cc
       clash false h refused here plain = cc
 
--- the self-entry, which the path map hasn't
+-- the self-entry, which the path map doesn't have
 pub recursive_out : (l : Layout) (m : Memory) → Valid l m → (low high : ℕ) (q : List ℕ) (i : ℕ) → begins_with l.window q ≡ false → begins_with l.window (q ++ i ∷ []) ≡ true
     → in_range l.levels (paths l m) low high (q ++ i ∷ []) ≡ false
 recursive_out l m valid low high q i out is = false_from_ne_true _ (λ h. let t : false ≡ true = sym (by l.window valid.valid q out is) ∙ (in_range_parts l.levels (paths l m) low high (q ++ i ∷ []) h).1 in cc)

@@ -1,4 +1,4 @@
--- The clean up of one entry: the tables below the one that it names go first, and then it ends in one of three ways.
+-- The clean up of one entry: the tables below the one that it names are removed first, and then it ends in one of three ways.
 use Rattle.std.proofs.Common.{zero, suc, ◌≡◌, ◌≢◌, ◌⊎◌, inl, inr, ⊎_elim, ◌<◌, ℕ, true, false, List, [], ◌∷◌, ◌++◌, refl, sym, ap, ◌∙◌, subst, subst₂, arith}
 use Rattle.std.proofs.lemmas.Bool.{cases_eq, cases_lt}
 use Rattle.x86_64_model.proofs.Lemmas.CleanUps.Below.{cleaned_below, back_below}
@@ -39,7 +39,7 @@ pub entry_stays : (l : Layout) (take_back : List ℕ → ℕ → List ℕ) (m : 
     → IsCleanedAt l take_back m held low high r m held
 entry_stays l take_back m valid held low high r out = record { N = paths l m; back = []; rule = inl (out, refl, refl); cleaned = cleaned_nothing l take_back m valid held }
 
--- once the tables below the one that the entry names were cleaned up
+-- the tables below the one that the entry names were cleaned up
 pub record IsBelowCleaned (l : Layout) (take_back : List ℕ → ℕ → List ℕ) (m : Memory) (held : List ℕ) (low high : ℕ) (q : List ℕ) (f i g : ℕ) (n : Memory) (rest : List ℕ) : Type 0 where
   pub next : IsNext l m low high q i g
   pub cleaned : IsCleaned l take_back m held (cleaned_below l.levels (paths l m) low high (q ++ i ∷ [])) (back_below l.levels (paths l m) low high (q ++ i ∷ [])) n rest
@@ -71,7 +71,7 @@ module _ (l : Layout) (take_back : List ℕ → ℕ → List ℕ) (m : Memory) (
   word_there : (j : ℕ) → j < 512 → word (words l n) g j ≡ entry (cleaned_below L M low high r) (r ++ j ∷ [])
   word_there j small = word_is_entry L l.window (words l n) l.root (paths l n) b.cleaned.valid r j g b.there.leads small (outside_more l.window q i j b.there.outside) ∙ ap (λ N. entry N (r ++ j ∷ [])) b.cleaned.meant
 
-  -- a word is left
+  -- a used word is left
   pub entry_kept : (((j : ℕ) → word (words l n) g j ≡ 0) → ⊥) → IsCleanedAt l take_back m held low high r n rest
   entry_kept some = let left = not_empty (words l n) g some in record {
     N = cleaned_below L M low high r;
@@ -80,7 +80,7 @@ module _ (l : Layout) (take_back : List ℕ → ℕ → List ℕ) (m : Memory) (
     cleaned = b.cleaned;
   }
 
-  -- none is, and the table goes
+  -- no used word is left, and the table is removed
   pub entry_gone : Distinct l.places → 0 < l.levels → i < 512 → ((j : ℕ) → word (words l n) g j ≡ 0)
       → (o : Memory) → IsSet l.places n f i 0 o → (left : List ℕ) → left ≡ take_back rest g → IsCleanedAt l take_back m held low high r o left
   entry_gone apart at_least_four small empty o set left gives =

@@ -29,26 +29,26 @@ frame_named w = by (present w) (huge w)
     by true false = refl
     by false h = refl
 
--- an entry of a table names one where its frame is one
+-- an entry of a table names a table if it has a frame
 pub entry_named : (T : Words) (frame i : ℕ) (table : List ℕ) → T frame ≡ Some table → i < 512 → (r : Result ℕ FrameError) → r ≡ frame_of (slice_index table i) → names_table (word T frame i) ≡ is_ok r
 entry_named T frame i table there inside r is = ap names_table (sym (entry_is_word T frame i table there inside)) ∙ sym (ap is_ok is ∙ frame_named (slice_index table i))
 
--- one more entry that names none
+-- one more entry names no table
 pub none_more : (T : Words) (frame from i : ℕ) → ((k : ℕ) → from ≤ k → k < i → names_table (word T frame k) ≡ false) → names_table (word T frame i) ≡ false
     → (k : ℕ) → from ≤ k → k < i + 1 → names_table (word T frame k) ≡ false
 none_more T frame from i before here k low high = ⊎_elim (before k low)
     (λ past. let e : k ≡ i = omega (arith, past, high) in ap (λ k. names_table (word T frame k)) e ∙ here) (cases_lt k i)
 
--- an index that is from another one on if it isn't past the last is so where the other is past the last by one at most
+-- an index that is at least another one unless it is past the last is at least it, if the other is past the last by at most one
 pub not_before : (from last i : ℕ) → (i ≤ last → from ≤ i) → from ≤ last + 1 → from ≤ i
 not_before from last i within most = ⊎_elim (λ below. within (omega (arith, below))) (λ past. omega (arith, most, past)) (cases_lt i (last + 1))
 
--- the refusal of one that names none
+-- the refusal by an entry that names no table
 refusal_of : (r : Result ℕ Refusal) → is_ok r ≡ false → (why : Refusal) × (Err why ≡ r)
 refusal_of (Ok f) none = cc
 refusal_of (Err why) none = (why, refl)
 
--- ---- they stay
+-- ---- entries that name no table stay
 
 -- an entry that names no table isn't in range
 pub unnamed_out : (l : Layout) (m : Memory) → Valid l m → (low high : ℕ) (q : List ℕ) (f : ℕ) → IsVisited l m low high q f → (i : ℕ) → i < 512 → names_table (word (words l m) f i) ≡ false
@@ -59,7 +59,7 @@ unnamed_out l m valid low high q f v i small none = by (begins_with l.window (q 
     by true is = recursive_out l m valid low high q i v.outside is
     by false out = let r = refusal_of (table_below (word (words l m) f i)) none in refused_out l m valid low high q f v i small out r.0 r.1
 
--- those before an index were cleaned up, and so are those before a later one, if none between names a table
+-- If the entries before an index were cleaned up, so are those before a later index with no entry in between that names a table.
 module _ (l : Layout) (take_back : List ℕ → ℕ → List ℕ) (m : Memory) (valid : Valid l m) (held : List ℕ) (low high : ℕ) (q : List ℕ) (f : ℕ) (v : IsVisited l m low high q f)
     (apart : Distinct l.places) (n : Memory) (rest : List ℕ) where
   abbrev Before : ℕ → Type 0

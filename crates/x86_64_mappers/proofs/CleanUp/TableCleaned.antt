@@ -68,14 +68,14 @@ module _ (l : Layout) (take_back : List ℕ → ℕ → List ℕ) (m : Memory) (
   abbrev Before : (i : ℕ) → Memory → List ℕ → Type 0
   Before i n rest = IsCleaned l take_back m held (cleaned_before L M low high q i) (back_before L M low high q i) n rest
 
-  -- so far none is in range
+  -- no entry before the index is in range
   pub before_first : (i : ℕ) → ((k : ℕ) → k < i → in_range L M low high (q ++ k ∷ []) ≡ false) → Before i m held
   before_first i out =
       let none = passed L l.root M tree low high q 0 i (omega arith) (λ k from to. out k to) in
       subst₂ (λ N back. IsCleaned l take_back m held N back m held)
       (sym (none.0 ∙ cleaned_first L l.root M tree low high q)) (sym (none.1 ∙ back_first L l.root M tree low high q)) (cleaned_nothing l take_back m valid held)
 
-  -- and from now on none is
+  -- no entry from the index on is in range
   pub before_last : (i : ℕ) → i ≤ 512 → ((k : ℕ) → i ≤ k → k < 512 → in_range L M low high (q ++ k ∷ []) ≡ false) → (n : Memory) (rest : List ℕ) → Before i n rest
       → IsCleaned l take_back m held (cleaned_below L M low high q) (back_below L M low high q) n rest
   before_last i most out n rest here =
@@ -88,7 +88,7 @@ module _ (l : Layout) (take_back : List ℕ → ℕ → List ℕ) (m : Memory) (
   level_one low_level = subst₂ (λ N back. IsCleaned l take_back m held N back m held)
       (sym (cleaned_level_one L l.root M tree low high q low_level)) (sym (back_level_one L l.root M tree low high q low_level)) (cleaned_nothing l take_back m valid held)
 
-  -- one more
+  -- one more entry
   module _ (visits : Visits L M low high q) (i : ℕ) where
     abbrev N : PathMap
     N = cleaned_before L M low high q i

@@ -1,4 +1,4 @@
--- The tables that a clean up comes to are reached, and stay so while those below them are cleaned up.
+-- The tables that a clean up comes to are reached, and remain so while those below them are cleaned up.
 use Rattle.std.proofs.Common.{zero, suc, ◌≡◌, inr, ◌<◌, ◌≤◌, ℕ, ◌==◌, Bool, true, false, List, [], ◌∷◌, ◌++◌, length, take, get_or, Option, Some, None, refl, ap, ◌∙◌, arith, eq-eqb}
 use Rattle.std.proofs.lemmas.Bool.{and_from, false_from_ne_true}
 use Rattle.std.proofs.lemmas.List.{take_all, length-append}
@@ -83,7 +83,7 @@ module _ (l : Layout) (m : Memory) (low high : ℕ) (q : List ℕ) (f : ℕ) (v 
       led [] i h = let p = in_range_parts l.levels M low high (i ∷ []) h in named l.levels (i ∷ []) (entry M (i ∷ [])) (names _ p.1 p.2) p.0
       led (k ∷ q) i h = let p = in_range_parts l.levels M low high (k ∷ q ++ i ∷ []) h in named l.levels (k ∷ q ++ i ∷ []) (entry M (k ∷ q ++ i ∷ [])) (names _ p.1 p.2) p.0
 
-  -- a clean up of longer paths leaves the way
+  -- a clean up of longer paths leaves the path as it is
   visited_still : (n : Memory) (part : List ℕ → Bool) → ((p : List ℕ) → length p ≤ length q → part p ≡ false) → paths l n ≡ cleaned l.levels M low high part → IsVisited l n low high q f
   visited_still n part longer is = record {
     leads = ap (λ N. table_at l.levels l.root N q) is ∙ table_at_same l.levels l.root N M q (same q (omega arith)) ∙ v.leads;
@@ -103,7 +103,7 @@ module _ (l : Layout) (m : Memory) (low high : ℕ) (q : List ℕ) (f : ℕ) (v 
           (λ s (h : (0 < length s) × (length s < length (q ++ i ∷ []))). same_range l.levels N M low high s (same s (omega (arith, h.1, one_more q i))))
           (parents (q ++ i ∷ [])) (parents_short (q ++ i ∷ [])))
 
-  -- one of the tables below it, of one of these, and of those at the first indices
+  -- This holds after the clean up of all tables below the table, of one such table, and of those at its first indices.
   pub still_below : (n : Memory) → paths l n ≡ cleaned_below l.levels M low high q → IsVisited l n low high q f
   still_below n = visited_still n (is_below q) (λ p short. none_short q p short)
 

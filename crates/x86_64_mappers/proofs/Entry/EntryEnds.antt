@@ -1,4 +1,4 @@
--- What a mapper's call on one entry leaves, from how the call on the entry ends.
+-- The result of a mapper's call on one entry, from the result of the call on the entry.
 use Rattle.std.proofs.Common.{◌≡◌, ℕ, true, List, Option, Some, None, sym, ap, ap₂, ◌∙◌, subst}
 use Rattle.x86_64_model.proofs.Lemmas.Machines.Owners.{does_unmap, does_update, does_set_flags}
 use Rattle.x86_64_model.specs.Allowed.{refuses}
@@ -8,7 +8,7 @@ use Rattle.x86_64_model.specs.Mapper.{Hierarchy, Does, named}
 use Rattle.x86_64_model.specs.Refusal.{Refusal, Answer, Done, Refused, refusal_of, answer_unless}
 use Rattle.x86_64_mappers.proofs.Entry.EntryRules.{Ends, IfRefused}
 
--- what keeps layout and loan is the same but for the memory
+-- a hierarchy with the same layout and loan differs only in the memory
 pub with_memory : {Lent : Type 0} (h after : Hierarchy Lent) → after.layout ≡ h.layout → after.lent ≡ h.lent → record h { memory = after.memory } ≡ after
 with_memory h after l e = ap₂ (λ layout lent. record { layout = layout; memory = after.memory; lent = lent }) (sym l) (sym e)
 
@@ -16,7 +16,7 @@ refused_still : {P : Type 0} (answer : Answer) → IfRefused answer P → refuse
 refused_still (Done frame) still is = cc
 refused_still (Refused why) still is = still
 
--- the same where only the refusal is told
+-- this if only the refusal is known
 told_still : {P : Type 0} (answer : Answer) (why : Option Refusal) (frame : ℕ) → why ≡ refusal_of answer → IfRefused answer P → refuses (answer_unless why (Done frame)) ≡ true → P
 told_still (Done f) None frame told still is = cc
 told_still (Done f) (Some v) frame told still is = cc

@@ -1,4 +1,4 @@
--- A call on one entry: what it answers and what the memory is then, from the way down to the entry's table, what the entry's word says, and the write.
+-- Calls on one entry. Each is proved in three steps: find the entry's table, compute the entry's new word, write it.
 use Rattle.std.proofs.Common.{◌≡◌, ◌<◌, ◌+◌, ℕ, false, List, [], ◌∷◌, ◌++◌, length, take, get_or, Option, Some, None, Result, Ok, Err, refl, sym, ap, ◌∙◌, subst}
 use Rattle.x86_64_model.specs.Layout.{Layout, words, paths, read_entry, Valid}
 use Rattle.x86_64_model.proofs.Lemmas.Machines.Changes.{IsChange}
@@ -16,18 +16,18 @@ use Rattle.x86_64_mappers.proofs.Memory.Changed.{set_same}
 use Rattle.x86_64_mappers.proofs.Memory.EntryChanges.{entry_changed}
 use Rattle.x86_64_mappers.proofs.Way.Pages.{path_parted}
 
--- what holds where an answer is a refusal
+-- a claim that need only hold if the answer is a refusal
 abbrev pub IfRefused : Answer → Type 0 → Type 0
 IfRefused (Done frame) P = Unit {0}
 IfRefused (Refused why) P = P
 
--- what a call answers that a rule gives, and what it leaves
+-- the answer and the path map are those of a call's rule, and the memory is as it must be
 pub record Ends (l : Layout) (m : Memory) (after : AfterChange) (answer : Answer) (n : Memory) : Type 0 where
   pub answers : after.answer ≡ answer
   pub changed : IsChanged l m after n
   pub unchanged : IfRefused answer (n ≡ m)
 
--- the rule of a call, where the entry says which word it becomes and which frame is answered, or why the call is refused
+-- the rule of a call whose entry says its new word and the frame in the answer, or why the call is refused
 abbrev pub after_entry : PathMap → List ℕ → (says : Result (ℕ × ℕ) Refusal) → AfterChange
 after_entry M q (Ok done) = record { paths = put M q done.0; answer = Done done.1 }
 after_entry M q (Err why) = record { paths = M; answer = Refused why }
@@ -40,7 +40,7 @@ unchanged_ends l m valid after why is = record {
   unchanged = refl;
 }
 
--- a call whose rule this is, on the entry at a path of n + 1 indices: nothing changes if a parent stops it or the entry refuses it
+-- A call with this rule on the entry at a path of n + 1 indices. Nothing changes if a parent stops it or the entry refuses it.
 module _ (l : Layout) (m : Memory) (valid : Valid l m) (q : List ℕ) (n : ℕ) (long : length q ≡ n + 1) (says : ℕ → Result (ℕ × ℕ) Refusal) (after : AfterChange)
     (rule : after ≡ refused_or (paths l m) (first_stop (read_entry l m) q) (after_entry (paths l m) q (says (read_entry l m q)))) where
   abbrev M : PathMap
@@ -85,12 +85,12 @@ module _ (l : Layout) (m : Memory) (valid : Valid l m) (q : List ℕ) (n : ℕ) 
           unchanged = tt;
         }
       where
-        -- outside the window the path leads to the table in the path map
+        -- if the path isn't in the window, it leads to the same table in the path map
         same_table : (path : List ℕ) (last : ℕ) → begins_with l.window (path ++ last ∷ []) ≡ false → table_read l.levels l.root (read_entry l m) path ≡ Some g → table_at l.levels l.root M path ≡ Some g
         same_table [] z out is = is
         same_table (i ∷ p) z out is = ap (table_of l.levels (i ∷ p)) (sym (entry_outside l.window M i p (first_alone l.window i (p ++ z ∷ []) p out))) ∙ is
 
-    -- its word is what it says
+    -- the memory and the answer are those that the entry's word decides
     pub ended : Distinct l.places → 0 < l.levels → last < 512 → ((w frame : ℕ) → says (read_entry l m q) ≡ Ok (w, frame) → IsChange l.levels l.window M q w)
         → (o : Memory) → let e = word (words l m) g last in IsSet l.places m g last (word_said e (says e)) o → Ends l m after (answer_said (says e)) o
     ended apart at_least_four small change o set = by (says e) refl set

@@ -1,4 +1,4 @@
--- The entries of pages: what holds of one that names a frame, and the tests that code makes of an entry.
+-- The entries of pages: properties of an entry that names a frame, and the tests that the code makes of an entry.
 use Rattle.std.proofs.Common.{◌≡◌, ◌%◌, ℕ, Bool, true, false, ◌==◌, not, Ok, Err, refl, sym, ◌∙◌, ◌≢◌, ◌≤◌, nat_lt, ap, arith, eq-eqb, ne_eqb, ltb-true}
 use Rattle.std.proofs.lemmas.Bool.{ltb-false}
 use Rattle.std.proofs.Math.Bool.{beq}

@@ -1,4 +1,4 @@
--- The calls on the entry of a page: their rules, by what the entry says to a page of its level.
+-- The calls on the entry of a page, whose rules depend on what the entry decides for a page of its level.
 use Rattle.std.proofs.Common.{◌≡◌, ◌<◌, ◌≤◌, ◌+◌, ◌-◌, ◌%◌, ℕ, Bool, true, false, ◌==◌, ◌&&◌, ◌||◌, not, cond, List, [], ◌∷◌, ◌++◌, length, take, get_or, Option, None, Result, Ok, Err, bit_or, refl, sym, ap, ap₂, ◌∙◌, subst, arith, eq-eqb, eqb-true}
 use Rattle.std.proofs.lemmas.Bool.{and_parts, not-true}
 use Rattle.x86_64_model.specs.Allowed.{allowed}
@@ -113,7 +113,7 @@ module _ (l : Layout) (m : Memory) (level : ℕ) (q : List ℕ) (at_level : leng
     pub translate_stopped : (why : Refusal) → IsFound l m (take n q) (Err why) → page_translation l m q ≡ Refused why
     translate_stopped why found = translate_rule ∙ ap (λ s. answer_unless s (answer_of (named_frame level e))) (ap (first_stop (read_entry l m)) (sym parted) ∙ found (get_or q n 0))
 
-    -- or the entry is asked, which is the word in the table
+    -- no parent stops it: the entry decides, which is the word in the table
     pub translate_told : (g : ℕ) → IsFound l m (take n q) (Ok g) → (r : Result ℕ Refusal) → r ≡ named_frame level (word (words l m) g (get_or q n 0)) → page_translation l m q ≡ answer_of r
     translate_told g found r is = translate_rule ∙ ap (λ s. answer_unless s (answer_of (named_frame level e))) (ap (first_stop (read_entry l m)) (sym parted) ∙ found.1 (get_or q n 0))
         ∙ ap (λ e. answer_of (named_frame level e)) (ap (read_entry l m) (sym parted) ∙ found.0.entries (get_or q n 0)) ∙ ap answer_of (sym is)
@@ -124,7 +124,7 @@ module _ (l : Layout) (m : Memory) (level : ℕ) (q : List ℕ) (at_level : leng
     entry_is : entry M q ≡ e
     entry_is = sym (at_front l.window M q out some)
 
-    -- the entry of a page becomes another one, or unused
+    -- the entry of a page becomes that of another page, or unused
     page_change : (w : ℕ) → used e ≡ true → ((level == 1) ≡ false → huge e ≡ true) → table_of l.levels q w ≡ None → IsChange l.levels l.window M q w
     page_change w is_used is_huge none = record {
       is_used = ap used entry_is ∙ is_used;
@@ -149,7 +149,7 @@ module _ (l : Layout) (m : Memory) (level : ℕ) (q : List ℕ) (at_level : leng
         by_huge true false h f t = t
         by_huge false s h f t = absurd (let t = t in cc)
 
-    -- the same by what the entry says
+    -- this for the word that the entry decides
     pub unmap_changes : (w frame : ℕ) → unmap_says level e ≡ Ok (w, frame) → IsChange l.levels l.window M q w
     unmap_changes w frame = by (leaf_frame level e) refl
       where

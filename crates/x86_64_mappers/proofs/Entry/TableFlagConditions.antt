@@ -1,4 +1,4 @@
--- The condition of a change of the flags of an entry above a page's own, by the level and the entry, where the way to it is there.
+-- The condition of a change of the flags of an entry above a page's own, by the level and the entry, if no parent stops the call.
 use Rattle.std.proofs.Common.{◌≡◌, ◌≤◌, ◌<◌, ◌+◌, ◌-◌, ℕ, nat_le, nat_lt, ◌&&◌, ◌||◌, Bool, true, false, not, cond, List, [], ◌∷◌, ◌++◌, length, take, get_or, Option, Some, None, is_some, Ok, Err, bit_or, refl, sym, ap, ◌∙◌, arith, length-take-le}
 use Rattle.std.proofs.lemmas.Bool.{le-ltb}
 use Rattle.x86_64_model.specs.Allowed.{allowed, refuses, both_or_none}
@@ -15,11 +15,11 @@ use Rattle.x86_64_mappers.specs.private.Stops.{IsFound}
 use Rattle.x86_64_mappers.specs.private.TableFlags.{keeps_huge}
 use Rattle.x86_64_mappers.proofs.Way.Pages.{path_parted}
 
--- how many indices the path of the entry has
+-- the number of indices of the entry's path
 pub front_length : (L level own : ℕ) (page : List ℕ) → length page + own ≡ L + 1 → own < level → length (front_at L level page) ≡ L + 1 - level
 front_length L level own page at_level above = length-take-le (L + 1 - level) page (omega (arith, at_level))
 
--- ---- what the way down to the entry tells of it
+-- ---- what the walk down to the entry decides
 
 module _ (l : Layout) (m : Memory) (q : List ℕ) (n given : ℕ) (long : length q ≡ n + 1) where
   parted : take n q ++ get_or q n 0 ∷ [] ≡ q
@@ -41,7 +41,7 @@ module _ (l : Layout) (m : Memory) (q : List ℕ) (n given : ℕ) (long : length
 
 -- ---- the condition of the call
 
--- where the call's refusals come first, or the flags are kept
+-- the call is refused, or the flags are kept
 refuses_or : (low : Bool) (M : PathMap) (stop : Option Refusal) (unused kept : Bool) (after : AfterChange) → refuses after.answer ≡ false
     → (refuses (cond low (record { paths = M; answer = Refused ParentEntryHugePage }) (refused_or M stop (refused_or M (refused_if unused PageNotMapped None) after))).answer || kept)
     ≡ (low || (is_some stop || unused || kept))

@@ -1,4 +1,4 @@
--- The call that sets the flags of an entry above a page's own: what it answers, and what the memory is then.
+-- The call that sets the flags of an entry above a page's own: its answer, and the memory afterwards.
 use Rattle.std.proofs.Common.{◌≡◌, ◌≢◌, ◌≤◌, ◌<◌, ◌+◌, ◌-◌, ℕ, nat_le, nat_lt, ◌||◌, Bool, true, false, not, cond, List, [], ◌∷◌, length, take, get_or, is_some, Some, None, Result, Ok, Err, bit_or, refl, sym, ap, ◌∙◌, subst, arith, eqb-true, ltb-true}
 use Rattle.std.proofs.lemmas.Bool.{and_parts, not-true, le-leb, lt-leb}
 use Rattle.x86_64_model.specs.Allowed.{allowed, both_or_none}
@@ -25,7 +25,7 @@ equal : (a b : Bool) → both_or_none a b ≡ true → a ≡ b
 equal true b is = sym is
 equal false b is = sym (not-true b is)
 
--- where a call isn't refused, its condition tells of HUGE_PAGE
+-- if a call isn't refused, its condition decides HUGE_PAGE
 kept : (E : List ℕ → ℕ) (q : List ℕ) (given : ℕ) → keeps_huge E q given ≡ true → first_stop E q ≡ None → used (E q) ≡ true → huge given ≡ huge (E q)
 kept E q given keeps stop u = equal (huge given) (huge (E q)) ((λ i. is_some (sym stop i) || not (sym u i) || both_or_none (huge given) (huge (E q))) ∙ keeps)
 
@@ -77,7 +77,7 @@ module _ (l : Layout) (m : Memory) (valid : Valid l m) (level : ℕ) (page : Lis
         met : ((no_address given ≡ true) × (not (begins_with l.window page) ≡ true)) × (cond (nat_lt 3 level) (not (huge given)) (nat_le level own || keeps_huge E q given) ≡ true)
         met = let p = and_parts _ _ (sym (table_flags_rule l.levels l.window M level page given own at_level) ∙ may) in (and_parts _ _ p.0, p.1)
 
-        -- the entry with these flags names the same table, or none as before
+        -- with these flags, the entry names the same table, or none as before
         flags_change : first_stop E q ≡ None → used (E q) ≡ true → IsChange l.levels l.window M q (bit_or (address (E q)) given)
         flags_change stop u =
             let out = begins_take l.window (l.levels + 1 - level) page (omega arith) (not-true _ met.0.1) in
@@ -111,7 +111,7 @@ module _ (l : Layout) (m : Memory) (valid : Valid l m) (level : ℕ) (page : Lis
               by true some said = subst (IsChange l.levels l.window M q) (ap (word_said w) said) (flags_change (never_stopped l m q n given size g found) some)
               by false none said = absurd (let t = said in cc)
 
-          -- the entry was asked
+          -- the entry decided
           pub flags_ended : Distinct l.places → (g : ℕ) → IsFound l m (take n q) (Ok g) → get_or q n 0 < 512
               → (o : Memory) → let e = word (words l m) g (get_or q n 0) in IsSet l.places m g (get_or q n 0) (word_said e (flags_say given e)) o → Ends l m after (answer_said (flags_say given e)) o
           flags_ended apart g found inside = ended l m valid q n size (flags_say given) after rule g found apart (omega (arith, low, high)) inside (flags_changes g found)

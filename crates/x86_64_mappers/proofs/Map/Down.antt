@@ -33,7 +33,7 @@ module _ (l : Layout) (m : Memory) (s : List ℕ) (more : ℕ) (path : List ℕ)
         on [] x e frame = r.outcome x [] e frame
         on (j ∷ left) x e frame = r.outcome j (left ++ x ∷ []) e frame
 
-  -- the same for the number of parents that are done
+  -- this for the number of parents that are done
   module _ (k : ℕ) (within : k < length path) (n : Memory) (rest : List ℕ) (f : ℕ) (here : IsAt l m s more path (take k path) (drop k path) n rest f) (o : Memory) (fs : List ℕ) where
     abbrev item : ℕ
     item = get_or path k 0

@@ -1,4 +1,4 @@
--- A new table that is linked before it is cleared is reached at once, and the two writes might come in either order.
+-- A new table that is linked before it is cleared is reached at once, and the two writes may come in either order.
 use Rattle.std.proofs.Common.{◌≡◌, ◌≢◌, ⊎_elim, ◌<◌, ℕ, Bool, true, false, ◌&&◌, not, cond, List, [], ◌∷◌, ◌++◌, set, get_or, Option, Some, None, option_and_then, option_map, refl, sym, ap, ◌∙◌, ◌==◌, bit_or, eqb-true, subst}
 use Rattle.std.proofs.lemmas.Bool.{cases_eq}
 use Rattle.std.specs.Cmp.{nat_cmp_total}
@@ -48,7 +48,7 @@ cleared_first places apart m f i w g a n other there k c =
       };
     }
 
--- a table that was linked, in the first frame of a supply
+-- a table in the first frame of a supply that was linked
 pub taken_linked : (l k : Layout) → k ≡ l → (m o : Memory) → o ≡ m → (s rest : List ℕ) (f i x given g : ℕ) → x ≡ given → (n : Memory) → used (word_in_frame l.places m f i) ≡ false → s ≡ g ∷ rest
     → IsClearedFirst k.places o f i (bit_or g x) g n → IsTaken l.places m s f i given g n rest
 taken_linked l k same m o unmoved s rest f i x given g flags n unused first linked =
@@ -58,7 +58,7 @@ taken_linked l k same m o unmoved s rest f i x given g flags n unused first link
 pub may_still : (l k : Layout) → k ≡ l → (m o : Memory) → o ≡ m → (path : List ℕ) (i f g x given : ℕ) → x ≡ given → MayLink l m path i f g given → MayLink k o path i f g x
 may_still l k same m o unmoved path i f g x given flags may = rw (same, unmoved, flags) may
 
--- ---- the way stays
+-- ---- the path leads as before
 
 abbrev SameOnWay : Words → Words → (root : ℕ) → (path : List ℕ) → Type 0
 SameOnWay T U root path = (a : List ℕ) (j : ℕ) (b : List ℕ) → path ≡ a ++ j ∷ b → (h : ℕ) → leads T root a ≡ Some h → read U h j ≡ read T h j
@@ -87,7 +87,7 @@ leads_same T U root (k ∷ q) g is same =
     by more (Some e) r is = at more e r (present e && not (huge e)) refl is
 
 module _ (l : Layout) (apart : Distinct l.places) (m : Memory) (path : List ℕ) (f i : ℕ) (small : i < 512) (reached : IsReached l m path f) (before : NotOnWay (words l m) l.root path f) (beside : Beside l.window l.root f i) where
-  -- the table is still reached once a word of it was set, which isn't the self-entry
+  -- the table is still reached after a write to a word of it that isn't the self-entry
   pub reached_set : (w : ℕ) (n : Memory) → IsSet l.places m f i w n → IsReached l n path f
   reached_set w n k = record {
     way = leads_same (words l m) (words l n) l.root path f reached.way (λ a j b split h lead.
@@ -97,7 +97,7 @@ module _ (l : Layout) (apart : Distinct l.places) (m : Memory) (path : List ℕ)
     self = self_set l apart m f i w n k beside reached.self;
   }
 
-  -- and so is the table that the word then names, whatever words it holds
+  -- the table that the word then names is reached too, whatever words it holds
   pub reached_linked : (w : ℕ) (n : Memory) → IsSet l.places m f i w n → present w ≡ true → huge w ≡ false → IsThere l.places m (address w) → IsReached l n (path ++ i ∷ []) (address w)
   reached_linked w n k here plain there =
       let r = reached_set w n k in
@@ -108,7 +108,7 @@ module _ (l : Layout) (apart : Distinct l.places) (m : Memory) (path : List ℕ)
         self = r.self;
       }
 
--- a new entry of a table is present and names it, so that the table is reached through it at once
+-- a table's new entry is present and names it, so that the table is reached through it at once
 pub linked_reached : (l : Layout) → Distinct l.places → (m : Memory) (path : List ℕ) (f i : ℕ) → i < 512 → IsReached l m path f → NotOnWay (words l m) l.root path f → Beside l.window l.root f i
     → (g x : ℕ) → is_frame g ≡ true → IsParentFlags x → present x ≡ true → IsThere l.places m g → (n : Memory) → IsSet l.places m f i (bit_or g x) n → IsReached l n (path ++ i ∷ []) g
 unfolding has

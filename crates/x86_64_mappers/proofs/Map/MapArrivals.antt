@@ -1,4 +1,4 @@
--- Where the processor arrives after a map that was accepted.
+-- Where a page walk arrives after a successful map.
 use Rattle.std.proofs.Common.{zero, suc, ◌≡◌, ◌<◌, ◌≤◌, ◌%◌, ◌^◌, ℕ, true, List, Result, Ok, Err, sym, ap, ◌∙◌, subst, arith}
 use Rattle.std.specs.Result.{IfOk}
 use Rattle.x86_64_model.specs.Entry.{IsParentFlags, present, address}

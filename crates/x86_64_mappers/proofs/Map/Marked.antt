@@ -60,7 +60,7 @@ module _ (l : Layout) (apart : Distinct l.places) (m : Memory) (pre : List ℕ) 
       (λ f h. h) (set_keeps l.places apart m f i _ n k.is_set)
       (λ a h. set_others l.places apart m f i _ n k.is_set a (own_place l apart at_least_four m pre i f leads small beside s ready s (λ f h. h) a h))
 
-  -- one that isn't huge leads to the next table
+  -- a parent that isn't huge leads to the next table
   pub reached_used : (g : ℕ) (n : Memory) → IsMarked l.places m f i more n → huge (word (words l m) f i) ≡ false → g ≡ address (word (words l m) f i) → Reached l m s more pre i n s g
   unfolding table_of
   reached_used g n k h names =
@@ -83,7 +83,7 @@ module _ (l : Layout) (apart : Distinct l.places) (m : Memory) (pre : List ℕ) 
             ∙ rest_same more l.added_flags pre i _ s j r x frame ∙ ap (λ N. mapped_from N s more l.added_flags p (j ∷ r) x frame) w.0;
       }
 
-  -- a huge one refuses
+  -- a huge parent refuses
   pub stopped_huge : (n : Memory) → IsMarked l.places m f i more n → huge (word (words l m) f i) ≡ true → Stopped l m s more pre i n s ParentEntryHugePage
   stopped_huge n k h =
       let w = marked n k in record {

@@ -1,4 +1,4 @@
--- A parent of a page that is not used: a table is made, in the first frame of the supply.
+-- An unused parent of a page: a table is created in the first frame of the supply.
 use Rattle.std.proofs.Common.{⊎_elim, ◌≡◌, ◌≢◌, inl, inr, ◌<◌, ℕ, false, List, [], ◌∷◌, ◌++◌, length, Some, None, bit_or, refl, sym, ap, ◌∙◌, subst, arith, eqb-true}
 use Rattle.std.specs.FinMap.{get}
 use Rattle.x86_64_model.specs.Conserved.{IsFrame, Conserves}

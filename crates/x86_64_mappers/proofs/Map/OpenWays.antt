@@ -1,4 +1,4 @@
--- The way down the parents of a page for a map reaches its tables, and goes on with each step.
+-- The walk down the parents of a page for a map reaches its tables, and stays open with each step.
 use Rattle.std.proofs.Common.{zero, suc, ◌≡◌, ◌≢◌, ◌⊎◌, inl, inr, ⊎_elim, ◌<◌, ◌≤◌, ◌+◌, ℕ, Bool, true, false, ◌||◌, not, cond, List, [], ◌∷◌, ◌++◌, length, take, drop, get_or, map, find, bit_or, Option, Some, None, IsSome, refl, sym, ap, ap₂, ◌∙◌, subst, arith, add-one, append_assoc}
 use Rattle.std.proofs.lemmas.Bool.{cases_eq}
 use Rattle.std.proofs.lemmas.List.{length-append, length-take, map-id, take-append-drop, take_all}
@@ -39,7 +39,7 @@ module _ (l : Layout) (m : Memory) (valid : Valid l m) (more : ℕ) (path : List
   abbrev M : PathMap
   M = paths l m
 
-  -- the table above, where the last entry on the way stands
+  -- the table above, which holds the last entry on the path
   record Above (k f : ℕ) : Type 0 where
     pub frame : ℕ
     pub way : IsOpenWay l m more path k frame
@@ -85,7 +85,7 @@ module _ (l : Layout) (m : Memory) (valid : Valid l m) (more : ℕ) (path : List
       plain_table (entry M (take (suc j) path)) (above j (omega (arith, b, within)) up.0 up.1).names.is_table
 
   module _ (outside : begins_with l.window path ≡ false) where
-    -- the words lead where the path map does
+    -- the words lead to the tables of the path map
     words_lead : (k : ℕ) → k ≤ length path → (f : ℕ) → IsOpenWay l m more path k f → leads (words l m) l.root (take k path) ≡ Some f
     words_lead zero within f here = here.leads
     words_lead (suc k) within f here =
@@ -161,7 +161,7 @@ module _ (M : PathMap) where
       (all_present (pre ++ i ∷ []) path last (below pre path i last all (plain 0 (omega arith))) j (omega (arith, less))
       (λ h b. subst (λ q. huge (entry M q) ≡ false) (sym (append_assoc pre (i ∷ []) (take (suc h) path))) (plain (suc h) (omega (arith, b)))))
 
-  -- the condition of a map says it
+  -- the condition of a map implies it
   pub will_be_present : (more : ℕ) (path : List ℕ) (last : ℕ) → parents_present M more (path ++ last ∷ []) ≡ true → WillBePresent M more path
   will_be_present more path last h = by (present more) refl h
     where
@@ -190,7 +190,7 @@ module _ (l : Layout) (m : Memory) (valid : Valid l m) (more : ℕ) (path : List
     other j b apart = ap (λ N. entry N (take (suc j) path)) (sym opens.is)
         ∙ entry-put_other (paths l m) p opens.word (take (suc j) path) (λ e. apart (let t = ap length (e ∙ sym at) in omega (arith, t, length-take (suc j) path, length-take (suc k) path, b, within)))
 
-    -- one that had to be present still is
+    -- an entry that had to be present still is
     present_at : (j : ℕ) → j < length path → (j ≢ k → present (entry (paths l m) (take (suc j) path)) ≡ true) → present (entry (paths l n) (take (suc j) path)) ≡ true
     present_at j b was = ⊎_elim
         (λ e. ap (λ j. present (entry (paths l n) (take (suc j) path))) e ∙ is_present)
@@ -211,7 +211,7 @@ module _ (l : Layout) (m : Memory) (valid : Valid l m) (more : ℕ) (path : List
       to_come = ⊎_elim (λ x. inl x) (λ all. inr (λ j b plain. present_at j b (λ apart. all j b (λ h less. was_plain h (omega (arith, less, b)) (plain h less))))) here.to_come;
     })
 
--- a frame of the supply may come to hold the table that the next parent lacks
+-- a frame of the supply may be linked as the table that the next parent lacks
 pub may_link : (l : Layout) → Distinct l.places → IsParentFlags l.added_flags → (m : Memory) (s : List ℕ) → IsReady l m s → (path : List ℕ) → begins_with l.window path ≡ false → length path < l.levels
     → (more : ℕ) → IsParentFlags more → (k : ℕ) → k < length path → (f : ℕ) → IsOpenWay l m more path k f
     → get_or path k 0 < 512 → used (word (words l m) f (get_or path k 0)) ≡ false → (g : ℕ) → In s g → MayLink l m path k f g (bit_or more l.added_flags)

@@ -16,13 +16,13 @@ use Rattle.x86_64_mappers.proofs.Map.Down.{path_mapped, path_refused}
 use Rattle.x86_64_mappers.proofs.Map.StepOutcomes.{IsPathMapped, IsLeaf}
 use Rattle.x86_64_mappers.proofs.Way.Pages.{path_parted, small_page}
 
--- the entry of a page may stand at its path
+-- the entry of a page may be written at its path
 pub page_leaf : (L : ℕ) (q : List ℕ) → L ≤ length q + 2 → (frame given : ℕ) → IsLeaf L q (leaf_entry L q frame given)
 page_leaf L q low frame given = record { no_table = none_at_leaf L q frame given; none_huge = λ above. absurd (omega arith) }
 
 module _ (l : Layout) (apart : Distinct l.places) (m : Memory) (s : List ℕ) (level : ℕ) (q : List ℕ) (last : ℕ) (size : length q ≡ last + 1) (at_level : length q + level ≡ l.levels + 1) (frame given more : ℕ)
     (before : IsReady l m s) (marks : IsParentFlags more) where
-  -- what the path leads to is mapped as the call says
+  -- the path is mapped as the call says
   called : (answer : Answer) (n : Memory) (rest : List ℕ) → IsPathMapped l m s more q (leaf_entry l.levels q frame given) frame answer n rest → IsMapped l m s q frame given more answer n rest
   called answer n rest h = record {
     outcome = h.outcome;

@@ -1,4 +1,4 @@
--- What a step of a map down its path comes to, and the whole map.
+-- The result of one step of a map down its path, and of the whole map.
 use Rattle.std.specs.Prelude.{◌≡◌, ◌⊎◌, ◌<◌, ℕ, true, false, List, [], ◌∷◌, ◌++◌, Some, None, Result, Ok, Err}
 use Rattle.x86_64_model.specs.Entry.{present, huge}
 use Rattle.x86_64_model.specs.Layout.{Layout, paths}
@@ -9,8 +9,7 @@ use Rattle.x86_64_model.specs.PathMap.{PathMap, entry, put, table_of, table_at}
 use Rattle.x86_64_model.specs.Refusal.{Refusal, Answer, Refused}
 use Rattle.x86_64_mappers.specs.private.MapSteps.{KeepsOwned, mapped_from}
 
--- The entry at the path p, which wasn't huge, came to be one that names a table: present where it was, or where the parent flags have
--- PRESENT.
+-- The entry at the path p, which wasn't huge, now names a table. It is present if it was, or if the parent flags have PRESENT.
 pub record Opens (M : PathMap) (more : ℕ) (p : List ℕ) (N : PathMap) : Type 0 where
   pub word : ℕ
   pub is : put M p word ≡ N
@@ -25,7 +24,7 @@ pub record Reached (l : Layout) (m : Memory) (s : List ℕ) (more : ℕ) (pre : 
   pub outcome : (j : ℕ) (r : List ℕ) (e frame : ℕ)
       → mapped_from (paths l m) s more l.added_flags pre (i ∷ j ∷ r) e frame ≡ mapped_from (paths l n) rest more l.added_flags (pre ++ i ∷ []) (j ∷ r) e frame
 
--- or was refused
+-- one step down was refused
 pub record Stopped (l : Layout) (m : Memory) (s : List ℕ) (more : ℕ) (pre : List ℕ) (i : ℕ) (n : Memory) (rest : List ℕ) (why : Refusal) : Type 0 where
   pub owned : KeepsOwned l m s n rest
   pub outcome : (j : ℕ) (r : List ℕ) (e frame : ℕ)
@@ -35,7 +34,7 @@ abbrev pub IsStep : Layout → Memory → (supply : List ℕ) → (more : ℕ) �
 IsStep l m s more pre i (Ok g) n rest = Reached l m s more pre i n rest g
 IsStep l m s more pre i (Err why) n rest = Stopped l m s more pre i n rest why
 
--- the path q was mapped to the entry e, which names the frame, or a refusal
+-- the path q was mapped to the entry e, which names the frame, or the map was refused
 pub record IsPathMapped (l : Layout) (m : Memory) (s : List ℕ) (more : ℕ) (q : List ℕ) (e frame : ℕ) (answer : Answer) (n : Memory) (rest : List ℕ) : Type 0 where
   pub owned : KeepsOwned l m s n rest
   pub outcome : map_rule (paths l m) s more l.added_flags (parents q) q e frame ≡ record { paths = paths l n; supply = rest; answer = answer }

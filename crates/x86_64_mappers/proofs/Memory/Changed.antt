@@ -1,4 +1,4 @@
--- What writes to one table are to the words of tables.
+-- The effect of writes to one table on the words of all tables.
 use Rattle.std.proofs.Common.{◌≡◌, ◌≢◌, ⊎_elim, ℕ, Bool, true, false, cond, nat_lt, Option, Some, None, IsSome, refl, sym, ap, ◌∙◌, subst, arith, eq-eqb, ne_eqb, ◌==◌, ◌<◌, lt-ltb, get_or, set}
 use Rattle.std.proofs.lemmas.Bool.{cases_eq}
 use Rattle.std.proofs.lemmas.List.{set-get_or}
@@ -32,7 +32,7 @@ module _ (places : Places) (apart : Distinct places) where
   pub set_keeps : (m : Memory) (f i w : ℕ) (n : Memory) → IsSet places m f i w n → (g : ℕ) → IsSome (words_of m places g) → IsSome (words_of n places g)
   set_keeps m f i w n s g h = subst (λ T. IsSome (T g)) (sym (set_is m f i w n s)) (is_some-set (words_of m places) f i w g h)
 
-  -- a word that was set to what it is
+  -- a word that was set to its old value
   pub set_same : (m : Memory) (f i : ℕ) (n : Memory) → i < 512 → IsSet places m f i (word (words_of m places) f i) n → n ≡ m
   unfolding word
   set_same m f i n small k =
@@ -72,7 +72,7 @@ module _ (places : Places) (apart : Distinct places) where
       (λ e. not_none _ zero_words (ap (λ g. words_of n places g) e ∙ cleared_here m f n c))
       (λ e. subst IsSome (sym (cleared_other m f n c g e)) h) (cases_eq g f)
 
--- ---- what a write is to the words seen
+-- ---- the effect of a write on the words that the path map sees
 
 module _ (l : Layout) (apart : Distinct l.places) (m : Memory) (f i w : ℕ) (n : Memory) (k : IsSet l.places m f i w n) (b : Beside l.window l.root f i) where
   pub read_set : words_read l n ≡ set_word (words_read l m) f i w

@@ -1,4 +1,4 @@
--- What a memory is once the word of one used entry was set, so that the entry names the same table as before, or none as before.
+-- The memory after a write to one used entry that names the same table as before, or no table as before.
 use Rattle.std.proofs.Common.{◌≡◌, ◌<◌, ℕ, true, List, [], ◌∷◌, ◌++◌, Some, sym, ap, ◌∙◌, subst}
 use Rattle.std.proofs.lemmas.List.{same_from_push}
 use Rattle.x86_64_model.specs.Layout.{Layout, words, paths, Valid}
@@ -15,7 +15,7 @@ use Rattle.x86_64_model.specs.Window.{IsValidFor, outside_window}
 use Rattle.x86_64_mappers.specs.private.Writes.{IsSet}
 use Rattle.x86_64_mappers.proofs.Memory.Changed.{set_is, set_others, set_keeps}
 
--- the hierarchy is valid with this entry in place of the old one, a supply that fitted it still does, and no word changed but in its tables
+-- The hierarchy is valid with the new entry, a supply that fitted it still does, and no word outside its tables changed.
 pub record IsEntryChanged (l : Layout) (m : Memory) (q : List ℕ) (w : ℕ) (n : Memory) : Type 0 where
   pub meant : put (paths l m) q w ≡ paths l n
   pub valid : Valid l n

@@ -1,4 +1,4 @@
--- The tables of a memory that stands at an offset.
+-- The tables of a memory that is mapped at an offset.
 use Rattle.std.specs.Prelude.{◌≡◌, ◌↔◌, IsTrue, ℕ, Bool, true, false, cond, List, Option, Some, None, IsSome, ◌+◌, ◌-◌, ◌*◌, ◌/◌, ◌^◌, ◌&&◌, ◌||◌, nat_lt, nat_le}
 use Rattle.std.specs.Cmp.{both_ways}
 use Rattle.std.specs.FinMap.{get}
@@ -41,7 +41,7 @@ canonical_from_reached L offset frame = by (nat_lt (raw L offset + frame) (lower
         let p = and_parts (nat_le (2 ^ 64 - lower_half L) sum) (nat_lt sum (2 ^ 64)) h in
         inr (leb-true (2 ^ 64 - lower_half L) sum p.0, ltb-true sum (2 ^ 64) p.1)
 
--- a test of that is whether the frame is reached
+-- a test of canonical sums says whether the frame is reached
 pub reached_alike : (L : ℕ) (test : Bool) (offset frame : ℕ) → IsTrue test ↔ IsCanonical L (raw L offset + frame) → test ≡ is_reached L offset frame
 reached_alike L test offset frame is =
     both_ways test (is_reached L offset frame) (λ h. reached_from_canonical L offset frame (is.0 h)) (λ h. is.1 (canonical_from_reached L offset frame h))
@@ -68,16 +68,16 @@ offset_words L memory offset fits = λ n f. at f n
     at : (f : ℕ) → words_of memory (offset_places L offset) f ≡ words_of memory identity_places f
     at f = by f (is_frame f) refl
 
--- what is so of the tables by the one is so by the other
+-- what holds of the tables by the identity mapping holds of them at the offset, and vice versa
 alike : (L : ℕ) (memory : Memory) (offset : ℕ) → OffsetFits L memory offset → (P : Words → Type 0) → P (words_of memory identity_places) ↔ P (words_of memory (offset_places L offset))
 alike L memory offset fits P = let same = offset_words L memory offset fits in (subst P (sym same), subst P same)
 
--- a hierarchy is valid by both alike
+-- a hierarchy is valid at the offset if and only if it is by the identity mapping
 pub offset_valid : (L : ℕ) (memory : Memory) (offset : ℕ) → OffsetFits L memory offset
     → (root : ℕ) → Valid (direct_at L identity_places root) memory ↔ Valid (direct_at L (offset_places L offset) root) memory
 offset_valid L memory offset fits root = alike L memory offset fits (λ words. IsValidFor L None words root (paths_of L (outside_window None root words) root))
 
--- and a pool fits it alike
+-- a pool fits it at the offset if and only if it does by the identity mapping
 pub offset_fits : (L : ℕ) (memory : Memory) (offset : ℕ) → OffsetFits L memory offset → (root : ℕ) (serves : ℕ → Bool) (pool : List ℕ)
     → Fits L None (words_of memory identity_places) root (paths (direct_at L identity_places root) memory) serves pool
     ↔ Fits L None (words_of memory (offset_places L offset)) root (paths (direct_at L (offset_places L offset) root) memory) serves pool

@@ -5,7 +5,7 @@ use Rattle.x86_64_model.specs.Layout.{Valid}
 use Rattle.x86_64_model.specs.Memory.{Memory, Places}
 use Rattle.x86_64_mappers.specs.Layouts.{direct, HasRoot}
 
--- what is made of a place and of the root's being there depends on the place alone
+-- a value built from a place and from the proof that the root is there depends on the place alone
 pub alike : {X : Type 0} (places : Places) (root : ℕ) (after : (place : ℕ) → Memory)
     (make : (place : ℕ) → HasRoot places root (after place) → X)
     (a b : ℕ) → a ≡ b → (h : HasRoot places root (after a)) (k : HasRoot places root (after b)) → make a h ≡ make b k
@@ -14,6 +14,6 @@ alike places root after make a b e =
     let prop : (h k : There a) → h ≡ k = hlevel props in
     subst (λ b. (h : There a) (k : There b) → make a h ≡ make b k) e (λ h k. ap (make a) (prop h k))
 
--- a valid hierarchy has it
+-- a valid hierarchy has its root's table
 pub valid_root : (places : Places) (root : ℕ) (memory : Memory) → Valid (direct places root) memory → HasRoot places root memory
 valid_root places root memory valid = valid.valid.holds.in_memory [] root refl

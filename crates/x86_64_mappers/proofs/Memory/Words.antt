@@ -11,7 +11,7 @@ pub entry_is_word : (T : Words) (frame i : ℕ) (table : List ℕ) → T frame �
 unfolding word
 entry_is_word T frame i table there inside = sym (ap₂ (λ b t. cond b (word_in t i) 0) (lt-ltb i 512 inside) there)
 
--- a table has words 0 alone exactly if its entries are all unused
+-- a table's words are all 0 if and only if its entries are all unused
 module _ (T : Words) (frame : ℕ) (table : List ℕ) (there : T frame ≡ Some table) (long : length table ≡ 512) where
   pub empty_words : All (λ word. word ≡ 0) table → (i : ℕ) → word T frame i ≡ 0
   empty_words all i = ⊎_elim

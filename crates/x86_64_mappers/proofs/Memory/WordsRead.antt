@@ -1,4 +1,4 @@
--- What the path map sees of words: all but the root's word at the recursive index, where there is one.
+-- The words that the path map sees: all but the root's word at the recursive index, if there is one.
 use Rattle.std.proofs.Common.{◌≡◌, ⊎_elim, ℕ, ◌==◌, Bool, true, false, cond, List, length, set, Option, Some, None, IsSome, option_map, refl, sym, ap, ◌∙◌}
 use Rattle.std.proofs.lemmas.Bool.{cases_eq}
 use Rattle.std.proofs.lemmas.List.{length-set}
@@ -38,7 +38,7 @@ pub read_some : (window : Option Window) (root : ℕ) (T : Words) (f : ℕ) → 
 read_some None root T f h = h
 read_some (Some v) root T f h = is_some-set T root v.index 0 f h
 
--- and back
+-- a frame that is seen is in the memory
 pub there_read : (window : Option Window) (root : ℕ) (T : Words) (f : ℕ) → IsSome (outside_window window root T f) → IsSome (T f)
 unfolding set_word
 there_read None root T f h = h

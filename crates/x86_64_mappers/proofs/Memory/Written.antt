@@ -23,13 +23,13 @@ use Rattle.x86_64_mappers.specs.private.Writes.{IsSet}
 use Rattle.x86_64_mappers.proofs.Memory.Changed.{set_others, set_keeps, read_set, self_set}
 use Rattle.x86_64_mappers.proofs.Memory.WordsRead.{words_read, read_word, read_table}
 
--- a write at a path's end that leaves the table that it leads to
+-- a write at a path's end that keeps the table that it leads to
 pub same_tables_last : (L root : ℕ) (M : PathMap) (p : List ℕ) (i e : ℕ) → table_of L (p ++ i ∷ []) e ≡ table_at L root M (p ++ i ∷ []) → (q : List ℕ) → table_at L root (put M (p ++ i ∷ []) e) q ≡ table_at L root M q
 same_tables_last L root M [] i e same = same_tables L root M i [] e same
 same_tables_last L root M (k ∷ p) i e same = same_tables L root M k (p ++ i ∷ []) e same
 
 module _ (l : Layout) (apart : Distinct l.places) (at_least_four : 0 < l.levels) where
-  -- the words hold N now
+  -- the words now hold N
   pub owned_to : (m n : Memory) (s rest : List ℕ) (N : PathMap) → IsReady l m s → IsValid l.levels (words_read l n) l.root N → SelfEntry (words l n) l.root l.window → Conserves l.levels l.root (paths l m) s N rest
       → ((f : ℕ) → In rest f → In s f) → ((f : ℕ) → IsSome (words l m f) → IsSome (words l n f))
       → KeepsOthers l.places (Uses l m s rest) m n → (N ≡ paths l n) × KeepsOwned l m s n rest
@@ -72,7 +72,7 @@ module _ (l : Layout) (apart : Distinct l.places) (at_least_four : 0 < l.levels)
       pub unused_leads : used (word (words l m) f i) ≡ false → table_at l.levels l.root M p ≡ None
       unused_leads u = table_at_last l.levels l.root M pre i ∙ ap (table_of l.levels p) (unused_zero _ (ap used entry_is ∙ u)) ∙ unused_no_table l.levels p
 
-      -- a word that names no table becomes one that names none
+      -- a word that names no table is set to one that names none
       pub written : (w : ℕ) (n : Memory) → IsSet l.places m f i w n → table_at l.levels l.root M p ≡ None → table_of l.levels p w ≡ None → (3 < level_of l.levels p → huge w ≡ false)
           → (put M p w ≡ paths l n) × KeepsOwned l m s n s
       written w n k old new low =

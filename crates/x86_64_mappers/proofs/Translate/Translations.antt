@@ -1,4 +1,4 @@
--- A translation leads where the page walk does.
+-- A translation and the page walk arrive at the same address.
 use Rattle.std.proofs.Common.{◌≡◌, ℕ, Some, option_map, option_and_then, sym, ap, ◌∙◌}
 use Rattle.x86_64_model.specs.Layout.{Layout, Valid, words, paths, read_entry}
 use Rattle.x86_64_model.proofs.Lemmas.Walks.Agrees.{translate_agrees}

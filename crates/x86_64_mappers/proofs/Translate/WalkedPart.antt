@@ -1,4 +1,4 @@
--- The way down to the entry that maps an address, one level at a time.
+-- The walk down to the entry that maps an address, one level at a time.
 use Rattle.std.proofs.Common.{zero, suc, ◌≡◌, ◌<◌, ◌≤◌, ◌+◌, ◌-◌, ◌%◌, ℕ, ◌&&◌, Bool, true, false, not, cond, List, [], ◌∷◌, ◌++◌, length, take, get_or, nat_le, IsSome, Ok, Err, refl, sym, ap, ap₂, ◌∙◌, subst, add-one, arith}
 use Rattle.std.proofs.Math.Seq.{take-suc}
 use Rattle.std.proofs.lemmas.Bool.{le-leb, leb-false, leb-true}
@@ -19,7 +19,7 @@ use Rattle.x86_64_mappers.specs.private.Stops.{table_below}
 use Rattle.x86_64_mappers.proofs.Way.Finds.{NamesTable}
 use Rattle.x86_64_mappers.proofs.Way.ReachedSteps.{here_first, reached_next}
 
--- what an entry of level two or more says, where rest is what those below it say
+-- the translation by an entry of level two or above, if rest is the translation by the entries below it
 abbrev says : (p level e : ℕ) → (rest : Translated) → Translated
 says p level e rest = cond (present e) (cond (nat_le level 3 && huge e) (Mapped (span level) (page_start level e) (p % span level) (flags e)) rest) NotMapped
 
@@ -31,7 +31,7 @@ one_level E p (suc zero) q l = absurd (omega arith)
 one_level E p (suc (suc n)) q l =
     ap (λ k. says p (suc (suc n)) (E (q ++ index (suc (suc n)) p ∷ [])) (translate_on E p k (q ++ index (suc (suc n)) p ∷ []))) (let e : suc n ≡ suc (suc n) - 1 = omega arith in e)
 
--- the entries so far led to the table of a level in a frame, and what is left to read decides the translation
+-- The entries so far led to the table of a level in a frame, and what is left to read decides the translation.
 pub record IsWalked (L : ℕ) (T : Words) (root : ℕ) (E : List ℕ → ℕ) (p level frame : ℕ) : Type 0 where
   pub reads : Reads L T root E
   pub path : List ℕ
@@ -44,7 +44,7 @@ pub starts : (L : ℕ) (T : Words) (root : ℕ) (E : List ℕ → ℕ) (p : ℕ)
 unfolding translate
 starts L T root E p reads = record { reads = reads; path = []; here = omega arith; entries = reads.first; there = reads.root_there; left = refl }
 
--- ---- what the frame of an entry says of its flags
+-- ---- what the frame of an entry says about its flags
 
 pub absent : (e : ℕ) → Err FrameNotPresent ≡ frame_of e → present e ≡ false
 absent e is = by (present e) (huge e) is
@@ -70,7 +70,7 @@ next_table e table is = by (present e) (huge e) refl refl is
     by true true eh eg is = absurd (let e = is in cc)
     by true false eh eg is = record { is_present = eh; not_huge = eg; address = (let e : table ≡ address e = cc in e) }
 
--- it is the table below, for the way down the parents of a page
+-- it is the table below, for the walk down the parents of a page
 below : (e table : ℕ) → NamesTable e table → Ok table ≡ table_below e
 below e table n = sym ((λ i. cond (not (n.is_present i)) (Err PageNotMapped) (cond (n.not_huge i) (Err ParentEntryHugePage) (Ok (address e)))) ∙ ap Ok (sym n.address))
 
@@ -132,7 +132,7 @@ module _ (L : ℕ) (T : Words) (root : ℕ) (E : List ℕ → ℕ) (p level fram
         on : (b : Bool) → cond (present w) (cond (b && huge w) (Mapped (span level) (page_start level w) (p % span level) (flags w)) rest) NotMapped ≡ rest
         on b = ap₂ (λ h g. cond h (cond (b && g) (Mapped (span level) (page_start level w) (p % span level) (flags w)) rest) NotMapped) h g ∙ either b
 
--- ---- the same by what an entry says of its frame
+-- ---- this by the frame of an entry
 
 module _ {L : ℕ} {T : Words} {root : ℕ} {E : List ℕ → ℕ} {p level frame : ℕ} (so : IsWalked L T root E p level frame) (e : ℕ) where
   module _ (more : 1 < level) (is : e ≡ word T frame (index level p)) where
@@ -165,9 +165,9 @@ module _ {L : ℕ} {T : Words} {root : ℕ} {E : List ℕ → ℕ} {p level fram
         told_last ∙ ap (λ u. cond u (Mapped (span 1) (address e) (p % span 1) (flags e)) NotMapped) some
         ∙ ap (λ start. Mapped (span 1) start (p % span 1) (flags e)) (let e : address e ≡ page_start 1 e = omega (arith, address_aligned e) in e)
 
--- ---- the way down by the indices of an address
+-- ---- the walk down by the indices of an address
 
--- so many of them are done
+-- the first k indices are done
 pub record IsSoughtAt (l : Layout) (m : Memory) (indices : List ℕ) (p k frame : ℕ) : Type 0 where
   pub way : IsWalked l.levels (words l m) l.root (read_entry l m) p (l.levels - k) frame
   pub reached : IsReached l m (take k indices) frame
@@ -178,7 +178,7 @@ sought_first l m indices p valid = let reads = reads l.levels (words l m) l.root
   reached = (here_first l m indices valid).reached;
 }
 
--- the index at a place is that of a level
+-- the index at position k of a path is that of a level
 pub index_at : (L p k : ℕ) → k < L → get_or (page_path L p) k 0 ≡ index (L - k) p
 unfolding page_path
 index_at zero p k within = absurd (omega arith)

@@ -1,4 +1,4 @@
--- The indices on the way to an entry are the first of those at its position.
+-- The indices on the path to an entry are the first of those of its position.
 use Rattle.std.proofs.Common.{◌≡◌, ◌+◌, ◌-◌, ◌≤◌, inl, inr, ℕ, [], ◌∷◌, ◌++◌, length, take, refl, ap, ◌∙◌, arith}
 use Rattle.std.proofs.lemmas.List.{take-append-le, take_all}
 use Rattle.x86_64_addr.specs.Levels.{IsLevelCount}
@@ -23,7 +23,7 @@ at_four level p a b c d e low isa isb isc isd =
 at_five : (level p a b c d e : ℕ) → a ≡ index 5 p → b ≡ index 4 p → c ≡ index 3 p → d ≡ index 2 p → e ≡ index 1 p → take (6 - level) (a ∷ b ∷ c ∷ d ∷ e ∷ []) ≡ path_at 5 level p
 at_five level p a b c d e isa isb isc isd ise = ap (λ q. take (6 - level) q) (of_five p a b c d e isa isb isc isd ise)
 
--- with four levels the last index stands twice
+-- with four levels the last index is there twice
 pub path_to : (L level p a b c d e : ℕ) → IsLevelCount L → 1 ≤ level → a ≡ index L p → b ≡ index (L - 1) p → c ≡ index (L - 2) p → d ≡ index (L - 3) p → e ≡ index 1 p
     → take (L + 1 - level) (a ∷ b ∷ c ∷ d ∷ e ∷ []) ≡ path_at L level p
 path_to L level p a b c d e (inl four) low isa isb isc isd ise = rw four (at_four level p a b c d e low (rw four at isa) (rw four at isb) (rw four at isc) (rw four at isd))

@@ -1,4 +1,4 @@
--- Steps down the parents of a page, where no table is made.
+-- Steps down the parents of a page if no table is created.
 use Rattle.std.proofs.Common.{Option, ◌≡◌, ◌<◌, ◌≤◌, ◌+◌, ℕ, suc, Bool, true, false, ◌&&◌, not, cond, List, [], ◌∷◌, ◌++◌, length, take, drop, get_or, map, find, Some, None, option_map, IsSome, Ok, Err, refl, sym, ap, ap₂, ◌∙◌, subst, subst₂, arith, add-one, lt-ltb}
 use Rattle.std.proofs.lemmas.List.{length-append, length-take, map-id, take_all, drop_all}
 use Rattle.std.proofs.Math.Seq.{take-suc, drop-cons}
@@ -14,17 +14,17 @@ use Rattle.x86_64_model.proofs.Lemmas.Walks.Agrees.{reads}
 use Rattle.x86_64_model.proofs.Lemmas.Walks.Walked.{names}
 use Rattle.x86_64_mappers.specs.private.Stops.{table_below, table_read, LeadsTo, IsFound}
 
--- the stop at an entry that names no table below, else the next one
+-- the stop at an entry that names no table, and otherwise the next one
 abbrev pub stop_or : Result ℕ Refusal → (next : Option Refusal) → Option Refusal
 stop_or (Ok frame) next = next
 stop_or (Err why) next = Some why
 
--- the first stop below the path pre, where r is left of the page's path
+-- the first stop below the path pre, if r is what is left of the page's path
 abbrev pub stop_from : (E : List ℕ → ℕ) → (pre r : List ℕ) → Option Refusal
 stop_from E pre r = option_map (λ p. cond (present (E p)) ParentEntryHugePage PageNotMapped)
     (find (λ p. not (present (E p) && not (huge (E p)))) (map (λ x. pre ++ x) (parents r)))
 
--- the way so far: done are the indices up to the table in a frame, and left those to come
+-- the walk so far: done are the indices up to the table in a frame, and left those to come
 pub record IsOnWay (l : Layout) (m : Memory) (path done left : List ℕ) (frame : ℕ) : Type 0 where
   pub leads : LeadsTo l m done frame
   pub stop : (last : ℕ) → stop_from (read_entry l m) [] (path ++ last ∷ []) ≡ stop_from (read_entry l m) done (left ++ last ∷ [])
@@ -39,7 +39,7 @@ module _ (E : List ℕ → ℕ) (pre : List ℕ) (i : ℕ) where
   abbrev e : ℕ
   e = E (pre ++ i ∷ [])
 
-  -- its entry stops the way, or the stop is below
+  -- the entry of the next parent stops the walk, or the stop is further down
   next_stop : (left : List ℕ) (x : ℕ) → stop_from E pre ((i ∷ left) ++ x ∷ []) ≡ stop_or (table_below e) (stop_from E (pre ++ i ∷ []) (left ++ x ∷ []))
   next_stop left x = ap (λ ps. option_map (λ p. cond (present (E p)) ParentEntryHugePage PageNotMapped) (find (λ p. not (present (E p) && not (huge (E p)))) ps)) (next_parents pre i left x)
       ∙ found (not (present e && not (huge e))) ∙ by (present e) (huge e)
@@ -61,7 +61,7 @@ pub stop_from_root : (E : List ℕ → ℕ) (q : List ℕ) → stop_from E [] q 
 unfolding first_stop
 stop_from_root E q = ap (λ ps. option_map (λ p. cond (present (E p)) ParentEntryHugePage PageNotMapped) (find (λ p. not (present (E p) && not (huge (E p)))) ps)) (map-id (parents q))
 
--- ---- what an entry says of the table below
+-- ---- what an entry says about the table below
 
 pub record NamesTable (e frame : ℕ) : Type 0 where
   pub is_present : present e ≡ true

@@ -14,7 +14,7 @@ use Rattle.x86_64_model.specs.Refusal.{first_stop}
 use Rattle.x86_64_model.specs.Window.{Window, entry_at, begins_with}
 use Rattle.x86_64_mappers.specs.private.Linked.{Beside}
 
--- what a path outside the index leads to is beside the self-entry
+-- an entry on a path outside the index isn't the self-entry
 pub beside_on : (l : Layout) (m : Memory) → Valid l m → (done : List ℕ) (i : ℕ) (left : List ℕ) → begins_with l.window (done ++ i ∷ left) ≡ false → (f : ℕ) → table_at l.levels l.root (paths l m) done ≡ Some f → Beside l.window l.root f i
 beside_on l m valid [] i left o f leads v e h k = let a : (i == v.index) ≡ false = ap (λ w. begins_with w (i ∷ left)) (sym e) ∙ o in let b : (i == v.index) ≡ true = eq-eqb i v.index k in cc
 beside_on l m valid (j ∷ done) i left o f leads v e h k = let a : j ∷ done ≡ [] = valid.valid.own_frames (j ∷ done) [] l.root (leads ∙ ap Some h) refl in cc
@@ -23,7 +23,7 @@ pub beside_at : (l : Layout) (m : Memory) → Valid l m → (path : List ℕ) (k
 beside_at l m valid path k within o f leads = beside_on l m valid (take k path) (get_or path k 0) (drop (suc k) path)
     (ap (λ d. begins_with l.window (take k path ++ d)) (sym (drop-cons path k 0 within)) ∙ ap (begins_with l.window) (take-append-drop k path) ∙ o) f leads
 
--- nothing stops a page there but what does so by the path map
+-- outside the index, the path map alone decides whether a page is stopped
 pub first_stop_outside : (window : Option Window) (M : PathMap) (q : List ℕ) → begins_with window q ≡ false → first_stop (entry_at window M) q ≡ first_stop (entry M) q
 unfolding first_stop
 first_stop_outside window M [] o = refl

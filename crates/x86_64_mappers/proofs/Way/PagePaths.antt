@@ -1,4 +1,4 @@
--- The path of a page, as the first of its indices, and where it starts.
+-- The path of a page as the first of its indices, and the page's start.
 use Rattle.std.proofs.Common.{◌≡◌, ◌↔◌, ◌+◌, ◌-◌, ◌*◌, ◌%◌, ◌<◌, ◌≤◌, ℕ, true, List, fold, length, take, inl, inr, refl, ap, ap₂, sym, ◌∙◌, subst, arith}
 use Rattle.std.proofs.lemmas.List.{take_all}
 use Rattle.x86_64_addr.specs.Levels.{IsLevelCount}
@@ -43,7 +43,7 @@ page_start L levels page indices some known is inside multiple = ap₂ span_star
 
 -- ---- the page that contains a frame's own address
 
--- the page that contains a position that is a multiple of the size starts there
+-- the page that contains a position starts there if the position is a multiple of the size
 pub starts_there : (frame size position page : ℕ) → frame % size ≡ 0 → position ≡ frame → page ≡ position - position % size → page ≡ frame
 starts_there frame size position page aligned here page_is =
     let page_at : page ≡ frame - frame % size = page_is ∙ ap (λ n. n - n % size) here in

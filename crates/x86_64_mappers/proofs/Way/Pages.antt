@@ -1,15 +1,15 @@
--- The paths of pages: their indices, and how many there are.
+-- The paths of pages: their indices, and their lengths.
 use Rattle.std.specs.Prelude.{◌≡◌, ◌+◌, ◌==◌, ℕ, suc, Bool, true, false, List, [], ◌∷◌, ◌++◌, length, take, get_or}
 use Rattle.std.proofs.Common.{refl, sym, ◌∙◌, arith, eqb-true, eq-eqb, ne_eqb}
 use Rattle.std.proofs.lemmas.List.{take_all}
 use Rattle.std.proofs.Math.Seq.{take-suc}
 use Rattle.x86_64_model.specs.Path.{is_small}
 
--- the indices of a page's parents, and its last one
+-- a page's path is the indices of its parents and its last one
 pub path_parted : (q : List ℕ) (n : ℕ) → length q ≡ n + 1 → take n q ++ get_or q n 0 ∷ [] ≡ q
 path_parted q n long = sym (take-suc q n 0 (omega (arith, long))) ∙ take_all (suc n) q (omega (arith, long))
 
--- a page whose entry is of a level is small exactly where that is level one
+-- a page is one of 4KiB if and only if its entry is of level one
 pub small_page : (L level : ℕ) (q : List ℕ) → length q + level ≡ L + 1 → is_small L q ≡ (level == 1)
 small_page L level q at_level = by (level == 1) refl
   where

@@ -1,4 +1,4 @@
--- Paths, in slices of indices.
+-- Paths as slices of indices.
 use Rattle.std.proofs.Common.{◌≡◌, ◌<◌, ◌≤◌, ◌+◌, ◌-◌, ◌==◌, ◌&&◌, ℕ, Bool, List, [], ◌∷◌, length, get_or, refl, ap₂, arith}
 use Rattle.std.proofs.lemmas.List.{get_or_read}
 use Rattle.std.specs.List.{starts_with}
@@ -11,7 +11,7 @@ has_last_index q some = omega (arith, some)
 pub last_item : (q : List ℕ) (i : ℕ) → length q ≡ length q - 1 + 1 → i ≡ get_or q (length q - 1) i → i ≡ get_or q (length q - 1) 0
 last_item q i size is = get_or_read q (length q - 1) i (omega (arith, size)) is 0
 
--- that of a page has one
+-- the path of a page has a last index
 pub some_index_of : (L : ℕ) (q : List ℕ) (level : ℕ) → length q + level ≡ L + 1 → level ≤ L → 0 < length q
 some_index_of L q level size high = omega (arith, size)
 

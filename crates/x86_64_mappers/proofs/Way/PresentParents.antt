@@ -1,4 +1,4 @@
--- The way down the parents of a page tells whether one of them is absent.
+-- The walk down the parents of a page decides whether one of them is absent.
 use Rattle.std.proofs.Common.{◌≡◌, ℕ, ◌&&◌, ◌||◌, Bool, true, false, not, cond, List, [], ◌∷◌, ◌++◌, find, Option, Some, None, option_map, Result, Ok, Err, refl, sym, ap, ◌∙◌}
 use Rattle.x86_64_model.specs.Allowed.{none_absent}
 use Rattle.x86_64_model.specs.Entry.{present, huge}
@@ -35,7 +35,7 @@ are_present_is M q =
     by None = refl
     by (Some p) = by_entry (present (entry M p))
 
--- the way down the parents tells it, for a page outside the window
+-- this for a page outside the window
 pub found_present : (l : Layout) (m : Memory) (path : List ℕ) (r : Result ℕ Refusal) → IsFound l m path r → (last : ℕ) → begins_with l.window (path ++ last ∷ []) ≡ false
     → meets_none_absent r ≡ are_present (paths l m) (path ++ last ∷ [])
 found_present l m path r found last outside = by r found ∙ ap of_stop (first_stop_outside l.window (paths l m) (path ++ last ∷ []) outside) ∙ sym (are_present_is (paths l m) (path ++ last ∷ []))

@@ -15,7 +15,7 @@ use Rattle.x86_64_mappers.proofs.Way.Finds.{names_below, way_start, find_next, I
 
 -- ---- one step
 
--- where the words lead one index further
+-- the words lead one index further
 pub leads_last : (T : Words) (f : ℕ) (q : List ℕ) (g i e : ℕ) → leads T f q ≡ Some g → read T g i ≡ Some e → present e ≡ true → huge e ≡ false → leads T f (q ++ i ∷ []) ≡ Some (address e)
 leads_last T f [] g i e way is here plain =
     ap (λ f. leads T f (i ∷ [])) (same_Some f g way)
@@ -43,9 +43,9 @@ reached_next l m path f i g r small is there = let n = names_below (word (words 
   self = r.self;
 }
 
--- ---- the way down the parents of a page
+-- ---- the walk down the parents of a page
 
--- so many of them are done
+-- the first k parents are done
 pub record IsHere (l : Layout) (m : Memory) (path : List ℕ) (k frame : ℕ) : Type 0 where
   pub way : IsOnWay l m path (take k path) (drop k path) frame
   pub reached : IsReached l m (take k path) frame

@@ -1,4 +1,4 @@
--- The numbers of windows: an index again and again, and then a path's.
+-- The numbers of windows: an index repeated, followed by a path's indices.
 use Rattle.std.proofs.Common.{◌≡◌, ◌<◌, ◌≤◌, ◌+◌, ◌-◌, ◌*◌, ◌^◌, ◌%◌, ℕ, zero, suc, List, [], ◌∷◌, ◌++◌, replicate, length, sym, ap, ◌∙◌, subst, ⊎_elim, arith}
 use Rattle.std.proofs.lemmas.List.{length-append, length-replicate}
 use Rattle.std.proofs.lemmas.List.Sums.{fold-append}
@@ -10,7 +10,7 @@ use Rattle.x86_64_model.specs.Position.{page_path, position_count}
 use Rattle.x86_64_model.proofs.Lemmas.Paths.Spans.{digits}
 use Rattle.x86_64_model.proofs.Lemmas.Paths.Starts.{path_of_start, start_inside}
 
--- a number to which a path's indices are appended counts as often as there are paths of that length
+-- the value of a number to which a path's indices are appended
 digits_after : (a : ℕ) (q : List ℕ) → digits a q ≡ a * 2 ^ (9 * length q) + digits 0 q
 digits_after a [] = omega arith
 digits_after a (i ∷ q) =
@@ -21,7 +21,7 @@ digits_after a (i ∷ q) =
     let alone : digits 0 (i ∷ q) ≡ i * s + digits 0 q = ap (λ n. digits n q) (let e : 0 * 512 + i ≡ i = omega arith in e) ∙ digits_after i q in
     omega (arith, more, alone, add-mul (a * 512) i s, front)
 
--- the number of an index five times ends in that of the index up to five times
+-- the number with an index five times ends in that index repeated up to five times
 five_times : (n r : ℕ) → n ≤ 5 → (h : ℕ) × (r * 0x1008040201 ≡ h * 2 ^ (9 * n) + digits 0 (replicate n r))
 five_times zero r few = (r * 0x1008040201, omega arith)
 five_times (suc zero) r few = (r * 0x8040201, omega arith)
@@ -31,12 +31,12 @@ five_times (suc (suc (suc (suc zero)))) r few = (r, omega arith)
 five_times (suc (suc (suc (suc (suc zero))))) r few = (0, omega arith)
 five_times (suc (suc (suc (suc (suc (suc n)))))) r few = absurd (omega (arith, few))
 
--- indices below 512 stay so behind one
+-- the indices remain below 512 if such an index is put in front
 same_below : (n r : ℕ) → r < 512 → (q : List ℕ) → AllBelow q → AllBelow (replicate n r ++ q)
 same_below zero r small q below = below
 same_below (suc n) r small q below = (small, same_below n r small q below)
 
--- in 64 bits, what is above the positions does not count
+-- in 64 bits, what is above the positions is dropped
 abbrev Lowest : (n h s count : ℕ) → Type 0
 Lowest n h s count = s < count → n * 4096 ≡ h * count + s → n % 2 ^ 64 * 4096 % 2 ^ 64 % count ≡ s
 
@@ -45,7 +45,7 @@ lowest L n h s = ⊎_elim
     (λ is. subst (Lowest n h s) (sym (ap position_count is)) (λ inside sum. omega (arith, inside, sum)))
     (λ is. subst (Lowest n h s) (sym (ap position_count is)) (λ inside sum. omega (arith, inside, sum)))
 
--- the position of a window: the index five times, and then the path's, of which the lowest bits count
+-- the position of a window: the index five times, followed by the path's, of which only the lowest bits count
 module _ (L r : ℕ) (path : List ℕ) (known : IsLevelCount L) (short : length path < L) (small : r < 512) (below : AllBelow path) where
   abbrev pub times : ℕ
   times = L - length path

@@ -6,7 +6,7 @@ use Rattle.x86_64_model.specs.Position.{index, page_path, position_count}
 use Rattle.x86_64_mappers.proofs.Way.PagePaths.{start_of_path}
 use Rattle.x86_64_mappers.specs.InvalidPageTables.{all_indices_are, is_root_window}
 
--- a path of one index again and again has this index alone
+-- a path that repeats one index has this index at each level
 all_same : (n r p : ℕ) → page_path n p ≡ replicate n r → all_indices_are n r p ≡ true
 unfolding page_path
 all_same zero r p e = refl
@@ -20,7 +20,7 @@ one_index (suc n) r p h =
     let parts = and_parts (index (suc n) p == r) (all_indices_are n r p) h in
     ap₂ (λ i q. i ∷ q) (eqb-true (index (suc n) p) r parts.0) (one_index n r p parts.1)
 
--- a position is that of the root's window exactly if its indices are one and its page offset is 0
+-- a position is that of the root's window if and only if its indices are equal and its offset in the page is 0
 pub root_window_is : (L p w : ℕ) → 1 ≤ L → p < position_count L → w < position_count L → w % 4096 ≡ 0
     → page_path L w ≡ replicate L (index L p) ++ [] → (p == w) ≡ is_root_window L p
 root_window_is L p w some p_inside w_inside aligned path = by (is_root_window L p) refl

@@ -17,7 +17,7 @@ use Rattle.x86_64_mappers.specs.Windows.{ShowsTable, WindowsShowTables}
 
 -- ---- the root's entry for itself
 
--- where the test answers true, it is there
+-- if the test returns true, the self-entry is there
 self_entry_found : (T : Words) (root r : ℕ) → has_self_entry T root r ≡ true → IsSelfEntry T root (window_at T root r)
 self_entry_found T root r found =
     let w = word T root r in
@@ -30,7 +30,7 @@ self_entry_found T root r found =
     by true true n t = absurd (let f : false ≡ true = t in cc)
     by false h n t = absurd (let f : false ≡ true = t in cc)
 
--- a word that is present is one of a table that is there
+-- a word that is present belongs to a table that is in the memory
 present_there : (T : Words) (f i : ℕ) → present (word T f i) ≡ true → (i < 512) × IsSome (T f)
 unfolding word has
 present_there T f i = by (nat_lt i 512) (T f) refl
@@ -85,7 +85,7 @@ module _ (levels r times w p : ℕ) (path q : List ℕ) (contains : p ≡ w - w 
 
 -- ---- tables through them
 
--- where the root's entry for itself is there, the test answers true
+-- if the root's entry for itself is there, the test returns true
 pub self_entry_tells : (T : Words) (root : ℕ) (w : Window) → IsSelfEntry T root w → has_self_entry T root w.index ≡ true
 self_entry_tells T root w self =
     ap (λ e. present e && not (huge e) && (address e == root)) (sym self.is_word)

@@ -1,4 +1,4 @@
--- How a clean up goes down the tables: where it has come to, and what it has left so far.
+-- How a clean up goes down the tables: where it is, and what it has changed so far.
 use Rattle.std.specs.Prelude.{◌≡◌, ◌≢◌, ◌⊎◌, ◌≤◌, ◌+◌, ℕ, true, false, List, [], ◌∷◌, ◌++◌, length, Some, IsSome}
 use Rattle.x86_64_model.proofs.Lemmas.CleanUps.Below.{cleaned_below, back_below, Visits}
 use Rattle.x86_64_model.specs.CleanUp.{in_range}
@@ -14,7 +14,7 @@ use Rattle.x86_64_model.specs.Window.{begins_with}
 
 -- ---- the range
 
--- the position of the last byte of the 4KiB page with a path
+-- the position (address counted without the gap) of the last byte of the 4KiB page with a path
 abbrev pub span_end : (L : ℕ) → List ℕ → ℕ
 span_end L q = span_start L q + 0xfff
 
@@ -26,20 +26,21 @@ pub record IsPageRange (L : ℕ) (first last : List ℕ) : Type 0 where
   pub last_below : AllBelow last
   pub in_order : span_start L first ≤ span_end L last
 
--- ---- where it has come to
+-- ---- where it is
 
--- The path, outside the recursive index, leads to the table in the frame, and each entry on it is a present table entry whose span meets the
--- positions from low to high.
+-- The path isn't in the recursive window and leads to the table in the frame. Each entry on it is a present table entry whose
+-- span meets the positions from low to high.
 pub record IsVisited (l : Layout) (m : Memory) (low high : ℕ) (path : List ℕ) (frame : ℕ) : Type 0 where
   pub leads : table_at l.levels l.root (paths l m) path ≡ Some frame
   pub visits : Visits l.levels (paths l m) low high path
   pub below : AllBelow path
   pub outside : begins_with l.window path ≡ false
 
--- ---- what it leaves
+-- ---- what it has changed
 
--- From the memory m and the frames held to the memory n and the frames rest: the words mean the path map N, whose tables were tables before,
--- and these frames came back. They were tables, aren't any more, and have words 0 alone. No word changed but in the root and the tables.
+-- A clean up led from the memory m and the held frames to the memory n and the frames rest. The words now mean the path map N,
+-- whose tables were tables before. The frames in back were returned: they were tables, are none now, and hold only zero words.
+-- Words outside the root and the tables did not change.
 pub record IsCleaned (l : Layout) (take_back : List ℕ → ℕ → List ℕ) (m : Memory) (held : List ℕ) (N : PathMap) (back : List ℕ) (n : Memory) (rest : List ℕ) : Type 0 where
   pub meant : paths l n ≡ N
   pub valid : Valid l n
@@ -51,15 +52,16 @@ pub record IsCleaned (l : Layout) (take_back : List ℕ → ℕ → List ℕ) (m
   pub there : (f : ℕ) → IsSome (words l m f) → IsSome (words l n f)
   pub others : KeepsOthers l.places (IsTable l.levels l.root (paths l m)) m n
 
--- What becomes of a path map, and which frames come back, where the entry at the path r was cleaned up. An entry that isn't in range stays.
--- Of one that is, the tables below go first. Then it stays if it still has a used entry, and else it goes and its own frame comes back.
+-- The path map N and the returned frames after the clean up of the entry at the path r. An entry outside the range stays. For an
+-- entry in range, the tables below are cleaned up first. Then the entry stays if its table still has a used entry, and otherwise
+-- it becomes unused and its table's frame is returned.
 abbrev pub IsEntryCleaned : (L : ℕ) → PathMap → (low high : ℕ) → (r : List ℕ) → (N : PathMap) → (back : List ℕ) → Type 0
 IsEntryCleaned L M low high r N back =
     ((in_range L M low high r ≡ false) × (N ≡ M) × (back ≡ []))
     ⊎ ((in_range L M low high r ≡ true) × ((j : ℕ) × (entry (cleaned_below L M low high r) (r ++ j ∷ []) ≢ 0)) × (N ≡ cleaned_below L M low high r) × (back ≡ back_below L M low high r))
     ⊎ ((in_range L M low high r ≡ true) × ((j : ℕ) → entry (cleaned_below L M low high r) (r ++ j ∷ []) ≡ 0) × (N ≡ put (cleaned_below L M low high r) r 0) × (back ≡ back_below L M low high r ++ address (entry M r) ∷ []))
 
--- a memory and the frames held, once the entry at the path r was cleaned up
+-- the memory and the held frames after the clean up of the entry at the path r
 pub record IsCleanedAt (l : Layout) (take_back : List ℕ → ℕ → List ℕ) (m : Memory) (held : List ℕ) (low high : ℕ) (r : List ℕ) (n : Memory) (rest : List ℕ) : Type 0 where
   pub N : PathMap
   pub back : List ℕ

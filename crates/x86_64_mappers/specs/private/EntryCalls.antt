@@ -1,4 +1,4 @@
--- A call on one entry: the word that it becomes and the answer, from what its word says, and what the memory is then.
+-- A call on one entry: its new word and the answer, decided by its old word, and the memory afterwards.
 use Rattle.std.specs.Prelude.{◌≡◌, ◌<◌, ◌-◌, ℕ, List, length, take, get_or, Result, Ok, Err}
 use Rattle.x86_64_model.specs.Layout.{Layout, words}
 use Rattle.x86_64_model.specs.Memory.{Memory}
@@ -7,17 +7,17 @@ use Rattle.x86_64_model.specs.Memory as memory
 use Rattle.x86_64_mappers.specs.private.Stops.{IsFound}
 use Rattle.x86_64_mappers.specs.private.Writes.{IsSet}
 
--- the word of an entry after a call, where the entry says which word it becomes and which frame is answered, or why the call is refused
+-- the word of an entry after a call: the new word that it asks for, or the old one if it refuses
 abbrev pub word_said : (before : ℕ) → (says : Result (ℕ × ℕ) Refusal) → ℕ
 word_said e (Ok done) = done.0
 word_said e (Err why) = e
 
--- what the call answers then
+-- the answer of such a call
 abbrev pub answer_said : (says : Result (ℕ × ℕ) Refusal) → Answer
 answer_said (Ok done) = Done done.1
 answer_said (Err why) = Refused why
 
--- the entry at a path's end was changed; calls are the words before and after that go with an answer
+-- The entry at a path's end was changed. The relation calls says which words before and after go with an answer.
 pub record IsCalledAt {X : Type 0} (l : Layout) (m : Memory) (path : List ℕ) (calls : ℕ → X → ℕ → Type 0) (answer : X) (n : Memory) : Type 0 where
   pub frame : ℕ
   pub word : ℕ
@@ -26,7 +26,7 @@ pub record IsCalledAt {X : Type 0} (l : Layout) (m : Memory) (path : List ℕ) (
   pub called : calls (memory.word (words l m) frame (get_or path (length path - 1) 0)) answer word
   pub set : IsSet l.places m frame (get_or path (length path - 1) 0) word n
 
--- or the way to it stops, and nothing changed
+-- the entry was changed, or a parent refused the call and nothing changed
 abbrev pub IsChangedAt : {X : Type 0} → Layout → Memory → (path : List ℕ) → (calls : ℕ → X → ℕ → Type 0) → Result X Refusal → Memory → Type 0
 IsChangedAt l m q calls (Ok answer) n = IsCalledAt l m q calls answer n
 IsChangedAt l m q calls (Err why) n = IsFound l m (take (length q - 1) q) (Err why) × (n ≡ m)

@@ -1,4 +1,4 @@
--- Proofs of laws that impls of mappers give. A `ghost use` names no file of proofs/.
+-- Proofs of laws that the impls of mappers need. They are here since a `ghost use` can't name a file of proofs/.
 use Rattle.std.proofs.Common.{inl, inr, refl}
 use Rattle.std.proofs.lemmas.Bool.{and_parts, false≢true}
 use Rattle.std.specs.Prelude.{ℕ, Bool, true, false, cond, None, IsSome}
@@ -15,12 +15,12 @@ pub no_flags : IsAdded 0
 unfolding address
 no_flags = record { adds = record { no_address = refl; not_huge = refl }; few = inl refl }
 
--- or PRESENT and WRITABLE
+-- a mapper may add PRESENT and WRITABLE
 pub present_writable : IsAdded 3
 unfolding address
 present_writable = record { adds = record { no_address = refl; not_huge = refl }; few = inr refl }
 
--- the places of numbers are those of a frame mapping
+-- the places by frame number are those of a frame mapping
 pub numbers_are_mapping : IsMapping identity_places
 numbers_are_mapping = identity_is_mapping
 
@@ -31,7 +31,7 @@ offset_is_mapping L offset = record {
   distinct = λ f g a b e. same_frame f g (and_parts (is_frame f) (is_reached L offset f) a).0 (and_parts (is_frame g) (is_reached L offset g) b).0 e;
 }
 
--- the place of a frame that has a table is there
+-- a frame with a table has its place in the memory
 pub place_there : (places : Places) (memory : Memory) (frame : ℕ) → IsSome (words_of memory places frame) → IsSome (get memory (places.place frame))
 place_there places memory frame = by (places.covers frame)
   where

@@ -1,10 +1,11 @@
--- What the entry of a page says of its frame.
+-- What the entry of a page says about its frame.
 use Rattle.std.specs.Prelude.{◌%◌, ℕ, Bool, ◌==◌, ◌&&◌, ◌||◌, not, cond, Result, Ok, Err}
 use Rattle.x86_64_model.specs.Entry.{present, used, huge, address}
 use Rattle.x86_64_model.specs.Position.{span}
 use Rattle.x86_64_model.specs.Refusal.{Refusal, PageNotMapped, ParentEntryHugePage, InvalidFrameAddress}
 
--- an unmap's frame or refusal, by the entry's PRESENT, whether its page is one of 4KiB, its HUGE_PAGE, and whether its address is aligned
+-- the frame or the refusal of an unmap, by the entry's PRESENT, a size of 4KiB or not, its HUGE_PAGE, and the alignment of its
+-- address
 abbrev pub leaf_by : (is_present small is_huge aligned : Bool) → (address : ℕ) → Result ℕ Refusal
 leaf_by p small h aligned a = cond (not p) (Err PageNotMapped)
     (cond small
@@ -19,7 +20,7 @@ leaf_frame level e = leaf_by (present e) (level == 1) (huge e) (address e % span
 abbrev pub maps_page : (level entry : ℕ) → Bool
 maps_page level e = used e && ((level == 1) || huge e)
 
--- a translation's, by whether the entry is used, maps a page of its level and has an aligned address
+-- the frame or the refusal of a translation, by whether the entry is used, maps a page of its level and has an aligned address
 abbrev pub named_by : (is_used maps aligned : Bool) → (address : ℕ) → Result ℕ Refusal
 named_by u maps aligned a = cond (not u) (Err PageNotMapped) (cond (maps && aligned) (Ok a) (Err (InvalidFrameAddress a)))
 

@@ -8,15 +8,15 @@ use Rattle.x86_64_model.specs.Window.{Window}
 use Rattle.x86_64_mappers.specs.Reached.{IsReached}
 use Rattle.x86_64_mappers.specs.private.Writes.{IsThere, IsSet, IsCleared}
 
--- word i of the frame f isn't the root's at the recursive index
+-- word i of the frame f isn't the root's word at the recursive index
 abbrev pub Beside : Option Window → (root f i : ℕ) → Type 0
 Beside window root f i = (v : Window) → window ≡ Some v → f ≡ root → i ≢ v.index
 
--- no frame that the words lead to before the path's end is this one
+-- no table that the words lead to above the path's end is in this frame
 abbrev pub NotOnWay : Words → (root : ℕ) → (path : List ℕ) → (f : ℕ) → Type 0
 NotOnWay T root path f = (a : List ℕ) (j : ℕ) (b : List ℕ) → path ≡ a ++ j ∷ b → (h : ℕ) → leads T root a ≡ Some h → h ≢ f
 
--- the entry at index k of a path, in the table f, may come to name the frame g
+-- the entry at index k of a path, in the table f, may be made to name the frame g
 pub record MayLink (l : Layout) (m : Memory) (path : List ℕ) (k f g flags : ℕ) : Type 0 where
   pub reached : IsReached l m (take k path) f
   pub not_on_way : NotOnWay (words l m) l.root (take k path) f
@@ -26,7 +26,7 @@ pub record MayLink (l : Layout) (m : Memory) (path : List ℕ) (k f g flags : �
   pub marks : IsParentFlags flags
   pub is_present : present flags ≡ true
 
--- word i of the table f was set, and the table g cleared: as if it had been cleared first
+-- word i of the table f was set and the table g cleared, with the effect of clearing it first
 pub record IsClearedFirst (places : Places) (m : Memory) (f i w g : ℕ) (n : Memory) : Type 0 where
   pub middle : Memory
   pub is_cleared : IsCleared places m g middle

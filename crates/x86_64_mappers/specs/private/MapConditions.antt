@@ -1,4 +1,4 @@
--- The condition of a map in two parts: its flags, and the parents of its page, which have to be present where the parent flags lack PRESENT.
+-- The condition of a map in two parts: its flags, and its page's parents, which must be present if the parent flags lack PRESENT.
 use Rattle.std.specs.Prelude.{ℕ, ◌&&◌, ◌||◌, Bool, true, false, not, List, find, Result, Ok, Err}
 use Rattle.x86_64_model.specs.Allowed.{none_absent}
 use Rattle.x86_64_model.specs.Entry.{present, huge, no_address}
@@ -6,15 +6,15 @@ use Rattle.x86_64_model.specs.Path.{parents}
 use Rattle.x86_64_model.specs.PathMap.{PathMap, entry}
 use Rattle.x86_64_model.specs.Refusal.{Refusal, PageNotMapped, ParentEntryHugePage, InvalidFrameAddress, PageAlreadyMapped, FrameAllocationFailed}
 
--- the part of a map's condition that speaks of its flags alone
+-- the part of a map's condition that concerns its flags alone
 abbrev pub flags_allowed : (small : Bool) (flags parent_flags : ℕ) → Bool
 flags_allowed small given more = no_address given && no_address more && not (huge more) && (not small || not (huge given))
 
--- every parent is present, down to and with the first huge one
+-- every parent is present, down to and including the first huge one
 abbrev pub are_present : PathMap → (page : List ℕ) → Bool
 are_present M q = none_absent M (find (λ p. not (present (entry M p)) || huge (entry M p)) (parents q))
 
--- what the way down the parents comes to, where none of them is absent
+-- whether a walk down the parents met none that is absent
 abbrev pub meets_none_absent : Result ℕ Refusal → Bool
 meets_none_absent (Ok frame) = true
 meets_none_absent (Err PageNotMapped) = false

@@ -1,11 +1,11 @@
--- The way down the parents of a page for a map: the entries so far are present, and those to come are or will be.
+-- The way down the parents of a page during a map: the entries so far are present, and those to come are or will be.
 use Rattle.std.specs.Prelude.{suc, ◌≡◌, ◌⊎◌, ◌<◌, ℕ, true, false, List, length, take, get_or, Some}
 use Rattle.x86_64_model.specs.Entry.{present, huge}
 use Rattle.x86_64_model.specs.Layout.{Layout, paths}
 use Rattle.x86_64_model.specs.Memory.{Memory}
 use Rattle.x86_64_model.specs.PathMap.{PathMap, entry, table_at}
 
--- the parent flags have PRESENT, or every parent is present, down to and with the first huge one
+-- the parent flags have PRESENT, or every parent is present, down to and including the first huge one
 abbrev pub WillBePresent : PathMap → (parent_flags : ℕ) → (parents : List ℕ) → Type 0
 WillBePresent M more path = (present more ≡ true)
     ⊎ ((j : ℕ) → j < length path → ((h : ℕ) → h < j → huge (entry M (take (suc h) path)) ≡ false) → present (entry M (take (suc j) path)) ≡ true)

@@ -1,4 +1,5 @@
--- What the steps of a mapper's calls ask for and leave, over one record: the hierarchy that the mapper owns for a while.
+-- The steps of a mapper's calls, as relations on hierarchies: the record of layout, memory and loan that a mapper owns for a
+-- while.
 use Rattle.std.specs.Prelude.{ℕ, List, Result}
 use Rattle.x86_64_model.specs.Mapper.{Hierarchy}
 use Rattle.x86_64_model.specs.Refusal.{Refusal, Answer}
@@ -7,7 +8,7 @@ use Rattle.x86_64_mappers.specs.private.MapSteps.{IsDown}
 use Rattle.x86_64_mappers.specs.private.Stops.{IsFound}
 use Rattle.x86_64_mappers.specs.private.Writes.{IsSet, IsMade, IsLeafSet}
 
--- the table below the parents of a page is there, or why it is not
+-- the table below the parents of a page exists, or the reason why not
 abbrev pub Finds : {Lent : Type 0} → Hierarchy Lent → (parents : List ℕ) → Result ℕ Refusal → Type 0
 Finds h path found = IsFound h.layout h.memory path found
 
@@ -15,18 +16,18 @@ Finds h path found = IsFound h.layout h.memory path found
 abbrev pub SetsWord : {Lent : Type 0} → Hierarchy Lent → (frame i w : ℕ) → (after : Hierarchy Lent) → Type 0
 SetsWord h f i w after = IsSet h.layout.places h.memory f i w after.memory
 
--- word i of the table in a frame was set, and the table in another one cleared
+-- word i of the table in a frame was set, and the table in another frame cleared
 abbrev pub LinksTable : {Lent : Type 0} → Hierarchy Lent → (frame i w cleared : ℕ) → (after : Hierarchy Lent) → Type 0
 LinksTable h f i w g after = IsClearedFirst h.layout.places h.memory f i w g after.memory
 
--- a table is there that word i of the table in a frame names, made of the supply where it was missing, or a refusal
+-- word i of the table in a frame names a table, created from the supply if it was missing, or the step was refused
 abbrev pub MakesTable : {Lent : Type 0} → Hierarchy Lent → (supply : List ℕ) → (parent_flags frame i : ℕ) → Result ℕ Refusal → (after : Hierarchy Lent) → (rest : List ℕ) → Type 0
 MakesTable h s more f i made after rest = IsMade h.layout.places more h.layout.added_flags h.memory s f i made after.memory rest
 
--- so are those along the parents of a page
+-- the tables along the parents of a page exist now, created from the supply if they were missing, or the way down was refused
 abbrev pub MakesTables : {Lent : Type 0} → Hierarchy Lent → (supply : List ℕ) → (parent_flags : ℕ) → (parents : List ℕ) → Result ℕ Refusal → (after : Hierarchy Lent) → (rest : List ℕ) → Type 0
 MakesTables h s more path made after rest = IsDown h.layout h.memory s more path made after.memory rest
 
--- unused word i of the table in a frame came to be the entry w of a page, or the page's frame is refused
+-- unused word i of the table in a frame became the entry w of a page, or the map was refused for the page's frame
 abbrev pub SetsLeaf : {Lent : Type 0} → Hierarchy Lent → (table i w frame : ℕ) → Answer → (after : Hierarchy Lent) → Type 0
 SetsLeaf h f i w frame answer after = IsLeafSet h.layout.places h.memory f i w frame answer after.memory

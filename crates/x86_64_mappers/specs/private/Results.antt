@@ -1,4 +1,4 @@
--- The results of a mapper's steps, with refusals in place of the errors.
+-- The results of a mapper's steps, with refusals in place of the Rust errors.
 use Rattle.std.specs.Prelude.{Result, Ok, Err}
 use Rattle.x86_64_model.specs.Refusal.{Refusal}
 use Rattle.x86_64_model.specs.Refusal as refusal
@@ -10,32 +10,32 @@ use Rattle.x86_64_mappers.specs.declared.access.map.PageTableCreateError.{PageTa
 use Rattle.x86_64_mappers.specs.declared.access.map.PageTableCreateError.TheVariants.{MappedToHugePage, FrameAllocationFailed}
 use Rattle.x86_64_mappers.specs.declared.access.find.PageTableWalkError.TheVariants as walk
 
--- the refusal that the error of a step of a map is
+-- the refusal for the error of a step of a map
 abbrev pub create_refusal : PageTableCreateError → Refusal
 create_refusal MappedToHugePage = refusal.ParentEntryHugePage
 create_refusal FrameAllocationFailed = refusal.FrameAllocationFailed
 
--- of a step of a map, where a table is made that is missing
+-- the result of a step of a map, which creates a missing table
 abbrev pub create_result : {X : Type 0} → Result X PageTableCreateError → Result X Refusal
 create_result (Ok x) = Ok x
 create_result (Err why) = Err (create_refusal why)
 
--- the refusal that the error of a step down is
+-- the refusal for the error of a step down
 abbrev pub walk_refusal : PageTableWalkError → Refusal
 walk_refusal walk.NotMapped = refusal.PageNotMapped
 walk_refusal walk.MappedToHugePage = refusal.ParentEntryHugePage
 
--- of a step down to a table that is there
+-- the result of a step down to a table that exists
 abbrev pub walk_result : {X : Type 0} → Result X PageTableWalkError → Result X Refusal
 walk_result (Ok x) = Ok x
 walk_result (Err why) = Err (walk_refusal why)
 
--- of a step of a translation of a page
+-- the result of a step of a page's translation
 abbrev pub translate_result : {X : Type 0} → Result X TranslateError → Result X Refusal
 translate_result (Ok x) = Ok x
 translate_result (Err why) = Err (translate_refusal why)
 
--- of a step of an unmap
+-- the result of a step of an unmap
 abbrev pub unmap_result : {X : Type 0} → Result X UnmapError → Result X Refusal
 unmap_result (Ok x) = Ok x
 unmap_result (Err why) = Err (unmap_refusal why)

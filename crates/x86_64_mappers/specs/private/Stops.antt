@@ -1,4 +1,5 @@
--- The way down the parents of a page, where no table is made: to the table that their path leads to, or to the first stop.
+-- The way down the parents of a page if no table is created: to the table that their path leads to, or to the first parent that
+-- stops it.
 use Rattle.std.specs.Prelude.{◌≡◌, ℕ, Bool, not, cond, List, [], ◌∷◌, ◌++◌, Option, Some, None, IsSome, Result, Ok, Err, is_ok}
 use Rattle.x86_64_model.specs.Entry.{present, huge, address}
 use Rattle.x86_64_model.specs.Layout.{Layout, words, read_entry}
@@ -6,7 +7,7 @@ use Rattle.x86_64_model.specs.Memory.{Memory, word}
 use Rattle.x86_64_model.specs.PathMap.{table_of}
 use Rattle.x86_64_model.specs.Refusal.{Refusal, ParentEntryHugePage, PageNotMapped, first_stop}
 
--- the frame of the table that a parent's entry names, or why it is no present table entry
+-- the frame of the table that a parent's entry names, or the reason why it is no present table entry
 abbrev pub table_below : (entry : ℕ) → Result ℕ Refusal
 table_below e = cond (not (present e)) (Err PageNotMapped) (cond (huge e) (Err ParentEntryHugePage) (Ok (address e)))
 
@@ -14,7 +15,7 @@ table_below e = cond (not (present e)) (Err PageNotMapped) (cond (huge e) (Err P
 abbrev pub names_table : (entry : ℕ) → Bool
 names_table e = is_ok (table_below e)
 
--- the frame of the table that a path leads to, where E is the entry at a path: the root for the path of no index
+-- the frame of the table that a path leads to, by the entries E at paths; the root for the empty path
 abbrev pub table_read : (L root : ℕ) (E : List ℕ → ℕ) → List ℕ → Option ℕ
 table_read L root E [] = Some root
 table_read L root E (i ∷ q) = table_of L (i ∷ q) (E (i ∷ q))
@@ -25,11 +26,11 @@ pub record LeadsTo (l : Layout) (m : Memory) (path : List ℕ) (frame : ℕ) : T
   pub there : IsSome (words l m frame)
   pub entries : (i : ℕ) → read_entry l m (path ++ i ∷ []) ≡ word (words l m) frame i
 
--- nothing stops a page with these parents
+-- no parent stops a page with these parents
 abbrev pub NeverStops : Layout → Memory → (path : List ℕ) → Type 0
 NeverStops l m path = (last : ℕ) → first_stop (read_entry l m) (path ++ last ∷ []) ≡ None
 
--- the table that the parents' path leads to below present table entries alone, or the refusal by the first of them that is none
+-- the table that the parents' path leads to through present table entries, or the refusal by the first parent that is none
 abbrev pub IsFound : Layout → Memory → (path : List ℕ) → Result ℕ Refusal → Type 0
 IsFound l m path (Ok frame) = LeadsTo l m path frame × NeverStops l m path
 IsFound l m path (Err why) = (last : ℕ) → first_stop (read_entry l m) (path ++ last ∷ []) ≡ Some why

@@ -26,12 +26,12 @@ pub record IsCleared (places : Places) (m : Memory) (f : ℕ) (n : Memory) : Typ
   pub there : IsThere places m f
   pub after : n ≡ insert m (places.place f) zero_words
 
--- a used word got flags
+-- flags were added to a used word
 pub record IsMarked (places : Places) (m : Memory) (f i more : ℕ) (n : Memory) : Type 0 where
   pub is_used : used (word_in_frame places m f i) ≡ true
   pub is_set : IsSet places m f i (bit_or (word_in_frame places m f i) more) n
 
--- an unused word came to name the first frame of the supply, which was cleared
+-- an unused word was made to name the first frame of the supply, which was cleared
 pub record IsTaken (places : Places) (m : Memory) (s : List ℕ) (f i flags g : ℕ) (n : Memory) (rest : List ℕ) : Type 0 where
   pub is_unused : used (word_in_frame places m f i) ≡ false
   pub first : s ≡ g ∷ rest
@@ -39,7 +39,7 @@ pub record IsTaken (places : Places) (m : Memory) (s : List ℕ) (f i flags g : 
   pub is_cleared : IsCleared places m g middle
   pub is_set : IsSet places middle f i (bit_or g flags) n
 
--- the table that word i of the frame f names, or a new one: the answer, and what is left of the supply
+-- the table that word i of the frame f names, or a new one: the answer, and the rest of the supply
 abbrev pub IsMade : Places → (more added : ℕ) → Memory → (supply : List ℕ) → (f i : ℕ) → Result ℕ Refusal → Memory → (rest : List ℕ) → Type 0
 IsMade places more added m s f i (Ok g) n rest =
     (IsMarked places m f i more n × (huge (word_in_frame places m f i) ≡ false) × (g ≡ address (word_in_frame places m f i)) × (rest ≡ s))
@@ -50,7 +50,7 @@ IsMade places more added m s f i (Err PageNotMapped) n rest = ⊥
 IsMade places more added m s f i (Err (InvalidFrameAddress a)) n rest = ⊥
 IsMade places more added m s f i (Err (PageAlreadyMapped g)) n rest = ⊥
 
--- an unused word came to be the leaf w, or the word is used and the frame asked for is refused
+-- an unused word became the leaf w, or the word is used and the map is refused for the given frame
 abbrev pub IsLeafSet : Places → Memory → (f i w frame : ℕ) → Answer → Memory → Type 0
 IsLeafSet places m f i w frame (Done g) n = (used (word_in_frame places m f i) ≡ false) × (g ≡ frame) × IsSet places m f i w n
 IsLeafSet places m f i w frame (Refused (PageAlreadyMapped g)) n = (used (word_in_frame places m f i) ≡ true) × (g ≡ frame) × (n ≡ m)

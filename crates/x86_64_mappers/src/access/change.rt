@@ -20,11 +20,11 @@ use x86_64_page::page::PageSize;
 use x86_64_tables::mapper::{FlagUpdateError, UnmapError};
 use x86_64_tables::page_table::{PageTableEntry, PageTableFlags};
 
-/// Unmaps the page of a path.
+/// Unmaps the page that a path leads to.
 ///
 /// # Errors
 ///
-/// Those of [`find_table`], and else those of [`unmap_entry`].
+/// Those of [`find_table`], then those of [`unmap_entry`].
 pub fn unmap_path<S: PageSize, M: TableAccess>(
     mapper: &mut M,
     path: &[PageTableIndex],
@@ -36,11 +36,11 @@ pub fn unmap_path<S: PageSize, M: TableAccess>(
     change_entry(mapper, path, |entry| unmap_entry(entry))?
 }
 
-/// Sets the flags of the page of a path, and `HUGE_PAGE` for 2MiB and 1GiB.
+/// Sets the flags of the page that a path leads to, and `HUGE_PAGE` for 2MiB and 1GiB pages.
 ///
 /// # Errors
 ///
-/// Those of [`find_table`], and else those of [`update_entry`].
+/// Those of [`find_table`], then those of [`update_entry`].
 pub fn update_path<S: PageSize, M: TableAccess>(
     mapper: &mut M,
     path: &[PageTableIndex],
@@ -58,8 +58,8 @@ pub fn update_path<S: PageSize, M: TableAccess>(
 ///
 /// # Errors
 ///
-/// `ParentEntryHugePage` where the level isn't above that of the page's entry; else those of [`find_table`]; else those of
-/// [`set_entry_flags`].
+/// `ParentEntryHugePage` if the level isn't above that of the page's own entry. Otherwise those of [`find_table`],
+/// then those of [`set_entry_flags`].
 pub fn set_table_flags<S: PageSize, M: TableAccess>(
     mapper: &mut M,
     path: &[PageTableIndex],
@@ -81,7 +81,7 @@ pub fn set_table_flags<S: PageSize, M: TableAccess>(
     })?
 }
 
-/// Makes a change at the entry to which a path leads, and gives what the change answers.
+/// Changes the entry that a path leads to, and returns the result of the change.
 ///
 /// # Errors
 ///
@@ -106,7 +106,7 @@ fn change_entry<M: TableAccess, R, F: FnOnce(&mut PageTableEntry) -> R>(
     Ok(change(entry_mut(mapper, parents, table, path[last])))
 }
 
-/// Makes the entry of a page of a size unused, and gives the frame that it named.
+/// Makes the entry of a page unused, and returns the frame that it named.
 ///
 /// # Errors
 ///
@@ -120,11 +120,11 @@ fn unmap_entry<S: PageSize>(entry: &mut PageTableEntry) -> Result<PhysFrame<S>, 
     Ok(frame)
 }
 
-/// Sets the flags of the entry of a page of a size, and `HUGE_PAGE` for 2MiB and 1GiB.
+/// Sets the flags of the entry of a page, and `HUGE_PAGE` for 2MiB and 1GiB pages.
 ///
 /// # Errors
 ///
-/// `PageNotMapped` where the entry maps no page of the size.
+/// `PageNotMapped` if the entry maps no page of the size.
 fn update_entry<S: PageSize>(
     entry: &mut PageTableEntry,
     flags: PageTableFlags,
@@ -144,7 +144,7 @@ fn update_entry<S: PageSize>(
 ///
 /// # Errors
 ///
-/// `PageNotMapped` where the entry is unused.
+/// `PageNotMapped` if the entry is unused.
 fn set_entry_flags(entry: &mut PageTableEntry, flags: PageTableFlags) -> Result<(), FlagUpdateError>
     ensures refusal { let said = flags_say (bits_of flags) entry.old in
         flags_refusal result ≡ refusal_of (answer_said said) }

@@ -1,4 +1,4 @@
-//! Clean up: tables that are empty are taken away, those below a table first.
+//! Clean up: removes empty tables, from the lowest level up.
 ghost use Rattle.std.specs.Prelude.{◌≡◌, ◌<◌, ◌≤◌, ◌+◌, ◌-◌, ◌*◌, ◌++◌, ◌∷◌, ℕ, [], true, false, cond, length, take, get_or};
 ghost use Rattle.x86_64_model.proofs.Lemmas.CleanUps.Below.{cleaned_below, back_below};
 ghost use Rattle.x86_64_model.specs.CleanUp.{meets};
@@ -23,7 +23,7 @@ use x86_64_page::range::BlockRangeInclusive;
 use x86_64_tables::frame_alloc::FrameDeallocator;
 use x86_64_tables::mapper::TablesIn;
 
-/// Holds the paths of the first and of the last page of a range, which have an index for each level of tables.
+/// The paths of the first and the last page of a range, with one index per level of tables.
 #[derive(Drop)]
 struct PathRange<'a> {
     first: &'a [PageTableIndex],
@@ -39,7 +39,7 @@ pub fn all_pages<L: LevelCount>() -> BlockRangeInclusive<PageIn<Size4KiB, L>>
     PageIn::range_inclusive(PageIn::containing_address(VirtAddrIn::zero()), last)
 }
 
-/// Takes away the empty tables on the way to the pages of a range, and gives their frames back.
+/// Removes the empty tables on the paths of the pages of a range, and returns their frames to the deallocator.
 pub fn clean_up_range<M: TableAccess + TablesIn<L>, L: LevelCount, D: FrameDeallocator<Size4KiB>>(
     mapper: &mut M,
     range: BlockRangeInclusive<PageIn<Size4KiB, L>>,
@@ -57,7 +57,8 @@ pub fn clean_up_range<M: TableAccess + TablesIn<L>, L: LevelCount, D: FrameDeall
     clean_up_paths(mapper, first.indices(), last.indices(), frame_deallocator);
 }
 
-/// Takes away the empty tables on the way to the pages from one path to another, and gives their frames back.
+/// Removes the empty tables on the paths of the pages between two paths, both included, and returns their frames to
+/// the deallocator.
 fn clean_up_paths<M: TableAccess, D: FrameDeallocator<Size4KiB>>(
     mapper: &mut M,
     first: &[PageTableIndex],
@@ -87,7 +88,7 @@ fn clean_up_paths<M: TableAccess, D: FrameDeallocator<Size4KiB>>(
     );
 }
 
-/// Takes away the empty tables below the table to which a path leads.
+/// Removes the empty tables below the table that a path leads to.
 #[cycle(clean_up)]
 fn clean_up_table<M: TableAccess, D: FrameDeallocator<Size4KiB>>(
     mapper: &mut M,
@@ -126,8 +127,8 @@ fn clean_up_table<M: TableAccess, D: FrameDeallocator<Size4KiB>>(
     }
 }
 
-/// Returns the first index, from one on and up to a last one, at which the entry of the table to which a path leads names a table, or
-/// the index after the last one if none does.
+/// Returns the first index between two indices, both included, whose entry in the table that a path leads to names a
+/// table, or the index after the last one if there is none.
 fn next_named<M: TableAccess>(
     mapper: &M,
     path: &[PageTableIndex],
@@ -154,10 +155,10 @@ fn next_named<M: TableAccess>(
     last + 1
 }
 
-/// Takes away the empty tables below the one that the entry at an index of the table to which a path leads names, and then that
-/// one too if it is empty.
+/// Takes the entry at an index of the table that a path leads to. Removes the empty tables below the table that it
+/// names, and then that table itself if it is empty.
 ///
-/// An entry that isn't present, one that maps a page, and one through which the root names itself, stay.
+/// An entry stays if it isn't present, maps a page, or is the root's entry for itself.
 #[cycle(clean_up)]
 fn clean_up_entry<M: TableAccess, D: FrameDeallocator<Size4KiB>>(
     mapper: &mut M,
@@ -202,7 +203,7 @@ fn clean_up_entry<M: TableAccess, D: FrameDeallocator<Size4KiB>>(
     }
 }
 
-/// Gives the number of the 4KiB page with a path: how many pages start before it.
+/// Returns the number of the 4KiB page with a path, which is the number of pages before it.
 pub fn page_number(path: &[PageTableIndex]) -> u64
     requires { length path.now ≤ 5 }
     ensures start { result * 0x1000 ≡ span_start (length path.now) path.now }
@@ -215,8 +216,8 @@ pub fn page_number(path: &[PageTableIndex]) -> u64
     number
 }
 
-/// Gives the index at which the path of a page goes on from the table to which a path leads, or another one where it doesn't lead
-/// there.
+/// Returns the index that follows a table's path in the path of a page, or another index if the page's path doesn't
+/// lead through the table.
 fn index_in_table(page: &[PageTableIndex], path: &[PageTableIndex], other: u16) -> u16
     requires { length path.now < length page.now }
     ensures index { result ≡ cond (begins path.now page.now) (get_or page.now (length path.now) 0) other }
@@ -229,7 +230,7 @@ fn index_in_table(page: &[PageTableIndex], path: &[PageTableIndex], other: u16) 
     }
 }
 
-/// Tells whether the root names itself at an index of the table to which a path leads.
+/// Returns true if the entry at an index of the table that a path leads to is the root's entry for itself.
 fn is_recursive<M: TableAccess>(mapper: &M, path: &[PageTableIndex], index: PageTableIndex) -> bool
     requires { begins_with (M.hierarchy mapper.now).layout.window path.now ≡ false }
     ensures { result ≡ begins_with (M.hierarchy mapper.now).layout.window (path.now ++ index ∷ []) }

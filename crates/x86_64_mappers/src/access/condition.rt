@@ -1,4 +1,4 @@
-//! The conditions of calls, as tests.
+//! Tests of the conditions of calls.
 ghost use Rattle.std.specs.Prelude.{◌≡◌, ◌<◌, ◌≤◌, ◌+◌, ◌==◌, ℕ, false, [], ◌∷◌, ◌++◌, length};
 ghost use Rattle.x86_64_model.specs.Call.{SetFlags};
 ghost use Rattle.x86_64_model.specs.Mapper.{Valid, allows, allows_map, paths, read_entry};
@@ -16,7 +16,7 @@ use x86_64_page::frame::PhysFrame;
 use x86_64_page::page::{PageSize, Size4KiB};
 use x86_64_tables::page_table::PageTableFlags;
 
-/// Tells whether the page of a path may be mapped with these flags and parent flags.
+/// Returns true if the page that a path leads to may be mapped with these flags and parent flags.
 pub fn path_allowed<S: PageSize, M: TableAccess>(
     mapper: &M,
     path: &[PageTableIndex],
@@ -33,7 +33,7 @@ pub fn path_allowed<S: PageSize, M: TableAccess>(
             || are_present(mapper, &path[..path.len() - 1]))
 }
 
-/// Tells whether the flags of the entry of level three or two on the path of a page may be set to these.
+/// Returns true if the flags of the entry of level three or two on the path of a page may be set to these.
 pub fn table_flags_allowed<S: PageSize, M: TableAccess>(
     mapper: &M,
     path: &[PageTableIndex],
@@ -50,7 +50,7 @@ pub fn table_flags_allowed<S: PageSize, M: TableAccess>(
         && (level <= S::LEVEL || keeps_huge(mapper, path_to_level::<S>(path, level), flags))
 }
 
-/// Tells whether a path begins with the recursive index.
+/// Returns true if a path begins with the recursive index, the index of the root's entry for itself.
 fn is_in_window<M: TableAccess>(mapper: &M, path: &[PageTableIndex]) -> bool
     requires { 0 < length path.now }
     ensures { result ≡ begins_with (M.hierarchy mapper.now).layout.window path.now }
@@ -61,7 +61,7 @@ fn is_in_window<M: TableAccess>(mapper: &M, path: &[PageTableIndex]) -> bool
     }
 }
 
-/// Tells whether the parents of a page have `PRESENT`, down to and with the first that also has `HUGE_PAGE`.
+/// Returns true if the parents of a page have `PRESENT`, down to and including the first that also has `HUGE_PAGE`.
 fn are_present<M: TableAccess>(mapper: &M, parents: &[PageTableIndex]) -> bool
     requires valid { Valid (M.hierarchy mapper.now) }
     requires short { length parents.now < (M.hierarchy mapper.now).layout.levels }
@@ -72,15 +72,15 @@ fn are_present<M: TableAccess>(mapper: &M, parents: &[PageTableIndex]) -> bool
     meets_none_absent(find_table(mapper, parents))
 }
 
-/// Tells whether a way down the parents of a page met none that lacks `PRESENT`.
+/// Returns true if a walk down the parents of a page met none that lacks `PRESENT`.
 fn meets_none_absent(found: Result<PhysFrame<Size4KiB>, PageTableWalkError>) -> bool
     ensures { result ≡ meets_none_absent (walk_result found) }
 {
     !matches!(found, Err(PageTableWalkError::NotMapped))
 }
 
-/// Tells whether a page of a size may be mapped with these flags and parent flags, wherever it is: neither has address
-/// bits, and `HUGE_PAGE` is not in the parent flags, nor in the flags of a 4KiB page.
+/// Returns true if the flags and the parent flags suit a map of a page of this size, whatever its path. Neither may
+/// have address bits. `HUGE_PAGE` may not be in the parent flags, nor in the flags of a 4KiB page.
 fn flags_allowed<S: PageSize>(flags: PageTableFlags, parent_flags: PageTableFlags) -> bool
     ensures { result ≡ flags_allowed (S.LEVEL == 1) (bits_of flags) (bits_of parent_flags) }
 {
@@ -90,8 +90,7 @@ fn flags_allowed<S: PageSize>(flags: PageTableFlags, parent_flags: PageTableFlag
         & ((S::LEVEL != 1) | !flags.contains(PageTableFlags::HUGE_PAGE))
 }
 
-/// Tells whether the entry at a path has `HUGE_PAGE` exactly if the flags have it, where the way to it is there and it is
-/// used; else it tells so.
+/// Returns true if the entry is unreachable or unused, or its `HUGE_PAGE` equals that of the flags.
 fn keeps_huge<M: TableAccess>(mapper: &M, path: &[PageTableIndex], flags: PageTableFlags) -> bool
     requires valid { Valid (M.hierarchy mapper.now) }
     requires some { 0 < length path.now }

@@ -1,4 +1,4 @@
-//! Ways down to tables that are there.
+//! Walks down to tables that exist.
 ghost use Rattle.std.specs.Prelude.{◌≡◌, ◌<◌, ◌+◌, ◌-◌, length, take, IfOk};
 ghost use Rattle.x86_64_model.specs.Memory.{word};
 ghost use Rattle.x86_64_model.specs.Mapper.{Valid, words};
@@ -15,12 +15,12 @@ use x86_64_page::page::{PageSize, Size4KiB};
 use x86_64_tables::mapper::{FlagUpdateError, TranslateError, UnmapError};
 use x86_64_tables::page_table::FrameError;
 
-/// Says why the way down to a table ends above it.
+/// The reason why a walk down to a table ends above it.
 #[derive(Clone, Copy, Debug, PartialEq)]
 pub enum PageTableWalkError {
-    /// An entry on the way lacks `PRESENT`.
+    /// An entry on the path lacks `PRESENT`.
     NotMapped,
-    /// An entry on the way maps a page.
+    /// An entry on the path maps a page.
     MappedToHugePage,
 }
 
@@ -57,11 +57,11 @@ impl From<PageTableWalkError> for TranslateError {
     }
 }
 
-/// Gives the frame of the table that the entry at an index of the table to which a path leads names.
+/// Returns the frame of the table that an entry names. The entry is at an index of the table that a path leads to.
 ///
 /// # Errors
 ///
-/// Without `PRESENT` it is `NotMapped`, else with `HUGE_PAGE` it is `MappedToHugePage`.
+/// `NotMapped` if the entry lacks `PRESENT`, otherwise `MappedToHugePage` if it has `HUGE_PAGE`.
 pub fn next_table<M: TableAccess>(
     mapper: &M,
     path: &[PageTableIndex],
@@ -80,12 +80,13 @@ pub fn next_table<M: TableAccess>(
     }
 }
 
-/// Gives the frame of the table below the parents of a page, by their indices from the root down.
+/// Returns the frame of the table below the parents of a page, which are given by their indices from the root down.
 ///
 /// # Errors
 ///
-/// `NotMapped` where a parent lacks `PRESENT`, and `MappedToHugePage` where one before it has `HUGE_PAGE`.
-// In its callers the indices are known to be so many, and then the window of each table takes a few steps.
+/// The first parent that lacks `PRESENT` or has `HUGE_PAGE` decides: `NotMapped` if it lacks `PRESENT`, otherwise
+/// `MappedToHugePage`.
+// Inlined, since callers know the number of indices, and then the window of each table takes a few instructions.
 #[inline]
 pub fn find_table<M: TableAccess>(
     mapper: &M,
@@ -103,7 +104,7 @@ pub fn find_table<M: TableAccess>(
     Ok(table)
 }
 
-/// Gives the path of the entry of a level on the path of a page, whose own entry's level is lower.
+/// Returns the path of the entry of a level on the path of a page, whose own entry is on a lower level.
 pub fn path_to_level<S: PageSize>(path: &[PageTableIndex], level: u64) -> &[PageTableIndex]
     requires above { S.LEVEL < level }
     requires within { level < length path.now + S.LEVEL }

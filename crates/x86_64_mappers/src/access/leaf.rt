@@ -1,4 +1,4 @@
-//! What the entries of pages say.
+//! The meaning of the entries of pages.
 ghost use Rattle.std.specs.Prelude.{◌≡◌, ◌==◌, if◌then◌else◌, bit_or};
 ghost use Rattle.x86_64_mappers.specs.private.LeafFrames.{leaf_frame, maps_page, named_frame};
 ghost use Rattle.x86_64_mappers.specs.private.Results.{translate_result, unmap_result};
@@ -10,12 +10,14 @@ use x86_64_page::page::{AddressNotAligned, PageSize};
 use x86_64_tables::mapper::{TranslateError, UnmapError};
 use x86_64_tables::page_table::{PageTableEntry, PageTableFlags};
 
-/// Gives the frame that the entry of a page of a size names.
+/// Returns the frame that the entry of a page of this size names.
 ///
 /// # Errors
 ///
-/// Without `PRESENT` it is `PageNotMapped`; with `HUGE_PAGE` for 4KiB, or without it for 2MiB and 1GiB, it is
-/// `ParentEntryHugePage`; where the address isn't a multiple of the size it is `InvalidFrameAddress`.
+/// - `PageNotMapped` if the entry lacks `PRESENT`.
+/// - Otherwise `ParentEntryHugePage` if it has `HUGE_PAGE` and the size is 4KiB, or lacks it and the size is 2MiB or
+///   1GiB.
+/// - Otherwise `InvalidFrameAddress` if its address isn't a multiple of the size.
 pub fn leaf_frame<S: PageSize>(entry: &PageTableEntry) -> Result<PhysFrame<S>, UnmapError>
     ensures { unmap_result result ≡ leaf_frame S.LEVEL entry.now }
 {
@@ -33,19 +35,20 @@ pub fn leaf_frame<S: PageSize>(entry: &PageTableEntry) -> Result<PhysFrame<S>, U
     }
 }
 
-/// Tells whether an entry maps a page of a size: it is used, and has `HUGE_PAGE` for 2MiB and 1GiB.
+/// Returns true if an entry maps a page of this size: it is used, and has `HUGE_PAGE` for 2MiB and 1GiB.
 pub fn maps_page<S: PageSize>(entry: &PageTableEntry) -> bool
     ensures { result ≡ maps_page S.LEVEL entry.now }
 {
     !entry.is_unused() && (S::LEVEL == 1 || entry.flags().contains(PageTableFlags::HUGE_PAGE))
 }
 
-/// Gives the frame that the entry of a page of a size names, `PRESENT` or not.
+/// Returns the frame that the entry of a page of this size names, `PRESENT` or not.
 ///
 /// # Errors
 ///
-/// An unused entry is `PageNotMapped`; for 2MiB and 1GiB one without `HUGE_PAGE`, or with an address that isn't a multiple of
-/// the size, is `InvalidFrameAddress`.
+/// - `PageNotMapped` if the entry is unused.
+/// - Otherwise `InvalidFrameAddress`, for 2MiB and 1GiB, if it lacks `HUGE_PAGE` or its address isn't a multiple of
+///   the size.
 pub fn named_frame<S: PageSize>(entry: &PageTableEntry) -> Result<PhysFrame<S>, TranslateError>
     ensures { translate_result result ≡ named_frame S.LEVEL entry.now }
 {
@@ -62,7 +65,7 @@ pub fn named_frame<S: PageSize>(entry: &PageTableEntry) -> Result<PhysFrame<S>, 
     }
 }
 
-/// Gives the flags of the entry of a page of a size: those asked for, and `HUGE_PAGE` for 2MiB and 1GiB.
+/// Returns the flags for the entry of a page of this size: the given ones, and `HUGE_PAGE` for 2MiB and 1GiB.
 pub fn leaf_flags<S: PageSize>(flags: PageTableFlags) -> PageTableFlags
     ensures { bits_of result ≡ (if S.LEVEL == 1 then bits_of flags else bit_or (bits_of flags) 0x80) }
 {

@@ -24,12 +24,12 @@ use x86_64_tables::frame_alloc::FrameAllocator;
 use x86_64_tables::mapper::MapToError;
 use x86_64_tables::page_table::{PageTableEntry, PageTableFlags};
 
-/// Says why a table on the way to a page is not there.
+/// The reason why there is no table on the path of a page.
 #[derive(Clone, Copy, Debug, PartialEq)]
 pub enum PageTableCreateError {
     /// A parent of the page maps a larger page.
     MappedToHugePage,
-    /// The table was missing, and there was no frame for it.
+    /// The table was missing, and no frame was left for it.
     FrameAllocationFailed,
 }
 
@@ -46,10 +46,10 @@ impl<S: PageSize> From<PageTableCreateError> for MapToError<S> {
     }
 }
 
-/// Makes the entry at index `k` of the parents, which is in a table, name a frame, and clears the table there.
+/// Makes the entry at index `k` of the parents, in the given table, name a frame, and clears the table in that frame.
 ///
-/// The table is cleared last: a mapper that has no other way to it reaches it through its entry.
-// Into a function of its own the indices would be handed in memory, where each map had to put them.
+/// The table is cleared last, since a mapper may have no other way to reach it than through its entry.
+// Inlined, since a call would pass the indices in memory, and each map would have to write them there.
 #[inline(always)]
 fn link_table<M: TableAccess>(
     mapper: &mut M,
@@ -72,7 +72,8 @@ fn link_table<M: TableAccess>(
     mapper.table_mut(&parents[..k + 1], frame).zero();
 }
 
-/// Adds flags to those of an entry, which is written only if it lacks one: the next map reads the word, and would wait for it.
+/// Adds flags to an entry. Writes it only if it lacks one of them, since the next map reads the word and would wait
+/// for the write.
 fn add_flags(entry: &mut PageTableEntry, more: PageTableFlags)
     ensures { entry.new ≡ bit_or entry.old (bits_of more) }
 {
@@ -82,11 +83,11 @@ fn add_flags(entry: &mut PageTableEntry, more: PageTableFlags)
     }
 }
 
-/// Adds the parent flags to the used entry of a parent, and gives the frame of the table that it names.
+/// Adds the parent flags to the used entry of a parent, and returns the frame of the table that it names.
 ///
 /// # Errors
 ///
-/// With `HUGE_PAGE` it is `MappedToHugePage`, and has the flags too.
+/// `MappedToHugePage` if the entry has `HUGE_PAGE`. It gets the flags then too.
 fn mark_parent(
     entry: &mut PageTableEntry,
     parent_flags: PageTableFlags,
@@ -105,14 +106,14 @@ fn mark_parent(
     }
 }
 
-/// Gives the frame of the table that the entry at index `k` of the parents names, which is in a table. A used entry gets the
-/// parent flags, and an unused one comes to name a new table.
+/// Returns the frame of the table that the entry at index `k` of the parents names. The entry is in the given table.
+/// A used entry gets the parent flags, and an unused one is made to name a new table.
 ///
 /// # Errors
 ///
-/// A used entry with `HUGE_PAGE` is `MappedToHugePage`, and an unused one where the allocator has no frame is
-/// `FrameAllocationFailed`.
-// In its callers the indices are known to be so many, and then the window of each table takes a few steps.
+/// `MappedToHugePage` if the entry is used and has `HUGE_PAGE`. `FrameAllocationFailed` if it is unused and the
+/// allocator has no frame.
+// Inlined, since callers know the number of indices, and then the window of each table takes a few instructions.
 #[inline(always)]
 fn create_next_table<M: TableAccess, A: FrameAllocator<Size4KiB>>(
     mapper: &mut M,
@@ -150,13 +151,13 @@ fn create_next_table<M: TableAccess, A: FrameAllocator<Size4KiB>>(
     Ok(frame)
 }
 
-/// Gives the frame of the table below the parents of a page, from the root down, where missing tables are made and used
-/// parents get the parent flags.
+/// Returns the frame of the table below the parents of a page. From the root down, creates missing tables and adds
+/// the parent flags to used parents.
 ///
 /// # Errors
 ///
-/// Those of the first step that refuses: [`create_next_table`].
-// As above.
+/// Those of the first call of [`create_next_table`] that fails.
+// Inlined for the reason above.
 #[inline(always)]
 fn create_tables<M: TableAccess, A: FrameAllocator<Size4KiB>>(
     mapper: &mut M,
@@ -184,12 +185,12 @@ fn create_tables<M: TableAccess, A: FrameAllocator<Size4KiB>>(
     Ok(table)
 }
 
-/// Makes the unused entry at an index of the table below the parents of a page that of the page, which is mapped to a frame.
-/// An entry above level one gets `HUGE_PAGE` too.
+/// Writes the entry of a page that is mapped to a frame, at an index of the table below the page's parents. An entry
+/// above level one gets `HUGE_PAGE` too.
 ///
 /// # Errors
 ///
-/// `PageAlreadyMapped` with the frame where the entry is used.
+/// `PageAlreadyMapped` with the frame if the entry is used.
 fn set_leaf<S: PageSize, M: TableAccess>(
     mapper: &mut M,
     parents: &[PageTableIndex],
@@ -214,11 +215,12 @@ fn set_leaf<S: PageSize, M: TableAccess>(
     Ok(())
 }
 
-/// Maps the page with a path to a frame. The path has an index for each level from the root's down to that of the page's entry.
+/// Maps the page with a path to a frame. The path has one index per level, from the root's level down to that of the
+/// page's own entry.
 ///
 /// # Errors
 ///
-/// Those of [`create_tables`], and else those of [`set_leaf`].
+/// Those of [`create_tables`], then those of [`set_leaf`].
 pub fn map_path<S: PageSize, M: TableAccess, A: FrameAllocator<Size4KiB>>(
     mapper: &mut M,
     path: &[PageTableIndex],

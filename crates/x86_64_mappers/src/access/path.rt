@@ -1,4 +1,4 @@
-//! Paths: the indices on the way from the root to an entry.
+//! Paths: the indices from the root to an entry.
 ghost use Rattle.std.specs.Prelude.{◌≡◌, ◌+◌, ◌≤◌, length};
 ghost use Rattle.x86_64_model.specs.Mapper.{path_of};
 ghost use Rattle.x86_64_model.specs.Path.{path_at};
@@ -11,13 +11,13 @@ use x86_64_addr::level_count::LevelCount;
 use x86_64_page::page::{PageIn, PageSize};
 use x86_64_tables::mapper::TablesIn;
 
-/// How many indices the longest path has: one for each level of tables that a processor knows.
+/// The length of the longest path, which has one index per level of tables that a processor supports.
 pub const MOST_LEVELS: usize = 5;
 
-/// The path to an entry: an index for each level, from the root's down to that of the entry.
+/// The path to an entry, with one index per level from the root's level down to that of the entry.
 #[derive(Drop)]
 pub struct EntryPath {
-    /// The path's indices, and others behind them.
+    /// The path's indices, followed by unrelated ones.
     indices: [PageTableIndex; MOST_LEVELS],
     length: usize,
 }
@@ -52,7 +52,7 @@ impl EntryPath {
         }
     }
 
-    /// Returns the indices, that of the root's level first.
+    /// Returns the indices, beginning with that of the root's level.
     pub fn indices(&self) -> &[PageTableIndex]
         ensures { result.now ≡ self.now }
     {

@@ -20,11 +20,11 @@ use x86_64_page::page::PageSize;
 use x86_64_tables::mapper::{MappedFrame, TablesIn, TranslateError, TranslateResult};
 use x86_64_tables::page_table::{FrameError, PageTableEntry};
 
-/// Gives the frame of the page of a path.
+/// Returns the frame of the page that a path leads to.
 ///
 /// # Errors
 ///
-/// Those of [`find_table`], and else those of [`named_frame`].
+/// Those of [`find_table`], then those of [`named_frame`].
 pub fn translate_path<S: PageSize, M: TableAccess>(
     mapper: &M,
     path: &[PageTableIndex],
@@ -39,7 +39,7 @@ pub fn translate_path<S: PageSize, M: TableAccess>(
     named_frame(entry(mapper, parents, table, path[last]))
 }
 
-/// Tells where an address is mapped to.
+/// Returns the translation of an address.
 pub fn translate<M: TableAccess + TablesIn<L>, L: LevelCount>(
     mapper: &M,
     addr: VirtAddrIn<L>,
@@ -53,7 +53,8 @@ pub fn translate<M: TableAccess + TablesIn<L>, L: LevelCount>(
     translate_position(mapper, path.indices(), addr)
 }
 
-/// Returns the physical address that an address is mapped to, if it is mapped: the frame's start plus the offset.
+/// Returns the physical address that an address is mapped to, which is the frame's start plus the offset, or `None`
+/// if the address isn't mapped.
 pub fn translate_addr<M: TableAccess + TablesIn<L>, L: LevelCount>(
     mapper: &M,
     addr: VirtAddrIn<L>,
@@ -64,7 +65,7 @@ pub fn translate_addr<M: TableAccess + TablesIn<L>, L: LevelCount>(
     physical_address(translate(mapper, addr))
 }
 
-/// Returns the physical address that a translation names, if it names one.
+/// Returns the physical address of a translation, or `None` if it has none.
 fn physical_address(translation: TranslateResult) -> Option<PhysAddr>
     requires { StaysBelow (translation_of translation) }
     ensures { result ≡ option_and_then address_of (translation_of translation) }
@@ -77,7 +78,8 @@ fn physical_address(translation: TranslateResult) -> Option<PhysAddr>
     }
 }
 
-/// Tells where an address is mapped to, by its indices from the root's level down to level one, as the walk does.
+/// Returns the translation of an address, by its indices from the root's level down to level one. It agrees with the
+/// page walk.
 fn translate_position<M: TableAccess + TablesIn<L>, L: LevelCount>(
     mapper: &M,
     indices: &[PageTableIndex],
@@ -93,9 +95,10 @@ fn translate_position<M: TableAccess + TablesIn<L>, L: LevelCount>(
     translate_along(mapper, indices, addr)
 }
 
-/// Tells where an address is mapped to, by its indices from the root's level down to level one.
+/// Returns the translation of an address, by its indices from the root's level down to level one.
 ///
-/// Each index is taken of the address where it is read: a mapper that finds tables by their frames then needs no path.
+/// Takes each index from the address when it is needed, so that a mapper that finds tables by their frames needs no
+/// path.
 fn translate_along<M: TableAccess + TablesIn<L>, L: LevelCount>(
     mapper: &M,
     indices: &[PageTableIndex],
@@ -126,7 +129,8 @@ fn translate_along<M: TableAccess + TablesIn<L>, L: LevelCount>(
     }
 }
 
-/// Gives the translation of a position by the entry of a level that maps its page.
+/// Returns the translation of a position (an address counted without the gap between the halves) by the entry of a
+/// level that maps its page.
 fn leaf_translation(level: usize, entry: &PageTableEntry, position: u64) -> TranslateResult
     requires low { 1 ≤ level }
     requires high { level ≤ 3 }
@@ -141,7 +145,8 @@ fn leaf_translation(level: usize, entry: &PageTableEntry, position: u64) -> Tran
     }
 }
 
-/// Gives the frame to which the entry of a level maps a page: the entry's address rounded down to the size of the page.
+/// Returns the frame that the entry of a level maps a page to, which is the entry's address rounded down to the size
+/// of the page.
 fn mapped_frame(level: usize, entry: &PageTableEntry) -> MappedFrame
     requires low { 1 ≤ level }
     requires high { level ≤ 3 }

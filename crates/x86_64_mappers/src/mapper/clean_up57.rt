@@ -7,16 +7,16 @@ use x86_64_page::page::{Page57, PageRangeInclusive57, Size4KiB};
 use x86_64_tables::frame_alloc::FrameDeallocator;
 use x86_64_tables::mapper::PageTables57;
 
-/// Takes away tables that are empty, and gives their frames back, where there are five levels.
+/// Removes empty tables of a hierarchy of five levels, and returns their frames to a deallocator.
 ///
-/// Who writes a mapper implements [`TableAccess`], and has these calls.
+/// A mapper gets these calls by an implementation of [`TableAccess`].
 pub trait CleanUp57: TableAccess + PageTables57 {
     ghost use Rattle.x86_64_model.specs.Mapper.{MayCleanUp, CleansUp};
 
-    /// Takes away the empty tables of the whole address space, as [`clean_up_addr_range`](Self::clean_up_addr_range) does for
-    /// all pages, in both halves.
+    /// Removes the empty tables of the whole address space. This is
+    /// [`clean_up_addr_range`](Self::clean_up_addr_range) for all pages, in both halves.
     ///
-    /// Conditions: those of [`clean_up_addr_range`](Self::clean_up_addr_range).
+    /// Requires the conditions of [`clean_up_addr_range`](Self::clean_up_addr_range).
     final fn clean_up<D: FrameDeallocator<Size4KiB>>(&mut self, frame_deallocator: &mut D)
         requires { let serves = D.serves frame_deallocator.old in
             MayCleanUp (Self.hierarchy self.old) serves (D.held frame_deallocator.old) }
@@ -28,13 +28,15 @@ pub trait CleanUp57: TableAccess + PageTables57 {
         calls::clean_up(self, frame_deallocator);
     }
 
-    /// Takes away the empty tables of a range of pages, and gives their frames back, with all words 0.
+    /// Removes the empty tables of a range of pages, and returns their frames to the deallocator, with all words 0.
     ///
-    /// A table goes exactly if it isn't the root, each entry on its path is present, lacks `HUGE_PAGE` and spans an address of
-    /// the range, and below it each used entry is such an entry of a table. The entry of the table becomes unused. The tables
-    /// below a table go before it, else they go in order of index. An empty range takes nothing away.
+    /// A table other than the root is removed if and only if two things hold. Each entry on its path is present,
+    /// lacks `HUGE_PAGE` and spans an address of the range. And each used entry below it names a table and spans an
+    /// address of the range. The removed table's entry becomes unused. The tables below a table are removed before it,
+    /// and otherwise tables are removed in order of index. An empty range removes nothing.
     ///
-    /// Conditions: the hierarchy is valid, and the deallocator serves the frame of each table but the root and doesn't hold it.
+    /// Requires that the hierarchy is valid, and that the deallocator serves the frame of each table but the root and
+    /// doesn't hold it.
     final fn clean_up_addr_range<D: FrameDeallocator<Size4KiB>>(
         &mut self,
         range: PageRangeInclusive57<Size4KiB>,

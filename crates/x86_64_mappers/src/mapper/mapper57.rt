@@ -1,4 +1,4 @@
-//! Maps of pages of 57 bits.
+//! Maps pages of 57-bit virtual addresses.
 ghost use Rattle.std.specs.Prelude.{◌≡◌, ◌<◌, ℕ, true, IfOk};
 ghost use Rattle.x86_64_model.specs.Mapper.{Valid};
 ghost use Rattle.x86_64_tables.specs.PageTableFlags.{bits_of};
@@ -13,21 +13,23 @@ use x86_64_tables::mapper::{
 };
 use x86_64_tables::page_table::PageTableFlags;
 
-/// Maps and unmaps pages of a size of 57 bits, and changes the flags of the entries on their paths.
+/// Maps and unmaps pages of one size in the 57-bit address space, and changes the flags of the entries on their
+/// paths.
 ///
-/// It is [`Mapper`](super::Mapper) with one more level: a map takes at most four frames.
+/// This is [`Mapper`](super::Mapper) with one more level. A map takes at most four frames.
 ///
-/// The parents of a page are the entries on its path from the root down to the one above its own.
+/// The parents of a page are the entries on its path from the root down to the one above the page's own.
 pub trait Mapper57<S: PageSize>: TableAccess + PageTables57 {
     ghost use Rattle.x86_64_model.specs.Call.{MapTo, MapToWithTableFlags, IdentityMap, Unmap, UpdateFlags, SetFlags};
     ghost use Rattle.x86_64_model.specs.Entry.{present};
     ghost use Rattle.x86_64_model.specs.Mapper.{path_of, page_translation, allows, allows_map, May, MayMap, Does, DoesMap, ArrivesIn, named};
     ghost use Rattle.x86_64_tables.specs.MapperAnswers.{map_answer, unmap_answer, flags_answer, translate_answer};
 
-    /// Maps a page to a frame with these flags, as [`Mapper::map_to_with_table_flags`](super::Mapper::map_to_with_table_flags) does.
+    /// Maps a page to a frame with these flags, as
+    /// [`Mapper::map_to_with_table_flags`](super::Mapper::map_to_with_table_flags) does.
     ///
-    /// Conditions: the hierarchy is valid, the allocator's frames are as in a pool that fits it, and
-    /// [`map_allowed`](Self::map_allowed) holds.
+    /// Requires that the hierarchy is valid, that the allocator's frames are as in a pool that fits it, and that
+    /// [`map_allowed`](Self::map_allowed) returns true.
     ///
     /// # Errors
     ///
@@ -79,7 +81,7 @@ pub trait Mapper57<S: PageSize>: TableAccess + PageTables57 {
 
     /// Maps the page that starts at a frame's own address to the frame, as [`map_to`](Self::map_to) does.
     ///
-    /// Conditions: those of [`map_to`](Self::map_to) for this page. Every frame lies below 2^52, and so in the
+    /// Requires the conditions of [`map_to`](Self::map_to) for this page. Every frame is below 2^52, and so in the
     /// lower half of the address space.
     final fn identity_map<A: FrameAllocator<Size4KiB>>(
         &mut self,
@@ -102,10 +104,11 @@ pub trait Mapper57<S: PageSize>: TableAccess + PageTables57 {
         calls::identity_map(self, frame, flags, frame_allocator)
     }
 
-    /// Tells whether a page may be mapped with these flags and parent flags, as
-    /// [`Mapper::map_allowed`](super::Mapper::map_allowed) does. The page's index of level five isn't the recursive index.
+    /// Returns true if a page may be mapped with these flags and parent flags, as
+    /// [`Mapper::map_allowed`](super::Mapper::map_allowed) does. Here it is the page's index of level five that must
+    /// not be the recursive index.
     ///
-    /// Condition: the hierarchy is valid.
+    /// Requires that the hierarchy is valid.
     final fn map_allowed(
         &self,
         page: Page57<S>,
@@ -121,7 +124,7 @@ pub trait Mapper57<S: PageSize>: TableAccess + PageTables57 {
 
     /// Unmaps a page, and returns the frame that it was mapped to, as [`Mapper::unmap`](super::Mapper::unmap) does.
     ///
-    /// Conditions: the hierarchy is valid, and the page's index of level five isn't the recursive index.
+    /// Requires that the hierarchy is valid, and that the page's index of level five isn't the recursive index.
     ///
     /// # Errors
     ///
@@ -141,8 +144,8 @@ pub trait Mapper57<S: PageSize>: TableAccess + PageTables57 {
 
     /// Sets the flags of a page's own entry, as [`Mapper::update_flags`](super::Mapper::update_flags) does.
     ///
-    /// Conditions: the hierarchy is valid, the flags have no address bits, and the page's index of level five isn't the
-    /// recursive index.
+    /// Requires that the hierarchy is valid, that the flags have no address bits, and that the page's index of level
+    /// five isn't the recursive index.
     ///
     /// # Errors
     ///
@@ -162,14 +165,14 @@ pub trait Mapper57<S: PageSize>: TableAccess + PageTables57 {
         calls::update_flags(self, page, flags)
     }
 
-    /// Sets the flags of the entry of level five on a page's path, and keeps its address.
+    /// Sets the flags of the entry of level five on a page's path. The entry keeps its address.
     ///
-    /// Conditions: the hierarchy is valid, the flags have no address bits and no `HUGE_PAGE`, and the page's index of level five
-    /// isn't the recursive index.
+    /// Requires that the hierarchy is valid, that the flags have no address bits and no `HUGE_PAGE`, and that the
+    /// page's index of level five isn't the recursive index.
     ///
     /// # Errors
     ///
-    /// `PageNotMapped` where the entry is unused. A refusal changes nothing.
+    /// `PageNotMapped` if the entry is unused. A refused call changes nothing.
     final fn set_flags_p5_entry(
         &mut self,
         page: Page57<S>,
@@ -184,14 +187,14 @@ pub trait Mapper57<S: PageSize>: TableAccess + PageTables57 {
         calls::set_table_flags(self, page, 5, flags)
     }
 
-    /// Sets the flags of the entry of level four on a page's path, and keeps its address.
+    /// Sets the flags of the entry of level four on a page's path. The entry keeps its address.
     ///
-    /// Conditions: the hierarchy is valid, the flags have no address bits and no `HUGE_PAGE`, and the page's index of level five
-    /// isn't the recursive index.
+    /// Requires that the hierarchy is valid, that the flags have no address bits and no `HUGE_PAGE`, and that the
+    /// page's index of level five isn't the recursive index.
     ///
     /// # Errors
     ///
-    /// `PageNotMapped` where the parent lacks `PRESENT`, or the entry is unused. A refusal changes nothing.
+    /// `PageNotMapped` if the parent lacks `PRESENT`, or the entry is unused. A refused call changes nothing.
     final fn set_flags_p4_entry(
         &mut self,
         page: Page57<S>,
@@ -206,14 +209,16 @@ pub trait Mapper57<S: PageSize>: TableAccess + PageTables57 {
         calls::set_table_flags(self, page, 4, flags)
     }
 
-    /// Sets the flags of the entry of level three on a page's path, and keeps its address.
+    /// Sets the flags of the entry of level three on a page's path. The entry keeps its address.
     ///
-    /// Conditions: the hierarchy is valid, and [`p3_flags_allowed`](Self::p3_flags_allowed) holds.
+    /// Requires that the hierarchy is valid, and that [`p3_flags_allowed`](Self::p3_flags_allowed) returns true.
     ///
     /// # Errors
     ///
-    /// `ParentEntryHugePage` for a 1GiB page, whose own entry this is; else `PageNotMapped` where a parent lacks `PRESENT`,
-    /// or the entry is unused. A refusal changes nothing.
+    /// - `ParentEntryHugePage` for a 1GiB page, whose own entry this is.
+    /// - Otherwise `PageNotMapped` if a parent lacks `PRESENT`, or the entry is unused.
+    ///
+    /// A refused call changes nothing.
     final fn set_flags_p3_entry(
         &mut self,
         page: Page57<S>,
@@ -228,14 +233,18 @@ pub trait Mapper57<S: PageSize>: TableAccess + PageTables57 {
         calls::set_table_flags(self, page, 3, flags)
     }
 
-    /// Sets the flags of the entry of level two on a page's path, and keeps its address.
+    /// Sets the flags of the entry of level two on a page's path. The entry keeps its address.
     ///
-    /// Conditions: the hierarchy is valid, and [`p2_flags_allowed`](Self::p2_flags_allowed) holds.
+    /// Requires that the hierarchy is valid, and that [`p2_flags_allowed`](Self::p2_flags_allowed) returns true.
     ///
     /// # Errors
     ///
-    /// `ParentEntryHugePage` for a 2MiB or 1GiB page; else `PageNotMapped` or `ParentEntryHugePage` where a parent lacks
-    /// `PRESENT` or has `HUGE_PAGE`; else `PageNotMapped` where the entry is unused. A refusal changes nothing.
+    /// - `ParentEntryHugePage` for a 2MiB or 1GiB page.
+    /// - Otherwise `PageNotMapped` or `ParentEntryHugePage` if a parent lacks `PRESENT` or has `HUGE_PAGE`, as for
+    ///   [`unmap`](Self::unmap).
+    /// - Otherwise `PageNotMapped` if the entry is unused.
+    ///
+    /// A refused call changes nothing.
     final fn set_flags_p2_entry(
         &mut self,
         page: Page57<S>,
@@ -250,10 +259,11 @@ pub trait Mapper57<S: PageSize>: TableAccess + PageTables57 {
         calls::set_table_flags(self, page, 2, flags)
     }
 
-    /// Tells whether the flags of the entry of level three on a page's path may be set to these, as
-    /// [`Mapper::p3_flags_allowed`](super::Mapper::p3_flags_allowed) does. The page's index of level five isn't the recursive index.
+    /// Returns true if the flags of the entry of level three on a page's path may be set to these, as
+    /// [`Mapper::p3_flags_allowed`](super::Mapper::p3_flags_allowed) does. Here it is the page's index of level five
+    /// that must not be the recursive index.
     ///
-    /// Condition: the hierarchy is valid.
+    /// Requires that the hierarchy is valid.
     final fn p3_flags_allowed(&self, page: Page57<S>, flags: PageTableFlags) -> bool
         requires { Valid (Self.hierarchy self.now) }
         ensures { let h = Self.hierarchy self.now in
@@ -262,10 +272,11 @@ pub trait Mapper57<S: PageSize>: TableAccess + PageTables57 {
         calls::table_flags_allowed(self, page, 3, flags)
     }
 
-    /// Tells whether the flags of the entry of level two on a page's path may be set to these, as
-    /// [`Mapper::p2_flags_allowed`](super::Mapper::p2_flags_allowed) does. The page's index of level five isn't the recursive index.
+    /// Returns true if the flags of the entry of level two on a page's path may be set to these, as
+    /// [`Mapper::p2_flags_allowed`](super::Mapper::p2_flags_allowed) does. Here it is the page's index of level five
+    /// that must not be the recursive index.
     ///
-    /// Condition: the hierarchy is valid.
+    /// Requires that the hierarchy is valid.
     final fn p2_flags_allowed(&self, page: Page57<S>, flags: PageTableFlags) -> bool
         requires { Valid (Self.hierarchy self.now) }
         ensures { let h = Self.hierarchy self.now in
@@ -274,9 +285,10 @@ pub trait Mapper57<S: PageSize>: TableAccess + PageTables57 {
         calls::table_flags_allowed(self, page, 2, flags)
     }
 
-    /// Returns the frame that a page's entry names, as [`Mapper::translate_page`](super::Mapper::translate_page) does.
+    /// Returns the frame that a page's entry names, as [`Mapper::translate_page`](super::Mapper::translate_page)
+    /// does.
     ///
-    /// Condition: the hierarchy is valid.
+    /// Requires that the hierarchy is valid.
     ///
     /// # Errors
     ///

@@ -1,4 +1,4 @@
-//! Translations of addresses of 57 bits.
+//! Translates 57-bit virtual addresses.
 ghost use Rattle.std.specs.Prelude.{◌≡◌, Some, option_map};
 ghost use Rattle.x86_64_model.specs.Mapper.{Valid, walk, translation};
 ghost use Rattle.x86_64_model.specs.Translation.{address_of};
@@ -7,16 +7,16 @@ use crate::calls::{self, TableAccess};
 use x86_64_addr::addr::{PhysAddr, VirtAddr57};
 use x86_64_tables::mapper::{PageTables57, TranslateResult};
 
-/// Translates virtual addresses of 57 bits.
+/// Translates 57-bit virtual addresses.
 pub trait Translate57: TableAccess + PageTables57 {
     ghost use Rattle.x86_64_tables.specs.Translations.{translation_of, reaches};
 
-    /// Tells where an address is mapped to.
+    /// Returns what an address is mapped to.
     ///
-    /// It says what [`Translate::translate`](super::Translate::translate) does, with one more level: an entry of level five
+    /// This is [`Translate::translate`](super::Translate::translate) with one more level: an entry of level five
     /// needs `PRESENT` too.
     ///
-    /// Condition: the hierarchy is valid.
+    /// Requires that the hierarchy is valid.
     final fn translate(&self, addr: VirtAddr57) -> TranslateResult
         requires { Valid (Self.hierarchy self.now) }
         ensures answer { translation_of result ≡ Some (translation (Self.hierarchy self.now) addr) }
@@ -26,10 +26,10 @@ pub trait Translate57: TableAccess + PageTables57 {
         calls::translate(self, addr)
     }
 
-    /// Gives the physical address that an address is mapped to, `PRESENT` or not: the frame's start plus the offset. It is
-    /// `None` where [`translate`](Self::translate) answers no mapping.
+    /// Returns the physical address that an address is mapped to, `PRESENT` or not: the frame's start plus the
+    /// offset. Returns `None` if [`translate`](Self::translate) finds no mapping.
     ///
-    /// Condition: the hierarchy is valid.
+    /// Requires that the hierarchy is valid.
     final fn translate_addr(&self, addr: VirtAddr57) -> Option<PhysAddr>
         requires { Valid (Self.hierarchy self.now) }
         ensures { result ≡ address_of (translation (Self.hierarchy self.now) addr) }

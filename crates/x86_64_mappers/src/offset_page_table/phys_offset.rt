@@ -10,7 +10,8 @@ use x86_64_page::frame::PhysFrame;
 use x86_64_page::page::{PageSize, Size4KiB};
 use x86_64_tables::phys_memory::{FramePlace, PageTableFrameMapping};
 
-/// Finds each 4KiB frame at the address that is an offset plus the frame's own. Frames are covered if that sum is canonical.
+/// The frame mapping of a memory at an offset. A 4KiB frame lies at the virtual address that is the sum of the offset
+/// and of the frame's address, and is covered if that sum is canonical.
 #[derive(Clone, Copy)]
 pub struct PhysOffset<L: LevelCount> {
     offset: VirtAddrIn<L>,
@@ -27,14 +28,14 @@ impl<L: LevelCount> Model for PhysOffset<L> {
 }
 
 impl<L: LevelCount> PhysOffset<L> {
-    /// Makes the mapping of a memory that stands at an offset.
+    /// Creates the mapping of a memory at an offset.
     pub fn new(offset: VirtAddrIn<L>) -> PhysOffset<L>
         ensures { result ≡ offset }
     {
         PhysOffset { offset }
     }
 
-    /// Gives the offset.
+    /// Returns the offset.
     pub fn offset(&self) -> VirtAddrIn<L>
         ensures { result ≡ self.now }
     {
@@ -59,7 +60,7 @@ impl<L: LevelCount> PageTableFrameMapping for PhysOffset<L> {
     ghost is_mapping = { offset_is_mapping L.LEVELS };
 }
 
-/// Tells whether the address at an offset of the frame that starts at a number is canonical.
+/// Returns true if the sum of an offset and of the start of a frame is canonical.
 pub fn reaches<L: LevelCount>(phys_offset: VirtAddrIn<L>, start: u64) -> bool
     ensures { IsTrue result ↔ IsCanonical L.LEVELS (raw L.LEVELS phys_offset + start) }
 {
@@ -69,7 +70,8 @@ pub fn reaches<L: LevelCount>(phys_offset: VirtAddrIn<L>, start: u64) -> bool
     }
 }
 
-/// Tells whether the address at an offset of the frame of a place is canonical.
+/// Returns true if the sum of an offset and of the address of a place's frame is canonical. A place is the index of a
+/// table in memory.
 pub fn reaches_place<L: LevelCount>(phys_offset: VirtAddrIn<L>, place: FramePlace) -> bool
     ensures { IsTrue result ↔ IsCanonical L.LEVELS (raw L.LEVELS phys_offset + place * 4096) }
 {

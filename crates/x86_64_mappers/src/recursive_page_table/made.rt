@@ -1,4 +1,4 @@
-//! A recursive mapper is made of a memory, or the memory's loan ends.
+//! Creates a recursive mapper from a memory, or ends the loan of the memory.
 ghost use Rattle.std.specs.Prelude.{◌≡◌};
 ghost use Rattle.std.specs.Borrow.{sem};
 ghost use Rattle.x86_64_mappers.specs.RefusedMappers.{made_of, wrapped_of, RestsUnlessMade};
@@ -9,7 +9,7 @@ use x86_64_addr::index::PageTableIndex;
 use x86_64_tables::page_table::PageTableFlags;
 use x86_64_tables::phys_memory::Active;
 
-/// Makes a mapper, or ends the loan with no word changed.
+/// Creates a mapper, or ends the loan with no word changed.
 pub(super) fn made<'a, L>(
     active: Active<'a, L>,
     kept: bool,
@@ -23,7 +23,7 @@ pub(super) fn made<'a, L>(
     wrapped(active.kept_if(kept), index, self_flags, why)
 }
 
-/// Makes a mapper of what is kept, or says why not.
+/// Creates a mapper from the memory that is kept, or returns the reason why there is none.
 fn wrapped<'a, L>(
     kept: Option<Active<'a, L>>,
     index: PageTableIndex,

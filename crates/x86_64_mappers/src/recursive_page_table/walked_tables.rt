@@ -17,38 +17,39 @@ use x86_64_page::page::Size4KiB;
 use x86_64_tables::page_table::PageTable;
 use x86_64_tables::phys_memory::{Active, TableMemory};
 
-/// Reaches tables at virtual addresses alone, by walks through the tables as they are at that moment.
+/// Access to tables at virtual addresses alone, by page walks through the tables as they are at that moment.
 pub trait WalkedTables<L: LevelCount> {
-    /// The memory as it is, in which each frame lies at the place of its number.
+    /// The memory as it is. Each frame lies at the place of its number (a place is the index of a table in memory).
     ghost memory: { Self → Memory };
 
-    /// The frame at which walks start.
+    /// The frame at which page walks start.
     ghost root: { Self → ℕ };
 
-    /// Which memory was lent.
+    /// The type of the value that identifies the memory that was lent.
     ghost Lent: { Type 0 };
 
     ghost lent: { Self → Lent };
 
-    /// The same with another table in a frame.
+    /// `Self` with another table in a frame.
     ghost with_table: { Self → ℕ → List ℕ → Self };
 
-    /// Gives the frame at which walks start.
+    /// Returns the frame at which page walks start.
     fn cr3(&self) -> PhysFrame<Size4KiB>
         ensures { result ≡ Self.root self.now };
 
-    /// Tells whether the root's word at an index has `PRESENT`, lacks `HUGE_PAGE` and names the root.
+    /// Returns true if the root's word at an index has `PRESENT`, lacks `HUGE_PAGE` and names the root.
     fn self_entry(&self, index: PageTableIndex) -> bool
         ensures { let words = words_of (Self.memory self.now) identity_places in
             result ≡ has_self_entry words (Self.root self.now) index };
 
-    /// Gives the table where the walk of an address arrives.
+    /// Returns the table at which the page walk of a position arrives. A position is an address counted without the
+    /// gap between the halves.
     fn table(&self, position: u64) -> Option<&PageTable>
         requires { position < position_count L.LEVELS }
         ensures { let words = words_of (Self.memory self.now) identity_places in
             option_copied result ≡ walked_table L.LEVELS words (Self.root self.now) position };
 
-    /// Lends the table where the walk of an address arrives.
+    /// Lends the table at which the page walk of a position arrives.
     fn table_mut(&mut self, position: u64) -> Option<&mut PageTable>
         requires { position < position_count L.LEVELS }
         ensures* lends { let words = words_of (Self.memory self.old) identity_places in

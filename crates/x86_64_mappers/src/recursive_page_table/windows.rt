@@ -1,8 +1,8 @@
-//! Windows: the pages at which tables are reached, where an entry of the root names the root itself.
+//! Windows: the pages at which tables are reached if an entry of the root names the root itself.
 //!
-//! A walk that goes through that entry comes back to the root one level further down. So the indices of a window are the
-//! index of that entry, which is the recursive index, once for each level that the walk is to end early, and then the
-//! indices that lead to the table. The window of the root has the recursive index alone, once for each level.
+//! A page walk through that entry comes back to the root one level further down. So a window's indices begin with the
+//! index of that entry, the recursive index. It is repeated once for each level by which the walk is to end early.
+//! The indices that lead to the table follow. The root's window has only the recursive index, once per level.
 ghost use Rattle.std.specs.Prelude.{◌≡◌, ◌+◌, ◌++◌, ◌-◌, ◌%◌, ◌<◌, ◌≤◌, length, replicate};
 ghost use Rattle.x86_64_model.specs.Path.{path_at};
 ghost use Rattle.x86_64_model.specs.Position.{page_path, position_count};
@@ -14,10 +14,11 @@ use x86_64_addr::index::PageTableIndex;
 use x86_64_addr::level_count::LevelCount;
 use x86_64_page::page::{NotGiantPageSize, Page57, PageIn, PageSize, Size4KiB};
 
-/// An index times this is the index five times, nine bits each time: as often as the window with the most levels has it.
+/// An index times this number is the index five times in a row, with nine bits each. The window with the most levels
+/// has it five times.
 const FIVE_TIMES: u64 = 0x10_0804_0201;
 
-/// Returns the page at which the table of level three for a page is reached through a recursive index.
+/// Returns the window of the table of level three on the path of a page, which is reached through a recursive index.
 pub fn p3_window<S: PageSize, L: LevelCount>(
     page: PageIn<S, L>,
     index: PageTableIndex,
@@ -28,7 +29,7 @@ pub fn p3_window<S: PageSize, L: LevelCount>(
     table_window(page, index, 3)
 }
 
-/// Returns the page at which the table of level two for a page is reached through a recursive index.
+/// Returns the window of the table of level two on the path of a page, which is reached through a recursive index.
 pub fn p2_window<S: NotGiantPageSize, L: LevelCount>(
     page: PageIn<S, L>,
     index: PageTableIndex,
@@ -39,7 +40,7 @@ pub fn p2_window<S: NotGiantPageSize, L: LevelCount>(
     table_window(page, index, 2)
 }
 
-/// Returns the page at which the table of level one for a page is reached through a recursive index.
+/// Returns the window of the table of level one on the path of a page, which is reached through a recursive index.
 pub fn p1_window<L: LevelCount>(
     page: PageIn<Size4KiB, L>,
     index: PageTableIndex,
@@ -50,7 +51,8 @@ pub fn p1_window<L: LevelCount>(
     table_window(page, index, 1)
 }
 
-/// Returns the page at which the table of level four for a page of 57 bits is reached through a recursive index.
+/// Returns the window of the table of level four on the path of a page with five levels of page tables, which is
+/// reached through a recursive index.
 pub fn p4_window_57<S: PageSize>(page: Page57<S>, index: PageTableIndex) -> Page57<Size4KiB>
     ensures path { page_path 5 result ≡ replicate 4 index ++ path_at 5 5 page }
     ensures table { ShowsTable 5 index (path_at 5 5 page) result }
@@ -58,7 +60,8 @@ pub fn p4_window_57<S: PageSize>(page: Page57<S>, index: PageTableIndex) -> Page
     table_window(page, index, 4)
 }
 
-/// Returns the page at which the table of a level below the root's, on the way to a page, is reached through a recursive index.
+/// Returns the window of the table of a level below the root's on the path of a page, which is reached through a
+/// recursive index.
 fn table_window<S: PageSize, L: LevelCount>(
     page: PageIn<S, L>,
     index: PageTableIndex,
@@ -72,7 +75,7 @@ fn table_window<S: PageSize, L: LevelCount>(
     PageIn::containing_address(window(index, path.indices()))
 }
 
-/// Gives the address at which the table that a path leads to is reached.
+/// Returns the address of the window of the table that a path leads to.
 pub(super) fn window<L: LevelCount>(index: PageTableIndex, path: &[PageTableIndex]) -> VirtAddrIn<L>
     requires { length path.now < L.LEVELS }
     ensures path { let times = L.LEVELS - length path.now in
@@ -83,7 +86,7 @@ pub(super) fn window<L: LevelCount>(index: PageTableIndex, path: &[PageTableInde
     VirtAddrIn::new_truncate(window_position::<L>(index, path))
 }
 
-/// Gives the position of the same.
+/// Returns the window's position. A position is an address counted without the gap between the halves.
 pub(super) fn window_position<L: LevelCount>(index: PageTableIndex, path: &[PageTableIndex]) -> u64
     requires { length path.now < L.LEVELS }
     ensures path { let times = L.LEVELS - length path.now in
@@ -91,7 +94,7 @@ pub(super) fn window_position<L: LevelCount>(index: PageTableIndex, path: &[Page
     ensures aligned { result % 4096 ≡ 0 }
     ensures inside { result < position_count L.LEVELS }
 {
-    // Higher bits than those of a position don't count. So the index may be there more often than it is needed.
+    // Bits above those of a position are dropped, so the index may be repeated more often than needed.
     let mut number = u64::from(index) * FIVE_TIMES;
     for index in path {
         number = number.wrapping_mul(512).wrapping_add(u64::from(*index));

@@ -1,4 +1,4 @@
--- Where a listing of mappings goes on: at a position, with the entries of a table from the one of the position on.
+-- Where a listing of mappings continues: at a position, with the entries of a table from the one that spans the position on.
 use Rattle.std.specs.Prelude.{◌≡◌, ℕ, ◌+◌, ◌-◌, ◌*◌, ◌/◌, ◌<◌, ◌≤◌, ◌==◌, ◌&&◌, Bool, false, cond, List, [], ◌∷◌, length, get_or, Option, Some, None}
 use Rattle.x86_64_model.specs.Entry.{present, huge, address}
 use Rattle.x86_64_model.specs.Memory.{Words}
@@ -8,14 +8,14 @@ use Rattle.x86_64_model.specs.private.Found.{narrowed, page_at, found_on, found}
 use Rattle.x86_64_mappings.specs.Views.{seen_rights}
 use Rattle.x86_64_mappings.specs.declared.listing.cursor.Cursor.{Cursor}
 
--- what is found at a position of the span of an entry of a level, below words with rights r
+-- the mapping found at a position in the span of an entry of a level, below words with rights r
 abbrev pub found_by : Words → (position level : ℕ) → Rights → (entry : ℕ) → Option Mapping
 found_by T x level r e = cond (present e)
     (cond (maps_page level e) (Some (page_at x level r e)) (cond (huge e) None (found_on T x (level - 1) (narrowed r e) (address e))))
     None
 
--- The entries of a level that are left from the one on that spans a position: what is found from there on in the span of each is what it
--- leads to. There may be none of them.
+-- The remaining entries of a level, from the one that spans a position on: from this position on, what is found in the span
+-- of each is what the entry leads to. There may be no entries.
 pub record IsOn (L : ℕ) (T : Words) (root next level : ℕ) (r : Rights) (rest : List ℕ) : Type 0 where
   pub low : 1 ≤ level
   pub high : level ≤ L
@@ -33,22 +33,22 @@ listed_from L T root next = mappings_from next (mappings_of L T root)
 abbrev pub to_come : (L : ℕ) → Words → (root : ℕ) → Cursor → List Mapping
 to_come L T root c = listed_from L T root c.next
 
--- whether the first of the entries left is one of level one that maps a page
+-- whether the first remaining entry is of level one and maps a page
 abbrev pub small_page_first : (level : ℕ) (rest : List ℕ) → Bool
 small_page_first level [] = false
 small_page_first level (e ∷ rest) = (level == 1) && present e
 
--- the first of the entries left maps a page, or all positions are behind
+-- whether the first remaining entry maps a page, or no entry remains and all positions are past
 abbrev pub is_there : (L next level : ℕ) (rest : List ℕ) → Bool
 is_there L next level [] = next == position_count L
 is_there L next level (e ∷ rest) = present e && maps_page level e
 
--- how far it is to the end, at most
+-- a bound on the steps to the end
 abbrev pub way_left : (L next level : ℕ) (rest : List ℕ) → ℕ
 way_left L next level [] = (position_count L - next) * 8 + 7
 way_left L next level (e ∷ rest) = (position_count L - next) * 8 + level
 
--- one step of a listing from a cursor to another
+-- one step of a listing, from one cursor to another
 pub record IsStep (L : ℕ) (T : Words) (root : ℕ) (from to : Cursor) : Type 0 where
   pub on : IsCursor L T root to
   pub same : to_come L T root from ≡ to_come L T root to

@@ -1,4 +1,4 @@
-//! Where a listing of mappings goes on, and how it comes to the next mapping.
+//! The cursor of a listing of mappings, and how it moves to the next mapping.
 ghost use Rattle.std.specs.Prelude.{◌≡◌, ◌<◌, ◌≤◌, ◌+◌, ◌*◌, ◌/◌, ◌==◌, ◌||◌, true, false, cond, ℕ, None, [], length, drop, slice_index};
 ghost use Rattle.std.specs.Option.{option_copied};
 ghost use Rattle.x86_64_model.specs.Entry.{present, huge, address};
@@ -15,7 +15,8 @@ use x86_64_tables::phys_memory::{
     PageTableFrameMapping, Rights, TableMemory, has_flag, index_of, table_in,
 };
 
-/// Says where a listing goes on: at a position, with the entries of a table that are left from the one on that spans the position.
+/// Where a listing continues: at a position (the number of an address counted without the gap), with the remaining entries
+/// of a table, from the one that spans the position on.
 #[derive(Clone, Copy)]
 pub(super) struct Cursor<'a> {
     /// The position.
@@ -24,12 +25,12 @@ pub(super) struct Cursor<'a> {
     pub(super) level: u64,
     /// What the entries above the table allow.
     pub(super) rights: Rights,
-    /// The entries.
+    /// The remaining entries.
     pub(super) rest: &'a [PageTableEntry],
 }
 
 impl<'a> Cursor<'a> {
-    /// Starts at a position, before any table.
+    /// Creates a cursor at a position, before any table.
     pub(super) fn at(next: u64) -> Cursor<'a>
         ensures next { result.next ≡ next }
         ensures level { result.level ≡ 1 }
@@ -43,7 +44,7 @@ impl<'a> Cursor<'a> {
         }
     }
 
-    /// Goes on in a table of a level, with what the entries above allow.
+    /// Creates a cursor at a position in a table of a level, with what the entries above allow.
     fn on(table: &'a PageTable, level: u64, next: u64, rights: Rights) -> Cursor<'a>
         requires low { 1 ≤ level }
         requires high { level ≤ 5 }
@@ -62,7 +63,7 @@ impl<'a> Cursor<'a> {
         }
     }
 
-    /// Goes past so many entries.
+    /// Moves past `count` entries.
     pub(super) fn past(self, count: usize) -> Cursor<'a>
         requires low { 1 ≤ self.level }
         requires high { self.level ≤ 5 }
@@ -84,7 +85,7 @@ impl<'a> Cursor<'a> {
         }
     }
 
-    /// Tells whether the first of the entries left is one of level one that maps a page.
+    /// Returns true if the first remaining entry is of level one and maps a page.
     pub(super) fn is_at_small_page(self) -> bool
         ensures { result ≡ cursors.small_page_first self.entry.level self.entry.rest.now }
     {
@@ -94,7 +95,7 @@ impl<'a> Cursor<'a> {
         }
     }
 
-    /// Tells whether the first of the entries left maps a page, or all positions are behind.
+    /// Returns true if the first remaining entry maps a page, or no entry remains and all positions are past.
     fn is_there<L: LevelCount>(self) -> bool
         ensures { let c = self.entry in
             result ≡ cursors.is_there L.LEVELS c.next c.level c.rest.now }
@@ -106,7 +107,7 @@ impl<'a> Cursor<'a> {
     }
 }
 
-/// Goes on to the next entry that maps a page, or to the end.
+/// Moves to the next entry that maps a page, or to the end.
 #[cold]
 #[inline(never)]
 pub(super) fn find_page<'a, L: LevelCount, T: TableMemory, P: PageTableFrameMapping>(
@@ -129,7 +130,7 @@ pub(super) fn find_page<'a, L: LevelCount, T: TableMemory, P: PageTableFrameMapp
     }
 }
 
-/// Goes on by one step: to the first table, past entries that map nothing, or down to a table.
+/// Moves by one step: into the root's table, past entries that map nothing, or down to a table.
 fn step<'a, L: LevelCount, T: TableMemory, P: PageTableFrameMapping>(
     memory: &'a T,
     mapping: &P,
@@ -158,7 +159,7 @@ fn step<'a, L: LevelCount, T: TableMemory, P: PageTableFrameMapping>(
     }
 }
 
-/// Starts in the root's table at a position, or ends where the root has no table in the memory.
+/// Moves into the root's table at a position, or to the end if the root has no table in the memory.
 fn start<'a, L: LevelCount, T: TableMemory, P: PageTableFrameMapping>(
     memory: &'a T,
     mapping: &P,
@@ -179,7 +180,7 @@ fn start<'a, L: LevelCount, T: TableMemory, P: PageTableFrameMapping>(
     }
 }
 
-/// Counts the entries before the first that has `PRESENT`.
+/// Returns the number of entries before the first that has `PRESENT`.
 fn count_absent(entries: &[PageTableEntry]) -> usize
     ensures within { result ≤ length entries.now }
     ensures before { (k : ℕ) → k < result → present (slice_index entries.now k) ≡ false }
@@ -193,8 +194,8 @@ fn count_absent(entries: &[PageTableEntry]) -> usize
     entries.len()
 }
 
-/// Gives the table that an entry of a level leads to, or `None` where it is of level one or has `HUGE_PAGE`, or where its frame has no
-/// table in the memory.
+/// Returns the table that an entry of a level leads to, or `None` if the entry is of level one or has `HUGE_PAGE`, or if its
+/// frame has no table in the memory.
 #[tactic(auto, using(x86_64_model::proofs::Lemmas::Entries::Words::address_aligned))]
 fn table_below<'a, T: TableMemory, P: PageTableFrameMapping>(
     memory: &'a T,
@@ -215,16 +216,16 @@ fn table_below<'a, T: TableMemory, P: PageTableFrameMapping>(
     )
 }
 
-/// Tells whether an entry of a level maps a page, if it has `PRESENT`.
+/// Returns true if an entry of a level maps a page, provided that it has `PRESENT`.
 pub fn maps_page(level: u64, entry: &PageTableEntry) -> bool
     ensures { result ≡ page_mapped level entry.now }
 {
     level == 1 || (has_flag(entry, PageTableFlags::HUGE_PAGE) && (level == 2 || level == 3))
 }
 
-/// Gives how many positions an entry of a level spans.
+/// Returns the number of positions that an entry of a level spans.
 ///
-/// Condition: the level is from one to five.
+/// Requires that the level is from one to five.
 pub fn span(level: u64) -> u64
     requires low { 1 ≤ level }
     requires high { level ≤ 5 }

@@ -10,17 +10,18 @@ use Rattle.x86_64_model.specs.CleanUp.{clean_up}
 use Rattle.x86_64_model.specs.Pool.{TakesBack, given_back}
 use Rattle.x86_64_model.specs.Conserved.{Conserves}
 
--- a clean up conserves frames, wherever the pool puts those that come back
+-- A clean up conserves frames, wherever the pool puts those that return.
 abbrev pub CleanUpConserves : Type 0
 CleanUpConserves = (L : ℕ) (T : Words) (root : ℕ) (M : PathMap) → Holds L T root M → (take_back : List ℕ → ℕ → List ℕ) → TakesBack take_back → (low high : ℕ) (pool : List ℕ)
     → Conserves L root M pool (clean_up L M low high).paths (given_back take_back pool (clean_up L M low high).back)
 
--- and changes no answer of `translate` outside the window
+-- A clean up changes no answer of `translate` outside the recursive window. A position is the number of an address counted
+-- without the gap.
 abbrev pub CleanUpKeepsAnswers : Type 0
 CleanUpKeepsAnswers = (L : ℕ) (window : Option Window) (T : Words) (root : ℕ) (M : PathMap) → IsValidFor L window T root M → (low high p : ℕ)
     → begins_with window (page_path L p) ≡ false → translate L (entry_at window (clean_up L M low high).paths) p ≡ translate L (entry_at window M) p
 
--- done twice it is done once
+-- A second clean up of the same positions changes nothing and frees nothing.
 abbrev pub CleanUpsOnce : Type 0
 CleanUpsOnce = (L : ℕ) (window : Option Window) (T : Words) (root : ℕ) (M : PathMap) → IsValidFor L window T root M → (low high : ℕ)
     → clean_up L (clean_up L M low high).paths low high ≡ record { paths = (clean_up L M low high).paths; back = [] }

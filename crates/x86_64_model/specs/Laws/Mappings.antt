@@ -1,4 +1,5 @@
--- Laws of mappings and regions. The words are any, but for the last two laws, which speak of valid hierarchies.
+-- Laws of mappings and regions. The words are arbitrary, except in the last two laws, which are about valid hierarchies.
+-- A position is the number of an address counted without the gap of the address space.
 use Rattle.std.specs.Prelude.{◌≡◌, ◌≢◌, ◌⊎◌, ℕ, ◌+◌, ◌-◌, ◌<◌, ◌≤◌, true, false, List, [], ◌∷◌, ◌++◌, map, Option, Some, option_map}
 use Rattle.std.specs.List.{find, AllByRecursion}
 use Rattle.x86_64_model.specs.Lists.{In}
@@ -12,28 +13,29 @@ use Rattle.x86_64_model.specs.Translation.{translate, Mapped}
 use Rattle.x86_64_model.specs.Mappings.{Mapping, has_position, leaf_of, mapping_at, mappings_of, words_along}
 use Rattle.x86_64_model.specs.Regions.{is_within, regions_of}
 
--- each element stands so to each one behind it
+-- Each element is related so to each later one.
 abbrev pub InOrder : {X : Type 0} → (X → X → Type 0) → List X → Type 0
 InOrder R [] = Unit {0}
 InOrder R (x ∷ xs) = AllByRecursion (R x) xs × InOrder R xs
 
 -- ---- mappings
 
--- starts rise, and spans are apart
+-- Mappings are listed by ascending start, and their spans are apart.
 abbrev pub MappingsAreApart : Type 0
 MappingsAreApart = (L : ℕ) (T : Words) (root : ℕ) → InOrder (λ m n. (m.start < n.start) × (m.start + m.size ≤ n.start)) (mappings_of L T root)
 
--- where a walk arrives that comes to a position of the mapping
+-- The arrival of a walk at a position of the mapping.
 abbrev pub arrival_in : (position : ℕ) → Mapping → Walked
 arrival_in p m = record { address = m.frame + (p - m.start); write = m.rights.write; user = m.rights.user }
 
--- The page walk arrives exactly if a mapping has the position, which is one alone since they are apart: at the mapping's frame plus the
--- offset, with its rights.
+-- The page walk arrives if and only if a mapping has the position, at the mapping's frame plus the offset, with its rights. Only
+-- one mapping can have it, since they are apart.
 abbrev pub WalksArriveInMappings : Type 0
 WalksArriveInMappings = (L : ℕ) (T : Words) (root p : ℕ) → p < position_count L
     → page_walk L T root p ≡ option_map (arrival_in p) (find (has_position p) (mappings_of L T root))
 
--- the words of the walk to each position of a mapping are those of its leaf; so it tells what each of them allows, execution too
+-- The words of the walk to each position of a mapping are those of its leaf. So the mapping has the rights of each of these
+-- walks, execution too.
 pub record IsSaidBy (L : ℕ) (T : Words) (root p : ℕ) (m : Mapping) (level : ℕ) (words : List ℕ) : Type 0 where
   pub low : 1 ≤ level
   pub high : level ≤ 3
@@ -47,35 +49,37 @@ WordsOfWalksSayMappings = (L : ℕ) (T : Words) (root : ℕ) (m : Mapping) → I
 
 -- ---- regions
 
--- Regions are apart, in order. Where one starts just where another ended, that is the middle of the address space, or their rights differ.
+-- Regions are apart, in order. If one starts just after another ends, that is the middle of the address space, or their rights
+-- differ.
 abbrev pub RegionsAreApart : Type 0
 RegionsAreApart = (L : ℕ) (T : Words) (root : ℕ) → InOrder
     (λ r s. (r.last < s.first) × (s.first ≡ r.last + 1 → (s.first ≡ lower_half L) ⊎ (r.rights ≢ s.rights)))
     (regions_of L T root)
 
--- each lies in one half of the address space
+-- Each region lies in one half of the address space.
 abbrev pub RegionsLieInHalves : Type 0
 RegionsLieInHalves = (L : ℕ) (T : Words) (root : ℕ)
     → AllByRecursion (λ r. (r.last < lower_half L) ⊎ (lower_half L ≤ r.first)) (regions_of L T root)
 
--- A region has a position, with some rights, exactly if a mapping has it, with these rights. So just one region does where the walk arrives.
+-- A region has a position, with some rights, if and only if a mapping has it, with these rights. So exactly one region has a
+-- position where the walk arrives.
 abbrev pub RegionsHoldMappings : Type 0
 RegionsHoldMappings = (L : ℕ) (T : Words) (root p : ℕ)
     → option_map (λ r. r.rights) (find (is_within p) (regions_of L T root)) ≡ option_map (λ m. m.rights) (find (has_position p) (mappings_of L T root))
 
 -- ---- valid hierarchies
 
--- the entries at the front parts of a path and at the path itself
+-- The entries at the parents of a path and at the path itself.
 abbrev pub entries_along : PathMap → (path : List ℕ) → List ℕ
 entries_along M q = map (entry M) (parents q ++ q ∷ [])
 
--- outside the window the mappings are the leaves of the path map
+-- Outside the recursive window the mappings are the leaves of the path map.
 abbrev pub MappingsAreLeaves : Type 0
 MappingsAreLeaves = (L : ℕ) (T : Words) (root : ℕ) (M : PathMap) (window : Option Window) → IsValidFor L window T root M
     → (q : List ℕ) → q ≢ [] → AllBelow q → begins_with window q ≡ false
     → mapping_at L T root q ≡ leaf_of L q (entries_along M q)
 
--- `translate` names the mapping of each position that has one, in the window too
+-- `translate` names the mapping of each position that has one, also in the window.
 abbrev pub TranslateNamesMappings : Type 0
 TranslateNamesMappings = (L : ℕ) (T : Words) (root : ℕ) (M : PathMap) (window : Option Window) → IsValidFor L window T root M
     → (m : Mapping) → In (mappings_of L T root) m → (p : ℕ) → has_position p m ≡ true

@@ -16,25 +16,27 @@ use Rattle.x86_64_model.specs.private.WalkDown.{walk_down}
 use Rattle.x86_64_model.specs.Conserved.{IsFrame, Conserves, Takes}
 use Rattle.x86_64_model.specs.Arrivals.{Arrives, Asks}
 
--- the walk down the parents, one at a time, comes to the rule at once
+-- Walking down the parents, one at a time, has the outcome of the rule.
 abbrev pub WalkedDown : Type 0
 WalkedDown = (L : ℕ) (T : Words) (root : ℕ) (M : PathMap) → Holds L T root M → (supply : List ℕ) (more added : ℕ) (q : List ℕ) (e frame : ℕ)
     → walk_down more added q e frame M supply (parents q) ≡ map_rule M supply more added (parents q) q e frame
 
 -- ---- walks after a map
 
--- the words T hold the hierarchy before a map call, and U what its rule makes of it
+-- The words T hold the hierarchy before a map call, and the words U hold what its rule leaves.
 pub record IsMapOf (L : ℕ) (window : Option Window) (T U : Words) (root : ℕ) (M : PathMap) (supply : List ℕ) (more added : ℕ) (q : List ℕ) (frame given : ℕ) : Type 0 where
   pub before : IsValidFor L window T root M
   pub after : IsValidFor L window U root (map_call L M supply more added q frame given).paths
 
--- whatever a map call answers, where the walk arrived it still arrives, with no right lost and none gained that the parent flags lack
+-- Whatever a map call answers, each walk that arrived still arrives at the same address, loses no right, and gains only rights
+-- that the parent flags grant.
 abbrev pub MapKeepsWalks : Type 0
 MapKeepsWalks = (L : ℕ) (window : Option Window) (T U : Words) (root : ℕ) (M : PathMap) (supply : List ℕ) (more added : ℕ) (q : List ℕ) (frame given : ℕ)
     → IsParentFlags more → IsMapOf L window T U root M supply more added q frame given
     → (p : ℕ) → Arrives more (page_walk L T root p) (page_walk L U root p)
 
--- a `map_to` with PRESENT of a page outside the window, from a supply of frames, was accepted
+-- A `map_to` with PRESENT of a page outside the recursive window, from a supply of frames (those to hand out, in order), was
+-- accepted.
 pub record IsAccepted (L level : ℕ) (window : Option Window) (T U : Words) (root : ℕ) (M : PathMap) (supply : List ℕ) (added : ℕ) (q : List ℕ) (frame given : ℕ) : Type 0 where
   pub asks : Asks L level q frame given
   pub adds : IsParentFlags added
@@ -43,13 +45,14 @@ pub record IsAccepted (L level : ℕ) (window : Option Window) (T U : Words) (ro
   pub words : IsMapOf L window T U root M supply (parent_part given) added q frame given
   pub answer : (map_call L M supply (parent_part given) added q frame given).answer ≡ Done frame
 
--- then the walk of each position of the page arrives at the frame's start plus the offset, with just the rights that were asked for
+-- After it, the walk at each position of the page (the number of an address counted without the gap) arrives at the frame's start
+-- plus the offset, with exactly the requested rights.
 abbrev pub MapArrives : Type 0
 MapArrives = (L level : ℕ) (window : Option Window) (T U : Words) (root : ℕ) (M : PathMap) (supply : List ℕ) (added : ℕ) (q : List ℕ) (frame given : ℕ)
     → IsAccepted L level window T U root M supply added q frame given → (p : ℕ) → take (length q) (page_path L p) ≡ q
     → page_walk L U root p ≡ Some (record { address = frame + p % span level; write = writable given; user = user given })
 
--- the same by addresses: of the page that starts at a multiple of its size, each offset
+-- `MapArrives` by offsets: it covers each offset in a page that starts at a multiple of its size.
 abbrev pub MapArrivesInPage : Type 0
 MapArrivesInPage = (L level : ℕ) (window : Option Window) (T U : Words) (root : ℕ) (M : PathMap) (supply : List ℕ) (added n frame given : ℕ)
     → let page = n * span level in IsAccepted L level window T U root M supply added (path_at L level page) frame given
@@ -58,21 +61,21 @@ MapArrivesInPage = (L level : ℕ) (window : Option Window) (T U : Words) (root 
 
 -- ---- frames
 
--- a map call conserves frames
+-- A map call conserves frames.
 abbrev pub MapConserves : Type 0
 MapConserves = (L : ℕ) (T : Words) (root : ℕ) (M : PathMap) (supply : List ℕ) (more added i : ℕ) (q : List ℕ) (frame given : ℕ)
     → IsParentFlags more → IsParentFlags added → AllByRecursion IsFrame supply → length (i ∷ q) ≤ L → Holds L T root M
     → Conserves L root M supply (map_call L M supply more added (i ∷ q) frame given).paths (map_call L M supply more added (i ∷ q) frame given).supply
 
--- and takes the first frames of the supply, at most one for each level above the page's: three with four levels
+-- A map call takes the first frames of the supply, at most one for each level above the first: three with four levels.
 abbrev pub MapTakesFew : Type 0
 MapTakesFew = (L : ℕ) (T : Words) (root : ℕ) (M : PathMap) (supply : List ℕ) (more added : ℕ) (q : List ℕ) (frame given : ℕ) → length q ≤ L → Holds L T root M
     → Takes supply (map_call L M supply more added q frame given).supply (L - 1)
 
 -- ---- a refused map
 
--- what a refused map leaves: used entries keep their addresses, their flags only grow, by the parent flags, and on the page's path alone,
--- and what is used below a table that is new is one of the page's parents
+-- A refused map keeps the addresses of used entries. Their flags only grow, by the parent flags, and only on the page's path.
+-- Entries that are used below a new table are parents of the page.
 pub record LeftByRefused (more : ℕ) (M N : PathMap) (q : List ℕ) : Type 0 where
   pub same_addresses : (r : List ℕ) → used (entry M r) ≡ true → address (entry N r) ≡ address (entry M r)
   pub flags_kept : (r : List ℕ) (flag : ℕ) → used (entry M r) ≡ true → has (entry M r) flag ≡ true → has (entry N r) flag ≡ true

@@ -1,4 +1,4 @@
--- Laws of pages that are mapped one after the other.
+-- Laws of pages that are mapped one after another.
 use Rattle.std.specs.Prelude.{◌≡◌, ◌<◌, ◌≤◌, ◌%◌, ℕ, Bool, true, false, List, [], ◌∷◌, None, length, map}
 use Rattle.std.specs.List.{AllByRecursion}
 use Rattle.x86_64_model.specs.Allowed.{allowed}
@@ -17,7 +17,8 @@ use Rattle.x86_64_model.specs.Position.{span, position_count}
 use Rattle.x86_64_model.specs.Refusal.{Done}
 use Rattle.x86_64_model.specs.Standing.{StandsAt}
 
--- the page starts at a position that is a multiple of its size, may be mapped with PRESENT, and is not mapped
+-- The page starts at a position (the number of an address counted without the gap) that is a multiple of its size, may be mapped
+-- with PRESENT, and isn't mapped.
 pub record IsMappable (m : Machine) (paths : PathMap) (x : PageMapping) : Type 0 where
   pub low : 1 ≤ x.level
   pub high : x.level ≤ 3
@@ -28,12 +29,12 @@ pub record IsMappable (m : Machine) (paths : PathMap) (x : PageMapping) : Type 0
   pub unmapped : IsUnmapped paths (entry_path m.levels x)
   pub allowed : allowed m.levels m.window paths (map_call_of m.levels x) ≡ true
 
--- each parent of the page that has no entry is among these paths
+-- Each parent of the page that has no entry is among these paths.
 abbrev pub HasMissing : (L : ℕ) → PathMap → (tables : List (List ℕ)) → PageMapping → Type 0
 HasMissing L paths tables x = AllByRecursion (λ p. used (entry paths p) ≡ false → In tables p) (parents (entry_path L x))
 
--- Pages that may be mapped with PRESENT, none of which is mapped, and which lie apart from each other, are all mapped if the pool has a frame
--- for each table that is missing on their ways.
+-- Unmapped pages that may be mapped with PRESENT and lie apart from each other are all mapped, if the pool has a frame for each
+-- table that is missing on their paths.
 abbrev pub MappingsSucceed : Type 0
 MappingsSucceed = (m : Machine) → IsMachine m → (T : Words) (root : ℕ) (serves : ℕ → Bool) (s : State) → FitsState m T root serves s
     → (xs : List PageMapping) → AllByRecursion (IsMappable m s.paths) xs → EachApart xs
@@ -42,11 +43,11 @@ MappingsSucceed = (m : Machine) → IsMachine m → (T : Words) (root : ℕ) (se
 
 -- ---- pages that stand
 
--- what the page's `map_to` asks for: flags with PRESENT, and a frame of the page's size
+-- The request of the page's `map_to`: flags with PRESENT, and a frame of the page's size.
 abbrev pub AsksFor : (L : ℕ) → PageMapping → Type 0
 AsksFor L x = Asks L x.level (entry_path L x) x.frame x.flags
 
--- After pages that are all mapped with PRESENT each of them stands, and so does each that stood before.
+-- After pages are all mapped with PRESENT, each of them stands, and so does each page that stood before.
 abbrev pub MappingsStand : Type 0
 MappingsStand = (m : Machine) → IsMachine m → (T : Words) (root : ℕ) (serves : ℕ → Bool) (s : State) → FitsState m T root serves s
     → (xs : List PageMapping) → AllByRecursion (AsksFor m.levels) xs → replies_of m s (map_calls m.levels xs) ≡ map accepted xs
@@ -62,14 +63,14 @@ four_levels = record { levels = 4; window = None; added_flags = 0; take_back = �
 abbrev pub nothing_yet : State
 nothing_yet = record { paths = nothing_mapped; pool = four_frames }
 
--- a 4KiB page and a 2MiB page
+-- A 4KiB page and a 2MiB page.
 abbrev pub two_pages : List PageMapping
 two_pages = record { level = 1; page = 0x1000; frame = 0x6000; flags = 3 } ∷ record { level = 2; page = 0x20_0000; frame = 0x40_0000; flags = 1 } ∷ []
 
 abbrev pub their_tables : List (List ℕ)
 their_tables = (0 ∷ []) ∷ (0 ∷ 0 ∷ []) ∷ (0 ∷ 0 ∷ 0 ∷ []) ∷ []
 
--- they meet the premises of the laws, and are mapped
+-- The two pages meet the premises of the laws, and are mapped.
 pub record TwoPagesMapped : Type 0 where
   pub machine : IsMachine four_levels
   pub fits : (T : Words) × FitsState four_levels T 0x1000 (λ f. true) nothing_yet

@@ -1,4 +1,4 @@
--- The law of two machines whose path maps are alike.
+-- The law of two machines with path maps that are alike.
 use Rattle.std.specs.Prelude.{◌≡◌, ◌⊎◌, ℕ, Bool, false, List}
 use Rattle.std.specs.List.{AllByRecursion}
 use Rattle.x86_64_model.specs.Entry.{IsParentFlags}
@@ -11,7 +11,7 @@ use Rattle.x86_64_model.specs.Machine.{Machine, State, replies_of, state_after}
 use Rattle.x86_64_model.specs.Alike.{without_writable, Alike, names_index}
 use Rattle.x86_64_model.specs.Laws.Steps.{FitsState, AllCalls}
 
--- added flags: none, or PRESENT, and WRITABLE or not
+-- Added flags: none or PRESENT, with or without WRITABLE.
 pub record IsAdded (added : ℕ) : Type 0 where
   pub adds : IsParentFlags added
   pub few : (without_writable added ≡ 0) ⊎ (without_writable added ≡ 1)
@@ -24,8 +24,8 @@ pub record AlikeRuns (L : ℕ) (s t : State) (one other : List Reply) : Type 0 w
   pub pools : s.pool ≡ t.pool
   pub replies : one ≡ other
 
--- Two machines of the same levels, whose path maps are alike and whose pools are equal, give one list of replies and end alike with equal pools,
--- if no call names a recursive index of either.
+-- Take two machines of the same levels and the same `take_back`, with path maps that are alike and with equal pools. They give
+-- the same replies to calls that name no recursive index of either, and end with path maps that are alike and with equal pools.
 abbrev pub PairsReplyAlike : Type 0
 PairsReplyAlike = (m n : Machine) → m.levels ≡ n.levels → m.take_back ≡ n.take_back → TakesBack m.take_back → IsAdded m.added_flags → IsAdded n.added_flags
     → (T U : Words) (root root' : ℕ) (serves serves' : ℕ → Bool)

@@ -3,10 +3,10 @@ use Rattle.std.specs.Prelude.{◌≡◌, ◌↔◌, ◌<◌, ◌≤◌, ◌+◌,
 use Rattle.x86_64_model.specs.Lists.{In}
 use Rattle.x86_64_model.specs.Range.{exclusive_range, inclusive_range}
 
--- the list of an exclusive range, from a to b sizes from its start, has each start below the end, and nothing else
+-- The list of an exclusive range, a number of steps long, has the starts below its end, and nothing else.
 abbrev pub ExclusiveHas : Type 0
 ExclusiveHas = (size start steps x : ℕ) → 0 < size → In (exclusive_range size start (start + steps * size)) x ↔ ((k : ℕ) × (k < steps) × (start + k * size ≡ x))
 
--- and that of an inclusive one has the end too
+-- The list of an inclusive range has the end too.
 abbrev pub InclusiveHas : Type 0
 InclusiveHas = (size start steps x : ℕ) → 0 < size → In (inclusive_range size start (start + steps * size)) x ↔ ((k : ℕ) × (k ≤ steps) × (start + k * size ≡ x))

@@ -1,5 +1,5 @@
--- Laws of pages that stand: an accepted map makes one, later maps leave it, the walk arrives in it with just the rights that were asked for,
--- and none of its addresses is mapped again.
+-- Laws of pages that stand: an accepted map creates one, later maps keep it, the walk arrives in it with exactly the requested
+-- rights, and none of its addresses is mapped again.
 use Rattle.std.specs.Prelude.{◌≡◌, ◌≢◌, ◌⊎◌, ◌≤◌, ◌+◌, ◌%◌, ℕ, false, List, length, take, Option, Some}
 use Rattle.std.specs.List.{AllByRecursion}
 use Rattle.x86_64_model.specs.Arrivals.{Asks}
@@ -15,28 +15,30 @@ use Rattle.x86_64_model.specs.Refusal.{Done, Refused, ParentEntryHugePage}
 use Rattle.x86_64_model.specs.Standing.{StandsAt}
 use Rattle.x86_64_model.specs.Window.{Window, begins_with, IsValidFor}
 
--- a `map_to` with PRESENT that is accepted makes its page stand
+-- After an accepted `map_to` with PRESENT its page stands.
 abbrev pub AcceptedMapsStand : Type 0
 AcceptedMapsStand = (L level : ℕ) (T : Words) (root : ℕ) (M : PathMap) (supply : List ℕ) (added : ℕ) (q : List ℕ) (frame given : ℕ)
     → Holds L T root M → IsParentFlags added → AllByRecursion IsFrame supply → Asks L level q frame given
     → let after = map_call L M supply (parent_part given) added q frame given in
     after.answer ≡ Done frame → StandsAt L level after.paths q frame given
 
--- Any map leaves a page that stands, with one exception: one of a smaller page that a larger page refuses, which gets the parent flags.
+-- Each map keeps a page that stands, with one exception: a map of a smaller page that is refused by a huge parent, which gets the
+-- parent flags.
 abbrev pub MapsLeaveStanding : Type 0
 MapsLeaveStanding = (L level : ℕ) (T : Words) (root : ℕ) (M : PathMap) (supply : List ℕ) (more added : ℕ) (q : List ℕ) (frame given : ℕ)
     → Holds L T root M → IsParentFlags more → length q ≤ L → (page : List ℕ) (f flags : ℕ) → StandsAt L level M page f flags
     → let after = map_call L M supply more added q frame given in
     (length q ≤ length page) ⊎ (after.answer ≢ Refused ParentEntryHugePage) → StandsAt L level after.paths page f flags
 
--- the walk of each position of a page that stands arrives at the frame's start plus the offset, with just the rights that its flags have
+-- The walk at each position (the number of an address counted without the gap) of a page that stands arrives at the frame's start
+-- plus the offset, with exactly the rights of its flags.
 abbrev pub StandingPagesArrive : Type 0
 StandingPagesArrive = (L level : ℕ) (window : Option Window) (T : Words) (root : ℕ) (M : PathMap) (q : List ℕ) (frame given : ℕ)
     → IsValidFor L window T root M → begins_with window q ≡ false → StandsAt L level M q frame given
     → (p : ℕ) → take (length q) (page_path L p) ≡ q
     → page_walk L T root p ≡ Some (record { address = frame + p % span level; write = writable given; user = user given })
 
--- a map of a page that has a position of one that stands isn't accepted
+-- A map of a page that shares a position with a page that stands isn't accepted.
 abbrev pub StandingPagesRefuse : Type 0
 StandingPagesRefuse = (L level : ℕ) (T : Words) (root : ℕ) (M : PathMap) (supply : List ℕ) (more added : ℕ) (q : List ℕ) (frame given : ℕ)
     → Holds L T root M → 1 ≤ length q → length q ≤ L → (page : List ℕ) (f flags : ℕ) → StandsAt L level M page f flags

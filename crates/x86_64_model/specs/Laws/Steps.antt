@@ -16,38 +16,38 @@ use Rattle.x86_64_model.specs.Flush.{Item, OnePage, covers, items_of, all_items}
 use Rattle.x86_64_model.specs.Arrivals.{KeepsArrival, Arrives, Asks}
 use Rattle.x86_64_model.specs.Refusal.{Done}
 
--- the words are a valid hierarchy that means the state, and the pool fits it
+-- The words are a valid hierarchy that means the state, and the pool fits it.
 abbrev pub FitsState : (m : Machine) → Words → (root : ℕ) → (serves : ℕ → Bool) → State → Type 0
 FitsState m T root serves s = Fits m.levels m.window T root s.paths serves s.pool
 
 abbrev pub AllCalls : (L : ℕ) → List Call → Type 0
 AllCalls L calls = AllByRecursion (IsCall L) calls
 
--- one step keeps the state fitting, whatever valid words mean it afterwards, if they have the frames that were there
+-- One step keeps the state fitting, with any valid words that mean it afterwards, if they have the frames that were there.
 abbrev pub StepKeepsFit : Type 0
 StepKeepsFit = (m : Machine) → IsMachine m → (T U : Words) (root : ℕ) (serves : ℕ → Bool) (s : State) (call : Call) → IsCall m.levels call
     → FitsState m T root serves s → IsValidFor m.levels m.window U root (step m s call).state.paths → ((f : ℕ) → IsSome (T f) → IsSome (U f))
     → FitsState m U root serves (step m s call).state
 
--- and there are such words, with all frames as before that were neither free nor a table's
+-- After one step there are such words, in which all frames are unchanged that were neither free nor a table's.
 abbrev pub StepIsHeld : Type 0
 StepIsHeld = (m : Machine) → IsMachine m → (T : Words) (root : ℕ) (serves : ℕ → Bool) (s : State) (call : Call) → IsCall m.levels call
     → FitsState m T root serves s
     → (U : Words) × FitsState m U root serves (step m s call).state × ((f : ℕ) → (IsOwn m.levels root s.paths s.pool f → ⊥) → U f ≡ T f)
 
--- free and table frames are one set before and after any list of calls
+-- The set of free and table frames is the same before and after any list of calls.
 abbrev pub RunConserves : Type 0
 RunConserves = (m : Machine) → IsMachine m → (T : Words) (root : ℕ) (serves : ℕ → Bool) (s : State) (calls : List Call) → AllCalls m.levels calls
     → FitsState m T root serves s
     → (f : ℕ) → IsOwn m.levels root s.paths s.pool f ↔ IsOwn m.levels root (state_after m s calls).paths (state_after m s calls).pool f
 
--- and after it the pool fits again
+-- After any list of calls the pool fits again.
 abbrev pub RunKeepsFit : Type 0
 RunKeepsFit = (m : Machine) → IsMachine m → (T U : Words) (root : ℕ) (serves : ℕ → Bool) (s : State) (calls : List Call) → AllCalls m.levels calls
     → FitsState m T root serves s → IsValidFor m.levels m.window U root (state_after m s calls).paths → ((f : ℕ) → IsSome (T f) → IsSome (U f))
     → FitsState m U root serves (state_after m s calls)
 
--- and there are such words, with all frames as before that were neither free nor a table's
+-- After any list of calls there are such words, in which all frames are unchanged that were neither free nor a table's.
 abbrev pub RunIsHeld : Type 0
 RunIsHeld = (m : Machine) → IsMachine m → (T : Words) (root : ℕ) (serves : ℕ → Bool) (s : State) (calls : List Call) → AllCalls m.levels calls
     → FitsState m T root serves s
@@ -58,8 +58,9 @@ RunIsHeld = (m : Machine) → IsMachine m → (T : Words) (root : ℕ) (serves :
 abbrev pub NoneCovers : (L : ℕ) → List Item → (position : ℕ) → Type 0
 NoneCovers L items p = AllByRecursion (λ item. covers L item p ≡ false) items
 
--- Where the walk arrives in words that mean the state after the first k calls, and no item of a later call covers the position, which is outside the window:
--- there it arrives at the end too, at the same address and with no right lost.
+-- Take a position (the number of an address counted without the gap) outside the recursive window, which no item of a call after
+-- the first k covers. If the walk arrives in words that mean the state after the first k calls, it arrives at the end too, at the
+-- same address, with no right lost.
 abbrev pub FlushesSuffice : Type 0
 FlushesSuffice = (m : Machine) → IsMachine m → (T V U : Words) (root : ℕ) (serves : ℕ → Bool) (s : State) (calls : List Call) → AllCalls m.levels calls
     → FitsState m T root serves s
@@ -69,21 +70,21 @@ FlushesSuffice = (m : Machine) → IsMachine m → (T V U : Words) (root : ℕ) 
 
 -- ---- maps
 
--- the page, the frame and the flags of a `map_to` or an `identity_map`
+-- The page, the frame and the flags of a `map_to` or an `identity_map`.
 abbrev pub asked_of : (L : ℕ) → Call → Option (List ℕ × (ℕ × ℕ))
 asked_of L (MapTo q frame given) = Some (q, (frame, given))
 asked_of L (IdentityMap level frame given) = Some (path_at L level frame, (frame, given))
 asked_of L call = None
 
--- Where the walk arrives in words that mean the state before a call of a list that maps a page, whatever it answers, it arrives in words that mean
--- the state after it, at the same address, with no right lost and none gained that the parent flags lack.
+-- If the walk arrives in words that mean the state before a map call of a list, it arrives in words that mean the state after it,
+-- whatever the call answers. It arrives at the same address, loses no right, and gains only rights that the parent flags grant.
 abbrev pub RunMapsKeepWalks : Type 0
 RunMapsKeepWalks = (m : Machine) (V U : Words) (root : ℕ) (s : State) (calls : List Call) (k more : ℕ) (call : Call) → slice_get calls k ≡ Some call → parent_flags_of call ≡ Some more
     → IsValidFor m.levels m.window V root (state_after m s (take k calls)).paths → IsValidFor m.levels m.window U root (state_after m s (take (k + 1) calls)).paths
     → (p : ℕ) → Arrives more (page_walk m.levels V root p) (page_walk m.levels U root p)
 
--- In words that mean the state after a `map_to` or an `identity_map` of a list that was accepted with PRESENT, the walk arrives in all of the page, with just
--- the rights that were asked for.
+-- In words that mean the state after an accepted `map_to` or `identity_map` with PRESENT of a list, the walk arrives everywhere
+-- in the page, with exactly the requested rights.
 abbrev pub RunMapsArrive : Type 0
 RunMapsArrive = (m : Machine) → IsMachine m → (T U : Words) (root : ℕ) (serves : ℕ → Bool) (s : State) (calls : List Call) → AllCalls m.levels calls
     → FitsState m T root serves s
@@ -94,11 +95,12 @@ RunMapsArrive = (m : Machine) → IsMachine m → (T U : Words) (root : ℕ) (se
 
 -- ---- other pages
 
--- no entry at these paths is used without PRESENT
+-- Every used entry at these paths is present.
 abbrev pub UsedPresent : PathMap → List (List ℕ) → Type 0
 UsedPresent M ps = AllByRecursion (λ r. used (entry M r) ≡ true → present (entry M r) ≡ true) ps
 
--- a call whose token names a page changes no answer of `translate` outside it and outside the window, if no parent of the page was used without PRESENT
+-- A call that records one page to flush changes no answer of `translate` outside this page and the recursive window, if every
+-- used parent of the page was present.
 abbrev pub CallsSpareOthers : Type 0
 CallsSpareOthers = (m : Machine) → IsMachine m → (T : Words) (root : ℕ) (serves : ℕ → Bool) (s : State) (call : Call) → IsCall m.levels call
     → FitsState m T root serves s

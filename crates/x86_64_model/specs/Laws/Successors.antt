@@ -2,7 +2,8 @@
 use Rattle.std.specs.Prelude.{◌≡◌, ℕ, ◌+◌, ◌<◌, Some}
 use Rattle.x86_64_model.specs.Successor.{forward, backward, steps_between}
 
--- steps by m and then by n are steps by m + n, steps back undo steps on and the other way round, and `steps_between` counts them
+-- Steps by m and then by n are steps by m + n. Steps back undo steps forward, and the other way round. `steps_between` counts
+-- them.
 pub record AreSteps (count : ℕ) : Type 0 where
   pub compose : (start m n middle end : ℕ) → forward count start m ≡ Some middle → forward count middle n ≡ Some end → forward count start (m + n) ≡ Some end
   pub compose_back : (start m n middle end : ℕ) → backward start m ≡ Some middle → backward middle n ≡ Some end → backward start (m + n) ≡ Some end

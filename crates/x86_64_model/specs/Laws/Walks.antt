@@ -9,7 +9,7 @@ use Rattle.x86_64_model.specs.Translation.{translate, Agrees}
 use Rattle.x86_64_model.specs.WrittenOut.{walk_4, walk_5, translate_4, translate_5}
 use Rattle.x86_64_model.specs.Arrivals.{Reaches, leads}
 
--- the walks and `translate` of four and of five levels are those written out
+-- The walk and `translate` of four and of five levels equal those written out.
 abbrev pub FourWrittenOut : Type 0
 FourWrittenOut = (T : Words) (root p : ℕ) → page_walk 4 T root p ≡ walk_4 T root p
 
@@ -22,13 +22,14 @@ TranslateWrittenOut = (E : List ℕ → ℕ) (p : ℕ) → translate 4 E p ≡ t
 abbrev pub TranslateFiveWrittenOut : Type 0
 TranslateFiveWrittenOut = (E : List ℕ → ℕ) (p : ℕ) → translate 5 E p ≡ translate_5 E p
 
--- in every valid hierarchy and at every position, in the window too, `translate` names a present mapping exactly where the walk arrives, at the same address
+-- In every valid hierarchy and at every position (the number of an address counted without the gap), also in the recursive
+-- window, `translate` names a present mapping if and only if the walk arrives, and at the same address.
 abbrev pub TranslateAgrees : Type 0
 TranslateAgrees = (L : ℕ) (T : Words) (root : ℕ) (M : PathMap) (window : Option Window) → IsValidFor L window T root M
     → (p : ℕ) → Agrees (translate L (entry_at window M) p) (page_walk L T root p)
 
--- The walk of a position whose path is the recursive index some times and then q arrives at the frame that the words lead to along q,
--- whatever all other words hold. So the window of the root and of each table shows just that table.
+-- If the path of a position is the recursive index, repeated, and then q, its walk arrives at the frame that the words lead to
+-- along q, whatever all other words hold. So the window of the root and of each table shows exactly that table.
 abbrev pub WindowsReach : Type 0
 WindowsReach = (L : ℕ) → 0 < L → (T : Words) (root : ℕ) (window : Window) → window.index < 512 → IsSome (T root) → IsSelfEntry T root window
     → (times : ℕ) (q : List ℕ) (f : ℕ) → leads T root q ≡ Some f

@@ -1,4 +1,4 @@
--- Worked examples of the definitions, with the root in frame 0x1000, and with four levels unless it is said otherwise.
+-- Worked examples of the definitions. The root is in frame 0x1000, and there are four levels unless an example says otherwise.
 use Rattle.std.specs.Prelude.{◌≡◌, ℕ, ◌==◌, nat_lt, true, false, if◌then◌else◌, List, [], ◌∷◌, replicate, Option, Some, None}
 use Rattle.std.specs.FinMap.{empty, insert}
 use Rattle.std.specs.Ordering.{nat_cmp}
@@ -14,7 +14,7 @@ use Rattle.x86_64_model.specs.PageRules.{unmap, update_flags, translate_page, se
 use Rattle.x86_64_model.specs.Pool.{Fits}
 use Rattle.x86_64_model.specs.Alike.{Alike}
 
--- an empty root and three free frames
+-- An empty root and three free frames.
 unfoldable pub nothing_mapped : PathMap
 nothing_mapped = empty
 
@@ -26,7 +26,7 @@ three_frames = 0x2000 ∷ 0x3000 ∷ 0x4000 ∷ []
 unfoldable pub small_mapped : PathMap
 small_mapped = put (put (put (put nothing_mapped (0 ∷ []) 0x2003) (0 ∷ 0 ∷ []) 0x3003) (0 ∷ 0 ∷ 0 ∷ []) 0x4003) (0 ∷ 0 ∷ 0 ∷ 1 ∷ []) 0x5003
 
--- the same as words
+-- The page tables of `small_mapped` as words.
 unfoldable pub small_memory : Memory
 small_memory = insert (insert (insert (insert (empty {X = List ℕ} {R = nat_cmp})
     1 (0x2003 ∷ replicate 511 0)) 2 (0x3003 ∷ replicate 511 0)) 3 (0x4003 ∷ replicate 511 0)) 4 (0 ∷ 0x5003 ∷ replicate 510 0)
@@ -36,7 +36,7 @@ pub record SmallMap : Type 0 where
   pub translated : translate 4 (entry_at None small_mapped) 0x1abc ≡ Mapped 0x1000 0x5000 0xabc 3
   pub walked : page_walk 4 (words_of small_memory identity_places) 0x1000 0x1abc ≡ Some (record { address = 0x5abc; write = true; user = false })
 
--- its flags become WRITABLE alone: `translate` still names it, and the walk doesn't arrive
+-- The page's flags become WRITABLE alone: `translate` still names the page, and the walk doesn't arrive.
 pub record PageWithoutPresent : Type 0 where
   pub left : update_flags 4 (entry_at None small_mapped) small_mapped (0 ∷ 0 ∷ 0 ∷ 1 ∷ []) 2
       ≡ record { paths = put small_mapped (0 ∷ 0 ∷ 0 ∷ 1 ∷ []) 0x5002; answer = Done 0x5000 }
@@ -52,7 +52,7 @@ pub record LargeMap : Type 0 where
   pub left : map_call 4 nothing_mapped three_frames 1 0 (0 ∷ 0 ∷ 1 ∷ []) 0x400000 1 ≡ record { paths = large_mapped; supply = 0x4000 ∷ []; answer = Done 0x400000 }
   pub translated : translate 4 (entry_at None large_mapped) 0x23_4567 ≡ Mapped 0x20_0000 0x400000 0x34567 0x81
 
--- a 4KiB page below it is refused: the flags are added to the entries above, the huge one too
+-- A 4KiB page below it is refused. The parent flags are added to the entries above, also to the huge one.
 abbrev pub MapBelowHuge : Type 0
 MapBelowHuge = map_call 4 large_mapped (0x4000 ∷ []) 3 0 (0 ∷ 0 ∷ 1 ∷ 1 ∷ []) 0x9000 3
     ≡ record { paths = put (put (put large_mapped (0 ∷ []) 0x2003) (0 ∷ 0 ∷ []) 0x3003) (0 ∷ 0 ∷ 1 ∷ []) 0x400083; supply = 0x4000 ∷ []; answer = Refused ParentEntryHugePage }
@@ -62,7 +62,7 @@ MapBelowHuge = map_call 4 large_mapped (0x4000 ∷ []) 3 0 (0 ∷ 0 ∷ 1 ∷ 1 
 unfoldable pub shared_table_image : Words
 shared_table_image = λ f. if f == 0x1000 then Some (0x2003 ∷ 0x2002 ∷ replicate 510 0) else (if nat_lt f 0x8000 then Some (replicate 512 0) else None)
 
--- no path map makes it valid
+-- No path map makes the image valid.
 abbrev pub SharedTableIsInvalid : Type 0
 SharedTableIsInvalid = (M : PathMap) → IsValid 4 shared_table_image 0x1000 M → ⊥
 
@@ -71,7 +71,7 @@ SharedTableIsInvalid = (M : PathMap) → IsValid 4 shared_table_image 0x1000 M �
 abbrev pub four_frames : List ℕ
 four_frames = 0x2000 ∷ 0x3000 ∷ 0x4000 ∷ 0x5000 ∷ []
 
--- the tables above the page's own
+-- The tables above the page's own table.
 unfoldable pub three_tables : PathMap
 three_tables = put (put (put nothing_mapped (0 ∷ []) 0x2003) (0 ∷ 0 ∷ []) 0x3003) (0 ∷ 0 ∷ 0 ∷ []) 0x4003
 
@@ -106,63 +106,63 @@ pub record HugeBelowTheRoot : Type 0 where
   pub four_levels : page_walk 4 (words_of huge_memory identity_places) 0x1000 0x1abc ≡ Some (record { address = 0x1abc; write = true; user = false })
   pub five_levels : page_walk 5 (words_of huge_memory identity_places) 0x1000 0x1abc ≡ None
 
--- ---- where several refusals hold, the first in order is answered, and nothing changes
+-- ---- if several refusals apply, the first in order is answered, and nothing changes
 
--- the 4KiB page 0x1000, whose entry has HUGE_PAGE and lacks PRESENT
+-- The 4KiB page 0x1000, whose entry has HUGE_PAGE and lacks PRESENT.
 unfoldable pub huge_page_absent : PathMap
 huge_page_absent = put three_tables (0 ∷ 0 ∷ 0 ∷ 1 ∷ []) 0x5080
 
--- a huge entry of level three, below a table that the root names without PRESENT
+-- A huge entry of level three, below a table that the root names without PRESENT.
 unfoldable pub huge_below_absent : PathMap
 huge_below_absent = put (put nothing_mapped (0 ∷ []) 0x2002) (0 ∷ 0 ∷ []) 0x4000_0083
 
--- a huge entry of level three without PRESENT, below a table
+-- A huge entry of level three without PRESENT, below a table.
 unfoldable pub huge_absent : PathMap
 huge_absent = put (put nothing_mapped (0 ∷ []) 0x2003) (0 ∷ 0 ∷ []) 0x4000_0080
 
 pub record FirstRefusals : Type 0 where
-  -- a page without PRESENT isn't mapped, also with HUGE_PAGE
+  -- A page without PRESENT isn't mapped, even with HUGE_PAGE.
   pub unmap_absent : unmap 4 (entry_at None huge_page_absent) huge_page_absent (0 ∷ 0 ∷ 0 ∷ 1 ∷ [])
       ≡ record { paths = huge_page_absent; answer = Refused PageNotMapped }
-  -- a table in the place of a 2MiB page is refused as one, whatever its address
+  -- An entry that names a table instead of a 2MiB page is refused as a table, whatever its address.
   pub unmap_table : unmap 4 (entry_at None three_tables) three_tables (0 ∷ 0 ∷ 0 ∷ [])
       ≡ record { paths = three_tables; answer = Refused ParentEntryHugePage }
-  -- an unused 2MiB page isn't mapped, and has no address that could be refused
+  -- An unused 2MiB page isn't mapped, and has no address that could be refused.
   pub translate_unused : translate_page 4 (entry_at None three_tables) (0 ∷ 0 ∷ 1 ∷ []) ≡ Refused PageNotMapped
-  -- a parent refuses before the page's own entry does: a 4KiB page below a huge one of 2MiB
+  -- A parent refuses before the page's own entry does: a 4KiB page below a huge entry of 2MiB.
   pub parent_first : unmap 4 (entry_at None large_mapped) large_mapped (0 ∷ 0 ∷ 1 ∷ 1 ∷ [])
       ≡ record { paths = large_mapped; answer = Refused ParentEntryHugePage }
-  -- of the parents the shortest one refuses
+  -- Of several parents that could refuse, the shortest one does.
   pub shortest_parent : unmap 4 (entry_at None huge_below_absent) huge_below_absent (0 ∷ 0 ∷ 0 ∷ [])
       ≡ record { paths = huge_below_absent; answer = Refused PageNotMapped }
-  -- below a parent without PRESENT nothing is mapped, also with HUGE_PAGE
+  -- Nothing is mapped below a parent without PRESENT, even if it has HUGE_PAGE.
   pub absent_parent : unmap 4 (entry_at None huge_absent) huge_absent (0 ∷ 0 ∷ 0 ∷ [])
       ≡ record { paths = huge_absent; answer = Refused PageNotMapped }
-  -- a level that isn't above the page's own is refused, also where nothing is mapped
+  -- A level that isn't above the page's own is refused, even if nothing is mapped.
   pub level_first : set_flags 4 (entry_at None nothing_mapped) nothing_mapped 2 (0 ∷ 0 ∷ 0 ∷ []) 3
       ≡ record { paths = nothing_mapped; answer = Refused ParentEntryHugePage }
 
 -- ---- path maps that differ in WRITABLE
 
--- a page by tables without WRITABLE, and the same page by tables with it
+-- A page below tables without WRITABLE, and this page below tables with WRITABLE.
 unfoldable pub plain_tables : (page_entry : ℕ) → PathMap
 plain_tables e = put (put (put (put nothing_mapped (0 ∷ []) 0x2001) (0 ∷ 0 ∷ []) 0x3001) (0 ∷ 0 ∷ 0 ∷ []) 0x4001) (0 ∷ 0 ∷ 0 ∷ 1 ∷ []) e
 
 unfoldable pub writable_tables : (page_entry : ℕ) → PathMap
 writable_tables e = put (put (put (put nothing_mapped (0 ∷ []) 0x2003) (0 ∷ 0 ∷ []) 0x3003) (0 ∷ 0 ∷ 0 ∷ []) 0x4003) (0 ∷ 0 ∷ 0 ∷ 1 ∷ []) e
 
--- they are alike where the page's own entries are equal, and not where these differ in WRITABLE
+-- The two are alike if the page's own entries are equal, and not if these differ in WRITABLE.
 pub record AlikeButForTables : Type 0 where
   pub alike : Alike 4 (plain_tables 0x5001) (writable_tables 0x5001)
   pub not_alike : Alike 4 (plain_tables 0x5003) (writable_tables 0x5001) → ⊥
 
--- ---- the premises of the laws can be met, whatever the number of levels, without a recursive index and with one
+-- ---- the premises of the laws can be met, with any number of levels, with and without a recursive index
 
--- the root's last word but one names the root, with PRESENT and WRITABLE
+-- The root's second to last word names the root, with PRESENT and WRITABLE.
 abbrev pub self_window : Window
 self_window = record { index = 510; self_entry = 0x1003 }
 
--- an empty root and four free frames
+-- An empty root and four free frames.
 abbrev pub SomeWordsFit : (L : ℕ) → Option Window → Type 0
 SomeWordsFit L window = (T : Words) × Fits L window T 0x1000 nothing_mapped (λ f. true) four_frames
 

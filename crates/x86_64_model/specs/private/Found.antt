@@ -1,4 +1,5 @@
--- The mapping at a position, found as a walk goes down from the root. It is the one of the list that has the position, None where none has.
+-- The mapping at a position (the number of an address counted without the gap), found by a walk down from the root. It is the
+-- mapping of the list that has the position, None if none has it.
 use Rattle.std.specs.Prelude.{zero, suc, ◌≡◌, ℕ, ◌+◌, ◌*◌, ◌/◌, ◌<◌, ◌≤◌, ◌&&◌, true, not, cond, Option, Some, None, option_and_then}
 use Rattle.x86_64_model.specs.Entry.{present, writable, user, huge, no_execute, address, flags}
 use Rattle.x86_64_model.specs.Position.{span, index}
@@ -6,23 +7,23 @@ use Rattle.x86_64_model.specs.Memory.{Words}
 use Rattle.x86_64_model.specs.PageWalk.{read, page_start}
 use Rattle.x86_64_model.specs.Mappings.{Rights, Mapping, maps_page}
 
--- what the words above the root's table allow, which are none
+-- The rights above the root's table, where no word restricts them.
 abbrev pub every_right : Rights
 every_right = record { write = true; user = true; execute = true }
 
--- what words with rights r and one more allow
+-- The rights r, restricted by one more word.
 abbrev pub narrowed : Rights → (entry : ℕ) → Rights
 narrowed r e = record { write = r.write && writable e; user = r.user && user e; execute = r.execute && not (no_execute e) }
 
--- the mapping by a word of a level that maps a page, whose span starts at a position, below words with rights r
+-- The mapping of a word that maps a page at a level, whose span starts at this position, below words with rights r.
 abbrev pub page_from : (start level : ℕ) → Rights → (entry : ℕ) → Mapping
 page_from start level r e = record { start = start; size = span level; frame = page_start level e; flags = flags e; rights = narrowed r e }
 
--- the same, at a position of the span
+-- The mapping of such a word, from any position of its span.
 abbrev pub page_at : (p level : ℕ) → Rights → (entry : ℕ) → Mapping
 page_at p level r e = page_from (p / span level * span level) level r e
 
--- the mapping at a position, on from a frame's table of a level, below words with rights r
+-- The mapping at a position, found from a frame's table of a level down, below words with rights r.
 unfoldable pub found_on : Words → (p level : ℕ) → Rights → (frame : ℕ) → Option Mapping
 found_on T p zero r frame = None
 found_on T p (suc n) r frame = option_and_then
@@ -34,11 +35,11 @@ found_on T p (suc n) r frame = option_and_then
 unfoldable pub found : (L : ℕ) → Words → (root p : ℕ) → Option Mapping
 found L T root p = found_on T p L every_right root
 
--- the first position past the span of a level that a position lies in
+-- The first position after the span of a level in which a position lies.
 abbrev pub span_end : (level position : ℕ) → ℕ
 span_end level p = p / span level * span level + span level
 
--- A walk to position p comes to a frame's table of a level, below words with rights r, and so do the walks to all positions after p in the
--- span of the table: what is found at each of them is what is found on from there.
+-- The walk to position p comes to a frame's table of a level, below words with rights r, and so do the walks to all later
+-- positions in the table's span. What is found at each of them is found from this table down.
 pub record LeadsTo (L : ℕ) (T : Words) (root p level : ℕ) (r : Rights) (frame : ℕ) : Type 0 where
   pub on : (x : ℕ) → p ≤ x → x < span_end (level + 1) p → found L T root x ≡ found_on T x level r frame

@@ -1,4 +1,5 @@
--- What the calls of a mapper leave in its memory: one record for each call. m is the memory before, n the memory after.
+-- What a mapper's calls leave in its memory, one record for each kind of call. Here m is the memory before, and n the memory
+-- after.
 use Rattle.std.specs.Prelude.{◌≡◌, ◌<◌, ◌+◌, ℕ, List, Some}
 use Rattle.x86_64_model.specs.Memory.{Memory}
 use Rattle.x86_64_model.specs.Entry.{writable, user}
@@ -10,25 +11,27 @@ use Rattle.x86_64_model.specs.PageRules.{AfterChange, unmap, update_flags, set_f
 use Rattle.x86_64_model.specs.Arrivals.{Arrives}
 use Rattle.x86_64_model.specs.Layout.{Layout, paths, read_entry, walk, Valid, IsReady, Owns, KeepsOthers}
 
--- the root, a table, or a frame that was taken from the supply, of which the rest was left
+-- The frame holds the root or another table, or was taken from the supply (the frames to hand out, in order), of which the rest
+-- is left.
 abbrev pub Uses : Layout → Memory → (supply rest : List ℕ) → (frame : ℕ) → Type 0
 Uses l m supply rest f = Owns l m supply f × (In rest f → ⊥)
 
--- A call that maps a page: the path map, the supply and the answer are those of the map rule, the hierarchy is valid again and the rest of
--- the supply fits it, and no word changed but in the root, the tables and the frames that were taken. Where the processor arrived, it still
--- does, at the same address, with no right lost and none gained that the parent flags lack.
+-- A call that maps a page. The path map, the supply and the answer are those of the map rule, the hierarchy is valid again, and
+-- the rest of the supply fits it. Only words in the root, the tables and the taken frames change. Each page walk that arrived
+-- still arrives at the same address, loses no right, and gains only rights that the parent flags grant.
 pub record IsMapped (l : Layout) (m : Memory) (supply : List ℕ) (page : List ℕ) (frame flags parent_flags : ℕ) (answer : Answer) (n : Memory) (rest : List ℕ) : Type 0 where
   pub outcome : map_call l.levels (paths l m) supply parent_flags l.added_flags page frame flags ≡ record { paths = paths l n; supply = rest; answer = answer }
   pub ready : IsReady l n rest
   pub others : KeepsOthers l.places (Uses l m supply rest) m n
   pub walks : (p : ℕ) → Arrives parent_flags (walk l m p) (walk l n p)
 
--- from each position of a page of a size the processor arrives at the frame's start plus the offset, with just the rights that the flags have
+-- The page walk at each offset of a page of this size arrives at the frame's start plus the offset, with exactly the rights of
+-- the flags.
 abbrev pub ArrivesIn : Layout → Memory → (size page frame flags : ℕ) → Type 0
 ArrivesIn l m size page frame given =
     (offset : ℕ) → offset < size → walk l m (page + offset) ≡ Some (record { address = frame + offset; write = writable given; user = user given })
 
--- what the calls on one entry make of the hierarchy in a memory
+-- The outcomes of the calls on one entry, for the hierarchy in a memory.
 abbrev pub after_unmap : Layout → Memory → (page : List ℕ) → AfterChange
 after_unmap l m page = unmap l.levels (read_entry l m) (paths l m) page
 
@@ -41,8 +44,8 @@ after_set_flags l m level page given = set_flags l.levels (read_entry l m) (path
 abbrev pub page_translation : Layout → Memory → (page : List ℕ) → Answer
 page_translation l m page = translate_page l.levels (read_entry l m) page
 
--- a call that changes one entry at most: the path map is that of the rule, the hierarchy is valid again and a supply that fitted it still does,
--- and no word changed but in the root and the tables
+-- A call that changes at most one entry. The path map is that of the rule, the hierarchy is valid again, a supply that fitted
+-- still fits, and only words in the root and the tables change.
 pub record IsChanged (l : Layout) (m : Memory) (after : AfterChange) (n : Memory) : Type 0 where
   pub meant : after.paths ≡ paths l n
   pub valid : Valid l n

@@ -1,16 +1,16 @@
--- A map call as a walk down the page's parents, one at a time, as a mapper goes. It comes to what the map rule says at once.
+-- A map call as a walk down the page's parents, one at a time, as a mapper goes. Its outcome is that of the map rule.
 use Rattle.std.specs.Prelude.{ℕ, cond, List, [], ◌∷◌, bit_or}
 use Rattle.x86_64_model.specs.Entry.{used, huge}
 use Rattle.x86_64_model.specs.PathMap.{PathMap, entry, put}
 use Rattle.x86_64_model.specs.Refusal.{Done, Refused, ParentEntryHugePage, PageAlreadyMapped, FrameAllocationFailed}
 use Rattle.x86_64_model.specs.MapRule.{AfterMap}
 
--- what is made of the first frame and the others, if there is one
+-- The result from the first frame and the others, or `none` if there is no frame.
 abbrev pub with_first : {X : Type 0} → List ℕ → (none : X) → (some : ℕ → List ℕ → X) → X
 with_first [] none some = none
 with_first (f ∷ fs) none some = some f fs
 
--- what is left to do where the parents ps are still to be handled
+-- The outcome if the parents ps are still to be handled.
 abbrev pub walk_down : (parent_flags added_flags : ℕ) (q : List ℕ) (e frame : ℕ) → PathMap → (supply : List ℕ) → (ps : List (List ℕ)) → AfterMap
 walk_down more added q e frame M supply [] = cond (used (entry M q))
     (record { paths = M; supply = supply; answer = Refused (PageAlreadyMapped frame) })

@@ -1,12 +1,12 @@
-// Laws of pages that are mapped one after the other.
+// Laws of pages that are mapped one after another.
 ghost use Rattle.x86_64_model.specs.Laws.PageMappings.{MappingsSucceed, MappingsStand, TwoPagesMapped};
 
-/// Pages that lie apart, none of which is mapped, are all mapped if the pool has a frame for each table that is missing on their ways.
+/// Unmapped pages that lie apart are all mapped, if the pool has a frame for each table that is missing on their paths.
 pub fn pages_apart_are_all_mapped()
     ensures { MappingsSucceed }
 {}
 
-/// After pages that are all mapped with PRESENT each of them stands, and so does each that stood before.
+/// After pages are all mapped with PRESENT, each of them stands, and so does each page that stood before.
 pub fn pages_that_are_all_mapped_stand()
     ensures { MappingsStand }
 {}

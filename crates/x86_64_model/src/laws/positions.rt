@@ -1,4 +1,4 @@
-// Laws of positions, addresses and spans.
+// Laws of positions (the numbers of addresses counted without the gap), of addresses and of spans.
 ghost use Rattle.x86_64_model.specs.Laws.Positions.{PositionsAreAddresses, SpansAreIntervals};
 ghost use Rattle.x86_64_model.specs.Laws.Ranges.{ExclusiveHas, InclusiveHas};
 
@@ -8,13 +8,13 @@ pub fn positions_are_canonical_addresses()
     ensures { PositionsAreAddresses }
 {}
 
-/// The positions whose first indices are a path's are an interval, of as many as its entry spans.
+/// The positions whose first indices are a path's form an interval, as long as the span of its entry.
 #[tactic(auto, using(crate::proofs::Lemmas::Paths::Spans::spans_are_intervals))]
 pub fn spans_of_paths_are_intervals()
     ensures { SpansAreIntervals }
 {}
 
-/// The list of an exclusive range has each start below its end, and nothing else.
+/// The list of an exclusive range has the starts below its end, and nothing else.
 #[tactic(auto, using(crate::proofs::Lemmas::Paths::Ranges::exclusive_has))]
 pub fn exclusive_ranges_end_before()
     ensures { ExclusiveHas }

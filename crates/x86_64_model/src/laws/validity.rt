@@ -1,34 +1,34 @@
-// Laws of validity as a list of tables, which a test can go down.
+// Laws of validity as a condition on the list of tables, which a test can check.
 ghost use Rattle.x86_64_model.specs.Laws.Validity.{ValidForItsPaths, SoundIsValid, SoundIsFitting, MemoriesHaveSpots, MarksTell, MappingsShowFrames};
 
-/// Some path map makes the words a valid hierarchy exactly where the map of the words does.
+/// Some path map makes the words a valid hierarchy if and only if the map of the words does.
 pub fn words_are_valid_for_their_map()
     ensures { ValidForItsPaths }
 {}
 
-/// A hierarchy is valid exactly where the list of its tables is sound.
+/// A hierarchy is valid if and only if the list of its tables is sound.
 pub fn sound_tables_are_valid()
     ensures { SoundIsValid }
 {}
 
-/// A pool fits a hierarchy exactly where the list of its tables and of the pool is sound.
+/// A pool fits a hierarchy if and only if the list of its tables and of the pool is sound.
 pub fn sound_tables_and_pools_fit()
     ensures { SoundIsFitting }
 {}
 
-/// The tables of a memory have spots of their own.
+/// The tables of a memory have distinct spots, their numbers in the order of places (the indices of tables in memory).
 #[tactic(auto, using(crate::proofs::Lemmas::Tables::Keyed::memories_have_spots))]
 pub fn tables_have_spots_of_their_own()
     ensures { MemoriesHaveSpots }
 {}
 
-/// From clear marks, the tables and the pool can all be marked exactly where they are sound.
+/// From clear marks, the tables and the pool can all be marked if and only if they are sound.
 #[tactic(auto, using(crate::proofs::Lemmas::Tables::Checked::marks_tell))]
 pub fn marks_tell_sound_tables()
     ensures { MarksTell }
 {}
 
-/// What a frame mapping shows of a memory are frames alone.
+/// With a frame mapping, only frames have tables in a memory.
 #[tactic(auto, using(crate::proofs::Lemmas::Hierarchies::Memories::mappings_show_frames))]
 pub fn mappings_show_frames_alone()
     ensures { MappingsShowFrames }

@@ -1,7 +1,7 @@
 // Laws of the page walk and of `translate`.
 ghost use Rattle.x86_64_model.specs.Laws.Walks.{FourWrittenOut, FiveWrittenOut, TranslateWrittenOut, TranslateFiveWrittenOut, TranslateAgrees, WindowsReach};
 
-/// The walk of four levels is the one written out.
+/// The walk of four levels equals the one written out.
 #[tactic(auto, using(crate::proofs::Lemmas::Walks::WrittenOut::walk_is))]
 pub fn four_levels_written_out()
     ensures { FourWrittenOut }
@@ -13,7 +13,7 @@ pub fn five_levels_written_out()
     ensures { FiveWrittenOut }
 {}
 
-/// `translate` of four levels is the one written out.
+/// `translate` of four levels equals the one written out.
 #[tactic(auto, using(crate::proofs::Lemmas::Walks::WrittenOut::translate_is))]
 pub fn translate_written_out()
     ensures { TranslateWrittenOut }
@@ -25,13 +25,14 @@ pub fn translate_of_five_levels_written_out()
     ensures { TranslateFiveWrittenOut }
 {}
 
-/// In every valid hierarchy and at every address, `translate` names a present mapping exactly where the walk arrives, at the same address.
+/// In every valid hierarchy and at every address, `translate` names a present mapping if and only if the walk arrives, and at the
+/// same address.
 #[tactic(auto, using(crate::proofs::Lemmas::Walks::Agrees::translate_agrees))]
 pub fn translate_is_the_walk()
     ensures { TranslateAgrees }
 {}
 
-/// The walks of the windows arrive at the tables that they are for, whatever all other words hold.
+/// Walks through the recursive window arrive at the tables that it shows, whatever all other words hold.
 #[tactic(auto, using(crate::proofs::Lemmas::Walks::Windows::windows_reach))]
 pub fn windows_reach_their_tables()
     ensures { WindowsReach }

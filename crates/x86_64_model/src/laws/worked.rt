@@ -1,13 +1,13 @@
-// Worked examples: what the definitions say of a few small hierarchies.
+// Worked examples of the definitions, for a few small hierarchies.
 ghost use Rattle.x86_64_model.specs.Laws.Worked.{SmallMap, PageWithoutPresent, LargeMap, MapBelowHuge, SharedTableIsInvalid, SmallMapFive, LargeMapFive, HugeBelowTheRoot, FirstRefusals, AlikeButForTables, SomePoolFits};
 
-/// The first map of a 4KiB page: what it leaves, and where `translate` and the walk then find an address.
+/// The first map of a 4KiB page: what it leaves, and the results of `translate` and of the walk at an address.
 #[tactic(auto, using(crate::proofs::Lemmas::Worked::FourLevels::small))]
 pub fn first_map_of_a_4kib_page()
     ensures { SmallMap }
 {}
 
-/// The same page without PRESENT: `translate` still names it, and the walk doesn't arrive.
+/// The page without PRESENT: `translate` still names it, and the walk doesn't arrive.
 #[tactic(auto, using(crate::proofs::Lemmas::Worked::FourLevels::without_present))]
 pub fn translate_names_pages_without_present()
     ensures { PageWithoutPresent }
@@ -25,13 +25,13 @@ pub fn map_that_meets_a_huge_parent()
     ensures { MapBelowHuge }
 {}
 
-/// No path map makes an image valid in which two words of the root name one table.
+/// No path map makes an image valid if two words of its root name one table.
 #[tactic(auto, using(crate::proofs::Lemmas::Worked::FourLevels::shared_table_invalid))]
 pub fn tables_are_never_shared()
     ensures { SharedTableIsInvalid }
 {}
 
-/// The first map of a 4KiB page with five levels, and that it takes four frames.
+/// The first map of a 4KiB page with five levels, which takes four frames.
 #[tactic(auto, using(crate::proofs::Lemmas::Worked::FiveLevels::small))]
 pub fn first_map_of_a_4kib_page_with_five_levels()
     ensures { SmallMapFive }
@@ -49,7 +49,7 @@ pub fn huge_entries_above_level_three_lead_nowhere()
     ensures { HugeBelowTheRoot }
 {}
 
-/// Where several refusals hold of a page's entry or of its parents, the first in order is answered.
+/// If several refusals apply to a page's entry or its parents, the first in order is answered.
 #[tactic(auto, using(crate::proofs::Lemmas::Worked::Refusals::first_refusals))]
 pub fn the_first_refusal_is_answered()
     ensures { FirstRefusals }
@@ -61,7 +61,8 @@ pub fn alike_is_equal_but_for_writable_tables()
     ensures { AlikeButForTables }
 {}
 
-/// An empty root, with four free frames, meets the premises of the laws: whatever the number of levels, without a recursive index and with one.
+/// An empty root, with four free frames, meets the premises of the laws, with any number of levels, with and without a recursive
+/// index.
 #[tactic(auto, using(crate::proofs::Lemmas::Worked::Fitting::some_pool_fits))]
 pub fn premises_can_be_met()
     ensures { SomePoolFits }

@@ -9,7 +9,7 @@ use x86_64_addr::addr::PhysAddr;
 /// The greatest physical address.
 const LAST_ADDRESS: u64 = 0x000f_ffff_ffff_ffff;
 
-/// A number was not that of a frame: its start would not be below 2^52.
+/// The error for a number that no frame has: the frame's start wouldn't be below 2^52.
 ///
 /// Contains the number.
 #[derive(Debug, Clone, Copy, PartialEq, Eq)]
@@ -23,7 +23,9 @@ impl Display for PfnNotValid {
 }
 
 impl<S: PageSize> PhysFrame<S> {
-    /// Gives the frame that has a number. Its start must be below 2^52: test that by [`try_from_pfn`](Self::try_from_pfn).
+    /// Returns the frame with a number.
+    ///
+    /// Requires that the frame's start is below 2^52. Check this with [`try_from_pfn`](Self::try_from_pfn).
     pub fn from_pfn(pfn: u64) -> Self
         requires { pfn * S.SIZE < 2 ^ 52 }
         ensures { result ≡ pfn * S.SIZE }
@@ -31,7 +33,9 @@ impl<S: PageSize> PhysFrame<S> {
         Self::from_start_address_unchecked(PhysAddr::new(pfn * S::SIZE))
     }
 
-    /// Gives the frame that has a number. Its start must be below 2^52, as for [`from_pfn`](Self::from_pfn).
+    /// Returns the frame with a number.
+    ///
+    /// Requires that the frame's start is below 2^52, as for [`from_pfn`](Self::from_pfn).
     pub fn from_pfn_unchecked(pfn: u64) -> Self
         requires { pfn * S.SIZE < 2 ^ 52 }
         ensures { result ≡ pfn * S.SIZE }
@@ -39,9 +43,11 @@ impl<S: PageSize> PhysFrame<S> {
         Self::from_pfn(pfn)
     }
 
-    /// Gives the frame that has a number.
+    /// Returns the frame with a number.
     ///
-    /// Answers `PfnNotValid` with the number exactly where its start would not be below 2^52.
+    /// # Errors
+    ///
+    /// `PfnNotValid`, with the number, if the frame's start isn't below 2^52.
     pub fn try_from_pfn(pfn: u64) -> Result<Self, PfnNotValid>
         ensures below { IsOk result ↔ (pfn * S.SIZE < 2 ^ 52) }
         ensures value { IfOk result (λ frame. frame ≡ pfn * S.SIZE) }
@@ -54,7 +60,7 @@ impl<S: PageSize> PhysFrame<S> {
         }
     }
 
-    /// Gives the number: the start divided by the size.
+    /// Returns the number: the start divided by the size.
     pub fn pfn(self) -> u64
         ensures { result ≡ self / S.SIZE }
     {

@@ -1,4 +1,4 @@
-//! Sums of frames and numbers of frames, and differences.
+//! Sums and differences of frames and numbers of frames.
 ghost use Rattle.std.specs.Prelude.{◌≡◌, ◌+◌, ◌-◌, ◌*◌, ◌/◌, ◌^◌, ◌<◌, ◌≤◌};
 
 use crate::frame::PhysFrame;
@@ -12,8 +12,10 @@ impl<S: PageSize> Add<u64> for PhysFrame<S> {
 
     ghost add_gives = { λ frame count sum. sum ≡ frame + count * S.SIZE };
 
-    /// Gives the frame so many frames above, whose start must be below 2^52: test that by [`u64::checked_add`] of its number
-    /// and [`PhysFrame::try_from_pfn`].
+    /// Returns the frame `rhs` frames above.
+    ///
+    /// Requires that its start is below 2^52. Check this with [`u64::checked_add`] on the frame number and
+    /// [`PhysFrame::try_from_pfn`].
     fn add(self, rhs: u64) -> PhysFrame<S> {
         PhysFrame::from_start_address_unchecked(self.start_address() + rhs * S::SIZE)
     }
@@ -24,7 +26,7 @@ impl<S: PageSize> AddAssign<u64> for PhysFrame<S> {
 
     ghost add_assign_gives = { λ frame count sum. sum ≡ frame + count * S.SIZE };
 
-    /// Moves up by so many frames, as `+` does.
+    /// Moves up by `rhs` frames, under the condition of `+`.
     fn add_assign(&mut self, rhs: u64) {
         *self = *self + rhs;
     }
@@ -37,8 +39,9 @@ impl<S: PageSize> Sub<u64> for PhysFrame<S> {
 
     ghost sub_gives = { λ frame count difference. difference ≡ frame - count * S.SIZE };
 
-    /// Gives the frame so many frames below, whose start must not be negative: test that by `<=` of the count and
-    /// [`PhysFrame::pfn`].
+    /// Returns the frame `rhs` frames below.
+    ///
+    /// Requires that its start isn't negative. Check this with `<=` on the count and [`PhysFrame::pfn`].
     fn sub(self, rhs: u64) -> PhysFrame<S> {
         PhysFrame::from_start_address_unchecked(self.start_address() - rhs * S::SIZE)
     }
@@ -49,7 +52,7 @@ impl<S: PageSize> SubAssign<u64> for PhysFrame<S> {
 
     ghost sub_assign_gives = { λ frame count difference. difference ≡ frame - count * S.SIZE };
 
-    /// Moves down by so many frames, as `-` does.
+    /// Moves down by `rhs` frames, under the condition of `-`.
     fn sub_assign(&mut self, rhs: u64) {
         *self = *self - rhs;
     }
@@ -62,8 +65,9 @@ impl<S: PageSize> Sub<PhysFrame<S>> for PhysFrame<S> {
 
     ghost sub_gives = { λ frame other count. count ≡ (frame - other) / S.SIZE };
 
-    /// Gives how many frames the start is above that of the other, which must not be above it: test that by `<=` of the
-    /// frames.
+    /// Returns the number of frames from `rhs` up to `self`.
+    ///
+    /// Requires that `rhs` isn't above `self`. Check this with `<=` on the frames.
     fn sub(self, rhs: PhysFrame<S>) -> u64 {
         (self.start_address() - rhs.start_address()) / S::SIZE
     }

@@ -6,10 +6,10 @@ use crate::page::PageSize;
 use crate::range::{Block, BlockRange, BlockRangeInclusive};
 use x86_64_addr::addr::PhysAddr;
 
-/// The frames from `start` up to `end`, which is left out.
+/// The frames from `start` up to but excluding `end`.
 pub type PhysFrameRange<S> = BlockRange<PhysFrame<S>>;
 
-/// The frames from `start` to `end`, which is among them.
+/// The frames from `start` up to and including `end`.
 pub type PhysFrameRangeInclusive<S> = BlockRangeInclusive<PhysFrame<S>>;
 
 impl<S: PageSize> Block for PhysFrame<S> {
@@ -45,7 +45,7 @@ impl<S: PageSize> Block for PhysFrame<S> {
 }
 
 impl<S: PageSize> PhysFrame<S> {
-    /// Gives the frames from one up to another, which is left out.
+    /// Returns the frames from `start` up to but excluding `end`.
     pub fn range(start: Self, end: Self) -> PhysFrameRange<S>
         ensures start { result.start ≡ start }
         ensures end { result.end ≡ end }
@@ -53,7 +53,7 @@ impl<S: PageSize> PhysFrame<S> {
         PhysFrameRange { start, end }
     }
 
-    /// Gives the frames from one to another, which is among them.
+    /// Returns the frames from `start` up to and including `end`.
     pub fn range_inclusive(start: Self, end: Self) -> PhysFrameRangeInclusive<S>
         ensures start { result.start ≡ start }
         ensures end { result.end ≡ end }

@@ -1,4 +1,4 @@
-//! Pages by the indices of their path.
+//! Pages by the indices of their paths.
 ghost use Rattle.std.specs.Prelude.{◌≡◌, ◌+◌, ◌*◌};
 ghost use Rattle.x86_64_addr.specs.Position.{span, index};
 
@@ -7,7 +7,7 @@ use x86_64_addr::addr::VirtAddr;
 use x86_64_addr::index::PageTableIndex;
 
 impl Page<Size4KiB> {
-    /// Gives the 4KiB page that has the indices, that of level four first.
+    /// Returns the 4KiB page with the given indices, from level four down.
     pub fn from_page_table_indices(
         p4_index: PageTableIndex,
         p3_index: PageTableIndex,
@@ -31,7 +31,7 @@ impl Page<Size4KiB> {
 }
 
 impl Page<Size2MiB> {
-    /// Gives the 2MiB page that has the indices, that of level four first.
+    /// Returns the 2MiB page with the given indices, from level four down.
     pub fn from_page_table_indices_2mib(
         p4_index: PageTableIndex,
         p3_index: PageTableIndex,
@@ -49,7 +49,7 @@ impl Page<Size2MiB> {
 }
 
 impl Page<Size1GiB> {
-    /// Gives the 1GiB page that has the indices, that of level four first.
+    /// Returns the 1GiB page with the given indices, from level four down.
     pub fn from_page_table_indices_1gib(p4_index: PageTableIndex, p3_index: PageTableIndex) -> Self
         ensures start { result ≡ p4_index * span 4 + p3_index * span 3 }
         ensures level_four { index 4 result ≡ p4_index }

@@ -1,5 +1,5 @@
-//! Sums of pages and numbers of pages, and differences: they count raw values, so no sum goes over the gap in the middle of the
-//! address space, as [`PageIn::forward_checked`] and [`PageIn::backward_checked`] do.
+//! Sums and differences of pages and numbers of pages, by raw value. Unlike [`PageIn::forward_checked`] and
+//! [`PageIn::backward_checked`], they don't step over the gap in the middle of the address space.
 ghost use Rattle.std.specs.Prelude.{◌≡◌, ◌+◌, ◌-◌, ◌*◌, ◌/◌, ◌^◌, ◌<◌, ◌≤◌};
 ghost use Rattle.x86_64_addr.specs.Position.{raw, IsCanonical};
 
@@ -15,8 +15,10 @@ impl<S: PageSize, L: LevelCount> Add<u64> for PageIn<S, L> {
 
     ghost add_gives = { λ page count sum. raw L.LEVELS sum ≡ raw L.LEVELS page + count * S.SIZE };
 
-    /// Gives the page whose raw start is so many pages above. The raw start must be canonical, and the distance fit 64 bits:
-    /// test that by [`u64::checked_mul`], [`u64::checked_add`] and [`try_new`](x86_64_addr::addr::VirtAddr::try_new).
+    /// Returns the page whose raw start is `rhs` pages above.
+    ///
+    /// Requires that the raw start is canonical, and that the distance fits 64 bits. Check this with [`u64::checked_mul`],
+    /// [`u64::checked_add`] and [`try_new`](x86_64_addr::addr::VirtAddr::try_new).
     fn add(self, rhs: u64) -> PageIn<S, L> {
         PageIn::from_start_address_unchecked(self.start_address() + rhs * S::SIZE)
     }
@@ -28,7 +30,7 @@ impl<S: PageSize, L: LevelCount> AddAssign<u64> for PageIn<S, L> {
 
     ghost add_assign_gives = { λ page count sum. raw L.LEVELS sum ≡ raw L.LEVELS page + count * S.SIZE };
 
-    /// Moves up by so many pages, as `+` does.
+    /// Moves up by `rhs` pages, under the conditions of `+`.
     fn add_assign(&mut self, rhs: u64) {
         *self = *self + rhs;
     }
@@ -42,8 +44,10 @@ impl<S: PageSize, L: LevelCount> Sub<u64> for PageIn<S, L> {
 
     ghost sub_gives = { λ page count rest. raw L.LEVELS rest ≡ raw L.LEVELS page - count * S.SIZE };
 
-    /// Gives the page whose raw start is so many pages below. The raw start must be canonical, and not negative: test that
-    /// by [`u64::checked_mul`], [`u64::checked_sub`] and [`try_new`](x86_64_addr::addr::VirtAddr::try_new).
+    /// Returns the page whose raw start is `rhs` pages below.
+    ///
+    /// Requires that the raw start is canonical and isn't negative. Check this with [`u64::checked_mul`], [`u64::checked_sub`]
+    /// and [`try_new`](x86_64_addr::addr::VirtAddr::try_new).
     fn sub(self, rhs: u64) -> PageIn<S, L> {
         PageIn::from_start_address_unchecked(self.start_address() - rhs * S::SIZE)
     }
@@ -55,7 +59,7 @@ impl<S: PageSize, L: LevelCount> SubAssign<u64> for PageIn<S, L> {
 
     ghost sub_assign_gives = { λ page count rest. raw L.LEVELS rest ≡ raw L.LEVELS page - count * S.SIZE };
 
-    /// Moves down by so many pages, as `-` does.
+    /// Moves down by `rhs` pages, under the conditions of `-`.
     fn sub_assign(&mut self, rhs: u64) {
         *self = *self - rhs;
     }
@@ -68,8 +72,9 @@ impl<S: PageSize, L: LevelCount> Sub<PageIn<S, L>> for PageIn<S, L> {
 
     ghost sub_gives = { λ page other count. count ≡ (raw L.LEVELS page - raw L.LEVELS other) / S.SIZE };
 
-    /// Gives how many pages the raw start is above that of the other, which must not be above it: test that by `<=` of the
-    /// pages.
+    /// Returns the number of pages from the raw start of `rhs` up to that of `self`.
+    ///
+    /// Requires that `rhs` isn't above `self`. Check this with `<=` on the pages.
     fn sub(self, rhs: PageIn<S, L>) -> u64 {
         (self.start_address() - rhs.start_address()) / S::SIZE
     }

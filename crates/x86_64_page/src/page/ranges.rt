@@ -1,4 +1,4 @@
-//! Ranges of pages.
+//! Ranges of pages, in order of position: the number of an address counted without the gap in the middle of the address space.
 ghost use Rattle.std.specs.Prelude.{◌≡◌, ℕ, ◌%◌};
 
 use crate::page::{Page, Page57, PageIn, PageSize, Size2MiB, Size4KiB};
@@ -6,13 +6,13 @@ use crate::range::{Block, BlockRange, BlockRangeInclusive};
 use x86_64_addr::addr::VirtAddrIn;
 use x86_64_addr::level_count::LevelCount;
 
-/// The pages from `start` up to `end`, which is left out, by position.
+/// The pages from `start` up to but excluding `end`, by position.
 pub type PageRange<S> = BlockRange<Page<S>>;
 
-/// The pages from `start` to `end`, which is among them, by position.
+/// The pages from `start` up to and including `end`, by position.
 pub type PageRangeInclusive<S> = BlockRangeInclusive<Page<S>>;
 
-/// The pages from `start` to `end`, which is among them, by position, where there are five levels of tables.
+/// The pages from `start` up to and including `end`, by position, with five levels of page tables.
 pub type PageRangeInclusive57<S> = BlockRangeInclusive<Page57<S>>;
 
 impl<S: PageSize, L: LevelCount> Block for PageIn<S, L> {
@@ -54,7 +54,7 @@ impl<S: PageSize, L: LevelCount> Block for PageIn<S, L> {
 }
 
 impl<S: PageSize> Page<S> {
-    /// Gives the pages from one up to another, which is left out.
+    /// Returns the pages from `start` up to but excluding `end`.
     pub fn range(start: Self, end: Self) -> PageRange<S>
         ensures start { result.start ≡ start }
         ensures end { result.end ≡ end }
@@ -64,7 +64,7 @@ impl<S: PageSize> Page<S> {
 }
 
 impl<S: PageSize, L: LevelCount> PageIn<S, L> {
-    /// Gives the pages from one to another, which is among them.
+    /// Returns the pages from `start` up to and including `end`.
     pub fn range_inclusive(start: Self, end: Self) -> BlockRangeInclusive<Self>
         ensures start { result.start ≡ start }
         ensures end { result.end ≡ end }
@@ -74,7 +74,7 @@ impl<S: PageSize, L: LevelCount> PageIn<S, L> {
 }
 
 impl BlockRange<Page<Size2MiB>> {
-    /// Gives the pages of 4KiB that the pages of the range consist of.
+    /// Returns the 4KiB pages that make up the pages of the range.
     pub fn as_4kib_page_range(self) -> PageRange<Size4KiB>
         ensures start { result.start ≡ self.start }
         ensures end { result.end ≡ self.end }

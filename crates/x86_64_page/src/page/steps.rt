@@ -1,4 +1,7 @@
-//! Steps along the pages of a size, in order of their positions: they go on after the gap in the middle of the address space.
+//! Steps through the pages of a size, in order of their positions: they continue after the gap in the middle of the address
+//! space.
+//!
+//! A position is the number of an address counted without the gap.
 ghost use Rattle.std.specs.Prelude.{◌≡◌, ◌*◌};
 ghost use Rattle.x86_64_addr.specs.Position.{position_count};
 ghost use Rattle.x86_64_addr.specs.Successor.{forward, backward};
@@ -9,28 +12,27 @@ use crate::range::places;
 use x86_64_addr::level_count::LevelCount;
 
 impl<S: PageSize, L: LevelCount> PageIn<S, L> {
-    /// Gives the page so many pages on.
+    /// Returns the page `count` pages after `start`.
     ///
-    /// Answers `None` exactly where there is none: where the position that it would have isn't below the number of
-    /// positions, 2^48 or 2^57.
+    /// Returns `None` if its position wouldn't be below the number of positions, 2^48 or 2^57.
     pub fn forward_checked(start: Self, count: usize) -> Option<Self>
         ensures { result ≡ forward (position_count L.LEVELS) start (count * S.SIZE) }
     {
         places::forward_checked(start, count)
     }
 
-    /// Gives the page so many pages before.
+    /// Returns the page `count` pages before `start`.
     ///
-    /// Answers `None` exactly where there is none: where so many pages have more bytes than lie below the start.
+    /// Returns `None` if `count` pages have more bytes than lie below the start.
     pub fn backward_checked(start: Self, count: usize) -> Option<Self>
         ensures { result ≡ backward start (count * S.SIZE) }
     {
         places::backward_checked(start, count)
     }
 
-    /// Counts the pages from one up to another, as a lower and an upper bound, which are equal.
+    /// Returns the number of pages from `start` to `end`, as equal lower and upper bounds.
     ///
-    /// Answers `(0, None)` where the second is below the first.
+    /// Returns `(0, None)` if `end` is below `start`.
     pub fn steps_between(start: &Self, end: &Self) -> (usize, Option<usize>)
         ensures { result ≡ pages_between S.SIZE start.now end.now }
     {

@@ -1,7 +1,7 @@
-//! Ranges that have their end.
+//! Ranges that include their end.
 //!
-//! No block comes after the greatest one, and none before the first. So where the greatest is taken from the front, `end` is
-//! lowered below `start`, and where the first is taken from the back, `start` is raised above `end`.
+//! No block comes after the greatest one, and none before the first. So if the greatest is taken from the front, `end` is lowered
+//! below `start`, and if the first is taken from the back, `start` is raised above `end`.
 ghost use Rattle.std.specs.Prelude.{◌≡◌, ℕ, ◌+◌, ◌-◌, ◌*◌, ◌<◌, ◌≤◌, ◌↔◌, IsTrue, IfSome, Some, option_map, [], length, slice_get, reverse};
 ghost use Rattle.std.specs.Iterator.{YieldsFirstBy, YieldsLastBy, item_count, UpTo, at_most};
 ghost use Rattle.std.specs.Iterator.SizeHint.{IsWithinCount};
@@ -10,7 +10,7 @@ ghost use Rattle.x86_64_page.specs.Blocks.{blocks_inclusive, ends, front_taken_i
 use crate::range::{Block, write_range};
 use std::fmt::{Debug, Formatter, Result as FmtResult, Write};
 
-/// The blocks from `start` to `end`, which is among them. It is empty where `start` lies after `end`.
+/// The blocks from `start` up to and including `end`. The range is empty if `start` lies after `end`.
 #[derive(Clone, Copy, PartialEq, Eq, Hash)]
 pub struct BlockRangeInclusive<B: Block> {
     /// The first block.
@@ -20,7 +20,7 @@ pub struct BlockRangeInclusive<B: Block> {
 }
 
 impl<B: Block> BlockRangeInclusive<B> {
-    /// Tells whether there is no block in the range.
+    /// Returns true if the range has no block.
     pub fn is_empty(&self) -> bool
         ensures { let start = B.place self.now.start in let end = B.place self.now.end in
             IsTrue result ↔ (blocks_inclusive B.SIZE start end ≡ []) }
@@ -28,7 +28,7 @@ impl<B: Block> BlockRangeInclusive<B> {
         self.start.place() > self.end.place()
     }
 
-    /// Gives how many blocks there are.
+    /// Returns the number of blocks.
     pub fn len(&self) -> u64
         ensures { let start = B.place self.now.start in let end = B.place self.now.end in
             result ≡ length (blocks_inclusive B.SIZE start end) }
@@ -36,7 +36,7 @@ impl<B: Block> BlockRangeInclusive<B> {
         self.size() / B::SIZE
     }
 
-    /// Gives how many bytes there are in the blocks.
+    /// Returns the number of bytes in the blocks.
     pub fn size(&self) -> u64
         ensures { let start = B.place self.now.start in let end = B.place self.now.end in
             result ≡ length (blocks_inclusive B.SIZE start end) * B.SIZE }
@@ -44,7 +44,7 @@ impl<B: Block> BlockRangeInclusive<B> {
         (self.end.place() + B::SIZE).saturating_sub(self.start.place())
     }
 
-    /// Drops `n` blocks and takes one, in constant time. The range is left as `n + 1` calls of `next` leave it.
+    /// Skips `n` blocks and returns the next one, in constant time. Leaves the range as `n + 1` calls of `next` do.
     pub fn nth(&mut self, n: usize) -> Option<B>
         ensures item { let start = B.place self.old.start in let end = B.place self.old.end in
             option_map B.place result ≡ slice_get (blocks_inclusive B.SIZE start end) n }
@@ -64,8 +64,8 @@ impl<B: Block> BlockRangeInclusive<B> {
         None
     }
 
-    /// Drops `n` blocks from the back and takes one, in constant time. The range is left as `n + 1` calls of `next_back` leave
-    /// it.
+    /// Skips `n` blocks from the back and returns the next one, in constant time. Leaves the range as `n + 1` calls of
+    /// `next_back` do.
     pub fn nth_back(&mut self, n: usize) -> Option<B>
         ensures item { let start = B.place self.old.start in let end = B.place self.old.end in
             option_map B.place result ≡ slice_get (reverse (blocks_inclusive B.SIZE start end)) n }
@@ -85,7 +85,7 @@ impl<B: Block> BlockRangeInclusive<B> {
         None
     }
 
-    /// Leaves the blocks after a block. Where it is the greatest, `end` is lowered, since no block comes after it.
+    /// Leaves the blocks after a block. If it is the greatest, `end` is lowered, since no block comes after it.
     fn leave_at_front(&mut self, block: B)
         ensures raised { B.place block + B.SIZE < B.LIMIT →
             (B.place self.new.start ≡ B.place block + B.SIZE)
@@ -102,7 +102,7 @@ impl<B: Block> BlockRangeInclusive<B> {
         }
     }
 
-    /// Leaves the blocks before a block. Where it is the first, `start` is raised, since no block comes before it.
+    /// Leaves the blocks before a block. If it is the first, `start` is raised, since no block comes before it.
     fn leave_at_back(&mut self, block: B)
         ensures lowered { B.SIZE ≤ B.place block →
             (B.place self.new.start ≡ B.place self.old.start)

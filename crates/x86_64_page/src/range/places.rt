@@ -1,4 +1,4 @@
-//! Blocks by the places where they start: the block at a place, the one around it, and steps along the blocks of a size.
+//! Blocks by place, where a block starts: the block at a place, the one around it, and steps through the blocks of a size.
 ghost use Rattle.std.specs.Prelude.{◌≡◌, ◌-◌, ◌*◌, ◌%◌, ◌<◌, ◌↔◌, IsOk, IfOk, option_map};
 ghost use Rattle.x86_64_addr.specs.Successor.{forward, backward};
 ghost use Rattle.x86_64_page.specs.Steps.{pages_between};
@@ -6,9 +6,13 @@ ghost use Rattle.x86_64_page.specs.Steps.{pages_between};
 use crate::page::AddressNotAligned;
 use crate::range::Block;
 
-/// Gives the block that starts at a place, which must be below the limit.
+/// Returns the block that starts at a place.
 ///
-/// Answers `AddressNotAligned` exactly where the place isn't a multiple of the size.
+/// Requires that the place is below the limit.
+///
+/// # Errors
+///
+/// `AddressNotAligned` if the place isn't a multiple of the size.
 pub(crate) fn starting_at<B: Block>(place: u64) -> Result<B, AddressNotAligned>
     requires { place < B.LIMIT }
     ensures aligned { IsOk result ↔ (place % B.SIZE ≡ 0) }
@@ -21,7 +25,9 @@ pub(crate) fn starting_at<B: Block>(place: u64) -> Result<B, AddressNotAligned>
     }
 }
 
-/// Gives the block that contains a place, which must be below the limit: it starts at the place rounded down to the size.
+/// Returns the block that contains a place: it starts at the place rounded down to the size.
+///
+/// Requires that the place is below the limit.
 #[tactic(auto, using(crate::proofs::Multiples::rounded_down))]
 pub(crate) fn containing<B: Block>(place: u64) -> B
     requires { place < B.LIMIT }
@@ -30,9 +36,9 @@ pub(crate) fn containing<B: Block>(place: u64) -> B
     B::at(place - place % B::SIZE)
 }
 
-/// Gives the block so many blocks on.
+/// Returns the block `count` blocks after `start`.
 ///
-/// Answers `None` exactly where there is none: where the place that it would have isn't below the limit.
+/// Returns `None` if its place wouldn't be below the limit.
 pub(crate) fn forward_checked<B: Block>(start: B, count: usize) -> Option<B>
     ensures { option_map B.place result ≡ forward B.LIMIT (B.place start) (count * B.SIZE) }
 {
@@ -45,9 +51,9 @@ pub(crate) fn forward_checked<B: Block>(start: B, count: usize) -> Option<B>
     }
 }
 
-/// Gives the block so many blocks before.
+/// Returns the block `count` blocks before `start`.
 ///
-/// Answers `None` exactly where there is none: where so many blocks have more bytes than lie below the start.
+/// Returns `None` if `count` blocks have more bytes than lie below the start.
 pub(crate) fn backward_checked<B: Block>(start: B, count: usize) -> Option<B>
     ensures { option_map B.place result ≡ backward (B.place start) (count * B.SIZE) }
 {
@@ -60,9 +66,9 @@ pub(crate) fn backward_checked<B: Block>(start: B, count: usize) -> Option<B>
     }
 }
 
-/// Counts the blocks from one up to another, as a lower and an upper bound, which are equal.
+/// Returns the number of blocks from `start` to `end`, as equal lower and upper bounds.
 ///
-/// Answers `(0, None)` where the second is below the first.
+/// Returns `(0, None)` if `end` is below `start`.
 pub(crate) fn steps_between<B: Block>(start: B, end: B) -> (usize, Option<usize>)
     ensures { result ≡ pages_between B.SIZE (B.place start) (B.place end) }
 {

@@ -1,23 +1,23 @@
--- Joining: regions are handed out as they are found. One that may still grow is held back until one comes that doesn't follow on it.
+-- Joining regions as they are found. A region that may still grow is held back until a region arrives that doesn't follow it.
 use Rattle.std.specs.Prelude.{◌≡◌, ℕ, ◌-◌, cond, List, [], ◌∷◌, ◌++◌, Option, Some, None}
 use Rattle.x86_64_model.specs.Mappings.{Mapping, Rights}
 use Rattle.x86_64_model.specs.Regions.{Region, region_of, follows, grown_to}
 
--- the region from a position to before another
+-- the region from a position up to another, which is excluded
 abbrev pub region_between : (from to : ℕ) → Rights → Region
 region_between a b rights = record { first = a; last = b - 1; rights = rights }
 
--- the region that is held back once one came behind it
+-- the region that is held back after another one arrives
 abbrev pub held_with : (L : ℕ) → (held : Option Region) → Region → Region
 held_with L None s = s
 held_with L (Some r) s = cond (follows L r s) (grown_to r s) s
 
--- the regions that are handed out as one comes
+-- the regions that are handed out when one arrives
 abbrev pub given_with : (L : ℕ) → (held : Option Region) → Region → List Region
 given_with L None s = []
 given_with L (Some r) s = cond (follows L r s) [] (r ∷ [])
 
--- the same once the regions of mappings came, in their order
+-- the region held back, and the regions handed out, after the regions of mappings arrive in order
 unfoldable pub held_after : (L : ℕ) → (held : Option Region) → List Mapping → Option Region
 held_after L held [] = held
 held_after L held (m ∷ ms) = held_after L (Some (held_with L held (region_of m))) ms
@@ -26,17 +26,17 @@ unfoldable pub given_after : (L : ℕ) → (held : Option Region) → List Mappi
 given_after L held [] = []
 given_after L held (m ∷ ms) = given_with L held (region_of m) ++ given_after L (Some (held_with L held (region_of m))) ms
 
--- the region that is held back, if there is one
+-- the list of the region that is held back, if there is one
 abbrev pub listed : (held : Option Region) → List Region
 listed None = []
 listed (Some r) = r ∷ []
 
--- A region came: a visitor took what was handed out, and what is held back is held.
+-- A region arrives: a visitor takes the regions that are handed out, and the joiner holds the region that is held back.
 pub record JoinsRegion {V : Type 0} (visits : V → V → List Region → Type 0) (L : ℕ) (s : Region) (before : Option Region) (visitor : V) (after : Option Region) (visited : V) : Type 0 where
   pub given : visits visitor visited (given_with L before s)
   pub held : after ≡ Some (held_with L before s)
 
--- the same of the regions of mappings
+-- The regions of mappings arrive: a visitor takes what is handed out, and the joiner holds what is held back.
 pub record Joins {V : Type 0} (visits : V → V → List Region → Type 0) (L : ℕ) (ms : List Mapping) (before : Option Region) (visitor : V) (after : Option Region) (visited : V) : Type 0 where
   pub given : visits visitor visited (given_after L before ms)
   pub held : after ≡ held_after L before ms

@@ -1,4 +1,4 @@
--- What is known of tables.
+-- The summaries of tables that are known.
 use Rattle.std.specs.Prelude.{◌≡◌, ℕ, ◌+◌, List, IfSome, nat_eq, slice_get}
 use Rattle.std.specs.declared.hash.FoldHasher.{FoldHasher}
 use Rattle.std.specs.declared.hash.BuildHasherDefault.{BuildHasherDefault}
@@ -8,7 +8,7 @@ use Rattle.x86_64_summaries.specs.declared.query.Query.{Query}
 use Rattle.x86_64_summaries.specs.Summaries.{summary_of}
 use Rattle.x86_64_summaries.specs.Wanted.{Asked, Asking, asked_mappings}
 
--- summaries of tables of a level, by their frames
+-- the summaries of tables of a level, by their frames
 abbrev pub Level : Type 0
 Level = HashMap ℕ Summary (BuildHasherDefault FoldHasher)
 
@@ -16,10 +16,10 @@ Level = HashMap ℕ Summary (BuildHasherDefault FoldHasher)
 abbrev pub IsLevel : Asked → (level : ℕ) → Level → Type 0
 IsLevel asked level m = (frame : ℕ) → IfSome (get nat_eq m frame) (λ s. s ≡ summary_of (asked_mappings asked level frame))
 
--- the same of the levels from one up
+-- the summaries of the levels from one up are right
 abbrev pub AreLevels : Asked → List Level → Type 0
 AreLevels asked levels = (i : ℕ) → IfSome (slice_get levels i) (IsLevel asked (i + 1))
 
--- what a query asks
+-- the memory, the mapping of frames and the wanted address of a query
 abbrev pub asking : {T P : Type 0} → Query T P → Asking T P
 asking q = record { memory = q.memory.now; mapping = q.mapping.now; wanted = q.wanted }

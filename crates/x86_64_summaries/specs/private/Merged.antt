@@ -1,4 +1,4 @@
--- Summaries put together.
+-- Merging of summaries.
 use Rattle.std.specs.Prelude.{◌+◌, ◌==◌, ◌&&◌, ◌||◌, cond}
 use Rattle.x86_64_tables.specs.declared.phys_memory.walk.Rights.{Rights}
 use Rattle.x86_64_summaries.specs.declared.summary.Summary.{Summary}
@@ -7,14 +7,14 @@ use Rattle.x86_64_summaries.specs.declared.summary.Summary.{Summary}
 abbrev pub both : (r s : Rights) → Rights
 both r s = record { write = r.write && s.write; user = r.user && s.user; execute = r.execute && s.execute }
 
--- what one of them allows
+-- what at least one of them allows
 abbrev pub either : (r s : Rights) → Rights
 either r s = record { write = r.write || s.write; user = r.user || s.user; execute = r.execute || s.execute }
 
--- what mappings are together with others
+-- the summary of mappings together with others
 abbrev pub joined : (some others : Summary) → Summary
 joined s t = record { count = s.count + t.count; bytes = s.bytes + t.bytes; some = either s.some t.some; all = both s.all t.all }
 
--- what mappings are below words with rights r; where there is none, nothing changes
+-- the summary of mappings below words with rights r; for no mappings it doesn't change
 abbrev pub lessened : Rights → Summary → Summary
 lessened r s = cond (s.count == 0) s (record { count = s.count; bytes = s.bytes; some = both r s.some; all = both r s.all })

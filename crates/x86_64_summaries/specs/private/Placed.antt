@@ -1,4 +1,4 @@
--- Mappings placed: those of a table, as they are seen from the tables above it.
+-- Placed mappings: the mappings of a table, as seen from the tables above it.
 use Rattle.std.specs.Prelude.{ℕ, ◌+◌, ◌&&◌}
 use Rattle.x86_64_model.specs.Mappings.{Rights, Mapping}
 

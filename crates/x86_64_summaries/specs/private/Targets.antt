@@ -1,4 +1,4 @@
--- What an entry leads to, and the mappings by it: none, the page that it maps, or those of the table that it names, placed.
+-- What an entry leads to, and the mappings by it: none, the page that it maps, or the placed mappings of the table it names.
 use Rattle.std.specs.Prelude.{ℕ, ◌+◌, ◌-◌, cond, List, [], ◌∷◌, ◌++◌, map, filter}
 use Rattle.x86_64_model.specs.Entry.{present, huge, address}
 use Rattle.x86_64_model.specs.Memory.{Words}
@@ -14,7 +14,7 @@ use Rattle.x86_64_summaries.specs.private.Placed.{placed}
 abbrev pub target_of : (level entry : ℕ) → Target
 target_of level e = cond (present e) (cond (maps_page level e) Page (cond (huge e) Nothing (Table (address e)))) Nothing
 
--- it names a table
+-- the entry names a table
 abbrev pub IsTable : Target → Type 0
 IsTable (Table frame) = Unit {0}
 IsTable _ = ⊥
@@ -25,11 +25,11 @@ mapped_by T level s r e Nothing = []
 mapped_by T level s r e Page = page_from s level r e ∷ []
 mapped_by T level s r e (Table frame) = map (placed s (narrowed r e)) (mappings_of (level - 1) T frame)
 
--- the wanted ones of them
+-- the wanted mappings by an entry
 abbrev pub asked_by : Asked → (level start : ℕ) → Rights → (entry : ℕ) → List Mapping
 asked_by asked level s r e = filter (is_wanted asked.wanted) (mapped_by asked.words level s r e (target_of level e))
 
--- those by the entries of a level, one after the other, the first of which has a span from a position on
+-- the wanted mappings by entries of a level, one after the other, where the span of the first starts at a position
 abbrev pub asked_on : Asked → (level start : ℕ) → Rights → (entries : List ℕ) → List Mapping
 asked_on asked level s r [] = []
 asked_on asked level s r (e ∷ rest) = asked_by asked level s r e ++ asked_on asked level (s + span level) r rest

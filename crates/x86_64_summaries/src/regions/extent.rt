@@ -12,18 +12,18 @@ use crate::summary::Summary;
 use x86_64_mappings::span;
 use x86_64_tables::phys_memory::Rights;
 
-/// Says how much of its span a table maps, as far as it is known.
+/// How much of its span a table maps, as far as it is known.
 #[derive(Clone, Copy)]
 pub(super) enum Extent {
     /// Nothing that is wanted.
     Nothing,
-    /// All of it, with the same rights.
+    /// All of it, with equal rights.
     Whole(Rights),
-    /// Some of it, or all with different rights, or it isn't known.
+    /// Some of it, or all of it with different rights, or this isn't known.
     Mixture,
 }
 
-/// Tells how much of its span a table of a level maps, below entries that allow so much, by its summary if that is known.
+/// Returns how much of its span a table of a level maps, below entries that allow `above`, by its summary if that is known.
 pub(super) fn extent_of(summary: Option<Summary>, level: u64, above: Rights) -> Extent
     requires low { 1 ≤ level }
     requires high { level < 5 }
@@ -49,7 +49,7 @@ pub(super) fn extent_of(summary: Option<Summary>, level: u64, above: Rights) -> 
     }
 }
 
-/// Tells whether rights are the same.
+/// Returns true if rights are equal.
 fn are_equal(some: Rights, others: Rights) -> bool
     ensures { IsTrue result ↔ (some ≡ others) }
 {

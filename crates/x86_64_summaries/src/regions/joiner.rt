@@ -1,4 +1,4 @@
-//! Regions that are joined as they are found.
+//! Joins regions as they are found.
 ghost use Rattle.std.specs.Prelude.{◌≡◌, OnOk, None};
 ghost use Rattle.x86_64_summaries.specs.private.Joined.{JoinsRegion, listed};
 
@@ -7,8 +7,8 @@ use std::marker::Model;
 use x86_64_addr::level_count::LevelCount;
 use x86_64_mappings::RegionIn;
 
-/// Joins regions that come in order, as far as each follows on the one before, and hands them to a visitor. It is seen as the
-/// region that is held back, since it may still grow.
+/// A joiner of regions that arrive in order. It joins each with the one before if it follows that, and passes the results to
+/// a visitor. Contracts see it as the region that is held back because it may still grow.
 #[derive(Clone, Copy)]
 pub(super) struct Joiner<L: LevelCount> {
     held: Option<RegionIn<L>>,
@@ -28,14 +28,18 @@ impl<L: LevelCount> Model for Joiner<L> {
 }
 
 impl<L: LevelCount> Joiner<L> {
-    /// Holds no region back.
+    /// Creates a joiner that holds no region back.
     pub(super) fn new() -> Joiner<L>
         ensures { result ≡ None }
     {
         Joiner { held: None }
     }
 
-    /// Takes a region that comes behind those that it took.
+    /// Takes a region that comes after those taken before.
+    ///
+    /// # Errors
+    ///
+    /// The error of the visitor.
     pub(super) fn push<V: Visitor<RegionIn<L>>>(
         &mut self,
         region: RegionIn<L>,
@@ -55,7 +59,11 @@ impl<L: LevelCount> Joiner<L> {
         Ok(())
     }
 
-    /// Hands out the region that is held back, behind which none comes.
+    /// Passes the region that is held back to the visitor, since no other region comes after it.
+    ///
+    /// # Errors
+    ///
+    /// The error of the visitor.
     pub(super) fn finish<V: Visitor<RegionIn<L>>>(self, visitor: &mut V) -> Result<(), V::Error>
         ensures { OnOk result (V.Visits visitor.old visitor.new (listed self)) }
     {

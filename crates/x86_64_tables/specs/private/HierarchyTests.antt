@@ -1,4 +1,4 @@
--- What the tests of a hierarchy tell, all of them as one.
+-- What the tests of a hierarchy decide, as one definition.
 use Rattle.std.specs.Prelude.{ℕ, ◌^◌, Option, Some, None}
 use Rattle.x86_64_model.specs.Hierarchy.{IsValid, paths_of}
 use Rattle.x86_64_model.specs.Pool.{serves_below}
@@ -16,7 +16,7 @@ Passes L T root (Some r) None = let window = Some (window_at T root r) in
 Passes L T root recursive (Some pool) = let window = window_in T root recursive in
     Fits L window T root (paths_of L (outside_window window root T) root) (serves_below pool.limit) pool.frames
 
--- the number that those of frames are below: the limit of the pool, or what entries have room for
+-- the bound of frame numbers: the limit of the pool, or the number of frames that entries can address
 abbrev pub limit_of : Option FreeFrames → ℕ
 limit_of None = 2 ^ 40
 limit_of (Some pool) = pool.limit

@@ -1,4 +1,4 @@
--- Places in the order of their numbers, and those at their front that have no gap between them.
+-- Places in the order of their numbers, of which those at the front have no gap between them.
 use Rattle.std.specs.Prelude.{◌≡◌, ℕ, ◌+◌, ◌^◌, ◌<◌, ◌≤◌, List, length, slice_index}
 
 -- the first `run` places are the numbers from `first` on

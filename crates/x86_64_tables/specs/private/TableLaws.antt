@@ -1,4 +1,4 @@
--- Proofs of laws that memories of tables give. A `ghost use` names no file of proofs/.
+-- Proofs of the laws of table memories. They are here because a `ghost use` can't name a file of proofs/.
 use Rattle.std.specs.Prelude.{◌≡◌, ◌<◌, ◌+◌, ℕ, suc, zero, Bool, true, false, cond, List, [], ◌∷◌, length, Option, Some, IsSome, is_some, slice_set}
 use Rattle.std.specs.Cmp.{nat_cmp_total}
 use Rattle.std.specs.FinMap.{get, insert, get-empty, get-insert, same_map, nat_cmp-IsAntisymmetric}
@@ -12,7 +12,7 @@ use Rattle.x86_64_model.specs.Memory.{Memory}
 use Rattle.x86_64_tables.specs.LentMemory.{numbered}
 use Rattle.x86_64_tables.specs.PhysMemory.{tables_at}
 
--- a place stays in the memory when a table is put at a place
+-- the memory keeps its places when a table is inserted
 pub stays_there : (memory : Memory) (place : ℕ) (table : List ℕ) (other : ℕ)
     → IsSome (get memory other) → IsSome (get (insert memory place table) other)
 stays_there memory place table other there =
@@ -22,11 +22,11 @@ stays_there memory place table other there =
     at true = refl
     at false = there
 
--- tables at the places from k on
+-- a memory with the given tables at the places from k on
 abbrev from : (k : ℕ) → List (List ℕ) → Memory
 from k ts = tables_at (range_with_len k (length ts)) ts
 
--- the last put at a place counts, and those at two places may be swapped
+-- the last insertion at a place counts, and insertions at two places can be swapped
 put_again : (m : Memory) (k : ℕ) (t w : List ℕ) → insert m k w ≡ insert (insert m k t) k w
 put_again m k t w = same_map nat_cmp_total nat_cmp-IsAntisymmetric _ _ (λ q.
     get-insert nat_cmp_total m k w q ∙ either q (eq_by_cmp nat_cmp q k) (get-insert nat_cmp_total m k t q)
@@ -69,7 +69,7 @@ set-from k (t ∷ ts) (suc i) w h =
     ap (λ m. insert m k t) (set-from (k + 1) ts i w (omega (arith, h)) ∙ ap (λ j. insert (from (k + 1) ts) j w) e)
     ∙ put_swapped (from (k + 1) ts) k (k + suc i) t w (λ f. absurd (omega (arith, f)))
 
--- the places from k on are there, and no others
+-- there is a place from k on for each table, and no other place
 there-from : (k : ℕ) (ts : List (List ℕ)) (i : ℕ) → i < length ts → IsSome (get (from k ts) (k + i))
 there-from k [] i h = absurd (omega arith)
 there-from k (t ∷ ts) zero h =
@@ -89,7 +89,7 @@ within-from k (t ∷ ts) q has = ⊎_elim
     ∙ ap (λ b. cond b (Some t) (get (from (k + 1) ts) q)) (other_key q k n))) ∙ has) in omega (arith, far))
     (cases_eq q k)
 
--- a table of a slice that is set is inserted at its place
+-- setting a table of a slice inserts it at its place
 pub numbered_set : (tables : List (List ℕ)) (place : ℕ) (table : List ℕ) → IsSome (get (numbered tables) place)
     → numbered (slice_set tables place table) ≡ insert (numbered tables) place table
 numbered_set tables place table there =
@@ -100,7 +100,7 @@ numbered_set tables place table there =
     from_zero : 0 + place ≡ place
     from_zero = omega arith
 
--- a place stays in the memory when a table of the slice is set
+-- the memory keeps its places when a table of the slice is set
 pub stays_numbered : (tables : List (List ℕ)) (place : ℕ) (table : List ℕ) (other : ℕ)
     → IsSome (get (numbered tables) other) → IsSome (get (numbered (slice_set tables place table)) other)
 stays_numbered tables place table other there =

@@ -10,29 +10,30 @@ use std::marker::Model;
 use x86_64_page::frame::PhysFrame;
 use x86_64_page::page::{PageSize, Size4KiB};
 
-/// Says why a pool refuses a frame.
+/// The reason why a pool refuses a frame.
 #[derive(Clone, Copy, Debug, PartialEq)]
 pub enum PoolRefusal {
     /// The frame starts at address 0.
     Zero,
     /// The frame's number isn't below the pool's limit.
     OutOfRange,
-    /// The frame is free.
+    /// The frame is already free.
     AlreadyFree,
 }
 
-/// Holds free 4KiB frames, seen as a list, and serves those with numbers from 1 to a limit - 1. The limit never changes.
+/// A pool of free 4KiB frames. It serves the frames with numbers from 1 to a limit minus 1, and the limit never changes.
+/// Contracts see its frames as a list.
 ///
-/// Frames are handed out from the front of the list, and come back to the front. Only `new` takes memory. Adding a frame,
+/// Frames are taken from the front of the list, and put back at the front. Only `new` allocates memory. Adding a frame,
 /// taking one, putting one back and `contains` take constant time.
 ///
-/// Equality is that of the lists: the same frames in the same order.
+/// Two pools are equal if they have the same frames in the same order.
 #[derive(Drop)]
 pub struct FramePool {
     frames: VecDeque<PhysFrame<Size4KiB>>,
-    // For each number below the limit whether the frame of this number is among the frames.
+    // For each number below the limit, whether the frame with this number is free.
     is_free: Vec<bool>,
-    // The laws of the allocator speak of any value that contracts see, so this fact is a part of the value.
+    // The laws of the allocator are about every value that contracts see, so this fact is part of the value.
     ghost served: { (f : ℕ) → In frames.items f → serves_below (vec_len is_free) f ≡ true },
 }
 
@@ -51,11 +52,11 @@ impl Model for FramePool {
 }
 
 impl FramePool {
-    /// Makes a pool without frames that serves those with numbers from 1 to `limit` - 1, and reserves a place for each.
+    /// Creates an empty pool that serves the frames with numbers from 1 to `limit` - 1, and reserves room for all of them.
     ///
     /// # Errors
     ///
-    /// `AllocError` where memory is refused.
+    /// `AllocError` if memory allocation fails.
     pub fn new(alloc: Global, limit: u64) -> Result<FramePool, AllocError>
         ensures empty { IfOk result (λ pool. pool.frames ≡ []) }
         ensures limit { IfOk result (λ pool. pool.limit ≡ limit) }
@@ -71,8 +72,8 @@ impl FramePool {
     ///
     /// # Errors
     ///
-    /// `Zero` for the frame at address 0, else `OutOfRange` where the frame's number isn't below the limit, else
-    /// `AlreadyFree` where the frame is free. A refusal changes nothing.
+    /// `Zero` for the frame at address 0, else `OutOfRange` if the frame's number isn't below the limit, else `AlreadyFree` if
+    /// the frame is free. On an error nothing changes.
     pub fn try_add(&mut self, frame: PhysFrame<Size4KiB>) -> Result<(), PoolRefusal>
         ensures zero { (result ≡ Err PoolRefusal.Zero) ↔ (frame ≡ 0) }
         ensures out_of_range { (result ≡ Err PoolRefusal.OutOfRange)
@@ -93,33 +94,33 @@ impl FramePool {
             return Err(PoolRefusal::AlreadyFree);
         }
         self.is_free[number] = true;
-        // There are more numbers than free frames, so one of the reserved places is left.
+        // There are more numbers than free frames, so the reserved room suffices.
         self.frames.push_back(frame).unwrap();
         Ok(())
     }
 
-    /// Gives the number of free frames.
+    /// Returns the number of free frames.
     pub fn len(&self) -> usize
         ensures { result ≡ length self.now.frames }
     {
         self.frames.len()
     }
 
-    /// Tells whether a frame is free.
+    /// Returns true if a frame is free.
     pub fn contains(&self, frame: PhysFrame<Size4KiB>) -> bool
         ensures { IsTrue result ↔ In self.now.frames frame }
     {
         self.is_free.get(number_of(frame)) == Some(&true)
     }
 
-    /// Gives the `n`-th frame of the list, counted from 0, or `None` where the list isn't longer than `n`.
+    /// Returns the `n`-th frame of the list, counted from 0, or `None` if the list has no more than `n` frames.
     pub fn frame_at(&self, n: usize) -> Option<PhysFrame<Size4KiB>>
         ensures { result ≡ slice_get self.now.frames n }
     {
         self.frames.get(n).copied()
     }
 
-    /// Gives the limit, below which are the numbers of all frames that are served.
+    /// Returns the limit. The numbers of all served frames are below it.
     pub(crate) fn limit(&self) -> u64
         ensures { result ≡ self.now.limit }
     {
@@ -160,7 +161,7 @@ impl FrameKeeper<Size4KiB> for FramePool {
 impl FrameAllocator<Size4KiB> for FramePool {
     ghost supply = { λ pool. pool.frames };
 
-    // Few maps of pages make a table, so this stays out of the way of the others.
+    // Mapping a page rarely creates a table, so this is kept out of the common path.
     #[cold]
     #[inline(never)]
     fn allocate_frame(&mut self) -> Option<PhysFrame<Size4KiB>>
@@ -191,7 +192,7 @@ impl FrameDeallocator<Size4KiB> for FramePool {
         ensures limit { self.new.limit ≡ self.old.limit }
     {
         self.is_free[number_of(frame)] = true;
-        // The frame was not among the others, so one of the reserved places is left.
+        // The frame was not free, so the reserved room suffices.
         self.frames.push_front(frame).unwrap();
     }
 
@@ -206,7 +207,7 @@ impl FrameStore for FramePool {
     ghost one_list = { λ pool. refl };
 }
 
-/// Gives the number of a frame.
+/// Returns the number of a frame.
 fn number_of(frame: PhysFrame<Size4KiB>) -> usize
     ensures { result ≡ frame / 4096 }
 {

@@ -1,4 +1,4 @@
-//! Tokens for changes that the TLB may not have seen yet.
+//! Tokens for changes to page tables that the TLB may not reflect yet.
 //!
 //! Intel SDM vol. 3A, "Invalidation of TLBs and Paging-Structure Caches".
 ghost use Rattle.std.specs.Prelude.{◌≡◌, ◌-◌, ◌<◌, [], ◌∷◌, ◌++◌, IsOk, IfErr, OnOk, OnErr};
@@ -10,18 +10,18 @@ use std::marker::Model;
 use x86_64_addr::level_count::{FiveLevels, FourLevels, LevelCount};
 use x86_64_page::page::{PageIn, PageSize};
 
-/// Stands for a change to the mapping of a page, which the TLB may not have seen yet.
+/// A token for a change to the mapping of a page that the TLB may not reflect yet.
 ///
-/// It must be spent, by [`flush`](Self::flush) or [`ignore`](Self::ignore): letting it go is a compile error.
+/// It must be consumed by [`flush`](Self::flush) or [`ignore`](Self::ignore). Dropping it is a compile error.
 #[must_use]
 pub struct MapperFlushIn<S: PageSize, L: LevelCount> {
     page: PageIn<S, L>,
 }
 
-/// The token of a page with four levels of tables.
+/// The token for a page with four levels of page tables.
 pub type MapperFlush<S> = MapperFlushIn<S, FourLevels>;
 
-/// The token of a page with five levels of tables.
+/// The token for a page with five levels of page tables.
 pub type MapperFlush57<S> = MapperFlushIn<S, FiveLevels>;
 
 impl<S: PageSize, L: LevelCount> Model for MapperFlushIn<S, L> {
@@ -33,27 +33,27 @@ impl<S: PageSize, L: LevelCount> Model for MapperFlushIn<S, L> {
 }
 
 impl<S: PageSize, L: LevelCount> MapperFlushIn<S, L> {
-    /// Makes a token for a page.
+    /// Creates a token for a page.
     pub fn new(page: PageIn<S, L>) -> Self
         ensures { result ≡ page }
     {
         MapperFlushIn { page }
     }
 
-    /// Gives the page.
+    /// Returns the page.
     pub fn page(&self) -> PageIn<S, L>
         ensures { result ≡ self.now }
     {
         self.page
     }
 
-    /// Spends the token, and records that the mapping of its page is flushed: the page's start address and size.
+    /// Consumes the token and records a flush of its page, by the page's start address and size.
     ///
-    /// If the recorder has room it takes no memory, succeeds, and lowers the room by one.
+    /// If the recorder has room, this succeeds, allocates no memory, and lowers the room by one.
     ///
     /// # Errors
     ///
-    /// The token itself if memory is refused. Then the recorder stays as it is.
+    /// The token itself if memory allocation fails. Then the recorder is unchanged.
     pub fn flush(self, recorder: &mut FlushRecorder) -> Result<(), Self>
         ensures items { OnOk result (recorder.new.items
             ≡ recorder.old.items ++ page_item L.LEVELS self S.SIZE ∷ []) }
@@ -70,7 +70,7 @@ impl<S: PageSize, L: LevelCount> MapperFlushIn<S, L> {
         Ok(())
     }
 
-    /// Spends the token without a flush.
+    /// Consumes the token without a flush.
     pub fn ignore(self) {
         let MapperFlushIn { page: _ } = self;
     }
@@ -83,26 +83,26 @@ impl<S: PageSize, L: LevelCount> Debug for MapperFlushIn<S, L> {
     }
 }
 
-/// Stands for a change to a table entry, after which the TLB may hold any mapping that is no longer so.
+/// A token for a change to a table entry, after which the TLB may hold stale mappings of any pages.
 ///
-/// It must be spent, by [`flush_all`](Self::flush_all) or [`ignore`](Self::ignore): letting it go is a compile error.
+/// It must be consumed by [`flush_all`](Self::flush_all) or [`ignore`](Self::ignore). Dropping it is a compile error.
 #[must_use]
 #[derive(Debug)]
 pub struct MapperFlushAll(());
 
 impl MapperFlushAll {
-    /// Makes a token.
+    /// Creates a token.
     pub fn new() -> Self {
         MapperFlushAll(())
     }
 
-    /// Spends the token, and records that all mappings are flushed.
+    /// Consumes the token and records a flush of all mappings.
     ///
-    /// Where the recorder has room it takes no memory, succeeds, and lowers the room by one.
+    /// If the recorder has room, this succeeds, allocates no memory, and lowers the room by one.
     ///
     /// # Errors
     ///
-    /// The token itself where memory is refused. Then the recorder stays as it is.
+    /// The token itself if memory allocation fails. Then the recorder is unchanged.
     pub fn flush_all(self, recorder: &mut FlushRecorder) -> Result<(), Self>
         ensures items { OnOk result (recorder.new.items ≡ recorder.old.items ++ FlushItem.All ∷ []) }
         ensures room { OnOk result (recorder.new.room ≡ recorder.old.room - 1) }
@@ -117,7 +117,7 @@ impl MapperFlushAll {
         Ok(())
     }
 
-    /// Spends the token without a flush.
+    /// Consumes the token without a flush.
     pub fn ignore(self) {
         let MapperFlushAll(_) = self;
     }

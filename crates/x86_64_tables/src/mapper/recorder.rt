@@ -1,4 +1,4 @@
-//! A record of flushes, which stands for the TLB's instructions.
+//! A record of TLB flushes, in place of the instructions that flush the TLB.
 ghost use Rattle.std.specs.Prelude.{◌≡◌, ◌-◌, ◌<◌, ◌≤◌, [], ◌∷◌, ◌++◌, IsOk, OnOk, OnErr};
 
 use std::alloc::{AllocError, Global};
@@ -6,31 +6,31 @@ use std::marker::Model;
 use x86_64_addr::addr::{VirtAddr, VirtAddr57, VirtAddrIn};
 use x86_64_addr::level_count::LevelCount;
 
-/// Says what the TLB is to forget.
+/// What the TLB has to invalidate.
 #[derive(Clone, Copy, Debug, PartialEq)]
 pub enum FlushItem {
-    /// The mapping of a page. Intel SDM vol. 2, `INVLPG`.
+    /// The mapping of a page with four levels of page tables. Intel SDM vol. 2, `INVLPG`.
     Page {
-        /// Where the page starts.
+        /// The start address of the page.
         start: VirtAddr,
         /// The size of the page in bytes.
         size: u64,
     },
-    /// The mapping of a page where there are five levels of tables. Intel SDM vol. 2, `INVLPG`.
+    /// The mapping of a page with five levels of page tables. Intel SDM vol. 2, `INVLPG`.
     Page57 {
-        /// Where the page starts.
+        /// The start address of the page.
         start: VirtAddr57,
         /// The size of the page in bytes.
         size: u64,
     },
-    /// All mappings. Intel SDM vol. 3A, "Operations that Invalidate TLBs and Paging-Structure Caches": a write of Cr3.
+    /// All mappings. Intel SDM vol. 3A, "Operations that Invalidate TLBs and Paging-Structure Caches": a write to CR3.
     All,
 }
 
 impl FlushItem {
     ghost use Rattle.x86_64_tables.specs.FlushRecorder.{page_item};
 
-    /// Returns the item of a page, by its start address and its size in bytes.
+    /// Returns the item for a page, given its start address and its size in bytes.
     pub(super) fn of_page<L: LevelCount>(start: VirtAddrIn<L>, size: u64) -> FlushItem
         ensures { result ≡ page_item L.LEVELS start size }
     {
@@ -49,7 +49,8 @@ impl FlushItem {
     }
 }
 
-/// Records flushes, seen as the items so far, in order, and the room: how many more flushes take no memory.
+/// A record of flushes. Contracts see it as the items so far, in order, and the room: the number of further flushes that
+/// allocate no memory.
 #[derive(Drop)]
 pub struct FlushRecorder {
     items: Vec<FlushItem>,
@@ -69,7 +70,7 @@ impl Model for FlushRecorder {
 }
 
 impl FlushRecorder {
-    /// Makes a recorder without items and room. It keeps the allocator, and takes no memory yet.
+    /// Creates a recorder without items and without room. It keeps the allocator, and allocates no memory yet.
     pub fn new(alloc: Global) -> FlushRecorder
         ensures items { result.items ≡ [] }
         ensures room { result.room ≡ 0 }
@@ -80,18 +81,18 @@ impl FlushRecorder {
         }
     }
 
-    /// Gives the items, in the order in which they were flushed.
+    /// Returns the items, in the order in which they were flushed.
     pub fn items(&self) -> &[FlushItem]
         ensures { result.now ≡ self.now.items }
     {
         self.items.as_slice()
     }
 
-    /// Makes room for `n` flushes, or keeps the room where it is larger.
+    /// Raises the room to `n` flushes, or keeps it if it is larger.
     ///
     /// # Errors
     ///
-    /// `AllocError` where memory is refused. Then nothing changes. With room for `n` flushes none is asked for.
+    /// `AllocError` if memory allocation fails. Then nothing changes. If there is room for `n` flushes, nothing is allocated.
     pub fn reserve(&mut self, n: usize) -> Result<(), AllocError>
         ensures items { self.new.items ≡ self.old.items }
         ensures room { OnOk result (n ≤ self.new.room) }
@@ -106,11 +107,11 @@ impl FlushRecorder {
         Ok(())
     }
 
-    /// Appends an item. With room it takes no memory and lowers the room by one, else the room stays 0.
+    /// Appends an item. If there is room, this lowers it by one; otherwise the room stays 0.
     ///
     /// # Errors
     ///
-    /// `AllocError` where memory is refused. Then nothing changes. With room none is asked for.
+    /// `AllocError` if memory allocation fails. Then nothing changes. If there is room, nothing is allocated.
     pub(super) fn record(&mut self, item: FlushItem) -> Result<(), AllocError>
         ensures items { OnOk result (self.new.items ≡ self.old.items ++ item ∷ []) }
         ensures room { OnOk result (self.new.room ≡ self.old.room - 1) }

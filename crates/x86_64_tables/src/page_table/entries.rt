@@ -7,8 +7,9 @@ use super::PageTableEntry;
 use std::marker::Model;
 use std::mem;
 
-/// Gives the entries of a page table in order of index, each once, and then `None` for good. It is seen as the list of the
-/// words that are still to come.
+/// An iterator over the entries of a page table, each once, in order of index. After the last it always returns `None`.
+///
+/// Contracts see it as the list of the words that are still to come.
 #[derive(Drop)]
 pub struct Entries<'a> {
     rest: &'a [PageTableEntry],
@@ -23,7 +24,7 @@ impl<'a> Model for Entries<'a> {
 }
 
 impl<'a> Entries<'a> {
-    /// Makes the iterator over some entries.
+    /// Creates an iterator over the given entries.
     pub(super) fn new(rest: &'a [PageTableEntry]) -> Entries<'a>
         ensures { result ≡ rest.now }
     {
@@ -55,8 +56,10 @@ impl<'a> Iterator for Entries<'a> {
     }
 }
 
-/// Lends the entries of a page table to be changed, in order of index, each once, and then gives `None` for good. It is
-/// seen as the list of the words that are still to come.
+/// An iterator that lends the entries of a page table mutably, each once, in order of index. After the last it always
+/// returns `None`.
+///
+/// Contracts see it as the list of the words that are still to come.
 #[derive(Drop)]
 pub struct EntriesMut<'a> {
     rest: &'a mut [PageTableEntry],
@@ -71,7 +74,7 @@ impl<'a> Model for EntriesMut<'a> {
 }
 
 impl<'a> EntriesMut<'a> {
-    /// Makes the iterator over some entries.
+    /// Creates an iterator over the given entries.
     pub(super) fn new(rest: &'a mut [PageTableEntry]) -> EntriesMut<'a>
         ensures { result ≡ rest.old }
     {

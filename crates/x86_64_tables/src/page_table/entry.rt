@@ -12,13 +12,13 @@ use x86_64_addr::addr::PhysAddr;
 use x86_64_page::frame::PhysFrame;
 use x86_64_page::page::Size4KiB;
 
-/// The bits of an entry that name an address.
+/// The bits of an entry that hold an address.
 pub const ADDRESS_MASK: u64 = 0x000f_ffff_ffff_f000;
 
 /// The bits of an entry that are flags.
 const FLAGS_MASK: u64 = 0xfff0_0000_0000_0fff;
 
-/// Says why an entry names no 4KiB frame.
+/// The reason why an entry names no 4KiB frame.
 #[derive(Clone, Copy, Debug, PartialEq)]
 pub enum FrameError {
     /// The entry lacks `PRESENT`.
@@ -27,9 +27,9 @@ pub enum FrameError {
     HugeFrame,
 }
 
-/// Holds an entry of a page table, seen as its word.
+/// An entry of a page table. Contracts see it as its word.
 ///
-/// Bits 12 to 51 name an address, the other bits are flags. Intel SDM vol. 3A, "Formats of paging-structure entries".
+/// Bits 12 to 51 hold an address, the other bits are flags. Intel SDM vol. 3A, "Formats of paging-structure entries".
 #[derive(Clone, Drop)]
 #[repr(C)]
 pub struct PageTableEntry(u64);
@@ -45,14 +45,14 @@ impl Model for PageTableEntry {
 }
 
 impl PageTableEntry {
-    /// Makes an unused entry, the word 0.
+    /// Creates an unused entry, whose word is 0.
     pub fn new() -> PageTableEntry
         ensures { result ≡ 0 }
     {
         PageTableEntry(0)
     }
 
-    /// Makes the entry of a word.
+    /// Creates the entry with the given word.
     pub fn from_word(word: u64) -> PageTableEntry
         ensures { result ≡ word }
     {
@@ -73,7 +73,7 @@ impl PageTableEntry {
         self.0 = word;
     }
 
-    /// Tells whether the entry is unused: its word is 0.
+    /// Returns true if the entry is unused, that is, if its word is 0.
     #[tactic(auto, unfolding(x86_64_model::specs::Entry::used))]
     pub fn is_unused(&self) -> bool
         ensures { result ≡ not (used self.now) }
@@ -81,14 +81,14 @@ impl PageTableEntry {
         self.0 == 0
     }
 
-    /// Makes the entry unused, the word 0.
+    /// Makes the entry unused: sets its word to 0.
     pub fn set_unused(&mut self)
         ensures { self.new ≡ 0 }
     {
         self.0 = 0;
     }
 
-    /// Gives the flags: the word without bits 12 to 51.
+    /// Returns the flags: the word without bits 12 to 51.
     #[tactic(auto, unfolding(x86_64_model::specs::Entry::flags))]
     pub fn flags(&self) -> PageTableFlags
         ensures value { bits_of result ≡ flags self.now }
@@ -97,7 +97,7 @@ impl PageTableEntry {
         PageTableFlags::from_bits_retain(self.0 & FLAGS_MASK)
     }
 
-    /// Gives the address: the bits 12 to 51 of the word, so a multiple of 4096. It may be 0.
+    /// Returns the address: bits 12 to 51 of the word, so a multiple of 4096. It may be 0.
     #[tactic(auto, unfolding(x86_64_model::specs::Entry::address))]
     pub fn addr(&self) -> PhysAddr
         ensures { result ≡ address self.now }
@@ -105,11 +105,11 @@ impl PageTableEntry {
         PhysAddr::new(self.0 & ADDRESS_MASK)
     }
 
-    /// Gives the 4KiB frame that the entry names.
+    /// Returns the 4KiB frame that the entry names.
     ///
     /// # Errors
     ///
-    /// Without `PRESENT` it is `FrameNotPresent`, else with `HUGE_PAGE` it is `HugeFrame`.
+    /// `FrameNotPresent` if the entry lacks `PRESENT`, else `HugeFrame` if it has `HUGE_PAGE`.
     pub fn frame(&self) -> Result<PhysFrame<Size4KiB>, FrameError>
         ensures { result ≡ frame_of self.now }
     {
@@ -123,9 +123,9 @@ impl PageTableEntry {
         }
     }
 
-    /// Sets the word to the address and the flags.
+    /// Sets the word to the bitwise or of the address and the flags.
     ///
-    /// Condition: the address is a multiple of 4096.
+    /// Requires that the address is a multiple of 4096.
     pub fn set_addr(&mut self, addr: PhysAddr, flags: PageTableFlags)
         requires { addr % 4096 ≡ 0 }
         ensures { self.new ≡ bit_or addr (bits_of flags) }
@@ -133,9 +133,9 @@ impl PageTableEntry {
         self.0 = addr.as_u64() | flags.bits();
     }
 
-    /// Sets the word to the frame's start address and the flags.
+    /// Sets the word to the bitwise or of the frame's start address and the flags.
     ///
-    /// Condition: the flags lack `HUGE_PAGE`.
+    /// Requires that the flags lack `HUGE_PAGE`.
     pub fn set_frame(&mut self, frame: PhysFrame<Size4KiB>, flags: PageTableFlags)
         requires { huge (bits_of flags) ≡ false }
         ensures { self.new ≡ bit_or frame (bits_of flags) }
@@ -143,7 +143,7 @@ impl PageTableEntry {
         self.set_addr(frame.start_address(), flags);
     }
 
-    /// Sets the flags and keeps the address. Bits 12 to 51, where the flags have them, are added to those of the address.
+    /// Sets the flags and keeps the address. If the flags have any of the bits 12 to 51, these bits are added to the address.
     pub fn set_flags(&mut self, flags: PageTableFlags)
         ensures { self.new ≡ bit_or (address self.old) (bits_of flags) }
     {

@@ -8,62 +8,62 @@ use super::entry::ADDRESS_MASK;
 use bitflags::{Flag, Flags, bitflag_items};
 use std::fmt;
 
-/// Holds the flags of a page table entry: every bit but 12 to 51, which name the address.
+/// The flags of a page table entry: all bits except 12 to 51, which hold the address.
 ///
-/// The calls of the trait `Flags` of `bitflags` are the calls of this type. `from_bits` is `Some` exactly where none of
-/// the bits 12 to 51 is set.
+/// The methods of the trait `Flags` of `bitflags` are methods of this type. `from_bits` returns `Some` if and only if none
+/// of the bits 12 to 51 is set.
 #[derive(Clone, Copy, PartialEq, Eq, PartialOrd, Ord, Hash)]
 pub struct PageTableFlags(u64);
 
 bitflag_items! {
     impl PageTableFlags: u64 {
-        /// Says that the page or table is in memory. The processor ignores the other bits of an entry without it.
+        /// The page or table is in memory. Without it, the processor ignores the other bits of the entry.
         const PRESENT = 1 << 0;
         /// Allows writes to the page, or to all pages below the table.
         const WRITABLE = 1 << 1;
-        /// Allows accesses by user code to the page, or to all pages below the table.
+        /// Allows user code to access the page, or all pages below the table.
         const USER_ACCESSIBLE = 1 << 2;
-        /// Caches writes through to memory, not back.
+        /// Uses write-through caching in place of write-back.
         const WRITE_THROUGH = 1 << 3;
         /// Disables caching.
         const NO_CACHE = 1 << 4;
-        /// Is set by the processor at an access.
+        /// Set by the processor on an access.
         const ACCESSED = 1 << 5;
-        /// Is set by the processor at a write to the page.
+        /// Set by the processor on a write to the page.
         const DIRTY = 1 << 6;
-        /// Maps a page of 2MiB at level two, or of 1GiB at level three, in place of naming a table: the bit PS.
+        /// The bit PS: at level two the entry maps a 2MiB page, at level three a 1GiB page, instead of naming a table.
         const HUGE_PAGE = 1 << 7;
         /// Keeps the page's translation in the TLB when the address space is switched.
         const GLOBAL = 1 << 8;
-        /// Is ignored by the processor.
+        /// Ignored by the processor.
         const BIT_9 = 1 << 9;
-        /// Is ignored by the processor.
+        /// Ignored by the processor.
         const BIT_10 = 1 << 10;
-        /// Is ignored by the processor.
+        /// Ignored by the processor.
         const BIT_11 = 1 << 11;
-        /// Is ignored by the processor.
+        /// Ignored by the processor.
         const BIT_52 = 1 << 52;
-        /// Is ignored by the processor.
+        /// Ignored by the processor.
         const BIT_53 = 1 << 53;
-        /// Is ignored by the processor.
+        /// Ignored by the processor.
         const BIT_54 = 1 << 54;
-        /// Is ignored by the processor.
+        /// Ignored by the processor.
         const BIT_55 = 1 << 55;
-        /// Is ignored by the processor.
+        /// Ignored by the processor.
         const BIT_56 = 1 << 56;
-        /// Is ignored by the processor.
+        /// Ignored by the processor.
         const BIT_57 = 1 << 57;
-        /// Is ignored by the processor.
+        /// Ignored by the processor.
         const BIT_58 = 1 << 58;
-        /// Is ignored by the processor, where protection keys are not enabled.
+        /// Ignored by the processor unless protection keys are enabled.
         const BIT_59 = 1 << 59;
-        /// Is ignored by the processor, where protection keys are not enabled.
+        /// Ignored by the processor unless protection keys are enabled.
         const BIT_60 = 1 << 60;
-        /// Is ignored by the processor, where protection keys are not enabled.
+        /// Ignored by the processor unless protection keys are enabled.
         const BIT_61 = 1 << 61;
-        /// Is ignored by the processor, where protection keys are not enabled.
+        /// Ignored by the processor unless protection keys are enabled.
         const BIT_62 = 1 << 62;
-        /// Forbids instruction fetches, where the processor has this enabled.
+        /// Forbids instruction fetches, if the processor has this feature enabled.
         const NO_EXECUTE = 1 << 63;
     }
 }
@@ -72,7 +72,7 @@ impl PageTableFlags {
     ghost use Rattle.std.specs.Prelude.{◌≡◌, not};
     ghost use Rattle.x86_64_model.specs.Entry.{no_address};
 
-    /// Tells whether there are bits among the flags that are an entry's address: bits 12 to 51, which belong to no flag.
+    /// Returns true if the flags contain any of the bits 12 to 51, which belong to an entry's address and to no flag.
     #[tactic(auto, unfolding(x86_64_model::specs::Entry::address))]
     pub fn has_address_bits(self) -> bool
         ensures { result ≡ not (no_address self.0) }

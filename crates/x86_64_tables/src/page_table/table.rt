@@ -1,4 +1,4 @@
-//! Tables of 512 entries.
+//! Page tables of 512 entries.
 ghost use Rattle.std.specs.Prelude.{◌≡◌, ◌<◌, ◌↔◌, All, IsTrue, length, slice_index};
 ghost use Rattle.std.specs.Borrow.{sem};
 ghost use Rattle.x86_64_tables.specs.PageTable.{zero_words};
@@ -10,13 +10,15 @@ use std::ops::{Index, IndexMut};
 use std::{array, fmt};
 use x86_64_addr::index::PageTableIndex;
 
-/// How many entries a page table has.
+/// The number of entries of a page table.
 const ENTRY_COUNT: usize = 512;
 
-/// Holds the 512 entries of a page table, seen as the list of their words. Intel SDM vol. 3A, "Hierarchical Paging
+/// A page table of 512 entries. Contracts see it as the list of their words. Intel SDM vol. 3A, "Hierarchical Paging
 /// Structures: an Overview".
 ///
-/// An entry is reached by its index, as in `table[15]`. Condition: an index that is a `usize` is below 512.
+/// An entry is accessed by its index, as in `table[15]`.
+///
+/// Requires that an index of type `usize` is below 512.
 #[derive(Clone, Drop)]
 #[repr(C)]
 pub struct PageTable {
@@ -34,7 +36,7 @@ impl Model for PageTable {
 }
 
 impl PageTable {
-    /// Makes a table of unused entries: 512 words 0.
+    /// Creates a table of unused entries: 512 words 0.
     pub fn new() -> PageTable
         ensures { result ≡ zero_words }
     {
@@ -44,7 +46,7 @@ impl PageTable {
     }
 
     /// Makes all entries unused.
-    // Few maps of pages clear a table, so this stays out of the way of the others.
+    // Mapping a page rarely clears a table, so this is kept out of the common path.
     #[cold]
     #[inline(never)]
     pub fn zero(&mut self)
@@ -56,7 +58,7 @@ impl PageTable {
         }
     }
 
-    /// Gives the entries in order of index, each once.
+    /// Returns an iterator over the entries, each once, in order of index.
     pub fn iter(&self) -> Entries<'_>
         ensures words { result ≡ self.now }
         ensures size { length self.now ≡ 512 }
@@ -64,7 +66,7 @@ impl PageTable {
         Entries::new(&self.entries)
     }
 
-    /// Gives the entries as a slice.
+    /// Returns the entries as a slice.
     pub fn as_slice(&self) -> &[PageTableEntry]
         ensures words { result.now ≡ self.now }
         ensures size { length self.now ≡ 512 }
@@ -72,7 +74,7 @@ impl PageTable {
         &self.entries
     }
 
-    /// Lends the entries to be changed, in order of index, each once.
+    /// Returns an iterator that lends the entries mutably, each once, in order of index.
     pub fn iter_mut(&mut self) -> EntriesMut<'_>
         ensures words { result ≡ self.old }
         ensures size { length self.old ≡ 512 }
@@ -81,7 +83,7 @@ impl PageTable {
         EntriesMut::new(&mut entries[..])
     }
 
-    /// Tells whether all entries are unused.
+    /// Returns true if all entries are unused.
     #[tactic(auto, unfolding(x86_64_model::specs::Entry::used))]
     pub fn is_empty(&self) -> bool
         ensures empty { IsTrue result ↔ All (λ word. word ≡ 0) self.now }

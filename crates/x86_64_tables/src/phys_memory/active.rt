@@ -1,4 +1,4 @@
-//! A memory whose tables are reached at virtual addresses alone.
+//! A memory whose tables can be accessed only at virtual addresses.
 ghost use Rattle.std.specs.Prelude.{◌≡◌, ◌/◌, true};
 ghost use Rattle.std.specs.Borrow.{sem};
 ghost use Rattle.std.specs.Option.{option_copied, option_copied_mut};
@@ -17,11 +17,11 @@ use x86_64_addr::level_count::{FiveLevels, FourLevels, LevelCount};
 use x86_64_page::frame::PhysFrame;
 use x86_64_page::page::{PageSize, Size4KiB};
 
-/// Holds a memory that was lent to it, and the frame in the register CR3, from which the processor walks.
+/// A borrowed memory, with the frame in the register CR3, at which the processor starts its page walks.
 ///
-/// A table is reached at a virtual address alone: where the walk of the address arrives through the tables as they are
-/// at that moment. No call reaches one by its frame, and none gives the memory back, which ends with the words that it
-/// had last. Intel SDM vol. 3A, "Linear-Address Translation with 4-Level Paging and 5-Level Paging".
+/// A table can be accessed only at a virtual address: where the page walk of the address arrives through the tables as they
+/// are at that moment. No call accesses a table by its frame, and none returns the memory. When the loan ends, the memory
+/// has the words that it had last. Intel SDM vol. 3A, "Linear-Address Translation with 4-Level Paging and 5-Level Paging".
 #[derive(Drop)]
 pub struct Active<'a, L, T = PhysMemory> {
     memory: &'a mut T,
@@ -29,14 +29,14 @@ pub struct Active<'a, L, T = PhysMemory> {
     levels: PhantomData<L>,
 }
 
-/// A memory with four levels of tables below CR3.
+/// An active memory with four levels of page tables.
 pub type ActiveMemory<'a, T = PhysMemory> = Active<'a, FourLevels, T>;
 
-/// A memory with five levels of tables below CR3.
+/// An active memory with five levels of page tables.
 pub type ActiveMemory57<'a, T = PhysMemory> = Active<'a, FiveLevels, T>;
 
 impl<'a, L: LevelCount, T: TableMemory> Active<'a, L, T> {
-    /// Makes a memory active, with a frame in CR3. No word changes.
+    /// Creates an active memory with the given frame in CR3. No word changes.
     pub fn new(memory: &'a mut T, cr3: PhysFrame<Size4KiB>) -> Self
         ensures lent { lent result ≡ memory.entry.ghost_name }
         ensures memory { memory_of result ≡ memory.old }
@@ -50,23 +50,23 @@ impl<'a, L: LevelCount, T: TableMemory> Active<'a, L, T> {
         }
     }
 
-    /// Gives the frame in CR3.
+    /// Returns the frame in CR3.
     pub fn cr3(&self) -> PhysFrame<Size4KiB>
         ensures { result ≡ cr3_of self.now }
     {
         PhysFrame::containing_address(PhysAddr::new_truncate(self.cr3))
     }
 
-    /// Tells whether the table in CR3's frame is in the memory, and its word at an index gives that frame as
-    /// [`frame`](crate::page_table::PageTableEntry::frame): it has `PRESENT`, lacks `HUGE_PAGE` and names it.
+    /// Returns true if the table in CR3's frame is in the memory, and [`frame`](crate::page_table::PageTableEntry::frame) of
+    /// its entry at the index is CR3's frame: the entry has `PRESENT`, lacks `HUGE_PAGE` and names that frame.
     pub fn self_entry(&self, index: PageTableIndex) -> bool
         ensures { result ≡ has_self_entry (words_in T.tables self.now) (cr3_of self.now) index }
     {
         has_self_entry(self.memory, &IdentityMapping, self.cr3(), index)
     }
 
-    /// Gives the table at an address, or `None` where the walk of the address from CR3 arrives nowhere, not at a
-    /// multiple of 4096, or at no table in the memory. It may arrive inside a huge page.
+    /// Returns the table at an address, or `None` if the page walk of the address from CR3 arrives nowhere, not at a multiple
+    /// of 4096, or at no table in the memory. It may arrive inside a huge page.
     pub fn table(&self, addr: VirtAddrIn<L>) -> Option<&PageTable>
         ensures { let words = words_in T.tables self.now in
             option_copied result ≡ walked_table L.LEVELS words (cr3_of self.now) addr }
@@ -75,8 +75,8 @@ impl<'a, L: LevelCount, T: TableMemory> Active<'a, L, T> {
         self.memory.table(place_of(frame))
     }
 
-    /// Lends the table at an address to be changed, or gives `None` where [`table`](Active::table) does. All
-    /// other tables stay. What is written may change where later walks arrive.
+    /// Lends the table at an address mutably, or returns `None` if [`table`](Active::table) does. All other tables are
+    /// unchanged. What is written may change where later walks arrive.
     pub fn table_mut(&mut self, addr: VirtAddrIn<L>) -> Option<&mut PageTable>
         ensures* writes_back { let memory = ⟦<T as TableMemory>⟧ in
             sem 𝓛 (LendsWalked L.row T.row memory L.LEVELS self.entry addr result) }
@@ -89,7 +89,7 @@ impl<'a, L: LevelCount, T: TableMemory> Active<'a, L, T> {
         }
     }
 
-    /// Gives the frame that starts where the walk of an address arrives.
+    /// Returns the frame that starts where the page walk of an address arrives, if there is one.
     fn arrive(&self, addr: VirtAddrIn<L>) -> Option<PhysFrame<Size4KiB>>
         ensures { result ≡ walked_frame L.LEVELS (words_in T.tables self.now) (cr3_of self.now) addr }
     {
@@ -97,7 +97,7 @@ impl<'a, L: LevelCount, T: TableMemory> Active<'a, L, T> {
         PhysFrame::from_start_address(walked.address).ok()
     }
 
-    /// Lends the table in a frame.
+    /// Lends the table in a frame mutably, if the memory has it.
     fn table_in(&mut self, frame: PhysFrame<Size4KiB>) -> Option<&mut PageTable>
         ensures* writes_back { let memory = ⟦<T as TableMemory>⟧ in
             sem 𝓛 (LendsFrame L.row T.row memory self.entry frame result) }
@@ -109,7 +109,7 @@ impl<'a, L: LevelCount, T: TableMemory> Active<'a, L, T> {
 }
 
 impl<'a, L> Active<'a, L> {
-    /// Keeps the memory, or ends the loan with no word changed.
+    /// Returns the active memory if `kept` is true, else ends the loan with no word changed.
     pub fn kept_if(self, kept: bool) -> Option<Self>
         ensures* unchanged { sem 𝓛 (RestsUnlessKept self.entry result) }
         ensures value { result ≡ kept_of self.entry kept }
@@ -130,7 +130,7 @@ impl<'a, L> Active<'a, L> {
     }
 }
 
-/// Gives the place of a frame, which is that of its number.
+/// Returns the place of a frame (the number of its table in the memory), which is the frame's number.
 fn place_of(frame: PhysFrame<Size4KiB>) -> FramePlace
     ensures place { result ≡ frame / 4096 }
     ensures frame { is_frame frame ≡ true }

@@ -1,4 +1,5 @@
-//! The test of two hierarchies: whether their path maps are alike.
+//! A test of whether two hierarchies have path maps that are alike. A path map has the entry at each path: the list of
+//! indices from the root to the entry.
 ghost use Rattle.std.specs.Prelude.{◌≡◌, ◌==◌, ◌↔◌, IsTrue, suc};
 ghost use Rattle.x86_64_model.specs.Alike.{Alike, without_writable};
 ghost use Rattle.x86_64_tables.specs.private.Views.{seen};
@@ -10,15 +11,19 @@ use x86_64_addr::index::PageTableIndex;
 use x86_64_page::frame::PhysFrame;
 use x86_64_page::page::Size4KiB;
 
-/// The bits of an entry but `WRITABLE`.
+/// All bits of an entry except `WRITABLE`.
 const ALL_BUT_WRITABLE: u64 = 0xffff_ffff_ffff_fffd;
 
-/// Tells whether two hierarchies of four levels are alike: path maps that are equal but for `WRITABLE` of table entries.
+/// Returns true if two hierarchies of four levels are alike: their path maps are equal except for `WRITABLE` of table
+/// entries.
 ///
-/// Where an index is given, the hierarchy is one of `is_valid_recursive`: each frame lies at the place of its number,
-/// whatever the mapping beside it says, and the root's word at the index is read as 0. Where none is given, it is one of
-/// `is_valid_hierarchy`. Entries without `PRESENT` count as others do, and those that name no table are compared whole.
-/// The test ends for any words: a table that the memory lacks is read as one of unused entries. It takes no memory.
+/// If an index is given, the hierarchy is read as by `is_valid_recursive`: each frame lies at the place (the number of its
+/// table in the memory) with the frame's number, whatever the given mapping says, and the root's word at the index is read
+/// as 0. If none is given, the hierarchy is read as by `is_valid_hierarchy`. Entries without `PRESENT` count like others,
+/// and entries that name no table are compared in full.
+///
+/// The test terminates for any words: a table that the memory lacks is read as one of unused entries. It allocates no
+/// memory.
 pub fn tables_alike<
     T: TableMemory,
     P: PageTableFrameMapping,
@@ -52,10 +57,11 @@ pub fn tables_alike<
     )
 }
 
-/// Tells whether two hierarchies of five levels are alike: path maps that are equal but for `WRITABLE` of table entries.
+/// Returns true if two hierarchies of five levels are alike: their path maps are equal except for `WRITABLE` of table
+/// entries.
 ///
-/// It is as `tables_alike` says, of hierarchies of `is_valid_recursive_57` where an index is given, and of
-/// `is_valid_hierarchy_57` where none is. The test ends for any words. It takes no memory.
+/// The hierarchies are read as by `tables_alike`, and as by `is_valid_recursive_57` if an index is given, or by
+/// `is_valid_hierarchy_57` if none is. The test terminates for any words, and allocates no memory.
 pub fn tables_alike_57<
     T: TableMemory,
     P: PageTableFrameMapping,
@@ -89,7 +95,7 @@ pub fn tables_alike_57<
     )
 }
 
-/// Tells whether two hierarchies are alike, with so many levels of tables below each root.
+/// Returns true if two hierarchies are alike, with `levels` levels of tables below each root.
 fn alike_through<
     T: TableMemory,
     P: PageTableFrameMapping,
@@ -134,7 +140,8 @@ fn alike_through<
     alike_from(&one, root, &other, other_root, levels)
 }
 
-/// Tells whether the entries at each path from the tables in two frames, through so many levels below them, are alike.
+/// Returns true if the entries at each path from the tables in two frames are alike, with `levels` levels of tables below
+/// each.
 fn alike_from<T: TableMemory, P: PageTableFrameMapping, U: TableMemory, Q: PageTableFrameMapping>(
     one: &HierarchyView<T, P>,
     frame: PhysFrame<Size4KiB>,
@@ -167,14 +174,14 @@ fn alike_from<T: TableMemory, P: PageTableFrameMapping, U: TableMemory, Q: PageT
     true
 }
 
-/// Tells whether two words are equal but for `WRITABLE`.
+/// Returns true if two words are equal except for `WRITABLE`.
 fn equal_but_writable(word: u64, other: u64) -> bool
     ensures { result ≡ (without_writable word == without_writable other) }
 {
     word & ALL_BUT_WRITABLE == other & ALL_BUT_WRITABLE
 }
 
-/// Maps the frames of a hierarchy: each to the place of its number, where it has a recursive index, else by a mapping.
+/// The mapping of a hierarchy's frames: to the places with their numbers if it has a recursive index, else as given.
 #[derive(Drop)]
 struct MappingFor<'a, P> {
     by_number: bool,

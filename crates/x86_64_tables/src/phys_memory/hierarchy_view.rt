@@ -1,4 +1,5 @@
-//! A hierarchy as it is read: the words of its tables, past the root's word at the recursive index.
+//! A view of a hierarchy for reading: the words of its tables, without the root's word at the recursive index, the index at
+//! which the root names itself.
 ghost use Rattle.std.specs.Prelude.{◌≡◌, ◌<◌, ◌↔◌, IsTrue, unwrap_or};
 ghost use Rattle.std.specs.Option.{option_copied};
 ghost use Rattle.x86_64_model.specs.Entry.{huge};
@@ -15,7 +16,7 @@ use x86_64_addr::index::PageTableIndex;
 use x86_64_page::frame::PhysFrame;
 use x86_64_page::page::Size4KiB;
 
-/// Holds a hierarchy to be read: its root in a memory, past the root's word at the recursive index where there is one.
+/// A view of the hierarchy below a root in a memory. The root's word at the recursive index, if there is one, is read as 0.
 #[derive(Drop)]
 pub(super) struct HierarchyView<'a, T, P> {
     pub(super) memory: &'a T,
@@ -25,7 +26,8 @@ pub(super) struct HierarchyView<'a, T, P> {
 }
 
 impl<'a, T: TableMemory, P: PageTableFrameMapping> HierarchyView<'a, T, P> {
-    /// Tells whether no word above level three has `HUGE_PAGE`, from the table in a frame through so many levels.
+    /// Returns true if no word above level three has `HUGE_PAGE`, in the table in a frame and in the tables of `levels` levels
+    /// below it.
     pub(super) fn none_huge(&self, frame: PhysFrame<Size4KiB>, levels: u8) -> bool
         ensures { let view = self.now in let places = P.places view.mapping in
             let words = seen (T.tables view.memory.now) places view.root view.recursive in
@@ -46,7 +48,7 @@ impl<'a, T: TableMemory, P: PageTableFrameMapping> HierarchyView<'a, T, P> {
         true
     }
 
-    /// Tells whether the word at an index of the table in a frame has `HUGE_PAGE`.
+    /// Returns true if the word at an index of the table in a frame has `HUGE_PAGE`.
     fn is_huge(&self, frame: PhysFrame<Size4KiB>, index: usize) -> bool
         requires { index < 512 }
         ensures { let view = self.now in let places = P.places view.mapping in
@@ -59,7 +61,7 @@ impl<'a, T: TableMemory, P: PageTableFrameMapping> HierarchyView<'a, T, P> {
         }
     }
 
-    /// Gives the frame of the table that the word at an index of the table in a frame names.
+    /// Returns the frame of the table that the word at an index of the table in a frame names, if it names one.
     pub(super) fn table_below(
         &self,
         frame: PhysFrame<Size4KiB>,
@@ -76,7 +78,7 @@ impl<'a, T: TableMemory, P: PageTableFrameMapping> HierarchyView<'a, T, P> {
         }
     }
 
-    /// Gives the word at an index of the table in a frame, 0 where there is none.
+    /// Returns the word at an index of the table in a frame, or 0 if there is none.
     pub(super) fn word(&self, frame: PhysFrame<Size4KiB>, index: usize) -> u64
         requires { index < 512 }
         ensures { let view = self.now in let places = P.places view.mapping in
@@ -89,7 +91,7 @@ impl<'a, T: TableMemory, P: PageTableFrameMapping> HierarchyView<'a, T, P> {
         }
     }
 
-    /// Reads the entry at an index of the table in a frame, if there is one and it is not the recursive one.
+    /// Returns the entry at an index of the table in a frame, if there is one and it isn't the recursive one.
     fn entry(&self, frame: PhysFrame<Size4KiB>, index: usize) -> Option<&'a PageTableEntry>
         requires { index < 512 }
         ensures { let view = self.now in let places = P.places view.mapping in
@@ -103,7 +105,7 @@ impl<'a, T: TableMemory, P: PageTableFrameMapping> HierarchyView<'a, T, P> {
     }
 }
 
-/// Tells whether the word at an index of the table in the root's frame, if there is one, gives the root as `frame`.
+/// Returns true if there is a table in the root's frame, and `frame` of its entry at an index is the root.
 pub(super) fn has_self_entry<T: TableMemory, P: PageTableFrameMapping>(
     memory: &T,
     mapping: &P,
@@ -118,14 +120,14 @@ pub(super) fn has_self_entry<T: TableMemory, P: PageTableFrameMapping>(
     }
 }
 
-/// Tells whether an entry gives a frame as `frame`.
+/// Returns true if `frame` of an entry is the given frame.
 fn names_frame(entry: &PageTableEntry, frame: PhysFrame<Size4KiB>) -> bool
     ensures { result ≡ names_frame entry.now frame }
 {
     entry.frame() == Ok(frame)
 }
 
-/// Gives the frame of the table that an entry above level one names: a used entry without `HUGE_PAGE`.
+/// Returns the frame of the table that an entry above level one names, if the entry is used and lacks `HUGE_PAGE`.
 fn named_table(entry: &PageTableEntry) -> Option<PhysFrame<Size4KiB>>
     ensures { result ≡ below_word entry.now }
 {

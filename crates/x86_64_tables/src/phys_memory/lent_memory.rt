@@ -1,4 +1,4 @@
-//! A memory whose tables are a slice that its owner lends.
+//! A memory whose tables are a borrowed slice.
 ghost use Rattle.std.specs.Prelude.{◌≡◌, ◌<◌, length, slice_set, slice_get, Some};
 ghost use Rattle.std.specs.FinMap as map;
 ghost use Rattle.x86_64_tables.specs.LentMemory.{numbered, tables_in_order};
@@ -6,16 +6,17 @@ ghost use Rattle.x86_64_tables.specs.LentMemory.{numbered, tables_in_order};
 use super::{FramePlace, TableMemory};
 use crate::page_table::PageTable;
 
-/// Has page tables lent, and takes no memory: place `n` has the `n`-th table of a slice.
+/// A memory over a borrowed slice of page tables, which allocates nothing. The place with number `n` has the `n`-th table
+/// of the slice.
 ///
-/// The memory of a guest is such a slice, one table for each frame. Once the loan ends, its owner knows the slice: it is the tables
-/// of the map, in order.
+/// For example, the memory of a guest is such a slice, with one table for each frame. When the loan ends, the slice
+/// consists of the tables of the map, in order.
 pub struct LentMemory<'a> {
     slice: &'a mut [PageTable],
 }
 
 impl<'a> LentMemory<'a> {
-    /// Makes a memory of a slice. No word changes.
+    /// Creates a memory over a slice. No word changes.
     pub fn new(slice: &'a mut [PageTable]) -> LentMemory<'a>
         ensures lent { ⟦<Self as TableMemory>⟧.lent result ≡ slice.entry.ghost_name }
         ensures tables { ⟦<Self as TableMemory>⟧.tables result ≡ numbered slice.old }
@@ -96,7 +97,9 @@ impl<'a> TableMemory for LentMemory<'a> {
     ghost keeps_lent = { λ memory place table. refl };
 }
 
-/// Returns the table at an index of a slice, which there is.
+/// Returns the table at an index of a slice.
+///
+/// Requires that the index is below the length.
 fn item_at(slice: &[PageTable], index: usize) -> &PageTable
     requires { index < length slice.now }
     ensures { slice_get slice.now index ≡ Some result.now }

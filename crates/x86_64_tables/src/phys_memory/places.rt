@@ -1,4 +1,4 @@
-//! Places in the order of their numbers, found by a guess or by halving.
+//! The places of a memory in the order of their numbers, found by a guess or by binary search.
 ghost use Rattle.std.specs.Prelude.{◌≡◌, ◌<◌, ◌↔◌, true, Some, IsSome, length, slice_get, slice_index};
 ghost use Rattle.std.specs.List.{position};
 ghost use Rattle.std.specs.List.Sorted.{IsStrictlyIncreasing};
@@ -7,11 +7,11 @@ ghost use Rattle.x86_64_tables.specs.private.SortedPlaces.{HasRun};
 
 use std::marker::Model;
 
-/// Holds the numbers of places, each below the next, seen as their list.
+/// The numbers under which a memory holds tables, its places, each below the next. Contracts see it as their list.
 ///
-/// The first `run` of them follow one another without a gap from `first` on, so that each of these stands as many places
-/// from the front as its number is from `first`. If `is_dense` they are all numbers from 0 on, up to their last. There are
-/// about `scale` / 2^32 places for each number; it only says where to look first, so any value will do.
+/// The first `run` of them are the numbers from `first` on without a gap, so the index of each of these is its distance
+/// from `first`. If `is_dense` is true, they are all numbers from 0 up to the last. There are about `scale` / 2^32 places
+/// for each number. This only determines where to look first, so any value is correct.
 #[derive(Drop)]
 pub(super) struct SortedPlaces {
     numbers: Vec<u64>,
@@ -36,7 +36,9 @@ impl Model for SortedPlaces {
 }
 
 impl SortedPlaces {
-    /// Takes the numbers of the places.
+    /// Creates the places with the given numbers.
+    ///
+    /// Requires that each number is below the next.
     pub(super) fn new(numbers: Vec<u64>) -> SortedPlaces
         requires { IsStrictlyIncreasing numbers.items }
         ensures { result ≡ numbers.items }
@@ -54,16 +56,16 @@ impl SortedPlaces {
         }
     }
 
-    /// Gives the `n`-th place, counted from 0, or `None` where there are no more than `n`.
+    /// Returns the `n`-th place, counted from 0, or `None` if there are no more than `n`.
     pub(super) fn number_at(&self, n: usize) -> Option<u64>
         ensures { result ≡ slice_get self.now n }
     {
         self.numbers.get(n).copied()
     }
 
-    /// Gives how many places come before a place, or `None` where there is no place of this number.
+    /// Returns the number of places before a place, or `None` if there is no place with this number.
     ///
-    /// The first look is where the place would be if there were no gaps, the second where it would be if all gaps were alike.
+    /// Looks first where the place would be without gaps, then where it would be if all gaps were alike.
     pub(super) fn index_of(&self, number: u64) -> Option<usize>
         ensures { result ≡ position (eq_by_cmp nat_cmp number) self.now }
     {
@@ -79,7 +81,7 @@ impl SortedPlaces {
         }
     }
 
-    /// Tells whether a place stands at an index.
+    /// Returns true if a place is the one at an index.
     fn stands_at(&self, number: u64, index: usize) -> bool
         ensures { (result ≡ true)
             ↔ ((index < length self.now) × (slice_index self.now index ≡ number)) }
@@ -87,7 +89,9 @@ impl SortedPlaces {
         index < self.numbers.len() && self.numbers[index] == number
     }
 
-    /// Gives how many places come before one that is there.
+    /// Returns the number of places before a place.
+    ///
+    /// Requires that the place is there.
     pub(super) fn index_there(&self, number: u64) -> usize
         requires { IsSome (position (eq_by_cmp nat_cmp number) self.now) }
         ensures { Some result ≡ position (eq_by_cmp nat_cmp number) self.now }
@@ -95,8 +99,7 @@ impl SortedPlaces {
         self.index_of(number).unwrap()
     }
 
-    /// Tells whether the places are known to be all numbers from 0 on up to their last, so that each stands where its number
-    /// says.
+    /// Returns true if the places are known to be all numbers from 0 up to the last, so that the index of each is its number.
     pub(super) fn is_dense(&self) -> bool
         ensures { result ≡ true → HasRun self.now 0 (length self.now) }
     {
@@ -104,7 +107,7 @@ impl SortedPlaces {
     }
 }
 
-/// Tells whether each number is below the next.
+/// Returns true if each number is below the next.
 pub(super) fn is_increasing(numbers: &[u64]) -> bool
     ensures { (result ≡ true) ↔ IsStrictlyIncreasing numbers.now }
 {
@@ -116,7 +119,7 @@ pub(super) fn is_increasing(numbers: &[u64]) -> bool
     true
 }
 
-/// Counts the numbers at the front that have no gap between them.
+/// Returns how many numbers at the front have no gap between them.
 fn run_of(numbers: &[u64]) -> u64
     requires { IsStrictlyIncreasing numbers.now }
     ensures { HasRun numbers.now (slice_index numbers.now 0) result }
@@ -129,7 +132,7 @@ fn run_of(numbers: &[u64]) -> u64
     numbers.len() as u64
 }
 
-/// Gives how many places there are for each number from the first to the last, times 2^32 and rounded up. Any answer will do.
+/// Returns about how many places there are for each number from the first to the last, times 2^32. Any result is correct.
 fn scale_of(numbers: &[u64]) -> u64 {
     let places = numbers.len().saturating_sub(1);
     let span = if places == 0 {

@@ -1,4 +1,4 @@
-//! Frames that lie at the places from a first frame on.
+//! A mapping of the frames from a first one on to the places from 0 on.
 ghost use Rattle.std.specs.Prelude.{◌≡◌};
 ghost use Rattle.x86_64_tables.specs.Shifted.{shifted_places};
 
@@ -6,14 +6,15 @@ use super::{FramePlace, PageTableFrameMapping};
 use x86_64_page::frame::PhysFrame;
 use x86_64_page::page::Size4KiB;
 
-/// Maps each 4KiB frame from a first one on to the place of its number less that of the first. The frames before aren't covered.
+/// The mapping of each 4KiB frame from a first one on to a place (the number of its table in the memory): the frame's number
+/// minus that of the first. Frames before the first aren't covered.
 #[derive(Clone, Copy, Debug)]
 pub struct ShiftMapping {
     first: u64,
 }
 
 impl ShiftMapping {
-    /// Makes the mapping where the frame of a number lies at place 0.
+    /// Creates the mapping of the frame with number `first` to place 0.
     pub fn new(first: u64) -> ShiftMapping
         ensures { ⟦<Self as PageTableFrameMapping>⟧.places result ≡ shifted_places first }
     {

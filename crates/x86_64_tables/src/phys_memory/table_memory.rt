@@ -1,4 +1,4 @@
-//! What a memory of page tables is, whoever holds its tables.
+//! The trait of memories of page tables, whether these are owned or borrowed.
 ghost use Rattle.std.specs.Prelude.{◌≡◌, ℕ, List, IsSome};
 ghost use Rattle.std.specs.Borrow.{sem};
 ghost use Rattle.std.specs.FinMap as map;
@@ -11,14 +11,14 @@ ghost use Rattle.x86_64_tables.specs.Lending.{LendsTableBy, LendsTableIfBy};
 use super::{FramePlace, PhysMemory};
 use crate::page_table::PageTable;
 
-/// Holds page tables, seen as a finite map from the numbers of places to tables. The places never change.
+/// A memory of page tables. Contracts see it as a finite map from the numbers of places to tables. The places never change.
 ///
-/// [`PhysMemory`] owns its tables, [`LentMemory`](super::LentMemory) has them lent.
+/// [`PhysMemory`] owns its tables, [`LentMemory`](super::LentMemory) borrows them.
 pub trait TableMemory {
     /// The tables by their places.
     ghost tables: { Self → Memory };
 
-    /// Which tables were lent to the memory, where they aren't its own.
+    /// Which tables were lent to the memory, if they aren't its own.
     ghost Lent: { Type 0 };
 
     ghost lent: { Self → Lent };
@@ -26,7 +26,7 @@ pub trait TableMemory {
     /// The memory with another table at a place that it has.
     ghost with_table: { Self → ℕ → List ℕ → Self };
 
-    /// It has the places that it had.
+    /// Replacing a table keeps all places.
     ghost keeps_places: { (memory : Self) (place : ℕ) (table : List ℕ) (other : ℕ) →
         IsSome (map.get (tables memory) other) → IsSome (map.get (tables (with_table memory place table)) other) };
 
@@ -34,11 +34,11 @@ pub trait TableMemory {
     fn len(&self) -> usize
         ensures { result ≡ map.len (tables self.now) };
 
-    /// Returns the `n`-th place in the order of their numbers, counted from 0, or `None` if the memory has no more than `n`.
+    /// Returns the `n`-th place in increasing order, counted from 0, or `None` if the memory has no more than `n` places.
     fn place_at(&self, n: usize) -> Option<FramePlace>
         ensures { result ≡ slice_get (map.keys (tables self.now)) n };
 
-    /// Returns how many places come before a place, or `None` if the memory lacks it.
+    /// Returns the number of places before a place, or `None` if the memory lacks it.
     fn index_of(&self, place: FramePlace) -> Option<usize>
         ensures { result ≡ position (eq_by_cmp nat_cmp place) (map.keys (tables self.now)) };
 
@@ -46,7 +46,7 @@ pub trait TableMemory {
     fn table(&self, place: FramePlace) -> Option<&PageTable>
         ensures { option_copied result ≡ map.get (tables self.now) place };
 
-    /// Lends the table at a place to be changed, or returns `None` if the memory lacks the place.
+    /// Lends the table at a place mutably, or returns `None` if the memory lacks the place.
     fn table_mut(&mut self, place: FramePlace) -> Option<&mut PageTable>
         ensures* writes_back { let put = with_table self.old place in
             sem 𝓛 (LendsTableIfBy Self.row self.entry result put) }
@@ -54,14 +54,14 @@ pub trait TableMemory {
 
     /// Returns the table at a place.
     ///
-    /// Condition: the memory has the place.
+    /// Requires that the memory has the place.
     fn table_at(&self, place: FramePlace) -> &PageTable
         requires { IsSome (map.get (tables self.now) place) }
         ensures { map.get (tables self.now) place ≡ Some result.now };
 
-    /// Lends the table at a place to be changed.
+    /// Lends the table at a place mutably.
     ///
-    /// Condition: the memory has the place.
+    /// Requires that the memory has the place.
     fn table_at_mut(&mut self, place: FramePlace) -> &mut PageTable
         requires { IsSome (map.get (tables self.old) place) }
         ensures* writes_back { let put = with_table self.old place in

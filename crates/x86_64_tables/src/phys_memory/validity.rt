@@ -1,4 +1,4 @@
-//! The tests of a hierarchy: whether the words below a root are one, and whether a pool fits it.
+//! Tests of whether the words below a root form a valid hierarchy, and whether a pool fits it.
 ghost use Rattle.std.specs.Prelude.{◌≡◌, ◌<◌, ◌↔◌, suc, ℕ, if◌then◌else◌, length, IfOk, IsTrue, Some, None, false, true, slice_index_or};
 ghost use Rattle.std.specs.FinMap.{keys};
 ghost use Rattle.std.specs.Option.{option_copied};
@@ -21,18 +21,20 @@ use x86_64_addr::index::PageTableIndex;
 use x86_64_page::frame::PhysFrame;
 use x86_64_page::page::{PageSize, Size4KiB};
 
-/// How many frames there are.
+/// The number of 4KiB frames that an entry can address.
 const FRAME_COUNT: u64 = 1 << 40;
 
-/// Tells whether the words below the root are a valid hierarchy of four levels.
+/// Returns true if the words below the root form a valid hierarchy of four levels.
 ///
-/// In one the root and each table that a used word without `HUGE_PAGE` names above level one, present or not, is in
-/// the memory and is named once. None but the root is in frame 0, and no word of level four has `HUGE_PAGE`. The words
-/// of level one may be any. The test ends for any words, and takes memory for a mark for each place alone.
+/// In a valid hierarchy the root is in the memory, and so is each table that a used word without `HUGE_PAGE` above level one
+/// names, present or not. No two of these words name the same table, and none names the root. No table but the root is in
+/// frame 0, and no word of level four has `HUGE_PAGE`. Words of level one may have any value.
+///
+/// The test terminates for any words. It allocates only one mark for each place (the number of a table in the memory).
 ///
 /// # Errors
 ///
-/// `AllocError` where memory is refused.
+/// `AllocError` if memory allocation fails.
 pub fn is_valid_hierarchy<T: TableMemory, P: PageTableFrameMapping>(
     alloc: Global,
     memory: &T,
@@ -45,15 +47,16 @@ pub fn is_valid_hierarchy<T: TableMemory, P: PageTableFrameMapping>(
     passes(alloc, memory, mapping, root, None, None, 3)
 }
 
-/// Tells whether the words below the root are a valid hierarchy of five levels.
+/// Returns true if the words below the root form a valid hierarchy of five levels.
 ///
-/// It is as `is_valid_hierarchy` says, with one more level: also each table that a used word of level five names is in the
-/// memory and is named once, and no word of levels five and four has `HUGE_PAGE`. The test ends for any words, and takes
-/// memory for a mark for each place alone.
+/// This is defined as for `is_valid_hierarchy`, with one more level: each table that a used word of level five names is also
+/// in the memory and named once, and no word of levels five and four has `HUGE_PAGE`.
+///
+/// The test terminates for any words. It allocates only one mark for each place.
 ///
 /// # Errors
 ///
-/// `AllocError` where memory is refused.
+/// `AllocError` if memory allocation fails.
 pub fn is_valid_hierarchy_57<T: TableMemory, P: PageTableFrameMapping>(
     alloc: Global,
     memory: &T,
@@ -66,16 +69,17 @@ pub fn is_valid_hierarchy_57<T: TableMemory, P: PageTableFrameMapping>(
     passes(alloc, memory, mapping, root, None, None, 4)
 }
 
-/// Tells whether the words below the root are a valid hierarchy of four levels for a recursive index, where each frame
-/// lies at the place of its number.
+/// Returns true if the words below the root form a valid hierarchy of four levels with a recursive index, the index at which
+/// the root names itself. Each frame lies at the place with its number.
 ///
-/// In one the root's word at the index has `PRESENT`, lacks `HUGE_PAGE` and names the root, and with that word read as
-/// 0 the hierarchy is one of `is_valid_hierarchy`. The test ends for any words, and takes memory for a mark for each
-/// place alone.
+/// In such a hierarchy the root's word at the index has `PRESENT`, lacks `HUGE_PAGE` and names the root. With that word read
+/// as 0, the hierarchy is valid as defined for `is_valid_hierarchy`.
+///
+/// The test terminates for any words. It allocates only one mark for each place.
 ///
 /// # Errors
 ///
-/// `AllocError` where memory is refused.
+/// `AllocError` if memory allocation fails.
 pub fn is_valid_recursive<T: TableMemory>(
     alloc: Global,
     memory: &T,
@@ -90,15 +94,17 @@ pub fn is_valid_recursive<T: TableMemory>(
     passes(alloc, memory, &IdentityMapping, root, Some(index), None, 3)
 }
 
-/// Tells whether the words below the root are a valid hierarchy of five levels for a recursive index, where each frame
-/// lies at the place of its number.
+/// Returns true if the words below the root form a valid hierarchy of five levels with a recursive index. Each frame lies at
+/// the place with its number.
 ///
-/// It is as `is_valid_recursive` says, with one more level: with the root's word at the index read as 0 the hierarchy is
-/// one of `is_valid_hierarchy_57`. The test ends for any words, and takes memory for a mark for each place alone.
+/// This is defined as for `is_valid_recursive`, with one more level: with the root's word at the index read as 0, the
+/// hierarchy is valid as defined for `is_valid_hierarchy_57`.
+///
+/// The test terminates for any words. It allocates only one mark for each place.
 ///
 /// # Errors
 ///
-/// `AllocError` where memory is refused.
+/// `AllocError` if memory allocation fails.
 pub fn is_valid_recursive_57<T: TableMemory>(
     alloc: Global,
     memory: &T,
@@ -113,15 +119,17 @@ pub fn is_valid_recursive_57<T: TableMemory>(
     passes(alloc, memory, &IdentityMapping, root, Some(index), None, 4)
 }
 
-/// Tells whether the words below the root are a valid hierarchy of four levels, and a pool fits it.
+/// Returns true if the words below the root form a valid hierarchy of four levels, and a pool fits it.
 ///
-/// The hierarchies are those of `is_valid_hierarchy`. A pool fits one when its frames are distinct, covered, in the
-/// memory, and none is frame 0, the root or a table, and the pool serves every table frame but the root: its number is
-/// below the pool's limit. The test ends for any words and any pool, and takes memory for a mark for each place alone.
+/// The hierarchy is valid as defined for `is_valid_hierarchy`. A pool fits if its frames are distinct, covered and in the
+/// memory, none of them is frame 0, the root or a table, and the pool serves the frame of every table but the root: the
+/// frame's number is below the pool's limit.
+///
+/// The test terminates for any words and any pool. It allocates only one mark for each place.
 ///
 /// # Errors
 ///
-/// `AllocError` where memory is refused.
+/// `AllocError` if memory allocation fails.
 pub fn pool_fits<T: TableMemory, P: PageTableFrameMapping>(
     alloc: Global,
     memory: &T,
@@ -136,14 +144,15 @@ pub fn pool_fits<T: TableMemory, P: PageTableFrameMapping>(
     passes(alloc, memory, mapping, root, None, Some(pool), 3)
 }
 
-/// Tells whether the words below the root are a valid hierarchy of five levels, and a pool fits it.
+/// Returns true if the words below the root form a valid hierarchy of five levels, and a pool fits it.
 ///
-/// The hierarchies are those of `is_valid_hierarchy_57`. A pool fits one as `pool_fits` says. The test ends for any words and
-/// any pool, and takes memory for a mark for each place alone.
+/// The hierarchy is valid as defined for `is_valid_hierarchy_57`, and a pool fits as defined for `pool_fits`.
+///
+/// The test terminates for any words and any pool. It allocates only one mark for each place.
 ///
 /// # Errors
 ///
-/// `AllocError` where memory is refused.
+/// `AllocError` if memory allocation fails.
 pub fn pool_fits_57<T: TableMemory, P: PageTableFrameMapping>(
     alloc: Global,
     memory: &T,
@@ -158,15 +167,17 @@ pub fn pool_fits_57<T: TableMemory, P: PageTableFrameMapping>(
     passes(alloc, memory, mapping, root, None, Some(pool), 4)
 }
 
-/// Tells whether the words below the root are a valid hierarchy of four levels for a recursive index, and a pool fits
-/// it, where each frame lies at the place of its number.
+/// Returns true if the words below the root form a valid hierarchy of four levels with a recursive index, and a pool fits
+/// it. Each frame lies at the place with its number.
 ///
-/// The hierarchies are those of `is_valid_recursive`. A pool fits one as `pool_fits` says of the hierarchy without the
-/// word at the index. The test ends for any words and any pool, and takes memory for a mark for each place alone.
+/// The hierarchy is valid as defined for `is_valid_recursive`. A pool fits as defined for `pool_fits`, for the hierarchy
+/// without the word at the index.
+///
+/// The test terminates for any words and any pool. It allocates only one mark for each place.
 ///
 /// # Errors
 ///
-/// `AllocError` where memory is refused.
+/// `AllocError` if memory allocation fails.
 pub fn pool_fits_recursive<T: TableMemory>(
     alloc: Global,
     memory: &T,
@@ -190,15 +201,16 @@ pub fn pool_fits_recursive<T: TableMemory>(
     )
 }
 
-/// Tells whether the words below the root are a valid hierarchy of five levels for a recursive index, and a pool fits
-/// it, where each frame lies at the place of its number.
+/// Returns true if the words below the root form a valid hierarchy of five levels with a recursive index, and a pool fits
+/// it. Each frame lies at the place with its number.
 ///
-/// The hierarchies are those of `is_valid_recursive_57`. A pool fits one as `pool_fits_recursive` says. The test ends for any
-/// words and any pool, and takes memory for a mark for each place alone.
+/// The hierarchy is valid as defined for `is_valid_recursive_57`, and a pool fits as defined for `pool_fits_recursive`.
+///
+/// The test terminates for any words and any pool. It allocates only one mark for each place.
 ///
 /// # Errors
 ///
-/// `AllocError` where memory is refused.
+/// `AllocError` if memory allocation fails.
 pub fn pool_fits_recursive_57<T: TableMemory>(
     alloc: Global,
     memory: &T,
@@ -222,12 +234,12 @@ pub fn pool_fits_recursive_57<T: TableMemory>(
     )
 }
 
-/// Tells whether the words below the root are a valid hierarchy, with so many levels of tables below the root, past the root's
-/// word at the recursive index if there is one, and whether a pool fits it, if there is one.
+/// Returns true if the words below the root form a valid hierarchy with `levels` levels of tables below the root, for the
+/// recursive index if there is one, and the pool, if there is one, fits it.
 ///
 /// # Errors
 ///
-/// `AllocError` if memory is refused.
+/// `AllocError` if memory allocation fails.
 fn passes<T: TableMemory, P: PageTableFrameMapping>(
     alloc: Global,
     memory: &T,
@@ -250,7 +262,7 @@ fn passes<T: TableMemory, P: PageTableFrameMapping>(
     HierarchyTest { view, limit }.is_sound(alloc, levels, pool)
 }
 
-/// Returns the number that those of frames are below: the limit of the pool, if there is one.
+/// Returns the bound of frame numbers: the pool's limit, or the number of all frames if there is no pool.
 fn limit_of(pool: Option<&FramePool>) -> u64
     ensures { result ≡ limit_of (option_copied pool.entry) }
 {
@@ -260,8 +272,7 @@ fn limit_of(pool: Option<&FramePool>) -> u64
     }
 }
 
-/// Holds a hierarchy to be tested. The frames of its tables, but for the root, and those of a pool have numbers from 1
-/// to `limit` - 1.
+/// A hierarchy to be tested. The frames that may be met are the root, and those with numbers from 1 to `limit` - 1.
 #[derive(Drop)]
 struct HierarchyTest<'a, T, P> {
     view: HierarchyView<'a, T, P>,
@@ -269,9 +280,13 @@ struct HierarchyTest<'a, T, P> {
 }
 
 impl<'a, T: TableMemory, P: PageTableFrameMapping> HierarchyTest<'a, T, P> {
-    /// Tells whether each table, through so many levels below the root, and each frame of the pool, where there is one,
-    /// is met once, in the memory and at a number that tables may have, and no word above level three has `HUGE_PAGE`;
-    /// and whether the root's word at the recursive index, where there is one, names the root.
+    /// Returns true if all of this holds: each table, with `levels` levels below the root, and each frame of the pool, if there
+    /// is one, is met once, is in the memory, and may be met; no word above level three has `HUGE_PAGE`; and the root's word at
+    /// the recursive index, if there is one, names the root.
+    ///
+    /// # Errors
+    ///
+    /// `AllocError` if memory allocation fails.
     #[tactic(auto, using(crate::specs::PhysMemory::length_keys))]
     fn is_sound(
         &self,
@@ -293,7 +308,9 @@ impl<'a, T: TableMemory, P: PageTableFrameMapping> HierarchyTest<'a, T, P> {
         Ok(self.is_sound_by(levels, pool, &mut marks))
     }
 
-    /// Tells the first of these by marks, one for each place, which are all clear at first.
+    /// Checks what `is_sound` checks, except for the recursive index, with one mark per place.
+    ///
+    /// Requires that all marks are clear.
     fn is_sound_by(&self, levels: u8, pool: Option<&FramePool>, marks: &mut [bool]) -> bool
         requires length { length marks.old ≡ length (keys (T.tables self.now.view.memory.now)) }
         requires clear { (k : ℕ) → k < length (keys (T.tables self.now.view.memory.now))
@@ -315,7 +332,7 @@ impl<'a, T: TableMemory, P: PageTableFrameMapping> HierarchyTest<'a, T, P> {
         }
     }
 
-    /// Marks the table in a frame and those below it, through so many levels, if each may be met and was not before.
+    /// Marks the table in a frame and the tables of `levels` levels below it. Returns false if one of them can't be marked.
     fn mark_tables(&self, marks: &mut [bool], frame: PhysFrame<Size4KiB>, levels: u8) -> bool
         requires { length marks.old ≡ length (keys (T.tables self.now.view.memory.now)) }
         ensures { let view = self.now.view in let places = P.places view.mapping in
@@ -339,7 +356,7 @@ impl<'a, T: TableMemory, P: PageTableFrameMapping> HierarchyTest<'a, T, P> {
         true
     }
 
-    /// Marks each frame of a pool, if each may be met and was not before.
+    /// Marks each frame of a pool. Returns false if one of them can't be marked.
     fn mark_pool(&self, marks: &mut [bool], pool: &FramePool) -> bool
         requires { length marks.old ≡ length (keys (T.tables self.now.view.memory.now)) }
         ensures { let view = self.now.view in let places = P.places view.mapping in
@@ -356,7 +373,7 @@ impl<'a, T: TableMemory, P: PageTableFrameMapping> HierarchyTest<'a, T, P> {
         true
     }
 
-    /// Marks a frame, if it may be met and was not before.
+    /// Marks a frame. Returns false if the frame has no mark, or was marked before.
     #[tactic(auto, unfolding(x86_64_model::specs::private::Marks::mark_one))]
     fn mark(&self, marks: &mut [bool], frame: PhysFrame<Size4KiB>) -> bool
         requires { length marks.old ≡ length (keys (T.tables self.now.view.memory.now)) }
@@ -377,7 +394,7 @@ impl<'a, T: TableMemory, P: PageTableFrameMapping> HierarchyTest<'a, T, P> {
         }
     }
 
-    /// Gives the index of a frame's mark, if the frame may be met.
+    /// Returns the index of a frame's mark, or `None` if the frame may not be met, or isn't in the memory.
     #[tactic(auto, unfolding(x86_64_model::specs::private::Marks::spot_of))]
     fn slot(&self, frame: PhysFrame<Size4KiB>) -> Option<usize>
         ensures value { let view = self.now.view in let places = P.places view.mapping in

@@ -1,4 +1,4 @@
-//! The page walk: where the processor finds an address.
+//! The page walk: how the processor translates a virtual address.
 ghost use Rattle.std.specs.Prelude.{◌≡◌, ◌<◌, ◌≤◌, ◌&&◌, true, not, option_map, bit_and};
 ghost use Rattle.std.specs.Option.{option_copied};
 ghost use Rattle.x86_64_model.specs.Entry.{has, writable, user, no_execute};
@@ -16,23 +16,24 @@ use x86_64_addr::level_count::LevelCount;
 use x86_64_page::frame::PhysFrame;
 use x86_64_page::page::{PageSize, Size1GiB, Size2MiB, Size4KiB};
 
-/// Says where a page walk arrives, and what all the entries on its way allow.
+/// Where a page walk arrives, and what all entries on its way allow.
 #[derive(Clone, Copy, Debug, PartialEq)]
 pub struct Walked {
-    /// Names the address where the processor finds what was asked for.
+    /// The physical address that the virtual address leads to.
     pub address: PhysAddr,
-    /// Tells whether all entries on the way have `WRITABLE`.
+    /// Whether all entries on the way have `WRITABLE`.
     pub write: bool,
-    /// Tells whether all entries on the way have `USER_ACCESSIBLE`.
+    /// Whether all entries on the way have `USER_ACCESSIBLE`.
     pub user: bool,
 }
 
-/// Walks the tables below the root as the processor does, or returns `None` if the walk arrives nowhere.
+/// Walks the page tables from the root as the processor does, or returns `None` if the walk arrives nowhere.
 ///
-/// It goes down as many levels as the address has: the root's table is of level four for a [`VirtAddr`] and of level five for a
-/// [`VirtAddr57`]. At each level it reads one word of a table. A word without `PRESENT` ends the walk with `None`, and so does a
-/// table whose frame is not covered by the mapping, or lies at a place that the memory lacks. With `HUGE_PAGE` a word of level two
-/// or three maps a page, and one of a higher level ends the walk; at level one it is no such bit. The tables may be any words.
+/// The root's table is of level four for a [`VirtAddr`] and of level five for a [`VirtAddr57`]. At each level the walk reads
+/// one word of a table. It ends with `None` at a word without `PRESENT`, and at a table whose frame isn't covered by the
+/// mapping, or lies at a place (the number of a table in the memory) that the memory lacks. With `HUGE_PAGE`, a word of
+/// level two or three maps a page, and a word of a higher level ends the walk with `None`. At level one this bit has another
+/// meaning, and is ignored. The tables may contain any words.
 ///
 /// Intel SDM vol. 3A, "Linear-Address Translation with 4-Level Paging and 5-Level Paging"; AMD APM vol. 2, "Long-Mode Page
 /// Translation".
@@ -51,26 +52,26 @@ pub fn page_walk<T: TableMemory, P: PageTableFrameMapping, L: LevelCount>(
     walk_from(memory, mapping, L::LEVELS, root, addr.position())
 }
 
-/// Says what the entries on the way so far allow.
+/// What the entries on the way so far allow.
 #[derive(Clone, Copy)]
 pub struct Rights {
-    /// Tells whether all have `WRITABLE`.
+    /// Whether all have `WRITABLE`.
     pub write: bool,
-    /// Tells whether all have `USER_ACCESSIBLE`.
+    /// Whether all have `USER_ACCESSIBLE`.
     pub user: bool,
-    /// Tells whether none has `NO_EXECUTE`.
+    /// Whether none has `NO_EXECUTE`.
     pub execute: bool,
 }
 
 impl Rights {
-    /// What is allowed before the first entry.
+    /// What is allowed before the first entry: everything.
     pub const ALL: Rights = Rights {
         write: true,
         user: true,
         execute: true,
     };
 
-    /// Gives what is still allowed below an entry.
+    /// Returns what is still allowed below an entry.
     pub fn below(self, entry: &PageTableEntry) -> Rights
         ensures write { result.write ≡ (self.write && writable entry.now) }
         ensures user { result.user ≡ (self.user && user entry.now) }
@@ -84,7 +85,7 @@ impl Rights {
     }
 }
 
-/// Walks to a position from the root down through so many levels.
+/// Walks from the root down through `levels` levels to a position: the number of an address counted without the gap.
 fn walk_from<T: TableMemory, P: PageTableFrameMapping>(
     memory: &T,
     mapping: &P,
@@ -113,7 +114,8 @@ fn walk_from<T: TableMemory, P: PageTableFrameMapping>(
     None
 }
 
-/// Gives the table in a frame, or `None` where the frame isn't covered by the mapping, or lies at a place that the memory lacks.
+/// Returns the table in a frame, or `None` if the frame isn't covered by the mapping, or lies at a place that the memory
+/// lacks.
 pub fn table_in<'a, T: TableMemory, P: PageTableFrameMapping>(
     memory: &'a T,
     mapping: &P,
@@ -128,7 +130,7 @@ pub fn table_in<'a, T: TableMemory, P: PageTableFrameMapping>(
     }
 }
 
-/// Reads the entry at an index of the table in a frame, or gives `None` where the frame has no table in the memory.
+/// Returns the entry at an index of the table in a frame, or `None` if the frame has no table in the memory.
 pub(super) fn entry_at<'a, T: TableMemory, P: PageTableFrameMapping>(
     memory: &'a T,
     mapping: &P,
@@ -142,7 +144,9 @@ pub(super) fn entry_at<'a, T: TableMemory, P: PageTableFrameMapping>(
     Some(&table[index])
 }
 
-/// Tells whether an entry has a flag.
+/// Returns true if an entry has a flag.
+///
+/// Requires that the flag has none of the bits 12 to 51.
 pub fn has_flag(entry: &PageTableEntry, flag: PageTableFlags) -> bool
     requires { bit_and 0xfff0_0000_0000_0fff (bits_of flag) ≡ bits_of flag }
     ensures { result ≡ has entry.now (bits_of flag) }
@@ -150,7 +154,7 @@ pub fn has_flag(entry: &PageTableEntry, flag: PageTableFlags) -> bool
     entry.flags().contains(flag)
 }
 
-/// Arrives in the page that an entry of a level maps, or gives `None` where entries of the level map none.
+/// Returns where a walk arrives in the page that an entry of a level maps, or `None` if entries of the level map no page.
 fn arrive_at(level: u64, entry: &PageTableEntry, position: u64, rights: Rights) -> Option<Walked>
     requires { 1 ≤ level }
     ensures { option_map walked_of result ≡ ends level position rights.write rights.user entry.now }
@@ -163,7 +167,7 @@ fn arrive_at(level: u64, entry: &PageTableEntry, position: u64, rights: Rights) 
     }
 }
 
-/// Arrives in the page of a size that an entry maps.
+/// Returns where a walk arrives in the page of size `S` that an entry maps.
 fn arrive<S: PageSize>(entry: &PageTableEntry, position: u64, rights: Rights) -> Walked
     ensures { walked_of result ≡ arrival S.LEVEL position rights.write rights.user entry.now }
 {
@@ -175,7 +179,9 @@ fn arrive<S: PageSize>(entry: &PageTableEntry, position: u64, rights: Rights) ->
     }
 }
 
-/// Gives the index of a level at a position.
+/// Returns the index of a level at a position.
+///
+/// Requires that the level is from one to five.
 #[tactic(auto, using(x86_64_model::proofs::Lemmas::Entries::Bits::low_nine), unfolding(x86_64_model::specs::Position::index))]
 pub fn index_of(position: u64, level: u64) -> usize
     requires low { 1 ≤ level }

@@ -11,11 +11,11 @@ use crate::call_rows::PageCallRow::{
 use rand_core::Rng;
 use rand_pcg::Pcg32;
 
-/// The indices of level five that calls choose from, where there is one. Frames lie below that of index 2.
+/// The indices of level five that are chosen, if there is such a level. Frames are below the addresses of index 2.
 const LEVEL_5_INDICES: [u64; 10] = [0, 0, 0, 0, 0, 0, 0, 0, 1, 511];
 
-/// The indices of the other levels that calls choose from, level four first. Where 1 is the recursive index, the entries of a level
-/// are also read with the indices of a lower one.
+/// The indices of the other levels that are chosen, from level four down. If 1 is the recursive index, the entries of
+/// a level are also read with the indices of a lower one.
 const INDICES: [&[u64]; 4] = [
     &[0, 0, 1, 3, 3, 256, 511],
     &[0, 1, 1, 2],
@@ -23,7 +23,7 @@ const INDICES: [&[u64]; 4] = [
     &[0, 1, 511],
 ];
 
-/// The addresses in the frames that calls choose from. The last two are too high for identity maps with four levels.
+/// The addresses in frames that are chosen. The last two are too high for identity maps with four levels.
 const FRAMES: [u64; 8] = [
     0x0,
     0x5000,
@@ -35,8 +35,8 @@ const FRAMES: [u64; 8] = [
     0x000f_ffff_ffff_f000,
 ];
 
-/// The flags that calls choose from. Some have an address bit or `HUGE_PAGE` or lack `PRESENT`, so that some
-/// calls aren't allowed.
+/// The flags that are chosen. Some have an address bit or `HUGE_PAGE` or lack `PRESENT`, so that some calls aren't
+/// allowed.
 const FLAGS: [u64; 12] = [
     0x1,
     0x1,
@@ -52,10 +52,10 @@ const FLAGS: [u64; 12] = [
     0x8000_0000_0000_0001,
 ];
 
-/// The sizes that pages choose from.
+/// The sizes of pages that are chosen.
 const SIZES: [u64; 4] = [0x1000, 0x1000, 0x20_0000, 0x4000_0000];
 
-/// Makes a call on a page of a size.
+/// Returns the call on a page of a size.
 fn on_page(size: u64, call: PageCallRow) -> CallRow {
     match size {
         0x1000 => Small(call),
@@ -64,7 +64,7 @@ fn on_page(size: u64, call: PageCallRow) -> CallRow {
     }
 }
 
-/// Chooses by a generator that begins alike in each run of the test, so that each makes the same calls.
+/// A chooser with a generator that starts alike in each run of the test, so that each run makes the same calls.
 #[derive(Drop)]
 pub struct Chooser {
     levels: Levels,
@@ -72,7 +72,7 @@ pub struct Chooser {
 }
 
 impl Chooser {
-    /// Makes one for so many levels.
+    /// Creates a chooser for a number of levels.
     pub fn new(levels: Levels) -> Chooser {
         Chooser {
             levels,
@@ -80,19 +80,19 @@ impl Chooser {
         }
     }
 
-    /// Gives how many levels its calls have.
+    /// Returns the number of levels of its calls.
     pub fn levels(&self) -> Levels {
         self.levels
     }
 
-    /// Chooses one of some items.
+    /// Chooses one of several items.
     fn choose<T: Copy>(&mut self, items: &[T]) -> T
         requires { 1 ≤ length items.now }
     {
         items[self.generator.next_u32() as usize % items.len()]
     }
 
-    /// Chooses indices, the highest level first, and gives the address of the 4KiB page that has them.
+    /// Chooses indices, from the highest level down, and returns the address of the 4KiB page with these indices.
     fn address(&mut self) -> u64 {
         let mut position = match self.levels {
             Levels::Four => 0,
@@ -104,8 +104,8 @@ impl Chooser {
         self.levels.address_at(position << 12)
     }
 
-    /// Chooses a call. A fourth of the calls unmap a page or clean up a range, so that tables become empty and go back. The last page of
-    /// a range may lie below the first one.
+    /// Chooses a call. A fourth of the calls unmap a page or clean up a range, so that tables become empty and are
+    /// returned. The last page of a range may be below the first one.
     pub fn choice(&mut self) -> CallRow {
         let (first, last) = (self.address(), self.address());
         let size = self.choose(&SIZES);

@@ -1,4 +1,4 @@
-//! Calls in numbers as commands of the program, and as calls of the plain one.
+//! Calls as numbers, converted to commands of the program and to calls of the plain program.
 use super::modes::Levels;
 use crate::assertions::unwrap;
 use crate::call_rows::{CallRow, PageCallRow};
@@ -7,7 +7,7 @@ use std::process::Abort;
 use x86_64_plain::PlainCall;
 use x86_64_plain::positions::path_at;
 
-/// Gives the name of a command on a page.
+/// Returns the name of a command on a page.
 fn name_of(call: PageCallRow) -> &'static str {
     match call {
         PageCallRow::MapTo(..) => "map",
@@ -23,7 +23,7 @@ fn name_of(call: PageCallRow) -> &'static str {
     }
 }
 
-/// Gives the command's name, and the size where it is on a page of one.
+/// Returns the command's name, and the size for a command on a page.
 pub fn command_of(alloc: Global, call: CallRow) -> Result<String, AllocError> {
     match call {
         CallRow::Small(call) => format!(in alloc; "{} 4KiB", name_of(call)),
@@ -36,7 +36,7 @@ pub fn command_of(alloc: Global, call: CallRow) -> Result<String, AllocError> {
     }
 }
 
-/// Gives the numbers on the line of a command on a page.
+/// Returns the numbers in the line of a command on a page.
 fn page_numbers(alloc: Global, call: PageCallRow) -> Result<Vec<u64>, AllocError> {
     match call {
         PageCallRow::MapTo(page, frame, flags) => Vec::from_slice(alloc, &[page, frame, flags]),
@@ -52,7 +52,7 @@ fn page_numbers(alloc: Global, call: PageCallRow) -> Result<Vec<u64>, AllocError
     }
 }
 
-/// Gives the numbers on a command's line.
+/// Returns the numbers in a command's line.
 fn numbers_of(alloc: Global, call: CallRow) -> Result<Vec<u64>, AllocError> {
     match call {
         CallRow::Small(call) | CallRow::Large(call) | CallRow::Giant(call) => {
@@ -64,7 +64,7 @@ fn numbers_of(alloc: Global, call: CallRow) -> Result<Vec<u64>, AllocError> {
     }
 }
 
-/// Gives the whole line of a command.
+/// Returns the whole line of a command.
 pub fn line_of(rt: impl Abort + Copy, alloc: Global, command: &str, call: CallRow) -> String {
     let mut line = unwrap(rt, String::from_str(alloc, command));
     for number in unwrap(rt, numbers_of(alloc, call)) {
@@ -73,12 +73,12 @@ pub fn line_of(rt: impl Abort + Copy, alloc: Global, command: &str, call: CallRo
     line
 }
 
-/// Gives the path of the page whose entry is one of a level.
+/// Returns the path of a page whose entry is of a level.
 fn path_of(alloc: Global, levels: Levels, level: usize, page: u64) -> Result<Vec<u64>, AllocError> {
     path_at(alloc, levels.count(), level, levels.position_of(page))
 }
 
-/// Makes the call on a page whose entry is one of a level.
+/// Returns the call on a page whose entry is of a level.
 fn page_call(
     alloc: Global,
     levels: Levels,
@@ -122,7 +122,7 @@ fn page_call(
     })
 }
 
-/// Makes the call of the plain program, of so many levels.
+/// Returns the call of the plain program, with this number of levels.
 pub fn plain_of(alloc: Global, levels: Levels, call: CallRow) -> Result<PlainCall, AllocError> {
     match call {
         CallRow::Small(call) => page_call(alloc, levels, 1, call),

@@ -1,4 +1,4 @@
-//! What is mapped, listed by the library and plainly: the leaves among the entries by their paths.
+//! The mappings, listed by the library and by the plain definition: the leaves among the entries at their paths.
 use super::modes::Levels;
 use super::session::Session;
 use crate::assertions::{assert_equal_in, unwrap, unwrap_some};
@@ -17,7 +17,8 @@ const USER_ACCESSIBLE: u64 = 0x4;
 
 const NO_EXECUTE: u64 = 0x8000_0000_0000_0000;
 
-/// A mapping plainly: its first position, its size, and the words of its leaf.
+/// A mapping by the plain definition: its first position (address counted without the gap), its size, and the words
+/// from the root down to its leaf.
 #[derive(Drop)]
 struct PlainMapping {
     start: u64,
@@ -26,7 +27,7 @@ struct PlainMapping {
 }
 
 impl PlainMapping {
-    /// Gives the mapping of the entry at a path, if it is a leaf.
+    /// Returns the mapping of the entry at a path, if it is a leaf.
     fn at(
         rt: impl Abort + Copy,
         alloc: Global,
@@ -50,7 +51,7 @@ impl PlainMapping {
         })
     }
 
-    /// Gives the line that it is printed as.
+    /// Returns the line that the mapping is printed as.
     fn line(&self, rt: impl Abort + Copy, alloc: Global, levels: Levels) -> String {
         let start = levels.address_at(self.start);
         let name = match self.size {
@@ -82,7 +83,7 @@ impl PlainMapping {
         )
     }
 
-    /// Tells whether the bits of a mask are these in each word.
+    /// Returns true if the bits of a mask have this value in each word.
     fn all_are(&self, mask: u64, bits: u64) -> bool {
         for word in &self.words {
             if *word & mask != bits {
@@ -93,7 +94,7 @@ impl PlainMapping {
     }
 }
 
-/// Gives the size of the pages that entries of a level map, if they map any.
+/// Returns the size of the pages that entries of a level map, if they map any.
 fn size_of(level: usize) -> Option<u64> {
     match level {
         1 => Some(0x1000),
@@ -103,7 +104,7 @@ fn size_of(level: usize) -> Option<u64> {
     }
 }
 
-/// Tells whether words, the last of which is of a level, are those of a leaf.
+/// Returns true if words from the root down, the last of which is of a level, lead to a leaf.
 fn is_leaf(level: usize, words: &[u64]) -> bool {
     let Some((last, above)) = words.split_last() else {
         return false;
@@ -116,7 +117,7 @@ fn is_leaf(level: usize, words: &[u64]) -> bool {
     is_present(*last) && (level == 1 || is_huge(*last))
 }
 
-/// Gives the first mapping from a position on.
+/// Returns the first mapping from a position on.
 fn first_from(
     rt: impl Abort + Copy,
     alloc: Global,
@@ -140,7 +141,7 @@ fn first_from(
     first
 }
 
-/// Compares what the library lists with the plain mappings, in order.
+/// Compares the library's list with the plain mappings, in order.
 pub fn compare_mappings<L: LevelCount>(
     rt: impl Abort + Copy,
     alloc: Global,

@@ -1,8 +1,8 @@
-//! Lists of calls that a fixed rule makes, answered by the plain slow program, and by the direct mapper and the recursive one: by both
-//! at once, or by each alone.
+//! Lists of calls chosen by a fixed rule, executed by the plain slow program, and by the direct mapper and the
+//! recursive one: by both at once, or by each alone.
 //!
-//! After each list the replies, both memories, both pools and what the first memory maps are compared with the plain ones, and at the
-//! end each kind of outcome was met.
+//! After each list, the replies, both memories, both pools and the mappings of the first memory are compared with the
+//! plain ones. At the end, each kind of outcome must have occurred.
 use super::chooser::Chooser;
 use super::commands::command_of;
 use super::listing::compare_mappings;
@@ -26,13 +26,13 @@ use x86_64::{
     ReplyIn,
 };
 
-/// How many lists are answered on one memory.
+/// The number of lists executed on one memory.
 const LISTS: usize = 20;
 
-/// How many calls a list has at most.
+/// The maximum number of calls of a list.
 const CALLS: usize = 20;
 
-/// A hierarchy and its free frames, in a memory and plainly.
+/// A hierarchy and its free frames, in a memory and as a plain state.
 #[derive(Drop)]
 struct Twins {
     memory: PhysMemory,
@@ -41,7 +41,7 @@ struct Twins {
 }
 
 impl Twins {
-    /// Makes them of the entries at first and so many free frames.
+    /// Creates both from the initial entries and a number of free frames.
     fn new(rt: impl Abort + Copy, alloc: Global, mode: Mode, words: &[Word], free: usize) -> Twins {
         let plain = Session::new(rt, alloc, mode, words, free);
         let mut memory = unwrap(rt, PhysMemory::new(alloc, PLACES));
@@ -68,7 +68,7 @@ impl Twins {
     }
 }
 
-/// Two hierarchies that are alike, of which the second one has a recursive index.
+/// Two alike hierarchies, of which the second one has a recursive index.
 #[derive(Drop)]
 struct Pair {
     direct: Twins,
@@ -76,7 +76,7 @@ struct Pair {
 }
 
 impl Pair {
-    /// Makes them of the entries at first and so many free frames.
+    /// Creates both from the initial entries and a number of free frames.
     fn new(
         rt: impl Abort + Copy,
         alloc: Global,
@@ -94,7 +94,7 @@ impl Pair {
         }
     }
 
-    /// Answers a call by both plain machines, whose replies are the same, and gives the reply.
+    /// Executes a call with both plain machines, asserts that their replies are equal, and returns the reply.
     fn step<L: LevelCount>(
         &mut self,
         rt: impl Abort + Copy,
@@ -110,7 +110,7 @@ impl Pair {
         unwrap_some(rt, reply_to(call, answered.1))
     }
 
-    /// Answers calls by both mappers at once.
+    /// Executes calls with both mappers at once.
     fn answer_at_once<L: LevelCount, P5: LevelFiveFlags<L>>(
         &mut self,
         rt: impl Abort + Copy,
@@ -132,7 +132,7 @@ impl Pair {
         )
     }
 
-    /// Answers calls by each mapper alone, whose replies are the same.
+    /// Executes calls with each mapper alone, and asserts that their replies are equal.
     fn answer_alone<L: LevelCount, P5: LevelFiveFlags<L>>(
         &mut self,
         rt: impl Abort + Copy,
@@ -147,8 +147,8 @@ impl Pair {
         replies
     }
 
-    /// Answers a list of calls that don't name the recursive index, by both mappers at once or by each alone, and plainly, and
-    /// compares the replies and the states.
+    /// Executes a list of calls that don't name the recursive index, with both mappers at once or with each alone,
+    /// and with the plain program. Compares the replies and the states.
     fn answer<L: LevelCount, P5: LevelFiveFlags<L>>(
         &mut self,
         rt: impl Abort + Copy,
@@ -180,7 +180,7 @@ impl Pair {
     }
 }
 
-/// Answers calls by the direct mapper.
+/// Executes calls with the direct mapper.
 fn answer_directly<L: LevelCount, P5: LevelFiveFlags<L>>(
     rt: impl Abort + Copy,
     alloc: Global,
@@ -194,7 +194,7 @@ fn answer_directly<L: LevelCount, P5: LevelFiveFlags<L>>(
     unwrap(rt, run_on(memory, root, pool, calls, replies))
 }
 
-/// Answers calls by the recursive mapper.
+/// Executes calls with the recursive mapper.
 fn answer_recursively<L: LevelCount, P5: LevelFiveFlags<L>>(
     rt: impl Abort + Copy,
     alloc: Global,
@@ -211,7 +211,7 @@ fn answer_recursively<L: LevelCount, P5: LevelFiveFlags<L>>(
     )
 }
 
-/// Answers lists on hierarchies with each number of free frames.
+/// Executes lists on hierarchies with each number of free frames.
 fn check_round<L: LevelCount, P5: LevelFiveFlags<L>>(
     rt: impl Abort + Copy,
     alloc: Global,
@@ -228,7 +228,7 @@ fn check_round<L: LevelCount, P5: LevelFiveFlags<L>>(
     }
 }
 
-/// Does so until each kind of reply was met, and asserts that it was.
+/// Does this until each kind of reply has occurred, and asserts that it has.
 fn check_lists<L: LevelCount, P5: LevelFiveFlags<L>>(
     rt: impl Abort + Copy,
     alloc: Global,

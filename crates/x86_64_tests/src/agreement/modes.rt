@@ -1,11 +1,11 @@
-//! The modes of the program, and the plain machines that answer as they do.
+//! The modes of the program, and the corresponding plain machines.
 ghost use Rattle.std.specs.Prelude.{◌≤◌};
 
 use crate::rows::SELF_ENTRY;
 use x86_64::{VirtAddr, VirtAddr57};
 use x86_64_plain::{PlainMachine, PlainWindow};
 
-/// How many levels of tables a hierarchy has.
+/// The number of levels of page tables of a hierarchy.
 #[derive(Clone, Copy)]
 pub enum Levels {
     Four,
@@ -13,7 +13,7 @@ pub enum Levels {
 }
 
 impl Levels {
-    /// Gives the number.
+    /// Returns the number of levels.
     pub fn count(self) -> usize
         ensures { result ≤ 5 }
     {
@@ -23,7 +23,7 @@ impl Levels {
         }
     }
 
-    /// Gives the address at a position.
+    /// Returns the address at a position (an address counted without the gap).
     pub fn address_at(self, position: u64) -> u64 {
         match self {
             Levels::Four => VirtAddr::new_truncate(position).as_u64(),
@@ -31,12 +31,12 @@ impl Levels {
         }
     }
 
-    /// Gives the position of an address.
+    /// Returns the position of an address.
     pub fn position_of(self, address: u64) -> u64 {
         address & self.last_position()
     }
 
-    /// Gives the last position.
+    /// Returns the last position.
     pub fn last_position(self) -> u64 {
         match self {
             Levels::Four => 0xffff_ffff_ffff,
@@ -44,7 +44,7 @@ impl Levels {
         }
     }
 
-    /// Gives the index of the highest level at a position.
+    /// Returns the index of the highest level at a position.
     pub fn highest_index(self, position: u64) -> u64 {
         match self {
             Levels::Four => position >> 39,
@@ -53,8 +53,9 @@ impl Levels {
     }
 }
 
-/// How the program finds tables: in frames that lie at the places of their numbers, in a memory at an offset, through the root's
-/// entry for itself, or in both the first and the third way at once.
+/// How the program finds tables: in frames at the places of their numbers (a place is the index of a table in
+/// memory), in a memory at an offset, through the root's entry for itself, or both the first and the third way at
+/// once.
 #[derive(Clone, Copy)]
 pub enum Way {
     Direct,
@@ -64,11 +65,11 @@ pub enum Way {
 }
 
 impl Way {
-    /// All of them.
+    /// All ways.
     pub const ALL: [Way; 4] = [Way::Direct, Way::Offset, Way::Recursive, Way::Pair];
 }
 
-/// The recursive index, which commands choose among others.
+/// The recursive index, which is among the indices that commands choose.
 pub const RECURSIVE_INDEX: u64 = 1;
 
 /// A mode of the program, with a memory of 16 places.
@@ -79,12 +80,12 @@ pub struct Mode {
 }
 
 impl Mode {
-    /// Makes one.
+    /// Creates a mode.
     pub fn new(way: Way, levels: Levels) -> Mode {
         Mode { way, levels }
     }
 
-    /// Gives the arguments of the program.
+    /// Returns the program's arguments.
     pub fn arguments(self) -> &'static str {
         match (self.way, self.levels) {
             (Way::Direct, Levels::Four) => "direct 16",
@@ -97,7 +98,7 @@ impl Mode {
         }
     }
 
-    /// Gives the plain machine. That of a pair is the first mapper's, which has no recursive index.
+    /// Returns the plain machine. For a pair, this is that of the first mapper, which has no recursive index.
     pub fn machine(self) -> PlainMachine
         ensures { result.levels ≤ 5 }
     {

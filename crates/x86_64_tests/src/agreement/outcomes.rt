@@ -1,4 +1,4 @@
-//! Replies of the plain program as the program writes them, and which ones a command can have.
+//! Replies of the plain program as the program writes them, and the replies that a command can have.
 use super::modes::Levels;
 use crate::assertions::unwrap;
 use std::alloc::{AllocError, Global};
@@ -8,10 +8,10 @@ use x86_64_plain::{Answer, PlainCall, PlainReply, Refusal, Translated};
 /// The kind of a reply that is a number.
 const NUMBER: &str = "a number";
 
-/// The outcome of a clean up that gave tables back.
+/// The outcome of a clean up that returned tables.
 pub const TABLES_GO_BACK: &str = "tables go back";
 
-/// Gives the kind of a reply: its text without the numbers.
+/// Returns the kind of a reply, which is its text without the numbers.
 pub fn kind_of(call: &PlainCall, reply: PlainReply) -> &'static str {
     match reply {
         PlainReply::NotAllowed => "not allowed",
@@ -35,7 +35,7 @@ pub fn kind_of(call: &PlainCall, reply: PlainReply) -> &'static str {
     }
 }
 
-/// Gives the kind of a refusal.
+/// Returns the kind of a refusal.
 fn refusal_kind(why: Refusal) -> &'static str {
     match why {
         Refusal::FrameAllocationFailed => "frame allocation failed",
@@ -46,7 +46,7 @@ fn refusal_kind(why: Refusal) -> &'static str {
     }
 }
 
-/// Gives the text of a reply of a kind.
+/// Returns the text of a reply of a kind.
 pub fn text_of(alloc: Global, kind: &str, reply: PlainReply) -> Result<String, AllocError> {
     match reply {
         PlainReply::Position(
@@ -73,12 +73,13 @@ pub fn text_of(alloc: Global, kind: &str, reply: PlainReply) -> Result<String, A
     }
 }
 
-/// Commands, and kinds of replies that each of them can have.
+/// Commands, and the kinds of replies that each of them can have.
 type Outcomes = (&'static [&'static str], &'static [&'static str]);
 
-/// The commands that there are with four levels too, and all that they can have, but `not allowed` inside the window.
+/// The commands that exist with four levels too, and all replies that they can have, except `not allowed` inside the
+/// recursive window.
 ///
-/// No entry above level three has `HUGE_PAGE`, so no page of 1GiB lies below one that has it.
+/// No entry above level three has `HUGE_PAGE`, so no page of 1GiB lies below such an entry.
 static OUTCOMES: [Outcomes; 11] = [
     (
         &[
@@ -155,13 +156,13 @@ static OUTCOMES: [Outcomes; 11] = [
     (&["cleanup", "cleanup-range"], &["ok", TABLES_GO_BACK]),
 ];
 
-/// The command of five levels alone, and all that it can have.
+/// The command that exists only with five levels, and all replies that it can have.
 static OUTCOMES_OF_LEVEL_5: [Outcomes; 1] = [(
     &["p5 4KiB", "p5 2MiB", "p5 1GiB"],
     &["ok", "not allowed", "page not mapped"],
 )];
 
-/// The commands that were answered, each with a kind of reply.
+/// The commands that were executed, each with a kind of reply.
 #[derive(Drop)]
 pub struct Met {
     alloc: Global,
@@ -169,7 +170,7 @@ pub struct Met {
 }
 
 impl Met {
-    /// Makes one without commands.
+    /// Creates a record without commands.
     pub fn new(alloc: Global) -> Met {
         Met {
             alloc,
@@ -177,7 +178,7 @@ impl Met {
         }
     }
 
-    /// Tells whether a command had a reply of a kind.
+    /// Returns true if a command had a reply of a kind.
     fn has(&self, command: &str, kind: &str) -> bool {
         for outcome in &self.outcomes {
             if outcome.strip_prefix(command) == Some(kind) {
@@ -196,7 +197,8 @@ impl Met {
         unwrap(rt, self.outcomes.push(outcome));
     }
 
-    /// Gives a command that there is with so many levels, and a kind of reply that it can have and did not have, if there is one.
+    /// Returns a command with this number of levels, and a kind of reply that it can have but did not, if there is
+    /// one.
     pub fn missing(&self, levels: Levels) -> Option<(&'static str, &'static str)> {
         let missing = self.missing_of(&OUTCOMES);
         match levels {
@@ -205,7 +207,7 @@ impl Met {
         }
     }
 
-    /// The same of some commands.
+    /// This for some of the commands.
     fn missing_of(&self, outcomes: &[Outcomes]) -> Option<(&'static str, &'static str)> {
         for (commands, kinds) in outcomes {
             for command in *commands {
@@ -217,7 +219,7 @@ impl Met {
         None
     }
 
-    /// Gives a kind of reply that a command did not have, of some.
+    /// Returns the first of these kinds of replies that a command did not have, if any.
     fn missing_kind(&self, command: &str, kinds: &[&'static str]) -> Option<&'static str> {
         for kind in kinds {
             if !self.has(command, kind) {

@@ -1,4 +1,4 @@
-//! One hierarchy, answered plainly, and what the program is to read and to write of it.
+//! A hierarchy in the plain program, with the program's input and expected output.
 use super::commands::{command_of, line_of, plain_of};
 use super::modes::{Levels, Mode, RECURSIVE_INDEX, Way};
 use super::outcomes::{Met, TABLES_GO_BACK, kind_of, text_of};
@@ -15,33 +15,33 @@ use std::process::Abort;
 use x86_64_plain::words::{address, is_huge};
 use x86_64_plain::{PathEntries, PlainCall, PlainReply, PlainState};
 
-/// How many places the memory has.
+/// The number of places of the memory. A place is the index of a table in memory.
 pub const PLACES: u64 = 16;
 
-/// How many words a table has.
+/// The number of words of a table.
 const WORD_COUNT: u64 = 512;
 
-/// The frames that are free at first, of which a state gets the first few.
+/// The frames that are free initially. A state gets the first few of them.
 const FREE: [u64; 7] = [0x4000, 0x2000, 0x8000, 0x3000, 0x7000, 0x6000, 0xa000];
 
-/// A frame that is full of ones, and neither a table nor free.
+/// A frame whose words have all bits set, and which is neither a table nor free.
 const STRANGER: u64 = 0x9000;
 
-/// Holds a hierarchy and its free frames plainly, the lines that the program is to read, and its replies.
+/// A plain hierarchy with its free frames, the program's input lines, and the expected replies.
 #[derive(Drop)]
 pub struct Session {
     mode: Mode,
     state: PlainState,
-    /// How many of the free frames, the last ones, were never handed out. Their words are full of ones; those of
-    /// the others, which clean ups gave back, are 0.
+    /// The number of free frames, at the end of the list, that were never handed out. All bits of their words are
+    /// set. The words of the other free frames, which clean ups returned, are 0.
     untouched: usize,
     input: String,
     replies: String,
 }
 
 impl Session {
-    /// Makes one of the entries at first, as words, each after those above it, and at most so many free frames, which
-    /// are full of ones, as the stranger is.
+    /// Creates a session from the initial entries, as words, each after those above it, and at most `count` free
+    /// frames. All bits of the words of these frames and of the stranger are set.
     pub fn new(
         rt: impl Abort + Copy,
         alloc: Global,
@@ -81,8 +81,8 @@ impl Session {
         }
     }
 
-    /// Gives the words of all frames. Where there are two memories they are those of the first one, whose root has no entry for
-    /// itself, unless they are those of the image.
+    /// Returns the words of all frames. If there are two memories, they are those of the first one, whose root has no
+    /// entry for itself, or those of the image if `is_image` is true.
     pub fn words(&self, rt: impl Abort + Copy, alloc: Global, is_image: bool) -> Vec<u64> {
         let mut words = unwrap(rt, vec![in alloc; 0; (PLACES * WORD_COUNT) as usize]);
         let pool = self.state.pool.as_slice();
@@ -109,23 +109,23 @@ impl Session {
         words
     }
 
-    /// Gives the entries by their paths.
+    /// Returns the entries by their paths.
     pub fn paths(&self) -> &PathEntries {
         &self.state.paths
     }
 
-    /// Gives the addresses of the free frames.
+    /// Returns the addresses of the free frames.
     pub fn free_frames(&self) -> &[u64] {
         &self.state.pool
     }
 
-    /// Adds a line, and the reply to it.
+    /// Adds a line, and its reply.
     fn ask(&mut self, rt: impl Abort + Copy, line: &str, reply: &str) {
         push_line(rt, &mut self.input, line);
         push_line(rt, &mut self.replies, reply)
     }
 
-    /// Asks for every word, and for the free frames.
+    /// Adds commands that show every word and the free frames.
     pub fn show(&mut self, rt: impl Abort + Copy, alloc: Global) {
         let words = self.words(rt, alloc, false);
         for (n, word) in words.iter().enumerate() {
@@ -141,7 +141,7 @@ impl Session {
         self.ask(rt, "pool", &reply)
     }
 
-    /// Answers a call plainly.
+    /// Executes a call with the plain program.
     fn step(&mut self, rt: impl Abort + Copy, call: &PlainCall) -> PlainReply {
         let index = named_index(self.mode.levels, call);
         let way = self.mode.way;
@@ -153,7 +153,8 @@ impl Session {
         reply
     }
 
-    /// Answers a call plainly, and gives the kind of the reply and the reply. Keeps what came of the command.
+    /// Executes a call with the plain program, and returns the kind of the reply and the reply. Records the command's
+    /// outcome.
     pub fn answer(
         &mut self,
         rt: impl Abort + Copy,
@@ -170,7 +171,7 @@ impl Session {
         (kind, reply)
     }
 
-    /// Answers a call plainly, and adds its line and the reply.
+    /// Executes a call with the plain program, and adds its line and the reply.
     pub fn exchange(&mut self, rt: impl Abort + Copy, alloc: Global, call: CallRow, met: &mut Met) {
         let command = unwrap(rt, command_of(alloc, call));
         let (kind, reply) = self.answer(rt, alloc, (&command, call), met);
@@ -179,7 +180,7 @@ impl Session {
         self.ask(rt, &line, &text)
     }
 
-    /// Runs the program on all lines, and compares what it writes.
+    /// Runs the program on all lines, and compares its output.
     pub fn compare(&self, rt: impl Abort + Copy, alloc: Global) {
         let arguments = self.mode.arguments();
         let words = words_of(rt, alloc, arguments);
@@ -195,7 +196,7 @@ impl Session {
     }
 }
 
-/// Gives the frame and the index of a word, all words counted.
+/// Returns the frame and the index of a word, given its number among all words.
 pub fn slot_of(n: usize) -> (u64, u16) {
     ((n / 512).saturating_mul(0x1000) as u64, (n % 512) as u16)
 }
@@ -208,14 +209,14 @@ fn set(words: &mut [u64], frame: u64, index: u64, word: u64) {
     }
 }
 
-/// Makes all words of a frame full of ones.
+/// Sets all bits of the words of a frame.
 fn fill(words: &mut [u64], frame: u64) {
     for index in 0..WORD_COUNT {
         set(words, frame, index, u64::MAX);
     }
 }
 
-/// Gives the index of the highest level that a call names, if it names one.
+/// Returns the index of the highest level that a call names, if it names one.
 fn named_index(levels: Levels, call: &PlainCall) -> Option<u64> {
     match call {
         PlainCall::MapTo { page, .. }
@@ -235,7 +236,7 @@ fn named_index(levels: Levels, call: &PlainCall) -> Option<u64> {
     }
 }
 
-/// Gives the path map of words of so many levels, each after those above it.
+/// Returns the path map of words with this number of levels, each after those above it.
 fn paths_of(rt: impl Abort + Copy, alloc: Global, levels: Levels, words: &[Word]) -> PathEntries {
     let mut paths = PathEntries::new(alloc);
     let mut tables = unwrap(rt, vec![in alloc; (ROOT, Vec::new(alloc))]);
@@ -250,7 +251,7 @@ fn paths_of(rt: impl Abort + Copy, alloc: Global, levels: Levels, words: &[Word]
     paths
 }
 
-/// Gives the path of the table in a frame, of those whose paths are known.
+/// Returns the path of the table in a frame, among those whose paths are known.
 fn path_to(
     rt: impl Abort + Copy,
     alloc: Global,
@@ -265,7 +266,7 @@ fn path_to(
     Vec::new(alloc)
 }
 
-/// Tells whether some of these words stand in a frame.
+/// Returns true if any of these words are in a frame.
 fn is_table(words: &[Word], frame: u64) -> bool {
     for (at, ..) in words {
         if *at == frame {
@@ -275,7 +276,7 @@ fn is_table(words: &[Word], frame: u64) -> bool {
     false
 }
 
-/// Gives at most so many free frames, none of which is a table of these words.
+/// Returns at most `count` free frames, none of which is a table of these words.
 fn free_frames(rt: impl Abort + Copy, alloc: Global, words: &[Word], count: usize) -> Vec<u64> {
     let mut free = Vec::new(alloc);
     for frame in FREE {

@@ -1,11 +1,11 @@
-//! Lines that can't be read.
+//! Lines that can't be parsed.
 use super::{FIRST, INVALID, assert_run};
 use crate::assertions::unwrap;
 use pagetab_engine::ending::{Ending, Fault};
 use std::alloc::Global;
 use std::process::Abort;
 
-/// Numbers, spaces and names that are none.
+/// Bad numbers, spaces and names.
 static FORMS: [&str; 18] = [
     "translate 18446744073709551616",
     "translate 0x10000000000000000",
@@ -105,7 +105,7 @@ static MAPS: [&str; 32] = [
     "identity 0x5000 0x1",
 ];
 
-/// Unmaps, and flags that are set.
+/// Unmaps, and changes of flags.
 static CHANGES: [&str; 25] = [
     "unmap",
     "unmap 4KiB",
@@ -153,7 +153,8 @@ static CLEAN_UPS: [&str; 15] = [
     "cleanup_range 0x1000 0x2000",
 ];
 
-/// Asserts that each line is bad as the first one, whether a line feed ends it or not, and that nothing is written.
+/// Asserts that each line is bad if it comes first, with or without a line feed at its end, and that nothing is
+/// written.
 fn assert_bad(rt: impl Abort + Copy, alloc: Global, lines: &[&str]) {
     for line in lines {
         for end in ["", "\n"] {
@@ -181,10 +182,10 @@ static COUNTED: [(&str, &[u8], u64, &str); 13] = [
     ("", b"\x80\n", 1, ""),
     ("", b"translate 1\xc3", 1, ""),
     ("", b"translate 1\xc3\n", 1, ""),
-    // Empty lines, and lines of spaces, count.
+    // Empty lines, and lines of spaces, are counted.
     ("", b"\n  \nfoo\n", 3, ""),
     ("", b" show 0 0  \n \n\n    \nfoo", 5, "0x0\n"),
-    // Lines of an image at the wrong place, and a frame that is free already.
+    // Image lines among the commands, and a frame that is already free.
     ("", b"show 0 0\nword 0x1000 0 0\nshow 0 0\n", 2, "0x0\n"),
     ("", b"pool\nfree 0x2000\npool\n", 2, "pool\n"),
     ("", b"free 0x2000\nfree 0x3000\nfree 0x2000\n", 3, ""),
@@ -195,7 +196,7 @@ static COUNTED: [(&str, &[u8], u64, &str); 13] = [
         6,
         "0x5abc write=1 user=0\n",
     ),
-    // A line that can't be read comes before the test of the image.
+    // A line that can't be parsed comes before the test of the image.
     (INVALID, b"foo\n", 3, ""),
     (INVALID, b"free 0x0\n", 3, ""),
 ];

@@ -1,4 +1,4 @@
-//! How runs end.
+//! The ways in which runs end.
 use super::{FIRST, MODES, SELF_ENTRY, assert_outcome, assert_run, run_failing};
 use crate::assertions::{assert_equal, unwrap};
 use crate::streams::BYTES_AT_ONCE;
@@ -9,7 +9,7 @@ use std::process::Abort;
 const USAGE: &str =
     "usage: pagetab direct N | offset N OFF | recursive N R | pair N R | direct5 N | recursive5 N R | pair5 N R";
 
-/// The end of a run with other arguments.
+/// The end of a run with wrong arguments.
 const USED_WRONGLY: Ending = Ending::Stopped(Fault::Usage);
 
 /// Arguments, and how the run ends.
@@ -61,7 +61,7 @@ fn arguments_are_a_mode_and_its_numbers(rt: HostRuntime) {
     }
 }
 
-/// Arguments with a recursive index, and the image that has an entry for the root there.
+/// Arguments with a recursive index, and an image that has the root's entry for itself there.
 static INDICES: [(&str, &str); 5] = [
     ("recursive 2 0", "word 0x1000 0 0x1001\n"),
     ("recursive 8 0x1fe", SELF_ENTRY),
@@ -78,8 +78,8 @@ fn arguments_have_a_recursive_index(rt: HostRuntime) {
     }
 }
 
-/// Arguments for a memory of 16 places with five levels, with the lines that map the page 0x1000 beside those of the image: of its
-/// four tables the first one is of level five.
+/// Arguments for a memory of 16 places (a place is the index of a table in memory) with five levels, with the
+/// additional lines of an image that maps the page 0x1000. The first of its four tables is of level five.
 static FIVE_LEVELS: [(&str, &str); 3] = [
     ("direct5 16", "word 0x4000 0 0x8003\nword 0x8000 1 0x5003\n"),
     (
@@ -92,7 +92,7 @@ static FIVE_LEVELS: [(&str, &str); 3] = [
     ),
 ];
 
-/// The lines after the image, each with the reply to it.
+/// The lines after the image, each with its reply.
 static EXCHANGES: [(&str, &str); 4] = [
     ("translate 0x1abc\n", "mapped 4KiB 0x5000 0xabc 0x3\n"),
     ("map 4KiB 0x2000 0x9000 0x1\n", "ok\n"),
@@ -100,13 +100,13 @@ static EXCHANGES: [(&str, &str); 4] = [
     ("pool\n", "pool 0x6000 0x7000\n"),
 ];
 
-/// The end of a run whose read failed.
+/// The end of a run with a failed read.
 const UNREAD: Ending = Ending::Stopped(Fault::Input);
 
-/// The end of a run whose write failed.
+/// The end of a run with a failed write.
 const UNWRITTEN: Ending = Ending::Stopped(Fault::Output);
 
-/// Gives the lines after the image.
+/// Returns the lines after the image.
 fn lines(rt: impl Abort + Copy, alloc: Global) -> String {
     let mut lines = String::new(alloc);
     for (line, _) in &EXCHANGES {
@@ -115,7 +115,7 @@ fn lines(rt: impl Abort + Copy, alloc: Global) -> String {
     lines
 }
 
-/// Gives the replies to the lines that end within so many bytes of the input, which has an image of this length before them.
+/// Returns the replies to the lines that end within this number of bytes of the input, after an image of this length.
 fn replies_within(rt: impl Abort + Copy, alloc: Global, image: usize, bytes: usize) -> String {
     let mut end = image;
     let mut replies = String::new(alloc);
@@ -128,7 +128,7 @@ fn replies_within(rt: impl Abort + Copy, alloc: Global, image: usize, bytes: usi
     replies
 }
 
-/// Lets each of so many reads fail in turn: the replies to the lines that were read stay.
+/// Lets each of a number of reads fail in turn. The replies to the lines that were read remain.
 fn assert_failed_reads(
     rt: impl Abort + Copy,
     alloc: Global,
@@ -146,7 +146,7 @@ fn assert_failed_reads(
     }
 }
 
-/// Lets each write fail in turn: the replies before it stay.
+/// Lets each write fail in turn. The replies before it remain.
 fn assert_failed_writes(
     rt: impl Abort + Copy,
     alloc: Global,
@@ -161,7 +161,7 @@ fn assert_failed_writes(
     }
 }
 
-/// Lets each read and each write fail in turn, in some of the modes.
+/// Lets each read and each write fail in turn, in several modes.
 fn assert_failures(rt: impl Abort + Copy, alloc: Global, modes: &[(&str, &str)]) {
     let lines = lines(rt, alloc);
     for (arguments, first) in modes {

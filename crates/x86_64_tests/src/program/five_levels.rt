@@ -1,10 +1,10 @@
-//! Runs with five levels: the direct mapper, the recursive one, and both beside each other.
+//! Runs with five levels: the direct mapper, the recursive one, and both together.
 use super::{SELF_ENTRY, Session, assert_run, assert_sessions};
 use crate::assertions::unwrap;
 use pagetab_engine::ending::{Ending, Fault};
 
-/// Arguments for a memory of 8 places, one for each way to find tables there, with the line that an image needs
-/// besides. The recursive mapper is the last one: it adds flags to the entries of new tables.
+/// Arguments for a memory of 8 places, one for each way to find tables, with the additional line that the image
+/// needs. The recursive mapper is the last one, since it adds flags to the entries of new tables.
 const MODES: [(&str, &str); 3] = [
     ("direct5 8", ""),
     ("pair5 8 510", SELF_ENTRY),
@@ -17,12 +17,12 @@ const RECURSIVE: [(&str, &str); 1] = [("recursive5 8 510", SELF_ENTRY)];
 /// The mode of both mappers.
 const PAIR: [(&str, &str); 1] = [("pair5 8 510", SELF_ENTRY)];
 
-/// Four free frames with words, which are cleared, below an empty root.
+/// Four free frames with words, which maps clear, below an empty root.
 const POOL: &str = "free 0x2000\nfree 0x3000\nfree 0x4000\nfree 0x5000\n\
     word 0x2000 1 0xffffffffffffffff\nword 0x3000 510 0xffffffffffffffff\n\
     word 0x4000 511 0xffffffffffffffff\nword 0x5000 0 0xffffffffffffffff\n";
 
-/// A map takes four frames, and a clean up brings them back. Addresses are canonical by bit 56.
+/// A map takes four frames, and a clean up returns them. Addresses are canonical by bit 56.
 const CALLS: &str = "\
 map 4KiB 0x1000 0x6000 0x3 -> ok
 addr 0x1abc -> 0x6abc
@@ -65,7 +65,7 @@ cleanup -> ok
 pool -> pool 0x2000 0x3000 0x4000 0x5000
 ";
 
-/// Tables are read in the window, and the entry for the root itself stays.
+/// Tables are read in the recursive window, and the root's entry for itself stays.
 const WINDOWS: &str = "\
 map 4KiB 0x1000 0x6000 0x1 -> ok
 show 0x1000 0 -> 0x2003
@@ -94,7 +94,7 @@ show 0x1000 510 -> 0x0
 pool -> pool
 ";
 
-/// Commands, each list after an image in some modes.
+/// Commands, each list after an image in several modes.
 static SESSIONS: [Session; 4] = [
     (&MODES, POOL, CALLS),
     (&MODES, POOL, LARGE_PAGE),
@@ -107,8 +107,8 @@ fn commands_of_five_levels_are_answered(rt: HostRuntime) {
     assert_sessions(rt, rt.alloc(), &SESSIONS)
 }
 
-/// Images in which the entry of level five or four has HUGE_PAGE, and in which one table stands at two places or at
-/// two levels.
+/// Images in which the entry of level five or four has HUGE_PAGE, or in which one table is at two places or at two
+/// levels.
 static INVALID: [&str; 4] = [
     "word 0x1000 0 0x83\n",
     "word 0x1000 0 0x2003\nword 0x2000 0 0x83\n",
@@ -128,8 +128,8 @@ fn images_of_five_levels_are_tested(rt: HostRuntime) {
     }
 }
 
-/// Arguments, and a line that says no command there: an address or a page that isn't canonical for them, and a
-/// command that the levels lack.
+/// Arguments, and a line that is no command with them: an address or a page that isn't canonical for them, or a
+/// command that doesn't exist with their levels.
 static BAD_LINES: [(&str, &str); 7] = [
     ("direct5 8", "translate 0x100000000000000\n"),
     ("direct5 8", "walk 0xfeffffffffffffff\n"),

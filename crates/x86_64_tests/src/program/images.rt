@@ -1,4 +1,4 @@
-//! Images that are tested before the first command is answered.
+//! Images that are tested before the first command is executed.
 use super::{MODES, SELF_ENTRY, assert_replies, assert_run, push_line};
 use crate::assertions::unwrap;
 use crate::untrusted_images::{IMAGES, Image};
@@ -6,7 +6,7 @@ use pagetab_engine::ending::{Ending, Fault};
 use std::alloc::Global;
 use std::process::Abort;
 
-/// Asserts that an image is refused, whatever lines come after it.
+/// Asserts that an image is refused, whatever lines follow it.
 fn assert_invalid(rt: impl Abort + Copy, alloc: Global, arguments: &str, image: &str) {
     for lines in ["", "show 0 0\n", "\n walk 0\nfoo\n"] {
         let input = (image, lines.as_bytes());
@@ -15,7 +15,7 @@ fn assert_invalid(rt: impl Abort + Copy, alloc: Global, arguments: &str, image: 
     }
 }
 
-/// Asserts that an image is refused however tables are found.
+/// Asserts that an image is refused for each way to find tables.
 fn assert_invalid_in_each(rt: impl Abort + Copy, alloc: Global, image: &str) {
     for (arguments, first) in MODES {
         let whole = unwrap(rt, format!(in alloc; "{first}{image}"));
@@ -23,7 +23,7 @@ fn assert_invalid_in_each(rt: impl Abort + Copy, alloc: Global, image: &str) {
     }
 }
 
-/// Gives the lines of an image's words.
+/// Returns the lines of an image's words.
 fn lines_of(rt: impl Abort + Copy, alloc: Global, image: &Image) -> String {
     let mut lines = String::new(alloc);
     for (frame, index, word) in image.words(rt, alloc) {
@@ -58,7 +58,7 @@ fn images_whose_tables_are_free_are_refused(rt: HostRuntime) {
 }
 
 /// Images in which the root has no entry for itself at the index 510: no word, one at another index, one without
-/// PRESENT, one with HUGE_PAGE, one of another frame, and one beside another entry for itself.
+/// PRESENT, one with HUGE_PAGE, one for another frame, and one beside another entry for itself.
 static NOT_RECURSIVE: [&str; 6] = [
     "",
     "word 0x1000 511 0x1003\n",

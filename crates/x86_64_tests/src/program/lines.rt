@@ -1,4 +1,4 @@
-//! Lines that are long, and input that goes on for ever.
+//! Lines that are long, and input that never ends.
 use super::{assert_run, words_of};
 use crate::assertions::{assert_equal, assert_equal_in, unwrap};
 use crate::streams::{Endless, Sink};
@@ -10,7 +10,7 @@ use std::process::Abort;
 /// The end of a run whose first line is bad.
 const BAD: Ending = Ending::Stopped(Fault::BadLine(1));
 
-/// What a line begins with, how many bytes it has with the spaces that follow, how the run ends, and what it writes.
+/// The beginning of a line, its number of bytes with the spaces that follow, how the run ends, and what it writes.
 static LENGTHS: [(&str, usize, Ending, &str); 8] = [
     ("", 255, Ending::Done, ""),
     ("", 256, Ending::Done, ""),
@@ -22,7 +22,7 @@ static LENGTHS: [(&str, usize, Ending, &str); 8] = [
     ("show 0 0", 600, BAD, ""),
 ];
 
-/// Gives a line of so many bytes, spaces after its front, and its end.
+/// Returns a line with this number of bytes: a front, followed by spaces, and its end.
 fn spaced(rt: impl Abort + Copy, alloc: Global, front: &str, length: usize, end: &str) -> String {
     let mut line = unwrap(rt, String::from_str(alloc, front));
     for _ in front.len()..length {
@@ -43,19 +43,19 @@ fn lines_have_at_most_256_bytes(rt: HostRuntime) {
     }
 }
 
-/// How many bytes the program reads at once.
+/// The number of bytes that the program reads at once.
 const BUFFER: u64 = 512;
 
-/// Input that never ends, and how the run on it does.
+/// Input that never ends, and the expected run on it.
 #[derive(Drop)]
 struct EndlessRow {
     /// The first bytes.
     front: &'static str,
-    /// The byte that follows for ever.
+    /// The byte that follows forever.
     again: u8,
-    /// The write that fails, 0 where none does.
+    /// The number of the write that fails, or 0 if none does.
     failing_write: u64,
-    /// After how many bytes the fault is there.
+    /// The number of bytes after which the fault can be known.
     fault_at: u64,
     fault: Fault,
     written: &'static str,
@@ -120,8 +120,8 @@ static ENDLESS: [EndlessRow; 7] = [
     },
 ];
 
-/// Runs the program on a row's input, and compares how the run ends, what it writes, and how much it reads: at most one
-/// buffer past the fault.
+/// Runs the program on a row's input, and compares how the run ends, what it writes, and how much it reads: at most
+/// one buffer past the fault.
 fn assert_endless(rt: impl Abort + Copy, alloc: Global, arguments: &str, row: &EndlessRow) {
     let words = words_of(rt, alloc, arguments);
     let mut source = Endless::new(row.front.as_bytes(), row.again);

@@ -38,14 +38,14 @@ walk 0x0 -> none",
         "translate 0xffffffffffffffff -> mapped 1GiB 0x0 0x3fffffff 0x8000000000000087
 walk 0xffffffffffffffff -> 0x3fffffff write=1 user=1",
     ),
-    // A later word takes the place of an earlier one.
+    // A later word replaces an earlier one.
     (
         &MODES,
         INVALID,
         "word 0x1000 1 0
 show 0x1000 0 -> 0x2003",
     ),
-    // Numbers may be decimal, have leading zeros and digits of either case, and spaces may surround fields.
+    // Numbers may be decimal, and have leading zeros and digits of either case. Fields may be surrounded by spaces.
     (
         &MODES,
         "  word   28672 00511   0x00ABCdef \n\n   \n",

@@ -1,4 +1,4 @@
-//! Commands by the recursive mapper, alone and beside the direct one.
+//! Commands with the recursive mapper, alone and together with the direct one.
 use super::{SELF_ENTRY, Session, assert_sessions};
 
 /// The mode of the recursive mapper.
@@ -10,7 +10,7 @@ const PAIR: [(&str, &str); 1] = [("pair 8 510", SELF_ENTRY)];
 /// Three free frames, below an empty root.
 const POOL: &str = "free 0x2000\nfree 0x3000\nfree 0x4000\n";
 
-/// Tables are read in the window, where no page is changed.
+/// Tables are read in the recursive window, where no page is changed.
 const WINDOWS: &str = "\
 map 4KiB 0x1000 0x5000 0x1 -> ok
 translate 0xffffff0000000000 -> mapped 4KiB 0x4000 0x0 0x3
@@ -35,7 +35,7 @@ show 0x1000 0 -> 0x2001
 pool -> pool
 ";
 
-/// Nor is one that only reads. The direct mapper's root has no word there.
+/// A call that names it isn't allowed even if it only reads. The direct mapper's root has no word there.
 const INDEX_OF_A_PAIR: &str = "\
 show 0x1000 510 -> 0x0
 walk 0xffffff7fbfdfe000 -> none
@@ -54,15 +54,16 @@ map 4KiB 0xffffff8000000000 0x5000 0x3 -> ok
 addr 0xffffff8000000abc -> 0x5abc
 ";
 
-/// Words of tables below the root's entry for itself: in each level an entry without PRESENT beside one that has it, and a page of
-/// each size.
+/// Words of tables below the root's entry for itself: in each level an entry without PRESENT beside one that has it,
+/// and a page of each size.
 const EACH_ENTRY: &str =
     "word 0x1000 0 0x2003\nword 0x1000 2 0x7002\nword 0x2000 0 0x3003\nword 0x2000 1 0x80000083\n\
     word 0x2000 2 0x6002\nword 0x3000 0 0x4003\nword 0x3000 1 0x400081\nword 0x3000 2 0x5002\n\
     word 0x4000 1 0x9003\nword 0x7000 0 0x40000083\n";
 
-/// Reads in the window at each corner: at four, three, two and one times the recursive index, where a table, a page, an entry without
-/// PRESENT or none is read. The page of 1GiB is read as one of 2MiB there, and one of 2MiB as one of 4KiB.
+/// Reads in each corner of the recursive window, with the recursive index four, three, two and one times, where a
+/// table, a page, an entry without PRESENT or nothing is read. There, the page of 1GiB is read as one of 2MiB, and
+/// one of 2MiB as one of 4KiB.
 const CORNERS: &str = "\
 translate 0xffffff7fbfdfeabc -> mapped 4KiB 0x1000 0xabc 0x3
 translate-page 4KiB 0xffffff7fbfdfe000 -> 0x1000

@@ -26,13 +26,13 @@ enum Attempt {
     RecursiveFit57,
 }
 
-/// Places of a memory that has gaps.
+/// The places of a memory with gaps. A place is the index of a table in memory.
 const PLACES: [u64; 16] = [
     1, 2, 3, 5, 8, 13, 21, 34, 55, 89, 144, 233, 377, 610, 987, 0x8_0000,
 ];
 
-/// Calls, and blocks that have room from the start: none, or the first growth of a call that grows twice, that of a memory's numbers
-/// or of a pool's free frames.
+/// Calls, and blocks that have room from the start. For a call that grows twice, this is either none or the first
+/// growth, that of a memory's numbers or of a pool's free frames.
 static ATTEMPTS: [(Attempt, &[usize]); 14] = [
     (Attempt::NewMemory, &[]),
     (Attempt::NewMemory, &[16 * 8]),
@@ -50,7 +50,7 @@ static ATTEMPTS: [(Attempt, &[usize]); 14] = [
     (Attempt::RecursiveFit57, &[]),
 ];
 
-/// Makes a memory with gaps, and tells whether it has its places.
+/// Creates a memory with gaps, and returns true if it has its places.
 fn has_gaps(alloc: Global) -> Result<bool, AllocError> {
     match PhysMemory::with_places(alloc, &PLACES) {
         Ok(memory) => Ok(memory.len() == PLACES.len()),
@@ -59,13 +59,14 @@ fn has_gaps(alloc: Global) -> Result<bool, AllocError> {
     }
 }
 
-/// Makes a pool, and tells whether it serves its last frame.
+/// Creates a pool, and returns true if it serves its last frame.
 fn serves(alloc: Global) -> Result<bool, AllocError> {
     let mut pool = FramePool::new(alloc, 4096)?;
     Ok(pool.try_add(frame_at(0xfff_000)).is_ok())
 }
 
-/// Makes a call, and tells whether the answer is the one that is wanted: the root has no words, or its entry for itself alone.
+/// Makes a call, and returns true if the result is the expected one: the root has no words, or only its entry for
+/// itself.
 fn make(
     alloc: Global,
     attempt: Attempt,

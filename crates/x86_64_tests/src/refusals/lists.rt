@@ -1,4 +1,4 @@
-//! Lists of calls by each mapper, with four levels of tables and with five.
+//! Lists of calls with each mapper, with four levels of page tables and with five.
 ghost use Rattle.x86_64_model.specs.Pool.{serves_below};
 ghost use Rattle.x86_64_model.specs.Mapper.{PoolFits};
 
@@ -22,10 +22,10 @@ use x86_64_mappers::offset_page_table::OffsetPageTableIn;
 use x86_64_mappers::recursive_page_table::RecursivePageTableIn;
 use x86_64_tables::phys_memory::Active;
 
-/// How many places a memory has.
+/// The number of places of a memory. A place is the index of a table in memory.
 const PLACES: u64 = 6;
 
-/// The frames that are free at first, enough for the tables above a page.
+/// The frames that are free initially, enough for the tables above a page.
 const FREE: [u64; 4] = [0x2000, 0x3000, 0x4000, 0x5000];
 
 /// The recursive index.
@@ -34,28 +34,29 @@ pub const INDEX: u16 = 510;
 /// The offset of a memory.
 const OFFSET: u64 = 0xffff_8000_0000_0000;
 
-/// How many calls a list has: so few that an allocator keeps the room for as many replies, once it is given back.
+/// The number of calls of a list. It is small enough for an allocator to keep the room for as many replies after it
+/// was freed.
 pub const CALL_COUNT: usize = 1024;
 
-/// Makes a memory without words, and a pool for it.
+/// Creates a memory without words, and a pool for it.
 pub fn begin(rt: impl Abort + Copy, alloc: Global) -> (PhysMemory, FramePool) {
     let memory = unwrap(rt, PhysMemory::new(alloc, PLACES));
     (memory, pool_of(rt, alloc, PLACES, &FREE))
 }
 
-/// Gives the page that calls map.
+/// Returns the page that calls map.
 fn page<L: LevelCount>() -> PageIn<Size4KiB, L> {
     PageIn::containing_address(VirtAddrIn::new_truncate(0x1000))
 }
 
-/// Makes a memory whose root has an entry for itself, and a pool for it.
+/// Creates a memory whose root has an entry for itself, and a pool for it.
 pub fn begin_recursive(rt: impl Abort + Copy, alloc: Global) -> (PhysMemory, FramePool) {
     let (mut memory, pool) = begin(rt, alloc);
     set_word(rt, &mut memory, ROOT, INDEX, 0x1003);
     (memory, pool)
 }
 
-/// Makes a list of calls that map one page, which is done the first time alone.
+/// Returns a list of calls that map one page, of which only the first one succeeds.
 pub fn maps_of_a_page<L: LevelCount, P5: LevelFiveFlags<L>>(
     rt: impl Abort + Copy,
     alloc: Global,
@@ -68,7 +69,7 @@ pub fn maps_of_a_page<L: LevelCount, P5: LevelFiveFlags<L>>(
     unwrap(rt, vec![in alloc; call; CALL_COUNT])
 }
 
-/// Gives how many entries of a table are used.
+/// Returns the number of used entries of a table.
 fn used_in(table: &PageTable) -> u64 {
     let mut count: u64 = 0;
     for entry in table.iter() {
@@ -79,7 +80,7 @@ fn used_in(table: &PageTable) -> u64 {
     count
 }
 
-/// Gives how many entries of a memory are used.
+/// Returns the number of used entries of a memory.
 pub fn used_entries(memory: &PhysMemory) -> u64 {
     let mut count: u64 = 0;
     for place in 0..PLACES {
@@ -90,7 +91,7 @@ pub fn used_entries(memory: &PhysMemory) -> u64 {
     count
 }
 
-/// Tells whether a pool has the frames that are free at first.
+/// Returns true if a pool has the frames that are free initially.
 pub fn is_full(pool: &FramePool) -> bool {
     for (n, frame) in FREE.iter().enumerate() {
         if pool.frame_at(n) != Some(frame_at(*frame)) {
@@ -100,7 +101,7 @@ pub fn is_full(pool: &FramePool) -> bool {
     pool.len() == FREE.len()
 }
 
-/// Compares that a list is refused where there is no memory, and changes nothing.
+/// Asserts that a list is refused if there is no memory, and changes nothing.
 fn refuse<L: LevelCount, P5: LevelFiveFlags<L>, M: TableAccess + TablesIn<L>>(
     rt: impl Abort + Copy,
     alloc: Global,
@@ -119,8 +120,8 @@ fn refuse<L: LevelCount, P5: LevelFiveFlags<L>, M: TableAccess + TablesIn<L>>(
     assert!(rt; is_full(pool) && replies.as_slice() == [MapperReply::NotAllowed].as_slice());
 }
 
-/// Compares that a list whose flushes are recorded is refused where so many replies and so many items alone have room, and changes
-/// nothing.
+/// Asserts that a list with recorded flushes is refused if only these numbers of replies and items have room, and
+/// changes nothing.
 fn refuse_recorded<L: LevelCount, P5: LevelFiveFlags<L>, M: TableAccess + TablesIn<L>>(
     rt: impl Abort + Copy,
     alloc: Global,
@@ -145,7 +146,7 @@ fn refuse_recorded<L: LevelCount, P5: LevelFiveFlags<L>, M: TableAccess + Tables
     assert_equal(rt, recorder.items().len(), 0);
 }
 
-/// Answers a list, and then the same with its flushes recorded: the first call alone maps the page.
+/// Executes a list, and then again with its flushes recorded. Only the first call maps the page.
 fn answer<L: LevelCount, P5: LevelFiveFlags<L>, M: TableAccess + TablesIn<L>>(
     rt: impl Abort + Copy,
     alloc: Global,
@@ -166,7 +167,7 @@ fn answer<L: LevelCount, P5: LevelFiveFlags<L>, M: TableAccess + TablesIn<L>>(
     assert_equal(rt, recorder.items().len(), 0);
 }
 
-/// Compares that lists are refused where there is no memory, and answered then.
+/// Asserts that lists are refused if there is no memory, and executed afterwards.
 fn refuse_and_answer<L: LevelCount, P5: LevelFiveFlags<L>, M: TableAccess + TablesIn<L>>(
     rt: impl Abort + Copy,
     alloc: Global,
@@ -183,7 +184,7 @@ fn refuse_and_answer<L: LevelCount, P5: LevelFiveFlags<L>, M: TableAccess + Tabl
     answer(rt, alloc, mapper, pool, calls)
 }
 
-/// Does so by the mapper over the identity mapping, which uses an entry of each level.
+/// Does this with the mapper over the identity mapping, which uses an entry of each level.
 fn check_identity<L: LevelCount, P5: LevelFiveFlags<L>>(rt: impl Abort + Copy, alloc: Global) {
     let root = frame_at(ROOT);
     let calls = maps_of_a_page::<L, P5>(rt, alloc);
@@ -199,7 +200,7 @@ fn check_identity<L: LevelCount, P5: LevelFiveFlags<L>>(rt: impl Abort + Copy, a
     assert_equal(rt, used_entries(&memory), L::LEVELS);
 }
 
-/// Does so by the mapper of a memory at an offset.
+/// Does this with the mapper of a memory at an offset.
 fn check_offset<L: LevelCount, P5: LevelFiveFlags<L>>(rt: impl Abort + Copy, alloc: Global) {
     let (root, offset) = (frame_at(ROOT), VirtAddrIn::<L>::new_truncate(OFFSET));
     let calls = maps_of_a_page::<L, P5>(rt, alloc);
@@ -213,7 +214,7 @@ fn check_offset<L: LevelCount, P5: LevelFiveFlags<L>>(rt: impl Abort + Copy, all
     assert_equal(rt, used_entries(&memory), L::LEVELS);
 }
 
-/// Does so by the recursive mapper, whose root has an entry for itself too.
+/// Does this with the recursive mapper, whose root also has an entry for itself.
 fn check_recursive<L: LevelCount, P5: LevelFiveFlags<L>>(rt: impl Abort + Copy, alloc: Global) {
     let (root, index) = (frame_at(ROOT), PageTableIndex::new(INDEX));
     let calls = maps_of_a_page::<L, P5>(rt, alloc);
@@ -226,7 +227,7 @@ fn check_recursive<L: LevelCount, P5: LevelFiveFlags<L>>(rt: impl Abort + Copy, 
     assert_equal(rt, used_entries(&memory), L::LEVELS.saturating_add(1));
 }
 
-/// Does so by each mapper.
+/// Does this with each mapper.
 fn check_each<L: LevelCount, P5: LevelFiveFlags<L>>(rt: impl Abort + Copy, alloc: Global) {
     check_identity::<L, P5>(rt, alloc);
     check_offset::<L, P5>(rt, alloc);

@@ -1,4 +1,4 @@
-//! Lists of calls by two mappers at once, with four levels of tables and with five.
+//! Lists of calls with two mappers at once, with four levels of page tables and with five.
 use super::hoard::hoard_past;
 use super::lists::{
     CALL_COUNT, INDEX, begin, begin_recursive, is_full, maps_of_a_page, used_entries,
@@ -14,11 +14,11 @@ use x86_64::{
     Reply,
 };
 
-/// The first growth of a pair: the replies of one mapper, which those of the other follow.
+/// The first allocation of a pair: the replies of one mapper. Those of the other follow.
 const REPLIES_OF_ONE: [usize; 1] = [CALL_COUNT * size_of::<Reply>()];
 
-/// Tells whether both memories have unused entries alone, but for the second one's entry of the root for itself, and both
-/// pools have the frames that are free at first.
+/// Returns true if both memories have only unused entries, except for the second root's entry for itself, and both
+/// pools have the frames that are free initially.
 fn are_untouched(
     memory: &PhysMemory,
     pool: &FramePool,
@@ -29,7 +29,7 @@ fn are_untouched(
     are_empty && is_full(pool) && is_full(walked_pool)
 }
 
-/// Compares that a list is refused where there is room for these blocks alone, and changes nothing.
+/// Asserts that a list is refused if only these blocks have room, and changes nothing.
 fn refuse<L: LevelCount, P5: LevelFiveFlags<L>>(
     rt: impl Abort + Copy,
     alloc: Global,
@@ -49,7 +49,7 @@ fn refuse<L: LevelCount, P5: LevelFiveFlags<L>>(
     assert!(rt; refused.is_err() && are_untouched(memory, pool, walked, walked_pool));
 }
 
-/// Compares that a list is answered, where each mapper uses an entry of each level.
+/// Asserts that a list is executed, with each mapper using an entry of each level.
 fn answer<L: LevelCount, P5: LevelFiveFlags<L>>(
     rt: impl Abort + Copy,
     alloc: Global,
@@ -68,7 +68,7 @@ fn answer<L: LevelCount, P5: LevelFiveFlags<L>>(
     assert_equal(rt, used_entries(walked), L::LEVELS.saturating_add(1));
 }
 
-/// Compares that a list of a pair is refused where a growth has no room, and answered then.
+/// Asserts that a list of a pair is refused if an allocation has no room, and executed afterwards.
 fn check_pair<L: LevelCount, P5: LevelFiveFlags<L>>(rt: impl Abort + Copy, alloc: Global) {
     let (mut memory, mut pool) = begin(rt, alloc);
     let (mut walked, mut walked_pool) = begin_recursive(rt, alloc);

@@ -9,7 +9,8 @@ use std::alloc::Global;
 use std::process::Abort;
 use x86_64::{Call, Reply};
 
-/// An image of which the table in frame 0x2000 is a part, and commands. The first one takes memory for the text of its reply alone.
+/// The last lines of an image, with a table in frame 0x2000, and commands. The first command takes memory only for the
+/// text of its reply.
 const INPUT: &str = "word 0x1000 0 0x2003
 free 0x100000
 free 0x101000
@@ -26,7 +27,7 @@ walk 0
 pool
 ";
 
-/// The replies, up to the frames that a clean up gave back.
+/// The replies, up to the frames that a clean up returned.
 const REPLIES: &str = "0x2003
 not mapped
 pool 0x100000 0x101000 0x102000 0x103000
@@ -40,15 +41,16 @@ pool";
 /// The end of the last reply.
 const FREE_AT_END: &str = " 0x100000 0x101000 0x102000 0x103000\n";
 
-/// How many places the memory has.
+/// The number of places of the memory. A place is the index of a table in memory.
 const PLACES: usize = 512;
 
-/// How far a run came: 0 before it reads, else one more than it has replies.
+/// The progress of a run: 0 before it reads, otherwise one more than its number of replies.
 type Stage = u64;
 
-/// The blocks that a run takes from what is left, in order, each after how far the run came: the numbers and the tables of a memory,
-/// the frames and the marks of a pool; the marks of the test, the text of a reply; the list of a call, its reply; a list of frames, and
-/// all growths of the texts and lists that follow. All else stands where something was given back.
+/// The blocks that a run takes from the remaining memory, in order, each with the progress of the run. They are the
+/// numbers and the tables of a memory, the frames and the marks of a pool, the marks of the test, the text of a
+/// reply, the list of a call, its reply, a list of frames, and all growths of the texts and lists that follow. All
+/// other blocks reuse memory that was freed.
 const ALONE: [(Stage, usize); 10] = [
     (0, 8 * PLACES),
     (0, 4096 * PLACES),
@@ -62,7 +64,7 @@ const ALONE: [(Stage, usize); 10] = [
     (3, 2048),
 ];
 
-/// The same of a pair, which has two memories, two pools, and two replies to a call.
+/// These for a pair, which has two memories, two pools, and two replies to a call.
 const BOTH: [(Stage, usize); 15] = [
     (0, 8 * PLACES),
     (0, 4096 * PLACES),
@@ -81,7 +83,8 @@ const BOTH: [(Stage, usize); 15] = [
     (3, 2048),
 ];
 
-/// The arguments of a mode, the first lines of its image, the tables that a clean up gives back, and the blocks that it takes.
+/// The arguments of a mode, the first lines of its image, the tables that a clean up returns, and the blocks that the
+/// run takes.
 type Mode = (
     &'static str,
     &'static str,
@@ -119,14 +122,14 @@ static MODES: [Mode; 7] = [
     ),
 ];
 
-/// The end of a run to which memory was refused.
+/// The end of a run without memory.
 const REFUSED: Ending = Ending::Stopped(Fault::OutOfMemory);
 
-/// The end of a run with other arguments.
+/// The end of a run with wrong arguments.
 const USED_WRONGLY: Ending = Ending::Stopped(Fault::Usage);
 
-/// Runs the program, and gives how it ends and how far it came. Compares that it writes the first ones of the replies, and all where it
-/// ends well.
+/// Runs the program, and returns how it ends and its progress. Asserts that it writes the first of the replies, and
+/// all of them if it ends well.
 fn attempt(
     rt: impl Abort + Copy,
     alloc: Global,
@@ -146,7 +149,7 @@ fn attempt(
     (ending, stage)
 }
 
-/// Refuses each block in turn, where there is room for those before it alone. With room for all of them the program ends well.
+/// Refuses each block in turn, with room only for those before it. With room for all of them, the program ends well.
 fn refuse_each(rt: impl Abort + Copy, alloc: Global, (arguments, first, tables, blocks): Mode) {
     let words = words_of(rt, alloc, arguments);
     let input = unwrap(rt, format!(in alloc; "{first}{INPUT}"));
@@ -172,8 +175,8 @@ fn the_program_stops_at_each_block_that_is_refused(rt: HostRuntime) {
     }
 }
 
-/// Arguments that are refused before memory is taken: numbers out of range, an offset that isn't canonical, and a mode that is
-/// none.
+/// Arguments that are refused before memory is taken: numbers out of range, an offset that isn't canonical, and an
+/// unknown mode.
 static WRONG: [&str; 6] = [
     "",
     "direct 1",

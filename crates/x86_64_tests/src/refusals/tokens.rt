@@ -1,4 +1,4 @@
-//! Flushes.
+//! TLB flushes.
 use super::hoard::hoard_past;
 use crate::assertions::{assert_equal_in, unwrap};
 use std::alloc::{AllocError, Global};
@@ -10,7 +10,7 @@ use x86_64::structures::paging::page::PageIn;
 use x86_64::{FiveLevels, FlushItem, FlushRecorder, FourLevels, LevelCount, VirtAddr, VirtAddr57};
 use x86_64_tables::mapper::MapperFlushIn;
 
-/// How many items a recorder has, so many that more of them take a block of their own.
+/// The number of items of a recorder. It is so large that further items need a new block.
 const ITEM_COUNT: usize = 4096;
 
 /// A call that makes the list of a recorder grow.
@@ -29,7 +29,7 @@ const GROWTHS: [Growth; 4] = [
     Growth::Reserve,
 ];
 
-/// Flushes the page at 0x1000. A token that comes back is one of the same page.
+/// Flushes the page at 0x1000. Asserts that a token that comes back is for this page.
 fn flush_page<L: LevelCount>(
     rt: impl Abort + Copy,
     recorder: &mut FlushRecorder,
@@ -71,7 +71,7 @@ fn grow(
     }
 }
 
-/// Gives the item that is recorded, if there is one.
+/// Returns the item that is recorded, if there is one.
 fn item_of(growth: Growth) -> Option<FlushItem> {
     match growth {
         Growth::FlushPage => Some(FlushItem::Page {
@@ -87,7 +87,7 @@ fn item_of(growth: Growth) -> Option<FlushItem> {
     }
 }
 
-/// Makes a recorder whose items fill the room that was reserved.
+/// Creates a recorder whose items fill the room that was reserved.
 fn full_recorder(rt: impl Abort + Copy, alloc: Global) -> FlushRecorder {
     let mut recorder = FlushRecorder::new(alloc);
     unwrap(rt, recorder.reserve(ITEM_COUNT));
@@ -97,7 +97,7 @@ fn full_recorder(rt: impl Abort + Copy, alloc: Global) -> FlushRecorder {
     recorder
 }
 
-/// Tells whether the recorder has the items that fill it first, and then this one, if there is one.
+/// Returns true if the recorder has the items that fill it, followed by this one, if there is one.
 fn has(recorder: &FlushRecorder, last: Option<FlushItem>) -> bool {
     let items = recorder.items();
     let (first, rest) = items.split_at(items.len().min(ITEM_COUNT));

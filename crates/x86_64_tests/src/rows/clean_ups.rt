@@ -12,16 +12,16 @@ use x86_64_plain::Translated::NotMapped;
 /// Unmaps the page 0x1000.
 const UNMAP: Exchange = (Small(Unmap(0x1000)), Answered(Done(0x5000)));
 
-/// Takes away all empty tables.
+/// Removes all empty tables.
 const CLEAN_UP: Exchange = (CleanUp, Cleaned);
 
-/// Takes `PRESENT` from the entry of level four above the page 0x1000.
+/// Removes `PRESENT` from the entry of level four above the page 0x1000.
 const HIDE: Exchange = (Small(SetFlags(4, 0x1000, 0x2)), Answered(Done(0x2000)));
 
-/// Maps the page 0x200000, whose table of level one alone is another than that of the page 0x1000.
+/// Maps the page 0x200000, whose tables are those of the page 0x1000 except for that of level one.
 const SECOND: Exchange = (Small(MapTo(0x20_0000, 0x8000, 0x3)), Answered(Done(0x8000)));
 
-/// The frames for the tables above two pages that have no table in common.
+/// The frames for the tables above two pages that share no table.
 const SIX_FREE: [u64; 6] = [0x2000, 0x3000, 0x4000, 0x5000, 0x6000, 0x7000];
 
 /// Maps the last page below the gap of the address space.
@@ -30,7 +30,7 @@ const BELOW_THE_GAP: Exchange = (
     Answered(Done(0x8000)),
 );
 
-/// Maps the first page above it.
+/// Maps the first page above the gap.
 const ABOVE_THE_GAP: Exchange = (
     Small(MapTo(0xffff_8000_0000_0000, 0x9000, 0x1)),
     Answered(Done(0x9000)),
@@ -39,7 +39,7 @@ const ABOVE_THE_GAP: Exchange = (
 /// Unmaps the page above the gap.
 const UNMAP_ABOVE: Exchange = (Small(Unmap(0xffff_8000_0000_0000)), Answered(Done(0x9000)));
 
-/// Takes away the empty tables of both pages.
+/// Removes the empty tables of both pages.
 const OVER_THE_GAP: Exchange = (
     CleanUpRange(0x7fff_ffff_f000, 0xffff_8000_0000_0000),
     Cleaned,
@@ -51,12 +51,12 @@ static ROWS: [Row<'static>; 11] = [
         calls: &[FIRST, UNMAP, CLEAN_UP],
         ..CLEANED
     },
-    // The second clean up finds none.
+    // The second clean up finds no tables.
     Row {
         calls: &[FIRST, UNMAP, CLEAN_UP, CLEAN_UP],
         ..CLEANED
     },
-    // The page is mapped by the same tables again.
+    // The page is mapped with the same tables again.
     Row {
         calls: &[FIRST, UNMAP, CLEAN_UP, FIRST],
         ..MAPPED
@@ -65,7 +65,7 @@ static ROWS: [Row<'static>; 11] = [
         calls: &[FIRST, CLEAN_UP],
         ..MAPPED
     },
-    // Below an entry without PRESENT nothing goes back, though the page isn't mapped.
+    // Below an entry without PRESENT no table is removed, though the page isn't mapped.
     Row {
         calls: &[
             FIRST,
@@ -89,7 +89,7 @@ static ROWS: [Row<'static>; 11] = [
         ],
         ..MAPPED
     },
-    // A range without pages, and one in which the tables have no page.
+    // A range without pages, and one outside the spans of the lower tables.
     Row {
         calls: &[
             FIRST,
@@ -100,7 +100,7 @@ static ROWS: [Row<'static>; 11] = [
         words: &[LEVEL_4, LEVEL_3, LEVEL_2],
         ..MAPPED
     },
-    // Each table has a part of the range.
+    // Each table spans a part of the range.
     Row {
         calls: &[FIRST, UNMAP, (CleanUpRange(0x2000, 0x2000), Cleaned)],
         ..CLEANED

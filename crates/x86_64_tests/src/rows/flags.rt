@@ -1,4 +1,4 @@
-//! Flags of entries on the paths of pages.
+//! Changes of the flags of entries on the paths of pages.
 use super::{
     FIRST, FIRST_LARGE, LARGE_LEVEL_3, LARGE_LEVEL_4, LARGE_MAPPED, LEVEL_1, LEVEL_2, LEVEL_3,
     LEVEL_4, MAPPED, Row, check_by_each,
@@ -15,7 +15,7 @@ const HUGE: PlainReply = Answered(Refused(ParentEntryHugePage));
 
 /// Changes of flags, allowed or not.
 static ROWS: [Row<'static>; 6] = [
-    // Without PRESENT a page is still translated, and its entry still used.
+    // Without PRESENT a page is still translated, and its entry is still used.
     Row {
         calls: &[
             FIRST,
@@ -57,7 +57,7 @@ static ROWS: [Row<'static>; 6] = [
         words: &[LEVEL_4, LEVEL_3, LEVEL_2, (0x4000, 1, 0x5081)],
         ..MAPPED
     },
-    // The lower levels come first, since below an entry without `PRESENT` there is none.
+    // The lower levels come first, since no entry below one without `PRESENT` can be reached.
     Row {
         calls: &[
             FIRST,
@@ -100,7 +100,7 @@ static ROWS: [Row<'static>; 6] = [
         ],
         ..MAPPED
     },
-    // An address bit, and `HUGE_PAGE` where the entry lacks it.
+    // An address bit, and `HUGE_PAGE` for an entry that lacks it.
     Row {
         calls: &[
             FIRST,

@@ -1,4 +1,4 @@
-//! Lists of calls whose flushes are recorded, and calls of a mapper itself whose tokens are flushed.
+//! Lists of calls whose flushes are recorded, and calls of a mapper's methods whose tokens are flushed.
 use super::{
     By, CLEANED, FIRST, FIRST_LARGE, LARGE_LEVEL_3, LARGE_LEVEL_4, LARGE_MAPPED, LEVEL_1, LEVEL_2,
     LEVEL_3, MAPPED, Row, add_replies, answer_singly, assert_fits, begin, calls_of, compare,
@@ -17,7 +17,7 @@ use x86_64_plain::Refusal::PageNotMapped;
 /// What is flushed: a page, by its start and its size, or all pages.
 type Flushed = Option<(u64, u64)>;
 
-/// Gives what an item says is flushed.
+/// Returns what an item flushes.
 fn flushed_by(item: &FlushItem) -> Flushed {
     match item {
         FlushItem::Page { start, size } => Some((start.as_u64(), *size)),
@@ -26,7 +26,7 @@ fn flushed_by(item: &FlushItem) -> Flushed {
     }
 }
 
-/// Compares what is recorded.
+/// Compares the recorded flushes.
 fn compare_flushes(rt: impl Abort + Copy, recorder: &FlushRecorder, flushed: &[Flushed]) {
     let items = recorder.items();
     assert_equal(rt, items.len(), flushed.len());
@@ -35,7 +35,7 @@ fn compare_flushes(rt: impl Abort + Copy, recorder: &FlushRecorder, flushed: &[F
     }
 }
 
-/// Answers the calls of a row by a list whose flushes are recorded.
+/// Executes the calls of a row in a list whose flushes are recorded.
 fn answer_flushed(
     rt: impl Abort + Copy,
     alloc: Global,
@@ -53,8 +53,8 @@ fn answer_flushed(
     )
 }
 
-/// Answers the calls of a row by a list, or one by one, where so many items have room, and compares what comes of them and what is
-/// recorded.
+/// Executes the calls of a row in a list, or one by one, with room for a number of items, and compares the results
+/// and the recorded flushes.
 fn check_flushes(
     rt: impl Abort + Copy,
     alloc: Global,
@@ -91,13 +91,13 @@ fn check_flushes(
     compare(rt, &memory, &pool, row, "recorded")
 }
 
-/// The page 0x200000 of 2MiB.
+/// The 2MiB page 0x200000.
 const LARGE: Flushed = Some((0x20_0000, 0x20_0000));
 
-/// The page 0x1000 of 4KiB.
+/// The 4KiB page 0x1000.
 const SMALL: Flushed = Some((0x1000, 0x1000));
 
-/// Rows, and what is flushed. Calls that are refused flush nothing, and clean ups neither.
+/// Rows, and what is flushed. Refused calls and clean ups flush nothing.
 static ROWS: [(Row<'static>, &[Flushed]); 3] = [
     (
         Row {
@@ -143,7 +143,7 @@ static ROWS: [(Row<'static>, &[Flushed]); 3] = [
     ),
 ];
 
-/// Does so for rows, each by a list and one by one, with room for items and without.
+/// Does this for rows, each in a list and one by one, with room for items and without.
 fn check_all(rt: impl Abort + Copy, alloc: Global, rows: &[(Row<'_>, &[Flushed])]) {
     for (row, flushed) in rows {
         for room in [0, 64] {

@@ -10,7 +10,7 @@ use x86_64::{FramePool, IdentityMapping, PhysMemory};
 use x86_64_plain::Answer::Done;
 use x86_64_plain::PlainReply::{Answered, Cleaned};
 
-/// The roots' frames.
+/// The frames of the roots.
 const ROOTS: [u64; 2] = [0x1000, 0x2000];
 
 /// The words that map the page 0x1000 of the second hierarchy to the frame 0xa000.
@@ -22,7 +22,7 @@ const LEVEL_2: Word = (0x7000, 0, 0x8001);
 
 const LEVEL_1: Word = (0x8000, 1, 0xa001);
 
-/// A row of both.
+/// A row for both hierarchies.
 const BOTH: Row<'static> = Row {
     places: &[0, 1, 2, 3, 4, 5, 6, 7, 8],
     free: &[0x3000, 0x4000, 0x5000, 0x6000, 0x7000, 0x8000],
@@ -30,7 +30,7 @@ const BOTH: Row<'static> = Row {
     ..MAPPED
 };
 
-/// Calls of the hierarchies in turn, each list beside its root, and what comes of it in the memory of both.
+/// Calls on the hierarchies in turn, each list with its root, and the results in the memory of both.
 static STEPS: [(u64, Row<'static>); 4] = [
     (
         0x1000,
@@ -64,7 +64,7 @@ static STEPS: [(u64, Row<'static>); 4] = [
             ..BOTH
         },
     ),
-    // The tables of the first hierarchy go back.
+    // The tables of the first hierarchy are returned.
     (
         0x1000,
         Row {
@@ -76,7 +76,7 @@ static STEPS: [(u64, Row<'static>); 4] = [
             ..BOTH
         },
     ),
-    // The second one takes two of them.
+    // The second hierarchy takes two of them.
     (
         0x2000,
         Row {
@@ -106,7 +106,7 @@ fn assert_fits_both(rt: impl Abort + Copy, alloc: Global, memory: &PhysMemory, p
     }
 }
 
-/// Answers a row's calls in the hierarchy of a root, and compares what comes of them.
+/// Executes a row's calls on the hierarchy of a root, and compares the results.
 fn check_step(
     rt: impl Abort + Copy,
     alloc: Global,
@@ -124,7 +124,7 @@ fn check_step(
     compare(rt, memory, pool, row, "both")
 }
 
-/// Answers steps one after the other in one memory, and compares what comes of each.
+/// Executes steps one after another in one memory, and compares the results of each.
 fn check_steps(rt: impl Abort + Copy, alloc: Global, steps: &[(u64, Row<'_>)]) {
     let (mut memory, mut pool) = begin(rt, alloc, &BOTH, By::Identity);
     for step in steps {

@@ -1,4 +1,4 @@
-//! Frames that lie elsewhere than at the places of their numbers.
+//! Frames that don't lie at the places of their numbers.
 use super::{MAPPED, Row, add_replies, assert_fits, calls_of, compare};
 use crate::assertions::{assert_equal, unwrap};
 use crate::images::{frame_at, pool_of, run_over};
@@ -7,7 +7,8 @@ use std::process::Abort;
 use x86_64::structures::paging::mapper::PageTableFrameMapping;
 use x86_64::{PhysMemory, ShiftMapping};
 
-/// The first map where frame 0x100000 lies at place 0. The words stand after the addresses of their places.
+/// The first map, with frame 0x100000 at place 0. The words are given with the addresses of their places. A place is
+/// the index of a table in memory.
 static ROW: Row<'static> = Row {
     places: &[0, 1, 2, 3],
     free: &[0x10_1000, 0x10_2000, 0x10_3000],
@@ -20,7 +21,7 @@ static ROW: Row<'static> = Row {
     ..MAPPED
 };
 
-/// The root's frame there.
+/// The root's frame in this memory.
 const ROOT: u64 = 0x10_0000;
 
 #[test]
@@ -32,7 +33,7 @@ fn mappings_cover_frames_from_a_first_one_on(rt: HostRuntime) {
     assert_equal(rt, mapping.frame_to_pointer(root).number(), 0);
 }
 
-/// Answers a row's calls where a root's frame lies at place 0, and compares what comes of them.
+/// Executes a row's calls with the root's frame at place 0, and compares the results.
 fn check_shifted(rt: impl Abort + Copy, alloc: Global, row: &Row<'_>) {
     let mut memory = unwrap(rt, PhysMemory::new(alloc, 4));
     let mut pool = pool_of(rt, alloc, 0x104, row.free);

@@ -15,7 +15,7 @@ use x86_64_plain::Translated::NotMapped;
 
 /// Maps and unmaps of pages of each size, accepted and refused.
 static ROWS: [Row<'static>; 15] = [
-    // Missing tables are taken in order, and cleared.
+    // Missing tables are taken from the pool in order, and cleared.
     Row {
         calls: &[FIRST, (TranslateAddr(0x1abc), Address(Some(0x5abc)))],
         ..MAPPED
@@ -76,12 +76,12 @@ static ROWS: [Row<'static>; 15] = [
         words: &[LARGE_LEVEL_4, LARGE_LEVEL_3, (0x3000, 3, 0x60_0081)],
         ..LARGE_MAPPED
     },
-    // No page starts at an address of 2^47, or its position is another one.
+    // No page starts at the address 2^47, which isn't canonical. A truncated address would have another position.
     Row {
         calls: &[(Small(IdentityMap(0x8000_0000_0000, 0x1)), NotAllowed)],
         ..UNTOUCHED
     },
-    // The frame of the reply is the one asked for.
+    // The frame in the reply is the given one.
     Row {
         calls: &[
             FIRST,
@@ -92,7 +92,7 @@ static ROWS: [Row<'static>; 15] = [
         ],
         ..MAPPED
     },
-    // Frame 0 without flags is the word 0: the page stays unused.
+    // Frame 0 without flags is the word 0, so the page's entry stays unused.
     Row {
         calls: &[
             FIRST,
@@ -101,7 +101,7 @@ static ROWS: [Row<'static>; 15] = [
         ],
         ..MAPPED
     },
-    // Parent flags without `PRESENT`, `HUGE_PAGE` on a 4KiB page, an address bit.
+    // Parent flags without `PRESENT`, `HUGE_PAGE` for a 4KiB page, and an address bit.
     Row {
         calls: &[
             (Small(MapTo(0x1000, 0x5000, 0x0)), NotAllowed),

@@ -8,7 +8,7 @@ use crate::call_rows::{CallRow, call_of};
 use x86_64::Call;
 use x86_64::structures::paging::PageTableIndex;
 
-/// Calls, and the index of level four that each names, if it names one.
+/// Calls, and the index of level four that each names, if any.
 const INDICES: [(CallRow, Option<u16>); 9] = [
     (Small(MapTo(0xffff_8000_0000_0000, 0x5000, 0x1)), Some(256)),
     (Small(Unmap(0x7fff_ffff_f000)), Some(255)),

@@ -1,4 +1,4 @@
-//! Calls of the recursive mapper alone, on pages inside the window and outside.
+//! Calls of the recursive mapper, on pages inside the recursive window and outside.
 use super::{
     CLEANED, Exchange, FIRST_LARGE, LARGE_MAPPED, LEVEL_2, LEVEL_3, LEVEL_4, MAPPED, Row, Word,
     check_by_recursive,
@@ -11,22 +11,22 @@ use x86_64_plain::Answer::Done;
 use x86_64_plain::PlainReply::{Answered, Cleaned, NotAllowed, Position};
 use x86_64_plain::Translated::Mapped;
 
-/// Maps the page 0x1000 of 4KiB to the frame 0x5000, with `PRESENT` alone.
+/// Maps the 4KiB page 0x1000 to the frame 0x5000, with `PRESENT` alone.
 const MAP: Exchange = (Small(MapTo(0x1000, 0x5000, 0x1)), Answered(Done(0x5000)));
 
-/// Unmaps it.
+/// Unmaps this page.
 const UNMAP: Exchange = (Small(Unmap(0x1000)), Answered(Done(0x5000)));
 
-/// The words that map it.
+/// The words that map this page.
 const WORDS: [Word; 4] = [LEVEL_4, LEVEL_3, LEVEL_2, (0x4000, 1, 0x5001)];
 
-/// The page at which the table of level one above it is reached.
+/// The window of the table of level one above this page, at which the table is reached.
 const WINDOW: u64 = 0xffff_ff00_0000_0000;
 
-/// The page at which the root is reached.
+/// The window of the root.
 const ROOT_WINDOW: u64 = 0xffff_ff7f_bfdf_e000;
 
-/// Takes away all empty tables.
+/// Removes all empty tables.
 const CLEAN_UP: Exchange = (CleanUp, Cleaned);
 
 /// Calls through the window, and clean ups beside it.
@@ -57,7 +57,7 @@ static ROWS: [Row<'static>; 7] = [
         words: &WORDS,
         ..MAPPED
     },
-    // The entry of a 2MiB page is read as that of a 4KiB one.
+    // The entry of a 2MiB page is read as that of a 4KiB page.
     Row {
         calls: &[
             FIRST_LARGE,
@@ -86,7 +86,7 @@ static ROWS: [Row<'static>; 7] = [
         calls: &[MAP, UNMAP, CLEAN_UP, CLEAN_UP],
         ..CLEANED
     },
-    // The range is the window: it has no table's part, though a table is empty.
+    // The range is the recursive window. No table spans a part of it, though a table is empty.
     Row {
         calls: &[
             MAP,
@@ -96,7 +96,7 @@ static ROWS: [Row<'static>; 7] = [
         words: &[LEVEL_4, LEVEL_3, LEVEL_2],
         ..MAPPED
     },
-    // The range goes over the window, from a page below it to one above it.
+    // The range includes the recursive window, from a page below it to one above it.
     Row {
         calls: &[
             MAP,

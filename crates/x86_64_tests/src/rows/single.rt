@@ -1,4 +1,4 @@
-//! Calls of a mapper itself, each where its condition holds, with the tokens flushed.
+//! Calls of a mapper's methods, each if its condition holds, with the tokens flushed.
 ghost use Rattle.std.specs.Prelude.{◌≡◌, ◌<◌, ◌^◌, IfSome};
 ghost use Rattle.x86_64_model.specs.Call.{Unmap};
 ghost use Rattle.x86_64_model.specs.Mapper.{Valid, May, PoolFits, SupplyFits, path_of};
@@ -23,7 +23,7 @@ use x86_64::{
     SizeReply, VirtAddr, is_outside_window, parent_flags,
 };
 
-/// Flushes the token of a change to a page, if there is one, and gives the page.
+/// Flushes the token of a change to a page, if there is one, and returns the page.
 fn flush<S: PageSize, E: Drop>(
     rt: impl Abort + Copy,
     changed: Result<MapperFlush<S>, E>,
@@ -51,7 +51,7 @@ fn flush_all(
     Ok(())
 }
 
-/// Gives the page at a frame's own address, if that lies in the lower half of the address space.
+/// Returns the page at a frame's own address, if that is in the lower half of the address space.
 fn identity_page<S: PageSize>(frame: PhysFrame<S>) -> Option<Page<S>>
     ensures same { IfSome result (λ page. page ≡ frame) }
     ensures low { IfSome result (λ page. frame < 2 ^ 47) }
@@ -66,7 +66,7 @@ fn identity_page<S: PageSize>(frame: PhysFrame<S>) -> Option<Page<S>>
     }
 }
 
-/// Maps the page at a frame's own address, where that is allowed.
+/// Maps the page at a frame's own address, if that is allowed.
 fn map_identity<S: PageSize, M: Mapper<S>>(
     rt: impl Abort + Copy,
     mapper: &mut M,
@@ -87,7 +87,7 @@ fn map_identity<S: PageSize, M: Mapper<S>>(
     Some(PageReply::Map(flush(rt, mapped, recorder)))
 }
 
-/// Maps a page, with the parent flags that it asks for or with others, where that is allowed.
+/// Maps a page, with given parent flags or with those from its flags, if that is allowed.
 fn map<S: PageSize, M: Mapper<S>>(
     rt: impl Abort + Copy,
     mapper: &mut M,
@@ -110,7 +110,7 @@ fn map<S: PageSize, M: Mapper<S>>(
     Some(PageReply::Map(flush(rt, mapped, recorder)))
 }
 
-/// Sets the flags of the entry of a level on a page's path, where that is allowed.
+/// Sets the flags of the entry of a level on a page's path, if that is allowed.
 #[tactic(auto, unfolding(x86_64_model::specs::Entry::address, x86_64_model::specs::Entry::has))]
 fn set_flags<S: PageSize, M: Mapper<S>>(
     rt: impl Abort + Copy,
@@ -156,7 +156,7 @@ fn unmap<S: PageSize, M: Mapper<S>>(
     Ok((frame, page))
 }
 
-/// Makes a call on a page, where it is allowed.
+/// Makes a call on a page, if it is allowed.
 #[tactic(auto, unfolding(x86_64_model::specs::Entry::address))]
 fn answer_page<S: PageSize, M: Mapper<S>>(
     rt: impl Abort + Copy,
@@ -206,7 +206,7 @@ fn answer_page<S: PageSize, M: Mapper<S>>(
     }
 }
 
-/// Makes a call, where it is allowed.
+/// Makes a call, if it is allowed.
 fn answer_call<M: MapperAllSizes + Translate + CleanUp>(
     rt: impl Abort + Copy,
     mapper: &mut M,
@@ -244,7 +244,7 @@ fn answer_call<M: MapperAllSizes + Translate + CleanUp>(
     })
 }
 
-/// Makes a call of the mapper over the identity mapping, which is dropped then.
+/// Makes a call of the mapper over the identity mapping, which is then dropped.
 fn answer_one(
     rt: impl Abort + Copy,
     alloc: Global,
@@ -258,7 +258,7 @@ fn answer_one(
     answer_call(rt, &mut mapper, pool, call, recorder)
 }
 
-/// Makes the calls of exchanges one by one, and adds the replies.
+/// Makes the calls of exchanges one by one, and appends the replies.
 pub fn answer_singly(
     rt: impl Abort + Copy,
     alloc: Global,

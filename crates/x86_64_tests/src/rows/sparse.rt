@@ -1,9 +1,9 @@
-//! Memories whose places have gaps.
+//! Memories with gaps between their places. A place is the index of a table in memory.
 use super::{By, FIRST, MAPPED, Row, begin, check_by_each};
 use crate::assertions::assert_equal;
 use x86_64::FramePlace;
 
-/// The first map where two of the free frames lie past a gap.
+/// The first map, with two of the free frames past a gap.
 static PAST_A_GAP: [Row<'static>; 1] = [Row {
     places: &[1, 2, 0x8_0000, 0x8_0001],
     free: &[0x2000, 0x8000_0000, 0x8000_1000],

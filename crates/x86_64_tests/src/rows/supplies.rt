@@ -1,4 +1,4 @@
-//! Maps where free frames run out.
+//! Maps for which there are too few free frames.
 use super::{
     By, EACH, Exchange, FIRST, LEVEL_1, LEVEL_2, LEVEL_3, LEVEL_4, MAPPED, Row, answer_exchanges,
     answer_row, check_by_each, compare_by,
@@ -13,7 +13,7 @@ use x86_64_plain::Answer::Refused;
 use x86_64_plain::PlainReply::Answered;
 use x86_64_plain::Refusal::FrameAllocationFailed;
 
-/// The first map, where a frame is wanting.
+/// The first map, with a frame missing.
 const STARVED: Exchange = (
     Small(MapTo(0x1000, 0x5000, 0x3)),
     Answered(Refused(FrameAllocationFailed)),
@@ -27,7 +27,7 @@ static ROWS: [Row<'static>; 2] = [
         words: &[],
         ..MAPPED
     },
-    // The entry of level four gets the parent flags before the frame is wanting.
+    // The entry of level four gets the parent flags before the frame is found missing.
     Row {
         calls: &[
             FIRST,
@@ -41,7 +41,7 @@ static ROWS: [Row<'static>; 2] = [
     },
 ];
 
-/// One frame, which becomes the first of the tables that are wanting, and the frames that are free later on, with the same map.
+/// One frame, which becomes the first of the missing tables, and the frames that are free later, with the same map.
 static SUPPLIES: (Row<'static>, Row<'static>) = (
     Row {
         free: &[0x2000],
@@ -55,7 +55,7 @@ static SUPPLIES: (Row<'static>, Row<'static>) = (
     },
 );
 
-/// Answers a row's calls, and another one's once its free frames are there, and compares what comes of each.
+/// Executes a row's calls, and another row's once its free frames are there, and compares the results of each.
 fn check_supplies(rt: impl Abort + Copy, alloc: Global, (row, more): &(Row<'_>, Row<'_>), by: By) {
     let (mut memory, mut pool) = answer_row(rt, alloc, row, by, "one frame");
     for frame in more.free {
@@ -66,7 +66,7 @@ fn check_supplies(rt: impl Abort + Copy, alloc: Global, (row, more): &(Row<'_>, 
     compare_by(rt, alloc, by, (&memory, &pool), more, by.name())
 }
 
-/// Does so by each mapper.
+/// Does this with each mapper.
 fn check_supplies_by_each(rt: impl Abort + Copy, alloc: Global, rows: &(Row<'_>, Row<'_>)) {
     for by in EACH {
         check_supplies(rt, alloc, rows, by);

@@ -1,4 +1,4 @@
-//! Where a page walk arrives after calls, and with which rights.
+//! Where page walks arrive after calls, and with which rights.
 use super::{
     FIRST, FIRST_LARGE, LARGE_LEVEL_3, LARGE_LEVEL_4, LARGE_MAPPED, LEVEL_2, LEVEL_3, LEVEL_4,
     MAPPED, Row, check_by_direct, check_by_each, check_by_recursive,
@@ -13,11 +13,11 @@ use x86_64_plain::Answer::{Done, Refused};
 use x86_64_plain::PlainReply::Answered;
 use x86_64_plain::Refusal::ParentEntryHugePage;
 
-/// An address, and where the walk from it arrives, if it does: the address, and whether it may be written and
+/// An address, and where its page walk arrives, if it does: the address, and whether it may be written and may be
 /// used by a user.
 pub type Walk = (u64, Option<(u64, bool, bool)>);
 
-/// Compares where walks arrive.
+/// Compares where page walks arrive.
 pub fn compare_walks(rt: impl Abort + Copy, memory: &PhysMemory, walks: &[Walk], title: &str) {
     for (from, to) in walks {
         let addr = VirtAddr::new_truncate(*from);
@@ -31,7 +31,7 @@ pub fn compare_walks(rt: impl Abort + Copy, memory: &PhysMemory, walks: &[Walk],
     }
 }
 
-/// Rows that each mapper answers alike.
+/// Rows with the same results for each mapper.
 static ROWS: [Row<'static>; 6] = [
     Row {
         calls: &[
@@ -53,7 +53,7 @@ static ROWS: [Row<'static>; 6] = [
         ],
         ..MAPPED
     },
-    // Before a map that is refused and widens rights, and after it.
+    // Before and after a map that widens rights and is then refused.
     Row {
         walks: &[(0x23_4567, Some((0x43_4567, false, false)))],
         ..LARGE_MAPPED
@@ -92,7 +92,7 @@ static ROWS: [Row<'static>; 6] = [
         walks: &[(0x1abc, Some((0x5abc, false, false)))],
         ..MAPPED
     },
-    // The entries above the page give no right to users.
+    // The entries above the page give users no rights.
     Row {
         calls: &[
             FIRST_LARGE,
@@ -123,7 +123,7 @@ const PARENT_FLAGS: Row<'static> = Row {
     ..MAPPED
 };
 
-/// The same where the mapper makes writable tables.
+/// This map with a mapper that makes tables writable.
 const WRITABLE_TABLES: Row<'static> = Row {
     walks: &[(0x1abc, Some((0x5abc, true, false)))],
     ..PARENT_FLAGS

@@ -5,7 +5,8 @@ use std::process::Abort;
 use x86_64_addr::addr::{PhysAddr, VirtAddrIn, align_down, align_up};
 use x86_64_addr::level_count::{FiveLevels, FourLevels, LevelCount};
 
-/// The least multiple that isn't below a number, where `align` is a power of two and there is one of 64 bits.
+/// Returns the least multiple of `align` that isn't below a number. Returns `None` if `align` is no power of two, or
+/// the multiple has more than 64 bits.
 fn aligned_up(addr: u64, align: u64) -> Option<u64> {
     if align.is_power_of_two() {
         addr.checked_next_multiple_of(align)?;
@@ -15,7 +16,7 @@ fn aligned_up(addr: u64, align: u64) -> Option<u64> {
     }
 }
 
-/// Numbers, what they are aligned to, and the least multiple that isn't below, if there is one.
+/// Numbers, alignments, and the least multiple that isn't below the number, if there is one.
 const NUMBERS: [(u64, u64, Option<u64>); 10] = [
     (0, 1, Some(0)),
     (0, 2, Some(0)),
@@ -39,8 +40,8 @@ fn numbers_are_aligned(rt: HostRuntime) {
     assert_equal(rt, align_down(u64::MAX, 1 << 63), 1 << 63);
 }
 
-/// Aligns the address of a raw value up, where there is a multiple of 64 bits, and down, and tells whether it is aligned. `align` is
-/// a power of two.
+/// Aligns the address with a raw value up, if the multiple fits in 64 bits, and down, and tests whether it is
+/// aligned. Returns `None` if `align` is no power of two.
 fn aligned<L: LevelCount>(raw: u64, align: u64) -> Option<(Option<u64>, u64, bool)> {
     if !align.is_power_of_two() {
         return None;
@@ -54,7 +55,8 @@ fn aligned<L: LevelCount>(raw: u64, align: u64) -> Option<(Option<u64>, u64, boo
     Some((up, down, address.is_aligned(align)))
 }
 
-/// Raw values, what their addresses are aligned to, and what comes of it: up, down, and whether they are aligned.
+/// Raw values, alignments, and the results for their addresses: aligned up, aligned down, and whether they are
+/// aligned.
 type Row = (u64, u64, Option<u64>, u64, bool);
 
 const ADDRESSES: [Row; 7] = [
@@ -79,7 +81,7 @@ const ADDRESSES_57: [Row; 3] = [
     (FIRST_HIGH_57, 1 << 57, None, 0, false),
 ];
 
-/// Aligns addresses, and compares what comes of it.
+/// Aligns addresses, and compares the results.
 fn check_aligned<L: LevelCount>(rt: impl Abort + Copy, rows: &[Row]) {
     for (raw, align, up, down, is_aligned) in rows {
         let wanted = Some((*up, *down, *is_aligned));

@@ -1,4 +1,4 @@
-//! The levels of page tables, with what their tables and entries describe.
+//! The levels of page tables, and the sizes that their tables and entries span.
 use crate::assertions::assert_equal_in;
 use x86_64_addr::index::{PageTableLevel, PageTableLevel57};
 

@@ -6,15 +6,15 @@ use x86_64_addr::addr::VirtAddrIn;
 use x86_64_addr::index::PageTableIndex;
 use x86_64_addr::level_count::{FiveLevels, FourLevels, LevelCount};
 
-/// The raw value of a start, a number of steps, and the raw value that they lead to, if there is one.
+/// The raw value of a start, a number of steps, and the raw value that they lead to, if any.
 type Steps = (u64, usize, Option<u64>);
 
-/// Gives the address of a raw value.
+/// Returns the address with a raw value.
 fn address<L: LevelCount>(raw: u64) -> VirtAddrIn<L> {
     VirtAddrIn::new_truncate(raw)
 }
 
-/// Gives the address that steps lead to, if they lead to one.
+/// Returns the address that steps lead to, if any.
 fn end<L: LevelCount>(raw: Option<u64>) -> Option<VirtAddrIn<L>> {
     Some(VirtAddrIn::new_truncate(raw?))
 }
@@ -39,7 +39,7 @@ const FORWARD_57: [Steps; 3] = [
     (LAST_LOW_57, (1 << 56) + 1, None),
 ];
 
-/// Steps forward, and compares where that leads.
+/// Steps forward, and compares the results.
 fn check_forward<L: LevelCount>(rt: impl Abort + Copy, rows: &[Steps]) {
     for (start, count, wanted) in rows {
         let found = VirtAddrIn::<L>::forward_checked(address(*start), *count);
@@ -65,7 +65,7 @@ const BACKWARD_57: [Steps; 2] = [
     (LAST_LOW_57, 1 << 56, None),
 ];
 
-/// Steps backward, and compares where that leads.
+/// Steps backward, and compares the results.
 fn check_backward<L: LevelCount>(rt: impl Abort + Copy, rows: &[Steps]) {
     for (start, count, wanted) in rows {
         let found = VirtAddrIn::<L>::backward_checked(address(*start), *count);
@@ -73,7 +73,7 @@ fn check_backward<L: LevelCount>(rt: impl Abort + Copy, rows: &[Steps]) {
     }
 }
 
-/// The raw values of a start and an end, and how many steps lead from the one to the other.
+/// The raw values of a start and an end, and the number of steps from start to end.
 type Between = (u64, u64, (usize, Option<usize>));
 
 const BETWEEN: [Between; 9] = [
@@ -93,7 +93,7 @@ const BETWEEN_57: [Between; 2] = [
     (FIRST_HIGH_57, LAST_LOW_57, (0, None)),
 ];
 
-/// Counts the steps between addresses, and compares their number.
+/// Counts the steps between addresses, and compares the results.
 fn check_between<L: LevelCount>(rt: impl Abort + Copy, rows: &[Between]) {
     for (start, end, wanted) in rows {
         let found = VirtAddrIn::<L>::steps_between(&address(*start), &address(*end));
@@ -111,7 +111,7 @@ fn addresses_step(rt: HostRuntime) {
     check_between::<FiveLevels>(rt, &BETWEEN_57);
 }
 
-/// Indices, numbers of steps, and where they lead forward and backward, if there is an index.
+/// Indices, numbers of steps, and the indices that they lead to forward and backward, if any.
 const INDICES: [(u16, usize, Option<u16>, Option<u16>); 5] = [
     (3, 508, Some(511), None),
     (511, 1, None, Some(510)),

@@ -1,4 +1,4 @@
-//! Values from outside: lists of pages and of frames from both ends, and the texts.
+//! Tests against independent values: ranges of pages and of frames from both ends, and the texts.
 use super::{LAST, LOWER_LAST, LOWER_LAST_57, UPPER_FIRST, UPPER_FIRST_57, frame, page, raw};
 use crate::assertions::{assert_equal, assert_equal_in, unwrap};
 use std::process::Abort;
@@ -10,33 +10,33 @@ use x86_64_page::page::{
 };
 use x86_64_page::range::{Block, BlockRange, BlockRangeInclusive};
 
-/// The last page of all but one.
+/// The last page but one.
 const LAST_BUT_ONE: u64 = 0xffff_ffff_ffff_e000;
 
 /// The last frame of 4KiB.
 const LAST_FRAME: u64 = 0x000f_ffff_ffff_f000;
 
-/// The raw starts of both ends.
+/// Returns the raw start addresses of both ends.
 fn ends<L: LevelCount>(range: BlockRangeInclusive<PageIn<Size4KiB, L>>) -> (u64, u64) {
     let (start, end) = (range.start.start_address(), range.end.start_address());
     (start.as_u64(), end.as_u64())
 }
 
-/// Compares how many blocks a range has.
+/// Compares the number of blocks of a range.
 fn check_len<B: Block>(rt: impl Abort + Copy, range: BlockRange<B>, len: u64) {
     let found = (range.len(), range.size(), range.is_empty());
     assert_equal(rt, found, (len, len.saturating_mul(B::SIZE), len == 0));
     assert_equal(rt, range.size_hint(), (len as usize, Some(len as usize)));
 }
 
-/// The same of a range that has its end.
+/// Compares the number of blocks of a range that includes its end.
 fn check_len_inclusive<B: Block>(rt: impl Abort + Copy, range: BlockRangeInclusive<B>, len: u64) {
     let found = (range.len(), range.size(), range.is_empty());
     assert_equal(rt, found, (len, len.saturating_mul(B::SIZE), len == 0));
     assert_equal(rt, range.size_hint(), (len as usize, Some(len as usize)));
 }
 
-/// The starts of pages of 4KiB, and how many there are from the first one up to the second.
+/// The starts of 4KiB pages, and the number of pages from the first one up to but without the second.
 const RANGES: [(u64, u64, u64); 5] = [
     (0xdead_b000, 0xdead_b000 + 50 * 0x1000, 50),
     (0xdead_b000, 0xdead_b000 + 1000 * 0x1000, 1000),
@@ -45,7 +45,7 @@ const RANGES: [(u64, u64, u64); 5] = [
     (0x1000, 0x1000, 0),
 ];
 
-/// The same with the second one.
+/// The starts of 4KiB pages, and the number of pages from the first one to the second, both included.
 const CLOSED_RANGES: [(u64, u64, u64); 4] = [
     (0xdead_b000, 0xdead_b000 + 50 * 0x1000, 51),
     (0xdead_b000, 0xdead_b000 + 1000 * 0x1000, 1001),
@@ -98,7 +98,7 @@ fn frame_ranges_have_lengths(rt: HostRuntime) {
     assert_equal(rt, all.size(), 4_503_599_627_370_496);
 }
 
-/// Goes over a range of pages, which start at `first` and at each multiple of 4KiB after it, `count` in all.
+/// Iterates over a range of pages, which start at `first` and at each multiple of 4KiB after it, `count` in all.
 fn check_each(rt: impl Abort + Copy, range: PageRange<Size4KiB>, first: u64, count: u64) {
     let mut expected = first;
     let mut seen = 0u64;
@@ -110,7 +110,7 @@ fn check_each(rt: impl Abort + Copy, range: PageRange<Size4KiB>, first: u64, cou
     assert_equal(rt, seen, count);
 }
 
-/// The same of a range that has its end.
+/// This for a range that includes its end.
 fn check_each_inclusive(
     rt: impl Abort + Copy,
     range: PageRangeInclusive<Size4KiB>,
@@ -138,7 +138,7 @@ fn ranges_give_page_after_page(rt: HostRuntime) {
     check_each_inclusive(rt, range, first, 1001);
 }
 
-/// Takes the last page below the gap and the first one above it from a range of both.
+/// Takes the last page below the gap and the first one above it from a range of these two pages.
 fn check_gap<L: LevelCount>(rt: impl Abort + Copy, below: u64, above: u64) {
     let mut range = PageIn::<Size4KiB, L>::range_inclusive(page(below), page(above));
     let taken = (raw(range.next()), raw(range.next_back()));
@@ -158,7 +158,7 @@ fn ranges_go_on_after_the_gap(rt: HostRuntime) {
     assert_equal(rt, more, (None, None));
 }
 
-/// Takes the one page of a range at each end of the address space.
+/// Takes the only page of a range at each end of the address space.
 fn check_ends<L: LevelCount>(rt: impl Abort + Copy) {
     let mut range = PageIn::<Size4KiB, L>::range_inclusive(page(LAST), page(LAST));
     assert_equal(rt, raw(range.next()), Some(LAST));
@@ -189,7 +189,7 @@ fn the_ends_of_memory_are_in_ranges(rt: HostRuntime) {
     assert_equal(rt, range.next(), None);
 }
 
-/// How many pages are skipped, the page after them in the range of all, and the ends of what is left.
+/// A number of skipped pages, the page after them in the range of all pages, and the ends of what is left.
 type Skipped = (usize, Option<u64>, (u64, u64));
 
 const SKIPPED: [Skipped; 2] = [
@@ -197,7 +197,7 @@ const SKIPPED: [Skipped; 2] = [
     (1 << 36, None, (LAST, LAST_BUT_ONE)),
 ];
 
-/// The same from the back.
+/// This from the back.
 const SKIPPED_BACK: [Skipped; 2] = [
     (1 << 35, Some(LOWER_LAST), (0, LOWER_LAST - 0x1000)),
     (1 << 36, None, (0x1000, 0)),

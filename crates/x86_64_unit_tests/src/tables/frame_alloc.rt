@@ -1,4 +1,4 @@
-//! Tests of pools, and of frames that any store hands out and takes back.
+//! Tests of pools, and of frames that a frame store hands out and takes back.
 ghost use Rattle.std.specs.Prelude.{◌≡◌, drop, slice_get, IfSome};
 ghost use Rattle.x86_64_model.specs.Lists.{EachOnce};
 
@@ -12,7 +12,7 @@ use x86_64_tables::frame_alloc::{
     FrameAllocator, FrameDeallocator, FramePool, FrameStore, PoolRefusal,
 };
 
-/// Compares what a pool has: the frames in order, and none after them.
+/// Compares the frames of a pool, in order, and asserts that there are no more.
 fn check_frames(rt: impl Abort + Copy, pool: &FramePool, frames: &[u64]) {
     assert_equal(rt, pool.len(), frames.len());
     assert_equal(rt, pool.frame_at(frames.len()), None);
@@ -21,7 +21,7 @@ fn check_frames(rt: impl Abort + Copy, pool: &FramePool, frames: &[u64]) {
     }
 }
 
-/// Frames that are added to a pool of the limit 8 one after the other, and what comes of it.
+/// Frames that are added to a pool with the limit 8, one after another, and the results.
 const ADDED: [(u64, Result<(), PoolRefusal>); 5] = [
     (0x0, Err(PoolRefusal::Zero)),
     (0x8000, Err(PoolRefusal::OutOfRange)),
@@ -80,7 +80,7 @@ const EQUAL: [(&[u64], &[u64], bool); 5] = [
 #[test]
 fn pools_are_equal_as_lists(rt: HostRuntime) {
     for (one, other, wanted) in EQUAL {
-        // The limit doesn't count.
+        // The limits don't count.
         let first = pool_with(rt, rt.alloc(), 8, one);
         let second = pool_with(rt, rt.alloc(), 16, other);
         assert_equal_in(rt, (one, other), first == second, wanted);

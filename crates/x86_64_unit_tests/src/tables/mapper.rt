@@ -1,4 +1,4 @@
-//! Tests of flushes.
+//! Tests of TLB flushes.
 use crate::assertions::{assert_equal, assert_equal_in};
 use std::alloc::Global;
 use std::process::Abort;
@@ -19,7 +19,7 @@ fn flush_all(rt: impl Abort + Copy, recorder: &mut FlushRecorder) {
     assert_equal(rt, answer.map_err(MapperFlushAll::ignore), Ok(()));
 }
 
-/// Makes the item of a page.
+/// Returns the item of a page.
 fn item(start: u64, size: u64) -> FlushItem {
     FlushItem::Page {
         start: VirtAddr::new_truncate(start),
@@ -27,7 +27,7 @@ fn item(start: u64, size: u64) -> FlushItem {
     }
 }
 
-/// Flushes pages and all in turn, with so much room made before, and compares the items.
+/// Flushes pages and all pages in turn, with room reserved before, and compares the items.
 fn check_recorded(rt: impl Abort + Copy, alloc: Global, room: usize, items: &[FlushItem]) {
     let mut recorder = FlushRecorder::new(alloc);
     assert!(rt; recorder.items().is_empty());

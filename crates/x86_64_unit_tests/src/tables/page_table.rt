@@ -110,8 +110,8 @@ fn flags_change_in_place(rt: HostRuntime) {
     }
 }
 
-/// Bits, and whether both low flags are among them, whether one is, whether none is set, whether all known ones are, and whether
-/// unknown ones are.
+/// Bits, and whether they have both low flags, at least one of them, no bit at all, all known flags, and unknown
+/// ones.
 const ASKED: [(u64, [bool; 5]); 6] = [
     (0x0, [false, false, true, false, false]),
     (0x2, [false, true, false, false, false]),
@@ -151,7 +151,7 @@ fn flags_have_texts(rt: HostRuntime) {
     );
 }
 
-/// The address and the flags of an entry, its word, and the frame that it names, or why it names none.
+/// The address and the flags of an entry, its word, and the frame that it names, or the error.
 type EntryRow = (u64, u64, u64, Result<u64, FrameError>);
 
 const ENTRIES: [EntryRow; 6] = [
@@ -173,7 +173,7 @@ const ENTRIES: [EntryRow; 6] = [
     ),
 ];
 
-/// Gives what an entry says: its word, its address and flags, and whether it is unused.
+/// Returns the parts of an entry: its word, its address and flags, and whether it is unused.
 fn parts(entry: &PageTableEntry) -> (u64, u64, u64, bool) {
     let (addr, flags) = (entry.addr().as_u64(), entry.flags().bits());
     (addr | flags, addr, flags, entry.is_unused())
@@ -254,7 +254,7 @@ fn tables_have_texts(rt: HostRuntime) {
     assert_equal(rt, text.as_str(), wanted.as_str());
 }
 
-/// Gives the texts of all entries, parted by commas, in brackets.
+/// Returns the texts of all entries, separated by commas, in brackets.
 fn text_of(rt: impl Abort + Copy, table: &PageTable, alloc: Global) -> String {
     let mut text = unwrap(rt, format!(in alloc; "[{:?}", table[0]));
     for index in 1..512 {
@@ -263,7 +263,7 @@ fn text_of(rt: impl Abort + Copy, table: &PageTable, alloc: Global) -> String {
     unwrap(rt, format!(in alloc; "{text}]"))
 }
 
-/// Makes a table where the word of each entry is its index, through a loan of the entries in order.
+/// Creates a table in which the word of each entry is its index, through a loan of the entries in order.
 fn table_of_indices() -> PageTable {
     let mut table = PageTable::new();
     for (index, entry) in table.iter_mut().enumerate() {

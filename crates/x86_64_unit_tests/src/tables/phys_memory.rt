@@ -1,5 +1,5 @@
-//! Tests of walks, of hierarchies and of pools that fit them, over memories that are given as words, with four levels of tables and
-//! with five.
+//! Tests of page walks, of hierarchies and of pools that fit them, over memories that are given as words, with four
+//! levels of page tables and with five.
 mod alike;
 mod lent;
 mod places;
@@ -36,14 +36,14 @@ pub(crate) fn set_words<T: TableMemory>(rt: impl Abort + Copy, memory: &mut T, w
     }
 }
 
-/// Makes each word of the table in a frame the same.
+/// Sets all words of the table in a frame to one value.
 pub(crate) fn fill(rt: impl Abort + Copy, memory: &mut PhysMemory, frame: u64, word: u64) {
     for index in 0..512 {
         set_words(rt, memory, &[(frame, index, word)]);
     }
 }
 
-/// Makes a memory of 8 places with words, and then with more words.
+/// Creates a memory of 8 places with words, and then with more words. A place is the index of a table in memory.
 fn memory_of(rt: impl Abort + Copy, alloc: Global, words: &[Word], more: &[Word]) -> PhysMemory {
     let mut memory = unwrap(rt, PhysMemory::new(alloc, 8));
     set_words(rt, &mut memory, words);
@@ -51,7 +51,7 @@ fn memory_of(rt: impl Abort + Copy, alloc: Global, words: &[Word], more: &[Word]
     memory
 }
 
-/// Makes a memory where the root's first word names the table in frame 0x2000, and all words of that are ones.
+/// Creates a memory in which the root's first word names the table in frame 0x2000, whose words have all bits set.
 fn memory_of_ones(rt: impl Abort + Copy, alloc: Global) -> PhysMemory {
     let mut memory = unwrap(rt, PhysMemory::new(alloc, 8));
     set_words(rt, &mut memory, &[(0x1000, 0, 0x2003)]);
@@ -59,7 +59,7 @@ fn memory_of_ones(rt: impl Abort + Copy, alloc: Global) -> PhysMemory {
     memory
 }
 
-/// Makes a pool of a limit with frames, each given by its start address.
+/// Creates a pool with a limit and with frames, given by their start addresses.
 pub(super) fn pool_with(
     rt: impl Abort + Copy,
     alloc: Global,
@@ -73,7 +73,7 @@ pub(super) fn pool_with(
     pool
 }
 
-/// Tells whether a pool fits the hierarchy of four levels, or else of five, below the root in frame 0x1000.
+/// Returns whether a pool fits the hierarchy of four levels, or otherwise of five, below the root in frame 0x1000.
 fn fits(
     rt: impl Abort + Copy,
     alloc: Global,
@@ -91,7 +91,7 @@ fn fits(
     unwrap(rt, tested)
 }
 
-/// Tells whether words are a valid hierarchy of four levels, or else of five, below the root in frame 0x1000.
+/// Returns whether words are a valid hierarchy of four levels, or otherwise of five, below the root in frame 0x1000.
 fn is_valid(rt: impl Abort + Copy, alloc: Global, levels: u64, memory: &PhysMemory) -> bool {
     let root = frame_at(0x1000);
     let tested = if levels == 4 {
@@ -102,13 +102,13 @@ fn is_valid(rt: impl Abort + Copy, alloc: Global, levels: u64, memory: &PhysMemo
     unwrap(rt, tested)
 }
 
-/// Walks from the root in frame 0x1000.
+/// Walks the tables from the root in frame 0x1000.
 fn walk<L: LevelCount>(memory: &PhysMemory, addr: u64) -> Option<Walked> {
     let addr = VirtAddrIn::<L>::new_truncate(addr);
     page_walk(memory, &IdentityMapping, frame_at(0x1000), addr)
 }
 
-/// Gives where a walk arrives, without `USER_ACCESSIBLE`.
+/// Returns where a page walk arrives, without `USER_ACCESSIBLE`.
 fn arrival(wanted: Option<(u64, bool)>) -> Option<Walked> {
     let (address, write) = wanted?;
     Some(Walked {
@@ -118,7 +118,7 @@ fn arrival(wanted: Option<(u64, bool)>) -> Option<Walked> {
     })
 }
 
-/// Words, an address, and where the walk of it arrives, if it does, and whether it may write.
+/// Words, an address, and where its page walk arrives and whether it may write, if it arrives.
 type Walk = (&'static [Word], u64, Option<(u64, bool)>);
 
 const WALKS: [Walk; 7] = [
@@ -182,7 +182,7 @@ const WALKS_57: [Walk; 5] = [
     (&[(0x1000, 0, 0x2003), (0x2000, 0, 0x3003)], 0, None),
 ];
 
-/// Walks, and compares where that arrives.
+/// Walks, and compares the results.
 fn check_walks<L: LevelCount>(rt: impl Abort + Copy, alloc: Global, rows: &[Walk]) {
     for (words, addr, wanted) in rows {
         let memory = memory_of(rt, alloc, words, &[]);
@@ -270,7 +270,7 @@ fn pools_fit_no_root_past_the_memory(rt: HostRuntime) {
 /// The limit and the frames of a pool, and whether it fits.
 type Pool = ((u64, &'static [u64]), bool);
 
-/// The words that pools are to fit.
+/// The words of the hierarchy for the pools.
 const TABLES: [Word; 5] = [
     (0x1000, 0, 0x2003),
     (0x2000, 0, 0x3003),
@@ -289,7 +289,7 @@ const POOLS: [Pool; 7] = [
     ((1, &[]), false),
 ];
 
-/// The same with five levels.
+/// These with five levels.
 const TABLES_57: [Word; 5] = [
     (0x1000, 0, 0x2003),
     (0x2000, 0, 0x3003),
@@ -306,10 +306,10 @@ const POOLS_57: [Pool; 5] = [
     ((5, &[]), false),
 ];
 
-/// Where all words of a table are ones.
+/// Pools for a memory in which all words of a table have all bits set.
 const POOLS_BESIDE_ONES: [Pool; 2] = [((8, &[0x3000]), true), ((8, &[0x2000]), false)];
 
-/// Compares whether pools fit the hierarchy of so many levels in a memory.
+/// Compares whether pools fit the hierarchy with this number of levels in a memory.
 fn check_pools(
     rt: impl Abort + Copy,
     alloc: Global,
@@ -322,7 +322,7 @@ fn check_pools(
     }
 }
 
-/// The same of the hierarchy with words.
+/// This for the hierarchy with these words.
 fn check_pools_of(
     rt: impl Abort + Copy,
     alloc: Global,

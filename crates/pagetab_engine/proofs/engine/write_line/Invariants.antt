@@ -2,7 +2,7 @@ use Rattle.std.proofs.Common.{◌≡◌, ◌<◌, ◌++◌, ℕ, List, length}
 use Rattle.std.specs.Io.KnownBytes.{Appends}
 use Rattle.pagetab_engine.proofs.engine.write_line.Given as goal
 
--- a front part of the line was written, and the rest is not
+-- a first part of the line was written, and the rest was not
 abbrev pub invariant-loop : goal.invariant-loop
 invariant-loop g l =
     let contents = g.W.Write.contents in

@@ -1,4 +1,4 @@
-//! Mappers, and what they answer.
+//! Mappers, with their results and errors.
 pub use x86_64_mappers::mapped_page_table::{MappedPageTable, MappedPageTable57};
 pub use x86_64_mappers::mapper::{
     CleanUp, CleanUp57, Mapper, Mapper57, MapperAllSizes, MapperAllSizes57, TableAccess, Translate,

@@ -1,4 +1,4 @@
-//! Page tables, their entries, and the indices and levels of these.
+//! Page tables, their entries, indices and levels.
 pub use x86_64_addr::index::{PageOffset, PageTableIndex, PageTableLevel};
 pub use x86_64_tables::page_table::{
     Entries, EntriesMut, FrameError, PageTable, PageTableEntry, PageTableFlags,

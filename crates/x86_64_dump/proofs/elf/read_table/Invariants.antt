@@ -2,7 +2,7 @@ use Rattle.std.proofs.Common.{◌≡◌, ◌+◌, ◌-◌, ◌*◌, ◌≤◌, l
 use Rattle.x86_64_dump.specs.Dump.{segments_at}
 use Rattle.x86_64_dump.proofs.elf.read_table.Given as goal
 
--- the segments so far are the first ones
+-- the segments so far are those of the first program headers
 abbrev pub invariant-loop-done : goal.invariant-loop-done
 invariant-loop-done g l = record {
   within : l.done ≤ l.count;

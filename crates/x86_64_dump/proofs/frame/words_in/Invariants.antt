@@ -3,7 +3,7 @@ use Rattle.std.specs.List.{range_with_len}
 use Rattle.x86_64_dump.specs.Numbers.{u64_at}
 use Rattle.x86_64_dump.proofs.frame.words_in.Given as goal
 
--- the words so far are the first ones
+-- the words so far are the frame's first words
 abbrev pub invariant-loop-i : goal.invariant-loop-i
 invariant-loop-i l = record {
   size : length l.words ≡ 512;

@@ -2,7 +2,7 @@ use Rattle.std.proofs.Common.{◌≡◌, ◌+◌, ◌-◌, ◌/◌, ◌++◌}
 use Rattle.x86_64_dump.specs.private.NotesLeft.{qemu_notes}
 use Rattle.x86_64_dump.proofs.notes.add_from.Given as goal
 
--- the notes so far, and those in what is left, are all
+-- the notes so far, followed by those in the remaining bytes, are all the notes
 abbrev pub invariant-loop : goal.invariant-loop
 invariant-loop g l =
     let file = g.S.ByteSource.bytes l.source in

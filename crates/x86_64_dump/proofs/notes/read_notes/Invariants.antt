@@ -2,7 +2,7 @@ use Rattle.std.proofs.Common.{◌≡◌, ◌++◌, drop, length}
 use Rattle.x86_64_dump.specs.private.NotesLeft.{notes_within}
 use Rattle.x86_64_dump.proofs.notes.read_notes.Given as goal
 
--- the notes so far, and those of the segments that are left, are all
+-- the notes so far, followed by those of the remaining segments, are all the notes
 abbrev pub invariant-loop-segment : goal.invariant-loop-segment
 invariant-loop-segment g l =
     let file = g.S.ByteSource.bytes l.source in

@@ -5,7 +5,7 @@ use Rattle.x86_64_dump.specs.Opened.{opened}
 use Rattle.x86_64_dump_tables.specs.Tables.{table_named, met}
 use Rattle.x86_64_dump_tables.proofs.levels.add_named.Given as goal
 
--- the tables that the words so far name are added
+-- the tables that the words so far name have been added
 abbrev pub invariant-loop-word : goal.invariant-loop-word
 invariant-loop-word g l = g.S.ByteSource.IsKnown →
     l.below ≡ fold met l.fn.below (filter_map (table_named (words_of_dump (opened g.S.ByteSource.bytes l.dump))) (take l.word-index l.words))

@@ -4,7 +4,7 @@ use Rattle.x86_64_dump_tables.specs.Tables.{is_among}
 use Rattle.x86_64_dump_tables.specs.private.Numbers.{has_number, AreNumbers}
 use Rattle.x86_64_dump_tables.proofs.loading.add_numbers.Given as goal
 
--- the numbers of the frames so far are added
+-- the numbers of the frames so far have been added
 abbrev pub invariant-loop-frame : goal.invariant-loop-frame
 invariant-loop-frame l = record {
   numbers : (f : ℕ) → is_frame f ≡ true → has_number l.numbers.items f ≡ (has_number l.fn.numbers.items f || is_among (take l.frame-index l.frames) f);

@@ -5,7 +5,7 @@ use Rattle.x86_64_dump_tables.specs.Tables.{is_among}
 use Rattle.x86_64_dump_tables.specs.private.Numbers.{has_number, AreNumbers}
 use Rattle.x86_64_dump_tables.proofs.loading.numbers_of.Given as goal
 
--- there are the numbers of the frames of the levels so far
+-- the numbers are those of the frames of the levels so far
 abbrev pub invariant-loop-level : goal.invariant-loop-level
 invariant-loop-level l = record {
   numbers : (f : ℕ) → is_frame f ≡ true → has_number l.numbers.items f ≡ list_any (λ level. is_among level.items f) (take l.level-index l.frames);

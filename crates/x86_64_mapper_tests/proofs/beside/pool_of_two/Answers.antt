@@ -14,7 +14,7 @@ use Rattle.x86_64.specs.SecondHierarchies.{EmptyRootsAreSecond, Share}
 use Rattle.x86_64.proofs.EmptyRoots.{only_root}
 use Rattle.x86_64_mapper_tests.proofs.beside.pool_of_two.Goals as goal
 
--- all places below n have words 0 alone
+-- all places below n have zero words only
 abbrev AllZero : Memory → ℕ → Type 0
 AllZero m n = (place : ℕ) → get m place ≡ (if nat_lt place n then Some zero_words else None)
 

@@ -9,7 +9,7 @@ use Rattle.x86_64_mapper_tests.proofs.beside.run_in_turn.Goals as goal
 
 module _ (first second : Layout) (serves now : ℕ → Bool) (m n : Memory) (pool rest : List ℕ) (still : now ≡ serves) (share : Share first second serves m pool)
     (fits : FitsPool first n serves rest) (stays : Stays first second serves m pool n rest) where
-  -- after calls of the first one, both share the pool, and the other way round
+  -- after calls on the first one, both share the pool, and the other way round
   again : Share first second now n rest
   again = subst (λ s. Share first second s n rest) (sym still) (record { first_fits = fits; second_fits = stays.fits share.second_fits; is_second = stays.is_second })
 

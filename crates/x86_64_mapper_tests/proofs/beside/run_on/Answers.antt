@@ -8,7 +8,7 @@ use Rattle.x86_64_model.proofs.Lemmas.Hierarchies.Memories.{identity_is_mapping}
 use Rattle.x86_64.specs.Runs.{KeepsPool, Kept}
 use Rattle.x86_64_mapper_tests.proofs.beside.run_on.Goals as goal
 
--- what calls keep of a hierarchy they keep of the memory that was lent
+-- what calls keep of a hierarchy, they keep of the memory that was lent
 owner_keeps : {Lent : Type 0} (h after : Hierarchy Lent) (serves : ℕ → Bool) (pool rest : List ℕ) → Kept h serves pool after rest
     → (layout : Layout) (memory last : Memory) → h.layout ≡ layout → h.memory ≡ memory → after.memory ≡ last → KeepsPool layout serves memory pool last rest
 owner_keeps h after serves pool rest kept layout memory last layout_is memory_is last_is =

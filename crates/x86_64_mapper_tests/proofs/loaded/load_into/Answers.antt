@@ -10,7 +10,7 @@ use Rattle.x86_64_mapper_tests.proofs.loaded.load_into.Goals as goal
 abbrev over : Layout → Memory → Hierarchy (Unit {0})
 over layout memory = record { layout = layout; memory = memory; lent = tt }
 
--- what is loaded in a hierarchy is in the memory that was lent
+-- what is loaded in a hierarchy is loaded in the memory that was lent
 owner_loaded : {Lent : Type 0} (h : Hierarchy Lent) (segments : List Segment) → All (IsLoaded small_pages h) segments
     → (layout : Layout) (memory : Memory) → h.layout ≡ layout → h.memory ≡ memory → All (IsLoaded small_pages (over layout memory)) segments
 owner_loaded h segments loaded layout memory layout_is memory_is =
@@ -18,7 +18,7 @@ owner_loaded h segments loaded layout memory layout_is memory_is =
     (subst (λ m. All (IsLoaded small_pages (over h.layout m)) segments) memory_is
     (λ k d within. let s = loaded k d within in record { aligned = s.aligned; there = s.there; stand = s.stand; arrives = s.arrives }))
 
--- what the owner knows of segments, the mapper's hierarchy has
+-- what the owner knows about segments holds for the mapper's hierarchy
 module _ {Lent : Type 0} (h : Hierarchy Lent) (segments : List Segment) (layout : Layout) (memory : Memory) (layout_is : h.layout ≡ layout) (memory_is : h.memory ≡ memory) where
   mapper_allowed : All (IsAllowed (over layout memory)) segments → All (IsAllowed h) segments
   mapper_allowed allowed =

@@ -1,4 +1,4 @@
--- A clean up keeps what each walk answers.
+-- A clean up keeps the result of each walk.
 use Rattle.std.proofs.Common.{zero, suc, ◌≡◌, ◌+◌, ◌%◌, ℕ, ◌&&◌, Bool, true, false, cond, List, [], ◌∷◌, ◌++◌, length, nat_le, None, Option, refl, sym, ap, ap₂, ◌∙◌, arith}
 use Rattle.std.proofs.lemmas.Bool.{cond-false}
 use Rattle.x86_64_model.specs.Position.{index, span}

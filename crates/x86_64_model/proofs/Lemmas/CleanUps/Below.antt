@@ -1,4 +1,4 @@
--- Parts of a clean up: what it leaves and gives back of the paths below one, and of those at the first indices of its table.
+-- Parts of a clean up: what it leaves and frees of the paths below one, and of those at the first indices of its table.
 use Rattle.std.proofs.Common.{◌≡◌, ℕ, ◌+◌, ◌-◌, ◌==◌, ◌&&◌, Bool, true, false, not, List, [], ◌∷◌, ◌++◌, length, filter, map, nat_lt}
 use Rattle.std.specs.List.{flat_map, list_all, range_with_len}
 use Rattle.std.specs.FinMap.{retain_keys}

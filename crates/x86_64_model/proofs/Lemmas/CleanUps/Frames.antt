@@ -1,4 +1,4 @@
--- A clean up only moves frames: free and table frames are one set before and after.
+-- A clean up only moves frames: the set of free and table frames stays the same.
 use Rattle.std.proofs.Common.{◌-◌, ◌≡◌, ◌↔◌, inl, inr, ⊎_elim, ◌≤◌, ℕ, true, false, List, [], ◌∷◌, ◌++◌, length, map, filter, Some, refl, sym, ap, ◌∙◌, subst, arith}
 use Rattle.std.proofs.lemmas.Option.{same_Some}
 use Rattle.x86_64_model.specs.Entry.{address}

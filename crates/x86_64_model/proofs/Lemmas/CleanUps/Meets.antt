@@ -73,7 +73,7 @@ module _ (L p : ℕ) (inside : p < position_count L) where
       (cases_lt p (span_start L (i ∷ q)))
 
   module _ (q : List ℕ) (i : ℕ) (shorter : length q < L) (below : AllBelow q) where
-    -- its own index, and how many positions each index spans
+    -- its own index, and the number of positions that each index spans
     abbrev k : ℕ
     k = get_or (page_path L p) (length q) 0
 
@@ -152,7 +152,7 @@ meets_at L low high low_inside high_inside some q i shorter below met small =
     (ends_at L low low_inside q i shorter below (λ n. ltb-true low (span_start L q + span_size L q) (and_parts _ _ (met n)).1))
     ∙ and_comm (nat_le i (last_index q (page_path L high))) (nat_le (first_index q (page_path L low)) i)
 
--- the same of a range that is given by the paths of its first and last pages
+-- a range that is given by the paths of its first and last pages
 pub meets_at_pages : (L : ℕ) (first last : List ℕ) → length first ≡ L → AllBelow first → length last ≡ L → AllBelow last → span_start L first ≤ span_start L last + 0xfff
     → (q : List ℕ) (i : ℕ) → length q < L → AllBelow q → (q ≢ [] → meets L (span_start L first) (span_start L last + 0xfff) q ≡ true) → i < 512
     → meets L (span_start L first) (span_start L last + 0xfff) (q ++ i ∷ []) ≡ (nat_le (first_index q first) i && nat_le i (last_index q last))

@@ -36,7 +36,7 @@ module _ (L : ℕ) (M : PathMap) (low high : ℕ) (part : List ℕ → Bool) whe
   unfolding cleaned
   used_alone-part alone = used_alone-retained M (λ p. part p && is_removed L M low high p) alone
 
-  -- parts with the same removed paths leave the same
+  -- parts with equal removed paths leave equal path maps
   pub same_part : (other : List ℕ → Bool) → ((p : List ℕ) → (part p && is_removed L M low high p) ≡ (other p && is_removed L M low high p))
       → cleaned L M low high part ≡ cleaned L M low high other
   unfolding cleaned

@@ -1,4 +1,4 @@
--- A clean up leaves a hierarchy, and gives each frame back once.
+-- A clean up leaves a hierarchy, and frees each frame once.
 use Rattle.std.proofs.Common.{◌-◌, ◌≡◌, ◌↔◌, inl, inr, ⊎_elim, ℕ, zero, suc, true, false, cond, List, [], ◌∷◌, ◌++◌, filter, map, Some, None, refl, sym, ap, ◌∙◌, subst, append_assoc}
 use Rattle.std.proofs.lemmas.List.{append_cancel_left}
 use Rattle.x86_64_model.specs.Entry.{huge, address}
@@ -96,7 +96,7 @@ clean_hierarchy L root M h low high = record {
   none_huge = λ q up. ap huge (entry-cleaned L M low high q) ∙ elim (is_removed L M low high q) as (λ b. huge (cond b 0 (entry M q)) ≡ false) [ true ↦ zero_not_huge | false ↦ h.none_huge q up ];
 }
 
--- free and table frames are one set, each once, whatever the order in which a pool takes frames back
+-- the set of free and table frames stays the same and each has one use, in whatever order a pool takes frames back
 module _ (take_back : List ℕ → ℕ → List ℕ) (gives : TakesBack take_back) (L root : ℕ) (M : PathMap) (h : IsTree L root M) (low high : ℕ) (pool : List ℕ) where
   still_no_table : (q : List ℕ) (f : ℕ) → table_at L root (clean_up L M low high).paths q ≡ Some f → (p : List ℕ) → q ≡ p → is_removed L M low high p ≡ true → ⊥
   still_no_table [] f t p e r = root_stays L root M h low high (ap (is_removed L M low high) e ∙ r)

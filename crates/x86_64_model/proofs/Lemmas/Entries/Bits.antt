@@ -84,7 +84,7 @@ pub address_is : (e : ℕ) → address e ≡ (e / 2 ^ 12 % 2 ^ 40) * 2 ^ 12
 unfolding address
 address_is e = and_high e 40 12
 
--- frames with one number are one
+-- frames with the same number are equal
 pub same_frame : (f g : ℕ) → is_frame f ≡ true → is_frame g ≡ true → f / 4096 ≡ g / 4096 → f ≡ g
 same_frame f g a b e = sym (eqb-true _ f a) ∙ address_is f ∙ ap (λ n. n % 2 ^ 40 * 2 ^ 12) e ∙ sym (address_is g) ∙ eqb-true _ g b
 

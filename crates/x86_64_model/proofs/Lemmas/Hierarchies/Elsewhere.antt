@@ -31,7 +31,7 @@ pub same_word : (T U : Words) (f i : ℕ) → U f ≡ T f → word U f i ≡ wor
 unfolding word
 same_word T U f i same = ap (λ o. cond (nat_lt i 512) (word_in o i) 0) same
 
--- the same with a recursive index, where there is one
+-- the same with a recursive index, if there is one
 pub valid_for_elsewhere : (L : ℕ) (window : Option Window) (T U : Words) (root : ℕ) (M : PathMap) → ((q : List ℕ) (f : ℕ) → table_at L root M q ≡ Some f → U f ≡ T f)
     → IsValidFor L window T root M → IsValidFor L window U root M
 valid_for_elsewhere L None T U root M same valid = record { valid = valid_elsewhere L T U root M same valid.valid; self = tt }

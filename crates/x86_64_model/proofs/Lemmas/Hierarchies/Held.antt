@@ -29,7 +29,7 @@ table_at-put_other L root M p e q apart = table_at_same L root _ M q (entry-put_
 abbrev pub Law : ℕ → Words → ℕ → PathMap → Type 0
 Law L tables root M = (q : List ℕ) (i : ℕ) → entry M (q ++ i ∷ []) ≡ entry_in tables (table_at L root M q) i
 
--- at most one path map has the entries that the words say
+-- at most one path map has the entries that the words have
 pub one_by_law : (L : ℕ) (tables : Words) (root : ℕ) (M N : PathMap) → Law L tables root M → entry M [] ≡ 0 → HasUsedAlone M → Law L tables root N → entry N [] ≡ 0 → HasUsedAlone N → M ≡ N
 one_by_law L tables root M N m m0 ma n n0 na =
     same_paths M N ma na (by_last (λ p. entry M p ≡ entry N p) (m0 ∙ sym n0)
@@ -86,7 +86,7 @@ module _ (L : ℕ) (T : Words) (root : ℕ) (M : PathMap) (p : List ℕ) (i w f 
   there : (q : List ℕ) → q ≢ p ++ i ∷ [] → table_at L root (put M (p ++ i ∷ []) w) q ≡ table_at L root M q
   there = table_at-put_other L root M (p ++ i ∷ []) w
 
-  -- the frame that the new word names is not the one that it stands in
+  -- the new word names a frame other than its own
   not_own : (g : ℕ) → table_of L (p ++ i ∷ []) w ≡ Some g → g ≢ f
   not_own g n e = append_longer p i [] (sym (may.fresh g p n (leads ∙ ap Some (sym e))))
 

@@ -40,7 +40,7 @@ words_of-insert memory places f i w words apart covered is = λ n g. at g n
         (λ n. elsewhere g n ∙ sym (ap (λ b. cond b (option_map (λ words. set words i w) (words_of memory places g)) (words_of memory places g)) (ne_eqb g f n)))
         (cases_eq g f)
 
--- two words that are not the same one
+-- two different words
 pub set_word_comm : (T : Words) (f i v g j w : ℕ) → ((f ≡ g) → i ≢ j) → set_word (set_word T f i v) g j w ≡ set_word (set_word T g j w) f i v
 unfolding set_word
 set_word_comm T f i v g j w apart = λ n h. by (h == f) (h == g) (T h) (λ a b. apart (sym (eqb-true h f a) ∙ eqb-true h g b)) n

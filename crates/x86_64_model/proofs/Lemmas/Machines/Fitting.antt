@@ -43,7 +43,7 @@ may_clean_up h serves pool fits = record {
   none_held = λ i q f table held. fits.no_table f held (i ∷ q, table);
 }
 
--- what valid words and a pool that fits say of the state
+-- what follows for the state from valid words and a pool that fits
 pub sound_of_fits : (L : ℕ) (window : Option Window) (T : Words) (root : ℕ) (serves : ℕ → Bool) (s : State) → Fits L window T root s.paths serves s.pool → IsSound L window root serves s
 sound_of_fits L window T root serves s fits = record {
   hierarchy = hierarchy_of_valid L (outside_window window root T) root s.paths fits.valid.valid;
@@ -105,7 +105,8 @@ run_conserves L window root serves added adds take_back gives (call ∷ calls) i
     (step_conserves L window root serves s sound added adds take_back gives call is.0)
     (run_conserves L window root serves added adds take_back gives calls is.1 _ (step_sound L window root serves s sound added adds take_back gives call is.0))
 
--- the headline's set: the frames of the pool and of the tables are one set before and after any list of calls, each once, and the pool fits again
+-- after any list of calls the set of the frames of the pool and of the tables is unchanged, each has one use, and the pool fits
+-- again
 pub run_fits : (L : ℕ) (window : Option Window) (T U : Words) (root : ℕ) (serves : ℕ → Bool) (added : ℕ) → IsParentFlags added → (take_back : List ℕ → ℕ → List ℕ) → TakesBack take_back
     → (s : State) (calls : List Call) → AllCalls L calls → Fits L window T root s.paths serves s.pool
     → IsValidFor L window U root (state_after (machine L window added take_back) s calls).paths → ((f : ℕ) → IsSome (T f) → IsSome (U f))

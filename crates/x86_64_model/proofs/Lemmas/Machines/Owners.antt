@@ -1,4 +1,4 @@
--- What the calls of a mapper ask for and leave, from what the rules say, and of one call from another.
+-- The conditions and effects of a mapper's calls, from those of the rules, and of one call from another.
 use Rattle.std.proofs.Common.{◌≡◌, ◌+◌, not, bit_or, ◌≤◌, ◌%◌, ℕ, Bool, true, false, cond, List, Option, Some, None, nat_le, refl, sym, ap, ap₂, ◌∙◌, subst}
 use Rattle.std.proofs.lemmas.Option.{same_Some}
 use Rattle.x86_64_model.specs.Allowed.{refuses}
@@ -22,7 +22,7 @@ use Rattle.x86_64_model.specs.Refusal.{Refusal, PageNotMapped, ParentEntryHugePa
 -- ---- maps
 
 module _ {Lent : Type 0} (h : Hierarchy Lent) (supply : List ℕ) where
-  -- a `map_to` is a map with the parent flags that it gives
+  -- a `map_to` is a map with the parent flags from its own flags
   pub may_map_to : (q : List ℕ) (frame given : ℕ) → MayMap h supply (MapTo q frame given) → MayMap h supply (MapToWithTableFlags q frame given (parent_part given))
   may_map_to q frame given may = record { fits = may.fits; allowed = may.allowed }
 

@@ -18,7 +18,7 @@ huge_page (suc (suc n)) e =
     (λ i. ne_eqb level 1 (λ e. omega (arith, e)) i || (huge e && (ne_eqb level 2 (λ e. omega (arith, e)) i || ne_eqb level 3 (λ e. omega (arith, e)) i)))
     ∙ ap (λ b. huge e && b) (sym (lt-leb level 3 (omega arith)))
 
--- what a word that is read says of a position, where below is what is found from the table that it names
+-- the mapping of a position by a word, if below is the mapping found from the table that it names
 abbrev pub found_by : (p level : ℕ) → Rights → (e : ℕ) → (below : Option Mapping) → Option Mapping
 found_by p level r e below = cond (present e) (cond (maps_page level e) (Some (page_at p level r e)) (cond (huge e) None below)) None
 

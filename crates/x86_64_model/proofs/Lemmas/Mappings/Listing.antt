@@ -1,5 +1,5 @@
--- The mappings from a position on, as an iterator takes them: the one that is found there is the next, and where none is found they are those
--- from a later position on.
+-- The mappings from a position on, as an iterator takes them: the one found there is the next, and if none is found they are
+-- those from a later position on.
 use Rattle.std.proofs.Common.{◌≡◌, ◌<◌, ◌≤◌, ◌+◌, ◌*◌, ◌/◌, ◌%◌, ◌^◌, ℕ, true, [], ◌∷◌, Some, None, refl, sym, ◌∙◌, subst, arith}
 use Rattle.std.proofs.Math.Nat.{div-mul-le_self, mul-mod_left}
 use Rattle.x86_64_model.specs.Entry.{address}

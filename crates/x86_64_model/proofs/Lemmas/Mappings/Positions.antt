@@ -1,4 +1,4 @@
--- The mapping of the list that has a position is the one that is found, and all mappings are one behind the other.
+-- The mapping of the list that has a position is the one that is found, and all mappings follow one another.
 use Rattle.std.proofs.Common.{zero, suc, ◌≡◌, ◌<◌, ◌+◌, ◌*◌, ◌/◌, ℕ, Bool, true, false, cond, List, [], ◌∷◌, find, Option, Some, None, option_and_then, option_map, refl, sym, ap, ◌∙◌, subst, arith}
 use Rattle.std.proofs.Math.Nat.{add-mul, div-eq_of_lt}
 use Rattle.x86_64_model.specs.Entry.{present, huge, address}
@@ -17,7 +17,7 @@ use Rattle.x86_64_model.proofs.Lemmas.Mappings.Listed.{listed_by, list_and_then,
 use Rattle.x86_64_model.proofs.Lemmas.Mappings.SpanEnds.{span-next, count-next, next_span, span_from, span_end_after}
 use Rattle.x86_64_model.proofs.Lemmas.Mappings.Walked.{walk_finds}
 
--- ---- one behind the other
+-- ---- one after another
 
 next_end : (s k w : ℕ) → s + (k + 1) * w ≡ s + k * w + w
 next_end s k w = let sum = add-mul k 1 w in omega (arith, sum)

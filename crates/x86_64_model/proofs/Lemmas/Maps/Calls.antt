@@ -10,13 +10,13 @@ use Rattle.x86_64_model.proofs.Lemmas.Maps.Trees.{page_descends, parents_are}
 use Rattle.x86_64_model.proofs.Lemmas.Maps.Leaves.{none_at_leaf}
 use Rattle.x86_64_model.proofs.Lemmas.Hierarchies.Trees.{tree_of_holds}
 
--- free and table frames stay one set, and each once
+-- the set of free and table frames stays the same, and each frame has one use
 pub map_call_conserves : MapConserves
 map_call_conserves L T root M supply more added i q frame given marks adds frames l holds =
     map_conserves L root more added marks adds i q (leaf_entry L (i ∷ q) frame given) frame (none_at_leaf L (i ∷ q) frame given) M supply (parents (i ∷ q))
     (page_descends L root M (tree_of_holds L T root M holds) (i ∷ q)) (parents_are L (i ∷ q) (omega (arith, l))) frames
 
--- a map call leaves walks
+-- a map call keeps walks
 pub map_call_keeps_walks : MapKeepsWalks
 map_call_keeps_walks L window T U root M supply more added q frame given marks words =
     map_keeps_walks L window T U root M supply more added (parents q) q (leaf_entry L q frame given) frame marks

@@ -1,4 +1,4 @@
--- Frames are conserved by a map: free and table frames stay one set, each once.
+-- Maps conserve frames: the set of free and table frames stays the same, and each frame has one use.
 use Rattle.std.proofs.Common.{◌≡◌, ◌≢◌, ◌⊎◌, inl, inr, ⊎_elim, ◌<◌, ℕ, ◌==◌, ◌&&◌, true, false, not, cond, List, [], ◌∷◌, length, Some, None, nat_lt, bit_or, refl, sym, ap, ◌∙◌, subst, arith, lt-ltb}
 use Rattle.std.proofs.lemmas.Nat.{and_or_apart, le_or_l}
 use Rattle.std.specs.List.{AllByRecursion}
@@ -45,7 +45,7 @@ conserves_nothing L root M pool = record { same_set = λ f. (λ x. x, λ x. x); 
 pub conserves_then : (L root : ℕ) (A : PathMap) (a : List ℕ) (B : PathMap) (b : List ℕ) (C : PathMap) (c : List ℕ) → Conserves L root A a B b → Conserves L root B b C c → Conserves L root A a C c
 conserves_then L root A a B b C c x y = record { same_set = λ f. (λ h. (y.same_set f).0 ((x.same_set f).0 h), λ h. (x.same_set f).1 ((y.same_set f).1 h)); one_each = λ o. y.one_each (x.one_each o) }
 
--- where each path leads as before
+-- if each path leads to the same table as before, frames are conserved
 pub conserves_marked : (L root : ℕ) (M N : PathMap) (pool : List ℕ) → ((q : List ℕ) → table_at L root N q ≡ table_at L root M q) → Conserves L root M pool N pool
 conserves_marked L root M N pool same = record {
   same_set = λ f. (
@@ -95,7 +95,7 @@ module _ (L root : ℕ) (M : PathMap) (f : ℕ) (fs : List ℕ) (i : ℕ) (p : L
     };
   }
 
--- parents as `parents` gives them: nonempty, and of fewer indices than levels
+-- parents from `parents`: nonempty, and of fewer indices than levels
 abbrev pub AreParents : ℕ → List (List ℕ) → Type 0
 AreParents L ps = AllByRecursion (λ p. (0 < length p) × (length p < L)) ps
 

@@ -1,4 +1,4 @@
--- Where the processor arrives in a memory after a call that maps a page.
+-- The processor's page walks in a memory after a call that maps a page.
 use Rattle.std.proofs.Common.{◌≡◌, ◌≤◌, ◌+◌, ◌-◌, ◌*◌, ◌/◌, ◌%◌, ℕ, true, false, List, length, sym, ap, ◌∙◌, subst, arith, eqb-true}
 use Rattle.std.specs.List.{AllByRecursion}
 use Rattle.std.proofs.Math.Nat.{div-add-mod, mul_comm}
@@ -23,7 +23,7 @@ use Rattle.x86_64_model.proofs.Lemmas.Machines.States.{all_in}
 use Rattle.x86_64_model.proofs.Lemmas.Maps.Calls.{map_call_keeps_walks}
 use Rattle.x86_64_model.proofs.Lemmas.Paths.Pages.{length_taken, map_to_arrives_in_page}
 
--- what the rule makes of the hierarchy is what the words mean
+-- the hierarchy that the rule leaves is the meaning of the words
 abbrev pub IsOutcome : (l : Layout) (m : Memory) (supply : List ℕ) (page : List ℕ) (frame given more : ℕ) (answer : Answer) (n : Memory) (rest : List ℕ) → Type 0
 IsOutcome l m supply page frame given more answer n rest = map_call l.levels (paths l m) supply more l.added_flags page frame given ≡ record { paths = paths l n; supply = rest; answer = answer }
 
@@ -36,7 +36,7 @@ map_of l m supply page frame given more answer n rest before outcome after = rec
   after = subst (λ (M : PathMap). IsValidFor l.levels l.window (words l n) l.root M) (sym (ap (λ (a : AfterMap). a.paths) outcome)) after.valid;
 }
 
--- where it arrived, it still does
+-- each walk that arrived still arrives
 pub walks_after : (l : Layout) (m : Memory) (supply : List ℕ) (page : List ℕ) (frame given more : ℕ) (answer : Answer) (n : Memory) (rest : List ℕ) → IsParentFlags more
     → IsReady l m supply → IsOutcome l m supply page frame given more answer n rest → IsReady l n rest → (p : ℕ) → Arrives more (walk l m p) (walk l n p)
 walks_after l m supply page frame given more answer n rest marks before outcome after =
@@ -45,7 +45,8 @@ walks_after l m supply page frame given more answer n rest marks before outcome 
 pub supply_frames : (l : Layout) (m : Memory) (supply : List ℕ) → IsReady l m supply → AllByRecursion IsFrame supply
 supply_frames l m supply ready = all_in supply (λ f i. record { aligned = eqb-true (address f) f (ready.are_frames f i); not_zero = λ z. ready.not_zero (subst (In supply) z i) })
 
--- where a page at a multiple of its size was mapped with PRESENT, the processor arrives in all of it, with just the rights that were asked for
+-- after a page at a multiple of its size is mapped with PRESENT, the processor arrives everywhere in it, with exactly the
+-- requested rights
 at_multiple : (l : Layout) (level k frame given : ℕ) (m : Memory) (supply : List ℕ) (n : Memory) (rest : List ℕ) → IsParentFlags l.added_flags
     → IsReady l m supply → Asks l.levels level (path_at l.levels level (k * span level)) frame given → begins_with l.window (path_at l.levels level (k * span level)) ≡ false
     → IsMapped l m supply (path_at l.levels level (k * span level)) frame given (parent_part given) (Done frame) n rest

@@ -1,4 +1,4 @@
--- A map is accepted where the supply has a frame for each table that is missing on the page's way.
+-- A map is accepted if the supply has a frame for each table that is missing on the page's path.
 use Rattle.std.proofs.Common.{suc, ◌≡◌, ◌≢◌, inl, inr, ⊎_elim, ◌<◌, ◌≤◌, ℕ, Bool, true, false, cond, List, [], ◌∷◌, length, bit_or, refl, sym, ap, ◌∙◌, arith}
 use Rattle.std.specs.List.{AllByRecursion}
 use Rattle.x86_64_model.specs.Conserved.{IsFrame}
@@ -14,7 +14,7 @@ use Rattle.x86_64_model.proofs.Lemmas.Maps.Down.{Descends, others}
 use Rattle.x86_64_model.proofs.Lemmas.Maps.Frames.{flags_or, used_or, used_not_zero, frame_not_huge}
 use Rattle.x86_64_model.proofs.Lemmas.Paths.Puts.{cases_path, entry-put_same, entry-put_other}
 
--- how many of these paths have no entry
+-- the number of these paths without an entry
 abbrev pub missing : PathMap → List (List ℕ) → ℕ
 missing M [] = 0
 missing M (t ∷ ts) = cond (used (entry M t)) (missing M ts) (suc (missing M ts))

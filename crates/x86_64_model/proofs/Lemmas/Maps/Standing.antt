@@ -1,4 +1,5 @@
--- Pages that stand: an accepted map makes one, later maps leave it, the walk arrives in it, and no map of its addresses is accepted.
+-- Pages that stand: an accepted map creates one, later maps keep it, the walk arrives in it, and no map of its addresses is
+-- accepted.
 use Rattle.std.proofs.Common.{zero, suc, ◌≡◌, ◌≢◌, ◌⊎◌, inl, inr, ⊎_elim, ◌<◌, ◌≤◌, ℕ, ◌&&◌, true, false, not, List, [], ◌∷◌, length, take, bit_or, refl, sym, ap, ap₂, ◌∙◌, subst, subst₂, arith, ne_eqb, cond}
 use Rattle.std.proofs.lemmas.Bool.{and_parts, cases_lt}
 use Rattle.std.specs.List.{AllByRecursion}

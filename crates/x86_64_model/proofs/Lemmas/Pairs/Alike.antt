@@ -1,4 +1,4 @@
--- Two machines whose path maps are alike give one list of replies, and stay alike.
+-- Two machines with path maps that are alike give the same replies, and stay alike.
 use Rattle.std.proofs.Common.{◌≡◌, ◌≤◌, ◌+◌, ◌-◌, ℕ, suc, zero, ◌==◌, ◌&&◌, ◌||◌, Bool, true, false, not, cond, List, [], ◌∷◌, length, take, find, Some, Option, nat_lt, refl, sym, ap, ap₂, ◌∙◌, subst, subst₂, arith}
 use Rattle.std.specs.List.{AllByRecursion}
 use Rattle.std.proofs.lemmas.Bool.{and_parts}
@@ -125,7 +125,8 @@ module _ (L : ℕ) (v w : Option Window) (M N : PathMap) (alike : Alike L M N) w
 
 -- ---- lists of calls
 
--- two machines whose path maps are alike and whose pools are equal answer one list of replies, and end alike with equal pools, where no call names a recursive index of either
+-- two machines with path maps that are alike and with equal pools give the same replies, and end alike with equal pools, if no
+-- call names a recursive index of either
 pub run_pair : (L : ℕ) (v w : Option Window) (added added' : ℕ) → IsAdded added → IsAdded added' → (take_back : List ℕ → ℕ → List ℕ) → TakesBack take_back → (root root' : ℕ) (serves serves' : ℕ → Bool)
     → (calls : List Call) → AllCalls L calls → NoneNames L v calls → NoneNames L w calls → (s t : State) → IsSound L v root serves s → IsSound L w root' serves' t → Alike L s.paths t.paths → s.pool ≡ t.pool
     → AlikeRuns L (state_after (machine L v added take_back) s calls) (state_after (machine L w added' take_back) t calls) (replies_of (machine L v added take_back) s calls) (replies_of (machine L w added' take_back) t calls)

@@ -47,7 +47,7 @@ map_to_arrives_in_page L level window T U root M supply added n frame given is o
     (front_in_page L level n offset is.asks.low (let long = is.asks.at_level in let some = is.asks.nonempty in omega (arith, long, some)) within)
     ∙ ap (λ o. Some (record { address = frame + o; write = writable given; user = user given })) (mul-add-mod_self_right n (span level) offset ∙ mod-eq_of_lt within)
 
--- the same of a page that starts at a multiple of its size
+-- the same for a page that starts at a multiple of its size
 pub front_of_page : (L level page o : ℕ) → 1 ≤ level → level ≤ L → page % span level ≡ 0 → o < span level
     → (take (length (path_at L level page)) (page_path L (page + o)) ≡ path_at L level page) × ((page + o) % span level ≡ o)
 front_of_page L level page o low levels multiple within =

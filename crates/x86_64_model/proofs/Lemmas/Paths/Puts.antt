@@ -15,7 +15,7 @@ path_cmp = slice_cmp nat_cmp
 pub path_exact : IsAntisymmetric path_cmp
 path_exact = slice_cmp-IsAntisymmetric nat_cmp-IsAntisymmetric
 
--- whether two paths are one
+-- whether two paths are equal
 abbrev pub same_path : List ℕ → List ℕ → Bool
 same_path = eq_by_cmp path_cmp
 
@@ -34,7 +34,7 @@ cases_path q p = elim (same_path q p) as (λ b. same_path q p ≡ b → (q ≡ p
   | false ↦ λ e. inr (λ is. let t : same_path q p ≡ true = ap (same_path q) (sym is) ∙ same_path_itself q in cc)
 ] refl
 
--- where nothing is mapped
+-- if nothing is mapped
 pub entry-empty : (q : List ℕ) → entry empty q ≡ 0
 unfolding entry
 entry-empty q = ap (λ o. unwrap_or o 0) (get-empty path_cmp q)

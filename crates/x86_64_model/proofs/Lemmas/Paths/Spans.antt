@@ -46,7 +46,7 @@ one_more i q m a p small on = (
     high : (x : ℕ) → x ≡ a * 512 + i → x / 512 ≡ a
     high x e = omega arith
 
--- a path's indices are the position's, below a span of number a, exactly where the position lies in the span that they number
+-- a path's indices are the position's, below a span of number a, if and only if the position lies in the span that they number
 numbered : (q : List ℕ) (m a p : ℕ) → length q ≤ m → AllBelow q → Numbered q m a p
 numbered [] m a p l below = let same : number (m - 0) p ≡ number m p = ap (λ n. number n p) (omega arith) in (λ h. same ∙ h.1, λ h. (refl, sym same ∙ h))
 numbered (i ∷ q) zero a p l below = absurd (omega arith)

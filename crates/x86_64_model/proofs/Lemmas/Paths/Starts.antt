@@ -67,7 +67,7 @@ module _ (L : ℕ) (q : List ℕ) (whole : length q ≡ L) (below : AllBelow q) 
   pub end_inside : span_start L q + 0xfff < position_count L
   end_inside = let inside = span_inside L q (omega (arith, whole)) below in let size = page_size L q whole in omega (arith, inside, size)
 
--- a path that begins with one of its length is it
+-- a path that begins with a path of its own length equals it
 begins_whole : (q p : List ℕ) → begins q p ≡ true → length q ≡ length p → p ≡ q
 begins_whole q p h e = let more = from_begins q p h in by more.0 more.1
   where

@@ -1,4 +1,4 @@
--- Where the processor arrives after a call of a list that maps a page.
+-- The processor's page walks after a map call of a list.
 use Rattle.std.proofs.Common.{zero, suc, ◌≡◌, ◌+◌, ◌%◌, ℕ, true, List, [], ◌∷◌, length, take, Option, Some, inl, refl, sym, ap, ◌∙◌, subst, arith, eqb-true}
 use Rattle.std.proofs.lemmas.Bool.{and_parts}
 use Rattle.std.proofs.lemmas.Option.{same_Some}
@@ -96,7 +96,7 @@ module _ (m : Machine) (is : IsMachine m) (s : State) (V U : Words) (root level 
   abbrev Arrived : Type 0
   Arrived = page_walk m.levels U root p ≡ Some (record { address = frame + p % span level; write = writable given; user = user given })
 
-  -- what a map of the page makes
+  -- the effect of a map of the page
   abbrev mapped : AfterMap
   mapped = map_call m.levels s.paths s.pool (parent_part given) m.added_flags q frame given
 

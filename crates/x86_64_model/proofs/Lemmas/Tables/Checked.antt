@@ -1,4 +1,4 @@
--- What the marks say when they succeed: the list of the tables and the pool is sound.
+-- If all marks succeed, the list of the tables and the pool is sound.
 use Rattle.std.proofs.Common.{◌≡◌, ◌⊎◌, ◌↔◌, inl, inr, ⊎_elim, ◌<◌, ℕ, ◌==◌, ◌||◌, Bool, true, false, cond, List, ◌++◌, get_or, replicate, Some, None, Option, IsSome, IsTrue, option_and_then, refl, sym, ap, ◌∙◌, subst, eqb-true, eq-eqb}
 use Rattle.std.proofs.lemmas.List.{get_or-replicate}
 use Rattle.std.proofs.lemmas.Bool.{or_left, or_right}

@@ -1,4 +1,4 @@
--- A hierarchy is valid and a pool fits it exactly where the list of its tables and of the pool is sound.
+-- A hierarchy is valid and a pool fits it if and only if the list of its tables and of the pool is sound.
 use Rattle.std.proofs.Common.{◌≡◌, ◌≢◌, ◌⊎◌, inl, inr, ⊎_elim, ℕ, suc, Bool, true, false, List, [], ◌∷◌, Some, None, Option, IsSome, refl, sym, ap, ◌∙◌, subst, arith}
 use Rattle.x86_64_model.specs.Entry.{huge}
 use Rattle.x86_64_model.specs.Memory.{Words, OnlyFrames}
@@ -83,7 +83,7 @@ module _ (n : ℕ) (T : Words) (root : ℕ) where
         by [] f e = inl (let t : Some root ≡ Some f = e in cc)
         by (i ∷ q) f e = inr (tables i q f e)
 
--- with a window, where there is one
+-- with a window, if there is one
 module _ (n : ℕ) (window : Option Window) (T : Words) (root : ℕ) (serves : ℕ → Bool) (pool : List ℕ) (frames : OnlyFrames T) where
   abbrev U : Words
   U = outside_window window root T

@@ -1,4 +1,4 @@
--- Frames can be marked one after another exactly where each is met once, at a free place.
+-- Frames can be marked one after another if and only if each is visited once and its mark is clear.
 use Rattle.std.proofs.Common.{◌≡◌, ◌≢◌, ◌<◌, ℕ, Bool, true, false, cond, List, [], ◌∷◌, ◌++◌, length, get_or, set, Some, None, Option, IsSome, option_and_then, refl, sym, ap, ◌∙◌, subst, inl, inr, ⊎_elim}
 use Rattle.std.proofs.lemmas.Bool.{cases_lt}
 use Rattle.std.proofs.lemmas.List.{get_or-set_same, get_or-set_other, get_or_past}
@@ -25,7 +25,7 @@ module _ (slot : ℕ → Option ℕ) where
   free_within : (m : List Bool) (k : ℕ) → get_or m k true ≡ false → k < length m
   free_within m k h = ⊎_elim (λ l. l) (λ l. absurd (let t = get_or_past m k true l in cc (t, h))) (cases_lt k (length m))
 
-  -- what it is for a frame to be marked
+  -- marking a frame turns the marks m into n
   record Marks (m : List Bool) (f : ℕ) (n : List Bool) : Type 0 where
     was_free : IsFree slot m f
     after : n ≡ set m was_free.place true
@@ -46,7 +46,7 @@ module _ (slot : ℕ → Option ℕ) where
   unfolding mark_one
   marked m f free = ap (option_and_then (λ k. cond (get_or m k true) None (Some (set m k true)))) free.is ∙ ap (λ b. cond b None (Some (set m free.place true))) free.free
 
-  -- what is free after a mark was free before, and is another frame
+  -- what is free after a mark was free before, and isn't the marked frame
   free_before : (m : List Bool) (k : ℕ) (g : ℕ) → k < length m → (free : IsFree slot (set m k true) g) → (free.place ≢ k) × IsFree slot m g
   free_before m k g l free =
       let other : free.place ≢ k = λ e. (let t : true ≡ false = sym (get_or-set_same m k true true l) ∙ sym (ap (λ j. get_or (set m k true) j true) e) ∙ free.free in cc) in

@@ -33,7 +33,7 @@ module _ (n : ℕ) (T : Words) (root : ℕ) where
         tt (λ f i. absurd i) (λ f i. absurd i) (λ f i. absurd i),
   )
 
-  -- the path map that the words say is the one that is valid, if any is
+  -- the path map of the words is the valid one, if there is one
   pub valid_some : ((M : PathMap) × IsValid (suc n) T root M) ↔ IsValid (suc n) T root (paths_of (suc n) T root)
   valid_some = (
     λ m. subst (IsValid (suc n) T root) (held_is_paths_of (suc n) T root (omega arith) m.0 m.1.holds) m.1,

@@ -46,7 +46,7 @@ named (suc n) T f i (j ∷ p) =
       | false ↦ unused_no_table (suc (suc n)) (i ∷ j ∷ p)
     ]
 
--- where the paths of the path map that words say lead
+-- the tables that the paths of the words' path map lead to
 pub table_at_frame : (n : ℕ) (T : Words) (root : ℕ) (q : List ℕ) → table_at (suc n) root (paths_of (suc n) T root) q ≡ frame_at n T root q
 table_at_frame n T root [] = sym (start n T root)
 table_at_frame n T root (i ∷ q) = ap (table_of (suc n) (i ∷ q)) (entry_paths_of (suc n) T root (i ∷ q)) ∙ named n T root i q
@@ -95,7 +95,7 @@ from_tables (suc n) T f g (inr h) =
 pub from_below : (n : ℕ) (T : Words) (f i g : ℕ) → In (part n T f i) g → (p : List ℕ) × (frame_at (suc n) T f (i ∷ p) ≡ Some g)
 from_below n T f i g = from_part n T f i g (λ a. from_tables n T a g)
 
--- ---- each path leads to a table of its own exactly where the list has each frame once
+-- ---- each path leads to a table of its own if and only if the list has each frame once
 
 abbrev pub Own : ℕ → Words → ℕ → Type 0
 Own n T f = (p q : List ℕ) (g : ℕ) → frame_at n T f p ≡ Some g → frame_at n T f q ≡ Some g → p ≡ q

@@ -14,7 +14,7 @@ use Rattle.x86_64_model.proofs.Lemmas.Paths.Puts.{entry-put_other}
 use Rattle.x86_64_model.proofs.Lemmas.Walks.Walked.{walked, passed, one_more}
 use Rattle.x86_64_model.proofs.Lemmas.Maps.Arrives.{entry_outside, first_alone}
 
--- E and F are the same at the front parts of the path
+-- E and F are equal at the front parts of the path
 abbrev pub SameOnPath : (L p : ℕ) → (E F : List ℕ → ℕ) → Type 0
 SameOnPath L p E F = (c : List ℕ) (j : ℕ) (t : List ℕ) → page_path L p ≡ c ++ j ∷ t → E (c ++ j ∷ []) ≡ F (c ++ j ∷ [])
 

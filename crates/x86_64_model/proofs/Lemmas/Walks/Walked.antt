@@ -7,7 +7,7 @@ use Rattle.x86_64_model.specs.Position.{index, span}
 use Rattle.x86_64_model.specs.PageWalk.{page_start, Walked, arrives, read, walk_on, page_walk}
 use Rattle.x86_64_model.proofs.Lemmas.Entries.Bits.{used_present}
 
--- E gives the words that are read on the way down, as far as tables lead
+-- E has the words that are read on the way down, as far as tables lead
 pub record Reads (L : ℕ) (tables : Words) (root : ℕ) (E : List ℕ → ℕ) : Type 0 where
   pub first : (i : ℕ) → E (i ∷ []) ≡ word tables root i
   pub next : (q : List ℕ) (j : ℕ) → names_table (E q) ≡ true → length q < L → E (q ++ j ∷ []) ≡ word tables (address (E q)) j
@@ -32,7 +32,7 @@ names w h g = ap₂ (λ u h. u && not h) (used_present w h) g
 
 -- ---- the walk, from the entries at the front parts of the path in place of the words
 
--- what a word of level two or more says, where next is the walk on from the table that it names
+-- the result by a word of level two or more, if next is the walk from the table that it names
 abbrev pub passed : (level p : ℕ) → (w u : Bool) → (e : ℕ) → Option Walked → Option Walked
 passed level p w u e next = cond (present e)
     (cond (huge e) (cond (nat_le level 3) (arrives (page_start level e + p % span level) (w && writable e) (u && user e)) None) next) None

@@ -1,4 +1,4 @@
--- The walk and `translate` over levels are, at four levels, those that are written out; and a fifth level is one more above four.
+-- The walk and `translate` with four levels equal those that are written out, and with five they are one level above four.
 use Rattle.std.proofs.Common.{zero, suc, ◌≡◌, ◌+◌, ◌%◌, ◌^◌, ℕ, ◌&&◌, Bool, true, false, not, cond, List, Some, None, Option, option_and_then, refl, ap, ap₂, ◌∙◌, sym}
 use Rattle.std.proofs.Math.Bool.{and_assoc, and-true}
 use Rattle.x86_64_model.specs.Entry.{present, writable, user, huge, address}

@@ -6,7 +6,7 @@ use Rattle.x86_64_summaries.specs.private.Known.{asking}
 use Rattle.x86_64_summaries.specs.private.Targets.{asked_on}
 use Rattle.x86_64_summaries.proofs.summaries.table_summary.Given as goal
 
--- the sum is that of the entries so far
+-- the sum is the summary of the mappings by the entries so far
 abbrev pub invariant-loop-entry : goal.invariant-loop-entry
 invariant-loop-entry g l =
     let asked = asked_of g.T.TableMemory.tables g.P.PageTableFrameMapping.places (asking l.query) in

@@ -1,4 +1,4 @@
-//! Tests of hierarchies that are alike.
+//! Tests of alike hierarchies, whose path maps are equal except for `WRITABLE` of table entries.
 ghost use Rattle.std.specs.Prelude.{◌≡◌, ◌↔◌, IsTrue, Some, None};
 ghost use Rattle.x86_64_model.specs.Alike.{Alike};
 ghost use Rattle.x86_64_model.specs.Hierarchy.{paths_of};
@@ -19,7 +19,7 @@ use x86_64_tables::phys_memory::{
     IdentityMapping, PhysMemory, ShiftMapping, tables_alike, tables_alike_57,
 };
 
-/// The words of a hierarchy with a 4KiB page, of tables that are not writable.
+/// The words of a hierarchy with a 4KiB page, whose table entries are not writable.
 const DIRECT: [Word; 4] = [
     (0x1000, 0, 0x2001),
     (0x2000, 0, 0x3001),
@@ -27,7 +27,7 @@ const DIRECT: [Word; 4] = [
     (0x4000, 1, 0x5001),
 ];
 
-/// The same of five levels.
+/// These with five levels.
 const DIRECT_57: [Word; 5] = [
     (0x1000, 0, 0x2001),
     (0x2000, 0, 0x3001),
@@ -36,7 +36,8 @@ const DIRECT_57: [Word; 5] = [
     (0x5000, 1, 0x6001),
 ];
 
-/// Tells whether a hierarchy and one with a recursive index are alike, whatever mapping stands beside the index.
+/// Returns whether a hierarchy and one with a recursive index are alike, for any frame mapping passed beside the
+/// index.
 fn alike_by_index(
     direct: &PhysMemory,
     recursive: &PhysMemory,
@@ -63,7 +64,8 @@ fn alike_by_index(
     )
 }
 
-/// Tells the same of hierarchies of four levels, or else of five, with the root in frame 0x1000 and the index 510.
+/// Returns this for hierarchies of four levels, or otherwise of five, with the root in frame 0x1000 and the index
+/// 510.
 fn are_alike(levels: u64, direct: &PhysMemory, recursive: &PhysMemory) -> bool {
     let (root, index) = (frame_at(0x1000), PageTableIndex::new(510));
     let mapping = ShiftMapping::new(3);
@@ -82,7 +84,7 @@ fn are_alike(levels: u64, direct: &PhysMemory, recursive: &PhysMemory) -> bool {
     )
 }
 
-/// Words that are set in a hierarchy, and in one with a recursive index, and whether they are alike then.
+/// Words that are set in a hierarchy, and in one with a recursive index, and whether the two are alike then.
 type Difference = (&'static [Word], &'static [Word], bool);
 
 const DIFFERENCES: [Difference; 14] = [
@@ -138,7 +140,7 @@ fn hierarchies_are_alike_but_for_writable_tables(rt: HostRuntime) {
     check_differences(rt, rt.alloc(), 5, bases, &DIFFERENCES_57);
 }
 
-/// The words of the first hierarchy, each table a frame lower.
+/// The words of the first hierarchy, with each table one place lower and writable entries.
 const SHIFTED: [Word; 4] = [
     (0x0, 0, 0x2003),
     (0x1000, 0, 0x3003),
@@ -167,7 +169,7 @@ fn hierarchies_are_alike_by_their_own_mappings(rt: HostRuntime) {
     }
 }
 
-/// Tells whether a hierarchy is alike to itself, with a recursive index or without.
+/// Returns whether a hierarchy is alike to itself, with a recursive index or without.
 fn is_alike_to_itself(memory: &PhysMemory, index: Option<PageTableIndex>) -> bool {
     let root = frame_at(0x1000);
     tables_alike(

@@ -10,7 +10,7 @@ use x86_64_addr::index::PageTableIndex;
 use x86_64_tables::page_table::PageTable;
 use x86_64_tables::phys_memory::{LentMemory, ShiftMapping, page_walk};
 
-/// Makes so many empty tables.
+/// Creates a number of empty tables.
 fn empty_tables(rt: impl Abort + Copy, alloc: Global, count: usize) -> Vec<PageTable> {
     let mut tables = Vec::new(alloc);
     for _ in 0..count {
@@ -19,7 +19,8 @@ fn empty_tables(rt: impl Abort + Copy, alloc: Global, count: usize) -> Vec<PageT
     tables
 }
 
-/// The numbers of the places that slices have, from the first table's on, and others.
+/// The numbers of the places of slices, from the first table on, and other numbers. A place is the index of a table
+/// in memory.
 const PLACES: [(&[u64], &[u64]); 3] = [
     (&[], &[0, 1, u64::MAX]),
     (&[0], &[1, u64::MAX]),
@@ -35,7 +36,8 @@ fn each_table_of_a_slice_has_its_place(rt: HostRuntime) {
     }
 }
 
-/// The words of a guest whose memory begins at frame 0x100: in each, the place of a table, which counts from there, times 0x1000.
+/// The words of a guest whose memory begins at frame 0x100. Each is given with the place of its table, counted from
+/// there, times 0x1000.
 const GUEST: [(u64, u16, u64); 4] = [
     (0, 0, 0x10_1003),
     (0x1000, 0, 0x10_2003),

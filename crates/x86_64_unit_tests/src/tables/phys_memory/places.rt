@@ -1,4 +1,4 @@
-//! Tests of memories with gaps between their places.
+//! Tests of memories with gaps between their places. A place is the index of a table in memory.
 use super::{Pool, check_pools, is_valid, set_words, walk};
 use crate::assertions::{assert_equal, assert_equal_at, assert_equal_in, unwrap, unwrap_some};
 use std::alloc::{AllocError, Global};
@@ -7,17 +7,17 @@ use x86_64_addr::addr::PhysAddr;
 use x86_64_addr::level_count::FourLevels;
 use x86_64_tables::phys_memory::{FramePlace, PhysMemory, PlacesRefusal, TableMemory};
 
-/// Makes a memory with places that rise.
+/// Creates a memory with places in ascending order.
 fn memory_at(rt: impl Abort + Copy, alloc: Global, places: &[u64]) -> PhysMemory {
     unwrap_some(rt, PhysMemory::with_places(alloc, places).ok())
 }
 
-/// Tells whether all entries of the table at a place are unused, if there is one.
+/// Returns whether all entries of the table at a place are unused, if there is one.
 fn is_empty_at<T: TableMemory>(memory: &T, number: u64) -> Option<bool> {
     Some(memory.table(FramePlace::new(number))?.is_empty())
 }
 
-/// Compares whether there are tables at places of these numbers, and whether all their entries are unused.
+/// Compares whether there are tables at the places with these numbers, and whether all their entries are unused.
 fn check_tables<T: TableMemory>(
     rt: impl Abort + Copy,
     memory: &T,
@@ -29,7 +29,8 @@ fn check_tables<T: TableMemory>(
     }
 }
 
-/// Compares the places of a memory with numbers, and whether it has a table of unused entries at each, and none at the others.
+/// Compares the places of a memory with numbers. Asserts that there is a table of unused entries at each of them, and
+/// none at the others.
 pub(super) fn check_places<T: TableMemory>(
     rt: impl Abort + Copy,
     memory: &T,
@@ -64,7 +65,7 @@ fn places_rise(rt: HostRuntime) {
     assert_equal(rt, refusal, PlacesRefusal::Alloc(AllocError));
 }
 
-/// Numbers of places, and others.
+/// Numbers of places, and other numbers.
 static PLACES: [(&[u64], &[u64]); 9] = [
     (&[], &[0, 1, u64::MAX]),
     (&[0], &[1, u64::MAX]),
@@ -100,7 +101,7 @@ fn memory_without_places_is_no_hierarchy(rt: HostRuntime) {
     assert!(rt; !is_valid(rt, rt.alloc(), 4, &empty));
 }
 
-/// Makes so many places with a gap after each, from a first one on.
+/// Returns a number of places with a gap after each, from a first one on.
 fn places_with_gaps(rt: impl Abort + Copy, alloc: Global, first: u64, count: u64) -> Vec<u64> {
     let mut places = Vec::new(alloc);
     for k in 0..count {
@@ -140,7 +141,7 @@ fn tables_lie_between_gaps(rt: HostRuntime) {
     }
 }
 
-/// Places after gaps, and one of them with the others.
+/// Each of several places after gaps, with the others.
 static CHANGED: [(u64, [u64; 3]); 4] = [
     (1, [2, 0x8_0000, 0x8_0001]),
     (2, [1, 0x8_0000, 0x8_0001]),

@@ -1,5 +1,5 @@
-//! Tests of tables that are reached through themselves, and of hierarchies with a recursive index, with four levels of tables and
-//! with five.
+//! Tests of tables that are reached through the root's entry for itself, and of hierarchies with a recursive index
+//! (that of this entry), with four levels of page tables and with five.
 use super::{Word, memory_of, pool_with};
 use crate::assertions::{assert_equal, assert_equal_in, unwrap, unwrap_some};
 use crate::tables::frame_at;
@@ -14,10 +14,10 @@ use x86_64_tables::phys_memory::{
     pool_fits_recursive, pool_fits_recursive_57,
 };
 
-/// The window of the root where the recursive index is 510.
+/// The window (page) of the root for the recursive index 510.
 const ROOT_WINDOW: u64 = 0xffff_ff7f_bfdf_e000;
 
-/// The words of a hierarchy with a 4KiB page, of writable tables and with a self-entry at index 510.
+/// The words of a hierarchy with a 4KiB page, with writable tables and with a self-entry at index 510.
 pub(super) const RECURSIVE: [Word; 5] = [
     (0x1000, 510, 0x1003),
     (0x1000, 0, 0x2003),
@@ -26,7 +26,7 @@ pub(super) const RECURSIVE: [Word; 5] = [
     (0x4000, 1, 0x5001),
 ];
 
-/// The same of five levels.
+/// These with five levels.
 pub(super) const RECURSIVE_57: [Word; 6] = [
     (0x1000, 510, 0x1003),
     (0x1000, 0, 0x2003),
@@ -36,7 +36,8 @@ pub(super) const RECURSIVE_57: [Word; 6] = [
     (0x5000, 1, 0x6001),
 ];
 
-/// The words of a hierarchy that leads to a 4KiB page in each kind of place and to a 2MiB page at 0, with such a self-entry.
+/// The words of a hierarchy with entries for 4KiB pages that are in memory, absent and not in memory, and for a 2MiB
+/// page at 0, with such a self-entry.
 const PAGES: [Word; 8] = [
     (0x1000, 510, 0x1003),
     (0x1000, 0, 0x2003),
@@ -48,7 +49,7 @@ const PAGES: [Word; 8] = [
     (0x4000, 3, 0x9003),
 ];
 
-/// Word 511 of each table, which has the table's own address, without `PRESENT`.
+/// Word 511 of each table, which has the table's own address and lacks `PRESENT`.
 const OWN_ADDRESSES: [Word; 8] = [
     (0x0, 511, 0x2),
     (0x1000, 511, 0x1002),
@@ -60,7 +61,7 @@ const OWN_ADDRESSES: [Word; 8] = [
     (0x7000, 511, 0x7002),
 ];
 
-/// Gives the address that word 511 of a table has.
+/// Returns the address in word 511 of a table.
 fn address_of(table: Option<&PageTable>) -> Option<u64> {
     Some(table?[511].addr().as_u64())
 }
@@ -88,7 +89,7 @@ fn roots_have_self_entries(rt: HostRuntime) {
     }
 }
 
-/// An address, and the address of the table that is lent there, if one is.
+/// An address, and the address of the table that is lent there, if any.
 type Lent = (u64, Option<u64>);
 
 const LENT: [Lent; 13] = [
@@ -119,7 +120,7 @@ const LENT_57: [Lent; 9] = [
     (0xffff_ff7f_bfdf_e000, None),
 ];
 
-/// Sets word 7 of the table that is lent at an address, if one is, and gives the table's address.
+/// Sets word 7 of the table that is lent at an address, if any, and returns the table's address.
 fn change_lent<L: LevelCount>(memory: &mut PhysMemory, addr: u64) -> Option<u64> {
     let mut active = Active::<L>::new(memory, frame_at(0x1000));
     let addr = VirtAddrIn::<L>::new_truncate(addr);
@@ -130,7 +131,7 @@ fn change_lent<L: LevelCount>(memory: &mut PhysMemory, addr: u64) -> Option<u64>
     address
 }
 
-/// Compares whether word 7 of each table is set: it is in the table at an address alone.
+/// Asserts that word 7 is set in the table at an address, and in no other.
 fn check_changed(rt: impl Abort + Copy, memory: &PhysMemory, changed: Option<u64>) {
     for number in 0..8 {
         let table = unwrap_some(rt, memory.table(FramePlace::new(number)));
@@ -139,7 +140,7 @@ fn check_changed(rt: impl Abort + Copy, memory: &PhysMemory, changed: Option<u64
     }
 }
 
-/// Changes the tables that are lent at addresses, each in a memory of its own, and compares which they were.
+/// Changes the tables that are lent at addresses, each in a memory of its own, and compares which tables they were.
 fn check_lent<L: LevelCount>(rt: impl Abort + Copy, alloc: Global, words: &[Word], rows: &[Lent]) {
     for (addr, wanted) in rows {
         let mut memory = memory_of(rt, alloc, words, &OWN_ADDRESSES);
@@ -175,7 +176,7 @@ fn walks_go_through_the_words_of_the_moment(rt: HostRuntime) {
     assert!(rt; !active.self_entry(PageTableIndex::new(510)));
 }
 
-/// Tells whether a memory is a valid hierarchy of four levels, or else of five, for the recursive index 510.
+/// Returns whether a memory is a valid hierarchy of four levels, or otherwise of five, for the recursive index 510.
 fn is_valid(rt: impl Abort + Copy, alloc: Global, levels: u64, memory: &PhysMemory) -> bool {
     let (root, index) = (frame_at(0x1000), PageTableIndex::new(510));
     let tested = if levels == 4 {
@@ -186,7 +187,7 @@ fn is_valid(rt: impl Abort + Copy, alloc: Global, levels: u64, memory: &PhysMemo
     unwrap(rt, tested)
 }
 
-/// Words and more words, and whether they are a valid hierarchy of four levels for the index 510, and of five.
+/// Words, more words, and whether together they are a valid hierarchy of four levels for the index 510, and of five.
 const HIERARCHIES: [(&[Word], &[Word], bool, bool); 17] = [
     (&[(0x1000, 510, 0x1003)], &[], true, true),
     (&[(0x1000, 510, 0x1002)], &[], false, false),
@@ -207,7 +208,7 @@ const HIERARCHIES: [(&[Word], &[Word], bool, bool); 17] = [
     ),
     (&RECURSIVE_57, &[], true, true),
     (&RECURSIVE_57, &[(0x1000, 510, 0)], false, false),
-    // A word of level one may be any with five levels; with four, so may one of the table above.
+    // With five levels, a word of level one may have any value. With four, so may a word of the table above.
     (&RECURSIVE_57, &[(0x5000, 0, 0x1003)], true, true),
     (&RECURSIVE_57, &[(0x4000, 1, 0x5003)], true, false),
     (&RECURSIVE_57, &[(0x4000, 1, 0x2003)], true, false),
@@ -236,7 +237,7 @@ fn no_root_past_the_memory_is_valid_for_an_index(rt: HostRuntime) {
     assert!(rt; !is_valid(rt, rt.alloc(), 4, &small) && !is_valid(rt, rt.alloc(), 5, &small));
 }
 
-/// Tells whether a pool fits a hierarchy of four levels, or else of five, for a recursive index.
+/// Returns whether a pool fits a hierarchy of four levels, or otherwise of five, for a recursive index.
 fn fits(
     rt: impl Abort + Copy,
     alloc: Global,
@@ -274,7 +275,7 @@ const POOLS: [Pool; 8] = [
     ((0, 8, &[]), false),
 ];
 
-/// The same of five levels.
+/// These with five levels.
 const POOLS_57: [Pool; 8] = [
     ((510, 8, &[0x7000, 0x6000]), true),
     ((510, 6, &[]), true),
@@ -286,7 +287,7 @@ const POOLS_57: [Pool; 8] = [
     ((0, 8, &[]), false),
 ];
 
-/// Compares whether pools fit the hierarchy of so many levels in a memory with words.
+/// Compares whether pools fit the hierarchy with this number of levels in a memory with words.
 fn check_pools(rt: impl Abort + Copy, alloc: Global, levels: u64, words: &[Word], pools: &[Pool]) {
     let memory = memory_of(rt, alloc, words, &[]);
     for (pool, wanted) in pools {

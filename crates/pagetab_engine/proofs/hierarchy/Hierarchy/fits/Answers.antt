@@ -5,7 +5,7 @@ use Rattle.pagetab_engine.specs.declared.arguments.Mode.{Mode}
 use Rattle.pagetab_engine.specs.declared.frames.Frames.{Frames}
 use Rattle.pagetab_engine.proofs.hierarchy.Hierarchy.fits.Goals as goal
 
--- what tests the hierarchy of a mode tests that of the one that it is
+-- a test of the hierarchy of a mode tests the program's hierarchy if that is its mode
 in_mode : {E : Type 0} (result : Result Bool E) (frames twin : Frames) (mode is : Mode) → mode ≡ is → IfOk result (λ fits. IsTrue fits ↔ FitsIn is frames twin)
     → IfOk result (λ fits. IsTrue fits ↔ FitsIn mode frames twin)
 in_mode result frames twin mode is same = subst (λ (mode : Mode). IfOk result (λ fits. IsTrue fits ↔ FitsIn mode frames twin)) (sym same)

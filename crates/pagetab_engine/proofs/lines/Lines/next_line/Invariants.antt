@@ -4,7 +4,7 @@ use Rattle.pagetab_engine.specs.Lines.{bytes_left}
 use Rattle.pagetab_engine.proofs.Breaking.{HasNoFeed}
 use Rattle.pagetab_engine.proofs.lines.Lines.next_line.Given as goal
 
--- the line so far is what was taken, and no byte of it ends a line
+-- the line so far is what was taken, and none of its bytes ends a line
 abbrev pub invariant-loop-length : goal.invariant-loop-length
 invariant-loop-length g l =
     let left = bytes_left g.R.Read.remaining in

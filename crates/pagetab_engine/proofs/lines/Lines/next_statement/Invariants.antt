@@ -3,7 +3,7 @@ use Rattle.pagetab_engine.specs.Lines.{MayBeLeft}
 use Rattle.pagetab_engine.proofs.Numbering.{PassesBlank}
 use Rattle.pagetab_engine.proofs.lines.Lines.next_statement.Given as goal
 
--- the lines that were passed over were blank
+-- the lines that were skipped were blank
 abbrev pub invariant-loop-number : goal.invariant-loop-number
 invariant-loop-number g l =
     let may = MayBeLeft g.R.Read.remaining in

@@ -9,7 +9,7 @@ use Rattle.pagetab_engine.proofs.Characters.{is_text}
 use Rattle.pagetab_engine.proofs.Uniqueness.{few_numbers}
 use Rattle.pagetab_engine.proofs.statement.Statement.parse.Goals as goal
 
--- what a line says alone is no statement where its fields are none
+-- a line is no statement if its fields are none
 none_said : (result : Option Statement) (line : List ℕ) (arguments : Arguments) (name : Name) (size : Option Size) (numbers : List ℕ) → IsSome result ↔ IsStatement arguments name size numbers
     → ((other : Name) (another : Option Size) (others : List ℕ) → Says line other another others → (other ≡ name) × (another ≡ size) × (others ≡ numbers))
     → IfNone result ((other : Name) (another : Option Size) (others : List ℕ) → Says line other another others → ¬ (IsStatement arguments other another others))

@@ -3,7 +3,7 @@ use Rattle.x86_64_model.specs.Memory.{words_of}
 use Rattle.ptdump_picture.specs.Links.{IsLink}
 use Rattle.ptdump_picture.proofs.links.listing.push_links.Given as goal
 
--- all so far are links of the memory
+-- all links so far are links of the memory
 abbrev pub invariant-loop-index : goal.invariant-loop-index
 invariant-loop-index g l =
     All (IsLink (words_of (g.T.TableMemory.tables l.memory) (g.P.PageTableFrameMapping.places l.mapping))) l.links.items

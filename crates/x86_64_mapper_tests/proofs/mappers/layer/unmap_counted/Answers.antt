@@ -9,7 +9,7 @@ use Rattle.x86_64_mapper_tests.proofs.mappers.layer.unmap_counted.Goals as goal
 abbrev over : Layout → Memory → Hierarchy (Unit {0})
 over layout memory = record { layout = layout; memory = memory; lent = tt }
 
--- what a call did to a hierarchy it did to the memory that was lent
+-- the effect of a call on a hierarchy is its effect on the memory that was lent
 owner_does : {Lent : Type 0} (h after : Hierarchy Lent) (call : Call) (answer : Answer) → Does h call answer after
     → (layout : Layout) (memory last : Memory) → h.layout ≡ layout → h.memory ≡ memory → after.memory ≡ last → Does (over layout memory) call answer (over layout last)
 owner_does h after call answer does layout memory last layout_is memory_is last_is =

@@ -29,7 +29,7 @@ returns-then-level-LEVEL g c =
     let h = g.M.Tables.hierarchy c.args.mapper.now in
     ends_set_flags h h refl refl c.args.path.now c.args.level (bits_of c.args.flags) (Some ParentEntryHugePage) _ refl ends
 
--- its path has a last index
+-- the path of the entry has a last index
 has_front : (L level own : ℕ) (q : List ℕ) → length q + own ≡ L + 1 → own < level → level ≤ L → length (front_at L level q) ≡ length (front_at L level q) - 1 + 1
 has_front L level own q at_level above high = has_last_index (front_at L level q) (omega (arith, front_length L level own q at_level above))
 
@@ -59,7 +59,7 @@ returns-in_err-change_entry g c =
     ends_set_flags (g.M.Tables.hierarchy c.args.mapper.now) (g.M.Tables.hierarchy c.change_entry.new.mapper) kept.layout kept.lent c.args.path.now c.args.level (bits_of c.args.flags)
     (flags_refusal c.from_residual.result) _ (rw (e.1, e.2) refl) (ends_stopped g c)
 
--- what is known of the entry that was found
+-- what is known about the entry that was found
 record Asked (g : Over) (c : goal.In_ok-change_entry g) : Type 0 where
   pub entry : ℕ
   pub answer : flags_refusal c.in_ok-change_entry.field-0 ≡ refusal_of (answer_said (flags_say (bits_of c.args.flags) entry))

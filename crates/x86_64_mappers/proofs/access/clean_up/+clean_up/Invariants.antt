@@ -5,7 +5,7 @@ use Rattle.x86_64_model.specs.Path.{span_start}
 use Rattle.x86_64_mappers.specs.private.CleaningUp.{span_end, IsCleaned}
 use Rattle.x86_64_mappers.proofs.access.clean_up.+clean_up.Given as goal
 
--- each call of the two is at an entry, or at the table below it
+-- each call of one by the other is at an entry, or at the table below it
 abbrev pub decreases-clean_up_table : goal.decreases-clean_up_table
 decreases-clean_up_table g l = 2 * (length l.range.now.first.now - length l.path.now) + 1
 

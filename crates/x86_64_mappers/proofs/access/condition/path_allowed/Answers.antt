@@ -41,7 +41,7 @@ returns-else-contains g c =
     let all = c.are_present.ensures last (ap (begins_with l.window) parted ∙ not-true _ tested.1) ∙ ap (are_present M) parted in
     sym ((λ i. tested.0 i && (gone i || sym all i) && tested.1 i) ∙ and-true c.are_present.result)
 
--- where the first tests fail, the condition does
+-- if one of the first tests fails, so does the condition
 either_fails : (F P W : Bool) → (F && not W) ≡ false → (F && P && not W) ≡ false
 either_fails false P W is = refl
 either_fails true false W is = refl

@@ -1,4 +1,5 @@
--- The reference that is kept is the one that was passed. A walk by hand: the borrow checker doesn't follow it through two calls. Assumes `Logic`.
+-- The reference that is kept is the one that was passed. This is a walk by hand, since the borrow checker doesn't follow the
+-- reference through two calls. Assumes `Logic`.
 use Rattle.std.proofs.Common.{◌≡◌, ℕ, Bool, true, false, List, [], ◌∷◌, ◌++◌, refl, sym, ap, ◌∙◌, subst, lit<}
 use lib.Dec.{T}
 use mir.Syntax.{Fn, a_type}

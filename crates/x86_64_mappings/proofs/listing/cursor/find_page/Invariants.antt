@@ -3,7 +3,7 @@ use Rattle.x86_64_model.specs.Memory.{words_of}
 use Rattle.x86_64_mappings.specs.private.Cursors.{IsCursor, to_come, way_left}
 use Rattle.x86_64_mappings.proofs.listing.cursor.find_page.Given as goal
 
--- what is to come is what was to come first
+-- the mappings still to come are those that were to come at first
 abbrev pub invariant-loop-root : goal.invariant-loop-root
 invariant-loop-root g l =
     let words = words_of (g.T.TableMemory.tables l.memory) (g.P.PageTableFrameMapping.places l.mapping) in

@@ -6,7 +6,7 @@ use Rattle.x86_64_tables.proofs.phys_memory.alike.+alike_from.Given as goal
 abbrev pub decreases-alike_from : goal.decreases-alike_from
 decreases-alike_from g l = l.levels
 
--- the entries at paths that begin with an index so far are alike
+-- the entries at paths that begin with one of the indices so far are alike
 abbrev pub invariant-loop-index : goal.invariant-loop-index
 invariant-loop-index g l =
     let words = seen (g.T.TableMemory.tables l.one.memory.now) (g.P.PageTableFrameMapping.places l.one.mapping) l.one.root l.one.recursive in

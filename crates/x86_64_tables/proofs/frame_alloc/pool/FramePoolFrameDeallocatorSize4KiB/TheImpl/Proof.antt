@@ -1,5 +1,5 @@
--- The block meets its trait: a limit that stays keeps what is served, and its other clauses are the trait's. Rattle makes this proof
--- for other blocks; here it does not see which impl meets the bound of a frame that is passed by value.
+-- The impl meets its trait: an unchanged limit keeps the frames that are served, and its other clauses are the trait's.
+-- Rattle proves this for other impls. Here it can't find the impl that meets the bound of a frame passed by value.
 use Rattle.std.below.core.specs.contracts.clone.Clone+copy.TheImpl as clone
 use Rattle.x86_64_page.specs.contracts.page.Size4KiB as size
 use Rattle.x86_64_page.specs.contracts.page.Size4KiBEq.TheImpl as eq
@@ -37,7 +37,7 @@ use prog.Routine.{Routine}
 use seplogic.Ra.Ura.{Ura}
 use types.Logic.{Logic}
 
--- the trait's contract of the method at this block
+-- the trait's contract of the method, for this impl
 abbrev wanted : Ended
 wanted = asked.ended pool.the_row size.the_row deallocator.ghosts deallocator.dict keeper.ghosts keeper.dict page_size.ghosts page_size.dict (clone.ghosts size.the_row) (clone.dict size.the_row) eq.ghosts eq.dict partial_eq.ghosts partial_eq.dict partial_ord.ghosts partial_ord.dict ord.ghosts ord.dict sealed.ghosts sealed.dict
 
@@ -47,7 +47,7 @@ wanted_clauses = asked.clauses pool.the_row size.the_row deallocator.ghosts deal
 abbrev wanted_spec : {M : Type 1} {𝓤 : Ura M} → Logic 𝓤 → (Memory → SProp 𝓤) → (Routine → Fun 𝓤) → Spec 𝓤 wanted.signature
 wanted_spec = asked.spec pool.the_row size.the_row deallocator.ghosts deallocator.dict keeper.ghosts keeper.dict page_size.ghosts page_size.dict (clone.ghosts size.the_row) (clone.dict size.the_row) eq.ghosts eq.dict partial_eq.ghosts partial_eq.dict partial_ord.ghosts partial_ord.dict ord.ghosts ord.dict sealed.ghosts sealed.dict
 
--- the second of two facts, for one that follows from it
+-- replaces the second of two facts by one that follows from it
 with_second : {M : Type 1} (𝓤 : Ura M) (P Q R : Type 0) → (Q → R) → ent 𝓤 (sep 𝓤 (fact 𝓤 P) (fact 𝓤 Q)) (sep 𝓤 (fact 𝓤 P) (fact 𝓤 R))
 with_second 𝓤 P Q R follows = mono_r 𝓤 (fact 𝓤 P) (fact_use 𝓤 Q (id⊢ 𝓤 (fact 𝓤 Q)) (λ q. fact_i 𝓤 R (fact 𝓤 Q) (follows q)))
 

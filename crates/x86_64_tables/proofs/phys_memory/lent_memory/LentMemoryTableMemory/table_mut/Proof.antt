@@ -1,4 +1,5 @@
--- `table_mut` lends a table of the slice, if there is one. A walk by hand: the borrow checker takes no type that holds a slice's reference for a lender. Assumes `Logic`.
+-- `table_mut` lends a table of the slice, if there is one. Proved by hand: the borrow checker doesn't accept a type that
+-- holds a reference to a slice as a lender. Assumes `Logic`.
 use Rattle.std.proofs.Common.{◌<◌, ◌+◌, ◌*◌, ◌^◌, ℕ, List, [], ◌∷◌, ◌∙◌, Some, None, length, get_or, slice_set, refl, sym, lit<, ltb→lt, nltb→le, MutBor, arith}
 use seplogic.Ra.Ura.{Ura}
 use base.Fraction.{full_share}
@@ -99,7 +100,7 @@ table_mut_spec 𝓤 𝓛 𝓜 𝓡 wired =
     use1 𝓛 (‵ (cell_at full_share (F N).mir (mut_slice_vals x) b (o + 0))) (𝓛.laws.at_raw full_share slice_there b (o + 0) (slice_val x.ref_ptr n)) $
     move ! (1 ∷ 2 ∷ []) $ flt_i ! (n * (mem Y).size) (2 ^ 63) small $ flt_i ! n (2 ^ 64) fits $ feq_i ! (List Val) (mut_slice_vals x) (mut_slice_vals x) refl $ fjoin3 ! $ fjoin3 ! $
     move ! (1 ∷ 0 ∷ []) $ closes ! tt (F N) x (mut_slice_vals x) b (o + 0) $
-    -- [obs and borrow of the field; the token; how the memory follows; the other tokens]
+    -- [obs and borrow of the field; the token; how the memory changes; the other tokens]
     move ! (0 ∷ 1 ∷ 2 ∷ 3 ∷ []) $ group ! 4 $ use1 𝓛 (later (some (λ (δ : GName). ‵ (R.own_val (lent_at δ) (vptr b' p ∷ [])) ⊛ ‵ (flft κ q) ⊛ ‵ (follows (S N) Y γ δ (put_table 𝓛 N κ q b o γ γ d i)))))
     (lends_table 𝓛 N κ q b (o + 0) γ γ₁ d i bounds.0 fits small lt) $ await ! tt $ pick ! (λ δ. split3 ! $
     use1 𝓛 (‵ ((Op.the_row R).own_val (Some (lent_at δ)) (live 1 (of_list (vptr b' p ∷ [])) ∷ []))) (some_of 𝓛 R (lent_at δ) (vptr b' p)) $
@@ -112,7 +113,7 @@ table_mut_spec 𝓤 𝓛 𝓜 𝓡 wired =
     use1 𝓛 (‵ (cell_at full_share (F N).mir (mut_slice_vals x) b (o + 0))) (𝓛.laws.at_raw full_share slice_there b (o + 0) (slice_val x.ref_ptr n)) $
     move ! (1 ∷ 2 ∷ []) $ flt_i ! (n * (mem Y).size) (2 ^ 63) small $ flt_i ! n (2 ^ 64) fits $ feq_i ! (List Val) (mut_slice_vals x) (mut_slice_vals x) refl $ fjoin3 ! $ fjoin3 ! $
     move ! (1 ∷ 0 ∷ []) $ closes ! tt (F N) x (mut_slice_vals x) b (o + 0) $
-    -- [obs and borrow of the field; the token; how the memory follows; the other tokens]
+    -- [obs and borrow of the field; the token; how the memory changes; the other tokens]
     name_done ! tt $ move ! (3 ∷ 0 ∷ []) $ use2 𝓛 (‵ (fres γ ((S N).coded.code d))) (followed 𝓛 (S N) (F N) (λ s. record d { slice = s }) γ γ₁ x) $
     use1 𝓛 (‵ (LendsTableIfBy (S N) a.0 None (with 𝓛 N a.0 i))) (lends_none 𝓛 N a.0 i) $
     use0 𝓛 (‵ ((Op.the_row R).own_val None (live 0 (of_list []) ∷ []))) (none_of 𝓛 R) $

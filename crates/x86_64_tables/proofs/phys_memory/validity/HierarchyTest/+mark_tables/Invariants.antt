@@ -7,7 +7,7 @@ use Rattle.x86_64_tables.proofs.phys_memory.validity.HierarchyTest.+mark_tables.
 abbrev pub decreases-mark_tables : goal.decreases-mark_tables
 decreases-mark_tables g l = l.levels
 
--- the tables still to mark, from the marks of the iteration
+-- marking all tables is marking the remaining ones from the current marks
 abbrev pub invariant-loop-index : goal.invariant-loop-index
 invariant-loop-index g l =
     let places = g.P.PageTableFrameMapping.places l.self.view.mapping in

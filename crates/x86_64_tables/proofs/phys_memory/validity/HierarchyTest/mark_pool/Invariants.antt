@@ -3,7 +3,7 @@ use Rattle.x86_64_model.specs.private.Marks.{mark_all}
 use Rattle.x86_64_tables.specs.private.Views.{mark_slot}
 use Rattle.x86_64_tables.proofs.phys_memory.validity.HierarchyTest.mark_pool.Given as goal
 
--- the frames still to mark, from the marks of the iteration
+-- marking all frames is marking the remaining ones from the current marks
 abbrev pub invariant-loop-n : goal.invariant-loop-n
 invariant-loop-n g l =
     let slot = mark_slot (g.T.TableMemory.tables l.self.view.memory.now) (g.P.PageTableFrameMapping.places l.self.view.mapping) l.self.view.root l.self.limit in

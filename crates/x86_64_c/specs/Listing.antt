@@ -1,0 +1,29 @@
+-- What a listing of mappings writes.
+use Rattle.std.specs.Prelude.{◌≡◌, ℕ, List, [], ◌∷◌, ◌++◌, length, map, take, drop, nat_min}
+use Rattle.x86_64_model.specs.Mappings as model
+use Rattle.x86_64_model.specs.Position.{raw}
+use Rattle.x86_64_c.specs.Status as status
+use Rattle.x86_64_c.specs.declared.listing.Mapping.{Mapping}
+
+-- a mapping as it is written: it starts at an address, not at a position
+abbrev pub written : (L : ℕ) → model.Mapping → Mapping
+written L m = record {
+  start = raw L m.start;
+  size = m.size;
+  frame = m.frame;
+  flags = m.flags;
+  write = m.rights.write;
+  user = m.rights.user;
+  execute = m.rights.execute;
+}
+
+-- the status after the array was filled, and where to go on, by the mappings that are left
+abbrev pub TellsRest : (L : ℕ) → (rest : List model.Mapping) → (status before next : ℕ) → Type 0
+TellsRest L [] s before next = (s ≡ status.ok) × (next ≡ before)
+TellsRest L (m ∷ ms) s before next = (s ≡ status.more) × (next ≡ raw L m.start)
+
+-- The array gets as many of all mappings as it has room for, from its start on, and keeps what it holds behind them.
+pub record Lists (L : ℕ) (all : List model.Mapping) (before : List Mapping) (status : ℕ) (after : List Mapping) (count was next : ℕ) : Type 0 where
+  pub count : count ≡ nat_min (length all) (length before)
+  pub array : after ≡ map (written L) (take count all) ++ drop count before
+  pub rest : TellsRest L (drop (length before) all) status was next

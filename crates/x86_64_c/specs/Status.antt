@@ -1,0 +1,54 @@
+-- The statuses that calls return: what was done, or why not. Numbers from 16 on say what is wrong with an argument.
+use Rattle.std.specs.Prelude.{ℕ}
+
+abbrev pub ok : ℕ
+ok = 0
+
+-- the address is mapped nowhere
+abbrev pub not_mapped : ℕ
+not_mapped = 1
+
+-- the array is full, and there are more mappings
+abbrev pub more : ℕ
+more = 2
+
+-- the hierarchy isn't valid, or the pool doesn't fit it
+abbrev pub not_valid : ℕ
+not_valid = 3
+
+-- the call's condition does not hold
+abbrev pub not_allowed : ℕ
+not_allowed = 4
+
+abbrev pub frame_allocation_failed : ℕ
+frame_allocation_failed = 5
+
+abbrev pub parent_entry_huge_page : ℕ
+parent_entry_huge_page = 6
+
+abbrev pub page_already_mapped : ℕ
+page_already_mapped = 7
+
+abbrev pub page_not_mapped : ℕ
+page_not_mapped = 8
+
+abbrev pub invalid_frame_address : ℕ
+invalid_frame_address = 9
+
+abbrev pub bad_levels : ℕ
+bad_levels = 16
+
+abbrev pub bad_root : ℕ
+bad_root = 17
+
+abbrev pub bad_array : ℕ
+bad_array = 18
+
+abbrev pub bad_address : ℕ
+bad_address = 19
+
+abbrev pub bad_page : ℕ
+bad_page = 20
+
+abbrev pub bad_frame : ℕ
+bad_frame = 21

@@ -1,0 +1,137 @@
+//! What is mapped.
+ghost use Rattle.std.specs.Prelude.{◌≡◌, ℕ, ◌++◌, length, map, take, drop, nat_min, Some, None};
+ghost use Rattle.x86_64_c.specs.Given as given;
+ghost use Rattle.x86_64_c.specs.Listing as listing;
+ghost use Rattle.x86_64_model.specs.Mapper.{words};
+ghost use Rattle.x86_64_model.specs.Mappings as model;
+ghost use Rattle.x86_64_model.specs.Memory.{words_of};
+
+use crate::given::{Hierarchy, Located, locate};
+use crate::status;
+use bitflags::Flags;
+use x86_64::structures::paging::PageTable;
+use x86_64::structures::paging::mapper::PageTableFrameMapping;
+use x86_64::{
+    FiveLevels, FourLevels, LentMemory, LevelCount, MappingIn, MappingsIn, TableMemory,
+    mappings_from,
+};
+use x86_64_addr::addr::VirtAddrIn;
+
+/// What a leaf maps: the addresses from `start` on, `size` bytes, to those from `frame` on.
+#[repr(C)]
+pub struct Mapping {
+    /// The first address.
+    pub start: u64,
+    /// The size in bytes: 4KiB, 2MiB or 1GiB.
+    pub size: u64,
+    /// The physical address of the frame's start.
+    pub frame: u64,
+    /// The flags of the leaf's entry.
+    pub flags: u64,
+    /// Whether the leaf and all entries above it have `WRITABLE`.
+    pub write: bool,
+    /// Whether the leaf and all entries above it have `USER_ACCESSIBLE`.
+    pub user: bool,
+    /// Whether neither the leaf nor an entry above it has `NO_EXECUTE`.
+    pub execute: bool,
+}
+
+impl Mapping {
+    /// Creates the mapping that is written for one of the library's.
+    fn of<L: LevelCount>(mapping: MappingIn<L>) -> Mapping
+        ensures { result ≡ listing.written L.LEVELS mapping }
+    {
+        Mapping {
+            start: mapping.start.as_u64(),
+            size: mapping.size(),
+            frame: mapping.frame.start_address().as_u64(),
+            flags: mapping.flags.bits(),
+            write: mapping.write,
+            user: mapping.user,
+            execute: mapping.execute,
+        }
+    }
+}
+
+/// Lists what is mapped from an address on, whatever words the tables hold, in order of addresses, into an array.
+///
+/// Writes as many mappings as the array has room for, and their number to `count`. Returns `OK` if these are all, or `MORE` if there
+/// are others; then `next` is the address to go on from. Or returns what is wrong with an argument; then nothing is written.
+#[unsafe(no_mangle)]
+pub extern "C" fn x64_mappings(
+    hierarchy: &Hierarchy,
+    tables: &mut [PageTable],
+    from: u64,
+    mappings: &mut [Mapping],
+    count: &mut usize,
+    next: &mut u64,
+) -> u32
+    ensures bad { (status : ℕ) → given.bad_read hierarchy.now (length tables.old) from ≡ Some status
+        → (result ≡ status) × (mappings.new ≡ mappings.old) × (count.new ≡ count.old) × (next.new ≡ next.old) }
+    ensures lists { let h = given.hierarchy_in hierarchy.now tables.old in let L = h.layout.levels in
+        let all = model.mappings_from (given.position_of L from) (model.mappings_of L (words h) h.layout.root) in
+        given.bad_read hierarchy.now (length tables.old) from ≡ None
+        → listing.Lists L all mappings.old result mappings.new count.new next.old next.new }
+    ensures tables { tables.new ≡ tables.old }
+{
+    let located = match locate(hierarchy, tables.len()) {
+        Ok(located) => located,
+        Err(status) => return status,
+    };
+    let memory = LentMemory::new(tables);
+    if hierarchy.levels == 4 {
+        list_in::<FourLevels, _>(&memory, located, from, mappings, count, next)
+    } else {
+        list_in::<FiveLevels, _>(&memory, located, from, mappings, count, next)
+    }
+}
+
+/// Lists what is mapped from an address on with `L` levels of tables.
+fn list_in<L: LevelCount, T: TableMemory>(
+    memory: &T,
+    located: Located,
+    from: u64,
+    mappings: &mut [Mapping],
+    count: &mut usize,
+    next: &mut u64,
+) -> u32
+    ensures bad { (status : ℕ) → given.bad_address L.LEVELS from ≡ Some status
+        → (result ≡ status) × (mappings.new ≡ mappings.old) × (count.new ≡ count.old) × (next.new ≡ next.old) }
+    ensures lists { let words = words_of (T.tables memory.now) (given.places_of located) in
+        let of_root = model.mappings_of L.LEVELS words located.root in
+        let all = model.mappings_from (given.position_of L.LEVELS from) of_root in
+        given.bad_address L.LEVELS from ≡ None
+        → listing.Lists L.LEVELS all mappings.old result mappings.new count.new next.old next.new }
+{
+    let Some(from) = VirtAddrIn::<L>::checked_new(from) else {
+        return status::BAD_ADDRESS;
+    };
+    let mut coming = mappings_from(memory, &located.mapping, located.root, from);
+    *count = fill(&mut coming, mappings);
+    match coming.next() {
+        Some(mapping) => {
+            *next = mapping.start.as_u64();
+            status::MORE
+        }
+        None => status::OK,
+    }
+}
+
+/// Fills an array with mappings to come, and returns how many it got.
+fn fill<L: LevelCount, T: TableMemory, P: PageTableFrameMapping>(
+    coming: &mut MappingsIn<'_, L, T, P>,
+    mappings: &mut [Mapping],
+) -> usize
+    ensures count { result ≡ nat_min (length coming.old) (length mappings.old) }
+    ensures rest { coming.new ≡ drop (length mappings.old) coming.old }
+    ensures array { mappings.new
+        ≡ map (listing.written L.LEVELS) (take result coming.old) ++ drop result mappings.old }
+{
+    for n in 0..mappings.len() {
+        match coming.next() {
+            Some(mapping) => mappings[n] = Mapping::of(mapping),
+            None => return n,
+        }
+    }
+    mappings.len()
+}

@@ -1,0 +1,173 @@
+//! Where addresses are mapped to.
+ghost use Rattle.std.specs.Prelude.{◌≡◌, ℕ, length, Some, None};
+ghost use Rattle.x86_64_c.specs.Given as given;
+ghost use Rattle.x86_64_c.specs.Reads as reads;
+ghost use Rattle.x86_64_mappers.specs.Layouts.{direct_at};
+ghost use Rattle.x86_64_model.specs.Layout.{Valid as ValidIn, walk as walk_of, read_entry};
+ghost use Rattle.x86_64_model.specs.Mapper.{Valid, walk, translation};
+ghost use Rattle.x86_64_model.specs.Translation.{translate};
+
+use crate::given::{Hierarchy, Located, locate};
+use crate::status;
+use bitflags::Flags;
+use x86_64::structures::paging::PageTable;
+use x86_64::structures::paging::mapper::TranslateResult;
+use x86_64::{FiveLevels, FourLevels, LentMemory, LevelCount, TableMemory, page_walk};
+use x86_64_addr::addr::VirtAddrIn;
+use x86_64_mappers::calls;
+use x86_64_mappers::mapped_page_table::MappedPageTableIn;
+
+/// Where a page walk arrives, and what all entries on its way allow.
+#[repr(C)]
+pub struct Walked {
+    /// The physical address.
+    pub address: u64,
+    /// Whether all entries have `WRITABLE`.
+    pub write: bool,
+    /// Whether all entries have `USER_ACCESSIBLE`.
+    pub user: bool,
+}
+
+/// What an address is mapped to.
+#[repr(C)]
+pub struct Translation {
+    /// The physical address of the frame's start.
+    pub frame: u64,
+    /// The size of the page and of the frame, in bytes.
+    pub size: u64,
+    /// The offset of the address in the page, in bytes.
+    pub offset: u64,
+    /// The flags of the page's entry.
+    pub flags: u64,
+}
+
+/// Walks to an address as the processor does, whatever words the tables hold.
+///
+/// Returns `OK` with where the walk arrives, `NOT_MAPPED`, or what is wrong with an argument; then nothing is written.
+#[unsafe(no_mangle)]
+pub extern "C" fn x64_page_walk(
+    hierarchy: &Hierarchy,
+    tables: &mut [PageTable],
+    address: u64,
+    walked: &mut Walked,
+) -> u32
+    ensures bad { (status : ℕ) → given.bad_read hierarchy.now (length tables.old) address ≡ Some status
+        → (result ≡ status) × (walked.new ≡ walked.old) }
+    ensures told { let h = given.hierarchy_in hierarchy.now tables.old in
+        given.bad_read hierarchy.now (length tables.old) address ≡ None
+        → reads.TellsWalk (walk h (given.position_of h.layout.levels address)) result walked.old walked.new }
+    ensures tables { tables.new ≡ tables.old }
+{
+    let located = match locate(hierarchy, tables.len()) {
+        Ok(located) => located,
+        Err(status) => return status,
+    };
+    let memory = LentMemory::new(tables);
+    if hierarchy.levels == 4 {
+        walk_in::<FourLevels, _>(&memory, located, address, walked)
+    } else {
+        walk_in::<FiveLevels, _>(&memory, located, address, walked)
+    }
+}
+
+/// Walks to an address with `L` levels of tables.
+fn walk_in<L: LevelCount, T: TableMemory>(
+    memory: &T,
+    located: Located,
+    address: u64,
+    walked: &mut Walked,
+) -> u32
+    ensures bad { (status : ℕ) → given.bad_address L.LEVELS address ≡ Some status
+        → (result ≡ status) × (walked.new ≡ walked.old) }
+    ensures told { let layout = direct_at L.LEVELS (given.places_of located) located.root in
+        let arrival = walk_of layout (T.tables memory.now) (given.position_of L.LEVELS address) in
+        given.bad_address L.LEVELS address ≡ None → reads.TellsWalk arrival result walked.old walked.new }
+{
+    let Some(address) = VirtAddrIn::<L>::checked_new(address) else {
+        return status::BAD_ADDRESS;
+    };
+    match page_walk(memory, &located.mapping, located.root, address) {
+        Some(arrival) => {
+            *walked = Walked {
+                address: arrival.address.as_u64(),
+                write: arrival.write,
+                user: arrival.user,
+            };
+            status::OK
+        }
+        None => status::NOT_MAPPED,
+    }
+}
+
+/// Returns what an address is mapped to, present or not at level one, as the mapper's `translate` does.
+///
+/// Requires that the hierarchy is valid, which `x64_is_valid` tests. Returns `OK` with the translation, `NOT_MAPPED`, or what is wrong
+/// with an argument; then nothing is written.
+#[unsafe(no_mangle)]
+pub extern "C" fn x64_translate(
+    hierarchy: &Hierarchy,
+    tables: &mut [PageTable],
+    address: u64,
+    translation: &mut Translation,
+) -> u32
+    requires { given.bad_hierarchy hierarchy.now (length tables.old) ≡ None
+        → Valid (given.hierarchy_in hierarchy.now tables.old) }
+    ensures bad { (status : ℕ) → given.bad_read hierarchy.now (length tables.old) address ≡ Some status
+        → (result ≡ status) × (translation.new ≡ translation.old) }
+    ensures told { let h = given.hierarchy_in hierarchy.now tables.old in
+        let translated = translation h (given.position_of h.layout.levels address) in
+        given.bad_read hierarchy.now (length tables.old) address ≡ None
+        → reads.TellsTranslation translated result translation.old translation.new }
+    ensures tables { tables.new ≡ tables.old }
+{
+    let located = match locate(hierarchy, tables.len()) {
+        Ok(located) => located,
+        Err(status) => return status,
+    };
+    let mut memory = LentMemory::new(tables);
+    if hierarchy.levels == 4 {
+        translate_in::<FourLevels, _>(&mut memory, located, address, translation)
+    } else {
+        translate_in::<FiveLevels, _>(&mut memory, located, address, translation)
+    }
+}
+
+/// Returns what an address is mapped to with `L` levels of tables.
+fn translate_in<L: LevelCount, T: TableMemory>(
+    memory: &mut T,
+    located: Located,
+    address: u64,
+    translation: &mut Translation,
+) -> u32
+    requires { ValidIn (direct_at L.LEVELS (given.places_of located) located.root) (T.tables memory.old) }
+    ensures bad { (status : ℕ) → given.bad_address L.LEVELS address ≡ Some status
+        → (result ≡ status) × (translation.new ≡ translation.old) }
+    ensures told { let layout = direct_at L.LEVELS (given.places_of located) located.root in
+        let entries = read_entry layout (T.tables memory.old) in
+        let translated = translate L.LEVELS entries (given.position_of L.LEVELS address) in
+        given.bad_address L.LEVELS address ≡ None
+        → reads.TellsTranslation translated result translation.old translation.new }
+    ensures memory { T.tables memory.new ≡ T.tables memory.old }
+    ensures lent { T.lent memory.new ≡ T.lent memory.old }
+{
+    let Some(address) = VirtAddrIn::<L>::checked_new(address) else {
+        return status::BAD_ADDRESS;
+    };
+    let mapper = MappedPageTableIn::<_, L, T>::new(memory, located.root, located.mapping);
+    match calls::translate(&mapper, address) {
+        TranslateResult::Mapped {
+            frame,
+            offset,
+            flags,
+        } => {
+            *translation = Translation {
+                frame: frame.start_address().as_u64(),
+                size: frame.size(),
+                offset,
+                flags: flags.bits(),
+            };
+            status::OK
+        }
+        _ => status::NOT_MAPPED,
+    }
+}
