@@ -1,7 +1,8 @@
 //! Page tables of x86-64 in the caller's memory: the calls of `libx86_64_paging.a`, without `unsafe` for their users.
 //!
-//! `include/x86_64_paging.h` says what each function does and what it asks for. All of that is met here: an [`AddressSpace`] borrows
-//! the tables and the pool for as long as it lives, [`AddressSpace::new`] tests them, and after each call what was tested holds again.
+//! `include/x86_64_paging.h` says what each function does and what it asks for. All of that is met here: an [`AddressSpace`]
+//! borrows the tables and the pool for as long as it lives, [`AddressSpace::new`] tests them, and after each call what was tested
+//! holds again.
 
 /// A page table: 512 words of addresses and flags.
 #[derive(Clone, Copy)]
@@ -190,17 +191,17 @@ pub struct AddressSpace<'a> {
 }
 
 impl<'a> AddressSpace<'a> {
-    /// Makes one of the tables below a root, with 4 or 5 levels. There has to be a mark for each table; what the marks hold doesn't
-    /// matter.
+    /// Makes one of the tables below a root, with 4 or 5 levels. There has to be a mark for each table; what the marks hold
+    /// doesn't matter.
     ///
     /// # Errors
     ///
-    /// `NotValid` if the hierarchy isn't valid or the pool doesn't fit it, `BadLevels`, `BadRoot`, or `BadArray` if there are too few
-    /// marks or more frames are free than the pool has.
+    /// `NotValid` if the hierarchy isn't valid or the pool doesn't fit it, `BadLevels`, `BadRoot`, or `BadArray` if there are too
+    /// few marks or more frames are free than the pool has.
     pub fn new(memory: Memory<'a>, pool: Pool<'a>, root: u64, levels: u64, marks: &mut [bool]) -> Result<AddressSpace<'a>, Error> {
         let hierarchy = Hierarchy { first: memory.first, root, levels };
         let (tables, frames) = (&*memory.tables, &*pool.frames);
-        // SAFETY: each pointer and length are those of a slice, which is borrowed for the call.
+        // SAFETY: each pointer and length are those of a slice, borrowed for the call, which only reads tables and frames.
         result_of(unsafe {
             x64_pool_fits(
                 &hierarchy,
@@ -289,7 +290,7 @@ impl<'a> AddressSpace<'a> {
     /// Returns what an address is mapped to, or `None` if it is mapped nowhere.
     pub fn translate(&self, address: u64) -> Result<Option<Translation>, Error> {
         let (tables, mut found) = (self.tables(), Translation::default());
-        // SAFETY: as in `unmap`.
+        // SAFETY: the slice is borrowed for the call, which only reads it, and the hierarchy is valid, as in `unmap`.
         match unsafe { x64_translate(&self.hierarchy, tables.as_ptr(), tables.len(), address, &mut found) } {
             NOT_MAPPED => Ok(None),
             status => result_of(status).map(|()| Some(found)),
@@ -304,7 +305,7 @@ impl<'a> AddressSpace<'a> {
     /// Returns where the processor arrives from an address, or `None` if it arrives nowhere.
     pub fn page_walk(&self, address: u64) -> Result<Option<Walked>, Error> {
         let (tables, mut walked) = (self.tables(), Walked::default());
-        // SAFETY: the slice is borrowed for the call.
+        // SAFETY: the slice is borrowed for the call, which only reads it.
         match unsafe { x64_page_walk(&self.hierarchy, tables.as_ptr(), tables.len(), address, &mut walked) } {
             NOT_MAPPED => Ok(None),
             status => result_of(status).map(|()| Some(walked)),
@@ -343,7 +344,7 @@ impl Iterator for Mappings<'_> {
             let (from, mut next) = (self.from.take()?, 0);
             let (tables, found) = (self.tables, &mut self.found);
             (self.at, self.count) = (0, 0);
-            // SAFETY: each pointer and length are those of a slice, which is borrowed for the call.
+            // SAFETY: each pointer and length are those of a slice, borrowed for the call, which only reads the tables.
             let status = unsafe {
                 x64_mappings(
                     &self.hierarchy,

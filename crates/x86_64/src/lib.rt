@@ -32,13 +32,16 @@ pub use x86_64_mappings::{
     mappings_from as mappings_from_57, regions, regions_57,
 };
 pub use x86_64_page::range::Block;
-pub use x86_64_tables::frame_alloc::{FrameKeeper, FramePool, FrameStore, PoolRefusal};
+pub use x86_64_tables::frame_alloc::{
+    FrameKeeper, FramePool, FrameStore, LentPool, OwnFrames, PoolRefusal,
+};
 pub use x86_64_tables::mapper::{
     FlushItem, FlushRecorder, PageTables, PageTables57, Tables, TablesIn, parent_flags,
 };
 pub use x86_64_tables::phys_memory::{
     ActiveMemory, ActiveMemory57, FramePlace, IdentityMapping, LentMemory, PhysMemory,
-    PlacesRefusal, ShiftMapping, TableMemory, Walked, is_valid_hierarchy, is_valid_hierarchy_57,
-    is_valid_recursive, is_valid_recursive_57, page_walk, page_walk_57, pool_fits, pool_fits_57,
-    pool_fits_recursive, pool_fits_recursive_57, tables_alike, tables_alike_57,
+    PlacesRefusal, ShiftMapping, TableMemory, Walked, is_valid_by_marks, is_valid_hierarchy,
+    is_valid_hierarchy_57, is_valid_recursive, is_valid_recursive_57, page_walk, page_walk_57,
+    pool_fits, pool_fits_57, pool_fits_by_marks, pool_fits_recursive, pool_fits_recursive_57,
+    tables_alike, tables_alike_57,
 };

@@ -6,6 +6,12 @@ pub mod NumberedTables
 pub mod WordsSeen
 pub mod ViewMarks
 pub mod AlikeSteps
+pub mod Pigeonhole
 pub mod Pools
+pub mod Stacks
+pub mod LentPools
+pub mod FrameAddresses
+pub mod CountedMarks
+pub mod Rooms
 pub mod Tested
 pub mod LentSteps

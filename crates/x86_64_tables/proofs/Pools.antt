@@ -1,34 +1,17 @@
 -- Frames with marks for their numbers: there is room for one more, and adding it changes the marks.
-use Rattle.std.proofs.Common.{◌≡◌, inl, inr, ⊎_elim, ℕ, ◌*◌, ◌/◌, ◌%◌, ◌<◌, ◌≤◌, eqb, if◌then◌else◌, Bool, true, false, List, [], ◌∷◌, ◌++◌, map, length, slice_set, sym, subst, ◌∙◌, arith}
-use Rattle.std.proofs.lemmas.Bool.{ne_eqb}
+use Rattle.std.proofs.Common.{◌≡◌, inl, inr, ⊎_elim, ℕ, ◌*◌, ◌/◌, ◌%◌, ◌<◌, ◌≤◌, if◌then◌else◌, Bool, true, false, List, [], ◌∷◌, ◌++◌, map, length, slice_set, sym, subst, ◌∙◌, arith}
 use Rattle.std.proofs.lemmas.Bool.Decides.{eqb_tells}
 use Rattle.std.proofs.lemmas.List.{length-map, get_or-set_other, length-set}
 use Rattle.std.proofs.lemmas.Grind.{get_or-set_at}
 use Rattle.std.proofs.lemmas.Map.Steps.{length-le_from_distinct_below}
-use Rattle.std.specs.List.{AllByRecursion, IsDistinct, list_any}
 use Rattle.x86_64_model.specs.Lists.{In, EachOnce}
 use Rattle.x86_64_model.specs.Pool.{serves_below}
 use Rattle.x86_64_model.proofs.Lemmas.Lists.Members.{in_append, in_left, in_right, from_map}
 use Rattle.x86_64_model.proofs.Lemmas.Lists.Once.{once_append, once_map}
 use Rattle.x86_64_tables.specs.FramePool.{IsMarked}
+use Rattle.x86_64_tables.proofs.Pigeonhole.{distinct, found_in}
 
 -- ---- at most as many frames as numbers
-
-apart : (x : ℕ) (xs : List ℕ) → (In xs x → ⊥) → AllByRecursion (λ y. eqb x y ≡ false) xs
-apart x [] out = tt
-apart x (y ∷ xs) out = (ne_eqb x y (λ e. out (inl (sym e))), apart x xs (λ h. out (inr h)))
-
-distinct : (xs : List ℕ) → EachOnce xs → IsDistinct eqb xs
-unfolding IsDistinct
-distinct [] once = tt
-distinct (x ∷ xs) once = (apart x xs once.0, distinct xs once.1)
-
-found_in : (q : ℕ) (xs : List ℕ) → list_any (eqb q) xs ≡ true → In xs q
-found_in q [] h = cc
-found_in q (x ∷ xs) h = elim (eqb_tells q x) [
-  | inl same ↦ inl (sym same.1)
-  | inr other ↦ inr (found_in q xs (cc))
-]
 
 -- there are at most `limit` distinct frames with numbers below the limit
 at_most : (frames : List ℕ) (limit : ℕ) → EachOnce frames → ((f : ℕ) → In frames f → f % 4096 ≡ 0) → ((f : ℕ) → In frames f → f / 4096 < limit) → length frames ≤ limit

@@ -1,17 +1,23 @@
 -- A pool of free frames in an array that its owner lends.
-use Rattle.std.specs.Prelude.{ℕ, ◌==◌, ◌≤◌, Bool, List, None, length, take, reverse}
+use Rattle.std.specs.Prelude.{ℕ, ◌+◌, ◌*◌, ◌%◌, ◌==◌, ◌≤◌, ◌||◌, Bool, cond, List, None, length, take, reverse}
+use Rattle.std.specs.Borrow.{GName}
 use Rattle.std.specs.List.{list_any}
 use Rattle.x86_64_model.specs.Hierarchy.{paths_of}
 use Rattle.x86_64_model.specs.Memory.{Words}
 use Rattle.x86_64_model.specs.Pool.{Fits}
 
--- the free frames in an array whose first entries are the free frames: the last of them first, since it is handed out first
+-- the free frames in an array whose first entries they are: the last of them first, since it is handed out first
 abbrev pub stacked : (entries : List ℕ) → (count : ℕ) → List ℕ
 stacked entries count = reverse (take count entries)
 
 -- whether a frame is in a list
 abbrev pub is_in : (frames : List ℕ) → (frame : ℕ) → Bool
 is_in frames f = list_any (λ g. g == f) frames
+
+-- What a pool serves: its own frames, whose addresses are multiples of 4096, and two other numbers. These name the array and the
+-- count that are lent, so that the loans stay if what is served stays.
+abbrev pub served_by : (own : List ℕ) → (array count : GName) → (frame : ℕ) → Bool
+served_by own array count f = cond (f % 4096 == 0) (is_in own f) (f == 4096 * array + 1 || f == 4096 * count + 2)
 
 -- The hierarchy is valid, a pool fits it, and an array has room for every frame that the pool may ever hold: its own frames, and
 -- those of the tables below the root.

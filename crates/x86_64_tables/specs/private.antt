@@ -2,3 +2,4 @@ pub mod Views
 pub mod HierarchyTests
 pub mod SortedPlaces
 pub mod TableLaws
+pub mod PoolLaws

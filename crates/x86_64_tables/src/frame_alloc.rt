@@ -2,8 +2,10 @@
 ghost use Rattle.std.specs.Prelude.{◌≡◌, ℕ, Bool, true, List, ◌∷◌, drop, slice_get, IsPermutation};
 ghost use Rattle.x86_64_model.specs.Lists.{In};
 
+mod lent_pool;
 mod pool;
 
+pub use lent_pool::{LentPool, OwnFrames};
 pub use pool::{FramePool, PoolRefusal};
 use x86_64_page::frame::PhysFrame;
 use x86_64_page::page::{PageSize, Size4KiB};

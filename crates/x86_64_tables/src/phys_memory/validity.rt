@@ -22,7 +22,7 @@ use x86_64_page::frame::PhysFrame;
 use x86_64_page::page::{PageSize, Size4KiB};
 
 /// The number of 4KiB frames that an entry can address.
-const FRAME_COUNT: u64 = 1 << 40;
+pub(super) const FRAME_COUNT: u64 = 1 << 40;
 
 /// Returns true if the words below the root form a valid hierarchy of four levels.
 ///
@@ -274,9 +274,9 @@ fn limit_of(pool: Option<&FramePool>) -> u64
 
 /// A hierarchy to be tested. The frames that may be met are the root, and those with numbers from 1 to `limit` - 1.
 #[derive(Drop)]
-struct HierarchyTest<'a, T, P> {
-    view: HierarchyView<'a, T, P>,
-    limit: u64,
+pub(super) struct HierarchyTest<'a, T, P> {
+    pub(super) view: HierarchyView<'a, T, P>,
+    pub(super) limit: u64,
 }
 
 impl<'a, T: TableMemory, P: PageTableFrameMapping> HierarchyTest<'a, T, P> {
@@ -311,7 +311,12 @@ impl<'a, T: TableMemory, P: PageTableFrameMapping> HierarchyTest<'a, T, P> {
     /// Checks what `is_sound` checks, except for the recursive index, with one mark per place.
     ///
     /// Requires that all marks are clear.
-    fn is_sound_by(&self, levels: u8, pool: Option<&FramePool>, marks: &mut [bool]) -> bool
+    pub(super) fn is_sound_by(
+        &self,
+        levels: u8,
+        pool: Option<&FramePool>,
+        marks: &mut [bool],
+    ) -> bool
         requires length { length marks.old ≡ length (keys (T.tables self.now.view.memory.now)) }
         requires clear { (k : ℕ) → k < length (keys (T.tables self.now.view.memory.now))
             → slice_index_or marks.old k true ≡ false }
@@ -333,7 +338,12 @@ impl<'a, T: TableMemory, P: PageTableFrameMapping> HierarchyTest<'a, T, P> {
     }
 
     /// Marks the table in a frame and the tables of `levels` levels below it. Returns false if one of them can't be marked.
-    fn mark_tables(&self, marks: &mut [bool], frame: PhysFrame<Size4KiB>, levels: u8) -> bool
+    pub(super) fn mark_tables(
+        &self,
+        marks: &mut [bool],
+        frame: PhysFrame<Size4KiB>,
+        levels: u8,
+    ) -> bool
         requires { length marks.old ≡ length (keys (T.tables self.now.view.memory.now)) }
         ensures { let view = self.now.view in let places = P.places view.mapping in
             let words = seen (T.tables view.memory.now) places view.root view.recursive in
@@ -375,7 +385,7 @@ impl<'a, T: TableMemory, P: PageTableFrameMapping> HierarchyTest<'a, T, P> {
 
     /// Marks a frame. Returns false if the frame has no mark, or was marked before.
     #[tactic(auto, unfolding(x86_64_model::specs::private::Marks::mark_one))]
-    fn mark(&self, marks: &mut [bool], frame: PhysFrame<Size4KiB>) -> bool
+    pub(super) fn mark(&self, marks: &mut [bool], frame: PhysFrame<Size4KiB>) -> bool
         requires { length marks.old ≡ length (keys (T.tables self.now.view.memory.now)) }
         ensures { let view = self.now.view in let places = P.places view.mapping in
             let slot = mark_slot (T.tables view.memory.now) places view.root self.now.limit in

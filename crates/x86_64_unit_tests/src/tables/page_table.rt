@@ -233,10 +233,7 @@ fn tables_are_lists_of_words(rt: HostRuntime) {
     assert!(rt; table.is_empty());
     table[1].set_addr(PhysAddr::new(0x5000), PageTableFlags::PRESENT);
     table[PageTableIndex::new(511)].set_addr(PhysAddr::new(0x6000), PageTableFlags::WRITABLE);
-    let words = (
-        table[PageTableIndex::new(1)].word(),
-        table[511].word(),
-    );
+    let words = (table[PageTableIndex::new(1)].word(), table[511].word());
     assert_equal(rt, words, (0x5001, 0x6002));
     assert!(rt; !table.is_empty() && table[2].is_unused());
     let copy = unwrap(rt, table.clone());

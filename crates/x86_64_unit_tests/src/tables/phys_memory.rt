@@ -2,6 +2,7 @@
 //! levels of page tables and with five.
 mod alike;
 mod lent;
+mod lent_marks;
 mod places;
 mod recursive;
 
