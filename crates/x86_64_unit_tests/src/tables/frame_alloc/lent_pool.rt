@@ -10,7 +10,7 @@ use x86_64_tables::frame_alloc::{FrameAllocator, FrameDeallocator, LentPool, Own
 /// The entries of each array when it is lent.
 const ENTRIES: [u64; 4] = [0x2000, 0x3000, 0x5000, 0x7000];
 
-/// Makes a pool whose free frames are the first `count` entries.
+/// Creates a pool whose free frames are the first `count` entries.
 fn pool_in<'a>(entries: &'a mut [u64], count: &'a mut usize) -> LentPool<'a>
     requires entries { entries.old ≡ 0x2000 ∷ 0x3000 ∷ 0x5000 ∷ 0x7000 ∷ [] }
     requires in_array { count.old ≤ 4 }
@@ -18,7 +18,7 @@ fn pool_in<'a>(entries: &'a mut [u64], count: &'a mut usize) -> LentPool<'a>
     LentPool::new(entries, count, OwnFrames::of())
 }
 
-/// Takes all frames of a pool with a number of free frames, and compares them, in order, with those wanted.
+/// Takes all frames of a pool with a number of free frames, and compares them, in order, and what the array holds then.
 fn check_taken(rt: impl Abort + Copy, free: usize, frames: &[u64])
     requires { free ≤ 4 }
 {
@@ -32,8 +32,8 @@ fn check_taken(rt: impl Abort + Copy, free: usize, frames: &[u64])
     assert_equal_in(rt, free, (entries, count), (ENTRIES, 0));
 }
 
-/// Takes the two frames on top of a pool, as far as they are there, and puts them back in the order in which they came.
-fn turn_two(pool: &mut LentPool<'_>) {
+/// Takes the two frames on top of a pool, or as many as there are, and puts them back in the order in which they came.
+fn swap_two(pool: &mut LentPool<'_>) {
     if let Some(first) = pool.allocate_frame() {
         let second = pool.allocate_frame();
         pool.deallocate_frame(first);
@@ -43,29 +43,29 @@ fn turn_two(pool: &mut LentPool<'_>) {
     }
 }
 
-/// Puts frames back into a pool with a number of free frames, and compares the entries with those wanted.
+/// Puts frames back into a pool with a number of free frames, and compares what the array holds then.
 fn check_put_back(rt: impl Abort + Copy, free: usize, top: Option<u64>, wanted: [u64; 4])
     requires { free ≤ 4 }
 {
     let (mut entries, mut count) = (ENTRIES, free);
     let mut pool = pool_in(&mut entries, &mut count);
-    let first = take_and_put_back(&mut pool);
-    assert_equal_in(rt, free, first, top.map(frame_at));
-    turn_two(&mut pool);
+    // The second time, the frame that came back is on top.
+    for _ in 0..2 {
+        let taken = take_and_put_back(&mut pool);
+        assert_equal_in(rt, free, taken, top.map(frame_at));
+    }
+    swap_two(&mut pool);
     drop(pool);
     assert_equal_in(rt, free, (entries, count), (wanted, free));
 }
 
-/// By the number of free frames: the frames in the order in which they are taken, and the entries after the two on top
-/// changed places.
+/// For each number of free frames, from 0 on: the frames in the order in which they are handed out, and the entries after
+/// the two frames on top changed places.
 const STACKS: [(&[u64], [u64; 4]); 5] = [
     (&[], [0x2000, 0x3000, 0x5000, 0x7000]),
     (&[0x2000], [0x2000, 0x3000, 0x5000, 0x7000]),
     (&[0x3000, 0x2000], [0x3000, 0x2000, 0x5000, 0x7000]),
-    (
-        &[0x5000, 0x3000, 0x2000],
-        [0x2000, 0x5000, 0x3000, 0x7000],
-    ),
+    (&[0x5000, 0x3000, 0x2000], [0x2000, 0x5000, 0x3000, 0x7000]),
     (
         &[0x7000, 0x5000, 0x3000, 0x2000],
         [0x2000, 0x3000, 0x7000, 0x5000],
@@ -75,8 +75,8 @@ const STACKS: [(&[u64], [u64; 4]); 5] = [
 #[test]
 fn lent_pools_are_stacks(rt: HostRuntime) {
     for free in 0..5 {
-        let (frames, turned) = STACKS[free];
+        let (frames, swapped) = STACKS[free];
         check_taken(rt, free, frames);
-        check_put_back(rt, free, frames.first().copied(), turned);
+        check_put_back(rt, free, frames.first().copied(), swapped);
     }
 }

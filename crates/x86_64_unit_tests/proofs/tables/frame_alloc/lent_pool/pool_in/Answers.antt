@@ -1,4 +1,4 @@
-use Rattle.std.proofs.Common.{◌≡◌, ◌∷◌, ◌≤◌, ◌<◌, ◌%◌, ◌^◌, [], ℕ, inl, inr, true, false, length, List, refl, sym, ap, subst, ◌∙◌, arith, lit<}
+use Rattle.std.proofs.Common.{◌≡◌, ◌∷◌, ◌≤◌, ◌<◌, ◌%◌, ◌^◌, [], ℕ, inl, inr, true, false, length, List, refl, sym, subst, arith, lit<}
 use Rattle.std.proofs.lemmas.Bool.{eq-eqb}
 use Rattle.x86_64_model.specs.Entry.{is_frame}
 use Rattle.x86_64_model.specs.Lists.{In, EachOnce}
@@ -7,24 +7,28 @@ use Rattle.x86_64_tables.specs.LentPool.{stacked, is_in}
 use Rattle.x86_64_tables.proofs.Stacks.{is_in_list, lower_once, lower_in}
 use Rattle.x86_64_unit_tests.proofs.tables.frame_alloc.lent_pool.pool_in.Goals as goal
 
+-- the entries
 abbrev lent : List ℕ
 lent = 0x2000 ∷ 0x3000 ∷ 0x5000 ∷ 0x7000 ∷ []
 
-abbrev turned : List ℕ
-turned = 0x7000 ∷ 0x5000 ∷ 0x3000 ∷ 0x2000 ∷ []
+-- all of them, as free frames
+abbrev handed_out : List ℕ
+handed_out = 0x7000 ∷ 0x5000 ∷ 0x3000 ∷ 0x2000 ∷ []
 
 apart : (fs : List ℕ) (f : ℕ) → is_in fs f ≡ false → In fs f → ⊥
 apart fs f out is = let among = is_in_list fs f is in cc
 
-all_once : EachOnce turned
-all_once = (apart (0x5000 ∷ 0x3000 ∷ 0x2000 ∷ []) 0x7000 refl,
-    (apart (0x3000 ∷ 0x2000 ∷ []) 0x5000 refl, (apart (0x2000 ∷ []) 0x3000 refl, (apart [] 0x2000 refl, tt))))
+all_once : EachOnce handed_out
+all_once = (
+  apart (0x5000 ∷ 0x3000 ∷ 0x2000 ∷ []) 0x7000 refl,
+  (apart (0x3000 ∷ 0x2000 ∷ []) 0x5000 refl, (apart (0x2000 ∷ []) 0x3000 refl, (apart [] 0x2000 refl, tt))),
+)
 
 frame : (f : ℕ) → f % 4096 ≡ 0 → f < 2 ^ 52 → is_frame f ≡ true
 frame f multiple below = eq-eqb _ _ (address-multiple f multiple below)
 
 -- what holds for each entry
-each : (P : ℕ → Type 0) → P 0x7000 → P 0x5000 → P 0x3000 → P 0x2000 → (f : ℕ) → In turned f → P f
+each : (P : ℕ → Type 0) → P 0x7000 → P 0x5000 → P 0x3000 → P 0x2000 → (f : ℕ) → In handed_out f → P f
 each P a b c d f (inl is) = subst P is a
 each P a b c d f (inr (inl is)) = subst P is b
 each P a b c d f (inr (inr (inl is))) = subst P is c
@@ -32,7 +36,7 @@ each P a b c d f (inr (inr (inr (inl is)))) = subst P is d
 each P a b c d f (inr (inr (inr (inr is)))) = absurd is
 
 -- the free frames are among the entries
-among : (entries : List ℕ) (count f : ℕ) → entries ≡ lent → count ≤ 4 → In (stacked entries count) f → In turned f
+among : (entries : List ℕ) (count f : ℕ) → entries ≡ lent → count ≤ 4 → In (stacked entries count) f → In handed_out f
 among entries count f same few is =
     let size : length lent ≡ 4 = refl in
     lower_in lent count 4 f (omega (arith, size)) (subst (λ es. In (stacked es count) f) same is) few

@@ -4,7 +4,7 @@ use Rattle.x86_64_model.specs.Lists.{In}
 use Rattle.x86_64_tables.specs.LentPool.{stacked, served_by}
 use Rattle.x86_64_tables.specs.declared.frame_alloc.lent_pool.LentPool.{LentPool}
 use Rattle.x86_64_tables.specs.private.PoolLaws.{served_frame}
-use Rattle.x86_64_unit_tests.proofs.tables.frame_alloc.lent_pool.turn_two.Goals as goal
+use Rattle.x86_64_unit_tests.proofs.tables.frame_alloc.lent_pool.swap_two.Goals as goal
 
 first_in : (fs : List ℕ) (f : ℕ) → slice_get fs 0 ≡ Some f → In fs f
 first_in [] f is = cc
