@@ -1,6 +1,6 @@
 /*
- * Maps a page, looks it up, lists it, unmaps it, and takes the empty tables away again. The tables are those of the picture in the
- * README: frames 0x1000 to 0x4000, of which the first is the root's. It prints what it does, line by line.
+ * Maps a page, looks it up, lists it, unmaps it, and takes the empty tables away again. The tables are those of the first picture
+ * in docs/DEFINITIONS.md: frames 0x1000 to 0x4000, of which the first is the root's. It prints what it does, line by line.
  */
 #include <inttypes.h>
 #include <stdio.h>

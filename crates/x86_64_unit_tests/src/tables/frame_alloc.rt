@@ -2,6 +2,8 @@
 ghost use Rattle.std.specs.Prelude.{◌≡◌, drop, slice_get, IfSome};
 ghost use Rattle.x86_64_model.specs.Lists.{EachOnce};
 
+mod lent_pool;
+
 use crate::assertions::{assert_equal, assert_equal_at, assert_equal_in, unwrap};
 use crate::tables::frame_at;
 use crate::tables::phys_memory::pool_with;

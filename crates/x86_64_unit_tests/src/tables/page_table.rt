@@ -193,6 +193,25 @@ fn entries_are_words(rt: HostRuntime) {
     }
 }
 
+/// Words, and their address and flags.
+const WORDS: [(u64, u64, u64); 3] = [
+    (0x0, 0x0, 0x0),
+    (u64::MAX, 0x000f_ffff_ffff_f000, 0xfff0_0000_0000_0fff),
+    (0x8000_0000_0000_1067, 0x1000, 0x8000_0000_0000_0067),
+];
+
+#[test]
+fn entries_hold_any_word(rt: HostRuntime) {
+    let mut changed = PageTableEntry::from_word(0x5003);
+    for (word, addr, flags) in WORDS {
+        let wanted = (word, (word, addr, flags, word == 0));
+        let made = PageTableEntry::from_word(word);
+        assert_equal_at(rt, word, (made.word(), parts(&made)), wanted);
+        changed.set_word(word);
+        assert_equal_at(rt, word, (changed.word(), parts(&changed)), wanted);
+    }
+}
+
 #[tactic(auto, unfolding(x86_64_model::specs::Entry::has))]
 #[test]
 fn entries_are_changed(rt: HostRuntime) {

@@ -1,0 +1,12 @@
+//! Callers of the library, each with a contract, which `README.md` and `docs/USING.md` quote.
+#![tactic(auto)]
+
+pub mod after_level_4_table_mut;
+pub mod first;
+pub mod list_mappings;
+pub mod load_segments;
+pub mod own_allocator;
+pub mod own_memory;
+pub mod porting;
+pub mod run_list;
+pub mod translate_in_dump;
