@@ -4,6 +4,7 @@ use Rattle.std.specs.Option.{option_or}
 use Rattle.x86_64_model.specs.Call.{Call}
 use Rattle.x86_64_model.specs.Mapper.{Hierarchy, Does, PoolFits, allows, machine_of, state_of}
 use Rattle.x86_64_model.specs.Refusal.{Refusal, PageNotMapped, ParentEntryHugePage, InvalidFrameAddress, PageAlreadyMapped, FrameAllocationFailed, Answer, Done, Refused}
+use Rattle.x86_64_tables.specs.LentPool.{is_in, stacked}
 use Rattle.x86_64_tables.specs.MapperAnswers.{map_refusal, unmap_refusal, update_refusal, translate_refusal}
 use Rattle.x86_64_tables.specs.PageTableFlags.{bits_of}
 use Rattle.x86_64.specs.Asked as asked
@@ -100,6 +101,10 @@ abbrev pub told_frame : Answer → (before : ℕ) → ℕ
 told_frame (Done frame) before = frame
 told_frame (Refused why) before = told_by why before
 
+-- An unmap was answered so, and wrote the frame.
+abbrev pub Unmaps : (h : Hierarchy (Unit {0})) (call : Call) (after : Hierarchy (Unit {0})) (status before frame : ℕ) → Type 0
+Unmaps h call after s before frame = (answer : Answer) × Changes h call answer after s × (frame ≡ told_frame answer before)
+
 -- ---- calls with a pool
 
 -- What is wrong with a hierarchy and with a pool of so many free frames in an array.
@@ -109,6 +114,10 @@ bad_pool h count capacity free = option_or (bad_hierarchy h count) (unless (nat_
 -- A pool puts a frame that comes back at the front.
 abbrev pub to_front : (held : List ℕ) → (frame : ℕ) → List ℕ
 to_front held f = f ∷ held
+
+-- The hierarchy is valid, and the free frames in an array fit it, for a pool that may hold these frames.
+abbrev pub OwnFits : (own : List ℕ) → Hierarchy (Unit {0}) → (entries : List ℕ) → (count : ℕ) → Type 0
+OwnFits own h entries count = PoolFits h (is_in own) (stacked entries count)
 
 -- A call was executed as the machine does it, where the pool takes frames back so, with the status of the reply. The hierarchy is
 -- valid again, and the rest of the pool fits it. If the reply says that nothing changed, no word did. Free frames keep their words,

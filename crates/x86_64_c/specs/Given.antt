@@ -15,88 +15,87 @@ use Rattle.x86_64_c.specs.declared.given.AnyPage.{AnyPage}
 use Rattle.x86_64_c.specs.declared.given.AnyPage.TheVariants.{Of4KiB, Of2MiB, Of1GiB}
 use Rattle.x86_64_c.specs.declared.given.Page.{Page}
 
--- the hierarchy in a memory where the frame of number `first` lies at place 0, the next at place 1, and so on
-abbrev pub located_in : Hierarchy → Memory → mapper.Hierarchy (Unit {0})
-located_in h memory = owned_at h.levels (shifted_places h.first) h.root memory tt
-
--- the hierarchy in the caller's tables: table i is that of frame first + i
+-- The hierarchy in the caller's tables: table i is that of the frame of number first + i.
 abbrev pub hierarchy_in : Hierarchy → (tables : List (List ℕ)) → mapper.Hierarchy (Unit {0})
-hierarchy_in h tables = located_in h (numbered tables)
+hierarchy_in h tables = owned_at h.levels (shifted_places h.first) h.root (numbered tables) tt
 
--- the places of frames in a located hierarchy
+-- The places of frames in a located hierarchy.
 abbrev pub places_of : Located → Places
 places_of located = shifted_places located.mapping.first
 
--- the hierarchy of so many levels at a root, in a memory
+-- The located hierarchy in a memory, with this number of levels.
 abbrev pub at : (levels : ℕ) → Located → Memory → mapper.Hierarchy (Unit {0})
 at levels located memory = owned_at levels (places_of located) located.root memory tt
 
--- the status if a test fails
+-- The status if a test fails.
 abbrev pub unless : (test : Bool) → (status : ℕ) → Option ℕ
 unless test s = cond test None (Some s)
 
--- whether a frame of a size starts at a physical address
+-- Whether a frame of a size starts at a physical address.
 abbrev pub starts_frame : (size start : ℕ) → Bool
 starts_frame size f = nat_lt f (2 ^ 52) && (f % size == 0)
 
--- whether the 4KiB frame at an address has one of the tables
+-- Whether the 4KiB frame at an address has one of the tables.
 abbrev pub has_table : (first count frame : ℕ) → Bool
 has_table first count f = starts_frame 4096 f && (nat_le first (f / 4096) && nat_lt (f / 4096 - first) count)
 
--- what is wrong with a hierarchy in an array of tables
+-- What is wrong with a hierarchy in an array of tables, if anything is.
 abbrev pub bad_hierarchy : Hierarchy → (count : ℕ) → Option ℕ
 bad_hierarchy h count =
     option_or (unless ((h.levels == 4) || (h.levels == 5)) status.bad_levels) (unless (has_table h.first count h.root) status.bad_root)
 
--- whether a raw value, which has 64 bits, is canonical
+-- Whether a raw value of 64 bits is canonical.
 abbrev pub is_canonical : (L value : ℕ) → Bool
 is_canonical L n = nat_lt n (lower_half L) || nat_le (2 ^ 64 - lower_half L) n
 
+-- What is wrong with a virtual address.
 abbrev pub bad_address : (L address : ℕ) → Option ℕ
 bad_address L a = unless (is_canonical L a) status.bad_address
 
--- what is wrong with what a call that reads at an address is given
+-- What is wrong with the arguments of a call that reads at an address.
 abbrev pub bad_read : Hierarchy → (count address : ℕ) → Option ℕ
 bad_read h count a = option_or (bad_hierarchy h count) (bad_address h.levels a)
 
--- what is wrong with what a test is given, with so many marks
+-- What is wrong with the arguments of a test of validity. It needs a mark for each table.
 abbrev pub bad_test : Hierarchy → (count marks : ℕ) → Option ℕ
 bad_test h count marks = option_or (bad_hierarchy h count) (unless (nat_le count marks) status.bad_array)
 
--- what is wrong with what a test of a pool is given
+-- What is wrong with the arguments of a test of a pool.
 abbrev pub bad_fit : Hierarchy → (count capacity free marks : ℕ) → Option ℕ
 bad_fit h count capacity free marks =
     option_or (bad_hierarchy h count) (unless (nat_le free capacity && nat_le count marks) status.bad_array)
 
--- the status of a test
+-- The status of a test.
 abbrev pub test_status : (passed : Bool) → ℕ
 test_status passed = cond passed status.ok status.not_valid
 
--- the position of an address: its lowest 48 bits with four levels, 57 with five
+-- The position of an address: its lowest 48 bits with four levels, its lowest 57 with five.
 abbrev pub position_of : (L address : ℕ) → ℕ
 position_of L a = a % position_count L
 
 -- ---- pages
 
+-- Whether pages have this size.
 abbrev pub is_size : (size : ℕ) → Bool
 is_size size = (size == 0x1000) || (size == 0x20_0000) || (size == 0x4000_0000)
 
--- whether a page of a size starts at an address: as sizes divide 2^48, its position is a multiple of the size if the address is
+-- Whether a page of a size starts at an address. Sizes divide 2^48, so the address is a multiple of one if its position is.
 abbrev pub starts_page : (L size start : ℕ) → Bool
 starts_page L size start = is_canonical L start && (position_of L start % size == 0)
 
+-- What is wrong with a page.
 abbrev pub bad_page : (L : ℕ) → Page → Option ℕ
 bad_page L page = unless (is_size page.size && starts_page L page.size page.start) status.bad_page
 
--- the level of the entries that map pages of a size
+-- The level of the entries that map pages of a size.
 abbrev pub level_of : (size : ℕ) → ℕ
 level_of size = cond (size == 0x1000) 1 (cond (size == 0x20_0000) 2 3)
 
--- the path of a page
+-- The path of a page.
 abbrev pub path_of_page : (L : ℕ) → Page → List ℕ
 path_of_page L page = path_at L (level_of page.size) (position_of L page.start)
 
--- the level of the entries that map a page, and the position of its start
+-- The level of the entries that map a page, and the position of its start.
 abbrev pub any_level : {L : Type 0} → AnyPage L → ℕ
 any_level (Of4KiB p) = 1
 any_level (Of2MiB p) = 2
@@ -107,11 +106,11 @@ any_position (Of4KiB p) = p
 any_position (Of2MiB p) = p
 any_position (Of1GiB p) = p
 
--- the level and the position are those of a page
+-- The level and the position are those of the page.
 pub record IsPageOf (L : ℕ) (page : Page) (level position : ℕ) : Type 0 where
   pub level_is : level ≡ level_of page.size
   pub position_is : position ≡ position_of L page.start
 
--- what is wrong with a frame of a size
+-- What is wrong with the address of a frame of a size.
 abbrev pub bad_frame : (size frame : ℕ) → Option ℕ
 bad_frame size frame = unless (starts_frame size frame) status.bad_frame

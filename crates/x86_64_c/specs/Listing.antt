@@ -5,7 +5,7 @@ use Rattle.x86_64_model.specs.Position.{raw}
 use Rattle.x86_64_c.specs.Status as status
 use Rattle.x86_64_c.specs.declared.listing.Mapping.{Mapping}
 
--- a mapping as it is written: it starts at an address, not at a position
+-- A mapping as it is written: it starts at an address, not at a position.
 abbrev pub written : (L : ℕ) → model.Mapping → Mapping
 written L m = record {
   start = raw L m.start;
@@ -17,7 +17,7 @@ written L m = record {
   execute = m.rights.execute;
 }
 
--- the status after the array was filled, and where to go on, by the mappings that are left
+-- The status after the array is filled, and where to go on, by the mappings that are left.
 abbrev pub TellsRest : (L : ℕ) → (rest : List model.Mapping) → (status before next : ℕ) → Type 0
 TellsRest L [] s before next = (s ≡ status.ok) × (next ≡ before)
 TellsRest L (m ∷ ms) s before next = (s ≡ status.more) × (next ≡ raw L m.start)

@@ -4,19 +4,19 @@ use Rattle.std.specs.Prelude.{ℕ}
 abbrev pub ok : ℕ
 ok = 0
 
--- the address is mapped nowhere
+-- The address is mapped nowhere.
 abbrev pub not_mapped : ℕ
 not_mapped = 1
 
--- the array is full, and there are more mappings
+-- The array is full, and there are more mappings.
 abbrev pub more : ℕ
 more = 2
 
--- the hierarchy isn't valid, or the pool doesn't fit it
+-- The hierarchy isn't valid, or the pool doesn't fit it.
 abbrev pub not_valid : ℕ
 not_valid = 3
 
--- the call's condition does not hold
+-- The call's condition does not hold.
 abbrev pub not_allowed : ℕ
 not_allowed = 4
 

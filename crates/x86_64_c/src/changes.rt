@@ -6,7 +6,6 @@ ghost use Rattle.x86_64_c.specs.Status as status;
 ghost use Rattle.x86_64_model.specs.Call.{Call, Unmap, UpdateFlags, SetFlags};
 ghost use Rattle.x86_64_model.specs.Mapper.{Valid, allows, path_of};
 ghost use Rattle.x86_64_model.specs.Path.{path_at};
-ghost use Rattle.x86_64_model.specs.Refusal.{Answer};
 ghost use Rattle.x86_64_tables.specs.MapperAnswers.{unmap_answer, unmap_refusal, flags_answer};
 ghost use Rattle.x86_64_tables.specs.PageTableFlags.{bits_of};
 
@@ -41,7 +40,7 @@ pub extern "C" fn x64_unmap(
         let after = given.hierarchy_in hierarchy.now tables.new in
         let call = Unmap (given.path_of_page h.layout.levels page.now) in
         calls.bad_on_page hierarchy.now (length tables.old) page.now ≡ None
-        → (answer : Answer) × calls.Changes h call answer after result × (frame.new ≡ calls.told_frame answer frame.old) }
+        → calls.Unmaps h call after result frame.old frame.new }
 {
     let located = match locate(hierarchy, tables.len()) {
         Ok(located) => located,
@@ -69,7 +68,7 @@ fn unmap_in<L: LevelCount, T: TableMemory>(
         let after = given.at L.LEVELS located (T.tables memory.new) in
         let call = Unmap (given.path_of_page L.LEVELS page.now) in
         given.bad_page L.LEVELS page.now ≡ None
-        → (answer : Answer) × calls.Changes h call answer after result × (frame.new ≡ calls.told_frame answer frame.old) }
+        → calls.Unmaps h call after result frame.old frame.new }
     ensures lent { T.lent memory.new ≡ T.lent memory.old }
 {
     let Some(page) = page_of::<L>(page) else {
@@ -93,7 +92,7 @@ fn unmap_page<S: PageSize, L: LevelCount, T: TableMemory>(
     ensures unmaps { let h = given.at L.LEVELS located (T.tables memory.old) in
         let after = given.at L.LEVELS located (T.tables memory.new) in
         let call = Unmap (path_at L.LEVELS S.LEVEL page) in
-        (answer : Answer) × calls.Changes h call answer after result × (frame.new ≡ calls.told_frame answer frame.old) }
+        calls.Unmaps h call after result frame.old frame.new }
     ensures lent { T.lent memory.new ≡ T.lent memory.old }
 {
     let mut mapper = MappedPageTableIn::<_, L, T>::new(memory, located.root, located.mapping);
@@ -153,7 +152,8 @@ pub extern "C" fn x64_update_flags(
     ensures updates { let h = given.hierarchy_in hierarchy.now tables.old in
         let after = given.hierarchy_in hierarchy.now tables.new in
         let call = UpdateFlags (given.path_of_page h.layout.levels page.now) flags in
-        calls.bad_on_page hierarchy.now (length tables.old) page.now ≡ None → calls.MayChange h call after result }
+        calls.bad_on_page hierarchy.now (length tables.old) page.now ≡ None
+        → calls.MayChange h call after result }
 {
     let located = match locate(hierarchy, tables.len()) {
         Ok(located) => located,
@@ -245,12 +245,14 @@ pub extern "C" fn x64_set_table_flags(
 ) -> u32
     requires { given.bad_hierarchy hierarchy.now (length tables.old) ≡ None
         → Valid (given.hierarchy_in hierarchy.now tables.old) }
-    ensures bad { (status : ℕ) → calls.bad_on_table hierarchy.now (length tables.old) level page.now ≡ Some status
-        → (result ≡ status) × (tables.new ≡ tables.old) }
+    ensures bad { (status : ℕ) →
+        calls.bad_on_table hierarchy.now (length tables.old) level page.now ≡ Some status →
+        (result ≡ status) × (tables.new ≡ tables.old) }
     ensures sets { let h = given.hierarchy_in hierarchy.now tables.old in
         let after = given.hierarchy_in hierarchy.now tables.new in
         let call = SetFlags level (given.path_of_page h.layout.levels page.now) flags in
-        calls.bad_on_table hierarchy.now (length tables.old) level page.now ≡ None → calls.MayChange h call after result }
+        calls.bad_on_table hierarchy.now (length tables.old) level page.now ≡ None
+        → calls.MayChange h call after result }
 {
     let located = match locate(hierarchy, tables.len()) {
         Ok(located) => located,

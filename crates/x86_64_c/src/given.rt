@@ -85,7 +85,8 @@ fn root_of(hierarchy: &Hierarchy, table_count: usize) -> Option<PhysFrame<Size4K
     ensures some { IfSome result (λ root. root ≡ hierarchy.now.root) }
     ensures there { IfSome result (λ _.
         given.has_table hierarchy.now.first table_count hierarchy.now.root ≡ true) }
-    ensures none { IfNone result (given.has_table hierarchy.now.first table_count hierarchy.now.root ≡ false) }
+    ensures none { IfNone result (
+        given.has_table hierarchy.now.first table_count hierarchy.now.root ≡ false) }
 {
     let root = frame_at::<Size4KiB>(hierarchy.root)?;
     let number = hierarchy.root / Size4KiB::SIZE;
@@ -107,7 +108,8 @@ pub fn frame_at<S: PageSize>(start: u64) -> Option<PhysFrame<S>>
 
 /// Returns a page, if it is one with `L` levels of tables.
 pub fn page_of<L: LevelCount>(page: &Page) -> Option<AnyPage<L>>
-    ensures some { IfSome result (λ any. given.IsPageOf L.LEVELS page.now (given.any_level any) (given.any_position any)) }
+    ensures some { IfSome result (λ any.
+        given.IsPageOf L.LEVELS page.now (given.any_level any) (given.any_position any)) }
     ensures good { IfSome result (λ _. given.bad_page L.LEVELS page.now ≡ None) }
     ensures bad { IfNone result (given.bad_page L.LEVELS page.now ≡ Some status.bad_page) }
 {

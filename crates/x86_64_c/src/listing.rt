@@ -69,9 +69,11 @@ pub extern "C" fn x64_mappings(
     next: &mut u64,
 ) -> u32
     ensures bad { (status : ℕ) → given.bad_read hierarchy.now (length tables.old) from ≡ Some status
-        → (result ≡ status) × (mappings.new ≡ mappings.old) × (count.new ≡ count.old) × (next.new ≡ next.old) }
+        → (result ≡ status) × (mappings.new ≡ mappings.old)
+        × (count.new ≡ count.old) × (next.new ≡ next.old) }
     ensures lists { let h = given.hierarchy_in hierarchy.now tables.old in let L = h.layout.levels in
-        let all = model.mappings_from (given.position_of L from) (model.mappings_of L (words h) h.layout.root) in
+        let of_root = model.mappings_of L (words h) h.layout.root in
+        let all = model.mappings_from (given.position_of L from) of_root in
         given.bad_read hierarchy.now (length tables.old) from ≡ None
         → listing.Lists L all mappings.old result mappings.new count.new next.old next.new }
     ensures tables { tables.new ≡ tables.old }
@@ -98,7 +100,8 @@ fn list_in<L: LevelCount, T: TableMemory>(
     next: &mut u64,
 ) -> u32
     ensures bad { (status : ℕ) → given.bad_address L.LEVELS from ≡ Some status
-        → (result ≡ status) × (mappings.new ≡ mappings.old) × (count.new ≡ count.old) × (next.new ≡ next.old) }
+        → (result ≡ status) × (mappings.new ≡ mappings.old)
+        × (count.new ≡ count.old) × (next.new ≡ next.old) }
     ensures lists { let words = words_of (T.tables memory.now) (given.places_of located) in
         let of_root = model.mappings_of L.LEVELS words located.root in
         let all = model.mappings_from (given.position_of L.LEVELS from) of_root in

@@ -38,16 +38,19 @@ pub extern "C" fn x64_map(
     ghost own: { List ℕ }
     requires room { length own ≤ length pool.old }
     requires fits { calls.bad_pool hierarchy.now (length tables.old) (length pool.old) free_count.old ≡ None
-        → PoolFits (given.hierarchy_in hierarchy.now tables.old) (is_in own) (stacked pool.old free_count.old) }
+        → calls.OwnFits own (given.hierarchy_in hierarchy.now tables.old) pool.old free_count.old }
     ensures bad { let free = free_count.old in let other = calls.bad_map hierarchy.now.levels request.now in
-        (status : ℕ) → calls.bad_with_pool hierarchy.now (length tables.old) (length pool.old) free other ≡ Some status
-        → (result ≡ status) × (tables.new ≡ tables.old) × (pool.new ≡ pool.old) × (free_count.new ≡ free_count.old) }
+        (status : ℕ) →
+        calls.bad_with_pool hierarchy.now (length tables.old) (length pool.old) free other ≡ Some status →
+        (result ≡ status) × (tables.new ≡ tables.old)
+        × (pool.new ≡ pool.old) × (free_count.new ≡ free_count.old) }
     ensures runs { let h = given.hierarchy_in hierarchy.now tables.old in
         let after = given.hierarchy_in hierarchy.now tables.new in
         let free = stacked pool.old free_count.old in let rest = stacked pool.new free_count.new in
         let other = calls.bad_map h.layout.levels request.now in
+        let call = calls.map_call h.layout.levels request.now in
         calls.bad_with_pool hierarchy.now (length tables.old) (length pool.old) free_count.old other ≡ None
-        → calls.Runs calls.to_front (is_in own) h free (calls.map_call h.layout.levels request.now) after rest result }
+        → calls.Runs calls.to_front (is_in own) h free call after rest result }
     ensures room { length pool.new ≡ length pool.old }
     ensures in_array { free_count.old ≤ length pool.old → free_count.new ≤ length pool.new }
 {
@@ -143,7 +146,7 @@ fn run_lent(
     requires in_array { free_count.old ≤ length pool.old }
     requires room { length own ≤ length pool.old }
     requires fits { let h = given.at (calls.any_levels call) located (numbered tables.old) in
-        PoolFits h (is_in own) (stacked pool.old free_count.old) }
+        calls.OwnFits own h pool.old free_count.old }
     ensures runs { let h = given.at (calls.any_levels call) located (numbered tables.old) in
         let after = given.at (calls.any_levels call) located (numbered tables.new) in
         let free = stacked pool.old free_count.old in let rest = stacked pool.new free_count.new in
@@ -166,7 +169,8 @@ fn run_in<L: LevelCount, P5: LevelFiveFlags<L>, T: TableMemory, F: FrameStore>(
     frames: &mut F,
     call: CallIn<L, P5>,
 ) -> u32
-    requires { PoolFits (given.at L.LEVELS located (T.tables memory.old)) (F.serves frames.old) (F.supply frames.old) }
+    requires { let h = given.at L.LEVELS located (T.tables memory.old) in
+        PoolFits h (F.serves frames.old) (F.supply frames.old) }
     ensures runs { let h = given.at L.LEVELS located (T.tables memory.old) in
         let after = given.at L.LEVELS located (T.tables memory.new) in
         let free = F.supply frames.old in let rest = F.supply frames.new in
@@ -196,10 +200,13 @@ pub extern "C" fn x64_clean_up(
     ghost own: { List ℕ }
     requires room { length own ≤ length pool.old }
     requires fits { calls.bad_pool hierarchy.now (length tables.old) (length pool.old) free_count.old ≡ None
-        → PoolFits (given.hierarchy_in hierarchy.now tables.old) (is_in own) (stacked pool.old free_count.old) }
-    ensures bad { let free = free_count.old in let other = calls.bad_range hierarchy.now.levels first_page last_page in
-        (status : ℕ) → calls.bad_with_pool hierarchy.now (length tables.old) (length pool.old) free other ≡ Some status
-        → (result ≡ status) × (tables.new ≡ tables.old) × (pool.new ≡ pool.old) × (free_count.new ≡ free_count.old) }
+        → calls.OwnFits own (given.hierarchy_in hierarchy.now tables.old) pool.old free_count.old }
+    ensures bad { let free = free_count.old in
+        let other = calls.bad_range hierarchy.now.levels first_page last_page in
+        (status : ℕ) →
+        calls.bad_with_pool hierarchy.now (length tables.old) (length pool.old) free other ≡ Some status →
+        (result ≡ status) × (tables.new ≡ tables.old)
+        × (pool.new ≡ pool.old) × (free_count.new ≡ free_count.old) }
     ensures runs { let h = given.hierarchy_in hierarchy.now tables.old in
         let after = given.hierarchy_in hierarchy.now tables.new in
         let free = stacked pool.old free_count.old in let rest = stacked pool.new free_count.new in

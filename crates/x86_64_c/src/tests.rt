@@ -25,8 +25,9 @@ pub extern "C" fn x64_is_valid(
     tables: &mut [PageTable],
     marks: &mut [bool],
 ) -> u32
-    ensures bad { (status : ℕ) → given.bad_test hierarchy.now (length tables.old) (length marks.old) ≡ Some status
-        → (result ≡ status) × (marks.new ≡ marks.old) }
+    ensures bad { (status : ℕ) →
+        given.bad_test hierarchy.now (length tables.old) (length marks.old) ≡ Some status →
+        (result ≡ status) × (marks.new ≡ marks.old) }
     ensures valid { given.bad_test hierarchy.now (length tables.old) (length marks.old) ≡ None
         → (result ≡ status.ok) ↔ Valid (given.hierarchy_in hierarchy.now tables.old) }
     ensures otherwise { given.bad_test hierarchy.now (length tables.old) (length marks.old) ≡ None
@@ -74,12 +75,15 @@ pub extern "C" fn x64_pool_fits(
     free_count: usize,
     marks: &mut [bool],
 ) -> u32
-    ensures bad { (status : ℕ) → given.bad_fit hierarchy.now (length tables.old) (length pool.now) free_count (length marks.old)
-        ≡ Some status → (result ≡ status) × (marks.new ≡ marks.old) }
+    ensures bad { let capacity = length pool.now in (status : ℕ) →
+        given.bad_fit hierarchy.now (length tables.old) capacity free_count (length marks.old) ≡ Some status →
+        (result ≡ status) × (marks.new ≡ marks.old) }
     ensures fits { let h = given.hierarchy_in hierarchy.now tables.old in let capacity = length pool.now in
         given.bad_fit hierarchy.now (length tables.old) capacity free_count (length marks.old) ≡ None
-        → (result ≡ status.ok) ↔ FitsRoom h.layout.levels (words h) h.layout.root capacity (stacked pool.now free_count) }
-    ensures otherwise { given.bad_fit hierarchy.now (length tables.old) (length pool.now) free_count (length marks.old) ≡ None
+        → (result ≡ status.ok)
+        ↔ FitsRoom h.layout.levels (words h) h.layout.root capacity (stacked pool.now free_count) }
+    ensures otherwise { let capacity = length pool.now in
+        given.bad_fit hierarchy.now (length tables.old) capacity free_count (length marks.old) ≡ None
         → (result ≡ status.ok) ⊎ (result ≡ status.not_valid) }
     ensures tables { tables.new ≡ tables.old }
 {
