@@ -1,5 +1,5 @@
 -- What is wrong with arguments, once the hierarchy is right.
-use Rattle.std.proofs.Common.{◌≡◌, ◌⊎◌, ⊎_elim, ℕ, nat_le, ◌≤◌, Bool, true, false, Option, Some, None, List, length, rules, sym, ap, ◌∙◌, le-leb, arith}
+use Rattle.std.proofs.Common.{◌≡◌, ◌⊎◌, ⊎_elim, ℕ, nat_le, ◌≤◌, true, Option, None, List, length, rules, ap, ◌∙◌, le-leb, arith}
 use Rattle.std.specs.FinMap.{len}
 use Rattle.std.specs.Option.{option_or}
 use Rattle.x86_64_tables.specs.LentMemory.{numbered, tables_in_order}

@@ -1,4 +1,4 @@
-use Rattle.std.proofs.Common.{refl, rules, lit≤}
+use Rattle.std.proofs.Common.{rules}
 use Rattle.x86_64_model.specs.Call.{SetFlags}
 use Rattle.x86_64_model.specs.Path.{path_at}
 use Rattle.x86_64_mappers.specs.Layouts.{direct_at}

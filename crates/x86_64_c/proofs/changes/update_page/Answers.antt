@@ -1,4 +1,4 @@
-use Rattle.std.proofs.Common.{refl, rules}
+use Rattle.std.proofs.Common.{rules}
 use Rattle.x86_64_model.specs.Call.{UpdateFlags}
 use Rattle.x86_64_model.specs.Path.{path_at}
 use Rattle.x86_64_mappers.specs.Layouts.{direct_at}

@@ -1,4 +1,4 @@
-use Rattle.std.proofs.Common.{length, map, ◌<◌, ◌≤◌, ◌+◌, ◌++◌, take, drop, slice_set, sym, ap, ◌∙◌, arith}
+use Rattle.std.proofs.Common.{length, map, ◌++◌, drop, slice_set, sym, ap, ◌∙◌, arith}
 use native.Mathlib.Numerals.{unary_clauses}
 use Rattle.x86_64_c.specs.Listing.{written}
 use Rattle.x86_64_c.proofs.Filling.{ended, all_taken, none_left, more_within, more_left, more_filled}

@@ -1,4 +1,4 @@
-use Rattle.std.proofs.Common.{◌≡◌, ℕ, ◌++◌, length, map, take, drop, Some, None, ◌+◌, ◌-◌, ◌*◌, ◌<◌, ◌≤◌}
+use Rattle.std.proofs.Common.{◌≡◌, ◌++◌, length, map, take, drop, ◌≤◌}
 use Rattle.x86_64_c.specs.Listing as listing
 use Rattle.x86_64_c.proofs.listing.fill.Given as goal
 

@@ -1,6 +1,4 @@
-use Rattle.std.proofs.Common.{ap, sym, ◌∙◌}
-use Rattle.x86_64_tables.specs.LentMemory.{tables_in_order}
-use Rattle.x86_64_tables.proofs.NumberedTables.{in_order-numbered}
+use Rattle.std.proofs.Common.{sym, ◌∙◌}
 use Rattle.x86_64_c.proofs.Arguments.{five, reads_at}
 use Rattle.x86_64_c.proofs.walk.x64_translate.Goals as goal
 
