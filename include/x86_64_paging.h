@@ -6,7 +6,7 @@
  * and takes empty tables away. The tables are those of an array that is handed to each call: a
  * kernel's own, those of a guest, or a copy of either.
  *
- * The library keeps no state and allocates nothing. It calls memset and memmove of the C library
+ * The library keeps no state and allocates nothing. It calls memcpy and memset of the C library
  * and nothing else, and uses SSE registers. It is written in Rattle, which is Rust with contracts,
  * and each function is proved to meet its contract: what it returns and every word that it writes.
  *
