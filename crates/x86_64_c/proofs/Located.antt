@@ -1,6 +1,6 @@
 -- A located hierarchy is the one in the caller's tables.
 use Rattle.std.proofs.Common.{◌≡◌, ℕ, Bool, List, refl, sym, ap, ◌∙◌, subst}
-use Rattle.x86_64_model.specs.Mapper.{Hierarchy, PoolFits}
+use Rattle.x86_64_model.specs.Mapper.{Hierarchy, Valid, PoolFits}
 use Rattle.x86_64_model.specs.Memory.{Memory}
 use Rattle.x86_64_mappers.specs.Layouts.{owned_at}
 use Rattle.x86_64_tables.specs.LentMemory.{numbered}
@@ -25,3 +25,7 @@ module _ (h : Given) (located : Located) (L : ℕ) (levels : h.levels ≡ L) (ro
   -- so a pool that fits the hierarchy in the caller's tables fits the located one
   pub fits : (ts : List (List ℕ)) (serves : ℕ → Bool) (pool : List ℕ) → PoolFits (hierarchy_in h ts) serves pool → PoolFits (at L located (numbered ts)) serves pool
   fits ts serves pool = subst (λ a. PoolFits a serves pool) (sym (located_is (numbered ts) ts refl))
+
+  -- and if the hierarchy in the caller's tables is valid, the located one is
+  pub valid : (ts : List (List ℕ)) (m : Memory) → m ≡ numbered ts → Valid (hierarchy_in h ts) → Valid (at L located m)
+  valid ts m tables = subst Valid (sym (located_is m ts (sym tables)))

@@ -32,7 +32,7 @@ pub extern "C" fn x64_unmap(
     page: &Page,
     frame: &mut u64,
 ) -> u32
-    requires { given.bad_hierarchy hierarchy.now (length tables.old) ≡ None
+    requires { calls.bad_on_page hierarchy.now (length tables.old) page.now ≡ None
         → Valid (given.hierarchy_in hierarchy.now tables.old) }
     ensures bad { (status : ℕ) → calls.bad_on_page hierarchy.now (length tables.old) page.now ≡ Some status
         → (result ≡ status) × (tables.new ≡ tables.old) × (frame.new ≡ frame.old) }
@@ -61,7 +61,8 @@ fn unmap_in<L: LevelCount, T: TableMemory>(
     page: &Page,
     frame: &mut u64,
 ) -> u32
-    requires { Valid (given.at L.LEVELS located (T.tables memory.old)) }
+    requires { given.bad_page L.LEVELS page.now ≡ None
+        → Valid (given.at L.LEVELS located (T.tables memory.old)) }
     ensures bad { (status : ℕ) → given.bad_page L.LEVELS page.now ≡ Some status
         → (result ≡ status) × (T.tables memory.new ≡ T.tables memory.old) × (frame.new ≡ frame.old) }
     ensures unmaps { let h = given.at L.LEVELS located (T.tables memory.old) in
@@ -145,7 +146,7 @@ pub extern "C" fn x64_update_flags(
     page: &Page,
     flags: u64,
 ) -> u32
-    requires { given.bad_hierarchy hierarchy.now (length tables.old) ≡ None
+    requires { calls.bad_on_page hierarchy.now (length tables.old) page.now ≡ None
         → Valid (given.hierarchy_in hierarchy.now tables.old) }
     ensures bad { (status : ℕ) → calls.bad_on_page hierarchy.now (length tables.old) page.now ≡ Some status
         → (result ≡ status) × (tables.new ≡ tables.old) }
@@ -175,7 +176,8 @@ fn update_in<L: LevelCount, T: TableMemory>(
     page: &Page,
     flags: PageTableFlags,
 ) -> u32
-    requires { Valid (given.at L.LEVELS located (T.tables memory.old)) }
+    requires { given.bad_page L.LEVELS page.now ≡ None
+        → Valid (given.at L.LEVELS located (T.tables memory.old)) }
     ensures bad { (status : ℕ) → given.bad_page L.LEVELS page.now ≡ Some status
         → (result ≡ status) × (T.tables memory.new ≡ T.tables memory.old) }
     ensures updates { let h = given.at L.LEVELS located (T.tables memory.old) in
@@ -243,7 +245,7 @@ pub extern "C" fn x64_set_table_flags(
     level: u64,
     flags: u64,
 ) -> u32
-    requires { given.bad_hierarchy hierarchy.now (length tables.old) ≡ None
+    requires { calls.bad_on_table hierarchy.now (length tables.old) level page.now ≡ None
         → Valid (given.hierarchy_in hierarchy.now tables.old) }
     ensures bad { (status : ℕ) →
         calls.bad_on_table hierarchy.now (length tables.old) level page.now ≡ Some status →
@@ -280,7 +282,8 @@ fn set_in<L: LevelCount, T: TableMemory>(
 ) -> u32
     requires low { 2 ≤ level }
     requires high { level ≤ L.LEVELS }
-    requires valid { Valid (given.at L.LEVELS located (T.tables memory.old)) }
+    requires valid { given.bad_page L.LEVELS page.now ≡ None
+        → Valid (given.at L.LEVELS located (T.tables memory.old)) }
     ensures bad { (status : ℕ) → given.bad_page L.LEVELS page.now ≡ Some status
         → (result ≡ status) × (T.tables memory.new ≡ T.tables memory.old) }
     ensures sets { let h = given.at L.LEVELS located (T.tables memory.old) in

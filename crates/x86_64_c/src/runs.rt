@@ -37,8 +37,9 @@ pub extern "C" fn x64_map(
 ) -> u32
     ghost own: { List ℕ }
     requires room { length own ≤ length pool.old }
-    requires fits { calls.bad_pool hierarchy.now (length tables.old) (length pool.old) free_count.old ≡ None
-        → calls.OwnFits own (given.hierarchy_in hierarchy.now tables.old) pool.old free_count.old }
+    requires fits { let free = free_count.old in let other = calls.bad_map hierarchy.now.levels request.now in
+        calls.bad_with_pool hierarchy.now (length tables.old) (length pool.old) free other ≡ None
+        → calls.OwnFits own (given.hierarchy_in hierarchy.now tables.old) pool.old free }
     ensures bad { let free = free_count.old in let other = calls.bad_map hierarchy.now.levels request.now in
         (status : ℕ) →
         calls.bad_with_pool hierarchy.now (length tables.old) (length pool.old) free other ≡ Some status →
@@ -199,8 +200,10 @@ pub extern "C" fn x64_clean_up(
 ) -> u32
     ghost own: { List ℕ }
     requires room { length own ≤ length pool.old }
-    requires fits { calls.bad_pool hierarchy.now (length tables.old) (length pool.old) free_count.old ≡ None
-        → calls.OwnFits own (given.hierarchy_in hierarchy.now tables.old) pool.old free_count.old }
+    requires fits { let free = free_count.old in
+        let other = calls.bad_range hierarchy.now.levels first_page last_page in
+        calls.bad_with_pool hierarchy.now (length tables.old) (length pool.old) free other ≡ None
+        → calls.OwnFits own (given.hierarchy_in hierarchy.now tables.old) pool.old free }
     ensures bad { let free = free_count.old in
         let other = calls.bad_range hierarchy.now.levels first_page last_page in
         (status : ℕ) →

@@ -115,7 +115,7 @@ pub extern "C" fn x64_translate(
     address: u64,
     translation: &mut Translation,
 ) -> u32
-    requires { given.bad_hierarchy hierarchy.now (length tables.old) ≡ None
+    requires { given.bad_read hierarchy.now (length tables.old) address ≡ None
         → Valid (given.hierarchy_in hierarchy.now tables.old) }
     ensures bad { (status : ℕ) → given.bad_read hierarchy.now (length tables.old) address ≡ Some status
         → (result ≡ status) × (translation.new ≡ translation.old) }
@@ -144,7 +144,8 @@ fn translate_in<L: LevelCount, T: TableMemory>(
     address: u64,
     translation: &mut Translation,
 ) -> u32
-    requires { ValidIn (direct_at L.LEVELS (given.places_of located) located.root) (T.tables memory.old) }
+    requires { let layout = direct_at L.LEVELS (given.places_of located) located.root in
+        given.bad_address L.LEVELS address ≡ None → ValidIn layout (T.tables memory.old) }
     ensures bad { (status : ℕ) → given.bad_address L.LEVELS address ≡ Some status
         → (result ≡ status) × (translation.new ≡ translation.old) }
     ensures told { let layout = direct_at L.LEVELS (given.places_of located) located.root in
