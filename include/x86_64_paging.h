@@ -68,7 +68,8 @@
  *
  * This file: the prover does not read it. tools/c_library compares the functions declared below
  * with the symbols that the library exports and with the parameters in its source. It also compares
- * the order, the types and the offsets of the fields of each struct with those in the source.
+ * the order, types and offsets of the fields of each struct, and the numbers of the statuses, with
+ * those in the source.
  */
 #ifndef X86_64_PAGING_H
 #define X86_64_PAGING_H
