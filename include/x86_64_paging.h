@@ -3,8 +3,8 @@
  *
  * The library reads and changes page tables of four or five levels, as a processor in 64-bit mode
  * uses them. It maps, unmaps and translates pages of 4 KiB, 2 MiB and 1 GiB, lists what is mapped,
- * and takes empty tables away. The tables are those of an array that is handed to each call: a
- * kernel's own, those of a guest, or a copy of either.
+ * and frees empty tables. Each call is passed the tables as an array: a kernel's own, those of a
+ * guest, or a copy of either.
  *
  * The library keeps no state and allocates nothing. It calls memcpy and memset of the C library
  * and nothing else, and uses SSE registers. It is written in Rattle, which is Rust with contracts,
@@ -12,46 +12,47 @@
  *
  * HOW TABLES, FRAMES AND ADDRESSES GO TOGETHER
  *
- * A frame is 4096 bytes of physical memory. Its number is its address divided by 4096. `tables[i]`
- * is the frame with the number `first + i`, so entries name tables by their physical addresses, and
- * no address is used as a pointer. A frame outside the array can be mapped, but it can't be a
- * table.
+ * A frame is 4096 bytes of physical memory. Its number is its physical address divided by 4096.
+ * `tables[i]` is the frame with the number `first + i`. So entries name tables by their physical
+ * addresses, and no address is used as a pointer. A frame outside the array can be mapped, but it
+ * can't hold a table.
  *
- * All addresses, sizes and offsets are in bytes. Virtual addresses have to be canonical: with four
+ * All addresses, sizes and offsets are in bytes. Virtual addresses must be canonical: with four
  * levels bits 48 to 63 are copies of bit 47, with five levels bits 57 to 63 are copies of bit 56.
  * Physical addresses are below 2^52.
  *
  * CONDITIONS
  *
- * Each function says what has to hold when it is called. If it doesn't, the behavior is undefined,
- * as in any C library: the proof says nothing of such calls. There are three kinds of conditions:
+ * The description of each function says what must hold when it is called. If it doesn't, the
+ * behavior is undefined, as in any C library: the proof doesn't cover such calls. There are three
+ * kinds of conditions:
  *
- * 1. Pointers. An array of n elements is a pointer to n elements, which may be null if n is 0. All
- *    other pointers point to one object and are not null. Each is aligned as its type is: a table
- *    to 8 bytes here, though those that a processor uses have to be aligned to 4096. What a call
- *    writes through one pointer overlaps with nothing that it reaches through another. What out
- *    parameters and marks hold before a call doesn't matter.
+ * 1. Pointers, for every function. An array of n elements is a pointer to n elements, and may be
+ *    null if n is 0. Every other pointer points to one object and is not null. Each is aligned as
+ *    its type requires: tables to 8 bytes here, although a processor needs them aligned to 4096.
+ *    What a call writes through one pointer must not overlap what it reaches through another. Out
+ *    parameters and marks may hold anything before a call.
  *
- * 2. The hierarchy is valid: x64_is_valid tests it. Valid means that the root and all tables below
- *    it are in the array, that no two entries name one table, that none names the root or frame 0,
- *    and that no entry above level 3 has X64_HUGE_PAGE. An entry above level 1 that is not 0 and
- *    lacks X64_HUGE_PAGE names a table, whether it has X64_PRESENT or not.
+ * 2. The hierarchy is valid, which x64_is_valid tests: the root and all tables below it are in the
+ *    array, no two entries name the same table, none names the root or frame 0, and no entry above
+ *    level 3 has X64_HUGE_PAGE. An entry above level 1 that is not 0 and lacks X64_HUGE_PAGE names
+ *    a table, whether it has X64_PRESENT or not.
  *
- * 3. The pool fits the hierarchy: x64_pool_fits tests it. The hierarchy is valid, the free frames
- *    are distinct, each lies in the array and is neither frame 0, nor the root, nor a table below
- *    it, and the pool's array has room for all that may come back to it: the free frames and the
- *    tables below the root.
+ * 3. The pool fits the hierarchy, which x64_pool_fits tests: the hierarchy is valid, the free
+ *    frames are distinct, each is in the array and is neither frame 0, nor the root, nor a table
+ *    below it, and the pool's array has room for all frames that it may ever hold: those that are
+ *    free, and those of the tables below the root.
  *
- * Conditions 2 and 3 hold again after every call, whatever its status is. So it suffices to test
- * them once, if the tables and the pool are changed by these calls alone. Each call tests its other
- * arguments itself, and then returns one of the X64_BAD_ statuses, whatever the tables hold.
+ * Conditions 2 and 3 hold again after every call, whatever its status. If only these calls change
+ * the tables and the pool, it is enough to test them once. Each call checks its other arguments
+ * itself, before it reads a table, and returns an X64_BAD_ status if one is wrong.
  *
- * Calls on the same memory must not run at the same time. Those that read the tables alone write to
- * nothing but their out parameters and marks, so they may; this is tested, and not proved.
+ * Calls on the same memory must not run at the same time. Calls that only read the tables may: they
+ * write nothing but their out parameters and marks. This is tested, but not proved.
  *
  * TABLES THAT A PROCESSOR USES
  *
- * The library executes no privileged instruction. The caller flushes the TLB: the page after
+ * The library executes no privileged instruction. The caller must flush the TLB: the page after
  * x64_unmap and x64_update_flags; everything after x64_set_table_flags and x64_clean_up, and after
  * x64_map if it may have changed the flags of an entry above the page.
  *
@@ -60,14 +61,15 @@
  * the same entry.
  *
  * If a processor may walk the tables while x64_map makes new ones, the free frames should hold
- * zeros: an entry names a new table just before its words are cleared. Frames that x64_clean_up
- * gives back hold zeros.
+ * zeros, because an entry names a new table just before the table is cleared. Frames that
+ * x64_clean_up puts back into the pool hold zeros.
  *
  * WHAT IS NOT PROVED
  *
- * This file itself. The prover does not read it: tools/c_library compares the declarations below
- * with the symbols that the library exports and with the parameters in its source, and the order
- * and the types of the fields with those of its source by offsetof.
+ * This file: the prover does not read it. tools/c_library compares the functions declared below
+ * with the symbols that the library exports and with the parameters in its source. It also compares
+ * the order, types and offsets of the fields of each struct, and the numbers of the statuses, with
+ * those in the source.
  */
 #ifndef X86_64_PAGING_H
 #define X86_64_PAGING_H
@@ -83,26 +85,26 @@ extern "C" {
 /*
  * STATUSES
  *
- * Every function returns one of these. What it writes through an out parameter it writes with
- * X64_OK alone, unless its description says otherwise.
+ * Every function returns one of these. It writes its out parameters only if it returns X64_OK,
+ * unless its description says otherwise.
  *
- * With a status from X64_BAD_LEVELS on an argument is bad, and nothing has changed. Arguments are
- * tested before anything else: first the levels and the root of the hierarchy, then arrays, then a
- * level, then addresses, pages and frames in the order in which they are passed.
+ * X64_BAD_LEVELS and the statuses after it say that an argument is wrong; nothing has changed.
+ * Arguments are checked before anything else: first the levels and the root of the hierarchy, then
+ * arrays, then a level, then addresses, pages and frames in the order in which they are passed.
  */
 enum {
     X64_OK = 0,                      /* the call was done */
-    X64_NOT_MAPPED = 1,              /* the address is mapped nowhere */
+    X64_NOT_MAPPED = 1,              /* the address isn't mapped */
     X64_MORE = 2,                    /* the array is full, and there are more mappings */
     X64_NOT_VALID = 3,               /* the hierarchy isn't valid, or the pool doesn't fit it */
     X64_NOT_ALLOWED = 4,             /* these flags may not be set there; nothing has changed */
     X64_FRAME_ALLOCATION_FAILED = 5, /* a table is missing, and the pool is empty */
     X64_PARENT_ENTRY_HUGE_PAGE = 6,  /* an entry above the page maps a larger page */
-    X64_PAGE_ALREADY_MAPPED = 7,     /* the page's entry is not 0 */
+    X64_PAGE_ALREADY_MAPPED = 7,     /* the page's entry isn't 0 */
     X64_PAGE_NOT_MAPPED = 8,         /* the page, or the entry, isn't there */
-    X64_INVALID_FRAME_ADDRESS = 9,   /* the entry's address is no multiple of the page's size */
+    X64_INVALID_FRAME_ADDRESS = 9,   /* the entry's address isn't a multiple of the page's size */
 
-    X64_BAD_LEVELS = 16,  /* there are neither 4 levels nor 5, or there is no such level */
+    X64_BAD_LEVELS = 16,  /* the number of levels isn't 4 or 5, or there is no such level */
     X64_BAD_ROOT = 17,    /* the root isn't the address of a frame in the array of tables */
     X64_BAD_ARRAY = 18,   /* the pool has no room for its free frames, or marks are too few */
     X64_BAD_ADDRESS = 19, /* an address isn't canonical */
@@ -113,12 +115,12 @@ enum {
 /*
  * FLAGS
  *
- * The flags of an entry are all its bits but 12 to 51, which are the address of a frame. Those with
- * a meaning here:
+ * The flags of an entry are all its bits except 12 to 51, which are the address of a frame. These
+ * have names:
  */
 #define X64_PRESENT UINT64_C(0x1)         /* the processor uses the entry */
-#define X64_WRITABLE UINT64_C(0x2)        /* writes are allowed, if all entries on the way say so */
-#define X64_USER_ACCESSIBLE UINT64_C(0x4) /* so are accesses of user code, if all say so */
+#define X64_WRITABLE UINT64_C(0x2)        /* writes are allowed, if all entries on the way agree */
+#define X64_USER_ACCESSIBLE UINT64_C(0x4) /* user code has access, if all entries agree */
 #define X64_WRITE_THROUGH UINT64_C(0x8)   /* the cache writes through */
 #define X64_NO_CACHE UINT64_C(0x10)       /* there is no caching */
 #define X64_ACCESSED UINT64_C(0x20)       /* the processor used the entry */
@@ -137,33 +139,33 @@ typedef struct x64_table {
     uint64_t words[512];
 } x64_table;
 
-/* Says which tables of an array are a hierarchy. */
+/* A hierarchy of page tables in an array of tables. */
 typedef struct x64_hierarchy {
     uint64_t first;  /* the number of the frame that tables[0] is */
-    uint64_t root;   /* the physical address of the root table, as CR3 has it without its flags */
+    uint64_t root;   /* the physical address of the root table: CR3 without its flags */
     uint64_t levels; /* the number of levels of tables: 4 or 5 */
 } x64_hierarchy;
 
-/* Says where the processor arrives. */
+/* Where the processor arrives, and with which rights. */
 typedef struct x64_walked {
     uint64_t address; /* the physical address */
     bool write;       /* all entries on the way have X64_WRITABLE */
     bool user;        /* all entries on the way have X64_USER_ACCESSIBLE */
 } x64_walked;
 
-/* Says what the entry of an address's page maps it to. */
+/* What an address is mapped to. */
 typedef struct x64_translation {
     uint64_t frame;  /* the physical address where the frame starts, a multiple of its size */
     uint64_t size;   /* the size of the page and of the frame in bytes, one of the three */
-    uint64_t offset; /* how many bytes after the start of the page the address lies */
+    uint64_t offset; /* the offset of the address in the page in bytes */
     uint64_t flags;  /* the flags of the page's entry */
 } x64_translation;
 
-/* A page that is mapped, as a list has it. */
+/* A page that is mapped, as x64_mappings lists it. */
 typedef struct x64_mapping {
     uint64_t start; /* the first address of the page */
     uint64_t size;  /* its size in bytes, one of the three */
-    uint64_t frame; /* the physical address that the first address leads to */
+    uint64_t frame; /* the physical address that the first address is mapped to */
     uint64_t flags; /* the flags of the page's entry */
     bool write;     /* all entries on the way have X64_WRITABLE */
     bool user;      /* all entries on the way have X64_USER_ACCESSIBLE */
@@ -176,25 +178,25 @@ typedef struct x64_page {
     uint64_t size;  /* its size in bytes: X64_SIZE_4KIB, X64_SIZE_2MIB or X64_SIZE_1GIB */
 } x64_page;
 
-/* Says how to map a page. */
+/* A page to be mapped, and how. */
 typedef struct x64_map_request {
     x64_page page;         /* the page */
     uint64_t frame;        /* where it is mapped to: a multiple of the page's size below 2^52 */
-    uint64_t flags;        /* its entry's flags; 2 MiB and 1 GiB get X64_HUGE_PAGE besides */
-    uint64_t parent_flags; /* what each entry above it gets: mostly X64_PRESENT | X64_WRITABLE */
+    uint64_t flags;        /* for its entry; X64_HUGE_PAGE is added for 2 MiB and 1 GiB */
+    uint64_t parent_flags; /* added to each entry above it: mostly X64_PRESENT | X64_WRITABLE */
 } x64_map_request;
 
 /*
  * CALLS THAT READ
  *
- * Each may return X64_BAD_LEVELS or X64_BAD_ROOT.
+ * Each may also return X64_BAD_LEVELS or X64_BAD_ROOT.
  */
 
 /*
- * Walks from an address as the processor does, and writes to *walked where it arrives. The walk
- * reads raw words: a way that leaves the array of tables leads nowhere.
+ * Walks the tables for an address as the processor does, and writes to *walked where the walk
+ * arrives. It reads raw words. A walk that leads out of the array of tables arrives nowhere.
  *
- * Condition: pointers alone. The tables may hold anything.
+ * Condition: pointers only. The tables may hold anything.
  *
  * Returns X64_OK; X64_NOT_MAPPED if the walk arrives nowhere; X64_BAD_ADDRESS.
  */
@@ -202,10 +204,10 @@ uint32_t x64_page_walk(const x64_hierarchy *hierarchy, const x64_table *tables, 
                        uint64_t address, x64_walked *walked);
 
 /*
- * Looks up the entry that an address's page has, and writes to *translation what it says. The
- * entries above it have to have X64_PRESENT, and so has an entry of level 3 or 2 that maps a page.
- * An entry of level 1 that isn't 0 counts, with X64_PRESENT or without: the flags tell. If they
- * have it, the processor arrives at frame + offset.
+ * Looks up the entry of the page that contains an address, and writes to *translation what the
+ * address is mapped to. The entries above it must have X64_PRESENT, and so must an entry of level 3
+ * or 2 that maps a page. An entry of level 1 counts if it isn't 0, even without X64_PRESENT: check
+ * the flags. If they have X64_PRESENT, the processor arrives at frame + offset.
  *
  * Condition: the hierarchy is valid (x64_is_valid).
  *
@@ -215,15 +217,14 @@ uint32_t x64_translate(const x64_hierarchy *hierarchy, const x64_table *tables, 
                        uint64_t address, x64_translation *translation);
 
 /*
- * Lists the pages that the processor can reach, by rising addresses: those that end after the
- * address `from`, which so may be the first one's last byte. As many as there are, but at most
- * `capacity`, are written to `mappings`, and their number to *count. A list of all pages begins
- * with from = 0.
+ * Lists the pages that the processor can reach, in ascending order of addresses, from the first one
+ * whose last address isn't below `from`. At most `capacity` of them are written to `mappings`, and
+ * their number to *count. To list all pages, begin with from = 0.
  *
- * With X64_MORE there are more: then *count is `capacity`, and a call with from = *next goes on
- * behind the last one written. With X64_OK the list is complete, and *next is left as it was.
+ * With X64_MORE there are more: *count is `capacity`, and a call with from = *next continues after
+ * the last one written. With X64_OK the list is complete, and *next is unchanged.
  *
- * Condition: pointers alone. The tables may hold anything, and a table that several entries name is
+ * Condition: pointers only. The tables may hold anything, and a table that several entries name is
  * listed for each.
  *
  * Returns X64_OK; X64_MORE; X64_BAD_ADDRESS.
@@ -233,10 +234,10 @@ uint32_t x64_mappings(const x64_hierarchy *hierarchy, const x64_table *tables, s
                       uint64_t *next);
 
 /*
- * Tests whether the hierarchy is valid. `marks` lends the call mark_count marks, at least
- * table_count; what they hold doesn't matter before the call, and means nothing after it.
+ * Tests whether the hierarchy is valid. `marks` is working memory for the call: mark_count marks,
+ * at least table_count. What they hold after the call means nothing.
  *
- * Condition: pointers alone. The tables may hold anything, cycles too.
+ * Condition: pointers only. The tables may hold anything, even cycles.
  *
  * Returns X64_OK if it is valid; X64_NOT_VALID; X64_BAD_ARRAY if there are too few marks.
  */
@@ -245,12 +246,12 @@ uint32_t x64_is_valid(const x64_hierarchy *hierarchy, const x64_table *tables, s
 
 /*
  * Tests whether the hierarchy is valid and the pool fits it. The pool is a stack of physical
- * addresses of frames: pool[0] to pool[free_count - 1] are the free frames, of which the last is
- * handed out first, and the array has room for `capacity`. `marks` is as for x64_is_valid.
+ * addresses of frames: pool[0] to pool[free_count - 1] are the free frames, and the last of these
+ * is handed out first. The array has room for `capacity`. `marks` is as for x64_is_valid.
  *
- * Condition: pointers alone. The tables and the pool may hold anything.
+ * Condition: pointers only. The tables and the pool may hold anything.
  *
- * Returns X64_OK if the pool fits; X64_NOT_VALID; X64_BAD_ARRAY if free_count > capacity, or there
+ * Returns X64_OK if the pool fits; X64_NOT_VALID; X64_BAD_ARRAY if free_count > capacity or there
  * are too few marks.
  */
 uint32_t x64_pool_fits(const x64_hierarchy *hierarchy, const x64_table *tables, size_t table_count,
@@ -260,63 +261,64 @@ uint32_t x64_pool_fits(const x64_hierarchy *hierarchy, const x64_table *tables, 
 /*
  * CALLS THAT CHANGE TABLES
  *
- * Each may return X64_BAD_LEVELS or X64_BAD_ROOT. No word changes but in the root, the tables below
- * it and, if x64_map makes tables of them, frames that were free.
+ * Each may also return X64_BAD_LEVELS or X64_BAD_ROOT. Words change only in the root, in the tables
+ * below it and, if x64_map makes new tables, in frames that it takes from the pool.
  */
 
 /*
- * Maps a page to a frame. From the root down each entry above the page gets request->parent_flags
- * besides its own, and names a new table if it was 0: the last free frame of the pool, cleared, and
- * *free_count falls by one.
+ * Maps a page to a frame. From the root down, request->parent_flags are added to each entry above
+ * the page. An entry that was 0 then also names a new table: the last free frame of the pool, which
+ * is cleared, and *free_count decreases by one.
  *
  * Condition: the pool fits the hierarchy (x64_pool_fits).
  *
  * Returns X64_OK or one of these:
- *   X64_NOT_ALLOWED              if the flags or the parent flags have bits 12 to 51, the parent
- *                                flags have X64_HUGE_PAGE, or so have the flags of a page of 4 KiB;
- *                                or if the parent flags lack X64_PRESENT and an entry above the
- *                                page would be without it; then nothing has changed
+ *   X64_NOT_ALLOWED              if the flags or the parent flags have any of the bits 12 to 51; if
+ *                                the parent flags have X64_HUGE_PAGE, or the flags of a page of
+ *                                4 KiB have it; or if the parent flags lack X64_PRESENT and an
+ *                                entry above the page would be without it. Nothing has changed
  *   X64_FRAME_ALLOCATION_FAILED  if a table is missing and the pool is empty
  *   X64_PARENT_ENTRY_HUGE_PAGE   if an entry above the page has X64_HUGE_PAGE
  *   X64_PAGE_ALREADY_MAPPED      if the page's entry isn't 0
  *   X64_BAD_ARRAY                if *free_count > capacity
  *   X64_BAD_PAGE, X64_BAD_FRAME
  *
- * With the three refusals in the middle the page's entry hasn't changed, but entries above it may
- * have got the parent flags, and new tables may have been made: they are part of the hierarchy, and
- * x64_clean_up takes them back if they are empty.
+ * With X64_FRAME_ALLOCATION_FAILED, X64_PARENT_ENTRY_HUGE_PAGE and X64_PAGE_ALREADY_MAPPED the
+ * page's entry hasn't changed, but parent flags may have been added to entries above it, and new
+ * tables may have been made. These are part of the hierarchy, and x64_clean_up frees them if they
+ * are empty.
  */
 uint32_t x64_map(const x64_hierarchy *hierarchy, x64_table *tables, size_t table_count,
                  uint64_t *pool, size_t capacity, size_t *free_count,
                  const x64_map_request *request);
 
 /*
- * Unmaps a page: its entry becomes 0, and *frame the physical address that it was mapped to. No
- * table is taken away.
+ * Unmaps a page: its entry becomes 0, and the physical address that it was mapped to is written to
+ * *frame. No table is freed.
  *
  * Condition: the hierarchy is valid (x64_is_valid).
  *
- * Returns X64_OK or one of these, and then nothing has changed:
+ * Returns X64_OK or one of these; then no table has changed:
  *   X64_PAGE_NOT_MAPPED          if the page's entry or one above it lacks X64_PRESENT
- *   X64_PARENT_ENTRY_HUGE_PAGE   if an entry above the page has X64_HUGE_PAGE, the entry of a page
- *                                of 4 KiB has it, or the entry of a larger page lacks it
- *   X64_INVALID_FRAME_ADDRESS    if the entry of a page of 2 MiB or 1 GiB has an address that is no
- *                                multiple of the size. *frame is that address
+ *   X64_PARENT_ENTRY_HUGE_PAGE   if an entry above the page has X64_HUGE_PAGE, if the entry of a
+ *                                page of 4 KiB has it, or if the entry of a larger page lacks it
+ *   X64_INVALID_FRAME_ADDRESS    if the address in the entry of a page of 2 MiB or 1 GiB isn't a
+ *                                multiple of the size. That address is written to *frame
  *   X64_BAD_PAGE
  */
 uint32_t x64_unmap(const x64_hierarchy *hierarchy, x64_table *tables, size_t table_count,
                    const x64_page *page, uint64_t *frame);
 
 /*
- * Sets the flags of a page's entry, which may lack X64_PRESENT. The address stays, and so does
- * X64_HUGE_PAGE of larger pages.
+ * Sets the flags of a page's entry, which may lack X64_PRESENT. Its address stays, and the entry of
+ * a larger page keeps X64_HUGE_PAGE.
  *
  * Condition: the hierarchy is valid (x64_is_valid).
  *
- * Returns X64_OK or one of these, and then nothing has changed:
- *   X64_NOT_ALLOWED              if the flags have bits 12 to 51
- *   X64_PAGE_NOT_MAPPED          if an entry above the page lacks X64_PRESENT, the page's own is 0,
- *                                or that of a page of 2 MiB or 1 GiB lacks X64_HUGE_PAGE
+ * Returns X64_OK or one of these; then nothing has changed:
+ *   X64_NOT_ALLOWED              if the flags have any of the bits 12 to 51
+ *   X64_PAGE_NOT_MAPPED          if an entry above the page lacks X64_PRESENT, if the page's own is
+ *                                0, or if that of a page of 2 MiB or 1 GiB lacks X64_HUGE_PAGE
  *   X64_PARENT_ENTRY_HUGE_PAGE   if an entry above the page has X64_HUGE_PAGE
  *   X64_BAD_PAGE
  */
@@ -324,17 +326,17 @@ uint32_t x64_update_flags(const x64_hierarchy *hierarchy, x64_table *tables, siz
                           const x64_page *page, uint64_t flags);
 
 /*
- * Sets the flags of the entry of a level, from 2 to hierarchy->levels, on the way to a page. They
- * hold for all pages below it: without X64_PRESENT the processor reaches none of them.
+ * Sets the flags of the entry on the way to a page at a level from 2 to hierarchy->levels. They
+ * apply to all pages below the entry: without X64_PRESENT the processor reaches none of them.
  *
  * Condition: the hierarchy is valid (x64_is_valid).
  *
- * Returns X64_OK or one of these, and then nothing has changed:
- *   X64_NOT_ALLOWED              if the flags have bits 12 to 51, or X64_HUGE_PAGE at level 4 or 5;
- *                                or if at level 3 or 2 they would change X64_HUGE_PAGE
- *   X64_PARENT_ENTRY_HUGE_PAGE   if the level isn't above that of the page's own entry (1 for 4
- *                                KiB, 2 for 2 MiB, 3 for 1 GiB), or an entry above that of the
- *                                level has X64_HUGE_PAGE
+ * Returns X64_OK or one of these; then nothing has changed:
+ *   X64_NOT_ALLOWED              if the flags have any of the bits 12 to 51; if they have
+ *                                X64_HUGE_PAGE at level 4 or 5, or would change it at level 3 or 2
+ *   X64_PARENT_ENTRY_HUGE_PAGE   if the level isn't above that of the page's own entry (1 for
+ *                                4 KiB, 2 for 2 MiB, 3 for 1 GiB), or if an entry above the one at
+ *                                that level has X64_HUGE_PAGE
  *   X64_PAGE_NOT_MAPPED          if the entry is 0, or an entry above it lacks X64_PRESENT
  *   X64_BAD_LEVELS               also if there is no such level
  *   X64_BAD_PAGE
@@ -343,12 +345,12 @@ uint32_t x64_set_table_flags(const x64_hierarchy *hierarchy, x64_table *tables, 
                              const x64_page *page, uint64_t level, uint64_t flags);
 
 /*
- * Takes away the empty tables on the way to pages of 4 KiB, from the one that starts at first_page
- * to the one that starts at last_page, and then those that became empty by it. A table is empty if
- * all its words are 0; the root stays. The entry that names such a table becomes 0, and its frame
- * goes to the top of the pool: *free_count rises by one. Entries without X64_PRESENT stay, with all
- * below. If last_page comes before first_page nothing changes. For the whole address space
- * first_page is 0 and last_page 0xfffffffffffff000.
+ * Frees the empty tables on the way to pages of 4 KiB, from the page that starts at first_page to
+ * the one that starts at last_page, and then the tables that became empty by this. A table is empty
+ * if all its words are 0. The root is never freed. The entry that names a freed table becomes 0,
+ * and its frame goes to the top of the pool: *free_count increases by one. Entries without
+ * X64_PRESENT stay, with everything below them. If last_page comes before first_page, nothing
+ * changes. For the whole address space first_page is 0 and last_page 0xfffffffffffff000.
  *
  * Condition: the pool fits the hierarchy (x64_pool_fits).
  *

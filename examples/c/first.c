@@ -1,6 +1,6 @@
 /*
- * Maps a page, looks it up, lists it, unmaps it, and takes the empty tables away again. The tables are those of the first picture
- * in docs/DEFINITIONS.md: frames 0x1000 to 0x4000, of which the first is the root's. It prints what it does, line by line.
+ * Maps a page, looks it up, lists it, unmaps it, and frees the tables that are empty then. It prints each step. The tables are those
+ * of the first picture in docs/DEFINITIONS.md: the frames 0x1000 to 0x4000, of which 0x1000 is the root.
  */
 #include <inttypes.h>
 #include <stdio.h>
@@ -18,7 +18,7 @@ static const x64_hierarchy hierarchy = {.first = 1, .root = 0x1000, .levels = 4}
 static uint64_t pool[TABLES] = {0x4000, 0x3000, 0x2000};
 static size_t free_count = 3;
 
-/* Ends the program unless a call was done. */
+/* Ends the program if a call returned another status than X64_OK. */
 static void check(const char *call, uint32_t status) {
     if (status != X64_OK) {
         fprintf(stderr, "%s: status %" PRIu32 "\n", call, status);
@@ -39,7 +39,7 @@ static void print_words(void) {
                 printf("word 0x%" PRIx64 " %zu 0x%" PRIx64 "\n", (hierarchy.first + n) * 4096, index, tables[n].words[index]);
 }
 
-/* Prints the free frames, that which is handed out first before the others. */
+/* Prints the free frames in the order in which they are handed out. */
 static void print_pool(void) {
     printf("pool");
     for (size_t n = free_count; n > 0; n--)
@@ -60,7 +60,7 @@ static void translate(uint64_t address) {
     printf("mapped %s 0x%" PRIx64 " 0x%" PRIx64 " 0x%" PRIx64 "\n", size_name(found.size), found.frame, found.offset, found.flags);
 }
 
-/* Prints where the processor arrives. */
+/* Prints where the processor arrives from an address. */
 static void walk(uint64_t address) {
     x64_walked walked;
     uint32_t status = x64_page_walk(&hierarchy, tables, TABLES, address, &walked);
@@ -73,7 +73,7 @@ static void walk(uint64_t address) {
     printf("0x%" PRIx64 " write=%d user=%d\n", walked.address, walked.write, walked.user);
 }
 
-/* Prints all mappings, some at a time. */
+/* Prints all mappings, which are listed two at a time. */
 static void list(void) {
     x64_mapping mappings[2];
     uint64_t next = 0;

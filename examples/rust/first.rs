@@ -1,5 +1,5 @@
-//! Maps a page, looks it up, lists it, unmaps it, and takes the empty tables away again: what `examples/c/first.c` does, by the
-//! functions of `paging.rs`. It prints the same.
+//! Maps a page, looks it up, lists it, unmaps it, and frees the tables that are empty then: `examples/c/first.c` with the functions of
+//! `paging.rs`. It prints the same lines.
 //!
 //! ```text
 //! rustc --edition 2024 -O -L FOLDER-OF-THE-LIBRARY examples/rust/first.rs
@@ -11,7 +11,7 @@ mod paging;
 use paging::flags::{PRESENT, WRITABLE};
 use paging::{AddressSpace, Error, Memory, Page, Pool, Size, Table};
 
-/// How many tables there are: the frames 0x1000 to 0x4000.
+/// The number of tables, which are in the frames 0x1000 to 0x4000.
 const TABLES: usize = 4;
 
 /// Returns the name of a page's size in bytes.
@@ -32,7 +32,7 @@ fn print_words(space: &AddressSpace) {
     }
 }
 
-/// Prints the free frames, that which is handed out first before the others.
+/// Prints the free frames in the order in which they are handed out.
 fn print_pool(space: &AddressSpace) {
     let frames: String = space.free_frames().iter().rev().map(|frame| format!(" {frame:#x}")).collect();
     println!("pool{frames}");
@@ -50,7 +50,7 @@ fn translate(space: &AddressSpace, address: u64) -> Result<(), Error> {
     Ok(())
 }
 
-/// Prints where the processor arrives.
+/// Prints where the processor arrives from an address.
 fn walk(space: &AddressSpace, address: u64) -> Result<(), Error> {
     match space.page_walk(address)? {
         Some(walked) => {

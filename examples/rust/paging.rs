@@ -1,15 +1,15 @@
-//! Page tables of x86-64 in the caller's memory: the calls of `libx86_64_paging.a`, without `unsafe` for their users.
+//! Page tables of x86-64 in the caller's memory: a wrapper of `libx86_64_paging.a` whose users need no `unsafe`.
 //!
-//! `include/x86_64_paging.h` says what each function does and what it asks for. All of that is met here: an [`AddressSpace`]
-//! borrows the tables and the pool for as long as it lives, [`AddressSpace::new`] tests them, and after each call what was tested
-//! holds again.
+//! `include/x86_64_paging.h` describes what each function does and its conditions. The wrapper meets these conditions: an
+//! [`AddressSpace`] borrows the tables and the pool for as long as it lives, [`AddressSpace::new`] tests them, and what was tested
+//! holds again after each call.
 
-/// A page table: 512 words of addresses and flags.
+/// A page table: 512 entries, each a word of an address and flags.
 #[derive(Clone, Copy)]
 #[repr(C)]
 pub struct Table(pub [u64; 512]);
 
-/// Flags of entries: all their bits but 12 to 51.
+/// Flags of entries. All bits except 12 to 51 are flags.
 pub mod flags {
     pub const PRESENT: u64 = 1;
     pub const WRITABLE: u64 = 1 << 1;
@@ -17,7 +17,7 @@ pub mod flags {
     pub const NO_EXECUTE: u64 = 1 << 63;
 }
 
-/// The size of a page and of its frame, by how many bytes it is.
+/// The size of a page and of its frame. The values are in bytes.
 #[derive(Clone, Copy, Debug, PartialEq)]
 #[repr(u64)]
 pub enum Size {
@@ -26,7 +26,7 @@ pub enum Size {
     Size1GiB = 0x4000_0000,
 }
 
-/// Why a call was refused.
+/// Why a call was refused. The header describes the statuses of these names.
 #[derive(Clone, Copy, Debug, PartialEq)]
 pub enum Error {
     NotValid,
@@ -53,7 +53,7 @@ struct Hierarchy {
     levels: u64,
 }
 
-/// Where the processor arrives.
+/// Where the processor arrives, and with which rights.
 #[derive(Clone, Copy, Debug, Default, PartialEq)]
 #[repr(C)]
 pub struct Walked {
@@ -171,13 +171,13 @@ fn result_of(status: u32) -> Result<(), Error> {
     })
 }
 
-/// Frames of physical memory that may be tables: `tables[i]` is the frame with the number `first + i`.
+/// Frames of physical memory that can hold tables: `tables[i]` is the frame with the number `first + i`.
 pub struct Memory<'a> {
     pub tables: &'a mut [Table],
     pub first: u64,
 }
 
-/// A stack of free frames, by their addresses: `frames[..free]`, of which the last one is handed out first.
+/// A stack of free frames, by their addresses: `frames[..free]`. The last one is handed out first.
 pub struct Pool<'a> {
     pub frames: &'a mut [u64],
     pub free: usize,
@@ -191,17 +191,17 @@ pub struct AddressSpace<'a> {
 }
 
 impl<'a> AddressSpace<'a> {
-    /// Makes one of the tables below a root, with 4 or 5 levels. There has to be a mark for each table; what the marks hold
-    /// doesn't matter.
+    /// Creates the address space of the tables below a root, with 4 or 5 levels. There must be at least one mark for each table;
+    /// what the marks hold doesn't matter.
     ///
     /// # Errors
     ///
     /// `NotValid` if the hierarchy isn't valid or the pool doesn't fit it, `BadLevels`, `BadRoot`, or `BadArray` if there are too
-    /// few marks or more frames are free than the pool has.
+    /// few marks or if `free` is more than the length of `frames`.
     pub fn new(memory: Memory<'a>, pool: Pool<'a>, root: u64, levels: u64, marks: &mut [bool]) -> Result<AddressSpace<'a>, Error> {
         let hierarchy = Hierarchy { first: memory.first, root, levels };
         let (tables, frames) = (&*memory.tables, &*pool.frames);
-        // SAFETY: each pointer and length are those of a slice, borrowed for the call, which only reads tables and frames.
+        // SAFETY: each pointer and length come from a slice that is borrowed for the call, which only reads tables and frames.
         result_of(unsafe {
             x64_pool_fits(
                 &hierarchy,
@@ -222,12 +222,12 @@ impl<'a> AddressSpace<'a> {
         self.memory.tables
     }
 
-    /// Returns the free frames, of which the last one is handed out first.
+    /// Returns the free frames. The last one is handed out first.
     pub fn free_frames(&self) -> &[u64] {
         &self.pool.frames[..self.pool.free]
     }
 
-    /// Maps a page to a frame. The entries above it get `parent_flags` besides their own.
+    /// Maps a page to a frame. `parent_flags` are added to the entries above the page.
     pub fn map_to(&mut self, page: Page, frame: u64, flags: u64, parent_flags: u64) -> Result<(), Error> {
         let request = MapRequest { page, frame, flags, parent_flags };
         let (tables, pool) = (&mut *self.memory.tables, &mut self.pool);
@@ -245,7 +245,7 @@ impl<'a> AddressSpace<'a> {
         })
     }
 
-    /// Unmaps a page, and returns the frame that it was mapped to.
+    /// Unmaps a page, and returns the address of the frame that it was mapped to.
     pub fn unmap(&mut self, page: Page) -> Result<u64, Error> {
         let (tables, mut frame) = (&mut *self.memory.tables, 0);
         // SAFETY: the slice is borrowed for the call, and the hierarchy is valid: `new` tested it, and each call keeps it.
@@ -262,14 +262,15 @@ impl<'a> AddressSpace<'a> {
         result_of(unsafe { x64_update_flags(&self.hierarchy, tables.as_mut_ptr(), tables.len(), &page, flags) })
     }
 
-    /// Sets the flags of the entry of a level, from 2 up, on the way to a page.
+    /// Sets the flags of the entry on the way to a page at a level, from 2 up.
     pub fn set_table_flags(&mut self, page: Page, level: u64, flags: u64) -> Result<(), Error> {
         let tables = &mut *self.memory.tables;
         // SAFETY: as in `unmap`.
         result_of(unsafe { x64_set_table_flags(&self.hierarchy, tables.as_mut_ptr(), tables.len(), &page, level, flags) })
     }
 
-    /// Takes away the empty tables on the way to pages of 4KiB, by the starts of the first and the last one.
+    /// Frees the empty tables on the way to pages of 4KiB, from the page that starts at `first_page` to the one that starts at
+    /// `last_page`.
     pub fn clean_up(&mut self, first_page: u64, last_page: u64) -> Result<(), Error> {
         let (tables, pool) = (&mut *self.memory.tables, &mut self.pool);
         // SAFETY: as in `map_to`.
@@ -287,7 +288,7 @@ impl<'a> AddressSpace<'a> {
         })
     }
 
-    /// Returns what an address is mapped to, or `None` if it is mapped nowhere.
+    /// Returns what an address is mapped to, or `None` if it isn't mapped.
     pub fn translate(&self, address: u64) -> Result<Option<Translation>, Error> {
         let (tables, mut found) = (self.tables(), Translation::default());
         // SAFETY: the slice is borrowed for the call, which only reads it, and the hierarchy is valid, as in `unmap`.
@@ -297,7 +298,7 @@ impl<'a> AddressSpace<'a> {
         }
     }
 
-    /// Returns the physical address that an address is mapped to, or `None` if it is mapped nowhere.
+    /// Returns the physical address that an address is mapped to, or `None` if it isn't mapped.
     pub fn translate_addr(&self, address: u64) -> Result<Option<u64>, Error> {
         Ok(self.translate(address)?.map(|found| found.frame + found.offset))
     }
@@ -312,7 +313,7 @@ impl<'a> AddressSpace<'a> {
         }
     }
 
-    /// Returns all pages that the processor can reach, by rising addresses.
+    /// Returns all pages that the processor can reach, in ascending order of addresses.
     pub fn mappings(&self) -> Mappings<'_> {
         Mappings {
             tables: self.tables(),
@@ -325,14 +326,14 @@ impl<'a> AddressSpace<'a> {
     }
 }
 
-/// The pages that the processor can reach: an array of some of them, which is filled again when all were taken.
+/// An iterator over the pages that the processor can reach. Its array holds some of them, and is refilled when they are used up.
 pub struct Mappings<'a> {
     tables: &'a [Table],
     hierarchy: Hierarchy,
     found: [Mapping; 16],
     count: usize,
     at: usize,
-    // where the next list begins, if there is one
+    // where the next list starts, or `None` if the array holds the last mappings
     from: Option<u64>,
 }
 
@@ -344,7 +345,7 @@ impl Iterator for Mappings<'_> {
             let (from, mut next) = (self.from.take()?, 0);
             let (tables, found) = (self.tables, &mut self.found);
             (self.at, self.count) = (0, 0);
-            // SAFETY: each pointer and length are those of a slice, borrowed for the call, which only reads the tables.
+            // SAFETY: each pointer and length come from a slice that is borrowed for the call, which only reads the tables.
             let status = unsafe {
                 x64_mappings(
                     &self.hierarchy,
