@@ -45,7 +45,7 @@
  *
  * Conditions 2 and 3 hold again after every call, whatever its status. If only these calls change
  * the tables and the pool, it is enough to test them once. Each call checks its other arguments
- * itself, before it reads a table, and returns an X64_BAD_ status if one is wrong.
+ * itself, and returns an X64_BAD_ status if one is wrong, whatever the tables hold.
  *
  * Calls on the same memory must not run at the same time. Calls that only read the tables may: they
  * write nothing but their out parameters and marks. This is tested, but not proved.
