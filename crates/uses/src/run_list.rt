@@ -1,4 +1,4 @@
-//! Makes a list of calls.
+//! Runs a list of calls.
 ghost use Rattle.x86_64_model.specs.Mapper.{PoolFits};
 ghost use Rattle.x86_64_model.specs.Pool.{serves_below};
 
