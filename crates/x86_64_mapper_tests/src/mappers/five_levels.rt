@@ -2,9 +2,7 @@
 ghost use Rattle.std.specs.Prelude.{◌≡◌};
 ghost use Rattle.x86_64_model.specs.Mapper.{Valid, SupplyFits};
 
-use super::{
-    Left, WORDS_57, check_left, check_words, image, mapped, page, pool_of, small, word_of,
-};
+use super::{Left, WORDS_57, check_left, check_words, image, mapped, page, pool_of, small};
 use crate::assertions::{assert_equal, unwrap};
 use bitflags::Flags;
 use std::alloc::Global;
@@ -195,7 +193,7 @@ fn root_tables_are_lent(rt: HostRuntime) {
     let tested = is_valid_hierarchy_57(rt.alloc(), &memory, &IdentityMapping, root);
     assert!(rt; unwrap(rt, tested));
     let mut mapper = MappedPageTable57::new(&mut memory, root, IdentityMapping);
-    assert_equal(rt, word_of(&mapper.level_5_table()[0]), 0x2003);
+    assert_equal(rt, mapper.level_5_table()[0].word(), 0x2003);
     mapper.level_5_table_mut().zero();
     drop(mapper);
     check_words(rt, &memory, &WORDS_57[1..])

@@ -9,7 +9,7 @@ ghost use Rattle.x86_64_tables.specs.LentMemory.{numbered};
 ghost use Rattle.x86_64_tables.specs.MapperAnswers.{frame_answer};
 
 use super::unmap::unmap;
-use super::{WORDS, Word, page, set_words, small, word_of};
+use super::{WORDS, Word, page, set_words, small};
 use crate::assertions::{assert_equal, assert_equal_in, unwrap};
 use std::alloc::Global;
 use std::process::Abort;
@@ -68,7 +68,7 @@ fn check_tables(rt: impl Abort + Copy, tables: &[PageTable], words: &[Word]) {
             let is_it = |word: &&Word| word.0 == place as u64 && word.1 == index;
             let expected = words.iter().find(is_it).map_or(0, |word| word.2);
             let entry = &table[PageTableIndex::new(index)];
-            assert_equal_in(rt, (place, index), word_of(entry), expected);
+            assert_equal_in(rt, (place, index), entry.word(), expected);
         }
     }
 }

@@ -7,7 +7,7 @@ ghost use Rattle.x86_64_tables.specs.PageTable.{zero_words};
 ghost use Rattle.x86_64_mappers.specs.InvalidPageTables.{refuses_at};
 ghost use Rattle.x86_64_mappers.specs.Recursive.{recursive_now_at};
 
-use super::{Word, check_words, image, small, word_of};
+use super::{Word, check_words, image, small};
 use crate::assertions::{assert_equal, assert_equal_in, unwrap};
 use std::alloc::Global;
 use std::process::Abort;
@@ -184,7 +184,7 @@ fn clear_root(memory: &mut PhysMemory, root: PhysFrame<Size4KiB>, index: PageTab
     ensures { memory.new ≡ insert memory.old (root / 4096) zero_words }
 {
     let mut mapper = RecursivePageTable::new_unchecked(ActiveMemory::new(memory, root), index);
-    let word = word_of(&mapper.level_4_table()[0]);
+    let word = mapper.level_4_table()[0].word();
     mapper.level_4_table_mut().zero();
     word
 }
@@ -195,7 +195,7 @@ fn clear_root_57(memory: &mut PhysMemory, root: PhysFrame<Size4KiB>, index: Page
     ensures { memory.new ≡ insert memory.old (root / 4096) zero_words }
 {
     let mut mapper = RecursivePageTable57::new_unchecked(ActiveMemory57::new(memory, root), index);
-    let word = word_of(&mapper.level_5_table()[0]);
+    let word = mapper.level_5_table()[0].word();
     mapper.level_5_table_mut().zero();
     word
 }
