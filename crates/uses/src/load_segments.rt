@@ -1,7 +1,7 @@
 //! Maps the segments of a program.
-ghost use Rattle.std.specs.Prelude.{IfOk, IsTrue};
+ghost use Rattle.std.specs.Prelude.{◌↔◌, IfErr, IfOk, IsTrue};
 ghost use Rattle.std.specs.List.{All};
-ghost use Rattle.x86_64_loader.specs.Segments.{IsLoaded, small_pages};
+ghost use Rattle.x86_64_loader.specs.Segments.{IsAllowed, IsLoaded, IsRefused, small_pages};
 ghost use Rattle.x86_64_model.specs.Mapper.{SupplyFits};
 
 use x86_64::FramePool;
@@ -16,6 +16,11 @@ pub fn load_program<M: MapperAllSizes>(
 ) -> Result<bool, LoadError>
     requires { SupplyFits (M.hierarchy mapper.old) pool.old.frames }
     ensures fits { SupplyFits (M.hierarchy mapper.new) pool.new.frames }
+    ensures allowed { let h = M.hierarchy mapper.old in
+        IfOk result (λ loaded. IsTrue loaded ↔ All (IsAllowed h) segments.now) }
+    ensures refused { let h = M.hierarchy mapper.old in let after = M.hierarchy mapper.new in
+        let supply = pool.old.frames in let rest = pool.new.frames in
+        IfErr result (λ error. IsRefused small_pages h supply segments.now error after rest) }
     ensures loaded { IfOk result (λ loaded. IsTrue loaded →
         All (IsLoaded small_pages (M.hierarchy mapper.new)) segments.now) }
 {
