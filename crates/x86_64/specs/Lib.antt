@@ -12,4 +12,6 @@ pub mod PlacesStay
 pub mod private
 pub use Rattle.x86_64_model.specs.Machine
 pub use Rattle.x86_64_model.specs.Layout
+pub use Rattle.x86_64_model.specs.FitsPool
+pub use Rattle.x86_64_model.specs.Spaces
 pub use Rattle.x86_64_model.specs.Alike

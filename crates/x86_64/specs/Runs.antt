@@ -1,20 +1,15 @@
 -- The effect of a list of calls on a mapper and a frame store, which are a machine and its state.
-use Rattle.std.specs.Prelude.{◌≡◌, ◌↔◌, ℕ, Bool, true, List, [], ◌∷◌, ◌++◌, ◌+◌, length, map, drop, Option, Some}
+use Rattle.std.specs.Prelude.{◌≡◌, ℕ, Bool, true, List, [], ◌∷◌, ◌++◌, ◌+◌, length, map, drop, Option, Some}
 use Rattle.std.specs.List.{AllByRecursion}
 use Rattle.x86_64_model.specs.Memory.{Memory}
-use Rattle.x86_64_model.specs.Layout.{Layout, words, paths}
-use Rattle.x86_64_model.specs.Pool.{Fits}
-use Rattle.x86_64_model.specs.Layout.{Owns, KeepsOthers}
+use Rattle.x86_64_model.specs.Layout.{Layout}
 use Rattle.x86_64_model.specs.Machine.{Machine, State, step, state_after}
+pub use Rattle.x86_64_model.specs.FitsPool.{FitsPool, KeepsPool}
 pub use Rattle.x86_64_model.specs.Mapper.{machine_of, state_in}
 use Rattle.x86_64_model.specs.Mapper.{Hierarchy}
 use Rattle.x86_64.specs.Asked.{MapperCall, machine_call, calls_by}
 use Rattle.x86_64.specs.FreeFrames.{KeepsFree, all_back}
 use Rattle.x86_64.specs.Replies.{Reply, reply_of, changes_nothing}
-
--- the hierarchy is valid now, and the pool fits it
-abbrev pub FitsPool : Layout → Memory → (serves : ℕ → Bool) → (pool : List ℕ) → Type 0
-FitsPool layout memory serves pool = Fits layout.levels layout.window (words layout memory) layout.root (paths layout memory) serves pool
 
 -- the result of a call: the machine's state and the reply, or none if the call never gets that reply of the machine
 pub record AfterStep (R : Type 0) : Type 0 where
@@ -40,15 +35,7 @@ appended before after = drop (length before) after
 abbrev pub UnchangedIfRefused : List Reply → (m n : Memory) → Type 0
 UnchangedIfRefused replies m n = AllByRecursion (λ reply. changes_nothing reply ≡ true) replies → n ≡ m
 
--- Calls led from the memory m and a pool to the memory n and the rest of the pool. The rest fits the hierarchy again, free frames
--- and table frames together are the same set as before, and no word changed outside the root, the tables and the frames that were
--- free before.
-pub record KeepsPool (layout : Layout) (serves : ℕ → Bool) (m : Memory) (pool : List ℕ) (n : Memory) (rest : List ℕ) : Type 0 where
-  pub fits : FitsPool layout n serves rest
-  pub conserved : (frame : ℕ) → Owns layout m pool frame ↔ Owns layout n rest frame
-  pub others : KeepsOthers layout.places (Owns layout m pool) m n
-
--- what calls keep of a hierarchy and a pool: the above, the layout, and the memory that was lent
+-- what calls keep of a hierarchy and a pool, the layout, and the memory that was lent
 pub record Kept {Lent : Type 0} (h : Hierarchy Lent) (serves : ℕ → Bool) (pool : List ℕ) (after : Hierarchy Lent) (rest : List ℕ) : Type 0 where
   pub keeps : KeepsPool h.layout serves h.memory pool after.memory rest
   pub layout : after.layout ≡ h.layout

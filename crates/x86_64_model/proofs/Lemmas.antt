@@ -8,6 +8,7 @@ pub mod Maps
 pub mod Pairs
 pub mod Paths
 pub mod Runs
+pub mod Spaces
 pub mod Tables
 pub mod Walks
 pub mod Worked

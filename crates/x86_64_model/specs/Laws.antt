@@ -11,5 +11,6 @@ pub mod Steps
 pub mod Pairs
 pub mod Validity
 pub mod Pools
+pub mod Spaces
 pub mod Ranges
 pub mod Worked

@@ -28,6 +28,8 @@ pub mod Alike
 pub mod Layout
 pub mod Mapper
 pub mod Conserved
+pub mod FitsPool
+pub mod Spaces
 pub mod Arrivals
 pub mod Standing
 pub mod private

@@ -3,3 +3,4 @@ pub mod Marks
 pub mod MapperCalls
 pub mod WalkDown
 pub mod Found
+pub mod SpaceTables

@@ -8,6 +8,7 @@ pub mod page_mappings;
 pub mod pairs;
 pub mod pools;
 pub mod positions;
+pub mod spaces;
 pub mod standing;
 pub mod steps;
 pub mod successors;

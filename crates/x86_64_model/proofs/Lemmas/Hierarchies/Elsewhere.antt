@@ -23,7 +23,7 @@ valid_elsewhere L T U root M same valid = record {
     read None i h = refl
     read (Some f) i h = ap (λ o. cond (nat_lt i 512) (word_in o i) 0) (sym (h f refl))
 
-same_outside : (w : Window) (root : ℕ) (T U : Words) (f : ℕ) → U f ≡ T f → outside_window (Some w) root U f ≡ outside_window (Some w) root T f
+pub same_outside : (w : Window) (root : ℕ) (T U : Words) (f : ℕ) → U f ≡ T f → outside_window (Some w) root U f ≡ outside_window (Some w) root T f
 unfolding set_word
 same_outside w root T U f same = ap (λ o. cond (f == root) (option_map (λ words. set words w.index 0) o) o) same
 

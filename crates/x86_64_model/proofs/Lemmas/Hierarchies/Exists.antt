@@ -93,9 +93,12 @@ module _ (L : ℕ) (T : Words) (root : ℕ) where
   first_of_root zero h i = absurd (omega arith)
   first_of_root (suc n) h i = refl
 
-  law_paths_of : 0 < L → Law L T root (paths_of L T root)
+  pub law_paths_of : 0 < L → Law L T root (paths_of L T root)
   law_paths_of levels [] i = entry_paths_of (i ∷ []) ∙ first_of_root L levels i
   law_paths_of levels (k ∷ q) i = entry_paths_of (k ∷ q ++ i ∷ []) ∙ read_last L T root k q i ∙ ap (λ e. entry_in T (table_of L (k ∷ q) e) i) (sym (entry_paths_of (k ∷ q)))
+
+  pub nothing_above_paths_of : entry (paths_of L T root) [] ≡ 0
+  nothing_above_paths_of = entry_paths_of [] ∙ no_levels_none L
 
   -- the words hold that map, where its tables are in the memory
   pub holds_paths_of : 0 < L → ((q : List ℕ) (f : ℕ) → table_at L root (paths_of L T root) q ≡ Some f → IsSome (T f)) → Holds L T root (paths_of L T root)

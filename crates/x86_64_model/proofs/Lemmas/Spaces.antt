@@ -1,0 +1,8 @@
+pub mod Calls
+pub mod GivenUp
+pub mod Many
+pub mod NewOnes
+pub mod Tables
+pub mod Walks
+pub mod Lists
+pub mod Synced

@@ -1,0 +1,66 @@
+-- Address spaces: hierarchies in one memory whose roots have the same entries at some indices of the highest level, and so the same
+-- tables below these. Kernels share their half of the address space so, with a root for each process.
+use Rattle.std.specs.Prelude.{◌≡◌, ◌≢◌, ◌<◌, ℕ, Bool, true, false, List, [], ◌∷◌, Some, bit_or}
+use Rattle.x86_64_model.specs.Call.{Call, MapTo, MapToWithTableFlags, IdentityMap, Unmap, UpdateFlags, SetFlags, TranslatePage, Translate, TranslateAddress, CleanUp}
+use Rattle.x86_64_model.specs.CleanUp.{meets}
+use Rattle.x86_64_model.specs.FitsPool.{FitsPool}
+use Rattle.x86_64_model.specs.Layout.{Layout, paths, Valid, Owns}
+use Rattle.x86_64_model.specs.Lists.{In}
+use Rattle.x86_64_model.specs.MapRule.{parent_part}
+use Rattle.x86_64_model.specs.Memory.{Memory}
+use Rattle.x86_64_model.specs.Path.{path_at}
+use Rattle.x86_64_model.specs.PathMap.{entry, table_at}
+
+-- Whether a path begins with a shared index.
+abbrev pub is_shared : (shared : ℕ → Bool) → List ℕ → Bool
+is_shared shared [] = false
+is_shared shared (i ∷ q) = shared i
+
+-- The second hierarchy is valid in the memory, with the same mapping and number of levels, and its root has the entries of the
+-- first one's at the shared indices. Its root and its other tables are neither tables of the first nor free frames.
+pub record Shares (shared : ℕ → Bool) (first : Layout) (m : Memory) (pool : List ℕ) (second : Layout) : Type 0 where
+  pub places : second.places ≡ first.places
+  pub levels : second.levels ≡ first.levels
+  pub valid : Valid second m
+  pub root_entries : (i : ℕ) → shared i ≡ true → entry (paths second m) (i ∷ []) ≡ entry (paths first m) (i ∷ [])
+  pub apart : (q : List ℕ) (f : ℕ) → is_shared shared q ≡ false → table_at second.levels second.root (paths second m) q ≡ Some f → Owns first m pool f → ⊥
+
+-- Address spaces with one pool: it fits each, no two have one root, and any two share these indices.
+pub record AreSpaces (shared : ℕ → Bool) (m : Memory) (serves : ℕ → Bool) (pool : List ℕ) (spaces : List Layout) : Type 0 where
+  pub fits : (a : Layout) → In spaces a → FitsPool a m serves pool
+  pub own_roots : (a b : Layout) → In spaces a → In spaces b → a.root ≡ b.root → a ≡ b
+  pub share : (a b : Layout) → In spaces a → In spaces b → a.root ≢ b.root → Shares shared a m pool b
+
+-- ---- calls
+
+-- The call changes nothing below a shared index: its page begins with none, and no span of one overlaps the range of a clean up.
+abbrev pub Avoids : (L : ℕ) (shared : ℕ → Bool) → Call → Type 0
+Avoids L shared (MapTo q frame given) = is_shared shared q ≡ false
+Avoids L shared (MapToWithTableFlags q frame given parent_flags) = is_shared shared q ≡ false
+Avoids L shared (IdentityMap level frame given) = is_shared shared (path_at L level frame) ≡ false
+Avoids L shared (Unmap q) = is_shared shared q ≡ false
+Avoids L shared (UpdateFlags q given) = is_shared shared q ≡ false
+Avoids L shared (SetFlags level q given) = is_shared shared q ≡ false
+Avoids L shared (TranslatePage q) = Unit {0}
+Avoids L shared (Translate p) = Unit {0}
+Avoids L shared (TranslateAddress p) = Unit {0}
+Avoids L shared (CleanUp low high) = (i : ℕ) → shared i ≡ true → meets L low high (i ∷ []) ≡ false
+
+-- The root's entry on the path has these flags, if the path begins with a shared index.
+abbrev pub HasFlags : (shared : ℕ → Bool) → (root_entry : ℕ → ℕ) → List ℕ → (flags : ℕ) → Type 0
+HasFlags shared root_entry [] given = Unit {0}
+HasFlags shared root_entry (i ∷ q) given = shared i ≡ true → bit_or (root_entry i) given ≡ root_entry i
+
+-- The call changes no entry of the root at a shared index, if these are used: a map adds no flag to one, no flags are set at the
+-- highest level, and no span of one overlaps the range of a clean up.
+abbrev pub SparesRoot : (L : ℕ) (shared : ℕ → Bool) → (root_entry : ℕ → ℕ) → Call → Type 0
+SparesRoot L shared root_entry (MapTo q frame given) = HasFlags shared root_entry q (parent_part given)
+SparesRoot L shared root_entry (MapToWithTableFlags q frame given parent_flags) = HasFlags shared root_entry q parent_flags
+SparesRoot L shared root_entry (IdentityMap level frame given) = HasFlags shared root_entry (path_at L level frame) (parent_part given)
+SparesRoot L shared root_entry (Unmap q) = Unit {0}
+SparesRoot L shared root_entry (UpdateFlags q given) = Unit {0}
+SparesRoot L shared root_entry (SetFlags level q given) = is_shared shared q ≡ true → level < L
+SparesRoot L shared root_entry (TranslatePage q) = Unit {0}
+SparesRoot L shared root_entry (Translate p) = Unit {0}
+SparesRoot L shared root_entry (TranslateAddress p) = Unit {0}
+SparesRoot L shared root_entry (CleanUp low high) = (i : ℕ) → shared i ≡ true → meets L low high (i ∷ []) ≡ false
