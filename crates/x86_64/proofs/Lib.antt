@@ -10,6 +10,7 @@ pub mod EveryWord
 pub mod Telling
 pub mod Moved
 pub mod PlacesStay
+pub mod CallEvents
 pub mod Offsets
 pub mod Beside
 pub mod EmptyRoots

@@ -9,6 +9,7 @@ pub mod Flushes
 pub mod ToldReplies
 pub mod SecondHierarchies
 pub mod PlacesStay
+pub mod CallEvents
 pub mod private
 pub use Rattle.x86_64_model.specs.Machine
 pub use Rattle.x86_64_model.specs.Layout

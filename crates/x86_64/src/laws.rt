@@ -1,5 +1,6 @@
 //! Laws of calls and replies, as public functions with empty bodies. The machine is the abstract mapper of the
 //! specification, which goes from state to state with each call.
+ghost use Rattle.x86_64.specs.CallEvents.{RunCallsAreEvents};
 ghost use Rattle.x86_64.specs.EveryWord.{EveryWordIsDecided};
 ghost use Rattle.x86_64.specs.PlacesStay.{PlacesStay, OffsetsFitStill};
 ghost use Rattle.x86_64.specs.SecondHierarchies.{EmptyRootsAreSecond, SecondHierarchiesStay, SomeShare};
@@ -38,4 +39,10 @@ pub fn empty_roots_are_second()
 /// what [`run`](crate::run) ensures in its clauses `ran` and `keeps`.
 pub fn every_word_is_decided()
     ensures { EveryWordIsDecided }
+{}
+
+/// What [`run_call`](crate::run_call) ensures in its clauses `step`, `free` and `keeps` lets the call happen between a
+/// kernel that flushes and a processor that caches, so that the laws of caches of `x86_64_model` apply.
+pub fn run_calls_are_events()
+    ensures { RunCallsAreEvents }
 {}

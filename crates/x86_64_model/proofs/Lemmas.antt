@@ -1,3 +1,4 @@
+pub mod Caches
 pub mod CleanUps
 pub mod Entries
 pub mod Hierarchies

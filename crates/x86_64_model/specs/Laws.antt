@@ -8,6 +8,7 @@ pub mod PageMappings
 pub mod Standing
 pub mod CleanUps
 pub mod Steps
+pub mod Caches
 pub mod Pairs
 pub mod Validity
 pub mod Pools

@@ -24,6 +24,8 @@ pub mod Call
 pub mod Allowed
 pub mod Machine
 pub mod Flush
+pub mod Caches
+pub mod Flushing
 pub mod Alike
 pub mod Layout
 pub mod Mapper

@@ -1,5 +1,6 @@
 // The laws of the definitions. The contract of each function is a law, stated in `specs/Laws`; its body is empty.
 
+pub mod caches;
 pub mod clean_ups;
 pub mod hierarchies;
 pub mod mappings;

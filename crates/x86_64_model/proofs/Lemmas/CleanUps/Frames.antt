@@ -40,7 +40,7 @@ module _ (L root : ℕ) (M : PathMap) (tree : IsTree L root M) (low high : ℕ) 
   clean_before [] f t = t
   clean_before (i ∷ q) f t = (clean_table i q f t).1
 
-  listed : (i : ℕ) (q : List ℕ) → is_removed L M low high (i ∷ q) ≡ true → In (paths_below (L - 1) []) (i ∷ q)
+  pub listed : (i : ℕ) (q : List ℕ) → is_removed L M low high (i ∷ q) ≡ true → In (paths_below (L - 1) []) (i ∷ q)
   listed i q r =
       let parts = in_range_parts L M low high (i ∷ q) (removed_gives L M low high (i ∷ q) r).itself in
       let l : length (i ∷ q) ≤ L - 1 = omega (arith, parts.0) in

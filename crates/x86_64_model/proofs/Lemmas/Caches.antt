@@ -1,0 +1,11 @@
+pub mod Accesses
+pub mod Agrees
+pub mod Calls
+pub mod Filled
+pub mod Kept
+pub mod Runs
+pub mod Safe
+pub mod Unflushed
+pub mod Walks
+pub mod Whole
+pub mod Windowed

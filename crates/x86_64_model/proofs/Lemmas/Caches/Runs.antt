@@ -1,0 +1,136 @@
+-- Lists of events: what has to be flushed after calls is enough, and the processor reads only words of tables.
+use Rattle.std.proofs.Common.{zero, suc, ◌≡◌, ◌⊎◌, inl, inr, ⊎_elim, ◌<◌, ◌+◌, ◌-◌, ◌%◌, ℕ, Bool, true, false, List, [], ◌∷◌, length, Some, None, Option, IsSome, option_map, option_and_then, refl, sym, ap, ◌∙◌, subst}
+use Rattle.x86_64_model.specs.Lists.{In}
+use Rattle.x86_64_model.specs.Memory.{Words}
+use Rattle.x86_64_model.specs.PathMap.{entry}
+use Rattle.x86_64_model.specs.Path.{level_of, begins}
+use Rattle.x86_64_model.specs.Pool.{IsTable}
+use Rattle.x86_64_model.specs.Position.{span, index, page_path}
+use Rattle.x86_64_model.specs.Window.{Window, entry_at, begins_with}
+use Rattle.x86_64_model.specs.Machine.{Machine, IsMachine, State}
+use Rattle.x86_64_model.specs.Caches.{Way, Table, Page, MayRead, MayAccess, then_on, walk_from, walk, walked_in}
+use Rattle.x86_64_model.specs.Flushing.{Due, PageDue, TablesDue, WindowDue, AllDue, HasZeros, concerns, System, Event, Makes, Writes, Flushes, Changes, after_event, MayHappen, AllMayHappen, after_events, fresh}
+use Rattle.x86_64_model.specs.Laws.Caches.{FlushesAreEnough, AccessesAreWalks, OnlyTablesAreRead, WalksThere}
+use Rattle.x86_64_model.specs.Laws.Steps.{FitsState}
+use Rattle.std.proofs.lemmas.Option.{same_Some}
+use Rattle.x86_64_model.specs.PageWalk.{Walked, page_walk}
+use Rattle.x86_64_model.specs.Arrivals.{NoWorse}
+use Rattle.x86_64_model.proofs.Lemmas.Caches.Walks.{walks_with_rights}
+use Rattle.x86_64_model.proofs.Lemmas.Paths.Begins.{from_begins}
+use Rattle.x86_64_model.proofs.Lemmas.Machines.Fitting.{sound_of_fits}
+use Rattle.x86_64_model.proofs.Lemmas.Machines.States.{step_sound}
+use Rattle.x86_64_model.proofs.Lemmas.Walks.Agrees.{reads}
+use Rattle.x86_64_model.proofs.Lemmas.Walks.Walked.{Reads}
+use Rattle.x86_64_model.proofs.Lemmas.Caches.Agrees.{AgreesTable, leads, agrees_leads, start_agrees, table_there}
+use Rattle.x86_64_model.proofs.Lemmas.Caches.Accesses.{walks_on, hits}
+use Rattle.x86_64_model.proofs.Lemmas.Caches.Safe.{IsSafe, Safe, make_keeps, make_moves, write_keeps, write_moves, flush_keeps, change_keeps, none_found}
+use Rattle.x86_64_model.proofs.Lemmas.Caches.Windowed.{AsBefore, seen_table}
+
+-- where a path that lies in the window begins, so does what it begins
+window_front : (window : Option Window) (q p : List ℕ) → begins q p ≡ true → begins_with window q ≡ true → begins_with window p ≡ true
+window_front None q p b h = cc
+window_front (Some w) [] p b h = cc
+window_front (Some w) (i ∷ q) p b h = let more = from_begins (i ∷ q) p b in ap (begins_with (Some w)) more.1 ∙ h
+
+module _ (m : Machine) (is : IsMachine m) (levels : 0 < m.levels) (root : ℕ) (serves : ℕ → Bool) where
+  pub event_safe : (s : System) → IsSafe m root serves s → (e : Event) → MayHappen m root s e → IsSafe m root serves (after_event m s e)
+  event_safe s safe (Makes call loses) may = record {
+    sound = step_sound m.levels m.window root serves s.state safe.sound m.added_flags is.adds m.take_back is.gives call may.is_call;
+    valid = safe.valid;
+    moves = make_moves m root serves s safe is call loses may;
+    items = λ c i. make_keeps m root serves s safe is call loses may c (safe.items c i);
+  }
+  event_safe s safe (Writes N U) may = record {
+    sound = safe.sound;
+    valid = may.valid;
+    moves = write_moves m root serves s safe N U may;
+    items = λ c i. write_keeps m root serves s safe N U may c (safe.items c i);
+  }
+  event_safe s safe (Flushes f after) may = record {
+    sound = safe.sound;
+    valid = safe.valid;
+    moves = λ q. AsBefore (sym (ap (λ M. entry M q) may.done));
+    items = λ c i. let left = may.left c i in flush_keeps m root serves s safe f after c left.1 (safe.items c left.0);
+  }
+  event_safe s safe (Changes after) may = record {
+    sound = safe.sound;
+    valid = safe.valid;
+    moves = safe.moves;
+    items = change_keeps m root serves s safe levels after may;
+  }
+
+  pub events_safe : (events : List Event) (s : System) → IsSafe m root serves s → AllMayHappen m root s events → IsSafe m root serves (after_events m s events)
+  events_safe [] s safe all = safe
+  events_safe (e ∷ es) s safe all = events_safe es (after_event m s e) (event_safe s safe e all.0) all.1
+
+  pub fresh_safe : (T : Words) (s : State) → FitsState m T root serves s → IsSafe m root serves (fresh s T)
+  fresh_safe T s fits = record { sound = sound_of_fits m.levels m.window T root serves s fits; valid = fits.valid; moves = λ q. AsBefore refl; items = λ c i. absurd i }
+
+  module _ (s : System) (safe : IsSafe m root serves s) where
+    -- the entries that the processor reads
+    abbrev E : List ℕ → ℕ
+    E = entry_at m.window s.paths
+
+    r : Reads m.levels s.words root E
+    r = reads m.levels s.words root s.paths m.window safe.valid
+
+    -- a walk from a table with only words 0 leads nowhere
+    nowhere : (p n : ℕ) (t : Way) → HasZeros s.words t.frame → walk_from m.levels s.words p n t ≡ None
+    unfolding walk_from
+    nowhere p zero t z = refl
+    nowhere p (suc n) t z = ap (option_and_then (then_on (λ on. walk_from m.levels s.words p n on))) (none_found m root serves s safe t (index (suc n) p) (z (index (suc n) p)))
+
+    pub goes : (p : ℕ) → ((due : Due) → In s.due due → concerns m.levels m.window due p ≡ false) → (w : Way) → MayAccess m.levels root s.words s.cache p w → WalksThere (walk m.levels s.words root p) w
+    goes p settled w (inl (there, on)) = by (safe.items (Page w) there)
+      where
+        by : Safe m root s (Page w) → WalksThere (walk m.levels s.words root p) w
+        by (inl a) = hits m.levels s.words root E r p w a on
+        by (inr (inl (inl due))) = absurd (let t : true ≡ false = sym on ∙ settled (PageDue w.path) due in cc)
+        by (inr (inl (inr x))) = absurd (let t : true ≡ false = sym (window_front m.window w.path (page_path m.levels p) on x.1) ∙ settled WindowDue x.0 in cc)
+        by (inr (inr due)) = absurd (let t : true ≡ false = settled AllDue due in cc)
+    goes p settled w (inr (t, may, on, arrives)) = ⊎_elim
+        (λ e. walks_on m.levels s.words root E r p t w (subst (AgreesTable m.levels root E) (sym e) (start_agrees m.levels root E levels)) on arrives)
+        (λ there. by (safe.items (Table t) there)) may
+      where
+        by : Safe m root s (Table t) → WalksThere (walk m.levels s.words root p) w
+        by (inl a) = walks_on m.levels s.words root E r p t w a on arrives
+        by (inr (inl x)) = absurd (let n : None ≡ Some w = sym (nowhere p (m.levels - length t.path) t x.2) ∙ arrives in cc)
+        by (inr (inr x)) = absurd (let t : true ≡ false = settled AllDue x.0 in cc)
+
+    pub reads_tables : (t : Way) → MayRead root s.cache t → (IsTable m.levels root s.paths t.frame × IsSome (s.words t.frame)) ⊎ (In s.due TablesDue × In s.state.pool t.frame × HasZeros s.words t.frame)
+    reads_tables t may = ⊎_elim
+        (λ e. table (subst (λ t. leads m.levels root E t.path ≡ Some t.frame) (sym e) refl))
+        (λ there. by (safe.items (Table t) there)) may
+      where
+        table : leads m.levels root E t.path ≡ Some t.frame → (IsTable m.levels root s.paths t.frame × IsSome (s.words t.frame)) ⊎ (In s.due TablesDue × In s.state.pool t.frame × HasZeros s.words t.frame)
+        table there = inl (seen_table m.levels root s.paths s.paths s.due s.state.pool s.words m.window safe.valid.self t.path t.frame there, table_there m.levels s.words root E r t.path t.frame there)
+
+        by : Safe m root s (Table t) → (IsTable m.levels root s.paths t.frame × IsSome (s.words t.frame)) ⊎ (In s.due TablesDue × In s.state.pool t.frame × HasZeros s.words t.frame)
+        by (inl a) = table (agrees_leads m.levels root E t a)
+        by (inr (inl x)) = inr x
+        by (inr (inr x)) = table x.1
+
+pub flushes_are_enough : FlushesAreEnough
+flushes_are_enough m root T serves s fits events now ran = subst
+    (λ now. (p : ℕ) → ((due : Due) → In now.due due → concerns m.levels m.window due p ≡ false) → (w : Way) → MayAccess m.levels root now.words now.cache p w → WalksThere (walk m.levels now.words root p) w)
+    ran.ends
+    (goes m ran.machine ran.levels root serves (after_events m (fresh s T) events) (events_safe m ran.machine ran.levels root serves events (fresh s T) (fresh_safe m ran.machine ran.levels root serves T s fits) ran.happen))
+
+pub only_tables_are_read : OnlyTablesAreRead
+only_tables_are_read m root T serves s fits events now ran = subst
+    (λ now. (t : Way) → MayRead root now.cache t → (IsTable m.levels root now.paths t.frame × IsSome (now.words t.frame)) ⊎ (In now.due TablesDue × In now.state.pool t.frame × HasZeros now.words t.frame))
+    ran.ends
+    (reads_tables m ran.machine ran.levels root serves (after_events m (fresh s T) events) (events_safe m ran.machine ran.levels root serves events (fresh s T) (fresh_safe m ran.machine ran.levels root serves T s fits) ran.happen))
+
+pub accesses_are_walks : AccessesAreWalks
+accesses_are_walks m root T serves s fits events now ran p settled w may walked is =
+    let there = flushes_are_enough m root T serves s fits events now ran p settled w may in let v = there.0 in
+    subst (λ walked. (v : Walked) × (page_walk m.levels now.words root p ≡ Some v) × NoWorse walked v) (same_Some _ _ is) (
+      walked_in m.levels p v,
+      walks_with_rights m.levels now.words root p ∙ ap (option_map (walked_in m.levels p)) there.1,
+      record {
+        same_place = λ i. there.3 i + p % span (level_of m.levels (there.2 i));
+        write_kept = there.4.write;
+        user_kept = there.4.user;
+      },
+    )

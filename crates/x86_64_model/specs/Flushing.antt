@@ -1,0 +1,174 @@
+-- What has to be flushed after each call, and a processor that caches while a kernel makes calls and flushes.
+-- Intel SDM vol. 3A, "Invalidation of TLBs and Paging-Structure Caches".
+use Rattle.std.specs.Prelude.{◌≡◌, ◌⊎◌, ℕ, Bool, true, false, not, cond, List, [], ◌∷◌, ◌++◌, filter, Option, Some, None}
+use Rattle.x86_64_model.specs.Lists.{In}
+use Rattle.x86_64_model.specs.Position.{page_path}
+use Rattle.x86_64_model.specs.Path.{begins, is_small}
+use Rattle.x86_64_model.specs.Entry.{used, present, writable, user, huge, no_execute, address}
+use Rattle.x86_64_model.specs.Memory.{Words, word}
+use Rattle.x86_64_model.specs.Window.{Window, begins_with, IsValidFor}
+use Rattle.x86_64_model.specs.Refusal.{Done, Refused}
+use Rattle.x86_64_model.specs.PathMap.{PathMap, entry, table_at}
+use Rattle.x86_64_model.specs.Call.{Call, IsCall, MapTo, MapToWithTableFlags, IdentityMap, Unmap, UpdateFlags, SetFlags, TranslatePage, Translate, TranslateAddress, CleanUp, Reply, NotAllowed, Answered, Position, Address, Cleaned, parent_flags_of}
+use Rattle.x86_64_model.specs.Machine.{Machine, State, step}
+use Rattle.x86_64_model.specs.Caches.{Cached, Table, Page, Caches}
+
+-- ---- what has to be flushed
+
+-- The TLB items of a page, all items of tables, the TLB items of all pages in the recursive window, or all items.
+pub data Due : Type 0 where
+  PageDue : (page : List ℕ) → Due
+  TablesDue : Due
+  WindowDue : Due
+  AllDue : Due
+
+abbrev pub if_accepted : Reply → List Due → List Due
+if_accepted (Answered (Done frame)) due = due
+if_accepted (Answered (Refused why)) due = []
+if_accepted NotAllowed due = []
+if_accepted (Position t) due = []
+if_accepted (Address a) due = []
+if_accepted Cleaned due = []
+
+abbrev pub if_window : Option Window → List Due
+if_window None = []
+if_window (Some w) = WindowDue ∷ []
+
+-- A map makes absent entries used, which no cache has, and adds rights to its parents. But it takes the right to execute from
+-- them if its parent flags have NO_EXECUTE, even if it is refused. A clean up removes tables that caches may name. The recursive
+-- window shows these tables, and the entry of a 2MiB or 1GiB page, as smaller pages.
+abbrev pub flush_after : (L : ℕ) → Option Window → Call → Reply → List Due
+flush_after L window (MapTo q frame given) reply = []
+flush_after L window (MapToWithTableFlags q frame given parent_flags) reply = cond (no_execute parent_flags) (AllDue ∷ []) []
+flush_after L window (IdentityMap level frame given) reply = []
+flush_after L window (Unmap q) reply = if_accepted reply (PageDue q ∷ cond (is_small L q) [] (if_window window))
+flush_after L window (UpdateFlags q given) reply = if_accepted reply (PageDue q ∷ cond (is_small L q) [] (if_window window))
+flush_after L window (SetFlags level q given) reply = if_accepted reply (AllDue ∷ [])
+flush_after L window (TranslatePage q) reply = []
+flush_after L window (Translate p) reply = []
+flush_after L window (TranslateAddress p) reply = []
+flush_after L window (CleanUp low high) reply = TablesDue ∷ if_window window
+
+-- Whether an access at a position may be wrong as long as this is due. Items of freed tables lead nowhere, since these tables have
+-- only words 0.
+abbrev pub concerns : (L : ℕ) → Option Window → Due → (position : ℕ) → Bool
+concerns L window (PageDue q) p = begins q (page_path L p)
+concerns L window TablesDue p = false
+concerns L window WindowDue p = begins_with window (page_path L p)
+concerns L window AllDue p = true
+
+-- All words of a frame are 0.
+abbrev pub HasZeros : Words → (frame : ℕ) → Type 0
+HasZeros tables f = (i : ℕ) → word tables f i ≡ 0
+
+-- ---- flushes
+
+-- INVLPG of an address, given by its position (its number counted without the gap), a load of CR3, or a flush of everything, global
+-- pages too.
+pub data Flush : Type 0 where
+  Invlpg : (position : ℕ) → Flush
+  LoadCr3 : Flush
+  FlushAll : Flush
+
+-- Whether an item may be left after a flush. INVLPG drops the TLB items of the address, and all items of tables. A load of CR3 drops
+-- all items of tables. It also drops pages that aren't global, which isn't counted on here.
+abbrev pub survives : (L : ℕ) → Flush → Cached → Bool
+survives L (Invlpg p) (Table t) = false
+survives L (Invlpg p) (Page w) = not (begins w.path (page_path L p))
+survives L LoadCr3 (Table t) = false
+survives L LoadCr3 (Page w) = true
+survives L FlushAll c = false
+
+-- Whether this is due no longer after a flush.
+abbrev pub settles : (L : ℕ) → Flush → Due → Bool
+settles L FlushAll due = true
+settles L (Invlpg p) (PageDue q) = begins q (page_path L p)
+settles L (Invlpg p) TablesDue = true
+settles L (Invlpg p) WindowDue = false
+settles L (Invlpg p) AllDue = false
+settles L LoadCr3 (PageDue q) = false
+settles L LoadCr3 TablesDue = true
+settles L LoadCr3 WindowDue = false
+settles L LoadCr3 AllDue = false
+
+-- ---- a kernel and a processor
+
+-- The machine's state after all calls so far, the path map that the words of memory hold now, which may still be on the way there,
+-- these words, the processor's caches, and what has to be flushed.
+pub record System : Type 0 where
+  pub state : State
+  pub paths : PathMap
+  pub words : Words
+  pub cache : List Cached
+  pub due : List Due
+
+pub data Event : Type 0 where
+  -- The kernel begins a call, of which it learns whether a used entry may lose anything.
+  Makes : Call → (loses : Bool) → Event
+  -- Words of memory change, and hold this path map then.
+  Writes : (paths : PathMap) → (words : Words) → Event
+  -- The kernel flushes, which leaves these items.
+  Flushes : Flush → (after : List Cached) → Event
+  -- The processor drops and makes items.
+  Changes : (after : List Cached) → Event
+
+abbrev pub after_event : Machine → System → Event → System
+after_event m s (Makes call loses) = let after = step m s.state call in
+    record { state = after.state; paths = s.paths; words = s.words; cache = s.cache; due = cond loses (flush_after m.levels m.window call after.reply) [] ++ s.due }
+after_event m s (Writes N U) = record { state = s.state; paths = N; words = U; cache = s.cache; due = s.due }
+after_event m s (Flushes f items) = record { state = s.state; paths = s.paths; words = s.words; cache = items; due = filter (λ due. not (settles m.levels f due)) s.due }
+after_event m s (Changes items) = record { state = s.state; paths = s.paths; words = s.words; cache = items; due = s.due }
+
+-- All calls so far are done: the words hold the machine's state.
+abbrev pub IsDone : System → Type 0
+IsDone s = s.paths ≡ s.state.paths
+
+-- A used entry e that becomes f loses nothing: it leads where it led, and grants what it granted.
+pub record LosesNothing (e f : ℕ) : Type 0 where
+  pub is_used : used f ≡ true
+  pub is_present : present e ≡ true → present f ≡ true
+  pub same_huge : huge f ≡ huge e
+  pub same_address : address f ≡ address e
+  pub write : writable e ≡ true → writable f ≡ true
+  pub user : user e ≡ true → user f ≡ true
+  pub execute : no_execute e ≡ false → no_execute f ≡ false
+
+-- A call may begin when the last one is done, but no map before the tables of a clean up are flushed. If the kernel learns that no
+-- used entry loses anything, none does.
+pub record MayMake (m : Machine) (s : System) (call : Call) (loses : Bool) : Type 0 where
+  pub done : IsDone s
+  pub is_call : IsCall m.levels call
+  pub kept : loses ≡ false → (q : List ℕ) → used (entry s.state.paths q) ≡ true → LosesNothing (entry s.state.paths q) (entry (step m s.state call).state.paths q)
+  pub waits : In s.due TablesDue → parent_flags_of call ≡ None
+
+-- At each moment of a call the words are a valid hierarchy, in which each entry is as it was or as it will be. A table that is
+-- removed has only words 0 and, as a free frame, keeps them until tables are flushed. All other memory may change at any time.
+pub record MayWrite (m : Machine) (root : ℕ) (s : System) (N : PathMap) (U : Words) : Type 0 where
+  pub valid : IsValidFor m.levels m.window U root N
+  pub between : (q : List ℕ) → (entry N q ≡ entry s.paths q) ⊎ (entry N q ≡ entry s.state.paths q)
+  pub empty : (q : List ℕ) (f : ℕ) → table_at m.levels root s.paths q ≡ Some f → table_at m.levels root N q ≡ None → HasZeros U f
+  pub keeps : In s.due TablesDue → (f : ℕ) → In s.state.pool f → HasZeros s.words f → HasZeros U f
+
+-- A flush comes after the calls. What is left was there before, and survives.
+pub record MayFlush (m : Machine) (s : System) (f : Flush) (after : List Cached) : Type 0 where
+  pub done : IsDone s
+  pub left : (c : Cached) → In after c → In s.cache c × (survives m.levels f c ≡ true)
+
+abbrev pub MayHappen : Machine → (root : ℕ) → System → Event → Type 0
+MayHappen m root s (Makes call loses) = MayMake m s call loses
+MayHappen m root s (Writes N U) = MayWrite m root s N U
+MayHappen m root s (Flushes f items) = MayFlush m s f items
+MayHappen m root s (Changes items) = Caches m.levels root s.words s.cache items
+
+-- A list of events, in order.
+abbrev pub AllMayHappen : Machine → (root : ℕ) → System → List Event → Type 0
+AllMayHappen m root s [] = Unit {0}
+AllMayHappen m root s (e ∷ es) = MayHappen m root s e × AllMayHappen m root (after_event m s e) es
+
+abbrev pub after_events : Machine → System → List Event → System
+after_events m s [] = s
+after_events m s (e ∷ es) = after_events m (after_event m s e) es
+
+-- The system before any call and any item.
+abbrev pub fresh : State → Words → System
+fresh s tables = record { state = s; paths = s.paths; words = tables; cache = []; due = [] }

@@ -1,0 +1,145 @@
+-- Laws of caches: what has to be flushed after each call suffices.
+use Rattle.std.specs.Prelude.{◌≡◌, ◌⊎◌, ◌<◌, ℕ, Bool, true, false, List, [], ◌∷◌, replicate, Option, Some, None, IsSome, option_map}
+use Rattle.std.specs.FinMap.{empty, insert}
+use Rattle.std.specs.Ordering.{nat_cmp}
+use Rattle.x86_64_model.specs.Lists.{In}
+use Rattle.x86_64_model.specs.Position.{page_path}
+use Rattle.x86_64_model.specs.PathMap.{put}
+use Rattle.x86_64_model.specs.Memory.{Words, Memory, words_of, identity_places}
+use Rattle.x86_64_model.specs.Pool.{IsTable}
+use Rattle.x86_64_model.specs.Window.{IsValidFor}
+use Rattle.x86_64_model.specs.PageWalk.{page_walk}
+use Rattle.x86_64_model.specs.Machine.{Machine, IsMachine, State, step}
+use Rattle.x86_64_model.specs.Caches.{Way, start, AtMost, Cached, Table, Page, found, Caches, MayRead, MayAccess, walk_from, walk, walked_in}
+use Rattle.x86_64_model.specs.Flushing.{Due, TablesDue, AllDue, flush_after, concerns, HasZeros, Invlpg, survives, System, Event, Makes, MayMake, MayWrite, after_event, AllMayHappen, after_events, fresh}
+use Rattle.x86_64_model.specs.MapRule.{map_call}
+use Rattle.x86_64_model.specs.CleanUp.{clean_up}
+use Rattle.x86_64_model.specs.Refusal.{Done}
+use Rattle.x86_64_model.specs.Call.{Call, MapTo, MapToWithTableFlags, CleanUp, Answered, Cleaned}
+use Rattle.x86_64_model.specs.Flush.{OnePage, items_of}
+use Rattle.x86_64_model.specs.Arrivals.{KeepsArrival}
+use Rattle.x86_64_model.specs.Laws.Steps.{FitsState}
+use Rattle.x86_64_model.specs.Laws.Worked.{small_mapped, small_memory}
+
+-- The walk with all rights is the page walk.
+abbrev pub WalksWithRights : Type 0
+WalksWithRights = (L : ℕ) (T : Words) (root p : ℕ) → page_walk L T root p ≡ option_map (walked_in L p) (walk L T root p)
+
+-- The caches change, again and again.
+abbrev pub CachesInTurn : (L root : ℕ) → Words → (before : List Cached) → (between : List (List Cached)) → (after : List Cached) → Type 0
+CachesInTurn L root T before [] after = before ≡ after
+CachesInTurn L root T before (next ∷ more) after = Caches L root T before next × CachesInTurn L root T next more after
+
+-- The processor may come to cache each page to which a walk leads, from whatever it has cached.
+abbrev pub WalksAreCached : Type 0
+WalksAreCached = (L : ℕ) (T : Words) (root p : ℕ) (w : Way) → walk L T root p ≡ Some w → (before : List Cached) → (between : List (List Cached)) × CachesInTurn L root T before between (Page w ∷ [])
+
+-- The walk goes to the page too, with all its rights at least.
+abbrev pub WalksThere : Option Way → (page : Way) → Type 0
+WalksThere walk w = (v : Way) × (walk ≡ Some v) × (v.path ≡ w.path) × (v.frame ≡ w.frame) × AtMost w.rights v.rights
+
+-- A list of events from empty caches on: calls, flushes, changes of the caches, writes elsewhere.
+pub record Ran (m : Machine) (root : ℕ) (T : Words) (s : State) (events : List Event) (end : System) : Type 0 where
+  pub machine : IsMachine m
+  pub levels : 0 < m.levels
+  pub happen : AllMayHappen m root (fresh s T) events
+  pub ends : after_events m (fresh s T) events ≡ end
+
+-- At every moment, also during calls, each access at a position (the number of an address counted without the gap) goes with the
+-- page walk in the present words, if nothing that is due concerns the position.
+abbrev pub FlushesAreEnough : Type 0
+FlushesAreEnough = (m : Machine) (root : ℕ) (T : Words) (serves : ℕ → Bool) (s : State) → FitsState m T root serves s
+    → (events : List Event) (now : System) → Ran m root T s events now
+    → (p : ℕ) → ((due : Due) → In now.due due → concerns m.levels m.window due p ≡ false)
+    → (w : Way) → MayAccess m.levels root now.words now.cache p w → WalksThere (walk m.levels now.words root p) w
+
+-- So if an access goes to a page, the page walk arrives at the same address, with the same rights to write and of user mode at least.
+abbrev pub AccessesAreWalks : Type 0
+AccessesAreWalks = (m : Machine) (root : ℕ) (T : Words) (serves : ℕ → Bool) (s : State) → FitsState m T root serves s
+    → (events : List Event) (now : System) → Ran m root T s events now
+    → (p : ℕ) → ((due : Due) → In now.due due → concerns m.levels m.window due p ≡ false)
+    → (w : Way) → MayAccess m.levels root now.words now.cache p w → KeepsArrival (Some (walked_in m.levels p w)) (page_walk m.levels now.words root p)
+
+-- At every moment, also during calls, the processor reads only words of tables of the hierarchy. Until a clean up is flushed it may
+-- also read words of frames that it freed, all of them 0.
+abbrev pub OnlyTablesAreRead : Type 0
+OnlyTablesAreRead = (m : Machine) (root : ℕ) (T : Words) (serves : ℕ → Bool) (s : State) → FitsState m T root serves s
+    → (events : List Event) (now : System) → Ran m root T s events now
+    → (t : Way) → MayRead root now.cache t
+    → (IsTable m.levels root now.paths t.frame × IsSome (now.words t.frame)) ⊎ (In now.due TablesDue × In now.state.pool t.frame × HasZeros now.words t.frame)
+
+-- ---- calls as a whole
+
+-- The frames that a call frees: those of the tables that a clean up removes.
+abbrev pub freed_by : (L : ℕ) → State → Call → List ℕ
+freed_by L s (CleanUp low high) = (clean_up L s.paths low high).back
+freed_by L s call = []
+
+-- The words after a call hold the machine's next state. A frame that is free then was freed by the call and has only words 0, or
+-- was free before and kept its words.
+pub record IsAfterCall (m : Machine) (root : ℕ) (T U : Words) (s : State) (call : Call) : Type 0 where
+  pub valid : IsValidFor m.levels m.window U root (step m s call).state.paths
+  pub came_back : (f : ℕ) → In (step m s call).state.pool f → In (freed_by m.levels s call) f → HasZeros U f
+  pub was_free : (f : ℕ) → In (step m s call).state.pool f → (In (freed_by m.levels s call) f → ⊥) → In s.pool f
+  pub same_words : (f : ℕ) → In (step m s call).state.pool f → (In (freed_by m.levels s call) f → ⊥) → U f ≡ T f
+
+-- If the processor does nothing during a call, the call may happen as one change of the words.
+abbrev pub CallsMayHappen : Type 0
+CallsMayHappen = (m : Machine) → IsMachine m → (root : ℕ) (serves : ℕ → Bool) (s : System) → FitsState m s.words root serves s.state
+    → (call : Call) (loses : Bool) → MayMake m s call loses → (U : Words) → IsAfterCall m root s.words U s.state call
+    → MayWrite m root (after_event m s (Makes call loses)) (step m s.state call).state.paths U
+
+-- ---- a clean up that isn't flushed: worked example, root in frame 0x1000, four levels
+
+-- The page [0, 0, 0, 1] was mapped and unmapped, and the flush of each was done. Its tables are left, and are empty.
+unfoldable pub emptied_memory : Memory
+emptied_memory = insert (insert (insert (insert (empty {X = List ℕ} {R = nat_cmp})
+    1 (0x2003 ∷ replicate 511 0)) 2 (0x3003 ∷ replicate 511 0)) 3 (0x4003 ∷ replicate 511 0)) 4 (replicate 512 0)
+
+-- A clean up freed them, and a map of the page [1, 0, 0, 5] to frame 0x9000 took their frames again.
+unfoldable pub reused_memory : Memory
+reused_memory = insert (insert (insert (insert (empty {X = List ℕ} {R = nat_cmp})
+    1 (0 ∷ 0x2003 ∷ replicate 510 0)) 2 (0x3003 ∷ replicate 511 0)) 3 (0x4003 ∷ replicate 511 0)) 4 (0 ∷ 0 ∷ 0 ∷ 0 ∷ 0 ∷ 0x9003 ∷ replicate 506 0)
+
+abbrev pub writable_way : (path : List ℕ) (frame : ℕ) → Way
+writable_way q f = record { path = q; frame = f; rights = record { write = true; user = false; execute = true } }
+
+-- Before the clean up the processor caches the table [0] in frame 0x2000. A clean up records no flush. After the map it finds, from
+-- this table, the page [0, 0, 0, 5], which was never mapped, and the flush of the mapped page doesn't drop it: accesses to
+-- 0x5000 go to frame 0x9000, and the page walk goes nowhere.
+pub record UnflushedCleanUp : Type 0 where
+  pub cached : found 4 (words_of emptied_memory identity_places) (start 0x1000) 0 ≡ Some (Table (writable_way (0 ∷ []) 0x2000))
+  pub none_recorded : (low high : ℕ) → items_of 4 (CleanUp low high) Cleaned ≡ []
+  pub goes_on : walk_from 4 (words_of reused_memory identity_places) 0x5000 3 (writable_way (0 ∷ []) 0x2000) ≡ Some (writable_way (0 ∷ 0 ∷ 0 ∷ 5 ∷ []) 0x9000)
+  pub recorded : items_of 4 (MapTo (1 ∷ 0 ∷ 0 ∷ 5 ∷ []) 0x9000 3) (Answered (Done 0x9000)) ≡ OnePage (1 ∷ 0 ∷ 0 ∷ 5 ∷ []) ∷ []
+  pub flushed : page_path 4 0x80_0000_5000 ≡ 1 ∷ 0 ∷ 0 ∷ 5 ∷ []
+  pub left : survives 4 (Invlpg 0x80_0000_5000) (Page (writable_way (0 ∷ 0 ∷ 0 ∷ 5 ∷ []) 0x9000)) ≡ true
+  pub nowhere : page_walk 4 (words_of reused_memory identity_places) 0x1000 0x5000 ≡ None
+
+-- ---- a map that takes the right to execute
+
+-- The page [0, 0, 0, 1], mapped as in `SmallMap`, may be executed.
+abbrev pub executable_page : Way
+executable_page = writable_way (0 ∷ 0 ∷ 0 ∷ 1 ∷ []) 0x5000
+
+-- A map of the page [0, 0, 0, 2] with NO_EXECUTE among its parent flags adds it to the tables above both pages. If only the page
+-- that it records is flushed, the TLB still has the other page with the right to execute.
+pub record UnflushedNoExecute : Type 0 where
+  pub before : walk 4 (words_of small_memory identity_places) 0x1000 0x1000 ≡ Some executable_page
+  pub maps : (map_call 4 small_mapped [] 0x8000_0000_0000_0003 0 (0 ∷ 0 ∷ 0 ∷ 2 ∷ []) 0x6000 3).paths
+      ≡ put (put (put (put small_mapped (0 ∷ []) 0x8000_0000_0000_2003) (0 ∷ 0 ∷ []) 0x8000_0000_0000_3003) (0 ∷ 0 ∷ 0 ∷ []) 0x8000_0000_0000_4003) (0 ∷ 0 ∷ 0 ∷ 2 ∷ []) 0x6003
+  pub left : survives 4 (Invlpg 0x2000) (Page executable_page) ≡ true
+  pub due : flush_after 4 None (MapToWithTableFlags (0 ∷ 0 ∷ 0 ∷ 2 ∷ []) 0x6000 3 0x8000_0000_0000_0003) (Answered (Done 0x6000)) ≡ AllDue ∷ []
+
+-- ---- a table that is named before it is cleared
+
+-- In the middle of the map of `SmallMap`: the tables are named, and the last one still has an old word of its frame.
+unfoldable pub uncleared_memory : Memory
+uncleared_memory = insert (insert (insert (insert (empty {X = List ℕ} {R = nat_cmp})
+    1 (0x2003 ∷ replicate 511 0)) 2 (0x3003 ∷ replicate 511 0)) 3 (0x4003 ∷ replicate 511 0)) 4 (0 ∷ 0 ∷ 0x7003 ∷ replicate 509 0)
+
+-- The processor can find a page in the old word then. After the map the page walk goes nowhere there, and nothing is due.
+pub record UnclearedTable : Type 0 where
+  pub in_between : walk 4 (words_of uncleared_memory identity_places) 0x1000 0x2000 ≡ Some (writable_way (0 ∷ 0 ∷ 0 ∷ 2 ∷ []) 0x7000)
+  pub afterwards : page_walk 4 (words_of small_memory identity_places) 0x1000 0x2000 ≡ None
+  pub none_due : flush_after 4 None (MapTo (0 ∷ 0 ∷ 0 ∷ 1 ∷ []) 0x5000 3) (Answered (Done 0x5000)) ≡ []
