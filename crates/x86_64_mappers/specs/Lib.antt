@@ -3,6 +3,8 @@ pub mod InvalidPageTables
 pub mod Layouts
 pub mod Lending
 pub mod Offsets
+pub mod RangeChanges
+pub mod Ranges
 pub mod Reached
 pub mod Recursive
 pub mod RefusedMappers

@@ -8,6 +8,8 @@ pub mod MapSteps
 pub mod OpenWay
 pub mod OwnedSteps
 pub mod PageCalls
+pub mod RangeChangeSteps
+pub mod RangeSteps
 pub mod Results
 pub mod Stops
 pub mod TableFlags

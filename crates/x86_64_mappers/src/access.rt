@@ -16,6 +16,8 @@ pub mod find;
 pub mod leaf;
 pub mod map;
 pub mod path;
+pub mod range_changes;
+pub mod ranges;
 pub mod translate;
 
 use x86_64_addr::index::PageTableIndex;

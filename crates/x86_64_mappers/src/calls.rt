@@ -13,6 +13,8 @@ pub use crate::access::TableAccess;
 use crate::access::clean_up::all_pages;
 pub use crate::access::clean_up::clean_up_range;
 use crate::access::path::path_of_page;
+pub use crate::access::range_changes::{FrameSink, unmap_pages, update_pages};
+pub use crate::access::ranges::{Stopped, map_pages};
 pub use crate::access::translate::{translate, translate_addr};
 use crate::access::{change, condition, map, translate as translations};
 use x86_64_addr::addr::VirtAddrIn;

@@ -111,7 +111,7 @@ fn change_entry<M: TableAccess, R, F: FnOnce(&mut PageTableEntry) -> R>(
 /// # Errors
 ///
 /// Those of [`leaf_frame`].
-fn unmap_entry<S: PageSize>(entry: &mut PageTableEntry) -> Result<PhysFrame<S>, UnmapError>
+pub fn unmap_entry<S: PageSize>(entry: &mut PageTableEntry) -> Result<PhysFrame<S>, UnmapError>
     ensures answer { frame_answer result ≡ answer_said (unmap_says S.LEVEL entry.old) }
     ensures word { entry.new ≡ word_said entry.old (unmap_says S.LEVEL entry.old) }
 {
@@ -125,7 +125,7 @@ fn unmap_entry<S: PageSize>(entry: &mut PageTableEntry) -> Result<PhysFrame<S>, 
 /// # Errors
 ///
 /// `PageNotMapped` if the entry maps no page of the size.
-fn update_entry<S: PageSize>(
+pub fn update_entry<S: PageSize>(
     entry: &mut PageTableEntry,
     flags: PageTableFlags,
 ) -> Result<(), FlagUpdateError>

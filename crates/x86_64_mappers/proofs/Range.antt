@@ -1,0 +1,11 @@
+pub mod PartSizes
+pub mod Leaves
+pub mod Ways
+pub mod RunPaths
+pub mod Runs
+pub mod Parts
+pub mod FoundWays
+pub mod ChangeRuns
+pub mod ChangedWords
+pub mod ChangeParts
+pub mod EntryCalls

@@ -1,0 +1,133 @@
+-- Runs of maps, one map after another.
+use Rattle.std.proofs.Common.{◌≡◌, ◌+◌, ◌&&◌, ◌||◌, ℕ, Bool, true, false, not, cond, List, [], ◌∷◌, ◌++◌, Option, inl, inr, refl, sym, ap, ap₂, ◌∙◌, subst, arith}
+use Rattle.std.proofs.lemmas.List.FromFn.{map-range_with_len_more}
+use Rattle.x86_64_model.specs.Allowed.{map_allowed, parents_present}
+use Rattle.x86_64_model.specs.Arrivals.{Arrives, Better}
+use Rattle.x86_64_model.specs.Call.{Reply, Answered, NotAllowed}
+use Rattle.x86_64_model.specs.Entry.{IsParentFlags, present, huge, no_address}
+use Rattle.x86_64_model.specs.Layout.{Layout, paths, walk, IsReady}
+use Rattle.x86_64_model.specs.Machine.{AfterCall, State, do_call, after_map, step, only_reply, replies_of, state_after}
+use Rattle.x86_64_model.specs.MapRule.{leaf_entry}
+use Rattle.x86_64_model.specs.Mapper.{Hierarchy, machine_of, state_in}
+use Rattle.x86_64_model.specs.Memory.{Memory}
+use Rattle.x86_64_model.specs.PageWalk.{Walked}
+use Rattle.x86_64_model.specs.Path.{path_at, is_small}
+use Rattle.x86_64_model.specs.PathMap.{PathMap}
+use Rattle.x86_64_model.specs.Refusal.{Answer, Done}
+use Rattle.x86_64_model.specs.Window.{Window, begins_with}
+use Rattle.x86_64_model.proofs.Lemmas.Maps.Mapped.{walks_after}
+use Rattle.x86_64_model.proofs.Lemmas.Runs.Runs.{replies_append, state_append}
+use Rattle.x86_64_mappers.specs.Ranges.{MapRun, DoesMaps, page_at, frame_at, map_at, maps, accepted}
+use Rattle.x86_64_mappers.specs.private.RangeSteps.{IsRun}
+use Rattle.x86_64_mappers.proofs.Entry.EntryEnds.{with_memory}
+use Rattle.x86_64_mappers.proofs.Map.OwnedWays.{owned_nothing, owned_then}
+use Rattle.x86_64_mappers.proofs.Map.StepOutcomes.{IsPathMapped}
+
+-- ---- conditions
+
+-- with PRESENT among the parent flags, a map is allowed whatever the path map
+pub allowed_still : (L : ℕ) (window : Option Window) (M N : PathMap) (q : List ℕ) (given more : ℕ) → present more ≡ true → map_allowed L window M q given more ≡ true → map_allowed L window N q given more ≡ true
+allowed_still L window M N q given more is_present allowed =
+    ap (λ b. no_address given && no_address more && not (huge more) && (not (is_small L q) || not (huge given)) && b && not (begins_with window q)) (there N ∙ sym (there M)) ∙ allowed
+  where
+    or_true : (a b : Bool) → a ≡ true → (a || b) ≡ true
+    or_true true b h = refl
+    or_true false b h = cc
+
+    there : (M : PathMap) → parents_present M more q ≡ true
+    there M = or_true (present more) _ is_present
+
+-- ---- walks
+
+arrives_itself : (more : ℕ) (x : Option Walked) → Arrives more x x
+arrives_itself more x w is = (
+  w,
+  is,
+  record {
+    no_worse = record { same_place = refl; write_kept = λ h. h; user_kept = λ h. h };
+    write_gained = λ h. inl h;
+    user_gained = λ h. inl h;
+  },
+)
+
+better_then : (more : ℕ) (w v x : Walked) → Better more w v → Better more v x → Better more w x
+better_then more w v x one two = record {
+  no_worse = record {
+    same_place = two.no_worse.same_place ∙ one.no_worse.same_place;
+    write_kept = λ h. two.no_worse.write_kept (one.no_worse.write_kept h);
+    user_kept = λ h. two.no_worse.user_kept (one.no_worse.user_kept h);
+  };
+  write_gained = λ h. elim (two.write_gained h) [ inl g ↦ one.write_gained g | inr g ↦ inr g ];
+  user_gained = λ h. elim (two.user_gained h) [ inl g ↦ one.user_gained g | inr g ↦ inr g ];
+}
+
+arrives_then : (more : ℕ) (x y z : Option Walked) → Arrives more x y → Arrives more y z → Arrives more x z
+arrives_then more x y z one two w is =
+    let v = one w is in
+    let u = two v.0 v.1 in
+    (u.0, u.1, better_then more w v.0 u.0 v.2 u.2)
+
+-- ---- runs
+
+pub accepted_more : (r : MapRun) (k : ℕ) → accepted r (k + 1) ≡ accepted r k ++ Answered (Done (frame_at r k)) ∷ []
+accepted_more r k = map-range_with_len_more (λ k. Answered (Done (frame_at r k))) 0 k k (let e : 0 + k ≡ k = omega arith in e)
+
+maps_more : (L : ℕ) (r : MapRun) (k : ℕ) → maps L r (k + 1) ≡ maps L r k ++ map_at L r k ∷ []
+maps_more L r k = map-range_with_len_more (λ k. map_at L r k) 0 k k (let e : 0 + k ≡ k = omega arith in e)
+
+-- before the first map
+pub no_maps : (l : Layout) (m : Memory) (s : List ℕ) → IsReady l m s → (r : MapRun) → IsRun l m s r 0 (accepted r 0) m s
+no_maps l m s ready r = record {
+  replies = λ take_back. refl;
+  state = λ take_back. refl;
+  owned = owned_nothing l m s ready;
+  walks = λ p. arrives_itself r.parent_flags (walk l m p);
+}
+
+module _ (l : Layout) (m : Memory) (s : List ℕ) (r : MapRun) (k : ℕ) (marks : IsParentFlags r.parent_flags) (n : Memory) (rest : List ℕ) (replies : List Reply) (run : IsRun l m s r k replies n rest) where
+  abbrev q : List ℕ
+  q = path_at l.levels r.level (page_at r k)
+
+  -- one map more
+  module _ (allowed : map_allowed l.levels l.window (paths l n) q r.flags r.parent_flags ≡ true) (answer : Answer) (o : Memory) (fs : List ℕ)
+      (mapped : IsPathMapped l n rest r.parent_flags q (leaf_entry l.levels q (frame_at r k) r.flags) (frame_at r k) answer o fs) where
+    one : (take_back : List ℕ → ℕ → List ℕ) → step (machine_of l take_back) (state_in l n rest) (map_at l.levels r k) ≡ record { state = state_in l o fs; reply = Answered answer }
+    unfolding do_call
+    one take_back = ap (λ b. cond b (do_call (machine_of l take_back) (state_in l n rest) (map_at l.levels r k)) (only_reply (state_in l n rest) NotAllowed)) allowed
+        ∙ ap after_map mapped.outcome
+
+    pub one_more : IsRun l m s r (k + 1) (replies ++ Answered answer ∷ []) o fs
+    one_more = record {
+      replies = λ take_back.
+          let machine = machine_of l take_back in
+          let start = state_in l m s in
+          ap (replies_of machine start) (maps_more l.levels r k)
+          ∙ replies_append machine start (maps l.levels r k) (map_at l.levels r k ∷ [])
+          ∙ ap₂ (λ rs (t : State). rs ++ (step machine t (map_at l.levels r k)).reply ∷ []) (run.replies take_back) (run.state take_back)
+          ∙ ap (λ (x : AfterCall). replies ++ x.reply ∷ []) (one take_back);
+      state = λ take_back.
+          let machine = machine_of l take_back in
+          let start = state_in l m s in
+          ap (state_after machine start) (maps_more l.levels r k)
+          ∙ state_append machine start (maps l.levels r k) (map_at l.levels r k ∷ [])
+          ∙ ap (λ (t : State). (step machine t (map_at l.levels r k)).state) (run.state take_back)
+          ∙ ap (λ (x : AfterCall). x.state) (one take_back);
+      owned = owned_then l m s n rest o fs run.owned mapped.owned;
+      walks = λ p. arrives_then r.parent_flags (walk l m p) (walk l n p) (walk l o p) (run.walks p)
+          (walks_after l n rest q (frame_at r k) r.flags r.parent_flags answer o fs marks run.owned.ready mapped.outcome mapped.owned.ready p);
+    }
+
+-- ---- ends
+
+-- what a run leaves in the hierarchy that a mapper owns
+pub ends_run : {Lent : Type 0} (h : Hierarchy Lent) (supply : List ℕ) (r : MapRun) (k : ℕ) (replies : List Reply) (after : Hierarchy Lent) (rest : List ℕ) → after.layout ≡ h.layout → after.lent ≡ h.lent
+    → IsRun h.layout h.memory supply r k replies after.memory rest → DoesMaps h supply r k replies after rest
+ends_run h supply r k replies after rest layout lent run = subst (λ h'. DoesMaps h supply r k replies h' rest) (with_memory h after layout lent) (record {
+  replies = run.replies;
+  state = run.state;
+  fits = run.owned.ready;
+  others = run.owned.others;
+  walks = run.walks;
+  layout = refl;
+  lent = refl;
+})

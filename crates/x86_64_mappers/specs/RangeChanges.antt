@@ -1,0 +1,40 @@
+-- Runs of calls that each change at most the entry of one page: unmaps, and changes of flags, of pages of one size from one page
+-- on.
+use Rattle.std.specs.Prelude.{◌≡◌, ◌+◌, ◌*◌, ℕ, List, [], ◌∷◌, map}
+use Rattle.std.specs.List.{range_with_len}
+use Rattle.x86_64_model.specs.Call.{Call, Unmap, UpdateFlags, Reply, NotAllowed, Answered, Position, Address, Cleaned}
+use Rattle.x86_64_model.specs.Machine.{replies_of, state_after}
+use Rattle.x86_64_model.specs.Mapper.{Hierarchy, Valid, SupplyFits, KeepsOthers, machine_of, state_of, paths}
+use Rattle.x86_64_model.specs.Path.{path_at}
+use Rattle.x86_64_model.specs.Pool.{IsTable}
+use Rattle.x86_64_model.specs.Position.{span}
+use Rattle.x86_64_model.specs.Refusal.{Done, Refused}
+
+-- the unmaps of the first pages of a level, from a page on, with L levels of tables
+abbrev pub unmaps : (L level page count : ℕ) → List Call
+unmaps L level page count = map (λ k. Unmap (path_at L level (page + k * span level))) (range_with_len 0 count)
+
+-- the changes of their flags
+abbrev pub updates : (L level page flags count : ℕ) → List Call
+updates L level page given count = map (λ k. UpdateFlags (path_at L level (page + k * span level)) given) (range_with_len 0 count)
+
+-- the frames of the calls that were done, in order
+abbrev pub frames_done : List Reply → List ℕ
+frames_done [] = []
+frames_done (Answered (Done f) ∷ rs) = f ∷ frames_done rs
+frames_done (Answered (Refused why) ∷ rs) = frames_done rs
+frames_done (NotAllowed ∷ rs) = frames_done rs
+frames_done (Position t ∷ rs) = frames_done rs
+frames_done (Address a ∷ rs) = frames_done rs
+frames_done (Cleaned ∷ rs) = frames_done rs
+
+-- What such calls, one after another, leave. Replies and state are the machine's for this list of calls, with any pool; refused calls
+-- are passed over. The hierarchy is valid, a supply that fitted still fits, and only words in the root and the tables change.
+pub record DoesChanges {Lent : Type 0} (h : Hierarchy Lent) (calls : List Call) (answers : List Reply) (after : Hierarchy Lent) : Type 0 where
+  pub replies : (pool : List ℕ) (take_back : List ℕ → ℕ → List ℕ) → replies_of (machine_of h.layout take_back) (state_of h pool) calls ≡ answers
+  pub state : (pool : List ℕ) (take_back : List ℕ → ℕ → List ℕ) → state_after (machine_of h.layout take_back) (state_of h pool) calls ≡ state_of after pool
+  pub valid : Valid after
+  pub fits : (supply : List ℕ) → SupplyFits h supply → SupplyFits after supply
+  pub others : KeepsOthers (IsTable h.layout.levels h.layout.root (paths h)) h after
+  pub layout : after.layout ≡ h.layout
+  pub lent : after.lent ≡ h.lent

@@ -1,0 +1,53 @@
+-- The steps of runs of calls that each change at most the entry of one page: the entries in one table.
+use Rattle.std.specs.Prelude.{zero, suc, ◌≡◌, ◌⊎◌, ◌+◌, ℕ, List, get_or, length, set, map, replicate, Some, Result, Ok, Err}
+use Rattle.std.specs.FinMap.{insert}
+use Rattle.std.specs.List.{range_with_len}
+use Rattle.x86_64_model.specs.Call.{Call, Reply, Answered}
+use Rattle.x86_64_model.specs.Layout.{Layout, paths, Valid, IsReady, KeepsOthers}
+use Rattle.x86_64_model.specs.Machine.{replies_of, state_after}
+use Rattle.x86_64_model.specs.Mapper.{Hierarchy, machine_of, state_in}
+use Rattle.x86_64_model.specs.Memory.{Memory, words_of}
+use Rattle.x86_64_model.specs.PathMap.{table_at}
+use Rattle.x86_64_model.specs.Pool.{IsTable}
+use Rattle.x86_64_model.specs.Refusal.{Refusal, Refused}
+use Rattle.x86_64_mappers.specs.private.EntryCalls.{word_said, answer_said}
+use Rattle.x86_64_mappers.specs.private.Stops.{IsFound}
+
+-- a table's words after calls on n entries from index i on, each of which says what its word becomes
+abbrev pub with_words : (says : ℕ → Result (ℕ × ℕ) Refusal) → (i : ℕ) → List ℕ → (n : ℕ) → List ℕ
+with_words says i t zero = t
+with_words says i t (suc n) = set (with_words says i t n) (i + n) (word_said (get_or t (i + n) 0) (says (get_or t (i + n) 0)))
+
+-- their replies
+abbrev pub replies_said : (says : ℕ → Result (ℕ × ℕ) Refusal) → (i : ℕ) → List ℕ → (n : ℕ) → List Reply
+replies_said says i t n = map (λ k. Answered (answer_said (says (get_or t (i + k) 0)))) (range_with_len 0 n)
+
+-- the entries of the table below the parents were changed so
+pub record AreChanged (l : Layout) (m : Memory) (parents : List ℕ) (says : ℕ → Result (ℕ × ℕ) Refusal) (i count : ℕ) (answers : List Reply) (n : Memory) : Type 0 where
+  pub frame : ℕ
+  pub found : IsFound l m parents (Ok frame)
+  pub table : List ℕ
+  pub is : words_of m l.places frame ≡ Some table
+  pub long : length table ≡ 512
+  pub put : n ≡ insert m (l.places.place frame) (with_words says i table count)
+  pub replies : answers ≡ replies_said says i table count
+
+-- or a parent refused all calls
+pub record AreRefused (l : Layout) (m : Memory) (parents : List ℕ) (count : ℕ) (answers : List Reply) (n : Memory) : Type 0 where
+  pub why : Refusal
+  pub found : IsFound l m parents (Err why)
+  pub same : n ≡ m
+  pub replies : answers ≡ replicate count (Answered (Refused why))
+
+abbrev pub ChangesPart : {Lent : Type 0} → Hierarchy Lent → (parents : List ℕ) → (says : ℕ → Result (ℕ × ℕ) Refusal) → (i count : ℕ) → (answers : List Reply) → (after : Hierarchy Lent) → Type 0
+ChangesPart h parents says i count answers after =
+    AreChanged h.layout h.memory parents says i count answers after.memory ⊎ AreRefused h.layout h.memory parents count answers after.memory
+
+-- what calls that each change at most one entry, one after another, leave in a memory: each table stays where it is
+pub record IsChangeRun (l : Layout) (m : Memory) (calls : List Call) (answers : List Reply) (n : Memory) : Type 0 where
+  pub replies : (pool : List ℕ) (take_back : List ℕ → ℕ → List ℕ) → replies_of (machine_of l take_back) (state_in l m pool) calls ≡ answers
+  pub state : (pool : List ℕ) (take_back : List ℕ → ℕ → List ℕ) → state_after (machine_of l take_back) (state_in l m pool) calls ≡ state_in l n pool
+  pub valid : Valid l n
+  pub ready : (supply : List ℕ) → IsReady l m supply → IsReady l n supply
+  pub tables : (q : List ℕ) → table_at l.levels l.root (paths l n) q ≡ table_at l.levels l.root (paths l m) q
+  pub others : KeepsOthers l.places (IsTable l.levels l.root (paths l m)) m n

@@ -1,0 +1,59 @@
+-- The steps of a run of maps: the entries of pages in one table, and the run so far.
+use Rattle.std.specs.Prelude.{zero, suc, ◌≡◌, ◌+◌, ◌*◌, ◌<◌, ℕ, true, false, List, [], get_or, length, set, Some, Result, Ok, Err}
+use Rattle.std.specs.FinMap.{insert}
+use Rattle.x86_64_model.specs.Arrivals.{Arrives}
+use Rattle.x86_64_model.specs.Call.{Reply}
+use Rattle.x86_64_model.specs.Entry.{used}
+use Rattle.x86_64_model.specs.Layout.{Layout, walk}
+use Rattle.x86_64_model.specs.Machine.{replies_of, state_after}
+use Rattle.x86_64_model.specs.Mapper.{Hierarchy, machine_of, state_in}
+use Rattle.x86_64_model.specs.Memory.{Memory, Places, words_of}
+use Rattle.x86_64_model.specs.Position.{span}
+use Rattle.x86_64_model.specs.Refusal.{Refusal}
+use Rattle.x86_64_mappers.specs.Ranges.{MapRun, maps}
+use Rattle.x86_64_mappers.specs.private.MapSteps.{KeepsOwned, IsAt, IsDown}
+use Rattle.x86_64_mappers.specs.private.PageCalls.{page_word}
+
+-- a table's words after n entries of pages of a level were written from index i on, for the frames from one on
+abbrev pub with_leaves : (level i frame flags : ℕ) → List ℕ → (n : ℕ) → List ℕ
+with_leaves level i a given t zero = t
+with_leaves level i a given t (suc n) = set (with_leaves level i a given t n) (i + n) (page_word level (a + n * span level) given)
+
+-- of `count` entries from index i on, the first n were unused and no more, or all were
+pub record AreUnused (table : List ℕ) (i count n : ℕ) : Type 0 where
+  pub unused : (j : ℕ) → j < n → used (get_or table (i + j) 0) ≡ false
+  pub stops : n < count → used (get_or table (i + n) 0) ≡ true
+
+-- in the table in a frame, these unused entries were written
+pub record AreLeavesSet (places : Places) (m : Memory) (f level i frame flags count n : ℕ) (after : Memory) : Type 0 where
+  pub table : List ℕ
+  pub is : words_of m places f ≡ Some table
+  pub long : length table ≡ 512
+  pub free : AreUnused table i count n
+  pub put : after ≡ insert m (places.place f) (with_leaves level i frame flags table n)
+
+-- this for the table of a hierarchy
+abbrev pub SetsLeaves : {Lent : Type 0} → Hierarchy Lent → (table level i frame flags count n : ℕ) → (after : Hierarchy Lent) → Type 0
+SetsLeaves h f level i a given count n after = AreLeavesSet h.layout.places h.memory f level i a given count n after.memory
+
+-- the way down the parents, and then n entries of the table that it led to
+pub record IsPartMapped (l : Layout) (m : Memory) (s : List ℕ) (more : ℕ) (parents : List ℕ) (level i frame flags count n : ℕ) (after : Memory) (rest : List ℕ) : Type 0 where
+  pub table : ℕ
+  pub middle : Memory
+  pub down : IsAt l m s more parents parents [] middle rest table
+  pub leaves : AreLeavesSet l.places middle table level i frame flags count n after
+
+-- this, or the way down was refused
+abbrev pub IsPart : (l : Layout) (m : Memory) (s : List ℕ) (more : ℕ) (parents : List ℕ) (level i frame flags count : ℕ) → Result ℕ Refusal → (after : Memory) (rest : List ℕ) → Type 0
+IsPart l m s more parents level i a given count (Ok n) after rest = IsPartMapped l m s more parents level i a given count n after rest
+IsPart l m s more parents level i a given count (Err why) after rest = IsDown l m s more parents (Err why) after rest
+
+abbrev pub MapsPart : {Lent : Type 0} → Hierarchy Lent → (supply : List ℕ) → (parent_flags : ℕ) → (parents : List ℕ) → (level i frame flags count : ℕ) → Result ℕ Refusal → (after : Hierarchy Lent) → (rest : List ℕ) → Type 0
+MapsPart h s more parents level i a given count result after rest = IsPart h.layout h.memory s more parents level i a given count result after.memory rest
+
+-- what the maps of the first pages of a run, one after another, leave in a memory
+pub record IsRun (l : Layout) (m : Memory) (s : List ℕ) (r : MapRun) (count : ℕ) (answers : List Reply) (n : Memory) (rest : List ℕ) : Type 0 where
+  pub replies : (take_back : List ℕ → ℕ → List ℕ) → replies_of (machine_of l take_back) (state_in l m s) (maps l.levels r count) ≡ answers
+  pub state : (take_back : List ℕ → ℕ → List ℕ) → state_after (machine_of l take_back) (state_in l m s) (maps l.levels r count) ≡ state_in l n rest
+  pub owned : KeepsOwned l m s n rest
+  pub walks : (p : ℕ) → Arrives r.parent_flags (walk l m p) (walk l n p)

@@ -1,0 +1,216 @@
+//! Maps of runs of pages.
+ghost use Rattle.std.specs.Prelude.{◌≡◌, ◌<◌, ◌≤◌, ◌+◌, ◌-◌, ◌*◌, ◌^◌, ℕ, true, false, length, take, get_or, IfOk, OnOk, IfErr};
+ghost use Rattle.x86_64_model.specs.Entry.{IsParentFlags};
+ghost use Rattle.x86_64_model.specs.Mapper.{SupplyFits, paths};
+ghost use Rattle.x86_64_model.specs.Position.{position_count};
+ghost use Rattle.x86_64_model.specs.Window.{begins_with};
+ghost use Rattle.x86_64_mappers.specs.Ranges.{run_of, MayMapRun, MapsAll, StopsAt};
+ghost use Rattle.x86_64_mappers.specs.Reached.{Reaches};
+ghost use Rattle.x86_64_mappers.specs.private.OpenWay.{WillBePresent};
+ghost use Rattle.x86_64_mappers.specs.private.RangeSteps.{with_leaves, AreUnused, SetsLeaves, MapsPart};
+ghost use Rattle.x86_64_mappers.specs.private.Results.{create_result};
+ghost use Rattle.x86_64_tables.specs.MapperAnswers.{map_refusal};
+ghost use Rattle.x86_64_tables.specs.PageTableFlags.{bits_of};
+
+use super::TableAccess;
+use super::leaf::leaf_flags;
+use super::map::{PageTableCreateError, create_tables};
+use super::path::path_of_page;
+use x86_64_addr::index::PageTableIndex;
+use x86_64_addr::level_count::LevelCount;
+use x86_64_page::frame::PhysFrame;
+use x86_64_page::page::{PageIn, PageSize, Size4KiB};
+use x86_64_tables::frame_alloc::FrameAllocator;
+use x86_64_tables::mapper::{MapToError, TablesIn};
+use x86_64_tables::page_table::{PageTable, PageTableFlags};
+
+/// The page at which a run of maps stopped.
+#[derive(Clone, Copy)]
+pub struct Stopped<S: PageSize> {
+    /// The number of pages mapped before the refused one.
+    pub mapped: u64,
+    /// The reason for the refusal.
+    pub why: MapToError<S>,
+}
+
+/// Returns the number of unused entries of a table from an index on, up to the first used one and at most `count`.
+fn unused_entries(table: &PageTable, first: usize, count: usize) -> usize
+    requires { first + count ≤ 512 }
+    ensures within { result ≤ count }
+    ensures free { AreUnused table.now first count result }
+    ensures size { 0 < count → length table.now ≡ 512 }
+{
+    for k in 0..count {
+        if !table[first + k].is_unused() {
+            return k;
+        }
+    }
+    count
+}
+
+/// Writes the entries of pages, from an index of their table on, for the frames from a frame on.
+fn write_entries<S: PageSize>(
+    table: &mut PageTable,
+    first: usize,
+    count: usize,
+    frame: PhysFrame<S>,
+    flags: PageTableFlags,
+)
+    requires within { first + count ≤ 512 }
+    requires frames { (k : ℕ) → k < count → frame + k * S.SIZE < 2 ^ 52 }
+    ensures { table.new ≡ with_leaves S.LEVEL first frame (bits_of flags) table.old count }
+{
+    let all_flags = leaf_flags::<S>(flags);
+    for k in 0..count {
+        table[first + k].set_addr((frame + k as u64).start_address(), all_flags);
+    }
+}
+
+/// Writes the entries of pages of the table that a path leads to, from an index on, for the frames from a frame on.
+/// Stops at the first entry that is used. Returns the number of written entries.
+// Counts first, so that the loop that writes has no other way out.
+fn set_leaves<S: PageSize, M: TableAccess>(
+    mapper: &mut M,
+    parents: &[PageTableIndex],
+    table: PhysFrame<Size4KiB>,
+    first: usize,
+    count: usize,
+    frame: PhysFrame<S>,
+    flags: PageTableFlags,
+) -> usize
+    requires reached { Reaches (M.hierarchy mapper.old) parents.now table }
+    requires short { length parents.now < (M.hierarchy mapper.old).layout.levels }
+    requires some { 0 < count }
+    requires within { first + count ≤ 512 }
+    requires frames { (k : ℕ) → k < count → frame + k * S.SIZE < 2 ^ 52 }
+    ensures within { result ≤ count }
+    ensures set { let h = M.hierarchy mapper.old in
+        SetsLeaves h table S.LEVEL first frame (bits_of flags) count result (M.hierarchy mapper.new) }
+    ensures layout { (M.hierarchy mapper.new).layout ≡ (M.hierarchy mapper.old).layout }
+    ensures lent { (M.hierarchy mapper.new).lent ≡ (M.hierarchy mapper.old).lent }
+{
+    let entries = mapper.table_mut(parents, table);
+    let free = unused_entries(entries, first, count);
+    write_entries(entries, first, free, frame, flags);
+    free
+}
+
+/// Maps pages of one table, from the one with a path on, to the frames from a frame on. Stops at the first page whose
+/// entry is used. Returns the number of mapped pages.
+///
+/// # Errors
+///
+/// Those of [`create_tables`]. Then no page is mapped.
+fn map_part<S: PageSize, M: TableAccess, A: FrameAllocator<Size4KiB>>(
+    mapper: &mut M,
+    path: &[PageTableIndex],
+    count: usize,
+    frame: PhysFrame<S>,
+    flags: PageTableFlags,
+    parent_flags: PageTableFlags,
+    frame_allocator: &mut A,
+) -> Result<usize, PageTableCreateError>
+    requires levels { length path.now + S.LEVEL ≡ (M.hierarchy mapper.old).layout.levels + 1 }
+    requires ready { SupplyFits (M.hierarchy mapper.old) (A.supply frame_allocator.old) }
+    requires outside { begins_with (M.hierarchy mapper.old).layout.window path.now ≡ false }
+    requires marks { IsParentFlags (bits_of parent_flags) }
+    requires present { let parents = take (length path.now - 1) path.now in
+        WillBePresent (paths (M.hierarchy mapper.old)) (bits_of parent_flags) parents }
+    requires some { 0 < count }
+    requires within { get_or path.now (length path.now - 1) 0 + count ≤ 512 }
+    requires frames { (k : ℕ) → k < count → frame + k * S.SIZE < 2 ^ 52 }
+    ensures within { IfOk result (λ mapped. mapped ≤ count) }
+    ensures maps { let h = M.hierarchy mapper.old in let supply = A.supply frame_allocator.old in
+        let rest = A.supply frame_allocator.new in let last = length path.now - 1 in
+        let parents = take last path.now in let first = get_or path.now last 0 in
+        let made = create_result result in let given = bits_of flags in let more = bits_of parent_flags in
+        MapsPart h supply more parents S.LEVEL first frame given count made (M.hierarchy mapper.new) rest }
+    ensures layout { (M.hierarchy mapper.new).layout ≡ (M.hierarchy mapper.old).layout }
+    ensures lent { (M.hierarchy mapper.new).lent ≡ (M.hierarchy mapper.old).lent }
+    ensures serves { A.serves frame_allocator.new ≡ A.serves frame_allocator.old }
+{
+    let last = path.len() - 1;
+    let parents = &path[..last];
+    let table = create_tables(mapper, parents, parent_flags, frame_allocator)?;
+    let first = usize::from(path[last]);
+    Ok(set_leaves(mapper, parents, table, first, count, frame, flags))
+}
+
+/// Returns the page this number of pages after a page. Requires that it exists.
+pub fn page_after<S: PageSize, L: LevelCount>(page: PageIn<S, L>, count: u64) -> PageIn<S, L>
+    requires { page + count * S.SIZE < position_count L.LEVELS }
+    ensures { result ≡ page + count * S.SIZE }
+{
+    match PageIn::forward_checked(page, count as usize) {
+        Some(page) => page,
+        None => unreachable!(),
+    }
+}
+
+/// Maps a number of pages, from a page on, to the frames from a frame on, in order, up to the first page that is
+/// refused.
+///
+/// # Errors
+///
+/// The number of pages mapped before the first one that is refused, and the reason.
+pub fn map_pages<
+    S: PageSize,
+    L: LevelCount,
+    M: TableAccess + TablesIn<L>,
+    A: FrameAllocator<Size4KiB>,
+>(
+    mapper: &mut M,
+    page: PageIn<S, L>,
+    count: u64,
+    frame: PhysFrame<S>,
+    flags: PageTableFlags,
+    parent_flags: PageTableFlags,
+    frame_allocator: &mut A,
+) -> Result<(), Stopped<S>>
+    requires there { (k : ℕ) → k < count → page + k * S.SIZE < position_count L.LEVELS }
+    requires may { let run = run_of S.LEVEL page frame (bits_of flags) (bits_of parent_flags) in
+        MayMapRun (M.hierarchy mapper.old) (A.supply frame_allocator.old) run count }
+    ensures mapped { let run = run_of S.LEVEL page frame (bits_of flags) (bits_of parent_flags) in
+        let h = M.hierarchy mapper.old in let supply = A.supply frame_allocator.old in
+        let after = M.hierarchy mapper.new in let rest = A.supply frame_allocator.new in
+        OnOk result (MapsAll h supply run count after rest) }
+    ensures stopped { let run = run_of S.LEVEL page frame (bits_of flags) (bits_of parent_flags) in
+        let h = M.hierarchy mapper.old in let supply = A.supply frame_allocator.old in
+        let after = M.hierarchy mapper.new in let rest = A.supply frame_allocator.new in
+        IfErr result (λ stopped.
+        StopsAt h supply run count stopped.mapped (map_refusal stopped.why) after rest) }
+    ensures serves { A.serves frame_allocator.new ≡ A.serves frame_allocator.old }
+{
+    let mut done = 0;
+    'parts: while done < count {
+        let path = path_of_page(mapper, page_after(page, done));
+        let indices = path.indices();
+        let room = 512 - u64::from(indices[indices.len() - 1]);
+        let part = room.min(count - done);
+        let from = frame + done;
+        match map_part(
+            mapper,
+            indices,
+            part as usize,
+            from,
+            flags,
+            parent_flags,
+            frame_allocator,
+        ) {
+            Ok(mapped) => {
+                done += mapped as u64;
+                if (mapped as u64) < part {
+                    let why = MapToError::PageAlreadyMapped(frame + done);
+                    return Err(Stopped { mapped: done, why });
+                }
+            }
+            Err(why) => {
+                return Err(Stopped {
+                    mapped: done,
+                    why: why.into(),
+                });
+            }
+        }
+    }
+    Ok(())
+}
