@@ -64,7 +64,8 @@ MayRead root cache t = (t ≡ start root) ⊎ In cache (Table t)
 -- At any moment the processor may drop items and make others: each item after it was there before, or is found in a word of a
 -- table from which the processor may read on. So a walk that makes no items on the way makes and drops them.
 abbrev pub Caches : (L root : ℕ) → Words → (before after : List Cached) → Type 0
-Caches L root tables before after = (c : Cached) → In after c → In before c ⊎ ((t : Way) × (i : ℕ) × MayRead root before t × (found L tables t i ≡ Some c))
+Caches L root tables before after = (c : Cached) → In after c
+    → In before c ⊎ ((t : Way) × (i : ℕ) × MayRead root before t × (found L tables t i ≡ Some c))
 
 -- ---- accesses
 

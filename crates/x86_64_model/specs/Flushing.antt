@@ -30,6 +30,14 @@ if_accepted (Position t) due = []
 if_accepted (Address a) due = []
 if_accepted Cleaned due = []
 
+-- A call that isn't allowed does nothing. A map that is refused may have changed the entries above its page.
+abbrev pub if_allowed : Reply → List Due → List Due
+if_allowed NotAllowed due = []
+if_allowed (Answered answer) due = due
+if_allowed (Position t) due = due
+if_allowed (Address a) due = due
+if_allowed Cleaned due = due
+
 abbrev pub if_window : Option Window → List Due
 if_window None = []
 if_window (Some w) = WindowDue ∷ []
@@ -39,7 +47,7 @@ if_window (Some w) = WindowDue ∷ []
 -- window shows these tables, and the entry of a 2MiB or 1GiB page, as smaller pages.
 abbrev pub flush_after : (L : ℕ) → Option Window → Call → Reply → List Due
 flush_after L window (MapTo q frame given) reply = []
-flush_after L window (MapToWithTableFlags q frame given parent_flags) reply = cond (no_execute parent_flags) (AllDue ∷ []) []
+flush_after L window (MapToWithTableFlags q frame given parent_flags) reply = if_allowed reply (cond (no_execute parent_flags) (AllDue ∷ []) [])
 flush_after L window (IdentityMap level frame given) reply = []
 flush_after L window (Unmap q) reply = if_accepted reply (PageDue q ∷ cond (is_small L q) [] (if_window window))
 flush_after L window (UpdateFlags q given) reply = if_accepted reply (PageDue q ∷ cond (is_small L q) [] (if_window window))

@@ -3,4 +3,3 @@ pub mod Marks
 pub mod MapperCalls
 pub mod WalkDown
 pub mod Found
-pub mod SpaceTables

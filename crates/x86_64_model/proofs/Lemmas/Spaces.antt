@@ -4,5 +4,4 @@ pub mod Many
 pub mod NewOnes
 pub mod Tables
 pub mod Walks
-pub mod Lists
 pub mod Synced

@@ -32,14 +32,15 @@ CachesInTurn L root T before (next ∷ more) after = Caches L root T before next
 
 -- The processor may come to cache each page to which a walk leads, from whatever it has cached.
 abbrev pub WalksAreCached : Type 0
-WalksAreCached = (L : ℕ) (T : Words) (root p : ℕ) (w : Way) → walk L T root p ≡ Some w → (before : List Cached) → (between : List (List Cached)) × CachesInTurn L root T before between (Page w ∷ [])
+WalksAreCached = (L : ℕ) (T : Words) (root p : ℕ) (w : Way) → walk L T root p ≡ Some w → (before : List Cached)
+    → (between : List (List Cached)) × CachesInTurn L root T before between (Page w ∷ [])
 
 -- The walk goes to the page too, with all its rights at least.
 abbrev pub WalksThere : Option Way → (page : Way) → Type 0
 WalksThere walk w = (v : Way) × (walk ≡ Some v) × (v.path ≡ w.path) × (v.frame ≡ w.frame) × AtMost w.rights v.rights
 
 -- A list of events from empty caches on: calls, flushes, changes of the caches, writes elsewhere.
-pub record Ran (m : Machine) (root : ℕ) (T : Words) (s : State) (events : List Event) (end : System) : Type 0 where
+pub record Happens (m : Machine) (root : ℕ) (T : Words) (s : State) (events : List Event) (end : System) : Type 0 where
   pub machine : IsMachine m
   pub levels : 0 < m.levels
   pub happen : AllMayHappen m root (fresh s T) events
@@ -49,14 +50,14 @@ pub record Ran (m : Machine) (root : ℕ) (T : Words) (s : State) (events : List
 -- page walk in the present words, if nothing that is due concerns the position.
 abbrev pub FlushesAreEnough : Type 0
 FlushesAreEnough = (m : Machine) (root : ℕ) (T : Words) (serves : ℕ → Bool) (s : State) → FitsState m T root serves s
-    → (events : List Event) (now : System) → Ran m root T s events now
+    → (events : List Event) (now : System) → Happens m root T s events now
     → (p : ℕ) → ((due : Due) → In now.due due → concerns m.levels m.window due p ≡ false)
     → (w : Way) → MayAccess m.levels root now.words now.cache p w → WalksThere (walk m.levels now.words root p) w
 
 -- So if an access goes to a page, the page walk arrives at the same address, with the same rights to write and of user mode at least.
 abbrev pub AccessesAreWalks : Type 0
 AccessesAreWalks = (m : Machine) (root : ℕ) (T : Words) (serves : ℕ → Bool) (s : State) → FitsState m T root serves s
-    → (events : List Event) (now : System) → Ran m root T s events now
+    → (events : List Event) (now : System) → Happens m root T s events now
     → (p : ℕ) → ((due : Due) → In now.due due → concerns m.levels m.window due p ≡ false)
     → (w : Way) → MayAccess m.levels root now.words now.cache p w → KeepsArrival (Some (walked_in m.levels p w)) (page_walk m.levels now.words root p)
 
@@ -64,7 +65,7 @@ AccessesAreWalks = (m : Machine) (root : ℕ) (T : Words) (serves : ℕ → Bool
 -- also read words of frames that it freed, all of them 0.
 abbrev pub OnlyTablesAreRead : Type 0
 OnlyTablesAreRead = (m : Machine) (root : ℕ) (T : Words) (serves : ℕ → Bool) (s : State) → FitsState m T root serves s
-    → (events : List Event) (now : System) → Ran m root T s events now
+    → (events : List Event) (now : System) → Happens m root T s events now
     → (t : Way) → MayRead root now.cache t
     → (IsTable m.levels root now.paths t.frame × IsSome (now.words t.frame)) ⊎ (In now.due TablesDue × In now.state.pool t.frame × HasZeros now.words t.frame)
 

@@ -1,5 +1,5 @@
 -- Laws of hierarchies that share the tables below some indices of the highest level.
-use Rattle.std.specs.Prelude.{◌≡◌, ◌≢◌, ◌↔◌, ◌<◌, ◌||◌, ℕ, suc, Bool, true, false, List, [], ◌∷◌, length, map, IsSome, None}
+use Rattle.std.specs.Prelude.{◌≡◌, ◌≢◌, ◌<◌, ◌||◌, ℕ, Bool, true, false, List, [], ◌∷◌, length, IsSome}
 use Rattle.std.specs.List.{AllByRecursion}
 use Rattle.x86_64_model.specs.Call.{Call}
 use Rattle.x86_64_model.specs.CleanUp.{clean_up}
@@ -7,16 +7,15 @@ use Rattle.x86_64_model.specs.Entry.{IsParentFlags, used, present, huge}
 use Rattle.x86_64_model.specs.FitsPool.{FitsPool, KeepsPool}
 use Rattle.x86_64_model.specs.Laws.Steps.{AllCalls}
 use Rattle.x86_64_model.specs.Layout.{Layout, words, paths, walk, Valid, Owns, KeepsOthers}
-use Rattle.x86_64_model.specs.Lists.{In, EachOnce}
+use Rattle.x86_64_model.specs.Lists.{In}
 use Rattle.x86_64_model.specs.Machine.{state_after}
 use Rattle.x86_64_model.specs.Mapper.{machine_of, state_in}
-use Rattle.x86_64_model.specs.Memory.{Memory, Places, IsMapping, word, words_of}
+use Rattle.x86_64_model.specs.Memory.{Memory, IsMapping, word}
 use Rattle.x86_64_model.specs.Path.{is_below}
 use Rattle.x86_64_model.specs.PathMap.{PathMap, entry}
-use Rattle.x86_64_model.specs.Pool.{TakesBack, serves_below}
+use Rattle.x86_64_model.specs.Pool.{TakesBack}
 use Rattle.x86_64_model.specs.Position.{page_path}
 use Rattle.x86_64_model.specs.Spaces.{is_shared, Shares, AreSpaces, Avoids, SparesRoot}
-use Rattle.x86_64_model.specs.private.SpaceTables.{SoundSpaces}
 use Rattle.x86_64_model.specs.Window.{SelfEntry, outside_window, begins_with}
 
 -- After the memory m became n, the second hierarchy is valid. Below the shared indices it is as the first one is now, elsewhere as
@@ -41,19 +40,23 @@ KeepsBelow shared layout m n = (q : List ℕ) → is_shared shared q ≡ true �
 
 -- Two hierarchies that share have the same entries below the shared indices, if a pool fits the first.
 abbrev pub SharedEntriesAreTheSame : Type 0
-SharedEntriesAreTheSame = (shared : ℕ → Bool) (first second : Layout) → IsMapping first.places → 0 < first.levels → (serves : ℕ → Bool) (m : Memory) (pool : List ℕ)
-    → FitsPool first m serves pool → Shares shared first m pool second → (q : List ℕ) → is_shared shared q ≡ true → entry (paths second m) q ≡ entry (paths first m) q
+SharedEntriesAreTheSame = (shared : ℕ → Bool) (first second : Layout) → IsMapping first.places → 0 < first.levels
+    → (serves : ℕ → Bool) (m : Memory) (pool : List ℕ)
+    → FitsPool first m serves pool → Shares shared first m pool second → (q : List ℕ) → is_shared shared q ≡ true
+    → entry (paths second m) q ≡ entry (paths first m) q
 
 -- What calls on the first keep is enough for the second to stay and to see what they did below the shared indices, if they left
 -- the root's entries there.
 abbrev pub SharedTablesStay : Type 0
-SharedTablesStay = (shared : ℕ → Bool) (first second : Layout) → IsMapping first.places → 0 < first.levels → (serves : ℕ → Bool) (m n : Memory) (pool rest : List ℕ)
+SharedTablesStay = (shared : ℕ → Bool) (first second : Layout) → IsMapping first.places → 0 < first.levels
+    → (serves : ℕ → Bool) (m n : Memory) (pool rest : List ℕ)
     → FitsPool first m serves pool → KeepsPool first serves m pool n rest → KeepsRootEntries shared first m n
     → Shares shared first m pool second → StaysSharing shared first second serves m pool n rest
 
 -- If they changed nothing below the shared indices, the second keeps its path map.
 abbrev pub SharedHalvesStay : Type 0
-SharedHalvesStay = (shared : ℕ → Bool) (first second : Layout) → IsMapping first.places → 0 < first.levels → (serves : ℕ → Bool) (m n : Memory) (pool rest : List ℕ)
+SharedHalvesStay = (shared : ℕ → Bool) (first second : Layout) → IsMapping first.places → 0 < first.levels
+    → (serves : ℕ → Bool) (m n : Memory) (pool rest : List ℕ)
     → FitsPool first m serves pool → KeepsPool first serves m pool n rest → KeepsBelow shared first m n
     → Shares shared first m pool second → StaysSharing shared first second serves m pool n rest × (paths second n ≡ paths second m)
 
@@ -62,14 +65,17 @@ SharedHalvesStay = (shared : ℕ → Bool) (first second : Layout) → IsMapping
 -- Two hierarchies that share have the same page walks at positions (the numbers of addresses counted without the gap) below the
 -- shared indices and outside the windows.
 abbrev pub SharedWalksAreTheSame : Type 0
-SharedWalksAreTheSame = (shared : ℕ → Bool) (first second : Layout) → IsMapping first.places → 0 < first.levels → (serves : ℕ → Bool) (m : Memory) (pool : List ℕ)
+SharedWalksAreTheSame = (shared : ℕ → Bool) (first second : Layout) → IsMapping first.places → 0 < first.levels
+    → (serves : ℕ → Bool) (m : Memory) (pool : List ℕ)
     → FitsPool first m serves pool → Shares shared first m pool second
-    → (p : ℕ) → is_shared shared (page_path first.levels p) ≡ true → begins_with first.window (page_path first.levels p) ≡ false → begins_with second.window (page_path second.levels p) ≡ false
+    → (p : ℕ) → is_shared shared (page_path first.levels p) ≡ true → begins_with first.window (page_path first.levels p) ≡ false
+    → begins_with second.window (page_path second.levels p) ≡ false
     → walk second m p ≡ walk first m p
 
 -- Elsewhere the walks of the second one stay after calls on the first that left the root's entries at the shared indices.
 abbrev pub WalksStay : Type 0
-WalksStay = (shared : ℕ → Bool) (first second : Layout) → IsMapping first.places → 0 < first.levels → (serves : ℕ → Bool) (m n : Memory) (pool rest : List ℕ)
+WalksStay = (shared : ℕ → Bool) (first second : Layout) → IsMapping first.places → 0 < first.levels
+    → (serves : ℕ → Bool) (m n : Memory) (pool rest : List ℕ)
     → FitsPool first m serves pool → KeepsPool first serves m pool n rest → KeepsRootEntries shared first m n → Shares shared first m pool second
     → (p : ℕ) → is_shared shared (page_path second.levels p) ≡ false → begins_with second.window (page_path second.levels p) ≡ false
     → walk second n p ≡ walk second m p
@@ -83,13 +89,16 @@ Led layout take_back m pool calls n rest = state_in layout n rest ≡ state_afte
 -- Calls that avoid the shared indices change nothing below them.
 abbrev pub CallsKeepBelow : Type 0
 CallsKeepBelow = (shared : ℕ → Bool) (layout : Layout) → IsParentFlags layout.added_flags → (take_back : List ℕ → ℕ → List ℕ) → TakesBack take_back
-    → (serves : ℕ → Bool) (m n : Memory) (pool rest : List ℕ) (calls : List Call) → AllCalls layout.levels calls → FitsPool layout m serves pool → Led layout take_back m pool calls n rest
+    → (serves : ℕ → Bool) (m n : Memory) (pool rest : List ℕ) (calls : List Call) → AllCalls layout.levels calls
+    → FitsPool layout m serves pool → Led layout take_back m pool calls n rest
     → AllByRecursion (Avoids layout.levels shared) calls → KeepsBelow shared layout m n
 
 -- Calls that spare the root's entries at the shared indices leave these, if they are used.
 abbrev pub CallsKeepRootEntries : Type 0
-CallsKeepRootEntries = (shared : ℕ → Bool) (layout : Layout) → 3 < layout.levels → IsParentFlags layout.added_flags → (take_back : List ℕ → ℕ → List ℕ) → TakesBack take_back
-    → (serves : ℕ → Bool) (m n : Memory) (pool rest : List ℕ) (calls : List Call) → AllCalls layout.levels calls → FitsPool layout m serves pool → Led layout take_back m pool calls n rest
+CallsKeepRootEntries = (shared : ℕ → Bool) (layout : Layout) → 3 < layout.levels → IsParentFlags layout.added_flags
+    → (take_back : List ℕ → ℕ → List ℕ) → TakesBack take_back
+    → (serves : ℕ → Bool) (m n : Memory) (pool rest : List ℕ) (calls : List Call) → AllCalls layout.levels calls
+    → FitsPool layout m serves pool → Led layout take_back m pool calls n rest
     → ((i : ℕ) → shared i ≡ true → used (entry (paths layout m) (i ∷ [])) ≡ true)
     → AllByRecursion (SparesRoot layout.levels shared (λ i. entry (paths layout m) (i ∷ []))) calls → KeepsRootEntries shared layout m n
 
@@ -102,12 +111,14 @@ PinnedEntriesStay = (L : ℕ) (M : PathMap) (low high i : ℕ) (q : List ℕ) �
 
 -- One hierarchy that the pool fits is an address space.
 abbrev pub OneIsASpace : Type 0
-OneIsASpace = (shared : ℕ → Bool) (one : Layout) (serves : ℕ → Bool) (m : Memory) (pool : List ℕ) → FitsPool one m serves pool → AreSpaces shared m serves pool (one ∷ [])
+OneIsASpace = (shared : ℕ → Bool) (one : Layout) (serves : ℕ → Bool) (m : Memory) (pool : List ℕ) → FitsPool one m serves pool
+    → AreSpaces shared m serves pool (one ∷ [])
 
 -- What calls on one of many address spaces keep is enough for all to stay, if they left the root's entries at the shared indices.
 -- All others keep what they have elsewhere.
 abbrev pub SpacesStay : Type 0
-SpacesStay = (shared : ℕ → Bool) (spaces : List Layout) (one : Layout) → In spaces one → IsMapping one.places → 0 < one.levels → (serves : ℕ → Bool) (m n : Memory) (pool rest : List ℕ)
+SpacesStay = (shared : ℕ → Bool) (spaces : List Layout) (one : Layout) → In spaces one → IsMapping one.places → 0 < one.levels
+    → (serves : ℕ → Bool) (m n : Memory) (pool rest : List ℕ)
     → AreSpaces shared m serves pool spaces → KeepsPool one serves m pool n rest → KeepsRootEntries shared one m n
     → AreSpaces shared n serves rest spaces
 
@@ -126,18 +137,21 @@ pub record IsNewRoot (shared : ℕ → Bool) (first : Layout) (m n : Memory) (ne
 
 -- A frame of the pool becomes the root of one more address space.
 abbrev pub NewSpaces : Type 0
-NewSpaces = (shared : ℕ → Bool) (spaces : List Layout) (first new : Layout) → In spaces first → IsMapping first.places → 0 < first.levels → (serves : ℕ → Bool) (m n : Memory) (rest : List ℕ)
+NewSpaces = (shared : ℕ → Bool) (spaces : List Layout) (first new : Layout) → In spaces first → IsMapping first.places → 0 < first.levels
+    → (serves : ℕ → Bool) (m n : Memory) (rest : List ℕ)
     → AreSpaces shared m serves (new.root ∷ rest) spaces → IsNewRoot shared first m n new → AreSpaces shared n serves rest (new ∷ spaces)
 
 -- The root of an address space that is given up goes back to the pool, if it is served and isn't frame 0.
 abbrev pub SpacesAreGivenUp : Type 0
-SpacesAreGivenUp = (shared : ℕ → Bool) (gone : Layout) (spaces : List Layout) → (In spaces gone → ⊥) → IsMapping gone.places → (take_back : List ℕ → ℕ → List ℕ) → TakesBack take_back
+SpacesAreGivenUp = (shared : ℕ → Bool) (gone : Layout) (spaces : List Layout) → (In spaces gone → ⊥) → IsMapping gone.places
+    → (take_back : List ℕ → ℕ → List ℕ) → TakesBack take_back
     → (serves : ℕ → Bool) → serves gone.root ≡ true → gone.root ≢ 0 → (m : Memory) (pool : List ℕ) → AreSpaces shared m serves pool (gone ∷ spaces)
     → AreSpaces shared m serves (take_back pool gone.root) spaces
 
 -- If it had no tables but the root and the shared ones, no frame is lost: what it owned any other one owns with the pool.
 abbrev pub NoFrameIsLost : Type 0
-NoFrameIsLost = (shared : ℕ → Bool) (gone other : Layout) (spaces : List Layout) → (In spaces gone → ⊥) → In spaces other → IsMapping gone.places → 0 < gone.levels → (take_back : List ℕ → ℕ → List ℕ) → TakesBack take_back
+NoFrameIsLost = (shared : ℕ → Bool) (gone other : Layout) (spaces : List Layout) → (In spaces gone → ⊥) → In spaces other
+    → IsMapping gone.places → 0 < gone.levels → (take_back : List ℕ → ℕ → List ℕ) → TakesBack take_back
     → (serves : ℕ → Bool) (m : Memory) (pool : List ℕ) → AreSpaces shared m serves pool (gone ∷ spaces)
     → ((i : ℕ) → shared i ≡ false → entry (paths gone m) (i ∷ []) ≡ 0) → (f : ℕ) → Owns gone m pool f → Owns other m (take_back pool gone.root) f
 
@@ -145,7 +159,8 @@ NoFrameIsLost = (shared : ℕ → Bool) (gone other : Layout) (spaces : List Lay
 
 -- Indices at which all roots are unused need not count as shared, so that calls on one space may use them.
 abbrev pub FewerAreShared : Type 0
-FewerAreShared = (shared fewer : ℕ → Bool) (serves : ℕ → Bool) (m : Memory) (pool : List ℕ) (spaces : List Layout) → ((i : ℕ) → fewer i ≡ true → shared i ≡ true)
+FewerAreShared = (shared fewer : ℕ → Bool) (serves : ℕ → Bool) (m : Memory) (pool : List ℕ) (spaces : List Layout)
+    → ((i : ℕ) → fewer i ≡ true → shared i ≡ true)
     → ((a : Layout) → In spaces a → (i : ℕ) → shared i ≡ true → fewer i ≡ false → entry (paths a m) (i ∷ []) ≡ 0)
     → AreSpaces shared m serves pool spaces → AreSpaces fewer m serves pool spaces
 
@@ -160,18 +175,6 @@ pub record AreSynced (more : ℕ → Bool) (first : Layout) (spaces : List Layou
 
 -- Then the address spaces share these indices too.
 abbrev pub SyncedSpaces : Type 0
-SyncedSpaces = (shared more : ℕ → Bool) (spaces : List Layout) (first : Layout) → In spaces first → IsMapping first.places → 0 < first.levels → (serves : ℕ → Bool) (m n : Memory) (pool : List ℕ)
+SyncedSpaces = (shared more : ℕ → Bool) (spaces : List Layout) (first : Layout) → In spaces first → IsMapping first.places
+    → 0 < first.levels → (serves : ℕ → Bool) (m n : Memory) (pool : List ℕ)
     → AreSpaces shared m serves pool spaces → AreSynced more first spaces m n → AreSpaces (λ i. shared i || more i) n serves pool spaces
-
--- ---- a test
-
--- The layout without a recursive index that has this root.
-abbrev pub space_at : (levels : ℕ) → Places → (root : ℕ) → Layout
-space_at levels places root = record { levels = levels; places = places; root = root; window = None; added_flags = 0 }
-
--- Distinct roots without a recursive index are those of address spaces with one pool if and only if the list of all their tables
--- and the pool is sound.
-abbrev pub SoundIsSpaces : Type 0
-SoundIsSpaces = (shared : ℕ → Bool) (n : ℕ) (places : Places) → IsMapping places → (m : Memory) (first : ℕ) (roots : List ℕ) → In roots first → (limit : ℕ) (pool : List ℕ)
-    → SoundSpaces shared n (words_of m places) first roots (serves_below limit) pool
-    ↔ EachOnce roots × AreSpaces shared m (serves_below limit) pool (map (space_at (suc (suc n)) places) roots)

@@ -1,5 +1,5 @@
 // Laws of address spaces: hierarchies that share the tables below some indices of the highest level.
-ghost use Rattle.x86_64_model.specs.Laws.Spaces.{SharedEntriesAreTheSame, SharedTablesStay, SharedHalvesStay, SharedWalksAreTheSame, WalksStay, CallsKeepBelow, CallsKeepRootEntries, PinnedEntriesStay, OneIsASpace, SpacesStay, NewSpaces, SpacesAreGivenUp, NoFrameIsLost, SoundIsSpaces, SyncedSpaces, FewerAreShared};
+ghost use Rattle.x86_64_model.specs.Laws.Spaces.{SharedEntriesAreTheSame, SharedTablesStay, SharedHalvesStay, SharedWalksAreTheSame, WalksStay, CallsKeepBelow, CallsKeepRootEntries, PinnedEntriesStay, OneIsASpace, SpacesStay, NewSpaces, SpacesAreGivenUp, NoFrameIsLost, SyncedSpaces, FewerAreShared};
 
 /// Two hierarchies that share have the same entries below the shared indices.
 pub fn shared_entries_are_the_same()
@@ -60,12 +60,6 @@ pub fn new_spaces_share()
 pub fn spaces_are_given_up()
     ensures given_up { SpacesAreGivenUp }
     ensures none_lost { NoFrameIsLost }
-{}
-
-/// Distinct roots are those of address spaces with one pool if and only if the list of all their tables, each shared one once, and
-/// of the pool is sound.
-pub fn sound_lists_are_spaces()
-    ensures { SoundIsSpaces }
 {}
 
 /// If all roots get the entries of one of them at more indices, the address spaces share these too. Before, indices at which all
