@@ -13,17 +13,17 @@ abbrev pub page_item : (levels start size : ℕ) → FlushItem
 page_item levels start size = if levels == 4 then Page start size else Page57 start size
 
 -- pages of one size, from the one at a position on
-pub record PageRun : Type 0 where
+pub record FlushRange : Type 0 where
   pub page : ℕ
   pub count : ℕ
 
-abbrev pub run_from : (page count : ℕ) → PageRun
-run_from page count = record { page = page; count = count }
+abbrev pub flush_range : (page count : ℕ) → FlushRange
+flush_range page count = record { page = page; count = count }
 
 -- the items for such pages, one for each page, in order
 abbrev pub page_items : (levels size page count : ℕ) → List FlushItem
 page_items levels size page count = map (λ k. page_item levels (page + k * size) size) (range_with_len 0 count)
 
 -- these, or `All` if there are more pages than `most`
-abbrev pub run_items : (levels size most : ℕ) → PageRun → List FlushItem
-run_items levels size most run = if nat_lt most run.count then All ∷ [] else page_items levels size run.page run.count
+abbrev pub range_items : (levels size most : ℕ) → FlushRange → List FlushItem
+range_items levels size most range = if nat_lt most range.count then All ∷ [] else page_items levels size range.page range.count

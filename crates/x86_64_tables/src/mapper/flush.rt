@@ -3,7 +3,7 @@
 //! Intel SDM vol. 3A, "Invalidation of TLBs and Paging-Structure Caches".
 ghost use Rattle.std.specs.Prelude.{◌≡◌, ◌+◌, ◌-◌, ◌*◌, ◌<◌, ◌≤◌, ℕ, [], ◌∷◌, ◌++◌, length, IsOk, IfErr, OnOk, OnErr};
 ghost use Rattle.x86_64_addr.specs.Position.{position_count};
-ghost use Rattle.x86_64_tables.specs.FlushRecorder.{page_item, page_items, run_items, run_from};
+ghost use Rattle.x86_64_tables.specs.FlushRecorder.{page_item, page_items, range_items, flush_range};
 
 use super::recorder::{FlushItem, FlushRecorder};
 use std::alloc::AllocError;
@@ -107,9 +107,9 @@ pub type MapperFlushRange57<S> = MapperFlushRangeIn<S, FiveLevels>;
 impl<S: PageSize, L: LevelCount> Model for MapperFlushRangeIn<S, L> {
     ghost use Rattle.std.specs.Prelude.{◌+◌, ◌*◌, ◌<◌, ℕ};
     ghost use Rattle.x86_64_addr.specs.Position.{position_count};
-    ghost use Rattle.x86_64_tables.specs.FlushRecorder.{PageRun};
+    ghost use Rattle.x86_64_tables.specs.FlushRecorder.{FlushRange};
 
-    ghost Value = { PageRun };
+    ghost Value = { FlushRange };
 
     ghost view = { λ flush. record { page = flush.page; count = flush.count } };
 
@@ -123,7 +123,7 @@ impl<S: PageSize, L: LevelCount> MapperFlushRangeIn<S, L> {
     /// Requires that all of these pages exist.
     pub fn new(page: PageIn<S, L>, count: u64) -> Self
         requires { (k : ℕ) → k < count → page + k * S.SIZE < position_count L.LEVELS }
-        ensures { result ≡ run_from page count }
+        ensures { result ≡ flush_range page count }
     {
         MapperFlushRangeIn { page, count }
     }
@@ -152,11 +152,11 @@ impl<S: PageSize, L: LevelCount> MapperFlushRangeIn<S, L> {
     ///
     /// The token itself if memory allocation fails. Then the recorder is unchanged.
     pub fn flush(self, recorder: &mut FlushRecorder) -> Result<(), Self>
-        ensures items { let items = run_items L.LEVELS S.SIZE MOST_PAGE_ITEMS self in
+        ensures items { let items = range_items L.LEVELS S.SIZE MOST_PAGE_ITEMS self in
             OnOk result (recorder.new.items ≡ recorder.old.items ++ items) }
-        ensures room { let items = run_items L.LEVELS S.SIZE MOST_PAGE_ITEMS self in
+        ensures room { let items = range_items L.LEVELS S.SIZE MOST_PAGE_ITEMS self in
             OnOk result (recorder.old.room ≤ recorder.new.room + length items) }
-        ensures succeeds { let items = run_items L.LEVELS S.SIZE MOST_PAGE_ITEMS self in
+        ensures succeeds { let items = range_items L.LEVELS S.SIZE MOST_PAGE_ITEMS self in
             length items ≤ recorder.old.room → IsOk result }
         ensures token { IfErr result (λ token. token ≡ self) }
         ensures unchanged { OnErr result (recorder.new ≡ recorder.old) }
@@ -235,11 +235,11 @@ fn record_pages<S: PageSize, L: LevelCount>(
     recorder: &mut FlushRecorder,
 ) -> Result<(), AllocError>
     requires there { (k : ℕ) → k < count → page + k * S.SIZE < position_count L.LEVELS }
-    ensures items { let items = run_items L.LEVELS S.SIZE MOST_PAGE_ITEMS (run_from page count) in
+    ensures items { let items = range_items L.LEVELS S.SIZE MOST_PAGE_ITEMS (flush_range page count) in
         OnOk result (recorder.new.items ≡ recorder.old.items ++ items) }
-    ensures room { let items = run_items L.LEVELS S.SIZE MOST_PAGE_ITEMS (run_from page count) in
+    ensures room { let items = range_items L.LEVELS S.SIZE MOST_PAGE_ITEMS (flush_range page count) in
         OnOk result (recorder.old.room ≤ recorder.new.room + length items) }
-    ensures succeeds { let items = run_items L.LEVELS S.SIZE MOST_PAGE_ITEMS (run_from page count) in
+    ensures succeeds { let items = range_items L.LEVELS S.SIZE MOST_PAGE_ITEMS (flush_range page count) in
         length items ≤ recorder.old.room → IsOk result }
     ensures unchanged { OnErr result (recorder.new ≡ recorder.old) }
 {
