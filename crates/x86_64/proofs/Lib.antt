@@ -1,6 +1,5 @@
 pub mod AskedCalls
 pub mod CallSteps
-pub mod FirstIndex
 pub mod Keeping
 pub mod PageSteps
 pub mod Rounds

@@ -9,7 +9,7 @@ use Rattle.x86_64_model.specs.Path.{path_at}
 use Rattle.x86_64_model.specs.Position.{index}
 use Rattle.x86_64_model.specs.Window.{Window, begins_with}
 use Rattle.x86_64_model.proofs.Lemmas.Machines.Effects.{map_may}
-use Rattle.x86_64.proofs.FirstIndex.{first_index, is_index}
+use Rattle.x86_64_mappers.proofs.Way.FirstIndex.{first_index, is_index}
 use Rattle.x86_64_loader.specs.Pages.{MayBeMapped}
 use Rattle.x86_64_loader.specs.private.Windows.{AreOutside}
 use Rattle.x86_64_loader.proofs.SizedParts.{elsewhere_allowed}

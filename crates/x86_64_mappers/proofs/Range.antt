@@ -9,3 +9,4 @@ pub mod ChangeRuns
 pub mod ChangedWords
 pub mod ChangeParts
 pub mod EntryCalls
+pub mod StoppedParts

@@ -13,7 +13,7 @@ use Rattle.x86_64_model.specs.Refusal.{Refusal, Answer, Done, Refused, PageAlrea
 use Rattle.x86_64_model.specs.Window.{begins_with}
 use Rattle.x86_64_model.proofs.Lemmas.Machines.Effects.{map_may}
 use Rattle.x86_64_model.proofs.Lemmas.Paths.Pages.{length_taken}
-use Rattle.x86_64_mappers.specs.Ranges.{MapRun, page_at, frame_at, accepted}
+use Rattle.x86_64_mappers.specs.Ranges.{MapRange, page_at, frame_at, accepted}
 use Rattle.x86_64_mappers.specs.private.MapSteps.{IsAt, IsDown}
 use Rattle.x86_64_mappers.specs.private.PageCalls.{page_word}
 use Rattle.x86_64_mappers.specs.private.RangeSteps.{IsRun, IsPartMapped, IsPart}
@@ -29,7 +29,7 @@ use Rattle.x86_64_mappers.proofs.Way.Outside.{beside_on}
 use Rattle.x86_64_mappers.proofs.Way.Pages.{small_page}
 
 -- what a run of maps rests on: the first `total` maps are allowed
-pub record IsSetUp (l : Layout) (m : Memory) (r : MapRun) (total : ℕ) : Type 0 where
+pub record IsSetUp (l : Layout) (m : Memory) (r : MapRange) (total : ℕ) : Type 0 where
   pub apart : Distinct l.places
   pub adds : IsParentFlags l.added_flags
   pub marks : IsParentFlags r.parent_flags
@@ -39,7 +39,7 @@ pub record IsSetUp (l : Layout) (m : Memory) (r : MapRun) (total : ℕ) : Type 0
   pub levels : 3 < l.levels
   pub allowed : (k : ℕ) → k < total → map_allowed l.levels l.window (paths l m) (path_at l.levels r.level (page_at r k)) r.flags r.parent_flags ≡ true
 
-module _ (l : Layout) (m : Memory) (s : List ℕ) (r : MapRun) (total : ℕ) (given : IsSetUp l m r total) (done : ℕ) (now : Memory) (left : List ℕ) (run : IsRun l m s r done (accepted r done) now left) where
+module _ (l : Layout) (m : Memory) (s : List ℕ) (r : MapRange) (total : ℕ) (given : IsSetUp l m r total) (done : ℕ) (now : Memory) (left : List ℕ) (run : IsRun l m s r done (accepted r done) now left) where
   abbrev L : ℕ
   L = l.levels
 
@@ -216,7 +216,7 @@ module _ (l : Layout) (m : Memory) (s : List ℕ) (r : MapRun) (total : ℕ) (gi
         (run_more n small within here.from here.supply (accepted r (done + n)) here.so_far (at n) rest part.table here.down (Refused (PageAlreadyMapped (a + n * span level))) (at n) full))
 
 -- this for a part whose first path and frame are given otherwise
-module _ (l : Layout) (m : Memory) (s : List ℕ) (r : MapRun) (total : ℕ) (given : IsSetUp l m r total) (done : ℕ) (now : Memory) (left : List ℕ) (run : IsRun l m s r done (accepted r done) now left)
+module _ (l : Layout) (m : Memory) (s : List ℕ) (r : MapRange) (total : ℕ) (given : IsSetUp l m r total) (done : ℕ) (now : Memory) (left : List ℕ) (run : IsRun l m s r done (accepted r done) now left)
     (q : List ℕ) (is_path : q ≡ path_at l.levels r.level (page_at r done)) (a : ℕ) (is_frame : a ≡ frame_at r done) (count : ℕ) (fits : get_or q (length q - 1) 0 + count ≤ 512) (inside : done + count ≤ total)
     (after : Memory) (rest : List ℕ) where
   abbrev Part : Result ℕ Refusal → Type 0

@@ -17,7 +17,7 @@ use Rattle.x86_64_model.specs.Refusal.{Answer, Done}
 use Rattle.x86_64_model.specs.Window.{Window, begins_with}
 use Rattle.x86_64_model.proofs.Lemmas.Maps.Mapped.{walks_after}
 use Rattle.x86_64_model.proofs.Lemmas.Runs.Runs.{replies_append, state_append}
-use Rattle.x86_64_mappers.specs.Ranges.{MapRun, DoesMaps, page_at, frame_at, map_at, maps, accepted}
+use Rattle.x86_64_mappers.specs.Ranges.{MapRange, DoesMaps, page_at, frame_at, map_at, maps, accepted}
 use Rattle.x86_64_mappers.specs.private.RangeSteps.{IsRun}
 use Rattle.x86_64_mappers.proofs.Entry.EntryEnds.{with_memory}
 use Rattle.x86_64_mappers.proofs.Map.OwnedWays.{owned_nothing, owned_then}
@@ -69,14 +69,14 @@ arrives_then more x y z one two w is =
 
 -- ---- runs
 
-pub accepted_more : (r : MapRun) (k : ℕ) → accepted r (k + 1) ≡ accepted r k ++ Answered (Done (frame_at r k)) ∷ []
+pub accepted_more : (r : MapRange) (k : ℕ) → accepted r (k + 1) ≡ accepted r k ++ Answered (Done (frame_at r k)) ∷ []
 accepted_more r k = map-range_with_len_more (λ k. Answered (Done (frame_at r k))) 0 k k (let e : 0 + k ≡ k = omega arith in e)
 
-maps_more : (L : ℕ) (r : MapRun) (k : ℕ) → maps L r (k + 1) ≡ maps L r k ++ map_at L r k ∷ []
+maps_more : (L : ℕ) (r : MapRange) (k : ℕ) → maps L r (k + 1) ≡ maps L r k ++ map_at L r k ∷ []
 maps_more L r k = map-range_with_len_more (λ k. map_at L r k) 0 k k (let e : 0 + k ≡ k = omega arith in e)
 
 -- before the first map
-pub no_maps : (l : Layout) (m : Memory) (s : List ℕ) → IsReady l m s → (r : MapRun) → IsRun l m s r 0 (accepted r 0) m s
+pub no_maps : (l : Layout) (m : Memory) (s : List ℕ) → IsReady l m s → (r : MapRange) → IsRun l m s r 0 (accepted r 0) m s
 no_maps l m s ready r = record {
   replies = λ take_back. refl;
   state = λ take_back. refl;
@@ -84,7 +84,7 @@ no_maps l m s ready r = record {
   walks = λ p. arrives_itself r.parent_flags (walk l m p);
 }
 
-module _ (l : Layout) (m : Memory) (s : List ℕ) (r : MapRun) (k : ℕ) (marks : IsParentFlags r.parent_flags) (n : Memory) (rest : List ℕ) (replies : List Reply) (run : IsRun l m s r k replies n rest) where
+module _ (l : Layout) (m : Memory) (s : List ℕ) (r : MapRange) (k : ℕ) (marks : IsParentFlags r.parent_flags) (n : Memory) (rest : List ℕ) (replies : List Reply) (run : IsRun l m s r k replies n rest) where
   abbrev q : List ℕ
   q = path_at l.levels r.level (page_at r k)
 
@@ -120,7 +120,7 @@ module _ (l : Layout) (m : Memory) (s : List ℕ) (r : MapRun) (k : ℕ) (marks 
 -- ---- ends
 
 -- what a run leaves in the hierarchy that a mapper owns
-pub ends_run : {Lent : Type 0} (h : Hierarchy Lent) (supply : List ℕ) (r : MapRun) (k : ℕ) (replies : List Reply) (after : Hierarchy Lent) (rest : List ℕ) → after.layout ≡ h.layout → after.lent ≡ h.lent
+pub ends_run : {Lent : Type 0} (h : Hierarchy Lent) (supply : List ℕ) (r : MapRange) (k : ℕ) (replies : List Reply) (after : Hierarchy Lent) (rest : List ℕ) → after.layout ≡ h.layout → after.lent ≡ h.lent
     → IsRun h.layout h.memory supply r k replies after.memory rest → DoesMaps h supply r k replies after rest
 ends_run h supply r k replies after rest layout lent run = subst (λ h'. DoesMaps h supply r k replies h' rest) (with_memory h after layout lent) (record {
   replies = run.replies;

@@ -10,7 +10,7 @@ use Rattle.x86_64_model.specs.Mapper.{Hierarchy, machine_of, state_in}
 use Rattle.x86_64_model.specs.Memory.{Memory, Places, words_of}
 use Rattle.x86_64_model.specs.Position.{span}
 use Rattle.x86_64_model.specs.Refusal.{Refusal}
-use Rattle.x86_64_mappers.specs.Ranges.{MapRun, maps}
+use Rattle.x86_64_mappers.specs.Ranges.{MapRange, maps}
 use Rattle.x86_64_mappers.specs.private.MapSteps.{KeepsOwned, IsAt, IsDown}
 use Rattle.x86_64_mappers.specs.private.PageCalls.{page_word}
 
@@ -52,7 +52,7 @@ abbrev pub MapsPart : {Lent : Type 0} → Hierarchy Lent → (supply : List ℕ)
 MapsPart h s more parents level i a given count result after rest = IsPart h.layout h.memory s more parents level i a given count result after.memory rest
 
 -- what the maps of the first pages of a run, one after another, leave in a memory
-pub record IsRun (l : Layout) (m : Memory) (s : List ℕ) (r : MapRun) (count : ℕ) (answers : List Reply) (n : Memory) (rest : List ℕ) : Type 0 where
+pub record IsRun (l : Layout) (m : Memory) (s : List ℕ) (r : MapRange) (count : ℕ) (answers : List Reply) (n : Memory) (rest : List ℕ) : Type 0 where
   pub replies : (take_back : List ℕ → ℕ → List ℕ) → replies_of (machine_of l take_back) (state_in l m s) (maps l.levels r count) ≡ answers
   pub state : (take_back : List ℕ → ℕ → List ℕ) → state_after (machine_of l take_back) (state_in l m s) (maps l.levels r count) ≡ state_in l n rest
   pub owned : KeepsOwned l m s n rest

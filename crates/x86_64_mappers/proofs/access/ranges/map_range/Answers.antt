@@ -7,13 +7,14 @@ use Rattle.x86_64_model.specs.Refusal.{Refused, PageAlreadyMapped}
 use Rattle.x86_64_model.proofs.Lemmas.Machines.Effects.{map_may}
 use Rattle.x86_64_model.proofs.Lemmas.Paths.Pages.{length_taken}
 use Rattle.x86_64_tables.specs.MapperAnswers.{map_refusal}
-use Rattle.x86_64_mappers.specs.Ranges.{run_of, page_at, frame_at, accepted}
+use Rattle.x86_64_tables.specs.FlushRecorder.{FlushRange}
+use Rattle.x86_64_mappers.specs.Ranges.{StopsAt, range_of, page_at, frame_at, accepted}
 use Rattle.x86_64_mappers.specs.private.RangeSteps.{IsRun, IsPart}
 use Rattle.x86_64_mappers.specs.private.Results.{create_refusal}
 use Rattle.x86_64_mappers.proofs.Range.Parts.{IsSetUp, pages_mapped, page_full, way_refused}
-use Rattle.x86_64_mappers.proofs.Range.PartSizes.{later, few_left, part_inside, part_some, part_fits}
+use Rattle.x86_64_mappers.proofs.Range.PartSizes.{later, page_there, few_left, part_inside, part_some, part_fits}
 use Rattle.x86_64_mappers.proofs.Range.Runs.{ends_run}
-use Rattle.x86_64_mappers.proofs.access.ranges.map_pages.Goals as goal
+use Rattle.x86_64_mappers.proofs.access.ranges.map_range.Goals as goal
 
 pub map_part-requires-clause-marks : goal.map_part-requires-clause-marks
 map_part-requires-clause-marks g c =
@@ -34,15 +35,15 @@ add-requires g c =
     let few = few_left c.parts.done c.in-Ok.mapped c.args.count (512 - c.from-room.result) c.min-part.result c.parts-test.true c.min-part.ensures c.if-mapped-part.true in
     subst (λ z. c.args.frame + k * z < 2 ^ 52) (sym g.S.PageSize.size) (c.requires.may.frames k few)
 
-pub returns-then-mapped-part-clause-stopped : goal.returns-then-mapped-part-clause-stopped
-returns-then-mapped-part-clause-stopped g c =
+pub returns-then-mapped-part-clause-stops : goal.returns-then-mapped-part-clause-stops
+returns-then-mapped-part-clause-stops g c =
     let s = c.args.mapper.now in
     let h = g.M.Tables.hierarchy s in
     let l = h.layout in
     let m = h.memory in
     let supply = g.A.FrameAllocator.supply c.args.frame_allocator.now in
     let level = g.S.PageSize.LEVEL in
-    let r = run_of level c.args.page c.args.frame c.args.flags.0 c.args.parent_flags.0 in
+    let r = range_of level c.args.page c.args.frame c.args.flags.0 c.args.parent_flags.0 in
     let total = c.args.count in
     let done = c.parts.done in
     let inv = c.parts.invariant in
@@ -51,7 +52,7 @@ returns-then-mapped-part-clause-stopped g c =
     let low = g.S.PageSize.low in
     let allowed = c.requires.may.allowed in
     let marks : IsParentFlags r.parent_flags = (map_may l.levels l.window (paths l m) _ r.flags r.parent_flags (allowed done c.parts-test.true)).marks in
-    let given : IsSetUp l m r total = record { apart = (g.met.M.Tables.is_mapping s).distinct; adds = (g.M.Tables.added_flags s).adds; marks = marks; is_present = c.requires.may.is_present; low = low; high = high; levels = levels; allowed = allowed } in
+    let given : IsSetUp l m r total = record { apart = (g.met.M.Tables.is_mapping s).distinct; adds = (g.M.Tables.added_flags s).adds; marks = marks; is_present = c.requires.is_present; low = low; high = high; levels = levels; allowed = allowed } in
     let now = (g.M.Tables.hierarchy c.parts.mapper).memory in
     let left = g.A.FrameAllocator.supply c.parts.frame_allocator in
     let after = g.M.Tables.hierarchy c.map_part.new.mapper in
@@ -69,7 +70,9 @@ returns-then-mapped-part-clause-stopped g c =
     let n = c.in-Ok.mapped in
     let part : IsPart l now left r.parent_flags (take (length q - 1) q) level (get_or q (length q - 1) 0) a r.flags count (Ok n) after.memory rest =
     subst (λ (l : Layout). IsPart l now left r.parent_flags (take (length q - 1) q) level (get_or q (length q - 1) 0) a r.flags count (Ok n) after.memory rest) inv.layout c.in-Ok.ensures.maps in
-    let frame : c.add.result ≡ frame_at r (done + n) = c.add.ensures ∙ ap (λ z. c.args.frame + (done + n) * z) g.S.PageSize.size in (
+    let frame : c.add.result ≡ frame_at r (done + n) = c.add.ensures ∙ ap (λ z. c.args.frame + (done + n) * z) g.S.PageSize.size in
+    let counted : c.new-mapped.result.count ≡ done + n = ap (λ (range : FlushRange). range.count) c.new-mapped.ensures in
+    subst (λ k. StopsAt h supply r total k (PageAlreadyMapped c.add.result) after rest) (sym counted) (
       few_left done n total (512 - c.from-room.result) count c.parts-test.true c.min-part.ensures c.if-mapped-part.true,
       ends_run h supply r (done + n + 1) (accepted r (done + n) ++ Answered (Refused (PageAlreadyMapped c.add.result)) ∷ []) after rest (c.map_part.ensures.layout ∙ inv.layout) (c.map_part.ensures.lent ∙ inv.lent)
           (subst (λ f. IsRun l m supply r (done + n + 1) (accepted r (done + n) ++ Answered (Refused (PageAlreadyMapped f)) ∷ []) after.memory rest) (sym frame)
@@ -84,7 +87,7 @@ parts-preserved g c =
     let m = h.memory in
     let supply = g.A.FrameAllocator.supply c.args.frame_allocator.now in
     let level = g.S.PageSize.LEVEL in
-    let r = run_of level c.args.page c.args.frame c.args.flags.0 c.args.parent_flags.0 in
+    let r = range_of level c.args.page c.args.frame c.args.flags.0 c.args.parent_flags.0 in
     let total = c.args.count in
     let done = c.parts.done in
     let inv = c.parts.invariant in
@@ -93,7 +96,7 @@ parts-preserved g c =
     let low = g.S.PageSize.low in
     let allowed = c.requires.may.allowed in
     let marks : IsParentFlags r.parent_flags = (map_may l.levels l.window (paths l m) _ r.flags r.parent_flags (allowed done c.parts-test.true)).marks in
-    let given : IsSetUp l m r total = record { apart = (g.met.M.Tables.is_mapping s).distinct; adds = (g.M.Tables.added_flags s).adds; marks = marks; is_present = c.requires.may.is_present; low = low; high = high; levels = levels; allowed = allowed } in
+    let given : IsSetUp l m r total = record { apart = (g.met.M.Tables.is_mapping s).distinct; adds = (g.M.Tables.added_flags s).adds; marks = marks; is_present = c.requires.is_present; low = low; high = high; levels = levels; allowed = allowed } in
     let now = (g.M.Tables.hierarchy c.parts.mapper).memory in
     let left = g.A.FrameAllocator.supply c.parts.frame_allocator in
     let after = g.M.Tables.hierarchy c.map_part.new.mapper in
@@ -120,15 +123,15 @@ parts-preserved g c =
       serves = c.map_part.ensures.serves ∙ inv.serves;
     }
 
-pub returns-in-Err-clause-stopped : goal.returns-in-Err-clause-stopped
-returns-in-Err-clause-stopped g c =
+pub returns-in-Err-clause-stops : goal.returns-in-Err-clause-stops
+returns-in-Err-clause-stops g c =
     let s = c.args.mapper.now in
     let h = g.M.Tables.hierarchy s in
     let l = h.layout in
     let m = h.memory in
     let supply = g.A.FrameAllocator.supply c.args.frame_allocator.now in
     let level = g.S.PageSize.LEVEL in
-    let r = run_of level c.args.page c.args.frame c.args.flags.0 c.args.parent_flags.0 in
+    let r = range_of level c.args.page c.args.frame c.args.flags.0 c.args.parent_flags.0 in
     let total = c.args.count in
     let done = c.parts.done in
     let inv = c.parts.invariant in
@@ -137,7 +140,7 @@ returns-in-Err-clause-stopped g c =
     let low = g.S.PageSize.low in
     let allowed = c.requires.may.allowed in
     let marks : IsParentFlags r.parent_flags = (map_may l.levels l.window (paths l m) _ r.flags r.parent_flags (allowed done c.parts-test.true)).marks in
-    let given : IsSetUp l m r total = record { apart = (g.met.M.Tables.is_mapping s).distinct; adds = (g.M.Tables.added_flags s).adds; marks = marks; is_present = c.requires.may.is_present; low = low; high = high; levels = levels; allowed = allowed } in
+    let given : IsSetUp l m r total = record { apart = (g.met.M.Tables.is_mapping s).distinct; adds = (g.M.Tables.added_flags s).adds; marks = marks; is_present = c.requires.is_present; low = low; high = high; levels = levels; allowed = allowed } in
     let now = (g.M.Tables.hierarchy c.parts.mapper).memory in
     let left = g.A.FrameAllocator.supply c.parts.frame_allocator in
     let after = g.M.Tables.hierarchy c.map_part.new.mapper in
@@ -154,9 +157,20 @@ returns-in-Err-clause-stopped g c =
     let some = part_some done total c.from-room.result count c.parts-test.true c.from-room.ensures.1 c.min-part.ensures in
     let why = create_refusal c.in-Err.why in
     let part : IsPart l now left r.parent_flags (take (length q - 1) q) level (get_or q (length q - 1) 0) a r.flags count (Err why) after.memory rest =
-    subst (λ (l : Layout). IsPart l now left r.parent_flags (take (length q - 1) q) level (get_or q (length q - 1) 0) a r.flags count (Err why) after.memory rest) inv.layout c.in-Err.ensures.maps in (
+    subst (λ (l : Layout). IsPart l now left r.parent_flags (take (length q - 1) q) level (get_or q (length q - 1) 0) a r.flags count (Err why) after.memory rest) inv.layout c.in-Err.ensures.maps in
+    let counted : c.new-mapped-in-Err.result.count ≡ done = ap (λ (range : FlushRange). range.count) c.new-mapped-in-Err.ensures in
+    subst (λ k. StopsAt h supply r total k (map_refusal c.into-why.result) after rest) (sym counted) (
       c.parts-test.true,
-      ends_run h supply r (done + 1) (accepted r done ++ Answered (Refused (map_refusal c.into.result)) ∷ []) after rest (c.map_part.ensures.layout ∙ inv.layout) (c.map_part.ensures.lent ∙ inv.lent)
-          (subst (λ w. IsRun l m supply r (done + 1) (accepted r done ++ Answered (Refused w) ∷ []) after.memory rest) (sym c.into.ensures)
+      ends_run h supply r (done + 1) (accepted r done ++ Answered (Refused (map_refusal c.into-why.result)) ∷ []) after rest (c.map_part.ensures.layout ∙ inv.layout) (c.map_part.ensures.lent ∙ inv.lent)
+          (subst (λ w. IsRun l m supply r (done + 1) (accepted r done ++ Answered (Refused w) ∷ []) after.memory rest) (sym c.into-why.ensures)
           (way_refused l m supply r total given done now left inv.run q is_path a is_frame count fits inside after.memory rest why some part)),
     )
+
+pub new-mapped-requires : goal.new-mapped-requires
+new-mapped-requires g c = λ k less. page_there (g.M.Tables.hierarchy c.args.mapper.now).layout.levels g.L.LevelCount.LEVELS g.S.PageSize.LEVEL g.S.PageSize.SIZE c.args.page k g.S.PageSize.size
+    (g.met.M.TablesIn.level_count c.args.mapper.now)
+    (c.requires.may.pages k (let few = few_left c.parts.done c.in-Ok.mapped c.args.count (512 - c.from-room.result) c.min-part.result c.parts-test.true c.min-part.ensures c.if-mapped-part.true in omega (arith, less, few)))
+
+pub new-mapped-requires-in-Err : goal.new-mapped-requires-in-Err
+new-mapped-requires-in-Err g c = λ k less. page_there (g.M.Tables.hierarchy c.args.mapper.now).layout.levels g.L.LevelCount.LEVELS g.S.PageSize.LEVEL g.S.PageSize.SIZE c.args.page k g.S.PageSize.size
+    (g.met.M.TablesIn.level_count c.args.mapper.now) (c.requires.may.pages k (let before = c.parts-test.true in omega (arith, less, before)))
