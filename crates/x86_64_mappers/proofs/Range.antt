@@ -10,3 +10,4 @@ pub mod ChangedWords
 pub mod ChangeParts
 pub mod EntryCalls
 pub mod StoppedParts
+pub mod GrownParents

@@ -247,12 +247,13 @@ pub trait Mapper<S: PageSize>: TableAccess + PageTables {
     ///
     /// Returns one token for all pages.
     ///
-    /// Requires that the hierarchy is valid, that the allocator's frames are as in a pool that fits it, and that
-    /// [`map_range_allowed`](Self::map_range_allowed) returns true.
+    /// Requires that the hierarchy is valid, that the allocator's frames are as in a pool that fits it, that all pages
+    /// and frames exist, and that each page may be mapped, as [`map_allowed`](Self::map_allowed) says. If the parent
+    /// flags have `PRESENT`, [`map_range_allowed`](Self::map_range_allowed) tests whether this is so.
     ///
     /// # Errors
     ///
-    /// The reason why the first page that is refused is, with the token for the pages before it, which stay mapped. The
+    /// The reason of the first refusal, with the token for the pages before the refused one, which stay mapped. The
     /// changes that the refused map made on its way stay too, as for a single map.
     ///
     /// Even then, each page walk that succeeded before still arrives at its address. It loses no right, and gains none
@@ -267,7 +268,6 @@ pub trait Mapper<S: PageSize>: TableAccess + PageTables {
         frame_allocator: &mut A,
     ) -> Result<MapperFlushRange<S>, MapRangeError<S>>
         requires fits { SupplyFits (Self.hierarchy self.old) (A.supply frame_allocator.old) }
-        requires is_present { present (bits_of parent_flags) ≡ true }
         requires may { let range = range_of S.LEVEL page frame (bits_of flags) (bits_of parent_flags) in
             MayMapRange (Self.hierarchy self.old) range count }
         ensures maps { let range = range_of S.LEVEL page frame (bits_of flags) (bits_of parent_flags) in
@@ -294,9 +294,9 @@ pub trait Mapper<S: PageSize>: TableAccess + PageTables {
         )
     }
 
-    /// Returns true if a number of pages, from a page on, may be mapped to the frames from a frame on, with these flags
-    /// and parent flags: the parent flags have `PRESENT`, all pages and frames exist, and each page may be mapped, as
-    /// [`map_allowed`](Self::map_allowed) says. Looks at no single page, however many there are.
+    /// Returns true if the parent flags have `PRESENT`, and a number of pages, from a page on, may be mapped to the
+    /// frames from a frame on: all pages and frames exist, and each page may be mapped with these flags and parent
+    /// flags, as [`map_allowed`](Self::map_allowed) says. Looks at the first and the last page alone, and at no table.
     final fn map_range_allowed(
         &self,
         page: Page<S>,
@@ -305,15 +305,17 @@ pub trait Mapper<S: PageSize>: TableAccess + PageTables {
         flags: PageTableFlags,
         parent_flags: PageTableFlags,
     ) -> bool
-        ensures { let range = range_of S.LEVEL page frame (bits_of flags) (bits_of parent_flags) in
-            IsTrue result ↔ (present (bits_of parent_flags) ≡ true) × MayMapRange (Self.hierarchy self.now) range count }
+        ensures { let h = Self.hierarchy self.now in let more = bits_of parent_flags in
+            let range = range_of S.LEVEL page frame (bits_of flags) more in
+            IsTrue result ↔ (present more ≡ true) × MayMapRange h range count }
     {
         calls::map_range_allowed(self, page, count, frame, flags, parent_flags)
     }
 
-    /// Unmaps a number of pages, from a page on, and gives the frames that they were mapped to to a sink, in order. Does
-    /// what [`unmap`](Self::unmap) of each page in turn would do, but looks up each table, and each missing table, only
-    /// once. A page whose `unmap` would be refused, for whatever reason, is passed over and stays as it is.
+    /// Unmaps a number of pages, from a page on, and passes the frames that they were mapped to on to a sink, in order.
+    /// Does what [`unmap`](Self::unmap) of each page in turn would do, but looks up each table only once, and passes
+    /// over all pages below a missing one at once. A page whose `unmap` would be refused, for whatever reason, is
+    /// passed over and stays as it is. Does nothing for no pages.
     ///
     /// Returns one token for all pages, those that were passed over too.
     ///
@@ -336,9 +338,9 @@ pub trait Mapper<S: PageSize>: TableAccess + PageTables {
     }
 
     /// Sets the flags of a number of pages, from a page on, and `HUGE_PAGE` for 2MiB and 1GiB. Does what
-    /// [`update_flags`](Self::update_flags) of each page in turn would do, but looks up each table, and each missing
-    /// table, only once. A page whose `update_flags` would be refused, for whatever reason, is passed over and stays as
-    /// it is.
+    /// [`update_flags`](Self::update_flags) of each page in turn would do, but looks up each table only once, and
+    /// passes over all pages below a missing one at once. A page whose `update_flags` would be refused, for whatever
+    /// reason, is passed over and stays as it is. Does nothing for no pages.
     ///
     /// Returns the number of pages whose flags were set, and one token for all pages, those that were passed over too.
     ///

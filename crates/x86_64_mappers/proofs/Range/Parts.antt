@@ -3,7 +3,7 @@ use Rattle.std.proofs.Common.{zero, suc, ◌≡◌, ◌<◌, ◌≤◌, ◌+◌,
 use Rattle.std.proofs.Math.Nat.{add-mul}
 use Rattle.x86_64_model.specs.Allowed.{map_allowed}
 use Rattle.x86_64_model.specs.Call.{Reply, Answered}
-use Rattle.x86_64_model.specs.Entry.{IsParentFlags, present}
+use Rattle.x86_64_model.specs.Entry.{IsParentFlags}
 use Rattle.x86_64_model.specs.Layout.{Layout, paths}
 use Rattle.x86_64_model.specs.MapRule.{leaf_entry}
 use Rattle.x86_64_model.specs.Memory.{Memory, Distinct}
@@ -33,7 +33,6 @@ pub record IsSetUp (l : Layout) (m : Memory) (r : MapRange) (total : ℕ) : Type
   pub apart : Distinct l.places
   pub adds : IsParentFlags l.added_flags
   pub marks : IsParentFlags r.parent_flags
-  pub is_present : present r.parent_flags ≡ true
   pub low : 1 ≤ r.level
   pub high : r.level ≤ 3
   pub levels : 3 < l.levels
@@ -90,7 +89,7 @@ module _ (l : Layout) (m : Memory) (s : List ℕ) (r : MapRange) (total : ℕ) (
     frame = frame_at r (done + k)
 
     may : map_allowed L l.window (paths l from) p r.flags more ≡ true
-    may = allowed_still L l.window (paths l m) (paths l from) p r.flags more given.is_present (given.allowed (done + k) inside)
+    may = allowed_still L l.window (paths l m) (paths l from) p r.flags more (so_far.parents p) (given.allowed (done + k) inside)
 
     outside : begins_with l.window (parents ++ (i + k) ∷ []) ≡ false
     outside = ap (begins_with l.window) (sym (later_path k small)) ∙ (map_may L l.window (paths l from) p r.flags more may).outside

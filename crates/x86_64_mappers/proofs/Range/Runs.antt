@@ -1,20 +1,21 @@
 -- Runs of maps, one map after another.
-use Rattle.std.proofs.Common.{◌≡◌, ◌+◌, ◌&&◌, ◌||◌, ℕ, Bool, true, false, not, cond, List, [], ◌∷◌, ◌++◌, Option, inl, inr, refl, sym, ap, ap₂, ◌∙◌, subst, arith}
+use Rattle.std.proofs.Common.{◌≡◌, ◌+◌, ℕ, true, cond, List, [], ◌∷◌, ◌++◌, Option, inl, inr, refl, ap, ap₂, ◌∙◌, subst, arith}
+use Rattle.std.proofs.lemmas.Bool.{and_from, and_parts}
 use Rattle.std.proofs.lemmas.List.FromFn.{map-range_with_len_more}
 use Rattle.x86_64_model.specs.Allowed.{map_allowed, parents_present}
 use Rattle.x86_64_model.specs.Arrivals.{Arrives, Better}
 use Rattle.x86_64_model.specs.Call.{Reply, Answered, NotAllowed}
-use Rattle.x86_64_model.specs.Entry.{IsParentFlags, present, huge, no_address}
+use Rattle.x86_64_model.specs.Entry.{IsParentFlags}
 use Rattle.x86_64_model.specs.Layout.{Layout, paths, walk, IsReady}
 use Rattle.x86_64_model.specs.Machine.{AfterCall, State, do_call, after_map, step, only_reply, replies_of, state_after}
 use Rattle.x86_64_model.specs.MapRule.{leaf_entry}
 use Rattle.x86_64_model.specs.Mapper.{Hierarchy, machine_of, state_in}
 use Rattle.x86_64_model.specs.Memory.{Memory}
 use Rattle.x86_64_model.specs.PageWalk.{Walked}
-use Rattle.x86_64_model.specs.Path.{path_at, is_small}
+use Rattle.x86_64_model.specs.Path.{path_at}
 use Rattle.x86_64_model.specs.PathMap.{PathMap}
 use Rattle.x86_64_model.specs.Refusal.{Answer, Done}
-use Rattle.x86_64_model.specs.Window.{Window, begins_with}
+use Rattle.x86_64_model.specs.Window.{Window}
 use Rattle.x86_64_model.proofs.Lemmas.Maps.Mapped.{walks_after}
 use Rattle.x86_64_model.proofs.Lemmas.Runs.Runs.{replies_append, state_append}
 use Rattle.x86_64_mappers.specs.Ranges.{MapRange, DoesMaps, page_at, frame_at, map_at, maps, accepted}
@@ -22,20 +23,16 @@ use Rattle.x86_64_mappers.specs.private.RangeSteps.{IsRun}
 use Rattle.x86_64_mappers.proofs.Entry.EntryEnds.{with_memory}
 use Rattle.x86_64_mappers.proofs.Map.OwnedWays.{owned_nothing, owned_then}
 use Rattle.x86_64_mappers.proofs.Map.StepOutcomes.{IsPathMapped}
+use Rattle.x86_64_mappers.proofs.Range.GrownParents.{parents_mapped}
 
 -- ---- conditions
 
--- with PRESENT among the parent flags, a map is allowed whatever the path map
-pub allowed_still : (L : ℕ) (window : Option Window) (M N : PathMap) (q : List ℕ) (given more : ℕ) → present more ≡ true → map_allowed L window M q given more ≡ true → map_allowed L window N q given more ≡ true
-allowed_still L window M N q given more is_present allowed =
-    ap (λ b. no_address given && no_address more && not (huge more) && (not (is_small L q) || not (huge given)) && b && not (begins_with window q)) (there N ∙ sym (there M)) ∙ allowed
-  where
-    or_true : (a b : Bool) → a ≡ true → (a || b) ≡ true
-    or_true true b h = refl
-    or_true false b h = cc
-
-    there : (M : PathMap) → parents_present M more q ≡ true
-    there M = or_true (present more) _ is_present
+-- a map stays allowed if its page's parents stay present
+pub allowed_still : (L : ℕ) (window : Option Window) (M N : PathMap) (q : List ℕ) (given more : ℕ) → (parents_present M more q ≡ true → parents_present N more q ≡ true) → map_allowed L window M q given more ≡ true → map_allowed L window N q given more ≡ true
+allowed_still L window M N q given more still allowed =
+    let parts = and_parts _ _ allowed in
+    let flags = and_parts _ _ parts.0 in
+    and_from _ _ (and_from _ _ flags.0 (still flags.1)) parts.1
 
 -- ---- walks
 
@@ -82,6 +79,7 @@ no_maps l m s ready r = record {
   state = λ take_back. refl;
   owned = owned_nothing l m s ready;
   walks = λ p. arrives_itself r.parent_flags (walk l m p);
+  parents = λ q h. h;
 }
 
 module _ (l : Layout) (m : Memory) (s : List ℕ) (r : MapRange) (k : ℕ) (marks : IsParentFlags r.parent_flags) (n : Memory) (rest : List ℕ) (replies : List Reply) (run : IsRun l m s r k replies n rest) where
@@ -115,6 +113,7 @@ module _ (l : Layout) (m : Memory) (s : List ℕ) (r : MapRange) (k : ℕ) (mark
       owned = owned_then l m s n rest o fs run.owned mapped.owned;
       walks = λ p. arrives_then r.parent_flags (walk l m p) (walk l n p) (walk l o p) (run.walks p)
           (walks_after l n rest q (frame_at r k) r.flags r.parent_flags answer o fs marks run.owned.ready mapped.outcome mapped.owned.ready p);
+      parents = λ p h. parents_mapped l n rest run.owned.ready r.parent_flags marks q (leaf_entry l.levels q (frame_at r k) r.flags) (frame_at r k) answer o fs mapped p (run.parents p h);
     }
 
 -- ---- ends

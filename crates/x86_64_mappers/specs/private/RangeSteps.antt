@@ -1,10 +1,11 @@
 -- The steps of a run of maps: the entries of pages in one table, and the run so far.
 use Rattle.std.specs.Prelude.{zero, suc, ◌≡◌, ◌+◌, ◌*◌, ◌<◌, ℕ, true, false, List, [], get_or, length, set, Some, Result, Ok, Err}
 use Rattle.std.specs.FinMap.{insert}
+use Rattle.x86_64_model.specs.Allowed.{parents_present}
 use Rattle.x86_64_model.specs.Arrivals.{Arrives}
 use Rattle.x86_64_model.specs.Call.{Reply}
 use Rattle.x86_64_model.specs.Entry.{used}
-use Rattle.x86_64_model.specs.Layout.{Layout, walk}
+use Rattle.x86_64_model.specs.Layout.{Layout, paths, walk}
 use Rattle.x86_64_model.specs.Machine.{replies_of, state_after}
 use Rattle.x86_64_model.specs.Mapper.{Hierarchy, machine_of, state_in}
 use Rattle.x86_64_model.specs.Memory.{Memory, Places, words_of}
@@ -57,3 +58,4 @@ pub record IsRun (l : Layout) (m : Memory) (s : List ℕ) (r : MapRange) (count 
   pub state : (take_back : List ℕ → ℕ → List ℕ) → state_after (machine_of l take_back) (state_in l m s) (maps l.levels r count) ≡ state_in l n rest
   pub owned : KeepsOwned l m s n rest
   pub walks : (p : ℕ) → Arrives r.parent_flags (walk l m p) (walk l n p)
+  pub parents : (q : List ℕ) → parents_present (paths l m) r.parent_flags q ≡ true → parents_present (paths l n) r.parent_flags q ≡ true

@@ -148,8 +148,9 @@ fn are_outside_window<S: PageSize, L: LevelCount, M: TablesIn<L>>(
     (index < first) | (last < index)
 }
 
-/// Returns true if a number of pages, from a page on, may be mapped to the frames from a frame on. The parent flags
-/// must have `PRESENT`, and then no entry has to be read.
+/// Returns true if the parent flags have `PRESENT`, and a number of pages, from a page on, may be mapped to the frames
+/// from a frame on.
+// With PRESENT among the parent flags, whether a page may be mapped depends on no entry.
 #[tactic(auto, unfolding(x86_64_model::specs::Entry::has))]
 pub fn map_range_allowed<S: PageSize, L: LevelCount, M: TablesIn<L>>(
     mapper: &M,
@@ -159,8 +160,9 @@ pub fn map_range_allowed<S: PageSize, L: LevelCount, M: TablesIn<L>>(
     flags: PageTableFlags,
     parent_flags: PageTableFlags,
 ) -> bool
-    ensures { let range = range_of S.LEVEL page frame (bits_of flags) (bits_of parent_flags) in
-        IsTrue result ↔ (present (bits_of parent_flags) ≡ true) × MayMapRange (M.hierarchy mapper.now) range count }
+    ensures { let h = M.hierarchy mapper.now in let more = bits_of parent_flags in
+        let range = range_of S.LEVEL page frame (bits_of flags) more in
+        IsTrue result ↔ (present more ≡ true) × MayMapRange h range count }
 {
     if !parent_flags.contains(PageTableFlags::PRESENT) {
         return false;

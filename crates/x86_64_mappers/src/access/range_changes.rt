@@ -139,8 +139,8 @@ fn unmap_part<S: PageSize, L: LevelCount, M: TableAccess + TablesIn<L>, K: Frame
     requires some { 0 < count }
     ensures some { 0 < result }
     ensures within { result ≤ count }
-    ensures changes { (replies : List Reply)
-        × ChangesPart (M.hierarchy mapper.old) S.LEVEL page (unmap_says S.LEVEL) result replies (M.hierarchy mapper.new)
+    ensures changes { let h = M.hierarchy mapper.old in let says = unmap_says S.LEVEL in
+        (replies : List Reply) × ChangesPart h S.LEVEL page says result replies (M.hierarchy mapper.new)
         × (sink.new ≡ fold K.with_frame sink.old (frames_done replies)) }
     ensures layout { (M.hierarchy mapper.new).layout ≡ (M.hierarchy mapper.old).layout }
     ensures lent { (M.hierarchy mapper.new).lent ≡ (M.hierarchy mapper.old).lent }
@@ -207,8 +207,8 @@ fn update_entries<S: PageSize>(
 ) -> u64
     requires { first + count ≤ 512 }
     ensures words { table.new ≡ with_words (update_says S.LEVEL (bits_of flags)) first table.old count }
-    ensures changed { let replies = replies_said (update_says S.LEVEL (bits_of flags)) first table.old count in
-        result ≡ length (frames_done replies) }
+    ensures changed { let says = update_says S.LEVEL (bits_of flags) in
+        result ≡ length (frames_done (replies_said says first table.old count)) }
     ensures few { result ≤ count }
     ensures size { 0 < count → length table.old ≡ 512 }
 {
@@ -241,9 +241,8 @@ fn update_part<S: PageSize, L: LevelCount, M: TableAccess + TablesIn<L>>(
     ensures some { 0 < result.pages }
     ensures within { result.pages ≤ count }
     ensures few { result.changed ≤ result.pages }
-    ensures changes { let says = update_says S.LEVEL (bits_of flags) in
-        (replies : List Reply)
-        × ChangesPart (M.hierarchy mapper.old) S.LEVEL page says result.pages replies (M.hierarchy mapper.new)
+    ensures changes { let h = M.hierarchy mapper.old in let says = update_says S.LEVEL (bits_of flags) in
+        (replies : List Reply) × ChangesPart h S.LEVEL page says result.pages replies (M.hierarchy mapper.new)
         × (result.changed ≡ length (frames_done replies)) }
     ensures layout { (M.hierarchy mapper.new).layout ≡ (M.hierarchy mapper.old).layout }
     ensures lent { (M.hierarchy mapper.new).lent ≡ (M.hierarchy mapper.old).lent }

@@ -1,6 +1,6 @@
 //! Maps of ranges of pages.
 ghost use Rattle.std.specs.Prelude.{◌≡◌, ◌<◌, ◌≤◌, ◌+◌, ◌-◌, ◌*◌, ◌^◌, ℕ, true, false, length, take, get_or, IfOk, OnOk, IfErr};
-ghost use Rattle.x86_64_model.specs.Entry.{IsParentFlags, present};
+ghost use Rattle.x86_64_model.specs.Entry.{IsParentFlags};
 ghost use Rattle.x86_64_model.specs.Mapper.{SupplyFits, paths};
 ghost use Rattle.x86_64_model.specs.Window.{begins_with};
 ghost use Rattle.x86_64_mappers.specs.Ranges.{range_of, MayMapRange, MapsAll, StopsAt};
@@ -160,7 +160,6 @@ pub fn map_range<
     frame_allocator: &mut A,
 ) -> Result<MapperFlushRangeIn<S, L>, MapRangeErrorIn<S, L>>
     requires fits { SupplyFits (M.hierarchy mapper.old) (A.supply frame_allocator.old) }
-    requires is_present { present (bits_of parent_flags) ≡ true }
     requires may { let range = range_of S.LEVEL page frame (bits_of flags) (bits_of parent_flags) in
         MayMapRange (M.hierarchy mapper.old) range count }
     ensures maps { let range = range_of S.LEVEL page frame (bits_of flags) (bits_of parent_flags) in

@@ -171,8 +171,9 @@ pub trait Mapper57<S: PageSize>: TableAccess + PageTables57 {
     /// Maps a number of pages, from a page on, to as many frames, from a frame on, as
     /// [`Mapper::map_range`](super::Mapper::map_range) does.
     ///
-    /// Requires that the hierarchy is valid, that the allocator's frames are as in a pool that fits it, and that
-    /// [`map_range_allowed`](Self::map_range_allowed) returns true.
+    /// Requires that the hierarchy is valid, that the allocator's frames are as in a pool that fits it, that all pages
+    /// and frames exist, and that each page may be mapped, as [`map_allowed`](Self::map_allowed) says. If the parent
+    /// flags have `PRESENT`, [`map_range_allowed`](Self::map_range_allowed) tests whether this is so.
     ///
     /// # Errors
     ///
@@ -187,7 +188,6 @@ pub trait Mapper57<S: PageSize>: TableAccess + PageTables57 {
         frame_allocator: &mut A,
     ) -> Result<MapperFlushRange57<S>, MapRangeError57<S>>
         requires fits { SupplyFits (Self.hierarchy self.old) (A.supply frame_allocator.old) }
-        requires is_present { present (bits_of parent_flags) ≡ true }
         requires may { let range = range_of S.LEVEL page frame (bits_of flags) (bits_of parent_flags) in
             MayMapRange (Self.hierarchy self.old) range count }
         ensures maps { let range = range_of S.LEVEL page frame (bits_of flags) (bits_of parent_flags) in
@@ -214,8 +214,8 @@ pub trait Mapper57<S: PageSize>: TableAccess + PageTables57 {
         )
     }
 
-    /// Returns true if a number of pages, from a page on, may be mapped to the frames from a frame on, with these flags
-    /// and parent flags, as [`Mapper::map_range_allowed`](super::Mapper::map_range_allowed) does.
+    /// Returns true if the parent flags have `PRESENT`, and a number of pages, from a page on, may be mapped to the
+    /// frames from a frame on, as [`Mapper::map_range_allowed`](super::Mapper::map_range_allowed) does.
     final fn map_range_allowed(
         &self,
         page: Page57<S>,
@@ -224,13 +224,14 @@ pub trait Mapper57<S: PageSize>: TableAccess + PageTables57 {
         flags: PageTableFlags,
         parent_flags: PageTableFlags,
     ) -> bool
-        ensures { let range = range_of S.LEVEL page frame (bits_of flags) (bits_of parent_flags) in
-            IsTrue result ↔ (present (bits_of parent_flags) ≡ true) × MayMapRange (Self.hierarchy self.now) range count }
+        ensures { let h = Self.hierarchy self.now in let more = bits_of parent_flags in
+            let range = range_of S.LEVEL page frame (bits_of flags) more in
+            IsTrue result ↔ (present more ≡ true) × MayMapRange h range count }
     {
         calls::map_range_allowed(self, page, count, frame, flags, parent_flags)
     }
 
-    /// Unmaps a number of pages, from a page on, and gives the frames that they were mapped to to a sink, as
+    /// Unmaps a number of pages, from a page on, and passes the frames that they were mapped to on to a sink, as
     /// [`Mapper::unmap_range`](super::Mapper::unmap_range) does.
     ///
     /// Requires that the hierarchy is valid, and that [`range_allowed`](Self::range_allowed) returns true.
