@@ -1,14 +1,14 @@
 -- Ranges of pages of one size, from one page on, and their maps to as many frames, from one frame on.
-use Rattle.std.specs.Prelude.{◌≡◌, ◌+◌, ◌*◌, ◌^◌, ◌<◌, ℕ, true, List, [], ◌∷◌, ◌++◌, map}
+use Rattle.std.specs.Prelude.{zero, suc, ◌≡◌, ◌+◌, ◌*◌, ◌^◌, ◌<◌, ℕ, true, List, [], ◌∷◌, ◌++◌, map}
 use Rattle.std.specs.List.{range_with_len}
 use Rattle.x86_64_model.specs.Arrivals.{Arrives}
 use Rattle.x86_64_model.specs.Call.{Call, MapToWithTableFlags, Reply, Answered}
 use Rattle.x86_64_model.specs.Lists.{In}
 use Rattle.x86_64_model.specs.Machine.{replies_of, state_after}
-use Rattle.x86_64_model.specs.Mapper.{Hierarchy, SupplyFits, Owns, KeepsOthers, allows_map, machine_of, state_of, path_of, walk}
+use Rattle.x86_64_model.specs.Mapper.{Hierarchy, SupplyFits, MayMap, DoesMap, Owns, KeepsOthers, allows_map, machine_of, state_of, path_of, walk}
 use Rattle.x86_64_model.specs.Path.{path_at}
 use Rattle.x86_64_model.specs.Position.{span, position_count}
-use Rattle.x86_64_model.specs.Refusal.{Refusal, Done, Refused}
+use Rattle.x86_64_model.specs.Refusal.{Refusal, Answer, Done, Refused}
 
 -- the first page, by its position, and the first frame of a range of pages of a level, with the flags of each map
 pub record MapRange : Type 0 where
@@ -45,10 +45,24 @@ pub record MayMapRange {Lent : Type 0} (h : Hierarchy Lent) (r : MapRange) (coun
   pub frames : (k : ℕ) → k < count → frame_at r k < 2 ^ 52
   pub allowed : (k : ℕ) → k < count → allows_map h (path_of h r.level (page_at r k)) r.flags r.parent_flags ≡ true
 
--- What the maps of the first pages of a range, one after another, leave. Replies and state are the machine's for this list of calls,
--- the rest of the supply fits, and only words in the root, the tables and the taken frames change. Each page walk that arrived
--- still arrives at the same address, loses no right, and gains only rights that the parent flags grant.
+-- A map that may be made, was made, and got the last of these answers.
+pub record IsNextMap {Lent : Type 0} (h : Hierarchy Lent) (supply : List ℕ) (call : Call) (before answers : List Reply) (after : Hierarchy Lent) (rest : List ℕ) : Type 0 where
+  pub answer : Answer
+  pub may : MayMap h supply call
+  pub does : DoesMap h supply call answer after rest
+  pub last : answers ≡ before ++ Answered answer ∷ []
+
+-- The first pages of a range were mapped one after another, and each map did what a single one does.
+abbrev pub MapsEach : {Lent : Type 0} → Hierarchy Lent → (supply : List ℕ) → MapRange → (count : ℕ) → (answers : List Reply) → (after : Hierarchy Lent) → (rest : List ℕ) → Type 0
+MapsEach h supply r zero answers after rest = (answers ≡ []) × (after ≡ h) × (rest ≡ supply)
+MapsEach {Lent} h supply r (suc k) answers after rest = (now : Hierarchy Lent) × (left : List ℕ) × (before : List Reply) × MapsEach h supply r k before now left
+    × IsNextMap now left (map_at h.layout.levels r k) before answers after rest
+
+-- What the maps of the first pages of a range, one after another, leave. Each does what a single map does. Replies and state are the
+-- machine's for this list of calls, the rest of the supply fits, and only words in the root, the tables and the taken frames change.
+-- Each page walk that arrived still arrives at the same address, loses no right, and gains only rights that the parent flags grant.
 pub record DoesMaps {Lent : Type 0} (h : Hierarchy Lent) (supply : List ℕ) (r : MapRange) (count : ℕ) (answers : List Reply) (after : Hierarchy Lent) (rest : List ℕ) : Type 0 where
+  pub each : MapsEach h supply r count answers after rest
   pub replies : (take_back : List ℕ → ℕ → List ℕ) → replies_of (machine_of h.layout take_back) (state_of h supply) (maps h.layout.levels r count) ≡ answers
   pub state : (take_back : List ℕ → ℕ → List ℕ) → state_after (machine_of h.layout take_back) (state_of h supply) (maps h.layout.levels r count) ≡ state_of after rest
   pub fits : SupplyFits after rest

@@ -1,5 +1,5 @@
 -- Runs of maps, one map after another.
-use Rattle.std.proofs.Common.{◌≡◌, ◌+◌, ℕ, true, cond, List, [], ◌∷◌, ◌++◌, Option, inl, inr, refl, ap, ap₂, ◌∙◌, subst, arith}
+use Rattle.std.proofs.Common.{zero, suc, ◌≡◌, ◌+◌, ℕ, true, cond, List, [], ◌∷◌, ◌++◌, Option, inl, inr, refl, sym, ap, ap₂, ◌∙◌, subst, arith, add-one}
 use Rattle.std.proofs.lemmas.Bool.{and_from, and_parts}
 use Rattle.std.proofs.lemmas.List.FromFn.{map-range_with_len_more}
 use Rattle.x86_64_model.specs.Allowed.{map_allowed, parents_present}
@@ -16,10 +16,11 @@ use Rattle.x86_64_model.specs.Path.{path_at}
 use Rattle.x86_64_model.specs.PathMap.{PathMap}
 use Rattle.x86_64_model.specs.Refusal.{Answer, Done}
 use Rattle.x86_64_model.specs.Window.{Window}
+use Rattle.x86_64_model.proofs.Lemmas.Machines.Owners.{does_map}
 use Rattle.x86_64_model.proofs.Lemmas.Maps.Mapped.{walks_after}
 use Rattle.x86_64_model.proofs.Lemmas.Runs.Runs.{replies_append, state_append}
-use Rattle.x86_64_mappers.specs.Ranges.{MapRange, DoesMaps, page_at, frame_at, map_at, maps, accepted}
-use Rattle.x86_64_mappers.specs.private.RangeSteps.{IsRun}
+use Rattle.x86_64_mappers.specs.Ranges.{MapRange, DoesMaps, IsNextMap, MapsEach, page_at, frame_at, map_at, maps, accepted}
+use Rattle.x86_64_mappers.specs.private.RangeSteps.{IsRun, in_memory}
 use Rattle.x86_64_mappers.proofs.Entry.EntryEnds.{with_memory}
 use Rattle.x86_64_mappers.proofs.Map.OwnedWays.{owned_nothing, owned_then}
 use Rattle.x86_64_mappers.proofs.Map.StepOutcomes.{IsPathMapped}
@@ -79,6 +80,7 @@ no_maps l m s ready r = record {
   state = λ take_back. refl;
   owned = owned_nothing l m s ready;
   walks = λ p. arrives_itself r.parent_flags (walk l m p);
+  each = (refl, refl, refl);
   parents = λ q h. h;
 }
 
@@ -93,6 +95,17 @@ module _ (l : Layout) (m : Memory) (s : List ℕ) (r : MapRange) (k : ℕ) (mark
     unfolding do_call
     one take_back = ap (λ b. cond b (do_call (machine_of l take_back) (state_in l n rest) (map_at l.levels r k)) (only_reply (state_in l n rest) NotAllowed)) allowed
         ∙ ap after_map mapped.outcome
+
+    walks_on : (p : ℕ) → Arrives r.parent_flags (walk l n p) (walk l o p)
+    walks_on = walks_after l n rest q (frame_at r k) r.flags r.parent_flags answer o fs marks run.owned.ready mapped.outcome mapped.owned.ready
+
+    next : IsNextMap (in_memory l n) rest (map_at l.levels r k) replies (replies ++ Answered answer ∷ []) (in_memory l o) fs
+    next = record {
+      answer = answer;
+      may = record { fits = run.owned.ready; allowed = allowed };
+      does = does_map (in_memory l n) rest q (frame_at r k) r.flags r.parent_flags answer o fs (record { outcome = mapped.outcome; ready = mapped.owned.ready; others = mapped.owned.others; walks = walks_on });
+      last = refl;
+    }
 
     pub one_more : IsRun l m s r (k + 1) (replies ++ Answered answer ∷ []) o fs
     one_more = record {
@@ -111,12 +124,33 @@ module _ (l : Layout) (m : Memory) (s : List ℕ) (r : MapRange) (k : ℕ) (mark
           ∙ ap (λ (t : State). (step machine t (map_at l.levels r k)).state) (run.state take_back)
           ∙ ap (λ (x : AfterCall). x.state) (one take_back);
       owned = owned_then l m s n rest o fs run.owned mapped.owned;
-      walks = λ p. arrives_then r.parent_flags (walk l m p) (walk l n p) (walk l o p) (run.walks p)
-          (walks_after l n rest q (frame_at r k) r.flags r.parent_flags answer o fs marks run.owned.ready mapped.outcome mapped.owned.ready p);
+      walks = λ p. arrives_then r.parent_flags (walk l m p) (walk l n p) (walk l o p) (run.walks p) (walks_on p);
+      each = subst (λ j. MapsEach (in_memory l m) s r j (replies ++ Answered answer ∷ []) (in_memory l o) fs) (sym (add-one k)) (in_memory l n, rest, replies, run.each, next);
       parents = λ p h. parents_mapped l n rest run.owned.ready r.parent_flags marks q (leaf_entry l.levels q (frame_at r k) r.flags) (frame_at r k) answer o fs mapped p (run.parents p h);
     }
 
 -- ---- ends
+
+-- each map, whatever was lent
+module _ {Lent : Type 0} (lent : Lent) where
+  abbrev with_loan : Hierarchy (Unit {0}) → Hierarchy Lent
+  with_loan h = record { layout = h.layout; memory = h.memory; lent = lent }
+
+  each_with : (h : Hierarchy (Unit {0})) (supply : List ℕ) (r : MapRange) (count : ℕ) (answers : List Reply) (after : Hierarchy (Unit {0})) (rest : List ℕ) → MapsEach h supply r count answers after rest
+      → MapsEach (with_loan h) supply r count answers (with_loan after) rest
+  each_with h supply r zero answers after rest (none, same, left) = (none, ap with_loan same, left)
+  each_with h supply r (suc k) answers after rest (now, left, before, each, next) = (
+    with_loan now,
+    left,
+    before,
+    each_with h supply r k before now left each,
+    record {
+      answer = next.answer;
+      may = record { fits = next.may.fits; allowed = next.may.allowed };
+      does = record { outcome = next.does.outcome; fits = next.does.fits; others = next.does.others; walks = next.does.walks; layout = next.does.layout; lent = refl };
+      last = next.last;
+    },
+  )
 
 -- what a run leaves in the hierarchy that a mapper owns
 pub ends_run : {Lent : Type 0} (h : Hierarchy Lent) (supply : List ℕ) (r : MapRange) (k : ℕ) (replies : List Reply) (after : Hierarchy Lent) (rest : List ℕ) → after.layout ≡ h.layout → after.lent ≡ h.lent
@@ -127,6 +161,7 @@ ends_run h supply r k replies after rest layout lent run = subst (λ h'. DoesMap
   fits = run.owned.ready;
   others = run.owned.others;
   walks = run.walks;
+  each = each_with h.lent (in_memory h.layout h.memory) supply r k replies (in_memory h.layout after.memory) rest run.each;
   layout = refl;
   lent = refl;
 })

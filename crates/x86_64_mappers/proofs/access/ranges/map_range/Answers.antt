@@ -214,3 +214,14 @@ new-mapped-requires g c = λ k less. page_there (g.M.Tables.hierarchy c.args.map
 pub new-mapped-requires-in-Err : goal.new-mapped-requires-in-Err
 new-mapped-requires-in-Err g c = λ k less. page_there (g.M.Tables.hierarchy c.args.mapper.now).layout.levels g.L.LevelCount.LEVELS g.S.PageSize.LEVEL g.S.PageSize.SIZE c.args.page k g.S.PageSize.size
     (g.met.M.TablesIn.level_count c.args.mapper.now) (c.requires.may.pages k (let before = c.parts-test.true in omega (arith, less, before)))
+
+pub returns-clause-maps : goal.returns-clause-maps
+returns-clause-maps g c =
+    let h = g.M.Tables.hierarchy c.args.mapper.now in
+    let supply = g.A.FrameAllocator.supply c.args.frame_allocator.now in
+    let r = range_of g.S.PageSize.LEVEL c.args.page c.args.frame c.args.flags.0 c.args.parent_flags.0 in
+    let inv = c.parts.invariant in
+    let after = g.M.Tables.hierarchy c.parts.mapper in
+    let rest = g.A.FrameAllocator.supply c.parts.frame_allocator in
+    let all : c.parts.done ≡ c.args.count = (let most = inv.within in let least = c.parts-test.false in omega (arith, most, least)) in
+    ends_run h supply r c.args.count (accepted r c.args.count) after rest inv.layout inv.lent (subst (λ k. IsRun h.layout h.memory supply r k (accepted r k) after.memory rest) all inv.run)
