@@ -10,6 +10,10 @@ pub mod Telling
 pub mod Moved
 pub mod PlacesStay
 pub mod CallEvents
+pub mod FlushesTold
+pub mod CallsFlushed
+pub mod Processors
+pub mod SeveralProcessors
 pub mod Offsets
 pub mod Beside
 pub mod EmptyRoots

@@ -10,6 +10,9 @@ pub mod ToldReplies
 pub mod SecondHierarchies
 pub mod PlacesStay
 pub mod CallEvents
+pub mod FlushesDue
+pub mod Processors
+pub mod SeveralProcessors
 pub mod private
 pub use Rattle.x86_64_model.specs.Machine
 pub use Rattle.x86_64_model.specs.Layout

@@ -2,8 +2,11 @@
 //! specification, which goes from state to state with each call.
 ghost use Rattle.x86_64.specs.CallEvents.{RunCallsAreEvents};
 ghost use Rattle.x86_64.specs.EveryWord.{EveryWordIsDecided};
+ghost use Rattle.x86_64.specs.FlushesDue.{FlushesSettle, FlushesAreLeast};
 ghost use Rattle.x86_64.specs.PlacesStay.{PlacesStay, OffsetsFitStill};
+ghost use Rattle.x86_64.specs.Processors.{ArisesFirst, ArisesByCaching, ArisesByCalls, ArisesByFlushes, ArisesByFlushedCalls, FlushedAccessesGo};
 ghost use Rattle.x86_64.specs.SecondHierarchies.{EmptyRootsAreSecond, SecondHierarchiesStay, SomeShare};
+ghost use Rattle.x86_64.specs.SeveralProcessors.{EachIsFlushed, AllSeeTheSame};
 ghost use Rattle.x86_64.specs.ToldReplies.{RepliesTell};
 
 /// A reply determines the machine's reply to the call, for any number of levels, except for the frame in the
@@ -45,4 +48,30 @@ pub fn every_word_is_decided()
 /// kernel that flushes and a processor that caches, so that the laws of caches of `x86_64_model` apply.
 pub fn run_calls_are_events()
     ensures { RunCallsAreEvents }
+{}
+
+/// The flush that [`flush_after`](crate::flushing::flush_after) returns settles all that is due, and is the least that does.
+pub fn flushes_settle_what_is_due()
+    ensures settled { FlushesSettle }
+    ensures least { FlushesAreLeast }
+{}
+
+/// Beside a processor that caches at any moment between calls: what [`run_call`](crate::run_call) ensures of a call, and
+/// then the flush that [`flush_after`](crate::flushing::flush_after) returns, leave nothing due, and then each access goes
+/// with the page walk, with no right more. So this holds after any calls with their flushes, from empty caches on. Several
+/// calls may come before one flush, if tables are flushed before the next map.
+pub fn flushed_calls_leave_no_stale_item()
+    ensures first { ArisesFirst }
+    ensures caching { ArisesByCaching }
+    ensures calls { ArisesByCalls }
+    ensures flushes { ArisesByFlushes }
+    ensures both { ArisesByFlushedCalls }
+    ensures accesses { FlushedAccessesGo }
+{}
+
+/// Several processors that use one hierarchy: if what each sees may happen, with its own flushes before the next map, the
+/// accesses of each go with the page walk, and all see the same words.
+pub fn several_processors_are_flushed_each()
+    ensures each { EachIsFlushed }
+    ensures same { AllSeeTheSame }
 {}

@@ -6,6 +6,7 @@
 #![tactic(auto)]
 
 mod calls;
+pub mod flushing;
 pub mod laws;
 mod runs;
 pub mod structures;
