@@ -12,7 +12,6 @@ pub mod Moved
 pub mod PlacesStay
 pub mod CallEvents
 pub mod Offsets
-pub mod Beside
 pub mod EmptyRoots
 pub mod CleanUpSteps
 pub mod Named
