@@ -1,2 +1,6 @@
-pub mod Halves
-pub mod NewRoot
+pub mod Parts
+pub mod Spots
+pub mod Chosen
+pub mod Passed
+pub mod Sound
+pub mod FitsRoom

@@ -1,1 +1,9 @@
-pub mod UpperHalf
+pub mod SpaceLayouts
+pub mod Room
+pub mod private
+pub use Rattle.x86_64_model.specs.Spaces
+pub use Rattle.x86_64_model.specs.FitsPool
+pub use Rattle.x86_64_model.specs.Layout
+pub use Rattle.x86_64_model.specs.Lists
+pub use Rattle.x86_64_model.specs.Memory
+pub use Rattle.x86_64_model.specs.Pool

@@ -8,7 +8,7 @@ use Rattle.x86_64_model.specs.PathMap.{entry}
 use Rattle.x86_64_model.specs.private.Tables.{without_word}
 use Rattle.x86_64_model.specs.Window.{outside_window}
 use Rattle.x86_64_model.proofs.Lemmas.Hierarchies.Exists.{read_or_in, entry_paths_of}
-use Rattle.x86_64_tables.specs.private.Views.{below_word}
+use Rattle.x86_64_tables.specs.Views.{below_word}
 use Rattle.x86_64_tables.specs.PathsSeen.{AlikeFrom, places_for, paths_seen_at}
 use Rattle.x86_64_tables.specs.SelfEntries.{window_in}
 use Rattle.x86_64_tables.proofs.WordsSeen.{is_named, named_at, is_not_named}

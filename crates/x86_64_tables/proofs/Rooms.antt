@@ -17,7 +17,7 @@ use Rattle.x86_64_model.proofs.Lemmas.Machines.Giving.{giving_from}
 use Rattle.x86_64_model.proofs.Lemmas.Tables.Exact.{valid_sound}
 use Rattle.x86_64_model.proofs.Lemmas.Tables.Meant.{valid_means, fits_means}
 use Rattle.x86_64_model.proofs.Lemmas.Tables.Walked.{table_at_frame, in_tables, from_tables}
-use Rattle.x86_64_tables.specs.LentPool.{is_in, FitsRoom}
+use Rattle.x86_64_tables.specs.LentPool.{FitsRoom}
 use Rattle.x86_64_tables.proofs.FrameAddresses.{frame_bounds}
 use Rattle.x86_64_tables.proofs.Pigeonhole.{members_fit}
 use Rattle.x86_64_tables.proofs.Stacks.{in_list, is_in_list}
@@ -28,21 +28,21 @@ use Rattle.x86_64_tables.proofs.Stacks.{in_list, is_in_list}
 reverses : TakesBack (λ held f. reverse (f ∷ held))
 reverses = giving_from (λ held f. reverse (f ∷ held)) (λ held f. IsPermutation-reverse (f ∷ held))
 
-in_reverse : (xs : List ℕ) (f : ℕ) → In (reverse xs) f ↔ In xs f
+pub in_reverse : (xs : List ℕ) (f : ℕ) → In (reverse xs) f ↔ In xs f
 in_reverse [] f = (λ i. i, λ i. i)
 in_reverse (x ∷ xs) f = reverses.same_frames xs x f
 
-once_reverse : (xs : List ℕ) → EachOnce xs → EachOnce (reverse xs)
+pub once_reverse : (xs : List ℕ) → EachOnce xs → EachOnce (reverse xs)
 once_reverse [] once = once
 once_reverse (x ∷ xs) once = reverses.each_once xs x once
 
-once_back : (xs : List ℕ) → EachOnce (reverse xs) → EachOnce xs
+pub once_back : (xs : List ℕ) → EachOnce (reverse xs) → EachOnce xs
 once_back xs once = subst EachOnce (reverse-reverse xs) (once_reverse (reverse xs) once)
 
 -- ---- the tables below the root
 
 -- a frame but frame 0 has a number from 1 to 2^40 - 1
-served : (f : ℕ) → is_frame f ≡ true → f ≢ 0 → serves_below (2 ^ 40) f ≡ true
+pub served : (f : ℕ) → is_frame f ≡ true → f ≢ 0 → serves_below (2 ^ 40) f ≡ true
 unfolding address
 served f frame other =
     let bounds = frame_bounds f frame in

@@ -6,7 +6,7 @@ use Rattle.x86_64_model.specs.Window.{outside_window}
 use Rattle.x86_64_model.proofs.Lemmas.Hierarchies.Memories.{mappings_show_frames}
 use Rattle.x86_64_model.proofs.Lemmas.Tables.Meant.{valid_means, fits_means}
 use Rattle.x86_64_tables.specs.FramePool.{FreeFrames}
-use Rattle.x86_64_tables.specs.private.Views.{IsSound, free_in}
+use Rattle.x86_64_tables.specs.private.Soundness.{IsSound, free_in}
 use Rattle.x86_64_tables.specs.SelfEntries.{window_at}
 use Rattle.x86_64_tables.specs.private.HierarchyTests.{limit_of, Passes}
 

@@ -10,7 +10,7 @@ use Rattle.x86_64_model.specs.private.Marks.{spot_of, mark_one, mark_all}
 use Rattle.x86_64_model.specs.Pool.{serves_below}
 use Rattle.x86_64_model.proofs.Lemmas.Tables.Keyed.{spots_of}
 use Rattle.x86_64_model.proofs.Lemmas.Tables.Checked.{still_there, was_there, refused_tables, accepted_pool}
-use Rattle.x86_64_tables.specs.private.Views.{seen, mark_slot}
+use Rattle.x86_64_tables.specs.Views.{seen, mark_slot}
 
 module _ (memory : Memory) (places : Places) (mapping : IsMapping places) (root : ℕ) (recursive : Option ℕ) (limit levels : ℕ)
     (pool : List ℕ) (marks : List Bool) (clear : (k : ℕ) → k < length (keys memory) → get_or marks k true ≡ false) where

@@ -8,7 +8,7 @@ use Rattle.x86_64_model.specs.PageWalk.{read}
 use Rattle.x86_64_model.specs.private.Tables.{without_word}
 use Rattle.x86_64_model.proofs.Lemmas.Hierarchies.Held.{word-set_frame, word-set_index}
 use Rattle.x86_64_model.proofs.Lemmas.Hierarchies.Unset.{word_unset}
-use Rattle.x86_64_tables.specs.private.Views.{below_word}
+use Rattle.x86_64_tables.specs.Views.{below_word}
 use Rattle.x86_64_tables.specs.SelfEntries.{names_frame}
 
 -- a word that is read

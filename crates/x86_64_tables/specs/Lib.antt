@@ -6,6 +6,7 @@ pub mod LentMemory
 pub mod Lending
 pub mod Walks
 pub mod SelfEntries
+pub mod Views
 pub mod PathsSeen
 pub mod ActiveMemory
 pub mod Translations
@@ -24,3 +25,5 @@ pub use Rattle.x86_64_model.specs.PageWalk
 pub use Rattle.x86_64_model.specs.Layout
 pub use Rattle.x86_64_model.specs.Translation
 pub use Rattle.x86_64_model.specs.Lists
+pub use Rattle.x86_64_model.specs.private.Tables
+pub use Rattle.x86_64_model.specs.private.Marks

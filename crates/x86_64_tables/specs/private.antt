@@ -1,4 +1,4 @@
-pub mod Views
+pub mod Soundness
 pub mod HierarchyTests
 pub mod SortedPlaces
 pub mod TableLaws

@@ -121,7 +121,7 @@ impl FramePool {
     }
 
     /// Returns the limit. The numbers of all served frames are below it.
-    pub(crate) fn limit(&self) -> u64
+    pub fn limit(&self) -> u64
         ensures { result ≡ self.now.limit }
     {
         self.is_free.len() as u64

@@ -2,7 +2,7 @@
 //! indices from the root to the entry.
 ghost use Rattle.std.specs.Prelude.{◌≡◌, ◌==◌, ◌↔◌, IsTrue, suc};
 ghost use Rattle.x86_64_model.specs.Alike.{Alike, without_writable};
-ghost use Rattle.x86_64_tables.specs.private.Views.{seen};
+ghost use Rattle.x86_64_tables.specs.Views.{seen};
 ghost use Rattle.x86_64_tables.specs.PathsSeen.{AlikeFrom, paths_seen, paths_seen_57, paths_seen_at, places_for};
 
 use super::hierarchy_view::HierarchyView;

@@ -5,7 +5,7 @@ ghost use Rattle.std.specs.Option.{option_copied};
 ghost use Rattle.x86_64_model.specs.Entry.{huge};
 ghost use Rattle.x86_64_model.specs.Memory.{word, words_of};
 ghost use Rattle.x86_64_model.specs.private.Tables.{NoneHuge};
-ghost use Rattle.x86_64_tables.specs.private.Views.{seen, below_word};
+ghost use Rattle.x86_64_tables.specs.Views.{seen, below_word};
 ghost use Rattle.x86_64_tables.specs.SelfEntries.{has_self_entry, names_frame};
 
 use super::walk::{entry_at, has_flag};
@@ -18,17 +18,21 @@ use x86_64_page::page::Size4KiB;
 
 /// A view of the hierarchy below a root in a memory. The root's word at the recursive index, if there is one, is read as 0.
 #[derive(Drop)]
-pub(super) struct HierarchyView<'a, T, P> {
-    pub(super) memory: &'a T,
-    pub(super) mapping: P,
-    pub(super) root: PhysFrame<Size4KiB>,
-    pub(super) recursive: Option<PageTableIndex>,
+pub struct HierarchyView<'a, T, P> {
+    /// The memory with the tables.
+    pub memory: &'a T,
+    /// Where frames lie in the memory.
+    pub mapping: P,
+    /// The root's frame.
+    pub root: PhysFrame<Size4KiB>,
+    /// The recursive index.
+    pub recursive: Option<PageTableIndex>,
 }
 
 impl<'a, T: TableMemory, P: PageTableFrameMapping> HierarchyView<'a, T, P> {
     /// Returns true if no word above level three has `HUGE_PAGE`, in the table in a frame and in the tables of `levels` levels
     /// below it.
-    pub(super) fn none_huge(&self, frame: PhysFrame<Size4KiB>, levels: u8) -> bool
+    pub fn none_huge(&self, frame: PhysFrame<Size4KiB>, levels: u8) -> bool
         ensures { let view = self.now in let places = P.places view.mapping in
             let words = seen (T.tables view.memory.now) places view.root view.recursive in
             IsTrue result ↔ NoneHuge levels words frame }
@@ -62,7 +66,9 @@ impl<'a, T: TableMemory, P: PageTableFrameMapping> HierarchyView<'a, T, P> {
     }
 
     /// Returns the frame of the table that the word at an index of the table in a frame names, if it names one.
-    pub(super) fn table_below(
+    ///
+    /// Requires that the index is below 512.
+    pub fn table_below(
         &self,
         frame: PhysFrame<Size4KiB>,
         index: usize,
@@ -79,7 +85,9 @@ impl<'a, T: TableMemory, P: PageTableFrameMapping> HierarchyView<'a, T, P> {
     }
 
     /// Returns the word at an index of the table in a frame, or 0 if there is none.
-    pub(super) fn word(&self, frame: PhysFrame<Size4KiB>, index: usize) -> u64
+    ///
+    /// Requires that the index is below 512.
+    pub fn word(&self, frame: PhysFrame<Size4KiB>, index: usize) -> u64
         requires { index < 512 }
         ensures { let view = self.now in let places = P.places view.mapping in
             let words = seen (T.tables view.memory.now) places view.root view.recursive in
@@ -106,7 +114,7 @@ impl<'a, T: TableMemory, P: PageTableFrameMapping> HierarchyView<'a, T, P> {
 }
 
 /// Returns true if there is a table in the root's frame, and `frame` of its entry at an index is the root.
-pub(super) fn has_self_entry<T: TableMemory, P: PageTableFrameMapping>(
+pub fn has_self_entry<T: TableMemory, P: PageTableFrameMapping>(
     memory: &T,
     mapping: &P,
     root: PhysFrame<Size4KiB>,

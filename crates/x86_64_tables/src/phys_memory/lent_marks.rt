@@ -8,7 +8,7 @@ ghost use Rattle.x86_64_model.specs.Pool.{serves_below};
 ghost use Rattle.x86_64_model.specs.private.Marks.{mark_one, mark_all};
 ghost use Rattle.x86_64_model.specs.private.Tables.{tables_from, SoundTables};
 ghost use Rattle.x86_64_tables.specs.LentPool.{FitsRoom};
-ghost use Rattle.x86_64_tables.specs.private.Views.{seen, mark_slot};
+ghost use Rattle.x86_64_tables.specs.Views.{seen, mark_slot};
 
 use super::hierarchy_view::HierarchyView;
 use super::validity::{FRAME_COUNT, HierarchyTest};
@@ -101,8 +101,10 @@ impl<'a, T: TableMemory, P: PageTableFrameMapping> HierarchyTest<'a, T, P> {
         count_set(marks) <= capacity.saturating_add(1)
     }
 
-    /// Marks the frame at each address, if there is one that may be met and was not before.
-    fn mark_frames(&self, marks: &mut [bool], frames: &[u64]) -> bool
+    /// Marks the frame at each address. Returns false if an address isn't that of a frame, or its frame can't be marked.
+    ///
+    /// Requires that there are as many marks as places.
+    pub fn mark_frames(&self, marks: &mut [bool], frames: &[u64]) -> bool
         requires { length marks.old ≡ length (map.keys (T.tables self.now.view.memory.now)) }
         ensures { let view = self.now.view in let places = P.places view.mapping in
             let slot = mark_slot (T.tables view.memory.now) places view.root self.now.limit in
@@ -139,7 +141,7 @@ fn frame_at(address: u64) -> Option<PhysFrame<Size4KiB>>
 }
 
 /// Returns how many marks are set.
-fn count_set(marks: &[bool]) -> usize
+pub fn count_set(marks: &[bool]) -> usize
     ensures { result ≡ count_by (λ mark. mark) marks.now }
 {
     marks.iter().filter(|mark| **mark).count()

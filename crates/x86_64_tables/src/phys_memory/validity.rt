@@ -9,7 +9,8 @@ ghost use Rattle.x86_64_model.specs.Pool.{Fits};
 ghost use Rattle.x86_64_model.specs.private.Tables.{tables_from, SoundTables};
 ghost use Rattle.x86_64_model.specs.private.Marks.{mark_one, mark_all};
 ghost use Rattle.x86_64_model.specs.Pool.{serves_below};
-ghost use Rattle.x86_64_tables.specs.private.Views.{seen, free_in, mark_slot, IsSound};
+ghost use Rattle.x86_64_tables.specs.Views.{seen, mark_slot};
+ghost use Rattle.x86_64_tables.specs.private.Soundness.{free_in, IsSound};
 ghost use Rattle.x86_64_tables.specs.private.HierarchyTests.{limit_of, Passes};
 ghost use Rattle.x86_64_tables.specs.SelfEntries.{window_at};
 
@@ -22,7 +23,7 @@ use x86_64_page::frame::PhysFrame;
 use x86_64_page::page::{PageSize, Size4KiB};
 
 /// The number of 4KiB frames that an entry can address.
-pub(super) const FRAME_COUNT: u64 = 1 << 40;
+pub const FRAME_COUNT: u64 = 1 << 40;
 
 /// Returns true if the words below the root form a valid hierarchy of four levels.
 ///
@@ -273,10 +274,14 @@ fn limit_of(pool: Option<&FramePool>) -> u64
 }
 
 /// A hierarchy to be tested. The frames that may be met are the root, and those with numbers from 1 to `limit` - 1.
+///
+/// There is a mark for each place of the memory, which is set when its frame is met.
 #[derive(Drop)]
-pub(super) struct HierarchyTest<'a, T, P> {
-    pub(super) view: HierarchyView<'a, T, P>,
-    pub(super) limit: u64,
+pub struct HierarchyTest<'a, T, P> {
+    /// The hierarchy.
+    pub view: HierarchyView<'a, T, P>,
+    /// The bound of frame numbers.
+    pub limit: u64,
 }
 
 impl<'a, T: TableMemory, P: PageTableFrameMapping> HierarchyTest<'a, T, P> {
@@ -338,12 +343,9 @@ impl<'a, T: TableMemory, P: PageTableFrameMapping> HierarchyTest<'a, T, P> {
     }
 
     /// Marks the table in a frame and the tables of `levels` levels below it. Returns false if one of them can't be marked.
-    pub(super) fn mark_tables(
-        &self,
-        marks: &mut [bool],
-        frame: PhysFrame<Size4KiB>,
-        levels: u8,
-    ) -> bool
+    ///
+    /// Requires that there are as many marks as places.
+    pub fn mark_tables(&self, marks: &mut [bool], frame: PhysFrame<Size4KiB>, levels: u8) -> bool
         requires { length marks.old ≡ length (keys (T.tables self.now.view.memory.now)) }
         ensures { let view = self.now.view in let places = P.places view.mapping in
             let words = seen (T.tables view.memory.now) places view.root view.recursive in
@@ -367,7 +369,9 @@ impl<'a, T: TableMemory, P: PageTableFrameMapping> HierarchyTest<'a, T, P> {
     }
 
     /// Marks each frame of a pool. Returns false if one of them can't be marked.
-    fn mark_pool(&self, marks: &mut [bool], pool: &FramePool) -> bool
+    ///
+    /// Requires that there are as many marks as places.
+    pub fn mark_pool(&self, marks: &mut [bool], pool: &FramePool) -> bool
         requires { length marks.old ≡ length (keys (T.tables self.now.view.memory.now)) }
         ensures { let view = self.now.view in let places = P.places view.mapping in
             let slot = mark_slot (T.tables view.memory.now) places view.root self.now.limit in
@@ -384,8 +388,10 @@ impl<'a, T: TableMemory, P: PageTableFrameMapping> HierarchyTest<'a, T, P> {
     }
 
     /// Marks a frame. Returns false if the frame has no mark, or was marked before.
+    ///
+    /// Requires that there are as many marks as places.
     #[tactic(auto, unfolding(x86_64_model::specs::private::Marks::mark_one))]
-    pub(super) fn mark(&self, marks: &mut [bool], frame: PhysFrame<Size4KiB>) -> bool
+    pub fn mark(&self, marks: &mut [bool], frame: PhysFrame<Size4KiB>) -> bool
         requires { length marks.old ≡ length (keys (T.tables self.now.view.memory.now)) }
         ensures { let view = self.now.view in let places = P.places view.mapping in
             let slot = mark_slot (T.tables view.memory.now) places view.root self.now.limit in

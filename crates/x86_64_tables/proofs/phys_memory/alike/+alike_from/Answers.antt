@@ -2,7 +2,7 @@ use Rattle.std.proofs.Common.{◌≡◌, ◌∙◌, inl, inr, sym, refl, subst, 
 use Rattle.std.proofs.lemmas.Bool.{cases_lt}
 use Rattle.x86_64_model.specs.Alike.{without_writable}
 use Rattle.x86_64_model.specs.Memory.{word}
-use Rattle.x86_64_tables.specs.private.Views.{seen}
+use Rattle.x86_64_tables.specs.Views.{seen}
 use Rattle.x86_64_tables.proofs.AlikeSteps.{AlikeIndex, all_indices, leaves, tables, below, words_else, same_leaves, one_table}
 use Rattle.x86_64_tables.proofs.phys_memory.alike.+alike_from.Goals as goal
 use Rattle.x86_64_tables.proofs.phys_memory.alike.+alike_from.Goals.{in-Some+in-Some-table_below+then-equal_but_writable, in-Some+in-Some-table_below+else-equal_but_writable, in-Some+in-None, in_default, in_default-via-in-Some+else-levels-gt0, in_default-via-in_default}

@@ -1,5 +1,5 @@
 use Rattle.std.proofs.Common.{◌<◌, ℕ}
-use Rattle.x86_64_tables.specs.private.Views.{seen}
+use Rattle.x86_64_tables.specs.Views.{seen}
 use Rattle.x86_64_tables.proofs.AlikeSteps.{AlikeIndex}
 use Rattle.x86_64_tables.proofs.phys_memory.alike.+alike_from.Given as goal
 

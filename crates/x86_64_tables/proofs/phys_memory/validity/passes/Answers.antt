@@ -4,7 +4,7 @@ use Rattle.std.specs.Option.{option_copied}
 use Rattle.x86_64_model.specs.Pool.{serves_below}
 use Rattle.x86_64_model.specs.Memory.{words_of}
 use Rattle.x86_64_tables.specs.private.HierarchyTests.{limit_of, Passes}
-use Rattle.x86_64_tables.specs.private.Views.{IsSound, free_in}
+use Rattle.x86_64_tables.specs.private.Soundness.{IsSound, free_in}
 use Rattle.x86_64_tables.proofs.Tested.{sound_passes}
 use Rattle.x86_64_tables.proofs.phys_memory.validity.passes.Goals as goal
 

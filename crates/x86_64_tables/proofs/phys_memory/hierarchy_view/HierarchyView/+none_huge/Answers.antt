@@ -2,7 +2,7 @@ use Rattle.std.proofs.Common.{sym, ◌∙◌, subst, ◌≡◌, ◌-◌, refl, t
 use Rattle.x86_64_model.specs.Memory.{word}
 use Rattle.x86_64_model.specs.private.Tables.{NoneHuge}
 use Rattle.x86_64_model.proofs.Lemmas.Tables.Huge.{few_levels, all_words, one_word}
-use Rattle.x86_64_tables.specs.private.Views.{seen}
+use Rattle.x86_64_tables.specs.Views.{seen}
 use Rattle.x86_64_tables.proofs.WordsSeen.{is_named, named_at}
 use Rattle.x86_64_tables.proofs.phys_memory.hierarchy_view.HierarchyView.+none_huge.Goals as goal
 

@@ -1,7 +1,7 @@
 use Rattle.std.proofs.Common.{◌<◌, ◌-◌, ℕ}
 use Rattle.x86_64_model.specs.Memory.{word}
 use Rattle.x86_64_model.proofs.Lemmas.Tables.Huge.{NotHuge}
-use Rattle.x86_64_tables.specs.private.Views.{seen}
+use Rattle.x86_64_tables.specs.Views.{seen}
 use Rattle.x86_64_tables.proofs.phys_memory.hierarchy_view.HierarchyView.+none_huge.Given as goal
 
 abbrev pub decreases-none_huge : goal.decreases-none_huge

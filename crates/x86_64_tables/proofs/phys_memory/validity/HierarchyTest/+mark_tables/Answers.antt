@@ -2,7 +2,7 @@ use Rattle.std.proofs.Common.{sym, refl, ◌∙◌, ap, ◌-◌, ◌+◌, Some, 
 use Rattle.x86_64_model.specs.Memory.{word}
 use Rattle.x86_64_model.specs.private.Marks.{mark_all}
 use Rattle.x86_64_model.proofs.Lemmas.Tables.MarkSteps.{rest, rest_named, rest_other, rest_done, tables_begin, tables_none, tables_one}
-use Rattle.x86_64_tables.specs.private.Views.{seen, mark_slot}
+use Rattle.x86_64_tables.specs.Views.{seen, mark_slot}
 use Rattle.x86_64_tables.proofs.WordsSeen.{is_named, named_at, is_not_named}
 use Rattle.x86_64_tables.proofs.phys_memory.validity.HierarchyTest.+mark_tables.Goals as goal
 use Rattle.x86_64_tables.proofs.phys_memory.validity.HierarchyTest.+mark_tables.Goals.{in-Some+else-not-mark_tables, in_default}

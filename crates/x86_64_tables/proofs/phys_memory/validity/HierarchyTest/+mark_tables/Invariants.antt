@@ -1,7 +1,7 @@
 use Rattle.std.proofs.Common.{◌≡◌, ◌-◌}
 use Rattle.x86_64_model.specs.private.Marks.{mark_all}
 use Rattle.x86_64_model.proofs.Lemmas.Tables.MarkSteps.{rest}
-use Rattle.x86_64_tables.specs.private.Views.{seen, mark_slot}
+use Rattle.x86_64_tables.specs.Views.{seen, mark_slot}
 use Rattle.x86_64_tables.proofs.phys_memory.validity.HierarchyTest.+mark_tables.Given as goal
 
 abbrev pub decreases-mark_tables : goal.decreases-mark_tables

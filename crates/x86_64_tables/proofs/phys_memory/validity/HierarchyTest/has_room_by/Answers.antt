@@ -2,7 +2,7 @@ use Rattle.std.proofs.Common.{◌≡◌, ◌+◌, true, false, length, refl, sym
 use Rattle.std.specs.FinMap.{keys}
 use Rattle.x86_64_model.specs.private.Tables.{tables_from}
 use Rattle.x86_64_model.proofs.Lemmas.Tables.Checked.{all_clear}
-use Rattle.x86_64_tables.specs.private.Views.{seen, mark_slot}
+use Rattle.x86_64_tables.specs.Views.{seen, mark_slot}
 use Rattle.x86_64_tables.proofs.CountedMarks.{marked_all, none_marked}
 use Rattle.x86_64_tables.proofs.ViewMarks.{refused, accepted}
 use Rattle.x86_64_tables.proofs.phys_memory.validity.HierarchyTest.has_room_by.Goals as goal

@@ -1,7 +1,7 @@
 use Rattle.std.proofs.Common.{refl, [], true}
 use Rattle.std.specs.Option.{option_copied}
 use Rattle.x86_64_model.specs.private.Marks.{mark_all}
-use Rattle.x86_64_tables.specs.private.Views.{free_in}
+use Rattle.x86_64_tables.specs.private.Soundness.{free_in}
 use Rattle.x86_64_tables.proofs.ViewMarks.{refused, accepted}
 use Rattle.x86_64_tables.proofs.phys_memory.validity.HierarchyTest.is_sound_by.Goals as goal
 

@@ -2,7 +2,7 @@ use Rattle.std.proofs.Common.{sym, ◌∙◌, ap, Some, None}
 use Rattle.std.proofs.lemmas.List.{drop_all}
 use Rattle.x86_64_model.specs.private.Marks.{mark_all}
 use Rattle.x86_64_model.proofs.Lemmas.Tables.MarkSteps.{pool_more}
-use Rattle.x86_64_tables.specs.private.Views.{mark_slot}
+use Rattle.x86_64_tables.specs.Views.{mark_slot}
 use Rattle.x86_64_tables.proofs.phys_memory.validity.HierarchyTest.mark_frames.Goals as goal
 
 pub returns-then-not-mark_at : goal.returns-then-not-mark_at

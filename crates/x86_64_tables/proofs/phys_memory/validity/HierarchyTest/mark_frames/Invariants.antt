@@ -1,6 +1,6 @@
 use Rattle.std.proofs.Common.{◌≡◌, drop}
 use Rattle.x86_64_model.specs.private.Marks.{mark_all}
-use Rattle.x86_64_tables.specs.private.Views.{mark_slot}
+use Rattle.x86_64_tables.specs.Views.{mark_slot}
 use Rattle.x86_64_tables.proofs.phys_memory.validity.HierarchyTest.mark_frames.Given as goal
 
 -- the frames still to mark, from the marks of the iteration

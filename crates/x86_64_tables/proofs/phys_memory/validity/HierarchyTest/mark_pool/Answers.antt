@@ -3,7 +3,7 @@ use Rattle.std.proofs.lemmas.List.{drop_all}
 use Rattle.std.proofs.lemmas.Option.{slice_get-get_or, get_or_from_slice_get}
 use Rattle.x86_64_model.specs.private.Marks.{mark_one, mark_all}
 use Rattle.x86_64_model.proofs.Lemmas.Tables.MarkSteps.{pool_more}
-use Rattle.x86_64_tables.specs.private.Views.{mark_slot}
+use Rattle.x86_64_tables.specs.Views.{mark_slot}
 use Rattle.x86_64_tables.proofs.phys_memory.validity.HierarchyTest.mark_pool.Goals as goal
 use Rattle.x86_64_tables.proofs.phys_memory.validity.HierarchyTest.mark_pool.Goals.{in-Some+else-not-mark, in_default}
 

@@ -1,0 +1,24 @@
+use Rattle.std.proofs.Common.{◌≡◌, ◌-◌, suc, true, false, sym, ◌∙◌, subst, arith}
+use Rattle.x86_64_model.specs.Memory.{words_of}
+use Rattle.x86_64_model.specs.private.Tables.{NoneHuge}
+use Rattle.x86_64_spaces.specs.private.SpaceTables.{seen_by}
+use Rattle.x86_64_spaces.proofs.fitting.SpacesTest.is_alike.Goals as goal
+use Rattle.x86_64_spaces.proofs.fitting.SpacesTest.is_alike.Goals.{then-names_itself, else-names_itself}
+
+pub returns-then-none_huge : goal.returns-then-none_huge
+returns-then-none_huge g c =
+    let self = c.args.self.now in let space = c.args.space.now in
+    let words = words_of (g.T.TableMemory.tables self.memory.now) (g.P.PageTableFrameMapping.places self.mapping.now) in
+    let levels : self.levels ≡ suc (self.levels - 1) = let some = c.requires in omega arith in
+    elim c.if-names_itself.branch [
+      | then-names_itself w ↦
+          let low = rw w.of.ensures at w.none_huge.ensures.0 (sym w.value-is ∙ c.if-none_huge.true) in (
+            λ same. record {
+              self = c.names_itself.ensures.0 w.if-names_itself.true;
+              none_huge = subst (λ n. NoneHuge n (seen_by words space) space.root) levels low;
+              alike = c.has_words_of.ensures.0 same;
+            },
+            λ like. c.has_words_of.ensures.1 like.alike,
+          )
+      | else-names_itself w ↦ absurd (let t : true ≡ false = sym c.if-none_huge.true ∙ w.value-is ∙ w.if-names_itself.false in cc)
+    ]

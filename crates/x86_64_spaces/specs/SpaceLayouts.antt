@@ -1,0 +1,32 @@
+-- Address spaces in a memory, by their roots and recursive indices.
+use Rattle.std.specs.Prelude.{ℕ, ◌&&◌, nat_le, nat_lt, Bool, List, Option, Some, None, map}
+use Rattle.x86_64_model.specs.Layout.{Layout}
+use Rattle.x86_64_model.specs.Memory.{Memory, Places, words_of}
+use Rattle.x86_64_spaces.specs.declared.space.SharedIndices.{SharedIndices}
+use Rattle.x86_64_spaces.specs.declared.space.Space.{Space}
+use Rattle.x86_64_tables.specs.SelfEntries.{window_in}
+
+-- whether an index of the highest level is shared
+abbrev pub indices_of : SharedIndices → (index : ℕ) → Bool
+indices_of shared i = nat_le shared.from i && nat_lt i shared.to
+
+-- the flags that a new table entry gets in addition to the parent flags: PRESENT and WRITABLE with a recursive index
+abbrev pub flags_added : (recursive : Option ℕ) → ℕ
+flags_added None = 0
+flags_added (Some r) = 3
+
+-- the layout of an address space whose tables are in a memory
+abbrev pub layout_of : (levels : ℕ) → Places → Memory → Space → Layout
+layout_of levels places memory space = record {
+  levels = levels;
+  places = places;
+  root = space.root;
+  window = window_in (words_of memory places) space.root space.recursive;
+  added_flags = flags_added space.recursive;
+}
+
+abbrev pub layouts_of : (levels : ℕ) → Places → Memory → List Space → List Layout
+layouts_of levels places memory spaces = map (layout_of levels places memory) spaces
+
+abbrev pub roots_of : List Space → List ℕ
+roots_of spaces = map (λ space. space.root) spaces

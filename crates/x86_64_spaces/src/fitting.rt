@@ -1,0 +1,297 @@
+//! Tests of whether address spaces share what they should, and whether a pool fits them.
+ghost use Rattle.std.specs.Prelude.{◌≡◌, ◌<◌, ◌≤◌, ◌+◌, ◌-◌, ◌↔◌, suc, ℕ, if◌then◌else◌, length, reverse, replicate, IfOk, IsTrue, IsSome, Some, None, [], false, true};
+ghost use Rattle.std.specs.FinMap as map;
+ghost use Rattle.x86_64_model.specs.Lists.{In, EachOnce};
+ghost use Rattle.x86_64_model.specs.Memory.{word, words_of};
+ghost use Rattle.x86_64_model.specs.Pool.{serves_below};
+ghost use Rattle.x86_64_model.specs.Spaces.{AreSpaces};
+ghost use Rattle.x86_64_model.specs.private.Marks.{spot_of, mark_all};
+ghost use Rattle.x86_64_spaces.specs.Room.{AreSpacesWithRoom};
+ghost use Rattle.x86_64_spaces.specs.SpaceLayouts.{indices_of, layouts_of, roots_of};
+ghost use Rattle.x86_64_spaces.specs.private.SpaceTables.{seen_by, chosen, parts_where, own_tables, space_tables, IsAlike, SoundSpaces};
+ghost use Rattle.x86_64_model.specs.Window.{SelfEntry};
+ghost use Rattle.x86_64_tables.specs.SelfEntries.{window_in};
+ghost use Rattle.x86_64_tables.specs.Views.{mark_slot};
+
+use crate::space::{SharedIndices, Space};
+use std::alloc::{AllocError, Global};
+use x86_64_addr::level_count::LevelCount;
+use x86_64_tables::frame_alloc::FramePool;
+use x86_64_tables::phys_memory::{
+    FRAME_COUNT, HierarchyTest, HierarchyView, PageTableFrameMapping, TableMemory, count_set,
+    has_self_entry,
+};
+
+/// Returns whether hierarchies are address spaces that share the tables below some indices, and a pool fits each.
+///
+/// They are if the roots are distinct, each hierarchy is valid, for its recursive index if it has one, all roots have the same
+/// words at the shared indices, no table is in two hierarchies but those below these indices, and the pool fits each as defined
+/// for [`pool_fits`](x86_64_tables::phys_memory::pool_fits). The recursive index's word is left out on both sides. The hierarchies
+/// have four or five levels. The answer for no hierarchy is true.
+///
+/// The test meets each table once, terminates for any words, and allocates only one mark for each place.
+///
+/// # Errors
+///
+/// `AllocError` if memory allocation fails.
+pub fn spaces_fit<L: LevelCount, T: TableMemory, P: PageTableFrameMapping>(
+    alloc: Global,
+    memory: &T,
+    mapping: &P,
+    spaces: &[Space],
+    shared: SharedIndices,
+    pool: &FramePool,
+) -> Result<bool, AllocError>
+    ensures { let m = T.tables memory.now in
+        let layouts = layouts_of L.LEVELS (P.places mapping.now) m spaces.now in
+        let serves = serves_below pool.now.limit in
+        IfOk result (λ b. IsTrue b ↔ (EachOnce (roots_of spaces.now)
+        × AreSpaces (indices_of shared) m serves pool.now.frames layouts)) }
+{
+    let Some(first) = spaces.first() else {
+        return Ok(true);
+    };
+    let mut marks = vec![in alloc; false; memory.len()]?;
+    let test = SpacesTest {
+        memory,
+        mapping,
+        shared,
+        levels: L::LEVELS as u8 - 1,
+        limit: pool.limit(),
+    };
+    Ok(test.is_sound_by(first, spaces, pool, &mut marks))
+}
+
+/// Returns whether hierarchies are address spaces that share the tables below some indices, a pool fits each, and an array has room
+/// for every frame that the pool may ever hold. Takes no memory.
+///
+/// This is defined as for [`spaces_fit`]. The pool is a stack of the addresses of frames: the last is handed out first. An address
+/// that is no multiple of 4096 below 2^52 fits no hierarchy. The array has places for `capacity` frames, which are those of the
+/// pool and of all tables and roots, since these may come back to the pool. The marks are the test's to write to.
+///
+/// Requires that there are as many marks as places. They may be set or not. The test ends for any words and any addresses.
+pub fn spaces_fit_by_marks<L: LevelCount, T: TableMemory, P: PageTableFrameMapping>(
+    memory: &T,
+    mapping: &P,
+    spaces: &[Space],
+    shared: SharedIndices,
+    frames: &[u64],
+    capacity: usize,
+    marks: &mut [bool],
+) -> bool
+    requires { length marks.old ≡ map.len (T.tables memory.now) }
+    ensures { let m = T.tables memory.now in
+        let layouts = layouts_of L.LEVELS (P.places mapping.now) m spaces.now in
+        IsTrue result ↔ (EachOnce (roots_of spaces.now)
+        × AreSpacesWithRoom (indices_of shared) m capacity (reverse frames.now) layouts) }
+{
+    let Some(first) = spaces.first() else {
+        return true;
+    };
+    marks.fill(false);
+    let test = SpacesTest {
+        memory,
+        mapping,
+        shared,
+        levels: L::LEVELS as u8 - 1,
+        limit: FRAME_COUNT,
+    };
+    test.has_room_by(first, spaces, frames, capacity, marks)
+}
+
+/// Address spaces to be tested, with `levels` levels of tables below the roots. The frames that may be met are the roots, and those
+/// with numbers from 1 to `limit` - 1.
+#[derive(Drop)]
+struct SpacesTest<'a, T, P> {
+    memory: &'a T,
+    mapping: &'a P,
+    shared: SharedIndices,
+    levels: u8,
+    limit: u64,
+}
+
+impl<'a, T: TableMemory, P: PageTableFrameMapping> SpacesTest<'a, T, P> {
+    /// Returns true if the spaces are alike, and each of their tables and each frame of the pool is met once, is in the memory, and
+    /// may be met, by marks that are all clear at first.
+    fn is_sound_by(
+        &self,
+        first: &Space,
+        spaces: &[Space],
+        pool: &FramePool,
+        marks: &mut [bool],
+    ) -> bool
+        requires levels { 1 < self.now.levels }
+        requires clear { marks.old ≡ replicate (length (map.keys (T.tables self.now.memory.now))) false }
+        requires first { In spaces.now first.now }
+        ensures { let test = self.now in let words = words_of (T.tables test.memory.now) (P.places test.mapping.now) in
+            let shared = indices_of test.shared in let n = test.levels - 1 in let serves = serves_below test.limit in
+            IsTrue result ↔ SoundSpaces shared n words first.now spaces.now serves pool.now.frames }
+    {
+        if !self.mark_spaces(first, spaces, marks) {
+            return false;
+        }
+        self.of(first).mark_pool(marks, pool)
+    }
+
+    /// Returns what `is_sound_by` returns for a pool of these frames, and false if the capacity is below the number of all tables
+    /// and frames.
+    fn has_room_by(
+        &self,
+        first: &Space,
+        spaces: &[Space],
+        frames: &[u64],
+        capacity: usize,
+        marks: &mut [bool],
+    ) -> bool
+        requires levels { 1 < self.now.levels }
+        requires clear { marks.old ≡ replicate (length (map.keys (T.tables self.now.memory.now))) false }
+        requires first { In spaces.now first.now }
+        ensures { let test = self.now in let words = words_of (T.tables test.memory.now) (P.places test.mapping.now) in
+            let shared = indices_of test.shared in let n = test.levels - 1 in let serves = serves_below test.limit in
+            let tables = space_tables shared n words first.now spaces.now in
+            IsTrue result ↔ (SoundSpaces shared n words first.now spaces.now serves frames.now
+            × (length tables + length frames.now ≤ capacity)) }
+    {
+        if !self.mark_spaces(first, spaces, marks) {
+            return false;
+        }
+        if !self.of(first).mark_frames(marks, frames) {
+            return false;
+        }
+        count_set(marks) <= capacity
+    }
+
+    /// Marks the tables below the shared indices of the first root, and then each root and its own tables. Returns false if one of
+    /// them can't be marked, or a space isn't like the first one.
+    fn mark_spaces(&self, first: &Space, spaces: &[Space], marks: &mut [bool]) -> bool
+        requires levels { 1 < self.now.levels }
+        requires clear { marks.old ≡ replicate (length (map.keys (T.tables self.now.memory.now))) false }
+        requires first { In spaces.now first.now }
+        ensures tells { let test = self.now in let words = words_of (T.tables test.memory.now) (P.places test.mapping.now) in
+            let shared = indices_of test.shared in let serves = serves_below test.limit in
+            IsTrue result ↔ SoundSpaces shared (test.levels - 1) words first.now spaces.now serves [] }
+        ensures marks { let test = self.now in let m = T.tables test.memory.now in let places = P.places test.mapping.now in
+            let tables = space_tables (indices_of test.shared) (test.levels - 1) (words_of m places) first.now spaces.now in
+            IsTrue result → mark_all (spot_of m places) marks.old tables ≡ Some marks.new }
+    {
+        if !self.mark_parts(first, true, marks) {
+            return false;
+        }
+        for space in spaces {
+            if !self.is_alike(first, space) {
+                return false;
+            }
+            if !self.mark_own(space, marks) {
+                return false;
+            }
+        }
+        true
+    }
+
+    /// Returns true if a root names itself at the recursive index, if there is one, no word above level three has `HUGE_PAGE`, and
+    /// the root has the words of the first one at the shared indices.
+    fn is_alike(&self, first: &Space, space: &Space) -> bool
+        requires { 0 < self.now.levels }
+        ensures { let words = words_of (T.tables self.now.memory.now) (P.places self.now.mapping.now) in
+            let shared = indices_of self.now.shared in
+            IsTrue result ↔ IsAlike shared (self.now.levels - 1) words first.now space.now }
+    {
+        self.names_itself(space)
+            && self.of(space).view.none_huge(space.root, self.levels)
+            && self.has_words_of(first, space)
+    }
+
+    /// Returns true if the root names itself at the recursive index, if there is one.
+    fn names_itself(&self, space: &Space) -> bool
+        ensures { let words = words_of (T.tables self.now.memory.now) (P.places self.now.mapping.now) in
+            let root = space.now.root in
+            IsTrue result ↔ SelfEntry words root (window_in words root space.now.recursive) }
+    {
+        match space.recursive {
+            Some(index) => has_self_entry(self.memory, self.mapping, space.root, index),
+            None => true,
+        }
+    }
+
+    /// Returns true if a root has the words of the first one at the shared indices.
+    fn has_words_of(&self, first: &Space, space: &Space) -> bool
+        ensures { let words = words_of (T.tables self.now.memory.now) (P.places self.now.mapping.now) in
+            let shared = indices_of self.now.shared in
+            IsTrue result ↔ ((i : ℕ) → shared i ≡ true → word (seen_by words space.now) space.now.root i
+            ≡ word (seen_by words first.now) first.now.root i) }
+    {
+        let (view, first_view) = (self.of(space).view, self.of(first).view);
+        for index in 0..512 {
+            if self.shared.contains(index)
+                && view.word(space.root, index) != first_view.word(first.root, index)
+            {
+                return false;
+            }
+        }
+        true
+    }
+
+    /// Marks a root and its own tables. Returns false if one of them can't be marked.
+    fn mark_own(&self, space: &Space, marks: &mut [bool]) -> bool
+        requires levels { 0 < self.now.levels }
+        requires length { length marks.old ≡ length (map.keys (T.tables self.now.memory.now)) }
+        ensures { let test = self.now in let m = T.tables test.memory.now in let places = P.places test.mapping.now in
+            let slot = mark_slot m places space.now.root test.limit in
+            (if result then Some marks.new else None) ≡ mark_all slot marks.old
+            (own_tables (indices_of test.shared) (test.levels - 1) (words_of m places) space.now) }
+    {
+        if !self.of(space).mark(marks, space.root) {
+            return false;
+        }
+        self.mark_parts(space, false, marks)
+    }
+
+    /// Marks the tables below the root's indices that are shared, or below those that aren't. Returns false if one of them can't be
+    /// marked.
+    fn mark_parts(&self, space: &Space, is_shared: bool, marks: &mut [bool]) -> bool
+        requires levels { 0 < self.now.levels }
+        requires length { length marks.old ≡ length (map.keys (T.tables self.now.memory.now)) }
+        ensures { let test = self.now in let m = T.tables test.memory.now in let places = P.places test.mapping.now in
+            let test_of = chosen (indices_of test.shared) is_shared in
+            let view = seen_by (words_of m places) space.now in
+            let slot = mark_slot m places space.now.root test.limit in
+            (if result then Some marks.new else None)
+            ≡ mark_all slot marks.old (parts_where test_of (test.levels - 1) view space.now.root) }
+    {
+        let test = self.of(space);
+        for index in 0..512 {
+            if self.shared.contains(index) == is_shared {
+                if let Some(below) = test.view.table_below(space.root, index) {
+                    if !test.mark_tables(marks, below, self.levels - 1) {
+                        return false;
+                    }
+                }
+            }
+        }
+        true
+    }
+
+    /// Returns the test of one of the hierarchies.
+    fn of(&self, space: &Space) -> HierarchyTest<'a, T, &'a P>
+        ensures { result ≡ record {
+          limit = self.now.limit;
+          view = record {
+            memory = self.now.memory;
+            mapping = self.now.mapping;
+            root = space.now.root;
+            recursive = space.now.recursive;
+          };
+        } }
+    {
+        let view = HierarchyView {
+            memory: self.memory,
+            mapping: self.mapping,
+            root: space.root,
+            recursive: space.recursive,
+        };
+        HierarchyTest {
+            view,
+            limit: self.limit,
+        }
+    }
+}
