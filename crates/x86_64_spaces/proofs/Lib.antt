@@ -4,3 +4,6 @@ pub mod Chosen
 pub mod Passed
 pub mod Sound
 pub mod FitsRoom
+pub mod Stored
+pub mod NewRoot
+pub mod Cleared

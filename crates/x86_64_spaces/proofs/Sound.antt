@@ -63,7 +63,7 @@ seen_elsewhere T s g = by s.recursive
     by None apart = refl
     by (Some r) apart = set_word_other T s.root r 0 g apart
 
-seen_outside : (T : Words) (s : Space) → outside_window (window_in T s.root s.recursive) s.root T ≡ seen_by T s
+pub seen_outside : (T : Words) (s : Space) → outside_window (window_in T s.root s.recursive) s.root T ≡ seen_by T s
 seen_outside T s = by s.recursive
   where
     by : (recursive : Option ℕ) → outside_window (window_in T s.root recursive) s.root T ≡ without_word recursive s.root T

@@ -1,7 +1,8 @@
 -- Address spaces in a memory, by their roots and recursive indices.
-use Rattle.std.specs.Prelude.{ℕ, ◌&&◌, nat_le, nat_lt, Bool, List, Option, Some, None, map}
-use Rattle.x86_64_model.specs.Layout.{Layout}
+use Rattle.std.specs.Prelude.{◌≡◌, ℕ, ◌&&◌, nat_le, nat_lt, Bool, false, List, [], ◌∷◌, Option, Some, None, map}
+use Rattle.x86_64_model.specs.Layout.{Layout, paths}
 use Rattle.x86_64_model.specs.Memory.{Memory, Places, words_of}
+use Rattle.x86_64_model.specs.PathMap.{entry}
 use Rattle.x86_64_spaces.specs.declared.space.SharedIndices.{SharedIndices}
 use Rattle.x86_64_spaces.specs.declared.space.Space.{Space}
 use Rattle.x86_64_tables.specs.SelfEntries.{window_in}
@@ -30,3 +31,7 @@ layouts_of levels places memory spaces = map (layout_of levels places memory) sp
 
 abbrev pub roots_of : List Space → List ℕ
 roots_of spaces = map (λ space. space.root) spaces
+
+-- The root has used entries at shared indices alone, not counting its self-entry.
+abbrev pub HasSharedAlone : (shared : ℕ → Bool) → Layout → Memory → Type 0
+HasSharedAlone shared layout m = (i : ℕ) → shared i ≡ false → entry (paths layout m) (i ∷ []) ≡ 0

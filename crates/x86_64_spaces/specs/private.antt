@@ -1,1 +1,2 @@
 pub mod SpaceTables
+pub mod Writes

@@ -3,7 +3,12 @@
 #![tactic(auto)]
 
 mod fitting;
+mod giving_up;
+mod making;
 mod space;
+mod words;
 
 pub use fitting::{spaces_fit, spaces_fit_by_marks};
+pub use giving_up::{GiveUpError, give_up_space};
+pub use making::new_space;
 pub use space::{SharedIndices, Space};
