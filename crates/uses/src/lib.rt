@@ -8,5 +8,6 @@ pub mod load_segments;
 pub mod own_allocator;
 pub mod own_memory;
 pub mod porting;
+pub mod run_in_space;
 pub mod run_list;
 pub mod translate_in_dump;

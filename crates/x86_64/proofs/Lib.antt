@@ -15,7 +15,6 @@ pub mod CallsFlushed
 pub mod Processors
 pub mod SeveralProcessors
 pub mod Offsets
-pub mod Beside
 pub mod EmptyRoots
 pub mod CleanUpSteps
 pub mod Named

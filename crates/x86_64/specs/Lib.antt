@@ -7,7 +7,7 @@ pub mod EveryWord
 pub mod Pairs
 pub mod Flushes
 pub mod ToldReplies
-pub mod SecondHierarchies
+pub mod EmptyRoots
 pub mod PlacesStay
 pub mod CallEvents
 pub mod FlushesDue

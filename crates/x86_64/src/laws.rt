@@ -1,11 +1,11 @@
 //! Laws of calls and replies, as public functions with empty bodies. The machine is the abstract mapper of the
 //! specification, which goes from state to state with each call.
 ghost use Rattle.x86_64.specs.CallEvents.{RunCallsAreEvents};
+ghost use Rattle.x86_64.specs.EmptyRoots.{EmptyRootsAreSpaces, EmptyRootsShareNothing, TwoEmptyRoots};
 ghost use Rattle.x86_64.specs.EveryWord.{EveryWordIsDecided};
 ghost use Rattle.x86_64.specs.FlushesDue.{FlushesSettle, FlushesAreLeast};
 ghost use Rattle.x86_64.specs.PlacesStay.{PlacesStay, OffsetsFitStill};
 ghost use Rattle.x86_64.specs.Processors.{ArisesFirst, ArisesByCaching, ArisesByCalls, ArisesByFlushes, ArisesByFlushedCalls, FlushedAccessesGo};
-ghost use Rattle.x86_64.specs.SecondHierarchies.{EmptyRootsAreSecond, SecondHierarchiesStay, SomeShare};
 ghost use Rattle.x86_64.specs.SeveralProcessors.{EachIsFlushed, AllSeeTheSame};
 ghost use Rattle.x86_64.specs.ToldReplies.{RepliesTell};
 
@@ -15,14 +15,6 @@ pub fn replies_lose_nothing()
     ensures { RepliesTell }
 {}
 
-/// Take a hierarchy with a pool that fits it, and a second hierarchy in the same memory with the same mapping, whose
-/// root and tables are neither tables of the first nor free frames. After any list of calls on the first, the second
-/// is still valid with the same path map, the pool fits it if it did before, and each is still second beside the
-/// other. This follows from what [`run`](crate::run) ensures in its clause `keeps`.
-pub fn second_hierarchies_stay()
-    ensures { SecondHierarchiesStay }
-{}
-
 /// After any list of calls, a memory has the same places as before (a place is the index of a table in memory). So an
 /// offset that fitted it still does. This follows from what [`run`](crate::run) ensures in its clause `keeps`.
 pub fn places_stay()
@@ -30,11 +22,12 @@ pub fn places_stay()
     ensures offsets { OffsetsFitStill }
 {}
 
-/// A frame outside a hierarchy and its pool, whose words are all 0, is the root of a second hierarchy that maps
-/// nothing. So there are memories with two hierarchies that one pool fits.
-pub fn empty_roots_are_second()
-    ensures is_second { EmptyRootsAreSecond }
-    ensures there_are { SomeShare }
+/// A frame outside address spaces and their pool, whose words are all 0, is the root of one more, if they share nothing.
+/// It maps nothing. So there are memories with several hierarchies that one pool fits.
+pub fn empty_roots_are_spaces()
+    ensures share { EmptyRootsShareNothing }
+    ensures are_spaces { EmptyRootsAreSpaces }
+    ensures there_are { TwoEmptyRoots }
 {}
 
 /// The result of a list of calls determines every word of the memory. The path map at the end determines the words of
