@@ -1,5 +1,5 @@
 //! Makes calls on the tables that a processor uses, and flushes after each what has to be flushed.
-ghost use Rattle.std.specs.Prelude.{◌≡◌, List, [], Option, Some, unwrap_or};
+ghost use Rattle.std.specs.Prelude.{◌≡◌, ℕ, List, [], Option, Some, unwrap_or};
 ghost use Rattle.x86_64_model.specs.Caches.{Cached};
 ghost use Rattle.x86_64_model.specs.Flushing.{Invlpg, LoadCr3, FlushAll};
 ghost use Rattle.x86_64_model.specs.Machine.{state_after};
@@ -16,7 +16,7 @@ use x86_64::{CallIn, FrameStore, LevelCount, LevelFiveFlags, ReplyIn, Tables, Ta
 use x86_64_addr::addr::VirtAddrIn;
 
 /// A processor that uses the tables of a hierarchy, and caches what it finds in them.
-pub trait Processor<L: LevelCount> {
+pub trait Processor {
     // the tables and pages that it has cached
     ghost cached: { Self → List Cached };
 
@@ -24,32 +24,30 @@ pub trait Processor<L: LevelCount> {
     /// nothing to execute.
     fn cache<M: Tables>(&mut self, tables: &M)
         ensures { let h = M.hierarchy tables.now in
-            CachesOften L.LEVELS h.layout.root (words h) (Self.cached self.old) (Self.cached self.new) };
+            CachesOften h.layout.levels h.layout.root (words h) (Self.cached self.old) (Self.cached self.new) };
 
     /// Executes `INVLPG` of an address.
-    fn invalidate_page(&mut self, addr: VirtAddrIn<L>)
+    fn invalidate_page<L: LevelCount>(&mut self, addr: VirtAddrIn<L>)
         ensures { LeftBy L.LEVELS (Some (Invlpg addr)) (Self.cached self.old) (Self.cached self.new) };
 
     /// Loads CR3 with the root that it has.
     fn load_cr3(&mut self)
-        ensures { LeftBy L.LEVELS (Some LoadCr3) (Self.cached self.old) (Self.cached self.new) };
+        ensures { (L : ℕ) → LeftBy L (Some LoadCr3) (Self.cached self.old) (Self.cached self.new) };
 
     /// Flushes everything, global pages too.
     fn flush_all(&mut self)
-        ensures { LeftBy L.LEVELS (Some FlushAll) (Self.cached self.old) (Self.cached self.new) };
+        ensures { (L : ℕ) → LeftBy L (Some FlushAll) (Self.cached self.old) (Self.cached self.new) };
 }
 
 /// A processor that caches nothing.
 pub struct Uncached;
 
-impl<L: LevelCount> Processor<L> for Uncached {
+impl Processor for Uncached {
     ghost cached = { λ _. [] };
 
     fn cache<M: Tables>(&mut self, _tables: &M) {}
 
-    fn invalidate_page(&mut self, _addr: VirtAddrIn<L>)
-        ensures { LeftBy L.LEVELS (Some (Invlpg _addr)) [] [] }
-    {}
+    fn invalidate_page<L: LevelCount>(&mut self, _addr: VirtAddrIn<L>) {}
 
     fn load_cr3(&mut self) {}
 
@@ -57,7 +55,7 @@ impl<L: LevelCount> Processor<L> for Uncached {
 }
 
 /// Executes a flush. That of a page is of the one that starts at the address.
-fn execute<L: LevelCount, C: Processor<L>>(
+fn execute<L: LevelCount, C: Processor>(
     processor: &mut C,
     flush: Flush,
     page: Option<VirtAddrIn<L>>,
@@ -83,7 +81,7 @@ pub fn call_and_flush<
     P5: LevelFiveFlags<L>,
     M: TableAccess + TablesIn<L>,
     F: FrameStore,
-    C: Processor<L>,
+    C: Processor,
 >(mapper: &mut M, frames: &mut F, processor: &mut C, call: CallIn<L, P5>) -> ReplyIn<L>
     requires fits { PoolFits (M.hierarchy mapper.old) (F.serves frames.old) (F.supply frames.old) }
     requires arises { let h = M.hierarchy mapper.old in let pool = F.supply frames.old in
@@ -115,7 +113,7 @@ pub fn calls_and_flushes<
     P5: LevelFiveFlags<L>,
     M: TableAccess + TablesIn<L>,
     F: FrameStore,
-    C: Processor<L>,
+    C: Processor,
 >(mapper: &mut M, frames: &mut F, processor: &mut C, calls: &[CallIn<L, P5>])
     requires fits { PoolFits (M.hierarchy mapper.old) (F.serves frames.old) (F.supply frames.old) }
     requires arises { let h = M.hierarchy mapper.old in let pool = F.supply frames.old in

@@ -1,11 +1,10 @@
 use Rattle.std.proofs.Common.{◌≡◌, true, [], option_map, unwrap_or, sym, subst}
 use Rattle.x86_64_model.specs.Call.{IsCall}
-use Rattle.x86_64_model.specs.Layout.{words}
 use Rattle.x86_64_model.specs.Window.{Window}
 use Rattle.x86_64.specs.Asked.{machine_call}
 use Rattle.x86_64.specs.Calls.{asks, page_start}
 use Rattle.x86_64.specs.FlushesDue.{TellsFlush, executed}
-use Rattle.x86_64.specs.Processors.{Arises, CachesOften, LeftBy}
+use Rattle.x86_64.specs.Processors.{Arises, LeftBy}
 use Rattle.x86_64.proofs.AskedCalls.{is_call}
 use Rattle.x86_64.proofs.CallsFlushed.{arises_by_flushed_calls}
 use Rattle.x86_64.proofs.Processors.{flushed_accesses_go}
@@ -34,8 +33,8 @@ returns-clause-arises g c =
     c.requires.fits ran.step ran.free ran.keeps.keeps.fits
     flush (subst (λ L. TellsFlush L call c.run_call-reply.result (option_map (λ (w : Window). w.index) l.window) true flush) (sym levels) (rw (c.recursive_index.ensures, ran.keeps.layout) at c.flush_after-flush.ensures))
     before first second after c.requires.arises
-    (subst (λ L. CachesOften L l.root (words l m) before first) (sym levels) c.cache.ensures)
-    (subst (λ L. CachesOften L l.root (words l n) first second) (sym levels) (rw ran.keeps.layout at c.cache-2.ensures))
+    c.cache.ensures
+    (rw ran.keeps.layout at c.cache-2.ensures)
     (subst (λ L. LeftBy L (executed flush (unwrap_or (page_start L call) 0)) second after) (sym levels) (rw c.page_start.ensures at c.execute.ensures)) in
     rw (ran.keeps.layout, ran.serves) arises
 

@@ -1,9 +1,8 @@
-use Rattle.std.proofs.Common.{◌≡◌, [], ◌∙◌, arith, sym, subst}
-use Rattle.x86_64_model.specs.Layout.{Layout}
+use Rattle.std.proofs.Common.{◌∙◌, arith}
 use Rattle.x86_64_model.specs.Machine.{Machine, State, state_after}
 use Rattle.x86_64.specs.Asked.{calls_by}
 use Rattle.x86_64.specs.Calls.{asks}
-use Rattle.x86_64.specs.Runs.{FitsPool, machine_of, state_in}
+use Rattle.x86_64.specs.Runs.{machine_of, state_in}
 use Rattle.x86_64.proofs.Processors.{flushed_accesses_go}
 use Rattle.x86_64.proofs.Rounds.{rest_next, rest_last, step_at}
 use Rattle.uses.proofs.flush_after_calls.calls_and_flushes.Goals as goal
