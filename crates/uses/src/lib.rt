@@ -3,6 +3,7 @@
 
 pub mod after_level_4_table_mut;
 pub mod first;
+pub mod flush_after_calls;
 pub mod list_mappings;
 pub mod load_segments;
 pub mod own_allocator;
