@@ -43,7 +43,7 @@ built_at() {
 # Prints the command that proves and builds a product.
 build_command() {
     if is_library "$1"; then
-        echo "tools/build_program $1"
+        echo "tools/c_library --build"
     else
         echo "./$1 --build"
     fi
@@ -78,41 +78,37 @@ sum_of_file() {
     sha256sum <"$1" | cut -d' ' -f1
 }
 
-# Prints the sum of a crate's sources: of the sums of its files in src/, specs/ and proofs/, by path, and of its line in crates.txt.
-sum_of_crate() {
+# Prints the sum of a product's sources: of the sums of all files of its crates in src/, specs/ and proofs/, by path, and of the lines of
+# crates.txt on these crates.
+sum_of_sources() {
+    local crates
+    mapfile -t crates < <(crates_of "$1")
     {
-        (cd "$top/crates/$1" && find src specs proofs -type f \( -name '*.rt' -o -name '*.antt' \) -print0 2>/dev/null |
-            LC_ALL=C sort -z | xargs -0 sha256sum)
-        grep "^$1[ :]" "$top/crates.txt"
+        (cd "$top/crates" && find "${crates[@]/%//src}" "${crates[@]/%//specs}" "${crates[@]/%//proofs}" \
+            -type f \( -name '*.rt' -o -name '*.antt' \) -print0 2>/dev/null | LC_ALL=C sort -z | xargs -0 sha256sum)
+        grep -E "^($(IFS='|' && echo "${crates[*]}"))[ :]" "$top/crates.txt"
     } | sha256sum | cut -d' ' -f1
 }
 
-# Prints the kit that made the release.
-released_kit() {
-    sed -n 's/^kit //p' "$manifest"
+# Prints what MANIFEST says of a product: the sum of its file, unpacked, or that of its sources.
+manifest_says() {
+    local what=$1 product=$2
+    sed -n "s/^$what $(file_of "$product") //p" "$manifest"
 }
 
-# Prints the sum of a product in the release, unpacked.
-released_sum() {
-    sed -n "s/^product $(file_of "$1") //p" "$manifest"
-}
-
-# Lists the crates of a product whose sources aren't those that the release was made of.
-changed_crates() {
-    local crate
-    for crate in $(crates_of "$1"); do
-        grep -qxF "crate $crate $(sum_of_crate "$crate")" "$manifest" || echo "$crate"
-    done
+# Returns whether the release of a product was made of other sources.
+is_release_older() {
+    [ "$(sum_of_sources "$1")" != "$(manifest_says sources "$1")" ]
 }
 
 # Unpacks a product of the release into a file, and returns whether its sum is right.
 unpack() {
-    xz -dc "$release/$(file_of "$1").xz" >"$2" 2>/dev/null && [ "$(sum_of_file "$2")" = "$(released_sum "$1")" ]
+    xz -dc "$release/$(file_of "$1").xz" >"$2" 2>/dev/null && [ "$(sum_of_file "$2")" = "$(manifest_says sum "$1")" ]
 }
 
 # Unpacks a product of the release into out/, unless it is there. If it can't be used, `lack` says why.
 use_release() {
-    local product=$1 to changed new
+    local product=$1 to new
     to=$top/out/$(file_of "$product")
     lack=
     if [ ! -f "$manifest" ]; then
@@ -121,12 +117,11 @@ use_release() {
         lack="its release is for Linux on x86-64"
     fi
     [ -z "$lack" ] || return 1
-    if is_current "$product" "$to" && [ "$to" -nt "$manifest" ] && [ "$(sum_of_file "$to")" = "$(released_sum "$product")" ]; then
-        return
+    if is_current "$product" "$to" && [ "$to" -nt "$manifest" ] && [ "$(sum_of_file "$to")" = "$(manifest_says sum "$product")" ]; then
+        return 0
     fi
-    changed=$(changed_crates "$product" | paste -sd' ')
-    if [ -n "$changed" ]; then
-        lack="its release is older than the sources of $changed"
+    if is_release_older "$product"; then
+        lack="its release is older than its sources"
     elif ! command -v xz >/dev/null; then
         lack="its release can't be unpacked without xz, which isn't installed"
     fi
@@ -140,7 +135,7 @@ use_release() {
         lack="release/$(file_of "$product").xz is damaged (git checkout release restores it)"
         return 1
     fi
-    chmod 755 "$new"
+    chmod "$(is_library "$product" && echo 644 || echo 755)" "$new"
     mv "$new" "$to"
 }
 
