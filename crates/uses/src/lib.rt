@@ -6,6 +6,7 @@ pub mod first;
 pub mod flush_after_calls;
 pub mod list_mappings;
 pub mod load_segments;
+pub mod map_buffer;
 pub mod own_allocator;
 pub mod own_memory;
 pub mod porting;
