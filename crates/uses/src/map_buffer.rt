@@ -1,5 +1,5 @@
 //! Maps a range of pages.
-ghost use Rattle.std.specs.Prelude.{◌≡◌, ◌×◌, ◌↔◌, true, IfErr, IfOk, IsTrue};
+ghost use Rattle.std.specs.Prelude.{◌≡◌, ◌↔◌, true, IfErr, IfOk, IsTrue};
 ghost use Rattle.x86_64_mappers.specs.Ranges.{MapsAll, MayMapRange, StopsAt, range_of};
 ghost use Rattle.x86_64_model.specs.Entry.{present};
 ghost use Rattle.x86_64_model.specs.MapRule.{parent_part};
@@ -10,6 +10,7 @@ ghost use Rattle.x86_64_tables.specs.PageTableFlags.{bits_of};
 use x86_64::structures::paging::mapper::MapToError;
 use x86_64::structures::paging::{Mapper, Page, PageTableFlags, PhysFrame, Size4KiB};
 use x86_64::{FramePool, parent_flags};
+use x86_64_mappers::calls::MapRangeErrorIn;
 
 /// How far a map of a buffer came, and why it stopped.
 #[derive(Clone, Copy)]
@@ -54,8 +55,9 @@ pub fn map_buffer<M: Mapper<Size4KiB>>(
             Ok(true)
         }
         Err(error) => {
-            let (mapped, why) = (error.mapped.count(), error.why);
-            error.mapped.ignore();
+            let MapRangeErrorIn { mapped: flush, why } = error;
+            let mapped = flush.count();
+            flush.ignore();
             Err(Stopped { mapped, why })
         }
     }
