@@ -8,6 +8,7 @@ pub mod load_segments;
 pub mod own_allocator;
 pub mod own_memory;
 pub mod porting;
+pub mod processes;
 pub mod run_in_space;
 pub mod run_list;
 pub mod translate_in_dump;
