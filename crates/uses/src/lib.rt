@@ -10,6 +10,7 @@ pub mod map_buffer;
 pub mod own_allocator;
 pub mod own_memory;
 pub mod porting;
+pub mod processes;
 pub mod run_in_space;
 pub mod run_list;
 pub mod translate_in_dump;
