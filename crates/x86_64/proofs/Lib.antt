@@ -16,3 +16,4 @@ pub mod EmptyRoots
 pub mod CleanUpSteps
 pub mod Named
 pub mod Pairs
+pub mod RangeFlushes

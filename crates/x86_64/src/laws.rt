@@ -3,6 +3,7 @@
 ghost use Rattle.x86_64.specs.CallEvents.{RunCallsAreEvents};
 ghost use Rattle.x86_64.specs.EveryWord.{EveryWordIsDecided};
 ghost use Rattle.x86_64.specs.PlacesStay.{PlacesStay, OffsetsFitStill};
+ghost use Rattle.x86_64.specs.RangeFlushes.{RangeFlushesSuffice};
 ghost use Rattle.x86_64.specs.SecondHierarchies.{EmptyRootsAreSecond, SecondHierarchiesStay, SomeShare};
 ghost use Rattle.x86_64.specs.ToldReplies.{RepliesTell};
 
@@ -45,4 +46,11 @@ pub fn every_word_is_decided()
 /// kernel that flushes and a processor that caches, so that the laws of caches of `x86_64_model` apply.
 pub fn run_calls_are_events()
     ensures { RunCallsAreEvents }
+{}
+
+/// The flush of the token that a range's unmap or change of flags returns suffices: if none of its items
+/// covers a position (the number of an address counted without the gap), and the page walk arrived there before, it
+/// still arrives at the same address, with no right lost.
+pub fn flushes_of_ranges_suffice()
+    ensures { RangeFlushesSuffice }
 {}
