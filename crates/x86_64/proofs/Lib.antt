@@ -19,3 +19,4 @@ pub mod EmptyRoots
 pub mod CleanUpSteps
 pub mod Named
 pub mod Pairs
+pub mod RangeFlushes

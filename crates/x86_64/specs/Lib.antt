@@ -6,6 +6,7 @@ pub mod Runs
 pub mod EveryWord
 pub mod Pairs
 pub mod Flushes
+pub mod RangeFlushes
 pub mod ToldReplies
 pub mod EmptyRoots
 pub mod PlacesStay

@@ -6,6 +6,7 @@ ghost use Rattle.x86_64.specs.EveryWord.{EveryWordIsDecided};
 ghost use Rattle.x86_64.specs.FlushesDue.{FlushesSettle, FlushesAreLeast};
 ghost use Rattle.x86_64.specs.PlacesStay.{PlacesStay, OffsetsFitStill};
 ghost use Rattle.x86_64.specs.Processors.{ArisesFirst, ArisesByCaching, ArisesByCalls, ArisesByFlushes, ArisesByFlushedCalls, FlushedAccessesGo};
+ghost use Rattle.x86_64.specs.RangeFlushes.{RangeFlushesSuffice};
 ghost use Rattle.x86_64.specs.SeveralProcessors.{EachIsFlushed, AllSeeTheSame};
 ghost use Rattle.x86_64.specs.ToldReplies.{RepliesTell};
 
@@ -67,4 +68,11 @@ pub fn flushed_calls_leave_no_stale_item()
 pub fn several_processors_are_flushed_each()
     ensures each { EachIsFlushed }
     ensures same { AllSeeTheSame }
+{}
+
+/// The flush of the token that a range's unmap or change of flags returns suffices: if none of its items
+/// covers a position (the number of an address counted without the gap), and the page walk arrived there before, it
+/// still arrives at the same address, with no right lost.
+pub fn flushes_of_ranges_suffice()
+    ensures { RangeFlushesSuffice }
 {}
