@@ -14,6 +14,7 @@ pub mod CallEvents
 pub mod FlushesTold
 pub mod CallsFlushed
 pub mod Processors
+pub mod OneEntry
 pub mod SeveralProcessors
 pub mod Offsets
 pub mod Beside
