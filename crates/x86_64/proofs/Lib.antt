@@ -13,6 +13,7 @@ pub mod CallEvents
 pub mod FlushesTold
 pub mod CallsFlushed
 pub mod Processors
+pub mod OneEntry
 pub mod SeveralProcessors
 pub mod Offsets
 pub mod EmptyRoots

@@ -13,6 +13,7 @@ pub mod PlacesStay
 pub mod CallEvents
 pub mod FlushesDue
 pub mod Processors
+pub mod OneEntry
 pub mod SeveralProcessors
 pub mod private
 pub use Rattle.x86_64_model.specs.Machine
