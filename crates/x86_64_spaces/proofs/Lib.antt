@@ -7,3 +7,4 @@ pub mod FitsRoom
 pub mod Stored
 pub mod NewRoot
 pub mod Cleared
+pub mod SpacesStay

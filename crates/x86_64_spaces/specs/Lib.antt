@@ -1,5 +1,6 @@
 pub mod SpaceLayouts
 pub mod Room
+pub mod SpaceLaws
 pub mod private
 pub use Rattle.x86_64_model.specs.Spaces
 pub use Rattle.x86_64_model.specs.FitsPool

@@ -123,8 +123,9 @@ impl<'a, T: TableMemory, P: PageTableFrameMapping> SpacesTest<'a, T, P> {
         requires levels { 1 < self.now.levels }
         requires clear { marks.old ≡ replicate (length (map.keys (T.tables self.now.memory.now))) false }
         requires first { In spaces.now first.now }
-        ensures { let test = self.now in let words = words_of (T.tables test.memory.now) (P.places test.mapping.now) in
-            let shared = indices_of test.shared in let n = test.levels - 1 in let serves = serves_below test.limit in
+        ensures { let test = self.now in let serves = serves_below test.limit in
+            let words = words_of (T.tables test.memory.now) (P.places test.mapping.now) in
+            let shared = indices_of test.shared in let n = test.levels - 1 in
             IsTrue result ↔ SoundSpaces shared n words first.now spaces.now serves pool.now.frames }
     {
         if !self.mark_spaces(first, spaces, marks) {
@@ -146,8 +147,9 @@ impl<'a, T: TableMemory, P: PageTableFrameMapping> SpacesTest<'a, T, P> {
         requires levels { 1 < self.now.levels }
         requires clear { marks.old ≡ replicate (length (map.keys (T.tables self.now.memory.now))) false }
         requires first { In spaces.now first.now }
-        ensures { let test = self.now in let words = words_of (T.tables test.memory.now) (P.places test.mapping.now) in
-            let shared = indices_of test.shared in let n = test.levels - 1 in let serves = serves_below test.limit in
+        ensures { let test = self.now in let serves = serves_below test.limit in
+            let words = words_of (T.tables test.memory.now) (P.places test.mapping.now) in
+            let shared = indices_of test.shared in let n = test.levels - 1 in
             let tables = space_tables shared n words first.now spaces.now in
             IsTrue result ↔ (SoundSpaces shared n words first.now spaces.now serves frames.now
             × (length tables + length frames.now ≤ capacity)) }
@@ -167,12 +169,15 @@ impl<'a, T: TableMemory, P: PageTableFrameMapping> SpacesTest<'a, T, P> {
         requires levels { 1 < self.now.levels }
         requires clear { marks.old ≡ replicate (length (map.keys (T.tables self.now.memory.now))) false }
         requires first { In spaces.now first.now }
-        ensures tells { let test = self.now in let words = words_of (T.tables test.memory.now) (P.places test.mapping.now) in
-            let shared = indices_of test.shared in let serves = serves_below test.limit in
-            IsTrue result ↔ SoundSpaces shared (test.levels - 1) words first.now spaces.now serves [] }
-        ensures marks { let test = self.now in let m = T.tables test.memory.now in let places = P.places test.mapping.now in
-            let tables = space_tables (indices_of test.shared) (test.levels - 1) (words_of m places) first.now spaces.now in
-            IsTrue result → mark_all (spot_of m places) marks.old tables ≡ Some marks.new }
+        ensures tells { let test = self.now in let serves = serves_below test.limit in
+            let words = words_of (T.tables test.memory.now) (P.places test.mapping.now) in
+            let shared = indices_of test.shared in let n = test.levels - 1 in
+            IsTrue result ↔ SoundSpaces shared n words first.now spaces.now serves [] }
+        ensures marks { let test = self.now in
+            let m = T.tables test.memory.now in let places = P.places test.mapping.now in
+            let shared = indices_of test.shared in let n = test.levels - 1 in
+            IsTrue result → mark_all (spot_of m places) marks.old
+            (space_tables shared n (words_of m places) first.now spaces.now) ≡ Some marks.new }
     {
         if !self.mark_parts(first, true, marks) {
             return false;
@@ -235,7 +240,8 @@ impl<'a, T: TableMemory, P: PageTableFrameMapping> SpacesTest<'a, T, P> {
     fn mark_own(&self, space: &Space, marks: &mut [bool]) -> bool
         requires levels { 0 < self.now.levels }
         requires length { length marks.old ≡ length (map.keys (T.tables self.now.memory.now)) }
-        ensures { let test = self.now in let m = T.tables test.memory.now in let places = P.places test.mapping.now in
+        ensures { let test = self.now in
+            let m = T.tables test.memory.now in let places = P.places test.mapping.now in
             let slot = mark_slot m places space.now.root test.limit in
             (if result then Some marks.new else None) ≡ mark_all slot marks.old
             (own_tables (indices_of test.shared) (test.levels - 1) (words_of m places) space.now) }
@@ -251,7 +257,8 @@ impl<'a, T: TableMemory, P: PageTableFrameMapping> SpacesTest<'a, T, P> {
     fn mark_parts(&self, space: &Space, is_shared: bool, marks: &mut [bool]) -> bool
         requires levels { 0 < self.now.levels }
         requires length { length marks.old ≡ length (map.keys (T.tables self.now.memory.now)) }
-        ensures { let test = self.now in let m = T.tables test.memory.now in let places = P.places test.mapping.now in
+        ensures { let test = self.now in
+            let m = T.tables test.memory.now in let places = P.places test.mapping.now in
             let test_of = chosen (indices_of test.shared) is_shared in
             let view = seen_by (words_of m places) space.now in
             let slot = mark_slot m places space.now.root test.limit in

@@ -46,17 +46,22 @@ pub fn give_up_space<L: LevelCount, T: TableMemory, P: PageTableFrameMapping, F:
     shared: SharedIndices,
     store: &mut F,
 ) -> Result<(), GiveUpError>
-    requires fits { let m = T.tables memory.old in let gone = layout_of L.LEVELS (P.places mapping.now) m space.now in
+    requires fits { let m = T.tables memory.old in
+        let gone = layout_of L.LEVELS (P.places mapping.now) m space.now in
         FitsPool gone m (F.serves store.old) (F.supply store.old) }
     requires served { F.serves store.old space.now.root ≡ true }
-    ensures entry_used { let m = T.tables memory.old in let gone = layout_of L.LEVELS (P.places mapping.now) m space.now in
+    ensures entry_used { let m = T.tables memory.old in
+        let gone = layout_of L.LEVELS (P.places mapping.now) m space.now in
         (result ≡ Err GiveUpError.EntryUsed) ↔ (¬ HasSharedAlone (indices_of shared) gone m) }
-    ensures frame_zero { let m = T.tables memory.old in let gone = layout_of L.LEVELS (P.places mapping.now) m space.now in
-        (result ≡ Err GiveUpError.FrameZero) ↔ (HasSharedAlone (indices_of shared) gone m × (space.now.root ≡ 0)) }
+    ensures frame_zero { let m = T.tables memory.old in
+        let gone = layout_of L.LEVELS (P.places mapping.now) m space.now in
+        (result ≡ Err GiveUpError.FrameZero)
+        ↔ (HasSharedAlone (indices_of shared) gone m × (space.now.root ≡ 0)) }
     ensures refused { OnErr result ((T.tables memory.new ≡ T.tables memory.old)
         × (F.supply store.new ≡ F.supply store.old)) }
     ensures given_back { OnOk result (F.supply store.new ≡ F.take_back (F.supply store.old) space.now.root) }
-    ensures cleared { let places = P.places mapping.now in let n = T.tables memory.new in let root = space.now.root in
+    ensures cleared { let places = P.places mapping.now in
+        let n = T.tables memory.new in let root = space.now.root in
         OnOk result ((words_of n places root ≡ Some zero_words)
         × KeepsOthers places (λ f. f ≡ root) (T.tables memory.old) n) }
     ensures spaces { let m = T.tables memory.old in let n = T.tables memory.new in

@@ -4,6 +4,7 @@
 
 mod fitting;
 mod giving_up;
+pub mod laws;
 mod making;
 mod space;
 mod words;

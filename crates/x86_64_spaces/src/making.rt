@@ -34,8 +34,8 @@ use x86_64_tables::phys_memory::{FramePlace, PageTableFrameMapping, TableMemory}
 /// The hierarchies have four or five levels. With any number of address spaces, of which the template is one, the new one is an
 /// address space too.
 ///
-/// Requires that the template is a valid hierarchy and that the store's frames fit it, as in [`spaces_fit`](crate::spaces_fit). If the
-/// recursive index is shared, the template's entry there has to be unused or its own self-entry.
+/// Requires that the template is a valid hierarchy and the store's frames fit it, as in [`spaces_fit`](crate::spaces_fit), and that
+/// the template's entry at the recursive index is unused or its own self-entry, if this index is shared.
 pub fn new_space<L: LevelCount, T: TableMemory, P: PageTableFrameMapping, F: FrameStore>(
     memory: &mut T,
     mapping: &P,
@@ -44,7 +44,8 @@ pub fn new_space<L: LevelCount, T: TableMemory, P: PageTableFrameMapping, F: Fra
     recursive: Option<PageTableIndex>,
     store: &mut F,
 ) -> Option<PhysFrame<Size4KiB>>
-    requires fits { let m = T.tables memory.old in let one = layout_of L.LEVELS (P.places mapping.now) m template.now in
+    requires fits { let m = T.tables memory.old in
+        let one = layout_of L.LEVELS (P.places mapping.now) m template.now in
         FitsPool one m (F.serves store.old) (F.supply store.old) }
     requires index_unused { let m = T.tables memory.old in
         let one = layout_of L.LEVELS (P.places mapping.now) m template.now in
@@ -52,16 +53,18 @@ pub fn new_space<L: LevelCount, T: TableMemory, P: PageTableFrameMapping, F: Fra
     ensures root { result ≡ slice_get (F.supply store.old) 0 }
     ensures rest { F.supply store.new ≡ drop 1 (F.supply store.old) }
     ensures none { IfNone result (T.tables memory.new ≡ T.tables memory.old) }
-    ensures made { let m = T.tables memory.old in let n = T.tables memory.new in let places = P.places mapping.now in
-        IfSome result (λ root. IsNewRoot (indices_of shared) (layout_of L.LEVELS places m template.now) m n
-        (layout_of L.LEVELS places n (record { root = root; recursive = recursive }))) }
+    ensures made { let m = T.tables memory.old in let n = T.tables memory.new in
+        let layout = layout_of L.LEVELS (P.places mapping.now) in let one = layout m template.now in
+        IfSome result (λ root. let new = layout n (record { root = root; recursive = recursive }) in
+        IsNewRoot (indices_of shared) one m n new) }
     ensures self_entry { let words = words_of (T.tables memory.new) (P.places mapping.now) in
         IfSome result (λ root. (r : ℕ) → recursive ≡ Some r → word words root r ≡ bit_or root 3) }
-    ensures spaces { let m = T.tables memory.old in let n = T.tables memory.new in let places = P.places mapping.now in
+    ensures spaces { let m = T.tables memory.old in let n = T.tables memory.new in
+        let layout = layout_of L.LEVELS (P.places mapping.now) in let one = layout m template.now in
         let shared = indices_of shared in let serves = F.serves store.old in
-        IfSome result (λ root. (spaces : List Layout) → In spaces (layout_of L.LEVELS places m template.now)
-        → AreSpaces shared m serves (F.supply store.old) spaces → AreSpaces shared n serves (F.supply store.new)
-        (layout_of L.LEVELS places n (record { root = root; recursive = recursive }) ∷ spaces)) }
+        IfSome result (λ root. let new = layout n (record { root = root; recursive = recursive }) in
+        (spaces : List Layout) → In spaces one → AreSpaces shared m serves (F.supply store.old) spaces
+        → AreSpaces shared n serves (F.supply store.new) (new ∷ spaces)) }
     ensures lent { T.lent memory.new ≡ T.lent memory.old }
     ensures serves { F.serves store.new ≡ F.serves store.old }
 {
@@ -85,7 +88,8 @@ fn fill_root<T: TableMemory, P: PageTableFrameMapping>(
 )
     requires there { IsSome (map.get (T.tables memory.old) place) }
     requires apart { (P.places mapping.now).place template.now.root ≢ place }
-    ensures written { let m = T.tables memory.old in let view = seen_by (words_of m (P.places mapping.now)) template.now in
+    ensures written { let m = T.tables memory.old in
+        let view = seen_by (words_of m (P.places mapping.now)) template.now in
         HasShared (indices_of shared) (word view template.now.root) m place 512 (T.tables memory.new) }
     ensures lent { T.lent memory.new ≡ T.lent memory.old }
 {
