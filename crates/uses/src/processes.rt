@@ -1,10 +1,12 @@
 //! A kernel with several processes. Each has an address space of its own, whose upper half is the kernel's, and one pool
 //! has the frames for all tables.
-ghost use Rattle.std.specs.Prelude.{◌≡◌, [], true, false, Some, IfNone, IfSome, OnErr, OnOk};
-ghost use Rattle.uses.specs.Processes.{is_kernels, IsEnded, IsServed, IsStarted};
+ghost use Rattle.std.specs.Prelude.{◌≡◌, [], ◌∷◌, ◌++◌, true, false, Some, IfNone, IfSome, OnErr, OnOk};
+ghost use Rattle.uses.specs.Processes.{is_kernels, if_own, lower_clean_up, unmaps, IsEnded, IsServed, IsStarted, IsUsed};
 ghost use Rattle.x86_64_mappers.specs.Layouts.{direct};
+ghost use Rattle.x86_64_model.specs.Call.{MapTo, Unmap};
 ghost use Rattle.x86_64_model.specs.FitsPool.{FitsPool};
 ghost use Rattle.x86_64_model.specs.Memory.{identity_places};
+ghost use Rattle.x86_64_model.specs.Path.{path_at};
 ghost use Rattle.x86_64_model.specs.Pool.{serves_below};
 ghost use Rattle.x86_64_model.specs.Position.{index};
 ghost use Rattle.x86_64_tables.specs.PageTableFlags.{bits_of};
@@ -21,7 +23,9 @@ use x86_64::{
 use x86_64_spaces::{GiveUpError, SharedIndices, Space, give_up_space, new_space};
 
 /// Starts a process: makes an address space for it, with the kernel's half and nothing mapped in its own half. Returns
-/// its root, or `None` if no frame is free.
+/// its root, or `None` if no frame is free. Whatever other processes run, they keep their maps.
+///
+/// Requires that the kernel's hierarchy is valid, and that the pool fits it.
 pub fn start<T: TableMemory>(
     memory: &mut T,
     kernel: PhysFrame<Size4KiB>,
@@ -46,6 +50,9 @@ pub fn start<T: TableMemory>(
 }
 
 /// Maps a page of a process to a frame, and returns the reply, which is `NotAllowed` for a page of the kernel's half.
+/// Whatever other processes run, they keep their maps.
+///
+/// Requires that the hierarchy of the process is valid, and that the pool fits it.
 pub fn map_in<T: TableMemory>(
     memory: &mut T,
     process: PhysFrame<Size4KiB>,
@@ -58,8 +65,9 @@ pub fn map_in<T: TableMemory>(
         FitsPool one (T.tables memory.old) (serves_below pool.old.limit) pool.old.frames }
     ensures served { let one = direct identity_places process in let serves = serves_below pool.old.limit in
         let m = T.tables memory.old in let n = T.tables memory.new in
-        IsServed one serves m pool.old.frames n pool.new.frames }
-    ensures maps { let one = direct identity_places process in
+        let calls = if_own page (MapTo (path_at 4 1 page) frame (bits_of flags)) in
+        IsServed one calls serves m pool.old.frames n pool.new.frames }
+    ensures reply { let one = direct identity_places process in
         let start = state_in one (T.tables memory.old) pool.old.frames in
         let after = state_in one (T.tables memory.new) pool.new.frames in
         is_kernels (index 4 page) ≡ false
@@ -78,6 +86,9 @@ pub fn map_in<T: TableMemory>(
 }
 
 /// Ends a process: unmaps these pages of its half, and returns the frames of its tables and its root to the pool.
+/// Whatever other processes run, they keep their maps. No frame is lost.
+///
+/// Requires that the hierarchy of the process is valid, and that the pool fits it and serves its root.
 ///
 /// # Errors
 ///
@@ -96,7 +107,8 @@ pub fn end<T: TableMemory>(
         OnOk result (IsEnded one serves m pool.old.frames n pool.new.frames) }
     ensures goes_on { let one = direct identity_places process in let serves = serves_below pool.old.limit in
         let m = T.tables memory.old in let n = T.tables memory.new in
-        OnErr result (IsServed one serves m pool.old.frames n pool.new.frames) }
+        let calls = unmaps pages.now ++ lower_clean_up ∷ [] in
+        OnErr result (IsServed one calls serves m pool.old.frames n pool.new.frames × IsUsed one n) }
     ensures lent { T.lent memory.new ≡ T.lent memory.old }
     ensures limit { serves_below pool.new.limit ≡ serves_below pool.old.limit }
 {
@@ -123,7 +135,8 @@ fn unmap_in<T: TableMemory>(
         FitsPool one (T.tables memory.old) (serves_below pool.old.limit) pool.old.frames }
     ensures served { let one = direct identity_places process in let serves = serves_below pool.old.limit in
         let m = T.tables memory.old in let n = T.tables memory.new in
-        IsServed one serves m pool.old.frames n pool.new.frames }
+        let calls = if_own page (Unmap (path_at 4 1 page)) in
+        IsServed one calls serves m pool.old.frames n pool.new.frames }
     ensures lent { T.lent memory.new ≡ T.lent memory.old }
     ensures limit { serves_below pool.new.limit ≡ serves_below pool.old.limit }
 {
@@ -139,7 +152,7 @@ fn free_tables<T: TableMemory>(memory: &mut T, process: PhysFrame<Size4KiB>, poo
         FitsPool one (T.tables memory.old) (serves_below pool.old.limit) pool.old.frames }
     ensures served { let one = direct identity_places process in let serves = serves_below pool.old.limit in
         let m = T.tables memory.old in let n = T.tables memory.new in
-        IsServed one serves m pool.old.frames n pool.new.frames }
+        IsServed one (lower_clean_up ∷ []) serves m pool.old.frames n pool.new.frames }
     ensures lent { T.lent memory.new ≡ T.lent memory.old }
     ensures limit { serves_below pool.new.limit ≡ serves_below pool.old.limit }
 {
