@@ -121,7 +121,7 @@ use_release() {
         return 0
     fi
     if is_release_older "$product"; then
-        lack="its release is older than its sources"
+        lack="its release was made of other sources"
     elif ! command -v xz >/dev/null; then
         lack="its release can't be unpacked without xz, which isn't installed"
     fi
