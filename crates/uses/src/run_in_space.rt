@@ -49,7 +49,8 @@ pub fn run_on<
         let pool = F.supply frames.old in let rest = F.supply frames.new in
         let before = replies.old.items in let now = replies.new.items in
         OnOk result (Ran (asks P5.bits) F.take_back h pool calls.now before now after rest) }
-    ensures unchanged { OnErr result ((T.tables memory.new ≡ T.tables memory.old) × (frames.new ≡ frames.old)) }
+    ensures unchanged { let m = T.tables memory.old in
+        OnErr result ((T.tables memory.new ≡ m) × (frames.new ≡ frames.old)) }
     ensures keeps { let one = direct_at L.LEVELS (P.places mapping) root in
         let m = T.tables memory.old in let n = T.tables memory.new in
         KeepsPool one (F.serves frames.old) m (F.supply frames.old) n (F.supply frames.new) }

@@ -84,7 +84,7 @@ module _ (L : ℕ) (window : Option Window) (r : machine.Reply) where
   cleaned q (inl e) = cc
   cleaned q (inr i) = none_in_window false window q i
 
-  pub in_pages : (call : MapperCall) → InPages L (flush_after L window (machine_call L call) r) (unwrap_or (page_start L call) 0)
+  in_pages : (call : MapperCall) → InPages L (flush_after L window (machine_call L call) r) (unwrap_or (page_start L call) 0)
   in_pages (Of4KiB call) q i = in_page 1 call q i
   in_pages (Of2MiB call) q i = in_page 2 call q i
   in_pages (Of1GiB call) q i = in_page 3 call q i
@@ -93,6 +93,10 @@ module _ (L : ℕ) (window : Option Window) (r : machine.Reply) where
   in_pages CleanUp q i = absurd (cleaned q i)
   in_pages (CleanUpRange low high) q i = absurd (cleaned q i)
 
+  some_in_pages : (loses : Bool) (call : MapperCall) → InPages L (cond loses (flush_after L window (machine_call L call) r) []) (unwrap_or (page_start L call) 0)
+  some_in_pages true call q i = in_pages call q i
+  some_in_pages false call q i = absurd i
+
 -- ---- a call with its flush
 
 none_left : (P : Due → Bool) (due : List Due) → ((d : Due) → In due d → P d ≡ true) → filter (λ d. not (P d)) due ≡ []
@@ -100,15 +104,15 @@ none_left P [] each = refl
 none_left P (d ∷ due) each = ap (λ b. cond (not b) (d ∷ filter (λ d. not (P d)) due) (filter (λ d. not (P d)) due)) (each d (inl refl)) ∙ none_left P due (λ d i. each d (inr i))
 
 pub arises_by_flushed_calls : ArisesByFlushedCalls
-arises_by_flushed_calls l take_back serves m n pool rest call reply is fits stepped free kept flush tells before first second after arises early late left =
+arises_by_flushed_calls l take_back serves m n pool rest call reply loses is fits stepped free kept kept_all flush tells before first second after arises early late left =
     let asked = machine_call l.levels call in
     let r = (step (machine_of l take_back) (state_in l m pool) asked).reply in
-    let due = flush_after l.levels l.window asked r in
+    let due = cond loses (flush_after l.levels l.window asked r) [] in
     let p = unwrap_or (page_start l.levels call) 0 in
     let ready = arises_by_caching l take_back serves m pool [] before first arises early in
     let called : Arises l take_back serves n rest first (due ++ []) =
-    arises_by_calls l take_back serves m n pool rest first [] asked ready is (λ i. absurd i) fits (ap (λ (a : AfterStep Reply). a.state) stepped) free kept in
+    arises_by_calls l take_back serves m n pool rest first [] asked loses ready is (λ i. absurd i) kept_all fits (ap (λ (a : AfterStep Reply). a.state) stepped) free kept in
     let waiting = arises_by_caching l take_back serves n rest due first second (subst (λ due. Arises l take_back serves n rest first due) (append-nil due) called) late in
     let is_told : flush ≡ told due = tells l.window r refl (ap (λ (a : AfterStep Reply). a.reply) stepped) in
-    subst (λ due. Arises l take_back serves n rest after due) (none_left (settles l.levels (executed (told due) p)) due ((flushes_settle l.levels due p).settled (in_pages l.levels l.window r call)))
+    subst (λ due. Arises l take_back serves n rest after due) (none_left (settles l.levels (executed (told due) p)) due ((flushes_settle l.levels due p).settled (some_in_pages l.levels l.window r loses call)))
     (arises_by_flushes l take_back serves n rest due (executed (told due) p) second after waiting (rw is_told at left))

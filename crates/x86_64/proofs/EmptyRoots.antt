@@ -51,17 +51,18 @@ empty_roots_share_nothing first m pool root some there zeros free = record {
 
 -- ---- beside address spaces that share nothing
 
+-- address spaces have one mapping and number of levels
+pub alike : (shared : ℕ → Bool) (spaces : List Layout) (serves : ℕ → Bool) (m : Memory) (pool : List ℕ) → AreSpaces shared m serves pool spaces → (a b : Layout) → In spaces a → In spaces b → (b.places ≡ a.places) × (b.levels ≡ a.levels)
+alike shared spaces serves m pool are a b i j = ⊎_elim
+    (λ e. let same = are.own_roots b a j i e in (ap (λ (l : Layout). l.places) same, ap (λ (l : Layout). l.levels) same))
+    (λ apart. let s = are.share a b i j (λ e. apart (sym e)) in (s.places, s.levels))
+    (cases_eq b.root a.root)
+
 module _ (spaces : List Layout) (first : Layout) (member : In spaces first) (some : 0 < first.levels) (serves : ℕ → Bool) (m : Memory) (pool : List ℕ)
     (are : AreSpaces (λ i. false) m serves pool spaces) (root : ℕ) (there : HasRoot first.places root m) (zeros : (i : ℕ) → word (words first m) root i ≡ 0)
     (free : (a : Layout) → In spaces a → Owns a m pool root → ⊥) where
   abbrev new : Layout
   new = direct_at first.levels first.places root
-
-  alike : (a : Layout) → In spaces a → (a.places ≡ first.places) × (a.levels ≡ first.levels)
-  alike a i = ⊎_elim
-      (λ e. let same = are.own_roots a first i member e in (ap (λ (l : Layout). l.places) same, ap (λ (l : Layout). l.levels) same))
-      (λ apart. let s = are.share first a member i (λ e. apart (sym e)) in (s.places, s.levels))
-      (cases_eq a.root first.root)
 
   is_root : (f : ℕ) → IsTable first.levels root (paths new m) f → root ≡ f
   is_root = only_root first.levels some first.places root m there zeros
@@ -81,8 +82,8 @@ module _ (spaces : List Layout) (first : Layout) (member : In spaces first) (som
 
   new_shares : (a : Layout) → In spaces a → Shares (λ i. false) a m pool new
   new_shares a i = record {
-    places = sym (alike a i).0;
-    levels = sym (alike a i).1;
+    places = sym (alike (λ i. false) spaces serves m pool are first a member i).0;
+    levels = sym (alike (λ i. false) spaces serves m pool are first a member i).1;
     valid = new_fits.valid;
     root_entries = λ k s. cc;
     apart = λ q f s leads own. free a i (subst (Owns a m pool) (sym (is_root f (q, leads))) own);
@@ -90,8 +91,8 @@ module _ (spaces : List Layout) (first : Layout) (member : In spaces first) (som
 
   shares_new : (a : Layout) → In spaces a → Shares (λ i. false) new m pool a
   shares_new a i = record {
-    places = (alike a i).0;
-    levels = (alike a i).1;
+    places = (alike (λ i. false) spaces serves m pool are first a member i).0;
+    levels = (alike (λ i. false) spaces serves m pool are first a member i).1;
     valid = (are.fits a i).valid;
     root_entries = λ k s. cc;
     apart = λ q f s leads. ⊎_elim

@@ -13,9 +13,11 @@ pub mod CallEvents
 pub mod FlushesTold
 pub mod CallsFlushed
 pub mod Processors
+pub mod OneEntry
 pub mod SeveralProcessors
 pub mod Offsets
 pub mod EmptyRoots
 pub mod CleanUpSteps
 pub mod Named
 pub mod Pairs
+pub mod RangeFlushes

@@ -1,5 +1,5 @@
 -- The caches of a processor arise by calls, flushes and changes, and accesses go with the page walk if nothing is due.
-use Rattle.std.proofs.Common.{◌≡◌, ℕ, Bool, true, List, [], ◌∷◌, ◌++◌, not, filter, Option, Some, None, refl, sym, ap, ◌∙◌, subst}
+use Rattle.std.proofs.Common.{◌≡◌, ℕ, Bool, List, [], ◌∷◌, ◌++◌, not, filter, Option, Some, None, refl, sym, ap, ◌∙◌, subst, false, cond}
 use Rattle.x86_64_model.specs.Caches.{Cached}
 use Rattle.x86_64_model.specs.Call.{Call, IsCall, parent_flags_of}
 use Rattle.x86_64_model.specs.Flushing as kernel
@@ -16,7 +16,7 @@ use Rattle.x86_64_model.proofs.Lemmas.Caches.Runs.{flushes_are_enough}
 use Rattle.x86_64_model.proofs.Lemmas.Caches.Whole.{calls_may_happen}
 use Rattle.x86_64.specs.FlushesDue.{settles}
 use Rattle.x86_64.specs.FreeFrames.{KeepsFree, back_by}
-use Rattle.x86_64.specs.Processors.{system_in, Arises, LeftBy, ArisesFirst, ArisesByCaching, ArisesByCalls, ArisesByFlushes, FlushedAccessesGo}
+use Rattle.x86_64.specs.Processors.{system_in, Arises, LeftBy, NoneLoses, ArisesFirst, ArisesByCaching, ArisesByCalls, ArisesByFlushes, FlushedAccessesGo}
 use Rattle.x86_64.proofs.CallEvents.{run_calls_are_events}
 
 -- ---- one more event
@@ -76,19 +76,19 @@ module _ (l : Layout) (take_back : List ℕ → ℕ → List ℕ) (serves : ℕ 
 
   -- ---- a call
 
-  called : (m n : Memory) (pool rest : List ℕ) (cached : List Cached) (due : List Due) (call : Call) → As (system_in l m pool cached due) → IsCall l.levels call
-      → (In due TablesDue → parent_flags_of call ≡ None) → FitsPool l m serves pool
+  called : (m n : Memory) (pool rest : List ℕ) (cached : List Cached) (due : List Due) (call : Call) (loses : Bool) → As (system_in l m pool cached due) → IsCall l.levels call
+      → (In due TablesDue → parent_flags_of call ≡ None) → (loses ≡ false → NoneLoses machine (state_in l m pool) call) → FitsPool l m serves pool
       → (step machine (state_in l m pool) call).state ≡ state_in l n rest → KeepsFree l m pool (back_by machine (state_in l m pool) call) n rest → FitsPool l n serves rest
-      → As (system_in l n rest cached (flush_after l.levels l.window call (step machine (state_in l m pool) call).reply ++ due))
-  called m n pool rest cached due call a is waits fits steps free kept =
+      → As (system_in l n rest cached (cond loses (flush_after l.levels l.window call (step machine (state_in l m pool) call).reply) [] ++ due))
+  called m n pool rest cached due call loses a is waits kept_all fits steps free kept =
       let now = system_in l m pool cached due in
-      let makes : MayMake machine now call true = record { done = refl; is_call = is; kept = λ no. cc; waits = waits } in
-      let made = one_more machine l.root serves now a (Makes call true) makes in
+      let makes : MayMake machine now call loses = record { done = refl; is_call = is; kept = kept_all; waits = waits } in
+      let made = one_more machine l.root serves now a (Makes call loses) makes in
       let after = step machine (state_in l m pool) call in
       let next = run_calls_are_events l take_back serves m n pool rest call steps free kept in
-      let written = one_more machine l.root serves (after_event machine now (Makes call true)) made (Writes after.state.paths (words l n))
-      (calls_may_happen machine a.happens.machine l.root serves now fits call true makes (words l n) next) in
-      subst (λ (s : State). As (record { state = s; paths = s.paths; words = words l n; cache = cached; due = flush_after l.levels l.window call after.reply ++ due })) steps written
+      let written = one_more machine l.root serves (after_event machine now (Makes call loses)) made (Writes after.state.paths (words l n))
+      (calls_may_happen machine a.happens.machine l.root serves now fits call loses makes (words l n) next) in
+      subst (λ (s : State). As (record { state = s; paths = s.paths; words = words l n; cache = cached; due = cond loses (flush_after l.levels l.window call after.reply) [] ++ due })) steps written
 
   -- ---- a flush
 
@@ -115,8 +115,8 @@ arises_by_caching l take_back serves m pool due before after a caches =
     from_now l take_back serves m pool after due (caches_in_turn l take_back serves m pool due before caches.0 after (to_now l take_back serves m pool before due a) caches.1)
 
 pub arises_by_calls : ArisesByCalls
-arises_by_calls l take_back serves m n pool rest cached due call a is waits fits steps free kept =
-    from_now l take_back serves n rest cached _ (called l take_back serves m n pool rest cached due call (to_now l take_back serves m pool cached due a) is waits fits steps free kept)
+arises_by_calls l take_back serves m n pool rest cached due call loses a is waits kept_all fits steps free kept =
+    from_now l take_back serves n rest cached _ (called l take_back serves m n pool rest cached due call loses (to_now l take_back serves m pool cached due a) is waits kept_all fits steps free kept)
 
 pub arises_by_flushes : ArisesByFlushes
 arises_by_flushes l take_back serves m pool due f before after a left =

@@ -1,17 +1,19 @@
 -- A processor that caches items of a hierarchy, between the calls and flushes of a kernel.
-use Rattle.std.specs.Prelude.{◌≡◌, ◌<◌, ℕ, Bool, true, List, [], ◌++◌, not, filter, Option, Some, None, option_map, unwrap_or}
+use Rattle.std.specs.Prelude.{◌≡◌, ◌<◌, ℕ, Bool, true, false, cond, List, [], ◌++◌, not, filter, Option, Some, None, option_map, unwrap_or}
 use Rattle.x86_64_model.specs.Caches.{Way, Cached, MayAccess, walk}
 use Rattle.x86_64_model.specs.Call.{Call, IsCall, parent_flags_of}
 use Rattle.x86_64_model.specs.Flushing as kernel
-use Rattle.x86_64_model.specs.Flushing.{Due, TablesDue, Event, System, flush_after, survives}
+use Rattle.x86_64_model.specs.Entry.{used}
+use Rattle.x86_64_model.specs.Flushing.{Due, TablesDue, Event, System, LosesNothing, flush_after, survives}
 use Rattle.x86_64_model.specs.FitsPool.{FitsPool}
 use Rattle.x86_64_model.specs.Layout.{Layout, words, paths}
 use Rattle.x86_64_model.specs.Laws.Caches.{CachesInTurn, Happens, WalksThere}
 use Rattle.x86_64_model.specs.Laws.Steps.{FitsState}
 use Rattle.x86_64_model.specs.Lists.{In}
-use Rattle.x86_64_model.specs.Machine.{IsMachine, State, step}
+use Rattle.x86_64_model.specs.Machine.{Machine, IsMachine, State, step}
 use Rattle.x86_64_model.specs.Mapper.{machine_of, state_in}
 use Rattle.x86_64_model.specs.Memory.{Memory, Words}
+use Rattle.x86_64_model.specs.PathMap.{entry}
 use Rattle.x86_64_model.specs.Window.{Window}
 use Rattle.x86_64.specs.Asked.{MapperCall, machine_call}
 use Rattle.x86_64.specs.Calls.{page_start}
@@ -47,6 +49,10 @@ abbrev pub LeftBy : (L : ℕ) → Option kernel.Flush → (before after : List C
 LeftBy L None before after = before ≡ after
 LeftBy L (Some f) before after = (c : Cached) → In after c → In before c × (survives L f c ≡ true)
 
+-- no used entry loses anything by a call
+abbrev pub NoneLoses : Machine → State → Call → Type 0
+NoneLoses m s call = (q : List ℕ) → used (entry s.paths q) ≡ true → LosesNothing (entry s.paths q) (entry (step m s call).state.paths q)
+
 -- ---- laws
 
 -- A hierarchy with a pool that fits it arises with empty caches.
@@ -59,27 +65,29 @@ abbrev pub ArisesByCaching : Type 0
 ArisesByCaching = (l : Layout) (take_back : List ℕ → ℕ → List ℕ) (serves : ℕ → Bool) (m : Memory) (pool : List ℕ) (due : List Due) (before after : List Cached)
     → Arises l take_back serves m pool before due → CachesOften l.levels l.root (words l m) before after → Arises l take_back serves m pool after due
 
--- A call as `run_call` ensures it makes due what the model says, unless no map may begin since tables are still due.
+-- A call as `run_call` ensures it makes due what the model says, or nothing if no used entry loses anything. No map may begin
+-- while tables are due.
 abbrev pub ArisesByCalls : Type 0
-ArisesByCalls = (l : Layout) (take_back : List ℕ → ℕ → List ℕ) (serves : ℕ → Bool) (m n : Memory) (pool rest : List ℕ) (cached : List Cached) (due : List Due) (call : Call)
+ArisesByCalls = (l : Layout) (take_back : List ℕ → ℕ → List ℕ) (serves : ℕ → Bool) (m n : Memory) (pool rest : List ℕ) (cached : List Cached) (due : List Due) (call : Call) (loses : Bool)
     → let machine = machine_of l take_back in
-    Arises l take_back serves m pool cached due → IsCall l.levels call → (In due TablesDue → parent_flags_of call ≡ None) → FitsPool l m serves pool
+    Arises l take_back serves m pool cached due → IsCall l.levels call → (In due TablesDue → parent_flags_of call ≡ None) → (loses ≡ false → NoneLoses machine (state_in l m pool) call) → FitsPool l m serves pool
     → (step machine (state_in l m pool) call).state ≡ state_in l n rest → KeepsFree l m pool (back_by machine (state_in l m pool) call) n rest → FitsPool l n serves rest
-    → Arises l take_back serves n rest cached (flush_after l.levels l.window call (step machine (state_in l m pool) call).reply ++ due)
+    → Arises l take_back serves n rest cached (cond loses (flush_after l.levels l.window call (step machine (state_in l m pool) call).reply) [] ++ due)
 
 -- a flush leaves what it doesn't settle
 abbrev pub ArisesByFlushes : Type 0
 ArisesByFlushes = (l : Layout) (take_back : List ℕ → ℕ → List ℕ) (serves : ℕ → Bool) (m : Memory) (pool : List ℕ) (due : List Due) (f : Option kernel.Flush) (before after : List Cached)
     → Arises l take_back serves m pool before due → LeftBy l.levels f before after → Arises l take_back serves m pool after (filter (λ d. not (settles l.levels f d)) due)
 
--- A call as `run_call` ensures it leaves nothing due if the flush that `flush_after` tells follows, whatever the processor caches
--- before the call and between the two.
+-- A call as `run_call` ensures it leaves nothing due if the flush follows that `flush_after` tells, or `flush_after_change` if
+-- it may be that no used entry loses anything, whatever the processor caches before the call and between the two.
 abbrev pub ArisesByFlushedCalls : Type 0
-ArisesByFlushedCalls = (l : Layout) (take_back : List ℕ → ℕ → List ℕ) (serves : ℕ → Bool) (m n : Memory) (pool rest : List ℕ) (call : MapperCall) (reply : Reply)
+ArisesByFlushedCalls = (l : Layout) (take_back : List ℕ → ℕ → List ℕ) (serves : ℕ → Bool) (m n : Memory) (pool rest : List ℕ) (call : MapperCall) (reply : Reply) (loses : Bool)
     → let machine = machine_of l take_back in
     IsCall l.levels (machine_call l.levels call) → FitsPool l m serves pool → step_by machine (state_in l m pool) call ≡ record { state = state_in l n rest; reply = Some reply }
     → KeepsFree l m pool (back_by machine (state_in l m pool) (machine_call l.levels call)) n rest → FitsPool l n serves rest
-    → (flush : Flush) → TellsFlush l.levels call reply (option_map (λ (w : Window). w.index) l.window) true flush
+    → (loses ≡ false → NoneLoses machine (state_in l m pool) (machine_call l.levels call))
+    → (flush : Flush) → TellsFlush l.levels call reply (option_map (λ (w : Window). w.index) l.window) loses flush
     → (before first second after : List Cached) → Arises l take_back serves m pool before [] → CachesOften l.levels l.root (words l m) before first
     → CachesOften l.levels l.root (words l n) first second → LeftBy l.levels (executed flush (unwrap_or (page_start l.levels call) 0)) second after
     → Arises l take_back serves n rest after []

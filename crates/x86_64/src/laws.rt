@@ -4,8 +4,10 @@ ghost use Rattle.x86_64.specs.CallEvents.{RunCallsAreEvents};
 ghost use Rattle.x86_64.specs.EmptyRoots.{EmptyRootsAreSpaces, EmptyRootsShareNothing, TwoEmptyRoots};
 ghost use Rattle.x86_64.specs.EveryWord.{EveryWordIsDecided};
 ghost use Rattle.x86_64.specs.FlushesDue.{FlushesSettle, FlushesAreLeast};
+ghost use Rattle.x86_64.specs.OneEntry.{OneEntryDecides};
 ghost use Rattle.x86_64.specs.PlacesStay.{PlacesStay, OffsetsFitStill};
 ghost use Rattle.x86_64.specs.Processors.{ArisesFirst, ArisesByCaching, ArisesByCalls, ArisesByFlushes, ArisesByFlushedCalls, FlushedAccessesGo};
+ghost use Rattle.x86_64.specs.RangeFlushes.{RangeFlushesSuffice};
 ghost use Rattle.x86_64.specs.SeveralProcessors.{EachIsFlushed, AllSeeTheSame};
 ghost use Rattle.x86_64.specs.ToldReplies.{RepliesTell};
 
@@ -67,4 +69,18 @@ pub fn flushed_calls_leave_no_stale_item()
 pub fn several_processors_are_flushed_each()
     ensures each { EachIsFlushed }
     ensures same { AllSeeTheSame }
+{}
+
+/// If the entry that `update_flags` or a change of a table's flags writes loses nothing, as
+/// [`loses`](crate::flushing::loses) tests, no used entry does. So
+/// [`flush_after_change`](crate::flushing::flush_after_change) may be told that none does.
+pub fn one_entry_decides_a_change_of_flags()
+    ensures { OneEntryDecides }
+{}
+
+/// The flush of the token that a range's unmap or change of flags returns suffices: if none of its items
+/// covers a position (the number of an address counted without the gap), and the page walk arrived there before, it
+/// still arrives at the same address, with no right lost.
+pub fn flushes_of_ranges_suffice()
+    ensures { RangeFlushesSuffice }
 {}

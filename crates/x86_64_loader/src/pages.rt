@@ -1,13 +1,12 @@
 //! Maps of runs of pages of one size.
-ghost use Rattle.std.specs.Prelude.{◌≡◌, ◌+◌, ◌*◌, ◌%◌, ◌^◌, ◌<◌, [], ◌∷◌, ℕ, true, OnOk, OnErr, IfErr};
+ghost use Rattle.std.specs.Prelude.{◌≡◌, ◌*◌, ◌%◌, ◌<◌, ℕ, true, OnOk, IfErr};
 ghost use Rattle.x86_64_loader.specs.private.Loads.{IsStopped};
-ghost use Rattle.x86_64_loader.specs.Maps.{Accepts, Made};
+ghost use Rattle.x86_64_loader.specs.Maps.{Accepts};
 ghost use Rattle.x86_64_loader.specs.Pages.{MayBeMapped, RunStands, IsFree, Leaves};
-ghost use Rattle.x86_64_loader.specs.Segments.{mapping_of, run_of};
-ghost use Rattle.x86_64_model.specs.Call.{Answered, MapTo};
+ghost use Rattle.x86_64_loader.specs.Segments.{run_of};
 ghost use Rattle.x86_64_model.specs.Entry.{present};
-ghost use Rattle.x86_64_model.specs.Mapper.{SupplyFits, MayMap, Stands, path_of};
-ghost use Rattle.x86_64_tables.specs.MapperAnswers.{map_answer, map_refusal};
+ghost use Rattle.x86_64_model.specs.Mapper.{SupplyFits};
+ghost use Rattle.x86_64_tables.specs.MapperAnswers.{map_refusal};
 ghost use Rattle.x86_64_tables.specs.PageTableFlags.{bits_of};
 
 use x86_64::parent_flags;

@@ -1,10 +1,10 @@
 //! Segments, the tests of them, and the errors of loads.
-ghost use Rattle.std.specs.Prelude.{◌≡◌, ◌+◌, ◌-◌, ◌*◌, ◌/◌, ◌^◌, ◌<◌, ◌≤◌, ◌↔◌, ℕ, true, None, IsTrue, IfSome};
+ghost use Rattle.std.specs.Prelude.{◌≡◌, ◌+◌, ◌-◌, ◌*◌, ◌/◌, ◌^◌, ◌<◌, ◌≤◌, ◌↔◌, true, None, IsTrue, IfSome};
 ghost use Rattle.std.specs.List.{All};
 ghost use Rattle.x86_64_loader.specs.Segments.{IsAllowed, IsInside, frames_for, tables_of};
 ghost use Rattle.x86_64_model.specs.Mapper.{Valid};
 
-use x86_64::structures::paging::mapper::{MapToError, Tables};
+use x86_64::structures::paging::mapper::MapToError;
 use x86_64::structures::paging::{Mapper, Page, PageTableFlags, PhysFrame, Size4KiB};
 use x86_64::{VirtAddr, parent_flags};
 

@@ -1,5 +1,5 @@
 //! Changes of the entries of ranges of pages.
-ghost use Rattle.std.specs.Prelude.{◌≡◌, ◌<◌, ◌≤◌, ◌+◌, ◌-◌, ◌*◌, ◌/◌, ◌∷◌, [], ℕ, List, Ok, fold, true, false, length, take, get_or, IfOk, IfErr};
+ghost use Rattle.std.specs.Prelude.{◌≡◌, ◌<◌, ◌≤◌, ◌+◌, ◌-◌, ◌*◌, ◌/◌, ◌∷◌, [], ℕ, List, Ok, fold, true, length, take, IfOk, IfErr};
 ghost use Rattle.x86_64_model.specs.Call.{Reply, Answered};
 ghost use Rattle.x86_64_model.specs.Entry.{no_address};
 ghost use Rattle.x86_64_model.specs.Mapper.{Valid, path_of};

@@ -28,9 +28,9 @@ returns-clause-arises g c =
     let second = g.C.Processor.cached c.cache-2.new.self in
     let after = g.C.Processor.cached c.execute.new.processor in
     let arises : Arises l take_back serves n rest after [] =
-    arises_by_flushed_calls l take_back serves m n (g.F.FrameAllocator.supply c.args.frames.now) rest call c.run_call-reply.result
+    arises_by_flushed_calls l take_back serves m n (g.F.FrameAllocator.supply c.args.frames.now) rest call c.run_call-reply.result true
     (subst (λ L. IsCall L (machine_call L call)) (sym levels) (is_call g.L.LevelCount.LEVELS g.L.LevelCount.at_least_four g.P5.LevelFiveFlags.bits g.met.P5.LevelFiveFlags.five c.args.call))
-    c.requires.fits ran.step ran.free ran.keeps.keeps.fits
+    c.requires.fits ran.step ran.free ran.keeps.keeps.fits (λ no. cc)
     flush (subst (λ L. TellsFlush L call c.run_call-reply.result (option_map (λ (w : Window). w.index) l.window) true flush) (sym levels) (rw (c.recursive_index.ensures, ran.keeps.layout) at c.flush_after-flush.ensures))
     before first second after c.requires.arises
     c.cache.ensures
