@@ -3,10 +3,14 @@
 
 pub mod after_level_4_table_mut;
 pub mod first;
+pub mod flush_after_calls;
 pub mod list_mappings;
 pub mod load_segments;
+pub mod map_buffer;
 pub mod own_allocator;
 pub mod own_memory;
 pub mod porting;
+pub mod processes;
+pub mod run_in_space;
 pub mod run_list;
 pub mod translate_in_dump;

@@ -1,23 +1,20 @@
 //! Laws of calls and replies, as public functions with empty bodies. The machine is the abstract mapper of the
 //! specification, which goes from state to state with each call.
 ghost use Rattle.x86_64.specs.CallEvents.{RunCallsAreEvents};
+ghost use Rattle.x86_64.specs.EmptyRoots.{EmptyRootsAreSpaces, EmptyRootsShareNothing, TwoEmptyRoots};
 ghost use Rattle.x86_64.specs.EveryWord.{EveryWordIsDecided};
+ghost use Rattle.x86_64.specs.FlushesDue.{FlushesSettle, FlushesAreLeast};
+ghost use Rattle.x86_64.specs.OneEntry.{OneEntryDecides};
 ghost use Rattle.x86_64.specs.PlacesStay.{PlacesStay, OffsetsFitStill};
-ghost use Rattle.x86_64.specs.SecondHierarchies.{EmptyRootsAreSecond, SecondHierarchiesStay, SomeShare};
+ghost use Rattle.x86_64.specs.Processors.{ArisesFirst, ArisesByCaching, ArisesByCalls, ArisesByFlushes, ArisesByFlushedCalls, FlushedAccessesGo};
+ghost use Rattle.x86_64.specs.RangeFlushes.{RangeFlushesSuffice};
+ghost use Rattle.x86_64.specs.SeveralProcessors.{EachIsFlushed, AllSeeTheSame};
 ghost use Rattle.x86_64.specs.ToldReplies.{RepliesTell};
 
 /// A reply determines the machine's reply to the call, for any number of levels, except for the frame in the
 /// machine's reply to a map or to a change of flags.
 pub fn replies_lose_nothing()
     ensures { RepliesTell }
-{}
-
-/// Take a hierarchy with a pool that fits it, and a second hierarchy in the same memory with the same mapping, whose
-/// root and tables are neither tables of the first nor free frames. After any list of calls on the first, the second
-/// is still valid with the same path map, the pool fits it if it did before, and each is still second beside the
-/// other. This follows from what [`run`](crate::run) ensures in its clause `keeps`.
-pub fn second_hierarchies_stay()
-    ensures { SecondHierarchiesStay }
 {}
 
 /// After any list of calls, a memory has the same places as before (a place is the index of a table in memory). So an
@@ -27,11 +24,12 @@ pub fn places_stay()
     ensures offsets { OffsetsFitStill }
 {}
 
-/// A frame outside a hierarchy and its pool, whose words are all 0, is the root of a second hierarchy that maps
-/// nothing. So there are memories with two hierarchies that one pool fits.
-pub fn empty_roots_are_second()
-    ensures is_second { EmptyRootsAreSecond }
-    ensures there_are { SomeShare }
+/// A frame outside address spaces and their pool, whose words are all 0, is the root of one more, if they share nothing.
+/// It maps nothing. So there are memories with several hierarchies that one pool fits.
+pub fn empty_roots_are_spaces()
+    ensures share { EmptyRootsShareNothing }
+    ensures are_spaces { EmptyRootsAreSpaces }
+    ensures there_are { TwoEmptyRoots }
 {}
 
 /// The result of a list of calls determines every word of the memory. The path map at the end determines the words of
@@ -45,4 +43,44 @@ pub fn every_word_is_decided()
 /// kernel that flushes and a processor that caches, so that the laws of caches of `x86_64_model` apply.
 pub fn run_calls_are_events()
     ensures { RunCallsAreEvents }
+{}
+
+/// The flush that [`flush_after`](crate::flushing::flush_after) returns settles all that is due, and is the least that does.
+pub fn flushes_settle_what_is_due()
+    ensures settled { FlushesSettle }
+    ensures least { FlushesAreLeast }
+{}
+
+/// Beside a processor that caches at any moment between calls: what [`run_call`](crate::run_call) ensures of a call, and
+/// then the flush that [`flush_after`](crate::flushing::flush_after) returns, leave nothing due, and then each access goes
+/// with the page walk, with no right more. So this holds after any calls with their flushes, from empty caches on. Several
+/// calls may come before one flush, if tables are flushed before the next map.
+pub fn flushed_calls_leave_no_stale_item()
+    ensures first { ArisesFirst }
+    ensures caching { ArisesByCaching }
+    ensures calls { ArisesByCalls }
+    ensures flushes { ArisesByFlushes }
+    ensures both { ArisesByFlushedCalls }
+    ensures accesses { FlushedAccessesGo }
+{}
+
+/// Several processors that use one hierarchy: if what each sees may happen, with its own flushes before the next map, the
+/// accesses of each go with the page walk, and all see the same words.
+pub fn several_processors_are_flushed_each()
+    ensures each { EachIsFlushed }
+    ensures same { AllSeeTheSame }
+{}
+
+/// If the entry that `update_flags` or a change of a table's flags writes loses nothing, as
+/// [`loses`](crate::flushing::loses) tests, no used entry does. So
+/// [`flush_after_change`](crate::flushing::flush_after_change) may be told that none does.
+pub fn one_entry_decides_a_change_of_flags()
+    ensures { OneEntryDecides }
+{}
+
+/// The flush of the token that a range's unmap or change of flags returns suffices: if none of its items
+/// covers a position (the number of an address counted without the gap), and the page walk arrived there before, it
+/// still arrives at the same address, with no right lost.
+pub fn flushes_of_ranges_suffice()
+    ensures { RangeFlushesSuffice }
 {}

@@ -1,2 +1,3 @@
 -- What callers in the tests ensure.
+pub mod Beside
 pub mod Listed

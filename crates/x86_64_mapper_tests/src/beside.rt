@@ -1,71 +1,28 @@
-//! Two hierarchies in one memory, like those of two programs. Calls on one leave the other as it was, and they may
-//! share a pool. The memory may be of any kind, such as a slice of tables that its owner lends.
-ghost use Rattle.std.specs.Prelude.{◌≡◌, ◌<◌, ℕ, if◌then◌else◌, nat_lt, replicate, Some, None};
+//! Two hierarchies in one memory, with one pool, which share no tables. Calls on one leave the other as it was. The
+//! memory may be of any kind, such as a slice of tables that its owner lends.
+ghost use Rattle.std.specs.Prelude.{◌≡◌, ℕ, if◌then◌else◌, nat_lt, replicate, Some, None};
 ghost use Rattle.std.specs.FinMap.{get};
-ghost use Rattle.x86_64_mappers.specs.Layouts.{direct};
-ghost use Rattle.x86_64_model.specs.Layout.{Layout};
+ghost use Rattle.x86_64_mapper_tests.specs.Beside.{AreTwo};
 ghost use Rattle.x86_64_model.specs.Pool.{serves_below};
-ghost use Rattle.x86_64_model.specs.Mapper.{PoolFits};
-ghost use Rattle.x86_64_model.specs.Memory.{identity_places};
 ghost use Rattle.x86_64_tables.specs.LentMemory.{numbered};
 ghost use Rattle.x86_64_tables.specs.PageTable.{zero_words};
-ghost use Rattle.x86_64.specs.Runs.{FitsPool, Kept};
-ghost use Rattle.x86_64.specs.SecondHierarchies.{IsSecond, Share, Stays};
 
 use crate::assertions::{assert_equal, assert_equal_in, unwrap, unwrap_some};
 use std::alloc::{AllocError, Global};
 use std::process::Abort;
-use x86_64::laws::{empty_roots_are_second, second_hierarchies_stay};
-use x86_64::structures::paging::mapper::{CleanUp, MapperAllSizes, Tables, Translate};
+use uses::run_in_space::run_on;
+use x86_64::laws::empty_roots_are_spaces;
 use x86_64::structures::paging::{
-    MappedPageTable, Page, PageTable, PageTableFlags, PageTableIndex, PhysFrame, Size4KiB,
+    Page, PageTable, PageTableFlags, PageTableIndex, PhysFrame, Size4KiB,
 };
 use x86_64::{
     Call, FramePool, IdentityMapping, LentMemory, PhysAddr, PhysMemory, Reply, SizeCall,
-    TableMemory, VirtAddr, page_walk, pool_fits, run,
+    TableMemory, VirtAddr, page_walk, pool_fits,
 };
+use x86_64_model::laws::spaces::one_hierarchy_is_a_space;
 
 /// The number of places, and the limit of the pool. A place is the index of a table in memory.
 const PLACES: u64 = 0x10;
-
-/// Executes calls with any mapper, whose calls are those of three traits.
-fn run_by<M: MapperAllSizes + Translate + CleanUp>(
-    mapper: &mut M,
-    pool: &mut FramePool,
-    calls: &[Call],
-    replies: &mut Vec<Reply>,
-) -> Result<(), AllocError>
-    requires { PoolFits (M.hierarchy mapper.old) (serves_below pool.old.limit) pool.old.frames }
-    ensures keeps { let h = M.hierarchy mapper.old in let serves = serves_below pool.old.limit in
-        Kept h serves pool.old.frames (M.hierarchy mapper.new) pool.new.frames }
-    ensures limit { serves_below pool.new.limit ≡ serves_below pool.old.limit }
-{
-    run(mapper, pool, calls, replies)
-}
-
-/// Executes calls with a mapper of a hierarchy, which is then dropped. The pool fits it again, and each other
-/// hierarchy in the memory stays as it was.
-pub fn run_on<T: TableMemory>(
-    memory: &mut T,
-    root: PhysFrame<Size4KiB>,
-    pool: &mut FramePool,
-    calls: &[Call],
-    replies: &mut Vec<Reply>,
-) -> Result<(), AllocError>
-    requires { let layout = direct identity_places root in
-        FitsPool layout (T.tables memory.old) (serves_below pool.old.limit) pool.old.frames }
-    ensures fits { let layout = direct identity_places root in
-        FitsPool layout (T.tables memory.new) (serves_below pool.old.limit) pool.new.frames }
-    ensures others { let layout = direct identity_places root in let serves = serves_below pool.old.limit in
-        (second : Layout) → 0 < second.levels → IsSecond layout (T.tables memory.old) pool.old.frames second
-        → Stays layout second serves (T.tables memory.old) pool.old.frames (T.tables memory.new) pool.new.frames }
-    ensures lent { T.lent memory.new ≡ T.lent memory.old }
-    ensures limit { serves_below pool.new.limit ≡ serves_below pool.old.limit }
-{
-    second_hierarchies_stay();
-    let mut mapper = MappedPageTable::new(memory, root, IdentityMapping);
-    run_by(&mut mapper, pool, calls, replies)
-}
 
 /// Executes calls on a first hierarchy, and then on a second one, which isn't tested again. The pool fits both again.
 fn run_in_turn<T: TableMemory>(
@@ -76,14 +33,12 @@ fn run_in_turn<T: TableMemory>(
     calls: (&[Call], &[Call]),
     replies: &mut Vec<Reply>,
 ) -> Result<(), AllocError>
-    requires { let one = direct identity_places first in let other = direct identity_places second in
-        Share one other (serves_below pool.old.limit) (T.tables memory.old) pool.old.frames }
-    ensures share { let one = direct identity_places first in let other = direct identity_places second in
-        Share one other (serves_below pool.new.limit) (T.tables memory.new) pool.new.frames }
+    requires { AreTwo first second (T.tables memory.old) (serves_below pool.old.limit) pool.old.frames }
+    ensures again { AreTwo first second (T.tables memory.new) (serves_below pool.new.limit) pool.new.frames }
     ensures lent { T.lent memory.new ≡ T.lent memory.old }
 {
-    run_on(memory, first, pool, calls.0, replies)?;
-    run_on(memory, second, pool, calls.1, replies)
+    run_on(memory, IdentityMapping, first, pool, calls.0, replies)?;
+    run_on(memory, IdentityMapping, second, pool, calls.1, replies)
 }
 
 /// Executes calls on two hierarchies in a slice of tables, without a copy. Its owner knows that the pool fits both
@@ -96,10 +51,8 @@ fn run_in_slice(
     calls: (&[Call], &[Call]),
     replies: &mut Vec<Reply>,
 ) -> Result<(), AllocError>
-    requires { let one = direct identity_places first in let other = direct identity_places second in
-        Share one other (serves_below pool.old.limit) (numbered tables.old) pool.old.frames }
-    ensures { let one = direct identity_places first in let other = direct identity_places second in
-        Share one other (serves_below pool.new.limit) (numbered tables.new) pool.new.frames }
+    requires { AreTwo first second (numbered tables.old) (serves_below pool.old.limit) pool.old.frames }
+    ensures { AreTwo first second (numbered tables.new) (serves_below pool.new.limit) pool.new.frames }
 {
     let mut memory = LentMemory::new(tables);
     run_in_turn(&mut memory, first, second, pool, calls, replies)
@@ -115,10 +68,10 @@ fn pool_of_two<T: TableMemory>(
 ) -> FramePool
     requires { (place : ℕ) → get (T.tables memory.now) place
         ≡ (if nat_lt place 0x10 then Some zero_words else None) }
-    ensures { let one = direct identity_places first in let other = direct identity_places second in
-        Share one other (serves_below result.limit) (T.tables memory.now) result.frames }
+    ensures { AreTwo first second (T.tables memory.now) (serves_below result.limit) result.frames }
 {
-    empty_roots_are_second();
+    one_hierarchy_is_a_space();
+    empty_roots_are_spaces();
     let pool = pool_from(rt, alloc, 0x3000);
     assert!(rt; first != second);
     assert!(rt; unwrap(rt, pool_fits(alloc, memory, &IdentityMapping, first, &pool)));
@@ -183,10 +136,8 @@ fn map_in_both<T: TableMemory>(
     page: u64,
     to: (u64, u64),
 )
-    requires { let one = direct identity_places first in let other = direct identity_places second in
-        Share one other (serves_below pool.old.limit) (T.tables memory.old) pool.old.frames }
-    ensures { let one = direct identity_places first in let other = direct identity_places second in
-        Share one other (serves_below pool.new.limit) (T.tables memory.new) pool.new.frames }
+    requires { AreTwo first second (T.tables memory.old) (serves_below pool.old.limit) pool.old.frames }
+    ensures { AreTwo first second (T.tables memory.new) (serves_below pool.new.limit) pool.new.frames }
 {
     let mut replies = Vec::new(alloc);
     let calls = [map(page, to.0)];

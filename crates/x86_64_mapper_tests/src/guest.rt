@@ -9,9 +9,10 @@ ghost use Rattle.x86_64_tables.specs.LentMemory.{numbered};
 ghost use Rattle.x86_64.specs.Runs.{FitsPool};
 
 use crate::assertions::{assert_equal, unwrap};
-use crate::beside::{empty_tables, frame, map, pool_from, run_on};
+use crate::beside::{empty_tables, frame, map, pool_from};
 use std::alloc::{AllocError, Global};
 use std::process::Abort;
+use uses::run_in_space::run_on;
 use x86_64::structures::paging::{PageSize, PageTable, PageTableIndex, PhysFrame, Size4KiB};
 use x86_64::{Call, FramePool, IdentityMapping, LentMemory, Reply, pool_fits};
 
@@ -29,7 +30,7 @@ fn run_in_tables(
         FitsPool layout (numbered tables.new) (serves_below pool.old.limit) pool.new.frames }
 {
     let mut memory = LentMemory::new(tables);
-    run_on(&mut memory, root, pool, calls, replies)
+    run_on(&mut memory, IdentityMapping, root, pool, calls, replies)
 }
 
 /// Returns the table in a frame, or `None` if there is none.

@@ -1,5 +1,4 @@
 //! Tests of address spaces that share the upper half, with four levels of page tables and with five.
-mod made;
 
 use crate::assertions::{assert_equal_in, unwrap};
 use crate::tables::frame_at;

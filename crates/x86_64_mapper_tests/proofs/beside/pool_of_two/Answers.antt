@@ -1,17 +1,20 @@
-use Rattle.std.proofs.Common.{rules, ◌≡◌, ◌≢◌, ◌<◌, ◌↔◌, ⊎_elim, ℕ, nat_lt, ◌/◌, ◌&&◌, Bool, true, false, not, cond, List, [], Option, Some, None, IfOk, IsTrue, lit<, refl, sym, ◌∙◌, subst}
+use Rattle.std.proofs.Common.{rules, ◌≡◌, ◌≢◌, ◌<◌, ◌↔◌, inl, ⊎_elim, ℕ, nat_lt, ◌/◌, ◌&&◌, Bool, true, false, not, cond, List, [], ◌∷◌, Option, Some, None, IfOk, IsTrue, lit<, refl, sym, ◌∙◌, subst}
 use Rattle.std.proofs.lemmas.Bool.{eqb-false, ltb-true}
 use Rattle.std.specs.Prelude.{if◌then◌else◌}
 use Rattle.std.specs.FinMap.{get}
 use Rattle.x86_64_mappers.specs.Layouts.{direct}
 use Rattle.x86_64_model.specs.Entry.{is_frame}
+use Rattle.x86_64_model.specs.Laws.Spaces.{OneIsASpace}
+use Rattle.x86_64_model.specs.Layout.{Layout, Owns}
 use Rattle.x86_64_model.specs.Hierarchy.{paths_of}
 use Rattle.x86_64_model.specs.Pool.{serves_below}
 use Rattle.x86_64_model.specs.Memory.{Memory, word, word_in, words_of, identity_places}
 use Rattle.x86_64_model.specs.Pool.{Fits}
 use Rattle.x86_64_tables.specs.PageTable.{zero_words, get_or-zero_words}
 use Rattle.x86_64.specs.Runs.{FitsPool}
-use Rattle.x86_64.specs.SecondHierarchies.{EmptyRootsAreSecond, Share}
+use Rattle.x86_64.specs.EmptyRoots.{EmptyRootsAreSpaces}
 use Rattle.x86_64.proofs.EmptyRoots.{only_root}
+use Rattle.x86_64_mapper_tests.specs.Beside.{AreTwo}
 use Rattle.x86_64_mapper_tests.proofs.beside.pool_of_two.Goals as goal
 
 -- all places below n have zero words only
@@ -40,14 +43,16 @@ module _ (m : Memory) (n : ℕ) (fresh : AllZero m n) where
 
   module _ (serves : ℕ → Bool) (pool : List ℕ) (first second : ℕ) (apart : first ≢ second) (first_fits : FitsPool (direct identity_places first) m serves pool)
       (second_fits : FitsPool (direct identity_places second) m serves pool) where
-    share : EmptyRootsAreSecond → Share (direct identity_places first) (direct identity_places second) serves m pool
-    share law = record {
-      first_fits = first_fits;
-      second_fits = second_fits;
-      is_second = law (direct identity_places first) m pool 4 second (lit< tt) (second_fits.valid.valid.holds.in_memory [] second refl) (all_zero second)
-          (⊎_elim (λ i. second_fits.no_table second i ([], refl))
-          (λ t. apart (only_root 4 (lit< tt) identity_places first m (first_fits.valid.valid.holds.in_memory [] first refl) (all_zero first) second t)));
-    }
+    abbrev other : Layout
+    other = direct identity_places second
+
+    are_two : OneIsASpace → EmptyRootsAreSpaces → AreTwo first second m serves pool
+    are_two one_is empty_is = empty_is (other ∷ []) other (inl refl) (lit< tt) serves m pool (one_is (λ i. false) other serves m pool second_fits)
+        first (first_fits.valid.valid.holds.in_memory [] first refl) (all_zero first) (λ a. ⊎_elim
+        (λ e. subst (λ (l : Layout). Owns l m pool first → ⊥) e (⊎_elim
+        (λ i. first_fits.no_table first i ([], refl))
+        (λ t. apart (sym (only_root 4 (lit< tt) identity_places second m (second_fits.valid.valid.holds.in_memory [] second refl) (all_zero second) first t)))))
+        (λ n. absurd n))
 
 negated : (b : Bool) → not (b && true) ≡ true → b ≡ false
 negated true h = cc
@@ -66,4 +71,4 @@ returns g c =
     let second_holds : c.unwrap-2.result ≡ true = search rules in
     let differ : c.ne.result ≡ true = search rules in
     let apart = eqb-false c.args.first c.args.second (negated _ (sym c.ne.ensures ∙ differ)) in
-    share m 16 fresh serves pool c.args.first c.args.second apart (is_first.0 first_holds) (is_second.0 second_holds) c.empty_roots_are_second.ensures.is_second
+    are_two m 16 fresh serves pool c.args.first c.args.second apart (is_first.0 first_holds) (is_second.0 second_holds) c.one_hierarchy_is_a_space.ensures c.empty_roots_are_spaces.ensures.are_spaces

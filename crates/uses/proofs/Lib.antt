@@ -1,0 +1,2 @@
+pub mod SpaceRuns
+pub mod ProcessCalls

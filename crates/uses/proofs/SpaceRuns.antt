@@ -1,0 +1,83 @@
+-- What an owner of a memory learns of calls on one of several address spaces in it.
+use Rattle.std.proofs.Common.{◌≡◌, ◌⊎◌, inl, inr, ⊎_elim, ◌<◌, ℕ, Bool, true, false, List, [], ◌∷◌, Result, Ok, Err, OnOk, OnErr, Some, refl, sym, ap, ◌∙◌, subst, arith}
+use Rattle.x86_64_model.specs.Call.{Call, IsCall}
+use Rattle.x86_64_model.specs.Entry.{IsParentFlags, address}
+use Rattle.x86_64_model.specs.FitsPool.{FitsPool, KeepsPool}
+use Rattle.x86_64_model.specs.Laws.Spaces.{KeepsBelow, Led, CallsKeepBelow, CallsKeepRootEntries, SharedHalvesStay, SpacesStay}
+use Rattle.x86_64_model.specs.Laws.Steps.{AllCalls}
+use Rattle.x86_64_model.specs.Layout.{Layout, paths}
+use Rattle.x86_64_model.specs.Lists.{In}
+use Rattle.x86_64_model.specs.Mapper.{Hierarchy}
+use Rattle.x86_64_model.specs.Memory.{Memory, Places, IsMapping}
+use Rattle.x86_64_model.specs.PathMap.{entry}
+use Rattle.x86_64_model.specs.Pool.{TakesBack}
+use Rattle.x86_64_model.specs.Spaces.{is_shared, AreSpaces}
+use Rattle.x86_64_mappers.specs.Layouts.{direct_at}
+use Rattle.x86_64.specs.Asked.{MapperCall, machine_call, calls_by}
+use Rattle.x86_64.specs.Replies.{Reply}
+use Rattle.x86_64.specs.Runs.{AfterStep, Kept, Ran, machine_of, state_in, step_by}
+use Rattle.uses.specs.SpacesBeside.{OthersStay, LeavesSpaces}
+
+-- ---- the owner knows the hierarchy by the memory that was lent
+
+-- what is known of the mapper's hierarchy holds with the owner's names for its layout and memory
+owners : {Lent : Type 0} (h after : Hierarchy Lent) (layout : Layout) (m n : Memory) → h.layout ≡ layout → h.memory ≡ m → after.memory ≡ n → (P : Layout → Memory → Memory → Type 0) → P h.layout h.memory after.memory → P layout m n
+owners h after layout m n same before now P p = subst (λ n. P layout m n) now (subst (λ m. P layout m after.memory) before (subst (λ l. P l h.memory after.memory) same p))
+
+-- ---- the other spaces
+
+none_shared : (q : List ℕ) → is_shared (λ i. false) q ≡ false
+none_shared [] = refl
+none_shared (i ∷ q) = refl
+
+no_flags : IsParentFlags 0
+unfolding address
+no_flags = record { no_address = refl; not_huge = refl }
+
+-- by the laws of address spaces
+module _ (stay : SpacesStay) (halves : SharedHalvesStay) (below : CallsKeepBelow) (root_stays : CallsKeepRootEntries)
+    (levels : ℕ) (high : 3 < levels) (places : Places) (mapping : IsMapping places) (root : ℕ) (take_back : List ℕ → ℕ → List ℕ) (gives : TakesBack take_back)
+    (serves : ℕ → Bool) (m n : Memory) (pool rest : List ℕ) (fits : FitsPool (direct_at levels places root) m serves pool) where
+  abbrev one : Layout
+  one = direct_at levels places root
+
+  module _ (calls : List Call) (are_calls : AllCalls levels calls) (keeps : KeepsPool one serves m pool n rest) (done : Led one take_back m pool calls n rest ⊎ (n ≡ m)) where
+    kept_below : (shared : ℕ → Bool) (spaces : List Layout) → In spaces one → AreSpaces shared m serves pool spaces → KeepsBelow shared one m n → AreSpaces shared n serves rest spaces × OthersStay spaces one m n
+    kept_below shared spaces member are kept = (
+      stay shared spaces one member mapping (omega (arith, high)) serves m n pool rest are keeps (λ i s. kept (i ∷ []) s),
+      λ other i apart. (halves shared one other mapping (omega (arith, high)) serves m n pool rest fits keeps kept (are.share one other member i apart)).1,
+    )
+
+    leaves_spaces : LeavesSpaces one serves calls m pool n rest
+    leaves_spaces = record {
+      users = λ shared spaces member are avoid. kept_below shared spaces member are (⊎_elim
+          (λ led. below shared one no_flags take_back gives serves m n pool rest calls are_calls fits led avoid)
+          (λ same q s. ap (λ m. entry (paths one m) q) same)
+          done);
+      apart = λ spaces member are. kept_below (λ i. false) spaces member are (λ q s. let z : true ≡ false = sym s ∙ none_shared q in cc);
+      kernel = λ shared spaces member are entries spare. stay shared spaces one member mapping (omega (arith, high)) serves m n pool rest are keeps (⊎_elim
+          (λ led. root_stays shared one high no_flags take_back gives serves m n pool rest calls are_calls fits led entries spare)
+          (λ same i s. ap (λ m. entry (paths one m) (i ∷ [])) same)
+          done);
+    }
+
+  -- after calls of a mapper whose hierarchy it is
+  module _ {Lent : Type 0} (h after : Hierarchy Lent) (kept : Kept h serves pool after rest) where
+    owner_keeps : h.layout ≡ one → h.memory ≡ m → after.memory ≡ n → KeepsPool one serves m pool n rest
+    owner_keeps same before now = owners h after one m n same before now (λ l m n. KeepsPool l serves m pool n rest) kept.keeps
+
+    pub after_call : (call : MapperCall) → IsCall levels (machine_call levels call) → (reply : Reply)
+        → step_by (machine_of h.layout take_back) (state_in h.layout h.memory pool) call ≡ record { state = state_in h.layout after.memory rest; reply = Some reply }
+        → h.layout ≡ one → h.memory ≡ m → after.memory ≡ n → LeavesSpaces one serves (machine_call levels call ∷ []) m pool n rest
+    after_call call is_call reply step same before now = leaves_spaces (machine_call levels call ∷ []) (is_call, tt) (owner_keeps same before now)
+        (inl (owners h after one m n same before now (λ l m n. Led l take_back m pool (machine_call l.levels call ∷ []) n rest) (sym (ap (λ (x : AfterStep Reply). x.state) step))))
+
+    -- the list was executed, or memory was refused and nothing changed
+    pub after_calls : {C X E Q : Type 0} (asks : C → MapperCall) (calls : List C) → AllCalls levels (calls_by asks levels calls) → (before now : List Reply)
+        → (r : Result X E) → OnOk r (Ran asks take_back h pool calls before now after rest) → OnErr r Q → (Q → after.memory ≡ h.memory)
+        → h.layout ≡ one → h.memory ≡ m → after.memory ≡ n → LeavesSpaces one serves (calls_by asks levels calls) m pool n rest
+    after_calls {X = X} {E = E} {Q = Q} asks calls are_calls was now r ran refused unchanged same before end = leaves_spaces (calls_by asks levels calls) are_calls (owner_keeps same before end) (by r ran refused)
+      where
+        by : (r : Result X E) → OnOk r (Ran asks take_back h pool calls was now after rest) → OnErr r Q → Led one take_back m pool (calls_by asks levels calls) n rest ⊎ (n ≡ m)
+        by (Ok x) ran refused = inl (owners h after one m n same before end (λ l m n. Led l take_back m pool (calls_by asks l.levels calls) n rest) ran.state)
+        by (Err e) ran refused = inr (sym end ∙ unchanged refused ∙ before)

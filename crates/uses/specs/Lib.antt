@@ -1,0 +1,2 @@
+pub mod SpacesBeside
+pub mod Processes
