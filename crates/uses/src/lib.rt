@@ -3,8 +3,10 @@
 
 pub mod after_level_4_table_mut;
 pub mod first;
+pub mod flush_after_calls;
 pub mod list_mappings;
 pub mod load_segments;
+pub mod map_buffer;
 pub mod own_allocator;
 pub mod own_memory;
 pub mod porting;

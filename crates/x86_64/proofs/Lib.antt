@@ -1,6 +1,5 @@
 pub mod AskedCalls
 pub mod CallSteps
-pub mod FirstIndex
 pub mod Keeping
 pub mod PageSteps
 pub mod Rounds
@@ -11,8 +10,14 @@ pub mod Telling
 pub mod Moved
 pub mod PlacesStay
 pub mod CallEvents
+pub mod FlushesTold
+pub mod CallsFlushed
+pub mod Processors
+pub mod OneEntry
+pub mod SeveralProcessors
 pub mod Offsets
 pub mod EmptyRoots
 pub mod CleanUpSteps
 pub mod Named
 pub mod Pairs
+pub mod RangeFlushes

@@ -6,7 +6,7 @@ use Rattle.x86_64_model.specs.Position.{lower_half}
 use Rattle.x86_64_model.specs.Window.{Window}
 use Rattle.x86_64.specs.Asked.{PageCall, MapTo, MapToWithTableFlags, IdentityMap, Unmap, UpdateFlags, SetFlags, TranslatePage, MapperCall, Of4KiB, Of2MiB, Of1GiB, Translate, TranslateAddr, CleanUp, CleanUpRange, page_call, machine_call, calls_by, page_names, names_by}
 use Rattle.x86_64.specs.Pairs.{NoneNames}
-use Rattle.x86_64.proofs.FirstIndex.{first_index, first_of_all}
+use Rattle.x86_64_mappers.proofs.Way.FirstIndex.{first_index, first_of_all}
 
 module _ (L : ℕ) (some : 3 < L) where
   -- ---- with a recursive index

@@ -41,6 +41,26 @@ asks bits (CleanUpRange range) = asked.CleanUpRange range.start (range.end + 0xf
 abbrev pub identity_page : (L frame : ℕ) → Option ℕ
 identity_page L frame = cond (nat_lt frame (lower_half L)) (Some frame) None
 
+-- the position where the page of a call on a page starts, if there is one
+abbrev pub page_of : (L : ℕ) → PageCall → Option ℕ
+page_of L (asked.MapTo page frame flags) = Some page
+page_of L (asked.MapToWithTableFlags page frame flags parent_flags) = Some page
+page_of L (asked.IdentityMap frame flags) = identity_page L frame
+page_of L (asked.Unmap page) = Some page
+page_of L (asked.UpdateFlags page flags) = Some page
+page_of L (asked.SetFlags at page flags) = Some page
+page_of L (asked.TranslatePage page) = Some page
+
+-- the position where a call's page starts; translations of an address and clean ups have none
+abbrev pub page_start : (L : ℕ) → MapperCall → Option ℕ
+page_start L (asked.Of4KiB call) = page_of L call
+page_start L (asked.Of2MiB call) = page_of L call
+page_start L (asked.Of1GiB call) = page_of L call
+page_start L (asked.Translate position) = None
+page_start L (asked.TranslateAddr position) = None
+page_start L asked.CleanUp = None
+page_start L (asked.CleanUpRange low high) = None
+
 -- whether the call's page has this index of the highest level
 abbrev pub size_names : {S L P5 : Type 0} → (levels : ℕ) → (bits : P5 → ℕ) → SizeCallIn S L P5 → (i : ℕ) → Bool
 size_names levels bits call i = page_names levels (size_asks bits call) i

@@ -6,10 +6,15 @@ pub mod Runs
 pub mod EveryWord
 pub mod Pairs
 pub mod Flushes
+pub mod RangeFlushes
 pub mod ToldReplies
 pub mod EmptyRoots
 pub mod PlacesStay
 pub mod CallEvents
+pub mod FlushesDue
+pub mod Processors
+pub mod OneEntry
+pub mod SeveralProcessors
 pub mod private
 pub use Rattle.x86_64_model.specs.Machine
 pub use Rattle.x86_64_model.specs.Layout

@@ -180,12 +180,11 @@ impl<S: PageSize, L: LevelCount, P5: Copy> Clone for SizeCallIn<S, L, P5> {
 }
 
 impl<S: PageSize, L: LevelCount, P5: LevelFiveFlags<L>> SizeCallIn<S, L, P5> {
-    ghost use Rattle.x86_64.specs.Calls.{size_names};
+    ghost use Rattle.x86_64.specs.Calls.{size_asks, size_names, page_of};
 
-    /// Returns true if the call's page has this index of the highest level. The page of an identity map counts if
-    /// there is one.
-    fn names(&self, index: PageTableIndex) -> bool
-        ensures { result ≡ size_names L.LEVELS P5.bits self.now index }
+    /// Returns the call's page, or `None` for an identity map if there is no page at the frame's address.
+    fn page(&self) -> Option<PageIn<S, L>>
+        ensures { result ≡ page_of L.LEVELS (size_asks P5.bits self.now) }
     {
         match self {
             SizeCallIn::MapTo { page, .. }
@@ -196,11 +195,29 @@ impl<S: PageSize, L: LevelCount, P5: LevelFiveFlags<L>> SizeCallIn<S, L, P5> {
             | SizeCallIn::SetFlagsP4 { page, .. }
             | SizeCallIn::SetFlagsP3 { page, .. }
             | SizeCallIn::SetFlagsP2 { page, .. }
-            | SizeCallIn::TranslatePage { page } => page.table_index(L::LEVELS) == index,
-            SizeCallIn::IdentityMap { frame, .. } => match identity_page::<S, L>(*frame) {
-                Some(page) => page.table_index(L::LEVELS) == index,
-                None => false,
-            },
+            | SizeCallIn::TranslatePage { page } => Some(*page),
+            SizeCallIn::IdentityMap { frame, .. } => identity_page::<S, L>(*frame),
+        }
+    }
+
+    /// Returns true if the call's page has this index of the highest level. The page of an identity map counts if
+    /// there is one.
+    fn names(&self, index: PageTableIndex) -> bool
+        ensures { result ≡ size_names L.LEVELS P5.bits self.now index }
+    {
+        match self.page() {
+            Some(page) => page.table_index(L::LEVELS) == index,
+            None => false,
+        }
+    }
+
+    /// Returns the start address of the call's page, if it has one.
+    fn page_start(&self) -> Option<VirtAddrIn<L>>
+        ensures { result ≡ page_of L.LEVELS (size_asks P5.bits self.now) }
+    {
+        match self.page() {
+            Some(page) => Some(page.start_address()),
+            None => None,
         }
     }
 }
@@ -245,7 +262,7 @@ pub type Call = CallIn<FourLevels, NoLevelFive>;
 pub type Call57 = CallIn<FiveLevels, PageTableFlags>;
 
 impl<L: LevelCount, P5: LevelFiveFlags<L>> CallIn<L, P5> {
-    ghost use Rattle.x86_64.specs.Calls.{names};
+    ghost use Rattle.x86_64.specs.Calls.{asks, names, page_start};
 
     /// Returns true if the call's page or address has this index of the highest level, which is level four, or level
     /// five if there are five levels. The page of an identity map counts if there is one, that is if the frame starts
@@ -261,6 +278,22 @@ impl<L: LevelCount, P5: LevelFiveFlags<L>> CallIn<L, P5> {
             CallIn::Translate(addr) | CallIn::TranslateAddr(addr) => addr.table_index(L::LEVELS)
                 == index,
             CallIn::CleanUp | CallIn::CleanUpRange(_) => false,
+        }
+    }
+
+    /// Returns the start address of the call's page, or `None` if the call has none: a translation of an address, a clean
+    /// up, an identity map of a frame that doesn't start in the lower half of the address space.
+    pub fn page_start(&self) -> Option<VirtAddrIn<L>>
+        ensures { result ≡ page_start L.LEVELS (asks P5.bits self.now) }
+    {
+        match self {
+            CallIn::Of4KiB(call) => call.page_start(),
+            CallIn::Of2MiB(call) => call.page_start(),
+            CallIn::Of1GiB(call) => call.page_start(),
+            CallIn::Translate(_)
+            | CallIn::TranslateAddr(_)
+            | CallIn::CleanUp
+            | CallIn::CleanUpRange(_) => None,
         }
     }
 }

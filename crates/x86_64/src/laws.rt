@@ -3,7 +3,12 @@
 ghost use Rattle.x86_64.specs.CallEvents.{RunCallsAreEvents};
 ghost use Rattle.x86_64.specs.EmptyRoots.{EmptyRootsAreSpaces, EmptyRootsShareNothing, TwoEmptyRoots};
 ghost use Rattle.x86_64.specs.EveryWord.{EveryWordIsDecided};
+ghost use Rattle.x86_64.specs.FlushesDue.{FlushesSettle, FlushesAreLeast};
+ghost use Rattle.x86_64.specs.OneEntry.{OneEntryDecides};
 ghost use Rattle.x86_64.specs.PlacesStay.{PlacesStay, OffsetsFitStill};
+ghost use Rattle.x86_64.specs.Processors.{ArisesFirst, ArisesByCaching, ArisesByCalls, ArisesByFlushes, ArisesByFlushedCalls, FlushedAccessesGo};
+ghost use Rattle.x86_64.specs.RangeFlushes.{RangeFlushesSuffice};
+ghost use Rattle.x86_64.specs.SeveralProcessors.{EachIsFlushed, AllSeeTheSame};
 ghost use Rattle.x86_64.specs.ToldReplies.{RepliesTell};
 
 /// A reply determines the machine's reply to the call, for any number of levels, except for the frame in the
@@ -38,4 +43,44 @@ pub fn every_word_is_decided()
 /// kernel that flushes and a processor that caches, so that the laws of caches of `x86_64_model` apply.
 pub fn run_calls_are_events()
     ensures { RunCallsAreEvents }
+{}
+
+/// The flush that [`flush_after`](crate::flushing::flush_after) returns settles all that is due, and is the least that does.
+pub fn flushes_settle_what_is_due()
+    ensures settled { FlushesSettle }
+    ensures least { FlushesAreLeast }
+{}
+
+/// Beside a processor that caches at any moment between calls: what [`run_call`](crate::run_call) ensures of a call, and
+/// then the flush that [`flush_after`](crate::flushing::flush_after) returns, leave nothing due, and then each access goes
+/// with the page walk, with no right more. So this holds after any calls with their flushes, from empty caches on. Several
+/// calls may come before one flush, if tables are flushed before the next map.
+pub fn flushed_calls_leave_no_stale_item()
+    ensures first { ArisesFirst }
+    ensures caching { ArisesByCaching }
+    ensures calls { ArisesByCalls }
+    ensures flushes { ArisesByFlushes }
+    ensures both { ArisesByFlushedCalls }
+    ensures accesses { FlushedAccessesGo }
+{}
+
+/// Several processors that use one hierarchy: if what each sees may happen, with its own flushes before the next map, the
+/// accesses of each go with the page walk, and all see the same words.
+pub fn several_processors_are_flushed_each()
+    ensures each { EachIsFlushed }
+    ensures same { AllSeeTheSame }
+{}
+
+/// If the entry that `update_flags` or a change of a table's flags writes loses nothing, as
+/// [`loses`](crate::flushing::loses) tests, no used entry does. So
+/// [`flush_after_change`](crate::flushing::flush_after_change) may be told that none does.
+pub fn one_entry_decides_a_change_of_flags()
+    ensures { OneEntryDecides }
+{}
+
+/// The flush of the token that a range's unmap or change of flags returns suffices: if none of its items
+/// covers a position (the number of an address counted without the gap), and the page walk arrived there before, it
+/// still arrives at the same address, with no right lost.
+pub fn flushes_of_ranges_suffice()
+    ensures { RangeFlushesSuffice }
 {}

@@ -6,6 +6,7 @@
 #![tactic(auto)]
 
 mod calls;
+pub mod flushing;
 pub mod laws;
 mod runs;
 pub mod structures;
@@ -36,7 +37,8 @@ pub use x86_64_tables::frame_alloc::{
     FrameKeeper, FramePool, FrameStore, LentPool, OwnFrames, PoolRefusal,
 };
 pub use x86_64_tables::mapper::{
-    FlushItem, FlushRecorder, PageTables, PageTables57, Tables, TablesIn, parent_flags,
+    FlushItem, FlushRecorder, MOST_PAGE_ITEMS, PageTables, PageTables57, Tables, TablesIn,
+    page_after, parent_flags,
 };
 pub use x86_64_tables::phys_memory::{
     ActiveMemory, ActiveMemory57, FramePlace, IdentityMapping, LentMemory, PhysMemory,

@@ -6,16 +6,19 @@
 //! Without arguments, it does a small fixed run, and prints the number of times that each operation was done. The
 //! arguments are `M contiguous` or `M scattered`, and a size of pages that is 4KiB by default. With these, it maps M
 //! pages in each of seven rounds, with one mapper after another. It prints a table of the least processor time of
-//! each operation to standard error, with its ratio to the time of the first mapper.
+//! each operation to standard error, with its ratio to the time of the first mapper. For contiguous pages it also maps
+//! them, changes their flags and unmaps them one by one and as one range, by the first mapper, and prints both times.
 #![tactic(auto)]
 
 mod listing;
 mod page_calls;
+mod ranges;
 mod report;
 mod rounds;
 mod workload;
 
-use crate::report::{Measured, report_counts, report_table};
+use crate::ranges::{RangeRound, Way, measure_ranges};
+use crate::report::{Measured, report_change_table, report_changes, report_counts, report_table};
 use crate::rounds::{Access, measure};
 use crate::workload::{Pattern, Workload};
 use std::process::ExitCode;
@@ -70,7 +73,25 @@ fn run_once(rt: &HostRuntime) -> io::Result<ExitCode> {
             return Ok(ExitCode::from(2));
         }
     }
+    for way in Way::ALL {
+        if !count_changes::<Size4KiB>(rt, way)? || !count_changes::<Size2MiB>(rt, way)? {
+            return Ok(ExitCode::from(2));
+        }
+    }
     Ok(ExitCode::from(0))
+}
+
+/// Does one round of changes of contiguous pages of a size, and prints the number of times that each was done. Returns
+/// true if the round could be done.
+fn count_changes<S: PageSize>(rt: &HostRuntime, way: Way) -> io::Result<bool> {
+    let workload = Workload::new(SMALL.0, Pattern::Contiguous);
+    match measure_ranges::<S>(rt.alloc(), rt, workload, way)? {
+        Some(round) => {
+            report_changes(rt, way, S::DEBUG_STR, &round)?;
+            Ok(true)
+        }
+        None => Ok(false),
+    }
 }
 
 /// Does one round of the small workload with pages of a size, and prints the number of times that each operation was
@@ -95,7 +116,37 @@ fn compare<S: PageSize>(rt: &HostRuntime, workload: Workload) -> io::Result<Exit
         }
     }
     report_table(rt, &rounds)?;
+    match workload.pattern {
+        Pattern::Contiguous => compare_changes::<S>(rt, workload),
+        Pattern::Scattered => Ok(ExitCode::from(0)),
+    }
+}
+
+/// Does all rounds of changes of contiguous pages of a size, and prints the time of each change.
+fn compare_changes<S: PageSize>(rt: &HostRuntime, workload: Workload) -> io::Result<ExitCode> {
+    let mut rounds = Vec::new(rt.alloc());
+    for _ in 0..ROUNDS {
+        if !add_changes::<S>(rt, workload, &mut rounds)? {
+            return Ok(ExitCode::from(2));
+        }
+    }
+    report_change_table(rt, &rounds)?;
     Ok(ExitCode::from(0))
+}
+
+/// Does a round of changes in each way. Returns true if all could be done.
+fn add_changes<S: PageSize>(
+    rt: &HostRuntime,
+    workload: Workload,
+    rounds: &mut Vec<(Way, RangeRound)>,
+) -> io::Result<bool> {
+    for way in Way::ALL {
+        let Some(round) = measure_ranges::<S>(rt.alloc(), rt, workload, way)? else {
+            return Ok(false);
+        };
+        rounds.push((way, round))?;
+    }
+    Ok(true)
 }
 
 /// Does a round with each mapper. Returns true if all could be done.

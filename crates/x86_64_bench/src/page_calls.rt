@@ -6,10 +6,10 @@ use crate::workload::Workload;
 use bitflags::Flags;
 use x86_64::structures::paging::{FrameAllocator, PageSize, PageTableFlags, Size4KiB};
 use x86_64::{LevelCount, TablesIn, is_outside_window};
-use x86_64_mappers::calls::{TableAccess, map_to, translate_addr, unmap};
+use x86_64_mappers::calls::{TableAccess, map_to, translate_addr, unmap, update_flags};
 
 /// Returns the flags of each page.
-fn flags() -> PageTableFlags
+pub fn flags() -> PageTableFlags
     ensures { result.0 ≡ 3 }
 {
     PageTableFlags::PRESENT.union(PageTableFlags::WRITABLE)
@@ -53,6 +53,28 @@ pub fn unmap_page<S: PageSize, L: LevelCount, M: TableAccess + TablesIn<L>>(
     }
     match unmap(mapper, page) {
         Ok((_, flush)) => {
+            flush.ignore();
+            true
+        }
+        Err(_) => false,
+    }
+}
+
+/// Sets the flags of the `k`-th page, and returns true if it was mapped.
+pub fn update_page<S: PageSize, L: LevelCount, M: TableAccess + TablesIn<L>>(
+    mapper: &mut M,
+    workload: Workload,
+    k: u32,
+) -> bool
+    requires { Valid (M.hierarchy mapper.old) }
+    ensures { Valid (M.hierarchy mapper.new) }
+{
+    let page = workload.page::<S, L>(k);
+    if flags().has_address_bits() || !is_outside_window(mapper, page) {
+        return false;
+    }
+    match update_flags(mapper, page, flags()) {
+        Ok(flush) => {
             flush.ignore();
             true
         }

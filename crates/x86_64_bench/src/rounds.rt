@@ -85,11 +85,12 @@ impl Access {
 }
 
 /// Maps all pages, and returns the number of mapped pages.
-fn map_all<S: PageSize, L: LevelCount, M: TableAccess + TablesIn<L>, A: FrameAllocator<Size4KiB>>(
-    mapper: &mut M,
-    allocator: &mut A,
-    workload: Workload,
-) -> u64
+pub fn map_all<
+    S: PageSize,
+    L: LevelCount,
+    M: TableAccess + TablesIn<L>,
+    A: FrameAllocator<Size4KiB>,
+>(mapper: &mut M, allocator: &mut A, workload: Workload) -> u64
     requires { SupplyFits (M.hierarchy mapper.old) (A.supply allocator.old) }
     ensures { SupplyFits (M.hierarchy mapper.new) (A.supply allocator.new) }
 {
@@ -102,7 +103,7 @@ fn map_all<S: PageSize, L: LevelCount, M: TableAccess + TablesIn<L>, A: FrameAll
 }
 
 /// Unmaps all pages, and returns the number of unmapped pages.
-fn unmap_all<S: PageSize, L: LevelCount, M: TableAccess + TablesIn<L>>(
+pub fn unmap_all<S: PageSize, L: LevelCount, M: TableAccess + TablesIn<L>>(
     mapper: &mut M,
     workload: Workload,
 ) -> u64
@@ -277,7 +278,7 @@ fn measure_unmap<S: PageSize, L: LevelCount, M: TableAccess + TablesIn<L>>(
 }
 
 /// Returns the processor time since a start.
-fn since(clock: &impl CpuClock, start: Duration) -> io::Result<Duration> {
+pub fn since(clock: &impl CpuClock, start: Duration) -> io::Result<Duration> {
     Ok(clock.thread_cpu_time()?.saturating_sub(start))
 }
 
@@ -340,7 +341,7 @@ fn empty_tables(alloc: Global, count: usize) -> Result<Vec<PageTable>, AllocErro
 /// # Errors
 ///
 /// `AllocError` if memory allocation fails.
-fn pool_fits_in<L: LevelCount, T: TableMemory>(
+pub fn pool_fits_in<L: LevelCount, T: TableMemory>(
     alloc: Global,
     memory: &T,
     root: PhysFrame<Size4KiB>,

@@ -30,7 +30,8 @@ pub enum Pattern {
 pub struct Workload {
     /// The number of mapped pages.
     pub pages: u32,
-    pattern: Pattern,
+    /// Their pattern.
+    pub pattern: Pattern,
 }
 
 impl Workload {

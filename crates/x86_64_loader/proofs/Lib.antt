@@ -1,12 +1,13 @@
 mod Listed
 mod Made
 mod OneMap
+mod MappedRanges
 mod Runs
 mod Holding
 mod SizedParts
 mod Sequences
 mod Segments
-mod Windows
+mod AllowedSegments
 mod Ascending
 mod Frames
 mod Succeeding

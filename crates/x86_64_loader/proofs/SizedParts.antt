@@ -46,7 +46,7 @@ or_is true c h e = cc
 or_is false c h e = e
 
 -- with PRESENT, if a page of 4KiB may be mapped, one of any size outside the window may be
-pub elsewhere_allowed : (L : ℕ) (window : Option Window) (M : PathMap) (p given : ℕ) (q : List ℕ) → present given ≡ true
+elsewhere_allowed : (L : ℕ) (window : Option Window) (M : PathMap) (p given : ℕ) (q : List ℕ) → present given ≡ true
     → map_allowed L window M (path_at L 1 p) given (parent_part given) ≡ true → begins_with window q ≡ false → map_allowed L window M q given (parent_part given) ≡ true
 elsewhere_allowed L window M p given q is_present allowed outside =
     let p5 = and_parts _ _ allowed in let p4 = and_parts _ _ p5.0 in let p3 = and_parts _ _ p4.0 in

@@ -6,9 +6,10 @@ ghost use Rattle.x86_64_loader.specs.Maps.{Accepts, Kept};
 ghost use Rattle.x86_64_loader.specs.Segments.{Disjoint, IsAllowed, IsLoaded, IsRefused, Suffices, large_pages, size_of, small_pages};
 ghost use Rattle.x86_64_model.specs.Mapper.{SupplyFits};
 
-use crate::pages::{Stopped, page_after};
+use crate::pages::Stopped;
 use crate::parts::{map_part, pages_before_large};
 use crate::segment::{LoadError, Segment};
+use x86_64::page_after;
 use x86_64::structures::paging::mapper::MapperAllSizes;
 use x86_64::structures::paging::{FrameAllocator, Size2MiB, Size4KiB};
 

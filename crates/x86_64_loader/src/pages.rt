@@ -1,16 +1,16 @@
 //! Maps of runs of pages of one size.
-ghost use Rattle.std.specs.Prelude.{◌≡◌, ◌+◌, ◌*◌, ◌%◌, ◌^◌, ◌<◌, [], ◌∷◌, ℕ, true, OnOk, OnErr, IfErr};
+ghost use Rattle.std.specs.Prelude.{◌≡◌, ◌*◌, ◌%◌, ◌<◌, ℕ, true, OnOk, IfErr};
 ghost use Rattle.x86_64_loader.specs.private.Loads.{IsStopped};
-ghost use Rattle.x86_64_loader.specs.Maps.{Accepts, Made};
+ghost use Rattle.x86_64_loader.specs.Maps.{Accepts};
 ghost use Rattle.x86_64_loader.specs.Pages.{MayBeMapped, RunStands, IsFree, Leaves};
-ghost use Rattle.x86_64_loader.specs.Segments.{mapping_of, run_of};
-ghost use Rattle.x86_64_model.specs.Call.{Answered, MapTo};
+ghost use Rattle.x86_64_loader.specs.Segments.{run_of};
 ghost use Rattle.x86_64_model.specs.Entry.{present};
-ghost use Rattle.x86_64_model.specs.Mapper.{SupplyFits, MayMap, Stands, path_of};
-ghost use Rattle.x86_64_tables.specs.MapperAnswers.{map_answer, map_refusal};
+ghost use Rattle.x86_64_model.specs.Mapper.{SupplyFits};
+ghost use Rattle.x86_64_tables.specs.MapperAnswers.{map_refusal};
 ghost use Rattle.x86_64_tables.specs.PageTableFlags.{bits_of};
 
-use x86_64::structures::paging::mapper::MapToError;
+use x86_64::parent_flags;
+use x86_64::structures::paging::mapper::{MapRangeError, MapToError};
 use x86_64::structures::paging::{
     FrameAllocator, Mapper, Page, PageSize, PageTableFlags, PhysFrame, Size4KiB,
 };
@@ -22,44 +22,6 @@ pub(crate) struct Stopped<S: PageSize> {
     pub(crate) mapped: u64,
     /// The reason for the refusal.
     pub(crate) why: MapToError<S>,
-}
-
-/// Returns the page this number of pages after a page. Requires that it exists.
-pub(crate) fn page_after<S: PageSize>(page: Page<S>, count: u64) -> Page<S>
-    requires { page + count * S.SIZE < 2 ^ 48 }
-    ensures { result ≡ page + count * S.SIZE }
-{
-    match Page::forward_checked(page, count as usize) {
-        Some(page) => page,
-        None => unreachable!(),
-    }
-}
-
-/// Maps a page with `PRESENT`. Consumes the token without a flush, since no page walk arrived in the page before.
-pub(crate) fn map_page<S: PageSize, M: Mapper<S>, A: FrameAllocator<Size4KiB>>(
-    mapper: &mut M,
-    frames: &mut A,
-    page: Page<S>,
-    frame: PhysFrame<S>,
-    flags: PageTableFlags,
-) -> Result<(), MapToError<S>>
-    requires is_present { present (bits_of flags) ≡ true }
-    requires may { let h = M.hierarchy mapper.old in
-        MayMap h (A.supply frames.old) (MapTo (path_of h S.LEVEL page) frame (bits_of flags)) }
-    ensures made { let h = M.hierarchy mapper.old in let supply = A.supply frames.old in
-        let this = mapping_of S.LEVEL page frame (bits_of flags) in
-        let answer = Answered (map_answer frame result) in
-        Made h supply (this ∷ []) (answer ∷ []) (M.hierarchy mapper.new) (A.supply frames.new) }
-    ensures stands { OnOk result (Stands (M.hierarchy mapper.new) S.LEVEL page frame (bits_of flags)) }
-    ensures was_free { OnOk result (IsFree (M.hierarchy mapper.old) page S.SIZE) }
-    ensures leaves_all { let h = M.hierarchy mapper.old in let supply = A.supply frames.old in
-        OnOk result (Leaves 3 h supply (M.hierarchy mapper.new) (A.supply frames.new)) }
-    ensures leaves_small { let h = M.hierarchy mapper.old in let supply = A.supply frames.old in
-        OnErr result (Leaves S.LEVEL h supply (M.hierarchy mapper.new) (A.supply frames.new)) }
-    ensures serves { A.serves frames.new ≡ A.serves frames.old }
-{
-    mapper.map_to(page, frame, flags, frames)?.ignore();
-    Ok(())
 }
 
 /// Maps a number of pages, from a page on, to the frames from a frame on, in order and with `PRESENT`.
@@ -91,11 +53,18 @@ pub(crate) fn map_pages<S: PageSize, M: Mapper<S>, A: FrameAllocator<Size4KiB>>(
     ensures page_aligned { page % S.SIZE ≡ 0 }
     ensures frame_aligned { frame % S.SIZE ≡ 0 }
 {
-    for k in 0..count {
-        let (page, frame) = (page_after(page, k), frame + k);
-        if let Err(why) = map_page(mapper, frames, page, frame, flags) {
-            return Err(Stopped { mapped: k, why });
+    let parent_flags = parent_flags(flags);
+    match mapper.map_range(page, count, frame, flags, parent_flags, frames) {
+        // No flush is due, since no page walk arrived in the pages before.
+        Ok(flush) => {
+            flush.ignore();
+            Ok(())
+        }
+        Err(error) => {
+            let MapRangeError { mapped, why } = error;
+            let count = mapped.count();
+            mapped.ignore();
+            Err(Stopped { mapped: count, why })
         }
     }
-    Ok(())
 }

@@ -5,8 +5,9 @@ ghost use Rattle.x86_64_loader.specs.Segments.{IsAllowed, count_before, part_of,
 ghost use Rattle.x86_64_model.specs.Mapper.{SupplyFits};
 ghost use Rattle.x86_64_tables.specs.MapperAnswers.{map_refusal};
 
-use crate::pages::{Stopped, map_pages, page_after};
+use crate::pages::{Stopped, map_pages};
 use crate::segment::Segment;
+use x86_64::page_after;
 use x86_64::structures::paging::mapper::MapToError;
 use x86_64::structures::paging::{FrameAllocator, Mapper, Page, PageSize, PhysFrame, Size4KiB};
 

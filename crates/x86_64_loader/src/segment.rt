@@ -1,15 +1,10 @@
 //! Segments, the tests of them, and the errors of loads.
-ghost use Rattle.std.specs.Prelude.{◌≡◌, ◌+◌, ◌-◌, ◌*◌, ◌/◌, ◌^◌, ◌<◌, ◌≤◌, ◌↔◌, ℕ, true, None, IsTrue, IfSome};
+ghost use Rattle.std.specs.Prelude.{◌≡◌, ◌+◌, ◌-◌, ◌*◌, ◌/◌, ◌^◌, ◌<◌, ◌≤◌, ◌↔◌, true, None, IsTrue, IfSome};
 ghost use Rattle.std.specs.List.{All};
-ghost use Rattle.x86_64_loader.specs.Pages.{MayBeMapped};
 ghost use Rattle.x86_64_loader.specs.Segments.{IsAllowed, IsInside, frames_for, tables_of};
-ghost use Rattle.x86_64_loader.specs.private.Windows.{AreOutside};
-ghost use Rattle.x86_64_model.specs.Entry.{present};
 ghost use Rattle.x86_64_model.specs.Mapper.{Valid};
-ghost use Rattle.x86_64_tables.specs.PageTableFlags.{bits_of};
 
-use bitflags::Flags;
-use x86_64::structures::paging::mapper::{MapToError, Tables};
+use x86_64::structures::paging::mapper::MapToError;
 use x86_64::structures::paging::{Mapper, Page, PageTableFlags, PhysFrame, Size4KiB};
 use x86_64::{VirtAddr, parent_flags};
 
@@ -44,8 +39,7 @@ pub struct LoadError {
 /// Returns true if segments may be loaded: the flags of each have `PRESENT`, each of its pages and frames exists, and
 /// each page may be mapped with its flags, as [`map_allowed`](Mapper::map_allowed) says.
 ///
-/// Looks at each segment once, however many pages it has. With `PRESENT` among the flags, whether a page may be
-/// mapped depends only on the flags and on the recursive index (the index of the root's entry for itself).
+/// Looks at each segment once, however many pages it has.
 ///
 /// Requires that the hierarchy is valid.
 pub fn segments_allowed<M: Mapper<Size4KiB>>(mapper: &M, segments: &[Segment]) -> bool
@@ -62,64 +56,16 @@ pub fn segments_allowed<M: Mapper<Size4KiB>>(mapper: &M, segments: &[Segment]) -
 }
 
 /// Returns true if a segment may be loaded.
-#[tactic(auto, unfolding(x86_64_model::specs::Entry::has))]
 fn segment_allowed<M: Mapper<Size4KiB>>(mapper: &M, segment: &Segment) -> bool
-    requires { Valid (M.hierarchy mapper.now) }
     ensures { IsTrue result ↔ IsAllowed (M.hierarchy mapper.now) segment.now }
 {
-    if !segment.flags.contains(PageTableFlags::PRESENT) {
-        return false;
-    }
-    if segment.pages == 0 {
-        return true;
-    }
-    pages_allowed(mapper, segment, segment.pages - 1)
-}
-
-/// Returns true if the pages of a segment, up to the one with number `last`, may be mapped to their frames. Requires
-/// that the segment's flags have `PRESENT`.
-fn pages_allowed<M: Mapper<Size4KiB>>(mapper: &M, segment: &Segment, last: u64) -> bool
-    requires valid { Valid (M.hierarchy mapper.now) }
-    requires is_present { present (bits_of segment.now.flags) ≡ true }
-    ensures allowed { let h = M.hierarchy mapper.now in let s = segment.now in
-        IsTrue result ↔ ((k : ℕ) → k ≤ last → MayBeMapped h 1 0x1000 s.page s.frame (bits_of s.flags) k) }
-{
-    let Some(end) = Page::forward_checked(segment.page, last as usize) else {
-        return false;
-    };
-    let there = frame_is_there(segment.frame, last);
-    let allowed = mapper.map_allowed(segment.page, segment.flags, parent_flags(segment.flags));
-    let outside = are_outside_window(mapper, segment.page, end);
-    there & allowed & outside
-}
-
-/// Returns true if every page from the first to the last one is outside the recursive window: its index of level four
-/// isn't the recursive index.
-fn are_outside_window<M: Mapper<Size4KiB>>(
-    mapper: &M,
-    first: Page<Size4KiB>,
-    last: Page<Size4KiB>,
-) -> bool
-    requires { first ≤ last }
-    ensures { let h = M.hierarchy mapper.now in
-        IsTrue result ↔ AreOutside h first last }
-{
-    let Some(index) = mapper.recursive_index() else {
-        return true;
-    };
-    let index = u16::from(index);
-    let (first, last) = (u16::from(first.p4_index()), u16::from(last.p4_index()));
-    (index < first) | (last < index)
-}
-
-/// Returns true if there is a frame this number of frames after another.
-fn frame_is_there(frame: PhysFrame<Size4KiB>, count: u64) -> bool
-    ensures { IsTrue result ↔ (frame + count * 0x1000 < 2 ^ 52) }
-{
-    match frame.pfn().checked_add(count) {
-        Some(number) => PhysFrame::<Size4KiB>::try_from_pfn(number).is_ok(),
-        None => false,
-    }
+    mapper.map_range_allowed(
+        segment.page,
+        segment.pages,
+        segment.frame,
+        segment.flags,
+        parent_flags(segment.flags),
+    )
 }
 
 /// Returns a number of frames that suffices to load segments: one for each table on the paths to their pages, as if

@@ -9,6 +9,7 @@ ghost use Rattle.x86_64_mappers.specs.Layouts.{direct};
 mod clean_up;
 mod five_levels;
 mod five_levels_flushes;
+mod flushing;
 mod layer;
 mod lent;
 mod offset;

@@ -9,3 +9,5 @@ pub mod ChangeRuns
 pub mod ChangedWords
 pub mod ChangeParts
 pub mod EntryCalls
+pub mod StoppedParts
+pub mod GrownParents

@@ -6,3 +6,5 @@ pub mod Outside
 pub mod Finds
 pub mod ReachedSteps
 pub mod PresentParents
+pub mod FirstIndex
+pub mod PageRanges

@@ -5,6 +5,7 @@ use Rattle.std.specs.FinMap.{insert}
 use Rattle.x86_64_model.specs.Layout.{Layout, words}
 use Rattle.x86_64_model.specs.Memory.{Memory}
 use Rattle.x86_64_model.specs.Mapper.{Hierarchy}
+use Rattle.x86_64_tables.specs.PageTable.{zero_words}
 use Rattle.x86_64_tables.specs.contracts.page_table.entry.PageTableEntry.{the_row as entry_row}
 
 -- the table in a frame
@@ -14,6 +15,10 @@ table_in l m f = unwrap_or (words l m f) []
 -- the memory with another table in a frame
 abbrev pub put_table : {Lent : Type 0} → Hierarchy Lent → (frame : ℕ) → List ℕ → Memory
 put_table h f table = insert h.memory (h.layout.places.place f) table
+
+-- the hierarchy after all words of a frame's table were set to 0
+abbrev pub with_zeros : {Lent : Type 0} → Hierarchy Lent → (frame : ℕ) → Hierarchy Lent
+with_zeros h f = record { layout = h.layout; memory = put_table h f zero_words; lent = h.lent }
 
 -- a mapper ends as F of the last word behind the lent reference r
 abbrev pub LendsEntryBy : (mapper : RattleType) → MutBor mapper.Denot → (r : MutBor ℕ) → (F : ℕ → mapper.Denot) → Fml

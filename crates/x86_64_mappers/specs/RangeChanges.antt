@@ -1,14 +1,20 @@
--- Runs of calls that each change at most the entry of one page: unmaps, and changes of flags, of pages of one size from one page
--- on.
-use Rattle.std.specs.Prelude.{◌≡◌, ◌+◌, ◌*◌, ℕ, List, [], ◌∷◌, map}
+-- Ranges of pages of one size, from one page on, and calls that each change at most the entry of one page of them: unmaps, and
+-- changes of flags.
+use Rattle.std.specs.Prelude.{◌≡◌, ◌<◌, ◌+◌, ◌*◌, ℕ, false, List, [], ◌∷◌, map}
 use Rattle.std.specs.List.{range_with_len}
 use Rattle.x86_64_model.specs.Call.{Call, Unmap, UpdateFlags, Reply, NotAllowed, Answered, Position, Address, Cleaned}
 use Rattle.x86_64_model.specs.Machine.{replies_of, state_after}
-use Rattle.x86_64_model.specs.Mapper.{Hierarchy, Valid, SupplyFits, KeepsOthers, machine_of, state_of, paths}
+use Rattle.x86_64_model.specs.Mapper.{Hierarchy, Valid, SupplyFits, KeepsOthers, machine_of, state_of, path_of, paths}
 use Rattle.x86_64_model.specs.Path.{path_at}
 use Rattle.x86_64_model.specs.Pool.{IsTable}
-use Rattle.x86_64_model.specs.Position.{span}
+use Rattle.x86_64_model.specs.Position.{span, position_count}
 use Rattle.x86_64_model.specs.Refusal.{Done, Refused}
+use Rattle.x86_64_model.specs.Window.{begins_with}
+
+-- The first pages of a level, from a page on, exist and are outside the recursive window.
+pub record IsRange {Lent : Type 0} (h : Hierarchy Lent) (level page count : ℕ) : Type 0 where
+  pub there : (k : ℕ) → k < count → page + k * span level < position_count h.layout.levels
+  pub outside : (k : ℕ) → k < count → begins_with h.layout.window (path_of h level (page + k * span level)) ≡ false
 
 -- the unmaps of the first pages of a level, from a page on, with L levels of tables
 abbrev pub unmaps : (L level page count : ℕ) → List Call

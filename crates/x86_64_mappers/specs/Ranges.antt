@@ -1,57 +1,68 @@
--- Runs of maps: pages of one size from one page on, mapped to as many frames from one frame on.
-use Rattle.std.specs.Prelude.{◌≡◌, ◌+◌, ◌*◌, ◌^◌, ◌<◌, ℕ, true, List, [], ◌∷◌, ◌++◌, map}
+-- Ranges of pages of one size, from one page on, and their maps to as many frames, from one frame on.
+use Rattle.std.specs.Prelude.{zero, suc, ◌≡◌, ◌+◌, ◌*◌, ◌^◌, ◌<◌, ℕ, true, List, [], ◌∷◌, ◌++◌, map}
 use Rattle.std.specs.List.{range_with_len}
 use Rattle.x86_64_model.specs.Arrivals.{Arrives}
 use Rattle.x86_64_model.specs.Call.{Call, MapToWithTableFlags, Reply, Answered}
-use Rattle.x86_64_model.specs.Entry.{present}
 use Rattle.x86_64_model.specs.Lists.{In}
 use Rattle.x86_64_model.specs.Machine.{replies_of, state_after}
-use Rattle.x86_64_model.specs.Mapper.{Hierarchy, SupplyFits, Owns, KeepsOthers, allows_map, machine_of, state_of, path_of, walk}
+use Rattle.x86_64_model.specs.Mapper.{Hierarchy, SupplyFits, MayMap, DoesMap, Owns, KeepsOthers, allows_map, machine_of, state_of, path_of, walk}
 use Rattle.x86_64_model.specs.Path.{path_at}
-use Rattle.x86_64_model.specs.Position.{span}
-use Rattle.x86_64_model.specs.Refusal.{Refusal, Done, Refused}
+use Rattle.x86_64_model.specs.Position.{span, position_count}
+use Rattle.x86_64_model.specs.Refusal.{Refusal, Answer, Done, Refused}
 
--- the first page, by its position, and the first frame of a run of pages of a level, with the flags of each map
-pub record MapRun : Type 0 where
+-- the first page, by its position, and the first frame of a range of pages of a level, with the flags of each map
+pub record MapRange : Type 0 where
   pub level : ℕ
   pub page : ℕ
   pub frame : ℕ
   pub flags : ℕ
   pub parent_flags : ℕ
 
-abbrev pub run_of : (level page frame flags parent_flags : ℕ) → MapRun
-run_of level page frame given more = record { level = level; page = page; frame = frame; flags = given; parent_flags = more }
+abbrev pub range_of : (level page frame flags parent_flags : ℕ) → MapRange
+range_of level page frame given more = record { level = level; page = page; frame = frame; flags = given; parent_flags = more }
 
--- page k of a run, and its frame
-abbrev pub page_at : MapRun → (k : ℕ) → ℕ
+-- page k of a range, and its frame
+abbrev pub page_at : MapRange → (k : ℕ) → ℕ
 page_at r k = r.page + k * span r.level
 
-abbrev pub frame_at : MapRun → (k : ℕ) → ℕ
+abbrev pub frame_at : MapRange → (k : ℕ) → ℕ
 frame_at r k = r.frame + k * span r.level
 
 -- the call that maps page k, with L levels of tables
-abbrev pub map_at : (L : ℕ) → MapRun → (k : ℕ) → Call
+abbrev pub map_at : (L : ℕ) → MapRange → (k : ℕ) → Call
 map_at L r k = MapToWithTableFlags (path_at L r.level (page_at r k)) (frame_at r k) r.flags r.parent_flags
 
--- the calls that map the first pages of a run, in order, and the replies if all are accepted
-abbrev pub maps : (L : ℕ) → MapRun → (count : ℕ) → List Call
+-- the calls that map the first pages of a range, in order, and the replies if all are accepted
+abbrev pub maps : (L : ℕ) → MapRange → (count : ℕ) → List Call
 maps L r count = map (λ k. map_at L r k) (range_with_len 0 count)
 
-abbrev pub accepted : MapRun → (count : ℕ) → List Reply
+abbrev pub accepted : MapRange → (count : ℕ) → List Reply
 accepted r count = map (λ k. Answered (Done (frame_at r k))) (range_with_len 0 count)
 
--- The first pages of a run may be mapped: the hierarchy is valid and the supply fits it, the parent flags have PRESENT, and for
--- each page its frame exists and the map's own condition holds.
-pub record MayMapRun {Lent : Type 0} (h : Hierarchy Lent) (supply : List ℕ) (r : MapRun) (count : ℕ) : Type 0 where
-  pub fits : SupplyFits h supply
-  pub is_present : present r.parent_flags ≡ true
+-- The first pages of a range may be mapped: each page and its frame exist, and the map's own condition holds.
+pub record MayMapRange {Lent : Type 0} (h : Hierarchy Lent) (r : MapRange) (count : ℕ) : Type 0 where
+  pub pages : (k : ℕ) → k < count → page_at r k < position_count h.layout.levels
   pub frames : (k : ℕ) → k < count → frame_at r k < 2 ^ 52
   pub allowed : (k : ℕ) → k < count → allows_map h (path_of h r.level (page_at r k)) r.flags r.parent_flags ≡ true
 
--- What the maps of the first pages of a run, one after another, leave. Replies and state are the machine's for this list of calls,
--- the rest of the supply fits, and only words in the root, the tables and the taken frames change. Each page walk that arrived
--- still arrives at the same address, loses no right, and gains only rights that the parent flags grant.
-pub record DoesMaps {Lent : Type 0} (h : Hierarchy Lent) (supply : List ℕ) (r : MapRun) (count : ℕ) (answers : List Reply) (after : Hierarchy Lent) (rest : List ℕ) : Type 0 where
+-- A map that may be made, was made, and got the last of these answers.
+pub record IsNextMap {Lent : Type 0} (h : Hierarchy Lent) (supply : List ℕ) (call : Call) (before answers : List Reply) (after : Hierarchy Lent) (rest : List ℕ) : Type 0 where
+  pub answer : Answer
+  pub may : MayMap h supply call
+  pub does : DoesMap h supply call answer after rest
+  pub last : answers ≡ before ++ Answered answer ∷ []
+
+-- The first pages of a range were mapped one after another, and each map did what a single one does.
+abbrev pub MapsEach : {Lent : Type 0} → Hierarchy Lent → (supply : List ℕ) → MapRange → (count : ℕ) → (answers : List Reply) → (after : Hierarchy Lent) → (rest : List ℕ) → Type 0
+MapsEach h supply r zero answers after rest = (answers ≡ []) × (after ≡ h) × (rest ≡ supply)
+MapsEach {Lent} h supply r (suc k) answers after rest = (now : Hierarchy Lent) × (left : List ℕ) × (before : List Reply) × MapsEach h supply r k before now left
+    × IsNextMap now left (map_at h.layout.levels r k) before answers after rest
+
+-- What the maps of the first pages of a range, one after another, leave. Each does what a single map does. Replies and state are the
+-- machine's for this list of calls, the rest of the supply fits, and only words in the root, the tables and the taken frames change.
+-- Each page walk that arrived still arrives at the same address, loses no right, and gains only rights that the parent flags grant.
+pub record DoesMaps {Lent : Type 0} (h : Hierarchy Lent) (supply : List ℕ) (r : MapRange) (count : ℕ) (answers : List Reply) (after : Hierarchy Lent) (rest : List ℕ) : Type 0 where
+  pub each : MapsEach h supply r count answers after rest
   pub replies : (take_back : List ℕ → ℕ → List ℕ) → replies_of (machine_of h.layout take_back) (state_of h supply) (maps h.layout.levels r count) ≡ answers
   pub state : (take_back : List ℕ → ℕ → List ℕ) → state_after (machine_of h.layout take_back) (state_of h supply) (maps h.layout.levels r count) ≡ state_of after rest
   pub fits : SupplyFits after rest
@@ -61,10 +72,10 @@ pub record DoesMaps {Lent : Type 0} (h : Hierarchy Lent) (supply : List ℕ) (r 
   pub lent : after.lent ≡ h.lent
 
 -- all of the first pages were mapped
-abbrev pub MapsAll : {Lent : Type 0} → Hierarchy Lent → (supply : List ℕ) → MapRun → (count : ℕ) → (after : Hierarchy Lent) → (rest : List ℕ) → Type 0
+abbrev pub MapsAll : {Lent : Type 0} → Hierarchy Lent → (supply : List ℕ) → MapRange → (count : ℕ) → (after : Hierarchy Lent) → (rest : List ℕ) → Type 0
 MapsAll h supply r count after rest = DoesMaps h supply r count (accepted r count) after rest
 
 -- this many were mapped, and the map of the next one was refused; no further one was made
-abbrev pub StopsAt : {Lent : Type 0} → Hierarchy Lent → (supply : List ℕ) → MapRun → (count done : ℕ) → Refusal → (after : Hierarchy Lent) → (rest : List ℕ) → Type 0
+abbrev pub StopsAt : {Lent : Type 0} → Hierarchy Lent → (supply : List ℕ) → MapRange → (count done : ℕ) → Refusal → (after : Hierarchy Lent) → (rest : List ℕ) → Type 0
 StopsAt h supply r count done why after rest =
     (done < count) × DoesMaps h supply r (done + 1) (accepted r done ++ Answered (Refused why) ∷ []) after rest

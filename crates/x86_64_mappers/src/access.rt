@@ -1,9 +1,9 @@
 //! Access to tables by the paths that lead to them, which all mappers have in common.
-ghost use Rattle.std.specs.Prelude.{◌≡◌, ◌<◌, ℕ, List, length, slice_set, Some, IsSome};
+ghost use Rattle.std.specs.Prelude.{◌≡◌, ◌<◌, ℕ, Bool, if◌then◌else◌, List, length, slice_set, Some, IsSome};
 ghost use Rattle.std.specs.Borrow.{sem};
 ghost use Rattle.x86_64_model.specs.Memory.{word};
 ghost use Rattle.x86_64_model.specs.Mapper.{words};
-ghost use Rattle.x86_64_mappers.specs.AccessLending.{LendsEntryBy, table_in, put_table};
+ghost use Rattle.x86_64_mappers.specs.AccessLending.{LendsEntryBy, table_in, put_table, with_zeros};
 ghost use Rattle.x86_64_tables.specs.Lending.{LendsTableBy};
 ghost use Rattle.x86_64_mappers.specs.private.OwnedSteps.{SetsWord};
 ghost use Rattle.x86_64_mappers.specs.Reached.{Reaches};
@@ -34,6 +34,9 @@ pub trait TableAccess: Tables {
     /// The mapper with another table in a frame.
     ghost with_table: { Self → ℕ → List ℕ → Self };
 
+    /// Whether the mapper reaches a table that no entry names.
+    ghost reaches_unnamed: { Bool };
+
     /// Returns the root's frame.
     fn root(&self) -> PhysFrame<Size4KiB>
         ensures { result ≡ (Self.hierarchy self.now).layout.root };
@@ -54,6 +57,14 @@ pub trait TableAccess: Tables {
         requires short { length path.now < (Self.hierarchy self.old).layout.levels }
         ensures* lends { sem 𝓛 (LendsTableBy Self.row self.entry result (Self.with_table self.old frame)) }
         ensures value { words (Self.hierarchy self.old) frame ≡ Some result.now };
+
+    /// Clears the table in a frame and returns true, if the mapper reaches tables that no entry names. Otherwise returns
+    /// false, and changes nothing.
+    fn clear_unnamed(&mut self, frame: PhysFrame<Size4KiB>) -> bool
+        requires { IsSome (words (Self.hierarchy self.old) frame) }
+        ensures result { result ≡ Self.reaches_unnamed }
+        ensures cleared { let h = Self.hierarchy self.old in
+            Self.hierarchy self.new ≡ (if result then with_zeros h frame else h) };
 
     ghost puts: { (s : Self) (f : ℕ) (t : List ℕ) → IsSome (words (Self.Tables.hierarchy s) f) →
         (Self.Tables.hierarchy (with_table s f t)).memory ≡ put_table (Self.Tables.hierarchy s) f t };

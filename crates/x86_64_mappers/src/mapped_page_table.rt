@@ -22,7 +22,8 @@ use x86_64_tables::phys_memory::{
 
 /// A mapper for a hierarchy of `L` levels of page tables, which it finds in a memory by a frame mapping.
 ///
-/// It borrows the memory until it is dropped. Its hierarchy has no recursive index.
+/// It borrows the memory until it is dropped. Its hierarchy has no recursive index. It reaches a table by its frame, so
+/// a map clears a new table before it writes the entry that names it.
 pub struct Direct<'a, P: PageTableFrameMapping, L: LevelCount, T: TableMemory = PhysMemory> {
     memory: &'a mut T,
     root: PhysFrame<Size4KiB>,
@@ -245,7 +246,7 @@ impl<'a, P: PageTableFrameMapping, L: LevelCount, T: TableMemory> TablesIn<L>
 
 impl<'a, P: PageTableFrameMapping, L: LevelCount, T: TableMemory> TableAccess
     for Direct<'a, P, L, T> {
-    ghost use Rattle.std.proofs.Common.{refl, ap};
+    ghost use Rattle.std.proofs.Common.{true, refl, ap};
     ghost use Rattle.x86_64_mappers.specs.Lending.{root_stays};
     ghost use Rattle.x86_64_mappers.specs.private.ImplLaws.{place_there};
 
@@ -276,6 +277,15 @@ impl<'a, P: PageTableFrameMapping, L: LevelCount, T: TableMemory> TableAccess
     ) -> &mut PageTable {
         let place = self.mapping.frame_to_pointer(frame);
         self.memory.table_at_mut(place)
+    }
+
+    ghost reaches_unnamed = { true };
+
+    fn clear_unnamed(&mut self, frame: PhysFrame<Size4KiB>) -> bool {
+        self.memory
+            .table_at_mut(self.mapping.frame_to_pointer(frame))
+            .zero();
+        true
     }
 
     ghost puts = { λ mapper frame table there. let places = P.places mapper.mapping in let now = mapper.memory.now in

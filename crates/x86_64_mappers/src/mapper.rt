@@ -1,5 +1,5 @@
 //! Translates addresses and maps pages, over any mapper's access to its tables.
-ghost use Rattle.std.specs.Prelude.{◌≡◌, ◌<◌, ◌^◌, ℕ, true, Some, option_map, IfOk};
+ghost use Rattle.std.specs.Prelude.{◌≡◌, ◌<◌, ◌^◌, ◌↔◌, ℕ, true, List, Some, option_map, fold, length, IsTrue, IfOk, IfErr, OnOk};
 ghost use Rattle.x86_64_model.specs.Mapper.{Valid, walk, translation};
 ghost use Rattle.x86_64_model.specs.Translation.{address_of};
 ghost use Rattle.x86_64_tables.specs.PageTableFlags.{bits_of};
@@ -10,7 +10,7 @@ mod mapper57;
 mod translate57;
 
 use crate::calls;
-pub use crate::calls::TableAccess;
+pub use crate::calls::{FrameSink, MapRangeError, MapRangeError57, TableAccess};
 pub use clean_up::CleanUp;
 pub use clean_up57::CleanUp57;
 pub use mapper57::{Mapper57, MapperAllSizes57};
@@ -20,8 +20,8 @@ use x86_64_page::frame::PhysFrame;
 use x86_64_page::page::{Page, PageSize, Size1GiB, Size2MiB, Size4KiB};
 use x86_64_tables::frame_alloc::FrameAllocator;
 use x86_64_tables::mapper::{
-    FlagUpdateError, MapToError, MapperFlush, MapperFlushAll, PageTables, TranslateError,
-    TranslateResult, UnmapError,
+    FlagUpdateError, MapToError, MapperFlush, MapperFlushAll, MapperFlushRange, PageTables,
+    TranslateError, TranslateResult, UnmapError,
 };
 use x86_64_tables::page_table::PageTableFlags;
 
@@ -66,10 +66,13 @@ impl<M: TableAccess + PageTables> Translate for M {}
 ///
 /// The parents of a page are the entries on its path from the root down to the one above the page's own.
 pub trait Mapper<S: PageSize>: TableAccess + PageTables {
-    ghost use Rattle.x86_64_model.specs.Call.{MapTo, MapToWithTableFlags, IdentityMap, Unmap, UpdateFlags, SetFlags};
-    ghost use Rattle.x86_64_model.specs.Entry.{present};
-    ghost use Rattle.x86_64_model.specs.Mapper.{path_of, page_translation, allows, allows_map, May, MayMap, Does, DoesMap, ArrivesIn, named};
-    ghost use Rattle.x86_64_tables.specs.MapperAnswers.{map_answer, unmap_answer, flags_answer, translate_answer};
+    ghost use Rattle.x86_64_model.specs.Call.{MapTo, MapToWithTableFlags, IdentityMap, Unmap, UpdateFlags, SetFlags, Reply};
+    ghost use Rattle.x86_64_model.specs.Entry.{no_address, present};
+    ghost use Rattle.x86_64_model.specs.Mapper.{SupplyFits, path_of, page_translation, allows, allows_map, May, MayMap, Does, DoesMap, ArrivesIn, named};
+    ghost use Rattle.x86_64_mappers.specs.RangeChanges.{IsRange, DoesChanges, frames_done, unmaps, updates};
+    ghost use Rattle.x86_64_mappers.specs.Ranges.{MapsAll, MayMapRange, StopsAt, range_of};
+    ghost use Rattle.x86_64_tables.specs.FlushRecorder.{flush_range};
+    ghost use Rattle.x86_64_tables.specs.MapperAnswers.{map_answer, map_refusal, unmap_answer, flags_answer, translate_answer};
 
     /// Maps a page to a frame with these flags, and `HUGE_PAGE` for 2MiB and 1GiB.
     ///
@@ -236,6 +239,137 @@ pub trait Mapper<S: PageSize>: TableAccess + PageTables {
         ensures page { IfOk result (λ flush. flush ≡ page) }
     {
         calls::update_flags(self, page, flags)
+    }
+
+    /// Maps a number of pages, from a page on, to as many frames, from a frame on. Does what
+    /// [`map_to_with_table_flags`](Self::map_to_with_table_flags) of each page in turn would do, up to the first one
+    /// that is refused, but looks up each table only once. Does nothing for no pages.
+    ///
+    /// Returns one token for all pages.
+    ///
+    /// Requires that the hierarchy is valid, that the allocator's frames are as in a pool that fits it, that all pages
+    /// and frames exist, and that each page may be mapped, as [`map_allowed`](Self::map_allowed) says. If the parent
+    /// flags have `PRESENT`, [`map_range_allowed`](Self::map_range_allowed) tests whether this is so.
+    ///
+    /// # Errors
+    ///
+    /// The reason of the first refusal, with the token for the pages before the refused one, which stay mapped. The
+    /// changes that the refused map made on its way stay too, as for a single map.
+    ///
+    /// Even then, each page walk that succeeded before still arrives at its address. It loses no right, and gains none
+    /// that the parent flags lack.
+    final fn map_range<A: FrameAllocator<Size4KiB>>(
+        &mut self,
+        page: Page<S>,
+        count: u64,
+        frame: PhysFrame<S>,
+        flags: PageTableFlags,
+        parent_flags: PageTableFlags,
+        frame_allocator: &mut A,
+    ) -> Result<MapperFlushRange<S>, MapRangeError<S>>
+        requires fits { SupplyFits (Self.hierarchy self.old) (A.supply frame_allocator.old) }
+        requires may { let range = range_of S.LEVEL page frame (bits_of flags) (bits_of parent_flags) in
+            MayMapRange (Self.hierarchy self.old) range count }
+        ensures maps { let range = range_of S.LEVEL page frame (bits_of flags) (bits_of parent_flags) in
+            let h = Self.hierarchy self.old in let supply = A.supply frame_allocator.old in
+            let after = Self.hierarchy self.new in let rest = A.supply frame_allocator.new in
+            OnOk result (MapsAll h supply range count after rest) }
+        ensures stops { let range = range_of S.LEVEL page frame (bits_of flags) (bits_of parent_flags) in
+            let h = Self.hierarchy self.old in let supply = A.supply frame_allocator.old in
+            let after = Self.hierarchy self.new in let rest = A.supply frame_allocator.new in
+            IfErr result (λ error.
+            StopsAt h supply range count error.mapped.count (map_refusal error.why) after rest) }
+        ensures pages { IfOk result (λ flush. flush ≡ flush_range page count) }
+        ensures first { IfErr result (λ error. error.mapped.page ≡ page) }
+        ensures serves { A.serves frame_allocator.new ≡ A.serves frame_allocator.old }
+    {
+        calls::map_range(
+            self,
+            page,
+            count,
+            frame,
+            flags,
+            parent_flags,
+            frame_allocator,
+        )
+    }
+
+    /// Returns true if the parent flags have `PRESENT`, and a number of pages, from a page on, may be mapped to the
+    /// frames from a frame on: all pages and frames exist, and each page may be mapped with these flags and parent
+    /// flags, as [`map_allowed`](Self::map_allowed) says. Looks at the first and the last page alone, and at no table.
+    final fn map_range_allowed(
+        &self,
+        page: Page<S>,
+        count: u64,
+        frame: PhysFrame<S>,
+        flags: PageTableFlags,
+        parent_flags: PageTableFlags,
+    ) -> bool
+        ensures { let h = Self.hierarchy self.now in let more = bits_of parent_flags in
+            let range = range_of S.LEVEL page frame (bits_of flags) more in
+            IsTrue result ↔ (present more ≡ true) × MayMapRange h range count }
+    {
+        calls::map_range_allowed(self, page, count, frame, flags, parent_flags)
+    }
+
+    /// Unmaps a number of pages, from a page on, and passes the frames that they were mapped to on to a sink, in order.
+    /// Does what [`unmap`](Self::unmap) of each page in turn would do, but looks up each table only once, and passes
+    /// over all pages below a missing one at once. A page whose `unmap` would be refused, for whatever reason, is
+    /// passed over and stays as it is. Does nothing for no pages.
+    ///
+    /// Returns one token for all pages, those that were passed over too.
+    ///
+    /// Requires that the hierarchy is valid, and that [`range_allowed`](Self::range_allowed) returns true.
+    final fn unmap_range<K: FrameSink>(
+        &mut self,
+        page: Page<S>,
+        count: u64,
+        sink: &mut K,
+    ) -> MapperFlushRange<S>
+        requires valid { Valid (Self.hierarchy self.old) }
+        requires pages { IsRange (Self.hierarchy self.old) S.LEVEL page count }
+        ensures does { let h = Self.hierarchy self.old in
+            let calls = unmaps h.layout.levels S.LEVEL page count in
+            (replies : List Reply) × DoesChanges h calls replies (Self.hierarchy self.new)
+            × (sink.new ≡ fold K.with_frame sink.old (frames_done replies)) }
+        ensures pages { result ≡ flush_range page count }
+    {
+        calls::unmap_range(self, page, count, sink)
+    }
+
+    /// Sets the flags of a number of pages, from a page on, and `HUGE_PAGE` for 2MiB and 1GiB. Does what
+    /// [`update_flags`](Self::update_flags) of each page in turn would do, but looks up each table only once, and
+    /// passes over all pages below a missing one at once. A page whose `update_flags` would be refused, for whatever
+    /// reason, is passed over and stays as it is. Does nothing for no pages.
+    ///
+    /// Returns the number of pages whose flags were set, and one token for all pages, those that were passed over too.
+    ///
+    /// Requires that the hierarchy is valid, that [`range_allowed`](Self::range_allowed) returns true, and that the
+    /// flags have no address bits.
+    final fn update_flags_range(
+        &mut self,
+        page: Page<S>,
+        count: u64,
+        flags: PageTableFlags,
+    ) -> (u64, MapperFlushRange<S>)
+        requires valid { Valid (Self.hierarchy self.old) }
+        requires pages { IsRange (Self.hierarchy self.old) S.LEVEL page count }
+        requires flags { no_address (bits_of flags) ≡ true }
+        ensures does { let h = Self.hierarchy self.old in
+            let calls = updates h.layout.levels S.LEVEL page (bits_of flags) count in
+            (replies : List Reply) × DoesChanges h calls replies (Self.hierarchy self.new)
+            × (result.0 ≡ length (frames_done replies)) }
+        ensures pages { result.1 ≡ flush_range page count }
+    {
+        calls::update_flags_range(self, page, count, flags)
+    }
+
+    /// Returns true if a number of pages, from a page on, exist and are outside the recursive window: no page's index
+    /// of level four is the recursive index.
+    final fn range_allowed(&self, page: Page<S>, count: u64) -> bool
+        ensures { IsTrue result ↔ IsRange (Self.hierarchy self.now) S.LEVEL page count }
+    {
+        calls::range_allowed(self, page, count)
     }
 
     /// Sets the flags of the entry of level four on a page's path. The entry keeps its address.

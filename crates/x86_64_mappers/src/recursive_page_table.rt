@@ -58,7 +58,8 @@ impl Display for InvalidPageTable {
 /// index of that entry is the recursive index. The mapper is handed no memory.
 ///
 /// A new table's entry gets `PRESENT` and `WRITABLE` in addition to the parent flags, since the table can be reached
-/// only once the entry names it. For an address that begins with the recursive index,
+/// only once the entry names it. For the same reason a map clears the table after that, so if a processor walks these
+/// tables meanwhile, the frames of the allocator have to hold only zeros. For an address that begins with the recursive index,
 /// [`translate`](crate::mapper::Translate::translate) and [`translate_page`](crate::mapper::Mapper::translate_page)
 /// follow the rest of its path, as the processor does.
 #[derive(Drop)]
@@ -308,7 +309,7 @@ impl<A: WalkedTables<L>, L: LevelCount> TablesIn<L> for Recursive<A, L> {
 }
 
 impl<A: WalkedTables<L>, L: LevelCount> TableAccess for Recursive<A, L> {
-    ghost use Rattle.std.proofs.Common.{ap};
+    ghost use Rattle.std.proofs.Common.{false, ap};
     ghost use Rattle.x86_64_mappers.specs.Recursive.{recursive_at, window_with};
 
     ghost with_table = { λ mapper frame table. record mapper { active = A.with_table mapper.active frame table } };
@@ -335,6 +336,12 @@ impl<A: WalkedTables<L>, L: LevelCount> TableAccess for Recursive<A, L> {
         let addr = window::<L>(self.index, path);
         let position = addr.position();
         self.active.table_mut(position).unwrap()
+    }
+
+    ghost reaches_unnamed = { false };
+
+    fn clear_unnamed(&mut self, _frame: PhysFrame<Size4KiB>) -> bool {
+        false
     }
 
     ghost puts = { λ mapper frame table there. A.puts mapper.active frame table there };

@@ -1,6 +1,6 @@
 -- Lists of parts, by a test, and lists without doubles.
-use Rattle.std.proofs.Common.{◌≡◌, ◌≢◌, ◌⊎◌, inl, inr, ⊎_elim, ◌<◌, ℕ, Bool, true, false, cond, not, List, [], ◌∷◌, ◌++◌, map, length, get_or, arith, refl, sym, ◌∙◌, subst}
-use Rattle.std.specs.List.{flat_map}
+use Rattle.std.proofs.Common.{◌≡◌, ◌≢◌, ◌⊎◌, inl, inr, ⊎_elim, ◌<◌, ℕ, Bool, true, false, cond, not, List, [], ◌∷◌, ◌++◌, map, length, get_or, Some, None, arith, refl, sym, ◌∙◌, subst}
+use Rattle.std.specs.List.{flat_map, slice_get}
 use Rattle.std.proofs.lemmas.Bool.{cases_Bool}
 use Rattle.x86_64_model.specs.Lists.{In, EachOnce}
 use Rattle.x86_64_model.proofs.Lemmas.Lists.Members.{in_left, in_right, in_flat_map, from_flat_map, in_map}
@@ -104,3 +104,7 @@ once_lists key f (x ∷ xs) a each apart = once_append (f x) (flat_map f xs) (ea
 pub first_in : {X : Type 0} (xs : List X) (x : X) → 0 < length xs → x ≡ get_or xs 0 x → In xs x
 first_in [] x h e = absurd (omega arith)
 first_in (y ∷ xs) x h e = inl (sym e)
+
+pub in_first : {X : Type 0} (xs : List X) (x : X) → slice_get xs 0 ≡ Some x → In xs x
+in_first [] x e = let t : None ≡ Some x = e in cc
+in_first (y ∷ xs) x e = let same : y ≡ x = cc in inl same

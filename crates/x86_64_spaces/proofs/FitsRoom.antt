@@ -1,6 +1,8 @@
 -- The tables of address spaces and a pool are sound and few enough for an array exactly if these are address spaces with room.
-use Rattle.std.proofs.Common.{◌≡◌, ◌↔◌, inl, inr, ⊎_elim, ◌≤◌, ◌+◌, ◌^◌, ℕ, suc, Bool, true, List, [], ◌∷◌, ◌++◌, length, reverse, Some, IsSome, refl, ap, ◌∙◌, subst, arith}
+use Rattle.std.proofs.Common.{◌≡◌, ◌↔◌, inl, inr, ⊎_elim, ◌<◌, ◌≤◌, ◌+◌, ◌^◌, ℕ, zero, suc, None, get_or, Bool, true, List, [], ◌∷◌, ◌++◌, length, reverse, Some, IsSome, refl, ap, ◌∙◌, subst, arith}
 use Rattle.std.proofs.lemmas.List.{length-append}
+use Rattle.std.proofs.lemmas.List.Elements.{All-from_get_or}
+use Rattle.std.specs.List.{All}
 use Rattle.x86_64_model.specs.Entry.{is_frame}
 use Rattle.x86_64_model.specs.Layout.{Layout, words, paths}
 use Rattle.x86_64_model.specs.Lists.{In, EachOnce}
@@ -13,7 +15,7 @@ use Rattle.x86_64_model.proofs.Lemmas.Lists.Members.{in_left, in_right, in_appen
 use Rattle.x86_64_model.proofs.Lemmas.Tables.Exact.{inside_window}
 use Rattle.x86_64_spaces.specs.declared.space.Space.{Space}
 use Rattle.x86_64_spaces.specs.Room.{AreSpacesWithRoom}
-use Rattle.x86_64_spaces.specs.SpaceLayouts.{layout_of, layouts_of, roots_of}
+use Rattle.x86_64_spaces.specs.SpaceLayouts.{layout_of, layouts_of, roots_of, spaces_at}
 use Rattle.x86_64_spaces.specs.private.SpaceTables.{space_tables, SoundSpaces}
 use Rattle.x86_64_spaces.proofs.Sound.{sound_is_spaces, table_listed, led_to}
 use Rattle.x86_64_tables.specs.LentPool.{is_in}
@@ -133,3 +135,17 @@ module _ (shared : ℕ → Bool) (n : ℕ) (places : Places) (mapping : IsMappin
       ↔ EachOnce (roots_of spaces) × AreSpacesWithRoom shared m capacity (reverse pool) (layouts_of L places m spaces)
   room_at L more = subst (λ L. Sound × (length all + length pool ≤ capacity)
       ↔ EachOnce (roots_of spaces) × AreSpacesWithRoom shared m capacity (reverse pool) (layouts_of L places m spaces)) more room_means
+
+-- the roots of address spaces are frames
+in_get : (xs : List ℕ) (i : ℕ) → i < length xs → In xs (get_or xs i 0)
+in_get [] i h = absurd (omega arith)
+in_get (x ∷ xs) zero h = inl refl
+in_get (x ∷ xs) (suc i) h = inr (in_get xs i (omega (arith, h)))
+
+pub all_frames : (shared : ℕ → Bool) (L : ℕ) (places : Places) → IsMapping places → (m : Memory) (capacity : ℕ) (pool roots : List ℕ)
+    → AreSpacesWithRoom shared m capacity pool (layouts_of L places m (spaces_at roots)) → All (λ root. is_frame root ≡ true) roots
+all_frames shared L places mapping m capacity pool roots room = All-from_get_or (λ root. is_frame root ≡ true) roots 0 (λ i small.
+    let root = get_or roots i 0 in
+    let at : ℕ → Space = λ root. record { root = root; recursive = None } in
+    let fits = room.spaces.fits (layout_of L places m (at root)) (in_map (layout_of L places m) (spaces_at roots) (at root) (in_map at roots root (in_get roots i small))) in
+    mappings_show_frames m places mapping root (fits.valid.valid.holds.in_memory [] root refl))

@@ -32,6 +32,10 @@ layouts_of levels places memory spaces = map (layout_of levels places memory) sp
 abbrev pub roots_of : List Space → List ℕ
 roots_of spaces = map (λ space. space.root) spaces
 
+-- the address spaces without a recursive index that have these roots
+abbrev pub spaces_at : (roots : List ℕ) → List Space
+spaces_at roots = map (λ root. record { root = root; recursive = None }) roots
+
 -- The root has used entries at shared indices alone, not counting its self-entry.
 abbrev pub HasSharedAlone : (shared : ℕ → Bool) → Layout → Memory → Type 0
 HasSharedAlone shared layout m = (i : ℕ) → shared i ≡ false → entry (paths layout m) (i ∷ []) ≡ 0

@@ -7,13 +7,14 @@ ghost use Rattle.x86_64_model.specs.Pool.{serves_below};
 ghost use Rattle.x86_64_model.specs.Spaces.{AreSpaces};
 ghost use Rattle.x86_64_model.specs.private.Marks.{spot_of, mark_all};
 ghost use Rattle.x86_64_spaces.specs.Room.{AreSpacesWithRoom};
-ghost use Rattle.x86_64_spaces.specs.SpaceLayouts.{indices_of, layouts_of, roots_of};
+ghost use Rattle.x86_64_spaces.specs.SpaceLayouts.{indices_of, layouts_of, roots_of, spaces_at};
 ghost use Rattle.x86_64_spaces.specs.private.SpaceTables.{seen_by, chosen, parts_where, own_tables, space_tables, IsAlike, SoundSpaces};
 ghost use Rattle.x86_64_model.specs.Window.{SelfEntry};
 ghost use Rattle.x86_64_tables.specs.SelfEntries.{window_in};
 ghost use Rattle.x86_64_tables.specs.Views.{mark_slot};
 
 use crate::space::{SharedIndices, Space};
+use crate::space_list::{Roots, SpaceList};
 use std::alloc::{AllocError, Global};
 use x86_64_addr::level_count::LevelCount;
 use x86_64_tables::frame_alloc::FramePool;
@@ -59,7 +60,7 @@ pub fn spaces_fit<L: LevelCount, T: TableMemory, P: PageTableFrameMapping>(
         levels: L::LEVELS as u8 - 1,
         limit: pool.limit(),
     };
-    Ok(test.is_sound_by(first, spaces, pool, &mut marks))
+    Ok(test.is_sound_by(first, &spaces, pool, &mut marks))
 }
 
 /// Returns whether hierarchies are address spaces that share the tables below some indices, a pool fits each, and an array has room
@@ -85,9 +86,54 @@ pub fn spaces_fit_by_marks<L: LevelCount, T: TableMemory, P: PageTableFrameMappi
         IsTrue result ↔ (EachOnce (roots_of spaces.now)
         × AreSpacesWithRoom (indices_of shared) m capacity (reverse frames.now) layouts) }
 {
-    let Some(first) = spaces.first() else {
+    list_fits::<L, _, _, _>(memory, mapping, &spaces, shared, frames, capacity, marks)
+}
+
+/// Returns what [`spaces_fit_by_marks`] returns for the spaces without a recursive index whose roots have these addresses.
+///
+/// Requires that there are as many marks as places. They may be set or not. The test ends for any words and any addresses.
+pub fn roots_fit_by_marks<L: LevelCount, T: TableMemory, P: PageTableFrameMapping>(
+    memory: &T,
+    mapping: &P,
+    roots: &[u64],
+    shared: SharedIndices,
+    frames: &[u64],
+    capacity: usize,
+    marks: &mut [bool],
+) -> bool
+    requires { length marks.old ≡ map.len (T.tables memory.now) }
+    ensures { let m = T.tables memory.now in
+        let layouts = layouts_of L.LEVELS (P.places mapping.now) m (spaces_at roots.now) in
+        IsTrue result ↔ (EachOnce (roots_of (spaces_at roots.now))
+        × AreSpacesWithRoom (indices_of shared) m capacity (reverse frames.now) layouts) }
+{
+    match Roots::of(roots) {
+        Some(spaces) => {
+            list_fits::<L, _, _, _>(memory, mapping, &spaces, shared, frames, capacity, marks)
+        }
+        None => false,
+    }
+}
+
+/// Returns what `spaces_fit_by_marks` returns, for any kind of list.
+fn list_fits<L: LevelCount, T: TableMemory, P: PageTableFrameMapping, S: SpaceList>(
+    memory: &T,
+    mapping: &P,
+    spaces: &S,
+    shared: SharedIndices,
+    frames: &[u64],
+    capacity: usize,
+    marks: &mut [bool],
+) -> bool
+    requires { length marks.old ≡ map.len (T.tables memory.now) }
+    ensures { let m = T.tables memory.now in let list = S.spaces spaces.now in
+        let layouts = layouts_of L.LEVELS (P.places mapping.now) m list in
+        IsTrue result ↔ (EachOnce (roots_of list)
+        × AreSpacesWithRoom (indices_of shared) m capacity (reverse frames.now) layouts) }
+{
+    if spaces.count() == 0 {
         return true;
-    };
+    }
     marks.fill(false);
     let test = SpacesTest {
         memory,
@@ -96,7 +142,7 @@ pub fn spaces_fit_by_marks<L: LevelCount, T: TableMemory, P: PageTableFrameMappi
         levels: L::LEVELS as u8 - 1,
         limit: FRAME_COUNT,
     };
-    test.has_room_by(first, spaces, frames, capacity, marks)
+    test.has_room_by(&spaces.space_at(0), spaces, frames, capacity, marks)
 }
 
 /// Address spaces to be tested, with `levels` levels of tables below the roots. The frames that may be met are the roots, and those
@@ -113,20 +159,20 @@ struct SpacesTest<'a, T, P> {
 impl<'a, T: TableMemory, P: PageTableFrameMapping> SpacesTest<'a, T, P> {
     /// Returns true if the spaces are alike, and each of their tables and each frame of the pool is met once, is in the memory, and
     /// may be met, by marks that are all clear at first.
-    fn is_sound_by(
+    fn is_sound_by<S: SpaceList>(
         &self,
         first: &Space,
-        spaces: &[Space],
+        spaces: &S,
         pool: &FramePool,
         marks: &mut [bool],
     ) -> bool
         requires levels { 1 < self.now.levels }
         requires clear { marks.old ≡ replicate (length (map.keys (T.tables self.now.memory.now))) false }
-        requires first { In spaces.now first.now }
+        requires first { In (S.spaces spaces.now) first.now }
         ensures { let test = self.now in let serves = serves_below test.limit in
             let words = words_of (T.tables test.memory.now) (P.places test.mapping.now) in
             let shared = indices_of test.shared in let n = test.levels - 1 in
-            IsTrue result ↔ SoundSpaces shared n words first.now spaces.now serves pool.now.frames }
+            IsTrue result ↔ SoundSpaces shared n words first.now (S.spaces spaces.now) serves pool.now.frames }
     {
         if !self.mark_spaces(first, spaces, marks) {
             return false;
@@ -136,22 +182,22 @@ impl<'a, T: TableMemory, P: PageTableFrameMapping> SpacesTest<'a, T, P> {
 
     /// Returns what `is_sound_by` returns for a pool of these frames, and false if the capacity is below the number of all tables
     /// and frames.
-    fn has_room_by(
+    fn has_room_by<S: SpaceList>(
         &self,
         first: &Space,
-        spaces: &[Space],
+        spaces: &S,
         frames: &[u64],
         capacity: usize,
         marks: &mut [bool],
     ) -> bool
         requires levels { 1 < self.now.levels }
         requires clear { marks.old ≡ replicate (length (map.keys (T.tables self.now.memory.now))) false }
-        requires first { In spaces.now first.now }
+        requires first { In (S.spaces spaces.now) first.now }
         ensures { let test = self.now in let serves = serves_below test.limit in
             let words = words_of (T.tables test.memory.now) (P.places test.mapping.now) in
             let shared = indices_of test.shared in let n = test.levels - 1 in
-            let tables = space_tables shared n words first.now spaces.now in
-            IsTrue result ↔ (SoundSpaces shared n words first.now spaces.now serves frames.now
+            let tables = space_tables shared n words first.now (S.spaces spaces.now) in
+            IsTrue result ↔ (SoundSpaces shared n words first.now (S.spaces spaces.now) serves frames.now
             × (length tables + length frames.now ≤ capacity)) }
     {
         if !self.mark_spaces(first, spaces, marks) {
@@ -165,28 +211,29 @@ impl<'a, T: TableMemory, P: PageTableFrameMapping> SpacesTest<'a, T, P> {
 
     /// Marks the tables below the shared indices of the first root, and then each root and its own tables. Returns false if one of
     /// them can't be marked, or a space isn't like the first one.
-    fn mark_spaces(&self, first: &Space, spaces: &[Space], marks: &mut [bool]) -> bool
+    fn mark_spaces<S: SpaceList>(&self, first: &Space, spaces: &S, marks: &mut [bool]) -> bool
         requires levels { 1 < self.now.levels }
         requires clear { marks.old ≡ replicate (length (map.keys (T.tables self.now.memory.now))) false }
-        requires first { In spaces.now first.now }
+        requires first { In (S.spaces spaces.now) first.now }
         ensures tells { let test = self.now in let serves = serves_below test.limit in
             let words = words_of (T.tables test.memory.now) (P.places test.mapping.now) in
             let shared = indices_of test.shared in let n = test.levels - 1 in
-            IsTrue result ↔ SoundSpaces shared n words first.now spaces.now serves [] }
+            IsTrue result ↔ SoundSpaces shared n words first.now (S.spaces spaces.now) serves [] }
         ensures marks { let test = self.now in
             let m = T.tables test.memory.now in let places = P.places test.mapping.now in
             let shared = indices_of test.shared in let n = test.levels - 1 in
             IsTrue result → mark_all (spot_of m places) marks.old
-            (space_tables shared n (words_of m places) first.now spaces.now) ≡ Some marks.new }
+            (space_tables shared n (words_of m places) first.now (S.spaces spaces.now)) ≡ Some marks.new }
     {
         if !self.mark_parts(first, true, marks) {
             return false;
         }
-        for space in spaces {
-            if !self.is_alike(first, space) {
+        for n in 0..spaces.count() {
+            let space = spaces.space_at(n);
+            if !self.is_alike(first, &space) {
                 return false;
             }
-            if !self.mark_own(space, marks) {
+            if !self.mark_own(&space, marks) {
                 return false;
             }
         }

@@ -7,9 +7,10 @@ mod giving_up;
 pub mod laws;
 mod making;
 mod space;
+mod space_list;
 mod words;
 
-pub use fitting::{spaces_fit, spaces_fit_by_marks};
+pub use fitting::{roots_fit_by_marks, spaces_fit, spaces_fit_by_marks};
 pub use giving_up::{GiveUpError, give_up_space};
 pub use making::new_space;
 pub use space::{SharedIndices, Space};

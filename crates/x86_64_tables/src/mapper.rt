@@ -11,7 +11,10 @@ mod recorder;
 
 use crate::page_table::PageTableFlags;
 use bitflags::Flags;
-pub use flush::{MapperFlush, MapperFlush57, MapperFlushAll, MapperFlushIn};
+pub use flush::{
+    MOST_PAGE_ITEMS, MapperFlush, MapperFlush57, MapperFlushAll, MapperFlushIn, MapperFlushRange,
+    MapperFlushRange57, MapperFlushRangeIn, page_after,
+};
 pub use recorder::{FlushItem, FlushRecorder};
 use x86_64_addr::addr::PhysAddr;
 use x86_64_addr::index::PageTableIndex;

@@ -94,6 +94,12 @@ impl<'a, M: TableAccess> TableAccess for Counting<'a, M> {
         self.mapper.table_mut(path, frame)
     }
 
+    ghost reaches_unnamed = { M.reaches_unnamed };
+
+    fn clear_unnamed(&mut self, frame: PhysFrame<Size4KiB>) -> bool {
+        self.mapper.clear_unnamed(frame)
+    }
+
     ghost puts = { λ layer frame table there. M.puts layer.mapper.now frame table there };
 
     ghost keeps_layout = { λ layer frame table. M.keeps_layout layer.mapper.now frame table };
@@ -146,11 +152,11 @@ fn layers_unmap_pages(rt: HostRuntime) {
     check_words(rt, &memory, &WORDS[..3])
 }
 
-/// The number of times that the calls below have a table lent to be changed. Nine are for the three tables that the
-/// map creates: for each, one to see whether the entry is unused, one to set it, and one to clear the new table. The
-/// map, the change of flags and the unmap take one each for the page's entry, the translation none, and the clean up
-/// one for each of the three entries that it makes unused.
-const LOANS: u64 = 15;
+/// The number of times that the calls below have a table lent to be changed. Six are for the three tables that the
+/// map creates: for each, one to see whether the entry is unused, and one to set it. The new table is cleared before,
+/// without being lent. The map, the change of flags and the unmap take one each for the page's entry, the translation
+/// none, and the clean up one for each of the three entries that it makes unused.
+const LOANS: u64 = 12;
 
 /// The frames that are free before these calls and after them.
 const FREE: [u64; 3] = [0x2000, 0x3000, 0x4000];

@@ -1,6 +1,8 @@
--- A new table that is linked before it is cleared is reached at once, and the two writes may come in either order.
-use Rattle.std.proofs.Common.{◌≡◌, ◌≢◌, ⊎_elim, ◌<◌, ℕ, Bool, true, false, ◌&&◌, not, cond, List, [], ◌∷◌, ◌++◌, set, get_or, Option, Some, None, option_and_then, option_map, refl, sym, ap, ◌∙◌, ◌==◌, bit_or, eqb-true, subst}
+-- A new table may be linked after it was cleared. One that is linked first is reached at once, and the two writes may come in
+-- either order.
+use Rattle.std.proofs.Common.{◌≡◌, ◌≢◌, ⊎_elim, ◌<◌, ℕ, Bool, true, false, ◌&&◌, not, cond, List, [], ◌∷◌, ◌++◌, take, set, get_or, Option, Some, None, option_and_then, option_map, refl, sym, ap, ◌∙◌, ◌==◌, bit_or, eqb-true, subst, append_assoc}
 use Rattle.std.proofs.lemmas.Bool.{cases_eq}
+use Rattle.std.proofs.lemmas.List.{append-nil}
 use Rattle.std.specs.Cmp.{nat_cmp_total}
 use Rattle.std.specs.FinMap.{get, insert, same_map, nat_cmp-IsAntisymmetric}
 use Rattle.x86_64_model.specs.Arrivals.{leads}
@@ -8,14 +10,17 @@ use Rattle.x86_64_model.specs.Entry.{IsParentFlags, has, used, present, huge, ad
 use Rattle.x86_64_model.specs.Layout.{Layout, words}
 use Rattle.x86_64_model.proofs.Lemmas.Entries.Bits.{address_or, only_flags}
 use Rattle.x86_64_model.proofs.Lemmas.Hierarchies.Held.{set_word_other, word-set_same}
+use Rattle.x86_64_model.proofs.Lemmas.Spaces.Tables.{same_self}
 use Rattle.x86_64_model.proofs.Lemmas.Walks.Walked.{read_there}
 use Rattle.x86_64_model.specs.Memory.{Memory, Places, Distinct, Words, word}
 use Rattle.x86_64_model.specs.PageWalk.{read}
 use Rattle.x86_64_tables.specs.PageTable.{zero_words}
+use Rattle.x86_64_model.specs.Mapper.{Hierarchy}
+use Rattle.x86_64_mappers.specs.AccessLending.{with_zeros}
 use Rattle.x86_64_mappers.specs.Reached.{IsReached}
 use Rattle.x86_64_mappers.specs.private.Linked.{Beside, IsClearedFirst, MayLink, NotOnWay}
 use Rattle.x86_64_mappers.specs.private.Writes.{IsThere, IsSet, IsCleared, IsTaken, word_in_frame}
-use Rattle.x86_64_mappers.proofs.Memory.Changed.{not_none, set_is, set_keeps, self_set, cleared_other}
+use Rattle.x86_64_mappers.proofs.Memory.Changed.{not_none, set_is, set_keeps, self_set, cleared_other, cleared_keeps, cleared_here}
 use Rattle.x86_64_mappers.proofs.Way.ReachedSteps.{leads_last}
 use Rattle.x86_64_model.proofs.Lemmas.Hierarchies.Memories.{covered}
 use Rattle.x86_64_mappers.proofs.Memory.Stored.{get-put, get-put_same}
@@ -48,16 +53,6 @@ cleared_first places apart m f i w g a n other there k c =
       };
     }
 
--- a table in the first frame of a supply that was linked
-pub taken_linked : (l k : Layout) → k ≡ l → (m o : Memory) → o ≡ m → (s rest : List ℕ) (f i x given g : ℕ) → x ≡ given → (n : Memory) → used (word_in_frame l.places m f i) ≡ false → s ≡ g ∷ rest
-    → IsClearedFirst k.places o f i (bit_or g x) g n → IsTaken l.places m s f i given g n rest
-taken_linked l k same m o unmoved s rest f i x given g flags n unused first linked =
-    let h : IsClearedFirst l.places m f i (bit_or g given) g n = rw (same, unmoved, flags) at linked in
-    record { is_unused = unused; first = first; middle = h.middle; is_cleared = h.is_cleared; is_set = h.is_set }
-
-pub may_still : (l k : Layout) → k ≡ l → (m o : Memory) → o ≡ m → (path : List ℕ) (i f g x given : ℕ) → x ≡ given → MayLink l m path i f g given → MayLink k o path i f g x
-may_still l k same m o unmoved path i f g x given flags may = rw (same, unmoved, flags) may
-
 -- ---- the path leads as before
 
 abbrev SameOnWay : Words → Words → (root : ℕ) → (path : List ℕ) → Type 0
@@ -85,6 +80,115 @@ leads_same T U root (k ∷ q) g is same =
     by : Rest → (o : Option ℕ) → read T root k ≡ o → option_and_then (on T q) o ≡ Some g → option_and_then (on U q) o ≡ Some g
     by more None r is = cc
     by more (Some e) r is = at more e r (present e && not (huge e)) refl is
+
+-- the words lead along the front of a path too
+leads_front : (T : Words) (root : ℕ) (a b : List ℕ) (f : ℕ) → leads T root (a ++ b) ≡ Some f → (h : ℕ) × (leads T root a ≡ Some h)
+leads_front T root [] b f led = (root, refl)
+leads_front T root (k ∷ a) b f led = by (λ e led. leads_front T (address e) a b f led) (read T root k) led
+  where
+    Rest : Type 0
+    Rest = (e : ℕ) → leads T (address e) (a ++ b) ≡ Some f → (h : ℕ) × (leads T (address e) a ≡ Some h)
+
+    at : Rest → (e : ℕ) (t : Bool) → cond t (leads T (address e) (a ++ b)) None ≡ Some f → (h : ℕ) × (cond t (leads T (address e) a) None ≡ Some h)
+    at more e true led = more e led
+    at more e false led = cc
+
+    by : Rest → (o : Option ℕ) → option_and_then (on T (a ++ b)) o ≡ Some f → (h : ℕ) × (option_and_then (on T a) o ≡ Some h)
+    by more None led = cc
+    by more (Some e) led = at more e (present e && not (huge e)) led
+
+-- ---- the table is cleared first
+
+module _ (l : Layout) (apart : Distinct l.places) (m : Memory) (path : List ℕ) (k f g x : ℕ) (may : MayLink l m path k f g x) (n : Memory) (cleared : IsCleared l.places m g n) where
+  abbrev q : List ℕ
+  q = take k path
+
+  abbrev T : Words
+  T = words l m
+
+  abbrev U : Words
+  U = words l n
+
+  same_at : (a b : List ℕ) → q ≡ a ++ b → (h : ℕ) → leads T l.root a ≡ Some h → U h ≡ T h
+  same_at a b split h led = cleared_other l.places apart m g n cleared h (may.unmet a b split h led)
+
+  same_front : (a b : List ℕ) → q ≡ a ++ b → (h : ℕ) → leads T l.root a ≡ Some h → leads U l.root a ≡ Some h
+  same_front a b split h led = leads_same T U l.root a h led (λ c j d at e lead.
+      ap (option_map (λ words. get_or words j 0)) (same_at c ((j ∷ d) ++ b) (split ∙ ap (λ t. t ++ b) at ∙ append_assoc c (j ∷ d) b) e lead))
+
+  -- where the words lead after that, they led before
+  led_before : (a b : List ℕ) → q ≡ a ++ b → (h : ℕ) → leads U l.root a ≡ Some h → leads T l.root a ≡ Some h
+  led_before a b split h led =
+      let front = leads_front T l.root a b f (ap (leads T l.root) (sym split) ∙ may.reached.way) in
+      front.1 ∙ sym (same_front a b split front.0 front.1) ∙ led
+
+  -- the table may be linked after it was cleared
+  pub may_link_cleared : MayLink l n path k f g x
+  may_link_cleared = record {
+    reached = record {
+      way = same_front q [] (sym (append-nil q)) f may.reached.way;
+      there = cleared_keeps l.places apart m g n cleared f may.reached.there;
+      root_there = cleared_keeps l.places apart m g n cleared l.root may.reached.root_there;
+      self = same_self l.window l.root T U (same_at [] q refl l.root refl) may.reached.self;
+    };
+    not_on_way = λ a j b split h led. may.not_on_way a j b split h (led_before a (j ∷ b) split h led);
+    beside = may.beside;
+    there = cleared_keeps l.places apart m g n cleared g may.there;
+    unmet = λ a b split h led. may.unmet a b split h (led_before a b split h led);
+    marks = may.marks;
+    is_present = may.is_present;
+  }
+
+-- the mapper's hierarchy after it was to clear the table
+module _ {Lent : Type 0} (h after : Hierarchy Lent) (apart : Distinct h.layout.places) (path : List ℕ) (k f g x : ℕ) (may : MayLink h.layout h.memory path k f g x) (was : Bool) (is : after ≡ cond was (with_zeros h g) h) where
+  now_cleared : IsCleared h.layout.places h.memory g (with_zeros h g).memory
+  now_cleared = record { there = may.there; after = refl }
+
+  pub same_layout : after.layout ≡ h.layout
+  same_layout = elim was as (λ b. after ≡ cond b (with_zeros h g) h → after.layout ≡ h.layout) [
+    | true ↦ λ e. ap (λ (h : Hierarchy Lent). h.layout) e
+    | false ↦ λ e. ap (λ (h : Hierarchy Lent). h.layout) e
+  ] is
+
+  pub same_lent : after.lent ≡ h.lent
+  same_lent = elim was as (λ b. after ≡ cond b (with_zeros h g) h → after.lent ≡ h.lent) [
+    | true ↦ λ e. ap (λ (h : Hierarchy Lent). h.lent) e
+    | false ↦ λ e. ap (λ (h : Hierarchy Lent). h.lent) e
+  ] is
+
+  pub may_after : MayLink after.layout after.memory path k f g x
+  may_after = elim was as (λ b. after ≡ cond b (with_zeros h g) h → MayLink after.layout after.memory path k f g x) [
+    | true ↦ λ e. subst (λ (h : Hierarchy Lent). MayLink h.layout h.memory path k f g x) (sym e) (may_link_cleared h.layout apart h.memory path k f g x may (with_zeros h g).memory now_cleared)
+    | false ↦ λ e. subst (λ (h : Hierarchy Lent). MayLink h.layout h.memory path k f g x) (sym e) may
+  ] is
+
+  pub zeros_after : was ≡ true → words after.layout after.memory g ≡ Some zero_words
+  zeros_after done = let e : after ≡ with_zeros h g = rw done at is in
+      ap (λ (h : Hierarchy Lent). words h.layout h.memory g) e ∙ cleared_here h.layout.places apart h.memory g (with_zeros h g).memory now_cleared
+
+  -- the entry was set after that
+  pub linked_after : was ≡ true → (i w : ℕ) (n : Memory) → IsSet after.layout.places after.memory f i w n → IsClearedFirst h.layout.places h.memory f i w g n
+  linked_after done i w n set = let e : after ≡ with_zeros h g = rw done at is in record {
+    middle = (with_zeros h g).memory;
+    is_cleared = now_cleared;
+    is_set = subst (λ (a : Hierarchy Lent). IsSet a.layout.places a.memory f i w n) e set;
+  }
+
+  -- the entry was set before the table was cleared
+  pub cleared_after : was ≡ false → (i w : ℕ) (a n : Memory) → IsSet after.layout.places after.memory f i w a → IsCleared h.layout.places a g n → IsClearedFirst h.layout.places h.memory f i w g n
+  cleared_after done i w a n set cleared = let e : after ≡ h = rw done at is in
+      cleared_first h.layout.places apart h.memory f i w g a n (may.unmet (take k path) [] (sym (append-nil _)) f may.reached.way) may.there
+      (subst (λ (h : Hierarchy Lent). IsSet h.layout.places h.memory f i w a) e set) cleared
+
+-- a table in the first frame of a supply that was linked
+pub taken_linked : (l k : Layout) → k ≡ l → (m o : Memory) → o ≡ m → (s rest : List ℕ) (f i x given g : ℕ) → x ≡ given → (n : Memory) → used (word_in_frame l.places m f i) ≡ false → s ≡ g ∷ rest
+    → IsClearedFirst k.places o f i (bit_or g x) g n → IsTaken l.places m s f i given g n rest
+taken_linked l k same m o unmoved s rest f i x given g flags n unused first linked =
+    let h : IsClearedFirst l.places m f i (bit_or g given) g n = rw (same, unmoved, flags) at linked in
+    record { is_unused = unused; first = first; middle = h.middle; is_cleared = h.is_cleared; is_set = h.is_set }
+
+pub may_still : (l k : Layout) → k ≡ l → (m o : Memory) → o ≡ m → (path : List ℕ) (i f g x given : ℕ) → x ≡ given → MayLink l m path i f g given → MayLink k o path i f g x
+may_still l k same m o unmoved path i f g x given flags may = rw (same, unmoved, flags) may
 
 module _ (l : Layout) (apart : Distinct l.places) (m : Memory) (path : List ℕ) (f i : ℕ) (small : i < 512) (reached : IsReached l m path f) (before : NotOnWay (words l m) l.root path f) (beside : Beside l.window l.root f i) where
   -- the table is still reached after a write to a word of it that isn't the self-entry

@@ -111,20 +111,29 @@ module _ (l : Layout) (m : Memory) (valid : Valid l m) (more : ℕ) (path : List
     pub open_end : (k : ℕ) → k ≤ length path → length path ≤ k → (f : ℕ) → IsOpenWay l m more path k f → IsReached l m path f
     open_end k within past f here = subst (λ q. IsReached l m q f) (take_all k path past) (open_reached k within f here)
 
-    front : (k : ℕ) (a : List ℕ) (j : ℕ) (b : List ℕ) → take k path ≡ a ++ j ∷ b → take (length a) path ≡ a
-    front k a j b split =
-        ap (take (length a)) (sym (take-append-drop k path) ∙ ap (λ t. t ++ drop k path) split ∙ append_assoc a (j ∷ b) (drop k path))
-        ∙ take-append_seam a ((j ∷ b) ++ drop k path)
+    front : (k : ℕ) (a b : List ℕ) → take k path ≡ a ++ b → take (length a) path ≡ a
+    front k a b split =
+        ap (take (length a)) (sym (take-append-drop k path) ∙ ap (λ t. t ++ drop k path) split ∙ append_assoc a b (drop k path))
+        ∙ take-append_seam a (b ++ drop k path)
 
     -- no table is met twice on the way
     not_on_way : (k : ℕ) → k ≤ length path → (f : ℕ) → IsOpenWay l m more path k f → NotOnWay (words l m) l.root (take k path) f
     not_on_way k within f here a j b split h led same =
         let shorter : length a < k = (let n = ap length split in let p = length-append a (j ∷ b) in let t = length-take k path in omega (arith, n, p, t, within)) in
-        let at_front = front k a j b split in
+        let at_front = front k a (j ∷ b) split in
         let up = upper k within f here (length a) (omega (arith, shorter)) in
         let one_frame : up.0 ≡ h = same_Some up.0 h (sym (words_lead (length a) (omega (arith, shorter, within)) up.0 up.1) ∙ ap (leads (words l m) l.root) at_front ∙ led) in
         let one : a ≡ take k path = valid.valid.own_frames a (take k path) f (ap (table_at l.levels l.root M) (sym at_front) ∙ up.1.leads ∙ ap Some (one_frame ∙ same)) here.leads in
         append_longer a j b (sym split ∙ sym one)
+
+    -- the tables on the way are tables of the path map
+    met_on_way : (k : ℕ) → k ≤ length path → (f : ℕ) → IsOpenWay l m more path k f → (a b : List ℕ) → take k path ≡ a ++ b → (h : ℕ) → leads (words l m) l.root a ≡ Some h → table_at l.levels l.root M a ≡ Some h
+    met_on_way k within f here a b split h led =
+        let short : length a ≤ k = (let n = ap length split in let p = length-append a b in let t = length-take k path in omega (arith, n, p, t, within)) in
+        let at_front = front k a b split in
+        let up = upper k within f here (length a) short in
+        ap (table_at l.levels l.root M) (sym at_front) ∙ up.1.leads
+        ∙ sym (words_lead (length a) (omega (arith, short, within)) up.0 up.1) ∙ ap (leads (words l m) l.root) at_front ∙ led
 
 -- ---- the parents to come
 
@@ -226,7 +235,7 @@ may_link l apart adds m s ready path outside short more marks k within f here sm
       not_on_way = not_on_way l m ready.valid more path outside k passed f here;
       beside = beside;
       there = ready.in_memory g free;
-      other = λ e. ready.no_table g free (take k path, here.leads ∙ ap Some e);
+      unmet = λ a b split h led e. ready.no_table g free (a, met_on_way l m ready.valid more path outside k passed f here a b split h led ∙ ap Some e);
       marks = flags_or more l.added_flags marks adds;
       is_present = has_kept more l.added_flags 0x1 will;
     }

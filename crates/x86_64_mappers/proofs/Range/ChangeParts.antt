@@ -3,11 +3,12 @@ use Rattle.std.proofs.Common.{zero, suc, ◌≡◌, ◌⊎◌, ◌<◌, ◌≤�
 use Rattle.std.proofs.Math.Nat.{add-mul}
 use Rattle.std.proofs.lemmas.List.{same_from_push}
 use Rattle.std.proofs.lemmas.List.FromFn.{map-range_with_len_more}
+use Rattle.std.specs.FinMap.{insert}
 use Rattle.std.specs.List.{range_with_len}
 use Rattle.x86_64_model.specs.Allowed.{allowed}
 use Rattle.x86_64_model.specs.Call.{Call, Reply, Answered}
 use Rattle.x86_64_model.specs.Layout.{Layout, words, paths, read_entry, Valid}
-use Rattle.x86_64_model.specs.Memory.{Memory, Distinct, word}
+use Rattle.x86_64_model.specs.Memory.{Memory, Distinct, word, words_of}
 use Rattle.x86_64_model.specs.PageRules.{AfterChange, refused_or}
 use Rattle.x86_64_model.specs.Path.{path_at}
 use Rattle.x86_64_model.specs.PathMap.{PathMap, table_of, table_at}
@@ -20,7 +21,7 @@ use Rattle.x86_64_model.proofs.Lemmas.Maps.Arrives.{entry_outside, first_alone}
 use Rattle.x86_64_model.proofs.Lemmas.Paths.Pages.{length_taken}
 use Rattle.x86_64_model.proofs.Lemmas.Walks.Walked.{one_more}
 use Rattle.x86_64_mappers.specs.private.EntryCalls.{word_said, answer_said}
-use Rattle.x86_64_mappers.specs.private.RangeChangeSteps.{AreChanged, AreRefused, IsChangeRun, replies_said}
+use Rattle.x86_64_mappers.specs.private.RangeChangeSteps.{AreChanged, AreRefused, AreStoppedIn, IsChangeRun, IsPartChanged, last_index, replies_said, table_path, with_words}
 use Rattle.x86_64_mappers.specs.private.Stops.{IsFound}
 use Rattle.x86_64_mappers.specs.private.Writes.{IsSet}
 use Rattle.x86_64_mappers.proofs.Entry.EntryRules.{Ends, after_entry, ended, stopped}
@@ -97,8 +98,11 @@ module _ (l : Layout) (apart : Distinct l.places) (level : ℕ) (low : 1 ≤ lev
   some : 0 < L
   some = omega (arith, levels)
 
+  later_page : (k : ℕ) → page + (done + k) * span level ≡ page + done * span level + k * span level
+  later_page k = let e = add-mul done k (span level) in omega (arith, e)
+
   later_path : (k : ℕ) → i + k < 512 → path (done + k) ≡ parents ++ (i + k) ∷ []
-  later_path k small = ap (path_at L level) (let e = add-mul done k (span level) in let f : page + (done + k) * span level ≡ page + done * span level + k * span level = omega (arith, e) in f)
+  later_path k small = ap (path_at L level) (later_page k)
       ∙ path_after L level (page + done * span level) low (omega (arith, high, levels)) k small
 
   long : (k : ℕ) → length (path (done + k)) + level ≡ L + 1
@@ -139,12 +143,6 @@ module _ (l : Layout) (apart : Distinct l.places) (level : ℕ) (low : 1 ≤ lev
         subst (λ calls. IsChangeRun l m calls (told ++ Answered answer ∷ []) o) (ap (λ q. calls_of L level page call (done + k) ++ call q ∷ []) (sym (later_path k small)) ∙ sym (calls_more (done + k)))
         (change_more l m (calls_of L level page call (done + k)) told from so_far (call p) allowed_now (after from p) (rules.does from p) answer o ends same)
 
-    -- a parent refuses it
-    refuse : (why : Refusal) → IsFound l from parents (Err why) → IsChangeRun l m (calls_of L level page call (done + k + 1)) (told ++ Answered (Refused why) ∷ []) from
-    refuse why found = run_on (Refused why) from
-        (stopped l from so_far.valid p (length parents) size says (after from p) (rules.rule from p at_level) why (subst (λ q. IsFound l from q (Err why)) (sym ends_parted.0) found))
-        (λ q. refl)
-
     -- its entry decides
     module _ (g e : ℕ) (found : IsFound l from parents (Ok g)) (is : word (words l from) g (i + k) ≡ e) (o : Memory) (set : IsSet l.places from g (i + k) (word_said e (says e)) o) where
       read : read_entry l from p ≡ e
@@ -172,25 +170,41 @@ module _ (l : Layout) (apart : Distinct l.places) (level : ℕ) (low : 1 ≤ lev
       pub found_changed : IsFound l o parents (Ok g)
       found_changed = stay.found
 
+  -- ---- parents refused all calls of the part
+
+  module _ (count : ℕ) (within : done + count ≤ total) where
+    -- one of them
+    refuse : (k : ℕ) → k < count → (told : List Reply) → IsChangeRun l m (calls_of L level page call (done + k)) told now → (why : Refusal) → IsFound l now (table_path (path (done + k))) (Err why)
+        → IsChangeRun l m (calls_of L level page call (done + k + 1)) (told ++ Answered (Refused why) ∷ []) now
+    refuse k less told so_far why found =
+        let p = path (done + k) in
+        let at_level = long k in
+        let size : length p ≡ length p - 1 + 1 = omega (arith, at_level, high, levels) in
+        let may_now = rules.still m now p (may (done + k) (omega (arith, less, within))) in
+        subst (λ calls. IsChangeRun l m calls (told ++ Answered (Refused why) ∷ []) now) (sym (calls_more (done + k)))
+        (change_more l m (calls_of L level page call (done + k)) told now so_far (call p) may_now (after now p) (rules.does now p) (Refused why) now
+        (stopped l now so_far.valid p (length p - 1) size says (after now p) (rules.rule now p at_level) why found) (λ q. refl))
+
+    module _ (why : Refusal) (stop : AreStoppedIn l now level (page + done * span level) count why) where
+      refused_so_far : (k : ℕ) → k ≤ count → IsChangeRun l m (calls_of L level page call (done + k)) (answers ++ replicate k (Answered (Refused why))) now
+      refused_so_far zero most = subst₂ (λ k rs. IsChangeRun l m (calls_of L level page call k) rs now) (let e : done ≡ done + 0 = omega arith in e) (sym (append-nil answers)) run
+      refused_so_far (suc k) most =
+          subst₂ (λ k rs. IsChangeRun l m (calls_of L level page call k) rs now) (let e : done + k + 1 ≡ done + suc k = omega arith in e)
+          (append_assoc answers (replicate k (Answered (Refused why))) (Answered (Refused why) ∷ []) ∙ ap (λ rs. answers ++ rs) (push (Answered (Refused why)) k))
+          (refuse k (omega (arith, most)) (answers ++ replicate k (Answered (Refused why))) (refused_so_far k (omega (arith, most))) why
+          (subst (λ p. IsFound l now (table_path (path_at L level p)) (Err why)) (sym (later_page k)) (stop k (omega (arith, most)))))
+        where
+          push : (x : Reply) (n : ℕ) → replicate n x ++ x ∷ [] ≡ replicate (suc n) x
+          push x zero = refl
+          push x (suc n) = ap (λ rs. x ∷ rs) (push x n)
+
+    pub part_refused : (more : List Reply) (o : Memory) → AreRefused l now level (page + done * span level) count more o → IsChangeRun l m (calls_of L level page call (done + count)) (answers ++ more) o
+    part_refused more o part = subst₂ (λ rs o. IsChangeRun l m (calls_of L level page call (done + count)) (answers ++ rs) o) (sym part.replies) (sym part.same)
+        (refused_so_far part.why part.stopped count (omega arith))
+
   -- ---- all entries of the part
 
   module _ (count : ℕ) (fits : i + count ≤ 512) (within : done + count ≤ total) where
-    -- a parent refused all calls
-    refused_so_far : (why : Refusal) → IsFound l now parents (Err why) → (k : ℕ) → k ≤ count → IsChangeRun l m (calls_of L level page call (done + k)) (answers ++ replicate k (Answered (Refused why))) now
-    refused_so_far why found zero most = subst₂ (λ k rs. IsChangeRun l m (calls_of L level page call k) rs now) (let e : done ≡ done + 0 = omega arith in e) (sym (append-nil answers)) run
-    refused_so_far why found (suc k) most =
-        subst₂ (λ k rs. IsChangeRun l m (calls_of L level page call k) rs now) (let e : done + k + 1 ≡ done + suc k = omega arith in e)
-        (append_assoc answers (replicate k (Answered (Refused why))) (Answered (Refused why) ∷ []) ∙ ap (λ rs. answers ++ rs) (push (Answered (Refused why)) k))
-        (refuse k (omega (arith, most, fits)) (omega (arith, most, within)) now (answers ++ replicate k (Answered (Refused why))) (refused_so_far why found k (omega (arith, most))) why found)
-      where
-        push : (x : Reply) (n : ℕ) → replicate n x ++ x ∷ [] ≡ replicate (suc n) x
-        push x zero = refl
-        push x (suc n) = ap (λ rs. x ∷ rs) (push x n)
-
-    pub part_refused : (more : List Reply) (o : Memory) → AreRefused l now parents count more o → IsChangeRun l m (calls_of L level page call (done + count)) (answers ++ more) o
-    part_refused more o part = subst₂ (λ rs o. IsChangeRun l m (calls_of L level page call (done + count)) (answers ++ rs) o) (sym part.replies) (sym part.same)
-        (refused_so_far part.why part.found count (omega arith))
-
     module _ (more : List Reply) (o : Memory) (part : AreChanged l now parents says i count more o) where
       abbrev t : List ℕ
       t = part.table
@@ -226,20 +240,30 @@ module _ (l : Layout) (apart : Distinct l.places) (level : ℕ) (low : 1 ≤ lev
       pub part_changed : IsChangeRun l m (calls_of L level page call (done + count)) (answers ++ more) o
       part_changed = subst₂ (λ rs o. IsChangeRun l m (calls_of L level page call (done + count)) (answers ++ rs) o) (sym part.replies) (sym part.put) (reached count (omega arith)).so_far
 
--- this for a part whose first path is given otherwise
+-- this for either kind of part
 module _ (l : Layout) (apart : Distinct l.places) (level : ℕ) (low : 1 ≤ level) (high : level ≤ 3) (levels : 3 < l.levels) (says : ℕ → Result (ℕ × ℕ) Refusal) (call : List ℕ → Call) (after : Memory → List ℕ → AfterChange)
     (rules : IsEntryCall l level says call after) (m : Memory) (page total : ℕ) (may : (k : ℕ) → k < total → allowed l.levels l.window (paths l m) (call (path_at l.levels level (page + k * span level))) ≡ true)
     (done : ℕ) (now : Memory) (answers : List Reply) (run : IsChangeRun l m (calls_of l.levels level page call done) answers now)
-    (q : List ℕ) (is_path : q ≡ path_at l.levels level (page + done * span level)) (count : ℕ) (fits : get_or q (length q - 1) 0 + count ≤ 512) (within : done + count ≤ total) (more : List Reply) (o : Memory) where
-  abbrev Part : List ℕ → Type 0
-  Part q = AreChanged l now (take (length q - 1) q) says (get_or q (length q - 1) 0) count more o ⊎ AreRefused l now (take (length q - 1) q) count more o
+    (count : ℕ) (within : done + count ≤ total) (more : List Reply) (o : Memory) where
+  pub pages_changed : IsPartChanged l now level (page + done * span level) says count more o → IsChangeRun l m (calls_of l.levels level page call (done + count)) (answers ++ more) o
+  pages_changed (inl h) = part_changed l apart level low high levels says call after rules m page total may done now answers run count h.0 within more o h.1
+  pages_changed (inr h) = part_refused l apart level low high levels says call after rules m page total may done now answers run count within more o h
 
-  fits_there : let q = path_at l.levels level (page + done * span level) in get_or q (length q - 1) 0 + count ≤ 512
-  fits_there = subst (λ q. get_or q (length q - 1) 0 + count ≤ 512) is_path fits
-
-  pub pages_changed : Part q → IsChangeRun l m (calls_of l.levels level page call (done + count)) (answers ++ more) o
-  pages_changed part = by (subst Part is_path part)
-    where
-      by : Part (path_at l.levels level (page + done * span level)) → IsChangeRun l m (calls_of l.levels level page call (done + count)) (answers ++ more) o
-      by (inl h) = part_changed l apart level low high levels says call after rules m page total may done now answers run count fits_there within more o h
-      by (inr h) = part_refused l apart level low high levels says call after rules m page total may done now answers run count fits_there within more o h
+-- a part whose table was found, and its entries changed from an index on
+pub part_in_table : (l : Layout) (m : Memory) (level page : ℕ) (says : ℕ → Result (ℕ × ℕ) Refusal) (count : ℕ) (n : Memory) (path : List ℕ) → path ≡ path_at l.levels level page → (i : ℕ) → i ≡ last_index path → last_index path + count ≤ 512
+    → (frame : ℕ) → IsFound l m (table_path path) (Ok frame) → (t : List ℕ) → words_of m l.places frame ≡ Some t → length t ≡ 512 → n ≡ insert m (l.places.place frame) (with_words says i t count)
+    → IsPartChanged l m level page says count (replies_said says i t count) n
+part_in_table l m level page says count n path is_path i index fits frame found t is long put =
+    subst (λ q. (last_index q + count ≤ 512) × AreChanged l m (table_path q) says (last_index q) count (replies_said says i t count) n ⊎ AreRefused l m level page count (replies_said says i t count) n) is_path
+    (inl (
+      fits,
+      record {
+        frame = frame;
+        found = found;
+        table = t;
+        is = is;
+        long = long;
+        put = put ∙ ap (λ j. insert m (l.places.place frame) (with_words says j t count)) index;
+        replies = ap (λ j. replies_said says j t count) index;
+      },
+    ))

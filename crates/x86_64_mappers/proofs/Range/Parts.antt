@@ -3,7 +3,7 @@ use Rattle.std.proofs.Common.{zero, suc, ◌≡◌, ◌<◌, ◌≤◌, ◌+◌,
 use Rattle.std.proofs.Math.Nat.{add-mul}
 use Rattle.x86_64_model.specs.Allowed.{map_allowed}
 use Rattle.x86_64_model.specs.Call.{Reply, Answered}
-use Rattle.x86_64_model.specs.Entry.{IsParentFlags, present}
+use Rattle.x86_64_model.specs.Entry.{IsParentFlags}
 use Rattle.x86_64_model.specs.Layout.{Layout, paths}
 use Rattle.x86_64_model.specs.MapRule.{leaf_entry}
 use Rattle.x86_64_model.specs.Memory.{Memory, Distinct}
@@ -13,7 +13,7 @@ use Rattle.x86_64_model.specs.Refusal.{Refusal, Answer, Done, Refused, PageAlrea
 use Rattle.x86_64_model.specs.Window.{begins_with}
 use Rattle.x86_64_model.proofs.Lemmas.Machines.Effects.{map_may}
 use Rattle.x86_64_model.proofs.Lemmas.Paths.Pages.{length_taken}
-use Rattle.x86_64_mappers.specs.Ranges.{MapRun, page_at, frame_at, accepted}
+use Rattle.x86_64_mappers.specs.Ranges.{MapRange, page_at, frame_at, accepted}
 use Rattle.x86_64_mappers.specs.private.MapSteps.{IsAt, IsDown}
 use Rattle.x86_64_mappers.specs.private.PageCalls.{page_word}
 use Rattle.x86_64_mappers.specs.private.RangeSteps.{IsRun, IsPartMapped, IsPart}
@@ -29,17 +29,16 @@ use Rattle.x86_64_mappers.proofs.Way.Outside.{beside_on}
 use Rattle.x86_64_mappers.proofs.Way.Pages.{small_page}
 
 -- what a run of maps rests on: the first `total` maps are allowed
-pub record IsSetUp (l : Layout) (m : Memory) (r : MapRun) (total : ℕ) : Type 0 where
+pub record IsSetUp (l : Layout) (m : Memory) (r : MapRange) (total : ℕ) : Type 0 where
   pub apart : Distinct l.places
   pub adds : IsParentFlags l.added_flags
   pub marks : IsParentFlags r.parent_flags
-  pub is_present : present r.parent_flags ≡ true
   pub low : 1 ≤ r.level
   pub high : r.level ≤ 3
   pub levels : 3 < l.levels
   pub allowed : (k : ℕ) → k < total → map_allowed l.levels l.window (paths l m) (path_at l.levels r.level (page_at r k)) r.flags r.parent_flags ≡ true
 
-module _ (l : Layout) (m : Memory) (s : List ℕ) (r : MapRun) (total : ℕ) (given : IsSetUp l m r total) (done : ℕ) (now : Memory) (left : List ℕ) (run : IsRun l m s r done (accepted r done) now left) where
+module _ (l : Layout) (m : Memory) (s : List ℕ) (r : MapRange) (total : ℕ) (given : IsSetUp l m r total) (done : ℕ) (now : Memory) (left : List ℕ) (run : IsRun l m s r done (accepted r done) now left) where
   abbrev L : ℕ
   L = l.levels
 
@@ -90,7 +89,7 @@ module _ (l : Layout) (m : Memory) (s : List ℕ) (r : MapRun) (total : ℕ) (gi
     frame = frame_at r (done + k)
 
     may : map_allowed L l.window (paths l from) p r.flags more ≡ true
-    may = allowed_still L l.window (paths l m) (paths l from) p r.flags more given.is_present (given.allowed (done + k) inside)
+    may = allowed_still L l.window (paths l m) (paths l from) p r.flags more (so_far.parents p) (given.allowed (done + k) inside)
 
     outside : begins_with l.window (parents ++ (i + k) ∷ []) ≡ false
     outside = ap (begins_with l.window) (sym (later_path k small)) ∙ (map_may L l.window (paths l from) p r.flags more may).outside
@@ -216,7 +215,7 @@ module _ (l : Layout) (m : Memory) (s : List ℕ) (r : MapRun) (total : ℕ) (gi
         (run_more n small within here.from here.supply (accepted r (done + n)) here.so_far (at n) rest part.table here.down (Refused (PageAlreadyMapped (a + n * span level))) (at n) full))
 
 -- this for a part whose first path and frame are given otherwise
-module _ (l : Layout) (m : Memory) (s : List ℕ) (r : MapRun) (total : ℕ) (given : IsSetUp l m r total) (done : ℕ) (now : Memory) (left : List ℕ) (run : IsRun l m s r done (accepted r done) now left)
+module _ (l : Layout) (m : Memory) (s : List ℕ) (r : MapRange) (total : ℕ) (given : IsSetUp l m r total) (done : ℕ) (now : Memory) (left : List ℕ) (run : IsRun l m s r done (accepted r done) now left)
     (q : List ℕ) (is_path : q ≡ path_at l.levels r.level (page_at r done)) (a : ℕ) (is_frame : a ≡ frame_at r done) (count : ℕ) (fits : get_or q (length q - 1) 0 + count ≤ 512) (inside : done + count ≤ total)
     (after : Memory) (rest : List ℕ) where
   abbrev Part : Result ℕ Refusal → Type 0

@@ -1,41 +1,39 @@
 -- Runs of maps, one map after another.
-use Rattle.std.proofs.Common.{◌≡◌, ◌+◌, ◌&&◌, ◌||◌, ℕ, Bool, true, false, not, cond, List, [], ◌∷◌, ◌++◌, Option, inl, inr, refl, sym, ap, ap₂, ◌∙◌, subst, arith}
+use Rattle.std.proofs.Common.{zero, suc, ◌≡◌, ◌+◌, ℕ, true, cond, List, [], ◌∷◌, ◌++◌, Option, inl, inr, refl, sym, ap, ap₂, ◌∙◌, subst, arith, add-one}
+use Rattle.std.proofs.lemmas.Bool.{and_from, and_parts}
 use Rattle.std.proofs.lemmas.List.FromFn.{map-range_with_len_more}
 use Rattle.x86_64_model.specs.Allowed.{map_allowed, parents_present}
 use Rattle.x86_64_model.specs.Arrivals.{Arrives, Better}
 use Rattle.x86_64_model.specs.Call.{Reply, Answered, NotAllowed}
-use Rattle.x86_64_model.specs.Entry.{IsParentFlags, present, huge, no_address}
+use Rattle.x86_64_model.specs.Entry.{IsParentFlags}
 use Rattle.x86_64_model.specs.Layout.{Layout, paths, walk, IsReady}
 use Rattle.x86_64_model.specs.Machine.{AfterCall, State, do_call, after_map, step, only_reply, replies_of, state_after}
 use Rattle.x86_64_model.specs.MapRule.{leaf_entry}
 use Rattle.x86_64_model.specs.Mapper.{Hierarchy, machine_of, state_in}
 use Rattle.x86_64_model.specs.Memory.{Memory}
 use Rattle.x86_64_model.specs.PageWalk.{Walked}
-use Rattle.x86_64_model.specs.Path.{path_at, is_small}
+use Rattle.x86_64_model.specs.Path.{path_at}
 use Rattle.x86_64_model.specs.PathMap.{PathMap}
 use Rattle.x86_64_model.specs.Refusal.{Answer, Done}
-use Rattle.x86_64_model.specs.Window.{Window, begins_with}
+use Rattle.x86_64_model.specs.Window.{Window}
+use Rattle.x86_64_model.proofs.Lemmas.Machines.Owners.{does_map}
 use Rattle.x86_64_model.proofs.Lemmas.Maps.Mapped.{walks_after}
 use Rattle.x86_64_model.proofs.Lemmas.Runs.Runs.{replies_append, state_append}
-use Rattle.x86_64_mappers.specs.Ranges.{MapRun, DoesMaps, page_at, frame_at, map_at, maps, accepted}
-use Rattle.x86_64_mappers.specs.private.RangeSteps.{IsRun}
+use Rattle.x86_64_mappers.specs.Ranges.{MapRange, DoesMaps, IsNextMap, MapsEach, page_at, frame_at, map_at, maps, accepted}
+use Rattle.x86_64_mappers.specs.private.RangeSteps.{IsRun, in_memory}
 use Rattle.x86_64_mappers.proofs.Entry.EntryEnds.{with_memory}
 use Rattle.x86_64_mappers.proofs.Map.OwnedWays.{owned_nothing, owned_then}
 use Rattle.x86_64_mappers.proofs.Map.StepOutcomes.{IsPathMapped}
+use Rattle.x86_64_mappers.proofs.Range.GrownParents.{parents_mapped}
 
 -- ---- conditions
 
--- with PRESENT among the parent flags, a map is allowed whatever the path map
-pub allowed_still : (L : ℕ) (window : Option Window) (M N : PathMap) (q : List ℕ) (given more : ℕ) → present more ≡ true → map_allowed L window M q given more ≡ true → map_allowed L window N q given more ≡ true
-allowed_still L window M N q given more is_present allowed =
-    ap (λ b. no_address given && no_address more && not (huge more) && (not (is_small L q) || not (huge given)) && b && not (begins_with window q)) (there N ∙ sym (there M)) ∙ allowed
-  where
-    or_true : (a b : Bool) → a ≡ true → (a || b) ≡ true
-    or_true true b h = refl
-    or_true false b h = cc
-
-    there : (M : PathMap) → parents_present M more q ≡ true
-    there M = or_true (present more) _ is_present
+-- a map stays allowed if its page's parents stay present
+pub allowed_still : (L : ℕ) (window : Option Window) (M N : PathMap) (q : List ℕ) (given more : ℕ) → (parents_present M more q ≡ true → parents_present N more q ≡ true) → map_allowed L window M q given more ≡ true → map_allowed L window N q given more ≡ true
+allowed_still L window M N q given more still allowed =
+    let parts = and_parts _ _ allowed in
+    let flags = and_parts _ _ parts.0 in
+    and_from _ _ (and_from _ _ flags.0 (still flags.1)) parts.1
 
 -- ---- walks
 
@@ -69,22 +67,24 @@ arrives_then more x y z one two w is =
 
 -- ---- runs
 
-pub accepted_more : (r : MapRun) (k : ℕ) → accepted r (k + 1) ≡ accepted r k ++ Answered (Done (frame_at r k)) ∷ []
+pub accepted_more : (r : MapRange) (k : ℕ) → accepted r (k + 1) ≡ accepted r k ++ Answered (Done (frame_at r k)) ∷ []
 accepted_more r k = map-range_with_len_more (λ k. Answered (Done (frame_at r k))) 0 k k (let e : 0 + k ≡ k = omega arith in e)
 
-maps_more : (L : ℕ) (r : MapRun) (k : ℕ) → maps L r (k + 1) ≡ maps L r k ++ map_at L r k ∷ []
+maps_more : (L : ℕ) (r : MapRange) (k : ℕ) → maps L r (k + 1) ≡ maps L r k ++ map_at L r k ∷ []
 maps_more L r k = map-range_with_len_more (λ k. map_at L r k) 0 k k (let e : 0 + k ≡ k = omega arith in e)
 
 -- before the first map
-pub no_maps : (l : Layout) (m : Memory) (s : List ℕ) → IsReady l m s → (r : MapRun) → IsRun l m s r 0 (accepted r 0) m s
+pub no_maps : (l : Layout) (m : Memory) (s : List ℕ) → IsReady l m s → (r : MapRange) → IsRun l m s r 0 (accepted r 0) m s
 no_maps l m s ready r = record {
   replies = λ take_back. refl;
   state = λ take_back. refl;
   owned = owned_nothing l m s ready;
   walks = λ p. arrives_itself r.parent_flags (walk l m p);
+  each = (refl, refl, refl);
+  parents = λ q h. h;
 }
 
-module _ (l : Layout) (m : Memory) (s : List ℕ) (r : MapRun) (k : ℕ) (marks : IsParentFlags r.parent_flags) (n : Memory) (rest : List ℕ) (replies : List Reply) (run : IsRun l m s r k replies n rest) where
+module _ (l : Layout) (m : Memory) (s : List ℕ) (r : MapRange) (k : ℕ) (marks : IsParentFlags r.parent_flags) (n : Memory) (rest : List ℕ) (replies : List Reply) (run : IsRun l m s r k replies n rest) where
   abbrev q : List ℕ
   q = path_at l.levels r.level (page_at r k)
 
@@ -95,6 +95,17 @@ module _ (l : Layout) (m : Memory) (s : List ℕ) (r : MapRun) (k : ℕ) (marks 
     unfolding do_call
     one take_back = ap (λ b. cond b (do_call (machine_of l take_back) (state_in l n rest) (map_at l.levels r k)) (only_reply (state_in l n rest) NotAllowed)) allowed
         ∙ ap after_map mapped.outcome
+
+    walks_on : (p : ℕ) → Arrives r.parent_flags (walk l n p) (walk l o p)
+    walks_on = walks_after l n rest q (frame_at r k) r.flags r.parent_flags answer o fs marks run.owned.ready mapped.outcome mapped.owned.ready
+
+    next : IsNextMap (in_memory l n) rest (map_at l.levels r k) replies (replies ++ Answered answer ∷ []) (in_memory l o) fs
+    next = record {
+      answer = answer;
+      may = record { fits = run.owned.ready; allowed = allowed };
+      does = does_map (in_memory l n) rest q (frame_at r k) r.flags r.parent_flags answer o fs (record { outcome = mapped.outcome; ready = mapped.owned.ready; others = mapped.owned.others; walks = walks_on });
+      last = refl;
+    }
 
     pub one_more : IsRun l m s r (k + 1) (replies ++ Answered answer ∷ []) o fs
     one_more = record {
@@ -113,14 +124,36 @@ module _ (l : Layout) (m : Memory) (s : List ℕ) (r : MapRun) (k : ℕ) (marks 
           ∙ ap (λ (t : State). (step machine t (map_at l.levels r k)).state) (run.state take_back)
           ∙ ap (λ (x : AfterCall). x.state) (one take_back);
       owned = owned_then l m s n rest o fs run.owned mapped.owned;
-      walks = λ p. arrives_then r.parent_flags (walk l m p) (walk l n p) (walk l o p) (run.walks p)
-          (walks_after l n rest q (frame_at r k) r.flags r.parent_flags answer o fs marks run.owned.ready mapped.outcome mapped.owned.ready p);
+      walks = λ p. arrives_then r.parent_flags (walk l m p) (walk l n p) (walk l o p) (run.walks p) (walks_on p);
+      each = subst (λ j. MapsEach (in_memory l m) s r j (replies ++ Answered answer ∷ []) (in_memory l o) fs) (sym (add-one k)) (in_memory l n, rest, replies, run.each, next);
+      parents = λ p h. parents_mapped l n rest run.owned.ready r.parent_flags marks q (leaf_entry l.levels q (frame_at r k) r.flags) (frame_at r k) answer o fs mapped p (run.parents p h);
     }
 
 -- ---- ends
 
+-- each map, whatever was lent
+module _ {Lent : Type 0} (lent : Lent) where
+  abbrev with_loan : Hierarchy (Unit {0}) → Hierarchy Lent
+  with_loan h = record { layout = h.layout; memory = h.memory; lent = lent }
+
+  each_with : (h : Hierarchy (Unit {0})) (supply : List ℕ) (r : MapRange) (count : ℕ) (answers : List Reply) (after : Hierarchy (Unit {0})) (rest : List ℕ) → MapsEach h supply r count answers after rest
+      → MapsEach (with_loan h) supply r count answers (with_loan after) rest
+  each_with h supply r zero answers after rest (none, same, left) = (none, ap with_loan same, left)
+  each_with h supply r (suc k) answers after rest (now, left, before, each, next) = (
+    with_loan now,
+    left,
+    before,
+    each_with h supply r k before now left each,
+    record {
+      answer = next.answer;
+      may = record { fits = next.may.fits; allowed = next.may.allowed };
+      does = record { outcome = next.does.outcome; fits = next.does.fits; others = next.does.others; walks = next.does.walks; layout = next.does.layout; lent = refl };
+      last = next.last;
+    },
+  )
+
 -- what a run leaves in the hierarchy that a mapper owns
-pub ends_run : {Lent : Type 0} (h : Hierarchy Lent) (supply : List ℕ) (r : MapRun) (k : ℕ) (replies : List Reply) (after : Hierarchy Lent) (rest : List ℕ) → after.layout ≡ h.layout → after.lent ≡ h.lent
+pub ends_run : {Lent : Type 0} (h : Hierarchy Lent) (supply : List ℕ) (r : MapRange) (k : ℕ) (replies : List Reply) (after : Hierarchy Lent) (rest : List ℕ) → after.layout ≡ h.layout → after.lent ≡ h.lent
     → IsRun h.layout h.memory supply r k replies after.memory rest → DoesMaps h supply r k replies after rest
 ends_run h supply r k replies after rest layout lent run = subst (λ h'. DoesMaps h supply r k replies h' rest) (with_memory h after layout lent) (record {
   replies = run.replies;
@@ -128,6 +161,7 @@ ends_run h supply r k replies after rest layout lent run = subst (λ h'. DoesMap
   fits = run.owned.ready;
   others = run.owned.others;
   walks = run.walks;
+  each = each_with h.lent (in_memory h.layout h.memory) supply r k replies (in_memory h.layout after.memory) rest run.each;
   layout = refl;
   lent = refl;
 })

@@ -1,5 +1,5 @@
 -- Steps down the parents of a page if no table is created.
-use Rattle.std.proofs.Common.{Option, ◌≡◌, ◌<◌, ◌≤◌, ◌+◌, ℕ, suc, Bool, true, false, ◌&&◌, not, cond, List, [], ◌∷◌, ◌++◌, length, take, drop, get_or, map, find, Some, None, option_map, IsSome, Ok, Err, refl, sym, ap, ap₂, ◌∙◌, subst, subst₂, arith, add-one, lt-ltb}
+use Rattle.std.proofs.Common.{Option, ◌≡◌, ◌<◌, ◌≤◌, ◌+◌, ℕ, suc, Bool, true, false, ◌&&◌, not, cond, List, [], ◌∷◌, ◌++◌, length, take, drop, get_or, map, find, Some, None, option_map, IsSome, Ok, Err, refl, sym, ap, ap₂, ◌∙◌, subst, subst₂, arith, add-one, lt-ltb, append_assoc}
 use Rattle.std.proofs.lemmas.List.{length-append, length-take, map-id, take_all, drop_all}
 use Rattle.std.proofs.Math.Seq.{take-suc, drop-cons}
 use Rattle.std.specs.Prelude.{Result}
@@ -12,7 +12,7 @@ use Rattle.x86_64_model.specs.Refusal.{Refusal, ParentEntryHugePage, PageNotMapp
 use Rattle.x86_64_model.proofs.Lemmas.Hierarchies.Changes.{map_again}
 use Rattle.x86_64_model.proofs.Lemmas.Walks.Agrees.{reads}
 use Rattle.x86_64_model.proofs.Lemmas.Walks.Walked.{names}
-use Rattle.x86_64_mappers.specs.private.Stops.{table_below, table_read, LeadsTo, IsFound}
+use Rattle.x86_64_mappers.specs.private.Stops.{table_below, table_read, LeadsTo, IsFound, StopsBelow}
 
 -- the stop at an entry that names no table, and otherwise the next one
 abbrev pub stop_or : Result ℕ Refusal → (next : Option Refusal) → Option Refusal
@@ -140,3 +140,30 @@ module _ (l : Layout) (m : Memory) (valid : Valid l m) (path : List ℕ) (levels
 
 pub find_end : (l : Layout) (m : Memory) (path : List ℕ) (k g : ℕ) → length path ≤ k → IsOnWay l m path (take k path) (drop k path) g → IsFound l m path (Ok g)
 find_end l m path k g past here = way_end l m path g (subst₂ (λ t d. IsOnWay l m path t d g) (take_all k path past) (drop_all k path past) here)
+
+-- ---- the way down to a path, whatever follows
+
+-- the walk so far is the same for each page below
+abbrev pub IsOnEachWay : (l : Layout) (m : Memory) (done : List ℕ) (frame : ℕ) → Type 0
+IsOnEachWay l m done frame = (left : List ℕ) → IsOnWay l m (done ++ left) done left frame
+
+pub each_way_start : (l : Layout) (m : Memory) → Valid l m → IsOnEachWay l m [] l.root
+each_way_start l m valid left = way_start l m left valid
+
+module _ (l : Layout) (m : Memory) (valid : Valid l m) (path : List ℕ) (levels : length path < l.levels) (k : ℕ) (within : k < length path) (f : ℕ) (here : IsOnEachWay l m (take k path) f) where
+  abbrev i : ℕ
+  i = get_or path k 0
+
+  short : length (take k path ++ i ∷ []) < l.levels
+  short = simp length-append (omega (arith, length-take k path))
+
+  next_front : take (k + 1) path ≡ take k path ++ i ∷ []
+  next_front = ap (λ j. take j path) (add-one k) ∙ take-suc path k 0 within
+
+  pub each_way_next : (g : ℕ) → Ok g ≡ table_below (word (words l m) f i) → IsOnEachWay l m (take (k + 1) path) g
+  each_way_next g is = subst (λ t. IsOnEachWay l m t g) (sym next_front) (λ left. subst (λ p. IsOnWay l m p (take k path ++ i ∷ []) left g) (sym (append_assoc (take k path) (i ∷ []) left))
+      (way_next l m valid (take k path ++ i ∷ left) (take k path) left i f short (here (i ∷ left)) g is))
+
+  pub each_way_stop : (why : Refusal) → Err why ≡ table_below (word (words l m) f i) → StopsBelow l m (take (k + 1) path) why
+  each_way_stop why is = subst (λ t. StopsBelow l m t why) (sym next_front) (λ left. subst (λ p. IsFound l m p (Err why)) (sym (append_assoc (take k path) (i ∷ []) left))
+      (way_stop l m valid (take k path ++ i ∷ left) (take k path) left i f short (here (i ∷ left)) why is))

@@ -1,4 +1,4 @@
--- A new table that is linked before it is cleared, so that it can be cleared through the entry that names it.
+-- A new table that an entry is made to name, and that is cleared before, or afterwards through this entry.
 use Rattle.std.specs.Prelude.{◌≡◌, ◌≢◌, ℕ, true, List, ◌∷◌, ◌++◌, take, get_or, Option, Some}
 use Rattle.x86_64_model.specs.Arrivals.{leads}
 use Rattle.x86_64_model.specs.Entry.{IsParentFlags, present}
@@ -16,13 +16,17 @@ Beside window root f i = (v : Window) → window ≡ Some v → f ≡ root → i
 abbrev pub NotOnWay : Words → (root : ℕ) → (path : List ℕ) → (f : ℕ) → Type 0
 NotOnWay T root path f = (a : List ℕ) (j : ℕ) (b : List ℕ) → path ≡ a ++ j ∷ b → (h : ℕ) → leads T root a ≡ Some h → h ≢ f
 
+-- no table that the words lead to along the path, down to its end, is in this frame
+abbrev pub Unmet : Words → (root : ℕ) → (path : List ℕ) → (f : ℕ) → Type 0
+Unmet T root path f = (a b : List ℕ) → path ≡ a ++ b → (h : ℕ) → leads T root a ≡ Some h → h ≢ f
+
 -- the entry at index k of a path, in the table f, may be made to name the frame g
 pub record MayLink (l : Layout) (m : Memory) (path : List ℕ) (k f g flags : ℕ) : Type 0 where
   pub reached : IsReached l m (take k path) f
   pub not_on_way : NotOnWay (words l m) l.root (take k path) f
   pub beside : Beside l.window l.root f (get_or path k 0)
   pub there : IsThere l.places m g
-  pub other : f ≢ g
+  pub unmet : Unmet (words l m) l.root (take k path) g
   pub marks : IsParentFlags flags
   pub is_present : present flags ≡ true
 

@@ -5,12 +5,16 @@ use Rattle.x86_64_model.specs.Mapper.{Hierarchy}
 use Rattle.x86_64_model.specs.Refusal.{Refusal, Answer}
 use Rattle.x86_64_mappers.specs.private.Linked.{IsClearedFirst}
 use Rattle.x86_64_mappers.specs.private.MapSteps.{IsDown}
-use Rattle.x86_64_mappers.specs.private.Stops.{IsFound}
+use Rattle.x86_64_mappers.specs.private.Stops.{IsFound, StopsBelow}
 use Rattle.x86_64_mappers.specs.private.Writes.{IsSet, IsMade, IsLeafSet}
 
 -- the table below the parents of a page exists, or the reason why not
 abbrev pub Finds : {Lent : Type 0} → Hierarchy Lent → (parents : List ℕ) → Result ℕ Refusal → Type 0
 Finds h path found = IsFound h.layout h.memory path found
+
+-- a parent, which the path ends with, refuses each page below it
+abbrev pub StopsAt : {Lent : Type 0} → Hierarchy Lent → (path : List ℕ) → Refusal → Type 0
+StopsAt h path why = StopsBelow h.layout h.memory path why
 
 -- word i of the table in a frame was set
 abbrev pub SetsWord : {Lent : Type 0} → Hierarchy Lent → (frame i w : ℕ) → (after : Hierarchy Lent) → Type 0

@@ -1,5 +1,5 @@
 -- The steps of runs of calls that each change at most the entry of one page: the entries in one table.
-use Rattle.std.specs.Prelude.{zero, suc, ◌≡◌, ◌⊎◌, ◌+◌, ℕ, List, get_or, length, set, map, replicate, Some, Result, Ok, Err}
+use Rattle.std.specs.Prelude.{zero, suc, ◌≡◌, ◌⊎◌, ◌<◌, ◌≤◌, ◌+◌, ◌-◌, ◌*◌, ℕ, List, get_or, length, set, take, map, replicate, Option, Some, None, Result, Ok, Err}
 use Rattle.std.specs.FinMap.{insert}
 use Rattle.std.specs.List.{range_with_len}
 use Rattle.x86_64_model.specs.Call.{Call, Reply, Answered}
@@ -7,8 +7,10 @@ use Rattle.x86_64_model.specs.Layout.{Layout, paths, Valid, IsReady, KeepsOthers
 use Rattle.x86_64_model.specs.Machine.{replies_of, state_after}
 use Rattle.x86_64_model.specs.Mapper.{Hierarchy, machine_of, state_in}
 use Rattle.x86_64_model.specs.Memory.{Memory, words_of}
+use Rattle.x86_64_model.specs.Path.{path_at}
 use Rattle.x86_64_model.specs.PathMap.{table_at}
 use Rattle.x86_64_model.specs.Pool.{IsTable}
+use Rattle.x86_64_model.specs.Position.{span}
 use Rattle.x86_64_model.specs.Refusal.{Refusal, Refused}
 use Rattle.x86_64_mappers.specs.private.EntryCalls.{word_said, answer_said}
 use Rattle.x86_64_mappers.specs.private.Stops.{IsFound}
@@ -22,6 +24,11 @@ with_words says i t (suc n) = set (with_words says i t n) (i + n) (word_said (ge
 abbrev pub replies_said : (says : ℕ → Result (ℕ × ℕ) Refusal) → (i : ℕ) → List ℕ → (n : ℕ) → List Reply
 replies_said says i t n = map (λ k. Answered (answer_said (says (get_or t (i + k) 0)))) (range_with_len 0 n)
 
+-- 1 for a call that was done, 0 for a refused one
+abbrev pub count_unless : Option Refusal → ℕ
+count_unless None = 1
+count_unless (Some why) = 0
+
 -- the entries of the table below the parents were changed so
 pub record AreChanged (l : Layout) (m : Memory) (parents : List ℕ) (says : ℕ → Result (ℕ × ℕ) Refusal) (i count : ℕ) (answers : List Reply) (n : Memory) : Type 0 where
   pub frame : ℕ
@@ -32,16 +39,35 @@ pub record AreChanged (l : Layout) (m : Memory) (parents : List ℕ) (says : ℕ
   pub put : n ≡ insert m (l.places.place frame) (with_words says i table count)
   pub replies : answers ≡ replies_said says i table count
 
--- or a parent refused all calls
-pub record AreRefused (l : Layout) (m : Memory) (parents : List ℕ) (count : ℕ) (answers : List Reply) (n : Memory) : Type 0 where
+-- the path of the table with the entry at a path, and the entry's index in it
+abbrev pub table_path : List ℕ → List ℕ
+table_path q = take (length q - 1) q
+
+abbrev pub last_index : List ℕ → ℕ
+last_index q = get_or q (length q - 1) 0
+
+-- for this reason a parent refuses each of the first pages of a level, from a page on
+abbrev pub AreStoppedIn : Layout → Memory → (level page count : ℕ) → Refusal → Type 0
+AreStoppedIn l m level page count why = (k : ℕ) → k < count → IsFound l m (table_path (path_at l.levels level (page + k * span level))) (Err why)
+
+-- this for the pages of a hierarchy
+abbrev pub AreStopped : {Lent : Type 0} → Hierarchy Lent → (level page count : ℕ) → Refusal → Type 0
+AreStopped h level page count why = AreStoppedIn h.layout h.memory level page count why
+
+-- or parents refused all calls
+pub record AreRefused (l : Layout) (m : Memory) (level page count : ℕ) (answers : List Reply) (n : Memory) : Type 0 where
   pub why : Refusal
-  pub found : IsFound l m parents (Err why)
+  pub stopped : AreStoppedIn l m level page count why
   pub same : n ≡ m
   pub replies : answers ≡ replicate count (Answered (Refused why))
 
-abbrev pub ChangesPart : {Lent : Type 0} → Hierarchy Lent → (parents : List ℕ) → (says : ℕ → Result (ℕ × ℕ) Refusal) → (i count : ℕ) → (answers : List Reply) → (after : Hierarchy Lent) → Type 0
-ChangesPart h parents says i count answers after =
-    AreChanged h.layout h.memory parents says i count answers after.memory ⊎ AreRefused h.layout h.memory parents count answers after.memory
+-- the first pages of a level, from a page on, were changed, or were refused
+abbrev pub IsPartChanged : Layout → Memory → (level page : ℕ) → (says : ℕ → Result (ℕ × ℕ) Refusal) → (count : ℕ) → (answers : List Reply) → Memory → Type 0
+IsPartChanged l m level page says count answers n = let q = path_at l.levels level page in
+    (last_index q + count ≤ 512) × AreChanged l m (table_path q) says (last_index q) count answers n ⊎ AreRefused l m level page count answers n
+
+abbrev pub ChangesPart : {Lent : Type 0} → Hierarchy Lent → (level page : ℕ) → (says : ℕ → Result (ℕ × ℕ) Refusal) → (count : ℕ) → (answers : List Reply) → (after : Hierarchy Lent) → Type 0
+ChangesPart h level page says count answers after = IsPartChanged h.layout h.memory level page says count answers after.memory
 
 -- what calls that each change at most one entry, one after another, leave in a memory: each table stays where it is
 pub record IsChangeRun (l : Layout) (m : Memory) (calls : List Call) (answers : List Reply) (n : Memory) : Type 0 where

@@ -34,3 +34,7 @@ NeverStops l m path = (last : ℕ) → first_stop (read_entry l m) (path ++ last
 abbrev pub IsFound : Layout → Memory → (path : List ℕ) → Result ℕ Refusal → Type 0
 IsFound l m path (Ok frame) = LeadsTo l m path frame × NeverStops l m path
 IsFound l m path (Err why) = (last : ℕ) → first_stop (read_entry l m) (path ++ last ∷ []) ≡ Some why
+
+-- the same parent refuses each page below a path
+abbrev pub StopsBelow : Layout → Memory → (path : List ℕ) → Refusal → Type 0
+StopsBelow l m path why = (rest : List ℕ) → IsFound l m (path ++ rest) (Err why)

@@ -1,9 +1,12 @@
 //! Tests of the conditions of calls.
-ghost use Rattle.std.specs.Prelude.{◌≡◌, ◌<◌, ◌≤◌, ◌+◌, ◌==◌, ℕ, false, [], ◌∷◌, ◌++◌, length};
+ghost use Rattle.std.specs.Prelude.{◌≡◌, ◌<◌, ◌≤◌, ◌+◌, ◌-◌, ◌*◌, ◌^◌, ◌==◌, ◌↔◌, ℕ, true, false, [], ◌∷◌, ◌++◌, length, IsTrue};
 ghost use Rattle.x86_64_model.specs.Call.{SetFlags};
+ghost use Rattle.x86_64_model.specs.Entry.{present};
 ghost use Rattle.x86_64_model.specs.Mapper.{Valid, allows, allows_map, paths, read_entry};
 ghost use Rattle.x86_64_model.specs.Window.{begins_with};
-ghost use Rattle.x86_64_mappers.specs.private.MapConditions.{flags_allowed, are_present, meets_none_absent};
+ghost use Rattle.x86_64_mappers.specs.RangeChanges.{IsRange};
+ghost use Rattle.x86_64_mappers.specs.Ranges.{MayMapRange, range_of};
+ghost use Rattle.x86_64_mappers.specs.private.MapConditions.{flags_allowed, are_present, meets_none_absent, AreOutside};
 ghost use Rattle.x86_64_mappers.specs.private.Results.{walk_result};
 ghost use Rattle.x86_64_mappers.specs.private.TableFlags.{keeps_huge};
 ghost use Rattle.x86_64_tables.specs.PageTableFlags.{bits_of};
@@ -12,8 +15,10 @@ use super::find::{PageTableWalkError, find_table, path_to_level};
 use super::{TableAccess, entry};
 use bitflags::Flags;
 use x86_64_addr::index::PageTableIndex;
+use x86_64_addr::level_count::LevelCount;
 use x86_64_page::frame::PhysFrame;
-use x86_64_page::page::{PageSize, Size4KiB};
+use x86_64_page::page::{PageIn, PageSize, Size4KiB};
+use x86_64_tables::mapper::TablesIn;
 use x86_64_tables::page_table::PageTableFlags;
 
 /// Returns true if the page that a path leads to may be mapped with these flags and parent flags.
@@ -106,4 +111,77 @@ fn keeps_huge<M: TableAccess>(mapper: &M, path: &[PageTableIndex], flags: PageTa
     entry.is_unused()
         || entry.flags().contains(PageTableFlags::HUGE_PAGE)
             == flags.contains(PageTableFlags::HUGE_PAGE)
+}
+
+/// Returns true if a number of pages, from a page on, exist and are outside the recursive window.
+pub fn range_allowed<S: PageSize, L: LevelCount, M: TablesIn<L>>(
+    mapper: &M,
+    page: PageIn<S, L>,
+    count: u64,
+) -> bool
+    ensures { IsTrue result ↔ IsRange (M.hierarchy mapper.now) S.LEVEL page count }
+{
+    if count == 0 {
+        return true;
+    }
+    match PageIn::forward_checked(page, (count - 1) as usize) {
+        Some(last) => are_outside_window(mapper, page, last),
+        None => false,
+    }
+}
+
+/// Returns true if all pages from the first to the last one are outside the recursive window.
+fn are_outside_window<S: PageSize, L: LevelCount, M: TablesIn<L>>(
+    mapper: &M,
+    first: PageIn<S, L>,
+    last: PageIn<S, L>,
+) -> bool
+    requires { first ≤ last }
+    ensures { IsTrue result ↔ AreOutside (M.hierarchy mapper.now) S.LEVEL first last }
+{
+    let Some(index) = mapper.recursive_index() else {
+        return true;
+    };
+    let index = u16::from(index);
+    let first = u16::from(first.table_index(L::LEVELS));
+    let last = u16::from(last.table_index(L::LEVELS));
+    (index < first) | (last < index)
+}
+
+/// Returns true if the parent flags have `PRESENT`, and a number of pages, from a page on, may be mapped to the frames
+/// from a frame on.
+// With PRESENT among the parent flags, whether a page may be mapped depends on no entry.
+#[tactic(auto, unfolding(x86_64_model::specs::Entry::has))]
+pub fn map_range_allowed<S: PageSize, L: LevelCount, M: TablesIn<L>>(
+    mapper: &M,
+    page: PageIn<S, L>,
+    count: u64,
+    frame: PhysFrame<S>,
+    flags: PageTableFlags,
+    parent_flags: PageTableFlags,
+) -> bool
+    ensures { let h = M.hierarchy mapper.now in let more = bits_of parent_flags in
+        let range = range_of S.LEVEL page frame (bits_of flags) more in
+        IsTrue result ↔ (present more ≡ true) × MayMapRange h range count }
+{
+    if !parent_flags.contains(PageTableFlags::PRESENT) {
+        return false;
+    }
+    if count == 0 {
+        return true;
+    }
+    frames_exist(frame, count)
+        & range_allowed(mapper, page, count)
+        & flags_allowed::<S>(flags, parent_flags)
+}
+
+/// Returns true if all of a number of frames, from a frame on, exist.
+fn frames_exist<S: PageSize>(frame: PhysFrame<S>, count: u64) -> bool
+    requires { 0 < count }
+    ensures { IsTrue result ↔ (frame + (count - 1) * S.SIZE < 2 ^ 52) }
+{
+    match (count - 1).checked_mul(S::SIZE) {
+        Some(bytes) => bytes < 0x10_0000_0000_0000 - frame.start_address().as_u64(),
+        None => false,
+    }
 }

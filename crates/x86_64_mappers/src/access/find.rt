@@ -1,8 +1,8 @@
 //! Walks down to tables that exist.
-ghost use Rattle.std.specs.Prelude.{◌≡◌, ◌<◌, ◌+◌, ◌-◌, length, take, IfOk};
+ghost use Rattle.std.specs.Prelude.{◌≡◌, ◌<◌, ◌≤◌, ◌+◌, ◌-◌, length, take, Ok, IfOk, IfErr};
 ghost use Rattle.x86_64_model.specs.Memory.{word};
 ghost use Rattle.x86_64_model.specs.Mapper.{Valid, words};
-ghost use Rattle.x86_64_mappers.specs.private.OwnedSteps.{Finds};
+ghost use Rattle.x86_64_mappers.specs.private.OwnedSteps.{Finds, StopsAt};
 ghost use Rattle.x86_64_mappers.specs.Reached.{Reaches};
 ghost use Rattle.x86_64_mappers.specs.private.Results.{walk_refusal, walk_result};
 ghost use Rattle.x86_64_mappers.specs.private.Stops.{table_below};
@@ -80,13 +80,50 @@ pub fn next_table<M: TableAccess>(
     }
 }
 
+/// The parent of a page at which a walk down to the table below the parents ends.
+#[derive(Clone, Copy, Debug, PartialEq)]
+pub struct WalkEnd {
+    /// The number of parents from the root down to this one.
+    pub depth: usize,
+    /// The reason why it leads to no table.
+    pub why: PageTableWalkError,
+}
+
 /// Returns the frame of the table below the parents of a page, which are given by their indices from the root down.
 ///
 /// # Errors
 ///
-/// The first parent that lacks `PRESENT` or has `HUGE_PAGE` decides: `NotMapped` if it lacks `PRESENT`, otherwise
+/// The first parent that lacks `PRESENT` or has `HUGE_PAGE`: `NotMapped` if it lacks `PRESENT`, otherwise
 /// `MappedToHugePage`.
 // Inlined, since callers know the number of indices, and then the window of each table takes a few instructions.
+#[inline]
+pub fn walk_to_table<M: TableAccess>(
+    mapper: &M,
+    parents: &[PageTableIndex],
+) -> Result<PhysFrame<Size4KiB>, WalkEnd>
+    requires valid { Valid (M.hierarchy mapper.now) }
+    requires short { length parents.now < (M.hierarchy mapper.now).layout.levels }
+    ensures found { IfOk result (λ table. Finds (M.hierarchy mapper.now) parents.now (Ok table)) }
+    ensures reached { IfOk result (λ table. Reaches (M.hierarchy mapper.now) parents.now table) }
+    ensures ends { IfErr result (λ end.
+        StopsAt (M.hierarchy mapper.now) (take end.depth parents.now) (walk_refusal end.why)) }
+    ensures depth { IfErr result (λ end. (0 < end.depth) × (end.depth ≤ length parents.now)) }
+{
+    let mut table = mapper.root();
+    for k in 0..parents.len() {
+        table = match next_table(mapper, &parents[..k], table, parents[k]) {
+            Ok(next) => next,
+            Err(why) => return Err(WalkEnd { depth: k + 1, why }),
+        };
+    }
+    Ok(table)
+}
+
+/// Returns the frame of the table below the parents of a page.
+///
+/// # Errors
+///
+/// The reason of [`walk_to_table`].
 #[inline]
 pub fn find_table<M: TableAccess>(
     mapper: &M,
@@ -97,11 +134,10 @@ pub fn find_table<M: TableAccess>(
     ensures found { Finds (M.hierarchy mapper.now) parents.now (walk_result result) }
     ensures reached { IfOk result (λ table. Reaches (M.hierarchy mapper.now) parents.now table) }
 {
-    let mut table = mapper.root();
-    for k in 0..parents.len() {
-        table = next_table(mapper, &parents[..k], table, parents[k])?;
+    match walk_to_table(mapper, parents) {
+        Ok(table) => Ok(table),
+        Err(end) => Err(end.why),
     }
-    Ok(table)
 }
 
 /// Returns the path of the entry of a level on the path of a page, whose own entry is on a lower level.

@@ -1,17 +1,18 @@
 //! Maps of pages.
-ghost use Rattle.std.specs.Prelude.{◌≡◌, ◌<◌, ◌≤◌, ◌+◌, false, if◌then◌else◌, length, get_or, bit_or, IsTrue, IfOk, Ok, Err};
+ghost use Rattle.std.specs.Prelude.{◌≡◌, ◌<◌, ◌≤◌, ◌+◌, true, false, if◌then◌else◌, length, take, get_or, bit_or, Some, IsTrue, IfOk, Ok, Err};
 ghost use Rattle.x86_64_model.specs.Call.{MapToWithTableFlags};
 ghost use Rattle.x86_64_model.specs.Entry.{address, huge, IsParentFlags};
-ghost use Rattle.x86_64_model.specs.Mapper.{SupplyFits, MayMap, DoesMap, paths};
+ghost use Rattle.x86_64_model.specs.Mapper.{SupplyFits, MayMap, DoesMap, paths, words};
 ghost use Rattle.x86_64_model.specs.Refusal.{ParentEntryHugePage};
 ghost use Rattle.x86_64_model.specs.Window.{begins_with};
 ghost use Rattle.x86_64_mappers.specs.private.Linked.{MayLink};
 ghost use Rattle.x86_64_mappers.specs.private.OpenWay.{WillBePresent, IsOpenWay};
-ghost use Rattle.x86_64_mappers.specs.private.OwnedSteps.{LinksTable, MakesTable, MakesTables, SetsLeaf};
+ghost use Rattle.x86_64_mappers.specs.private.OwnedSteps.{LinksTable, MakesTable, MakesTables, SetsLeaf, SetsWord};
 ghost use Rattle.x86_64_mappers.specs.Reached.{Reaches};
 ghost use Rattle.x86_64_mappers.specs.private.PageCalls.{page_word};
 ghost use Rattle.x86_64_mappers.specs.private.Results.{create_refusal, create_result};
 ghost use Rattle.x86_64_tables.specs.MapperAnswers.{map_answer};
+ghost use Rattle.x86_64_tables.specs.PageTable.{zero_words};
 ghost use Rattle.x86_64_tables.specs.PageTableFlags.{bits_of};
 
 use super::leaf::leaf_flags;
@@ -46,9 +47,36 @@ impl<S: PageSize> From<PageTableCreateError> for MapToError<S> {
     }
 }
 
+/// Makes the entry at index `k` of the parents, in the given table, name a frame. If the mapper reaches tables that no
+/// entry names, it has cleared the table in the frame before.
+// Inlined for the reason below.
+#[inline(always)]
+fn name_table<M: TableAccess>(
+    mapper: &mut M,
+    parents: &[PageTableIndex],
+    k: usize,
+    table: PhysFrame<Size4KiB>,
+    frame: PhysFrame<Size4KiB>,
+    flags: PageTableFlags,
+)
+    requires within { k < length parents.now }
+    requires short { length parents.now < (M.hierarchy mapper.old).layout.levels }
+    requires cleared { M.reaches_unnamed ≡ true → words (M.hierarchy mapper.old) frame ≡ Some zero_words }
+    requires may { let h = M.hierarchy mapper.old in
+        MayLink h.layout h.memory parents.now k table frame (bits_of flags) }
+    ensures named { let index = get_or parents.now k 0 in let word = bit_or frame (bits_of flags) in
+        SetsWord (M.hierarchy mapper.old) table index word (M.hierarchy mapper.new) }
+    ensures reached { Reaches (M.hierarchy mapper.new) (take (k + 1) parents.now) frame }
+    ensures layout { (M.hierarchy mapper.new).layout ≡ (M.hierarchy mapper.old).layout }
+    ensures lent { (M.hierarchy mapper.new).lent ≡ (M.hierarchy mapper.old).lent }
+{
+    entry_mut(mapper, &parents[..k], table, parents[k]).set_frame(frame, flags);
+}
+
 /// Makes the entry at index `k` of the parents, in the given table, name a frame, and clears the table in that frame.
 ///
-/// The table is cleared last, since a mapper may have no other way to reach it than through its entry.
+/// The table is cleared first, since a processor may follow the entry at once and would take old words of the frame for
+/// entries. A mapper that reaches the table only through its entry clears it last.
 // Inlined, since a call would pass the indices in memory, and each map would have to write them there.
 #[inline(always)]
 fn link_table<M: TableAccess>(
@@ -68,8 +96,11 @@ fn link_table<M: TableAccess>(
     ensures layout { (M.hierarchy mapper.new).layout ≡ (M.hierarchy mapper.old).layout }
     ensures lent { (M.hierarchy mapper.new).lent ≡ (M.hierarchy mapper.old).lent }
 {
-    entry_mut(mapper, &parents[..k], table, parents[k]).set_frame(frame, flags);
-    mapper.table_mut(&parents[..k + 1], frame).zero();
+    let cleared = mapper.clear_unnamed(frame);
+    name_table(mapper, parents, k, table, frame, flags);
+    if !cleared {
+        mapper.table_mut(&parents[..k + 1], frame).zero();
+    }
 }
 
 /// Adds flags to an entry. Writes it only if it lacks one of them, since the next map reads the word and would wait

@@ -1,25 +1,30 @@
-//! Changes of the entries of runs of pages.
-ghost use Rattle.std.specs.Prelude.{◌≡◌, ◌<◌, ◌≤◌, ◌+◌, ◌-◌, ◌*◌, ◌∷◌, [], ℕ, List, fold, true, false, length, take, get_or};
-ghost use Rattle.x86_64_model.specs.Call.{Reply, Answered, Unmap, UpdateFlags};
-ghost use Rattle.x86_64_model.specs.Mapper.{Valid, allows, path_of};
-ghost use Rattle.x86_64_model.specs.Position.{position_count};
-ghost use Rattle.x86_64_model.specs.Window.{begins_with};
-ghost use Rattle.x86_64_mappers.specs.RangeChanges.{unmaps, updates, frames_done, DoesChanges};
+//! Changes of the entries of ranges of pages.
+ghost use Rattle.std.specs.Prelude.{◌≡◌, ◌<◌, ◌≤◌, ◌+◌, ◌-◌, ◌*◌, ◌/◌, ◌∷◌, [], ℕ, List, Ok, fold, true, length, take, IfOk, IfErr};
+ghost use Rattle.x86_64_model.specs.Call.{Reply, Answered};
+ghost use Rattle.x86_64_model.specs.Entry.{no_address};
+ghost use Rattle.x86_64_model.specs.Mapper.{Valid, path_of};
+ghost use Rattle.x86_64_model.specs.Position.{span};
+ghost use Rattle.x86_64_mappers.specs.RangeChanges.{unmaps, updates, frames_done, DoesChanges, IsRange};
+ghost use Rattle.x86_64_mappers.specs.Reached.{Reaches};
+ghost use Rattle.x86_64_mappers.specs.private.OwnedSteps.{Finds};
 ghost use Rattle.x86_64_mappers.specs.private.PageCalls.{unmap_says, update_says};
-ghost use Rattle.x86_64_mappers.specs.private.RangeChangeSteps.{with_words, replies_said, ChangesPart};
-ghost use Rattle.x86_64_tables.specs.MapperAnswers.{frame_answer};
+ghost use Rattle.x86_64_mappers.specs.private.RangeChangeSteps.{with_words, replies_said, count_unless, last_index, table_path, AreStopped, ChangesPart};
+ghost use Rattle.x86_64_mappers.specs.private.Results.{walk_refusal};
+ghost use Rattle.x86_64_tables.specs.FlushRecorder.{flush_range};
+ghost use Rattle.x86_64_tables.specs.MapperAnswers.{frame_answer, flags_refusal};
 ghost use Rattle.x86_64_tables.specs.PageTableFlags.{bits_of};
 
 use super::TableAccess;
 use super::change::{unmap_entry, update_entry};
-use super::find::find_table;
+use super::find::{PageTableWalkError, walk_to_table};
 use super::path::path_of_page;
-use super::ranges::page_after;
 use x86_64_addr::index::PageTableIndex;
 use x86_64_addr::level_count::LevelCount;
 use x86_64_page::frame::PhysFrame;
-use x86_64_page::page::{PageIn, PageSize};
-use x86_64_tables::mapper::{TablesIn, UnmapError};
+use x86_64_page::page::{PageIn, PageSize, Size4KiB};
+use x86_64_tables::mapper::{
+    FlagUpdateError, MapperFlushRangeIn, TablesIn, UnmapError, page_after,
+};
 use x86_64_tables::page_table::{PageTable, PageTableFlags};
 
 /// Takes the frames of unmapped pages, one after another.
@@ -32,6 +37,65 @@ pub trait FrameSink {
     /// Takes a frame.
     fn take<S: PageSize>(&mut self, frame: PhysFrame<S>)
         ensures { self.new ≡ Self.with_frame self.old frame };
+}
+
+/// The first pages of a range: those for which one walk decides.
+#[derive(Clone, Copy)]
+struct Part {
+    /// The number of pages.
+    pages: u64,
+    /// The table with their entries, or the reason why there is none.
+    table: Result<PhysFrame<Size4KiB>, PageTableWalkError>,
+}
+
+/// Returns the number of the pages, from a page on, that lie below the same entry of a level.
+fn pages_below<S: PageSize, L: LevelCount>(page: PageIn<S, L>, level: u64) -> u64
+    requires above { S.LEVEL ≤ level }
+    requires low { level ≤ 5 }
+    ensures some { 0 < result }
+    ensures same { (k : ℕ) → k < result
+        → (page + k * span S.LEVEL) / span level ≡ page / span level }
+{
+    let number = page.start_address().position() / S::SIZE;
+    let pages = 1u64 << (9 * (level - S::LEVEL));
+    pages - number % pages
+}
+
+/// Looks for the table with the entry of a page, which has this path. Returns it with the number of the pages, from
+/// this one on and at most `count`, that have their entries in it too. If a parent refuses the page, it refuses all
+/// pages below itself, and then their number is returned.
+#[inline]
+fn find_part<S: PageSize, L: LevelCount, M: TableAccess + TablesIn<L>>(
+    mapper: &M,
+    page: PageIn<S, L>,
+    path: &[PageTableIndex],
+    count: u64,
+) -> Part
+    requires valid { Valid (M.hierarchy mapper.now) }
+    requires path { path.now ≡ path_of (M.hierarchy mapper.now) S.LEVEL page }
+    requires levels { length path.now + S.LEVEL ≡ (M.hierarchy mapper.now).layout.levels + 1 }
+    requires some { 0 < count }
+    ensures some { 0 < result.pages }
+    ensures within { result.pages ≤ count }
+    ensures found { IfOk result.table (λ table.
+        Finds (M.hierarchy mapper.now) (table_path path.now) (Ok table)) }
+    ensures reached { IfOk result.table (λ table.
+        Reaches (M.hierarchy mapper.now) (table_path path.now) table) }
+    ensures fits { IfOk result.table (λ _. last_index path.now + result.pages ≤ 512) }
+    ensures refused { IfErr result.table (λ why.
+        AreStopped (M.hierarchy mapper.now) S.LEVEL page result.pages (walk_refusal why)) }
+{
+    let last = path.len() - 1;
+    match walk_to_table(mapper, &path[..last]) {
+        Ok(table) => Part {
+            pages: (512 - u64::from(path[last])).min(count),
+            table: Ok(table),
+        },
+        Err(end) => Part {
+            pages: pages_below(page, S::LEVEL + (path.len() - end.depth) as u64).min(count),
+            table: Err(end.why),
+        },
+    }
 }
 
 /// Passes the frame of an unmapped page on, if it was unmapped.
@@ -63,131 +127,164 @@ fn unmap_entries<S: PageSize, K: FrameSink>(
     }
 }
 
-/// Unmaps pages of one table, from the one with a path on, and passes their frames on.
-fn unmap_part<S: PageSize, M: TableAccess, K: FrameSink>(
-    mapper: &mut M,
-    path: &[PageTableIndex],
-    count: usize,
-    sink: &mut K,
-)
-    requires levels { length path.now + S.LEVEL ≡ (M.hierarchy mapper.old).layout.levels + 1 }
-    requires valid { Valid (M.hierarchy mapper.old) }
-    requires some { 0 < count }
-    requires within { get_or path.now (length path.now - 1) 0 + count ≤ 512 }
-    ensures changes { let h = M.hierarchy mapper.old in let last = length path.now - 1 in
-        let parents = take last path.now in let first = get_or path.now last 0 in
-        (replies : List Reply)
-        × ChangesPart h parents (unmap_says S.LEVEL) first count replies (M.hierarchy mapper.new)
-        × (sink.new ≡ fold K.with_frame sink.old (frames_done replies)) }
-    ensures layout { (M.hierarchy mapper.new).layout ≡ (M.hierarchy mapper.old).layout }
-    ensures lent { (M.hierarchy mapper.new).lent ≡ (M.hierarchy mapper.old).lent }
-{
-    let last = path.len() - 1;
-    let parents = &path[..last];
-    let table = match find_table(mapper, parents) {
-        Ok(table) => table,
-        Err(_why) => return,
-    };
-    let first = usize::from(path[last]);
-    unmap_entries::<S, K>(mapper.table_mut(parents, table), first, count, sink);
-}
-
-/// Unmaps those of a number of pages, from a page on, that are mapped by entries of their own, and passes their
-/// frames on, in order. A page whose `unmap` would be refused, for whatever reason, is passed over and stays as it is.
-pub fn unmap_pages<S: PageSize, L: LevelCount, M: TableAccess + TablesIn<L>, K: FrameSink>(
+/// Unmaps the first pages of a number of pages, from a page on, and passes their frames on. Returns how many pages
+/// these are: those for which one walk decides.
+fn unmap_part<S: PageSize, L: LevelCount, M: TableAccess + TablesIn<L>, K: FrameSink>(
     mapper: &mut M,
     page: PageIn<S, L>,
     count: u64,
     sink: &mut K,
-)
+) -> u64
     requires valid { Valid (M.hierarchy mapper.old) }
-    requires there { (k : ℕ) → k < count → page + k * S.SIZE < position_count L.LEVELS }
-    requires allowed { let h = M.hierarchy mapper.old in
-        (k : ℕ) → k < count → allows h (Unmap (path_of h S.LEVEL (page + k * S.SIZE))) ≡ true }
-    ensures { let h = M.hierarchy mapper.old in
+    requires some { 0 < count }
+    ensures some { 0 < result }
+    ensures within { result ≤ count }
+    ensures changes { let h = M.hierarchy mapper.old in let says = unmap_says S.LEVEL in
+        (replies : List Reply) × ChangesPart h S.LEVEL page says result replies (M.hierarchy mapper.new)
+        × (sink.new ≡ fold K.with_frame sink.old (frames_done replies)) }
+    ensures layout { (M.hierarchy mapper.new).layout ≡ (M.hierarchy mapper.old).layout }
+    ensures lent { (M.hierarchy mapper.new).lent ≡ (M.hierarchy mapper.old).lent }
+{
+    let path = path_of_page(mapper, page);
+    let indices = path.indices();
+    let part = find_part(mapper, page, indices, count);
+    let table = match part.table {
+        Ok(table) => table,
+        Err(_why) => return part.pages,
+    };
+    let last = indices.len() - 1;
+    let entries = mapper.table_mut(&indices[..last], table);
+    unmap_entries::<S, K>(
+        entries,
+        usize::from(indices[last]),
+        part.pages as usize,
+        sink,
+    );
+    part.pages
+}
+
+/// Unmaps the pages of a range, and passes the frames of those that were mapped on, in order.
+///
+/// Conditions are those of [`Mapper::unmap_range`](crate::mapper::Mapper::unmap_range), which says more.
+pub fn unmap_range<S: PageSize, L: LevelCount, M: TableAccess + TablesIn<L>, K: FrameSink>(
+    mapper: &mut M,
+    page: PageIn<S, L>,
+    count: u64,
+    sink: &mut K,
+) -> MapperFlushRangeIn<S, L>
+    requires valid { Valid (M.hierarchy mapper.old) }
+    requires pages { IsRange (M.hierarchy mapper.old) S.LEVEL page count }
+    ensures does { let h = M.hierarchy mapper.old in
         let calls = unmaps h.layout.levels S.LEVEL page count in
         (replies : List Reply) × DoesChanges h calls replies (M.hierarchy mapper.new)
         × (sink.new ≡ fold K.with_frame sink.old (frames_done replies)) }
+    ensures pages { result ≡ flush_range page count }
 {
     let mut done = 0;
     'parts: while done < count {
-        let path = path_of_page(mapper, page_after(page, done));
-        let indices = path.indices();
-        let room = 512 - u64::from(indices[indices.len() - 1]);
-        let part = room.min(count - done);
-        unmap_part::<S, M, K>(mapper, indices, part as usize, sink);
-        done += part;
+        done += unmap_part(mapper, page_after(page, done), count - done, sink);
+    }
+    MapperFlushRangeIn::new(page, count)
+}
+
+/// Returns 1 if the flags of an entry were set, and 0 otherwise.
+fn count_of(updated: Result<(), FlagUpdateError>) -> u64
+    ensures { result ≡ count_unless (flags_refusal updated) }
+{
+    match updated {
+        Ok(()) => 1,
+        Err(_) => 0,
     }
 }
 
-/// Sets the flags of pages by their entries in a table, from an index on. Entries that map no page stay.
+/// Sets the flags of pages by their entries in a table, from an index on. Entries that map no page stay. Returns the
+/// number of entries that were changed.
 fn update_entries<S: PageSize>(
     table: &mut PageTable,
     first: usize,
     count: usize,
     flags: PageTableFlags,
-)
+) -> u64
     requires { first + count ≤ 512 }
     ensures words { table.new ≡ with_words (update_says S.LEVEL (bits_of flags)) first table.old count }
+    ensures changed { let says = update_says S.LEVEL (bits_of flags) in
+        result ≡ length (frames_done (replies_said says first table.old count)) }
+    ensures few { result ≤ count }
     ensures size { 0 < count → length table.old ≡ 512 }
 {
+    let mut changed = 0;
     for k in 0..count {
-        // A refused entry stays as it is.
-        let _refused = update_entry::<S>(&mut table[first + k], flags).is_err();
+        let updated = update_entry::<S>(&mut table[first + k], flags);
+        changed += count_of(updated);
     }
+    changed
 }
 
-/// Sets the flags of pages of one table, from the one with a path on.
-fn update_part<S: PageSize, M: TableAccess>(
-    mapper: &mut M,
-    path: &[PageTableIndex],
-    count: usize,
-    flags: PageTableFlags,
-)
-    requires levels { length path.now + S.LEVEL ≡ (M.hierarchy mapper.old).layout.levels + 1 }
-    requires valid { Valid (M.hierarchy mapper.old) }
-    requires some { 0 < count }
-    requires within { get_or path.now (length path.now - 1) 0 + count ≤ 512 }
-    ensures changes { let h = M.hierarchy mapper.old in let last = length path.now - 1 in
-        let parents = take last path.now in let first = get_or path.now last 0 in
-        let says = update_says S.LEVEL (bits_of flags) in
-        (replies : List Reply) × ChangesPart h parents says first count replies (M.hierarchy mapper.new) }
-    ensures layout { (M.hierarchy mapper.new).layout ≡ (M.hierarchy mapper.old).layout }
-    ensures lent { (M.hierarchy mapper.new).lent ≡ (M.hierarchy mapper.old).lent }
-{
-    let last = path.len() - 1;
-    let parents = &path[..last];
-    let table = match find_table(mapper, parents) {
-        Ok(table) => table,
-        Err(_why) => return,
-    };
-    let first = usize::from(path[last]);
-    update_entries::<S>(mapper.table_mut(parents, table), first, count, flags);
+/// The pages of a part whose flags were to be set.
+#[derive(Clone, Copy)]
+struct UpdatedPart {
+    /// The number of pages.
+    pages: u64,
+    /// The number of pages whose flags were set.
+    changed: u64,
 }
 
-/// Sets the flags of those of a number of pages, from a page on, that are mapped by entries of their own. A page
-/// whose `update_flags` would be refused, for whatever reason, is passed over and stays as it is.
-pub fn update_pages<S: PageSize, L: LevelCount, M: TableAccess + TablesIn<L>>(
+/// Sets the flags of the first pages of a number of pages, from a page on: of those for which one walk decides.
+fn update_part<S: PageSize, L: LevelCount, M: TableAccess + TablesIn<L>>(
     mapper: &mut M,
     page: PageIn<S, L>,
     count: u64,
     flags: PageTableFlags,
-)
+) -> UpdatedPart
     requires valid { Valid (M.hierarchy mapper.old) }
-    requires there { (k : ℕ) → k < count → page + k * S.SIZE < position_count L.LEVELS }
-    requires allowed { let h = M.hierarchy mapper.old in (k : ℕ) → k < count
-        → allows h (UpdateFlags (path_of h S.LEVEL (page + k * S.SIZE)) (bits_of flags)) ≡ true }
-    ensures { let h = M.hierarchy mapper.old in
+    requires some { 0 < count }
+    ensures some { 0 < result.pages }
+    ensures within { result.pages ≤ count }
+    ensures few { result.changed ≤ result.pages }
+    ensures changes { let h = M.hierarchy mapper.old in let says = update_says S.LEVEL (bits_of flags) in
+        (replies : List Reply) × ChangesPart h S.LEVEL page says result.pages replies (M.hierarchy mapper.new)
+        × (result.changed ≡ length (frames_done replies)) }
+    ensures layout { (M.hierarchy mapper.new).layout ≡ (M.hierarchy mapper.old).layout }
+    ensures lent { (M.hierarchy mapper.new).lent ≡ (M.hierarchy mapper.old).lent }
+{
+    let path = path_of_page(mapper, page);
+    let indices = path.indices();
+    let part = find_part(mapper, page, indices, count);
+    let pages = part.pages;
+    let table = match part.table {
+        Ok(table) => table,
+        Err(_why) => return UpdatedPart { pages, changed: 0 },
+    };
+    let last = indices.len() - 1;
+    let entries = mapper.table_mut(&indices[..last], table);
+    let changed = update_entries::<S>(entries, usize::from(indices[last]), pages as usize, flags);
+    UpdatedPart { pages, changed }
+}
+
+/// Sets the flags of the pages of a range. Returns how many were mapped, with the token for all of them.
+///
+/// Conditions are those of [`Mapper::update_flags_range`](crate::mapper::Mapper::update_flags_range), which says more.
+pub fn update_flags_range<S: PageSize, L: LevelCount, M: TableAccess + TablesIn<L>>(
+    mapper: &mut M,
+    page: PageIn<S, L>,
+    count: u64,
+    flags: PageTableFlags,
+) -> (u64, MapperFlushRangeIn<S, L>)
+    requires valid { Valid (M.hierarchy mapper.old) }
+    requires pages { IsRange (M.hierarchy mapper.old) S.LEVEL page count }
+    requires flags { no_address (bits_of flags) ≡ true }
+    ensures does { let h = M.hierarchy mapper.old in
         let calls = updates h.layout.levels S.LEVEL page (bits_of flags) count in
-        (replies : List Reply) × DoesChanges h calls replies (M.hierarchy mapper.new) }
+        (replies : List Reply) × DoesChanges h calls replies (M.hierarchy mapper.new)
+        × (result.0 ≡ length (frames_done replies)) }
+    ensures pages { result.1 ≡ flush_range page count }
 {
     let mut done = 0;
+    let mut changed = 0;
     'parts: while done < count {
-        let path = path_of_page(mapper, page_after(page, done));
-        let indices = path.indices();
-        let room = 512 - u64::from(indices[indices.len() - 1]);
-        let part = room.min(count - done);
-        update_part::<S, M>(mapper, indices, part as usize, flags);
-        done += part;
+        let part = update_part(mapper, page_after(page, done), count - done, flags);
+        done += part.pages;
+        changed += part.changed;
     }
+    (changed, MapperFlushRangeIn::new(page, count))
 }

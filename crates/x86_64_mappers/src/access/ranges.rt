@@ -1,14 +1,14 @@
-//! Maps of runs of pages.
-ghost use Rattle.std.specs.Prelude.{◌≡◌, ◌<◌, ◌≤◌, ◌+◌, ◌-◌, ◌*◌, ◌^◌, ℕ, true, false, length, take, get_or, IfOk, OnOk, IfErr};
+//! Maps of ranges of pages.
+ghost use Rattle.std.specs.Prelude.{◌≡◌, ◌<◌, ◌≤◌, ◌+◌, ◌-◌, ◌*◌, ◌^◌, ℕ, false, length, take, get_or, IfOk, OnOk, IfErr};
 ghost use Rattle.x86_64_model.specs.Entry.{IsParentFlags};
 ghost use Rattle.x86_64_model.specs.Mapper.{SupplyFits, paths};
-ghost use Rattle.x86_64_model.specs.Position.{position_count};
 ghost use Rattle.x86_64_model.specs.Window.{begins_with};
-ghost use Rattle.x86_64_mappers.specs.Ranges.{run_of, MayMapRun, MapsAll, StopsAt};
+ghost use Rattle.x86_64_mappers.specs.Ranges.{range_of, MayMapRange, MapsAll, StopsAt};
 ghost use Rattle.x86_64_mappers.specs.Reached.{Reaches};
 ghost use Rattle.x86_64_mappers.specs.private.OpenWay.{WillBePresent};
 ghost use Rattle.x86_64_mappers.specs.private.RangeSteps.{with_leaves, AreUnused, SetsLeaves, MapsPart};
 ghost use Rattle.x86_64_mappers.specs.private.Results.{create_result};
+ghost use Rattle.x86_64_tables.specs.FlushRecorder.{flush_range};
 ghost use Rattle.x86_64_tables.specs.MapperAnswers.{map_refusal};
 ghost use Rattle.x86_64_tables.specs.PageTableFlags.{bits_of};
 
@@ -17,21 +17,26 @@ use super::leaf::leaf_flags;
 use super::map::{PageTableCreateError, create_tables};
 use super::path::path_of_page;
 use x86_64_addr::index::PageTableIndex;
-use x86_64_addr::level_count::LevelCount;
+use x86_64_addr::level_count::{FiveLevels, FourLevels, LevelCount};
 use x86_64_page::frame::PhysFrame;
 use x86_64_page::page::{PageIn, PageSize, Size4KiB};
 use x86_64_tables::frame_alloc::FrameAllocator;
-use x86_64_tables::mapper::{MapToError, TablesIn};
+use x86_64_tables::mapper::{MapToError, MapperFlushRangeIn, TablesIn, page_after};
 use x86_64_tables::page_table::{PageTable, PageTableFlags};
 
-/// The page at which a run of maps stopped.
-#[derive(Clone, Copy)]
-pub struct Stopped<S: PageSize> {
-    /// The number of pages mapped before the refused one.
-    pub mapped: u64,
+/// The refusal of a page of a range: the pages before it are mapped, and those behind it are left as they were.
+pub struct MapRangeErrorIn<S: PageSize, L: LevelCount> {
+    /// The token for the pages that were mapped.
+    pub mapped: MapperFlushRangeIn<S, L>,
     /// The reason for the refusal.
     pub why: MapToError<S>,
 }
+
+/// The refusal of a page with four levels of page tables.
+pub type MapRangeError<S> = MapRangeErrorIn<S, FourLevels>;
+
+/// The refusal of a page with five levels of page tables.
+pub type MapRangeError57<S> = MapRangeErrorIn<S, FiveLevels>;
 
 /// Returns the number of unused entries of a table from an index on, up to the first used one and at most `count`.
 fn unused_entries(table: &PageTable, first: usize, count: usize) -> usize
@@ -136,24 +141,11 @@ fn map_part<S: PageSize, M: TableAccess, A: FrameAllocator<Size4KiB>>(
     Ok(set_leaves(mapper, parents, table, first, count, frame, flags))
 }
 
-/// Returns the page this number of pages after a page. Requires that it exists.
-pub fn page_after<S: PageSize, L: LevelCount>(page: PageIn<S, L>, count: u64) -> PageIn<S, L>
-    requires { page + count * S.SIZE < position_count L.LEVELS }
-    ensures { result ≡ page + count * S.SIZE }
-{
-    match PageIn::forward_checked(page, count as usize) {
-        Some(page) => page,
-        None => unreachable!(),
-    }
-}
-
-/// Maps a number of pages, from a page on, to the frames from a frame on, in order, up to the first page that is
+/// Maps a number of pages, from a page on, to as many frames, from a frame on, in order, up to the first page that is
 /// refused.
 ///
-/// # Errors
-///
-/// The number of pages mapped before the first one that is refused, and the reason.
-pub fn map_pages<
+/// Conditions and errors are those of [`Mapper::map_range`](crate::mapper::Mapper::map_range).
+pub fn map_range<
     S: PageSize,
     L: LevelCount,
     M: TableAccess + TablesIn<L>,
@@ -166,19 +158,21 @@ pub fn map_pages<
     flags: PageTableFlags,
     parent_flags: PageTableFlags,
     frame_allocator: &mut A,
-) -> Result<(), Stopped<S>>
-    requires there { (k : ℕ) → k < count → page + k * S.SIZE < position_count L.LEVELS }
-    requires may { let run = run_of S.LEVEL page frame (bits_of flags) (bits_of parent_flags) in
-        MayMapRun (M.hierarchy mapper.old) (A.supply frame_allocator.old) run count }
-    ensures mapped { let run = run_of S.LEVEL page frame (bits_of flags) (bits_of parent_flags) in
+) -> Result<MapperFlushRangeIn<S, L>, MapRangeErrorIn<S, L>>
+    requires fits { SupplyFits (M.hierarchy mapper.old) (A.supply frame_allocator.old) }
+    requires may { let range = range_of S.LEVEL page frame (bits_of flags) (bits_of parent_flags) in
+        MayMapRange (M.hierarchy mapper.old) range count }
+    ensures maps { let range = range_of S.LEVEL page frame (bits_of flags) (bits_of parent_flags) in
         let h = M.hierarchy mapper.old in let supply = A.supply frame_allocator.old in
         let after = M.hierarchy mapper.new in let rest = A.supply frame_allocator.new in
-        OnOk result (MapsAll h supply run count after rest) }
-    ensures stopped { let run = run_of S.LEVEL page frame (bits_of flags) (bits_of parent_flags) in
+        OnOk result (MapsAll h supply range count after rest) }
+    ensures stops { let range = range_of S.LEVEL page frame (bits_of flags) (bits_of parent_flags) in
         let h = M.hierarchy mapper.old in let supply = A.supply frame_allocator.old in
         let after = M.hierarchy mapper.new in let rest = A.supply frame_allocator.new in
-        IfErr result (λ stopped.
-        StopsAt h supply run count stopped.mapped (map_refusal stopped.why) after rest) }
+        IfErr result (λ error.
+        StopsAt h supply range count error.mapped.count (map_refusal error.why) after rest) }
+    ensures pages { IfOk result (λ flush. flush ≡ flush_range page count) }
+    ensures first { IfErr result (λ error. error.mapped.page ≡ page) }
     ensures serves { A.serves frame_allocator.new ≡ A.serves frame_allocator.old }
 {
     let mut done = 0;
@@ -201,16 +195,16 @@ pub fn map_pages<
                 done += mapped as u64;
                 if (mapped as u64) < part {
                     let why = MapToError::PageAlreadyMapped(frame + done);
-                    return Err(Stopped { mapped: done, why });
+                    let mapped = MapperFlushRangeIn::new(page, done);
+                    return Err(MapRangeErrorIn { mapped, why });
                 }
             }
             Err(why) => {
-                return Err(Stopped {
-                    mapped: done,
-                    why: why.into(),
-                });
+                let mapped = MapperFlushRangeIn::new(page, done);
+                let why = why.into();
+                return Err(MapRangeErrorIn { mapped, why });
             }
         }
     }
-    Ok(())
+    Ok(MapperFlushRangeIn::new(page, count))
 }

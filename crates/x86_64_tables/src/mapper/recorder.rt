@@ -1,5 +1,5 @@
 //! A record of TLB flushes, in place of the instructions that flush the TLB.
-ghost use Rattle.std.specs.Prelude.{◌≡◌, ◌-◌, ◌<◌, ◌≤◌, [], ◌∷◌, ◌++◌, IsOk, OnOk, OnErr};
+ghost use Rattle.std.specs.Prelude.{◌≡◌, ◌+◌, ◌-◌, ◌<◌, ◌≤◌, [], ◌∷◌, ◌++◌, IsOk, OnOk, OnErr};
 
 use std::alloc::{AllocError, Global};
 use std::marker::Model;
@@ -121,5 +121,15 @@ impl FlushRecorder {
         self.items.push(item)?;
         self.room = self.room.saturating_sub(1);
         Ok(())
+    }
+
+    /// Appends an item, and lowers the room by one. Allocates nothing.
+    pub(super) fn record_reserved(&mut self, item: FlushItem)
+        requires { 0 < self.old.room }
+        ensures items { self.new.items ≡ self.old.items ++ item ∷ [] }
+        ensures room { self.new.room + 1 ≡ self.old.room }
+    {
+        self.items.push_reserved(item);
+        self.room -= 1;
     }
 }

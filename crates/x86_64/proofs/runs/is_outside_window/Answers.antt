@@ -1,6 +1,6 @@
 use Rattle.std.proofs.Common.{ap, sym, ◌∙◌}
 use Rattle.x86_64_model.specs.Position.{index}
-use Rattle.x86_64.proofs.FirstIndex.{is_outside_test}
+use Rattle.x86_64_mappers.proofs.Way.FirstIndex.{is_outside_test}
 use Rattle.x86_64.proofs.runs.is_outside_window.Goals as goal
 
 pub returns-in-Some : goal.returns-in-Some

@@ -1,45 +1,42 @@
-use Rattle.std.proofs.Common.{◌≡◌, ◌-◌, fold, inl, inr, List, length, get_or, take, replicate, refl, sym, ap, ◌∙◌, subst}
+use Rattle.std.proofs.Common.{◌≡◌, ◌+◌, fold, inr, length, replicate, refl, sym, ap, ◌∙◌}
 use Rattle.std.specs.FinMap.{insert}
 use Rattle.std.specs.Option.{is_some}
-use Rattle.x86_64_model.specs.Call.{Reply, Answered}
+use Rattle.x86_64_model.specs.Call.{Answered}
 use Rattle.x86_64_model.specs.Refusal.{Refused}
-use Rattle.x86_64_mappers.specs.RangeChanges.{frames_done}
 use Rattle.x86_64_mappers.specs.private.PageCalls.{unmap_says}
-use Rattle.x86_64_mappers.specs.private.RangeChangeSteps.{ChangesPart, replies_said}
+use Rattle.x86_64_mappers.specs.private.RangeChangeSteps.{last_index, replies_said}
 use Rattle.x86_64_mappers.specs.private.Results.{walk_refusal}
 use Rattle.x86_64_mappers.proofs.Range.ChangedWords.{frames_none}
+use Rattle.x86_64_mappers.proofs.Range.ChangeParts.{part_in_table}
 use Rattle.x86_64_mappers.proofs.Way.Paths.{has_last_index, last_item, some_index_of, page_below_root}
 use Rattle.x86_64_mappers.proofs.access.range_changes.unmap_part.Goals as goal
 
 pub returns-in-Err-clause-changes : goal.returns-in-Err-clause-changes
 returns-in-Err-clause-changes g c =
     let why = walk_refusal c.in-Err._why in
-    let replies = replicate c.args.count (Answered (Refused why)) in (
+    let pages = c.find_part-part.result.pages in
+    let replies = replicate pages (Answered (Refused why)) in (
       replies,
-      inr (record { why = why; found = c.in-Err.ensures.found; same = refl; replies = refl }),
-      sym (ap (λ fs. fold g.K.FrameSink.with_frame c.args.sink.now fs) (frames_none c.args.count why)),
+      inr (record { why = why; stopped = rw c.in-Err.is at c.find_part-part.ensures.refused; same = refl; replies = refl }),
+      sym (ap (λ fs. fold g.K.FrameSink.with_frame c.args.sink.now fs) (frames_none pages why)),
     )
 
 pub returns-clause-changes : goal.returns-clause-changes
 returns-clause-changes g c =
     let s = c.args.mapper.now in
     let h = g.M.Tables.hierarchy s in
-    let q = c.args.path.now in
-    let size = has_last_index q (some_index_of h.layout.levels q g.S.PageSize.LEVEL c.requires.levels (page_below_root h.layout.levels g.S.PageSize.LEVEL (g.met.M.Tables.at_least_four s) g.S.PageSize.high)) in
-    let index : c.from-first.result ≡ get_or q (length q - 1) 0 = c.from-first.ensures.0 ∙ last_item q c.index-path-last.result size c.index-path-last.is in
+    let level = g.S.PageSize.LEVEL in
+    let path = c.indices-indices.result.now in
+    let size = has_last_index path (some_index_of h.layout.levels path level (ap (λ q. length q + level) c.indices-indices.ensures ∙ c.path_of_page-path.ensures.levels)
+    (page_below_root h.layout.levels level (g.met.M.Tables.at_least_four s) g.S.PageSize.high)) in
+    let index : c.from.result ≡ last_index path = c.from.ensures.0 ∙ last_item path c.index-indices-last.result size c.index-indices-last.is in
+    let count = c.find_part-part.result.pages in
     let says = unmap_says g.S.PageSize.LEVEL in
-    let t = c.table_mut.result.now in
-    let after = g.M.Tables.hierarchy (g.M.TableAccess.with_table s c.in-Ok.table c.unmap_entries.new.table) in
-    subst (λ i. (x : List Reply) × ChangesPart h (take (length q - 1) q) says i c.args.count x after × (c.unmap_entries.new.sink ≡ fold g.K.FrameSink.with_frame c.args.sink.now (frames_done x))) index (
-      replies_said says c.from-first.result t c.args.count,
-      inl (record {
-        frame = c.in-Ok.table;
-        found = c.in-Ok.ensures.found;
-        table = t;
-        is = c.table_mut.ensures.value;
-        long = c.unmap_entries.ensures.size c.requires.some;
-        put = g.met.M.TableAccess.puts s c.in-Ok.table _ (ap is_some c.table_mut.ensures.value) ∙ ap (insert h.memory (h.layout.places.place c.in-Ok.table)) c.unmap_entries.ensures.words;
-        replies = refl;
-      }),
+    let t = c.table_mut-entries.result.now in
+    let after = g.M.Tables.hierarchy (g.M.TableAccess.with_table s c.in-Ok.table c.unmap_entries.new.table) in (
+      replies_said says c.from.result t count,
+      part_in_table h.layout h.memory level c.args.page says count after.memory path (c.indices-indices.ensures ∙ c.path_of_page-path.ensures.path) c.from.result index (rw c.in-Ok.is at c.find_part-part.ensures.fits)
+          c.in-Ok.table (rw c.in-Ok.is at c.find_part-part.ensures.found) t c.table_mut-entries.ensures.value (c.unmap_entries.ensures.size c.find_part-part.ensures.some)
+          (g.met.M.TableAccess.puts s c.in-Ok.table _ (ap is_some c.table_mut-entries.ensures.value) ∙ ap (insert h.memory (h.layout.places.place c.in-Ok.table)) c.unmap_entries.ensures.words),
       c.unmap_entries.ensures.taken,
     )

@@ -10,7 +10,7 @@ returns-then-not-mark_spaces g c =
     let self = c.args.self.now in
     let m = g.T.TableMemory.tables self.memory.now in let places = g.P.PageTableFrameMapping.places self.mapping.now in
     let mapping = g.met.P.PageTableFrameMapping.is_mapping self.mapping.now in
-    let shared = indices_of self.shared in let first = c.args.first.now in let spaces = c.args.spaces.now in
+    let shared = indices_of self.shared in let first = c.args.first.now in let spaces = g.S.SpaceList.spaces c.args.spaces.now in
     let marks = c.args.marks.now in
     (λ t. cc, λ all. c.if-not-mark_spaces.ensures.tells.1 (sound_alone shared (self.levels - 1) m places first spaces self.limit marks c.args.frames.now all.0))
 
@@ -19,7 +19,7 @@ returns-then-not-mark_frames g c =
     let self = c.args.self.now in
     let m = g.T.TableMemory.tables self.memory.now in let places = g.P.PageTableFrameMapping.places self.mapping.now in
     let mapping = g.met.P.PageTableFrameMapping.is_mapping self.mapping.now in
-    let shared = indices_of self.shared in let first = c.args.first.now in let spaces = c.args.spaces.now in
+    let shared = indices_of self.shared in let first = c.args.first.now in let spaces = g.S.SpaceList.spaces c.args.spaces.now in
     let marks = c.args.marks.now in
     let tells = pool_tells shared (self.levels - 1) m places first spaces self.limit marks mapping c.requires.first (all_clear marks (length (keys m)) c.requires.clear)
     (c.if-not-mark_spaces.ensures.tells.0 refl) c.mark_spaces.new.marks (c.if-not-mark_spaces.ensures.marks refl)
@@ -31,7 +31,7 @@ returns g c =
     let self = c.args.self.now in
     let m = g.T.TableMemory.tables self.memory.now in let places = g.P.PageTableFrameMapping.places self.mapping.now in
     let mapping = g.met.P.PageTableFrameMapping.is_mapping self.mapping.now in
-    let shared = indices_of self.shared in let first = c.args.first.now in let spaces = c.args.spaces.now in
+    let shared = indices_of self.shared in let first = c.args.first.now in let spaces = g.S.SpaceList.spaces c.args.spaces.now in
     let marks = c.args.marks.now in
     let tells = pool_tells shared (self.levels - 1) m places first spaces self.limit marks mapping c.requires.first (all_clear marks (length (keys m)) c.requires.clear)
     (c.if-not-mark_spaces.ensures.tells.0 refl) c.mark_spaces.new.marks (c.if-not-mark_spaces.ensures.marks refl)

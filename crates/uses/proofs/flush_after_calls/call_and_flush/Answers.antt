@@ -1,0 +1,45 @@
+use Rattle.std.proofs.Common.{◌≡◌, true, [], option_map, unwrap_or, sym, subst}
+use Rattle.x86_64_model.specs.Call.{IsCall}
+use Rattle.x86_64_model.specs.Window.{Window}
+use Rattle.x86_64.specs.Asked.{machine_call}
+use Rattle.x86_64.specs.Calls.{asks, page_start}
+use Rattle.x86_64.specs.FlushesDue.{TellsFlush, executed}
+use Rattle.x86_64.specs.Processors.{Arises, LeftBy}
+use Rattle.x86_64.proofs.AskedCalls.{is_call}
+use Rattle.x86_64.proofs.CallsFlushed.{arises_by_flushed_calls}
+use Rattle.x86_64.proofs.Processors.{flushed_accesses_go}
+use Rattle.uses.proofs.flush_after_calls.call_and_flush.Goals as goal
+
+pub returns-clause-arises : goal.returns-clause-arises
+returns-clause-arises g c =
+    let mapper = c.args.mapper.now in
+    let l = (g.M.Tables.hierarchy mapper).layout in
+    let m = (g.M.Tables.hierarchy mapper).memory in
+    let n = (g.M.Tables.hierarchy c.run_call-reply.new.mapper).memory in
+    let rest = g.F.FrameAllocator.supply c.run_call-reply.new.frames in
+    let serves = g.F.FrameKeeper.serves c.args.frames.now in
+    let take_back = g.F.FrameDeallocator.take_back in
+    let levels : l.levels ≡ g.L.LevelCount.LEVELS = g.met.M.TablesIn.level_count mapper in
+    let ran = c.run_call-reply.ensures in
+    let call = asks g.P5.LevelFiveFlags.bits c.args.call in
+    let flush = c.flush_after-flush.result in
+    let before = g.C.Processor.cached c.args.processor.now in
+    let first = g.C.Processor.cached c.cache.new.self in
+    let second = g.C.Processor.cached c.cache-2.new.self in
+    let after = g.C.Processor.cached c.execute.new.processor in
+    let arises : Arises l take_back serves n rest after [] =
+    arises_by_flushed_calls l take_back serves m n (g.F.FrameAllocator.supply c.args.frames.now) rest call c.run_call-reply.result true
+    (subst (λ L. IsCall L (machine_call L call)) (sym levels) (is_call g.L.LevelCount.LEVELS g.L.LevelCount.at_least_four g.P5.LevelFiveFlags.bits g.met.P5.LevelFiveFlags.five c.args.call))
+    c.requires.fits ran.step ran.free ran.keeps.keeps.fits (λ no. cc)
+    flush (subst (λ L. TellsFlush L call c.run_call-reply.result (option_map (λ (w : Window). w.index) l.window) true flush) (sym levels) (rw (c.recursive_index.ensures, ran.keeps.layout) at c.flush_after-flush.ensures))
+    before first second after c.requires.arises
+    c.cache.ensures
+    (rw ran.keeps.layout at c.cache-2.ensures)
+    (subst (λ L. LeftBy L (executed flush (unwrap_or (page_start L call) 0)) second after) (sym levels) (rw c.page_start.ensures at c.execute.ensures)) in
+    rw (ran.keeps.layout, ran.serves) arises
+
+pub returns-clause-accesses : goal.returns-clause-accesses
+returns-clause-accesses g c =
+    let h = g.M.Tables.hierarchy c.run_call-reply.new.mapper in
+    flushed_accesses_go h.layout g.F.FrameDeallocator.take_back (g.F.FrameKeeper.serves c.run_call-reply.new.frames) h.memory (g.F.FrameAllocator.supply c.run_call-reply.new.frames) (g.C.Processor.cached c.execute.new.processor)
+    (returns-clause-arises g c)

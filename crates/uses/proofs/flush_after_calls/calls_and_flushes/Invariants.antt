@@ -1,0 +1,23 @@
+use Rattle.std.proofs.Common.{◌≡◌, [], drop}
+use Rattle.x86_64_model.specs.Machine.{Machine, State, state_after}
+use Rattle.x86_64_model.specs.Mapper.{PoolFits}
+use Rattle.x86_64.specs.Asked.{calls_by}
+use Rattle.x86_64.specs.Calls.{asks}
+use Rattle.x86_64.specs.Processors.{Arises}
+use Rattle.x86_64.specs.Runs.{machine_of, state_in}
+use Rattle.uses.proofs.flush_after_calls.calls_and_flushes.Given as goal
+
+abbrev pub invariant-loop-call : goal.invariant-loop-call
+invariant-loop-call g l =
+    let layout = (g.M.Tables.hierarchy l.fn.mapper).layout in
+    let machine : Machine = machine_of layout g.F.FrameDeallocator.take_back in
+    let start : State = state_in layout (g.M.Tables.hierarchy l.fn.mapper).memory (g.F.FrameAllocator.supply l.fn.frames) in
+    let h = g.M.Tables.hierarchy l.mapper in
+    let pool = g.F.FrameAllocator.supply l.frames in
+    let now : State = state_in layout h.memory pool in
+    record {
+      rest : state_after machine now (calls_by (asks g.P5.LevelFiveFlags.bits) layout.levels (drop l.call-index l.calls)) ≡ state_after machine start (calls_by (asks g.P5.LevelFiveFlags.bits) layout.levels l.calls);
+      layout : h.layout ≡ layout;
+      fits : PoolFits h (g.F.FrameKeeper.serves l.frames) pool;
+      arises : Arises h.layout g.F.FrameDeallocator.take_back (g.F.FrameKeeper.serves l.frames) h.memory pool (g.C.Processor.cached l.processor) [];
+    }

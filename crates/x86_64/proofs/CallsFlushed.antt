@@ -1,0 +1,118 @@
+-- A call with its flush leaves nothing due.
+use Rattle.std.proofs.Common.{zero, suc, inl, inr, ◌≡◌, ◌++◌, ℕ, Bool, true, false, List, [], ◌∷◌, take, cond, not, filter, Option, Some, None, unwrap_or, refl, ap, ◌∙◌, subst, eq-eqb}
+use Rattle.std.proofs.lemmas.Bool.{and_from}
+use Rattle.std.proofs.lemmas.List.{append-nil}
+use Rattle.x86_64_model.specs.Call as machine
+use Rattle.x86_64_model.specs.Flushing.{Due, PageDue, TablesDue, WindowDue, AllDue, flush_after, if_accepted, if_allowed, if_window}
+use Rattle.x86_64_model.specs.Lists.{In}
+use Rattle.x86_64_model.specs.Machine.{step}
+use Rattle.x86_64_model.specs.Mapper.{machine_of, state_in}
+use Rattle.x86_64_model.specs.Path.{begins, path_at, is_small}
+use Rattle.x86_64_model.specs.Position.{page_path}
+use Rattle.x86_64_model.specs.Refusal.{Done, Refused}
+use Rattle.x86_64_model.specs.Window.{Window}
+use Rattle.x86_64.specs.Asked.{PageCall, MapTo, MapToWithTableFlags, IdentityMap, Unmap, UpdateFlags, SetFlags, TranslatePage, MapperCall, Of4KiB, Of2MiB, Of1GiB, Translate, TranslateAddr, CleanUp, CleanUpRange, page_call, machine_call}
+use Rattle.x86_64.specs.Calls.{page_of, page_start}
+use Rattle.x86_64.specs.FlushesDue.{told, executed, settles, InPages}
+use Rattle.x86_64.specs.Processors.{Arises, ArisesByFlushedCalls}
+use Rattle.x86_64.specs.Replies.{Reply}
+use Rattle.x86_64.specs.Runs.{AfterStep}
+use Rattle.x86_64.proofs.FlushesTold.{flushes_settle}
+use Rattle.x86_64.proofs.Processors.{arises_by_caching, arises_by_calls, arises_by_flushes}
+
+-- ---- the page that is due is the call's
+
+begins_taken : (n : ℕ) (q : List ℕ) → begins (take n q) q ≡ true
+begins_taken zero q = refl
+begins_taken (suc n) [] = refl
+begins_taken (suc n) (i ∷ q) = and_from _ _ (eq-eqb i i refl) (begins_taken n q)
+
+-- no page is due
+abbrev NoPage : List Due → Type 0
+NoPage due = (q : List ℕ) → In due (PageDue q) → ⊥
+
+none_in_window : (small : Bool) (window : Option Window) → NoPage (cond small [] (if_window window))
+none_in_window true window q i = i
+none_in_window false None q i = i
+none_in_window false (Some w) q (inl e) = cc
+none_in_window false (Some w) q (inr i) = i
+
+only_all : (b : Bool) → NoPage (cond b (AllDue ∷ []) [])
+only_all true q (inl e) = cc
+only_all true q (inr i) = i
+only_all false q i = i
+
+allowed : (r : machine.Reply) (due : List Due) → NoPage due → NoPage (if_allowed r due)
+allowed machine.NotAllowed due none q i = i
+allowed (machine.Answered a) due none q i = none q i
+allowed (machine.Position t) due none q i = none q i
+allowed (machine.Address a) due none q i = none q i
+allowed machine.Cleaned due none q i = none q i
+
+abbrev page_of_due : Due → List ℕ
+page_of_due (PageDue q) = q
+page_of_due TablesDue = []
+page_of_due WindowDue = []
+page_of_due AllDue = []
+
+module _ (L : ℕ) (window : Option Window) (r : machine.Reply) where
+  accepted : (due : List Due) (page : ℕ) → InPages L due page → InPages L (if_accepted r due) page
+  accepted due page each q i = by r i
+    where
+      by : (r : machine.Reply) → In (if_accepted r due) (PageDue q) → begins q (page_path L page) ≡ true
+      by (machine.Answered (Done f)) i = each q i
+      by (machine.Answered (Refused why)) i = absurd i
+      by machine.NotAllowed i = absurd i
+      by (machine.Position t) i = absurd i
+      by (machine.Address a) i = absurd i
+      by machine.Cleaned i = absurd i
+
+  changed : (level page : ℕ) (small : Bool) → InPages L (PageDue (path_at L level page) ∷ cond small [] (if_window window)) page
+  changed level page small q (inl e) = subst (λ q. begins q (page_path L page) ≡ true) (ap page_of_due e) (begins_taken _ (page_path L page))
+  changed level page small q (inr i) = absurd (none_in_window small window q i)
+
+  in_page : (level : ℕ) (call : PageCall) → InPages L (flush_after L window (page_call L level call) r) (unwrap_or (page_of L call) 0)
+  in_page level (MapTo page frame flags) q i = absurd i
+  in_page level (MapToWithTableFlags page frame flags more) q i = absurd (allowed r _ (only_all _) q i)
+  in_page level (IdentityMap frame flags) q i = absurd i
+  in_page level (Unmap page) q i = accepted _ page (changed level page (is_small L (path_at L level page))) q i
+  in_page level (UpdateFlags page flags) q i = accepted _ page (changed level page (is_small L (path_at L level page))) q i
+  in_page level (SetFlags at page flags) q i = accepted _ page (λ q i. absurd (only_all true q i)) q i
+  in_page level (TranslatePage page) q i = absurd i
+
+  cleaned : NoPage (TablesDue ∷ if_window window)
+  cleaned q (inl e) = cc
+  cleaned q (inr i) = none_in_window false window q i
+
+  in_pages : (call : MapperCall) → InPages L (flush_after L window (machine_call L call) r) (unwrap_or (page_start L call) 0)
+  in_pages (Of4KiB call) q i = in_page 1 call q i
+  in_pages (Of2MiB call) q i = in_page 2 call q i
+  in_pages (Of1GiB call) q i = in_page 3 call q i
+  in_pages (Translate p) q i = absurd i
+  in_pages (TranslateAddr p) q i = absurd i
+  in_pages CleanUp q i = absurd (cleaned q i)
+  in_pages (CleanUpRange low high) q i = absurd (cleaned q i)
+
+  some_in_pages : (loses : Bool) (call : MapperCall) → InPages L (cond loses (flush_after L window (machine_call L call) r) []) (unwrap_or (page_start L call) 0)
+  some_in_pages true call q i = in_pages call q i
+  some_in_pages false call q i = absurd i
+
+-- ---- a call with its flush
+
+none_left : (P : Due → Bool) (due : List Due) → ((d : Due) → In due d → P d ≡ true) → filter (λ d. not (P d)) due ≡ []
+none_left P [] each = refl
+none_left P (d ∷ due) each = ap (λ b. cond (not b) (d ∷ filter (λ d. not (P d)) due) (filter (λ d. not (P d)) due)) (each d (inl refl)) ∙ none_left P due (λ d i. each d (inr i))
+
+pub arises_by_flushed_calls : ArisesByFlushedCalls
+arises_by_flushed_calls l take_back serves m n pool rest call reply loses is fits stepped free kept kept_all flush tells before first second after arises early late left =
+    let asked = machine_call l.levels call in
+    let r = (step (machine_of l take_back) (state_in l m pool) asked).reply in
+    let due = cond loses (flush_after l.levels l.window asked r) [] in
+    let p = unwrap_or (page_start l.levels call) 0 in
+    let ready = arises_by_caching l take_back serves m pool [] before first arises early in
+    let called : Arises l take_back serves n rest first (due ++ []) =
+    arises_by_calls l take_back serves m n pool rest first [] asked loses ready is (λ i. absurd i) kept_all fits (ap (λ (a : AfterStep Reply). a.state) stepped) free kept in
+    let waiting = arises_by_caching l take_back serves n rest due first second (subst (λ due. Arises l take_back serves n rest first due) (append-nil due) called) late in
+    let is_told : flush ≡ told due = tells l.window r refl (ap (λ (a : AfterStep Reply). a.reply) stepped) in
+    subst (λ due. Arises l take_back serves n rest after due) (none_left (settles l.levels (executed (told due) p)) due ((flushes_settle l.levels due p).settled (some_in_pages l.levels l.window r loses call)))
+    (arises_by_flushes l take_back serves n rest due (executed (told due) p) second after waiting (rw is_told at left))

@@ -1,0 +1,174 @@
+# shellcheck shell=bash
+# What the scripts know of a product, which is a program or the static library, by the name of its crate: the crates that it consists of,
+# where it is built, and what release/ holds of it. They set `top`, the folder of the repository, and then read this file.
+
+release=${top:?}/release
+manifest=$release/MANIFEST
+# shellcheck disable=SC2034 # for the scripts that read this file
+products=(ptdump pagetab x86_64_c)
+# the process that a signal to the script ends
+child=
+
+# Says what is wrong, and ends with a status.
+stop() {
+    local status=$1
+    shift
+    printf '%s\n' "$*" >&2
+    exit "$status"
+}
+
+# Returns whether a product is a static library.
+is_library() {
+    grep -q "^$1 staticlib:" "$top/crates.txt"
+}
+
+# Prints the name of a product's file in out/ and, with .xz, in release/.
+file_of() {
+    if [ "$1" = x86_64_c ]; then
+        echo libx86_64_paging.a
+    else
+        echo "$1"
+    fi
+}
+
+# Prints where rt builds a product.
+built_at() {
+    if is_library "$1"; then
+        echo "$top/crates/$1/out/lib$1.a"
+    else
+        echo "$top/crates/$1/out/$1"
+    fi
+}
+
+# Prints the command that proves and builds a product.
+build_command() {
+    if is_library "$1"; then
+        echo "tools/c_library --build"
+    else
+        echo "./$1 --build"
+    fi
+}
+
+# Lists the crates of the repository that a product consists of, each after those that it uses, as crates.txt does.
+crates_of() {
+    awk -F: -v product="$1" '
+        { sub(/ .*/, "", $1); uses[$1] = $2; order[++count] = $1 }
+        function need(name, names, k, last) {
+            needed[name] = 1
+            last = split(uses[name], names, " ")
+            for (k = 1; k <= last; k++) if (names[k] in uses && !(names[k] in needed)) need(names[k])
+        }
+        END { need(product); for (k = 1; k <= count; k++) if (order[k] in needed) print order[k] }' "$top/crates.txt"
+}
+
+# Returns whether a file is there and no source of a product is newer.
+is_current() {
+    local product=$1 file=$2 crates folders
+    [ -f "$file" ] && [ ! "$top/crates.txt" -nt "$file" ] || return 1
+    mapfile -t crates < <(crates_of "$product")
+    folders=("${crates[@]/#/$top/crates/}")
+    [ -z "$(find "${folders[@]/%//src}" "${folders[@]/%//specs}" "${folders[@]/%//proofs}" \
+        -newer "$file" -type f -print -quit 2>/dev/null)" ]
+}
+
+# ---- the release
+
+# Prints the sum of a file.
+sum_of_file() {
+    sha256sum <"$1" | cut -d' ' -f1
+}
+
+# Prints the sum of a product's sources: of the sums of all files of its crates in src/, specs/ and proofs/, by path, and of the lines of
+# crates.txt on these crates.
+sum_of_sources() {
+    local crates
+    mapfile -t crates < <(crates_of "$1")
+    {
+        (cd "$top/crates" && find "${crates[@]/%//src}" "${crates[@]/%//specs}" "${crates[@]/%//proofs}" \
+            -type f \( -name '*.rt' -o -name '*.antt' \) -print0 2>/dev/null | LC_ALL=C sort -z | xargs -0 sha256sum)
+        grep -E "^($(IFS='|' && echo "${crates[*]}"))[ :]" "$top/crates.txt"
+    } | sha256sum | cut -d' ' -f1
+}
+
+# Prints what MANIFEST says of a product: the sum of its file, unpacked, or that of its sources.
+manifest_says() {
+    local what=$1 product=$2
+    sed -n "s/^$what $(file_of "$product") //p" "$manifest"
+}
+
+# Returns whether the release of a product was made of other sources.
+is_release_older() {
+    [ "$(sum_of_sources "$1")" != "$(manifest_says sources "$1")" ]
+}
+
+# Unpacks a product of the release into a file, and returns whether its sum is right.
+unpack() {
+    xz -dc "$release/$(file_of "$1").xz" >"$2" 2>/dev/null && [ "$(sum_of_file "$2")" = "$(manifest_says sum "$1")" ]
+}
+
+# Unpacks a product of the release into out/, unless it is there. If it can't be used, `lack` says why.
+use_release() {
+    local product=$1 to new
+    to=$top/out/$(file_of "$product")
+    lack=
+    if [ ! -f "$manifest" ]; then
+        lack="there is no release of it"
+    elif [ "$(uname -sm)" != 'Linux x86_64' ]; then
+        lack="its release is for Linux on x86-64"
+    fi
+    [ -z "$lack" ] || return 1
+    if is_current "$product" "$to" && [ "$to" -nt "$manifest" ] && [ "$(sum_of_file "$to")" = "$(manifest_says sum "$product")" ]; then
+        return 0
+    fi
+    if is_release_older "$product"; then
+        lack="its release was made of other sources"
+    elif ! command -v xz >/dev/null; then
+        lack="its release can't be unpacked without xz, which isn't installed"
+    fi
+    [ -z "$lack" ] || return 1
+    if ! mkdir -p "$top/out" || ! new=$(mktemp "$to.XXXXXX"); then
+        lack="its release can't be unpacked into out/"
+        return 1
+    fi
+    if ! unpack "$product" "$new"; then
+        rm -f "$new"
+        lack="release/$(file_of "$product").xz is damaged (git checkout release restores it)"
+        return 1
+    fi
+    chmod "$(is_library "$product" && echo 644 || echo 755)" "$new"
+    mv "$new" "$to"
+}
+
+# Sets `program` to a program as it is built, or else as the release has it. If there is neither, `lack` says why.
+find_program() {
+    program=$(built_at "$1")
+    if ! is_current "$1" "$program"; then
+        program=$top/out/$1
+        use_release "$1"
+    fi
+}
+
+# ---- children
+
+# Runs a command on standard input, and returns its status. Ends it if the script is told to end.
+run_child() {
+    local status=0
+    trap 'end_child 1' HUP
+    trap 'end_child 2' INT
+    trap 'end_child 15' TERM
+    "$@" <&0 &
+    child=$!
+    wait "$child" || status=$?
+    child=
+    return "$status"
+}
+
+# Ends the child, and then the script, because of a signal. rt ends all that it started.
+end_child() {
+    trap '' HUP INT TERM
+    if [ -n "$child" ]; then
+        kill "$child" 2>/dev/null || :
+        wait "$child" || :
+    fi
+    exit $((128 + $1))
+}
