@@ -1,5 +1,5 @@
 //! Address spaces that share the upper half, with four and five levels of tables, and processes of a kernel.
-ghost use Rattle.std.specs.Prelude.{◌≡◌, true};
+ghost use Rattle.std.specs.Prelude.{◌≡◌, ◌↔◌, true, IfOk, IsTrue};
 ghost use Rattle.x86_64_mappers.specs.Layouts.{direct_at};
 ghost use Rattle.x86_64_model.specs.FitsPool.{FitsPool};
 ghost use Rattle.x86_64_model.specs.Memory.{identity_places};
@@ -7,7 +7,7 @@ ghost use Rattle.x86_64_model.specs.Pool.{serves_below};
 
 use crate::assertions::{assert_equal, assert_equal_in, unwrap, unwrap_some};
 use crate::beside::{frame, pool_from};
-use std::alloc::Global;
+use std::alloc::{AllocError, Global};
 use std::process::Abort;
 use uses::processes::{end, map_in, start};
 use uses::run_in_space::call_on;
@@ -15,6 +15,7 @@ use x86_64::structures::paging::{Page, PageTableFlags, PhysFrame, Size4KiB};
 use x86_64::{
     CallIn, FiveLevels, FourLevels, FramePlace, FramePool, IdentityMapping, LevelCount,
     LevelFiveFlags, NoLevelFive, PhysMemory, Reply, SizeCallIn, TableMemory, VirtAddr, page_walk,
+    pool_fits, pool_fits_57,
 };
 use x86_64_addr::addr::VirtAddrIn;
 use x86_64_page::page::PageIn;
@@ -49,6 +50,45 @@ const ROWS: [(bool, bool, u64, u64, (Option<u64>, Option<u64>)); 3] = [
     ),
 ];
 
+/// Returns an address space without a recursive index.
+fn space(root: PhysFrame<Size4KiB>) -> Space {
+    Space {
+        root,
+        recursive: None,
+    }
+}
+
+/// Returns whether these are address spaces that share the upper half, and the pool fits them.
+fn share<L: LevelCount>(
+    rt: impl Abort + Copy,
+    alloc: Global,
+    memory: &PhysMemory,
+    spaces: &[Space],
+    pool: &FramePool,
+) -> bool {
+    let half = SharedIndices::UPPER_HALF;
+    let fit = spaces_fit::<L, _, _>(alloc, memory, &IdentityMapping, spaces, half, pool);
+    unwrap(rt, fit)
+}
+
+/// Returns whether the hierarchy below a root is valid and the pool fits it.
+fn fits<L: LevelCount>(
+    alloc: Global,
+    memory: &PhysMemory,
+    root: PhysFrame<Size4KiB>,
+    pool: &FramePool,
+) -> Result<bool, AllocError>
+    ensures { let layout = direct_at L.LEVELS identity_places root in
+        let serves = serves_below pool.now.limit in
+        IfOk result (λ fits. IsTrue fits ↔ FitsPool layout memory.now serves pool.now.frames) }
+{
+    if L::LEVELS == 4 {
+        pool_fits(alloc, memory, &IdentityMapping, root, pool)
+    } else {
+        pool_fits_57(alloc, memory, &IdentityMapping, root, pool)
+    }
+}
+
 /// Aborts unless a hierarchy is an address space that the pool fits, together with the other one, if there is one.
 fn assert_fit<L: LevelCount>(
     rt: impl Abort + Copy,
@@ -58,29 +98,17 @@ fn assert_fit<L: LevelCount>(
     other: Option<PhysFrame<Size4KiB>>,
     pool: &FramePool,
 )
-    ensures { FitsPool (direct_at L.LEVELS identity_places root) memory.now (serves_below pool.now.limit) pool.now.frames }
+    ensures { let layout = direct_at L.LEVELS identity_places root in
+        FitsPool layout memory.now (serves_below pool.now.limit) pool.now.frames }
 {
-    let (space, half) = (
-        Space {
-            root,
-            recursive: None,
-        },
-        SharedIndices::UPPER_HALF,
-    );
-    let fit = match other {
-        Some(root) => {
-            let spaces = [
-                space,
-                Space {
-                    root,
-                    recursive: None,
-                },
-            ];
-            spaces_fit::<L, _, _>(alloc, memory, &IdentityMapping, &spaces, half, pool)
-        }
-        None => spaces_fit::<L, _, _>(alloc, memory, &IdentityMapping, &[space], half, pool),
+    let both = [space(root), space(other.unwrap_or(root))];
+    let spaces = if other.is_some() {
+        &both[..]
+    } else {
+        &both[..1]
     };
-    assert!(rt; unwrap(rt, fit));
+    assert!(rt; share::<L>(rt, alloc, memory, spaces, pool));
+    assert!(rt; unwrap(rt, fits::<L>(alloc, memory, root, pool)));
 }
 
 /// Returns an address, which stands at an offset in the upper or the lower half.
