@@ -13,4 +13,6 @@ mod mappings;
 #[cfg(test)]
 mod page;
 #[cfg(test)]
+mod spaces;
+#[cfg(test)]
 mod tables;

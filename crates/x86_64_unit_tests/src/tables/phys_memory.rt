@@ -61,7 +61,7 @@ fn memory_of_ones(rt: impl Abort + Copy, alloc: Global) -> PhysMemory {
 }
 
 /// Creates a pool with a limit and with frames, given by their start addresses.
-pub(super) fn pool_with(
+pub(crate) fn pool_with(
     rt: impl Abort + Copy,
     alloc: Global,
     limit: u64,
