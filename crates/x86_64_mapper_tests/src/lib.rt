@@ -14,3 +14,5 @@ mod loaded;
 mod loader;
 #[cfg(test)]
 mod mappers;
+#[cfg(test)]
+mod spaces;
