@@ -29,8 +29,6 @@ LOAD, NOTE = 1, 4
 HEADER_SIZE, ENTRY_SIZE = 64, 56
 WORD = re.compile(r"(0x[0-9a-f]+)\[(\d+)\] (0x[0-9a-f]+)")
 FRAMES = re.compile(r"(\d+) frames?(?: from (0x[0-9a-f]+))?")
-KINDS = {"load": LOAD, "note": NOTE}
-NUMBERS = re.compile(r"(\d+) to (\d+)")
 # the fields of the ELF header that a file may change, as `struct` has them in order
 FIELDS = {
     "class": 2,
@@ -42,6 +40,9 @@ FIELDS = {
     "entry_size": ENTRY_SIZE,
     "count": None,
 }
+# the kinds of program headers that have a name, and words that are numbers
+KINDS = {"load": LOAD, "note": NOTE}
+NUMBERS = re.compile(r"(\d+) to (\d+)")
 
 
 class Mistake(Exception):
@@ -106,16 +107,16 @@ class File:
         return header(fields) + b"".join(self.headers) + bytes(self.content)
 
 
+def program_header(kind: int, offset: int, address: int, size: int) -> bytes:
+    """Returns a program header."""
+    return struct.pack("<IIQQQQQQ", kind, 0, offset, 0, address, size, size, 0)
+
+
 def header(fields: dict[str, int]) -> bytes:
     """Returns an ELF header."""
     begin = b"\x7fELF" + bytes([fields["class"], fields["order"], 1]) + bytes(9)
     values = (fields["type"], fields["machine"], 1, 0, fields["headers"], fields["sections"], 0)
     return begin + struct.pack("<HHIQQQI", *values) + struct.pack("<HHHHHH", HEADER_SIZE, fields["entry_size"], fields["count"], 0, 0, 0)
-
-
-def program_header(kind: int, offset: int, address: int, size: int) -> bytes:
-    """Returns a program header."""
-    return struct.pack("<IIQQQQQQ", kind, 0, offset, 0, address, size, size, 0)
 
 
 def note(cr3: int, cr4: int) -> bytes:
@@ -229,7 +230,7 @@ def write_files(folder: Path, lines: list[tuple[int, str]]) -> None:
                 raise ValueError("a file begins with its name, as @ file dump raw 16 frames")
             else:
                 add_line(files[name], text)
-        except ValueError as mistake:
+        except (ValueError, struct.error) as mistake:
             raise Mistake(number, f"{mistake}: {text!r}") from None
     for name, file in files.items():
         (folder / name).write_bytes(file.bytes())
