@@ -6,7 +6,12 @@
     @ processor 0x9000 0x1020                  a note of QEMU's, of a processor with these CR3 and CR4
     @ segment 16 frames from 0x100000          memory in the core; the words after it are in it
     @ field class 1                            another value of a field of the ELF header, see FIELDS
+    @ file dump elf                            an ELF file of its parts: the header, these program headers and the bytes below
+    @ header load 120 0x1000 4096              a program header: its kind (load, note or a number), where its bytes begin in
+                                               the file, their physical address, and how many they are
     @ file dump bytes                          a file of the bytes below
+    @ numbers 0 to 511                         words, each a number times 4096: 0x0, 0x1000, 0x2000 ..
+    @ note QEMU 100 to 154                     a note of an ELF file with this name, and such words in it
     @ hex 7f 45 4c 46                          bytes
     @ text KDUMP                               bytes of a text
     @ zeros 8192                               bytes that are 0
@@ -23,7 +28,7 @@ FRAME_SIZE = 4096
 LOAD, NOTE = 1, 4
 HEADER_SIZE, ENTRY_SIZE = 64, 56
 WORD = re.compile(r"(0x[0-9a-f]+)\[(\d+)\] (0x[0-9a-f]+)")
-FRAMES = re.compile(r"(\d+) frames(?: from (0x[0-9a-f]+))?")
+FRAMES = re.compile(r"(\d+) frames?(?: from (0x[0-9a-f]+))?")
 # the fields of the ELF header that a file may change, as `struct` has them in order
 FIELDS = {
     "class": 2,
@@ -35,6 +40,9 @@ FIELDS = {
     "entry_size": ENTRY_SIZE,
     "count": None,
 }
+# the kinds of program headers that have a name, and words that are numbers
+KINDS = {"load": LOAD, "note": NOTE}
+NUMBERS = re.compile(r"(\d+) to (\d+)")
 
 
 class Mistake(Exception):
@@ -68,12 +76,13 @@ class File:
     memory: list[Memory] = field(default_factory=list)
     processors: list[tuple[int, int]] = field(default_factory=list)
     fields: dict[str, int] = field(default_factory=dict)
+    headers: list[bytes] = field(default_factory=list)
     content: bytearray = field(default_factory=bytearray)
     end: int | None = None
 
     def bytes(self) -> bytes:
         """Returns its bytes."""
-        made = {"raw": self.raw, "core": self.core, "bytes": lambda: bytes(self.content)}[self.kind]()
+        made = {"raw": self.raw, "core": self.core, "elf": self.elf, "bytes": lambda: bytes(self.content)}[self.kind]()
         return made[: self.end]
 
     def raw(self) -> bytes:
@@ -88,9 +97,19 @@ class File:
         headers, contents = b"", b""
         for kind, address, content in parts:
             at, size = offset + len(contents), len(content)
-            headers += struct.pack("<IIQQQQQQ", kind, 0, at, 0, address, size, size, 0)
+            headers += program_header(kind, at, address, size)
             contents += content
         return header({**FIELDS, "count": len(parts), **self.fields}) + headers + contents
+
+    def elf(self) -> bytes:
+        """Returns the bytes of an ELF file: its header, the program headers and the bytes."""
+        fields = {**FIELDS, "count": len(self.headers), **self.fields}
+        return header(fields) + b"".join(self.headers) + bytes(self.content)
+
+
+def program_header(kind: int, offset: int, address: int, size: int) -> bytes:
+    """Returns a program header."""
+    return struct.pack("<IIQQQQQQ", kind, 0, offset, 0, address, size, size, 0)
 
 
 def header(fields: dict[str, int]) -> bytes:
@@ -131,6 +150,30 @@ def set_field(file: File, text: str) -> None:
     file.fields[name] = int(value, 0)
 
 
+def add_header(file: File, text: str) -> None:
+    """Adds a program header: 'load 120 0x1000 4096'."""
+    kind, offset, address, size = text.split()
+    numbers = (int(number, 0) for number in (offset, address, size))
+    file.headers.append(program_header(KINDS[kind] if kind in KINDS else int(kind, 0), *numbers))
+
+
+def words(text: str) -> bytes:
+    """Returns words that are numbers times 4096: '0 to 511'."""
+    found = NUMBERS.fullmatch(text)
+    if found is None:
+        raise ValueError("numbers are written as 0 to 511")
+    numbers = range(int(found[1]), int(found[2]) + 1)
+    return b"".join(struct.pack("<Q", FRAME_SIZE * number) for number in numbers)
+
+
+def add_note(file: File, text: str) -> None:
+    """Adds a note: 'QEMU 100 to 154'. Its name ends with a byte that is 0, and is padded."""
+    name, _, numbers = text.partition(" ")
+    content, size = words(numbers), len(name) + 1
+    padded = name.encode() + bytes(1 + -size % 4)
+    file.content.extend(struct.pack("<III", size, len(content), 0) + padded + content)
+
+
 def set_end(file: File, text: str) -> None:
     """Cuts a file off."""
     file.end = int(text, 0)
@@ -140,6 +183,9 @@ COMMANDS: dict[str, Callable[[File, str], None]] = {
     "segment": add_memory,
     "processor": add_processor,
     "field": set_field,
+    "header": add_header,
+    "numbers": lambda file, text: file.content.extend(words(text)),
+    "note": add_note,
     "cut": set_end,
     "hex": lambda file, text: file.content.extend(bytes.fromhex(text)),
     "text": lambda file, text: file.content.extend(text.encode()),
@@ -150,8 +196,8 @@ COMMANDS: dict[str, Callable[[File, str], None]] = {
 def begin(text: str) -> tuple[str, File]:
     """Returns the name of a file, and the file, of the line that begins it."""
     _, name, kind, *rest = text.split(maxsplit=3)
-    if kind not in ("raw", "core", "bytes"):
-        raise ValueError("a file is raw, core or bytes")
+    if kind not in ("raw", "core", "elf", "bytes"):
+        raise ValueError("a file is raw, core, elf or bytes")
     file = File(kind)
     if kind == "raw":
         add_memory(file, "".join(rest))
@@ -184,7 +230,7 @@ def write_files(folder: Path, lines: list[tuple[int, str]]) -> None:
                 raise ValueError("a file begins with its name, as @ file dump raw 16 frames")
             else:
                 add_line(files[name], text)
-        except ValueError as mistake:
+        except (ValueError, struct.error) as mistake:
             raise Mistake(number, f"{mistake}: {text!r}") from None
     for name, file in files.items():
         (folder / name).write_bytes(file.bytes())

@@ -3,11 +3,10 @@ ghost use Rattle.std.specs.Prelude.{◌≡◌, IfOk, Ok};
 ghost use Rattle.x86_64_dump.specs.Dump.{Contents, words_of_dump};
 ghost use Rattle.x86_64_dump.specs.Opening.{contents_of};
 
-use crate::dumps::FRAME;
 use std::alloc::Global;
 use x86_64_addr::addr::PhysAddr;
 use x86_64_dump::{Dump, DumpError};
-use x86_64_dump_builder::{CORE, push_core};
+use x86_64_dump_builder::{Memory, push_core_file};
 use x86_64_page::frame::PhysFrame;
 use x86_64_page::page::Size4KiB;
 
@@ -27,13 +26,16 @@ fn words_of(
 
 #[test]
 fn a_frame_is_read_of_a_slice(rt: HostRuntime) {
+    let memory = Memory {
+        address: 0x1000,
+        bytes: &[7; 4096],
+    };
     let mut bytes = Vec::new(rt.alloc());
-    assert!(rt; push_core(&mut bytes, CORE, &[FRAME], 7, 512).is_ok());
+    assert!(rt; push_core_file(&mut bytes, &[], &[memory]).is_ok());
     let frame = PhysFrame::containing_address(PhysAddr::new_truncate(0x1000));
     let found = words_of(rt.alloc(), bytes.as_slice(), None, frame);
-    let first = match found {
-        Ok(words) => words.map(|words| words[0]),
-        Err(_) => None,
+    let Ok(Some(words)) = found else {
+        panic!(rt; "the frame wasn't read");
     };
-    assert_eq!(rt; first, Some(7));
+    assert_eq!(rt; words, [0x0707_0707_0707_0707; 512]);
 }

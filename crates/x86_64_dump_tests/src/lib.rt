@@ -1,23 +1,15 @@
-//! Tests of `x86_64_dump`, from outside: small core files, whole, truncated and damaged.
+//! Tests of `x86_64_dump`, from outside, of what no transcript in `tests/ptdump` shows.
 #![tactic(auto)]
 
 #[cfg(test)]
 mod caller;
 #[cfg(test)]
-mod core_files;
-#[cfg(test)]
-mod dumps;
-#[cfg(test)]
-mod fields;
-#[cfg(test)]
-mod frames;
-#[cfg(test)]
-mod notes;
-#[cfg(test)]
-mod opening;
-#[cfg(test)]
 mod reads;
 #[cfg(test)]
 mod refusals;
+#[cfg(test)]
+mod registers;
+#[cfg(test)]
+mod sources;
 #[cfg(test)]
 mod texts;
