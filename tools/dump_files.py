@@ -1,0 +1,190 @@
+"""Makes the files that transcripts of ptdump read, of their lines after '@ '.
+
+    @ file dump raw 16 frames from 0x100000    begins the file `dump`: physical memory from an address on (0 if none is said)
+    @ 0x100000[3] 0x2003                       a word of a table: the address of its frame, its index and its value
+    @ file dump core                           an ELF core as QEMU writes it: a segment of notes, and the segments below
+    @ processor 0x9000 0x1020                  a note of QEMU's, of a processor with these CR3 and CR4
+    @ segment 16 frames from 0x100000          memory in the core; the words after it are in it
+    @ field class 1                            another value of a field of the ELF header, see FIELDS
+    @ file dump bytes                          a file of the bytes below
+    @ hex 7f 45 4c 46                          bytes
+    @ text KDUMP                               bytes of a text
+    @ zeros 8192                               bytes that are 0
+    @ cut 63                                   of any file: its first bytes alone; -4096: all but its last ones
+"""
+
+import re
+import struct
+from collections.abc import Callable
+from dataclasses import dataclass, field
+from pathlib import Path
+
+FRAME_SIZE = 4096
+LOAD, NOTE = 1, 4
+HEADER_SIZE, ENTRY_SIZE = 64, 56
+WORD = re.compile(r"(0x[0-9a-f]+)\[(\d+)\] (0x[0-9a-f]+)")
+FRAMES = re.compile(r"(\d+) frames(?: from (0x[0-9a-f]+))?")
+# the fields of the ELF header that a file may change, as `struct` has them in order
+FIELDS = {
+    "class": 2,
+    "order": 1,
+    "type": 4,
+    "machine": 62,
+    "headers": HEADER_SIZE,
+    "sections": 0,
+    "entry_size": ENTRY_SIZE,
+    "count": None,
+}
+
+
+class Mistake(Exception):
+    """A line of a transcript that can't be read, or a case that ends else than it says, with the number of its line."""
+
+    def __init__(self, number: int, text: str) -> None:
+        super().__init__(f"{number}: {text}")
+
+
+@dataclass
+class Memory:
+    """Frames of physical memory from an address on."""
+
+    address: int
+    bytes: bytearray
+
+    def set_word(self, frame: int, index: int, word: int) -> bool:
+        """Sets a word, and tells whether it is in this memory."""
+        offset = frame - self.address + 8 * index
+        if not 0 <= offset < len(self.bytes):
+            return False
+        struct.pack_into("<Q", self.bytes, offset, word)
+        return True
+
+
+@dataclass
+class File:
+    """What the lines of a file say of it."""
+
+    kind: str
+    memory: list[Memory] = field(default_factory=list)
+    processors: list[tuple[int, int]] = field(default_factory=list)
+    fields: dict[str, int] = field(default_factory=dict)
+    content: bytearray = field(default_factory=bytearray)
+    end: int | None = None
+
+    def bytes(self) -> bytes:
+        """Returns its bytes."""
+        made = {"raw": self.raw, "core": self.core, "bytes": lambda: bytes(self.content)}[self.kind]()
+        return made[: self.end]
+
+    def raw(self) -> bytes:
+        """Returns the bytes of physical memory."""
+        return b"".join(bytes(part.bytes) for part in self.memory)
+
+    def core(self) -> bytes:
+        """Returns the bytes of an ELF core: its header, the program headers, the notes and the memory."""
+        notes = b"".join(note(cr3, cr4) for cr3, cr4 in self.processors)
+        parts = [(NOTE, 0, notes), *((LOAD, part.address, bytes(part.bytes)) for part in self.memory)]
+        offset = HEADER_SIZE + ENTRY_SIZE * len(parts)
+        headers, contents = b"", b""
+        for kind, address, content in parts:
+            at, size = offset + len(contents), len(content)
+            headers += struct.pack("<IIQQQQQQ", kind, 0, at, 0, address, size, size, 0)
+            contents += content
+        return header({**FIELDS, "count": len(parts), **self.fields}) + headers + contents
+
+
+def header(fields: dict[str, int]) -> bytes:
+    """Returns an ELF header."""
+    begin = b"\x7fELF" + bytes([fields["class"], fields["order"], 1]) + bytes(9)
+    values = (fields["type"], fields["machine"], 1, 0, fields["headers"], fields["sections"], 0)
+    return begin + struct.pack("<HHIQQQI", *values) + struct.pack("<HHHHHH", HEADER_SIZE, fields["entry_size"], fields["count"], 0, 0, 0)
+
+
+def note(cr3: int, cr4: int) -> bytes:
+    """Returns QEMU's note of a processor."""
+    registers = bytes(416) + struct.pack("<QQ", cr3, cr4) + bytes(8)
+    return struct.pack("<III", 5, len(registers), 0) + b"QEMU\0\0\0\0" + registers
+
+
+# ---- the lines
+
+
+def add_memory(file: File, text: str) -> None:
+    """Adds memory to a file: '16 frames' or '16 frames from 0x100000'."""
+    found = FRAMES.fullmatch(text)
+    if found is None:
+        raise ValueError("memory is written as 16 frames from 0x100000")
+    file.memory.append(Memory(int(found[2] or "0", 16), bytearray(FRAME_SIZE * int(found[1]))))
+
+
+def add_processor(file: File, text: str) -> None:
+    """Adds the note of a processor."""
+    cr3, cr4 = text.split()
+    file.processors.append((int(cr3, 0), int(cr4, 0)))
+
+
+def set_field(file: File, text: str) -> None:
+    """Sets a field of the header."""
+    name, value = text.split()
+    if name not in FIELDS:
+        raise ValueError(f"the fields are {', '.join(FIELDS)}")
+    file.fields[name] = int(value, 0)
+
+
+def set_end(file: File, text: str) -> None:
+    """Cuts a file off."""
+    file.end = int(text, 0)
+
+
+COMMANDS: dict[str, Callable[[File, str], None]] = {
+    "segment": add_memory,
+    "processor": add_processor,
+    "field": set_field,
+    "cut": set_end,
+    "hex": lambda file, text: file.content.extend(bytes.fromhex(text)),
+    "text": lambda file, text: file.content.extend(text.encode()),
+    "zeros": lambda file, text: file.content.extend(bytes(int(text, 0))),
+}
+
+
+def begin(text: str) -> tuple[str, File]:
+    """Returns the name of a file, and the file, of the line that begins it."""
+    _, name, kind, *rest = text.split(maxsplit=3)
+    if kind not in ("raw", "core", "bytes"):
+        raise ValueError("a file is raw, core or bytes")
+    file = File(kind)
+    if kind == "raw":
+        add_memory(file, "".join(rest))
+    return name, file
+
+
+def add_line(file: File, text: str) -> None:
+    """Adds to a file what a line says."""
+    found = WORD.fullmatch(text)
+    if found:
+        frame, index, word = int(found[1], 16), int(found[2]), int(found[3], 16)
+        if not any(part.set_word(frame, index, word) for part in reversed(file.memory)):
+            raise ValueError("the word is in no memory of the file")
+        return
+    name, _, rest = text.partition(" ")
+    if name not in COMMANDS:
+        raise ValueError(f"a line after '@ ' begins with one of file, {', '.join(COMMANDS)}, or is a word as 0x1000[0] 0x2003")
+    COMMANDS[name](file, rest)
+
+
+def write_files(folder: Path, lines: list[tuple[int, str]]) -> None:
+    """Writes the files of lines, each with its number, into a folder."""
+    files: dict[str, File] = {}
+    name = ""
+    for number, text in lines:
+        try:
+            if text.startswith("file "):
+                name, files[name] = begin(text)
+            elif not name:
+                raise ValueError("a file begins with its name, as @ file dump raw 16 frames")
+            else:
+                add_line(files[name], text)
+        except ValueError as mistake:
+            raise Mistake(number, f"{mistake}: {text!r}") from None
+    for name, file in files.items():
+        (folder / name).write_bytes(file.bytes())
