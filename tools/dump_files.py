@@ -2,8 +2,12 @@
 
     @ file dump raw 16 frames from 0x100000    begins the file `dump`: physical memory from an address on (0 if none is said)
     @ 0x100000[3] 0x2003                       a word of a table: the address of its frame, its index and its value
+    @ 0x100000[3] 0x2003 [4] 0x3003            several words of a table
+    @ 0x100000[0-9] 0x2003                     equal words, from one index to another; [*] is every index
+    @ 0x100000[0-9] 0x2003 by 0x1000           words of which each is greater by a step
     @ file dump core                           an ELF core as QEMU writes it: a segment of notes, and the segments below
     @ processor 0x9000 0x1020                  a note of QEMU's, of a processor with these CR3 and CR4
+    @ processor 0x9000                         a note that ends before CR4
     @ segment 16 frames from 0x100000          memory in the core; the words after it are in it
     @ field class 1                            another value of a field of the ELF header, see FIELDS
     @ file dump elf                            an ELF file of its parts: the header, these program headers and the bytes below
@@ -27,7 +31,10 @@ from pathlib import Path
 FRAME_SIZE = 4096
 LOAD, NOTE = 1, 4
 HEADER_SIZE, ENTRY_SIZE = 64, 56
-WORD = re.compile(r"(0x[0-9a-f]+)\[(\d+)\] (0x[0-9a-f]+)")
+WORDS_OF_A_TABLE = 512
+# the words at an index, from one to another or at all of them; and words of a table
+WORD = re.compile(r" ?\[(?:(\d+)(?:-(\d+))?|\*)\] (0x[0-9a-f]+)(?: by (0x[0-9a-f]+))?")
+WORDS = re.compile(rf"(0x[0-9a-f]+)((?:{WORD.pattern})+)")
 FRAMES = re.compile(r"(\d+) frames?(?: from (0x[0-9a-f]+))?")
 # the fields of the ELF header that a file may change, as `struct` has them in order
 FIELDS = {
@@ -74,7 +81,7 @@ class File:
 
     kind: str
     memory: list[Memory] = field(default_factory=list)
-    processors: list[tuple[int, int]] = field(default_factory=list)
+    processors: list[list[int]] = field(default_factory=list)
     fields: dict[str, int] = field(default_factory=dict)
     headers: list[bytes] = field(default_factory=list)
     content: bytearray = field(default_factory=bytearray)
@@ -91,7 +98,7 @@ class File:
 
     def core(self) -> bytes:
         """Returns the bytes of an ELF core: its header, the program headers, the notes and the memory."""
-        notes = b"".join(note(cr3, cr4) for cr3, cr4 in self.processors)
+        notes = b"".join(note(*registers) for registers in self.processors)
         parts = [(NOTE, 0, notes), *((LOAD, part.address, bytes(part.bytes)) for part in self.memory)]
         offset = HEADER_SIZE + ENTRY_SIZE * len(parts)
         headers, contents = b"", b""
@@ -119,9 +126,11 @@ def header(fields: dict[str, int]) -> bytes:
     return begin + struct.pack("<HHIQQQI", *values) + struct.pack("<HHHHHH", HEADER_SIZE, fields["entry_size"], fields["count"], 0, 0, 0)
 
 
-def note(cr3: int, cr4: int) -> bytes:
-    """Returns QEMU's note of a processor."""
-    registers = bytes(416) + struct.pack("<QQ", cr3, cr4) + bytes(8)
+def note(cr3: int, cr4: int | None = None) -> bytes:
+    """Returns QEMU's note of a processor, which ends before CR4 if there is none."""
+    registers = bytes(416) + struct.pack("<Q", cr3)
+    if cr4 is not None:
+        registers += struct.pack("<Q", cr4) + bytes(8)
     return struct.pack("<III", 5, len(registers), 0) + b"QEMU\0\0\0\0" + registers
 
 
@@ -138,8 +147,20 @@ def add_memory(file: File, text: str) -> None:
 
 def add_processor(file: File, text: str) -> None:
     """Adds the note of a processor."""
-    cr3, cr4 = text.split()
-    file.processors.append((int(cr3, 0), int(cr4, 0)))
+    registers = [int(number, 0) for number in text.split()]
+    if len(registers) not in (1, 2):
+        raise ValueError("a processor has CR3 and CR4")
+    file.processors.append(registers)
+
+
+def add_words(file: File, frame: int, text: str) -> None:
+    """Sets words of a table: '[0] 0x2003 [1-9] 0x3003 by 0x1000'."""
+    for found in WORD.finditer(text):
+        first, last = int(found[1] or "0"), int(found[2] or found[1] or WORDS_OF_A_TABLE - 1)
+        for index in range(first, last + 1):
+            word = int(found[3], 16) + int(found[4] or "0", 16) * (index - first)
+            if index >= WORDS_OF_A_TABLE or not any(part.set_word(frame, index, word) for part in reversed(file.memory)):
+                raise ValueError("the word is in no memory of the file")
 
 
 def set_field(file: File, text: str) -> None:
@@ -206,11 +227,9 @@ def begin(text: str) -> tuple[str, File]:
 
 def add_line(file: File, text: str) -> None:
     """Adds to a file what a line says."""
-    found = WORD.fullmatch(text)
+    found = WORDS.fullmatch(text)
     if found:
-        frame, index, word = int(found[1], 16), int(found[2]), int(found[3], 16)
-        if not any(part.set_word(frame, index, word) for part in reversed(file.memory)):
-            raise ValueError("the word is in no memory of the file")
+        add_words(file, int(found[1], 16), found[2])
         return
     name, _, rest = text.partition(" ")
     if name not in COMMANDS:

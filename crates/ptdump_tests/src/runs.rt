@@ -1,70 +1,51 @@
 //! Runs of the program, and how they end.
-use ptdump_engine::{Command, Failure, Levels, Outcome, Progress, Request, run};
+use ptdump_engine::{Command, Failure, Outcome, Progress, Request, run};
 use std::alloc::{AllocError, Global};
 use std::io::{self, ErrorKind, Write};
 use std::process::Abort;
 use x86_64_dump::ByteSource;
 
-/// A command, with its addresses.
+/// The word of a command.
 #[derive(Clone, Copy, Debug)]
-pub enum Words {
+pub enum Word {
     Regions,
     Pages,
-    Walk(&'static [u64]),
-    Find(&'static [u64]),
+    Walk,
+    Find,
     Check,
     Image,
     Picture,
 }
 
-/// The words of each command, with addresses of the machine `MIXED`.
-pub const EACH: [Words; 7] = [
-    Words::Regions,
-    Words::Pages,
-    Words::Walk(&[0, 0x2abc]),
-    Words::Find(&[0x8000_0123, 0x3abc]),
-    Words::Check,
-    Words::Image,
-    Words::Picture,
+/// The words of all commands.
+pub const EACH: [Word; 7] = [
+    Word::Regions,
+    Word::Pages,
+    Word::Walk,
+    Word::Find,
+    Word::Check,
+    Word::Image,
+    Word::Picture,
 ];
 
-/// A request for a dump.
-#[derive(Clone, Copy, Debug)]
-pub struct Asked {
-    pub words: Words,
-    pub cr3: Option<u64>,
-    pub levels: Option<Levels>,
-    pub base: Option<u64>,
-    pub cpu: Option<u64>,
-}
-
-/// The regions, without options.
-pub const PLAIN: Asked = Asked {
-    words: Words::Regions,
-    cr3: None,
-    levels: None,
-    base: None,
-    cpu: None,
-};
-
-impl Asked {
-    /// Creates the request.
-    pub fn request(&self, alloc: Global) -> Result<Request, AllocError> {
-        let command = match self.words {
-            Words::Regions => Command::Regions,
-            Words::Pages => Command::Pages,
-            Words::Walk(addresses) => Command::Walk(Vec::from_slice(alloc, addresses)?),
-            Words::Find(addresses) => Command::Find(Vec::from_slice(alloc, addresses)?),
-            Words::Check => Command::Check,
-            Words::Image => Command::Image,
-            Words::Picture => Command::Picture,
+impl Word {
+    /// Creates the request, with addresses of the machine `MIXED` for the commands that need some, and without options.
+    pub fn request(self, alloc: Global) -> Result<Request, AllocError> {
+        let command = match self {
+            Word::Regions => Command::Regions,
+            Word::Pages => Command::Pages,
+            Word::Walk => Command::Walk(Vec::from_slice(alloc, &[0, 0x2abc])?),
+            Word::Find => Command::Find(Vec::from_slice(alloc, &[0x8000_0123, 0x3abc])?),
+            Word::Check => Command::Check,
+            Word::Image => Command::Image,
+            Word::Picture => Command::Picture,
         };
         Ok(Request {
             command,
-            cr3: self.cr3,
-            levels: self.levels,
-            base: self.base,
-            cpu: self.cpu,
+            cr3: None,
+            levels: None,
+            base: None,
+            cpu: None,
         })
     }
 }
@@ -117,24 +98,6 @@ impl Write for Sink {
         Ok(())
     }
 }
-
-/// The end of a run: its standard output, its standard error and its status. If it fails, a part of the message, which isn't
-/// part of standard error here.
-#[derive(Clone, Copy, Debug, PartialEq)]
-pub struct End {
-    pub output: &'static str,
-    pub errors: &'static str,
-    pub status: u8,
-    pub message: &'static str,
-}
-
-/// Nothing is written, and the request is fulfilled.
-pub const SILENT: End = End {
-    output: "",
-    errors: "",
-    status: 0,
-    message: "",
-};
 
 /// The output of a run, and how it ended.
 #[derive(Drop)]
@@ -196,11 +159,11 @@ pub fn run_into<S: ByteSource>(
     rt: impl Abort + Copy,
     alloc: Global,
     source: S,
-    asked: Asked,
+    word: Word,
     mut output: Sink,
     mut errors: Sink,
 ) -> Ran {
-    let request = unwrap(rt, asked.request(alloc));
+    let request = unwrap(rt, word.request(alloc));
     let mut watcher = Watcher {
         count: 0,
         ends: 0,
@@ -214,14 +177,14 @@ pub fn run_into<S: ByteSource>(
         &mut errors,
         &mut watcher,
     );
-    assert!(rt; watcher.is_in_order, "{asked:?}");
+    assert!(rt; watcher.is_in_order, "{word:?}");
     if ended.is_ok() {
-        assert_eq!(rt; watcher.ends, 1, "{asked:?}");
+        assert_eq!(rt; watcher.ends, 1, "{word:?}");
         let count = watcher.count;
         let told = unwrap(rt, format!(in alloc; "tables {count}, "));
         assert!(rt;
             text_of(rt, &errors.bytes).contains(&told),
-            "{asked:?}: {told}"
+            "{word:?}: {told}"
         );
     }
     Ran {
@@ -231,21 +194,7 @@ pub fn run_into<S: ByteSource>(
     }
 }
 
-/// Runs the program.
-pub fn run_on(rt: impl Abort + Copy, alloc: Global, file: &[u8], asked: Asked) -> Ran {
-    run_into(rt, alloc, file, asked, Sink::wide(alloc), Sink::wide(alloc))
-}
-
-/// Runs the program on a file, and checks how it ends.
-pub fn check_run(rt: impl Abort + Copy, alloc: Global, file: &[u8], asked: Asked, wanted: End) {
-    let ran = run_on(rt, alloc, file, asked);
-    assert_eq!(rt; text_of(rt, &ran.output.bytes), wanted.output, "{asked:?}");
-    assert_eq!(rt; text_of(rt, &ran.errors.bytes), wanted.errors, "{asked:?}");
-    assert_eq!(rt; ran.status(), wanted.status, "{asked:?}");
-    let message = match &ran.ended {
-        Ok(_) => String::new(alloc),
-        Err(failure) => unwrap(rt, format!(in alloc; "{failure}")),
-    };
-    assert!(rt; message.contains(wanted.message), "{asked:?}: {message}");
-    assert_eq!(rt; message.is_empty(), wanted.message.is_empty(), "{asked:?}");
+/// Runs the program with writers that take everything.
+pub fn run_on(rt: impl Abort + Copy, alloc: Global, file: &[u8], word: Word) -> Ran {
+    run_into(rt, alloc, file, word, Sink::wide(alloc), Sink::wide(alloc))
 }
