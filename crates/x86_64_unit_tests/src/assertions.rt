@@ -1,22 +1,13 @@
 //! Assertions as functions, so that the messages of failed ones are here once, for the values of all tests.
 ghost use Rattle.std.specs.Prelude.{◌≡◌, Ok, Some};
 
+use std::alloc::Global;
 use std::fmt::Debug;
 use std::process::Abort;
 
 /// Aborts unless two values are equal.
 pub fn assert_equal<T: PartialEq + Debug + Drop>(rt: impl Abort + Copy, found: T, wanted: T) {
     assert_eq!(rt; found, wanted);
-}
-
-/// Aborts unless two values are equal, and prints the number that they belong to.
-pub fn assert_equal_at<T: PartialEq + Debug + Drop>(
-    rt: impl Abort + Copy,
-    number: u64,
-    found: T,
-    wanted: T,
-) {
-    assert_eq!(rt; found, wanted, "at {number:#x}");
 }
 
 /// Aborts unless two values are equal, and prints the case that they belong to.
@@ -27,6 +18,12 @@ pub fn assert_equal_in<C: Debug + Drop, T: PartialEq + Debug + Drop>(
     wanted: T,
 ) {
     assert_eq!(rt; found, wanted, "in {case:?}");
+}
+
+/// Aborts unless a value has this Debug text.
+pub fn assert_text<T: Debug>(rt: impl Abort + Copy, alloc: Global, value: &T, wanted: &str) {
+    let text = unwrap(rt, format!(in alloc; "{value:?}"));
+    assert_equal(rt, text.as_str(), wanted);
 }
 
 /// Returns the value of a result, or aborts if it is an error. A call has only one exit. With `?`, a test would have

@@ -27,14 +27,6 @@ fn memory_with(rt: impl Abort + Copy, alloc: Global, more: &[Word]) -> PhysMemor
     memory
 }
 
-/// Returns the space with a root and a recursive index.
-fn space_at(root: u64, recursive: Option<u16>) -> Space {
-    Space {
-        root: frame_at(root),
-        recursive: recursive.map(|index| PageTableIndex::new_truncate(index)),
-    }
-}
-
 /// A root and a recursive index.
 type Root = (u64, Option<u16>);
 
@@ -42,7 +34,11 @@ type Root = (u64, Option<u16>);
 fn spaces_at(rt: impl Abort + Copy, alloc: Global, roots: &[Root]) -> Vec<Space> {
     let mut spaces = Vec::new(alloc);
     for (root, recursive) in roots {
-        unwrap(rt, spaces.push(space_at(*root, *recursive)));
+        let space = Space {
+            root: frame_at(*root),
+            recursive: recursive.map(PageTableIndex::new_truncate),
+        };
+        unwrap(rt, spaces.push(space));
     }
     spaces
 }

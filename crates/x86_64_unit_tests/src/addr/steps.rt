@@ -6,109 +6,100 @@ use x86_64_addr::addr::VirtAddrIn;
 use x86_64_addr::index::PageTableIndex;
 use x86_64_addr::level_count::{FiveLevels, FourLevels, LevelCount};
 
-/// The raw value of a start, a number of steps, and the raw value that they lead to, if any.
-type Steps = (u64, usize, Option<u64>);
+/// The raw value of a start, a number of steps, and the raw value of the end that they lead to. Without a start, that
+/// many steps back from the end lead nowhere, and without an end, that many from the start.
+pub(crate) type Steps = (Option<u64>, usize, Option<u64>);
 
-/// Returns the address with a raw value.
-fn address<L: LevelCount>(raw: u64) -> VirtAddrIn<L> {
-    VirtAddrIn::new_truncate(raw)
-}
+const STEPS: [Steps; 18] = [
+    (Some(0), 0, Some(0)),
+    (Some(0), 1, Some(1)),
+    (Some(0), 1 << 32, Some(1 << 32)),
+    (Some(LAST_LOW), 1, Some(FIRST_HIGH)),
+    (Some(FIRST_HIGH), 0, Some(FIRST_HIGH)),
+    (Some(FIRST_HIGH), 1, Some(FIRST_HIGH + 1)),
+    (Some(LAST_LOW), 1 << 47, Some(u64::MAX)),
+    (Some(0x7fff_ffff_ff00), 0x8000_0000_00ff, Some(u64::MAX)),
+    (
+        Some(LAST_LOW),
+        0x1234_5678_9abd,
+        Some(0xffff_9234_5678_9abc),
+    ),
+    (Some(0), 1 << 47, Some(FIRST_HIGH)),
+    (Some(0xff), 0x7fff_ffff_ff01, Some(FIRST_HIGH)),
+    (Some(u64::MAX), 1, None),
+    (Some(0x7fff_ffff_ff00), 0x8000_0000_0100, None),
+    (Some(LAST_LOW), (1 << 47) + 1, None),
+    (Some(1), usize::MAX, None),
+    (None, 1, Some(0)),
+    (None, (1 << 47) + 1, Some(FIRST_HIGH)),
+    (None, usize::MAX, Some(u64::MAX)),
+];
 
-/// Returns the address that steps lead to, if any.
-fn end<L: LevelCount>(raw: Option<u64>) -> Option<VirtAddrIn<L>> {
+const STEPS_57: [Steps; 4] = [
+    (Some(LAST_LOW_57), 1, Some(FIRST_HIGH_57)),
+    (Some(LAST_LOW_57), 1 << 56, Some(u64::MAX)),
+    (Some(LAST_LOW_57), (1 << 56) + 1, None),
+    (None, 1 << 56, Some(LAST_LOW_57)),
+];
+
+/// Returns the address with a raw value, if there is one.
+fn address<L: LevelCount>(raw: Option<u64>) -> Option<VirtAddrIn<L>> {
     Some(VirtAddrIn::new_truncate(raw?))
 }
 
-const FORWARD: [Steps; 11] = [
-    (0, 0, Some(0)),
-    (0, 1, Some(1)),
-    (LAST_LOW, 1, Some(FIRST_HIGH)),
-    (FIRST_HIGH, 1, Some(FIRST_HIGH + 1)),
-    (u64::MAX, 1, None),
-    (LAST_LOW, 1 << 47, Some(u64::MAX)),
-    (0x7fff_ffff_ff00, 0x8000_0000_00ff, Some(u64::MAX)),
-    (0x7fff_ffff_ff00, 0x8000_0000_0100, None),
-    (LAST_LOW, (1 << 47) + 1, None),
-    (LAST_LOW, 0x1234_5678_9abd, Some(0xffff_9234_5678_9abc)),
-    (1, usize::MAX, None),
-];
-
-const FORWARD_57: [Steps; 3] = [
-    (LAST_LOW_57, 1, Some(FIRST_HIGH_57)),
-    (LAST_LOW_57, 1 << 56, Some(u64::MAX)),
-    (LAST_LOW_57, (1 << 56) + 1, None),
-];
-
 /// Steps forward, and compares the results.
 fn check_forward<L: LevelCount>(rt: impl Abort + Copy, rows: &[Steps]) {
-    for (start, count, wanted) in rows {
-        let found = VirtAddrIn::<L>::forward_checked(address(*start), *count);
-        assert_equal_in(rt, (*start, *count), found, end(*wanted));
+    for (start, count, end) in rows {
+        if let Some(from) = address::<L>(*start) {
+            let found = VirtAddrIn::forward_checked(from, *count);
+            assert_equal_in(rt, (from, *count), found, address(*end));
+        }
     }
 }
-
-const BACKWARD: [Steps; 10] = [
-    (0, 0, Some(0)),
-    (0, 1, None),
-    (1, 1, Some(0)),
-    (FIRST_HIGH, 1, Some(LAST_LOW)),
-    (FIRST_HIGH + 1, 1, Some(FIRST_HIGH)),
-    (0xffff_9234_5678_9abc, 0x1234_5678_9abd, Some(LAST_LOW)),
-    (FIRST_HIGH, 1 << 47, Some(0)),
-    (FIRST_HIGH, 0x7fff_ffff_ff01, Some(0xff)),
-    (FIRST_HIGH, (1 << 47) + 1, None),
-    (u64::MAX, usize::MAX, None),
-];
-
-const BACKWARD_57: [Steps; 2] = [
-    (FIRST_HIGH_57, 1, Some(LAST_LOW_57)),
-    (LAST_LOW_57, 1 << 56, None),
-];
 
 /// Steps backward, and compares the results.
 fn check_backward<L: LevelCount>(rt: impl Abort + Copy, rows: &[Steps]) {
-    for (start, count, wanted) in rows {
-        let found = VirtAddrIn::<L>::backward_checked(address(*start), *count);
-        assert_equal_in(rt, (*start, *count), found, end(*wanted));
+    for (start, count, end) in rows {
+        if let Some(from) = address::<L>(*end) {
+            let found = VirtAddrIn::backward_checked(from, *count);
+            assert_equal_in(rt, (from, *count), found, address(*start));
+        }
     }
 }
 
-/// The raw values of a start and an end, and the number of steps from start to end.
-type Between = (u64, u64, (usize, Option<usize>));
+/// Returns the numbers of steps to an end and back, if it takes this many.
+pub(crate) fn there_and_back(count: usize) -> [(usize, Option<usize>); 2] {
+    let back = if count == 0 { Some(0) } else { None };
+    [(count, Some(count)), (0, back)]
+}
 
-const BETWEEN: [Between; 9] = [
-    (0, 0, (0, Some(0))),
-    (FIRST_HIGH, FIRST_HIGH, (0, Some(0))),
-    (0, 1, (1, Some(1))),
-    (LAST_LOW, FIRST_HIGH, (1, Some(1))),
-    (FIRST_HIGH, FIRST_HIGH + 1, (1, Some(1))),
-    (0, 1 << 32, (1 << 32, Some(1 << 32))),
-    (1, 0, (0, None)),
-    (FIRST_HIGH, LAST_LOW, (0, None)),
-    (FIRST_HIGH + 1, FIRST_HIGH, (0, None)),
-];
-
-const BETWEEN_57: [Between; 2] = [
-    (LAST_LOW_57, FIRST_HIGH_57, (1, Some(1))),
-    (FIRST_HIGH_57, LAST_LOW_57, (0, None)),
-];
-
-/// Counts the steps between addresses, and compares the results.
-fn check_between<L: LevelCount>(rt: impl Abort + Copy, rows: &[Between]) {
-    for (start, end, wanted) in rows {
-        let found = VirtAddrIn::<L>::steps_between(&address(*start), &address(*end));
-        assert_equal_in(rt, (*start, *end), found, *wanted);
+/// Counts the steps from starts to ends and back, and compares the results.
+fn check_between<L: LevelCount>(rt: impl Abort + Copy, rows: &[Steps]) {
+    for (start, count, end) in rows {
+        if let (Some(start), Some(end)) = (address::<L>(*start), address::<L>(*end)) {
+            let there = VirtAddrIn::steps_between(&start, &end);
+            let back = VirtAddrIn::steps_between(&end, &start);
+            assert_equal_in(rt, (start, end), [there, back], there_and_back(*count));
+        }
     }
 }
 
 #[test]
-fn addresses_step(rt: HostRuntime) {
-    check_forward::<FourLevels>(rt, &FORWARD);
-    check_forward::<FiveLevels>(rt, &FORWARD_57);
-    check_backward::<FourLevels>(rt, &BACKWARD);
-    check_backward::<FiveLevels>(rt, &BACKWARD_57);
-    check_between::<FourLevels>(rt, &BETWEEN);
-    check_between::<FiveLevels>(rt, &BETWEEN_57);
+fn virtaddr_step_forward(rt: HostRuntime) {
+    check_forward::<FourLevels>(rt, &STEPS);
+    check_forward::<FiveLevels>(rt, &STEPS_57);
+}
+
+#[test]
+fn virtaddr_step_backward(rt: HostRuntime) {
+    check_backward::<FourLevels>(rt, &STEPS);
+    check_backward::<FiveLevels>(rt, &STEPS_57);
+}
+
+#[test]
+fn virtaddr_steps_between(rt: HostRuntime) {
+    check_between::<FourLevels>(rt, &STEPS);
+    check_between::<FiveLevels>(rt, &STEPS_57);
 }
 
 /// Indices, numbers of steps, and the indices that they lead to forward and backward, if any.
@@ -137,5 +128,5 @@ fn indices_step(rt: HostRuntime) {
     let (low, high) = (PageTableIndex::new(1), PageTableIndex::new(3));
     let there = PageTableIndex::steps_between(&low, &high);
     let back = PageTableIndex::steps_between(&high, &low);
-    assert_equal_in(rt, (low, high), (there, back), ((2, Some(2)), (0, None)));
+    assert_equal_in(rt, (low, high), [there, back], there_and_back(2));
 }

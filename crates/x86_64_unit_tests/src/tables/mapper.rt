@@ -9,7 +9,9 @@ use x86_64_tables::mapper::{FlushItem, FlushRecorder, MapperFlush, MapperFlush57
 /// Flushes the page of a size at an address.
 fn flush_page<S: PageSize>(rt: impl Abort + Copy, recorder: &mut FlushRecorder, start: u64) {
     let page = Page::<S>::containing_address(VirtAddr::new_truncate(start));
-    let answer = MapperFlush::new(page).flush(recorder);
+    let token = MapperFlush::new(page);
+    assert_equal(rt, token.page(), page);
+    let answer = token.flush(recorder);
     assert_equal(rt, answer.map_err(MapperFlush::ignore), Ok(()));
 }
 
@@ -21,10 +23,8 @@ fn flush_all(rt: impl Abort + Copy, recorder: &mut FlushRecorder) {
 
 /// Returns the item of a page.
 fn item(start: u64, size: u64) -> FlushItem {
-    FlushItem::Page {
-        start: VirtAddr::new_truncate(start),
-        size,
-    }
+    let start = VirtAddr::new_truncate(start);
+    FlushItem::Page { start, size }
 }
 
 /// Flushes pages and all pages in turn, with room reserved before, and compares the items.
@@ -57,18 +57,28 @@ fn flushes_are_recorded_in_order(rt: HostRuntime) {
     }
 }
 
+/// Flushes the page of 57 bits at an address, and compares the item.
+fn check_item_57(rt: impl Abort + Copy, alloc: Global, start: u64) {
+    let (start, size) = (VirtAddr57::new_truncate(start), 2_097_152);
+    let page = Page57::<Size2MiB>::containing_address(start);
+    let mut recorder = FlushRecorder::new(alloc);
+    let token = MapperFlush57::new(page);
+    assert_equal(rt, token.page(), page);
+    let answer = token.flush(&mut recorder);
+    assert_equal(rt, answer.map_err(MapperFlush57::ignore), Ok(()));
+    let items = [FlushItem::Page57 { start, size }];
+    assert_equal(rt, recorder.items(), items.as_slice());
+}
+
 #[test]
 fn flushes_of_pages_of_57_bits_are_recorded(rt: HostRuntime) {
-    let size = 2_097_152;
-    for start in [0x20_0000, 0xff00_0000_0000_0000] {
-        let start = VirtAddr57::new_truncate(start);
-        let mut recorder = FlushRecorder::new(rt.alloc());
-        let page = Page57::<Size2MiB>::containing_address(start);
-        let token = MapperFlush57::new(page);
-        assert_equal(rt, token.page(), page);
-        let answer = token.flush(&mut recorder);
-        assert_equal(rt, answer.map_err(MapperFlush57::ignore), Ok(()));
-        let items = [FlushItem::Page57 { start, size }];
-        assert_equal(rt, recorder.items(), items.as_slice());
-    }
+    check_item_57(rt, rt.alloc(), 0x20_0000);
+    check_item_57(rt, rt.alloc(), 0xff00_0000_0000_0000);
+}
+
+#[test]
+fn tokens_are_ignored(_rt: HostRuntime) {
+    let page = Page::<Size2MiB>::containing_address(VirtAddr::zero());
+    MapperFlush::new(page).ignore();
+    MapperFlushAll::new().ignore();
 }

@@ -1,5 +1,5 @@
 //! Tests of flags, entries and tables.
-use crate::assertions::{assert_equal, assert_equal_at, unwrap, unwrap_some};
+use crate::assertions::{assert_equal, assert_equal_in, assert_text, unwrap, unwrap_some};
 use crate::tables::frame_at;
 use bitflags::Flags;
 use std::alloc::Global;
@@ -36,8 +36,13 @@ fn flags_have_places(rt: HostRuntime) {
         (PageTableFlags::BIT_62, 0x4000_0000_0000_0000),
         (PageTableFlags::NO_EXECUTE, 0x8000_0000_0000_0000),
     ];
-    for (flag, bits) in places {
-        assert_equal(rt, flag.bits(), bits);
+    check_bits(rt, &places);
+}
+
+/// Compares the bits of flags.
+fn check_bits(rt: impl Abort + Copy, rows: &[(PageTableFlags, u64)]) {
+    for (flags, bits) in rows {
+        assert_equal(rt, flags.bits(), *bits);
     }
 }
 
@@ -49,28 +54,35 @@ fn operators_are_of_bits(rt: HostRuntime) {
     let rows = [
         (low, 0x3),
         (low | high, 0x8000_0000_0000_0003),
-        (low.union(high), 0x8000_0000_0000_0003),
         (low & high, 0x2),
-        (low.intersection(high), 0x2),
         (low ^ high, 0x8000_0000_0000_0001),
-        (low.symmetric_difference(high), 0x8000_0000_0000_0001),
         (low - high, 0x1),
-        (low.difference(high), 0x1),
         (!low, 0xfff0_0000_0000_0ffc),
-        (low.complement(), 0xfff0_0000_0000_0ffc),
         (odd | high, 0x8000_0000_0000_1003),
         (odd & odd, 0x1003),
         (odd ^ low, 0x1000),
         (odd - low, 0x1000),
         (!odd, 0xfff0_0000_0000_0ffc),
+    ];
+    check_bits(rt, &rows);
+}
+
+#[test]
+fn flags_are_sets(rt: HostRuntime) {
+    let low = PageTableFlags::PRESENT | PageTableFlags::WRITABLE;
+    let high = PageTableFlags::WRITABLE | PageTableFlags::NO_EXECUTE;
+    let rows = [
+        (low.union(high), 0x8000_0000_0000_0003),
+        (low.intersection(high), 0x2),
+        (low.symmetric_difference(high), 0x8000_0000_0000_0001),
+        (low.difference(high), 0x1),
+        (low.complement(), 0xfff0_0000_0000_0ffc),
         (PageTableFlags::empty(), 0x0),
         (PageTableFlags::all(), 0xfff0_0000_0000_0fff),
         (PageTableFlags::from_bits_retain(0x1003), 0x1003),
         (PageTableFlags::from_bits_truncate(0x1003), 0x3),
     ];
-    for (flags, bits) in rows {
-        assert_equal(rt, flags.bits(), bits);
-    }
+    check_bits(rt, &rows);
 }
 
 #[test]
@@ -105,9 +117,7 @@ fn flags_change_in_place(rt: HostRuntime) {
         (cleared, 0x0),
         (truncated, 0x3),
     ];
-    for (flags, bits) in rows {
-        assert_equal(rt, flags.bits(), bits);
-    }
+    check_bits(rt, &rows);
 }
 
 /// Bits, and whether they have both low flags, at least one of them, no bit at all, all known flags, and unknown
@@ -133,63 +143,40 @@ fn flags_are_asked(rt: HostRuntime) {
             flags.is_all(),
             flags.contains_unknown_bits(),
         ];
-        assert_equal_at(rt, bits, asked, answers);
+        assert_equal_in(rt, bits, asked, answers);
         let read = if answers[4] { None } else { Some(flags) };
-        assert_equal_at(rt, bits, PageTableFlags::from_bits(bits), read);
+        assert_equal_in(rt, bits, PageTableFlags::from_bits(bits), read);
     }
 }
 
-#[test]
-fn flags_have_texts(rt: HostRuntime) {
-    let (none, all) = (PageTableFlags::empty(), PageTableFlags::all());
-    let odd = PageTableFlags::from_bits_retain(0x1003);
-    let text = unwrap(rt, format!(in rt.alloc(); "{none:?} {odd:?} {all:?}"));
-    assert_equal(
-        rt,
-        text.as_str(),
-        "PageTableFlags(0x0) PageTableFlags(0x1003) PageTableFlags(0xfff0000000000fff)",
-    );
-}
-
-/// The address and the flags of an entry, its word, and the frame that it names, or the error.
-type EntryRow = (u64, u64, u64, Result<u64, FrameError>);
-
-const ENTRIES: [EntryRow; 6] = [
-    (0x0, 0x0, 0x0, Err(FrameError::FrameNotPresent)),
-    (0x5000, 0x0, 0x5000, Err(FrameError::FrameNotPresent)),
-    (0x5000, 0x82, 0x5082, Err(FrameError::FrameNotPresent)),
-    (
-        0x5000,
-        0x8000_0000_0000_0083,
-        0x8000_0000_0000_5083,
-        Err(FrameError::HugeFrame),
-    ),
-    (0x6000, 0x3, 0x6003, Ok(0x6000)),
-    (
-        0x000f_ffff_ffff_f000,
-        0x1,
-        0x000f_ffff_ffff_f001,
-        Ok(0x000f_ffff_ffff_f000),
-    ),
+/// The address and the flags of an entry, and the frame that it names, or the error.
+const ENTRIES: [(u64, u64, Result<u64, FrameError>); 6] = [
+    (0x0, 0x0, Err(FrameError::FrameNotPresent)),
+    (0x5000, 0x0, Err(FrameError::FrameNotPresent)),
+    (0x5000, 0x82, Err(FrameError::FrameNotPresent)),
+    (0x5000, 0x8000_0000_0000_0083, Err(FrameError::HugeFrame)),
+    (0x6000, 0x3, Ok(0x6000)),
+    (0x000f_ffff_ffff_f000, 0x1, Ok(0x000f_ffff_ffff_f000)),
 ];
 
 /// Returns the parts of an entry: its word, its address and flags, and whether it is unused.
 fn parts(entry: &PageTableEntry) -> (u64, u64, u64, bool) {
     let (addr, flags) = (entry.addr().as_u64(), entry.flags().bits());
-    (addr | flags, addr, flags, entry.is_unused())
+    (entry.word(), addr, flags, entry.is_unused())
 }
 
 #[test]
 fn entries_are_words(rt: HostRuntime) {
-    for (start, bits, word, frame) in ENTRIES {
+    for (start, bits, frame) in ENTRIES {
+        let word = start | bits;
         let addr = frame_at(start).start_address();
         let mut entry = PageTableEntry::new();
         entry.set_addr(addr, PageTableFlags::from_bits_retain(bits));
-        assert_equal_at(rt, word, parts(&entry), (word, start, bits, word == 0));
-        assert_equal_at(rt, word, entry.frame(), frame.map(frame_at));
+        assert_equal_in(rt, word, parts(&entry), (word, start, bits, word == 0));
+        assert_equal_in(rt, word, entry.frame(), frame.map(frame_at));
         entry.set_flags(PageTableFlags::empty());
-        assert_equal_at(rt, word, parts(&entry), (start, start, 0, start == 0));
-        assert_equal_at(rt, word, entry.frame(), Err(FrameError::FrameNotPresent));
+        assert_equal_in(rt, word, parts(&entry), (start, start, 0, start == 0));
+        assert_equal_in(rt, word, entry.frame(), Err(FrameError::FrameNotPresent));
     }
 }
 
@@ -204,11 +191,10 @@ const WORDS: [(u64, u64, u64); 3] = [
 fn entries_hold_any_word(rt: HostRuntime) {
     let mut changed = PageTableEntry::from_word(0x5003);
     for (word, addr, flags) in WORDS {
-        let wanted = (word, (word, addr, flags, word == 0));
-        let made = PageTableEntry::from_word(word);
-        assert_equal_at(rt, word, (made.word(), parts(&made)), wanted);
+        let wanted = (word, addr, flags, word == 0);
+        assert_equal(rt, parts(&PageTableEntry::from_word(word)), wanted);
         changed.set_word(word);
-        assert_equal_at(rt, word, (changed.word(), parts(&changed)), wanted);
+        assert_equal(rt, parts(&changed), wanted);
     }
 }
 
@@ -232,18 +218,18 @@ fn entries_are_changed(rt: HostRuntime) {
 }
 
 #[test]
-fn entries_have_texts(rt: HostRuntime) {
-    let mut entry = PageTableEntry::new();
-    let flags = PageTableFlags::from_bits_retain(0x3);
-    entry.set_addr(PhysAddr::new(0x5000), flags);
+fn flags_and_entries_have_texts(rt: HostRuntime) {
+    let none = PageTableFlags::empty();
+    assert_text(rt, rt.alloc(), &none, "PageTableFlags(0x0)");
+    let odd = PageTableFlags::from_bits_retain(0x1003);
+    assert_text(rt, rt.alloc(), &odd, "PageTableFlags(0x1003)");
+    let all = PageTableFlags::all();
+    assert_text(rt, rt.alloc(), &all, "PageTableFlags(0xfff0000000000fff)");
+    let entry = PageTableEntry::from_word(0x5003);
+    let wanted = "PageTableEntry { addr: PhysAddr(0x5000), flags: PageTableFlags(0x3) }";
+    assert_text(rt, rt.alloc(), &entry, wanted);
     let errors = [FrameError::FrameNotPresent, FrameError::HugeFrame];
-    let text = unwrap(rt, format!(in rt.alloc(); "{entry:?} {errors:?}"));
-    assert_equal(
-        rt,
-        text.as_str(),
-        "PageTableEntry { addr: PhysAddr(0x5000), flags: PageTableFlags(0x3) } \
-         [FrameNotPresent, HugeFrame]",
-    );
+    assert_text(rt, rt.alloc(), &errors, "[FrameNotPresent, HugeFrame]");
 }
 
 #[test]
@@ -265,9 +251,8 @@ fn tables_are_lists_of_words(rt: HostRuntime) {
 fn tables_have_texts(rt: HostRuntime) {
     let mut table = PageTable::new();
     table[511].set_addr(PhysAddr::new(0x6000), PageTableFlags::WRITABLE);
-    let text = unwrap(rt, format!(in rt.alloc(); "{table:?}"));
     let wanted = text_of(rt, &table, rt.alloc());
-    assert_equal(rt, text.as_str(), wanted.as_str());
+    assert_text(rt, rt.alloc(), &table, &wanted);
 }
 
 /// Returns the texts of all entries, separated by commas, in brackets.

@@ -6,12 +6,9 @@ ghost use Rattle.x86_64_model.specs.Memory.{identity_places, words_of};
 ghost use Rattle.x86_64_model.specs.Window.{outside_window};
 ghost use Rattle.x86_64_tables.specs.SelfEntries.{window_at};
 
-use super::recursive::{RECURSIVE, RECURSIVE_57};
-use super::{Word, memory_of};
+use super::{RECURSIVE_57, Word, memory_of};
 use crate::assertions::assert_equal_in;
 use crate::tables::frame_at;
-use std::alloc::Global;
-use std::process::Abort;
 use x86_64_addr::index::PageTableIndex;
 use x86_64_page::frame::PhysFrame;
 use x86_64_page::page::Size4KiB;
@@ -27,7 +24,16 @@ const DIRECT: [Word; 4] = [
     (0x4000, 1, 0x5001),
 ];
 
-/// These with five levels.
+/// These with writable tables and with a self-entry at the index 510.
+const RECURSIVE: [Word; 5] = [
+    (0x1000, 510, 0x1003),
+    (0x1000, 0, 0x2003),
+    (0x2000, 0, 0x3003),
+    (0x3000, 0, 0x4003),
+    (0x4000, 1, 0x5001),
+];
+
+/// The words of a hierarchy with five levels and a 4KiB page, whose table entries are not writable.
 const DIRECT_57: [Word; 5] = [
     (0x1000, 0, 0x2001),
     (0x2000, 0, 0x3001),
@@ -51,43 +57,16 @@ fn alike_by_index(
         let paths = paths_of 4 (outside_window window root words) root in
         IsTrue result ↔ Alike 4 (paths_of 4 direct_words root) paths }
 {
-    let index = Some(index);
+    let (identity, index) = (IdentityMapping, Some(index));
     tables_alike(
-        direct,
-        &IdentityMapping,
-        root,
-        None,
-        recursive,
-        mapping,
-        root,
-        index,
-    )
-}
-
-/// Returns this for hierarchies of four levels, or otherwise of five, with the root in frame 0x1000 and the index
-/// 510.
-fn are_alike(levels: u64, direct: &PhysMemory, recursive: &PhysMemory) -> bool {
-    let (root, index) = (frame_at(0x1000), PageTableIndex::new(510));
-    let mapping = ShiftMapping::new(3);
-    if levels == 4 {
-        return alike_by_index(direct, recursive, &mapping, root, index);
-    }
-    tables_alike_57(
-        direct,
-        &IdentityMapping,
-        root,
-        None,
-        recursive,
-        &mapping,
-        root,
-        Some(index),
+        direct, &identity, root, None, recursive, mapping, root, index,
     )
 }
 
 /// Words that are set in a hierarchy, and in one with a recursive index, and whether the two are alike then.
 type Difference = (&'static [Word], &'static [Word], bool);
 
-const DIFFERENCES: [Difference; 14] = [
+static DIFFERENCES: [Difference; 14] = [
     (&[], &[], true),
     (&[(0x4000, 1, 0x5003)], &[], false),
     (&[(0x4000, 1, 0x5003)], &[(0x4000, 1, 0x5003)], true),
@@ -104,7 +83,7 @@ const DIFFERENCES: [Difference; 14] = [
     (&[(0x1000, 510, 0x1003)], &[], false),
 ];
 
-const DIFFERENCES_57: [Difference; 9] = [
+static DIFFERENCES_57: [Difference; 9] = [
     (&[], &[], true),
     (&[(0x5000, 1, 0x6003)], &[], false),
     (&[(0x5000, 1, 0x6003)], &[(0x5000, 1, 0x6003)], true),
@@ -116,28 +95,33 @@ const DIFFERENCES_57: [Difference; 9] = [
     (&[(0x1000, 510, 0x1003)], &[], false),
 ];
 
-/// Sets words in two hierarchies, and compares whether they are alike then.
-fn check_differences(
-    rt: impl Abort + Copy,
-    alloc: Global,
-    levels: u64,
-    (direct, recursive): (&[Word], &[Word]),
-    rows: &[Difference],
-) {
-    for (one, other, wanted) in rows {
-        let direct = memory_of(rt, alloc, direct, one);
-        let recursive = memory_of(rt, alloc, recursive, other);
-        let found = are_alike(levels, &direct, &recursive);
+#[test]
+fn hierarchies_are_alike_but_for_writable_tables(rt: HostRuntime) {
+    let (root, index) = (frame_at(0x1000), PageTableIndex::new(510));
+    let mapping = ShiftMapping::new(3);
+    for (one, other, wanted) in &DIFFERENCES {
+        let direct = memory_of(rt, rt.alloc(), &DIRECT, one);
+        let recursive = memory_of(rt, rt.alloc(), &RECURSIVE, other);
+        let found = alike_by_index(&direct, &recursive, &mapping, root, index);
         assert_equal_in(rt, (*one, *other), found, *wanted);
     }
 }
 
+/// Returns whether a hierarchy of five levels and one with the recursive index 510 are alike.
+fn alike_57(direct: &PhysMemory, recursive: &PhysMemory) -> bool {
+    let (root, index) = (frame_at(0x1000), Some(PageTableIndex::new(510)));
+    let (mapping, other) = (IdentityMapping, ShiftMapping::new(3));
+    tables_alike_57(direct, &mapping, root, None, recursive, &other, root, index)
+}
+
 #[test]
-fn hierarchies_are_alike_but_for_writable_tables(rt: HostRuntime) {
-    let bases = (&DIRECT[..], &RECURSIVE[..]);
-    check_differences(rt, rt.alloc(), 4, bases, &DIFFERENCES);
-    let bases = (&DIRECT_57[..], &RECURSIVE_57[..]);
-    check_differences(rt, rt.alloc(), 5, bases, &DIFFERENCES_57);
+fn hierarchies_of_five_levels_are_alike_but_for_writable_tables(rt: HostRuntime) {
+    for (one, other, wanted) in &DIFFERENCES_57 {
+        let direct = memory_of(rt, rt.alloc(), &DIRECT_57, one);
+        let recursive = memory_of(rt, rt.alloc(), &RECURSIVE_57, other);
+        let found = alike_57(&direct, &recursive);
+        assert_equal_in(rt, (*one, *other), found, *wanted);
+    }
 }
 
 /// The words of the first hierarchy, with each table one place lower and writable entries.
@@ -148,45 +132,33 @@ const SHIFTED: [Word; 4] = [
     (0x3000, 1, 0x5001),
 ];
 
-#[test]
-fn hierarchies_are_alike_by_their_own_mappings(rt: HostRuntime) {
-    let one = memory_of(rt, rt.alloc(), &DIRECT, &[]);
-    let other = memory_of(rt, rt.alloc(), &SHIFTED, &[]);
-    let root = frame_at(0x1000);
-    for (first, wanted) in [(1, true), (0, false), (2, false)] {
-        let mapping = ShiftMapping::new(first);
-        let found = tables_alike(
-            &other,
-            &mapping,
-            root,
-            None,
-            &one,
-            &IdentityMapping,
-            root,
-            None,
-        );
-        assert_equal_in(rt, first, found, wanted);
-    }
+/// Returns whether a hierarchy with a mapping and another one are alike, the latter with a recursive index or without.
+fn alike_by_mappings(
+    one: &PhysMemory,
+    mapping: &ShiftMapping,
+    other: &PhysMemory,
+    index: Option<PageTableIndex>,
+) -> bool {
+    let (root, identity) = (frame_at(0x1000), IdentityMapping);
+    tables_alike(one, mapping, root, None, other, &identity, root, index)
 }
 
-/// Returns whether a hierarchy is alike to itself, with a recursive index or without.
-fn is_alike_to_itself(memory: &PhysMemory, index: Option<PageTableIndex>) -> bool {
-    let root = frame_at(0x1000);
-    tables_alike(
-        memory,
-        &IdentityMapping,
-        root,
-        None,
-        memory,
-        &IdentityMapping,
-        root,
-        index,
-    )
+#[test]
+fn hierarchies_are_alike_by_their_own_mappings(rt: HostRuntime) {
+    let one = memory_of(rt, rt.alloc(), &SHIFTED, &[]);
+    let other = memory_of(rt, rt.alloc(), &DIRECT, &[]);
+    for (first, wanted) in [(1, true), (0, false), (2, false)] {
+        let found = alike_by_mappings(&one, &ShiftMapping::new(first), &other, None);
+        assert_equal_in(rt, first, found, wanted);
+    }
 }
 
 #[test]
 fn words_that_name_their_own_table_are_alike(rt: HostRuntime) {
     let memory = memory_of(rt, rt.alloc(), &RECURSIVE, &[]);
-    assert!(rt; is_alike_to_itself(&memory, None));
-    assert!(rt; !is_alike_to_itself(&memory, Some(PageTableIndex::new(510))));
+    let mapping = ShiftMapping::new(0);
+    for (index, wanted) in [(None, true), (Some(PageTableIndex::new(510)), false)] {
+        let found = alike_by_mappings(&memory, &mapping, &memory, index);
+        assert_equal_in(rt, index, found, wanted);
+    }
 }

@@ -60,7 +60,7 @@ fn a_guest_is_walked_where_its_tables_are(rt: HostRuntime) {
     drop(memory);
     for (place, index, word) in GUEST {
         let table = unwrap_some(rt, tables.get(place as usize / 0x1000));
-        let entry = &table[PageTableIndex::new_truncate(index)];
-        assert_equal_in(rt, place, entry.addr(), frame_at(word).start_address());
+        let found = table[PageTableIndex::new_truncate(index)].word();
+        assert_equal_in(rt, place, found, word);
     }
 }

@@ -1,6 +1,6 @@
 //! Tests of memories with gaps between their places. A place is the index of a table in memory.
-use super::{Pool, check_pools, is_valid, set_words, walk};
-use crate::assertions::{assert_equal, assert_equal_at, assert_equal_in, unwrap, unwrap_some};
+use super::{Pool, fits, is_valid, set_words, walk};
+use crate::assertions::{assert_equal, assert_equal_in, unwrap, unwrap_some};
 use std::alloc::{AllocError, Global};
 use std::process::Abort;
 use x86_64_addr::addr::PhysAddr;
@@ -25,7 +25,7 @@ fn check_tables<T: TableMemory>(
     wanted: Option<bool>,
 ) {
     for number in numbers {
-        assert_equal_at(rt, *number, is_empty_at(memory, *number), wanted);
+        assert_equal_in(rt, *number, is_empty_at(memory, *number), wanted);
     }
 }
 
@@ -98,7 +98,7 @@ fn memory_has_the_first_places(rt: HostRuntime) {
 #[test]
 fn memory_without_places_is_no_hierarchy(rt: HostRuntime) {
     let empty = memory_at(rt, rt.alloc(), &[]);
-    assert!(rt; !is_valid(rt, rt.alloc(), 4, &empty));
+    assert!(rt; !is_valid(rt, rt.alloc(), (4, None), &empty));
 }
 
 /// Returns a number of places with a gap after each, from a first one on.
@@ -169,14 +169,14 @@ fn hierarchies_are_valid_after_gaps(rt: HostRuntime) {
         (0x8000_0000, 1, 0x40_0083),
     ];
     set_words(rt, &mut memory, &words);
-    assert!(rt; is_valid(rt, rt.alloc(), 4, &memory));
+    assert!(rt; is_valid(rt, rt.alloc(), (4, None), &memory));
     let walked = unwrap_some(rt, walk::<FourLevels>(&memory, 0x23_4567));
     assert_equal(rt, walked.address, PhysAddr::new(0x43_4567));
     set_words(rt, &mut memory, &[(0x8000_0000, 0, 0x2003)]);
-    assert!(rt; !is_valid(rt, rt.alloc(), 4, &memory));
+    assert!(rt; !is_valid(rt, rt.alloc(), (4, None), &memory));
 }
 
-static POOLS: [Pool; 5] = [
+static POOLS: [(Pool, bool); 5] = [
     ((0x8_0002, &[0x3000, 0x8000_1000]), true),
     ((0x8_0002, &[0x2000]), false),
     ((0x8_0002, &[0x8000_0000]), false),
@@ -188,5 +188,8 @@ static POOLS: [Pool; 5] = [
 fn pools_fit_after_gaps(rt: HostRuntime) {
     let mut memory = memory_at(rt, rt.alloc(), &[1, 3, 0x8_0000, 0x8_0001]);
     set_words(rt, &mut memory, &[(0x1000, 0, 0x8000_0003)]);
-    check_pools(rt, rt.alloc(), 4, &memory, &POOLS);
+    for (pool, wanted) in &POOLS {
+        let found = fits(rt, rt.alloc(), (4, None), &memory, *pool);
+        assert_equal_in(rt, *pool, found, *wanted);
+    }
 }
