@@ -189,22 +189,17 @@ fn indices_and_offsets_are_numbers(rt: HostRuntime) {
 #[test]
 fn addresses_have_texts(rt: HostRuntime) {
     let (low, high) = (VirtAddr::new(0x1000), VirtAddr::new(FIRST_HIGH));
-    assert_text(rt, rt.alloc(), &low, "VirtAddr(0x1000)");
-    assert_text(rt, rt.alloc(), &high, "VirtAddr(0xffff800000000000)");
+    assert_text(rt, &low, "VirtAddr(0x1000)");
+    assert_text(rt, &high, "VirtAddr(0xffff800000000000)");
     let (low, high) = (VirtAddr57::new(0x1000), VirtAddr57::new(FIRST_HIGH_57));
-    assert_text(rt, rt.alloc(), &low, "VirtAddr57(0x1000)");
-    assert_text(rt, rt.alloc(), &high, "VirtAddr57(0xff00000000000000)");
-    assert_text(rt, rt.alloc(), &PhysAddr::new(0x1000), "PhysAddr(0x1000)");
-    assert_text(rt, rt.alloc(), &PhysAddr::zero(), "PhysAddr(0x0)");
+    assert_text(rt, &low, "VirtAddr57(0x1000)");
+    assert_text(rt, &high, "VirtAddr57(0xff00000000000000)");
+    assert_text(rt, &PhysAddr::new(0x1000), "PhysAddr(0x1000)");
+    assert_text(rt, &PhysAddr::zero(), "PhysAddr(0x0)");
     let error = VirtAddrNotValid(1 << 47);
-    assert_text(rt, rt.alloc(), &error, "VirtAddrNotValid(0x800000000000)");
+    assert_text(rt, &error, "VirtAddrNotValid(0x800000000000)");
     let error = VirtAddr57NotValid(1 << 56);
-    assert_text(
-        rt,
-        rt.alloc(),
-        &error,
-        "VirtAddr57NotValid(0x100000000000000)",
-    );
+    assert_text(rt, &error, "VirtAddr57NotValid(0x100000000000000)");
     let error = PhysAddrNotValid(1 << 52);
-    assert_text(rt, rt.alloc(), &error, "PhysAddrNotValid(0x10000000000000)");
+    assert_text(rt, &error, "PhysAddrNotValid(0x10000000000000)");
 }

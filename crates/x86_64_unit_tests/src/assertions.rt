@@ -1,9 +1,13 @@
 //! Assertions as functions, so that the messages of failed ones are here once, for the values of all tests.
 ghost use Rattle.std.specs.Prelude.{◌≡◌, Ok, Some};
 
-use std::alloc::Global;
 use std::fmt::Debug;
 use std::process::Abort;
+
+/// What tests need of the runtime: it aborts, and allocates memory.
+pub trait Test: Abort + AllocGlobal + Copy {}
+
+impl<R: Abort + AllocGlobal + Copy> Test for R {}
 
 /// Aborts unless two values are equal.
 pub fn assert_equal<T: PartialEq + Debug + Drop>(rt: impl Abort + Copy, found: T, wanted: T) {
@@ -21,8 +25,8 @@ pub fn assert_equal_in<C: Debug + Drop, T: PartialEq + Debug + Drop>(
 }
 
 /// Aborts unless a value has this Debug text.
-pub fn assert_text<T: Debug>(rt: impl Abort + Copy, alloc: Global, value: &T, wanted: &str) {
-    let text = unwrap(rt, format!(in alloc; "{value:?}"));
+pub fn assert_text<T: Debug>(rt: impl Test, value: &T, wanted: &str) {
+    let text = unwrap(rt, format!(in rt.alloc(); "{value:?}"));
     assert_equal(rt, text.as_str(), wanted);
 }
 

@@ -4,7 +4,7 @@ ghost use Rattle.std.specs.Prelude.{◌≡◌, ◌<◌, ◌↔◌, IsTrue};
 
 mod ranges;
 
-use crate::addr::steps::{Steps, there_and_back};
+use crate::addr::steps::{Stepped, Steps, check_backward, check_between, check_forward};
 use crate::assertions::{assert_equal, assert_equal_in, assert_text, unwrap};
 use std::hash::Hash;
 use std::process::Abort;
@@ -174,19 +174,19 @@ fn pages_have_given_indices(rt: HostRuntime) {
 fn pages_and_frames_have_texts(rt: HostRuntime) {
     let (low, address) = (0x20_0000, 0x4020_1abc);
     let small: Page<Size4KiB> = page(address);
-    assert_text(rt, rt.alloc(), &small, "Page[4KiB](0x40201000)");
+    assert_text(rt, &small, "Page[4KiB](0x40201000)");
     let large: Page<Size2MiB> = page(address);
-    assert_text(rt, rt.alloc(), &large, "Page[2MiB](0x40200000)");
+    assert_text(rt, &large, "Page[2MiB](0x40200000)");
     let giant: Page<Size1GiB> = page(address);
-    assert_text(rt, rt.alloc(), &giant, "Page[1GiB](0x40000000)");
+    assert_text(rt, &giant, "Page[1GiB](0x40000000)");
     let five: Page57<Size2MiB> = page(UPPER_FIRST_57);
-    assert_text(rt, rt.alloc(), &five, "Page57[2MiB](0xff00000000000000)");
+    assert_text(rt, &five, "Page57[2MiB](0xff00000000000000)");
     let small = frame::<Size4KiB>(address);
-    assert_text(rt, rt.alloc(), &small, "PhysFrame[4KiB](0x40201000)");
+    assert_text(rt, &small, "PhysFrame[4KiB](0x40201000)");
     let large = frame::<Size2MiB>(low);
-    assert_text(rt, rt.alloc(), &large, "PhysFrame[2MiB](0x200000)");
+    assert_text(rt, &large, "PhysFrame[2MiB](0x200000)");
     let giant = frame::<Size1GiB>(address);
-    assert_text(rt, rt.alloc(), &giant, "PhysFrame[1GiB](0x40000000)");
+    assert_text(rt, &giant, "PhysFrame[1GiB](0x40000000)");
 }
 
 #[test]
@@ -232,61 +232,43 @@ const GIANT_STEPS: [Steps; 2] = [
     (Some(0), 0x4_0000, None),
 ];
 
-/// Returns the page that contains a raw address, if there is one.
-fn page_at<S: PageSize, L: LevelCount>(raw: Option<u64>) -> Option<PageIn<S, L>> {
-    Some(page(raw?))
-}
-
-/// Steps forward, and compares the results.
-fn check_forward<S: PageSize, L: LevelCount>(rt: impl Abort + Copy, rows: &[Steps]) {
-    for (start, count, end) in rows {
-        if let Some(from) = page_at::<S, L>(*start) {
-            let found = PageIn::forward_checked(from, *count);
-            assert_equal_in(rt, (from, *count), found, page_at(*end));
-        }
+impl<S: PageSize, L: LevelCount> Stepped for PageIn<S, L> {
+    fn at(raw: u64) -> Self {
+        page(raw)
     }
-}
 
-/// Steps backward, and compares the results.
-fn check_backward<S: PageSize, L: LevelCount>(rt: impl Abort + Copy, rows: &[Steps]) {
-    for (start, count, end) in rows {
-        if let Some(from) = page_at::<S, L>(*end) {
-            let found = PageIn::backward_checked(from, *count);
-            assert_equal_in(rt, (from, *count), found, page_at(*start));
-        }
+    fn forward(self, count: usize) -> Option<Self> {
+        PageIn::forward_checked(self, count)
     }
-}
 
-/// Counts the steps from starts to ends and back, and compares the results.
-fn check_between<S: PageSize, L: LevelCount>(rt: impl Abort + Copy, rows: &[Steps]) {
-    for (start, count, end) in rows {
-        if let (Some(start), Some(end)) = (page_at::<S, L>(*start), page_at::<S, L>(*end)) {
-            let there = PageIn::steps_between(&start, &end);
-            let back = PageIn::steps_between(&end, &start);
-            assert_equal_in(rt, (start, end), [there, back], there_and_back(*count));
-        }
+    fn backward(self, count: usize) -> Option<Self> {
+        PageIn::backward_checked(self, count)
+    }
+
+    fn steps_to(self, other: Self) -> (usize, Option<usize>) {
+        PageIn::steps_between(&self, &other)
     }
 }
 
 #[test]
 fn page_step_forward(rt: HostRuntime) {
-    check_forward::<Size4KiB, FourLevels>(rt, &STEPS);
-    check_forward::<Size4KiB, FiveLevels>(rt, &STEPS_57);
-    check_forward::<Size1GiB, FourLevels>(rt, &GIANT_STEPS);
+    check_forward::<Page<Size4KiB>>(rt, &STEPS);
+    check_forward::<Page57<Size4KiB>>(rt, &STEPS_57);
+    check_forward::<Page<Size1GiB>>(rt, &GIANT_STEPS);
 }
 
 #[test]
 fn page_step_backwards(rt: HostRuntime) {
-    check_backward::<Size4KiB, FourLevels>(rt, &STEPS);
-    check_backward::<Size4KiB, FiveLevels>(rt, &STEPS_57);
-    check_backward::<Size1GiB, FourLevels>(rt, &GIANT_STEPS);
+    check_backward::<Page<Size4KiB>>(rt, &STEPS);
+    check_backward::<Page57<Size4KiB>>(rt, &STEPS_57);
+    check_backward::<Page<Size1GiB>>(rt, &GIANT_STEPS);
 }
 
 #[test]
 fn page_steps_between(rt: HostRuntime) {
-    check_between::<Size4KiB, FourLevels>(rt, &STEPS);
-    check_between::<Size4KiB, FiveLevels>(rt, &STEPS_57);
-    check_between::<Size1GiB, FourLevels>(rt, &GIANT_STEPS);
+    check_between::<Page<Size4KiB>>(rt, &STEPS);
+    check_between::<Page57<Size4KiB>>(rt, &STEPS_57);
+    check_between::<Page<Size1GiB>>(rt, &GIANT_STEPS);
 }
 
 #[test]

@@ -1,10 +1,11 @@
 //! Steps along addresses and indices, from the tests of the Rust crate and beyond.
 use crate::addr::{FIRST_HIGH, FIRST_HIGH_57, LAST_LOW, LAST_LOW_57};
 use crate::assertions::assert_equal_in;
+use std::fmt::Debug;
 use std::process::Abort;
-use x86_64_addr::addr::VirtAddrIn;
+use x86_64_addr::addr::{VirtAddr, VirtAddr57, VirtAddrIn};
 use x86_64_addr::index::PageTableIndex;
-use x86_64_addr::level_count::{FiveLevels, FourLevels, LevelCount};
+use x86_64_addr::level_count::LevelCount;
 
 /// The raw value of a start, a number of steps, and the raw value of the end that they lead to. Without a start, that
 /// many steps back from the end lead nowhere, and without an end, that many from the start.
@@ -42,64 +43,84 @@ const STEPS_57: [Steps; 4] = [
     (None, 1 << 56, Some(LAST_LOW_57)),
 ];
 
-/// Returns the address with a raw value, if there is one.
-fn address<L: LevelCount>(raw: Option<u64>) -> Option<VirtAddrIn<L>> {
-    Some(VirtAddrIn::new_truncate(raw?))
+/// Addresses and pages, which are reached by steps.
+pub(crate) trait Stepped: Copy + Debug + PartialEq + Drop {
+    /// Returns the value at a raw address.
+    fn at(raw: u64) -> Self;
+
+    /// Steps forward.
+    fn forward(self, count: usize) -> Option<Self>;
+
+    /// Steps backward.
+    fn backward(self, count: usize) -> Option<Self>;
+
+    /// Counts the steps to another value.
+    fn steps_to(self, other: Self) -> (usize, Option<usize>);
 }
 
-/// Steps forward, and compares the results.
-fn check_forward<L: LevelCount>(rt: impl Abort + Copy, rows: &[Steps]) {
+impl<L: LevelCount> Stepped for VirtAddrIn<L> {
+    fn at(raw: u64) -> Self {
+        VirtAddrIn::new_truncate(raw)
+    }
+
+    fn forward(self, count: usize) -> Option<Self> {
+        VirtAddrIn::forward_checked(self, count)
+    }
+
+    fn backward(self, count: usize) -> Option<Self> {
+        VirtAddrIn::backward_checked(self, count)
+    }
+
+    fn steps_to(self, other: Self) -> (usize, Option<usize>) {
+        VirtAddrIn::steps_between(&self, &other)
+    }
+}
+
+/// Compares what is a number of steps after a start.
+pub(crate) fn check_forward<T: Stepped>(rt: impl Abort + Copy, rows: &[Steps]) {
     for (start, count, end) in rows {
-        if let Some(from) = address::<L>(*start) {
-            let found = VirtAddrIn::forward_checked(from, *count);
-            assert_equal_in(rt, (from, *count), found, address(*end));
+        if let Some(start) = start.map(T::at) {
+            assert_equal_in(rt, (start, *count), start.forward(*count), end.map(T::at));
         }
     }
 }
 
-/// Steps backward, and compares the results.
-fn check_backward<L: LevelCount>(rt: impl Abort + Copy, rows: &[Steps]) {
+/// Compares what is a number of steps before an end.
+pub(crate) fn check_backward<T: Stepped>(rt: impl Abort + Copy, rows: &[Steps]) {
     for (start, count, end) in rows {
-        if let Some(from) = address::<L>(*end) {
-            let found = VirtAddrIn::backward_checked(from, *count);
-            assert_equal_in(rt, (from, *count), found, address(*start));
+        if let Some(end) = end.map(T::at) {
+            assert_equal_in(rt, (end, *count), end.backward(*count), start.map(T::at));
         }
     }
 }
 
-/// Returns the numbers of steps to an end and back, if it takes this many.
-pub(crate) fn there_and_back(count: usize) -> [(usize, Option<usize>); 2] {
-    let back = if count == 0 { Some(0) } else { None };
-    [(count, Some(count)), (0, back)]
-}
-
-/// Counts the steps from starts to ends and back, and compares the results.
-fn check_between<L: LevelCount>(rt: impl Abort + Copy, rows: &[Steps]) {
+/// Compares the numbers of steps between a start and an end, and back.
+pub(crate) fn check_between<T: Stepped>(rt: impl Abort + Copy, rows: &[Steps]) {
     for (start, count, end) in rows {
-        if let (Some(start), Some(end)) = (address::<L>(*start), address::<L>(*end)) {
-            let there = VirtAddrIn::steps_between(&start, &end);
-            let back = VirtAddrIn::steps_between(&end, &start);
-            assert_equal_in(rt, (start, end), [there, back], there_and_back(*count));
+        if let (Some(start), Some(end)) = (start.map(T::at), end.map(T::at)) {
+            let found = (start.steps_to(end), end.steps_to(start));
+            let back = if *count == 0 { Some(0) } else { None };
+            assert_equal_in(rt, (start, end), found, ((*count, Some(*count)), (0, back)));
         }
     }
 }
 
 #[test]
 fn virtaddr_step_forward(rt: HostRuntime) {
-    check_forward::<FourLevels>(rt, &STEPS);
-    check_forward::<FiveLevels>(rt, &STEPS_57);
+    check_forward::<VirtAddr>(rt, &STEPS);
+    check_forward::<VirtAddr57>(rt, &STEPS_57);
 }
 
 #[test]
 fn virtaddr_step_backward(rt: HostRuntime) {
-    check_backward::<FourLevels>(rt, &STEPS);
-    check_backward::<FiveLevels>(rt, &STEPS_57);
+    check_backward::<VirtAddr>(rt, &STEPS);
+    check_backward::<VirtAddr57>(rt, &STEPS_57);
 }
 
 #[test]
 fn virtaddr_steps_between(rt: HostRuntime) {
-    check_between::<FourLevels>(rt, &STEPS);
-    check_between::<FiveLevels>(rt, &STEPS_57);
+    check_between::<VirtAddr>(rt, &STEPS);
+    check_between::<VirtAddr57>(rt, &STEPS_57);
 }
 
 /// Indices, numbers of steps, and the indices that they lead to forward and backward, if any.
@@ -128,5 +149,5 @@ fn indices_step(rt: HostRuntime) {
     let (low, high) = (PageTableIndex::new(1), PageTableIndex::new(3));
     let there = PageTableIndex::steps_between(&low, &high);
     let back = PageTableIndex::steps_between(&high, &low);
-    assert_equal_in(rt, (low, high), [there, back], there_and_back(2));
+    assert_equal_in(rt, (low, high), (there, back), ((2, Some(2)), (0, None)));
 }

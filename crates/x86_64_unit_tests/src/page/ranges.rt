@@ -245,21 +245,21 @@ fn frames_are_skipped(rt: HostRuntime) {
 fn page_ranges_have_texts(rt: HostRuntime) {
     let (start, end) = (page::<Size4KiB, FourLevels>(0), page(0x1000));
     let wanted = "PageRange { start: Page[4KiB](0x0), end: Page[4KiB](0x1000) }";
-    assert_text(rt, rt.alloc(), &Page::range(start, end), wanted);
+    assert_text(rt, &Page::range(start, end), wanted);
     let wanted = "PageRangeInclusive { start: Page[4KiB](0x0), end: Page[4KiB](0x1000) }";
-    assert_text(rt, rt.alloc(), &Page::range_inclusive(start, end), wanted);
+    assert_text(rt, &Page::range_inclusive(start, end), wanted);
     let five = Page57::<Size4KiB>::range_inclusive(page(0), page(0x1000));
     let wanted = "PageRangeInclusive57 { start: Page57[4KiB](0x0), end: Page57[4KiB](0x1000) }";
-    assert_text(rt, rt.alloc(), &five, wanted);
+    assert_text(rt, &five, wanted);
 }
 
 #[test]
 fn frame_ranges_have_texts(rt: HostRuntime) {
     let (start, end) = (frame::<Size2MiB>(0), frame(0x20_0000));
     let wanted = "PhysFrameRange { start: PhysFrame[2MiB](0x0), end: PhysFrame[2MiB](0x200000) }";
-    assert_text(rt, rt.alloc(), &PhysFrame::range(start, end), wanted);
+    assert_text(rt, &PhysFrame::range(start, end), wanted);
     let closed = PhysFrame::range_inclusive(start, end);
     let wanted =
         "PhysFrameRangeInclusive { start: PhysFrame[2MiB](0x0), end: PhysFrame[2MiB](0x200000) }";
-    assert_text(rt, rt.alloc(), &closed, wanted);
+    assert_text(rt, &closed, wanted);
 }

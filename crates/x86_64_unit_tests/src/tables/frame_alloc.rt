@@ -34,7 +34,7 @@ const ADDED: [(u64, Result<(), PoolRefusal>, bool); 5] = [
 
 #[test]
 fn pool_refuses_what_it_cannot_serve(rt: HostRuntime) {
-    let mut pool = pool_with(rt, rt.alloc(), 8, &[]);
+    let mut pool = pool_with(rt, 8, &[]);
     check_frames(rt, &pool, &[]);
     for (frame, wanted, is_free) in ADDED {
         assert_equal_in(rt, frame, pool.try_add(frame_at(frame)), wanted);
@@ -46,7 +46,7 @@ fn pool_refuses_what_it_cannot_serve(rt: HostRuntime) {
 
 #[test]
 fn limits_may_be_any(rt: HostRuntime) {
-    let mut pool = pool_with(rt, rt.alloc(), 0, &[]);
+    let mut pool = pool_with(rt, 0, &[]);
     let added = (pool.try_add(frame_at(0x0)), pool.try_add(frame_at(0x1000)));
     let wanted = (Err(PoolRefusal::Zero), Err(PoolRefusal::OutOfRange));
     assert_equal(rt, added, wanted);
@@ -82,8 +82,8 @@ const EQUAL: [(&[u64], &[u64], bool); 5] = [
 fn pools_are_equal_as_lists(rt: HostRuntime) {
     for (one, other, wanted) in EQUAL {
         // The limits don't count.
-        let first = pool_with(rt, rt.alloc(), 8, one);
-        let second = pool_with(rt, rt.alloc(), 16, other);
+        let first = pool_with(rt, 8, one);
+        let second = pool_with(rt, 16, other);
         assert_equal_in(rt, (one, other), first == second, wanted);
     }
 }

@@ -1,6 +1,5 @@
 //! Tests of TLB flushes.
-use crate::assertions::{assert_equal, assert_equal_in};
-use std::alloc::Global;
+use crate::assertions::{Test, assert_equal, assert_equal_in};
 use std::process::Abort;
 use x86_64_addr::addr::{VirtAddr, VirtAddr57};
 use x86_64_page::page::{Page, Page57, PageSize, Size1GiB, Size2MiB, Size4KiB};
@@ -28,8 +27,8 @@ fn item(start: u64, size: u64) -> FlushItem {
 }
 
 /// Flushes pages and all pages in turn, with room reserved before, and compares the items.
-fn check_recorded(rt: impl Abort + Copy, alloc: Global, room: usize, items: &[FlushItem]) {
-    let mut recorder = FlushRecorder::new(alloc);
+fn check_recorded(rt: impl Test, room: usize, items: &[FlushItem]) {
+    let mut recorder = FlushRecorder::new(rt.alloc());
     assert!(rt; recorder.items().is_empty());
     assert_equal(rt, recorder.reserve(room), Ok(()));
     flush_page::<Size4KiB>(rt, &mut recorder, 0x1000);
@@ -53,15 +52,15 @@ fn flushes_are_recorded_in_order(rt: HostRuntime) {
         item(0xffff_8000_0000_0000, 4096),
     ];
     for room in [0, 2, 4, 8] {
-        check_recorded(rt, rt.alloc(), room, &items);
+        check_recorded(rt, room, &items);
     }
 }
 
 /// Flushes the page of 57 bits at an address, and compares the item.
-fn check_item_57(rt: impl Abort + Copy, alloc: Global, start: u64) {
+fn check_item_57(rt: impl Test, start: u64) {
     let (start, size) = (VirtAddr57::new_truncate(start), 2_097_152);
     let page = Page57::<Size2MiB>::containing_address(start);
-    let mut recorder = FlushRecorder::new(alloc);
+    let mut recorder = FlushRecorder::new(rt.alloc());
     let token = MapperFlush57::new(page);
     assert_equal(rt, token.page(), page);
     let answer = token.flush(&mut recorder);
@@ -72,8 +71,8 @@ fn check_item_57(rt: impl Abort + Copy, alloc: Global, start: u64) {
 
 #[test]
 fn flushes_of_pages_of_57_bits_are_recorded(rt: HostRuntime) {
-    check_item_57(rt, rt.alloc(), 0x20_0000);
-    check_item_57(rt, rt.alloc(), 0xff00_0000_0000_0000);
+    check_item_57(rt, 0x20_0000);
+    check_item_57(rt, 0xff00_0000_0000_0000);
 }
 
 #[test]

@@ -6,8 +6,8 @@ ghost use Rattle.x86_64_model.specs.Memory.{identity_places, words_of};
 ghost use Rattle.x86_64_model.specs.Window.{outside_window};
 ghost use Rattle.x86_64_tables.specs.SelfEntries.{window_at};
 
-use super::{RECURSIVE_57, Word, memory_of};
-use crate::assertions::assert_equal_in;
+use super::{RECURSIVE_57, set_words, small_memory_of};
+use crate::assertions::{Test, assert_equal_in};
 use crate::tables::frame_at;
 use x86_64_addr::index::PageTableIndex;
 use x86_64_page::frame::PhysFrame;
@@ -17,29 +17,18 @@ use x86_64_tables::phys_memory::{
 };
 
 /// The words of a hierarchy with a 4KiB page, whose table entries are not writable.
-const DIRECT: [Word; 4] = [
-    (0x1000, 0, 0x2001),
-    (0x2000, 0, 0x3001),
-    (0x3000, 0, 0x4001),
-    (0x4000, 1, 0x5001),
+const DIRECT: [u64; 12] = [
+    0x1000, 0, 0x2001, 0x2000, 0, 0x3001, 0x3000, 0, 0x4001, 0x4000, 1, 0x5001,
 ];
 
 /// These with writable tables and with a self-entry at the index 510.
-const RECURSIVE: [Word; 5] = [
-    (0x1000, 510, 0x1003),
-    (0x1000, 0, 0x2003),
-    (0x2000, 0, 0x3003),
-    (0x3000, 0, 0x4003),
-    (0x4000, 1, 0x5001),
+const RECURSIVE: [u64; 15] = [
+    0x1000, 510, 0x1003, 0x1000, 0, 0x2003, 0x2000, 0, 0x3003, 0x3000, 0, 0x4003, 0x4000, 1, 0x5001,
 ];
 
 /// The words of a hierarchy with five levels and a 4KiB page, whose table entries are not writable.
-const DIRECT_57: [Word; 5] = [
-    (0x1000, 0, 0x2001),
-    (0x2000, 0, 0x3001),
-    (0x3000, 0, 0x4001),
-    (0x4000, 0, 0x5001),
-    (0x5000, 1, 0x6001),
+const DIRECT_57: [u64; 15] = [
+    0x1000, 0, 0x2001, 0x2000, 0, 0x3001, 0x3000, 0, 0x4001, 0x4000, 0, 0x5001, 0x5000, 1, 0x6001,
 ];
 
 /// Returns whether a hierarchy and one with a recursive index are alike, for any frame mapping passed beside the
@@ -57,108 +46,103 @@ fn alike_by_index(
         let paths = paths_of 4 (outside_window window root words) root in
         IsTrue result ↔ Alike 4 (paths_of 4 direct_words root) paths }
 {
-    let (identity, index) = (IdentityMapping, Some(index));
-    tables_alike(
-        direct, &identity, root, None, recursive, mapping, root, index,
-    )
+    let (own, index) = (IdentityMapping, Some(index));
+    tables_alike(direct, &own, root, None, recursive, mapping, root, index)
+}
+
+/// Returns whether a hierarchy of four levels and one with the recursive index 510 are alike.
+fn alike(direct: &PhysMemory, recursive: &PhysMemory) -> bool {
+    let (root, index) = (frame_at(0x1000), PageTableIndex::new(510));
+    alike_by_index(direct, recursive, &ShiftMapping::new(3), root, index)
+}
+
+/// This for five levels.
+fn alike_57(direct: &PhysMemory, recursive: &PhysMemory) -> bool {
+    let (root, index) = (frame_at(0x1000), Some(PageTableIndex::new(510)));
+    let (own, other) = (IdentityMapping, ShiftMapping::new(3));
+    tables_alike_57(direct, &own, root, None, recursive, &other, root, index)
 }
 
 /// Words that are set in a hierarchy, and in one with a recursive index, and whether the two are alike then.
-type Difference = (&'static [Word], &'static [Word], bool);
+type Difference = (&'static [u64], &'static [u64], bool);
 
 static DIFFERENCES: [Difference; 14] = [
     (&[], &[], true),
-    (&[(0x4000, 1, 0x5003)], &[], false),
-    (&[(0x4000, 1, 0x5003)], &[(0x4000, 1, 0x5003)], true),
-    (&[(0x4000, 2, 0x6002)], &[], false),
-    (&[(0x4000, 2, 0x6002)], &[(0x4000, 2, 0x6000)], false),
-    (&[(0x4000, 2, 0x6002)], &[(0x4000, 2, 0x6002)], true),
-    (&[], &[(0x2000, 1, 0x6002)], false),
-    (&[(0x2000, 1, 0x6002)], &[(0x2000, 1, 0x6000)], true),
-    (&[(0x2000, 1, 0x2)], &[], false),
-    (&[(0x3000, 0, 0x4005)], &[], false),
-    (&[(0x3000, 1, 0x81)], &[(0x3000, 1, 0x83)], false),
-    (&[(0x3000, 1, 0x83)], &[(0x3000, 1, 0x83)], true),
-    (&[(0x3000, 0, 0x6001), (0x6000, 1, 0x5001)], &[], false),
-    (&[(0x1000, 510, 0x1003)], &[], false),
+    (&[0x4000, 1, 0x5003], &[], false),
+    (&[0x4000, 1, 0x5003], &[0x4000, 1, 0x5003], true),
+    (&[0x4000, 2, 0x6002], &[], false),
+    (&[0x4000, 2, 0x6002], &[0x4000, 2, 0x6000], false),
+    (&[0x4000, 2, 0x6002], &[0x4000, 2, 0x6002], true),
+    (&[], &[0x2000, 1, 0x6002], false),
+    (&[0x2000, 1, 0x6002], &[0x2000, 1, 0x6000], true),
+    (&[0x2000, 1, 0x2], &[], false),
+    (&[0x3000, 0, 0x4005], &[], false),
+    (&[0x3000, 1, 0x81], &[0x3000, 1, 0x83], false),
+    (&[0x3000, 1, 0x83], &[0x3000, 1, 0x83], true),
+    (&[0x3000, 0, 0x6001, 0x6000, 1, 0x5001], &[], false),
+    (&[0x1000, 510, 0x1003], &[], false),
 ];
 
 static DIFFERENCES_57: [Difference; 9] = [
     (&[], &[], true),
-    (&[(0x5000, 1, 0x6003)], &[], false),
-    (&[(0x5000, 1, 0x6003)], &[(0x5000, 1, 0x6003)], true),
-    (&[(0x4000, 0, 0x5005)], &[], false),
-    (&[(0x4000, 1, 0x7002)], &[(0x4000, 1, 0x7000)], true),
-    (&[(0x2000, 1, 0x7002)], &[(0x2000, 1, 0x7000)], true),
-    (&[(0x4000, 1, 0x81)], &[(0x4000, 1, 0x83)], false),
-    (&[(0x5000, 2, 0x7002)], &[(0x5000, 2, 0x7000)], false),
-    (&[(0x1000, 510, 0x1003)], &[], false),
+    (&[0x5000, 1, 0x6003], &[], false),
+    (&[0x5000, 1, 0x6003], &[0x5000, 1, 0x6003], true),
+    (&[0x4000, 0, 0x5005], &[], false),
+    (&[0x4000, 1, 0x7002], &[0x4000, 1, 0x7000], true),
+    (&[0x2000, 1, 0x7002], &[0x2000, 1, 0x7000], true),
+    (&[0x4000, 1, 0x81], &[0x4000, 1, 0x83], false),
+    (&[0x5000, 2, 0x7002], &[0x5000, 2, 0x7000], false),
+    (&[0x1000, 510, 0x1003], &[], false),
 ];
+
+/// Creates a memory with words, and then with more words.
+fn changed(rt: impl Test, words: &[u64], more: &[u64]) -> PhysMemory {
+    let mut memory = small_memory_of(rt, words);
+    set_words(rt, &mut memory, more);
+    memory
+}
 
 #[test]
 fn hierarchies_are_alike_but_for_writable_tables(rt: HostRuntime) {
-    let (root, index) = (frame_at(0x1000), PageTableIndex::new(510));
-    let mapping = ShiftMapping::new(3);
     for (one, other, wanted) in &DIFFERENCES {
-        let direct = memory_of(rt, rt.alloc(), &DIRECT, one);
-        let recursive = memory_of(rt, rt.alloc(), &RECURSIVE, other);
-        let found = alike_by_index(&direct, &recursive, &mapping, root, index);
-        assert_equal_in(rt, (*one, *other), found, *wanted);
+        let (direct, recursive) = (changed(rt, &DIRECT, one), changed(rt, &RECURSIVE, other));
+        assert_equal_in(rt, (*one, *other), alike(&direct, &recursive), *wanted);
     }
-}
-
-/// Returns whether a hierarchy of five levels and one with the recursive index 510 are alike.
-fn alike_57(direct: &PhysMemory, recursive: &PhysMemory) -> bool {
-    let (root, index) = (frame_at(0x1000), Some(PageTableIndex::new(510)));
-    let (mapping, other) = (IdentityMapping, ShiftMapping::new(3));
-    tables_alike_57(direct, &mapping, root, None, recursive, &other, root, index)
 }
 
 #[test]
 fn hierarchies_of_five_levels_are_alike_but_for_writable_tables(rt: HostRuntime) {
     for (one, other, wanted) in &DIFFERENCES_57 {
-        let direct = memory_of(rt, rt.alloc(), &DIRECT_57, one);
-        let recursive = memory_of(rt, rt.alloc(), &RECURSIVE_57, other);
-        let found = alike_57(&direct, &recursive);
-        assert_equal_in(rt, (*one, *other), found, *wanted);
+        let (direct, recursive) = (
+            changed(rt, &DIRECT_57, one),
+            changed(rt, &RECURSIVE_57, other),
+        );
+        assert_equal_in(rt, (*one, *other), alike_57(&direct, &recursive), *wanted);
     }
 }
 
 /// The words of the first hierarchy, with each table one place lower and writable entries.
-const SHIFTED: [Word; 4] = [
-    (0x0, 0, 0x2003),
-    (0x1000, 0, 0x3003),
-    (0x2000, 0, 0x4003),
-    (0x3000, 1, 0x5001),
+const SHIFTED: [u64; 12] = [
+    0x0, 0, 0x2003, 0x1000, 0, 0x3003, 0x2000, 0, 0x4003, 0x3000, 1, 0x5001,
 ];
-
-/// Returns whether a hierarchy with a mapping and another one are alike, the latter with a recursive index or without.
-fn alike_by_mappings(
-    one: &PhysMemory,
-    mapping: &ShiftMapping,
-    other: &PhysMemory,
-    index: Option<PageTableIndex>,
-) -> bool {
-    let (root, identity) = (frame_at(0x1000), IdentityMapping);
-    tables_alike(one, mapping, root, None, other, &identity, root, index)
-}
 
 #[test]
 fn hierarchies_are_alike_by_their_own_mappings(rt: HostRuntime) {
-    let one = memory_of(rt, rt.alloc(), &SHIFTED, &[]);
-    let other = memory_of(rt, rt.alloc(), &DIRECT, &[]);
+    let (one, other) = (small_memory_of(rt, &SHIFTED), small_memory_of(rt, &DIRECT));
+    let (root, own) = (frame_at(0x1000), IdentityMapping);
     for (first, wanted) in [(1, true), (0, false), (2, false)] {
-        let found = alike_by_mappings(&one, &ShiftMapping::new(first), &other, None);
+        let mapping = ShiftMapping::new(first);
+        let found = tables_alike(&one, &mapping, root, None, &other, &own, root, None);
         assert_equal_in(rt, first, found, wanted);
     }
 }
 
 #[test]
 fn words_that_name_their_own_table_are_alike(rt: HostRuntime) {
-    let memory = memory_of(rt, rt.alloc(), &RECURSIVE, &[]);
-    let mapping = ShiftMapping::new(0);
+    let memory = small_memory_of(rt, &RECURSIVE);
+    let (root, own) = (frame_at(0x1000), IdentityMapping);
     for (index, wanted) in [(None, true), (Some(PageTableIndex::new(510)), false)] {
-        let found = alike_by_mappings(&memory, &mapping, &memory, index);
+        let found = tables_alike(&memory, &own, root, None, &memory, &own, root, index);
         assert_equal_in(rt, index, found, wanted);
     }
 }
