@@ -5,7 +5,7 @@ ghost use Rattle.std.specs.Prelude.{◌≡◌, ◌<◌, ◌↔◌, IsTrue};
 mod ranges;
 
 use crate::addr::steps::{Stepped, Steps, check_backward, check_between, check_forward};
-use crate::assertions::{assert_equal, assert_equal_in, assert_text, unwrap};
+use crate::assertions::{Test, assert_equal, assert_text, unwrap};
 use std::hash::Hash;
 use std::process::Abort;
 use x86_64_addr::addr::{PhysAddr, VirtAddr, VirtAddr57, VirtAddrIn};
@@ -64,37 +64,20 @@ fn is_below_giant<S: NotGiantPageSize>() -> bool {
     S::SIZE < 0x4000_0000
 }
 
-/// Compares the start of the frame that contains an address.
-fn check_frame<S: PageSize>(rt: impl Abort + Copy, address: u64, start: u64) {
-    let address = PhysAddr::new_truncate(address);
-    let start = PhysAddr::new_truncate(start);
-    let frame = PhysFrame::<S>::containing_address(address);
-    assert_equal_in(rt, address, frame.start_address(), start);
-    assert_equal(rt, frame.size(), S::SIZE);
-    assert_equal(rt, PhysFrame::from_start_address(start), Ok(frame));
-    let refused = PhysFrame::<S>::from_start_address(address);
-    assert_equal(rt, refused, Err(AddressNotAligned));
-}
-
-/// Compares the start of the page that contains the highest address, and its indices.
-fn check_page<S: PageSize, L: LevelCount>(rt: impl Abort + Copy, start: u64) {
-    let highest = VirtAddrIn::<L>::new_truncate(u64::MAX);
-    let start = VirtAddrIn::<L>::new_truncate(start);
-    let page = PageIn::<S, L>::containing_address(highest);
-    assert_equal(rt, (page.start_address(), page.size()), (start, S::SIZE));
-    assert_equal(rt, PageIn::from_start_address(start), Ok(page));
-    let refused = PageIn::<S, L>::from_start_address(highest);
-    assert_equal(rt, refused, Err(AddressNotAligned));
-    let last = PageTableIndex::new(511);
-    assert_equal(rt, [page.p4_index(), page.p3_index()], [last; 2]);
-}
-
-/// Compares a size's level and number of bytes, and the starts of the highest page and the highest frame.
-fn check_size<S: PageSize>(rt: impl Abort + Copy, level: u64, size: u64, highest: u64) {
+/// Compares a size's level and number of bytes, and the starts of the last page and of the last frame.
+fn check_size<S: PageSize>(rt: impl Test, level: u64, size: u64, last: u64) {
     assert_equal(rt, (S::LEVEL, S::SIZE), (level, size));
-    check_frame::<S>(rt, u64::MAX, highest);
-    check_page::<S, FourLevels>(rt, highest);
-    check_page::<S, FiveLevels>(rt, highest);
+    let (page, frame) = (page::<S, FourLevels>(u64::MAX), frame::<S>(u64::MAX));
+    assert_equal(rt, (page.size(), frame.size()), (size, size));
+    let (start, address) = (page.start_address(), frame.start_address());
+    assert_equal(rt, start, VirtAddr::new_truncate(last));
+    assert_equal(rt, address, PhysAddr::new_truncate(last));
+    assert_equal(rt, PageIn::from_start_address(start), Ok(page));
+    assert_equal(rt, PhysFrame::from_start_address(address), Ok(frame));
+    let refused = PageIn::<S, FiveLevels>::from_start_address(VirtAddrIn::new_truncate(1));
+    assert_equal(rt, refused, Err(AddressNotAligned));
+    let refused = PhysFrame::<S>::from_start_address(PhysAddr::new_truncate(1));
+    assert_equal(rt, refused, Err(AddressNotAligned));
 }
 
 #[test]
@@ -102,9 +85,6 @@ fn pages_and_frames_start_at_multiples(rt: HostRuntime) {
     check_size::<Size4KiB>(rt, 1, 0x1000, 0xffff_ffff_ffff_f000);
     check_size::<Size2MiB>(rt, 2, 0x20_0000, 0xffff_ffff_ffe0_0000);
     check_size::<Size1GiB>(rt, 3, 0x4000_0000, 0xffff_ffff_c000_0000);
-    check_frame::<Size4KiB>(rt, 0x1234_5678, 0x1234_5000);
-    check_frame::<Size2MiB>(rt, 0x1234_5678, 0x1220_0000);
-    check_frame::<Size1GiB>(rt, 0x1234_5678, 0);
 }
 
 #[test]
@@ -124,37 +104,31 @@ fn are_ordered<S: PageSize, L: LevelCount>(left: PageIn<S, L>, right: PageIn<S, 
     left < right && left != right
 }
 
-/// Compares the indices of a page, from level four down.
-fn check_indices<L: LevelCount>(
-    rt: impl Abort + Copy,
-    page: PageIn<Size4KiB, L>,
-    wanted: [u16; 4],
-) {
-    let (four, three) = (page.p4_index(), page.p3_index());
-    let (two, one) = (page.p2_index(), page.p1_index());
-    let wanted = wanted.map(PageTableIndex::new_truncate);
-    assert_equal(rt, [four, three, two, one], wanted);
-}
-
 #[test]
 fn pages_have_indices(rt: HostRuntime) {
     let small = page::<Size4KiB, FourLevels>(0x8000_8040_3000);
-    check_indices(rt, small, [256, 2, 2, 3]);
+    let indices = [
+        small.p4_index(),
+        small.p3_index(),
+        small.p2_index(),
+        small.p1_index(),
+    ];
+    assert_equal(
+        rt,
+        indices,
+        [256, 2, 2, 3].map(PageTableIndex::new_truncate),
+    );
     let index = small.page_table_index(PageTableLevel::Two);
-    assert_equal(rt, index, PageTableIndex::new(2));
     let large: Page<Size2MiB> = page(0x8000_8040_3000);
-    assert_equal(rt, large.p2_index(), index);
+    assert_equal(rt, (index, large.p2_index()), (indices[1], indices[1]));
     let zero = Page::<Size4KiB>::from_start_address_unchecked(VirtAddr::zero());
     assert!(rt; are_ordered(zero, small) && !are_ordered(small, small));
-}
-
-#[test]
-fn pages_have_five_indices(rt: HostRuntime) {
-    let small = page::<Size4KiB, FiveLevels>(0xfffe_ff7f_bfdf_e000);
-    check_indices(rt, small, [510; 4]);
-    let last = PageTableIndex::new(510);
-    assert_equal(rt, small.page_table_index(PageTableLevel57::Five), last);
-    assert_equal(rt, small.p5_index(), last);
+    let five = page::<Size4KiB, FiveLevels>(0xfffe_ff7f_bfdf_e000);
+    let indices = [
+        five.p5_index(),
+        five.page_table_index(PageTableLevel57::Five),
+    ];
+    assert_equal(rt, indices, [PageTableIndex::new(510); 2]);
     let large: Page57<Size2MiB> = page(1 << 48);
     assert_equal(rt, large.p5_index(), PageTableIndex::new(1));
 }
@@ -271,38 +245,28 @@ fn page_steps_between(rt: HostRuntime) {
     check_between::<Page<Size1GiB>>(rt, &GIANT_STEPS);
 }
 
-#[test]
-fn pages_have_sums(rt: HostRuntime) {
-    let mut large = Page::<Size2MiB>::containing_address(VirtAddr::new(0x20_0000));
-    assert_equal(rt, (large + 2).start_address(), VirtAddr::new(0x60_0000));
-    assert_equal(rt, (large - 1).start_address(), VirtAddr::zero());
-    large += 3;
-    assert_equal(rt, large.start_address(), VirtAddr::new(0x80_0000));
-    large -= 2;
-    let zero = Page::<Size2MiB>::containing_address(VirtAddr::zero());
-    assert_equal(rt, large - zero, 2);
+/// Compares sums and differences of pages or frames of 2MiB, of which the second is given, and how one is made of its
+/// start address.
+macro_rules! check_sums {
+    ($rt:expr, $second:expr, $at:expr) => {
+        let mut large = $second;
+        assert_equal($rt, (large + 2, large - 1), ($at(0x60_0000), $at(0)));
+        large += 3;
+        assert_equal($rt, large, $at(0x80_0000));
+        large -= 2;
+        let zero = large - 2;
+        assert_equal($rt, (large, zero, large - zero), ($at(0x40_0000), $at(0), 2));
+    };
 }
 
 #[test]
-fn pages_of_57_bits_have_sums(rt: HostRuntime) {
-    let mut large = Page57::<Size2MiB>::containing_address(VirtAddr57::new(0x20_0000));
-    large += 3;
-    large -= 2;
-    let zero = Page57::<Size2MiB>::containing_address(VirtAddr57::zero());
-    assert_equal(rt, large - zero, 2);
-    assert_equal(rt, (large + 1) - 3, zero);
-}
-
-#[test]
-fn frames_have_sums(rt: HostRuntime) {
-    let mut large = PhysFrame::<Size2MiB>::containing_address(PhysAddr::new(0x20_0000));
-    assert_equal(rt, (large + 2).start_address(), PhysAddr::new(0x60_0000));
-    assert_equal(rt, (large - 1).start_address(), PhysAddr::zero());
-    large += 3;
-    assert_equal(rt, large.start_address(), PhysAddr::new(0x80_0000));
-    large -= 2;
-    let zero = PhysFrame::<Size2MiB>::containing_address(PhysAddr::zero());
-    assert_equal(rt, large - zero, 2);
+fn pages_and_frames_have_sums(rt: HostRuntime) {
+    let second = Page::<Size2MiB>::containing_address(VirtAddr::new(0x20_0000));
+    check_sums!(rt, second, page::<Size2MiB, FourLevels>);
+    let second = Page57::<Size2MiB>::containing_address(VirtAddr57::new(0x20_0000));
+    check_sums!(rt, second, page::<Size2MiB, FiveLevels>);
+    let second = PhysFrame::<Size2MiB>::containing_address(PhysAddr::new(0x20_0000));
+    check_sums!(rt, second, frame::<Size2MiB>);
 }
 
 /// Compares the number of the frame that contains an address and the frame with that number, and asserts that no frame

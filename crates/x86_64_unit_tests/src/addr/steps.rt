@@ -48,13 +48,10 @@ pub(crate) trait Stepped: Copy + Debug + PartialEq + Drop {
     /// Returns the value at a raw address.
     fn at(raw: u64) -> Self;
 
-    /// Steps forward.
     fn forward(self, count: usize) -> Option<Self>;
 
-    /// Steps backward.
     fn backward(self, count: usize) -> Option<Self>;
 
-    /// Counts the steps to another value.
     fn steps_to(self, other: Self) -> (usize, Option<usize>);
 }
 
