@@ -73,11 +73,16 @@ impl<L: LevelCount> Stepped for VirtAddrIn<L> {
     }
 }
 
+/// Returns the value at a raw address, if there is one.
+fn at<T: Stepped>(raw: Option<u64>) -> Option<T> {
+    Some(T::at(raw?))
+}
+
 /// Compares what is a number of steps after a start.
 pub(crate) fn check_forward<T: Stepped>(rt: impl Abort + Copy, rows: &[Steps]) {
     for (start, count, end) in rows {
-        if let Some(start) = start.map(T::at) {
-            assert_equal_in(rt, (start, *count), start.forward(*count), end.map(T::at));
+        if let Some(start) = at::<T>(*start) {
+            assert_equal_in(rt, (start, *count), start.forward(*count), at(*end));
         }
     }
 }
@@ -85,8 +90,8 @@ pub(crate) fn check_forward<T: Stepped>(rt: impl Abort + Copy, rows: &[Steps]) {
 /// Compares what is a number of steps before an end.
 pub(crate) fn check_backward<T: Stepped>(rt: impl Abort + Copy, rows: &[Steps]) {
     for (start, count, end) in rows {
-        if let Some(end) = end.map(T::at) {
-            assert_equal_in(rt, (end, *count), end.backward(*count), start.map(T::at));
+        if let Some(end) = at::<T>(*end) {
+            assert_equal_in(rt, (end, *count), end.backward(*count), at(*start));
         }
     }
 }
@@ -94,7 +99,7 @@ pub(crate) fn check_backward<T: Stepped>(rt: impl Abort + Copy, rows: &[Steps]) 
 /// Compares the numbers of steps between a start and an end, and back.
 pub(crate) fn check_between<T: Stepped>(rt: impl Abort + Copy, rows: &[Steps]) {
     for (start, count, end) in rows {
-        if let (Some(start), Some(end)) = (start.map(T::at), end.map(T::at)) {
+        if let (Some(start), Some(end)) = (at::<T>(*start), at::<T>(*end)) {
             let found = (start.steps_to(end), end.steps_to(start));
             let back = if *count == 0 { Some(0) } else { None };
             assert_equal_in(rt, (start, end), found, ((*count, Some(*count)), (0, back)));
