@@ -107,28 +107,18 @@ fn are_ordered<S: PageSize, L: LevelCount>(left: PageIn<S, L>, right: PageIn<S, 
 #[test]
 fn pages_have_indices(rt: HostRuntime) {
     let small = page::<Size4KiB, FourLevels>(0x8000_8040_3000);
-    let indices = [
-        small.p4_index(),
-        small.p3_index(),
-        small.p2_index(),
-        small.p1_index(),
-    ];
-    assert_equal(
-        rt,
-        indices,
-        [256, 2, 2, 3].map(PageTableIndex::new_truncate),
-    );
-    let index = small.page_table_index(PageTableLevel::Two);
+    let (four, three) = (small.p4_index(), small.p3_index());
+    let (two, one) = (small.p2_index(), small.p1_index());
+    let wanted = [256, 2, 2, 3].map(PageTableIndex::new_truncate);
+    assert_equal(rt, [four, three, two, one], wanted);
     let large: Page<Size2MiB> = page(0x8000_8040_3000);
-    assert_equal(rt, (index, large.p2_index()), (indices[1], indices[1]));
+    let index = small.page_table_index(PageTableLevel::Two);
+    assert_equal(rt, (index, large.p2_index()), (two, two));
     let zero = Page::<Size4KiB>::from_start_address_unchecked(VirtAddr::zero());
     assert!(rt; are_ordered(zero, small) && !are_ordered(small, small));
     let five = page::<Size4KiB, FiveLevels>(0xfffe_ff7f_bfdf_e000);
-    let indices = [
-        five.p5_index(),
-        five.page_table_index(PageTableLevel57::Five),
-    ];
-    assert_equal(rt, indices, [PageTableIndex::new(510); 2]);
+    let index = five.page_table_index(PageTableLevel57::Five);
+    assert_equal(rt, [five.p5_index(), index], [PageTableIndex::new(510); 2]);
     let large: Page57<Size2MiB> = page(1 << 48);
     assert_equal(rt, large.p5_index(), PageTableIndex::new(1));
 }
@@ -145,21 +135,24 @@ fn pages_have_given_indices(rt: HostRuntime) {
 }
 
 #[test]
-fn pages_and_frames_have_texts(rt: HostRuntime) {
-    let (low, address) = (0x20_0000, 0x4020_1abc);
-    let small: Page<Size4KiB> = page(address);
+fn pages_have_texts(rt: HostRuntime) {
+    let small: Page<Size4KiB> = page(0x4020_1abc);
     assert_text(rt, &small, "Page[4KiB](0x40201000)");
-    let large: Page<Size2MiB> = page(address);
+    let large: Page<Size2MiB> = page(0x4020_1abc);
     assert_text(rt, &large, "Page[2MiB](0x40200000)");
-    let giant: Page<Size1GiB> = page(address);
+    let giant: Page<Size1GiB> = page(0x4020_1abc);
     assert_text(rt, &giant, "Page[1GiB](0x40000000)");
     let five: Page57<Size2MiB> = page(UPPER_FIRST_57);
     assert_text(rt, &five, "Page57[2MiB](0xff00000000000000)");
-    let small = frame::<Size4KiB>(address);
+}
+
+#[test]
+fn frames_have_texts(rt: HostRuntime) {
+    let small = frame::<Size4KiB>(0x4020_1abc);
     assert_text(rt, &small, "PhysFrame[4KiB](0x40201000)");
-    let large = frame::<Size2MiB>(low);
+    let large = frame::<Size2MiB>(0x20_0000);
     assert_text(rt, &large, "PhysFrame[2MiB](0x200000)");
-    let giant = frame::<Size1GiB>(address);
+    let giant = frame::<Size1GiB>(0x4020_1abc);
     assert_text(rt, &giant, "PhysFrame[1GiB](0x40000000)");
 }
 

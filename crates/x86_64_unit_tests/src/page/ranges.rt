@@ -8,7 +8,9 @@ use std::process::Abort;
 use x86_64_addr::level_count::{FiveLevels, FourLevels, LevelCount};
 use x86_64_page::frame::PhysFrame;
 use x86_64_page::laws::{blocks_are_taken_in_turn, blocks_are_the_range};
-use x86_64_page::page::{Page, Page57, PageIn, PageSize, Size1GiB, Size2MiB, Size4KiB};
+use x86_64_page::page::{
+    Page, Page57, PageIn, PageRangeInclusive, PageSize, Size1GiB, Size2MiB, Size4KiB,
+};
 use x86_64_page::range::{Block, BlockRange, BlockRangeInclusive};
 
 /// The last page but one.
@@ -146,33 +148,24 @@ fn ranges_go_on_after_the_gap(rt: HostRuntime) {
     assert_equal(rt, (range.next(), range.next_back()), (None, None));
 }
 
+/// Returns the range from a block to another one.
+fn closed<B: Block>(start: B, end: B) -> BlockRangeInclusive<B> {
+    BlockRangeInclusive { start, end }
+}
+
 /// Takes the last block of all, and compares the range that is left, from it to the one before.
 fn check_last<B: Block + Debug + PartialEq>(rt: impl Abort + Copy, last: B, before: B) {
-    let mut range = BlockRangeInclusive {
-        start: last,
-        end: last,
-    };
+    let mut range = closed(last, last);
     assert_equal(rt, range.next(), Some(last));
-    let left = BlockRangeInclusive {
-        start: last,
-        end: before,
-    };
-    assert_equal(rt, range, left);
+    assert_equal(rt, range, closed(last, before));
     assert_equal(rt, (range.next(), range.nth_back(0)), (None, None));
 }
 
 /// Takes the first block of all from the back, and compares the range that is left, from the second one to it.
 fn check_first<B: Block + Debug + PartialEq>(rt: impl Abort + Copy, first: B, second: B) {
-    let mut range = BlockRangeInclusive {
-        start: first,
-        end: first,
-    };
+    let mut range = closed(first, first);
     assert_equal(rt, range.next_back(), Some(first));
-    let left = BlockRangeInclusive {
-        start: second,
-        end: first,
-    };
-    assert_equal(rt, range, left);
+    assert_equal(rt, range, closed(second, first));
     assert_equal(rt, (range.next_back(), range.nth(0)), (None, None));
 }
 
@@ -180,37 +173,24 @@ fn check_first<B: Block + Debug + PartialEq>(rt: impl Abort + Copy, first: B, se
 fn the_ends_of_memory_are_in_ranges(rt: HostRuntime) {
     check_last(rt, page::<Size4KiB, FourLevels>(LAST), page(LAST_BUT_ONE));
     check_last(rt, page::<Size4KiB, FiveLevels>(LAST), page(LAST_BUT_ONE));
-    check_last(
-        rt,
-        frame::<Size4KiB>(LAST_FRAME),
-        frame(0x000f_ffff_ffff_e000),
-    );
+    let before: PhysFrame<Size4KiB> = frame(0x000f_ffff_ffff_e000);
+    check_last(rt, frame(LAST_FRAME), before);
     check_first(rt, page::<Size4KiB, FourLevels>(0), page(0x1000));
     check_first(rt, page::<Size4KiB, FiveLevels>(0), page(0x1000));
 }
 
 /// Skips pages of the range of all pages, and compares the page after them, if any, and the ends of what is left.
 fn check_skipped(rt: impl Abort + Copy, count: usize, item: Option<u64>, left: (u64, u64)) {
-    let mut range = Page::<Size4KiB>::range_inclusive(page(0), page(LAST));
+    let mut range: PageRangeInclusive<Size4KiB> = closed(page(0), page(LAST));
     assert_equal_in(rt, count, range.nth(count), item.map(page));
-    assert_equal_in(
-        rt,
-        count,
-        range,
-        Page::range_inclusive(page(left.0), page(left.1)),
-    );
+    assert_equal_in(rt, count, range, closed(page(left.0), page(left.1)));
 }
 
 /// This from the back.
 fn check_skipped_back(rt: impl Abort + Copy, count: usize, item: Option<u64>, left: (u64, u64)) {
-    let mut range = Page::<Size4KiB>::range_inclusive(page(0), page(LAST));
+    let mut range: PageRangeInclusive<Size4KiB> = closed(page(0), page(LAST));
     assert_equal_in(rt, count, range.nth_back(count), item.map(page));
-    assert_equal_in(
-        rt,
-        count,
-        range,
-        Page::range_inclusive(page(left.0), page(left.1)),
-    );
+    assert_equal_in(rt, count, range, closed(page(left.0), page(left.1)));
 }
 
 #[test]

@@ -7,15 +7,14 @@ mod places;
 
 use crate::assertions::{Test, assert_equal_in, unwrap, unwrap_some};
 use crate::tables::frame_at;
-use x86_64_addr::addr::{PhysAddr, VirtAddrIn};
+use x86_64_addr::addr::VirtAddrIn;
 use x86_64_addr::index::PageTableIndex;
 use x86_64_addr::level_count::{FiveLevels, FourLevels, LevelCount};
 use x86_64_tables::frame_alloc::FramePool;
 use x86_64_tables::phys_memory::{
-    FramePlace, IdentityMapping, PhysMemory, TableMemory, Walked, is_valid_by_marks,
-    is_valid_hierarchy, is_valid_hierarchy_57, is_valid_recursive, is_valid_recursive_57,
-    page_walk, pool_fits, pool_fits_57, pool_fits_by_marks, pool_fits_recursive,
-    pool_fits_recursive_57,
+    FramePlace, IdentityMapping, PhysMemory, TableMemory, is_valid_by_marks, is_valid_hierarchy,
+    is_valid_hierarchy_57, is_valid_recursive, is_valid_recursive_57, page_walk, pool_fits,
+    pool_fits_57, pool_fits_by_marks, pool_fits_recursive, pool_fits_recursive_57,
 };
 
 /// Sets words of a memory, each given as its frame, its index and its value, as in the lines of `pagetab`.
