@@ -253,11 +253,19 @@ macro_rules! check_sums {
 }
 
 #[test]
-fn pages_and_frames_have_sums(rt: HostRuntime) {
+fn pages_have_sums(rt: HostRuntime) {
     let second = Page::<Size2MiB>::containing_address(VirtAddr::new(0x20_0000));
     check_sums!(rt, second, page::<Size2MiB, FourLevels>);
+}
+
+#[test]
+fn pages_of_57_bits_have_sums(rt: HostRuntime) {
     let second = Page57::<Size2MiB>::containing_address(VirtAddr57::new(0x20_0000));
     check_sums!(rt, second, page::<Size2MiB, FiveLevels>);
+}
+
+#[test]
+fn frames_have_sums(rt: HostRuntime) {
     let second = PhysFrame::<Size2MiB>::containing_address(PhysAddr::new(0x20_0000));
     check_sums!(rt, second, frame::<Size2MiB>);
 }

@@ -41,6 +41,11 @@ fn flags_have_parts(rt: HostRuntime) {
     }
 }
 
+/// Returns word 3 of the table at a place (the index of a table in memory), if there is one.
+fn word_at(memory: &PhysMemory, place: FramePlace) -> Option<u64> {
+    Some(memory.table(place)?[3].word())
+}
+
 #[test]
 fn memory_has_tables_at_places(rt: HostRuntime) {
     let mut memory = unwrap(rt, PhysMemory::new(rt.alloc(), 8));
@@ -48,12 +53,17 @@ fn memory_has_tables_at_places(rt: HostRuntime) {
     assert!(rt; IdentityMapping.covers(frame));
     let place = IdentityMapping.frame_to_pointer(frame);
     assert_equal(rt, place, FramePlace::new(7));
-    assert!(rt; memory[place].is_empty());
     let table = unwrap_some(rt, memory.table_mut(place));
     table[3].set_word(0x1001);
-    assert_equal(rt, memory[place][3].word(), 0x1001);
-    memory[place][3].set_word(0x2001);
-    let table = unwrap_some(rt, memory.table(place));
-    assert_equal(rt, table[3].word(), 0x2001);
+    assert_equal(rt, word_at(&memory, place), Some(0x1001));
     assert!(rt; memory.table_mut(FramePlace::new(8)).is_none());
+}
+
+#[test]
+fn memory_is_indexed_by_places(rt: HostRuntime) {
+    let mut memory = unwrap(rt, PhysMemory::new(rt.alloc(), 8));
+    let place = FramePlace::new(7);
+    assert!(rt; memory[place].is_empty());
+    memory[place][3].set_word(0x1001);
+    assert_equal(rt, word_at(&memory, place), Some(0x1001));
 }
