@@ -22,7 +22,7 @@ pub(crate) fn set_words<T: TableMemory>(rt: impl Test, memory: &mut T, words: &[
     for word in words.chunks_exact(3) {
         if let [frame, index, word] = word {
             let table = unwrap_some(rt, memory.table_mut(FramePlace::new(*frame / 0x1000)));
-            table[PageTableIndex::new_truncate(*index as u16)].set_word(*word);
+            table[PageTableIndex::new_truncate((*index % 512) as u16)].set_word(*word);
         }
     }
 }
