@@ -2,7 +2,7 @@
 ghost use Rattle.std.specs.Prelude.{◌≡◌, ◌<◌, ◌↔◌, IsTrue};
 ghost use Rattle.x86_64_addr.specs.Levels.{level_number};
 
-use crate::assertions::{assert_equal, assert_equal_at, unwrap};
+use crate::assertions::{assert_equal, assert_equal_in, assert_text};
 use std::process::Abort;
 use x86_64_addr::addr::{
     PhysAddr, PhysAddrNotValid, VirtAddr, VirtAddr57, VirtAddr57NotValid, VirtAddrIn,
@@ -14,7 +14,7 @@ use x86_64_addr::level_count::{FiveLevels, FourLevels, LevelCount};
 mod align;
 mod levels;
 mod operators;
-mod steps;
+pub(crate) mod steps;
 
 /// The last address below the gap with four levels.
 const LAST_LOW: u64 = 0x7fff_ffff_ffff;
@@ -50,71 +50,55 @@ fn is_lower(left: PageTableLevel, right: PageTableLevel) -> bool
     left < right
 }
 
-/// Values, and the raw values of the addresses that they are truncated to, with four levels.
-const TRUNCATED: [(u64, u64); 5] = [
+/// Numbers, and the raw values of the addresses that they are truncated to, with four levels.
+const NUMBERS: [(u64, u64); 8] = [
     (0, 0),
     (1 << 47, FIRST_HIGH),
     (123, 123),
     (123 << 47, FIRST_HIGH),
     (0xffff_7fff_ffff_ffff, LAST_LOW),
+    (LAST_LOW, LAST_LOW),
+    (FIRST_HIGH, FIRST_HIGH),
+    (u64::MAX, u64::MAX),
 ];
 
 /// These with five levels.
-const TRUNCATED_57: [(u64, u64); 1] = [(1 << 56, FIRST_HIGH_57)];
+const NUMBERS_57: [(u64, u64); 7] = [
+    (0, 0),
+    (1 << 47, 1 << 47),
+    (LAST_LOW_57, LAST_LOW_57),
+    (1 << 56, FIRST_HIGH_57),
+    (0xfeff_ffff_ffff_ffff, LAST_LOW_57),
+    (FIRST_HIGH_57, FIRST_HIGH_57),
+    (u64::MAX, u64::MAX),
+];
 
-/// Compares the raw values of the addresses that values are truncated to.
+/// Compares the raw values of the addresses that numbers are truncated to. A number is an address if this is its own.
 fn check_truncated<L: LevelCount>(rt: impl Abort + Copy, rows: &[(u64, u64)]) {
-    for (value, raw) in rows {
-        let address = VirtAddrIn::<L>::new_truncate(*value);
-        assert_equal_at(rt, *value, address.as_u64(), *raw);
-    }
-}
-
-/// Values, and whether they are raw values of addresses, with four levels.
-const CANONICAL: [(u64, bool); 6] = [
-    (0, true),
-    (LAST_LOW, true),
-    (FIRST_HIGH, true),
-    (u64::MAX, true),
-    (0x8000_0000_0000, false),
-    (0xffff_7fff_ffff_ffff, false),
-];
-
-/// These with five levels.
-const CANONICAL_57: [(u64, bool); 7] = [
-    (0, true),
-    (0x8000_0000_0000, true),
-    (LAST_LOW_57, true),
-    (FIRST_HIGH_57, true),
-    (u64::MAX, true),
-    (1 << 56, false),
-    (0xfeff_ffff_ffff_ffff, false),
-];
-
-#[test]
-fn virtual_addresses_are_canonical(rt: HostRuntime) {
-    check_truncated::<FourLevels>(rt, &TRUNCATED);
-    check_truncated::<FiveLevels>(rt, &TRUNCATED_57);
-    for (value, is_canonical) in CANONICAL {
-        let wanted = if is_canonical {
-            Ok(VirtAddr::new_truncate(value))
-        } else {
-            Err(VirtAddrNotValid(value))
-        };
-        assert_equal_at(rt, value, VirtAddr::try_new(value), wanted);
+    for (number, raw) in rows {
+        let address = VirtAddrIn::<L>::new_truncate(*number);
+        let is_address = VirtAddrIn::<L>::checked_new(*number).is_some();
+        let found = (address.as_u64(), is_address);
+        assert_equal_in(rt, *number, found, (*raw, number == raw));
     }
 }
 
 #[test]
-fn virtual_addresses_of_57_bits_are_canonical(rt: HostRuntime) {
-    for (value, is_canonical) in CANONICAL_57 {
-        let wanted = if is_canonical {
-            Ok(VirtAddr57::new_truncate(value))
-        } else {
-            Err(VirtAddr57NotValid(value))
-        };
-        assert_equal_at(rt, value, VirtAddr57::try_new(value), wanted);
-    }
+fn virtaddr_new_truncate(rt: HostRuntime) {
+    check_truncated::<FourLevels>(rt, &NUMBERS);
+    check_truncated::<FiveLevels>(rt, &NUMBERS_57);
+}
+
+#[test]
+fn other_numbers_are_refused(rt: HostRuntime) {
+    let high = VirtAddr::new(FIRST_HIGH);
+    assert_equal(rt, VirtAddr::try_new(FIRST_HIGH), Ok(high));
+    let gap = 1 << 47;
+    assert_equal(rt, VirtAddr::try_new(gap), Err(VirtAddrNotValid(gap)));
+    let high = VirtAddr57::new(FIRST_HIGH_57);
+    assert_equal(rt, VirtAddr57::try_new(FIRST_HIGH_57), Ok(high));
+    let gap = 1 << 56;
+    assert_equal(rt, VirtAddr57::try_new(gap), Err(VirtAddr57NotValid(gap)));
 }
 
 /// Compares the first address above the gap with the last one below it, and with 0.
@@ -133,8 +117,8 @@ fn addresses_lie_below_the_gap_or_above_it(rt: HostRuntime) {
     check_limits(rt, VirtAddr57::new(LAST_LOW_57), high);
 }
 
-/// Values, and the physical addresses that they are truncated to.
-const TRUNCATED_PHYSICAL: [(u64, u64); 4] = [
+/// Numbers, and the physical addresses that they are truncated to.
+const PHYSICAL: [(u64, u64); 4] = [
     (0, 0),
     (1 << 52, 0),
     ((1 << 52) + 5, 5),
@@ -143,102 +127,56 @@ const TRUNCATED_PHYSICAL: [(u64, u64); 4] = [
 
 #[test]
 fn physical_addresses_have_52_bits(rt: HostRuntime) {
-    for (value, raw) in TRUNCATED_PHYSICAL {
-        assert_equal_at(rt, value, PhysAddr::new_truncate(value).as_u64(), raw);
+    for (number, raw) in PHYSICAL {
+        assert_equal_in(rt, number, PhysAddr::new_truncate(number).as_u64(), raw);
     }
     let greatest = PhysAddr::new(0x000f_ffff_ffff_ffff);
     assert_equal(rt, PhysAddr::try_new(0x000f_ffff_ffff_ffff), Ok(greatest));
-    assert_equal(
-        rt,
-        PhysAddr::try_new(1 << 52),
-        Err(PhysAddrNotValid(1 << 52)),
-    );
+    let past = 1 << 52;
+    assert_equal(rt, PhysAddr::try_new(past), Err(PhysAddrNotValid(past)));
     assert!(rt; PhysAddr::zero() < greatest);
     assert!(rt; PhysAddr::new_unsafe(0).is_null() && !greatest.is_null());
 }
 
-/// Raw values of addresses with four levels, their indices from the highest level down, and their offsets in a page.
-const INDICES: [(u64, [u16; 4], u16); 5] = [
-    (0x1abc, [0, 0, 0, 1], 0xabc),
-    (0x80_8060_4005, [1, 2, 3, 4], 5),
-    (0x7fff_ffff_f000, [255, 511, 511, 511], 0),
-    (FIRST_HIGH, [256, 0, 0, 0], 0),
-    (0xffff_ff7f_bfdf_e000, [510, 510, 510, 510], 0),
-];
+/// Compares the indices of an address from level four down, and its offset in a page.
+fn check_indices<L: LevelCount>(rt: impl Abort + Copy, address: VirtAddrIn<L>) {
+    let (four, three) = (address.p4_index(), address.p3_index());
+    let (two, one) = (address.p2_index(), address.p1_index());
+    let wanted = [1, 2, 3, 4].map(PageTableIndex::new_truncate);
+    assert_equal(rt, [four, three, two, one], wanted);
+    assert_equal(rt, address.page_offset(), PageOffset::new_truncate(5));
+}
 
 #[test]
 fn addresses_have_indices(rt: HostRuntime) {
-    for (raw, indices, offset) in INDICES {
-        let address = VirtAddr::new_truncate(raw);
-        let wanted = indices.map(PageTableIndex::new_truncate);
-        assert_equal(rt, address.page_offset(), PageOffset::new_truncate(offset));
-        assert_equal_at(rt, raw, indices_by_level(address), wanted);
-        assert_equal_at(rt, raw, low_indices(address), wanted);
+    let (one, two) = (PageTableLevel::One, PageTableLevel::Two);
+    let (three, four) = (PageTableLevel::Three, PageTableLevel::Four);
+    let address = VirtAddr::new(0x80_8060_4005);
+    check_indices(rt, address);
+    for (level, index) in [(one, 4), (two, 3), (three, 2), (four, 1)] {
+        assert_equal_in(rt, level, u16::from(address.page_table_index(level)), index);
     }
-    assert!(rt; is_lower(PageTableLevel::One, PageTableLevel::Two));
-    assert!(rt; is_lower(PageTableLevel::Three, PageTableLevel::Four));
+    assert!(rt; is_lower(one, two) && is_lower(three, four));
 }
-
-/// Returns the indices of an address by the names of their levels.
-fn indices_by_level(address: VirtAddr) -> [PageTableIndex; 4] {
-    [
-        address.page_table_index(PageTableLevel::Four),
-        address.page_table_index(PageTableLevel::Three),
-        address.page_table_index(PageTableLevel::Two),
-        address.page_table_index(PageTableLevel::One),
-    ]
-}
-
-/// Returns the indices of an address from level four down, with the method for each.
-fn low_indices<L: LevelCount>(address: VirtAddrIn<L>) -> [PageTableIndex; 4] {
-    [
-        address.p4_index(),
-        address.p3_index(),
-        address.p2_index(),
-        address.p1_index(),
-    ]
-}
-
-/// Raw values of addresses with five levels, the indices of level five, those of the levels below, and the offsets in
-/// a page.
-const INDICES_57: [(u64, u16, [u16; 4], u16); 4] = [
-    (0x0007_0080_8060_4005, 7, [1, 2, 3, 4], 5),
-    (LAST_LOW_57, 255, [511, 511, 511, 511], 0xfff),
-    (FIRST_HIGH_57, 256, [0, 0, 0, 0], 0),
-    (0xfffe_ff7f_bfdf_e000, 510, [510, 510, 510, 510], 0),
-];
 
 #[test]
 fn addresses_have_five_indices(rt: HostRuntime) {
-    for (raw, highest, indices, offset) in INDICES_57 {
-        let address = VirtAddr57::new_truncate(raw);
-        let wanted = indices.map(PageTableIndex::new_truncate);
-        assert_equal(rt, address.page_offset(), PageOffset::new_truncate(offset));
-        assert_equal_at(rt, raw, low_indices_by_level(address), wanted);
-        assert_equal_at(rt, raw, low_indices(address), wanted);
-        let highest = PageTableIndex::new_truncate(highest);
-        let level = PageTableLevel57::Five;
-        assert_equal_at(rt, raw, address.page_table_index(level), highest);
-        assert_equal_at(rt, raw, address.p5_index(), highest);
+    let (one, two) = (PageTableLevel57::One, PageTableLevel57::Two);
+    let (three, four) = (PageTableLevel57::Three, PageTableLevel57::Four);
+    let five = PageTableLevel57::Five;
+    let address = VirtAddr57::new(0x0007_0080_8060_4005);
+    check_indices(rt, address);
+    for (level, index) in [(one, 4), (two, 3), (three, 2), (four, 1), (five, 7)] {
+        assert_equal_in(rt, level, u16::from(address.page_table_index(level)), index);
     }
-}
-
-/// Returns the indices of an address from level four down, by the names of their levels.
-fn low_indices_by_level(address: VirtAddr57) -> [PageTableIndex; 4] {
-    [
-        address.page_table_index(PageTableLevel57::Four),
-        address.page_table_index(PageTableLevel57::Three),
-        address.page_table_index(PageTableLevel57::Two),
-        address.page_table_index(PageTableLevel57::One),
-    ]
+    assert_equal(rt, address.p5_index(), PageTableIndex::new(7));
 }
 
 #[test]
 fn indices_and_offsets_are_numbers(rt: HostRuntime) {
     let index = PageTableIndex::new_truncate(512 + 510);
     assert_equal(rt, index, PageTableIndex::new(510));
-    let first = PageTableIndex::new_truncate(513);
-    assert_equal(rt, u16::from(first), 1);
+    assert_equal(rt, u16::from(PageTableIndex::new_truncate(513)), 1);
     let numbers = (u32::from(index), u64::from(index), usize::from(index));
     assert_equal(rt, numbers, (510, 510, 510));
     let offset = PageOffset::new_truncate(4096 + 4095);
@@ -249,33 +187,19 @@ fn indices_and_offsets_are_numbers(rt: HostRuntime) {
 }
 
 #[test]
-fn virtual_addresses_have_texts(rt: HostRuntime) {
+fn addresses_have_texts(rt: HostRuntime) {
     let (low, high) = (VirtAddr::new(0x1000), VirtAddr::new(FIRST_HIGH));
-    let error = VirtAddrNotValid(0x8000_0000_0000);
-    let text = unwrap(rt, format!(in rt.alloc(); "{low:?} {high:?} {error:?}"));
-    assert_equal(
-        rt,
-        text.as_str(),
-        "VirtAddr(0x1000) VirtAddr(0xffff800000000000) VirtAddrNotValid(0x800000000000)",
-    );
+    assert_text(rt, &low, "VirtAddr(0x1000)");
+    assert_text(rt, &high, "VirtAddr(0xffff800000000000)");
     let (low, high) = (VirtAddr57::new(0x1000), VirtAddr57::new(FIRST_HIGH_57));
+    assert_text(rt, &low, "VirtAddr57(0x1000)");
+    assert_text(rt, &high, "VirtAddr57(0xff00000000000000)");
+    assert_text(rt, &PhysAddr::new(0x1000), "PhysAddr(0x1000)");
+    assert_text(rt, &PhysAddr::zero(), "PhysAddr(0x0)");
+    let error = VirtAddrNotValid(1 << 47);
+    assert_text(rt, &error, "VirtAddrNotValid(0x800000000000)");
     let error = VirtAddr57NotValid(1 << 56);
-    let text = unwrap(rt, format!(in rt.alloc(); "{low:?} {high:?} {error:?}"));
-    assert_equal(
-        rt,
-        text.as_str(),
-        "VirtAddr57(0x1000) VirtAddr57(0xff00000000000000) VirtAddr57NotValid(0x100000000000000)",
-    );
-}
-
-#[test]
-fn physical_addresses_have_texts(rt: HostRuntime) {
-    let (frame, zero) = (PhysAddr::new(0x1000), PhysAddr::zero());
+    assert_text(rt, &error, "VirtAddr57NotValid(0x100000000000000)");
     let error = PhysAddrNotValid(1 << 52);
-    let text = unwrap(rt, format!(in rt.alloc(); "{frame:?} {zero:?} {error:?}"));
-    assert_equal(
-        rt,
-        text.as_str(),
-        "PhysAddr(0x1000) PhysAddr(0x0) PhysAddrNotValid(0x10000000000000)",
-    );
+    assert_text(rt, &error, "PhysAddrNotValid(0x10000000000000)");
 }

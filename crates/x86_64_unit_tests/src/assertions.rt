@@ -4,19 +4,14 @@ ghost use Rattle.std.specs.Prelude.{◌≡◌, Ok, Some};
 use std::fmt::Debug;
 use std::process::Abort;
 
+/// What tests need of the runtime: it aborts, and allocates memory.
+pub trait Test: Abort + AllocGlobal + Copy {}
+
+impl<R: Abort + AllocGlobal + Copy> Test for R {}
+
 /// Aborts unless two values are equal.
 pub fn assert_equal<T: PartialEq + Debug + Drop>(rt: impl Abort + Copy, found: T, wanted: T) {
     assert_eq!(rt; found, wanted);
-}
-
-/// Aborts unless two values are equal, and prints the number that they belong to.
-pub fn assert_equal_at<T: PartialEq + Debug + Drop>(
-    rt: impl Abort + Copy,
-    number: u64,
-    found: T,
-    wanted: T,
-) {
-    assert_eq!(rt; found, wanted, "at {number:#x}");
 }
 
 /// Aborts unless two values are equal, and prints the case that they belong to.
@@ -27,6 +22,12 @@ pub fn assert_equal_in<C: Debug + Drop, T: PartialEq + Debug + Drop>(
     wanted: T,
 ) {
     assert_eq!(rt; found, wanted, "in {case:?}");
+}
+
+/// Aborts unless a value has this Debug text.
+pub fn assert_text<T: Debug>(rt: impl Test, value: &T, wanted: &str) {
+    let text = unwrap(rt, format!(in rt.alloc(); "{value:?}"));
+    assert_equal(rt, text.as_str(), wanted);
 }
 
 /// Returns the value of a result, or aborts if it is an error. A call has only one exit. With `?`, a test would have

@@ -6,9 +6,9 @@ use std::cmp::Ordering;
 use std::fmt::Debug;
 use std::hash::{BuildHasher, BuildHasherDefault, DefaultHasher, Hash};
 use std::process::Abort;
-use x86_64_addr::addr::{PhysAddr, VirtAddr, VirtAddr57};
+use x86_64_addr::addr::{PhysAddr, VirtAddrIn};
 use x86_64_addr::index::{PageOffset, PageTableIndex, PageTableLevel, PageTableLevel57};
-use x86_64_addr::level_count::{FiveLevels, FourLevels};
+use x86_64_addr::level_count::{FiveLevels, FourLevels, LevelCount};
 use x86_64_page::page::{PageSize, Size1GiB, Size2MiB, Size4KiB};
 use x86_64_page::range::{Block, BlockRange, BlockRangeInclusive};
 use x86_64_tables::page_table::PageTableFlags;
@@ -18,18 +18,15 @@ fn hash_of<T: Hash + Drop>(value: T) -> u64 {
     BuildHasherDefault::<DefaultHasher>::default().hash_one(value)
 }
 
-/// Compares two equal values that were created separately, their hashes, and the clone of the first one. A third
-/// value must differ.
-fn check_hashed<T: Debug + Copy + Eq + Hash>(rt: impl Abort + Copy, one: T, same: T, other: T) {
+/// Compares two equal values that were created separately, their hashes, and the clone of the first one.
+fn check_equal<T: Debug + Copy + Eq + Hash>(rt: impl Abort + Copy, one: T, same: T) {
     let clone = unwrap(rt, one.clone());
     assert_equal_in(rt, one, (clone, hash_of(one)), (same, hash_of(same)));
-    assert!(rt; one != other);
 }
 
 /// Compares two such values with each other, and with a greater one.
 fn check_derives<T: Debug + Copy + Ord + Hash>(rt: impl Abort + Copy, one: T, same: T, greater: T) {
-    let clone = unwrap(rt, one.clone());
-    assert_equal_in(rt, one, (clone, hash_of(one)), (same, hash_of(same)));
+    check_equal(rt, one, same);
     let orders = (one.cmp(&same), one.cmp(&greater));
     assert_equal_in(rt, one, orders, (Ordering::Equal, Ordering::Less));
     let orders = (one.partial_cmp(&same), greater.partial_cmp(&one));
@@ -38,39 +35,39 @@ fn check_derives<T: Debug + Copy + Ord + Hash>(rt: impl Abort + Copy, one: T, sa
     assert!(rt; one != greater);
 }
 
+/// Compares the address 0, the first one above the gap and the last one.
+fn check_addresses<L: LevelCount>(rt: impl Abort + Copy, middle: u64) {
+    let high = VirtAddrIn::<L>::new_truncate(middle);
+    let same = VirtAddrIn::new_truncate(0_u64.wrapping_sub(middle));
+    check_derives(rt, high, same, VirtAddrIn::new_truncate(u64::MAX));
+    let same = VirtAddrIn::new_truncate(middle.wrapping_mul(2));
+    check_derives(rt, VirtAddrIn::zero(), same, high);
+}
+
 #[test]
 fn addresses_have_derives(rt: HostRuntime) {
-    let high = VirtAddr::new(0xffff_8000_0000_0000);
-    let last = VirtAddr::new(u64::MAX);
-    check_derives(rt, high, VirtAddr::new_truncate(1 << 47), last);
-    check_derives(rt, VirtAddr::zero(), VirtAddr::new_truncate(1 << 48), high);
-    let high = VirtAddr57::new(0xff00_0000_0000_0000);
-    check_derives(
-        rt,
-        VirtAddr57::zero(),
-        VirtAddr57::new_truncate(1 << 57),
-        high,
-    );
+    check_addresses::<FourLevels>(rt, 1 << 47);
+    check_addresses::<FiveLevels>(rt, 1 << 56);
     let five = PhysAddr::new_truncate((1 << 52) + 5);
     check_derives(rt, PhysAddr::new(5), five, PhysAddr::new(6));
 }
 
 #[test]
-fn indices_offsets_and_levels_have_derives(rt: HostRuntime) {
+fn indices_and_offsets_have_derives(rt: HostRuntime) {
     let index = PageTableIndex::new_truncate(513);
     check_derives(rt, PageTableIndex::new(1), index, PageTableIndex::new(511));
     let offset = PageOffset::new_truncate(4097);
     check_derives(rt, PageOffset::new(1), offset, PageOffset::new(4095));
+}
+
+#[test]
+fn levels_and_flags_have_derives(rt: HostRuntime) {
     let (low, high) = (PageTableLevel::Three, PageTableLevel::Four);
     let same = unwrap_some(rt, high.next_lower_level());
     check_derives(rt, low, same, high);
     let (low, high) = (PageTableLevel57::Four, PageTableLevel57::Five);
     let same = unwrap_some(rt, high.next_lower_level());
     check_derives(rt, low, same, high);
-}
-
-#[test]
-fn flags_have_derives(rt: HostRuntime) {
     let low = PageTableFlags::PRESENT.union(PageTableFlags::WRITABLE);
     let same = PageTableFlags::from_bits_retain(0x3);
     check_derives(rt, low, same, PageTableFlags::NO_EXECUTE);
@@ -79,31 +76,27 @@ fn flags_have_derives(rt: HostRuntime) {
 /// Compares such pages or frames, and ranges of them.
 fn check_blocks<B: Block + Debug + Ord + Hash>(rt: impl Abort + Copy, start: B, same: B, end: B) {
     check_derives(rt, start, same, end);
-    let (range, other) = (BlockRange { start, end }, BlockRange { start: end, end });
-    check_hashed(rt, range, BlockRange { start: same, end }, other);
+    let range = BlockRange { start, end };
+    check_equal(rt, range, BlockRange { start: same, end });
+    assert!(rt; range != BlockRange { start: end, end });
     let range = BlockRangeInclusive { start, end };
-    let other = BlockRangeInclusive { start: end, end };
-    check_hashed(rt, range, BlockRangeInclusive { start: same, end }, other);
+    check_equal(rt, range, BlockRangeInclusive { start: same, end });
+    assert!(rt; range != BlockRangeInclusive { start: end, end });
 }
 
-/// Compares two values of a size type, which has no others.
-fn check_unit<S: PageSize + Debug + Hash>(rt: impl Abort + Copy, size: S, same: S) {
-    let clone = unwrap(rt, size.clone());
-    assert_equal(rt, (clone, hash_of(size)), (same, hash_of(same)));
+/// Compares two values of a size type, which has no others, and pages and frames of this size.
+fn check_size<S: PageSize + Debug + Hash>(rt: impl Abort + Copy, size: S, same: S) {
+    check_equal(rt, size, same);
     let orders = (size.cmp(&same), size.partial_cmp(&same));
     assert_equal(rt, orders, (Ordering::Equal, Some(Ordering::Equal)));
-}
-
-/// Compares pages and frames of a size, with four levels and with five.
-fn check_size<S: PageSize + Debug + Hash>(rt: impl Abort + Copy, size: S, same: S) {
-    check_unit(rt, size, same);
     check_blocks(rt, page::<S, FourLevels>(0), page(0x123), page(0x4000_0000));
     check_blocks(rt, page::<S, FiveLevels>(0), page(0x123), page(0x4000_0000));
     check_blocks(rt, frame::<S>(0), frame(0x123), frame(0x4000_0000));
 }
 
+/// The rows of `test_page_is_hash` of the Rust crate, and more.
 #[test]
-fn sizes_pages_and_frames_have_derives(rt: HostRuntime) {
+fn test_page_is_hash_and_others_have_derives(rt: HostRuntime) {
     check_size(rt, Size4KiB, Size4KiB);
     check_size(rt, Size2MiB, Size2MiB);
     check_size(rt, Size1GiB, Size1GiB);

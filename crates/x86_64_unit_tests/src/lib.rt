@@ -1,5 +1,6 @@
 //! Tests of the public calls of the crates up to mappings, with one module per crate. They are not in the crates
-//! themselves, so that each crate is proved only once.
+//! themselves, so that each crate is proved only once. What `pagetab` and `ptdump` show is tested by transcripts, in
+//! `tests/` at the top.
 #![tactic(auto)]
 
 #[cfg(test)]

@@ -4,7 +4,8 @@ ghost use Rattle.std.specs.Prelude.{◌≡◌, ◌<◌, ◌↔◌, IsTrue};
 
 mod ranges;
 
-use crate::assertions::{assert_equal, assert_equal_in, unwrap};
+use crate::addr::steps::{Stepped, Steps, check_backward, check_between, check_forward};
+use crate::assertions::{Test, assert_equal, assert_text, unwrap};
 use std::hash::Hash;
 use std::process::Abort;
 use x86_64_addr::addr::{PhysAddr, VirtAddr, VirtAddr57, VirtAddrIn};
@@ -45,11 +46,6 @@ pub(crate) fn frame<S: PageSize>(raw: u64) -> PhysFrame<S> {
     PhysFrame::containing_address(PhysAddr::new_truncate(raw))
 }
 
-/// Returns the raw start address of a page, if there is one.
-fn raw<S: PageSize, L: LevelCount>(page: Option<PageIn<S, L>>) -> Option<u64> {
-    Some(page?.start_address().as_u64())
-}
-
 /// Returns true if two frames are equal. They are if and only if their start addresses are equal.
 fn are_equal<S: PageSize>(left: PhysFrame<S>, right: PhysFrame<S>) -> bool
     ensures { IsTrue result ↔ (left ≡ right) }
@@ -68,79 +64,36 @@ fn is_below_giant<S: NotGiantPageSize>() -> bool {
     S::SIZE < 0x4000_0000
 }
 
-/// Compares the start of the frame that contains an address.
-fn check_frame<S: PageSize>(rt: impl Abort + Copy, address: u64, start: u64) {
-    let (address, start) = (
-        PhysAddr::new_truncate(address),
-        PhysAddr::new_truncate(start),
-    );
-    let frame = PhysFrame::<S>::containing_address(address);
-    assert_equal_in(rt, address, frame.start_address(), start);
-    assert_equal(rt, PhysFrame::from_start_address(start), Ok(frame));
-    let refused = PhysFrame::<S>::from_start_address(address);
+/// Compares a size's level and number of bytes, and the starts of the last page and of the last frame.
+fn check_size<S: PageSize>(rt: impl Test, level: u64, size: u64, last: u64) {
+    assert_equal(rt, (S::LEVEL, S::SIZE), (level, size));
+    let (page, frame) = (page::<S, FourLevels>(u64::MAX), frame::<S>(u64::MAX));
+    assert_equal(rt, (page.size(), frame.size()), (size, size));
+    let (start, address) = (page.start_address(), frame.start_address());
+    assert_equal(rt, start, VirtAddr::new_truncate(last));
+    assert_equal(rt, address, PhysAddr::new_truncate(last));
+    assert_equal(rt, PageIn::from_start_address(start), Ok(page));
+    assert_equal(rt, PhysFrame::from_start_address(address), Ok(frame));
+    let refused = PageIn::<S, FiveLevels>::from_start_address(VirtAddrIn::new_truncate(1));
+    assert_equal(rt, refused, Err(AddressNotAligned));
+    let refused = PhysFrame::<S>::from_start_address(PhysAddr::new_truncate(1));
     assert_equal(rt, refused, Err(AddressNotAligned));
 }
 
-/// Compares a size's level and number of bytes, and the starts of the frames that contain two addresses.
-fn check_size<S: PageSize>(rt: impl Abort + Copy, level: u64, size: u64, starts: [u64; 2]) {
-    assert_equal(rt, (S::LEVEL, S::SIZE), (level, size));
-    assert_equal(rt, frame::<S>(0).size(), size);
-    check_frame::<S>(rt, 0x1234_5678, starts[0]);
-    check_frame::<S>(rt, 0x000f_ffff_ffff_ffff, starts[1]);
+#[test]
+fn pages_and_frames_start_at_multiples(rt: HostRuntime) {
+    check_size::<Size4KiB>(rt, 1, 0x1000, 0xffff_ffff_ffff_f000);
+    check_size::<Size2MiB>(rt, 2, 0x20_0000, 0xffff_ffff_ffe0_0000);
+    check_size::<Size1GiB>(rt, 3, 0x4000_0000, 0xffff_ffff_c000_0000);
 }
 
 #[test]
-fn frames_start_at_multiples(rt: HostRuntime) {
-    check_size::<Size4KiB>(rt, 1, 0x1000, [0x1234_5000, 0x000f_ffff_ffff_f000]);
-    check_size::<Size2MiB>(rt, 2, 0x20_0000, [0x1220_0000, 0x000f_ffff_ffe0_0000]);
-    check_size::<Size1GiB>(rt, 3, 0x4000_0000, [0, 0x000f_ffff_c000_0000]);
+fn frames_and_sizes_have_an_order(rt: HostRuntime) {
     assert!(rt; is_below_giant::<Size4KiB>() && is_below_giant::<Size2MiB>());
+    assert_equal(rt, Page::<Size2MiB>::SIZE, 0x20_0000);
     let first = PhysFrame::<Size2MiB>::from_start_address_unchecked(PhysAddr::zero());
     let second = frame(0x3f_ffff);
     assert!(rt; is_below(first, second) && !are_equal(first, second));
-}
-
-#[test]
-fn frames_have_texts(rt: HostRuntime) {
-    let (small, large) = (frame::<Size4KiB>(0x4020_1abc), frame::<Size2MiB>(0x20_0000));
-    let giant = frame::<Size1GiB>(0x4020_1abc);
-    let error = AddressNotAligned;
-    let text = unwrap(
-        rt,
-        format!(in rt.alloc(); "{small:?} {large:?} {giant:?}, {error}"),
-    );
-    assert_equal(
-        rt,
-        text.as_str(),
-        "PhysFrame[4KiB](0x40201000) PhysFrame[2MiB](0x200000) PhysFrame[1GiB](0x40000000), \
-         the given address was not sufficiently aligned",
-    );
-}
-
-/// Compares the page that contains the highest address, and its indices.
-fn check_highest_page<S: PageSize, L: LevelCount>(rt: impl Abort + Copy, start: u64) {
-    let highest = VirtAddrIn::<L>::new_truncate(u64::MAX);
-    let start = VirtAddrIn::<L>::new_truncate(start);
-    let page = PageIn::<S, L>::containing_address(highest);
-    assert_equal(rt, page.start_address(), start);
-    assert_equal(rt, page.size(), S::SIZE);
-    assert_equal(rt, PageIn::from_start_address(start), Ok(page));
-    let refused = PageIn::<S, L>::from_start_address(highest);
-    assert_equal(rt, refused, Err(AddressNotAligned));
-    let indices = (page.p4_index(), page.p3_index());
-    let last = PageTableIndex::new(511);
-    assert_equal(rt, indices, (last, last));
-}
-
-#[test]
-fn pages_start_at_multiples(rt: HostRuntime) {
-    check_highest_page::<Size4KiB, FourLevels>(rt, 0xffff_ffff_ffff_f000);
-    check_highest_page::<Size2MiB, FourLevels>(rt, 0xffff_ffff_ffe0_0000);
-    check_highest_page::<Size1GiB, FourLevels>(rt, 0xffff_ffff_c000_0000);
-    check_highest_page::<Size4KiB, FiveLevels>(rt, 0xffff_ffff_ffff_f000);
-    check_highest_page::<Size2MiB, FiveLevels>(rt, 0xffff_ffff_ffe0_0000);
-    check_highest_page::<Size1GiB, FiveLevels>(rt, 0xffff_ffff_c000_0000);
-    assert_equal(rt, Page::<Size2MiB>::SIZE, 0x20_0000);
 }
 
 /// Returns true if a page is below another one. It is if and only if its position (the address counted without the
@@ -151,35 +104,21 @@ fn are_ordered<S: PageSize, L: LevelCount>(left: PageIn<S, L>, right: PageIn<S, 
     left < right && left != right
 }
 
-/// Returns the indices of a page, from level four down.
-fn low_indices<L: LevelCount>(page: PageIn<Size4KiB, L>) -> [PageTableIndex; 4] {
-    [
-        page.p4_index(),
-        page.p3_index(),
-        page.p2_index(),
-        page.p1_index(),
-    ]
-}
-
 #[test]
 fn pages_have_indices(rt: HostRuntime) {
     let small = page::<Size4KiB, FourLevels>(0x8000_8040_3000);
+    let (four, three) = (small.p4_index(), small.p3_index());
+    let (two, one) = (small.p2_index(), small.p1_index());
     let wanted = [256, 2, 2, 3].map(PageTableIndex::new_truncate);
-    assert_equal(rt, low_indices(small), wanted);
-    assert_equal(rt, small.page_table_index(PageTableLevel::Two), wanted[2]);
+    assert_equal(rt, [four, three, two, one], wanted);
     let large: Page<Size2MiB> = page(0x8000_8040_3000);
-    assert_equal(rt, large.p2_index(), wanted[2]);
+    let index = small.page_table_index(PageTableLevel::Two);
+    assert_equal(rt, (index, large.p2_index()), (two, two));
     let zero = Page::<Size4KiB>::from_start_address_unchecked(VirtAddr::zero());
     assert!(rt; are_ordered(zero, small) && !are_ordered(small, small));
-}
-
-#[test]
-fn pages_have_five_indices(rt: HostRuntime) {
-    let small = page::<Size4KiB, FiveLevels>(0xfffe_ff7f_bfdf_e000);
-    let last = PageTableIndex::new(510);
-    assert_equal(rt, low_indices(small), [last; 4]);
-    assert_equal(rt, small.page_table_index(PageTableLevel57::Five), last);
-    assert_equal(rt, small.p5_index(), last);
+    let five = page::<Size4KiB, FiveLevels>(0xfffe_ff7f_bfdf_e000);
+    let index = five.page_table_index(PageTableLevel57::Five);
+    assert_equal(rt, [five.p5_index(), index], [PageTableIndex::new(510); 2]);
     let large: Page57<Size2MiB> = page(1 << 48);
     assert_equal(rt, large.p5_index(), PageTableIndex::new(1));
 }
@@ -188,180 +127,153 @@ fn pages_have_five_indices(rt: HostRuntime) {
 fn pages_have_given_indices(rt: HostRuntime) {
     let [one, two, three, last] = [1, 2, 3, 511].map(PageTableIndex::new_truncate);
     let small = Page::from_page_table_indices(last, one, two, three);
+    assert_equal(rt, small, page(0xffff_ff80_4040_3000));
     let large = Page::from_page_table_indices_2mib(one, two, three);
+    assert_equal(rt, large, page(0x80_8060_0000));
     let giant = Page::from_page_table_indices_1gib(last, last);
-    let found = (raw(Some(small)), raw(Some(large)), raw(Some(giant)));
-    let wanted = (
-        Some(0xffff_ff80_4040_3000),
-        Some(0x80_8060_0000),
-        Some(0xffff_ffff_c000_0000),
-    );
-    assert_equal(rt, found, wanted);
+    assert_equal(rt, giant, page(0xffff_ffff_c000_0000));
 }
 
 #[test]
 fn pages_have_texts(rt: HostRuntime) {
-    let address = 0x4020_1abc;
-    let (small, large): (Page<Size4KiB>, Page<Size2MiB>) = (page(address), page(address));
-    let giant: Page<Size1GiB> = page(address);
+    let small: Page<Size4KiB> = page(0x4020_1abc);
+    assert_text(rt, &small, "Page[4KiB](0x40201000)");
+    let large: Page<Size2MiB> = page(0x4020_1abc);
+    assert_text(rt, &large, "Page[2MiB](0x40200000)");
+    let giant: Page<Size1GiB> = page(0x4020_1abc);
+    assert_text(rt, &giant, "Page[1GiB](0x40000000)");
     let five: Page57<Size2MiB> = page(UPPER_FIRST_57);
-    let text = unwrap(
-        rt,
-        format!(in rt.alloc(); "{small:?} {large:?} {giant:?} {five:?}"),
-    );
-    assert_equal(
-        rt,
-        text.as_str(),
-        "Page[4KiB](0x40201000) Page[2MiB](0x40200000) Page[1GiB](0x40000000) \
-         Page57[2MiB](0xff00000000000000)",
-    );
+    assert_text(rt, &five, "Page57[2MiB](0xff00000000000000)");
 }
 
-/// The start of a 4KiB page, a number of steps, and the start of the page that they lead to, if any.
-type Steps = (u64, usize, Option<u64>);
+#[test]
+fn frames_have_texts(rt: HostRuntime) {
+    let small = frame::<Size4KiB>(0x4020_1abc);
+    assert_text(rt, &small, "PhysFrame[4KiB](0x40201000)");
+    let large = frame::<Size2MiB>(0x20_0000);
+    assert_text(rt, &large, "PhysFrame[2MiB](0x200000)");
+    let giant = frame::<Size1GiB>(0x4020_1abc);
+    assert_text(rt, &giant, "PhysFrame[1GiB](0x40000000)");
+}
 
-const FORWARD: [Steps; 13] = [
-    (0, 0, Some(0)),
-    (0, 1, Some(0x1000)),
-    (0x1000, 1, Some(0x2000)),
-    (LOWER_LAST, 1, Some(UPPER_FIRST)),
-    (UPPER_FIRST, 1, Some(0xffff_8000_0000_1000)),
-    (LAST, 1, None),
-    (LOWER_LAST, 0x1_2345_6789, Some(0xffff_9234_5678_8000)),
-    (LOWER_LAST, 1 << 35, Some(LAST)),
-    (0x7fff_fff0_0000, 0x8_0000_00ff, Some(LAST)),
-    (0x7fff_fff0_0000, 0x8_0000_0100, None),
-    (LOWER_LAST, (1 << 35) + 1, None),
-    (0, 1 << 20, Some(1 << 32)),
-    (0, usize::MAX, None),
+#[test]
+fn errors_have_texts(rt: HostRuntime) {
+    let (error, past) = (AddressNotAligned, PfnNotValid(0x100_0000_0000));
+    let text = unwrap(rt, format!(in rt.alloc(); "{error}: {past}"));
+    let wanted = "the given address was not sufficiently aligned: PfnNotValid(0x10000000000)";
+    assert_equal(rt, text.as_str(), wanted);
+}
+
+/// Steps along pages of 4KiB.
+const STEPS: [Steps; 20] = [
+    (Some(0), 0, Some(0)),
+    (Some(LAST), 0, Some(LAST)),
+    (Some(0), 1, Some(0x1000)),
+    (Some(0x1000), 1, Some(0x2000)),
+    (Some(LOWER_LAST), 1, Some(UPPER_FIRST)),
+    (Some(UPPER_FIRST), 1, Some(0xffff_8000_0000_1000)),
+    (Some(LOWER_LAST), 0x1_2345_6789, Some(0xffff_9234_5678_8000)),
+    (Some(LOWER_LAST), 1 << 35, Some(LAST)),
+    (Some(0x7fff_fff0_0000), 0x8_0000_00ff, Some(LAST)),
+    (Some(0), 1 << 20, Some(1 << 32)),
+    (Some(0), 1 << 32, Some(1 << 44)),
+    (Some(0), 1 << 35, Some(UPPER_FIRST)),
+    (Some(0xf_f000), 0x7_ffff_ff01, Some(UPPER_FIRST)),
+    (Some(LAST), 1, None),
+    (Some(0x7fff_fff0_0000), 0x8_0000_0100, None),
+    (Some(LOWER_LAST), (1 << 35) + 1, None),
+    (Some(0), usize::MAX, None),
+    (None, 1, Some(0)),
+    (None, (1 << 35) + 1, Some(UPPER_FIRST)),
+    (None, usize::MAX, Some(LAST)),
 ];
 
-const FORWARD_57: [Steps; 2] = [
-    (LOWER_LAST_57, 1, Some(UPPER_FIRST_57)),
-    (UPPER_FIRST_57, 1 << 44, None),
+const STEPS_57: [Steps; 2] = [
+    (Some(LOWER_LAST_57), 1, Some(UPPER_FIRST_57)),
+    (Some(UPPER_FIRST_57), 1 << 44, None),
 ];
 
-/// Steps forward, and compares the results.
-fn check_forward<L: LevelCount>(rt: impl Abort + Copy, rows: &[Steps]) {
-    for (start, count, wanted) in rows {
-        let found = PageIn::forward_checked(page::<Size4KiB, L>(*start), *count);
-        assert_equal_in(rt, (*start, *count), raw(found), *wanted);
+/// Steps along pages of 1GiB.
+const GIANT_STEPS: [Steps; 2] = [
+    (Some(0), 0x3_ffff, Some(0xffff_ffff_c000_0000)),
+    (Some(0), 0x4_0000, None),
+];
+
+impl<S: PageSize, L: LevelCount> Stepped for PageIn<S, L> {
+    fn at(raw: u64) -> Self {
+        page(raw)
     }
-}
 
-const BACKWARD: [Steps; 11] = [
-    (0, 0, Some(0)),
-    (0, 1, None),
-    (0x1000, 1, Some(0)),
-    (UPPER_FIRST, 1, Some(LOWER_LAST)),
-    (0xffff_8000_0000_1000, 1, Some(UPPER_FIRST)),
-    (0xffff_9234_5678_8000, 0x1_2345_6789, Some(LOWER_LAST)),
-    (UPPER_FIRST, 1 << 35, Some(0)),
-    (UPPER_FIRST, 0x7_ffff_ff01, Some(0xf_f000)),
-    (UPPER_FIRST, (1 << 35) + 1, None),
-    (1 << 32, 1 << 20, Some(0)),
-    (LAST, usize::MAX, None),
-];
-
-const BACKWARD_57: [Steps; 1] = [(UPPER_FIRST_57, 1, Some(LOWER_LAST_57))];
-
-/// Steps backward, and compares the results.
-fn check_backward<L: LevelCount>(rt: impl Abort + Copy, rows: &[Steps]) {
-    for (start, count, wanted) in rows {
-        let found = PageIn::backward_checked(page::<Size4KiB, L>(*start), *count);
-        assert_equal_in(rt, (*start, *count), raw(found), *wanted);
+    fn forward(self, count: usize) -> Option<Self> {
+        PageIn::forward_checked(self, count)
     }
-}
 
-/// Starts of 4KiB pages, and the number of steps from the first to the second.
-type Between = (u64, u64, (usize, Option<usize>));
+    fn backward(self, count: usize) -> Option<Self> {
+        PageIn::backward_checked(self, count)
+    }
 
-const BETWEEN: [Between; 10] = [
-    (0, 0, (0, Some(0))),
-    (LAST, LAST, (0, Some(0))),
-    (0, 0x1000, (1, Some(1))),
-    (0x1000, 0, (0, None)),
-    (LOWER_LAST, UPPER_FIRST, (1, Some(1))),
-    (UPPER_FIRST, LOWER_LAST, (0, None)),
-    (UPPER_FIRST, 0xffff_8000_0000_1000, (1, Some(1))),
-    (0xffff_8000_0000_1000, UPPER_FIRST, (0, None)),
-    (0, 1 << 32, (1 << 20, Some(1 << 20))),
-    (0, 1 << 44, (1 << 32, Some(1 << 32))),
-];
-
-const BETWEEN_57: [Between; 1] = [(LOWER_LAST_57, UPPER_FIRST_57, (1, Some(1)))];
-
-/// Counts the steps between pages, and compares the results.
-fn check_between<L: LevelCount>(rt: impl Abort + Copy, rows: &[Between]) {
-    for (start, end, wanted) in rows {
-        let (start, end) = (page::<Size4KiB, L>(*start), page(*end));
-        assert_equal_in(
-            rt,
-            (start, end),
-            PageIn::steps_between(&start, &end),
-            *wanted,
-        );
+    fn steps_to(self, other: Self) -> (usize, Option<usize>) {
+        PageIn::steps_between(&self, &other)
     }
 }
 
 #[test]
-fn pages_step(rt: HostRuntime) {
-    check_forward::<FourLevels>(rt, &FORWARD);
-    check_forward::<FiveLevels>(rt, &FORWARD_57);
-    check_backward::<FourLevels>(rt, &BACKWARD);
-    check_backward::<FiveLevels>(rt, &BACKWARD_57);
-    check_between::<FourLevels>(rt, &BETWEEN);
-    check_between::<FiveLevels>(rt, &BETWEEN_57);
+fn page_step_forward(rt: HostRuntime) {
+    check_forward::<Page<Size4KiB>>(rt, &STEPS);
+    check_forward::<Page57<Size4KiB>>(rt, &STEPS_57);
+    check_forward::<Page<Size1GiB>>(rt, &GIANT_STEPS);
 }
 
 #[test]
-fn large_pages_step(rt: HostRuntime) {
-    let (first, last): (Page<Size1GiB>, Page<Size1GiB>) = (page(0), page(LAST));
-    assert_equal(rt, Page::forward_checked(first, 0x3_ffff), Some(last));
-    assert_equal(rt, Page::forward_checked(first, 0x4_0000), None);
-    assert_equal(rt, Page::backward_checked(last, 0x3_ffff), Some(first));
-    let count = Page::steps_between(&first, &last);
-    assert_equal(rt, count, (0x3_ffff, Some(0x3_ffff)));
+fn page_step_backwards(rt: HostRuntime) {
+    check_backward::<Page<Size4KiB>>(rt, &STEPS);
+    check_backward::<Page57<Size4KiB>>(rt, &STEPS_57);
+    check_backward::<Page<Size1GiB>>(rt, &GIANT_STEPS);
+}
+
+#[test]
+fn page_steps_between(rt: HostRuntime) {
+    check_between::<Page<Size4KiB>>(rt, &STEPS);
+    check_between::<Page57<Size4KiB>>(rt, &STEPS_57);
+    check_between::<Page<Size1GiB>>(rt, &GIANT_STEPS);
+}
+
+/// Compares sums and differences of pages or frames of 2MiB, of which the second is given, and how one is made of its
+/// start address.
+macro_rules! check_sums {
+    ($rt:expr, $second:expr, $at:expr) => {
+        let mut large = $second;
+        assert_equal($rt, (large + 2, large - 1), ($at(0x60_0000), $at(0)));
+        large += 3;
+        assert_equal($rt, large, $at(0x80_0000));
+        large -= 2;
+        let zero = large - 2;
+        assert_equal($rt, (large, zero, large - zero), ($at(0x40_0000), $at(0), 2));
+    };
 }
 
 #[test]
 fn pages_have_sums(rt: HostRuntime) {
-    let mut large = Page::<Size2MiB>::containing_address(VirtAddr::new(0x20_0000));
-    assert_equal(rt, (large + 2).start_address(), VirtAddr::new(0x60_0000));
-    assert_equal(rt, (large - 1).start_address(), VirtAddr::zero());
-    large += 3;
-    assert_equal(rt, large.start_address(), VirtAddr::new(0x80_0000));
-    large -= 2;
-    let zero = Page::<Size2MiB>::containing_address(VirtAddr::zero());
-    assert_equal(rt, large - zero, 2);
+    let second = Page::<Size2MiB>::containing_address(VirtAddr::new(0x20_0000));
+    check_sums!(rt, second, page::<Size2MiB, FourLevels>);
 }
 
 #[test]
 fn pages_of_57_bits_have_sums(rt: HostRuntime) {
-    let mut large = Page57::<Size2MiB>::containing_address(VirtAddr57::new(0x20_0000));
-    large += 3;
-    large -= 2;
-    let zero = Page57::<Size2MiB>::containing_address(VirtAddr57::zero());
-    assert_equal(rt, large - zero, 2);
-    assert_equal(rt, (large + 1) - 3, zero);
+    let second = Page57::<Size2MiB>::containing_address(VirtAddr57::new(0x20_0000));
+    check_sums!(rt, second, page::<Size2MiB, FiveLevels>);
 }
 
 #[test]
 fn frames_have_sums(rt: HostRuntime) {
-    let mut large = PhysFrame::<Size2MiB>::containing_address(PhysAddr::new(0x20_0000));
-    assert_equal(rt, (large + 2).start_address(), PhysAddr::new(0x60_0000));
-    assert_equal(rt, (large - 1).start_address(), PhysAddr::zero());
-    large += 3;
-    assert_equal(rt, large.start_address(), PhysAddr::new(0x80_0000));
-    large -= 2;
-    let zero = PhysFrame::<Size2MiB>::containing_address(PhysAddr::zero());
-    assert_equal(rt, large - zero, 2);
+    let second = PhysFrame::<Size2MiB>::containing_address(PhysAddr::new(0x20_0000));
+    check_sums!(rt, second, frame::<Size2MiB>);
 }
 
-/// Compares the number of the frame that contains 3GiB and the frame with that number, and asserts that no frame has
-/// the number `past`.
-fn check_number<S: PageSize>(rt: impl Abort + Copy, number: u64, past: u64) {
-    let frame = frame::<S>(0xc000_0000);
+/// Compares the number of the frame that contains an address and the frame with that number, and asserts that no frame
+/// has the number `past`.
+fn check_number<S: PageSize>(rt: impl Abort + Copy, address: u64, number: u64, past: u64) {
+    let frame = frame::<S>(address);
     assert_equal(rt, frame.pfn(), number);
     assert_equal(rt, PhysFrame::try_from_pfn(number), Ok(frame));
     let refused = PhysFrame::<S>::try_from_pfn(past);
@@ -370,19 +282,14 @@ fn check_number<S: PageSize>(rt: impl Abort + Copy, number: u64, past: u64) {
 
 #[test]
 fn frames_have_numbers(rt: HostRuntime) {
-    check_number::<Size4KiB>(rt, 0xc_0000, 0x100_0000_0000);
-    check_number::<Size2MiB>(rt, 0x600, 0x8000_0000);
-    check_number::<Size1GiB>(rt, 3, u64::MAX);
+    check_number::<Size4KiB>(rt, 0xc000_0000, 0xc_0000, 0x100_0000_0000);
+    check_number::<Size4KiB>(rt, 0x12_3000, 0x123, u64::MAX);
+    check_number::<Size4KiB>(rt, u64::MAX, 0xff_ffff_ffff, u64::MAX);
+    check_number::<Size2MiB>(rt, 0xc000_0000, 0x600, 0x8000_0000);
+    check_number::<Size1GiB>(rt, 0xc000_0000, 3, u64::MAX);
     let found = PhysFrame::<Size4KiB>::from_pfn(0x123);
     assert_equal(rt, found, frame(0x12_3000));
-    assert_equal(rt, found.pfn(), 0x123);
-    assert_equal(rt, PhysFrame::try_from_pfn(0x123), Ok(found));
     assert_equal(rt, PhysFrame::from_pfn_unchecked(0x123), found);
-    let last = PhysFrame::<Size4KiB>::try_from_pfn(0xff_ffff_ffff);
-    assert_equal(rt, last, Ok(frame(0x000f_ffff_ffff_f000)));
-    let past = PfnNotValid(0x100_0000_0000);
-    let text = unwrap(rt, format!(in rt.alloc(); "{past}"));
-    assert_equal(rt, text.as_str(), "PfnNotValid(0x10000000000)");
 }
 
 /// Calls the laws of a size, which hold for all its pages and frames.

@@ -1,91 +1,59 @@
 //! Tests of address spaces that share the upper half, with four levels of page tables and with five.
 
-use crate::assertions::{assert_equal_in, unwrap};
+use crate::assertions::{Test, assert_equal, assert_equal_in, unwrap};
 use crate::tables::frame_at;
-use crate::tables::phys_memory::{Word, pool_with, set_words};
-use std::alloc::Global;
-use std::process::Abort;
+use crate::tables::phys_memory::{memory_of, pool_with, set_words};
 use x86_64_addr::index::PageTableIndex;
 use x86_64_addr::level_count::{FiveLevels, FourLevels, LevelCount};
 use x86_64_spaces::{SharedIndices, Space, spaces_fit, spaces_fit_by_marks};
 use x86_64_tables::phys_memory::{IdentityMapping, PhysMemory, TableMemory};
 
 /// The words of two spaces, which share the tables in frames 0x3000 and 0x4000. Frames 0x5000 and 0x6000 have a table of each.
-const TWO: [Word; 5] = [
-    (0x1000, 256, 0x3003),
-    (0x2000, 256, 0x3003),
-    (0x3000, 0, 0x4003),
-    (0x1000, 0, 0x5003),
-    (0x2000, 0, 0x6003),
+const TWO: [u64; 15] = [
+    0x1000, 256, 0x3003, 0x2000, 256, 0x3003, 0x3000, 0, 0x4003, 0x1000, 0, 0x5003, 0x2000, 0,
+    0x6003,
 ];
-
-/// Creates a memory of 16 places with the words of two spaces, and then with more words.
-fn memory_with(rt: impl Abort + Copy, alloc: Global, more: &[Word]) -> PhysMemory {
-    let mut memory = unwrap(rt, PhysMemory::new(alloc, 16));
-    set_words(rt, &mut memory, &TWO);
-    set_words(rt, &mut memory, more);
-    memory
-}
-
-/// Returns the space with a root and a recursive index.
-fn space_at(root: u64, recursive: Option<u16>) -> Space {
-    Space {
-        root: frame_at(root),
-        recursive: recursive.map(|index| PageTableIndex::new_truncate(index)),
-    }
-}
 
 /// A root and a recursive index.
 type Root = (u64, Option<u16>);
 
 /// Returns the spaces with some roots.
-fn spaces_at(rt: impl Abort + Copy, alloc: Global, roots: &[Root]) -> Vec<Space> {
-    let mut spaces = Vec::new(alloc);
+fn spaces_at(rt: impl Test, roots: &[Root]) -> Vec<Space> {
+    let mut spaces = Vec::new(rt.alloc());
     for (root, recursive) in roots {
-        unwrap(rt, spaces.push(space_at(*root, *recursive)));
+        let root = frame_at(*root);
+        let recursive = recursive.map(PageTableIndex::new_truncate);
+        unwrap(rt, spaces.push(Space { root, recursive }));
     }
     spaces
 }
 
 /// Returns whether address spaces share the upper half, and a pool of these frames fits them.
-fn fit<L: LevelCount>(
-    rt: impl Abort + Copy,
-    alloc: Global,
-    memory: &PhysMemory,
-    roots: &[Root],
-    frames: &[u64],
-) -> bool {
-    let spaces = spaces_at(rt, alloc, roots);
-    let pool = pool_with(rt, alloc, 16, frames);
-    let half = SharedIndices::UPPER_HALF;
-    let tested = spaces_fit::<L, _, _>(alloc, memory, &IdentityMapping, &spaces, half, &pool);
+fn fit<L: LevelCount>(rt: impl Test, memory: &PhysMemory, roots: &[Root], frames: &[u64]) -> bool {
+    let (spaces, pool) = (spaces_at(rt, roots), pool_with(rt, 16, frames));
+    let (mapping, half) = (IdentityMapping, SharedIndices::UPPER_HALF);
+    let tested = spaces_fit::<L, _, _>(rt.alloc(), memory, &mapping, &spaces, half, &pool);
     unwrap(rt, tested)
 }
 
 /// Returns the same by marks, all of them set at first, and whether an array has room.
 fn fit_in<L: LevelCount>(
-    rt: impl Abort + Copy,
-    alloc: Global,
+    rt: impl Test,
     memory: &PhysMemory,
     roots: &[Root],
     frames: &[u64],
     capacity: usize,
 ) -> bool {
-    let spaces = spaces_at(rt, alloc, roots);
-    let mut marks = unwrap(rt, vec![in alloc; true; memory.len()]);
+    let spaces = spaces_at(rt, roots);
+    let (mapping, half) = (IdentityMapping, SharedIndices::UPPER_HALF);
+    let mut marks = unwrap(rt, vec![in rt.alloc(); true; memory.len()]);
     spaces_fit_by_marks::<L, _, _>(
-        memory,
-        &IdentityMapping,
-        &spaces,
-        SharedIndices::UPPER_HALF,
-        frames,
-        capacity,
-        &mut marks,
+        memory, &mapping, &spaces, half, frames, capacity, &mut marks,
     )
 }
 
 /// More words, the roots, the frames of a pool, and whether these are address spaces that the pool fits.
-type Row = (&'static [Word], &'static [Root], &'static [u64], bool);
+type Row = (&'static [u64], &'static [Root], &'static [u64], bool);
 
 const BOTH: [Root; 2] = [(0x1000, None), (0x2000, None)];
 
@@ -93,64 +61,55 @@ const ROWS: [Row; 19] = [
     (&[], &BOTH, &[0x7000], true),
     (&[], &[(0x1000, None)], &[0x2000], true),
     (&[], &[], &[0x1000], true),
-    (
-        &[(0x8000, 256, 0x3003)],
-        &[(0x8000, None), (0x1000, None)],
-        &[0x7000],
-        true,
-    ),
+    (&[0x8000, 256, 0x3003], &BEHIND, &[0x7000], true),
     // A root is met twice, in the list and below another one.
     (&[], &[(0x1000, None), (0x1000, None)], &[], false),
-    (&[(0x1000, 1, 0x2003)], &BOTH, &[], false),
+    (&[0x1000, 1, 0x2003], &BOTH, &[], false),
     // A table is in two spaces, but not below a shared index.
-    (&[(0x2000, 1, 0x5003)], &BOTH, &[], false),
-    (&[(0x2000, 255, 0x4003)], &BOTH, &[], false),
+    (&[0x2000, 1, 0x5003], &BOTH, &[], false),
+    (&[0x2000, 255, 0x4003], &BOTH, &[], false),
     // The words at a shared index differ.
-    (&[(0x2000, 256, 0x3001)], &BOTH, &[], false),
-    (&[(0x1000, 511, 0x7003)], &BOTH, &[], false),
+    (&[0x2000, 256, 0x3001], &BOTH, &[], false),
+    (&[0x1000, 511, 0x7003], &BOTH, &[], false),
     // A free frame is a root or a table.
     (&[], &BOTH, &[0x7000, 0x2000], false),
     (&[], &BOTH, &[0x6000], false),
     (&[], &BOTH, &[0x4000], false),
     // Each root may have a recursive index, shared or not.
-    (
-        &[(0x1000, 511, 0x1003)],
-        &[(0x1000, Some(511)), (0x2000, None)],
-        &[0x7000],
-        true,
-    ),
-    (
-        &[(0x1000, 511, 0x1003), (0x2000, 511, 0x2003)],
-        &[(0x1000, Some(511)), (0x2000, Some(511))],
-        &[0x7000],
-        true,
-    ),
-    (
-        &[(0x2000, 5, 0x2003)],
-        &[(0x1000, None), (0x2000, Some(5))],
-        &[],
-        true,
-    ),
+    (&[0x1000, 511, 0x1003], &FIRST, &[0x7000], true),
+    (&SELF_ENTRIES, &SHARED, &[0x7000], true),
+    (&[0x2000, 5, 0x2003], &SECOND, &[], true),
     // The second root has the first one's self-entry, or none.
     (
-        &[(0x1000, 511, 0x1003), (0x2000, 511, 0x1003)],
-        &[(0x1000, Some(511)), (0x2000, None)],
+        &[0x1000, 511, 0x1003, 0x2000, 511, 0x1003],
+        &FIRST,
         &[],
         false,
     ),
-    (&[], &[(0x1000, None), (0x2000, Some(5))], &[], false),
+    (&[], &SECOND, &[], false),
     (&[], &[(0x1000, None), (0x1_0000, None)], &[], false),
 ];
+
+const BEHIND: [Root; 2] = [(0x8000, None), (0x1000, None)];
+
+const FIRST: [Root; 2] = [(0x1000, Some(511)), (0x2000, None)];
+
+const SECOND: [Root; 2] = [(0x1000, None), (0x2000, Some(5))];
+
+const SHARED: [Root; 2] = [(0x1000, Some(511)), (0x2000, Some(511))];
+
+const SELF_ENTRIES: [u64; 6] = [0x1000, 511, 0x1003, 0x2000, 511, 0x2003];
 
 #[test]
 fn spaces_share_the_upper_half(rt: HostRuntime) {
     for (words, roots, frames, wanted) in ROWS {
-        let memory = memory_with(rt, rt.alloc(), words);
+        let mut memory = memory_of(rt, &TWO);
+        set_words(rt, &mut memory, words);
         let found = [
-            fit::<FourLevels>(rt, rt.alloc(), &memory, roots, frames),
-            fit::<FiveLevels>(rt, rt.alloc(), &memory, roots, frames),
-            fit_in::<FourLevels>(rt, rt.alloc(), &memory, roots, frames, 16),
-            fit_in::<FiveLevels>(rt, rt.alloc(), &memory, roots, frames, 16),
+            fit::<FourLevels>(rt, &memory, roots, frames),
+            fit::<FiveLevels>(rt, &memory, roots, frames),
+            fit_in::<FourLevels>(rt, &memory, roots, frames, 16),
+            fit_in::<FiveLevels>(rt, &memory, roots, frames, 16),
         ];
         assert_equal_in(rt, (words, roots, frames), found, [wanted; 4]);
     }
@@ -159,12 +118,11 @@ fn spaces_share_the_upper_half(rt: HostRuntime) {
 #[test]
 fn shared_tables_have_as_many_levels(rt: HostRuntime) {
     // The word maps a page with four levels. With five, no word of its level may have HUGE_PAGE.
-    let memory = memory_with(rt, rt.alloc(), &[(0x3000, 1, 0x83)]);
-    let found = (
-        fit::<FourLevels>(rt, rt.alloc(), &memory, &BOTH, &[]),
-        fit::<FiveLevels>(rt, rt.alloc(), &memory, &BOTH, &[]),
-    );
-    assert_equal_in(rt, "HUGE_PAGE", found, (true, false));
+    let mut memory = memory_of(rt, &TWO);
+    set_words(rt, &mut memory, &[0x3000, 1, 0x83]);
+    let four = fit::<FourLevels>(rt, &memory, &BOTH, &[]);
+    let five = fit::<FiveLevels>(rt, &memory, &BOTH, &[]);
+    assert_equal(rt, (four, five), (true, false));
 }
 
 /// The frames of a pool, how many frames its array has room for, and whether it has room for them and the six tables.
@@ -179,9 +137,9 @@ const ROOMS: [(&[u64], usize, bool); 6] = [
 
 #[test]
 fn arrays_have_room_for_all_spaces(rt: HostRuntime) {
-    let memory = memory_with(rt, rt.alloc(), &[]);
+    let memory = memory_of(rt, &TWO);
     for (frames, capacity, wanted) in ROOMS {
-        let found = fit_in::<FourLevels>(rt, rt.alloc(), &memory, &BOTH, frames, capacity);
+        let found = fit_in::<FourLevels>(rt, &memory, &BOTH, frames, capacity);
         assert_equal_in(rt, (frames, capacity), found, wanted);
     }
 }

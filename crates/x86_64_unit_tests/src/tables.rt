@@ -6,12 +6,12 @@ mod mapper;
 mod page_table;
 pub(crate) mod phys_memory;
 
-use crate::assertions::{assert_equal, assert_equal_at, unwrap, unwrap_some};
+use crate::assertions::{assert_equal, assert_equal_in, unwrap, unwrap_some};
 use bitflags::Flags;
-use x86_64_addr::addr::{PhysAddr, VirtAddr};
+use x86_64_addr::addr::PhysAddr;
 use x86_64_page::frame::PhysFrame;
-use x86_64_page::page::{Page, Size2MiB, Size4KiB};
-use x86_64_tables::mapper::{MapperFlush, MapperFlushAll, parent_flags};
+use x86_64_page::page::Size4KiB;
+use x86_64_tables::mapper::parent_flags;
 use x86_64_tables::page_table::PageTableFlags;
 use x86_64_tables::phys_memory::{FramePlace, IdentityMapping, PageTableFrameMapping, PhysMemory};
 
@@ -37,24 +37,13 @@ fn flags_have_parts(rt: HostRuntime) {
     for (bits, parents, has_address) in PARTS {
         let flags = PageTableFlags::from_bits_retain(bits);
         let found = (parent_flags(flags).bits(), flags.has_address_bits());
-        assert_equal_at(rt, bits, found, (parents, has_address));
+        assert_equal_in(rt, bits, found, (parents, has_address));
     }
 }
 
-#[test]
-fn tokens_name_pages(rt: HostRuntime) {
-    let page = Page::<Size2MiB>::containing_address(VirtAddr::new(0x20_0000));
-    let flush = MapperFlush::new(page);
-    assert_equal(rt, flush.page(), page);
-    flush.ignore();
-    MapperFlushAll::new().ignore();
-}
-
-/// Returns the address and the flags of word 3 of the table at a place (the index of a table in memory), if there is
-/// one.
-fn word_at(memory: &PhysMemory, place: FramePlace) -> Option<(u64, u64)> {
-    let entry = &memory.table(place)?[3];
-    Some((entry.addr().as_u64(), entry.flags().bits()))
+/// Returns word 3 of the table at a place (the index of a table in memory), if there is one.
+fn word_at(memory: &PhysMemory, place: FramePlace) -> Option<u64> {
+    Some(memory.table(place)?[3].word())
 }
 
 #[test]
@@ -65,8 +54,8 @@ fn memory_has_tables_at_places(rt: HostRuntime) {
     let place = IdentityMapping.frame_to_pointer(frame);
     assert_equal(rt, place, FramePlace::new(7));
     let table = unwrap_some(rt, memory.table_mut(place));
-    table[3].set_addr(PhysAddr::new(0x1000), PageTableFlags::PRESENT);
-    assert_equal(rt, word_at(&memory, place), Some((0x1000, 0x1)));
+    table[3].set_word(0x1001);
+    assert_equal(rt, word_at(&memory, place), Some(0x1001));
     assert!(rt; memory.table_mut(FramePlace::new(8)).is_none());
 }
 
@@ -75,6 +64,6 @@ fn memory_is_indexed_by_places(rt: HostRuntime) {
     let mut memory = unwrap(rt, PhysMemory::new(rt.alloc(), 8));
     let place = FramePlace::new(7);
     assert!(rt; memory[place].is_empty());
-    memory[place][3].set_addr(PhysAddr::new(0x1000), PageTableFlags::PRESENT);
-    assert_equal(rt, word_at(&memory, place), Some((0x1000, 0x1)));
+    memory[place][3].set_word(0x1001);
+    assert_equal(rt, word_at(&memory, place), Some(0x1001));
 }

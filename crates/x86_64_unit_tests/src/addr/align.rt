@@ -8,12 +8,11 @@ use x86_64_addr::level_count::{FiveLevels, FourLevels, LevelCount};
 /// Returns the least multiple of `align` that isn't below a number. Returns `None` if `align` is no power of two, or
 /// the multiple has more than 64 bits.
 fn aligned_up(addr: u64, align: u64) -> Option<u64> {
-    if align.is_power_of_two() {
-        addr.checked_next_multiple_of(align)?;
-        Some(align_up(addr, align))
-    } else {
-        None
+    if !align.is_power_of_two() {
+        return None;
     }
+    addr.checked_next_multiple_of(align)?;
+    Some(align_up(addr, align))
 }
 
 /// Numbers, alignments, and the least multiple that isn't below the number, if there is one.
@@ -32,7 +31,7 @@ const NUMBERS: [(u64, u64, Option<u64>); 10] = [
 
 #[test]
 #[tactic(auto, using(x86_64_addr::proofs::PowersOfTwo::numeral_power))]
-fn numbers_are_aligned(rt: HostRuntime) {
+fn test_align_up(rt: HostRuntime) {
     for (addr, align, multiple) in NUMBERS {
         assert_equal_in(rt, (addr, align), aligned_up(addr, align), multiple);
     }
@@ -59,7 +58,7 @@ fn aligned<L: LevelCount>(raw: u64, align: u64) -> Option<(Option<u64>, u64, boo
 /// aligned.
 type Row = (u64, u64, Option<u64>, u64, bool);
 
-const ADDRESSES: [Row; 7] = [
+const ROWS: [Row; 7] = [
     (LAST_LOW, 2, Some(FIRST_HIGH), LAST_LOW - 1, false),
     (FIRST_HIGH, 1 << 47, Some(FIRST_HIGH), FIRST_HIGH, true),
     (FIRST_HIGH, 1 << 48, None, 0, false),
@@ -69,7 +68,7 @@ const ADDRESSES: [Row; 7] = [
     (0x2001, 2, Some(0x2002), 0x2000, false),
 ];
 
-const ADDRESSES_57: [Row; 3] = [
+const ROWS_57: [Row; 3] = [
     (LAST_LOW_57, 2, Some(FIRST_HIGH_57), LAST_LOW_57 - 1, false),
     (
         FIRST_HIGH_57,
@@ -89,10 +88,11 @@ fn check_aligned<L: LevelCount>(rt: impl Abort + Copy, rows: &[Row]) {
     }
 }
 
+/// The rows of `test_virt_addr_align_up` and `test_virt_addr_align_down` of the Rust crate, and more.
 #[test]
-fn virtual_addresses_are_aligned(rt: HostRuntime) {
-    check_aligned::<FourLevels>(rt, &ADDRESSES);
-    check_aligned::<FiveLevels>(rt, &ADDRESSES_57);
+fn test_virt_addr_align_up_and_align_down(rt: HostRuntime) {
+    check_aligned::<FourLevels>(rt, &ROWS);
+    check_aligned::<FiveLevels>(rt, &ROWS_57);
 }
 
 #[test]

@@ -1,114 +1,128 @@
 //! Steps along addresses and indices, from the tests of the Rust crate and beyond.
 use crate::addr::{FIRST_HIGH, FIRST_HIGH_57, LAST_LOW, LAST_LOW_57};
 use crate::assertions::assert_equal_in;
+use std::fmt::Debug;
 use std::process::Abort;
-use x86_64_addr::addr::VirtAddrIn;
+use x86_64_addr::addr::{VirtAddr, VirtAddr57, VirtAddrIn};
 use x86_64_addr::index::PageTableIndex;
-use x86_64_addr::level_count::{FiveLevels, FourLevels, LevelCount};
+use x86_64_addr::level_count::LevelCount;
 
-/// The raw value of a start, a number of steps, and the raw value that they lead to, if any.
-type Steps = (u64, usize, Option<u64>);
+/// The raw value of a start, a number of steps, and the raw value of the end that they lead to. Without a start, that
+/// many steps back from the end lead nowhere, and without an end, that many from the start.
+pub(crate) type Steps = (Option<u64>, usize, Option<u64>);
 
-/// Returns the address with a raw value.
-fn address<L: LevelCount>(raw: u64) -> VirtAddrIn<L> {
-    VirtAddrIn::new_truncate(raw)
-}
-
-/// Returns the address that steps lead to, if any.
-fn end<L: LevelCount>(raw: Option<u64>) -> Option<VirtAddrIn<L>> {
-    Some(VirtAddrIn::new_truncate(raw?))
-}
-
-const FORWARD: [Steps; 11] = [
-    (0, 0, Some(0)),
-    (0, 1, Some(1)),
-    (LAST_LOW, 1, Some(FIRST_HIGH)),
-    (FIRST_HIGH, 1, Some(FIRST_HIGH + 1)),
-    (u64::MAX, 1, None),
-    (LAST_LOW, 1 << 47, Some(u64::MAX)),
-    (0x7fff_ffff_ff00, 0x8000_0000_00ff, Some(u64::MAX)),
-    (0x7fff_ffff_ff00, 0x8000_0000_0100, None),
-    (LAST_LOW, (1 << 47) + 1, None),
-    (LAST_LOW, 0x1234_5678_9abd, Some(0xffff_9234_5678_9abc)),
-    (1, usize::MAX, None),
+const STEPS: [Steps; 18] = [
+    (Some(0), 0, Some(0)),
+    (Some(0), 1, Some(1)),
+    (Some(0), 1 << 32, Some(1 << 32)),
+    (Some(LAST_LOW), 1, Some(FIRST_HIGH)),
+    (Some(FIRST_HIGH), 0, Some(FIRST_HIGH)),
+    (Some(FIRST_HIGH), 1, Some(FIRST_HIGH + 1)),
+    (Some(LAST_LOW), 1 << 47, Some(u64::MAX)),
+    (Some(0x7fff_ffff_ff00), 0x8000_0000_00ff, Some(u64::MAX)),
+    (
+        Some(LAST_LOW),
+        0x1234_5678_9abd,
+        Some(0xffff_9234_5678_9abc),
+    ),
+    (Some(0), 1 << 47, Some(FIRST_HIGH)),
+    (Some(0xff), 0x7fff_ffff_ff01, Some(FIRST_HIGH)),
+    (Some(u64::MAX), 1, None),
+    (Some(0x7fff_ffff_ff00), 0x8000_0000_0100, None),
+    (Some(LAST_LOW), (1 << 47) + 1, None),
+    (Some(1), usize::MAX, None),
+    (None, 1, Some(0)),
+    (None, (1 << 47) + 1, Some(FIRST_HIGH)),
+    (None, usize::MAX, Some(u64::MAX)),
 ];
 
-const FORWARD_57: [Steps; 3] = [
-    (LAST_LOW_57, 1, Some(FIRST_HIGH_57)),
-    (LAST_LOW_57, 1 << 56, Some(u64::MAX)),
-    (LAST_LOW_57, (1 << 56) + 1, None),
+const STEPS_57: [Steps; 4] = [
+    (Some(LAST_LOW_57), 1, Some(FIRST_HIGH_57)),
+    (Some(LAST_LOW_57), 1 << 56, Some(u64::MAX)),
+    (Some(LAST_LOW_57), (1 << 56) + 1, None),
+    (None, 1 << 56, Some(LAST_LOW_57)),
 ];
 
-/// Steps forward, and compares the results.
-fn check_forward<L: LevelCount>(rt: impl Abort + Copy, rows: &[Steps]) {
-    for (start, count, wanted) in rows {
-        let found = VirtAddrIn::<L>::forward_checked(address(*start), *count);
-        assert_equal_in(rt, (*start, *count), found, end(*wanted));
+/// Addresses and pages, which are reached by steps.
+pub(crate) trait Stepped: Copy + Debug + PartialEq + Drop {
+    /// Returns the value at a raw address.
+    fn at(raw: u64) -> Self;
+
+    fn forward(self, count: usize) -> Option<Self>;
+
+    fn backward(self, count: usize) -> Option<Self>;
+
+    fn steps_to(self, other: Self) -> (usize, Option<usize>);
+}
+
+impl<L: LevelCount> Stepped for VirtAddrIn<L> {
+    fn at(raw: u64) -> Self {
+        VirtAddrIn::new_truncate(raw)
+    }
+
+    fn forward(self, count: usize) -> Option<Self> {
+        VirtAddrIn::forward_checked(self, count)
+    }
+
+    fn backward(self, count: usize) -> Option<Self> {
+        VirtAddrIn::backward_checked(self, count)
+    }
+
+    fn steps_to(self, other: Self) -> (usize, Option<usize>) {
+        VirtAddrIn::steps_between(&self, &other)
     }
 }
 
-const BACKWARD: [Steps; 10] = [
-    (0, 0, Some(0)),
-    (0, 1, None),
-    (1, 1, Some(0)),
-    (FIRST_HIGH, 1, Some(LAST_LOW)),
-    (FIRST_HIGH + 1, 1, Some(FIRST_HIGH)),
-    (0xffff_9234_5678_9abc, 0x1234_5678_9abd, Some(LAST_LOW)),
-    (FIRST_HIGH, 1 << 47, Some(0)),
-    (FIRST_HIGH, 0x7fff_ffff_ff01, Some(0xff)),
-    (FIRST_HIGH, (1 << 47) + 1, None),
-    (u64::MAX, usize::MAX, None),
-];
+/// Returns the value at a raw address, if there is one.
+fn at<T: Stepped>(raw: Option<u64>) -> Option<T> {
+    Some(T::at(raw?))
+}
 
-const BACKWARD_57: [Steps; 2] = [
-    (FIRST_HIGH_57, 1, Some(LAST_LOW_57)),
-    (LAST_LOW_57, 1 << 56, None),
-];
-
-/// Steps backward, and compares the results.
-fn check_backward<L: LevelCount>(rt: impl Abort + Copy, rows: &[Steps]) {
-    for (start, count, wanted) in rows {
-        let found = VirtAddrIn::<L>::backward_checked(address(*start), *count);
-        assert_equal_in(rt, (*start, *count), found, end(*wanted));
+/// Compares what is a number of steps after a start.
+pub(crate) fn check_forward<T: Stepped>(rt: impl Abort + Copy, rows: &[Steps]) {
+    for (start, count, end) in rows {
+        if let Some(start) = at::<T>(*start) {
+            assert_equal_in(rt, (start, *count), start.forward(*count), at(*end));
+        }
     }
 }
 
-/// The raw values of a start and an end, and the number of steps from start to end.
-type Between = (u64, u64, (usize, Option<usize>));
+/// Compares what is a number of steps before an end.
+pub(crate) fn check_backward<T: Stepped>(rt: impl Abort + Copy, rows: &[Steps]) {
+    for (start, count, end) in rows {
+        if let Some(end) = at::<T>(*end) {
+            assert_equal_in(rt, (end, *count), end.backward(*count), at(*start));
+        }
+    }
+}
 
-const BETWEEN: [Between; 9] = [
-    (0, 0, (0, Some(0))),
-    (FIRST_HIGH, FIRST_HIGH, (0, Some(0))),
-    (0, 1, (1, Some(1))),
-    (LAST_LOW, FIRST_HIGH, (1, Some(1))),
-    (FIRST_HIGH, FIRST_HIGH + 1, (1, Some(1))),
-    (0, 1 << 32, (1 << 32, Some(1 << 32))),
-    (1, 0, (0, None)),
-    (FIRST_HIGH, LAST_LOW, (0, None)),
-    (FIRST_HIGH + 1, FIRST_HIGH, (0, None)),
-];
-
-const BETWEEN_57: [Between; 2] = [
-    (LAST_LOW_57, FIRST_HIGH_57, (1, Some(1))),
-    (FIRST_HIGH_57, LAST_LOW_57, (0, None)),
-];
-
-/// Counts the steps between addresses, and compares the results.
-fn check_between<L: LevelCount>(rt: impl Abort + Copy, rows: &[Between]) {
-    for (start, end, wanted) in rows {
-        let found = VirtAddrIn::<L>::steps_between(&address(*start), &address(*end));
-        assert_equal_in(rt, (*start, *end), found, *wanted);
+/// Compares the numbers of steps between a start and an end, and back.
+pub(crate) fn check_between<T: Stepped>(rt: impl Abort + Copy, rows: &[Steps]) {
+    for (start, count, end) in rows {
+        if let (Some(start), Some(end)) = (at::<T>(*start), at::<T>(*end)) {
+            let found = (start.steps_to(end), end.steps_to(start));
+            let back = if *count == 0 { Some(0) } else { None };
+            assert_equal_in(rt, (start, end), found, ((*count, Some(*count)), (0, back)));
+        }
     }
 }
 
 #[test]
-fn addresses_step(rt: HostRuntime) {
-    check_forward::<FourLevels>(rt, &FORWARD);
-    check_forward::<FiveLevels>(rt, &FORWARD_57);
-    check_backward::<FourLevels>(rt, &BACKWARD);
-    check_backward::<FiveLevels>(rt, &BACKWARD_57);
-    check_between::<FourLevels>(rt, &BETWEEN);
-    check_between::<FiveLevels>(rt, &BETWEEN_57);
+fn virtaddr_step_forward(rt: HostRuntime) {
+    check_forward::<VirtAddr>(rt, &STEPS);
+    check_forward::<VirtAddr57>(rt, &STEPS_57);
+}
+
+#[test]
+fn virtaddr_step_backward(rt: HostRuntime) {
+    check_backward::<VirtAddr>(rt, &STEPS);
+    check_backward::<VirtAddr57>(rt, &STEPS_57);
+}
+
+#[test]
+fn virtaddr_steps_between(rt: HostRuntime) {
+    check_between::<VirtAddr>(rt, &STEPS);
+    check_between::<VirtAddr57>(rt, &STEPS_57);
 }
 
 /// Indices, numbers of steps, and the indices that they lead to forward and backward, if any.

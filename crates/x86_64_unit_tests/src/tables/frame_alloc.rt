@@ -4,7 +4,7 @@ ghost use Rattle.x86_64_model.specs.Lists.{EachOnce};
 
 mod lent_pool;
 
-use crate::assertions::{assert_equal, assert_equal_at, assert_equal_in, unwrap};
+use crate::assertions::{assert_equal, assert_equal_in, unwrap};
 use crate::tables::frame_at;
 use crate::tables::phys_memory::pool_with;
 use std::process::Abort;
@@ -23,31 +23,30 @@ fn check_frames(rt: impl Abort + Copy, pool: &FramePool, frames: &[u64]) {
     }
 }
 
-/// Frames that are added to a pool with the limit 8, one after another, and the results.
-const ADDED: [(u64, Result<(), PoolRefusal>); 5] = [
-    (0x0, Err(PoolRefusal::Zero)),
-    (0x8000, Err(PoolRefusal::OutOfRange)),
-    (0x2000, Ok(())),
-    (0x2000, Err(PoolRefusal::AlreadyFree)),
-    (0x7000, Ok(())),
+/// Frames that are added to a pool with the limit 8, one after another, the results, and whether the pool has them then.
+const ADDED: [(u64, Result<(), PoolRefusal>, bool); 5] = [
+    (0x0, Err(PoolRefusal::Zero), false),
+    (0x8000, Err(PoolRefusal::OutOfRange), false),
+    (0x2000, Ok(()), true),
+    (0x2000, Err(PoolRefusal::AlreadyFree), true),
+    (0x7000, Ok(()), true),
 ];
 
 #[test]
 fn pool_refuses_what_it_cannot_serve(rt: HostRuntime) {
-    let mut pool = pool_with(rt, rt.alloc(), 8, &[]);
+    let mut pool = pool_with(rt, 8, &[]);
     check_frames(rt, &pool, &[]);
-    for (frame, wanted) in ADDED {
-        assert_equal_at(rt, frame, pool.try_add(frame_at(frame)), wanted);
+    for (frame, wanted, is_free) in ADDED {
+        assert_equal_in(rt, frame, pool.try_add(frame_at(frame)), wanted);
+        assert_equal_in(rt, frame, pool.contains(frame_at(frame)), is_free);
     }
     check_frames(rt, &pool, &[0x2000, 0x7000]);
-    for (frame, wanted) in [(0x2000, true), (0x3000, false), (0x8000, false)] {
-        assert_equal_at(rt, frame, pool.contains(frame_at(frame)), wanted);
-    }
+    assert!(rt; !pool.contains(frame_at(0x3000)));
 }
 
 #[test]
 fn limits_may_be_any(rt: HostRuntime) {
-    let mut pool = pool_with(rt, rt.alloc(), 0, &[]);
+    let mut pool = pool_with(rt, 0, &[]);
     let added = (pool.try_add(frame_at(0x0)), pool.try_add(frame_at(0x1000)));
     let wanted = (Err(PoolRefusal::Zero), Err(PoolRefusal::OutOfRange));
     assert_equal(rt, added, wanted);
@@ -83,8 +82,8 @@ const EQUAL: [(&[u64], &[u64], bool); 5] = [
 fn pools_are_equal_as_lists(rt: HostRuntime) {
     for (one, other, wanted) in EQUAL {
         // The limits don't count.
-        let first = pool_with(rt, rt.alloc(), 8, one);
-        let second = pool_with(rt, rt.alloc(), 16, other);
+        let first = pool_with(rt, 8, one);
+        let second = pool_with(rt, 16, other);
         assert_equal_in(rt, (one, other), first == second, wanted);
     }
 }

@@ -1,6 +1,5 @@
 //! Tests of TLB flushes.
-use crate::assertions::{assert_equal, assert_equal_in};
-use std::alloc::Global;
+use crate::assertions::{Test, assert_equal, assert_equal_in};
 use std::process::Abort;
 use x86_64_addr::addr::{VirtAddr, VirtAddr57};
 use x86_64_page::page::{Page, Page57, PageSize, Size1GiB, Size2MiB, Size4KiB};
@@ -9,7 +8,9 @@ use x86_64_tables::mapper::{FlushItem, FlushRecorder, MapperFlush, MapperFlush57
 /// Flushes the page of a size at an address.
 fn flush_page<S: PageSize>(rt: impl Abort + Copy, recorder: &mut FlushRecorder, start: u64) {
     let page = Page::<S>::containing_address(VirtAddr::new_truncate(start));
-    let answer = MapperFlush::new(page).flush(recorder);
+    let token = MapperFlush::new(page);
+    assert_equal(rt, token.page(), page);
+    let answer = token.flush(recorder);
     assert_equal(rt, answer.map_err(MapperFlush::ignore), Ok(()));
 }
 
@@ -21,15 +22,13 @@ fn flush_all(rt: impl Abort + Copy, recorder: &mut FlushRecorder) {
 
 /// Returns the item of a page.
 fn item(start: u64, size: u64) -> FlushItem {
-    FlushItem::Page {
-        start: VirtAddr::new_truncate(start),
-        size,
-    }
+    let start = VirtAddr::new_truncate(start);
+    FlushItem::Page { start, size }
 }
 
 /// Flushes pages and all pages in turn, with room reserved before, and compares the items.
-fn check_recorded(rt: impl Abort + Copy, alloc: Global, room: usize, items: &[FlushItem]) {
-    let mut recorder = FlushRecorder::new(alloc);
+fn check_recorded(rt: impl Test, room: usize, items: &[FlushItem]) {
+    let mut recorder = FlushRecorder::new(rt.alloc());
     assert!(rt; recorder.items().is_empty());
     assert_equal(rt, recorder.reserve(room), Ok(()));
     flush_page::<Size4KiB>(rt, &mut recorder, 0x1000);
@@ -53,22 +52,32 @@ fn flushes_are_recorded_in_order(rt: HostRuntime) {
         item(0xffff_8000_0000_0000, 4096),
     ];
     for room in [0, 2, 4, 8] {
-        check_recorded(rt, rt.alloc(), room, &items);
+        check_recorded(rt, room, &items);
     }
+}
+
+/// Flushes the page of 57 bits at an address, and compares the item.
+fn check_item_57(rt: impl Test, start: u64) {
+    let (start, size) = (VirtAddr57::new_truncate(start), 2_097_152);
+    let page = Page57::<Size2MiB>::containing_address(start);
+    let mut recorder = FlushRecorder::new(rt.alloc());
+    let token = MapperFlush57::new(page);
+    assert_equal(rt, token.page(), page);
+    let answer = token.flush(&mut recorder);
+    assert_equal(rt, answer.map_err(MapperFlush57::ignore), Ok(()));
+    let items = [FlushItem::Page57 { start, size }];
+    assert_equal(rt, recorder.items(), items.as_slice());
 }
 
 #[test]
 fn flushes_of_pages_of_57_bits_are_recorded(rt: HostRuntime) {
-    let size = 2_097_152;
-    for start in [0x20_0000, 0xff00_0000_0000_0000] {
-        let start = VirtAddr57::new_truncate(start);
-        let mut recorder = FlushRecorder::new(rt.alloc());
-        let page = Page57::<Size2MiB>::containing_address(start);
-        let token = MapperFlush57::new(page);
-        assert_equal(rt, token.page(), page);
-        let answer = token.flush(&mut recorder);
-        assert_equal(rt, answer.map_err(MapperFlush57::ignore), Ok(()));
-        let items = [FlushItem::Page57 { start, size }];
-        assert_equal(rt, recorder.items(), items.as_slice());
-    }
+    check_item_57(rt, 0x20_0000);
+    check_item_57(rt, 0xff00_0000_0000_0000);
+}
+
+#[test]
+fn tokens_are_ignored(_rt: HostRuntime) {
+    let page = Page::<Size2MiB>::containing_address(VirtAddr::zero());
+    MapperFlush::new(page).ignore();
+    MapperFlushAll::new().ignore();
 }

@@ -1,9 +1,7 @@
 //! Tests of flags, entries and tables.
-use crate::assertions::{assert_equal, assert_equal_at, unwrap, unwrap_some};
+use crate::assertions::{Test, assert_equal, assert_equal_in, assert_text, unwrap, unwrap_some};
 use crate::tables::frame_at;
 use bitflags::Flags;
-use std::alloc::Global;
-use std::process::Abort;
 use x86_64_addr::addr::PhysAddr;
 use x86_64_addr::index::PageTableIndex;
 use x86_64_tables::page_table::{FrameError, PageTable, PageTableEntry, PageTableFlags};
@@ -41,73 +39,57 @@ fn flags_have_places(rt: HostRuntime) {
     }
 }
 
+/// Compares the bits of several flags, which are all equal.
+fn check_bits(rt: impl Test, bits: u64, flags: &[PageTableFlags]) {
+    for flags in flags {
+        assert_equal(rt, flags.bits(), bits);
+    }
+}
+
 #[test]
 fn operators_are_of_bits(rt: HostRuntime) {
     let low = PageTableFlags::PRESENT | PageTableFlags::WRITABLE;
     let high = PageTableFlags::WRITABLE | PageTableFlags::NO_EXECUTE;
     let odd = PageTableFlags::from_bits_retain(0x1003);
-    let rows = [
-        (low, 0x3),
-        (low | high, 0x8000_0000_0000_0003),
-        (low.union(high), 0x8000_0000_0000_0003),
-        (low & high, 0x2),
-        (low.intersection(high), 0x2),
-        (low ^ high, 0x8000_0000_0000_0001),
-        (low.symmetric_difference(high), 0x8000_0000_0000_0001),
-        (low - high, 0x1),
-        (low.difference(high), 0x1),
-        (!low, 0xfff0_0000_0000_0ffc),
-        (low.complement(), 0xfff0_0000_0000_0ffc),
-        (odd | high, 0x8000_0000_0000_1003),
-        (odd & odd, 0x1003),
-        (odd ^ low, 0x1000),
-        (odd - low, 0x1000),
-        (!odd, 0xfff0_0000_0000_0ffc),
-        (PageTableFlags::empty(), 0x0),
-        (PageTableFlags::all(), 0xfff0_0000_0000_0fff),
-        (PageTableFlags::from_bits_retain(0x1003), 0x1003),
-        (PageTableFlags::from_bits_truncate(0x1003), 0x3),
-    ];
-    for (flags, bits) in rows {
-        assert_equal(rt, flags.bits(), bits);
-    }
+    check_bits(rt, 0x8000_0000_0000_0003, &[low | high, low.union(high)]);
+    check_bits(rt, 0x2, &[low & high, low.intersection(high)]);
+    let only_one = [low ^ high, low.symmetric_difference(high)];
+    check_bits(rt, 0x8000_0000_0000_0001, &only_one);
+    check_bits(rt, 0x1, &[low - high, low.difference(high)]);
+    check_bits(rt, 0xfff0_0000_0000_0ffc, &[!low, low.complement(), !odd]);
+    check_bits(rt, 0x8000_0000_0000_1003, &[odd | high]);
+    check_bits(rt, 0x1003, &[odd, odd & odd]);
+    check_bits(rt, 0x1000, &[odd ^ low, odd - low]);
+    check_bits(rt, 0x3, &[low, PageTableFlags::from_bits_truncate(0x1003)]);
+    check_bits(rt, 0x0, &[PageTableFlags::empty()]);
+    check_bits(rt, 0xfff0_0000_0000_0fff, &[PageTableFlags::all()]);
 }
 
 #[test]
 fn flags_change_in_place(rt: HostRuntime) {
     let low = PageTableFlags::PRESENT | PageTableFlags::WRITABLE;
     let high = PageTableFlags::WRITABLE | PageTableFlags::NO_EXECUTE;
-    let (mut or, mut and, mut xor, mut sub) = (low, low, low, low);
+    let (mut or, mut inserted, mut with) = (low, low, low);
     or |= high;
-    and &= high;
-    xor ^= high;
-    sub -= high;
-    let (mut inserted, mut removed, mut toggled) = (low, low, low);
     inserted.insert(high);
-    removed.remove(high);
-    toggled.toggle(high);
-    let (mut with, mut without, mut cleared) = (low, low, low);
     with.set(high, true);
+    check_bits(rt, 0x8000_0000_0000_0003, &[or, inserted, with]);
+    let (mut sub, mut removed, mut without) = (low, low, low);
+    sub -= high;
+    removed.remove(high);
     without.set(high, false);
+    check_bits(rt, 0x1, &[sub, removed, without]);
+    let (mut xor, mut toggled) = (low, low);
+    xor ^= high;
+    toggled.toggle(high);
+    check_bits(rt, 0x8000_0000_0000_0001, &[xor, toggled]);
+    let (mut and, mut cleared) = (low, low);
+    and &= high;
     cleared.clear();
     let mut truncated = PageTableFlags::from_bits_retain(0x1003);
     truncated.truncate();
-    let rows = [
-        (or, 0x8000_0000_0000_0003),
-        (inserted, 0x8000_0000_0000_0003),
-        (with, 0x8000_0000_0000_0003),
-        (and, 0x2),
-        (xor, 0x8000_0000_0000_0001),
-        (toggled, 0x8000_0000_0000_0001),
-        (sub, 0x1),
-        (removed, 0x1),
-        (without, 0x1),
-        (cleared, 0x0),
-        (truncated, 0x3),
-    ];
-    for (flags, bits) in rows {
-        assert_equal(rt, flags.bits(), bits);
-    }
+    let found = (and.bits(), cleared.bits(), truncated.bits());
+    assert_equal(rt, found, (0x2, 0x0, 0x3));
 }
 
 /// Bits, and whether they have both low flags, at least one of them, no bit at all, all known flags, and unknown
@@ -133,63 +115,40 @@ fn flags_are_asked(rt: HostRuntime) {
             flags.is_all(),
             flags.contains_unknown_bits(),
         ];
-        assert_equal_at(rt, bits, asked, answers);
+        assert_equal_in(rt, bits, asked, answers);
         let read = if answers[4] { None } else { Some(flags) };
-        assert_equal_at(rt, bits, PageTableFlags::from_bits(bits), read);
+        assert_equal_in(rt, bits, PageTableFlags::from_bits(bits), read);
     }
 }
 
-#[test]
-fn flags_have_texts(rt: HostRuntime) {
-    let (none, all) = (PageTableFlags::empty(), PageTableFlags::all());
-    let odd = PageTableFlags::from_bits_retain(0x1003);
-    let text = unwrap(rt, format!(in rt.alloc(); "{none:?} {odd:?} {all:?}"));
-    assert_equal(
-        rt,
-        text.as_str(),
-        "PageTableFlags(0x0) PageTableFlags(0x1003) PageTableFlags(0xfff0000000000fff)",
-    );
-}
-
-/// The address and the flags of an entry, its word, and the frame that it names, or the error.
-type EntryRow = (u64, u64, u64, Result<u64, FrameError>);
-
-const ENTRIES: [EntryRow; 6] = [
-    (0x0, 0x0, 0x0, Err(FrameError::FrameNotPresent)),
-    (0x5000, 0x0, 0x5000, Err(FrameError::FrameNotPresent)),
-    (0x5000, 0x82, 0x5082, Err(FrameError::FrameNotPresent)),
-    (
-        0x5000,
-        0x8000_0000_0000_0083,
-        0x8000_0000_0000_5083,
-        Err(FrameError::HugeFrame),
-    ),
-    (0x6000, 0x3, 0x6003, Ok(0x6000)),
-    (
-        0x000f_ffff_ffff_f000,
-        0x1,
-        0x000f_ffff_ffff_f001,
-        Ok(0x000f_ffff_ffff_f000),
-    ),
+/// The address and the flags of an entry, and the frame that it names, or the error.
+const ENTRIES: [(u64, u64, Result<u64, FrameError>); 6] = [
+    (0x0, 0x0, Err(FrameError::FrameNotPresent)),
+    (0x5000, 0x0, Err(FrameError::FrameNotPresent)),
+    (0x5000, 0x82, Err(FrameError::FrameNotPresent)),
+    (0x5000, 0x8000_0000_0000_0083, Err(FrameError::HugeFrame)),
+    (0x6000, 0x3, Ok(0x6000)),
+    (0x000f_ffff_ffff_f000, 0x1, Ok(0x000f_ffff_ffff_f000)),
 ];
 
 /// Returns the parts of an entry: its word, its address and flags, and whether it is unused.
 fn parts(entry: &PageTableEntry) -> (u64, u64, u64, bool) {
     let (addr, flags) = (entry.addr().as_u64(), entry.flags().bits());
-    (addr | flags, addr, flags, entry.is_unused())
+    (entry.word(), addr, flags, entry.is_unused())
 }
 
 #[test]
 fn entries_are_words(rt: HostRuntime) {
-    for (start, bits, word, frame) in ENTRIES {
+    for (start, bits, frame) in ENTRIES {
+        let word = start | bits;
         let addr = frame_at(start).start_address();
         let mut entry = PageTableEntry::new();
         entry.set_addr(addr, PageTableFlags::from_bits_retain(bits));
-        assert_equal_at(rt, word, parts(&entry), (word, start, bits, word == 0));
-        assert_equal_at(rt, word, entry.frame(), frame.map(frame_at));
+        assert_equal_in(rt, word, parts(&entry), (word, start, bits, word == 0));
+        assert_equal_in(rt, word, entry.frame(), frame.map(frame_at));
         entry.set_flags(PageTableFlags::empty());
-        assert_equal_at(rt, word, parts(&entry), (start, start, 0, start == 0));
-        assert_equal_at(rt, word, entry.frame(), Err(FrameError::FrameNotPresent));
+        assert_equal_in(rt, word, parts(&entry), (start, start, 0, start == 0));
+        assert_equal_in(rt, word, entry.frame(), Err(FrameError::FrameNotPresent));
     }
 }
 
@@ -204,11 +163,9 @@ const WORDS: [(u64, u64, u64); 3] = [
 fn entries_hold_any_word(rt: HostRuntime) {
     let mut changed = PageTableEntry::from_word(0x5003);
     for (word, addr, flags) in WORDS {
-        let wanted = (word, (word, addr, flags, word == 0));
-        let made = PageTableEntry::from_word(word);
-        assert_equal_at(rt, word, (made.word(), parts(&made)), wanted);
         changed.set_word(word);
-        assert_equal_at(rt, word, (changed.word(), parts(&changed)), wanted);
+        let found = [parts(&PageTableEntry::from_word(word)), parts(&changed)];
+        assert_equal(rt, found, [(word, addr, flags, word == 0); 2]);
     }
 }
 
@@ -222,28 +179,25 @@ fn entries_are_changed(rt: HostRuntime) {
     entry.set_frame(frame_at(0x6000), low);
     let copy = unwrap(rt, entry.clone());
     entry.set_flags(PageTableFlags::NO_EXECUTE);
-    assert_equal(
-        rt,
-        (entry.word(), copy.word()),
-        (0x8000_0000_0000_6000, 0x6003),
-    );
+    let words = (entry.word(), copy.word());
+    assert_equal(rt, words, (0x8000_0000_0000_6000, 0x6003));
     entry.set_unused();
     assert!(rt; entry.is_unused());
 }
 
 #[test]
-fn entries_have_texts(rt: HostRuntime) {
-    let mut entry = PageTableEntry::new();
-    let flags = PageTableFlags::from_bits_retain(0x3);
-    entry.set_addr(PhysAddr::new(0x5000), flags);
+fn flags_and_entries_have_texts(rt: HostRuntime) {
+    let none = PageTableFlags::empty();
+    assert_text(rt, &none, "PageTableFlags(0x0)");
+    let odd = PageTableFlags::from_bits_retain(0x1003);
+    assert_text(rt, &odd, "PageTableFlags(0x1003)");
+    let all = PageTableFlags::all();
+    assert_text(rt, &all, "PageTableFlags(0xfff0000000000fff)");
+    let entry = PageTableEntry::from_word(0x5003);
+    let wanted = "PageTableEntry { addr: PhysAddr(0x5000), flags: PageTableFlags(0x3) }";
+    assert_text(rt, &entry, wanted);
     let errors = [FrameError::FrameNotPresent, FrameError::HugeFrame];
-    let text = unwrap(rt, format!(in rt.alloc(); "{entry:?} {errors:?}"));
-    assert_equal(
-        rt,
-        text.as_str(),
-        "PageTableEntry { addr: PhysAddr(0x5000), flags: PageTableFlags(0x3) } \
-         [FrameNotPresent, HugeFrame]",
-    );
+    assert_text(rt, &errors, "[FrameNotPresent, HugeFrame]");
 }
 
 #[test]
@@ -265,32 +219,25 @@ fn tables_are_lists_of_words(rt: HostRuntime) {
 fn tables_have_texts(rt: HostRuntime) {
     let mut table = PageTable::new();
     table[511].set_addr(PhysAddr::new(0x6000), PageTableFlags::WRITABLE);
-    let text = unwrap(rt, format!(in rt.alloc(); "{table:?}"));
-    let wanted = text_of(rt, &table, rt.alloc());
-    assert_equal(rt, text.as_str(), wanted.as_str());
+    let wanted = text_of(rt, &table);
+    assert_text(rt, &table, &wanted);
 }
 
 /// Returns the texts of all entries, separated by commas, in brackets.
-fn text_of(rt: impl Abort + Copy, table: &PageTable, alloc: Global) -> String {
-    let mut text = unwrap(rt, format!(in alloc; "[{:?}", table[0]));
+fn text_of(rt: impl Test, table: &PageTable) -> String {
+    let mut text = unwrap(rt, format!(in rt.alloc(); "[{:?}", table[0]));
     for index in 1..512 {
-        text = unwrap(rt, format!(in alloc; "{text}, {:?}", table[index]));
+        text = unwrap(rt, format!(in rt.alloc(); "{text}, {:?}", table[index]));
     }
-    unwrap(rt, format!(in alloc; "{text}]"))
-}
-
-/// Creates a table in which the word of each entry is its index, through a loan of the entries in order.
-fn table_of_indices() -> PageTable {
-    let mut table = PageTable::new();
-    for (index, entry) in table.iter_mut().enumerate() {
-        entry.set_flags(PageTableFlags::from_bits_retain(index as u64));
-    }
-    table
+    unwrap(rt, format!(in rt.alloc(); "{text}]"))
 }
 
 #[test]
 fn entries_come_in_order(rt: HostRuntime) {
-    let table = table_of_indices();
+    let mut table = PageTable::new();
+    for (index, entry) in table.iter_mut().enumerate() {
+        entry.set_word(index as u64);
+    }
     let mut entries = table.iter();
     assert_equal(rt, entries.size_hint(), (512, Some(512)));
     for index in 0..512 {

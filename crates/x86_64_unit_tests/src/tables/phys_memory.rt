@@ -1,342 +1,261 @@
 //! Tests of page walks, of hierarchies and of pools that fit them, over memories that are given as words, with four
-//! levels of page tables and with five.
+//! levels of page tables and with five. Here is what `pagetab` doesn't show: see `tests/pagetab/validity.txt` and
+//! `tests/pagetab/page_walks.txt`.
+mod active;
 mod alike;
-mod lent;
-mod lent_marks;
 mod places;
-mod recursive;
 
-use crate::assertions::{assert_equal, assert_equal_at, assert_equal_in, unwrap, unwrap_some};
+use crate::assertions::{Test, assert_equal_in, unwrap, unwrap_some};
 use crate::tables::frame_at;
-use bitflags::Flags;
-use std::alloc::Global;
-use std::process::Abort;
-use x86_64_addr::addr::{PhysAddr, VirtAddrIn};
+use x86_64_addr::addr::VirtAddrIn;
 use x86_64_addr::index::PageTableIndex;
 use x86_64_addr::level_count::{FiveLevels, FourLevels, LevelCount};
 use x86_64_tables::frame_alloc::FramePool;
-use x86_64_tables::page_table::PageTableFlags;
 use x86_64_tables::phys_memory::{
-    FramePlace, IdentityMapping, PhysMemory, TableMemory, Walked, is_valid_hierarchy,
-    is_valid_hierarchy_57, page_walk, pool_fits, pool_fits_57,
+    FramePlace, IdentityMapping, PhysMemory, TableMemory, is_valid_by_marks, is_valid_hierarchy,
+    is_valid_hierarchy_57, is_valid_recursive, is_valid_recursive_57, page_walk, pool_fits,
+    pool_fits_57, pool_fits_by_marks, pool_fits_recursive, pool_fits_recursive_57,
 };
 
-/// A word, after its frame and its index.
-pub(crate) type Word = (u64, u16, u64);
-
-/// The bits of a word that are flags.
-const FLAGS_MASK: u64 = 0xfff0_0000_0000_0fff;
-
-/// Sets words of a memory.
-pub(crate) fn set_words<T: TableMemory>(rt: impl Abort + Copy, memory: &mut T, words: &[Word]) {
-    for (frame, index, word) in words {
-        let table = unwrap_some(rt, memory.table_mut(FramePlace::new(*frame / 0x1000)));
-        let flags = PageTableFlags::from_bits_retain(*word & FLAGS_MASK);
-        let entry = &mut table[PageTableIndex::new_truncate(*index)];
-        entry.set_addr(frame_at(*word).start_address(), flags);
+/// Sets words of a memory, each given as its frame, its index and its value, as in the lines of `pagetab`.
+pub(crate) fn set_words<T: TableMemory>(rt: impl Test, memory: &mut T, words: &[u64]) {
+    for word in words.chunks_exact(3) {
+        if let [frame, index, word] = word {
+            let table = unwrap_some(rt, memory.table_mut(FramePlace::new(*frame / 0x1000)));
+            table[PageTableIndex::new_truncate((*index % 512) as u16)].set_word(*word);
+        }
     }
 }
 
-/// Sets all words of the table in a frame to one value.
-pub(crate) fn fill(rt: impl Abort + Copy, memory: &mut PhysMemory, frame: u64, word: u64) {
-    for index in 0..512 {
-        set_words(rt, memory, &[(frame, index, word)]);
-    }
-}
-
-/// Creates a memory of 8 places with words, and then with more words. A place is the index of a table in memory.
-fn memory_of(rt: impl Abort + Copy, alloc: Global, words: &[Word], more: &[Word]) -> PhysMemory {
-    let mut memory = unwrap(rt, PhysMemory::new(alloc, 8));
+/// Creates a memory of 16 places with words. A place is the index of a table in memory.
+pub(crate) fn memory_of(rt: impl Test, words: &[u64]) -> PhysMemory {
+    let mut memory = unwrap(rt, PhysMemory::new(rt.alloc(), 16));
     set_words(rt, &mut memory, words);
-    set_words(rt, &mut memory, more);
     memory
 }
 
-/// Creates a memory in which the root's first word names the table in frame 0x2000, whose words have all bits set.
-fn memory_of_ones(rt: impl Abort + Copy, alloc: Global) -> PhysMemory {
-    let mut memory = unwrap(rt, PhysMemory::new(alloc, 8));
-    set_words(rt, &mut memory, &[(0x1000, 0, 0x2003)]);
-    fill(rt, &mut memory, 0x2000, u64::MAX);
+/// Creates a memory of 8 places with words.
+fn small_memory_of(rt: impl Test, words: &[u64]) -> PhysMemory {
+    let mut memory = unwrap(rt, PhysMemory::new(rt.alloc(), 8));
+    set_words(rt, &mut memory, words);
     memory
 }
 
 /// Creates a pool with a limit and with frames, given by their start addresses.
-pub(crate) fn pool_with(
-    rt: impl Abort + Copy,
-    alloc: Global,
-    limit: u64,
-    frames: &[u64],
-) -> FramePool {
-    let mut pool = unwrap(rt, FramePool::new(alloc, limit));
+pub(crate) fn pool_with(rt: impl Test, limit: u64, frames: &[u64]) -> FramePool {
+    let mut pool = unwrap(rt, FramePool::new(rt.alloc(), limit));
     for frame in frames {
         unwrap(rt, pool.try_add(frame_at(*frame)));
     }
     pool
 }
 
-/// Returns whether a pool fits the hierarchy of four levels, or otherwise of five, below the root in frame 0x1000.
-fn fits(
-    rt: impl Abort + Copy,
-    alloc: Global,
-    levels: u64,
-    memory: &PhysMemory,
-    (limit, frames): (u64, &[u64]),
-) -> bool {
-    let pool = pool_with(rt, alloc, limit, frames);
-    let root = frame_at(0x1000);
-    let tested = if levels == 4 {
-        pool_fits(alloc, memory, &IdentityMapping, root, &pool)
-    } else {
-        pool_fits_57(alloc, memory, &IdentityMapping, root, &pool)
-    };
-    unwrap(rt, tested)
-}
-
-/// Returns whether words are a valid hierarchy of four levels, or otherwise of five, below the root in frame 0x1000.
-fn is_valid(rt: impl Abort + Copy, alloc: Global, levels: u64, memory: &PhysMemory) -> bool {
-    let root = frame_at(0x1000);
-    let tested = if levels == 4 {
-        is_valid_hierarchy(alloc, memory, &IdentityMapping, root)
-    } else {
-        is_valid_hierarchy_57(alloc, memory, &IdentityMapping, root)
-    };
-    unwrap(rt, tested)
-}
-
-/// Walks the tables from the root in frame 0x1000.
-fn walk<L: LevelCount>(memory: &PhysMemory, addr: u64) -> Option<Walked> {
+/// Walks the tables from the root in frame 0x1000, and returns the raw address where the walk arrives, and its rights.
+fn walk<L: LevelCount>(memory: &PhysMemory, addr: u64) -> Option<(u64, bool, bool)> {
     let addr = VirtAddrIn::<L>::new_truncate(addr);
-    page_walk(memory, &IdentityMapping, frame_at(0x1000), addr)
-}
-
-/// Returns where a page walk arrives, without `USER_ACCESSIBLE`.
-fn arrival(wanted: Option<(u64, bool)>) -> Option<Walked> {
-    let (address, write) = wanted?;
-    Some(Walked {
-        address: PhysAddr::new_truncate(address),
-        write,
-        user: false,
-    })
-}
-
-/// Words, an address, and where its page walk arrives and whether it may write, if it arrives.
-type Walk = (&'static [Word], u64, Option<(u64, bool)>);
-
-const WALKS: [Walk; 7] = [
-    (
-        &[
-            (0x1000, 0, 0x2003),
-            (0x2000, 0, 0x3003),
-            (0x3000, 0, 0x4003),
-            (0x4000, 1, 0x5003),
-        ],
-        0x1abc,
-        Some((0x5abc, true)),
-    ),
-    (&[(0x1000, 0, 0x2003), (0x2000, 0, 0x3080)], 0, None),
-    (&[(0x1000, 0, 0x9003)], 0, None),
-    (&[], 0, None),
-    (
-        &[
-            (0x1000, 0, 0x2001),
-            (0x2000, 0, 0x3001),
-            (0x3000, 1, 0x40_0081),
-        ],
-        0x23_4567,
-        Some((0x43_4567, false)),
-    ),
-    (
-        &[(0x1000, 0, 0x2003), (0x2000, 1, 0x8000_0083)],
-        0x4012_3456,
-        Some((0x8012_3456, true)),
-    ),
-    (
-        &[(0x1000, 511, 0x2003), (0x2000, 511, 0x4000_0083)],
-        0xffff_ffff_c000_0001,
-        Some((0x4000_0001, true)),
-    ),
-];
-
-const WALKS_57: [Walk; 5] = [
-    (
-        &[
-            (0x1000, 0, 0x2003),
-            (0x2000, 0, 0x3003),
-            (0x3000, 0, 0x4003),
-            (0x4000, 0, 0x5003),
-            (0x5000, 1, 0x6003),
-        ],
-        0x1abc,
-        Some((0x6abc, true)),
-    ),
-    (
-        &[
-            (0x1000, 256, 0x2003),
-            (0x2000, 0, 0x3001),
-            (0x3000, 1, 0x4000_0083),
-        ],
-        0xff00_0000_4000_0001,
-        Some((0x4000_0001, false)),
-    ),
-    (&[(0x1000, 0, 0x2003), (0x2000, 0, 0x83)], 0, None),
-    (&[(0x1000, 0, 0x83)], 0, None),
-    (&[(0x1000, 0, 0x2003), (0x2000, 0, 0x3003)], 0, None),
-];
-
-/// Walks, and compares the results.
-fn check_walks<L: LevelCount>(rt: impl Abort + Copy, alloc: Global, rows: &[Walk]) {
-    for (words, addr, wanted) in rows {
-        let memory = memory_of(rt, alloc, words, &[]);
-        assert_equal_at(rt, *addr, walk::<L>(&memory, *addr), arrival(*wanted));
-    }
+    let walked = page_walk(memory, &IdentityMapping, frame_at(0x1000), addr)?;
+    Some((walked.address.as_u64(), walked.write, walked.user))
 }
 
 #[test]
-fn walks_arrive(rt: HostRuntime) {
-    check_walks::<FourLevels>(rt, rt.alloc(), &WALKS);
-    check_walks::<FiveLevels>(rt, rt.alloc(), &WALKS_57);
+fn walks_end_in_words_that_name_no_table(rt: HostRuntime) {
+    let memory = small_memory_of(rt, &[0x1000, 0, 0x9003, 0x1000, 1, 0x83]);
+    assert_equal_in(rt, "a missing table", walk::<FourLevels>(&memory, 0), None);
+    assert_equal_in(rt, "level five", walk::<FiveLevels>(&memory, 1 << 48), None);
+    let memory = small_memory_of(rt, &[0x1000, 0, 0x2003, 0x2000, 0, 0x83]);
+    assert_equal_in(rt, "level four", walk::<FiveLevels>(&memory, 0), None);
+    let wanted = Some((0, true, false));
+    assert_equal_in(rt, "level three", walk::<FourLevels>(&memory, 0), wanted);
 }
 
-#[test]
-fn walks_arrive_through_ones(rt: HostRuntime) {
-    let memory = memory_of_ones(rt, rt.alloc());
-    let wanted = arrival(Some((0x000f_ffff_c000_0000, true)));
-    assert_equal(rt, walk::<FourLevels>(&memory, 0), wanted);
-    check_pools(rt, rt.alloc(), 4, &memory, &POOLS_BESIDE_ONES);
+/// The number of levels, and whether there is the recursive index 510 (that of the root's entry for itself).
+type Form = (u64, bool);
+
+const FORMS: [Form; 4] = [(4, false), (5, false), (4, true), (5, true)];
+
+/// Returns whether words are a valid hierarchy below the root in frame 0x1000.
+fn is_valid(rt: impl Test, form: Form, memory: &PhysMemory) -> bool {
+    let (root, index) = (frame_at(0x1000), PageTableIndex::new(510));
+    let (alloc, mapping) = (rt.alloc(), IdentityMapping);
+    let tested = match form {
+        (4, false) => is_valid_hierarchy(alloc, memory, &mapping, root),
+        (4, true) => is_valid_recursive(alloc, memory, root, index),
+        (_, false) => is_valid_hierarchy_57(alloc, memory, &mapping, root),
+        (_, true) => is_valid_recursive_57(alloc, memory, root, index),
+    };
+    unwrap(rt, tested)
 }
 
-/// Words, and whether they are a valid hierarchy of four levels, and of five.
-const HIERARCHIES: [(&[Word], bool, bool); 4] = [
-    (&[], true, true),
-    (&[(0x1000, 0, 0x2003), (0x2000, 0, 0x83)], true, false),
+/// Returns the same by marks, all of them set at first, without a recursive index.
+fn is_valid_in<L: LevelCount>(rt: impl Test, memory: &PhysMemory) -> bool {
+    let mut marks = unwrap(rt, vec![in rt.alloc(); true; memory.len()]);
+    is_valid_by_marks::<L, _, _>(memory, &IdentityMapping, frame_at(0x1000), &mut marks)
+}
+
+/// The words of a hierarchy with five levels, with a 4KiB page, with writable tables and with a self-entry at the
+/// index 510.
+const RECURSIVE_57: [u64; 18] = [
+    0x1000, 510, 0x1003, 0x1000, 0, 0x2003, 0x2000, 0, 0x3003, 0x3000, 0, 0x4003, 0x4000, 0,
+    0x5003, 0x5000, 1, 0x6001,
+];
+
+/// Words, and whether they are a valid hierarchy in each form.
+const HIERARCHIES: [(&[u64], [bool; 4]); 7] = [
+    (&[], [true, true, false, false]),
     (
-        &[
-            (0x1000, 0, 0x2003),
-            (0x2000, 0, 0x3003),
-            (0x3000, 0, 0x4003),
-            (0x4000, 0, 0x9003),
-        ],
-        true,
-        false,
+        &[0x1000, 0, 0x2003, 0x2000, 0, 0x83],
+        [true, false, false, false],
     ),
-    (&[(0x1000, 0, 0x1003)], false, false),
+    (&FOUR_TABLES, [true, false, false, false]),
+    (&[0x1000, 0, 0x1003], [false; 4]),
+    (&RECURSIVE_57, [false, false, true, true]),
+    (&NAMED_TWICE, [false, false, true, false]),
+    (&[0x1000, 510, 0x1002], [false; 4]),
+];
+
+/// Words of which the last one maps a page with four levels. With five it names a table that the memory lacks.
+const FOUR_TABLES: [u64; 12] = [
+    0x1000, 0, 0x2003, 0x2000, 0, 0x3003, 0x3000, 0, 0x4003, 0x4000, 0, 0x9003,
+];
+
+/// Words of which the last two name one table with five levels.
+const NAMED_TWICE: [u64; 18] = [
+    0x1000, 510, 0x1003, 0x1000, 0, 0x2003, 0x2000, 0, 0x3003, 0x3000, 0, 0x4003, 0x4000, 0,
+    0x5003, 0x4000, 1, 0x5003,
 ];
 
 #[test]
 fn hierarchies_are_valid_with_as_many_levels(rt: HostRuntime) {
-    for (words, four, five) in HIERARCHIES {
-        let memory = memory_of(rt, rt.alloc(), words, &[]);
-        let found = (
-            is_valid(rt, rt.alloc(), 4, &memory),
-            is_valid(rt, rt.alloc(), 5, &memory),
+    for (words, wanted) in HIERARCHIES {
+        let memory = small_memory_of(rt, words);
+        let found = FORMS.map(|form| is_valid(rt, form, &memory));
+        assert_equal_in(rt, words, found, wanted);
+        let by_marks = (
+            is_valid_in::<FourLevels>(rt, &memory),
+            is_valid_in::<FiveLevels>(rt, &memory),
         );
-        assert_equal_in(rt, words, found, (four, five));
+        assert_equal_in(rt, words, by_marks, (wanted[0], wanted[1]));
     }
 }
 
-/// Words, the limit and the frames of a pool, and whether it fits.
-static ROOT_POOLS: [(&[Word], (u64, &[u64]), bool); 11] = [
-    (&[], (8, &[0x2000, 0x3000, 0x4000]), true),
-    (&[], (8, &[]), true),
-    (&[], (8, &[0x7000]), true),
-    (&[], (9, &[0x7000, 0x8000]), false),
-    (&[], (8, &[0x1000]), false),
-    (&[], (8, &[0x2000, 0x1000]), false),
-    (&[], (0, &[]), true),
-    (&[(0x1000, 0, 0x1003)], (8, &[0x2000]), false),
-    (&[(0x1000, 0, 0x80)], (8, &[0x2000]), false),
-    (&[(0x1000, 0, 0x8003)], (16, &[0x2000]), false),
-    (
-        &[(0x1000, 0, 0x2003), (0x1000, 1, 0x2002)],
-        (8, &[0x3000]),
-        false,
-    ),
+/// The limit and the frames of a pool.
+type Pool = (u64, &'static [u64]);
+
+/// Returns whether a pool fits the hierarchy below the root in frame 0x1000.
+fn fits(rt: impl Test, form: Form, memory: &PhysMemory, (limit, frames): Pool) -> bool {
+    let (root, index) = (frame_at(0x1000), PageTableIndex::new(510));
+    let (alloc, mapping) = (rt.alloc(), IdentityMapping);
+    let pool = pool_with(rt, limit, frames);
+    let tested = match form {
+        (4, false) => pool_fits(alloc, memory, &mapping, root, &pool),
+        (4, true) => pool_fits_recursive(alloc, memory, root, index, &pool),
+        (_, false) => pool_fits_57(alloc, memory, &mapping, root, &pool),
+        (_, true) => pool_fits_recursive_57(alloc, memory, root, index, &pool),
+    };
+    unwrap(rt, tested)
+}
+
+/// The words of a hierarchy with four tables, one of them named without `PRESENT`.
+const TABLES: [u64; 15] = [
+    0x1000, 0, 0x2003, 0x2000, 0, 0x3003, 0x3000, 0, 0x4002, 0x3000, 1, 0x5083, 0x4000, 0, 0x6003,
+];
+
+/// This with five levels and five tables.
+const TABLES_57: [u64; 15] = [
+    0x1000, 0, 0x2003, 0x2000, 0, 0x3003, 0x3000, 0, 0x4003, 0x4000, 0, 0x5002, 0x5000, 0, 0x6003,
+];
+
+/// The words of a hierarchy with three tables and with a self-entry at the index 510.
+const RECURSIVE: [u64; 9] = [0x1000, 510, 0x1003, 0x1000, 0, 0x2003, 0x2000, 0, 0x3002];
+
+/// Forms, words, pools whose limit isn't the number of frames in memory, and whether they fit.
+static POOLS: [(Form, &[u64], Pool, bool); 14] = [
+    ((4, false), &[], (9, &[0x7000, 0x8000]), false),
+    ((4, false), &[], (0, &[]), true),
+    ((4, false), &[0x1000, 0, 0x8003], (16, &[0x2000]), false),
+    ((4, false), &TABLES, (5, &[]), true),
+    ((4, false), &TABLES, (4, &[]), false),
+    ((4, false), &TABLES, (1, &[]), false),
+    ((5, false), &TABLES_57, (6, &[]), true),
+    ((5, false), &TABLES_57, (5, &[]), false),
+    ((4, true), &RECURSIVE, (4, &[]), true),
+    ((4, true), &RECURSIVE, (3, &[]), false),
+    ((4, true), &RECURSIVE, (9, &[0x8000]), false),
+    ((5, true), &RECURSIVE_57, (6, &[]), true),
+    ((5, true), &RECURSIVE_57, (5, &[]), false),
+    ((5, true), &RECURSIVE_57, (9, &[0x8000]), false),
 ];
 
 #[test]
-fn pools_fit_a_root(rt: HostRuntime) {
-    for (words, pool, wanted) in &ROOT_POOLS {
-        let memory = memory_of(rt, rt.alloc(), words, &[]);
-        let found = fits(rt, rt.alloc(), 4, &memory, *pool);
-        assert_equal_in(rt, (*words, *pool), found, *wanted);
+fn pools_have_limits(rt: HostRuntime) {
+    for (form, words, pool, wanted) in &POOLS {
+        let memory = small_memory_of(rt, words);
+        assert_equal_in(
+            rt,
+            (*form, *words, *pool),
+            fits(rt, *form, &memory, *pool),
+            *wanted,
+        );
     }
 }
 
 #[test]
-fn pools_fit_no_root_past_the_memory(rt: HostRuntime) {
-    let small = unwrap(rt, PhysMemory::new(rt.alloc(), 1));
-    assert!(rt; !fits(rt, rt.alloc(), 4, &small, (8, &[])));
-}
-
-/// The limit and the frames of a pool, and whether it fits.
-type Pool = ((u64, &'static [u64]), bool);
-
-/// The words of the hierarchy for the pools.
-const TABLES: [Word; 5] = [
-    (0x1000, 0, 0x2003),
-    (0x2000, 0, 0x3003),
-    (0x3000, 0, 0x4002),
-    (0x3000, 1, 0x5083),
-    (0x4000, 0, 0x6003),
-];
-
-const POOLS: [Pool; 7] = [
-    ((8, &[0x7000, 0x6000, 0x5000]), true),
-    ((8, &[0x2000, 0x7000]), false),
-    ((8, &[0x7000, 0x3000, 0x6000]), false),
-    ((8, &[0x7000, 0x4000]), false),
-    ((5, &[]), true),
-    ((4, &[]), false),
-    ((1, &[]), false),
-];
-
-/// These with five levels.
-const TABLES_57: [Word; 5] = [
-    (0x1000, 0, 0x2003),
-    (0x2000, 0, 0x3003),
-    (0x3000, 0, 0x4003),
-    (0x4000, 0, 0x5002),
-    (0x5000, 0, 0x6003),
-];
-
-const POOLS_57: [Pool; 5] = [
-    ((8, &[0x7000, 0x6000]), true),
-    ((8, &[0x7000, 0x5000]), false),
-    ((8, &[0x1000]), false),
-    ((6, &[]), true),
-    ((5, &[]), false),
-];
-
-/// Pools for a memory in which all words of a table have all bits set.
-const POOLS_BESIDE_ONES: [Pool; 2] = [((8, &[0x3000]), true), ((8, &[0x2000]), false)];
-
-/// Compares whether pools fit the hierarchy with this number of levels in a memory.
-fn check_pools(
-    rt: impl Abort + Copy,
-    alloc: Global,
-    levels: u64,
-    memory: &PhysMemory,
-    pools: &[Pool],
-) {
-    for (pool, wanted) in pools {
-        assert_equal_in(rt, *pool, fits(rt, alloc, levels, memory, *pool), *wanted);
+fn no_root_past_the_memory_is_valid(rt: HostRuntime) {
+    let memory = unwrap(rt, PhysMemory::new(rt.alloc(), 1));
+    for form in FORMS {
+        let found = (
+            is_valid(rt, form, &memory),
+            fits(rt, form, &memory, (8, &[])),
+        );
+        assert_equal_in(rt, form, found, (false, false));
     }
 }
 
-/// This for the hierarchy with these words.
-fn check_pools_of(
-    rt: impl Abort + Copy,
-    alloc: Global,
-    levels: u64,
-    words: &[Word],
-    pools: &[Pool],
-) {
-    let memory = memory_of(rt, alloc, words, &[]);
-    check_pools(rt, alloc, levels, &memory, pools)
+/// The addresses of a pool's frames, how many frames its array has room for, and whether it fits.
+type Room = (&'static [u64], usize, bool);
+
+/// There are three tables below the root.
+const ROOMS: [Room; 13] = [
+    (&[], 3, true),
+    (&[], 2, false),
+    (&[0x7000, 0x6000], 5, true),
+    (&[0x7000, 0x6000], 4, false),
+    (&[0x7000], usize::MAX, true),
+    (&[0x7000], 0, false),
+    (&[0x7000, 0x7000], 8, false),
+    (&[0x7001], 8, false),
+    (&[0x10_0000_0000_7000], 8, false),
+    (&[0x8000], 8, false),
+    (&[0x7000, 0x4000], 8, false),
+    (&[0x1000], 8, false),
+    (&[0], 8, false),
+];
+
+/// There are four tables below the root.
+const ROOMS_57: [Room; 3] = [
+    (&[0x7000], 5, true),
+    (&[0x7000], 4, false),
+    (&[0x5000], 8, false),
+];
+
+/// Compares whether pools fit a hierarchy by marks, all of them set at first.
+fn check_rooms<L: LevelCount>(rt: impl Test, words: &[u64], rooms: &[Room]) {
+    let (memory, mapping, root) = (
+        small_memory_of(rt, words),
+        IdentityMapping,
+        frame_at(0x1000),
+    );
+    for (frames, room, wanted) in rooms {
+        let mut marks = unwrap(rt, vec![in rt.alloc(); true; memory.len()]);
+        let fits = pool_fits_by_marks::<L, _, _>(
+            &memory, &mapping, root, frames, *room, &mut marks,
+        );
+        assert_equal_in(rt, (*frames, *room), fits, *wanted);
+    }
 }
 
 #[test]
-fn pools_fit_tables(rt: HostRuntime) {
-    check_pools_of(rt, rt.alloc(), 4, &TABLES, &POOLS);
-    check_pools_of(rt, rt.alloc(), 5, &TABLES_57, &POOLS_57);
+fn pools_fit_in_their_rooms(rt: HostRuntime) {
+    check_rooms::<FourLevels>(rt, &TABLES, &ROOMS);
+    check_rooms::<FiveLevels>(rt, &TABLES_57, &ROOMS_57);
 }

@@ -6,12 +6,9 @@ ghost use Rattle.x86_64_model.specs.Memory.{identity_places, words_of};
 ghost use Rattle.x86_64_model.specs.Window.{outside_window};
 ghost use Rattle.x86_64_tables.specs.SelfEntries.{window_at};
 
-use super::recursive::{RECURSIVE, RECURSIVE_57};
-use super::{Word, memory_of};
-use crate::assertions::assert_equal_in;
+use super::{RECURSIVE_57, set_words, small_memory_of};
+use crate::assertions::{Test, assert_equal_in};
 use crate::tables::frame_at;
-use std::alloc::Global;
-use std::process::Abort;
 use x86_64_addr::index::PageTableIndex;
 use x86_64_page::frame::PhysFrame;
 use x86_64_page::page::Size4KiB;
@@ -20,20 +17,18 @@ use x86_64_tables::phys_memory::{
 };
 
 /// The words of a hierarchy with a 4KiB page, whose table entries are not writable.
-const DIRECT: [Word; 4] = [
-    (0x1000, 0, 0x2001),
-    (0x2000, 0, 0x3001),
-    (0x3000, 0, 0x4001),
-    (0x4000, 1, 0x5001),
+const DIRECT: [u64; 12] = [
+    0x1000, 0, 0x2001, 0x2000, 0, 0x3001, 0x3000, 0, 0x4001, 0x4000, 1, 0x5001,
 ];
 
-/// These with five levels.
-const DIRECT_57: [Word; 5] = [
-    (0x1000, 0, 0x2001),
-    (0x2000, 0, 0x3001),
-    (0x3000, 0, 0x4001),
-    (0x4000, 0, 0x5001),
-    (0x5000, 1, 0x6001),
+/// These with writable tables and with a self-entry at the index 510.
+const RECURSIVE: [u64; 15] = [
+    0x1000, 510, 0x1003, 0x1000, 0, 0x2003, 0x2000, 0, 0x3003, 0x3000, 0, 0x4003, 0x4000, 1, 0x5001,
+];
+
+/// The words of a hierarchy with five levels and a 4KiB page, whose table entries are not writable.
+const DIRECT_57: [u64; 15] = [
+    0x1000, 0, 0x2001, 0x2000, 0, 0x3001, 0x3000, 0, 0x4001, 0x4000, 0, 0x5001, 0x5000, 1, 0x6001,
 ];
 
 /// Returns whether a hierarchy and one with a recursive index are alike, for any frame mapping passed beside the
@@ -51,142 +46,101 @@ fn alike_by_index(
         let paths = paths_of 4 (outside_window window root words) root in
         IsTrue result ↔ Alike 4 (paths_of 4 direct_words root) paths }
 {
-    let index = Some(index);
-    tables_alike(
-        direct,
-        &IdentityMapping,
-        root,
-        None,
-        recursive,
-        mapping,
-        root,
-        index,
-    )
+    let (own, index) = (IdentityMapping, Some(index));
+    tables_alike(direct, &own, root, None, recursive, mapping, root, index)
 }
 
-/// Returns this for hierarchies of four levels, or otherwise of five, with the root in frame 0x1000 and the index
-/// 510.
-fn are_alike(levels: u64, direct: &PhysMemory, recursive: &PhysMemory) -> bool {
+/// Returns whether a hierarchy of four levels and one with the recursive index 510 are alike.
+fn alike(direct: &PhysMemory, recursive: &PhysMemory) -> bool {
     let (root, index) = (frame_at(0x1000), PageTableIndex::new(510));
-    let mapping = ShiftMapping::new(3);
-    if levels == 4 {
-        return alike_by_index(direct, recursive, &mapping, root, index);
-    }
-    tables_alike_57(
-        direct,
-        &IdentityMapping,
-        root,
-        None,
-        recursive,
-        &mapping,
-        root,
-        Some(index),
-    )
+    alike_by_index(direct, recursive, &ShiftMapping::new(3), root, index)
+}
+
+/// This for five levels.
+fn alike_57(direct: &PhysMemory, recursive: &PhysMemory) -> bool {
+    let (root, index) = (frame_at(0x1000), Some(PageTableIndex::new(510)));
+    let (own, other) = (IdentityMapping, ShiftMapping::new(3));
+    tables_alike_57(direct, &own, root, None, recursive, &other, root, index)
 }
 
 /// Words that are set in a hierarchy, and in one with a recursive index, and whether the two are alike then.
-type Difference = (&'static [Word], &'static [Word], bool);
+type Difference = (&'static [u64], &'static [u64], bool);
 
-const DIFFERENCES: [Difference; 14] = [
+static DIFFERENCES: [Difference; 14] = [
     (&[], &[], true),
-    (&[(0x4000, 1, 0x5003)], &[], false),
-    (&[(0x4000, 1, 0x5003)], &[(0x4000, 1, 0x5003)], true),
-    (&[(0x4000, 2, 0x6002)], &[], false),
-    (&[(0x4000, 2, 0x6002)], &[(0x4000, 2, 0x6000)], false),
-    (&[(0x4000, 2, 0x6002)], &[(0x4000, 2, 0x6002)], true),
-    (&[], &[(0x2000, 1, 0x6002)], false),
-    (&[(0x2000, 1, 0x6002)], &[(0x2000, 1, 0x6000)], true),
-    (&[(0x2000, 1, 0x2)], &[], false),
-    (&[(0x3000, 0, 0x4005)], &[], false),
-    (&[(0x3000, 1, 0x81)], &[(0x3000, 1, 0x83)], false),
-    (&[(0x3000, 1, 0x83)], &[(0x3000, 1, 0x83)], true),
-    (&[(0x3000, 0, 0x6001), (0x6000, 1, 0x5001)], &[], false),
-    (&[(0x1000, 510, 0x1003)], &[], false),
+    (&[0x4000, 1, 0x5003], &[], false),
+    (&[0x4000, 1, 0x5003], &[0x4000, 1, 0x5003], true),
+    (&[0x4000, 2, 0x6002], &[], false),
+    (&[0x4000, 2, 0x6002], &[0x4000, 2, 0x6000], false),
+    (&[0x4000, 2, 0x6002], &[0x4000, 2, 0x6002], true),
+    (&[], &[0x2000, 1, 0x6002], false),
+    (&[0x2000, 1, 0x6002], &[0x2000, 1, 0x6000], true),
+    (&[0x2000, 1, 0x2], &[], false),
+    (&[0x3000, 0, 0x4005], &[], false),
+    (&[0x3000, 1, 0x81], &[0x3000, 1, 0x83], false),
+    (&[0x3000, 1, 0x83], &[0x3000, 1, 0x83], true),
+    (&[0x3000, 0, 0x6001, 0x6000, 1, 0x5001], &[], false),
+    (&[0x1000, 510, 0x1003], &[], false),
 ];
 
-const DIFFERENCES_57: [Difference; 9] = [
+static DIFFERENCES_57: [Difference; 9] = [
     (&[], &[], true),
-    (&[(0x5000, 1, 0x6003)], &[], false),
-    (&[(0x5000, 1, 0x6003)], &[(0x5000, 1, 0x6003)], true),
-    (&[(0x4000, 0, 0x5005)], &[], false),
-    (&[(0x4000, 1, 0x7002)], &[(0x4000, 1, 0x7000)], true),
-    (&[(0x2000, 1, 0x7002)], &[(0x2000, 1, 0x7000)], true),
-    (&[(0x4000, 1, 0x81)], &[(0x4000, 1, 0x83)], false),
-    (&[(0x5000, 2, 0x7002)], &[(0x5000, 2, 0x7000)], false),
-    (&[(0x1000, 510, 0x1003)], &[], false),
+    (&[0x5000, 1, 0x6003], &[], false),
+    (&[0x5000, 1, 0x6003], &[0x5000, 1, 0x6003], true),
+    (&[0x4000, 0, 0x5005], &[], false),
+    (&[0x4000, 1, 0x7002], &[0x4000, 1, 0x7000], true),
+    (&[0x2000, 1, 0x7002], &[0x2000, 1, 0x7000], true),
+    (&[0x4000, 1, 0x81], &[0x4000, 1, 0x83], false),
+    (&[0x5000, 2, 0x7002], &[0x5000, 2, 0x7000], false),
+    (&[0x1000, 510, 0x1003], &[], false),
 ];
 
-/// Sets words in two hierarchies, and compares whether they are alike then.
-fn check_differences(
-    rt: impl Abort + Copy,
-    alloc: Global,
-    levels: u64,
-    (direct, recursive): (&[Word], &[Word]),
-    rows: &[Difference],
-) {
-    for (one, other, wanted) in rows {
-        let direct = memory_of(rt, alloc, direct, one);
-        let recursive = memory_of(rt, alloc, recursive, other);
-        let found = are_alike(levels, &direct, &recursive);
-        assert_equal_in(rt, (*one, *other), found, *wanted);
-    }
+/// Creates a memory with words, and then with more words.
+fn changed(rt: impl Test, words: &[u64], more: &[u64]) -> PhysMemory {
+    let mut memory = small_memory_of(rt, words);
+    set_words(rt, &mut memory, more);
+    memory
 }
 
 #[test]
 fn hierarchies_are_alike_but_for_writable_tables(rt: HostRuntime) {
-    let bases = (&DIRECT[..], &RECURSIVE[..]);
-    check_differences(rt, rt.alloc(), 4, bases, &DIFFERENCES);
-    let bases = (&DIRECT_57[..], &RECURSIVE_57[..]);
-    check_differences(rt, rt.alloc(), 5, bases, &DIFFERENCES_57);
+    for (one, other, wanted) in &DIFFERENCES {
+        let (direct, recursive) = (changed(rt, &DIRECT, one), changed(rt, &RECURSIVE, other));
+        assert_equal_in(rt, (*one, *other), alike(&direct, &recursive), *wanted);
+    }
+}
+
+#[test]
+fn hierarchies_of_five_levels_are_alike_but_for_writable_tables(rt: HostRuntime) {
+    for (one, other, wanted) in &DIFFERENCES_57 {
+        let (direct, recursive) = (
+            changed(rt, &DIRECT_57, one),
+            changed(rt, &RECURSIVE_57, other),
+        );
+        assert_equal_in(rt, (*one, *other), alike_57(&direct, &recursive), *wanted);
+    }
 }
 
 /// The words of the first hierarchy, with each table one place lower and writable entries.
-const SHIFTED: [Word; 4] = [
-    (0x0, 0, 0x2003),
-    (0x1000, 0, 0x3003),
-    (0x2000, 0, 0x4003),
-    (0x3000, 1, 0x5001),
+const SHIFTED: [u64; 12] = [
+    0x0, 0, 0x2003, 0x1000, 0, 0x3003, 0x2000, 0, 0x4003, 0x3000, 1, 0x5001,
 ];
 
 #[test]
 fn hierarchies_are_alike_by_their_own_mappings(rt: HostRuntime) {
-    let one = memory_of(rt, rt.alloc(), &DIRECT, &[]);
-    let other = memory_of(rt, rt.alloc(), &SHIFTED, &[]);
-    let root = frame_at(0x1000);
+    let (one, other) = (small_memory_of(rt, &SHIFTED), small_memory_of(rt, &DIRECT));
+    let (root, own) = (frame_at(0x1000), IdentityMapping);
     for (first, wanted) in [(1, true), (0, false), (2, false)] {
         let mapping = ShiftMapping::new(first);
-        let found = tables_alike(
-            &other,
-            &mapping,
-            root,
-            None,
-            &one,
-            &IdentityMapping,
-            root,
-            None,
-        );
+        let found = tables_alike(&one, &mapping, root, None, &other, &own, root, None);
         assert_equal_in(rt, first, found, wanted);
     }
 }
 
-/// Returns whether a hierarchy is alike to itself, with a recursive index or without.
-fn is_alike_to_itself(memory: &PhysMemory, index: Option<PageTableIndex>) -> bool {
-    let root = frame_at(0x1000);
-    tables_alike(
-        memory,
-        &IdentityMapping,
-        root,
-        None,
-        memory,
-        &IdentityMapping,
-        root,
-        index,
-    )
-}
-
 #[test]
 fn words_that_name_their_own_table_are_alike(rt: HostRuntime) {
-    let memory = memory_of(rt, rt.alloc(), &RECURSIVE, &[]);
-    assert!(rt; is_alike_to_itself(&memory, None));
-    assert!(rt; !is_alike_to_itself(&memory, Some(PageTableIndex::new(510))));
+    let memory = small_memory_of(rt, &RECURSIVE);
+    let (root, own, index) = (frame_at(0x1000), IdentityMapping, PageTableIndex::new(510));
+    assert!(rt; tables_alike(&memory, &own, root, None, &memory, &own, root, None));
+    assert!(rt; !tables_alike(&memory, &own, root, None, &memory, &own, root, Some(index)));
 }

@@ -1,0 +1,140 @@
+//! Tests of tables that are reached through the root's entry for itself, with four levels of page tables and with
+//! five.
+use super::{RECURSIVE_57, set_words, small_memory_of};
+use crate::assertions::{Test, assert_equal, assert_equal_in, unwrap_some};
+use crate::tables::frame_at;
+use x86_64_addr::addr::{VirtAddr, VirtAddrIn};
+use x86_64_addr::index::PageTableIndex;
+use x86_64_addr::level_count::{FiveLevels, FourLevels, LevelCount};
+use x86_64_tables::page_table::PageTable;
+use x86_64_tables::phys_memory::{Active, ActiveMemory, FramePlace, PhysMemory};
+
+/// The window (page) of the root for the recursive index 510.
+const ROOT_WINDOW: u64 = 0xffff_ff7f_bfdf_e000;
+
+/// The words of a hierarchy with entries for 4KiB pages that are in memory, absent and not in memory, and for a 2MiB
+/// page at 0, with a self-entry at the index 510.
+const PAGES: [u64; 24] = [
+    0x1000, 510, 0x1003, 0x1000, 0, 0x2003, 0x2000, 0, 0x3003, 0x3000, 0, 0x4003, 0x3000, 1, 0x83,
+    0x4000, 1, 0x5003, 0x4000, 2, 0x5002, 0x4000, 3, 0x9003,
+];
+
+/// Creates a memory with words in which word 511 of each table has the table's own address and lacks `PRESENT`.
+fn memory_with(rt: impl Test, words: &[u64]) -> PhysMemory {
+    let mut memory = small_memory_of(rt, words);
+    for frame in [0x0, 0x1000, 0x2000, 0x3000, 0x4000, 0x5000, 0x6000, 0x7000] {
+        set_words(rt, &mut memory, &[frame, 511, frame | 2]);
+    }
+    memory
+}
+
+/// Returns the address in word 511 of a table.
+fn address_of(table: Option<&PageTable>) -> Option<u64> {
+    Some(table?[511].addr().as_u64())
+}
+
+/// The frame, the index and the word of an entry, the frame in CR3, and whether the root's entry 510 names it.
+const SELF_ENTRIES: [([u64; 3], u64, bool); 9] = [
+    ([0x1000, 510, 0x1003], 0x1000, true),
+    ([0x1000, 510, 0xfff0_0000_0000_1f7f], 0x1000, true),
+    ([0x1000, 510, 0x1002], 0x1000, false),
+    ([0x1000, 510, 0x1083], 0x1000, false),
+    ([0x1000, 510, 0x2003], 0x1000, false),
+    ([0x1000, 509, 0x1003], 0x1000, false),
+    ([0x1000, 510, 0x1003], 0x2000, false),
+    ([0x2000, 510, 0x1003], 0x2000, false),
+    ([0x1000, 510, 0x1003], 0x8000, false),
+];
+
+#[test]
+fn roots_have_self_entries(rt: HostRuntime) {
+    for (word, cr3, wanted) in SELF_ENTRIES {
+        let mut memory = small_memory_of(rt, &word);
+        let active = ActiveMemory::new(&mut memory, frame_at(cr3));
+        let found = (active.cr3(), active.self_entry(PageTableIndex::new(510)));
+        assert_equal_in(rt, (word, cr3), found, (frame_at(cr3), wanted));
+    }
+}
+
+/// An address, and the address of the table that is lent there, if any.
+type Lent = (u64, Option<u64>);
+
+const LENT: [Lent; 13] = [
+    (0x1000, Some(0x5000)),
+    (0x1abc, None),
+    (0x2000, None),
+    (0x3000, None),
+    (0x4000, None),
+    (0x20_6000, Some(0x6000)),
+    (0x20_6800, None),
+    (0x20_8000, None),
+    (ROOT_WINDOW, Some(0x1000)),
+    (0xffff_ff7f_bfc0_0000, Some(0x2000)),
+    (0xffff_ff7f_8000_0000, Some(0x3000)),
+    (0xffff_ff00_0000_0000, Some(0x4000)),
+    (0xffff_ff00_0000_1000, Some(0x0)),
+];
+
+const LENT_57: [Lent; 9] = [
+    (0x1000, Some(0x6000)),
+    (0x1abc, None),
+    (0x2000, None),
+    (0xfffe_ff7f_bfdf_e000, Some(0x1000)),
+    (0xfffe_ff7f_bfc0_0000, Some(0x2000)),
+    (0xfffe_ff7f_8000_0000, Some(0x3000)),
+    (0xfffe_ff00_0000_0000, Some(0x4000)),
+    (0xfffe_0000_0000_0000, Some(0x5000)),
+    (0xffff_ff7f_bfdf_e000, None),
+];
+
+/// Sets word 7 of the table that is lent at an address, if any, and returns the table's address.
+fn change_lent<L: LevelCount>(memory: &mut PhysMemory, addr: u64) -> Option<u64> {
+    let mut active = Active::<L>::new(memory, frame_at(0x1000));
+    let addr = VirtAddrIn::<L>::new_truncate(addr);
+    let address = address_of(active.table(addr));
+    if let Some(table) = active.table_mut(addr) {
+        table[7].set_word(0x7002);
+    }
+    address
+}
+
+/// Asserts that word 7 is set in the table at an address, and in no other.
+fn check_changed(rt: impl Test, memory: &PhysMemory, changed: Option<u64>) {
+    for number in 0..8 {
+        let table = unwrap_some(rt, memory.table(FramePlace::new(number)));
+        let is_changed = changed == Some(number * 0x1000);
+        assert_equal_in(rt, (number, changed), !table[7].is_unused(), is_changed);
+    }
+}
+
+/// Changes the tables that are lent at addresses, each in a memory of its own, and compares which tables they were.
+fn check_lent<L: LevelCount>(rt: impl Test, words: &[u64], rows: &[Lent]) {
+    for (addr, wanted) in rows {
+        let mut memory = memory_with(rt, words);
+        assert_equal_in(rt, *addr, change_lent::<L>(&mut memory, *addr), *wanted);
+        check_changed(rt, &memory, *wanted);
+    }
+}
+
+#[test]
+fn tables_are_lent_where_walks_arrive(rt: HostRuntime) {
+    check_lent::<FourLevels>(rt, &PAGES, &LENT);
+    check_lent::<FiveLevels>(rt, &RECURSIVE_57, &LENT_57);
+}
+
+#[test]
+fn walks_go_through_the_words_of_the_moment(rt: HostRuntime) {
+    let mut memory = memory_with(rt, &PAGES);
+    let mut active = ActiveMemory::new(&mut memory, frame_at(0x1000));
+    let (root, window) = (
+        VirtAddr::new(ROOT_WINDOW),
+        VirtAddr::new(0xffff_ff7f_bfc0_1000),
+    );
+    assert_equal(rt, address_of(active.table(window)), None);
+    unwrap_some(rt, active.table_mut(root))[1].set_word(0x6001);
+    assert_equal(rt, address_of(active.table(window)), Some(0x6000));
+    unwrap_some(rt, active.table_mut(root))[510].set_unused();
+    assert_equal(rt, address_of(active.table(root)), None);
+    assert_equal(rt, address_of(active.table(window)), None);
+    assert!(rt; !active.self_entry(PageTableIndex::new(510)));
+}
