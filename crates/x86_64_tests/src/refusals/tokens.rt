@@ -1,5 +1,5 @@
 //! TLB flushes.
-use super::hoard::hoard_past;
+use super::hoard_past;
 use crate::assertions::{assert_equal_in, unwrap};
 use std::alloc::{AllocError, Global};
 use std::process::Abort;
@@ -12,22 +12,6 @@ use x86_64_tables::mapper::MapperFlushIn;
 
 /// The number of items of a recorder. It is so large that further items need a new block.
 const ITEM_COUNT: usize = 4096;
-
-/// A call that makes the list of a recorder grow.
-#[derive(Clone, Copy, Debug)]
-enum Growth {
-    FlushPage,
-    FlushPage57,
-    FlushAll,
-    Reserve,
-}
-
-const GROWTHS: [Growth; 4] = [
-    Growth::FlushPage,
-    Growth::FlushPage57,
-    Growth::FlushAll,
-    Growth::Reserve,
-];
 
 /// Flushes the page at 0x1000. Asserts that a token that comes back is for this page.
 fn flush_page<L: LevelCount>(
@@ -57,33 +41,17 @@ fn flush_all(recorder: &mut FlushRecorder) -> Result<(), AllocError> {
     }
 }
 
-/// Makes the list of a recorder grow.
+/// Makes the list of a recorder grow: by this item, or by room for as many as it has.
 fn grow(
     rt: impl Abort + Copy,
-    growth: Growth,
+    item: Option<FlushItem>,
     recorder: &mut FlushRecorder,
 ) -> Result<(), AllocError> {
-    match growth {
-        Growth::FlushPage => flush_page::<FourLevels>(rt, recorder),
-        Growth::FlushPage57 => flush_page::<FiveLevels>(rt, recorder),
-        Growth::FlushAll => flush_all(recorder),
-        Growth::Reserve => recorder.reserve(ITEM_COUNT),
-    }
-}
-
-/// Returns the item that is recorded, if there is one.
-fn item_of(growth: Growth) -> Option<FlushItem> {
-    match growth {
-        Growth::FlushPage => Some(FlushItem::Page {
-            start: VirtAddr::new(0x1000),
-            size: 4096,
-        }),
-        Growth::FlushPage57 => Some(FlushItem::Page57 {
-            start: VirtAddr57::new(0x1000),
-            size: 4096,
-        }),
-        Growth::FlushAll => Some(FlushItem::All),
-        Growth::Reserve => None,
+    match item {
+        Some(FlushItem::Page { .. }) => flush_page::<FourLevels>(rt, recorder),
+        Some(FlushItem::Page57 { .. }) => flush_page::<FiveLevels>(rt, recorder),
+        Some(FlushItem::All) => flush_all(recorder),
+        None => recorder.reserve(ITEM_COUNT),
     }
 }
 
@@ -109,15 +77,21 @@ fn has(recorder: &FlushRecorder, last: Option<FlushItem>) -> bool {
 
 #[test]
 fn flushes_are_recorded_where_there_is_room(rt: HostRuntime) {
-    let alloc = rt.alloc();
-    for growth in GROWTHS {
+    let (alloc, size) = (rt.alloc(), 4096);
+    let (start, start57) = (VirtAddr::new(0x1000), VirtAddr57::new(0x1000));
+    let page = FlushItem::Page { start, size };
+    let page57 = FlushItem::Page57 {
+        start: start57,
+        size,
+    };
+    for item in [Some(page), Some(page57), Some(FlushItem::All), None] {
         let mut recorder = full_recorder(rt, alloc);
         let hoard = hoard_past(rt, alloc, &[]);
-        let refused = grow(rt, growth, &mut recorder);
+        let refused = grow(rt, item, &mut recorder);
         drop(hoard);
-        assert_equal_in(rt, growth, refused, Err(AllocError));
+        assert_equal_in(rt, item, refused, Err(AllocError));
         assert!(rt; has(&recorder, None));
-        unwrap(rt, grow(rt, growth, &mut recorder));
-        assert!(rt; has(&recorder, item_of(growth)));
+        unwrap(rt, grow(rt, item, &mut recorder));
+        assert!(rt; has(&recorder, item));
     }
 }
