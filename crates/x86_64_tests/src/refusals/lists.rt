@@ -88,29 +88,45 @@ pub fn is_full(pool: &FramePool) -> bool {
     pool.len() == FREE.len()
 }
 
-/// Asserts that a list is refused if there is no memory, and changes nothing. With numbers of replies and of items that
-/// have room, its flushes are recorded.
+/// Asserts that a list is refused if there is no memory, and changes nothing.
 fn refuse<L: LevelCount, P5: LevelFiveFlags<L>, M: TableAccess + TablesIn<L>>(
     rt: impl Abort + Copy,
     alloc: Global,
     mapper: &mut M,
     pool: &mut FramePool,
     calls: &[CallIn<L, P5>],
-    room: Option<(usize, usize)>,
 )
     requires { PoolFits (M.hierarchy mapper.old) (serves_below pool.old.limit) pool.old.frames }
     ensures { PoolFits (M.hierarchy mapper.new) (serves_below pool.new.limit) pool.new.frames }
 {
-    let (reply_room, item_room) = room.unwrap_or((0, 0));
+    let mut replies = unwrap(rt, vec![in alloc; MapperReply::NotAllowed]);
+    let hoard = hoard_past(rt, alloc, &[]);
+    let refused = run(mapper, pool, calls, &mut replies);
+    drop(hoard);
+    assert_equal(rt, refused, Err(AllocError));
+    assert!(rt; is_full(pool) && replies.as_slice() == [MapperReply::NotAllowed].as_slice());
+}
+
+/// Asserts that a list with recorded flushes is refused if only these numbers of replies and items have room, and
+/// changes nothing.
+fn refuse_recorded<L: LevelCount, P5: LevelFiveFlags<L>, M: TableAccess + TablesIn<L>>(
+    rt: impl Abort + Copy,
+    alloc: Global,
+    mapper: &mut M,
+    pool: &mut FramePool,
+    calls: &[CallIn<L, P5>],
+    reply_room: usize,
+    item_room: usize,
+)
+    requires { PoolFits (M.hierarchy mapper.old) (serves_below pool.old.limit) pool.old.frames }
+    ensures { PoolFits (M.hierarchy mapper.new) (serves_below pool.new.limit) pool.new.frames }
+{
     let mut replies = unwrap(rt, vec![in alloc; MapperReply::NotAllowed]);
     unwrap(rt, replies.reserve(reply_room));
     let mut recorder = FlushRecorder::new(alloc);
     unwrap(rt, recorder.reserve(item_room));
     let hoard = hoard_past(rt, alloc, &[]);
-    let refused = match room {
-        None => run(mapper, pool, calls, &mut replies),
-        Some(_) => run_flushed(mapper, pool, calls, &mut replies, &mut recorder),
-    };
+    let refused = run_flushed(mapper, pool, calls, &mut replies, &mut recorder);
     drop(hoard);
     assert_equal(rt, refused, Err(AllocError));
     assert!(rt; is_full(pool) && replies.as_slice() == [MapperReply::NotAllowed].as_slice());
@@ -128,10 +144,10 @@ fn refuse_and_answer<L: LevelCount, P5: LevelFiveFlags<L>, M: TableAccess + Tabl
 )
     requires { PoolFits (M.hierarchy mapper.old) (serves_below pool.old.limit) pool.old.frames }
 {
-    refuse(rt, alloc, mapper, pool, calls, None);
-    refuse(rt, alloc, mapper, pool, calls, Some((0, 0)));
-    refuse(rt, alloc, mapper, pool, calls, Some((CALL_COUNT, 0)));
-    refuse(rt, alloc, mapper, pool, calls, Some((0, CALL_COUNT)));
+    refuse(rt, alloc, mapper, pool, calls);
+    refuse_recorded(rt, alloc, mapper, pool, calls, 0, 0);
+    refuse_recorded(rt, alloc, mapper, pool, calls, CALL_COUNT, 0);
+    refuse_recorded(rt, alloc, mapper, pool, calls, 0, CALL_COUNT);
     let (mut replies, mut recorder) = (Vec::new(alloc), FlushRecorder::new(alloc));
     unwrap(rt, run(mapper, pool, calls, &mut replies));
     let mapped = MapperReply::Of4KiB(PageReply::Map(Ok(page_at(PAGE))));

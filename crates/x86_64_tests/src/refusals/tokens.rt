@@ -75,23 +75,24 @@ fn has(recorder: &FlushRecorder, last: Option<FlushItem>) -> bool {
         && rest.first().copied() == last
 }
 
+/// Asserts that a growth is refused if there is no memory, and records nothing, and that it succeeds afterwards.
+fn check(rt: impl Abort + Copy, alloc: Global, item: Option<FlushItem>) {
+    let mut recorder = full_recorder(rt, alloc);
+    let hoard = hoard_past(rt, alloc, &[]);
+    let refused = grow(rt, item, &mut recorder);
+    drop(hoard);
+    assert_equal_in(rt, item, refused, Err(AllocError));
+    assert!(rt; has(&recorder, None));
+    unwrap(rt, grow(rt, item, &mut recorder));
+    assert!(rt; has(&recorder, item));
+}
+
 #[test]
 fn flushes_are_recorded_where_there_is_room(rt: HostRuntime) {
-    let (alloc, size) = (rt.alloc(), 4096);
-    let (start, start57) = (VirtAddr::new(0x1000), VirtAddr57::new(0x1000));
-    let page = FlushItem::Page { start, size };
-    let page57 = FlushItem::Page57 {
-        start: start57,
-        size,
-    };
-    for item in [Some(page), Some(page57), Some(FlushItem::All), None] {
-        let mut recorder = full_recorder(rt, alloc);
-        let hoard = hoard_past(rt, alloc, &[]);
-        let refused = grow(rt, item, &mut recorder);
-        drop(hoard);
-        assert_equal_in(rt, item, refused, Err(AllocError));
-        assert!(rt; has(&recorder, None));
-        unwrap(rt, grow(rt, item, &mut recorder));
-        assert!(rt; has(&recorder, item));
-    }
+    let (start, size) = (VirtAddr::new(0x1000), 4096);
+    check(rt, rt.alloc(), Some(FlushItem::Page { start, size }));
+    let start = VirtAddr57::new(0x1000);
+    check(rt, rt.alloc(), Some(FlushItem::Page57 { start, size }));
+    check(rt, rt.alloc(), Some(FlushItem::All));
+    check(rt, rt.alloc(), None)
 }
