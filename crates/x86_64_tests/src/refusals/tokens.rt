@@ -13,6 +13,22 @@ use x86_64_tables::mapper::MapperFlushIn;
 /// The number of items of a recorder. It is so large that further items need a new block.
 const ITEM_COUNT: usize = 4096;
 
+/// A call that makes the list of a recorder grow.
+#[derive(Clone, Copy, Debug)]
+enum Growth {
+    FlushPage,
+    FlushPage57,
+    FlushAll,
+    Reserve,
+}
+
+const GROWTHS: [Growth; 4] = [
+    Growth::FlushPage,
+    Growth::FlushPage57,
+    Growth::FlushAll,
+    Growth::Reserve,
+];
+
 /// Flushes the page at 0x1000. Asserts that a token that comes back is for this page.
 fn flush_page<L: LevelCount>(
     rt: impl Abort + Copy,
@@ -41,17 +57,33 @@ fn flush_all(recorder: &mut FlushRecorder) -> Result<(), AllocError> {
     }
 }
 
-/// Makes the list of a recorder grow: by this item, or by room for as many as it has.
+/// Makes the list of a recorder grow.
 fn grow(
     rt: impl Abort + Copy,
-    item: Option<FlushItem>,
+    growth: Growth,
     recorder: &mut FlushRecorder,
 ) -> Result<(), AllocError> {
-    match item {
-        Some(FlushItem::Page { .. }) => flush_page::<FourLevels>(rt, recorder),
-        Some(FlushItem::Page57 { .. }) => flush_page::<FiveLevels>(rt, recorder),
-        Some(FlushItem::All) => flush_all(recorder),
-        None => recorder.reserve(ITEM_COUNT),
+    match growth {
+        Growth::FlushPage => flush_page::<FourLevels>(rt, recorder),
+        Growth::FlushPage57 => flush_page::<FiveLevels>(rt, recorder),
+        Growth::FlushAll => flush_all(recorder),
+        Growth::Reserve => recorder.reserve(ITEM_COUNT),
+    }
+}
+
+/// Returns the item that is recorded, if there is one.
+fn item_of(growth: Growth) -> Option<FlushItem> {
+    match growth {
+        Growth::FlushPage => Some(FlushItem::Page {
+            start: VirtAddr::new(0x1000),
+            size: 4096,
+        }),
+        Growth::FlushPage57 => Some(FlushItem::Page57 {
+            start: VirtAddr57::new(0x1000),
+            size: 4096,
+        }),
+        Growth::FlushAll => Some(FlushItem::All),
+        Growth::Reserve => None,
     }
 }
 
@@ -75,24 +107,17 @@ fn has(recorder: &FlushRecorder, last: Option<FlushItem>) -> bool {
         && rest.first().copied() == last
 }
 
-/// Asserts that a growth is refused if there is no memory, and records nothing, and that it succeeds afterwards.
-fn check(rt: impl Abort + Copy, alloc: Global, item: Option<FlushItem>) {
-    let mut recorder = full_recorder(rt, alloc);
-    let hoard = hoard_past(rt, alloc, &[]);
-    let refused = grow(rt, item, &mut recorder);
-    drop(hoard);
-    assert_equal_in(rt, item, refused, Err(AllocError));
-    assert!(rt; has(&recorder, None));
-    unwrap(rt, grow(rt, item, &mut recorder));
-    assert!(rt; has(&recorder, item));
-}
-
 #[test]
 fn flushes_are_recorded_where_there_is_room(rt: HostRuntime) {
-    let (start, size) = (VirtAddr::new(0x1000), 4096);
-    check(rt, rt.alloc(), Some(FlushItem::Page { start, size }));
-    let start = VirtAddr57::new(0x1000);
-    check(rt, rt.alloc(), Some(FlushItem::Page57 { start, size }));
-    check(rt, rt.alloc(), Some(FlushItem::All));
-    check(rt, rt.alloc(), None)
+    let alloc = rt.alloc();
+    for growth in GROWTHS {
+        let mut recorder = full_recorder(rt, alloc);
+        let hoard = hoard_past(rt, alloc, &[]);
+        let refused = grow(rt, growth, &mut recorder);
+        drop(hoard);
+        assert_equal_in(rt, growth, refused, Err(AllocError));
+        assert!(rt; has(&recorder, None));
+        unwrap(rt, grow(rt, growth, &mut recorder));
+        assert!(rt; has(&recorder, item_of(growth)));
+    }
 }
