@@ -1,5 +1,5 @@
 //! Calls of the library that take memory and change nothing.
-use super::hoard::hoard_past;
+use super::hoard_past;
 use crate::assertions::{assert_equal, assert_equal_in, unwrap};
 use crate::images::{ROOT, frame_at, pool_of, set_word};
 use std::alloc::{AllocError, Global};

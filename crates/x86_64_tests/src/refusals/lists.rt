@@ -2,15 +2,14 @@
 ghost use Rattle.x86_64_model.specs.Pool.{serves_below};
 ghost use Rattle.x86_64_model.specs.Mapper.{PoolFits};
 
-use super::hoard::hoard_past;
+use super::hoard_past;
 use crate::assertions::{assert_equal, unwrap};
-use crate::images::{ROOT, fits, fits_recursive, frame_at, pool_of, set_word};
+use crate::images::{ROOT, fits, fits_recursive, frame_at, page_at, pool_of, set_word};
 use std::alloc::{AllocError, Global};
 use std::process::Abort;
 use x86_64::addr::VirtAddrIn;
 use x86_64::structures::paging::mapper::TableAccess;
-use x86_64::structures::paging::page::PageIn;
-use x86_64::structures::paging::{PageTable, PageTableFlags, PageTableIndex, Size4KiB};
+use x86_64::structures::paging::{PageTableFlags, PageTableIndex};
 use x86_64::{
     CallIn, FiveLevels, FlushRecorder, FourLevels, FramePlace, FramePool, IdentityMapping,
     LevelCount, LevelFiveFlags, MapperReply, NoLevelFive, PageReply, PhysMemory, SizeCallIn,
@@ -28,6 +27,9 @@ const PLACES: u64 = 6;
 /// The frames that are free initially, enough for the tables above a page.
 const FREE: [u64; 4] = [0x2000, 0x3000, 0x4000, 0x5000];
 
+/// The page that calls map.
+const PAGE: u64 = 0x1000;
+
 /// The recursive index.
 pub const INDEX: u16 = 510;
 
@@ -44,11 +46,6 @@ pub fn begin(rt: impl Abort + Copy, alloc: Global) -> (PhysMemory, FramePool) {
     (memory, pool_of(rt, alloc, PLACES, &FREE))
 }
 
-/// Returns the page that calls map.
-fn page<L: LevelCount>() -> PageIn<Size4KiB, L> {
-    PageIn::containing_address(VirtAddrIn::new_truncate(0x1000))
-}
-
 /// Creates a memory whose root has an entry for itself, and a pool for it.
 pub fn begin_recursive(rt: impl Abort + Copy, alloc: Global) -> (PhysMemory, FramePool) {
     let (mut memory, pool) = begin(rt, alloc);
@@ -62,22 +59,11 @@ pub fn maps_of_a_page<L: LevelCount, P5: LevelFiveFlags<L>>(
     alloc: Global,
 ) -> Vec<CallIn<L, P5>> {
     let call = CallIn::Of4KiB(SizeCallIn::MapTo {
-        page: page(),
+        page: page_at(PAGE),
         frame: frame_at(0x5000),
         flags: PageTableFlags::PRESENT,
     });
     unwrap(rt, vec![in alloc; call; CALL_COUNT])
-}
-
-/// Returns the number of used entries of a table.
-fn used_in(table: &PageTable) -> u64 {
-    let mut count: u64 = 0;
-    for entry in table.iter() {
-        if !entry.is_unused() {
-            count = count.saturating_add(1);
-        }
-    }
-    count
 }
 
 /// Returns the number of used entries of a memory.
@@ -85,7 +71,8 @@ pub fn used_entries(memory: &PhysMemory) -> u64 {
     let mut count: u64 = 0;
     for place in 0..PLACES {
         if let Some(table) = memory.table(FramePlace::new(place)) {
-            count = count.saturating_add(used_in(table));
+            let used = table.iter().filter(|entry| !entry.is_unused()).count();
+            count = count.saturating_add(used as u64);
         }
     }
     count
@@ -146,28 +133,8 @@ fn refuse_recorded<L: LevelCount, P5: LevelFiveFlags<L>, M: TableAccess + Tables
     assert_equal(rt, recorder.items().len(), 0);
 }
 
-/// Executes a list, and then again with its flushes recorded. Only the first call maps the page.
-fn answer<L: LevelCount, P5: LevelFiveFlags<L>, M: TableAccess + TablesIn<L>>(
-    rt: impl Abort + Copy,
-    alloc: Global,
-    mapper: &mut M,
-    pool: &mut FramePool,
-    calls: &[CallIn<L, P5>],
-)
-    requires { PoolFits (M.hierarchy mapper.old) (serves_below pool.old.limit) pool.old.frames }
-{
-    let mut replies = Vec::new(alloc);
-    unwrap(rt, run(mapper, pool, calls, &mut replies));
-    let mapped = MapperReply::Of4KiB(PageReply::Map(Ok(page())));
-    assert_equal(rt, replies.first(), Some(&mapped));
-    let mut recorder = FlushRecorder::new(alloc);
-    let answer = run_flushed(mapper, pool, calls, &mut replies, &mut recorder);
-    assert_equal(rt, answer, Ok(()));
-    assert_equal(rt, replies.len(), 2 * CALL_COUNT);
-    assert_equal(rt, recorder.items().len(), 0);
-}
-
-/// Asserts that lists are refused if there is no memory, and executed afterwards.
+/// Asserts that lists are refused if there is no memory, and that one is executed afterwards, and then again with its
+/// flushes recorded. Only the first call maps the page.
 fn refuse_and_answer<L: LevelCount, P5: LevelFiveFlags<L>, M: TableAccess + TablesIn<L>>(
     rt: impl Abort + Copy,
     alloc: Global,
@@ -181,10 +148,17 @@ fn refuse_and_answer<L: LevelCount, P5: LevelFiveFlags<L>, M: TableAccess + Tabl
     refuse_recorded(rt, alloc, mapper, pool, calls, 0, 0);
     refuse_recorded(rt, alloc, mapper, pool, calls, CALL_COUNT, 0);
     refuse_recorded(rt, alloc, mapper, pool, calls, 0, CALL_COUNT);
-    answer(rt, alloc, mapper, pool, calls)
+    let (mut replies, mut recorder) = (Vec::new(alloc), FlushRecorder::new(alloc));
+    unwrap(rt, run(mapper, pool, calls, &mut replies));
+    let mapped = MapperReply::Of4KiB(PageReply::Map(Ok(page_at(PAGE))));
+    assert_equal(rt, replies.first(), Some(&mapped));
+    let answer = run_flushed(mapper, pool, calls, &mut replies, &mut recorder);
+    assert_equal(rt, answer, Ok(()));
+    assert_equal(rt, replies.len(), 2 * CALL_COUNT);
+    assert_equal(rt, recorder.items().len(), 0);
 }
 
-/// Does this with the mapper over the identity mapping, which uses an entry of each level.
+/// Asserts this for the mapper over the identity mapping, which uses an entry of each level.
 fn check_identity<L: LevelCount, P5: LevelFiveFlags<L>>(rt: impl Abort + Copy, alloc: Global) {
     let root = frame_at(ROOT);
     let calls = maps_of_a_page::<L, P5>(rt, alloc);
@@ -200,7 +174,7 @@ fn check_identity<L: LevelCount, P5: LevelFiveFlags<L>>(rt: impl Abort + Copy, a
     assert_equal(rt, used_entries(&memory), L::LEVELS);
 }
 
-/// Does this with the mapper of a memory at an offset.
+/// Asserts this for the mapper of a memory at an offset.
 fn check_offset<L: LevelCount, P5: LevelFiveFlags<L>>(rt: impl Abort + Copy, alloc: Global) {
     let (root, offset) = (frame_at(ROOT), VirtAddrIn::<L>::new_truncate(OFFSET));
     let calls = maps_of_a_page::<L, P5>(rt, alloc);
@@ -214,7 +188,7 @@ fn check_offset<L: LevelCount, P5: LevelFiveFlags<L>>(rt: impl Abort + Copy, all
     assert_equal(rt, used_entries(&memory), L::LEVELS);
 }
 
-/// Does this with the recursive mapper, whose root also has an entry for itself.
+/// Asserts this for the recursive mapper, whose root also has an entry for itself.
 fn check_recursive<L: LevelCount, P5: LevelFiveFlags<L>>(rt: impl Abort + Copy, alloc: Global) {
     let (root, index) = (frame_at(ROOT), PageTableIndex::new(INDEX));
     let calls = maps_of_a_page::<L, P5>(rt, alloc);
@@ -227,19 +201,16 @@ fn check_recursive<L: LevelCount, P5: LevelFiveFlags<L>>(rt: impl Abort + Copy, 
     assert_equal(rt, used_entries(&memory), L::LEVELS.saturating_add(1));
 }
 
-/// Does this with each mapper.
-fn check_each<L: LevelCount, P5: LevelFiveFlags<L>>(rt: impl Abort + Copy, alloc: Global) {
-    check_identity::<L, P5>(rt, alloc);
-    check_offset::<L, P5>(rt, alloc);
-    check_recursive::<L, P5>(rt, alloc)
-}
-
 #[test]
 fn lists_of_four_levels_change_nothing_where_there_is_no_room(rt: HostRuntime) {
-    check_each::<FourLevels, NoLevelFive>(rt, rt.alloc())
+    check_identity::<FourLevels, NoLevelFive>(rt, rt.alloc());
+    check_offset::<FourLevels, NoLevelFive>(rt, rt.alloc());
+    check_recursive::<FourLevels, NoLevelFive>(rt, rt.alloc())
 }
 
 #[test]
 fn lists_of_five_levels_change_nothing_where_there_is_no_room(rt: HostRuntime) {
-    check_each::<FiveLevels, PageTableFlags>(rt, rt.alloc())
+    check_identity::<FiveLevels, PageTableFlags>(rt, rt.alloc());
+    check_offset::<FiveLevels, PageTableFlags>(rt, rt.alloc());
+    check_recursive::<FiveLevels, PageTableFlags>(rt, rt.alloc())
 }

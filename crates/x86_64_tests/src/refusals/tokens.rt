@@ -1,5 +1,5 @@
 //! TLB flushes.
-use super::hoard::hoard_past;
+use super::hoard_past;
 use crate::assertions::{assert_equal_in, unwrap};
 use std::alloc::{AllocError, Global};
 use std::process::Abort;
