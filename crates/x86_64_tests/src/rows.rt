@@ -161,13 +161,7 @@ fn flushed_by(item: &FlushItem) -> Flushed {
 }
 
 /// Compares what was flushed.
-fn compare_flushes(
-    rt: impl Abort + Copy,
-    recorder: &FlushRecorder,
-    flushed: &[Flushed],
-    title: &str,
-) {
-    let items = recorder.items();
+fn compare_flushes(rt: impl Abort + Copy, items: &[FlushItem], flushed: &[Flushed], title: &str) {
     assert_equal_in(rt, title, items.len(), flushed.len());
     for (n, wanted) in flushed.iter().enumerate() {
         let found = items.get(n).map(flushed_by);
@@ -186,7 +180,7 @@ fn compare(rt: impl Abort + Copy, state: &State, row: &Row<'_>, by: By, title: &
         By::Recorded(_) | By::Single(_) => row.flushed,
         _ => &[],
     };
-    compare_flushes(rt, &state.recorder, flushed, title)
+    compare_flushes(rt, state.recorder.items(), flushed, title)
 }
 
 /// Returns the calls of exchanges.
@@ -252,8 +246,7 @@ fn answer_recursively(
     unwrap(
         rt,
         run_recursive_on(memory, root, index, pool, calls, replies),
-    );
-    assert!(rt; fits_recursive::<FourLevels>(rt, alloc, memory, root, index, pool));
+    )
 }
 
 /// Executes the calls of a row with a number, the first one in a list of its own, after an earlier reply, and compares

@@ -9,6 +9,7 @@ use crate::call_rows::PageCallRow::{
 };
 use crate::images::ROOT;
 use x86_64_plain::Answer::{Done, Refused};
+use x86_64_plain::PlainReply;
 use x86_64_plain::PlainReply::{Address, Answered, Cleaned, NotAllowed, Position};
 use x86_64_plain::Refusal::{
     FrameAllocationFailed, InvalidFrameAddress, PageAlreadyMapped, PageNotMapped,
@@ -60,6 +61,12 @@ const SMALL: Flushed = Some((0x1000, 0x1000));
 /// The 2MiB page 0x200000.
 const LARGE: Flushed = Some((0x20_0000, 0x20_0000));
 
+/// The reply for a page that isn't mapped.
+const UNMAPPED: PlainReply = Answered(Refused(PageNotMapped));
+
+/// The reply where a larger page would have to be a table, or a table a page.
+const HUGE: PlainReply = Answered(Refused(ParentEntryHugePage));
+
 /// Rows in which each call and each kind of reply is met.
 static ROWS: [Row<'static>; 6] = [
     Row {
@@ -71,8 +78,8 @@ static ROWS: [Row<'static>; 6] = [
             ),
             (Small(SetFlags(4, 0x0, 0x1)), Answered(Done(0x2000))),
             (Large(Unmap(0x20_0000)), Answered(Done(0x40_0000))),
-            (Small(Unmap(0x1000)), Answered(Refused(PageNotMapped))),
-            (Large(Unmap(0x20_0000)), Answered(Refused(PageNotMapped))),
+            (Small(Unmap(0x1000)), UNMAPPED),
+            (Large(Unmap(0x20_0000)), UNMAPPED),
         ],
         words: &[(0x1000, 0, 0x2001), (0x2000, 0, 0x3001)],
         full: &[0x4000],
@@ -126,10 +133,7 @@ static ROWS: [Row<'static>; 6] = [
             (TranslateAddr(0x1abc), Address(Some(0x5abc))),
             (TranslateAddr(0x2000), Address(None)),
             (Small(TranslatePage(0x1000)), Answered(Done(0x5000))),
-            (
-                Small(TranslatePage(0x2000)),
-                Answered(Refused(PageNotMapped)),
-            ),
+            (Small(TranslatePage(0x2000)), UNMAPPED),
             (
                 Large(TranslatePage(0x0)),
                 Answered(Refused(InvalidFrameAddress(0x4000))),
@@ -147,10 +151,7 @@ static ROWS: [Row<'static>; 6] = [
             (Small(IdentityMap(0x5000, 0x1)), Answered(Done(0x5000))),
             (Small(UpdateFlags(0x5000, 0x1003)), NotAllowed),
             (Small(UpdateFlags(0x5000, 0x3)), Answered(Done(0x5000))),
-            (
-                Large(UpdateFlags(0x0, 0x1)),
-                Answered(Refused(PageNotMapped)),
-            ),
+            (Large(UpdateFlags(0x0, 0x1)), UNMAPPED),
         ],
         words: &[
             (0x1000, 0, 0x2001),
@@ -169,14 +170,8 @@ static ROWS: [Row<'static>; 6] = [
             (Small(SetFlags(4, 0x1000, 0x83)), NotAllowed),
             (Small(SetFlags(3, 0x1000, 0x83)), NotAllowed),
             (Small(SetFlags(2, 0x1000, 0x83)), NotAllowed),
-            (
-                Giant(SetFlags(3, 0x0, 0x1)),
-                Answered(Refused(ParentEntryHugePage)),
-            ),
-            (
-                Small(SetFlags(3, 0x80_0000_0000, 0x1)),
-                Answered(Refused(PageNotMapped)),
-            ),
+            (Giant(SetFlags(3, 0x0, 0x1)), HUGE),
+            (Small(SetFlags(3, 0x80_0000_0000, 0x1)), UNMAPPED),
             (Small(SetFlags(2, 0x1000, 0xa)), Answered(Done(0x4000))),
             (Small(SetFlags(3, 0x1000, 0x6)), Answered(Done(0x3000))),
             (Small(SetFlags(4, 0x1000, 0x12)), Answered(Done(0x2000))),
@@ -198,22 +193,10 @@ static ROWS: [Row<'static>; 6] = [
                 Answered(Done(0x8000_0000)),
             ),
             FIRST_LARGE,
-            (
-                Small(MapTo(0x20_1000, 0x9000, 0x3)),
-                Answered(Refused(ParentEntryHugePage)),
-            ),
-            (
-                Small(Unmap(0x20_0000)),
-                Answered(Refused(ParentEntryHugePage)),
-            ),
-            (
-                Small(UpdateFlags(0x20_0000, 0x1)),
-                Answered(Refused(ParentEntryHugePage)),
-            ),
-            (
-                Small(TranslatePage(0x20_0000)),
-                Answered(Refused(ParentEntryHugePage)),
-            ),
+            (Small(MapTo(0x20_1000, 0x9000, 0x3)), HUGE),
+            (Small(Unmap(0x20_0000)), HUGE),
+            (Small(UpdateFlags(0x20_0000, 0x1)), HUGE),
+            (Small(TranslatePage(0x20_0000)), HUGE),
         ],
         words: &[
             (0x1000, 0, 0x2003),
