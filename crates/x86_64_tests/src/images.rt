@@ -1,5 +1,5 @@
 //! Memories and pools for tests, runs on them, and their contents afterwards.
-ghost use Rattle.std.specs.Prelude.{IsTrue};
+ghost use Rattle.std.specs.Prelude.{◌↔◌, IsTrue, IfOk};
 ghost use Rattle.x86_64_model.specs.Pool.{serves_below};
 ghost use Rattle.x86_64_model.specs.Memory.{identity_places};
 ghost use Rattle.x86_64_mappers.specs.Layouts.{direct, direct_at};
@@ -76,6 +76,43 @@ pub fn pool_of(rt: impl Abort + Copy, alloc: Global, limit: u64, frames: &[u64])
     pool
 }
 
+/// Tests whether a hierarchy with this number of levels is valid and a pool fits it.
+fn pool_fits_in<L: LevelCount>(
+    alloc: Global,
+    memory: &PhysMemory,
+    root: PhysFrame<Size4KiB>,
+    pool: &FramePool,
+) -> Result<bool, AllocError>
+    ensures { let layout = direct_at L.LEVELS identity_places root in
+        let serves = serves_below pool.now.limit in
+        IfOk result (λ fits. IsTrue fits ↔ FitsPool layout memory.now serves pool.now.frames) }
+{
+    if L::LEVELS == 4 {
+        pool_fits(alloc, memory, &IdentityMapping, root, pool)
+    } else {
+        pool_fits_57(alloc, memory, &IdentityMapping, root, pool)
+    }
+}
+
+/// This for a recursive index.
+fn pool_fits_recursive_in<L: LevelCount>(
+    alloc: Global,
+    memory: &PhysMemory,
+    root: PhysFrame<Size4KiB>,
+    index: PageTableIndex,
+    pool: &FramePool,
+) -> Result<bool, AllocError>
+    ensures { let layout = recursive_now_at L.LEVELS memory.now root index in
+        let serves = serves_below pool.now.limit in
+        IfOk result (λ fits. IsTrue fits ↔ FitsPool layout memory.now serves pool.now.frames) }
+{
+    if L::LEVELS == 4 {
+        pool_fits_recursive(alloc, memory, root, index, pool)
+    } else {
+        pool_fits_recursive_57(alloc, memory, root, index, pool)
+    }
+}
+
 /// Returns whether a hierarchy with this number of levels is valid and a pool fits it.
 pub fn fits<L: LevelCount>(
     rt: impl Abort + Copy,
@@ -87,14 +124,7 @@ pub fn fits<L: LevelCount>(
     ensures { let layout = direct_at L.LEVELS identity_places root in
         IsTrue result → FitsPool layout memory.now (serves_below pool.now.limit) pool.now.frames }
 {
-    if L::LEVELS == 4 {
-        unwrap(rt, pool_fits(alloc, memory, &IdentityMapping, root, pool))
-    } else {
-        unwrap(
-            rt,
-            pool_fits_57(alloc, memory, &IdentityMapping, root, pool),
-        )
-    }
+    unwrap(rt, pool_fits_in::<L>(alloc, memory, root, pool))
 }
 
 /// Returns whether a hierarchy with this number of levels is valid for a recursive index and a pool fits it.
@@ -109,11 +139,10 @@ pub fn fits_recursive<L: LevelCount>(
     ensures { let layout = recursive_now_at L.LEVELS memory.now root index in
         IsTrue result → FitsPool layout memory.now (serves_below pool.now.limit) pool.now.frames }
 {
-    if L::LEVELS == 4 {
-        unwrap(rt, pool_fits_recursive(alloc, memory, root, index, pool))
-    } else {
-        unwrap(rt, pool_fits_recursive_57(alloc, memory, root, index, pool))
-    }
+    unwrap(
+        rt,
+        pool_fits_recursive_in::<L>(alloc, memory, root, index, pool),
+    )
 }
 
 /// Executes calls with a mapper over a frame mapping. The mapper is then dropped, and the owner of the memory and of

@@ -68,7 +68,7 @@ const UNMAPPED: PlainReply = Answered(Refused(PageNotMapped));
 const HUGE: PlainReply = Answered(Refused(ParentEntryHugePage));
 
 /// Rows in which each call and each kind of reply is met.
-static ROWS: [Row<'static>; 6] = [
+static ROWS: [Row<'static>; 5] = [
     Row {
         calls: &[
             FIRST_LARGE,
@@ -85,20 +85,6 @@ static ROWS: [Row<'static>; 6] = [
         full: &[0x4000],
         left: &[0x4000],
         flushed: &[LARGE, LARGE, None, LARGE],
-        ..MAPPED
-    },
-    Row {
-        calls: &[
-            FIRST,
-            (Small(SetFlags(4, 0x1000, 0x2)), Answered(Done(0x2000))),
-        ],
-        words: &[
-            (0x1000, 0, 0x2002),
-            (0x2000, 0, 0x3003),
-            (0x3000, 0, 0x4003),
-            (0x4000, 1, 0x5003),
-        ],
-        flushed: &[SMALL, None],
         ..MAPPED
     },
     Row {
@@ -163,7 +149,7 @@ static ROWS: [Row<'static>; 6] = [
         flushed: &[SMALL, Some((0x5000, 0x1000)), Some((0x5000, 0x1000))],
         ..MAPPED
     },
-    // Flags of tables and of a page without `PRESENT`.
+    // Flags of tables. The lower levels come first, since no entry below one without `PRESENT` can be reached.
     Row {
         calls: &[
             FIRST,
