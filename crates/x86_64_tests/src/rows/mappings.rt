@@ -1,17 +1,18 @@
 //! Frames that don't lie at the places of their numbers.
-use super::{MAPPED, Row, add_replies, assert_fits, calls_of, compare};
+use super::calls::MAPPED;
+use super::{By, Row, State, add_replies, calls_of, compare};
 use crate::assertions::{assert_equal, unwrap};
 use crate::images::{frame_at, pool_of, run_over};
 use std::alloc::Global;
 use std::process::Abort;
 use x86_64::structures::paging::mapper::PageTableFrameMapping;
-use x86_64::{PhysMemory, ShiftMapping};
+use x86_64::{FlushRecorder, PhysMemory, ShiftMapping, pool_fits};
 
-/// The first map, with frame 0x100000 at place 0. The words are given with the addresses of their places. A place is
-/// the index of a table in memory.
+/// The first map, with the root's frame at place 0. The words are given with the addresses of their places.
 static ROW: Row<'static> = Row {
     places: &[0, 1, 2, 3],
     free: &[0x10_1000, 0x10_2000, 0x10_3000],
+    root: 0x10_0000,
     words: &[
         (0x0, 0, 0x10_1003),
         (0x1000, 0, 0x10_2003),
@@ -21,33 +22,35 @@ static ROW: Row<'static> = Row {
     ..MAPPED
 };
 
-/// The root's frame in this memory.
-const ROOT: u64 = 0x10_0000;
-
 #[test]
 fn mappings_cover_frames_from_a_first_one_on(rt: HostRuntime) {
     let mapping = ShiftMapping::new(0x100);
-    let root = frame_at(ROOT);
+    let root = frame_at(0x10_0000);
     assert!(rt; !mapping.covers(frame_at(0xf_f000)));
     assert!(rt; mapping.covers(root));
     assert_equal(rt, mapping.frame_to_pointer(root).number(), 0);
 }
 
-/// Executes a row's calls with the root's frame at place 0, and compares the results.
+/// Executes a row's calls with frame 0x100000 at place 0, and compares the results.
 fn check_shifted(rt: impl Abort + Copy, alloc: Global, row: &Row<'_>) {
     let mut memory = unwrap(rt, PhysMemory::new(alloc, 4));
     let mut pool = pool_of(rt, alloc, 0x104, row.free);
-    let (root, mapping) = (frame_at(ROOT), ShiftMapping::new(0x100));
+    let (root, mapping) = (frame_at(row.root), ShiftMapping::new(0x100));
     let calls = calls_of(rt, alloc, row.calls);
     let (mut replies, mut wanted) = (Vec::new(alloc), Vec::new(alloc));
     add_replies(rt, row.calls, &mut wanted);
-    assert_fits(rt, alloc, &memory, &mapping, root, &pool);
+    assert!(rt; unwrap(rt, pool_fits(alloc, &memory, &mapping, root, &pool)));
     unwrap(
         rt,
         run_over(&mut memory, root, mapping, &mut pool, &calls, &mut replies),
     );
     assert_equal(rt, replies, wanted);
-    compare(rt, &memory, &pool, row, "shifted")
+    let state = State {
+        memory,
+        pool,
+        recorder: FlushRecorder::new(alloc),
+    };
+    compare(rt, &state, row, By::Identity, "shifted")
 }
 
 #[test]

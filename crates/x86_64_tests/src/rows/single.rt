@@ -4,10 +4,10 @@ ghost use Rattle.x86_64_model.specs.Call.{Unmap};
 ghost use Rattle.x86_64_model.specs.Mapper.{Valid, May, PoolFits, SupplyFits, path_of};
 ghost use Rattle.x86_64_model.specs.Pool.{serves_below};
 
-use super::{Exchange, assert_fits};
+use super::{Exchange, State};
 use crate::assertions::{assert_equal, unwrap};
 use crate::call_rows::{CallRow, PageCallRow};
-use crate::images::{ROOT, flags_of, frame_at, page_at};
+use crate::images::{ROOT, fits, flags_of, frame_at, page_at};
 use bitflags::Flags;
 use std::alloc::Global;
 use std::process::Abort;
@@ -19,7 +19,7 @@ use x86_64::structures::paging::{
     Size4KiB, Translate,
 };
 use x86_64::{
-    FlushRecorder, FramePool, IdentityMapping, MapperReply, PageReply, PhysMemory, Reply,
+    FlushRecorder, FourLevels, FramePool, IdentityMapping, MapperReply, PageReply, Reply,
     SizeReply, VirtAddr, is_outside_window, parent_flags,
 };
 
@@ -244,31 +244,25 @@ fn answer_call<M: MapperAllSizes + Translate + CleanUp>(
     })
 }
 
-/// Makes a call of the mapper over the identity mapping, which is then dropped.
-fn answer_one(
-    rt: impl Abort + Copy,
-    alloc: Global,
-    (memory, pool): (&mut PhysMemory, &mut FramePool),
-    call: CallRow,
-    recorder: &mut FlushRecorder,
-) -> Option<Reply> {
-    let root = frame_at(ROOT);
-    assert_fits(rt, alloc, memory, &IdentityMapping, root, pool);
-    let mut mapper = MappedPageTable::new(memory, root, IdentityMapping);
-    answer_call(rt, &mut mapper, pool, call, recorder)
-}
-
-/// Makes the calls of exchanges one by one, and appends the replies.
+/// Makes the calls of exchanges one by one, each with a mapper over the identity mapping that is then dropped, and
+/// appends the replies.
 pub fn answer_singly(
     rt: impl Abort + Copy,
     alloc: Global,
-    (memory, pool): (&mut PhysMemory, &mut FramePool),
+    state: &mut State,
     exchanges: &[Exchange],
     replies: &mut Vec<Reply>,
-    recorder: &mut FlushRecorder,
 ) {
+    let root = frame_at(ROOT);
     for (call, _) in exchanges {
-        let answer = answer_one(rt, alloc, (&mut *memory, &mut *pool), *call, recorder);
+        let State {
+            memory,
+            pool,
+            recorder,
+        } = &mut *state;
+        assert!(rt; fits::<FourLevels>(rt, alloc, memory, root, pool));
+        let mut mapper = MappedPageTable::new(memory, root, IdentityMapping);
+        let answer = answer_call(rt, &mut mapper, pool, *call, recorder);
         unwrap(rt, replies.push(answer.unwrap_or(Reply::NotAllowed)));
     }
 }
