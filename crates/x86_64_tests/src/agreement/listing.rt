@@ -1,6 +1,4 @@
 //! The mappings, listed by the library and by the plain definition: the leaves among the entries at their paths.
-use super::modes::Levels;
-use super::session::Session;
 use crate::assertions::{assert_equal_in, unwrap, unwrap_some};
 use crate::images::{ROOT, frame_at};
 use std::alloc::Global;
@@ -17,125 +15,80 @@ const USER_ACCESSIBLE: u64 = 0x4;
 
 const NO_EXECUTE: u64 = 0x8000_0000_0000_0000;
 
-/// A mapping by the plain definition: its first position (address counted without the gap), its size, and the words
-/// from the root down to its leaf.
-#[derive(Drop)]
+/// A mapping by the plain definition: its first position (address counted without the gap), its size, its leaf, and the
+/// bits that all words from the root down to the leaf have, and those that any of them has.
+#[derive(Clone, Copy)]
 struct PlainMapping {
     start: u64,
     size: u64,
-    words: Vec<u64>,
+    leaf: u64,
+    all: u64,
+    any: u64,
 }
 
 impl PlainMapping {
     /// Returns the mapping of the entry at a path, if it is a leaf.
-    fn at(
-        rt: impl Abort + Copy,
-        alloc: Global,
-        levels: usize,
-        paths: &PathEntries,
-        path: &[u64],
-    ) -> Option<PlainMapping> {
-        let mut words = Vec::new(alloc);
-        let mut number = 0_u64;
+    fn at(levels: usize, paths: &PathEntries, path: &[u64]) -> Option<PlainMapping> {
+        let leaf = paths.entry(path);
+        let size = match levels.saturating_sub(path.len()) {
+            0 => 0x1000,
+            1 if is_huge(leaf) => 0x20_0000,
+            2 if is_huge(leaf) => 0x4000_0000,
+            _ => return None,
+        };
+        let (mut number, mut all, mut any) = (0_u64, leaf, leaf);
         for (n, index) in path.iter().enumerate() {
-            let front = path.get(..=n).unwrap_or(&[]);
-            unwrap(rt, words.push(paths.entry(front)));
+            let word = paths.entry(path.get(..=n).unwrap_or(&[]));
+            if !is_present(word) || n.saturating_add(1) < path.len() && is_huge(word) {
+                return None;
+            }
             number = number.wrapping_mul(512).wrapping_add(*index);
+            all &= word;
+            any |= word;
         }
-        let level = levels.saturating_add(1).saturating_sub(path.len());
-        let size = size_of(level)?;
-        is_leaf(level, &words).then_some(PlainMapping {
+        Some(PlainMapping {
             start: number.wrapping_mul(size),
             size,
-            words,
+            leaf,
+            all,
+            any,
         })
     }
 
     /// Returns the line that the mapping is printed as.
-    fn line(&self, rt: impl Abort + Copy, alloc: Global, levels: Levels) -> String {
-        let start = levels.address_at(self.start);
+    fn line<L: LevelCount>(self, rt: impl Abort + Copy, alloc: Global) -> String {
+        let start = VirtAddrIn::<L>::new_truncate(self.start).as_u64();
         let name = match self.size {
             0x1000 => "4KiB",
             0x20_0000 => "2MiB",
             _ => "1GiB",
         };
-        let last = self.words.last().copied().unwrap_or(0);
-        let frame = (address(last) / self.size.max(1)).wrapping_mul(self.size);
-        let write = if self.all_are(WRITABLE, WRITABLE) {
-            "w"
-        } else {
-            "-"
-        };
-        let execute = if self.all_are(NO_EXECUTE, 0) {
-            "x"
-        } else {
-            "-"
-        };
-        let user = if self.all_are(USER_ACCESSIBLE, USER_ACCESSIBLE) {
-            "u"
-        } else {
-            "-"
-        };
-        let bits = flags(last);
-        unwrap(
-            rt,
-            format!(in alloc; "{start:#x} {name} {frame:#x} r{write}{execute}{user} {bits:#x}"),
-        )
-    }
-
-    /// Returns true if the bits of a mask have this value in each word.
-    fn all_are(&self, mask: u64, bits: u64) -> bool {
-        for word in &self.words {
-            if *word & mask != bits {
-                return false;
-            }
-        }
-        true
+        let frame = (address(self.leaf) / self.size.max(1)).wrapping_mul(self.size);
+        let write = letter(self.all & WRITABLE != 0, "w");
+        let execute = letter(self.any & NO_EXECUTE == 0, "x");
+        let user = letter(self.all & USER_ACCESSIBLE != 0, "u");
+        let bits = flags(self.leaf);
+        let line = format!(in alloc;
+            "{start:#x} {name} {frame:#x} r{write}{execute}{user} {bits:#x}"
+        );
+        unwrap(rt, line)
     }
 }
 
-/// Returns the size of the pages that entries of a level map, if they map any.
-fn size_of(level: usize) -> Option<u64> {
-    match level {
-        1 => Some(0x1000),
-        2 => Some(0x20_0000),
-        3 => Some(0x4000_0000),
-        _ => None,
-    }
-}
-
-/// Returns true if words from the root down, the last of which is of a level, lead to a leaf.
-fn is_leaf(level: usize, words: &[u64]) -> bool {
-    let Some((last, above)) = words.split_last() else {
-        return false;
-    };
-    for word in above {
-        if !is_present(*word) || is_huge(*word) {
-            return false;
-        }
-    }
-    is_present(*last) && (level == 1 || is_huge(*last))
+/// Returns the letter of a right if it is given, and otherwise a dash.
+fn letter(is_given: bool, name: &'static str) -> &'static str {
+    if is_given { name } else { "-" }
 }
 
 /// Returns the first mapping from a position on.
-fn first_from(
-    rt: impl Abort + Copy,
-    alloc: Global,
-    levels: Levels,
-    paths: &PathEntries,
-    from: u64,
-) -> Option<PlainMapping> {
+fn first_from(levels: usize, paths: &PathEntries, from: u64) -> Option<PlainMapping> {
     let mut first: Option<PlainMapping> = None;
     for item in &paths.items {
-        let Some(found) = PlainMapping::at(rt, alloc, levels.count(), paths, &item.path) else {
-            continue;
-        };
-        let is_sooner = match &first {
-            Some(first) => found.start < first.start,
-            None => true,
-        };
-        if from <= found.start && is_sooner {
-            first = Some(found);
+        if let Some(found) = PlainMapping::at(levels, paths, &item.path) {
+            let is_sooner = first.is_none_or(|first| found.start < first.start);
+            if from <= found.start && is_sooner {
+                first = Some(found);
+            }
         }
     }
     first
@@ -145,17 +98,21 @@ fn first_from(
 pub fn compare_mappings<L: LevelCount>(
     rt: impl Abort + Copy,
     alloc: Global,
-    levels: Levels,
     memory: &PhysMemory,
-    plain: &Session,
+    paths: &PathEntries,
 ) {
-    let first = VirtAddrIn::<L>::zero();
+    let levels = L::LEVELS as usize;
     let mut from = 0;
-    for mapping in mappings_from(memory, &IdentityMapping, frame_at(ROOT), first) {
+    for mapping in mappings_from(
+        memory,
+        &IdentityMapping,
+        frame_at(ROOT),
+        VirtAddrIn::<L>::zero(),
+    ) {
         let listed = unwrap(rt, format!(in alloc; "{mapping}"));
-        let wanted = unwrap_some(rt, first_from(rt, alloc, levels, plain.paths(), from));
-        assert_equal_in(rt, from, listed, wanted.line(rt, alloc, levels));
+        let wanted = unwrap_some(rt, first_from(levels, paths, from));
+        assert_equal_in(rt, from, listed, wanted.line::<L>(rt, alloc));
         from = wanted.start.wrapping_add(wanted.size);
     }
-    assert!(rt; first_from(rt, alloc, levels, plain.paths(), from).is_none());
+    assert!(rt; first_from(levels, paths, from).is_none());
 }
