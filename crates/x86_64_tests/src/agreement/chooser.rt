@@ -130,10 +130,9 @@ impl Chooser {
             range,
             on_page(size, SetFlags(5, page, flags)),
         ];
-        self.choose(if self.levels == 5 {
-            &calls
-        } else {
-            &calls[..13]
-        })
+        if self.levels == 5 {
+            return self.choose(&calls);
+        }
+        self.choose(&calls[..13])
     }
 }

@@ -46,7 +46,7 @@ impl Pair {
         let free = self.direct.plain.pool.len();
         let reply = self.direct.step(rt, &plain);
         assert_equal(rt, self.recursive.step(rt, &plain), reply);
-        met.add(rt, call, reply, free < self.direct.plain.pool.len());
+        met.add(rt, &plain, reply, free < self.direct.plain.pool.len());
         unwrap_some(rt, reply_to(call, reply))
     }
 
@@ -116,7 +116,7 @@ impl Pair {
         self.direct.compare(rt, alloc);
         self.recursive.compare(rt, alloc);
         let Twins { memory, plain, .. } = &self.direct;
-        compare_mappings::<L>(rt, alloc, memory, &plain.paths)
+        compare_mappings::<L>(rt, memory, &plain.paths)
     }
 }
 

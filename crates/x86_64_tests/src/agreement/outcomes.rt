@@ -1,28 +1,26 @@
 //! The kinds of replies that calls had.
 use crate::assertions::unwrap;
-use crate::call_rows::{CallRow, PageCallRow};
 use std::alloc::Global;
 use std::process::Abort;
-use x86_64_plain::{Answer, PlainReply, Refusal, Translated};
+use x86_64_plain::{Answer, PlainCall, PlainReply, Refusal, Translated};
 
-/// The number of pairs of a call and a kind of its reply that can occur with four levels. `tests/agreement` lists them.
+/// The number of pairs of a call and a kind of its reply that can occur with four levels, which `tests/agreement` lists.
 pub const OUTCOMES: usize = 109;
 
-/// The number of those that can occur with five levels only.
+/// The number of further ones with five levels.
 pub const OUTCOMES_OF_LEVEL_5: usize = 9;
 
 /// The pairs of a call and a kind of its reply that occurred, as numbers.
 #[derive(Drop)]
 pub struct Met {
-    outcomes: Vec<(u8, u8)>,
+    outcomes: Vec<(usize, u8)>,
 }
 
 impl Met {
     /// Creates a record without calls.
     pub fn new(alloc: Global) -> Met {
-        Met {
-            outcomes: Vec::new(alloc),
-        }
+        let outcomes = Vec::new(alloc);
+        Met { outcomes }
     }
 
     /// Returns the number of pairs.
@@ -30,67 +28,53 @@ impl Met {
         self.outcomes.len()
     }
 
-    /// Adds the reply to a call. It says whether tables went back to the free frames.
-    pub fn add(
-        &mut self,
-        rt: impl Abort + Copy,
-        call: CallRow,
-        reply: PlainReply,
-        goes_back: bool,
-    ) {
-        let outcome = (number_of(call), kind_of(reply, goes_back));
+    /// Adds the reply to a call, which may have returned tables to the free frames.
+    pub fn add(&mut self, rt: impl Abort + Copy, call: &PlainCall, reply: PlainReply, back: bool) {
+        let outcome = (number_of(call), kind_of(reply, back));
         if !self.outcomes.contains(&outcome) {
             unwrap(rt, self.outcomes.push(outcome));
         }
     }
 }
 
-/// Returns the number of a call, whatever its addresses and flags.
-fn number_of(call: CallRow) -> u8 {
-    match call {
-        CallRow::Small(call) => page_call_number(call),
-        CallRow::Large(call) => 20 + page_call_number(call),
-        CallRow::Giant(call) => 40 + page_call_number(call),
-        CallRow::Translate(_) => 60,
-        CallRow::TranslateAddr(_) => 61,
-        CallRow::CleanUp => 62,
-        CallRow::CleanUpRange(..) => 63,
-    }
-}
-
-/// Returns the number of a call on a page of any size.
-fn page_call_number(call: PageCallRow) -> u8 {
-    match call {
-        PageCallRow::MapTo(..) => 0,
-        PageCallRow::MapToWithTableFlags(..) => 1,
-        PageCallRow::IdentityMap(..) => 2,
-        PageCallRow::Unmap(_) => 3,
-        PageCallRow::UpdateFlags(..) => 4,
-        PageCallRow::TranslatePage(_) => 5,
-        PageCallRow::SetFlags(level, ..) => 6 + level % 8,
-    }
+/// Returns a number that says which call it is and, if it is on a page, of which size, by the length of its path.
+fn number_of(call: &PlainCall) -> usize {
+    let (number, size) = match call {
+        PlainCall::MapTo { page, .. } => (0, page.len()),
+        PlainCall::MapToWithTableFlags { page, .. } => (8, page.len()),
+        PlainCall::IdentityMap { level, .. } => (16, *level),
+        PlainCall::Unmap { page } => (24, page.len()),
+        PlainCall::UpdateFlags { page, .. } => (32, page.len()),
+        PlainCall::TranslatePage { page } => (40, page.len()),
+        PlainCall::SetFlags { level, page, .. } => (level.wrapping_mul(64), page.len()),
+        PlainCall::Translate { .. } => (48, 0),
+        PlainCall::TranslateAddress { .. } => (48, 1),
+        // a clean up of all pages, which no range that is chosen has
+        PlainCall::CleanUp { high, .. } if *high % 0x80_0000_0000 == 0x7f_ffff_ffff => (48, 2),
+        PlainCall::CleanUp { .. } => (48, 3),
+    };
+    size.wrapping_add(number)
 }
 
 /// Returns the number of the kind of a reply, which is the reply without addresses and flags.
-fn kind_of(reply: PlainReply, goes_back: bool) -> u8 {
+fn kind_of(reply: PlainReply, back: bool) -> u8 {
     match reply {
         PlainReply::NotAllowed => 0,
-        PlainReply::Cleaned => 1 + u8::from(goes_back),
+        PlainReply::Cleaned => 1 + u8::from(back),
         PlainReply::Address(address) => 3 + u8::from(address.is_some()),
         PlainReply::Position(Translated::NotMapped) => 5,
-        PlainReply::Position(Translated::Mapped { size: 0x1000, .. }) => 6,
-        PlainReply::Position(
-            Translated::Mapped {
-                size: 0x20_0000,
-                ..
-            },
-        ) => 7,
-        PlainReply::Position(Translated::Mapped { .. }) => 8,
+        PlainReply::Position(Translated::Mapped { size, .. }) => match size {
+            0x1000 => 6,
+            0x20_0000 => 7,
+            _ => 8,
+        },
         PlainReply::Answered(Answer::Done(_)) => 9,
-        PlainReply::Answered(Answer::Refused(Refusal::PageNotMapped)) => 10,
-        PlainReply::Answered(Answer::Refused(Refusal::ParentEntryHugePage)) => 11,
-        PlainReply::Answered(Answer::Refused(Refusal::InvalidFrameAddress(_))) => 12,
-        PlainReply::Answered(Answer::Refused(Refusal::PageAlreadyMapped(_))) => 13,
-        PlainReply::Answered(Answer::Refused(Refusal::FrameAllocationFailed)) => 14,
+        PlainReply::Answered(Answer::Refused(why)) => match why {
+            Refusal::PageNotMapped => 10,
+            Refusal::ParentEntryHugePage => 11,
+            Refusal::InvalidFrameAddress(_) => 12,
+            Refusal::PageAlreadyMapped(_) => 13,
+            Refusal::FrameAllocationFailed => 14,
+        },
     }
 }
