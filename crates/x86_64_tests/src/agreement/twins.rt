@@ -103,10 +103,7 @@ impl Twins {
             untouched: free.len(),
         };
         let words = twins.words(rt, alloc);
-        for (n, word) in words.iter().enumerate() {
-            let (frame, index) = slot_of(n);
-            set_word(rt, &mut twins.memory, frame, index, *word);
-        }
+        store(rt, &mut twins.memory, &words);
         twins
     }
 
@@ -152,6 +149,14 @@ impl Twins {
             assert_equal_in(rt, (frame, index), found, *word);
         }
         compare_pool(rt, &self.pool, &self.plain.pool, "plain");
+    }
+}
+
+/// Sets all words of a memory.
+fn store(rt: impl Abort + Copy, memory: &mut PhysMemory, words: &[u64]) {
+    for (n, word) in words.iter().enumerate() {
+        let (frame, index) = slot_of(n);
+        set_word(rt, memory, frame, index, *word);
     }
 }
 
