@@ -15,7 +15,7 @@ use anyhow::{Context, bail};
 use hierarchy::Hierarchy;
 use line::Line;
 use mode::Mode;
-use reply::{CallReply, PoolReply};
+use reply::{CallReply, write_pool};
 use std::alloc::Global;
 use std::env;
 use std::io::{self, BufRead, BufReader, BufWriter, Write};
@@ -77,7 +77,7 @@ fn answer_line<W: Write>(
         Line::Word { frame, index, word } => hierarchy.set_word(frame, index, word),
         Line::Free(frame) => hierarchy.add_free(frame)?,
         Line::Show { frame, index } => writeln!(writer, "{:#x}", hierarchy.word(frame, index)?)?,
-        Line::Pool => writeln!(writer, "{}", PoolReply(hierarchy.free_frames()))?,
+        Line::Pool => write_pool(writer, hierarchy.free_frames())?,
         Line::Call(call) => {
             let reply = hierarchy.answer(&call)?;
             writeln!(writer, "{}", CallReply { call: &call, reply })?;

@@ -1,5 +1,6 @@
 //! The texts of replies.
 use std::fmt::{Display, Formatter, Result as FmtResult, Write};
+use std::io;
 use x86_64_plain::{Answer, PlainCall, PlainReply, Refusal, Translated};
 
 /// The reply to a call.
@@ -59,16 +60,11 @@ fn write_refusal<W: Write>(f: &mut Formatter<W>, why: Refusal) -> FmtResult {
     }
 }
 
-/// The free frames, in order.
-#[derive(Drop)]
-pub struct PoolReply<'a>(pub &'a [u64]);
-
-impl Display for PoolReply<'_> {
-    fn fmt<W: Write>(&self, f: &mut Formatter<W>) -> FmtResult {
-        f.write_str("pool")?;
-        for frame in self.0 {
-            write!(f, " {frame:#x}")?;
-        }
-        Ok(())
+/// Writes the line that lists the free frames.
+pub fn write_pool<W: io::Write>(writer: &mut W, frames: &[u64]) -> io::Result<()> {
+    write!(writer, "pool")?;
+    for frame in frames {
+        write!(writer, " {frame:#x}")?;
     }
+    writeln!(writer)
 }
