@@ -1,7 +1,6 @@
 //! Calls that a fixed rule chooses.
 ghost use Rattle.std.specs.Prelude.{◌≤◌, length};
 
-use super::modes::Levels;
 use crate::call_rows::CallRow::{
     self, CleanUp, CleanUpRange, Giant, Large, Small, Translate, TranslateAddr,
 };
@@ -35,6 +34,9 @@ const FRAMES: [u64; 8] = [
     0x000f_ffff_ffff_f000,
 ];
 
+/// `NO_EXECUTE`.
+const NX: u64 = 0x8000_0000_0000_0000;
+
 /// The flags that are chosen. Some have an address bit or `HUGE_PAGE` or lack `PRESENT`, so that some calls aren't
 /// allowed.
 const FLAGS: [u64; 12] = [
@@ -49,7 +51,7 @@ const FLAGS: [u64; 12] = [
     0x83,
     0x1003,
     0x11,
-    0x8000_0000_0000_0001,
+    NX | 0x1,
 ];
 
 /// The sizes of pages that are chosen.
@@ -67,22 +69,17 @@ fn on_page(size: u64, call: PageCallRow) -> CallRow {
 /// A chooser with a generator that starts alike in each run of the test, so that each run makes the same calls.
 #[derive(Drop)]
 pub struct Chooser {
-    levels: Levels,
+    levels: usize,
     generator: Pcg32,
 }
 
 impl Chooser {
     /// Creates a chooser for a number of levels.
-    pub fn new(levels: Levels) -> Chooser {
+    pub fn new(levels: usize) -> Chooser {
         Chooser {
             levels,
             generator: Pcg32::new(1, 1),
         }
-    }
-
-    /// Returns the number of levels of its calls.
-    pub fn levels(&self) -> Levels {
-        self.levels
     }
 
     /// Chooses one of several items.
@@ -92,22 +89,22 @@ impl Chooser {
         items[self.generator.next_u32() as usize % items.len()]
     }
 
-    /// Chooses indices, from the highest level down, and returns the address of the 4KiB page with these indices.
-    fn address(&mut self) -> u64 {
-        let mut position = match self.levels {
-            Levels::Four => 0,
-            Levels::Five => self.choose(&LEVEL_5_INDICES),
-        };
+    /// Chooses indices, from the highest level down, and returns the position of the 4KiB page with these indices.
+    fn position(&mut self) -> u64 {
+        let mut position = 0;
+        if self.levels == 5 {
+            position = self.choose(&LEVEL_5_INDICES);
+        }
         for indices in INDICES {
             position = position << 9 | self.choose(indices);
         }
-        self.levels.address_at(position << 12)
+        position << 12
     }
 
     /// Chooses a call. A fourth of the calls unmap a page or clean up a range, so that tables become empty and are
     /// returned. The last page of a range may be below the first one.
     pub fn choice(&mut self) -> CallRow {
-        let (first, last) = (self.address(), self.address());
+        let (first, last) = (self.position(), self.position());
         let size = self.choose(&SIZES);
         let page = first & size.wrapping_neg();
         let range = CleanUpRange(first, last);
@@ -133,9 +130,9 @@ impl Chooser {
             range,
             on_page(size, SetFlags(5, page, flags)),
         ];
-        match self.levels {
-            Levels::Four => self.choose(&calls[..13]),
-            Levels::Five => self.choose(&calls),
+        if self.levels == 5 {
+            return self.choose(&calls);
         }
+        self.choose(&calls[..13])
     }
 }

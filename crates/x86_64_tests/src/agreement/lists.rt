@@ -1,30 +1,18 @@
-//! Lists of calls chosen by a fixed rule, executed by the plain slow program, and by the direct mapper and the
-//! recursive one: by both at once, or by each alone.
-//!
-//! After each list, the replies, both memories, both pools and the mappings of the first memory are compared with the
-//! plain ones. At the end, each kind of outcome must have occurred.
+//! Lists of calls, executed by the plain program and by both mappers of the library.
+use super::calls::plain_of;
 use super::chooser::Chooser;
-use super::commands::command_of;
 use super::listing::compare_mappings;
-use super::modes::{Levels, Mode, RECURSIVE_INDEX, Way};
-use super::outcomes::Met;
-use super::session::{PLACES, Session, slot_of};
-use super::{MOST_FREE, ROUNDS, entries};
-use crate::assertions::{assert_equal_in, unwrap, unwrap_some};
+use super::outcomes::{Met, OUTCOMES, OUTCOMES_OF_LEVEL_5};
+use super::twins::{RECURSIVE_INDEX, Twins};
+use crate::assertions::{assert_equal, assert_equal_in, unwrap, unwrap_some};
 use crate::call_rows::{CallRow, call_of};
-use crate::images::{
-    ROOT, fits, fits_recursive, frame_at, pool_of, run_on, run_recursive_on, set_word, word_at,
-};
+use crate::images::{ROOT, fits, fits_recursive, frame_at, run_on, run_recursive_on};
 use crate::pairs::{is_pair, none_names, run_pair_on};
 use crate::replies::reply_to;
-use crate::rows::{Word, compare_pool};
 use std::alloc::Global;
 use std::process::Abort;
 use x86_64::structures::paging::{PageTableFlags, PageTableIndex};
-use x86_64::{
-    CallIn, FiveLevels, FourLevels, FramePool, LevelCount, LevelFiveFlags, NoLevelFive, PhysMemory,
-    ReplyIn,
-};
+use x86_64::{CallIn, FiveLevels, FourLevels, LevelCount, LevelFiveFlags, NoLevelFive, ReplyIn};
 
 /// The number of lists executed on one memory.
 const LISTS: usize = 20;
@@ -32,41 +20,11 @@ const LISTS: usize = 20;
 /// The maximum number of calls of a list.
 const CALLS: usize = 20;
 
-/// A hierarchy and its free frames, in a memory and as a plain state.
-#[derive(Drop)]
-struct Twins {
-    memory: PhysMemory,
-    pool: FramePool,
-    plain: Session,
-}
+/// The maximum number of free frames.
+const MOST_FREE: usize = 7;
 
-impl Twins {
-    /// Creates both from the initial entries and a number of free frames.
-    fn new(rt: impl Abort + Copy, alloc: Global, mode: Mode, words: &[Word], free: usize) -> Twins {
-        let plain = Session::new(rt, alloc, mode, words, free);
-        let mut memory = unwrap(rt, PhysMemory::new(alloc, PLACES));
-        for (n, word) in plain.words(rt, alloc, false).iter().enumerate() {
-            let (frame, index) = slot_of(n);
-            set_word(rt, &mut memory, frame, index, *word);
-        }
-        let pool = pool_of(rt, alloc, PLACES, plain.free_frames());
-        Twins {
-            memory,
-            pool,
-            plain,
-        }
-    }
-
-    /// Compares every word, and the free frames.
-    fn compare(&self, rt: impl Abort + Copy, alloc: Global) {
-        for (n, word) in self.plain.words(rt, alloc, false).iter().enumerate() {
-            let (frame, index) = slot_of(n);
-            let found = word_at(rt, &self.memory, frame, index);
-            assert_equal_in(rt, (frame, index), found, *word);
-        }
-        compare_pool(rt, &self.pool, self.plain.free_frames(), "plain");
-    }
-}
+/// The maximum number of rounds until each kind of reply has occurred.
+const ROUNDS: usize = 20;
 
 /// Two alike hierarchies, of which the second one has a recursive index.
 #[derive(Drop)]
@@ -76,24 +34,6 @@ struct Pair {
 }
 
 impl Pair {
-    /// Creates both from the initial entries and a number of free frames.
-    fn new(
-        rt: impl Abort + Copy,
-        alloc: Global,
-        levels: Levels,
-        words: &[Word],
-        free: usize,
-    ) -> Pair {
-        let (direct, recursive) = (
-            Mode::new(Way::Direct, levels),
-            Mode::new(Way::Recursive, levels),
-        );
-        Pair {
-            direct: Twins::new(rt, alloc, direct, words, free),
-            recursive: Twins::new(rt, alloc, recursive, words, free),
-        }
-    }
-
     /// Executes a call with both plain machines, asserts that their replies are equal, and returns the reply.
     fn step<L: LevelCount>(
         &mut self,
@@ -102,12 +42,12 @@ impl Pair {
         call: CallRow,
         met: &mut Met,
     ) -> ReplyIn<L> {
-        let command = unwrap(rt, command_of(alloc, call));
-        let choice = (command.as_str(), call);
-        let answered = self.direct.plain.answer(rt, alloc, choice, met);
-        let same = self.recursive.plain.answer(rt, alloc, choice, met);
-        assert_equal_in(rt, command.as_str(), same, answered);
-        unwrap_some(rt, reply_to(call, answered.1))
+        let plain = unwrap(rt, plain_of(alloc, L::LEVELS as usize, call));
+        let free = self.direct.plain.pool.len();
+        let reply = self.direct.step(rt, &plain);
+        assert_equal(rt, self.recursive.step(rt, &plain), reply);
+        met.add(rt, &plain, reply, free < self.direct.plain.pool.len());
+        unwrap_some(rt, reply_to(call, reply))
     }
 
     /// Executes calls with both mappers at once.
@@ -176,7 +116,7 @@ impl Pair {
         self.direct.compare(rt, alloc);
         self.recursive.compare(rt, alloc);
         let Twins { memory, plain, .. } = &self.direct;
-        compare_mappings::<L>(rt, alloc, chooser.levels(), memory, plain)
+        compare_mappings::<L>(rt, memory, &plain.paths)
     }
 }
 
@@ -218,39 +158,41 @@ fn check_round<L: LevelCount, P5: LevelFiveFlags<L>>(
     chooser: &mut Chooser,
     met: &mut Met,
 ) {
-    let levels = chooser.levels();
-    let words = entries(rt, alloc, levels);
+    let levels = L::LEVELS as usize;
     for free in 0..=MOST_FREE {
-        let mut pair = Pair::new(rt, alloc, levels, &words, free);
+        let mut pair = Pair {
+            direct: Twins::new(rt, alloc, levels, false, free),
+            recursive: Twins::new(rt, alloc, levels, true, free),
+        };
         for list in 0..LISTS {
             pair.answer::<L, P5>(rt, alloc, list % 2 == 0, chooser, met);
         }
     }
 }
 
-/// Does this until each kind of reply has occurred, and asserts that it has.
+/// Does this until this number of outcomes has occurred, and asserts that it has.
 fn check_lists<L: LevelCount, P5: LevelFiveFlags<L>>(
     rt: impl Abort + Copy,
     alloc: Global,
-    levels: Levels,
+    outcomes: usize,
 ) {
-    let mut chooser = Chooser::new(levels);
+    let mut chooser = Chooser::new(L::LEVELS as usize);
     let mut met = Met::new(alloc);
     for _ in 0..ROUNDS {
-        check_round::<L, P5>(rt, alloc, &mut chooser, &mut met);
-        if met.missing(levels).is_none() {
-            return;
+        if met.count() < outcomes {
+            check_round::<L, P5>(rt, alloc, &mut chooser, &mut met);
         }
     }
-    assert!(rt; false, "{:?}", met.missing(levels));
+    assert_equal(rt, met.count(), outcomes);
 }
 
 #[test]
 fn lists_agree_with_the_plain_program(rt: HostRuntime) {
-    check_lists::<FourLevels, NoLevelFive>(rt, rt.alloc(), Levels::Four)
+    check_lists::<FourLevels, NoLevelFive>(rt, rt.alloc(), OUTCOMES)
 }
 
 #[test]
 fn lists_of_five_levels_agree_with_the_plain_program(rt: HostRuntime) {
-    check_lists::<FiveLevels, PageTableFlags>(rt, rt.alloc(), Levels::Five)
+    let outcomes = OUTCOMES + OUTCOMES_OF_LEVEL_5;
+    check_lists::<FiveLevels, PageTableFlags>(rt, rt.alloc(), outcomes)
 }
