@@ -24,5 +24,3 @@ mod replies;
 mod rows;
 #[cfg(test)]
 mod streams;
-#[cfg(test)]
-mod untrusted_images;

@@ -14,9 +14,3 @@ pub fn words_of(rt: impl Abort + Copy, alloc: Global, text: &str) -> Vec<String>
     }
     words
 }
-
-/// Adds a line to a text.
-pub fn push_line(rt: impl Abort + Copy, text: &mut String, line: &str) {
-    unwrap(rt, text.push_str(line));
-    unwrap(rt, text.push('\n'))
-}
