@@ -8,18 +8,14 @@ ghost use Rattle.x86_64_model.specs.Pool.{serves_below};
 ghost use Rattle.x86_64_tables.specs.LentMemory.{numbered};
 ghost use Rattle.x86_64.specs.Runs.{FitsPool};
 
-use crate::assertions::{assert_equal, unwrap};
-use crate::beside::{empty_tables, frame, map, pool_from};
-use std::alloc::{AllocError, Global};
-use std::process::Abort;
+use crate::beside::empty_tables;
+use crate::prelude::*;
 use uses::run_in_space::run_on;
-use x86_64::structures::paging::{PageSize, PageTable, PageTableIndex, PhysFrame, Size4KiB};
-use x86_64::{Call, FramePool, IdentityMapping, LentMemory, Reply, pool_fits};
 
 /// Executes calls on a slice of tables, without a copy. The pool fits the hierarchy again.
 fn run_in_tables(
     tables: &mut [PageTable],
-    root: PhysFrame<Size4KiB>,
+    root: Frame,
     pool: &mut FramePool,
     calls: &[Call],
     replies: &mut Vec<Reply>,
@@ -34,7 +30,7 @@ fn run_in_tables(
 }
 
 /// Returns the table in a frame, or `None` if there is none.
-fn table_in(tables: &[PageTable], frame: PhysFrame<Size4KiB>) -> Option<&PageTable>
+fn table_in(tables: &[PageTable], frame: Frame) -> Option<&PageTable>
     ensures { option_copied result ≡ words_of (numbered tables.now) identity_places frame }
 {
     let start = frame.start_address().as_u64();
@@ -42,7 +38,7 @@ fn table_in(tables: &[PageTable], frame: PhysFrame<Size4KiB>) -> Option<&PageTab
 }
 
 /// Returns the word at an index of the table in a frame, or `None` if there is none.
-fn word_in(tables: &[PageTable], frame: PhysFrame<Size4KiB>, index: PageTableIndex) -> Option<u64>
+fn word_in(tables: &[PageTable], frame: Frame, index: PageTableIndex) -> Option<u64>
     ensures { result ≡ read (words_of (numbered tables.now) identity_places) frame index }
 {
     match table_in(tables, frame) {
@@ -54,7 +50,7 @@ fn word_in(tables: &[PageTable], frame: PhysFrame<Size4KiB>, index: PageTableInd
 /// Executes calls of a guest, and returns the word that its root has at an index afterwards.
 fn run_and_read(
     tables: &mut Vec<PageTable>,
-    root: PhysFrame<Size4KiB>,
+    root: Frame,
     pool: &mut FramePool,
     calls: &[Call],
     replies: &mut Vec<Reply>,
@@ -76,7 +72,7 @@ fn fits(
     rt: impl Abort + Copy,
     alloc: Global,
     tables: &mut [PageTable],
-    root: PhysFrame<Size4KiB>,
+    root: Frame,
     pool: &FramePool,
 ) -> bool
     ensures { let layout = direct identity_places root in let serves = serves_below pool.now.limit in
@@ -89,17 +85,28 @@ fn fits(
 #[test]
 fn a_guest_is_mapped_and_read(rt: HostRuntime) {
     let mut tables = empty_tables(rt, rt.alloc());
-    let (root, mut pool) = (frame(0x1000), pool_from(rt, rt.alloc(), 0x2000));
+    let (root, index) = (frame(0x1000), PageTableIndex::new(0));
+    let (mut pool, mut replies) = (pool_of(rt, rt.alloc(), 2, 16), Vec::new(rt.alloc()));
     assert!(rt; fits(rt, rt.alloc(), &mut tables, root, &pool));
-    let mut replies = Vec::new(rt.alloc());
     let calls = [map(0x1000, 0x5000)];
-    let read = run_and_read(
-        &mut tables,
-        root,
-        &mut pool,
-        &calls,
-        &mut replies,
-        PageTableIndex::new(0),
-    );
+    let read = run_and_read(&mut tables, root, &mut pool, &calls, &mut replies, index);
     assert_equal(rt, unwrap(rt, read), Some(0x2001));
+}
+
+#[test]
+fn pages_of_a_guest_are_unmapped_once(rt: HostRuntime) {
+    let mut tables = empty_tables(rt, rt.alloc());
+    set_words(rt, &mut LentMemory::new(&mut tables), &WORDS[1..]);
+    let (root, page) = (frame(0x1000), page(0x1000));
+    let (mut pool, mut replies) = (pool_of(rt, rt.alloc(), 0, 0), Vec::new(rt.alloc()));
+    assert!(rt; fits(rt, rt.alloc(), &mut tables, root, &pool));
+    let calls = [Call::Of4KiB(SizeCall::Unmap { page }); 2];
+    let ran = run_in_tables(&mut tables, root, &mut pool, &calls, &mut replies);
+    unwrap(rt, ran);
+    let wanted = [
+        Reply::Of4KiB(PageReply::Unmap(Ok((frame(0x5000), page)))),
+        Reply::Of4KiB(PageReply::Unmap(Err(UnmapError::PageNotMapped))),
+    ];
+    assert_equal(rt, replies.as_slice(), &wanted);
+    check_words(rt, &LentMemory::new(&mut tables), &WORDS[1..4])
 }
