@@ -15,35 +15,17 @@ use x86_64_model::laws::spaces::one_hierarchy_is_a_space;
 /// Executes calls on a first hierarchy, and then on a second one, which isn't tested again. The pool fits both again.
 fn run_in_turn<T: TableMemory>(
     memory: &mut T,
-    first: Frame,
-    second: Frame,
+    roots: (Frame, Frame),
     pool: &mut FramePool,
     calls: (&[Call], &[Call]),
     replies: &mut Vec<Reply>,
 ) -> Result<(), AllocError>
-    requires { AreTwo first second (T.tables memory.old) (serves_below pool.old.limit) pool.old.frames }
-    ensures again { AreTwo first second (T.tables memory.new) (serves_below pool.new.limit) pool.new.frames }
+    requires { AreTwo roots.0 roots.1 (T.tables memory.old) (serves_below pool.old.limit) pool.old.frames }
+    ensures again { AreTwo roots.0 roots.1 (T.tables memory.new) (serves_below pool.new.limit) pool.new.frames }
     ensures lent { T.lent memory.new ≡ T.lent memory.old }
 {
-    run_on(memory, IdentityMapping, first, pool, calls.0, replies)?;
-    run_on(memory, IdentityMapping, second, pool, calls.1, replies)
-}
-
-/// Executes calls on two hierarchies in a slice of tables, without a copy. Its owner knows that the pool fits both
-/// again.
-fn run_in_slice(
-    tables: &mut [PageTable],
-    first: Frame,
-    second: Frame,
-    pool: &mut FramePool,
-    calls: (&[Call], &[Call]),
-    replies: &mut Vec<Reply>,
-) -> Result<(), AllocError>
-    requires { AreTwo first second (numbered tables.old) (serves_below pool.old.limit) pool.old.frames }
-    ensures { AreTwo first second (numbered tables.new) (serves_below pool.new.limit) pool.new.frames }
-{
-    let mut memory = LentMemory::new(tables);
-    run_in_turn(&mut memory, first, second, pool, calls, replies)
+    run_on(memory, IdentityMapping, roots.0, pool, calls.0, replies)?;
+    run_on(memory, IdentityMapping, roots.1, pool, calls.1, replies)
 }
 
 /// Creates a pool that fits two empty roots in a memory of empty tables.
@@ -51,24 +33,19 @@ fn pool_of_two<T: TableMemory>(
     rt: impl Abort + Copy,
     alloc: Global,
     memory: &T,
-    first: Frame,
-    second: Frame,
+    roots: (Frame, Frame),
 ) -> FramePool
     requires { (place : ℕ) → get (T.tables memory.now) place
         ≡ (if nat_lt place 0x10 then Some zero_words else None) }
-    ensures { AreTwo first second (T.tables memory.now) (serves_below result.limit) result.frames }
+    ensures { AreTwo roots.0 roots.1 (T.tables memory.now) (serves_below result.limit) result.frames }
 {
     one_hierarchy_is_a_space();
     empty_roots_are_spaces();
     let pool = pool_of(rt, alloc, 3, PLACES);
-    assert!(rt; first != second);
-    assert!(rt; unwrap(rt, pool_fits(alloc, memory, &IdentityMapping, first, &pool)));
-    assert!(rt;
-        unwrap(
-            rt,
-            pool_fits(alloc, memory, &IdentityMapping, second, &pool)
-        )
-    );
+    let (one, two) = roots;
+    assert!(rt; one != two);
+    assert!(rt; unwrap(rt, pool_fits(alloc, memory, &IdentityMapping, one, &pool)));
+    assert!(rt; unwrap(rt, pool_fits(alloc, memory, &IdentityMapping, two, &pool)));
     pool
 }
 
@@ -88,19 +65,18 @@ fn map_in_both<T: TableMemory>(
     rt: impl Abort + Copy,
     alloc: Global,
     memory: &mut T,
-    first: Frame,
-    second: Frame,
+    roots: (Frame, Frame),
     pool: &mut FramePool,
     given: (u64, u64),
 )
-    requires { AreTwo first second (T.tables memory.old) (serves_below pool.old.limit) pool.old.frames }
-    ensures { AreTwo first second (T.tables memory.new) (serves_below pool.new.limit) pool.new.frames }
+    requires { AreTwo roots.0 roots.1 (T.tables memory.old) (serves_below pool.old.limit) pool.old.frames }
+    ensures { AreTwo roots.0 roots.1 (T.tables memory.new) (serves_below pool.new.limit) pool.new.frames }
 {
     let mut replies = Vec::new(alloc);
     let (page, to) = given;
     let (calls, others) = ([map(page, to)], [map(page, to | 0x1000)]);
     let both = (&calls[..], &others[..]);
-    let served = run_in_turn(memory, first, second, pool, both, &mut replies);
+    let served = run_in_turn(memory, roots, pool, both, &mut replies);
     unwrap(rt, served);
 }
 
@@ -109,34 +85,17 @@ fn map_pages_in_both<T: TableMemory>(rt: impl Abort + Copy, alloc: Global, memor
     requires { (place : ℕ) → get (T.tables memory.old) place
         ≡ (if nat_lt place 0x10 then Some zero_words else None) }
 {
-    let (first, second) = (frame(0x1000), frame(0x2000));
-    let mut pool = pool_of_two(rt, alloc, memory, first, second);
-    map_in_both(
-        rt,
-        alloc,
-        memory,
-        first,
-        second,
-        &mut pool,
-        (0x1000, 0x2_0000),
-    );
-    map_in_both(
-        rt,
-        alloc,
-        memory,
-        first,
-        second,
-        &mut pool,
-        (0x8000_0000, 0x3_0000),
-    );
+    let (one, two) = (frame(0x1000), frame(0x2000));
+    let mut pool = pool_of_two(rt, alloc, memory, (one, two));
+    let call = (0x1000, 0x2_0000);
+    map_in_both(rt, alloc, memory, (one, two), &mut pool, call);
+    let call = (0x8000_0000, 0x3_0000);
+    map_in_both(rt, alloc, memory, (one, two), &mut pool, call);
     assert_equal(rt, pool.len(), 3);
     for (page, to) in [(0x1000, 0x2_0000), (0x8000_0000, 0x3_0000)] {
-        assert_equal(rt, walk::<FourLevels, _>(memory, first, page), Some(to));
-        assert_equal(
-            rt,
-            walk::<FourLevels, _>(memory, second, page),
-            Some(to | 0x1000),
-        );
+        assert_equal(rt, walk::<FourLevels, _>(memory, one, page), Some(to));
+        let found = walk::<FourLevels, _>(memory, two, page);
+        assert_equal(rt, found, Some(to | 0x1000));
     }
 }
 

@@ -47,26 +47,6 @@ fn word_in(tables: &[PageTable], frame: Frame, index: PageTableIndex) -> Option<
     }
 }
 
-/// Executes calls of a guest, and returns the word that its root has at an index afterwards.
-fn run_and_read(
-    tables: &mut Vec<PageTable>,
-    root: Frame,
-    pool: &mut FramePool,
-    calls: &[Call],
-    replies: &mut Vec<Reply>,
-    index: PageTableIndex,
-) -> Result<Option<u64>, AllocError>
-    requires { let layout = direct identity_places root in
-        FitsPool layout (numbered tables.old.items) (serves_below pool.old.limit) pool.old.frames }
-    ensures fits { let layout = direct identity_places root in
-        FitsPool layout (numbered tables.new.items) (serves_below pool.old.limit) pool.new.frames }
-    ensures read { let words = words_of (numbered tables.new.items) identity_places in
-        IfOk result (λ word. word ≡ read words root index) }
-{
-    run_in_tables(tables, root, pool, calls, replies)?;
-    Ok(word_in(tables, root, index))
-}
-
 /// Returns whether a pool fits the hierarchy of a guest, which is tested in place.
 fn fits(
     rt: impl Abort + Copy,
@@ -82,27 +62,42 @@ fn fits(
     unwrap(rt, pool_fits(alloc, &memory, &IdentityMapping, root, pool))
 }
 
+/// Executes calls with the root in frame 0x1000, and returns the replies.
+fn serve(
+    rt: impl Abort + Copy,
+    alloc: Global,
+    tables: &mut [PageTable],
+    mut pool: FramePool,
+    calls: &[Call],
+) -> Vec<Reply> {
+    let (root, mut replies) = (frame(0x1000), Vec::new(alloc));
+    assert!(rt; fits(rt, alloc, tables, root, &pool));
+    let ran = run_in_tables(tables, root, &mut pool, calls, &mut replies);
+    unwrap(rt, ran);
+    replies
+}
+
 #[test]
 fn a_guest_is_mapped_and_read(rt: HostRuntime) {
     let mut tables = empty_tables(rt, rt.alloc());
-    let (root, index) = (frame(0x1000), PageTableIndex::new(0));
-    let (mut pool, mut replies) = (pool_of(rt, rt.alloc(), 2, 16), Vec::new(rt.alloc()));
-    assert!(rt; fits(rt, rt.alloc(), &mut tables, root, &pool));
-    let calls = [map(0x1000, 0x5000)];
-    let read = run_and_read(&mut tables, root, &mut pool, &calls, &mut replies, index);
-    assert_equal(rt, unwrap(rt, read), Some(0x2001));
+    let pool = pool_of(rt, rt.alloc(), 2, PLACES);
+    let replies = serve(rt, rt.alloc(), &mut tables, pool, &[map(0x1000, 0x5000)]);
+    let mapped = Reply::Of4KiB(PageReply::Map(Ok(page(0x1000))));
+    assert_equal(rt, replies.as_slice(), &[mapped]);
+    let word = word_in(&tables, frame(0x1000), PageTableIndex::new(0));
+    assert_equal(rt, word, Some(0x2001));
 }
 
 #[test]
 fn pages_of_a_guest_are_unmapped_once(rt: HostRuntime) {
     let mut tables = empty_tables(rt, rt.alloc());
     set_words(rt, &mut LentMemory::new(&mut tables), &WORDS[1..]);
-    let (root, page) = (frame(0x1000), page(0x1000));
-    let (mut pool, mut replies) = (pool_of(rt, rt.alloc(), 0, 0), Vec::new(rt.alloc()));
-    assert!(rt; fits(rt, rt.alloc(), &mut tables, root, &pool));
-    let calls = [Call::Of4KiB(SizeCall::Unmap { page }); 2];
-    let ran = run_in_tables(&mut tables, root, &mut pool, &calls, &mut replies);
-    unwrap(rt, ran);
+    let (page, pool) = (page(0x1000), pool_of(rt, rt.alloc(), 0, 0));
+    let calls = [
+        Call::Of4KiB(SizeCall::Unmap { page }),
+        Call::Of4KiB(SizeCall::Unmap { page }),
+    ];
+    let replies = serve(rt, rt.alloc(), &mut tables, pool, &calls);
     let wanted = [
         Reply::Of4KiB(PageReply::Unmap(Ok((frame(0x5000), page)))),
         Reply::Of4KiB(PageReply::Unmap(Err(UnmapError::PageNotMapped))),

@@ -9,7 +9,7 @@ ghost use Rattle.x86_64_model.specs.Mapper.{SupplyFits};
 ghost use Rattle.x86_64_model.specs.Mappings.{mappings_of};
 ghost use Rattle.x86_64_model.specs.Memory.{identity_places, words_of};
 
-use crate::loader::{read, segment, write};
+use crate::loader::{READ, WRITE, segment};
 use crate::prelude::*;
 use uses::list_mappings::list_all;
 use x86_64_loader::{Segment, load, segments_allowed};
@@ -90,15 +90,11 @@ const LINES: [&str; 4] = [
 fn load_both(rt: impl Abort + Copy, world: &mut World) -> Vec<Mapping> {
     let (root, alloc) = (frame(0x1000), world.alloc);
     world.assert_fits::<FourLevels>(rt, root);
-    let segments = [
-        segment(0x40_0000, 0x80_0000, 2, read()),
-        segment(0x5f_f000, 0x9f_f000, 2, write()),
-    ];
+    let code = segment(0x40_0000, 0x80_0000, 2, READ);
+    let segments = [code, segment(0x5f_f000, 0x9f_f000, 2, WRITE)];
     let (memory, pool) = (&mut world.memory, &mut world.pool);
-    unwrap_some(
-        rt,
-        unwrap(rt, load_and_list(alloc, memory, root, pool, &segments)),
-    )
+    let listed = load_and_list(alloc, memory, root, pool, &segments);
+    unwrap_some(rt, unwrap(rt, listed))
 }
 
 #[test]

@@ -8,23 +8,17 @@ ghost use Rattle.x86_64_model.specs.PageMappings.{IsUnmapped, entry_path};
 use crate::prelude::*;
 use x86_64_loader::{LoadError, Segment, frames_needed, load, load_large, segments_allowed};
 
-/// Returns the flags of pages that a user reads.
-pub fn read() -> PageTableFlags {
-    PageTableFlags::PRESENT.union(PageTableFlags::USER_ACCESSIBLE)
-}
+/// The flags of pages that a user reads, and of those that a user reads and writes and doesn't execute.
+pub const READ: u64 = 5;
 
-/// Returns the flags of pages that a user reads and writes.
-pub fn write() -> PageTableFlags {
-    read()
-        .union(PageTableFlags::WRITABLE)
-        .union(PageTableFlags::NO_EXECUTE)
-}
+pub const WRITE: u64 = 0x8000_0000_0000_0007;
 
 /// Returns the segment with these addresses of its first page and frame.
-pub fn segment(start: u64, to: u64, pages: u64, flags: PageTableFlags) -> Segment {
+pub fn segment(start: u64, to: u64, pages: u64, bits: u64) -> Segment {
+    let (page, frame, flags) = (page(start), frame(to), flags(bits));
     Segment {
-        page: page(start),
-        frame: frame(to),
+        page,
+        frame,
         pages,
         flags,
     }
@@ -100,9 +94,9 @@ fn check_walks(rt: impl Abort + Copy, world: &World, walks: &[(u64, Arrival)]) {
 /// Returns a program with 3 pages to read, 517 to write that cross two borders of 2MiB, and a page of the kernel.
 fn program() -> [Segment; 3] {
     [
-        segment(0x40_0000, 0x80_0000, 3, read()),
-        segment(0x5f_e000, 0x9f_e000, 0x205, write()),
-        segment(0xffff_8000_0000_0000, 0x5000, 1, PageTableFlags::PRESENT),
+        segment(0x40_0000, 0x80_0000, 3, READ),
+        segment(0x5f_e000, 0x9f_e000, 0x205, WRITE),
+        segment(0xffff_8000_0000_0000, 0x5000, 1, 1),
     ]
 }
 
@@ -136,34 +130,38 @@ const OVERLAP: [(u64, Arrival); 2] = [
     (0x3f_ffff, Some((0x9f_ffff, true, true))),
 ];
 
-#[test]
-fn segments_that_overlap_are_refused(rt: HostRuntime) {
+/// Loads two overlapping segments, and compares where the load stops and where page walks arrive.
+fn check_overlap(rt: impl Abort + Copy, alloc: Global, is_large: bool) {
     let segments = [
-        segment(0x40_0000, 0x80_0000, 4, read()),
-        segment(0x3f_e000, 0x9f_e000, 3, write()),
+        segment(0x40_0000, 0x80_0000, 4, READ),
+        segment(0x3f_e000, 0x9f_e000, 3, WRITE),
     ];
+    let mut world = World::new(rt, alloc, &[], (2, PLACES));
+    let loaded = load_by(rt, &mut world, is_large, &segments);
     let wanted = LoadError {
         segment: 1,
         page: page(0x40_0000),
         mapped: 2,
         why: MapToError::PageAlreadyMapped(frame(0xa0_0000)),
     };
-    for is_large in [false, true] {
-        let mut world = World::new(rt, rt.alloc(), &[], (2, PLACES));
-        let loaded = load_by(rt, &mut world, is_large, &segments);
-        assert_equal(rt, loaded.map(|loaded| loaded.1), Some(Err(wanted)));
-        check_walks(rt, &world, &OVERLAP);
-    }
+    assert_equal(rt, loaded.map(|loaded| loaded.1), Some(Err(wanted)));
+    check_walks(rt, &world, &OVERLAP);
+}
+
+#[test]
+fn segments_that_overlap_are_refused(rt: HostRuntime) {
+    check_overlap(rt, rt.alloc(), false);
+    check_overlap(rt, rt.alloc(), true);
 }
 
 #[test]
 fn segments_are_allowed_as_their_pages_are(rt: HostRuntime) {
-    let (read, frame) = (read(), 0x80_0000);
+    let frame = 0x80_0000;
     let refused = [
-        segment(0x40_0000, frame, 1, PageTableFlags::WRITABLE),
-        segment(0x40_0000, frame, 1, read.union(PageTableFlags::HUGE_PAGE)),
-        segment(0xffff_ffff_ffff_f000, frame, 2, read),
-        segment(0x40_0000, 0xf_ffff_ffff_f000, 2, read),
+        segment(0x40_0000, frame, 1, 2),
+        segment(0x40_0000, frame, 1, READ | 0x80),
+        segment(0xffff_ffff_ffff_f000, frame, 2, READ),
+        segment(0x40_0000, 0xf_ffff_ffff_f000, 2, READ),
     ];
     let mut world = World::new(rt, rt.alloc(), &[], (2, PLACES));
     for segment in refused {

@@ -48,13 +48,8 @@ fn call<L: LevelCount, P5: LevelFiveFlags<L>>(
     call: CallIn<L, P5>,
 ) {
     assert_fit::<L>(rt, world, root, other);
-    call_on(
-        &mut world.memory,
-        IdentityMapping,
-        root,
-        &mut world.pool,
-        call,
-    );
+    let (memory, pool) = (&mut world.memory, &mut world.pool);
+    call_on(memory, IdentityMapping, root, pool, call);
 }
 
 /// Creates an address space that shares the upper half of another one, and returns its root.
@@ -88,10 +83,10 @@ fn end_space<L: LevelCount, P5: LevelFiveFlags<L>>(
 
 /// Pages that are mapped: whether through the second of two spaces, whether in the upper half, at which offset in the
 /// half, to which frame, and where the page's walks in both spaces then arrive.
-const ROWS: [(bool, bool, u64, u64, [u64; 2]); 3] = [
-    (false, true, 0x1000, 0x10_1000, [0x10_1000, 0x10_1000]),
-    (true, true, 0x2000, 0x10_2000, [0x10_2000, 0x10_2000]),
-    (true, false, 0x1000, 0x30_0000, [0x20_0000, 0x30_0000]),
+const ROWS: [(bool, bool, u64, u64, (u64, u64)); 3] = [
+    (false, true, 0x1000, 0x10_1000, (0x10_1000, 0x10_1000)),
+    (true, true, 0x2000, 0x10_2000, (0x10_2000, 0x10_2000)),
+    (true, false, 0x1000, 0x30_0000, (0x20_0000, 0x30_0000)),
 ];
 
 /// Returns the words of the tables at the places up to but excluding `end`.
@@ -106,66 +101,68 @@ fn words(rt: impl Abort + Copy, world: &World, end: u64) -> Vec<u64> {
     words
 }
 
-/// Maps the pages of the rows in two address spaces.
-fn map_rows<L: LevelCount, P5: LevelFiveFlags<L>>(
+/// Maps the page of a row in one of two address spaces, and compares where the page's walks in both arrive.
+fn map_row<L: LevelCount, P5: LevelFiveFlags<L>>(
     rt: impl Abort + Copy,
     world: &mut World,
     (first, second): (Frame, Frame),
+    (is_second, is_upper, offset, to, wanted): (bool, bool, u64, u64, (u64, u64)),
 ) {
-    for (is_second, is_upper, offset, to, wanted) in ROWS {
-        let roots = if is_second {
-            (second, first)
-        } else {
-            (first, second)
-        };
-        let start = if is_upper { L::POSITION_COUNT / 2 } else { 0 };
-        let address = start.wrapping_add(offset);
-        call(rt, world, roots, map::<L, P5>(address, to));
-        for (root, to) in [first, second].into_iter().zip(wanted) {
-            assert_equal_in(
-                rt,
-                address,
-                walk::<L, _>(&world.memory, root, address),
-                Some(to),
-            );
-        }
+    let start = if is_upper { L::POSITION_COUNT / 2 } else { 0 };
+    let (address, map) = (
+        start.wrapping_add(offset),
+        map::<L, P5>(start.wrapping_add(offset), to),
+    );
+    if is_second {
+        call(rt, world, (second, first), map);
+    } else {
+        call(rt, world, (first, second), map);
     }
+    let memory = &world.memory;
+    assert_equal(rt, walk::<L, _>(memory, first, address), Some(wanted.0));
+    assert_equal(rt, walk::<L, _>(memory, second, address), Some(wanted.1));
 }
 
 /// Maps pages in two address spaces that share the upper half, and ends one of them.
 fn share_the_upper_half<L: LevelCount, P5: LevelFiveFlags<L>>(
     rt: impl Abort + Copy,
-    world: &mut World,
+    alloc: Global,
 ) {
-    let first = frame(0x1000);
+    let (first, upper) = (frame(0x1000), L::POSITION_COUNT / 2);
+    let mut world = World::new(rt, alloc, &[], (2, PLACES));
     call(
         rt,
-        world,
+        &mut world,
         (first, first),
-        map::<L, P5>(L::POSITION_COUNT / 2, 0x10_0000),
+        map::<L, P5>(upper, 0x10_0000),
     );
-    call(rt, world, (first, first), map::<L, P5>(0x1000, 0x20_0000));
+    call(
+        rt,
+        &mut world,
+        (first, first),
+        map::<L, P5>(0x1000, 0x20_0000),
+    );
     let free = world.pool.len();
-    let second = add_space::<L>(rt, world, first);
-    map_rows::<L, P5>(rt, world, (first, second));
+    let second = add_space::<L>(rt, &mut world, first);
+    for row in ROWS {
+        map_row::<L, P5>(rt, &mut world, (first, second), row);
+    }
     let used = PLACES.saturating_sub(free as u64);
-    let before = words(rt, world, used);
-    end_space::<L, P5>(rt, world, (second, first), 0x1000);
-    assert_fit::<L>(rt, world, first, first);
+    let before = words(rt, &world, used);
+    end_space::<L, P5>(rt, &mut world, (second, first), 0x1000);
+    assert_fit::<L>(rt, &world, first, first);
     assert_equal(rt, world.pool.len(), free);
-    assert_equal(rt, words(rt, world, used), before);
+    assert_equal(rt, words(rt, &world, used), before);
 }
 
 #[test]
 fn spaces_share_the_upper_half(rt: HostRuntime) {
-    let mut world = World::new(rt, rt.alloc(), &[], (2, PLACES));
-    share_the_upper_half::<FourLevels, NoLevelFive>(rt, &mut world);
+    share_the_upper_half::<FourLevels, NoLevelFive>(rt, rt.alloc());
 }
 
 #[test]
 fn spaces_of_five_levels_share_the_upper_half(rt: HostRuntime) {
-    let mut world = World::new(rt, rt.alloc(), &[], (2, PLACES));
-    share_the_upper_half::<FiveLevels, PageTableFlags>(rt, &mut world);
+    share_the_upper_half::<FiveLevels, PageTableFlags>(rt, rt.alloc());
 }
 
 /// Starts a process, beside another one, or beside the kernel alone.
@@ -198,10 +195,10 @@ fn end_one(
 }
 
 /// Doesn't end a process while a page is mapped, and then ends it.
-fn end_mapped(rt: impl Abort + Copy, world: &mut World, processes: (Frame, Frame)) {
-    let ended = end_one(rt, world, processes, &[]);
+fn end_mapped(rt: impl Abort + Copy, world: &mut World, process: Frame, other: Frame) {
+    let ended = end_one(rt, world, (process, other), &[]);
     assert_equal(rt, ended, Err(GiveUpError::EntryUsed));
-    let ended = end_one(rt, world, processes, &[page(0x1000)]);
+    let ended = end_one(rt, world, (process, other), &[page(0x1000)]);
     assert_equal(rt, ended, Ok(()));
 }
 
@@ -222,9 +219,9 @@ fn a_process_ends_while_another_runs(rt: HostRuntime) {
     let second = start_one(rt, &mut world, kernel, first);
     map_one(rt, &mut world, (first, kernel), 0x20_0000);
     map_one(rt, &mut world, (second, kernel), 0x30_0000);
-    end_mapped(rt, &mut world, (first, second));
+    end_mapped(rt, &mut world, first, second);
     check_walk(rt, &world, second, (0x1000, 0x30_0000));
     check_walk(rt, &world, second, (0xffff_8000_0000_0000, 0x10_0000));
-    end_mapped(rt, &mut world, (second, kernel));
+    end_mapped(rt, &mut world, second, kernel);
     assert_equal(rt, world.pool.len(), free);
 }

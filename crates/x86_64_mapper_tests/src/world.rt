@@ -1,4 +1,5 @@
 //! A memory with free frames, its words, and shorthands.
+ghost use Rattle.std.specs.Prelude.{◌↔◌, IfOk, IsTrue};
 ghost use Rattle.x86_64_mappers.specs.Layouts.{direct_at};
 ghost use Rattle.x86_64_model.specs.FitsPool.{FitsPool};
 ghost use Rattle.x86_64_model.specs.Layout.{IsReady, Valid};
@@ -95,6 +96,24 @@ pub fn pool_of(rt: impl Abort + Copy, alloc: Global, first: u64, end: u64) -> Fr
     pool
 }
 
+/// Returns whether the hierarchy below a root is valid and the pool fits it.
+fn fits<L: LevelCount>(
+    alloc: Global,
+    memory: &PhysMemory,
+    root: Frame,
+    pool: &FramePool,
+) -> Result<bool, AllocError>
+    ensures { let layout = direct_at L.LEVELS identity_places root in
+        let serves = serves_below pool.now.limit in
+        IfOk result (λ fits. IsTrue fits ↔ FitsPool layout memory.now serves pool.now.frames) }
+{
+    if L::LEVELS == 4 {
+        pool_fits(alloc, memory, &IdentityMapping, root, pool)
+    } else {
+        pool_fits_57(alloc, memory, &IdentityMapping, root, pool)
+    }
+}
+
 /// A memory, and free frames among its own.
 #[derive(Drop)]
 pub struct World {
@@ -125,13 +144,7 @@ impl World {
             IsReady layout self.now.memory self.now.pool.frames }
         ensures valid { Valid (direct_at L.LEVELS identity_places root) self.now.memory }
     {
-        let (alloc, memory, pool) = (self.alloc, &self.memory, &self.pool);
-        let tested = if L::LEVELS == 4 {
-            pool_fits(alloc, memory, &IdentityMapping, root, pool)
-        } else {
-            pool_fits_57(alloc, memory, &IdentityMapping, root, pool)
-        };
-        assert!(rt; unwrap(rt, tested));
+        assert!(rt; unwrap(rt, fits::<L>(self.alloc, &self.memory, root, &self.pool)));
     }
 
     /// Compares the free frames, from one number up to but excluding another, and all words, of which only these aren't

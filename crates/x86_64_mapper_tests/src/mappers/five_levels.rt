@@ -28,13 +28,9 @@ fn map_pages<M: Mapper57<Size4KiB>>(
     requires same { same ≡ own }
     ensures { Valid (M.hierarchy mapper.new) }
 {
-    let (page, flags, parents) = (
-        page(0x1000),
-        PageTableFlags::WRITABLE,
-        PageTableFlags::PRESENT,
-    );
+    let (page, flags, parents) = (page(0x1000), flags(3), flags(1));
     assert!(rt; mapper.map_allowed(page, flags, parents));
-    let mapped = mapper.map_to_with_table_flags(page, frame(0x7000), flags, parents, pool);
+    let mapped = mapper.map_to_with_table_flags(page, own, flags, parents, pool);
     assert_equal(rt, mapped.map(page_of), Ok(page));
     assert!(rt; mapper.map_allowed(same, parents, parent_flags(parents)));
     let mapped = mapper.identity_map(own, parents, pool);
@@ -117,14 +113,7 @@ fn make_calls(rt: impl Abort + Copy, world: &mut World) {
 fn each_call_on_a_page_of_57_bits_is_made(rt: HostRuntime) {
     let mut world = World::new(rt, rt.alloc(), &[], (2, 6));
     make_calls(rt, &mut world);
-    let words = [
-        (1, 0, 0x2003),
-        (2, 0, 0x3003),
-        (3, 0, 0x4003),
-        (4, 0, 0x5003),
-        (5, 1, 0x7002),
-    ];
-    world.check(rt, (0, 0), &words)
+    world.check(rt, (0, 0), &WORDS_57[1..])
 }
 
 /// Executes calls, compares the replies, and returns the recorded flushes.

@@ -3,22 +3,23 @@ use crate::prelude::*;
 use x86_64::flushing::Flush::{self, Everything, Nothing, Tables};
 use x86_64::flushing::{flush_after, flush_after_change, loses};
 
-/// A call, a reply to it, and what has to be flushed without a recursive index and with one.
-type Row<L, P5> = (CallIn<L, P5>, ReplyIn<L>, (Flush, Flush));
+/// What has to be flushed without a recursive index and with one.
+type Flushes = (Flush, Flush);
 
-const NONE: (Flush, Flush) = (Nothing, Nothing);
+const NONE: Flushes = (Nothing, Nothing);
 
-/// Compares what has to be flushed, also if the caller knows whether the call took something away.
-fn check<L: LevelCount, P5: LevelFiveFlags<L>>(rt: impl Abort + Copy, rows: &[Row<L, P5>]) {
+/// Compares what has to be flushed after a call with a reply, also if the caller knows whether something was taken away.
+fn check<L: LevelCount, P5: LevelFiveFlags<L>>(
+    rt: impl Abort + Copy,
+    call: &CallIn<L, P5>,
+    reply: &ReplyIn<L>,
+    wanted: Flushes,
+) {
     let index = PageTableIndex::new_truncate(511);
-    for (n, (call, reply, wanted)) in rows.iter().enumerate() {
-        let without = flush_after(call, reply, None);
-        let with = flush_after(call, reply, Some(index));
-        assert_equal_in(rt, n, (without, with), *wanted);
-        let lossless = flush_after_change(call, reply, None, false);
-        let lossy = flush_after_change(call, reply, None, true);
-        assert_equal_in(rt, n, (lossy, lossless), (without, Nothing));
-    }
+    assert_equal(rt, flush_after(call, reply, None), wanted.0);
+    assert_equal(rt, flush_after(call, reply, Some(index)), wanted.1);
+    let changed = |loses| flush_after_change(call, reply, None, loses);
+    assert_equal(rt, (changed(true), changed(false)), (wanted.0, Nothing));
 }
 
 /// Returns the call that maps the page 0x1000 with these flags and parent flags.
@@ -36,96 +37,92 @@ fn map_with(flags: PageTableFlags, parent_flags: PageTableFlags) -> Call {
 fn maps_are_flushed_if_they_take_the_right_to_execute(rt: HostRuntime) {
     let (page, frame, plain) = (page(0x1000), frame(0x5000), flags(3));
     let flags = plain.union(PageTableFlags::NO_EXECUTE);
-    let rows = [
-        (Call::Of4KiB(SizeCall::MapTo { page, frame, flags }), NONE),
-        (Call::Of4KiB(SizeCall::IdentityMap { frame, flags }), NONE),
-        (map_with(flags, plain), NONE),
-        (map_with(plain, flags), (Everything, Everything)),
+    let calls = [
+        Call::Of4KiB(SizeCall::MapTo { page, frame, flags }),
+        Call::Of4KiB(SizeCall::IdentityMap { frame, flags }),
+        map_with(flags, plain),
     ];
-    let mapped = Reply::Of4KiB(PageReply::Map(Ok(page)));
-    let refused = Reply::Of4KiB(PageReply::Map(Err(MapToError::FrameAllocationFailed)));
-    for (call, wanted) in rows {
-        check(rt, &[(call, mapped, wanted), (call, refused, wanted)]);
-        check(rt, &[(call, Reply::NotAllowed, NONE)]);
+    let taking = map_with(plain, flags);
+    let replies = [
+        Reply::Of4KiB(PageReply::Map(Ok(page))),
+        Reply::Of4KiB(PageReply::Map(Err(MapToError::FrameAllocationFailed))),
+    ];
+    for reply in &replies {
+        for call in &calls {
+            check(rt, call, reply, NONE);
+            check(rt, call, &Reply::NotAllowed, NONE);
+        }
+        check(rt, &taking, reply, (Everything, Everything));
     }
+    check(rt, &taking, &Reply::NotAllowed, NONE);
 }
 
 #[test]
-fn changes_of_pages_are_flushed_if_accepted(rt: HostRuntime) {
-    let (small, large) = (page(0x1000), page(0x20_0000));
-    let unmap = Call::Of4KiB(SizeCall::Unmap { page: small });
-    let unmap_large = Call::Of2MiB(SizeCall::Unmap { page: large });
+fn unmaps_are_flushed_if_accepted(rt: HostRuntime) {
+    let (page, large) = (page(0x1000), page(0x20_0000));
+    let unmap = Call::Of4KiB(SizeCall::Unmap { page });
+    let unmapped = Reply::Of4KiB(PageReply::Unmap(Ok((frame(0x5000), page))));
+    let refused = Reply::Of4KiB(PageReply::Unmap(Err(UnmapError::PageNotMapped)));
+    check(rt, &unmap, &unmapped, (Flush::Page, Flush::Page));
+    check(rt, &unmap, &refused, NONE);
+    check(rt, &unmap, &Reply::NotAllowed, NONE);
+    let unmap = Call::Of2MiB(SizeCall::Unmap { page: large });
+    let unmapped = Reply::Of2MiB(PageReply::Unmap(Ok((frame(0), large))));
+    check(rt, &unmap, &unmapped, (Flush::Page, Everything));
+}
+
+#[test]
+fn changes_of_flags_are_flushed_if_accepted(rt: HostRuntime) {
     let (page, flags) = (page(0x4000_0000), flags(3));
     let update = Call::Of1GiB(SizeCall::UpdateFlags { page, flags });
-    let absent = Reply::Of4KiB(PageReply::Unmap(Err(UnmapError::PageNotMapped)));
-    let huge = PageReply::Update(Err(FlagUpdateError::ParentEntryHugePage));
-    let unmapped = Reply::Of4KiB(PageReply::Unmap(Ok((frame(0x5000), small))));
-    let large_unmapped = Reply::Of2MiB(PageReply::Unmap(Ok((frame(0), large))));
-    let rows = [
-        (unmap, unmapped, (Flush::Page, Flush::Page)),
-        (unmap, absent, NONE),
-        (unmap, Reply::NotAllowed, NONE),
-        (unmap_large, large_unmapped, (Flush::Page, Everything)),
-        (
-            update,
-            Reply::Of1GiB(PageReply::Update(Ok(page))),
-            (Flush::Page, Everything),
-        ),
-        (update, Reply::Of1GiB(huge), NONE),
-        (update, Reply::NotAllowed, NONE),
-    ];
-    check(rt, &rows);
+    let updated = Reply::Of1GiB(PageReply::Update(Ok(page)));
+    let refused = Reply::Of1GiB(PageReply::Update(Err(FlagUpdateError::ParentEntryHugePage)));
+    check(rt, &update, &updated, (Flush::Page, Everything));
+    check(rt, &update, &refused, NONE);
+    check(rt, &update, &Reply::NotAllowed, NONE);
 }
 
 #[test]
-fn changes_of_tables_are_flushed_and_queries_are_not(rt: HostRuntime) {
-    let (page, flags, addr) = (page(0x1000), flags(3), VirtAddr::new(0x1000));
+fn changes_of_tables_are_flushed_if_accepted(rt: HostRuntime) {
+    let (page, flags) = (page(0x1000), flags(3));
     let set = Call::Of4KiB(SizeCall::SetFlagsP2 { page, flags });
-    let absent = PageReply::TableFlags(Err(FlagUpdateError::PageNotMapped));
-    let query = Call::Of4KiB(SizeCall::TranslatePage { page });
+    let changed = Reply::Of4KiB(PageReply::TableFlags(Ok(())));
+    let refused = Reply::Of4KiB(PageReply::TableFlags(Err(FlagUpdateError::PageNotMapped)));
+    check(rt, &set, &changed, (Everything, Everything));
+    check(rt, &set, &refused, NONE);
+    check(rt, &set, &Reply::NotAllowed, NONE);
+}
+
+#[test]
+fn clean_ups_are_flushed_and_queries_are_not(rt: HostRuntime) {
+    let (page, addr) = (page(0x1000), VirtAddr::new(0x1000));
     let range = Call::CleanUpRange(Page::range_inclusive(page, page));
-    let rows = [
-        (
-            set,
-            Reply::Of4KiB(PageReply::TableFlags(Ok(()))),
-            (Everything, Everything),
-        ),
-        (set, Reply::Of4KiB(absent), NONE),
-        (set, Reply::NotAllowed, NONE),
-        (Call::CleanUp, Reply::Cleaned, (Tables, Everything)),
-        (range, Reply::Cleaned, (Tables, Everything)),
-        (
-            Call::Translate(addr),
-            Reply::Translate(TranslateResult::NotMapped),
-            NONE,
-        ),
-        (Call::TranslateAddr(addr), Reply::Address(None), NONE),
-        (
-            query,
-            Reply::Of4KiB(PageReply::Frame(Ok(frame(0x5000)))),
-            NONE,
-        ),
-    ];
-    check(rt, &rows);
+    check(rt, &range, &Reply::Cleaned, (Tables, Everything));
+    check(rt, &Call::CleanUp, &Reply::Cleaned, (Tables, Everything));
+    let nowhere = Reply::Translate(TranslateResult::NotMapped);
+    check(rt, &Call::Translate(addr), &nowhere, NONE);
+    check(rt, &Call::TranslateAddr(addr), &Reply::Address(None), NONE);
+    let query = Call::Of4KiB(SizeCall::TranslatePage { page });
+    let found = Reply::Of4KiB(PageReply::Frame(Ok(frame(0x5000))));
+    check(rt, &query, &found, NONE);
 }
 
 #[test]
 fn calls_of_five_levels_are_flushed_alike(rt: HostRuntime) {
     let (page, flags) = (page(0xff00_0000_0000_0000), flags(3));
     let set = Call57::Of2MiB(SizeCall57::SetFlagsP5 { page, flags });
+    let changed = Reply57::Of2MiB(PageReply::TableFlags(Ok(())));
+    check(rt, &set, &changed, (Everything, Everything));
     let update = Call57::Of2MiB(SizeCall57::UpdateFlags { page, flags });
     let updated = Reply57::Of2MiB(PageReply::Update(Ok(page)));
-    let rows = [
-        (
-            set,
-            Reply57::Of2MiB(PageReply::TableFlags(Ok(()))),
-            (Everything, Everything),
-        ),
-        (update, updated, (Flush::Page, Everything)),
-        (update, Reply57::NotAllowed, NONE),
-        (Call57::CleanUp, Reply57::Cleaned, (Tables, Everything)),
-    ];
-    check(rt, &rows);
+    check(rt, &update, &updated, (Flush::Page, Everything));
+    check(rt, &update, &Reply57::NotAllowed, NONE);
+    check(
+        rt,
+        &Call57::CleanUp,
+        &Reply57::Cleaned,
+        (Tables, Everything),
+    );
 }
 
 /// A word before a change and after it, and whether it loses something.

@@ -25,32 +25,27 @@ const OFFSETS: [(u64, bool); 9] = [
     (0xffff_ffff_ffff_ffff, false),
 ];
 
+/// Compares whether an offset fits a memory.
+fn check<L: LevelCount>(rt: impl Abort + Copy, memory: &PhysMemory, raw: u64, wanted: bool) {
+    let offset = VirtAddrIn::<L>::new_truncate(raw);
+    let fits = OffsetPageTableIn::offset_fits(memory, offset);
+    assert_equal_in(rt, raw, (offset.as_u64(), fits), (raw, wanted));
+}
+
 #[test]
 fn offsets_fit_where_each_place_is_reached(rt: HostRuntime) {
+    let none = unwrap(rt, PhysMemory::new(rt.alloc(), 0));
     let memory = unwrap(rt, PhysMemory::new(rt.alloc(), 8));
     for (raw, wanted) in OFFSETS {
-        let offset = VirtAddr57::new_truncate(raw);
-        let fits = OffsetPageTableIn::offset_fits(&memory, offset);
-        assert_equal_in(rt, raw, (offset.as_u64(), fits), (raw, wanted));
+        check::<FiveLevels>(rt, &memory, raw, wanted);
+        check::<FiveLevels>(rt, &none, raw, true);
     }
-}
-
-/// Asserts that an offset fits a memory without places.
-fn check_none<L: LevelCount>(rt: impl Abort + Copy, none: &PhysMemory, raw: u64) {
-    assert!(rt; OffsetPageTableIn::offset_fits(none, VirtAddrIn::<L>::new_truncate(raw)));
-}
-
-#[test]
-fn any_offset_fits_a_memory_without_places(rt: HostRuntime) {
-    let none = unwrap(rt, PhysMemory::new(rt.alloc(), 0));
-    for (raw, _) in OFFSETS {
-        check_none::<FiveLevels>(rt, &none, raw);
+    for end in [0x8000, 0x8fff, 0x9000, 0xf000] {
+        check::<FourLevels>(rt, &none, 0x7fff_ffff_0000 | end, true);
+        check::<FourLevels>(rt, &none, 0xffff_ffff_ffff_0000 | end, true);
     }
-    let below = [0, 0x123, 0x7fff_ffff_8000, 0x7fff_ffff_8fff, 0x7fff_ffff_9000, 0x7fff_ffff_f000];
-    for raw in below {
-        check_none::<FourLevels>(rt, &none, raw);
-        check_none::<FourLevels>(rt, &none, raw | 0xffff_8000_0000_0000);
-    }
+    check::<FourLevels>(rt, &none, 0xffff_8000_0000_0000, true);
+    check::<FourLevels>(rt, &none, 0x123, true);
 }
 
 /// Executes calls with a mapper at an offset, which is then dropped. The owner knows that another one can be created.
@@ -78,16 +73,16 @@ fn run_at_offset<L: LevelCount, P5: LevelFiveFlags<L>>(
 fn run_twice<L: LevelCount, P5: LevelFiveFlags<L>>(
     rt: impl Abort + Copy,
     world: &mut World,
-    phys_offset: VirtAddrIn<L>,
+    offset: VirtAddrIn<L>,
     calls: &[CallIn<L, P5>],
 ) -> Vec<ReplyIn<L>> {
     let (root, mut replies) = (frame(0x1000), Vec::new(world.alloc));
     world.assert_fits::<L>(rt, root);
     let (memory, pool) = (&mut world.memory, &mut world.pool);
-    assert!(rt; OffsetPageTableIn::offset_fits(memory, phys_offset));
-    let answered = run_at_offset(memory, root, phys_offset, pool, calls, &mut replies);
+    assert!(rt; OffsetPageTableIn::offset_fits(memory, offset));
+    let answered = run_at_offset(memory, root, offset, pool, calls, &mut replies);
     unwrap(rt, answered);
-    let answered = run_at_offset(memory, root, phys_offset, pool, calls, &mut replies);
+    let answered = run_at_offset(memory, root, offset, pool, calls, &mut replies);
     unwrap(rt, answered);
     replies
 }
@@ -102,12 +97,12 @@ fn offsets_that_fit_fit_after_maps(rt: HostRuntime) {
     ];
     let offset = VirtAddr57::new(0xff00_0000_0000_0000);
     let replies = run_twice(rt, &mut world, offset, &calls);
-    let address = Some(PhysAddr::new(0x6abc));
+    let address = PhysAddr::new(0x6abc);
     let expected = [
         Reply57::Of4KiB(PageReply::Map(Ok(page))),
-        Reply57::Address(address),
+        Reply57::Address(Some(address)),
         Reply57::Of4KiB(PageReply::Map(Err(MapToError::PageAlreadyMapped(frame)))),
-        Reply57::Address(address),
+        Reply57::Address(Some(address)),
     ];
     assert_equal(rt, replies.as_slice(), &expected);
     world.check(rt, (0, 0), &WORDS_57[1..])

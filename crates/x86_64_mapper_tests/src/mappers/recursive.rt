@@ -12,21 +12,6 @@ use x86_64::{is_valid_recursive, is_valid_recursive_57};
 use x86_64_mappers::recursive_page_table::RecursivePageTableIn;
 use x86_64_tables::phys_memory::Active;
 
-/// Returns the reason why no mapper is created for a table at an address, or `None` if one is. The owner knows that
-/// the memory is as it was.
-fn refusal<L: LevelCount>(
-    memory: &mut PhysMemory,
-    cr3: Frame,
-    table: Frame,
-    virt: VirtAddrIn<L>,
-) -> Option<InvalidPageTable>
-    ensures value { result ≡ refuses_at L.LEVELS memory.old cr3 table virt }
-    ensures words { memory.new ≡ memory.old }
-{
-    let active = Active::new(memory, cr3);
-    RecursivePageTableIn::refusal(&active, table, virt)
-}
-
 /// Creates a mapper for a table at an address unless it is refused. The owner knows that the memory is as it was.
 fn make<L: LevelCount>(
     memory: &mut PhysMemory,
@@ -73,7 +58,7 @@ fn make_tested<L: LevelCount>(
 ) -> Result<(), InvalidPageTable> {
     let (cr3, table) = (frame(cr3), frame(table));
     let virt = VirtAddrIn::<L>::new_truncate(virt);
-    if refusal(memory, cr3, table, virt).is_none() {
+    if RecursivePageTableIn::refusal(&Active::new(memory, cr3), table, virt).is_none() {
         let tested = is_valid::<L>(alloc, memory, cr3, virt.root_index());
         assert!(rt; unwrap(rt, tested));
     }
