@@ -88,10 +88,20 @@ fn a_guest_is_mapped_and_read(rt: HostRuntime) {
     assert_equal(rt, word, Some(0x2001));
 }
 
+/// Sets words of a guest.
+fn set_in(rt: impl Abort + Copy, tables: &mut [PageTable], words: &[Word]) {
+    set_words(rt, &mut LentMemory::new(tables), words);
+}
+
+/// Compares all words of a guest, of which only these aren't 0.
+fn check_in(rt: impl Abort + Copy, tables: &mut [PageTable], words: &[Word]) {
+    check_words(rt, &LentMemory::new(tables), words)
+}
+
 #[test]
 fn pages_of_a_guest_are_unmapped_once(rt: HostRuntime) {
     let mut tables = empty_tables(rt, rt.alloc());
-    set_words(rt, &mut LentMemory::new(&mut tables), &WORDS[1..]);
+    set_in(rt, &mut tables, &WORDS[1..]);
     let (page, pool) = (page(0x1000), pool_of(rt, rt.alloc(), 0, 0));
     let calls = [
         Call::Of4KiB(SizeCall::Unmap { page }),
@@ -103,5 +113,5 @@ fn pages_of_a_guest_are_unmapped_once(rt: HostRuntime) {
         Reply::Of4KiB(PageReply::Unmap(Err(UnmapError::PageNotMapped))),
     ];
     assert_equal(rt, replies.as_slice(), &wanted);
-    check_words(rt, &LentMemory::new(&mut tables), &WORDS[1..4])
+    check_in(rt, &mut tables, &WORDS[1..4])
 }
