@@ -154,18 +154,20 @@ fn segments_that_overlap_are_refused(rt: HostRuntime) {
     check_overlap(rt, rt.alloc(), true);
 }
 
+/// Asserts that a segment isn't allowed.
+fn check_refused(rt: impl Abort + Copy, alloc: Global, segment: Segment) {
+    let mut world = World::new(rt, alloc, &[], (2, PLACES));
+    let loaded = load_by(rt, &mut world, false, &[segment]);
+    assert_equal(rt, loaded, None);
+}
+
 #[test]
 fn segments_are_allowed_as_their_pages_are(rt: HostRuntime) {
-    let frame = 0x80_0000;
-    let refused = [
-        segment(0x40_0000, frame, 1, 2),
-        segment(0x40_0000, frame, 1, READ | 0x80),
-        segment(0xffff_ffff_ffff_f000, frame, 2, READ),
-        segment(0x40_0000, 0xf_ffff_ffff_f000, 2, READ),
-    ];
-    let mut world = World::new(rt, rt.alloc(), &[], (2, PLACES));
-    for segment in refused {
-        let loaded = load_by(rt, &mut world, false, &[segment]);
-        assert_equal(rt, loaded, None);
-    }
+    let (page, frame) = (0x40_0000, 0x80_0000);
+    check_refused(rt, rt.alloc(), segment(page, frame, 1, 2));
+    check_refused(rt, rt.alloc(), segment(page, frame, 1, READ | 0x80));
+    let last = 0xffff_ffff_ffff_f000;
+    check_refused(rt, rt.alloc(), segment(last, frame, 2, READ));
+    let last = 0xf_ffff_ffff_f000;
+    check_refused(rt, rt.alloc(), segment(page, last, 2, READ));
 }

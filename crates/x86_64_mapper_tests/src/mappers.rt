@@ -112,36 +112,38 @@ fn clear_window_57(memory: &mut PhysMemory, root: Frame, index: PageTableIndex) 
 
 #[test]
 fn root_tables_are_lent(rt: HostRuntime) {
-    let (root, index) = (frame(0x1000), PageTableIndex::new(510));
+    let root = frame(0x1000);
     let mut world = World::new(rt, rt.alloc(), &WORDS[1..], (0, 0));
     world.assert_fits::<FourLevels>(rt, root);
     assert_equal(rt, clear_root(&mut world.memory, root), 0x2003);
-    check_words(rt, &world.memory, &WORDS[2..]);
-    let mut world = World::new(rt, rt.alloc(), &WORDS, (0, 0));
-    assert!(rt;
-        unwrap(
-            rt,
-            is_valid::<FourLevels>(rt.alloc(), &world.memory, root, index)
-        )
-    );
-    assert_equal(rt, clear_window(&mut world.memory, root, index), 0x2003);
     check_words(rt, &world.memory, &WORDS[2..])
 }
 
 #[test]
 fn root_tables_of_level_five_are_lent(rt: HostRuntime) {
-    let (root, index) = (frame(0x1000), PageTableIndex::new(510));
+    let root = frame(0x1000);
     let mut world = World::new(rt, rt.alloc(), &WORDS_57[1..], (0, 0));
     world.assert_fits::<FiveLevels>(rt, root);
     assert_equal(rt, clear_root_57(&mut world.memory, root), 0x2003);
-    check_words(rt, &world.memory, &WORDS_57[2..]);
+    check_words(rt, &world.memory, &WORDS_57[2..])
+}
+
+#[test]
+fn root_tables_are_lent_through_windows(rt: HostRuntime) {
+    let (root, index) = (frame(0x1000), PageTableIndex::new(510));
+    let mut world = World::new(rt, rt.alloc(), &WORDS, (0, 0));
+    let tested = is_valid::<FourLevels>(rt.alloc(), &world.memory, root, index);
+    assert!(rt; unwrap(rt, tested));
+    assert_equal(rt, clear_window(&mut world.memory, root, index), 0x2003);
+    check_words(rt, &world.memory, &WORDS[2..])
+}
+
+#[test]
+fn root_tables_of_level_five_are_lent_through_windows(rt: HostRuntime) {
+    let (root, index) = (frame(0x1000), PageTableIndex::new(510));
     let mut world = World::new(rt, rt.alloc(), &WORDS_57, (0, 0));
-    assert!(rt;
-        unwrap(
-            rt,
-            is_valid::<FiveLevels>(rt.alloc(), &world.memory, root, index)
-        )
-    );
+    let tested = is_valid::<FiveLevels>(rt.alloc(), &world.memory, root, index);
+    assert!(rt; unwrap(rt, tested));
     assert_equal(rt, clear_window_57(&mut world.memory, root, index), 0x2003);
     check_words(rt, &world.memory, &WORDS_57[2..])
 }

@@ -4,7 +4,7 @@ ghost use Rattle.x86_64_model.specs.Mapper.{SupplyFits, Valid};
 
 use super::mapped;
 use crate::prelude::*;
-use x86_64::{is_outside_window_57, parent_flags, run_flushed_57};
+use x86_64::{SizeReply57, is_outside_window_57, parent_flags, run_flushed_57};
 
 /// A page of 4KiB.
 type Small = Page57<Size4KiB>;
@@ -116,45 +116,55 @@ fn each_call_on_a_page_of_57_bits_is_made(rt: HostRuntime) {
     world.check(rt, (0, 0), &WORDS_57[1..])
 }
 
-/// Executes calls, compares the replies, and returns the recorded flushes.
+/// Executes calls, and records their flushes.
 fn record(
     rt: impl Abort + Copy,
     world: &mut World,
     calls: &[Call57],
-    wanted: &[Reply57],
-) -> FlushRecorder {
-    let (alloc, root) = (world.alloc, frame(0x1000));
-    let (mut replies, mut recorder) = (Vec::new(alloc), FlushRecorder::new(alloc));
+    recorder: &mut FlushRecorder,
+) -> Vec<Reply57> {
+    let (root, mut replies) = (frame(0x1000), Vec::new(world.alloc));
     world.assert_fits::<FiveLevels>(rt, root);
     let (memory, pool) = (&mut world.memory, &mut world.pool);
     let mut mapper = MappedPageTable57::new(memory, root, IdentityMapping);
-    let served = run_flushed_57(&mut mapper, pool, calls, &mut replies, &mut recorder);
+    let served = run_flushed_57(&mut mapper, pool, calls, &mut replies, recorder);
     unwrap(rt, served);
-    assert_equal(rt, replies.as_slice(), wanted);
-    recorder
+    replies
 }
 
-#[test]
-fn accepted_calls_of_five_levels_are_recorded_and_no_others(rt: HostRuntime) {
-    let mut world = World::new(rt, rt.alloc(), &[], (2, 6));
-    let (start, size) = (VirtAddr57::new(0xff00_0000_0000_1000), 0x1000);
-    let (page, flags) = (page(0xff00_0000_0000_1000), flags(3));
-    let calls = [
+/// Returns the calls: two maps of a page, of which the second is refused, a change of the entry of level five, an
+/// unmap and a clean up.
+fn calls_on(page: Small, flags: PageTableFlags) -> [Call57; 5] {
+    [
         map(0xff00_0000_0000_1000, 0x6000),
         map(0xff00_0000_0000_1000, 0x7000),
         Call57::Of4KiB(SizeCall57::SetFlagsP5 { page, flags }),
         Call57::Of4KiB(SizeCall57::Unmap { page }),
         Call57::CleanUp,
-    ];
-    let replies = [
-        Reply57::Of4KiB(PageReply::Map(Ok(page))),
-        Reply57::Of4KiB(PageReply::Map(Err(MapToError::PageAlreadyMapped(frame(0x7000))))),
-        Reply57::Of4KiB(PageReply::TableFlags(Ok(()))),
-        Reply57::Of4KiB(PageReply::Unmap(Ok((frame(0x6000), page)))),
+    ]
+}
+
+#[test]
+fn accepted_calls_of_five_levels_are_recorded_and_no_others(rt: HostRuntime) {
+    let mut world = World::new(rt, rt.alloc(), &[], (2, 6));
+    let mut recorder = FlushRecorder::new(rt.alloc());
+    let page = page::<Size4KiB, _>(0xff00_0000_0000_1000);
+    let calls = calls_on(page, flags(3));
+    let replies = record(rt, &mut world, &calls, &mut recorder);
+    let expected = [
+        Reply57::Of4KiB(SizeReply57::Map(Ok(page))),
+        Reply57::Of4KiB(SizeReply57::Map(Err(MapToError::PageAlreadyMapped(frame(0x7000))))),
+        Reply57::Of4KiB(SizeReply57::TableFlags(Ok(()))),
+        Reply57::Of4KiB(SizeReply57::Unmap(Ok((frame(0x6000), page)))),
         Reply57::Cleaned,
     ];
-    let recorder = record(rt, &mut world, &calls, &replies);
-    let flushed = FlushItem::Page57 { start, size };
-    assert_equal(rt, recorder.items(), &[flushed, FlushItem::All, flushed]);
+    assert_equal(rt, replies.as_slice(), &expected);
+    let (start, size) = (VirtAddr57::new(0xff00_0000_0000_1000), 0x1000);
+    let flushed = [
+        FlushItem::Page57 { start, size },
+        FlushItem::All,
+        FlushItem::Page57 { start, size },
+    ];
+    assert_equal(rt, recorder.items(), &flushed);
     world.check(rt, (2, 6), &[])
 }

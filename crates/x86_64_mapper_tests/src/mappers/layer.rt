@@ -4,7 +4,9 @@ ghost use Rattle.x86_64_model.specs.Call.{Unmap};
 ghost use Rattle.x86_64_model.specs.Layout.{Valid as ValidIn};
 ghost use Rattle.x86_64_model.specs.Memory.{identity_places};
 ghost use Rattle.x86_64_model.specs.Mapper.{May, Does, path_of};
+ghost use Rattle.x86_64_model.specs.Pool.{serves_below};
 ghost use Rattle.x86_64_mappers.specs.Layouts.{direct, owned};
+ghost use Rattle.x86_64.specs.Runs.{FitsPool};
 ghost use Rattle.x86_64_tables.specs.MapperAnswers.{frame_answer};
 
 use crate::prelude::*;
@@ -145,15 +147,31 @@ fn layers_unmap_pages(rt: HostRuntime) {
 }
 
 /// Executes calls with a layer, and returns the number of tables that were lent to be changed.
-fn run_counted(rt: impl Abort + Copy, world: &mut World, calls: &[Call]) -> u64 {
+fn run_counted(
+    rt: impl Abort + Copy,
+    memory: &mut PhysMemory,
+    root: Frame,
+    pool: &mut FramePool,
+    calls: &[Call],
+    replies: &mut Vec<Reply>,
+) -> u64
+    requires { let layout = direct identity_places root in
+        FitsPool layout memory.old (serves_below pool.old.limit) pool.old.frames }
+{
+    let mut mapper = MappedPageTable::new(memory, root, IdentityMapping);
+    let mut layer = Counting::new(&mut mapper);
+    unwrap(rt, run(&mut layer, pool, calls, replies));
+    layer.count
+}
+
+/// Does this in a memory with the root in frame 0x1000.
+fn run_in(rt: impl Abort + Copy, world: &mut World, calls: &[Call]) -> u64 {
     let (root, mut replies) = (frame(0x1000), Vec::new(world.alloc));
     world.assert_fits::<FourLevels>(rt, root);
     let (memory, pool) = (&mut world.memory, &mut world.pool);
-    let mut mapper = MappedPageTable::new(memory, root, IdentityMapping);
-    let mut layer = Counting::new(&mut mapper);
-    unwrap(rt, run(&mut layer, pool, calls, &mut replies));
+    let count = run_counted(rt, memory, root, pool, calls, &mut replies);
     assert_equal(rt, replies.len(), calls.len());
-    layer.count
+    count
 }
 
 /// Six of the loans are for the three tables that the map creates: for each, one to see whether the entry is unused, and
@@ -171,6 +189,6 @@ fn layers_run_lists(rt: HostRuntime) {
         Call::Of4KiB(SizeCall::Unmap { page }),
         Call::CleanUp,
     ];
-    assert_equal(rt, run_counted(rt, &mut world, &calls), 12);
+    assert_equal(rt, run_in(rt, &mut world, &calls), 12);
     world.check(rt, (2, 5), &[])
 }
