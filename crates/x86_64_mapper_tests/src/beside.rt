@@ -4,7 +4,6 @@ ghost use Rattle.std.specs.Prelude.{◌≡◌, ℕ, if◌then◌else◌, nat_lt,
 ghost use Rattle.std.specs.FinMap.{get};
 ghost use Rattle.x86_64_mapper_tests.specs.Beside.{AreTwo};
 ghost use Rattle.x86_64_model.specs.Pool.{serves_below};
-ghost use Rattle.x86_64_tables.specs.LentMemory.{numbered};
 ghost use Rattle.x86_64_tables.specs.PageTable.{zero_words};
 
 use crate::prelude::*;

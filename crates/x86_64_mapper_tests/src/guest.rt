@@ -1,5 +1,5 @@
 //! A guest whose memory is a vector of tables. Its owner executes a list of calls on it in place, and reads it again.
-ghost use Rattle.std.specs.Prelude.{◌≡◌, IfOk, IsTrue};
+ghost use Rattle.std.specs.Prelude.{◌≡◌, IsTrue};
 ghost use Rattle.std.specs.Option.{option_copied};
 ghost use Rattle.x86_64_mappers.specs.Layouts.{direct};
 ghost use Rattle.x86_64_model.specs.Memory.{identity_places, words_of};

@@ -1,5 +1,4 @@
 //! A mapper of a memory that is mapped at an offset, with five levels of tables, and whether an offset fits.
-ghost use Rattle.x86_64_model.specs.Layout.{Valid};
 ghost use Rattle.x86_64_model.specs.Pool.{serves_below};
 ghost use Rattle.x86_64_model.specs.Memory.{identity_places};
 ghost use Rattle.x86_64_mappers.specs.Layouts.{direct_at};
