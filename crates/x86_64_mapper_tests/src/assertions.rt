@@ -9,16 +9,6 @@ pub fn assert_equal<T: PartialEq + Debug + Drop>(rt: impl Abort + Copy, found: T
     assert_eq!(rt; found, wanted);
 }
 
-/// Aborts unless two values are equal, and prints the number that they belong to.
-pub fn assert_equal_at<T: PartialEq + Debug + Drop>(
-    rt: impl Abort + Copy,
-    number: u64,
-    found: T,
-    wanted: T,
-) {
-    assert_eq!(rt; found, wanted, "at {number:#x}");
-}
-
 /// Aborts unless two values are equal, and prints the case that they belong to.
 pub fn assert_equal_in<C: Debug + Drop, T: PartialEq + Debug + Drop>(
     rt: impl Abort + Copy,

@@ -4,58 +4,27 @@ ghost use Rattle.std.specs.Prelude.{◌≡◌, ℕ, if◌then◌else◌, nat_lt,
 ghost use Rattle.std.specs.FinMap.{get};
 ghost use Rattle.x86_64_mapper_tests.specs.Beside.{AreTwo};
 ghost use Rattle.x86_64_model.specs.Pool.{serves_below};
-ghost use Rattle.x86_64_tables.specs.LentMemory.{numbered};
 ghost use Rattle.x86_64_tables.specs.PageTable.{zero_words};
 
-use crate::assertions::{assert_equal, assert_equal_in, unwrap, unwrap_some};
-use std::alloc::{AllocError, Global};
-use std::process::Abort;
+use crate::prelude::*;
 use uses::run_in_space::run_on;
 use x86_64::laws::empty_roots_are_spaces;
-use x86_64::structures::paging::{
-    Page, PageTable, PageTableFlags, PageTableIndex, PhysFrame, Size4KiB,
-};
-use x86_64::{
-    Call, FramePool, IdentityMapping, LentMemory, PhysAddr, PhysMemory, Reply, SizeCall,
-    TableMemory, VirtAddr, page_walk, pool_fits,
-};
 use x86_64_model::laws::spaces::one_hierarchy_is_a_space;
-
-/// The number of places, and the limit of the pool. A place is the index of a table in memory.
-const PLACES: u64 = 0x10;
 
 /// Executes calls on a first hierarchy, and then on a second one, which isn't tested again. The pool fits both again.
 fn run_in_turn<T: TableMemory>(
     memory: &mut T,
-    first: PhysFrame<Size4KiB>,
-    second: PhysFrame<Size4KiB>,
+    roots: (Frame, Frame),
     pool: &mut FramePool,
     calls: (&[Call], &[Call]),
     replies: &mut Vec<Reply>,
 ) -> Result<(), AllocError>
-    requires { AreTwo first second (T.tables memory.old) (serves_below pool.old.limit) pool.old.frames }
-    ensures again { AreTwo first second (T.tables memory.new) (serves_below pool.new.limit) pool.new.frames }
+    requires { AreTwo roots.0 roots.1 (T.tables memory.old) (serves_below pool.old.limit) pool.old.frames }
+    ensures again { AreTwo roots.0 roots.1 (T.tables memory.new) (serves_below pool.new.limit) pool.new.frames }
     ensures lent { T.lent memory.new ≡ T.lent memory.old }
 {
-    run_on(memory, IdentityMapping, first, pool, calls.0, replies)?;
-    run_on(memory, IdentityMapping, second, pool, calls.1, replies)
-}
-
-/// Executes calls on two hierarchies in a slice of tables, without a copy. Its owner knows that the pool fits both
-/// again.
-fn run_in_slice(
-    tables: &mut [PageTable],
-    first: PhysFrame<Size4KiB>,
-    second: PhysFrame<Size4KiB>,
-    pool: &mut FramePool,
-    calls: (&[Call], &[Call]),
-    replies: &mut Vec<Reply>,
-) -> Result<(), AllocError>
-    requires { AreTwo first second (numbered tables.old) (serves_below pool.old.limit) pool.old.frames }
-    ensures { AreTwo first second (numbered tables.new) (serves_below pool.new.limit) pool.new.frames }
-{
-    let mut memory = LentMemory::new(tables);
-    run_in_turn(&mut memory, first, second, pool, calls, replies)
+    run_on(memory, IdentityMapping, roots.0, pool, calls.0, replies)?;
+    run_on(memory, IdentityMapping, roots.1, pool, calls.1, replies)
 }
 
 /// Creates a pool that fits two empty roots in a memory of empty tables.
@@ -63,24 +32,19 @@ fn pool_of_two<T: TableMemory>(
     rt: impl Abort + Copy,
     alloc: Global,
     memory: &T,
-    first: PhysFrame<Size4KiB>,
-    second: PhysFrame<Size4KiB>,
+    roots: (Frame, Frame),
 ) -> FramePool
     requires { (place : ℕ) → get (T.tables memory.now) place
         ≡ (if nat_lt place 0x10 then Some zero_words else None) }
-    ensures { AreTwo first second (T.tables memory.now) (serves_below result.limit) result.frames }
+    ensures { AreTwo roots.0 roots.1 (T.tables memory.now) (serves_below result.limit) result.frames }
 {
     one_hierarchy_is_a_space();
     empty_roots_are_spaces();
-    let pool = pool_from(rt, alloc, 0x3000);
-    assert!(rt; first != second);
-    assert!(rt; unwrap(rt, pool_fits(alloc, memory, &IdentityMapping, first, &pool)));
-    assert!(rt;
-        unwrap(
-            rt,
-            pool_fits(alloc, memory, &IdentityMapping, second, &pool)
-        )
-    );
+    let pool = pool_of(rt, alloc, 3, PLACES);
+    let (one, two) = roots;
+    assert!(rt; one != two);
+    assert!(rt; unwrap(rt, pool_fits(alloc, memory, &IdentityMapping, one, &pool)));
+    assert!(rt; unwrap(rt, pool_fits(alloc, memory, &IdentityMapping, two, &pool)));
     pool
 }
 
@@ -95,88 +59,43 @@ pub fn empty_tables(rt: impl Abort + Copy, alloc: Global) -> Vec<PageTable>
     tables
 }
 
-/// Creates a pool of the frames from an address on.
-pub fn pool_from(rt: impl Abort + Copy, alloc: Global, address: u64) -> FramePool {
-    let mut pool = unwrap(rt, FramePool::new(alloc, PLACES));
-    for number in address / 0x1000..PLACES {
-        unwrap(rt, pool.try_add(frame(number * 0x1000)));
-    }
-    pool
-}
-
-/// Returns the frame that contains an address.
-pub fn frame(address: u64) -> PhysFrame<Size4KiB> {
-    PhysFrame::containing_address(PhysAddr::new_truncate(address))
-}
-
-/// Returns the call that maps the page that contains an address.
-pub fn map(address: u64, to: u64) -> Call {
-    Call::Of4KiB(SizeCall::MapTo {
-        page: Page::containing_address(VirtAddr::new_truncate(address)),
-        frame: frame(to),
-        flags: PageTableFlags::PRESENT,
-    })
-}
-
-/// Returns where the page walk of an address arrives.
-fn walk<T: TableMemory>(memory: &T, root: PhysFrame<Size4KiB>, address: u64) -> Option<u64> {
-    let address = VirtAddr::new_truncate(address);
-    let walked = page_walk(memory, &IdentityMapping, root, address)?;
-    Some(walked.address.as_u64())
-}
-
-/// Maps a page in each of two hierarchies, and compares where its page walks arrive.
+/// Maps a page in each of two hierarchies.
 fn map_in_both<T: TableMemory>(
     rt: impl Abort + Copy,
     alloc: Global,
     memory: &mut T,
-    first: PhysFrame<Size4KiB>,
-    second: PhysFrame<Size4KiB>,
+    roots: (Frame, Frame),
     pool: &mut FramePool,
-    page: u64,
-    to: (u64, u64),
+    given: (u64, u64),
 )
-    requires { AreTwo first second (T.tables memory.old) (serves_below pool.old.limit) pool.old.frames }
-    ensures { AreTwo first second (T.tables memory.new) (serves_below pool.new.limit) pool.new.frames }
+    requires { AreTwo roots.0 roots.1 (T.tables memory.old) (serves_below pool.old.limit) pool.old.frames }
+    ensures { AreTwo roots.0 roots.1 (T.tables memory.new) (serves_below pool.new.limit) pool.new.frames }
 {
     let mut replies = Vec::new(alloc);
-    let calls = [map(page, to.0)];
-    let second_calls = [map(page, to.1)];
-    let both = (&calls[..], &second_calls[..]);
-    let served = run_in_turn(memory, first, second, pool, both, &mut replies);
+    let (page, to) = given;
+    let (calls, others) = ([map(page, to)], [map(page, to | 0x1000)]);
+    let both = (&calls[..], &others[..]);
+    let served = run_in_turn(memory, roots, pool, both, &mut replies);
     unwrap(rt, served);
-    assert_equal(rt, walk(memory, first, page), Some(to.0));
-    assert_equal(rt, walk(memory, second, page), Some(to.1));
 }
 
-/// Maps two pages in each of two hierarchies in a memory of empty tables.
+/// Maps two pages in each of two hierarchies in a memory of empty tables, and compares where page walks arrive.
 fn map_pages_in_both<T: TableMemory>(rt: impl Abort + Copy, alloc: Global, memory: &mut T)
     requires { (place : ℕ) → get (T.tables memory.old) place
         ≡ (if nat_lt place 0x10 then Some zero_words else None) }
 {
-    let (first, second) = (frame(0x1000), frame(0x2000));
-    let mut pool = pool_of_two(rt, alloc, memory, first, second);
-    map_in_both(
-        rt,
-        alloc,
-        memory,
-        first,
-        second,
-        &mut pool,
-        0x1000,
-        (0x2_0000, 0x2_1000),
-    );
-    map_in_both(
-        rt,
-        alloc,
-        memory,
-        first,
-        second,
-        &mut pool,
-        0x8000_0000,
-        (0x3_0000, 0x3_1000),
-    );
+    let (one, two) = (frame(0x1000), frame(0x2000));
+    let mut pool = pool_of_two(rt, alloc, memory, (one, two));
+    let call = (0x1000, 0x2_0000);
+    map_in_both(rt, alloc, memory, (one, two), &mut pool, call);
+    let call = (0x8000_0000, 0x3_0000);
+    map_in_both(rt, alloc, memory, (one, two), &mut pool, call);
     assert_equal(rt, pool.len(), 3);
+    for (page, to) in [(0x1000, 0x2_0000), (0x8000_0000, 0x3_0000)] {
+        assert_equal(rt, walk::<FourLevels, _>(memory, one, page), Some(to));
+        let found = walk::<FourLevels, _>(memory, two, page);
+        assert_equal(rt, found, Some(to | 0x1000));
+    }
 }
 
 /// Maps these pages in a slice of empty tables.

@@ -1,5 +1,5 @@
 //! A guest whose memory is a vector of tables. Its owner executes a list of calls on it in place, and reads it again.
-ghost use Rattle.std.specs.Prelude.{◌≡◌, IfOk, IsTrue};
+ghost use Rattle.std.specs.Prelude.{◌≡◌, IsTrue};
 ghost use Rattle.std.specs.Option.{option_copied};
 ghost use Rattle.x86_64_mappers.specs.Layouts.{direct};
 ghost use Rattle.x86_64_model.specs.Memory.{identity_places, words_of};
@@ -8,18 +8,14 @@ ghost use Rattle.x86_64_model.specs.Pool.{serves_below};
 ghost use Rattle.x86_64_tables.specs.LentMemory.{numbered};
 ghost use Rattle.x86_64.specs.Runs.{FitsPool};
 
-use crate::assertions::{assert_equal, unwrap};
-use crate::beside::{empty_tables, frame, map, pool_from};
-use std::alloc::{AllocError, Global};
-use std::process::Abort;
+use crate::beside::empty_tables;
+use crate::prelude::*;
 use uses::run_in_space::run_on;
-use x86_64::structures::paging::{PageSize, PageTable, PageTableIndex, PhysFrame, Size4KiB};
-use x86_64::{Call, FramePool, IdentityMapping, LentMemory, Reply, pool_fits};
 
 /// Executes calls on a slice of tables, without a copy. The pool fits the hierarchy again.
 fn run_in_tables(
     tables: &mut [PageTable],
-    root: PhysFrame<Size4KiB>,
+    root: Frame,
     pool: &mut FramePool,
     calls: &[Call],
     replies: &mut Vec<Reply>,
@@ -34,7 +30,7 @@ fn run_in_tables(
 }
 
 /// Returns the table in a frame, or `None` if there is none.
-fn table_in(tables: &[PageTable], frame: PhysFrame<Size4KiB>) -> Option<&PageTable>
+fn table_in(tables: &[PageTable], frame: Frame) -> Option<&PageTable>
     ensures { option_copied result ≡ words_of (numbered tables.now) identity_places frame }
 {
     let start = frame.start_address().as_u64();
@@ -42,7 +38,7 @@ fn table_in(tables: &[PageTable], frame: PhysFrame<Size4KiB>) -> Option<&PageTab
 }
 
 /// Returns the word at an index of the table in a frame, or `None` if there is none.
-fn word_in(tables: &[PageTable], frame: PhysFrame<Size4KiB>, index: PageTableIndex) -> Option<u64>
+fn word_in(tables: &[PageTable], frame: Frame, index: PageTableIndex) -> Option<u64>
     ensures { result ≡ read (words_of (numbered tables.now) identity_places) frame index }
 {
     match table_in(tables, frame) {
@@ -51,32 +47,12 @@ fn word_in(tables: &[PageTable], frame: PhysFrame<Size4KiB>, index: PageTableInd
     }
 }
 
-/// Executes calls of a guest, and returns the word that its root has at an index afterwards.
-fn run_and_read(
-    tables: &mut Vec<PageTable>,
-    root: PhysFrame<Size4KiB>,
-    pool: &mut FramePool,
-    calls: &[Call],
-    replies: &mut Vec<Reply>,
-    index: PageTableIndex,
-) -> Result<Option<u64>, AllocError>
-    requires { let layout = direct identity_places root in
-        FitsPool layout (numbered tables.old.items) (serves_below pool.old.limit) pool.old.frames }
-    ensures fits { let layout = direct identity_places root in
-        FitsPool layout (numbered tables.new.items) (serves_below pool.old.limit) pool.new.frames }
-    ensures read { let words = words_of (numbered tables.new.items) identity_places in
-        IfOk result (λ word. word ≡ read words root index) }
-{
-    run_in_tables(tables, root, pool, calls, replies)?;
-    Ok(word_in(tables, root, index))
-}
-
 /// Returns whether a pool fits the hierarchy of a guest, which is tested in place.
 fn fits(
     rt: impl Abort + Copy,
     alloc: Global,
     tables: &mut [PageTable],
-    root: PhysFrame<Size4KiB>,
+    root: Frame,
     pool: &FramePool,
 ) -> bool
     ensures { let layout = direct identity_places root in let serves = serves_below pool.now.limit in
@@ -86,20 +62,56 @@ fn fits(
     unwrap(rt, pool_fits(alloc, &memory, &IdentityMapping, root, pool))
 }
 
+/// Executes calls with the root in frame 0x1000, and returns the replies.
+fn serve(
+    rt: impl Abort + Copy,
+    alloc: Global,
+    tables: &mut [PageTable],
+    mut pool: FramePool,
+    calls: &[Call],
+) -> Vec<Reply> {
+    let (root, mut replies) = (frame(0x1000), Vec::new(alloc));
+    assert!(rt; fits(rt, alloc, tables, root, &pool));
+    let ran = run_in_tables(tables, root, &mut pool, calls, &mut replies);
+    unwrap(rt, ran);
+    replies
+}
+
 #[test]
 fn a_guest_is_mapped_and_read(rt: HostRuntime) {
     let mut tables = empty_tables(rt, rt.alloc());
-    let (root, mut pool) = (frame(0x1000), pool_from(rt, rt.alloc(), 0x2000));
-    assert!(rt; fits(rt, rt.alloc(), &mut tables, root, &pool));
-    let mut replies = Vec::new(rt.alloc());
-    let calls = [map(0x1000, 0x5000)];
-    let read = run_and_read(
-        &mut tables,
-        root,
-        &mut pool,
-        &calls,
-        &mut replies,
-        PageTableIndex::new(0),
-    );
-    assert_equal(rt, unwrap(rt, read), Some(0x2001));
+    let pool = pool_of(rt, rt.alloc(), 2, PLACES);
+    let replies = serve(rt, rt.alloc(), &mut tables, pool, &[map(0x1000, 0x5000)]);
+    let mapped = Reply::Of4KiB(PageReply::Map(Ok(page(0x1000))));
+    assert_equal(rt, replies.as_slice(), &[mapped]);
+    let word = word_in(&tables, frame(0x1000), PageTableIndex::new(0));
+    assert_equal(rt, word, Some(0x2001));
+}
+
+/// Sets words of a guest.
+fn set_in(rt: impl Abort + Copy, tables: &mut [PageTable], words: &[Word]) {
+    set_words(rt, &mut LentMemory::new(tables), words);
+}
+
+/// Compares all words of a guest, of which only these aren't 0.
+fn check_in(rt: impl Abort + Copy, tables: &mut [PageTable], words: &[Word]) {
+    check_words(rt, &LentMemory::new(tables), words)
+}
+
+#[test]
+fn pages_of_a_guest_are_unmapped_once(rt: HostRuntime) {
+    let mut tables = empty_tables(rt, rt.alloc());
+    set_in(rt, &mut tables, &WORDS[1..]);
+    let (page, pool) = (page(0x1000), pool_of(rt, rt.alloc(), 0, 0));
+    let calls = [
+        Call::Of4KiB(SizeCall::Unmap { page }),
+        Call::Of4KiB(SizeCall::Unmap { page }),
+    ];
+    let replies = serve(rt, rt.alloc(), &mut tables, pool, &calls);
+    let wanted = [
+        Reply::Of4KiB(PageReply::Unmap(Ok((frame(0x5000), page)))),
+        Reply::Of4KiB(PageReply::Unmap(Err(UnmapError::PageNotMapped))),
+    ];
+    assert_equal(rt, replies.as_slice(), &wanted);
+    check_in(rt, &mut tables, &WORDS[1..4])
 }

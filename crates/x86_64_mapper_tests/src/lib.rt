@@ -1,5 +1,5 @@
-//! Tests of what is particular to each mapper, and of the loader, with one module per crate. They are not in the
-//! crates themselves, so that each crate is proved only once.
+//! Tests of what is particular to each mapper, of callers with contracts, of address spaces and of the loader. They are
+//! not in the crates themselves, so that each crate is proved only once.
 #![tactic(auto)]
 
 #[cfg(test)]
@@ -15,4 +15,8 @@ mod loader;
 #[cfg(test)]
 mod mappers;
 #[cfg(test)]
+mod prelude;
+#[cfg(test)]
 mod spaces;
+#[cfg(test)]
+mod world;

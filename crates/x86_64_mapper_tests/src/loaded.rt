@@ -9,12 +9,9 @@ ghost use Rattle.x86_64_model.specs.Mapper.{SupplyFits};
 ghost use Rattle.x86_64_model.specs.Mappings.{mappings_of};
 ghost use Rattle.x86_64_model.specs.Memory.{identity_places, words_of};
 
-use crate::assertions::{assert_equal, unwrap, unwrap_some};
-use crate::loader::{Machine, frame, read, segment, write};
-use std::alloc::{AllocError, Global};
-use x86_64::structures::paging::mapper::MapperAllSizes;
-use x86_64::structures::paging::{MappedPageTable, PhysFrame, Size4KiB};
-use x86_64::{FramePool, IdentityMapping, Mapping, TableMemory, mappings, pool_fits};
+use crate::loader::{READ, WRITE, segment};
+use crate::prelude::*;
+use uses::list_mappings::list_all;
 use x86_64_loader::{Segment, load, segments_allowed};
 
 /// Loads segments with any mapper, if they may be loaded, and returns true if all of them were.
@@ -37,7 +34,7 @@ fn load_by<M: MapperAllSizes>(mapper: &mut M, pool: &mut FramePool, segments: &[
 /// Loads segments with a mapper that is then dropped, if they may be loaded, and returns true if all of them were.
 fn load_into<T: TableMemory>(
     memory: &mut T,
-    root: PhysFrame<Size4KiB>,
+    root: Frame,
     pool: &mut FramePool,
     segments: &[Segment],
 ) -> bool
@@ -54,31 +51,12 @@ fn load_into<T: TableMemory>(
     load_by(&mut mapper, pool, segments)
 }
 
-/// Lists all mappings below a root.
-fn list_all<T: TableMemory>(
-    alloc: Global,
-    memory: &T,
-    root: PhysFrame<Size4KiB>,
-) -> Result<Vec<Mapping>, AllocError>
-    ensures { let words = words_of (T.tables memory.now) identity_places in
-        IfOk result (λ mappings. mappings.items ≡ mappings_of 4 words root) }
-{
-    mappings(memory, &IdentityMapping, root).collect(alloc)
-}
-
 /// Loads segments with pages of 4KiB, drops the mapper, and lists all mappings below the root. Each page of the
 /// segments is among them. Returns `None` if the segments may not be loaded, or not all of them were.
-///
-/// Requires that the hierarchy is valid and that the pool fits it, which [`pool_fits`] tests. It fits again
-/// afterwards.
-///
-/// # Errors
-///
-/// `AllocError` if memory allocation for the list fails. The segments are loaded then.
-pub fn load_and_list<T: TableMemory>(
+fn load_and_list<T: TableMemory>(
     alloc: Global,
     memory: &mut T,
-    root: PhysFrame<Size4KiB>,
+    root: Frame,
     pool: &mut FramePool,
     segments: &[Segment],
 ) -> Result<Option<Vec<Mapping>>, AllocError>
@@ -108,21 +86,21 @@ const LINES: [&str; 4] = [
     "0x600000 4KiB 0xa00000 rw-u 0x8000000000000007",
 ];
 
+/// Loads these segments, and lists all mappings.
+fn load_both(rt: impl Abort + Copy, world: &mut World) -> Vec<Mapping> {
+    let (root, alloc) = (frame(0x1000), world.alloc);
+    world.assert_fits::<FourLevels>(rt, root);
+    let code = segment(0x40_0000, 0x80_0000, 2, READ);
+    let segments = [code, segment(0x5f_f000, 0x9f_f000, 2, WRITE)];
+    let (memory, pool) = (&mut world.memory, &mut world.pool);
+    let listed = load_and_list(alloc, memory, root, pool, &segments);
+    unwrap_some(rt, unwrap(rt, listed))
+}
+
 #[test]
 fn loaded_segments_are_listed(rt: HostRuntime) {
-    let Machine {
-        mut memory,
-        mut pool,
-    } = Machine::new(rt, rt.alloc());
-    let root = frame(0x1000);
-    let tested = pool_fits(rt.alloc(), &memory, &IdentityMapping, root, &pool);
-    assert!(rt; unwrap(rt, tested));
-    let segments = [
-        segment(0x40_0000, 0x80_0000, 2, read()),
-        segment(0x5f_f000, 0x9f_f000, 2, write()),
-    ];
-    let listed = load_and_list(rt.alloc(), &mut memory, root, &mut pool, &segments);
-    let listed = unwrap_some(rt, unwrap(rt, listed));
+    let mut world = World::new(rt, rt.alloc(), &[], (2, PLACES));
+    let listed = load_both(rt, &mut world);
     assert_equal(rt, listed.len(), LINES.len());
     for (mapping, line) in listed.iter().zip(LINES) {
         let text = unwrap(rt, format!(in rt.alloc(); "{mapping}"));

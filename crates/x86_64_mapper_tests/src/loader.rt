@@ -5,47 +5,20 @@ ghost use Rattle.x86_64_loader.specs.Segments.{Disjoint, IsAllowed, IsInside, Is
 ghost use Rattle.x86_64_model.specs.Mapper.{SupplyFits, paths};
 ghost use Rattle.x86_64_model.specs.PageMappings.{IsUnmapped, entry_path};
 
-use crate::assertions::{assert_equal, assert_equal_at, unwrap};
-use bitflags::Flags;
-use std::alloc::Global;
-use std::process::Abort;
-use x86_64::structures::paging::mapper::{MapToError, MapperAllSizes};
-use x86_64::structures::paging::{MappedPageTable, Page, PageTableFlags, PhysFrame, Size4KiB};
-use x86_64::{
-    FramePool, IdentityMapping, PhysAddr, PhysMemory, VirtAddr, Walked, page_walk, pool_fits,
-};
+use crate::prelude::*;
 use x86_64_loader::{LoadError, Segment, frames_needed, load, load_large, segments_allowed};
 
-/// The number of places (a place is the index of a table in memory), and the limit of pools.
-const PLACES: u64 = 0x20;
+/// The flags of pages that a user reads, and of those that a user reads and writes and doesn't execute.
+pub const READ: u64 = 5;
 
-/// Returns the flags of pages that a user reads.
-pub fn read() -> PageTableFlags {
-    PageTableFlags::PRESENT.union(PageTableFlags::USER_ACCESSIBLE)
-}
-
-/// Returns the flags of pages that a user reads and writes.
-pub fn write() -> PageTableFlags {
-    read()
-        .union(PageTableFlags::WRITABLE)
-        .union(PageTableFlags::NO_EXECUTE)
-}
-
-/// Returns the frame that contains an address.
-pub fn frame(address: u64) -> PhysFrame<Size4KiB> {
-    PhysFrame::containing_address(PhysAddr::new_truncate(address))
-}
-
-/// Returns the page that contains an address.
-fn page(address: u64) -> Page<Size4KiB> {
-    Page::containing_address(VirtAddr::new_truncate(address))
-}
+pub const WRITE: u64 = 0x8000_0000_0000_0007;
 
 /// Returns the segment with these addresses of its first page and frame.
-pub fn segment(start: u64, to: u64, pages: u64, flags: PageTableFlags) -> Segment {
+pub fn segment(start: u64, to: u64, pages: u64, bits: u64) -> Segment {
+    let (page, frame, flags) = (page(start), frame(to), flags(bits));
     Segment {
-        page: page(start),
-        frame: frame(to),
+        page,
+        frame,
         pages,
         flags,
     }
@@ -81,92 +54,54 @@ pub fn load_unmapped<M: MapperAllSizes>(
     }
 }
 
-/// The call that loads a program.
-#[derive(Clone, Copy)]
-enum Way {
-    Small,
-    Large,
+/// Loads a program with pages of 4KiB, or with larger ones where they fit, and returns the number of frames that
+/// suffices and what the load returns, or `None` if the program isn't allowed.
+fn load_by(
+    rt: impl Abort + Copy,
+    world: &mut World,
+    is_large: bool,
+    segments: &[Segment],
+) -> Option<(Option<u64>, Result<(), LoadError>)> {
+    let root = frame(0x1000);
+    world.assert_fits::<FourLevels>(rt, root);
+    let (memory, pool) = (&mut world.memory, &mut world.pool);
+    let mut mapper = MappedPageTable::new(memory, root, IdentityMapping);
+    if !segments_allowed(&mapper, segments) {
+        return None;
+    }
+    let needed = frames_needed(segments);
+    let loaded = if is_large {
+        load_large(&mut mapper, pool, segments)
+    } else {
+        load(&mut mapper, pool, segments)
+    };
+    Some((needed, loaded))
 }
 
-/// An empty hierarchy, with a pool of all frames from 0x2000 on.
-#[derive(Drop)]
-pub struct Machine {
-    pub memory: PhysMemory,
-    pub pool: FramePool,
-}
+/// Where a page walk arrives, and whether it may write and a user may use it.
+type Arrival = Option<(u64, bool, bool)>;
 
-impl Machine {
-    pub fn new(rt: impl Abort + Copy, alloc: Global) -> Machine {
-        let memory = unwrap(rt, PhysMemory::new(alloc, PLACES));
-        let mut pool = unwrap(rt, FramePool::new(alloc, PLACES));
-        for number in 2..PLACES {
-            unwrap(rt, pool.try_add(frame(number * 0x1000)));
-        }
-        Machine { memory, pool }
-    }
-
-    /// Loads a program, or returns `None` if it isn't allowed.
-    fn load(
-        &mut self,
-        rt: impl Abort + Copy,
-        alloc: Global,
-        way: Way,
-        segments: &[Segment],
-    ) -> Option<Result<(), LoadError>> {
-        let (memory, pool) = (&mut self.memory, &mut self.pool);
-        let root = frame(0x1000);
-        assert!(rt; unwrap(rt, pool_fits(alloc, memory, &IdentityMapping, root, pool)));
-        let mut mapper = MappedPageTable::new(memory, root, IdentityMapping);
-        if !segments_allowed(&mapper, segments) {
-            return None;
-        }
-        Some(match way {
-            Way::Small => load(&mut mapper, pool, segments),
-            Way::Large => load_large(&mut mapper, pool, segments),
-        })
-    }
-
-    /// Returns the number of frames that suffices for a program, or `None` if it isn't allowed.
-    fn frames_needed(
-        &mut self,
-        rt: impl Abort + Copy,
-        alloc: Global,
-        segments: &[Segment],
-    ) -> Option<u64> {
-        let (memory, pool) = (&mut self.memory, &self.pool);
-        let root = frame(0x1000);
-        assert!(rt; unwrap(rt, pool_fits(alloc, memory, &IdentityMapping, root, pool)));
-        let mapper = MappedPageTable::new(memory, root, IdentityMapping);
-        if !segments_allowed(&mapper, segments) {
-            return None;
-        }
-        frames_needed(segments)
-    }
-
-    /// Returns where the page walk of an address arrives, and whether it may write and a user may use it.
-    fn walk(&self, address: u64) -> Option<(u64, bool, bool)> {
-        let address = VirtAddr::new_truncate(address);
-        let walked = page_walk(&self.memory, &IdentityMapping, frame(0x1000), address)?;
-        let Walked {
-            address,
-            write,
-            user,
-        } = walked;
-        Some((address.as_u64(), write, user))
+/// Compares where page walks of addresses arrive.
+fn check_walks(rt: impl Abort + Copy, world: &World, walks: &[(u64, Arrival)]) {
+    for (start, wanted) in walks {
+        let address = VirtAddr::new_truncate(*start);
+        let walked = page_walk(&world.memory, &IdentityMapping, frame(0x1000), address);
+        let found = walked.map(|walked| (walked.address.as_u64(), walked.write, walked.user));
+        assert_equal_in(rt, *start, found, *wanted);
     }
 }
 
 /// Returns a program with 3 pages to read, 517 to write that cross two borders of 2MiB, and a page of the kernel.
 fn program() -> [Segment; 3] {
     [
-        segment(0x40_0000, 0x80_0000, 3, read()),
-        segment(0x5f_e000, 0x9f_e000, 0x205, write()),
-        segment(0xffff_8000_0000_0000, 0x5000, 1, PageTableFlags::PRESENT),
+        segment(0x40_0000, 0x80_0000, 3, READ),
+        segment(0x5f_e000, 0x9f_e000, 0x205, WRITE),
+        segment(0xffff_8000_0000_0000, 0x5000, 1, 1),
     ]
 }
 
 /// Where page walks arrive after the load of the program.
-const WALKS: [(u64, Option<(u64, bool, bool)>); 8] = [
+const WALKS: [(u64, Arrival); 8] = [
     (0x3f_ffff, None),
     (0x40_0000, Some((0x80_0000, false, true))),
     (0x40_2fff, Some((0x80_2fff, false, true))),
@@ -177,76 +112,62 @@ const WALKS: [(u64, Option<(u64, bool, bool)>); 8] = [
     (0xffff_8000_0000_0fff, Some((0x5fff, false, false))),
 ];
 
-/// Loads the program with one call, and compares where page walks arrive and how many frames are left. Of 30 frames
-/// the tables take eight, one of them for pages of 4KiB that a page of 2MiB could replace.
-fn check_program(rt: impl Abort + Copy, alloc: Global, way: Way, left: usize) {
-    let mut machine = Machine::new(rt, alloc);
-    assert_equal(rt, machine.frames_needed(rt, alloc, &program()), Some(11));
-    let loaded = machine.load(rt, alloc, way, &program());
-    assert_equal(rt, loaded, Some(Ok(())));
-    for (address, wanted) in WALKS {
-        assert_equal_at(rt, address, machine.walk(address), wanted);
-    }
-    assert_equal(rt, machine.pool.len(), left);
-}
-
-#[test]
-fn programs_are_loaded_by_pages_of_4kib(rt: HostRuntime) {
-    check_program(rt, rt.alloc(), Way::Small, 22)
-}
-
+/// Of 14 frames the tables take eight, one of them for pages of 4KiB that a page of 2MiB could replace.
 #[test]
 fn programs_are_loaded_by_pages_of_2mib_where_they_fit(rt: HostRuntime) {
-    check_program(rt, rt.alloc(), Way::Large, 23)
+    for (is_large, left) in [(false, 6), (true, 7)] {
+        let mut world = World::new(rt, rt.alloc(), &[], (2, PLACES));
+        let loaded = load_by(rt, &mut world, is_large, &program());
+        assert_equal(rt, loaded, Some((Some(11), Ok(()))));
+        check_walks(rt, &world, &WALKS);
+        assert_equal(rt, world.pool.len(), left);
+    }
 }
 
-/// Loads two overlapping segments with one call, and compares where the load stops and where page walks arrive.
-fn check_overlap(rt: impl Abort + Copy, alloc: Global, way: Way) {
+/// Where page walks arrive after the load of overlapping segments.
+const OVERLAP: [(u64, Arrival); 2] = [
+    (0x40_0000, Some((0x80_0000, false, true))),
+    (0x3f_ffff, Some((0x9f_ffff, true, true))),
+];
+
+/// Loads two overlapping segments, and compares where the load stops and where page walks arrive.
+fn check_overlap(rt: impl Abort + Copy, alloc: Global, is_large: bool) {
     let segments = [
-        segment(0x40_0000, 0x80_0000, 4, read()),
-        segment(0x3f_e000, 0x9f_e000, 3, write()),
+        segment(0x40_0000, 0x80_0000, 4, READ),
+        segment(0x3f_e000, 0x9f_e000, 3, WRITE),
     ];
-    let mut machine = Machine::new(rt, alloc);
-    let loaded = machine.load(rt, alloc, way, &segments);
+    let mut world = World::new(rt, alloc, &[], (2, PLACES));
+    let loaded = load_by(rt, &mut world, is_large, &segments);
     let wanted = LoadError {
         segment: 1,
         page: page(0x40_0000),
         mapped: 2,
         why: MapToError::PageAlreadyMapped(frame(0xa0_0000)),
     };
-    assert_equal(rt, loaded, Some(Err(wanted)));
-    assert_equal(rt, machine.walk(0x40_0000), Some((0x80_0000, false, true)));
-    assert_equal(rt, machine.walk(0x3f_ffff), Some((0x9f_ffff, true, true)));
+    assert_equal(rt, loaded.map(|loaded| loaded.1), Some(Err(wanted)));
+    check_walks(rt, &world, &OVERLAP);
 }
 
 #[test]
 fn segments_that_overlap_are_refused(rt: HostRuntime) {
-    for way in [Way::Small, Way::Large] {
-        check_overlap(rt, rt.alloc(), way);
-    }
+    check_overlap(rt, rt.alloc(), false);
+    check_overlap(rt, rt.alloc(), true);
 }
 
 /// Asserts that a segment isn't allowed.
 fn check_refused(rt: impl Abort + Copy, alloc: Global, segment: Segment) {
-    let mut machine = Machine::new(rt, alloc);
-    let loaded = machine.load(rt, alloc, Way::Small, &[segment]);
+    let mut world = World::new(rt, alloc, &[], (2, PLACES));
+    let loaded = load_by(rt, &mut world, false, &[segment]);
     assert_equal(rt, loaded, None);
 }
 
 #[test]
 fn segments_are_allowed_as_their_pages_are(rt: HostRuntime) {
     let (page, frame) = (0x40_0000, 0x80_0000);
-    let huge = read().union(PageTableFlags::HUGE_PAGE);
-    check_refused(
-        rt,
-        rt.alloc(),
-        segment(page, frame, 1, PageTableFlags::WRITABLE),
-    );
-    check_refused(rt, rt.alloc(), segment(page, frame, 1, huge));
-    check_refused(
-        rt,
-        rt.alloc(),
-        segment(0xffff_ffff_ffff_f000, frame, 2, read()),
-    );
-    check_refused(rt, rt.alloc(), segment(page, 0xf_ffff_ffff_f000, 2, read()))
+    check_refused(rt, rt.alloc(), segment(page, frame, 1, 2));
+    check_refused(rt, rt.alloc(), segment(page, frame, 1, READ | 0x80));
+    let last = 0xffff_ffff_ffff_f000;
+    check_refused(rt, rt.alloc(), segment(last, frame, 2, READ));
+    let last = 0xf_ffff_ffff_f000;
+    check_refused(rt, rt.alloc(), segment(page, last, 2, READ));
 }

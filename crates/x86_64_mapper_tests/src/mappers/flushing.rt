@@ -1,192 +1,127 @@
-//! What has to be flushed after each kind of call, and that a map clears a new table.
-ghost use Rattle.x86_64_model.specs.Mapper.{PoolFits};
-ghost use Rattle.x86_64_model.specs.Pool.{serves_below};
+//! What has to be flushed after each kind of call, without a recursive index and with one.
+use crate::prelude::*;
+use x86_64::flushing::Flush::{self, Everything, Nothing, Tables};
+use x86_64::flushing::{flush_after, flush_after_change, loses};
 
-use super::{WORDS, Word, check_left, image, page, pool_of, small};
-use crate::assertions::{assert_equal, assert_equal_in, unwrap};
-use bitflags::Flags;
-use std::process::Abort;
-use x86_64::flushing::{Flush, flush_after, flush_after_change, loses};
-use x86_64::{
-    Call, Call57, CallIn, FourLevels, FramePool, LevelFiveFlags, PageReply, Reply, Reply57,
-    ReplyIn, SizeCall, SizeCall57, TablesIn, pool_fits, run_call,
-};
-use x86_64_addr::addr::VirtAddr;
-use x86_64_addr::index::PageTableIndex;
-use x86_64_addr::level_count::LevelCount;
-use x86_64_mappers::calls::TableAccess;
-use x86_64_mappers::mapped_page_table::MappedPageTable;
-use x86_64_page::frame::PhysFrame;
-use x86_64_page::page::{Page, Page57, Size1GiB, Size2MiB, Size4KiB};
-use x86_64_tables::mapper::{FlagUpdateError, MapToError, TranslateResult, UnmapError};
-use x86_64_tables::page_table::{PageTableEntry, PageTableFlags};
-use x86_64_tables::phys_memory::IdentityMapping;
+/// What has to be flushed without a recursive index and with one.
+type Flushes = (Flush, Flush);
 
-/// Compares what has to be flushed after a call with a reply, without a recursive index and with one.
+const NONE: Flushes = (Nothing, Nothing);
+
+/// Compares what has to be flushed after a call with a reply, also if the caller knows whether something was taken away.
 fn check<L: LevelCount, P5: LevelFiveFlags<L>>(
     rt: impl Abort + Copy,
     call: &CallIn<L, P5>,
     reply: &ReplyIn<L>,
-    (without, with): (Flush, Flush),
+    wanted: Flushes,
 ) {
     let index = PageTableIndex::new_truncate(511);
-    assert_equal(rt, flush_after(call, reply, None), without);
-    assert_equal(rt, flush_after(call, reply, Some(index)), with);
+    assert_equal(rt, flush_after(call, reply, None), wanted.0);
+    assert_equal(rt, flush_after(call, reply, Some(index)), wanted.1);
     let changed = |loses| flush_after_change(call, reply, None, loses);
-    assert_equal(
-        rt,
-        (changed(true), changed(false)),
-        (without, Flush::Nothing),
-    );
+    assert_equal(rt, (changed(true), changed(false)), (wanted.0, Nothing));
 }
 
-const NOTHING: (Flush, Flush) = (Flush::Nothing, Flush::Nothing);
-
-const EVERYTHING: (Flush, Flush) = (Flush::Everything, Flush::Everything);
-
-/// The flush of a small page, and of a larger one, which a recursive window shows as smaller pages.
-const SMALL: (Flush, Flush) = (Flush::Page, Flush::Page);
-
-const LARGE: (Flush, Flush) = (Flush::Page, Flush::Everything);
-
-/// `PRESENT` and `WRITABLE`.
-fn writable() -> PageTableFlags {
-    PageTableFlags::from_bits_retain(3)
+/// Returns the call that maps the page 0x1000 with these flags and parent flags.
+fn map_with(flags: PageTableFlags, parent_flags: PageTableFlags) -> Call {
+    let (page, frame) = (page(0x1000), frame(0x5000));
+    Call::Of4KiB(SizeCall::MapToWithTableFlags {
+        page,
+        frame,
+        flags,
+        parent_flags,
+    })
 }
 
 #[test]
 fn maps_are_flushed_if_they_take_the_right_to_execute(rt: HostRuntime) {
-    let (page, frame, flags) = (page::<Size4KiB, _>(0x1000), small(0x5000), writable());
-    let no_execute = flags.union(PageTableFlags::NO_EXECUTE);
-    let with = |flags, parent_flags| {
-        Call::Of4KiB(SizeCall::MapToWithTableFlags {
-            page,
-            frame,
-            flags,
-            parent_flags,
-        })
-    };
+    let (page, frame, plain) = (page(0x1000), frame(0x5000), flags(3));
+    let flags = plain.union(PageTableFlags::NO_EXECUTE);
+    let calls = [
+        Call::Of4KiB(SizeCall::MapTo { page, frame, flags }),
+        Call::Of4KiB(SizeCall::IdentityMap { frame, flags }),
+        map_with(flags, plain),
+    ];
+    let taking = map_with(plain, flags);
     let replies = [
         Reply::Of4KiB(PageReply::Map(Ok(page))),
         Reply::Of4KiB(PageReply::Map(Err(MapToError::FrameAllocationFailed))),
-        Reply::NotAllowed,
     ];
-    let plain = Call::Of4KiB(SizeCall::MapTo {
-        page,
-        frame,
-        flags: no_execute,
-    });
-    let same = Call::Of4KiB(SizeCall::IdentityMap { frame, flags });
     for reply in &replies {
-        check(rt, &plain, reply, NOTHING);
-        check(rt, &same, reply, NOTHING);
-        check(rt, &with(no_execute, flags), reply, NOTHING);
+        for call in &calls {
+            check(rt, call, reply, NONE);
+            check(rt, call, &Reply::NotAllowed, NONE);
+        }
+        check(rt, &taking, reply, (Everything, Everything));
     }
-    check(rt, &with(flags, no_execute), &replies[0], EVERYTHING);
-    check(rt, &with(flags, no_execute), &replies[1], EVERYTHING);
-    check(rt, &with(flags, no_execute), &replies[2], NOTHING);
+    check(rt, &taking, &Reply::NotAllowed, NONE);
 }
 
 #[test]
-fn changes_of_pages_are_flushed_if_accepted(rt: HostRuntime) {
-    let (small_page, frame) = (page::<Size4KiB, _>(0x1000), small(0x5000));
-    let unmap = Call::Of4KiB(SizeCall::Unmap { page: small_page });
-    let unmapped = Reply::Of4KiB(PageReply::Unmap(Ok((frame, small_page))));
-    let absent = Reply::Of4KiB(PageReply::Unmap(Err(UnmapError::PageNotMapped)));
-    check(rt, &unmap, &unmapped, SMALL);
-    check(rt, &unmap, &absent, NOTHING);
-    check(rt, &unmap, &Reply::NotAllowed, NOTHING);
-    let large_page: Page<Size2MiB> = page(0x20_0000);
-    let large_frame: PhysFrame<Size2MiB> = PhysFrame::containing_address(frame.start_address());
-    let unmap = Call::Of2MiB(SizeCall::Unmap { page: large_page });
-    let unmapped = Reply::Of2MiB(PageReply::Unmap(Ok((large_frame, large_page))));
-    check(rt, &unmap, &unmapped, LARGE);
-    let giant_page: Page<Size1GiB> = page(0x4000_0000);
-    let update = Call::Of1GiB(SizeCall::UpdateFlags {
-        page: giant_page,
-        flags: writable(),
-    });
-    let refused = PageReply::Update(Err(FlagUpdateError::ParentEntryHugePage));
-    check(
-        rt,
-        &update,
-        &Reply::Of1GiB(PageReply::Update(Ok(giant_page))),
-        LARGE,
-    );
-    check(rt, &update, &Reply::Of1GiB(refused), NOTHING);
-    check(rt, &update, &Reply::NotAllowed, NOTHING);
+fn unmaps_are_flushed_if_accepted(rt: HostRuntime) {
+    let (page, large) = (page(0x1000), page(0x20_0000));
+    let unmap = Call::Of4KiB(SizeCall::Unmap { page });
+    let unmapped = Reply::Of4KiB(PageReply::Unmap(Ok((frame(0x5000), page))));
+    let refused = Reply::Of4KiB(PageReply::Unmap(Err(UnmapError::PageNotMapped)));
+    check(rt, &unmap, &unmapped, (Flush::Page, Flush::Page));
+    check(rt, &unmap, &refused, NONE);
+    check(rt, &unmap, &Reply::NotAllowed, NONE);
+    let unmap = Call::Of2MiB(SizeCall::Unmap { page: large });
+    let unmapped = Reply::Of2MiB(PageReply::Unmap(Ok((frame(0), large))));
+    check(rt, &unmap, &unmapped, (Flush::Page, Everything));
 }
 
 #[test]
-fn changes_of_tables_are_flushed_and_queries_are_not(rt: HostRuntime) {
-    let page: Page<Size4KiB> = page(0x1000);
-    let flags = writable();
+fn changes_of_flags_are_flushed_if_accepted(rt: HostRuntime) {
+    let (page, flags) = (page(0x4000_0000), flags(3));
+    let update = Call::Of1GiB(SizeCall::UpdateFlags { page, flags });
+    let updated = Reply::Of1GiB(PageReply::Update(Ok(page)));
+    let refused = Reply::Of1GiB(PageReply::Update(Err(FlagUpdateError::ParentEntryHugePage)));
+    check(rt, &update, &updated, (Flush::Page, Everything));
+    check(rt, &update, &refused, NONE);
+    check(rt, &update, &Reply::NotAllowed, NONE);
+}
+
+#[test]
+fn changes_of_tables_are_flushed_if_accepted(rt: HostRuntime) {
+    let (page, flags) = (page(0x1000), flags(3));
     let set = Call::Of4KiB(SizeCall::SetFlagsP2 { page, flags });
-    let refused = PageReply::TableFlags(Err(FlagUpdateError::PageNotMapped));
-    check(
-        rt,
-        &set,
-        &Reply::Of4KiB(PageReply::TableFlags(Ok(()))),
-        EVERYTHING,
-    );
-    check(rt, &set, &Reply::Of4KiB(refused), NOTHING);
-    check(rt, &set, &Reply::NotAllowed, NOTHING);
-    check(
-        rt,
-        &Call::CleanUp,
-        &Reply::Cleaned,
-        (Flush::Tables, Flush::Everything),
-    );
-    let range = Page::range_inclusive(page, page);
-    let clean_up = Call::CleanUpRange(range);
-    check(
-        rt,
-        &clean_up,
-        &Reply::Cleaned,
-        (Flush::Tables, Flush::Everything),
-    );
-    let addr = VirtAddr::new(0x1000);
+    let changed = Reply::Of4KiB(PageReply::TableFlags(Ok(())));
+    let refused = Reply::Of4KiB(PageReply::TableFlags(Err(FlagUpdateError::PageNotMapped)));
+    check(rt, &set, &changed, (Everything, Everything));
+    check(rt, &set, &refused, NONE);
+    check(rt, &set, &Reply::NotAllowed, NONE);
+}
+
+#[test]
+fn clean_ups_are_flushed_and_queries_are_not(rt: HostRuntime) {
+    let (page, addr) = (page(0x1000), VirtAddr::new(0x1000));
+    let range = Call::CleanUpRange(Page::range_inclusive(page, page));
+    check(rt, &range, &Reply::Cleaned, (Tables, Everything));
+    check(rt, &Call::CleanUp, &Reply::Cleaned, (Tables, Everything));
     let nowhere = Reply::Translate(TranslateResult::NotMapped);
-    check(rt, &Call::Translate(addr), &nowhere, NOTHING);
-    check(
-        rt,
-        &Call::TranslateAddr(addr),
-        &Reply::Address(None),
-        NOTHING,
-    );
+    check(rt, &Call::Translate(addr), &nowhere, NONE);
+    check(rt, &Call::TranslateAddr(addr), &Reply::Address(None), NONE);
     let query = Call::Of4KiB(SizeCall::TranslatePage { page });
-    check(
-        rt,
-        &query,
-        &Reply::Of4KiB(PageReply::Frame(Ok(small(0x5000)))),
-        NOTHING,
-    );
+    let found = Reply::Of4KiB(PageReply::Frame(Ok(frame(0x5000))));
+    check(rt, &query, &found, NONE);
 }
 
 #[test]
 fn calls_of_five_levels_are_flushed_alike(rt: HostRuntime) {
-    let page: Page57<Size2MiB> = page(0xff00_0000_0000_0000);
-    let flags = writable();
+    let (page, flags) = (page(0xff00_0000_0000_0000), flags(3));
     let set = Call57::Of2MiB(SizeCall57::SetFlagsP5 { page, flags });
-    check(
-        rt,
-        &set,
-        &Reply57::Of2MiB(PageReply::TableFlags(Ok(()))),
-        EVERYTHING,
-    );
+    let changed = Reply57::Of2MiB(PageReply::TableFlags(Ok(())));
+    check(rt, &set, &changed, (Everything, Everything));
     let update = Call57::Of2MiB(SizeCall57::UpdateFlags { page, flags });
-    check(
-        rt,
-        &update,
-        &Reply57::Of2MiB(PageReply::Update(Ok(page))),
-        LARGE,
-    );
-    check(rt, &update, &Reply57::NotAllowed, NOTHING);
+    let updated = Reply57::Of2MiB(PageReply::Update(Ok(page)));
+    check(rt, &update, &updated, (Flush::Page, Everything));
+    check(rt, &update, &Reply57::NotAllowed, NONE);
     check(
         rt,
         &Call57::CleanUp,
         &Reply57::Cleaned,
-        (Flush::Tables, Flush::Everything),
+        (Tables, Everything),
     );
 }
 
@@ -213,42 +148,4 @@ fn entries_lose_what_they_no_longer_grant(rt: HostRuntime) {
         let after = PageTableEntry::from_word(new);
         assert_equal_in(rt, (old, new), loses(&before, &after), lost);
     }
-}
-
-/// Tables down to the page 0x1000, of which the last is missing, and old words in a free frame.
-const OLD_WORDS: [Word; 4] = [
-    (1, 0, 0x2003),
-    (2, 0, 0x3003),
-    (4, 2, 0x7003),
-    (4, 511, 0x7007),
-];
-
-/// Maps the page at an address, and returns whether it was mapped.
-fn maps<M: TableAccess + TablesIn<FourLevels>>(
-    mapper: &mut M,
-    pool: &mut FramePool,
-    page: Page<Size4KiB>,
-) -> bool
-    requires { PoolFits (M.hierarchy mapper.old) (serves_below pool.old.limit) pool.old.frames }
-{
-    let (frame, flags) = (small(0x5000), writable());
-    let call = Call::Of4KiB(SizeCall::MapTo { page, frame, flags });
-    match run_call(mapper, pool, call) {
-        ReplyIn::Of4KiB(PageReply::Map(mapped)) => mapped.is_ok(),
-        _ => false,
-    }
-}
-
-#[test]
-fn maps_clear_old_words_of_new_tables(rt: HostRuntime) {
-    let alloc = rt.alloc();
-    let mut memory = image(rt, alloc, &OLD_WORDS);
-    let mut pool = pool_of(rt, alloc, &[0x4000]);
-    let root = small(0x1000);
-    let fits = pool_fits(alloc, &memory, &IdentityMapping, root, &pool);
-    assert!(rt; unwrap(rt, fits));
-    let mut mapper = MappedPageTable::new(&mut memory, root, IdentityMapping);
-    assert!(rt; maps(&mut mapper, &mut pool, page(0x1000)));
-    drop(mapper);
-    check_left(rt, &memory, &pool, (&[], &WORDS))
 }

@@ -6,25 +6,10 @@ ghost use Rattle.x86_64_model.specs.Memory.{identity_places};
 ghost use Rattle.x86_64_model.specs.Mapper.{May, Does, path_of};
 ghost use Rattle.x86_64_model.specs.Pool.{serves_below};
 ghost use Rattle.x86_64_mappers.specs.Layouts.{direct, owned};
-ghost use Rattle.x86_64_tables.specs.MapperAnswers.{frame_answer};
 ghost use Rattle.x86_64.specs.Runs.{FitsPool};
+ghost use Rattle.x86_64_tables.specs.MapperAnswers.{frame_answer};
 
-use super::unmap::unmap_by;
-use super::{WORDS, check_left, check_words, image, page, pool_of, small};
-use crate::assertions::{assert_equal, unwrap};
-use bitflags::Flags;
-use std::process::Abort;
-use x86_64::{Call, FramePool, Reply, SizeCall, pool_fits, run};
-use x86_64_addr::addr::VirtAddr;
-use x86_64_addr::index::PageTableIndex;
-use x86_64_addr::level_count::LevelCount;
-use x86_64_mappers::mapped_page_table::MappedPageTable;
-use x86_64_mappers::mapper::{Mapper, TableAccess};
-use x86_64_page::frame::PhysFrame;
-use x86_64_page::page::{Page, PageSize, Size4KiB};
-use x86_64_tables::mapper::{Tables, TablesIn, UnmapError};
-use x86_64_tables::page_table::{PageTable, PageTableFlags};
-use x86_64_tables::phys_memory::{IdentityMapping, PhysMemory, is_valid_hierarchy};
+use crate::prelude::*;
 
 /// A layer that passes on each table of a mapper, and counts the tables that it lends to be changed.
 #[derive(Drop)]
@@ -108,6 +93,20 @@ impl<'a, M: TableAccess> TableAccess for Counting<'a, M> {
         ap (λ lent. (layer.mapper.ghost_name, lent)) (M.keeps_lent layer.mapper.now frame table) };
 }
 
+/// Unmaps a page with any mapper. Requires that its path is not in the recursive window.
+fn unmap_by<S: PageSize, M: Mapper<S>>(
+    mapper: &mut M,
+    page: Page<S>,
+) -> Result<PhysFrame<S>, UnmapError>
+    requires { May (M.hierarchy mapper.old) (Unmap (path_of (M.hierarchy mapper.old) S.LEVEL page)) }
+    ensures { let h = M.hierarchy mapper.old in
+        Does h (Unmap (path_of h S.LEVEL page)) (frame_answer result) (M.hierarchy mapper.new) }
+{
+    let (frame, flush) = mapper.unmap(page)?;
+    flush.ignore();
+    Ok(frame)
+}
+
 /// Unmaps a page with a layer around any mapper, and returns the number of tables that the layer lent to be changed.
 /// The layer is then dropped. The call has its usual effect on the mapper.
 fn unmap_by_layer<S: PageSize, M: Mapper<S>>(
@@ -126,7 +125,7 @@ fn unmap_by_layer<S: PageSize, M: Mapper<S>>(
 /// Does this with a layer around a mapper of a memory. The owner knows what the call did to the memory.
 fn unmap_counted<S: PageSize>(
     memory: &mut PhysMemory,
-    root: PhysFrame<Size4KiB>,
+    root: Frame,
     page: Page<S>,
 ) -> (Result<PhysFrame<S>, UnmapError>, u64)
     requires { ValidIn (direct identity_places root) memory.old }
@@ -139,33 +138,19 @@ fn unmap_counted<S: PageSize>(
 
 #[test]
 fn layers_unmap_pages(rt: HostRuntime) {
-    let mut memory = image(rt, rt.alloc(), &WORDS);
-    let root = small(0x1000);
-    assert!(rt;
-        unwrap(
-            rt,
-            is_valid_hierarchy(rt.alloc(), &memory, &IdentityMapping, root)
-        )
-    );
-    let answer = unmap_counted::<Size4KiB>(&mut memory, root, page(0x1000));
-    assert_equal(rt, answer, (Ok(small(0x5000)), 1));
-    check_words(rt, &memory, &WORDS[..3])
+    let root = frame(0x1000);
+    let mut world = World::new(rt, rt.alloc(), &WORDS[1..], (0, 0));
+    world.assert_fits::<FourLevels>(rt, root);
+    let answer = unmap_counted::<Size4KiB>(&mut world.memory, root, page(0x1000));
+    assert_equal(rt, answer, (Ok(frame(0x5000)), 1));
+    check_words(rt, &world.memory, &WORDS[1..4])
 }
-
-/// The number of times that the calls below have a table lent to be changed. Six are for the three tables that the
-/// map creates: for each, one to see whether the entry is unused, and one to set it. The new table is cleared before,
-/// without being lent. The map, the change of flags and the unmap take one each for the page's entry, the translation
-/// none, and the clean up one for each of the three entries that it makes unused.
-const LOANS: u64 = 12;
-
-/// The frames that are free before these calls and after them.
-const FREE: [u64; 3] = [0x2000, 0x3000, 0x4000];
 
 /// Executes calls with a layer, and returns the number of tables that were lent to be changed.
 fn run_counted(
     rt: impl Abort + Copy,
     memory: &mut PhysMemory,
-    root: PhysFrame<Size4KiB>,
+    root: Frame,
     pool: &mut FramePool,
     calls: &[Call],
     replies: &mut Vec<Reply>,
@@ -179,32 +164,31 @@ fn run_counted(
     layer.count
 }
 
+/// Does this in a memory with the root in frame 0x1000.
+fn run_in(rt: impl Abort + Copy, world: &mut World, calls: &[Call]) -> u64 {
+    let (root, mut replies) = (frame(0x1000), Vec::new(world.alloc));
+    world.assert_fits::<FourLevels>(rt, root);
+    let (memory, pool) = (&mut world.memory, &mut world.pool);
+    let count = run_counted(rt, memory, root, pool, calls, &mut replies);
+    assert_equal(rt, replies.len(), calls.len());
+    count
+}
+
+/// Six of the loans are for the three tables that the map creates: for each, one to see whether the entry is unused, and
+/// one to set it. The new table is cleared before, without being lent. The map, the change of flags and the unmap take
+/// one each for the page's entry, the translation none, and the clean up one for each of the three entries that it makes
+/// unused.
 #[test]
 fn layers_run_lists(rt: HostRuntime) {
-    let alloc = rt.alloc();
-    let mut memory = image(rt, alloc, &[]);
-    let (root, page, flags) = (
-        small(0x1000),
-        page(0x1000),
-        PageTableFlags::from_bits_retain(3),
-    );
-    let mut pool = pool_of(rt, alloc, &FREE);
+    let mut world = World::new(rt, rt.alloc(), &[], (2, 5));
+    let (page, flags) = (page(0x1000), flags(3));
     let calls = [
-        Call::Of4KiB(SizeCall::MapTo {
-            page,
-            frame: small(0x5000),
-            flags,
-        }),
+        map(0x1000, 0x5000),
         Call::Translate(VirtAddr::new(0x1abc)),
         Call::Of4KiB(SizeCall::UpdateFlags { page, flags }),
         Call::Of4KiB(SizeCall::Unmap { page }),
         Call::CleanUp,
     ];
-    let fits = pool_fits(alloc, &memory, &IdentityMapping, root, &pool);
-    assert!(rt; unwrap(rt, fits));
-    let mut replies = Vec::new(alloc);
-    let count = run_counted(rt, &mut memory, root, &mut pool, &calls, &mut replies);
-    assert_equal(rt, count, LOANS);
-    assert_equal(rt, replies.len(), calls.len());
-    check_left(rt, &memory, &pool, (&FREE, &[]))
+    assert_equal(rt, run_in(rt, &mut world, &calls), 12);
+    world.check(rt, (2, 5), &[])
 }

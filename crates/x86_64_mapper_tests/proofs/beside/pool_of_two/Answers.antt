@@ -61,14 +61,14 @@ negated false h = refl
 pub returns : goal.returns
 returns g c =
     let m = g.T.TableMemory.tables c.args.memory.now in
-    let serves = serves_below c.pool_from-pool.result.limit in
-    let pool = c.pool_from-pool.result.frames in
+    let serves = serves_below c.pool_of-pool.result.limit in
+    let pool = c.pool_of-pool.result.frames in
     let words = words_of m identity_places in
     let fresh = c.requires in
-    let is_first = subst (λ r. IfOk r (λ b. IsTrue b ↔ Fits 4 None words c.args.first (paths_of 4 words c.args.first) serves pool)) c.unwrap.ensures c.pool_fits.ensures in
-    let is_second = subst (λ r. IfOk r (λ b. IsTrue b ↔ Fits 4 None words c.args.second (paths_of 4 words c.args.second) serves pool)) c.unwrap-2.ensures c.pool_fits-2.ensures in
+    let is_first = subst (λ r. IfOk r (λ b. IsTrue b ↔ Fits 4 None words c.args.roots.0 (paths_of 4 words c.args.roots.0) serves pool)) c.unwrap.ensures c.pool_fits.ensures in
+    let is_second = subst (λ r. IfOk r (λ b. IsTrue b ↔ Fits 4 None words c.args.roots.1 (paths_of 4 words c.args.roots.1) serves pool)) c.unwrap-2.ensures c.pool_fits-2.ensures in
     let first_holds : c.unwrap.result ≡ true = search rules in
     let second_holds : c.unwrap-2.result ≡ true = search rules in
     let differ : c.ne.result ≡ true = search rules in
-    let apart = eqb-false c.args.first c.args.second (negated _ (sym c.ne.ensures ∙ differ)) in
-    are_two m 16 fresh serves pool c.args.first c.args.second apart (is_first.0 first_holds) (is_second.0 second_holds) c.one_hierarchy_is_a_space.ensures c.empty_roots_are_spaces.ensures.are_spaces
+    let apart = eqb-false c.args.roots.0 c.args.roots.1 (negated _ (sym c.ne.ensures ∙ differ)) in
+    are_two m 16 fresh serves pool c.args.roots.0 c.args.roots.1 apart (is_first.0 first_holds) (is_second.0 second_holds) c.one_hierarchy_is_a_space.ensures c.empty_roots_are_spaces.ensures.are_spaces
