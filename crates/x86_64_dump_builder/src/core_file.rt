@@ -1,5 +1,5 @@
 //! Whole core files.
-use crate::headers::{CORE, Elf, push_elf, push_segment};
+use crate::headers::{push_elf, push_segment};
 use crate::notes::{Processor, push_processor};
 use std::alloc::AllocError;
 use x86_64_dump::Segment;
@@ -24,17 +24,13 @@ pub fn push_core_file(
     memory: &[Memory<'_>],
 ) -> Result<(), AllocError> {
     let count = memory.len() as u64;
-    let elf = Elf {
-        count: count.saturating_add(1).min(65534) as u16,
-        ..CORE
-    };
     let notes = Segment {
         kind: Segment::NOTE,
         offset: count.saturating_mul(56).saturating_add(120),
         address: 0,
         size: (processors.len() as u64).saturating_mul(NOTE_SIZE),
     };
-    push_elf(bytes, elf)?;
+    push_elf(bytes, count.saturating_add(1).min(65534) as u16)?;
     push_segment(bytes, notes)?;
     push_segments(bytes, notes.offset.saturating_add(notes.size), memory)?;
     for processor in processors {

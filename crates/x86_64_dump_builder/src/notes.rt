@@ -1,5 +1,4 @@
 //! Notes of core files.
-use crate::words::push_words;
 use std::alloc::AllocError;
 
 /// The registers of a processor that locate its tables.

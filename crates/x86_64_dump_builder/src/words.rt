@@ -1,14 +1,6 @@
 //! Words of eight bytes.
 use std::alloc::AllocError;
 
-/// Adds numbers of eight bytes, from `first` on.
-pub fn push_words(bytes: &mut Vec<u8>, first: u64, count: u64) -> Result<(), AllocError> {
-    for n in 0..count {
-        bytes.extend_from_slice(&first.wrapping_add(n).to_le_bytes())?;
-    }
-    Ok(())
-}
-
 /// Adds a frame with a page table: the given words at their indices, the last one if an index has several, and 0 elsewhere.
 pub fn push_table(bytes: &mut Vec<u8>, words: &[(usize, u64)]) -> Result<(), AllocError> {
     let mut table = [0; 512];
