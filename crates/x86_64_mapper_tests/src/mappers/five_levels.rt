@@ -1,9 +1,11 @@
 //! Each method of a mapper of five levels of tables, by functions over any mapper, and a list with recorded flushes.
 ghost use Rattle.std.specs.Prelude.{◌≡◌};
-ghost use Rattle.x86_64_model.specs.Mapper.{SupplyFits, Valid};
+ghost use Rattle.x86_64_model.specs.Mapper.{PoolFits, SupplyFits, Valid};
+ghost use Rattle.x86_64_model.specs.Pool.{serves_below};
 
 use super::mapped;
 use crate::prelude::*;
+use x86_64::structures::paging::mapper::CleanUp57;
 use x86_64::{SizeReply57, is_outside_window_57, parent_flags, run_flushed_57};
 
 /// A page of 4KiB.
@@ -114,6 +116,41 @@ fn each_call_on_a_page_of_57_bits_is_made(rt: HostRuntime) {
     let mut world = World::new(rt, rt.alloc(), &[], (2, 6));
     make_calls(rt, &mut world);
     world.check(rt, (0, 0), &WORDS_57[1..])
+}
+
+/// Cleans up the pages of a range, given as an address in its first page and one in its last one, or all pages.
+fn clean_up_by<M: CleanUp57>(mapper: &mut M, pool: &mut FramePool, range: Option<(u64, u64)>)
+    requires { PoolFits (M.hierarchy mapper.old) (serves_below pool.old.limit) pool.old.frames }
+{
+    match range {
+        Some((first, last)) => {
+            let range = Page57::range_inclusive(page(first), page(last));
+            mapper.clean_up_addr_range(range, pool);
+        }
+        None => mapper.clean_up(pool),
+    }
+}
+
+/// Cleans up with the direct mapper, which is then dropped.
+fn clean_up(rt: impl Abort + Copy, world: &mut World, range: Option<(u64, u64)>) {
+    let root = frame(0x1000);
+    world.assert_fits::<FiveLevels>(rt, root);
+    let (memory, pool) = (&mut world.memory, &mut world.pool);
+    let mut mapper = MappedPageTable57::new(memory, root, IdentityMapping);
+    clean_up_by(&mut mapper, pool, range)
+}
+
+#[test]
+fn empty_tables_of_five_levels_go_back(rt: HostRuntime) {
+    let mut world = World::new(rt, rt.alloc(), &WORDS_57[1..5], (6, 8));
+    clean_up(
+        rt,
+        &mut world,
+        Some((0x1_0000_0000_0000, 0xff_ffff_ffff_f000)),
+    );
+    world.check(rt, (6, 8), &WORDS_57[1..5]);
+    clean_up(rt, &mut world, None);
+    world.check(rt, (2, 8), &[])
 }
 
 /// Executes calls, and records their flushes.
