@@ -31,6 +31,8 @@ pub mod Layout
 pub mod Mapper
 pub mod Conserved
 pub mod FitsPool
+pub mod Store
+pub mod PageCalls
 pub mod Spaces
 pub mod Arrivals
 pub mod Standing

@@ -1,0 +1,33 @@
+-- A store of frames: it hands frames out for new tables, and takes the frames of tables back that are gone.
+use Rattle.std.specs.Prelude.{◌≡◌, ℕ, Bool, List}
+use Rattle.x86_64_model.specs.FitsPool.{FitsPool, KeepsPool}
+use Rattle.x86_64_model.specs.Mapper.{Hierarchy}
+
+-- What a store is: its free frames, in the order in which it hands them out, the frames that it serves (may hand out and take
+-- back), and the free frames after it takes one back.
+pub record Store : Type 0 where
+  pub frames : List ℕ
+  pub serves : (frame : ℕ) → Bool
+  pub take_back : (frames : List ℕ) → (frame : ℕ) → List ℕ
+
+-- What the ghost members of a `FrameStore` say of its values.
+abbrev pub StoreMembers : Type 0 → Type 0
+StoreMembers Self = record { held : Self → List ℕ; serves : Self → ℕ → Bool; supply : Self → List ℕ; take_back : List ℕ → ℕ → List ℕ }
+
+-- The store that a value of a type is, by the ghost members of its `FrameStore`.
+abbrev pub store : {Self : Type 0} → StoreMembers Self → Self → Store
+store members value = record { frames = members.supply value; serves = members.serves value; take_back = members.take_back }
+
+-- The hierarchy is valid, and the frames of the store fit it: they are distinct, in the memory, and neither 0 nor in use as a table,
+-- and the store serves them and the frame of each table but the root.
+abbrev pub Fits : {Lent : Type 0} → Hierarchy Lent → Store → Type 0
+Fits h store = FitsPool h.layout h.memory store.serves store.frames
+
+-- What calls keep: the rest of the store fits the hierarchy again, and serves the same frames. Free frames and frames of tables
+-- together are the same set as before. No word changed outside the root, the tables and the frames that were free before. The
+-- layout stays, and the memory that was lent.
+pub record Kept {Lent : Type 0} (h : Hierarchy Lent) (store : Store) (after : Hierarchy Lent) (rest : Store) : Type 0 where
+  pub keeps : KeepsPool h.layout store.serves h.memory store.frames after.memory rest.frames
+  pub serves : rest.serves ≡ store.serves
+  pub layout : after.layout ≡ h.layout
+  pub lent : after.lent ≡ h.lent
