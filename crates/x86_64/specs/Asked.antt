@@ -2,20 +2,8 @@
 -- machine is the abstract mapper of the model.
 use Rattle.std.specs.Prelude.{ℕ, ◌==◌, ◌-◌, ◌&&◌, nat_lt, Bool, false, List, map}
 use Rattle.x86_64_model.specs.Call as machine
-use Rattle.x86_64_model.specs.Path.{path_at}
+pub use Rattle.x86_64_model.specs.PageCalls.{PageCall, MapTo, MapToWithTableFlags, IdentityMap, Unmap, UpdateFlags, SetFlags, TranslatePage, page_call}
 use Rattle.x86_64_model.specs.Position.{index, lower_half, position_count}
-
--- a call on a page: pages are positions (addresses counted without the gap), and flags are bits
-pub data PageCall : Type 0 where
-  MapTo : (page frame flags : ℕ) → PageCall
-  MapToWithTableFlags : (page frame flags parent_flags : ℕ) → PageCall
-  -- of the page at the frame's own address
-  IdentityMap : (frame flags : ℕ) → PageCall
-  Unmap : (page : ℕ) → PageCall
-  UpdateFlags : (page flags : ℕ) → PageCall
-  -- of the entry of this level on the page's path
-  SetFlags : (level page flags : ℕ) → PageCall
-  TranslatePage : (page : ℕ) → PageCall
 
 pub data MapperCall : Type 0 where
   Of4KiB : PageCall → MapperCall
@@ -28,16 +16,7 @@ pub data MapperCall : Type 0 where
   -- of the positions from low to high
   CleanUpRange : (low high : ℕ) → MapperCall
 
--- the machine's call for a call on a page that an entry of a level maps, with L levels
-abbrev pub page_call : (L level : ℕ) → PageCall → machine.Call
-page_call L level (MapTo page frame flags) = machine.MapTo (path_at L level page) frame flags
-page_call L level (MapToWithTableFlags page frame flags parent_flags) = machine.MapToWithTableFlags (path_at L level page) frame flags parent_flags
-page_call L level (IdentityMap frame flags) = machine.IdentityMap level frame flags
-page_call L level (Unmap page) = machine.Unmap (path_at L level page)
-page_call L level (UpdateFlags page flags) = machine.UpdateFlags (path_at L level page) flags
-page_call L level (SetFlags at page flags) = machine.SetFlags at (path_at L level page) flags
-page_call L level (TranslatePage page) = machine.TranslatePage (path_at L level page)
-
+-- the machine's call for a call
 abbrev pub machine_call : (L : ℕ) → MapperCall → machine.Call
 machine_call L (Of4KiB call) = page_call L 1 call
 machine_call L (Of2MiB call) = page_call L 2 call
