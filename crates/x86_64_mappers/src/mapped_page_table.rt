@@ -164,8 +164,8 @@ impl<'a, P: PageTableFrameMapping, T: TableMemory> Direct<'a, P, FourLevels, T> 
             ⟦<P as PageTableFrameMapping>⟧ ⟦<T as TableMemory>⟧ self.entry result) }
         ensures value { root_table (⟦<Self as Tables>⟧.hierarchy self.old) ≡ Some result.now }
     {
-        let root = self.root;
-        self.table_mut(&[], root)
+        let level_4 = self.root;
+        self.table_mut(&[], level_4)
     }
 
     /// Returns whether the hierarchy is valid now.
@@ -197,8 +197,8 @@ impl<'a, P: PageTableFrameMapping, T: TableMemory> Direct<'a, P, FiveLevels, T> 
             ⟦<P as PageTableFrameMapping>⟧ ⟦<T as TableMemory>⟧ self.entry result) }
         ensures value { root_table (⟦<Self as Tables>⟧.hierarchy self.old) ≡ Some result.now }
     {
-        let root = self.root;
-        self.table_mut(&[], root)
+        let level_5 = self.root;
+        self.table_mut(&[], level_5)
     }
 
     /// Returns whether the hierarchy is valid now.
