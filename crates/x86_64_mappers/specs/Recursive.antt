@@ -5,8 +5,9 @@ use Rattle.x86_64_model.specs.Layout.{Layout, Valid}
 use Rattle.x86_64_model.specs.Memory.{Memory, Words, identity_places, words_of}
 use Rattle.x86_64_model.specs.Mapper.{Hierarchy}
 use Rattle.x86_64_model.specs.Window.{Window}
-use Rattle.x86_64_tables.specs.ActiveMemory.{walked_frame}
+use Rattle.x86_64_tables.specs.ActiveMemory.{memory_of, cr3_of, walked_frame}
 use Rattle.x86_64_tables.specs.SelfEntries.{window_at}
+use Rattle.x86_64_tables.specs.declared.phys_memory.active.Active.{Active}
 use Rattle.x86_64_addr.specs.contracts.level_count.FiveLevels as five
 use Rattle.x86_64_addr.specs.contracts.level_count.FourLevels as four
 use Rattle.x86_64_tables.specs.contracts.page_table.table.PageTable.{the_row as table_row}
@@ -33,6 +34,10 @@ by_number memory = words_of memory identity_places
 -- the hierarchy with this root is valid with this recursive index
 abbrev pub ValidThrough : (levels : ℕ) → Memory → (root index : ℕ) → Type 0
 ValidThrough levels memory root r = Valid (recursive_now_at levels memory root r) memory
+
+-- the layout of a mapper of an active memory with this recursive index
+abbrev pub layout_through : {N : Type 0} → (levels : ℕ) → Active N Memory → (index : ℕ) → Layout
+layout_through levels active r = recursive_now_at levels (memory_of active) (cr3_of active) r
 
 -- the frame at which the page walk of a position arrives, 0 if it arrives nowhere
 abbrev pub shown_frame : (levels : ℕ) → Memory → (root position : ℕ) → ℕ

@@ -185,7 +185,7 @@ fn create_next_table<M: TableAccess, A: FrameAllocator<Size4KiB>>(
 /// Those of the first call of [`create_next_table`] that fails.
 // Inlined for the reason above.
 #[inline(always)]
-pub fn create_tables<M: TableAccess, A: FrameAllocator<Size4KiB>>(
+pub(super) fn create_tables<M: TableAccess, A: FrameAllocator<Size4KiB>>(
     mapper: &mut M,
     parents: &[PageTableIndex],
     parent_flags: PageTableFlags,
