@@ -1,5 +1,5 @@
 -- What a mapper becomes when a table or an entry that it lent comes back.
-use Rattle.std.specs.Prelude.{ℕ, List, [], unwrap_or}
+use Rattle.std.specs.Prelude.{ℕ, List, [], unwrap_or, slice_set}
 use Rattle.std.specs.Borrow.{Lends, MutBor, Fml, RattleType}
 use Rattle.std.specs.FinMap.{insert}
 use Rattle.x86_64_model.specs.Layout.{Layout, words}
@@ -11,6 +11,10 @@ use Rattle.x86_64_tables.specs.contracts.page_table.entry.PageTableEntry.{the_ro
 -- the table in a frame
 abbrev pub table_in : Layout → Memory → (frame : ℕ) → List ℕ
 table_in l m f = unwrap_or (words l m f) []
+
+-- the table in a frame, with another word at an index
+abbrev pub table_with : {Lent : Type 0} → Hierarchy Lent → (frame index word : ℕ) → List ℕ
+table_with h f i w = slice_set (table_in h.layout h.memory f) i w
 
 -- the memory with another table in a frame
 abbrev pub put_table : {Lent : Type 0} → Hierarchy Lent → (frame : ℕ) → List ℕ → Memory

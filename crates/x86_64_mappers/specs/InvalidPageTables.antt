@@ -2,7 +2,9 @@
 use Rattle.std.specs.Prelude.{zero, suc, ◌==◌, ◌&&◌, ◌%◌, ℕ, Bool, true, if◌then◌else◌, Option, Some, None}
 use Rattle.x86_64_model.specs.Memory.{Memory, identity_places, words_of}
 use Rattle.x86_64_model.specs.Position.{index}
+use Rattle.x86_64_tables.specs.ActiveMemory.{memory_of, cr3_of}
 use Rattle.x86_64_tables.specs.SelfEntries.{has_self_entry}
+use Rattle.x86_64_tables.specs.declared.phys_memory.active.Active.{Active}
 use Rattle.x86_64_mappers.specs.declared.recursive_page_table.InvalidPageTable.{InvalidPageTable}
 use Rattle.x86_64_mappers.specs.declared.recursive_page_table.InvalidPageTable.TheVariants.{NotRecursive, NotActive}
 
@@ -22,3 +24,7 @@ is_active memory cr3 table r = (table == cr3) && has_self_entry (words_of memory
 -- why a table at a position is refused, if it is
 abbrev pub refuses_at : (levels : ℕ) → Memory → (cr3 table position : ℕ) → Option InvalidPageTable
 refuses_at levels memory cr3 table p = if is_root_window levels p then (if is_active memory cr3 table (index levels p) then None else Some NotActive) else Some NotRecursive
+
+-- why no mapper of an active memory is made for a table at a position, if none is
+abbrev pub refuses : {N : Type 0} → (levels : ℕ) → Active N Memory → (table position : ℕ) → Option InvalidPageTable
+refuses levels active table p = refuses_at levels (memory_of active) (cr3_of active) table p

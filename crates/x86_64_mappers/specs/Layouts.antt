@@ -1,6 +1,7 @@
 -- The layouts of mappers.
-use Rattle.std.specs.Prelude.{ℕ, List, Option, None, IsSome}
-use Rattle.x86_64_model.specs.Layout.{Layout, words}
+use Rattle.std.specs.Prelude.{◌↔◌, ℕ, Bool, List, Option, None, IsSome}
+use Rattle.x86_64_model.specs.FitsPool.{FitsPool}
+use Rattle.x86_64_model.specs.Layout.{Layout, Valid, words}
 use Rattle.x86_64_model.specs.Memory.{Memory, Places, words_of}
 use Rattle.x86_64_model.specs.Mapper.{Hierarchy}
 
@@ -27,3 +28,11 @@ root_table h = words h.layout h.memory h.layout.root
 -- the root's frame is covered and in the memory
 abbrev pub HasRoot : Places → (root : ℕ) → Memory → Type 0
 HasRoot places root memory = IsSome (words_of memory places root)
+
+-- with L levels and in a memory, the same roots have valid hierarchies whether frames lie in these places or in those
+abbrev pub AreValidAlike : (L : ℕ) → Memory → (these those : Places) → Type 0
+AreValidAlike L m these those = (root : ℕ) → Valid (direct_at L these root) m ↔ Valid (direct_at L those root) m
+
+-- the same pools fit them
+abbrev pub FitAlike : (L : ℕ) → Memory → (these those : Places) → Type 0
+FitAlike L m these those = (root : ℕ) (serves : ℕ → Bool) (pool : List ℕ) → FitsPool (direct_at L these root) m serves pool ↔ FitsPool (direct_at L those root) m serves pool

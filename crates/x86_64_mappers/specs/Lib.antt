@@ -1,8 +1,10 @@
 pub mod AccessLending
+pub mod CleanUps
 pub mod InvalidPageTables
 pub mod Layouts
 pub mod Lending
 pub mod Offsets
+pub mod PageAnswers
 pub mod RangeChanges
 pub mod Ranges
 pub mod Reached

@@ -44,3 +44,11 @@ pub record DoesChanges {Lent : Type 0} (h : Hierarchy Lent) (calls : List Call) 
   pub others : KeepsOthers (IsTable h.layout.levels h.layout.root (paths h)) h after
   pub layout : after.layout ≡ h.layout
   pub lent : after.lent ≡ h.lent
+
+-- The first pages of a level, from a page on, were unmapped one after another, with these replies.
+abbrev pub UnmapsEach : {Lent : Type 0} → Hierarchy Lent → (level page count : ℕ) → (replies : List Reply) → (after : Hierarchy Lent) → Type 0
+UnmapsEach h level page count replies after = DoesChanges h (unmaps h.layout.levels level page count) replies after
+
+-- Their flags were set one after another, with these replies.
+abbrev pub UpdatesEach : {Lent : Type 0} → Hierarchy Lent → (level page flags count : ℕ) → (replies : List Reply) → (after : Hierarchy Lent) → Type 0
+UpdatesEach h level page given count replies after = DoesChanges h (updates h.layout.levels level page given count) replies after

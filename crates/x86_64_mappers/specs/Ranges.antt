@@ -1,5 +1,5 @@
 -- Ranges of pages of one size, from one page on, and their maps to as many frames, from one frame on.
-use Rattle.std.specs.Prelude.{zero, suc, ◌≡◌, ◌+◌, ◌*◌, ◌^◌, ◌<◌, ℕ, true, List, [], ◌∷◌, ◌++◌, map}
+use Rattle.std.specs.Prelude.{zero, suc, ◌≡◌, ◌+◌, ◌*◌, ◌^◌, ◌<◌, ℕ, true, List, [], ◌∷◌, ◌++◌, map, Result, Ok, Err}
 use Rattle.std.specs.List.{range_with_len}
 use Rattle.x86_64_model.specs.Arrivals.{Arrives}
 use Rattle.x86_64_model.specs.Call.{Call, MapToWithTableFlags, Reply, Answered}
@@ -9,6 +9,8 @@ use Rattle.x86_64_model.specs.Mapper.{Hierarchy, SupplyFits, MayMap, DoesMap, Ow
 use Rattle.x86_64_model.specs.Path.{path_at}
 use Rattle.x86_64_model.specs.Position.{span, position_count}
 use Rattle.x86_64_model.specs.Refusal.{Refusal, Answer, Done, Refused}
+use Rattle.x86_64_tables.specs.MapperAnswers.{map_refusal}
+use Rattle.x86_64_mappers.specs.declared.access.ranges.MapRangeErrorIn.{MapRangeErrorIn}
 
 -- the first page, by its position, and the first frame of a range of pages of a level, with the flags of each map
 pub record MapRange : Type 0 where
@@ -79,3 +81,8 @@ MapsAll h supply r count after rest = DoesMaps h supply r count (accepted r coun
 abbrev pub StopsAt : {Lent : Type 0} → Hierarchy Lent → (supply : List ℕ) → MapRange → (count done : ℕ) → Refusal → (after : Hierarchy Lent) → (rest : List ℕ) → Type 0
 StopsAt h supply r count done why after rest =
     (done < count) × DoesMaps h supply r (done + 1) (accepted r done ++ Answered (Refused why) ∷ []) after rest
+
+-- What a map of the first pages of a range leaves, by its result: all were mapped, or the map of one of them was refused.
+abbrev pub MapsRange : {Lent X S L : Type 0} → Hierarchy Lent → (supply : List ℕ) → MapRange → (count : ℕ) → Result X (MapRangeErrorIn S L) → (after : Hierarchy Lent) → (rest : List ℕ) → Type 0
+MapsRange h supply r count (Ok _) after rest = MapsAll h supply r count after rest
+MapsRange h supply r count (Err error) after rest = StopsAt h supply r count error.mapped.count (map_refusal error.why) after rest

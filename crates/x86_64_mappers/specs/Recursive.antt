@@ -1,11 +1,13 @@
 -- The layout of a recursive mapper, and what it holds.
-use Rattle.std.specs.Prelude.{ℕ, List, Some, bit_or}
+use Rattle.std.specs.Prelude.{ℕ, List, Some, bit_or, unwrap_or}
 use Rattle.std.specs.Borrow.{Lends, MutBor, Fml, RattleType}
-use Rattle.x86_64_model.specs.Layout.{Layout}
-use Rattle.x86_64_model.specs.Memory.{Memory, identity_places, words_of}
+use Rattle.x86_64_model.specs.Layout.{Layout, Valid}
+use Rattle.x86_64_model.specs.Memory.{Memory, Words, identity_places, words_of}
 use Rattle.x86_64_model.specs.Mapper.{Hierarchy}
 use Rattle.x86_64_model.specs.Window.{Window}
+use Rattle.x86_64_tables.specs.ActiveMemory.{memory_of, cr3_of, walked_frame}
 use Rattle.x86_64_tables.specs.SelfEntries.{window_at}
+use Rattle.x86_64_tables.specs.declared.phys_memory.active.Active.{Active}
 use Rattle.x86_64_addr.specs.contracts.level_count.FiveLevels as five
 use Rattle.x86_64_addr.specs.contracts.level_count.FourLevels as four
 use Rattle.x86_64_tables.specs.contracts.page_table.table.PageTable.{the_row as table_row}
@@ -24,6 +26,22 @@ owned_by levels root window memory lent = record { layout = recursive_at levels 
 -- such a layout for an index, with the word that the root has there now
 abbrev pub recursive_now_at : (levels : ℕ) → Memory → (root index : ℕ) → Layout
 recursive_now_at levels memory root r = recursive_at levels root (window_at (words_of memory identity_places) root r)
+
+-- the table in each frame of a memory, if each frame lies at the place of its number
+abbrev pub by_number : Memory → Words
+by_number memory = words_of memory identity_places
+
+-- the hierarchy with this root is valid with this recursive index
+abbrev pub ValidThrough : (levels : ℕ) → Memory → (root index : ℕ) → Type 0
+ValidThrough levels memory root r = Valid (recursive_now_at levels memory root r) memory
+
+-- the layout of a mapper of an active memory with this recursive index
+abbrev pub layout_through : {N : Type 0} → (levels : ℕ) → Active N Memory → (index : ℕ) → Layout
+layout_through levels active r = recursive_now_at levels (memory_of active) (cr3_of active) r
+
+-- the frame at which the page walk of a position arrives, 0 if it arrives nowhere
+abbrev pub shown_frame : (levels : ℕ) → Memory → (root position : ℕ) → ℕ
+shown_frame levels memory root p = unwrap_or (walked_frame levels (by_number memory) root p) 0
 
 -- an index, and the root's word there if it names the root and has these flags
 abbrev pub window_with : (root index flags : ℕ) → Window

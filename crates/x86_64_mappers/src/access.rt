@@ -1,9 +1,9 @@
 //! Access to tables by the paths that lead to them, which all mappers have in common.
-ghost use Rattle.std.specs.Prelude.{◌≡◌, ◌<◌, ℕ, Bool, if◌then◌else◌, List, length, slice_set, Some, IsSome};
+ghost use Rattle.std.specs.Prelude.{◌≡◌, ◌<◌, ℕ, Bool, if◌then◌else◌, List, length, Some, IsSome};
 ghost use Rattle.std.specs.Borrow.{sem};
 ghost use Rattle.x86_64_model.specs.Memory.{word};
 ghost use Rattle.x86_64_model.specs.Mapper.{words};
-ghost use Rattle.x86_64_mappers.specs.AccessLending.{LendsEntryBy, table_in, put_table, with_zeros};
+ghost use Rattle.x86_64_mappers.specs.AccessLending.{LendsEntryBy, put_table, with_zeros, table_with};
 ghost use Rattle.x86_64_tables.specs.Lending.{LendsTableBy};
 ghost use Rattle.x86_64_mappers.specs.private.OwnedSteps.{SetsWord};
 ghost use Rattle.x86_64_mappers.specs.Reached.{Reaches};
@@ -63,8 +63,8 @@ pub trait TableAccess: Tables {
     fn clear_unnamed(&mut self, frame: PhysFrame<Size4KiB>) -> bool
         requires { IsSome (words (Self.hierarchy self.old) frame) }
         ensures result { result ≡ Self.reaches_unnamed }
-        ensures cleared { let h = Self.hierarchy self.old in
-            Self.hierarchy self.new ≡ (if result then with_zeros h frame else h) };
+        ensures cleared { Self.hierarchy self.new
+            ≡ (if result then with_zeros (Self.hierarchy self.old) frame else Self.hierarchy self.old) };
 
     ghost puts: { (s : Self) (f : ℕ) (t : List ℕ) → IsSome (words (Self.Tables.hierarchy s) f) →
         (Self.Tables.hierarchy (with_table s f t)).memory ≡ put_table (Self.Tables.hierarchy s) f t };
@@ -100,13 +100,11 @@ fn entry_mut<'m, M: TableAccess>(
 ) -> &'m mut PageTableEntry
     requires reached { Reaches (M.hierarchy mapper.old) path.now frame }
     requires short { length path.now < (M.hierarchy mapper.old).layout.levels }
-    ensures* lends { let h = M.hierarchy mapper.old in let table = table_in h.layout h.memory frame in
-        sem 𝓛 (LendsEntryBy M.row mapper.entry result
-        (λ w. M.with_table mapper.old frame (slice_set table index w))) }
+    ensures* lends { sem 𝓛 (LendsEntryBy M.row mapper.entry result
+        (λ w. M.with_table mapper.old frame (table_with (M.hierarchy mapper.old) frame index w))) }
     ensures value { result.now ≡ word (words (M.hierarchy mapper.old)) frame index }
-    ensures set { let h = M.hierarchy mapper.old in let table = table_in h.layout h.memory frame in
-        let with_word = λ (w : ℕ). M.with_table mapper.old frame (slice_set table index w) in
-        (w : ℕ) → SetsWord h frame index w (M.hierarchy (with_word w)) }
+    ensures set { (w : ℕ) → SetsWord (M.hierarchy mapper.old) frame index w
+        (M.hierarchy (M.with_table mapper.old frame (table_with (M.hierarchy mapper.old) frame index w))) }
     ensures index { index < 512 }
 {
     &mut mapper.table_mut(path, frame)[usize::from(index)]

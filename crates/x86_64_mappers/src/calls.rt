@@ -1,12 +1,13 @@
 //! The calls of mappers, over any number of levels. The methods of [`Mapper`](crate::mapper::Mapper),
 //! [`Translate`](crate::mapper::Translate) and [`CleanUp`](crate::mapper::CleanUp), and those of five levels, call
 //! these. Their documentation says more about each call.
-ghost use Rattle.std.specs.Prelude.{◌≡◌, ◌<◌, ◌≤◌, ◌-◌, ℕ, true, IfOk};
-ghost use Rattle.x86_64_model.specs.Call.{MapTo, MapToWithTableFlags, IdentityMap, Unmap, UpdateFlags, SetFlags};
-ghost use Rattle.x86_64_model.specs.Entry.{present};
-ghost use Rattle.x86_64_model.specs.Mapper.{Valid, path_of, page_translation, allows, allows_map, May, MayMap, MayCleanUp, Does, DoesMap, CleansUp, ArrivesIn, named};
+ghost use Rattle.std.specs.Prelude.{◌≡◌, ◌<◌, ◌≤◌, ◌-◌, IfOk};
+ghost use Rattle.x86_64_model.specs.Mapper.{Valid};
 ghost use Rattle.x86_64_model.specs.Position.{lower_half, position_count};
-ghost use Rattle.x86_64_tables.specs.MapperAnswers.{map_answer, unmap_answer, flags_answer, translate_answer};
+ghost use Rattle.x86_64_model.specs.PageCalls.{MayAsk, MayAskMap, Answers, AnswersMap, MapTo, MapToWithTableFlags, IdentityMap, Unmap, UpdateFlags, SetFlags};
+ghost use Rattle.x86_64_mappers.specs.CleanUps.{store_of, MayCleanUpInto, CleansUpInto};
+ghost use Rattle.x86_64_mappers.specs.PageAnswers.{allows_call, allows_page, translated_page, AnswersFlags, ArrivesIfPresent};
+ghost use Rattle.x86_64_tables.specs.MapperAnswers.{map_answer, unmap_answer, translate_answer};
 ghost use Rattle.x86_64_tables.specs.PageTableFlags.{bits_of};
 
 pub use crate::access::TableAccess;
@@ -46,13 +47,11 @@ pub fn map_to_with_table_flags<
     parent_flags: PageTableFlags,
     frame_allocator: &mut A,
 ) -> Result<MapperFlushIn<S, L>, MapToError<S>>
-    requires { let h = M.hierarchy mapper.old in let path = path_of h S.LEVEL page in
-        let call = MapToWithTableFlags path frame (bits_of flags) (bits_of parent_flags) in
-        MayMap h (A.supply frame_allocator.old) call }
-    ensures does { let h = M.hierarchy mapper.old in let path = path_of h S.LEVEL page in
-        let call = MapToWithTableFlags path frame (bits_of flags) (bits_of parent_flags) in
-        let supply = A.supply frame_allocator.old in let rest = A.supply frame_allocator.new in
-        DoesMap h supply call (map_answer frame result) (M.hierarchy mapper.new) rest }
+    requires { MayAskMap (M.hierarchy mapper.old) (A.supply frame_allocator.old) S.LEVEL
+        (MapToWithTableFlags page frame (bits_of flags) (bits_of parent_flags)) }
+    ensures does { AnswersMap (M.hierarchy mapper.old) (A.supply frame_allocator.old) S.LEVEL
+        (MapToWithTableFlags page frame (bits_of flags) (bits_of parent_flags)) (map_answer frame result)
+        (M.hierarchy mapper.new) (A.supply frame_allocator.new) }
     ensures page { IfOk result (λ flush. flush ≡ page) }
     ensures serves { A.serves frame_allocator.new ≡ A.serves frame_allocator.old }
 {
@@ -84,16 +83,14 @@ pub fn map_to<
     flags: PageTableFlags,
     frame_allocator: &mut A,
 ) -> Result<MapperFlushIn<S, L>, MapToError<S>>
-    requires { let h = M.hierarchy mapper.old in
-        let call = MapTo (path_of h S.LEVEL page) frame (bits_of flags) in
-        MayMap h (A.supply frame_allocator.old) call }
-    ensures does { let h = M.hierarchy mapper.old in
-        let call = MapTo (path_of h S.LEVEL page) frame (bits_of flags) in
-        let supply = A.supply frame_allocator.old in let rest = A.supply frame_allocator.new in
-        DoesMap h supply call (map_answer frame result) (M.hierarchy mapper.new) rest }
+    requires { MayAskMap (M.hierarchy mapper.old) (A.supply frame_allocator.old) S.LEVEL
+        (MapTo page frame (bits_of flags)) }
+    ensures does { AnswersMap (M.hierarchy mapper.old) (A.supply frame_allocator.old) S.LEVEL
+        (MapTo page frame (bits_of flags)) (map_answer frame result)
+        (M.hierarchy mapper.new) (A.supply frame_allocator.new) }
     ensures page { IfOk result (λ flush. flush ≡ page) }
-    ensures arrives { let h = M.hierarchy mapper.new in let given = bits_of flags in
-        IfOk result (λ _. present given ≡ true → ArrivesIn h S.SIZE page frame given) }
+    ensures arrives { IfOk result (λ _.
+        ArrivesIfPresent (M.hierarchy mapper.new) S.SIZE page frame (bits_of flags)) }
     ensures serves { A.serves frame_allocator.new ≡ A.serves frame_allocator.old }
 {
     let parent_flags = parent_flags(flags);
@@ -116,16 +113,14 @@ pub fn identity_map<
     frame_allocator: &mut A,
 ) -> Result<MapperFlushIn<S, L>, MapToError<S>>
     requires low { frame < lower_half L.LEVELS }
-    requires may { let h = M.hierarchy mapper.old in
-        let call = MapTo (path_of h S.LEVEL frame) frame (bits_of flags) in
-        MayMap h (A.supply frame_allocator.old) call }
-    ensures does { let h = M.hierarchy mapper.old in
-        let call = IdentityMap S.LEVEL frame (bits_of flags) in
-        let supply = A.supply frame_allocator.old in let rest = A.supply frame_allocator.new in
-        DoesMap h supply call (map_answer frame result) (M.hierarchy mapper.new) rest }
+    requires may { MayAskMap (M.hierarchy mapper.old) (A.supply frame_allocator.old) S.LEVEL
+        (MapTo frame frame (bits_of flags)) }
+    ensures does { AnswersMap (M.hierarchy mapper.old) (A.supply frame_allocator.old) S.LEVEL
+        (IdentityMap frame (bits_of flags)) (map_answer frame result)
+        (M.hierarchy mapper.new) (A.supply frame_allocator.new) }
     ensures page { IfOk result (λ flush. flush ≡ frame) }
-    ensures arrives { let h = M.hierarchy mapper.new in let given = bits_of flags in
-        IfOk result (λ _. present given ≡ true → ArrivesIn h S.SIZE frame frame given) }
+    ensures arrives { IfOk result (λ _.
+        ArrivesIfPresent (M.hierarchy mapper.new) S.SIZE frame frame (bits_of flags)) }
     ensures serves { A.serves frame_allocator.new ≡ A.serves frame_allocator.old }
 {
     let start = VirtAddrIn::new(frame.start_address().as_u64());
@@ -148,8 +143,8 @@ pub fn map_allowed<S: PageSize, L: LevelCount, M: TableAccess + TablesIn<L>>(
     parent_flags: PageTableFlags,
 ) -> bool
     requires { Valid (M.hierarchy mapper.now) }
-    ensures { let h = M.hierarchy mapper.now in
-        result ≡ allows_map h (path_of h S.LEVEL page) (bits_of flags) (bits_of parent_flags) }
+    ensures { result
+        ≡ allows_page (M.hierarchy mapper.now) S.LEVEL page (bits_of flags) (bits_of parent_flags) }
 {
     let path = path_of_page(mapper, page);
     condition::path_allowed::<S, _>(mapper, path.indices(), flags, parent_flags)
@@ -162,10 +157,9 @@ pub fn unmap<S: PageSize, L: LevelCount, M: TableAccess + TablesIn<L>>(
     mapper: &mut M,
     page: PageIn<S, L>,
 ) -> Result<(PhysFrame<S>, MapperFlushIn<S, L>), UnmapError>
-    requires { let h = M.hierarchy mapper.old in
-        May h (Unmap (path_of h S.LEVEL page)) }
-    ensures does { let h = M.hierarchy mapper.old in
-        Does h (Unmap (path_of h S.LEVEL page)) (unmap_answer result) (M.hierarchy mapper.new) }
+    requires { MayAsk (M.hierarchy mapper.old) S.LEVEL (Unmap page) }
+    ensures does { Answers (M.hierarchy mapper.old) S.LEVEL (Unmap page)
+        (unmap_answer result) (M.hierarchy mapper.new) }
     ensures page { IfOk result (λ unmapped. unmapped.1 ≡ page) }
 {
     let path = path_of_page(mapper, page);
@@ -181,11 +175,9 @@ pub fn update_flags<S: PageSize, L: LevelCount, M: TableAccess + TablesIn<L>>(
     page: PageIn<S, L>,
     flags: PageTableFlags,
 ) -> Result<MapperFlushIn<S, L>, FlagUpdateError>
-    requires { let h = M.hierarchy mapper.old in
-        May h (UpdateFlags (path_of h S.LEVEL page) (bits_of flags)) }
-    ensures does { let h = M.hierarchy mapper.old in
-        let call = UpdateFlags (path_of h S.LEVEL page) (bits_of flags) in
-        Does h call (flags_answer (named h call) result) (M.hierarchy mapper.new) }
+    requires { MayAsk (M.hierarchy mapper.old) S.LEVEL (UpdateFlags page (bits_of flags)) }
+    ensures does { AnswersFlags (M.hierarchy mapper.old) S.LEVEL (UpdateFlags page (bits_of flags))
+        result (M.hierarchy mapper.new) }
     ensures page { IfOk result (λ flush. flush ≡ page) }
 {
     let path = path_of_page(mapper, page);
@@ -205,11 +197,9 @@ pub fn set_table_flags<S: PageSize, L: LevelCount, M: TableAccess + TablesIn<L>>
 ) -> Result<MapperFlushAll, FlagUpdateError>
     requires low { 2 ≤ level }
     requires high { level ≤ L.LEVELS }
-    requires may { let h = M.hierarchy mapper.old in
-        May h (SetFlags level (path_of h S.LEVEL page) (bits_of flags)) }
-    ensures { let h = M.hierarchy mapper.old in
-        let call = SetFlags level (path_of h S.LEVEL page) (bits_of flags) in
-        Does h call (flags_answer (named h call) result) (M.hierarchy mapper.new) }
+    requires may { MayAsk (M.hierarchy mapper.old) S.LEVEL (SetFlags level page (bits_of flags)) }
+    ensures { AnswersFlags (M.hierarchy mapper.old) S.LEVEL (SetFlags level page (bits_of flags))
+        result (M.hierarchy mapper.new) }
 {
     let path = path_of_page(mapper, page);
     change::set_table_flags::<S, _>(mapper, path.indices(), level, flags)?;
@@ -228,8 +218,7 @@ pub fn table_flags_allowed<S: PageSize, L: LevelCount, M: TableAccess + TablesIn
     requires low { 2 ≤ level }
     requires high { level ≤ 3 }
     requires valid { Valid (M.hierarchy mapper.now) }
-    ensures { let h = M.hierarchy mapper.now in
-        result ≡ allows h (SetFlags level (path_of h S.LEVEL page) (bits_of flags)) }
+    ensures { result ≡ allows_call (M.hierarchy mapper.now) S.LEVEL (SetFlags level page (bits_of flags)) }
 {
     let path = path_of_page(mapper, page);
     condition::table_flags_allowed::<S, _>(mapper, path.indices(), level, flags)
@@ -244,8 +233,7 @@ pub fn translate_page<S: PageSize, L: LevelCount, M: TableAccess + TablesIn<L>>(
     page: PageIn<S, L>,
 ) -> Result<PhysFrame<S>, TranslateError>
     requires { Valid (M.hierarchy mapper.now) }
-    ensures { let h = M.hierarchy mapper.now in
-        translate_answer result ≡ page_translation h (path_of h S.LEVEL page) }
+    ensures { translate_answer result ≡ translated_page (M.hierarchy mapper.now) S.LEVEL page }
 {
     let path = path_of_page(mapper, page);
     translations::translate_path(mapper, path.indices())
@@ -258,11 +246,10 @@ pub fn clean_up<L: LevelCount, M: TableAccess + TablesIn<L>, D: FrameDeallocator
     mapper: &mut M,
     frame_deallocator: &mut D,
 )
-    requires { let serves = D.serves frame_deallocator.old in
-        MayCleanUp (M.hierarchy mapper.old) serves (D.held frame_deallocator.old) }
-    ensures cleans { let held = D.held frame_deallocator.old in let after = M.hierarchy mapper.new in
-        let rest = D.held frame_deallocator.new in
-        CleansUp (M.hierarchy mapper.old) D.take_back held 0 (position_count L.LEVELS - 1) after rest }
+    requires { MayCleanUpInto (M.hierarchy mapper.old) (store_of D.FrameDeallocator frame_deallocator.old) }
+    ensures cleans { CleansUpInto (M.hierarchy mapper.old)
+        (store_of D.FrameDeallocator frame_deallocator.old)
+        0 (position_count L.LEVELS - 1) (M.hierarchy mapper.new) (D.held frame_deallocator.new) }
     ensures serves { D.serves frame_deallocator.new ≡ D.serves frame_deallocator.old }
 {
     clean_up_range(mapper, all_pages::<L>(), frame_deallocator);

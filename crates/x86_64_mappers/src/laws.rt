@@ -1,9 +1,7 @@
 //! Laws of mappers. The bodies are empty, the contracts are the laws.
-ghost use Rattle.std.specs.Prelude.{◌≡◌, ◌↔◌, ℕ, Bool, List, None};
-ghost use Rattle.x86_64_model.specs.Layout.{Valid, words, paths};
+ghost use Rattle.std.specs.Prelude.{◌≡◌};
 ghost use Rattle.x86_64_model.specs.Memory.{identity_places, words_of};
-ghost use Rattle.x86_64_model.specs.Pool.{Fits};
-ghost use Rattle.x86_64_mappers.specs.Layouts.{direct_at};
+ghost use Rattle.x86_64_mappers.specs.Layouts.{AreValidAlike, FitAlike};
 ghost use Rattle.x86_64_mappers.specs.Offsets.{offset_places, OffsetFits};
 ghost use Rattle.x86_64_mappers.specs.Windows.{WindowsShowTables};
 
@@ -19,16 +17,12 @@ pub fn offset_has_the_tables_of_the_identity<L: LevelCount, T: TableMemory>(
     phys_offset: VirtAddrIn<L>,
 )
     requires { OffsetFits L.LEVELS (T.tables memory.now) phys_offset }
-    ensures tables { let places = offset_places L.LEVELS phys_offset in
-        words_of (T.tables memory.now) places ≡ words_of (T.tables memory.now) identity_places }
-    ensures valid { let identity = direct_at L.LEVELS identity_places in
-        let offset = direct_at L.LEVELS (offset_places L.LEVELS phys_offset) in
-        (root : ℕ) → Valid (identity root) (T.tables memory.now) ↔ Valid (offset root) (T.tables memory.now) }
-    ensures fits { let identity = direct_at L.LEVELS identity_places in
-        let offset = direct_at L.LEVELS (offset_places L.LEVELS phys_offset) in
-        (root : ℕ) (serves : ℕ → Bool) (pool : List ℕ) → let m = T.tables memory.now in
-        Fits L.LEVELS None (words (identity root) m) root (paths (identity root) m) serves pool
-        ↔ Fits L.LEVELS None (words (offset root) m) root (paths (offset root) m) serves pool }
+    ensures tables { words_of (T.tables memory.now) (offset_places L.LEVELS phys_offset)
+        ≡ words_of (T.tables memory.now) identity_places }
+    ensures valid { AreValidAlike L.LEVELS (T.tables memory.now)
+        identity_places (offset_places L.LEVELS phys_offset) }
+    ensures fits { FitAlike L.LEVELS (T.tables memory.now)
+        identity_places (offset_places L.LEVELS phys_offset) }
 {}
 
 /// If an entry of the root names the root itself, the page walk of a window arrives at the window's table, whatever

@@ -94,11 +94,11 @@ impl<'a, P: PageTableFrameMapping, L: LevelCount, T: TableMemory> Direct<'a, P, 
     /// [`is_valid_hierarchy`](x86_64_tables::phys_memory::is_valid_hierarchy) tests with the same mapping.
     pub(crate) fn over(memory: &'a mut T, root: PhysFrame<Size4KiB>, mapping: P) -> Self
         requires { ValidIn (direct_at L.LEVELS (P.places mapping) root) (T.tables memory.old) }
-        ensures lent { let lent = (⟦<Self as Tables>⟧.hierarchy result).lent in
-            lent ≡ ((memory.entry.ghost_name, T.lent memory.old), mapping) }
+        ensures lent { (⟦<Self as Tables>⟧.hierarchy result).lent
+            ≡ ((memory.entry.ghost_name, T.lent memory.old), mapping) }
         ensures memory { (⟦<Self as Tables>⟧.hierarchy result).memory ≡ T.tables memory.old }
-        ensures layout { let layout = (⟦<Self as Tables>⟧.hierarchy result).layout in
-            layout ≡ direct_at L.LEVELS (P.places mapping) root }
+        ensures layout { (⟦<Self as Tables>⟧.hierarchy result).layout
+            ≡ direct_at L.LEVELS (P.places mapping) root }
     {
         Direct {
             memory,
@@ -129,11 +129,11 @@ impl<'a, P: PageTableFrameMapping, L: LevelCount, T: TableMemory> Direct<
     /// [`is_valid_hierarchy`](x86_64_tables::phys_memory::is_valid_hierarchy) tests with the same mapping.
     pub fn new(memory: &'a mut T, root: PhysFrame<Size4KiB>, mapping: P) -> Self
         requires { ValidIn (direct_at L.LEVELS (P.places mapping) root) (T.tables memory.old) }
-        ensures lent { let lent = (⟦<Self as Tables>⟧.hierarchy result).lent in
-            lent ≡ ((memory.entry.ghost_name, T.lent memory.old), mapping) }
+        ensures lent { (⟦<Self as Tables>⟧.hierarchy result).lent
+            ≡ ((memory.entry.ghost_name, T.lent memory.old), mapping) }
         ensures memory { (⟦<Self as Tables>⟧.hierarchy result).memory ≡ T.tables memory.old }
-        ensures layout { let layout = (⟦<Self as Tables>⟧.hierarchy result).layout in
-            layout ≡ direct_at L.LEVELS (P.places mapping) root }
+        ensures layout { (⟦<Self as Tables>⟧.hierarchy result).layout
+            ≡ direct_at L.LEVELS (P.places mapping) root }
     {
         Direct::over(memory, root, GivenMapping { mapping })
     }
@@ -160,12 +160,12 @@ impl<'a, P: PageTableFrameMapping, T: TableMemory> Direct<'a, P, FourLevels, T> 
 
     /// Lends the table of level four, to be changed.
     pub fn level_4_table_mut(&mut self) -> &mut PageTable
-        ensures* lends { sem 𝓛 (
-            LendsRootTable P.row T.row ⟦<P as PageTableFrameMapping>⟧ ⟦<T as TableMemory>⟧ self.entry result) }
+        ensures* lends { sem 𝓛 (LendsRootTable P.row T.row
+            ⟦<P as PageTableFrameMapping>⟧ ⟦<T as TableMemory>⟧ self.entry result) }
         ensures value { root_table (⟦<Self as Tables>⟧.hierarchy self.old) ≡ Some result.now }
     {
-        let root = self.root;
-        self.table_mut(&[], root)
+        let level_4 = self.root;
+        self.table_mut(&[], level_4)
     }
 
     /// Returns whether the hierarchy is valid now.
@@ -193,12 +193,12 @@ impl<'a, P: PageTableFrameMapping, T: TableMemory> Direct<'a, P, FiveLevels, T> 
 
     /// Lends the table of level five, to be changed.
     pub fn level_5_table_mut(&mut self) -> &mut PageTable
-        ensures* lends { sem 𝓛 (
-            LendsRootTable57 P.row T.row ⟦<P as PageTableFrameMapping>⟧ ⟦<T as TableMemory>⟧ self.entry result) }
+        ensures* lends { sem 𝓛 (LendsRootTable57 P.row T.row
+            ⟦<P as PageTableFrameMapping>⟧ ⟦<T as TableMemory>⟧ self.entry result) }
         ensures value { root_table (⟦<Self as Tables>⟧.hierarchy self.old) ≡ Some result.now }
     {
-        let root = self.root;
-        self.table_mut(&[], root)
+        let level_5 = self.root;
+        self.table_mut(&[], level_5)
     }
 
     /// Returns whether the hierarchy is valid now.

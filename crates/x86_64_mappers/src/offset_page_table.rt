@@ -41,11 +41,11 @@ impl<'a, L: LevelCount, T: TableMemory> Direct<'a, PhysOffset<L>, L, T> {
     pub fn new(memory: &'a mut T, root: PhysFrame<Size4KiB>, phys_offset: VirtAddrIn<L>) -> Self
         requires valid { ValidIn (direct_at L.LEVELS identity_places root) (T.tables memory.old) }
         requires fits { OffsetFits L.LEVELS (T.tables memory.old) phys_offset }
-        ensures lent { let lent = (⟦<Self as Tables>⟧.hierarchy result).lent in
-            lent ≡ ((memory.entry.ghost_name, T.lent memory.old), phys_offset) }
+        ensures lent { (⟦<Self as Tables>⟧.hierarchy result).lent
+            ≡ ((memory.entry.ghost_name, T.lent memory.old), phys_offset) }
         ensures memory { (⟦<Self as Tables>⟧.hierarchy result).memory ≡ T.tables memory.old }
-        ensures layout { let places = offset_places L.LEVELS phys_offset in
-            (⟦<Self as Tables>⟧.hierarchy result).layout ≡ direct_at L.LEVELS places root }
+        ensures layout { (⟦<Self as Tables>⟧.hierarchy result).layout
+            ≡ direct_at L.LEVELS (offset_places L.LEVELS phys_offset) root }
         ensures valid { Valid (⟦<Self as Tables>⟧.hierarchy result) }
     {
         let mapping = PhysOffset::new(phys_offset);
@@ -70,8 +70,8 @@ impl<'a, L: LevelCount, T: TableMemory> Direct<'a, PhysOffset<L>, L, T> {
     /// Returns the offset that the mapper was created with.
     pub fn phys_offset(&self) -> VirtAddrIn<L>
         ensures offset { result ≡ (⟦<Self as Tables>⟧.hierarchy self.now).lent.1 }
-        ensures places { let places = (⟦<Self as Tables>⟧.hierarchy self.now).layout.places in
-            places ≡ offset_places L.LEVELS result }
+        ensures places { (⟦<Self as Tables>⟧.hierarchy self.now).layout.places
+            ≡ offset_places L.LEVELS result }
     {
         self.mapping().offset()
     }

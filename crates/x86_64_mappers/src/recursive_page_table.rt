@@ -2,14 +2,13 @@
 //! them.
 ghost use Rattle.std.specs.Prelude.{◌≡◌, Some, bit_or};
 ghost use Rattle.std.specs.Borrow.{sem};
-ghost use Rattle.x86_64_model.specs.Layout.{Valid as ValidIn};
-ghost use Rattle.x86_64_model.specs.Memory.{word, words_of, identity_places};
+ghost use Rattle.x86_64_model.specs.Memory.{word};
 ghost use Rattle.x86_64_model.specs.Mapper.{Valid};
 ghost use Rattle.x86_64_tables.specs.PageTableFlags.{bits_of};
 ghost use Rattle.x86_64_mappers.specs.InvalidPageTables.{is_root_window};
 ghost use Rattle.x86_64_mappers.specs.Layouts.{root_table};
 ghost use Rattle.x86_64_mappers.specs.RefusedMappers.{RestsUnlessMade};
-ghost use Rattle.x86_64_mappers.specs.Recursive.{recursive_now_at};
+ghost use Rattle.x86_64_mappers.specs.Recursive.{recursive_now_at, by_number, ValidThrough};
 
 mod made;
 mod walked_tables;
@@ -40,7 +39,8 @@ use x86_64_tables::phys_memory::{Active, PhysMemory};
 pub enum InvalidPageTable {
     /// The address has indices that differ, or an offset in the page other than 0.
     NotRecursive,
-    /// The table isn't the one at which page walks start, or its entry at the index doesn't name it.
+    /// The table isn't the one at which page walks start, or its entry at the index lacks `PRESENT`, has `HUGE_PAGE`
+    /// or doesn't name the table.
     NotActive,
 }
 
@@ -59,8 +59,8 @@ impl Display for InvalidPageTable {
 ///
 /// A new table's entry gets `PRESENT` and `WRITABLE` in addition to the parent flags, since the table can be reached
 /// only once the entry names it. For the same reason a map clears the table after that, so if a processor walks these
-/// tables meanwhile, the frames of the allocator have to hold only zeros. For an address that begins with the recursive index,
-/// [`translate`](crate::mapper::Translate::translate) and [`translate_page`](crate::mapper::Mapper::translate_page)
+/// tables meanwhile, the frames of the allocator have to hold only zeros. For an address that begins with the recursive
+/// index, [`translate`](crate::mapper::Translate::translate) and [`translate_page`](crate::mapper::Mapper::translate_page)
 /// follow the rest of its path, as the processor does.
 #[derive(Drop)]
 pub struct Recursive<A, L> {
@@ -83,8 +83,8 @@ impl<'a, L: LevelCount> RecursivePageTableIn<'a, L> {
     ghost use Rattle.std.specs.Prelude.{◌↔◌, None, IsOk, IfOk, IfErr};
     ghost use Rattle.x86_64_model.specs.Position.{index};
     ghost use Rattle.x86_64_tables.specs.ActiveMemory.{memory_of, cr3_of};
-    ghost use Rattle.x86_64_mappers.specs.InvalidPageTables.{refuses_at};
-    ghost use Rattle.x86_64_mappers.specs.Recursive.{active_in, recursive_now_at};
+    ghost use Rattle.x86_64_mappers.specs.InvalidPageTables.{refuses};
+    ghost use Rattle.x86_64_mappers.specs.Recursive.{active_in, layout_through};
 
     /// Creates a mapper for the hierarchy whose root is the table in a frame, given the address of the root's window.
     ///
@@ -101,18 +101,14 @@ impl<'a, L: LevelCount> RecursivePageTableIn<'a, L> {
         table: PhysFrame<Size4KiB>,
         virt: VirtAddrIn<L>,
     ) -> Result<Self, InvalidPageTable>
-        requires { let memory = memory_of active in let cr3 = cr3_of active in
-            let now = recursive_now_at L.LEVELS memory cr3 (index L.LEVELS virt) in
-            refuses_at L.LEVELS memory cr3 table virt ≡ None → ValidIn now memory }
+        requires { refuses L.LEVELS active table virt ≡ None
+            → ValidThrough L.LEVELS (memory_of active) (cr3_of active) (index L.LEVELS virt) }
         ensures* unchanged { sem 𝓛 (RestsUnlessMade active.entry result) }
         ensures active { IfOk result (λ mapper. active_in mapper ≡ active.entry) }
-        ensures layout { let memory = memory_of active.entry in let cr3 = cr3_of active.entry in
-            let now = recursive_now_at L.LEVELS memory cr3 (index L.LEVELS virt) in
-            IfOk result (λ mapper. (⟦<Self as Tables>⟧.hierarchy mapper).layout ≡ now) }
-        ensures made { let memory = memory_of active.entry in let cr3 = cr3_of active.entry in
-            IsOk result ↔ (refuses_at L.LEVELS memory cr3 table virt ≡ None) }
-        ensures refused { let memory = memory_of active.entry in let cr3 = cr3_of active.entry in
-            IfErr result (λ why. refuses_at L.LEVELS memory cr3 table virt ≡ Some why) }
+        ensures layout { IfOk result (λ mapper. (⟦<Self as Tables>⟧.hierarchy mapper).layout
+            ≡ layout_through L.LEVELS active.entry (index L.LEVELS virt)) }
+        ensures made { IsOk result ↔ (refuses L.LEVELS active.entry table virt ≡ None) }
+        ensures refused { IfErr result (λ why. refuses L.LEVELS active.entry table virt ≡ Some why) }
     {
         let refusal = Self::refusal(&active, table, virt);
         let index = virt.root_index();
@@ -133,8 +129,7 @@ impl<A: WalkedTables<L>, L: LevelCount> Recursive<A, L> {
         table: PhysFrame<Size4KiB>,
         virt: VirtAddrIn<L>,
     ) -> Option<InvalidPageTable>
-        ensures { let memory = A.memory active.now in
-            result ≡ refuses_at L.LEVELS memory (A.root active.now) table virt }
+        ensures { result ≡ refuses_at L.LEVELS (A.memory active.now) (A.root active.now) table virt }
     {
         if !is_root_window::<L>(virt) {
             return Some(InvalidPageTable::NotRecursive);
@@ -151,11 +146,10 @@ impl<A: WalkedTables<L>, L: LevelCount> Recursive<A, L> {
     ///
     /// Requires that the hierarchy is valid for the index.
     pub fn new_unchecked(active: A, index: PageTableIndex) -> Self
-        requires { let memory = A.memory active in
-            ValidIn (recursive_now_at L.LEVELS memory (A.root active) index) memory }
+        requires { ValidThrough L.LEVELS (A.memory active) (A.root active) index }
         ensures active { active_in result ≡ active }
-        ensures layout { let now = recursive_now_at L.LEVELS (A.memory active) (A.root active) index in
-            (⟦<Self as Tables>⟧.hierarchy result).layout ≡ now }
+        ensures layout { (⟦<Self as Tables>⟧.hierarchy result).layout
+            ≡ recursive_now_at L.LEVELS (A.memory active) (A.root active) index }
     {
         let self_flags = self_flags::<A, L>(&active, index);
         Recursive {
@@ -172,10 +166,9 @@ impl<A: WalkedTables<L>, L: LevelCount> Recursive<A, L> {
         active: &A,
         index: PageTableIndex,
     ) -> PageTableFlags
-        requires { let memory = A.memory active.now in refusal ≡ None →
-            ValidIn (recursive_now_at L.LEVELS memory (A.root active.now) index) memory }
-        ensures { let root = A.root active.now in let T = words_of (A.memory active.now) identity_places in
-            refusal ≡ None → bit_or root (bits_of result) ≡ word T root index }
+        requires { refusal ≡ None → ValidThrough L.LEVELS (A.memory active.now) (A.root active.now) index }
+        ensures { refusal ≡ None → bit_or (A.root active.now) (bits_of result)
+            ≡ word (by_number (A.memory active.now)) (A.root active.now) index }
     {
         match refusal {
             Some(_) => PageTableFlags::empty(),
@@ -198,8 +191,8 @@ impl<A: WalkedTables<L>, L: LevelCount> Recursive<A, L> {
     /// Lends the root's table through its window, to be changed.
     fn root_window_mut(&mut self) -> &mut PageTable
         requires { Valid (⟦<Self as Tables>⟧.hierarchy self.old) }
-        ensures* lends { let root = A.root self.old.active in
-            sem 𝓛 (LendsRootWindowAt A.row L.row A.with_table self.entry root result) }
+        ensures* lends { sem 𝓛 (
+            LendsRootWindowAt A.row L.row A.with_table self.entry (A.root self.old.active) result) }
         ensures value { root_table (⟦<Self as Tables>⟧.hierarchy self.old) ≡ Some result.now }
     {
         let root = self.active.cr3();
@@ -225,8 +218,8 @@ impl<A: WalkedTables<FourLevels>> Recursive<A, FourLevels> {
     /// Requires that the hierarchy is valid.
     pub fn level_4_table_mut(&mut self) -> &mut PageTable
         requires { Valid (⟦<Self as Tables>⟧.hierarchy self.old) }
-        ensures* lends { let root = A.root self.old.active in
-            sem 𝓛 (LendsRootWindow A.row A.with_table self.entry root result) }
+        ensures* lends { sem 𝓛 (
+            LendsRootWindow A.row A.with_table self.entry (A.root self.old.active) result) }
         ensures value { root_table (⟦<Self as Tables>⟧.hierarchy self.old) ≡ Some result.now }
     {
         self.root_window_mut()
@@ -251,8 +244,8 @@ impl<A: WalkedTables<FiveLevels>> Recursive<A, FiveLevels> {
     /// Requires that the hierarchy is valid.
     pub fn level_5_table_mut(&mut self) -> &mut PageTable
         requires { Valid (⟦<Self as Tables>⟧.hierarchy self.old) }
-        ensures* lends { let root = A.root self.old.active in
-            sem 𝓛 (LendsRootWindow57 A.row A.with_table self.entry root result) }
+        ensures* lends { sem 𝓛 (
+            LendsRootWindow57 A.row A.with_table self.entry (A.root self.old.active) result) }
         ensures value { root_table (⟦<Self as Tables>⟧.hierarchy self.old) ≡ Some result.now }
     {
         self.root_window_mut()
@@ -271,10 +264,9 @@ fn self_flags<A: WalkedTables<L>, L: LevelCount>(
     active: &A,
     index: PageTableIndex,
 ) -> PageTableFlags
-    requires { let memory = A.memory active.now in
-        ValidIn (recursive_now_at L.LEVELS memory (A.root active.now) index) memory }
-    ensures { let words = words_of (A.memory active.now) identity_places in let root = A.root active.now in
-        bit_or root (bits_of result) ≡ word words root index }
+    requires { ValidThrough L.LEVELS (A.memory active.now) (A.root active.now) index }
+    ensures { bit_or (A.root active.now) (bits_of result)
+        ≡ word (by_number (A.memory active.now)) (A.root active.now) index }
 {
     let table = active.table(window::<L>(index, &[]).position()).unwrap();
     table[usize::from(index)].flags()

@@ -1,16 +1,19 @@
 -- How a clean up goes down the tables: where it is, and what it has changed so far.
 use Rattle.std.specs.Prelude.{◌≡◌, ◌≢◌, ◌⊎◌, ◌≤◌, ◌+◌, ℕ, true, false, List, [], ◌∷◌, ◌++◌, length, Some, IsSome}
 use Rattle.x86_64_model.proofs.Lemmas.CleanUps.Below.{cleaned_below, back_below, Visits}
-use Rattle.x86_64_model.specs.CleanUp.{in_range}
+use Rattle.x86_64_model.specs.CleanUp.{in_range, meets}
 use Rattle.x86_64_model.specs.Entry.{address}
 use Rattle.x86_64_model.specs.Layout.{Layout, words, paths, Valid}
 use Rattle.x86_64_model.specs.Lists.{In}
 use Rattle.x86_64_model.specs.Layout.{KeepsOthers}
+use Rattle.x86_64_model.specs.Mapper.{Hierarchy}
 use Rattle.x86_64_model.specs.Memory.{Memory, word}
 use Rattle.x86_64_model.specs.Path.{AllBelow, span_start}
 use Rattle.x86_64_model.specs.PathMap.{PathMap, entry, put, table_at}
 use Rattle.x86_64_model.specs.Pool.{IsTable, given_back}
+use Rattle.x86_64_model.specs.Store.{Store}
 use Rattle.x86_64_model.specs.Window.{begins_with}
+use Rattle.x86_64_mappers.specs.CleanUps.{CleansUpInto}
 
 -- ---- the range
 
@@ -67,3 +70,27 @@ pub record IsCleanedAt (l : Layout) (take_back : List ℕ → ℕ → List ℕ) 
   pub back : List ℕ
   pub rule : IsEntryCleaned l.levels (paths l m) low high r N back
   pub cleaned : IsCleaned l take_back m held N back n rest
+
+-- ---- a clean up of the pages from a first to a last one, given by their paths
+
+-- it is at the table in the frame, to which the path leads
+abbrev pub VisitsTable : {Lent : Type 0} → Hierarchy Lent → (first last path : List ℕ) → (frame : ℕ) → Type 0
+VisitsTable h first last path frame = IsVisited h.layout h.memory (span_start h.layout.levels first) (span_end h.layout.levels last) path frame
+
+-- the span of the entry at the path meets the pages
+abbrev pub MeetsPages : {Lent : Type 0} → Hierarchy Lent → (first last path : List ℕ) → Type 0
+MeetsPages h first last path = meets h.layout.levels (span_start h.layout.levels first) (span_end h.layout.levels last) path ≡ true
+
+-- the tables below the table that the path leads to were cleaned up; the store holds the frames `rest` then
+abbrev pub CleansBelow : {Lent : Type 0} → Hierarchy Lent → Store → (first last path : List ℕ) → (after : Hierarchy Lent) → (rest : List ℕ) → Type 0
+CleansBelow h store first last path after rest =
+    IsCleaned h.layout store.take_back h.memory store.frames (cleaned_below h.layout.levels (paths h.layout h.memory) (span_start h.layout.levels first) (span_end h.layout.levels last) path)
+    (back_below h.layout.levels (paths h.layout h.memory) (span_start h.layout.levels first) (span_end h.layout.levels last) path) after.memory rest
+
+-- the entry at the path was cleaned up
+abbrev pub CleansEntry : {Lent : Type 0} → Hierarchy Lent → Store → (first last path : List ℕ) → (after : Hierarchy Lent) → (rest : List ℕ) → Type 0
+CleansEntry h store first last path after rest = IsCleanedAt h.layout store.take_back h.memory store.frames (span_start h.layout.levels first) (span_end h.layout.levels last) path after.memory rest
+
+-- the pages were cleaned up
+abbrev pub CleansUpPages : {Lent : Type 0} → Hierarchy Lent → Store → (first last : List ℕ) → (after : Hierarchy Lent) → (rest : List ℕ) → Type 0
+CleansUpPages h store first last after rest = CleansUpInto h store (span_start h.layout.levels first) (span_end h.layout.levels last) after rest

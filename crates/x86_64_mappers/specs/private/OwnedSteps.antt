@@ -3,8 +3,10 @@
 use Rattle.std.specs.Prelude.{ℕ, List, Result}
 use Rattle.x86_64_model.specs.Mapper.{Hierarchy}
 use Rattle.x86_64_model.specs.Refusal.{Refusal, Answer}
-use Rattle.x86_64_mappers.specs.private.Linked.{IsClearedFirst}
+use Rattle.x86_64_mappers.specs.private.EntryCalls.{IsChangedAt}
+use Rattle.x86_64_mappers.specs.private.Linked.{IsClearedFirst, MayLink}
 use Rattle.x86_64_mappers.specs.private.MapSteps.{IsDown}
+use Rattle.x86_64_mappers.specs.private.OpenWay.{IsOpenWay}
 use Rattle.x86_64_mappers.specs.private.Stops.{IsFound, StopsBelow}
 use Rattle.x86_64_mappers.specs.private.Writes.{IsSet, IsMade, IsLeafSet}
 
@@ -35,3 +37,15 @@ MakesTables h s more path made after rest = IsDown h.layout h.memory s more path
 -- unused word i of the table in a frame became the entry w of a page, or the map was refused for the page's frame
 abbrev pub SetsLeaf : {Lent : Type 0} → Hierarchy Lent → (table i w frame : ℕ) → Answer → (after : Hierarchy Lent) → Type 0
 SetsLeaf h f i w frame answer after = IsLeafSet h.layout.places h.memory f i w frame answer after.memory
+
+-- the first k parents lead to the table in a frame, through present entries, and the rest of them are or will be present
+abbrev pub LeadsOpenly : {Lent : Type 0} → Hierarchy Lent → (parent_flags : ℕ) → (parents : List ℕ) → (k frame : ℕ) → Type 0
+LeadsOpenly h more path k f = IsOpenWay h.layout h.memory more path k f
+
+-- the entry at index k of the parents, in the table in a frame, may be made to name another frame
+abbrev pub MayNameTable : {Lent : Type 0} → Hierarchy Lent → (parents : List ℕ) → (k table frame flags : ℕ) → Type 0
+MayNameTable h path k f g given = MayLink h.layout h.memory path k f g given
+
+-- the entry at a path's end was changed as the relation `calls` allows, or a parent refused the change
+abbrev pub ChangesEntry : {Lent X : Type 0} → Hierarchy Lent → (path : List ℕ) → (calls : ℕ → X → ℕ → Type 0) → Result X Refusal → (after : Hierarchy Lent) → Type 0
+ChangesEntry h path calls answer after = IsChangedAt h.layout h.memory path calls answer after.memory

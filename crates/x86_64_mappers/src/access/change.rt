@@ -2,13 +2,15 @@
 ghost use Rattle.std.specs.Prelude.{◌≡◌, ◌<◌, ◌≤◌, ◌+◌, length};
 ghost use Rattle.std.specs.Fn.{FnOnceReturnsAtMut};
 ghost use Rattle.x86_64_model.specs.Call.{Unmap, UpdateFlags, SetFlags};
-ghost use Rattle.x86_64_model.specs.Mapper.{Valid, May, Does, named};
+ghost use Rattle.x86_64_model.specs.Mapper.{Valid, May, Does};
 ghost use Rattle.x86_64_model.specs.Refusal.{refusal_of};
-ghost use Rattle.x86_64_mappers.specs.private.EntryCalls.{IsChangedAt, answer_said, word_said};
+ghost use Rattle.x86_64_mappers.specs.private.EntryCalls.{answer_said, word_said};
 ghost use Rattle.x86_64_mappers.specs.private.PageCalls.{unmap_says, update_says};
 ghost use Rattle.x86_64_mappers.specs.private.Results.{walk_result};
 ghost use Rattle.x86_64_mappers.specs.private.TableFlags.{flags_say};
-ghost use Rattle.x86_64_tables.specs.MapperAnswers.{frame_answer, flags_answer, flags_refusal};
+ghost use Rattle.x86_64_mappers.specs.PageAnswers.{DoesFlags};
+ghost use Rattle.x86_64_mappers.specs.private.OwnedSteps.{ChangesEntry};
+ghost use Rattle.x86_64_tables.specs.MapperAnswers.{frame_answer, flags_refusal};
 ghost use Rattle.x86_64_tables.specs.PageTableFlags.{bits_of};
 
 use super::find::{PageTableWalkError, find_table, path_to_level};
@@ -48,8 +50,8 @@ pub fn update_path<S: PageSize, M: TableAccess>(
 ) -> Result<(), FlagUpdateError>
     requires levels { length path.now + S.LEVEL ≡ (M.hierarchy mapper.old).layout.levels + 1 }
     requires may { May (M.hierarchy mapper.old) (UpdateFlags path.now (bits_of flags)) }
-    ensures { let h = M.hierarchy mapper.old in let call = UpdateFlags path.now (bits_of flags) in
-        Does h call (flags_answer (named h call) result) (M.hierarchy mapper.new) }
+    ensures { DoesFlags (M.hierarchy mapper.old) (UpdateFlags path.now (bits_of flags)) result
+        (M.hierarchy mapper.new) }
 {
     change_entry(mapper, path, |entry| update_entry::<S>(entry, flags))?
 }
@@ -70,8 +72,8 @@ pub fn set_table_flags<S: PageSize, M: TableAccess>(
     requires low { 2 ≤ level }
     requires high { level ≤ (M.hierarchy mapper.old).layout.levels }
     requires may { May (M.hierarchy mapper.old) (SetFlags level path.now (bits_of flags)) }
-    ensures { let h = M.hierarchy mapper.old in let call = SetFlags level path.now (bits_of flags) in
-        Does h call (flags_answer (named h call) result) (M.hierarchy mapper.new) }
+    ensures { DoesFlags (M.hierarchy mapper.old) (SetFlags level path.now (bits_of flags)) result
+        (M.hierarchy mapper.new) }
 {
     if level <= S::LEVEL {
         return Err(FlagUpdateError::ParentEntryHugePage);
@@ -95,8 +97,8 @@ fn change_entry<M: TableAccess, R, F: FnOnce(&mut PageTableEntry) -> R>(
     requires some { 0 < length path.now }
     requires levels { length path.now ≤ (M.hierarchy mapper.old).layout.levels }
     requires called { F.IsAlwaysCallable change }
-    ensures changed { let h = M.hierarchy mapper.old in let calls = FnOnceReturnsAtMut F.FnOnce change in
-        IsChangedAt h.layout h.memory path.now calls (walk_result result) (M.hierarchy mapper.new).memory }
+    ensures changed { ChangesEntry (M.hierarchy mapper.old) path.now (FnOnceReturnsAtMut F.FnOnce change)
+        (walk_result result) (M.hierarchy mapper.new) }
     ensures layout { (M.hierarchy mapper.new).layout ≡ (M.hierarchy mapper.old).layout }
     ensures lent { (M.hierarchy mapper.new).lent ≡ (M.hierarchy mapper.old).lent }
 {
@@ -129,8 +131,8 @@ pub fn update_entry<S: PageSize>(
     entry: &mut PageTableEntry,
     flags: PageTableFlags,
 ) -> Result<(), FlagUpdateError>
-    ensures refusal { let says = update_says S.LEVEL (bits_of flags) entry.old in
-        flags_refusal result ≡ refusal_of (answer_said says) }
+    ensures refusal { flags_refusal result
+        ≡ refusal_of (answer_said (update_says S.LEVEL (bits_of flags) entry.old)) }
     ensures word { entry.new ≡ word_said entry.old (update_says S.LEVEL (bits_of flags) entry.old) }
 {
     if !maps_page::<S>(entry) {
@@ -146,8 +148,7 @@ pub fn update_entry<S: PageSize>(
 ///
 /// `PageNotMapped` if the entry is unused.
 fn set_entry_flags(entry: &mut PageTableEntry, flags: PageTableFlags) -> Result<(), FlagUpdateError>
-    ensures refusal { let said = flags_say (bits_of flags) entry.old in
-        flags_refusal result ≡ refusal_of (answer_said said) }
+    ensures refusal { flags_refusal result ≡ refusal_of (answer_said (flags_say (bits_of flags) entry.old)) }
     ensures word { entry.new ≡ word_said entry.old (flags_say (bits_of flags) entry.old) }
 {
     if entry.is_unused() {

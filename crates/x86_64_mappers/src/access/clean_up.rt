@@ -1,15 +1,15 @@
 //! Clean up: removes empty tables, from the lowest level up.
 ghost use Rattle.std.specs.Prelude.{◌≡◌, ◌<◌, ◌≤◌, ◌+◌, ◌-◌, ◌*◌, ◌++◌, ◌∷◌, ℕ, [], true, false, cond, length, take, get_or};
-ghost use Rattle.x86_64_model.proofs.Lemmas.CleanUps.Below.{cleaned_below, back_below};
 ghost use Rattle.x86_64_model.specs.CleanUp.{meets};
-ghost use Rattle.x86_64_model.specs.Mapper.{MayCleanUp, CleansUp, words, paths};
+ghost use Rattle.x86_64_model.specs.Mapper.{words};
 ghost use Rattle.x86_64_model.specs.Memory.{word};
 ghost use Rattle.x86_64_model.specs.Path.{AllBelow, begins, span_start};
 ghost use Rattle.x86_64_model.specs.Position.{position_count};
 ghost use Rattle.x86_64_model.specs.Window.{begins_with};
-ghost use Rattle.x86_64_mappers.specs.private.CleaningUp.{span_end, IsPageRange, IsVisited, IsCleaned, IsCleanedAt};
+ghost use Rattle.x86_64_mappers.specs.private.CleaningUp.{IsPageRange, VisitsTable, MeetsPages, CleansBelow, CleansEntry, CleansUpPages};
 ghost use Rattle.x86_64_mappers.specs.private.Stops.{names_table};
 ghost use Rattle.x86_64_mappers.specs.Reached.{Reaches};
+ghost use Rattle.x86_64_mappers.specs.CleanUps.{store_of, MayCleanUpInto, CleansUpInto};
 
 use super::find::next_table;
 use super::path::{MOST_LEVELS, path_of_address};
@@ -45,11 +45,10 @@ pub fn clean_up_range<M: TableAccess + TablesIn<L>, L: LevelCount, D: FrameDeall
     range: BlockRangeInclusive<PageIn<Size4KiB, L>>,
     frame_deallocator: &mut D,
 )
-    requires { let serves = D.serves frame_deallocator.old in
-        MayCleanUp (M.hierarchy mapper.old) serves (D.held frame_deallocator.old) }
-    ensures cleans { let held = D.held frame_deallocator.old in let after = M.hierarchy mapper.new in
-        let rest = D.held frame_deallocator.new in let high = range.end + 0xfff in
-        CleansUp (M.hierarchy mapper.old) D.take_back held range.start high after rest }
+    requires { MayCleanUpInto (M.hierarchy mapper.old) (store_of D.FrameDeallocator frame_deallocator.old) }
+    ensures cleans { CleansUpInto (M.hierarchy mapper.old)
+        (store_of D.FrameDeallocator frame_deallocator.old)
+        range.start (range.end + 0xfff) (M.hierarchy mapper.new) (D.held frame_deallocator.new) }
     ensures serves { D.serves frame_deallocator.new ≡ D.serves frame_deallocator.old }
 {
     let first = path_of_address(mapper, range.start.start_address());
@@ -67,12 +66,11 @@ fn clean_up_paths<M: TableAccess, D: FrameDeallocator<Size4KiB>>(
 )
     requires first { length first.now ≡ (M.hierarchy mapper.old).layout.levels }
     requires last { length last.now ≡ (M.hierarchy mapper.old).layout.levels }
-    requires may { let serves = D.serves frame_deallocator.old in
-        MayCleanUp (M.hierarchy mapper.old) serves (D.held frame_deallocator.old) }
-    ensures cleans { let h = M.hierarchy mapper.old in let low = span_start h.layout.levels first.now in
-        let high = span_start h.layout.levels last.now + 0xfff in let after = M.hierarchy mapper.new in
-        let held = D.held frame_deallocator.old in
-        CleansUp h D.take_back held low high after (D.held frame_deallocator.new) }
+    requires may { MayCleanUpInto (M.hierarchy mapper.old)
+        (store_of D.FrameDeallocator frame_deallocator.old) }
+    ensures cleans { CleansUpPages (M.hierarchy mapper.old)
+        (store_of D.FrameDeallocator frame_deallocator.old)
+        first.now last.now (M.hierarchy mapper.new) (D.held frame_deallocator.new) }
     ensures serves { D.serves frame_deallocator.new ≡ D.serves frame_deallocator.old }
 {
     if page_number(last) < page_number(first) {
@@ -98,19 +96,15 @@ fn clean_up_table<M: TableAccess, D: FrameDeallocator<Size4KiB>>(
     frame_deallocator: &mut D,
 )
     requires short { length path.now < (M.hierarchy mapper.old).layout.levels }
-    requires may { let serves = D.serves frame_deallocator.old in
-        MayCleanUp (M.hierarchy mapper.old) serves (D.held frame_deallocator.old) }
-    requires range { let L = (M.hierarchy mapper.old).layout.levels in
-        IsPageRange L range.now.first.now range.now.last.now }
-    requires visited { let h = M.hierarchy mapper.old in let L = h.layout.levels in
-        let low = span_start L range.now.first.now in let high = span_end L range.now.last.now in
-        IsVisited h.layout h.memory low high path.now table }
-    ensures cleaned { let h = M.hierarchy mapper.old in let L = h.layout.levels in
-        let low = span_start L range.now.first.now in let high = span_end L range.now.last.now in
-        let N = cleaned_below L (paths h) low high path.now in
-        let back = back_below L (paths h) low high path.now in
-        let held = D.held frame_deallocator.old in let n = (M.hierarchy mapper.new).memory in
-        IsCleaned h.layout D.take_back h.memory held N back n (D.held frame_deallocator.new) }
+    requires may { MayCleanUpInto (M.hierarchy mapper.old)
+        (store_of D.FrameDeallocator frame_deallocator.old) }
+    requires range { IsPageRange (M.hierarchy mapper.old).layout.levels
+        range.now.first.now range.now.last.now }
+    requires visited { VisitsTable (M.hierarchy mapper.old)
+        range.now.first.now range.now.last.now path.now table }
+    ensures cleaned { CleansBelow (M.hierarchy mapper.old) (store_of D.FrameDeallocator frame_deallocator.old)
+        range.now.first.now range.now.last.now path.now
+        (M.hierarchy mapper.new) (D.held frame_deallocator.new) }
     ensures layout { (M.hierarchy mapper.new).layout ≡ (M.hierarchy mapper.old).layout }
     ensures lent { (M.hierarchy mapper.new).lent ≡ (M.hierarchy mapper.old).lent }
     ensures serves { D.serves frame_deallocator.new ≡ D.serves frame_deallocator.old }
@@ -141,10 +135,9 @@ fn next_named<M: TableAccess>(
     requires last { last < 512 }
     ensures from { result ≤ last → from ≤ result }
     ensures last { result ≤ last + 1 }
-    ensures passed { let entry = word (words (M.hierarchy mapper.now)) frame in
-        (i : ℕ) → from ≤ i → i < result → names_table (entry i) ≡ false }
-    ensures named { let entry = word (words (M.hierarchy mapper.now)) frame in
-        result ≤ last → names_table (entry result) ≡ true }
+    ensures passed { (i : ℕ) → from ≤ i → i < result
+        → names_table (word (words (M.hierarchy mapper.now)) frame i) ≡ false }
+    ensures named { result ≤ last → names_table (word (words (M.hierarchy mapper.now)) frame result) ≡ true }
 {
     let table = mapper.table(path, frame);
     for index in from..last + 1 {
@@ -169,21 +162,17 @@ fn clean_up_entry<M: TableAccess, D: FrameDeallocator<Size4KiB>>(
     frame_deallocator: &mut D,
 )
     requires short { length path.now + 1 < (M.hierarchy mapper.old).layout.levels }
-    requires may { let serves = D.serves frame_deallocator.old in
-        MayCleanUp (M.hierarchy mapper.old) serves (D.held frame_deallocator.old) }
-    requires range { let L = (M.hierarchy mapper.old).layout.levels in
-        IsPageRange L range.now.first.now range.now.last.now }
-    requires visited { let h = M.hierarchy mapper.old in let L = h.layout.levels in
-        let low = span_start L range.now.first.now in let high = span_end L range.now.last.now in
-        IsVisited h.layout h.memory low high path.now table }
-    requires meets { let L = (M.hierarchy mapper.old).layout.levels in
-        let low = span_start L range.now.first.now in let high = span_end L range.now.last.now in
-        meets L low high (path.now ++ index ∷ []) ≡ true }
-    ensures cleaned { let h = M.hierarchy mapper.old in let L = h.layout.levels in
-        let low = span_start L range.now.first.now in let high = span_end L range.now.last.now in
-        let held = D.held frame_deallocator.old in let n = (M.hierarchy mapper.new).memory in
-        let rest = D.held frame_deallocator.new in
-        IsCleanedAt h.layout D.take_back h.memory held low high (path.now ++ index ∷ []) n rest }
+    requires may { MayCleanUpInto (M.hierarchy mapper.old)
+        (store_of D.FrameDeallocator frame_deallocator.old) }
+    requires range { IsPageRange (M.hierarchy mapper.old).layout.levels
+        range.now.first.now range.now.last.now }
+    requires visited { VisitsTable (M.hierarchy mapper.old)
+        range.now.first.now range.now.last.now path.now table }
+    requires meets { MeetsPages (M.hierarchy mapper.old)
+        range.now.first.now range.now.last.now (path.now ++ index ∷ []) }
+    ensures cleaned { CleansEntry (M.hierarchy mapper.old) (store_of D.FrameDeallocator frame_deallocator.old)
+        range.now.first.now range.now.last.now (path.now ++ index ∷ [])
+        (M.hierarchy mapper.new) (D.held frame_deallocator.new) }
     ensures layout { (M.hierarchy mapper.new).layout ≡ (M.hierarchy mapper.old).layout }
     ensures lent { (M.hierarchy mapper.new).lent ≡ (M.hierarchy mapper.old).lent }
     ensures serves { D.serves frame_deallocator.new ≡ D.serves frame_deallocator.old }

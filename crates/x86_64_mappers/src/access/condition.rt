@@ -30,8 +30,7 @@ pub fn path_allowed<S: PageSize, M: TableAccess>(
 ) -> bool
     requires levels { length path.now + S.LEVEL ≡ (M.hierarchy mapper.now).layout.levels + 1 }
     requires valid { Valid (M.hierarchy mapper.now) }
-    ensures { let h = M.hierarchy mapper.now in
-        result ≡ allows_map h path.now (bits_of flags) (bits_of parent_flags) }
+    ensures { result ≡ allows_map (M.hierarchy mapper.now) path.now (bits_of flags) (bits_of parent_flags) }
 {
     (flags_allowed::<S>(flags, parent_flags) & !is_in_window(mapper, path))
         && (parent_flags.contains(PageTableFlags::PRESENT)
@@ -70,9 +69,9 @@ fn is_in_window<M: TableAccess>(mapper: &M, path: &[PageTableIndex]) -> bool
 fn are_present<M: TableAccess>(mapper: &M, parents: &[PageTableIndex]) -> bool
     requires valid { Valid (M.hierarchy mapper.now) }
     requires short { length parents.now < (M.hierarchy mapper.now).layout.levels }
-    ensures { let h = M.hierarchy mapper.now in (last : ℕ) →
-        begins_with h.layout.window (parents.now ++ last ∷ []) ≡ false
-        → result ≡ are_present (paths h) (parents.now ++ last ∷ []) }
+    ensures { (last : ℕ)
+        → begins_with (M.hierarchy mapper.now).layout.window (parents.now ++ last ∷ []) ≡ false
+        → result ≡ are_present (paths (M.hierarchy mapper.now)) (parents.now ++ last ∷ []) }
 {
     meets_none_absent(find_table(mapper, parents))
 }
@@ -160,9 +159,9 @@ pub fn map_range_allowed<S: PageSize, L: LevelCount, M: TablesIn<L>>(
     flags: PageTableFlags,
     parent_flags: PageTableFlags,
 ) -> bool
-    ensures { let h = M.hierarchy mapper.now in let more = bits_of parent_flags in
-        let range = range_of S.LEVEL page frame (bits_of flags) more in
-        IsTrue result ↔ (present more ≡ true) × MayMapRange h range count }
+    ensures { IsTrue result ↔ (present (bits_of parent_flags) ≡ true)
+        × MayMapRange (M.hierarchy mapper.now)
+        (range_of S.LEVEL page frame (bits_of flags) (bits_of parent_flags)) count }
 {
     if !parent_flags.contains(PageTableFlags::PRESENT) {
         return false;

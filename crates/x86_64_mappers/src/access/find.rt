@@ -20,7 +20,7 @@ use x86_64_tables::page_table::FrameError;
 pub enum PageTableWalkError {
     /// An entry on the path lacks `PRESENT`.
     NotMapped,
-    /// An entry on the path maps a page.
+    /// An entry on the path has `PRESENT` and `HUGE_PAGE`.
     MappedToHugePage,
 }
 

@@ -1,13 +1,12 @@
 //! Maps of pages.
-ghost use Rattle.std.specs.Prelude.{◌≡◌, ◌<◌, ◌≤◌, ◌+◌, true, false, if◌then◌else◌, length, take, get_or, bit_or, Some, IsTrue, IfOk, Ok, Err};
+ghost use Rattle.std.specs.Prelude.{◌≡◌, ◌<◌, ◌+◌, true, false, if◌then◌else◌, length, take, get_or, bit_or, Some, IfOk, Ok, Err};
 ghost use Rattle.x86_64_model.specs.Call.{MapToWithTableFlags};
 ghost use Rattle.x86_64_model.specs.Entry.{address, huge, IsParentFlags};
 ghost use Rattle.x86_64_model.specs.Mapper.{SupplyFits, MayMap, DoesMap, paths, words};
 ghost use Rattle.x86_64_model.specs.Refusal.{ParentEntryHugePage};
 ghost use Rattle.x86_64_model.specs.Window.{begins_with};
-ghost use Rattle.x86_64_mappers.specs.private.Linked.{MayLink};
-ghost use Rattle.x86_64_mappers.specs.private.OpenWay.{WillBePresent, IsOpenWay};
-ghost use Rattle.x86_64_mappers.specs.private.OwnedSteps.{LinksTable, MakesTable, MakesTables, SetsLeaf, SetsWord};
+ghost use Rattle.x86_64_mappers.specs.private.OpenWay.{WillBePresent};
+ghost use Rattle.x86_64_mappers.specs.private.OwnedSteps.{LinksTable, MakesTable, MakesTables, SetsLeaf, SetsWord, LeadsOpenly, MayNameTable};
 ghost use Rattle.x86_64_mappers.specs.Reached.{Reaches};
 ghost use Rattle.x86_64_mappers.specs.private.PageCalls.{page_word};
 ghost use Rattle.x86_64_mappers.specs.private.Results.{create_refusal, create_result};
@@ -28,7 +27,7 @@ use x86_64_tables::page_table::{PageTableEntry, PageTableFlags};
 /// The reason why there is no table on the path of a page.
 #[derive(Clone, Copy, Debug, PartialEq)]
 pub enum PageTableCreateError {
-    /// A parent of the page maps a larger page.
+    /// A parent of the page has `HUGE_PAGE`.
     MappedToHugePage,
     /// The table was missing, and no frame was left for it.
     FrameAllocationFailed,
@@ -62,10 +61,9 @@ fn name_table<M: TableAccess>(
     requires within { k < length parents.now }
     requires short { length parents.now < (M.hierarchy mapper.old).layout.levels }
     requires cleared { M.reaches_unnamed ≡ true → words (M.hierarchy mapper.old) frame ≡ Some zero_words }
-    requires may { let h = M.hierarchy mapper.old in
-        MayLink h.layout h.memory parents.now k table frame (bits_of flags) }
-    ensures named { let index = get_or parents.now k 0 in let word = bit_or frame (bits_of flags) in
-        SetsWord (M.hierarchy mapper.old) table index word (M.hierarchy mapper.new) }
+    requires may { MayNameTable (M.hierarchy mapper.old) parents.now k table frame (bits_of flags) }
+    ensures named { SetsWord (M.hierarchy mapper.old) table (get_or parents.now k 0)
+        (bit_or frame (bits_of flags)) (M.hierarchy mapper.new) }
     ensures reached { Reaches (M.hierarchy mapper.new) (take (k + 1) parents.now) frame }
     ensures layout { (M.hierarchy mapper.new).layout ≡ (M.hierarchy mapper.old).layout }
     ensures lent { (M.hierarchy mapper.new).lent ≡ (M.hierarchy mapper.old).lent }
@@ -89,10 +87,9 @@ fn link_table<M: TableAccess>(
 )
     requires within { k < length parents.now }
     requires short { length parents.now < (M.hierarchy mapper.old).layout.levels }
-    requires may { let h = M.hierarchy mapper.old in
-        MayLink h.layout h.memory parents.now k table frame (bits_of flags) }
-    ensures linked { let index = get_or parents.now k 0 in let word = bit_or frame (bits_of flags) in
-        LinksTable (M.hierarchy mapper.old) table index word frame (M.hierarchy mapper.new) }
+    requires may { MayNameTable (M.hierarchy mapper.old) parents.now k table frame (bits_of flags) }
+    ensures linked { LinksTable (M.hierarchy mapper.old) table (get_or parents.now k 0)
+        (bit_or frame (bits_of flags)) frame (M.hierarchy mapper.new) }
     ensures layout { (M.hierarchy mapper.new).layout ≡ (M.hierarchy mapper.old).layout }
     ensures lent { (M.hierarchy mapper.new).lent ≡ (M.hierarchy mapper.old).lent }
 {
@@ -124,8 +121,8 @@ fn mark_parent(
     parent_flags: PageTableFlags,
 ) -> Result<PhysFrame<Size4KiB>, PageTableCreateError>
     ensures marked { entry.new ≡ bit_or entry.old (bits_of parent_flags) }
-    ensures names { let entry = entry.old in
-        create_result result ≡ (if huge entry then Err ParentEntryHugePage else Ok (address entry)) }
+    ensures names { create_result result
+        ≡ (if huge entry.old then Err ParentEntryHugePage else Ok (address entry.old)) }
 {
     let flags = entry.flags();
     let next = PhysFrame::from_start_address_unchecked(entry.addr());
@@ -159,12 +156,10 @@ fn create_next_table<M: TableAccess, A: FrameAllocator<Size4KiB>>(
     requires short { length parents.now < (M.hierarchy mapper.old).layout.levels }
     requires outside { begins_with (M.hierarchy mapper.old).layout.window parents.now ≡ false }
     requires flags { IsParentFlags (bits_of parent_flags) }
-    requires way { let h = M.hierarchy mapper.old in
-        IsOpenWay h.layout h.memory (bits_of parent_flags) parents.now k table }
-    ensures made { let h = M.hierarchy mapper.old in let made = create_result result in
-        let supply = A.supply frame_allocator.old in let rest = A.supply frame_allocator.new in
-        let index = get_or parents.now k 0 in
-        MakesTable h supply (bits_of parent_flags) table index made (M.hierarchy mapper.new) rest }
+    requires way { LeadsOpenly (M.hierarchy mapper.old) (bits_of parent_flags) parents.now k table }
+    ensures made { MakesTable (M.hierarchy mapper.old) (A.supply frame_allocator.old) (bits_of parent_flags)
+        table (get_or parents.now k 0) (create_result result) (M.hierarchy mapper.new)
+        (A.supply frame_allocator.new) }
     ensures index { get_or parents.now k 0 < 512 }
     ensures layout { (M.hierarchy mapper.new).layout ≡ (M.hierarchy mapper.old).layout }
     ensures lent { (M.hierarchy mapper.new).lent ≡ (M.hierarchy mapper.old).lent }
@@ -190,7 +185,7 @@ fn create_next_table<M: TableAccess, A: FrameAllocator<Size4KiB>>(
 /// Those of the first call of [`create_next_table`] that fails.
 // Inlined for the reason above.
 #[inline(always)]
-pub fn create_tables<M: TableAccess, A: FrameAllocator<Size4KiB>>(
+pub(super) fn create_tables<M: TableAccess, A: FrameAllocator<Size4KiB>>(
     mapper: &mut M,
     parents: &[PageTableIndex],
     parent_flags: PageTableFlags,
@@ -201,9 +196,8 @@ pub fn create_tables<M: TableAccess, A: FrameAllocator<Size4KiB>>(
     requires outside { begins_with (M.hierarchy mapper.old).layout.window parents.now ≡ false }
     requires flags { IsParentFlags (bits_of parent_flags) }
     requires present { WillBePresent (paths (M.hierarchy mapper.old)) (bits_of parent_flags) parents.now }
-    ensures down { let h = M.hierarchy mapper.old in let made = create_result result in
-        let supply = A.supply frame_allocator.old in let rest = A.supply frame_allocator.new in
-        MakesTables h supply (bits_of parent_flags) parents.now made (M.hierarchy mapper.new) rest }
+    ensures down { MakesTables (M.hierarchy mapper.old) (A.supply frame_allocator.old) (bits_of parent_flags)
+        parents.now (create_result result) (M.hierarchy mapper.new) (A.supply frame_allocator.new) }
     ensures reached { IfOk result (λ frame. Reaches (M.hierarchy mapper.new) parents.now frame) }
     ensures layout { (M.hierarchy mapper.new).layout ≡ (M.hierarchy mapper.old).layout }
     ensures lent { (M.hierarchy mapper.new).lent ≡ (M.hierarchy mapper.old).lent }
@@ -232,8 +226,8 @@ fn set_leaf<S: PageSize, M: TableAccess>(
 ) -> Result<(), MapToError<S>>
     requires reached { Reaches (M.hierarchy mapper.old) parents.now table }
     requires short { length parents.now < (M.hierarchy mapper.old).layout.levels }
-    ensures set { let h = M.hierarchy mapper.old in let word = page_word S.LEVEL frame (bits_of flags) in
-        SetsLeaf h table index word frame (map_answer frame result) (M.hierarchy mapper.new) }
+    ensures set { SetsLeaf (M.hierarchy mapper.old) table index
+        (page_word S.LEVEL frame (bits_of flags)) frame (map_answer frame result) (M.hierarchy mapper.new) }
     ensures index { index < 512 }
     ensures layout { (M.hierarchy mapper.new).layout ≡ (M.hierarchy mapper.old).layout }
     ensures lent { (M.hierarchy mapper.new).lent ≡ (M.hierarchy mapper.old).lent }
@@ -261,12 +255,11 @@ pub fn map_path<S: PageSize, M: TableAccess, A: FrameAllocator<Size4KiB>>(
     frame_allocator: &mut A,
 ) -> Result<(), MapToError<S>>
     requires levels { length path.now + S.LEVEL ≡ (M.hierarchy mapper.old).layout.levels + 1 }
-    requires may { let call = MapToWithTableFlags path.now frame (bits_of flags) (bits_of parent_flags) in
-        MayMap (M.hierarchy mapper.old) (A.supply frame_allocator.old) call }
-    ensures does { let h = M.hierarchy mapper.old in
-        let call = MapToWithTableFlags path.now frame (bits_of flags) (bits_of parent_flags) in
-        let supply = A.supply frame_allocator.old in let rest = A.supply frame_allocator.new in
-        DoesMap h supply call (map_answer frame result) (M.hierarchy mapper.new) rest }
+    requires may { MayMap (M.hierarchy mapper.old) (A.supply frame_allocator.old)
+        (MapToWithTableFlags path.now frame (bits_of flags) (bits_of parent_flags)) }
+    ensures does { DoesMap (M.hierarchy mapper.old) (A.supply frame_allocator.old)
+        (MapToWithTableFlags path.now frame (bits_of flags) (bits_of parent_flags)) (map_answer frame result)
+        (M.hierarchy mapper.new) (A.supply frame_allocator.new) }
     ensures serves { A.serves frame_allocator.new ≡ A.serves frame_allocator.old }
 {
     let last = path.len() - 1;

@@ -4,7 +4,7 @@ ghost use Rattle.x86_64_model.specs.Call.{Reply, Answered};
 ghost use Rattle.x86_64_model.specs.Entry.{no_address};
 ghost use Rattle.x86_64_model.specs.Mapper.{Valid, path_of};
 ghost use Rattle.x86_64_model.specs.Position.{span};
-ghost use Rattle.x86_64_mappers.specs.RangeChanges.{unmaps, updates, frames_done, DoesChanges, IsRange};
+ghost use Rattle.x86_64_mappers.specs.RangeChanges.{frames_done, IsRange, UnmapsEach, UpdatesEach};
 ghost use Rattle.x86_64_mappers.specs.Reached.{Reaches};
 ghost use Rattle.x86_64_mappers.specs.private.OwnedSteps.{Finds};
 ghost use Rattle.x86_64_mappers.specs.private.PageCalls.{unmap_says, update_says};
@@ -117,8 +117,8 @@ fn unmap_entries<S: PageSize, K: FrameSink>(
 )
     requires { first + count ≤ 512 }
     ensures words { table.new ≡ with_words (unmap_says S.LEVEL) first table.old count }
-    ensures taken { let replies = replies_said (unmap_says S.LEVEL) first table.old count in
-        sink.new ≡ fold K.with_frame sink.old (frames_done replies) }
+    ensures taken { sink.new ≡ fold K.with_frame sink.old
+        (frames_done (replies_said (unmap_says S.LEVEL) first table.old count)) }
     ensures size { 0 < count → length table.old ≡ 512 }
 {
     for k in 0..count {
@@ -139,8 +139,9 @@ fn unmap_part<S: PageSize, L: LevelCount, M: TableAccess + TablesIn<L>, K: Frame
     requires some { 0 < count }
     ensures some { 0 < result }
     ensures within { result ≤ count }
-    ensures changes { let h = M.hierarchy mapper.old in let says = unmap_says S.LEVEL in
-        (replies : List Reply) × ChangesPart h S.LEVEL page says result replies (M.hierarchy mapper.new)
+    ensures changes { (replies : List Reply)
+        × ChangesPart (M.hierarchy mapper.old) S.LEVEL page (unmap_says S.LEVEL)
+        result replies (M.hierarchy mapper.new)
         × (sink.new ≡ fold K.with_frame sink.old (frames_done replies)) }
     ensures layout { (M.hierarchy mapper.new).layout ≡ (M.hierarchy mapper.old).layout }
     ensures lent { (M.hierarchy mapper.new).lent ≡ (M.hierarchy mapper.old).lent }
@@ -174,9 +175,8 @@ pub fn unmap_range<S: PageSize, L: LevelCount, M: TableAccess + TablesIn<L>, K: 
 ) -> MapperFlushRangeIn<S, L>
     requires valid { Valid (M.hierarchy mapper.old) }
     requires pages { IsRange (M.hierarchy mapper.old) S.LEVEL page count }
-    ensures does { let h = M.hierarchy mapper.old in
-        let calls = unmaps h.layout.levels S.LEVEL page count in
-        (replies : List Reply) × DoesChanges h calls replies (M.hierarchy mapper.new)
+    ensures does { (replies : List Reply)
+        × UnmapsEach (M.hierarchy mapper.old) S.LEVEL page count replies (M.hierarchy mapper.new)
         × (sink.new ≡ fold K.with_frame sink.old (frames_done replies)) }
     ensures pages { result ≡ flush_range page count }
 {
@@ -207,8 +207,8 @@ fn update_entries<S: PageSize>(
 ) -> u64
     requires { first + count ≤ 512 }
     ensures words { table.new ≡ with_words (update_says S.LEVEL (bits_of flags)) first table.old count }
-    ensures changed { let says = update_says S.LEVEL (bits_of flags) in
-        result ≡ length (frames_done (replies_said says first table.old count)) }
+    ensures changed { result ≡ length (frames_done
+        (replies_said (update_says S.LEVEL (bits_of flags)) first table.old count)) }
     ensures few { result ≤ count }
     ensures size { 0 < count → length table.old ≡ 512 }
 {
@@ -241,8 +241,9 @@ fn update_part<S: PageSize, L: LevelCount, M: TableAccess + TablesIn<L>>(
     ensures some { 0 < result.pages }
     ensures within { result.pages ≤ count }
     ensures few { result.changed ≤ result.pages }
-    ensures changes { let h = M.hierarchy mapper.old in let says = update_says S.LEVEL (bits_of flags) in
-        (replies : List Reply) × ChangesPart h S.LEVEL page says result.pages replies (M.hierarchy mapper.new)
+    ensures changes { (replies : List Reply)
+        × ChangesPart (M.hierarchy mapper.old) S.LEVEL page (update_says S.LEVEL (bits_of flags))
+        result.pages replies (M.hierarchy mapper.new)
         × (result.changed ≡ length (frames_done replies)) }
     ensures layout { (M.hierarchy mapper.new).layout ≡ (M.hierarchy mapper.old).layout }
     ensures lent { (M.hierarchy mapper.new).lent ≡ (M.hierarchy mapper.old).lent }
@@ -273,9 +274,9 @@ pub fn update_flags_range<S: PageSize, L: LevelCount, M: TableAccess + TablesIn<
     requires valid { Valid (M.hierarchy mapper.old) }
     requires pages { IsRange (M.hierarchy mapper.old) S.LEVEL page count }
     requires flags { no_address (bits_of flags) ≡ true }
-    ensures does { let h = M.hierarchy mapper.old in
-        let calls = updates h.layout.levels S.LEVEL page (bits_of flags) count in
-        (replies : List Reply) × DoesChanges h calls replies (M.hierarchy mapper.new)
+    ensures does { (replies : List Reply)
+        × UpdatesEach (M.hierarchy mapper.old) S.LEVEL page (bits_of flags) count
+        replies (M.hierarchy mapper.new)
         × (result.0 ≡ length (frames_done replies)) }
     ensures pages { result.1 ≡ flush_range page count }
 {

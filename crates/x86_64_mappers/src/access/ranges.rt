@@ -1,15 +1,15 @@
 //! Maps of ranges of pages.
-ghost use Rattle.std.specs.Prelude.{◌≡◌, ◌<◌, ◌≤◌, ◌+◌, ◌-◌, ◌*◌, ◌^◌, ℕ, false, length, take, get_or, IfOk, OnOk, IfErr};
+ghost use Rattle.std.specs.Prelude.{◌≡◌, ◌<◌, ◌≤◌, ◌+◌, ◌-◌, ◌*◌, ◌^◌, ℕ, false, length, get_or, IfOk, IfErr};
 ghost use Rattle.x86_64_model.specs.Entry.{IsParentFlags};
 ghost use Rattle.x86_64_model.specs.Mapper.{SupplyFits, paths};
 ghost use Rattle.x86_64_model.specs.Window.{begins_with};
-ghost use Rattle.x86_64_mappers.specs.Ranges.{range_of, MayMapRange, MapsAll, StopsAt};
+ghost use Rattle.x86_64_mappers.specs.Ranges.{range_of, MayMapRange, MapsRange};
 ghost use Rattle.x86_64_mappers.specs.Reached.{Reaches};
 ghost use Rattle.x86_64_mappers.specs.private.OpenWay.{WillBePresent};
 ghost use Rattle.x86_64_mappers.specs.private.RangeSteps.{with_leaves, AreUnused, SetsLeaves, MapsPart};
 ghost use Rattle.x86_64_mappers.specs.private.Results.{create_result};
+ghost use Rattle.x86_64_mappers.specs.private.RangeChangeSteps.{table_path, last_index};
 ghost use Rattle.x86_64_tables.specs.FlushRecorder.{flush_range};
-ghost use Rattle.x86_64_tables.specs.MapperAnswers.{map_refusal};
 ghost use Rattle.x86_64_tables.specs.PageTableFlags.{bits_of};
 
 use super::TableAccess;
@@ -89,8 +89,8 @@ fn set_leaves<S: PageSize, M: TableAccess>(
     requires within { first + count ≤ 512 }
     requires frames { (k : ℕ) → k < count → frame + k * S.SIZE < 2 ^ 52 }
     ensures within { result ≤ count }
-    ensures set { let h = M.hierarchy mapper.old in
-        SetsLeaves h table S.LEVEL first frame (bits_of flags) count result (M.hierarchy mapper.new) }
+    ensures set { SetsLeaves (M.hierarchy mapper.old) table S.LEVEL first frame (bits_of flags) count result
+        (M.hierarchy mapper.new) }
     ensures layout { (M.hierarchy mapper.new).layout ≡ (M.hierarchy mapper.old).layout }
     ensures lent { (M.hierarchy mapper.new).lent ≡ (M.hierarchy mapper.old).lent }
 {
@@ -119,17 +119,15 @@ fn map_part<S: PageSize, M: TableAccess, A: FrameAllocator<Size4KiB>>(
     requires ready { SupplyFits (M.hierarchy mapper.old) (A.supply frame_allocator.old) }
     requires outside { begins_with (M.hierarchy mapper.old).layout.window path.now ≡ false }
     requires marks { IsParentFlags (bits_of parent_flags) }
-    requires present { let parents = take (length path.now - 1) path.now in
-        WillBePresent (paths (M.hierarchy mapper.old)) (bits_of parent_flags) parents }
+    requires present { WillBePresent (paths (M.hierarchy mapper.old)) (bits_of parent_flags)
+        (table_path path.now) }
     requires some { 0 < count }
     requires within { get_or path.now (length path.now - 1) 0 + count ≤ 512 }
     requires frames { (k : ℕ) → k < count → frame + k * S.SIZE < 2 ^ 52 }
     ensures within { IfOk result (λ mapped. mapped ≤ count) }
-    ensures maps { let h = M.hierarchy mapper.old in let supply = A.supply frame_allocator.old in
-        let rest = A.supply frame_allocator.new in let last = length path.now - 1 in
-        let parents = take last path.now in let first = get_or path.now last 0 in
-        let made = create_result result in let given = bits_of flags in let more = bits_of parent_flags in
-        MapsPart h supply more parents S.LEVEL first frame given count made (M.hierarchy mapper.new) rest }
+    ensures maps { MapsPart (M.hierarchy mapper.old) (A.supply frame_allocator.old) (bits_of parent_flags)
+        (table_path path.now) S.LEVEL (last_index path.now) frame (bits_of flags) count (create_result result)
+        (M.hierarchy mapper.new) (A.supply frame_allocator.new) }
     ensures layout { (M.hierarchy mapper.new).layout ≡ (M.hierarchy mapper.old).layout }
     ensures lent { (M.hierarchy mapper.new).lent ≡ (M.hierarchy mapper.old).lent }
     ensures serves { A.serves frame_allocator.new ≡ A.serves frame_allocator.old }
@@ -160,17 +158,11 @@ pub fn map_range<
     frame_allocator: &mut A,
 ) -> Result<MapperFlushRangeIn<S, L>, MapRangeErrorIn<S, L>>
     requires fits { SupplyFits (M.hierarchy mapper.old) (A.supply frame_allocator.old) }
-    requires may { let range = range_of S.LEVEL page frame (bits_of flags) (bits_of parent_flags) in
-        MayMapRange (M.hierarchy mapper.old) range count }
-    ensures maps { let range = range_of S.LEVEL page frame (bits_of flags) (bits_of parent_flags) in
-        let h = M.hierarchy mapper.old in let supply = A.supply frame_allocator.old in
-        let after = M.hierarchy mapper.new in let rest = A.supply frame_allocator.new in
-        OnOk result (MapsAll h supply range count after rest) }
-    ensures stops { let range = range_of S.LEVEL page frame (bits_of flags) (bits_of parent_flags) in
-        let h = M.hierarchy mapper.old in let supply = A.supply frame_allocator.old in
-        let after = M.hierarchy mapper.new in let rest = A.supply frame_allocator.new in
-        IfErr result (λ error.
-        StopsAt h supply range count error.mapped.count (map_refusal error.why) after rest) }
+    requires may { MayMapRange (M.hierarchy mapper.old)
+        (range_of S.LEVEL page frame (bits_of flags) (bits_of parent_flags)) count }
+    ensures maps { MapsRange (M.hierarchy mapper.old) (A.supply frame_allocator.old)
+        (range_of S.LEVEL page frame (bits_of flags) (bits_of parent_flags)) count result
+        (M.hierarchy mapper.new) (A.supply frame_allocator.new) }
     ensures pages { IfOk result (λ flush. flush ≡ flush_range page count) }
     ensures first { IfErr result (λ error. error.mapped.page ≡ page) }
     ensures serves { A.serves frame_allocator.new ≡ A.serves frame_allocator.old }

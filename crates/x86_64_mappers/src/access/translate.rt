@@ -46,8 +46,8 @@ pub fn translate<M: TableAccess + TablesIn<L>, L: LevelCount>(
 ) -> TranslateResult
     requires { Valid (M.hierarchy mapper.now) }
     ensures answer { translation_of result ≡ Some (translation (M.hierarchy mapper.now) addr) }
-    ensures walk { let arrival = walk (M.hierarchy mapper.now) addr in
-        reaches result ≡ option_map (λ walked. walked.address) arrival }
+    ensures walk { reaches result
+        ≡ option_map (λ walked. walked.address) (walk (M.hierarchy mapper.now) addr) }
 {
     let path = path_of_address(mapper, addr);
     translate_position(mapper, path.indices(), addr)
@@ -89,8 +89,8 @@ fn translate_position<M: TableAccess + TablesIn<L>, L: LevelCount>(
     requires levels { length indices.now ≡ (M.hierarchy mapper.now).layout.levels }
     requires path { indices.now ≡ page_path (M.hierarchy mapper.now).layout.levels addr }
     ensures answer { translation_of result ≡ Some (translation (M.hierarchy mapper.now) addr) }
-    ensures walk { let arrival = walk (M.hierarchy mapper.now) addr in
-        reaches result ≡ option_map (λ walked. walked.address) arrival }
+    ensures walk { reaches result
+        ≡ option_map (λ walked. walked.address) (walk (M.hierarchy mapper.now) addr) }
 {
     translate_along(mapper, indices, addr)
 }
@@ -134,8 +134,8 @@ fn translate_along<M: TableAccess + TablesIn<L>, L: LevelCount>(
 fn leaf_translation(level: usize, entry: &PageTableEntry, position: u64) -> TranslateResult
     requires low { 1 ≤ level }
     requires high { level ≤ 3 }
-    ensures { let start = page_start level entry.now in let offset = position % span level in
-        translation_of result ≡ Some (Mapped (span level) start offset (flags entry.now)) }
+    ensures { translation_of result ≡ Some (
+        Mapped (span level) (page_start level entry.now) (position % span level) (flags entry.now)) }
 {
     let frame = mapped_frame(level, entry);
     TranslateResult::Mapped {

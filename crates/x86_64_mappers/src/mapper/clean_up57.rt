@@ -11,18 +11,18 @@ use x86_64_tables::mapper::PageTables57;
 ///
 /// A mapper gets these calls by an implementation of [`TableAccess`].
 pub trait CleanUp57: TableAccess + PageTables57 {
-    ghost use Rattle.x86_64_model.specs.Mapper.{MayCleanUp, CleansUp};
+    ghost use Rattle.x86_64_mappers.specs.CleanUps.{store_of, MayCleanUpInto, CleansUpInto};
 
     /// Removes the empty tables of the whole address space. This is
     /// [`clean_up_addr_range`](Self::clean_up_addr_range) for all pages, in both halves.
     ///
     /// Requires the conditions of [`clean_up_addr_range`](Self::clean_up_addr_range).
     final fn clean_up<D: FrameDeallocator<Size4KiB>>(&mut self, frame_deallocator: &mut D)
-        requires { let serves = D.serves frame_deallocator.old in
-            MayCleanUp (Self.hierarchy self.old) serves (D.held frame_deallocator.old) }
-        ensures cleans { let held = D.held frame_deallocator.old in let after = Self.hierarchy self.new in
-            let rest = D.held frame_deallocator.new in
-            CleansUp (Self.hierarchy self.old) D.take_back held 0 0x1ff_ffff_ffff_ffff after rest }
+        requires { MayCleanUpInto (Self.hierarchy self.old)
+            (store_of D.FrameDeallocator frame_deallocator.old) }
+        ensures cleans { CleansUpInto (Self.hierarchy self.old)
+            (store_of D.FrameDeallocator frame_deallocator.old)
+            0 0x1ff_ffff_ffff_ffff (Self.hierarchy self.new) (D.held frame_deallocator.new) }
         ensures serves { D.serves frame_deallocator.new ≡ D.serves frame_deallocator.old }
     {
         calls::clean_up(self, frame_deallocator);
@@ -31,9 +31,9 @@ pub trait CleanUp57: TableAccess + PageTables57 {
     /// Removes the empty tables of a range of pages, and returns their frames to the deallocator, with all words 0.
     ///
     /// A table other than the root is removed if and only if two things hold. Each entry on its path is present,
-    /// lacks `HUGE_PAGE` and spans an address of the range. And each used entry below it names a table and spans an
-    /// address of the range. The removed table's entry becomes unused. The tables below a table are removed before it,
-    /// and otherwise tables are removed in order of index. An empty range removes nothing.
+    /// lacks `HUGE_PAGE` and spans an address of the range. And each used entry below it is present, names a table and
+    /// spans an address of the range. The removed table's entry becomes unused. The tables below a table are removed
+    /// before it, and otherwise tables are removed in order of index. An empty range removes nothing.
     ///
     /// Requires that the hierarchy is valid, and that the deallocator serves the frame of each table but the root and
     /// doesn't hold it.
@@ -42,11 +42,11 @@ pub trait CleanUp57: TableAccess + PageTables57 {
         range: PageRangeInclusive57<Size4KiB>,
         frame_deallocator: &mut D,
     )
-        requires { let serves = D.serves frame_deallocator.old in
-            MayCleanUp (Self.hierarchy self.old) serves (D.held frame_deallocator.old) }
-        ensures cleans { let held = D.held frame_deallocator.old in let after = Self.hierarchy self.new in
-            let rest = D.held frame_deallocator.new in let high = range.end + 0xfff in
-            CleansUp (Self.hierarchy self.old) D.take_back held range.start high after rest }
+        requires { MayCleanUpInto (Self.hierarchy self.old)
+            (store_of D.FrameDeallocator frame_deallocator.old) }
+        ensures cleans { CleansUpInto (Self.hierarchy self.old)
+            (store_of D.FrameDeallocator frame_deallocator.old)
+            range.start (range.end + 0xfff) (Self.hierarchy self.new) (D.held frame_deallocator.new) }
         ensures serves { D.serves frame_deallocator.new ≡ D.serves frame_deallocator.old }
     {
         calls::clean_up_range(self, range, frame_deallocator);

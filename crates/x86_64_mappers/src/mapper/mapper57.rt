@@ -1,5 +1,5 @@
 //! Maps pages of 57-bit virtual addresses.
-ghost use Rattle.std.specs.Prelude.{◌≡◌, ◌<◌, ◌↔◌, ℕ, true, List, fold, length, IsTrue, IfOk, IfErr, OnOk};
+ghost use Rattle.std.specs.Prelude.{◌≡◌, ◌<◌, ◌↔◌, true, List, fold, length, IsTrue, IfOk, IfErr};
 ghost use Rattle.x86_64_model.specs.Mapper.{Valid};
 ghost use Rattle.x86_64_tables.specs.PageTableFlags.{bits_of};
 
@@ -20,13 +20,15 @@ use x86_64_tables::page_table::PageTableFlags;
 ///
 /// The parents of a page are the entries on its path from the root down to the one above the page's own.
 pub trait Mapper57<S: PageSize>: TableAccess + PageTables57 {
-    ghost use Rattle.x86_64_model.specs.Call.{MapTo, MapToWithTableFlags, IdentityMap, Unmap, UpdateFlags, SetFlags, Reply};
+    ghost use Rattle.x86_64_model.specs.Call.{Reply};
     ghost use Rattle.x86_64_model.specs.Entry.{no_address, present};
-    ghost use Rattle.x86_64_model.specs.Mapper.{SupplyFits, path_of, page_translation, allows, allows_map, May, MayMap, Does, DoesMap, ArrivesIn, named};
-    ghost use Rattle.x86_64_mappers.specs.RangeChanges.{IsRange, DoesChanges, frames_done, unmaps, updates};
-    ghost use Rattle.x86_64_mappers.specs.Ranges.{MapsAll, MayMapRange, StopsAt, range_of};
+    ghost use Rattle.x86_64_model.specs.Mapper.{SupplyFits};
+    ghost use Rattle.x86_64_model.specs.PageCalls.{MayAsk, MayAskMap, Answers, AnswersMap, MapTo, MapToWithTableFlags, IdentityMap, Unmap, UpdateFlags, SetFlags};
+    ghost use Rattle.x86_64_mappers.specs.RangeChanges.{IsRange, frames_done, UnmapsEach, UpdatesEach};
+    ghost use Rattle.x86_64_mappers.specs.Ranges.{MayMapRange, range_of, MapsRange};
+    ghost use Rattle.x86_64_mappers.specs.PageAnswers.{allows_call, allows_page, translated_page, AnswersFlags, ArrivesIfPresent};
     ghost use Rattle.x86_64_tables.specs.FlushRecorder.{flush_range};
-    ghost use Rattle.x86_64_tables.specs.MapperAnswers.{map_answer, map_refusal, unmap_answer, flags_answer, translate_answer};
+    ghost use Rattle.x86_64_tables.specs.MapperAnswers.{map_answer, unmap_answer, translate_answer};
 
     /// Maps a page to a frame with these flags, as
     /// [`Mapper::map_to_with_table_flags`](super::Mapper::map_to_with_table_flags) does.
@@ -45,13 +47,11 @@ pub trait Mapper57<S: PageSize>: TableAccess + PageTables57 {
         parent_flags: PageTableFlags,
         frame_allocator: &mut A,
     ) -> Result<MapperFlush57<S>, MapToError<S>>
-        requires { let h = Self.hierarchy self.old in let path = path_of h S.LEVEL page in
-            let call = MapToWithTableFlags path frame (bits_of flags) (bits_of parent_flags) in
-            MayMap h (A.supply frame_allocator.old) call }
-        ensures does { let h = Self.hierarchy self.old in let path = path_of h S.LEVEL page in
-            let call = MapToWithTableFlags path frame (bits_of flags) (bits_of parent_flags) in
-            let supply = A.supply frame_allocator.old in let rest = A.supply frame_allocator.new in
-            DoesMap h supply call (map_answer frame result) (Self.hierarchy self.new) rest }
+        requires { MayAskMap (Self.hierarchy self.old) (A.supply frame_allocator.old) S.LEVEL
+            (MapToWithTableFlags page frame (bits_of flags) (bits_of parent_flags)) }
+        ensures does { AnswersMap (Self.hierarchy self.old) (A.supply frame_allocator.old) S.LEVEL
+            (MapToWithTableFlags page frame (bits_of flags) (bits_of parent_flags)) (map_answer frame result)
+            (Self.hierarchy self.new) (A.supply frame_allocator.new) }
         ensures page { IfOk result (λ flush. flush ≡ page) }
         ensures serves { A.serves frame_allocator.new ≡ A.serves frame_allocator.old }
     {
@@ -67,16 +67,14 @@ pub trait Mapper57<S: PageSize>: TableAccess + PageTables57 {
         flags: PageTableFlags,
         frame_allocator: &mut A,
     ) -> Result<MapperFlush57<S>, MapToError<S>>
-        requires { let h = Self.hierarchy self.old in
-            let call = MapTo (path_of h S.LEVEL page) frame (bits_of flags) in
-            MayMap h (A.supply frame_allocator.old) call }
-        ensures does { let h = Self.hierarchy self.old in
-            let call = MapTo (path_of h S.LEVEL page) frame (bits_of flags) in
-            let supply = A.supply frame_allocator.old in let rest = A.supply frame_allocator.new in
-            DoesMap h supply call (map_answer frame result) (Self.hierarchy self.new) rest }
+        requires { MayAskMap (Self.hierarchy self.old) (A.supply frame_allocator.old) S.LEVEL
+            (MapTo page frame (bits_of flags)) }
+        ensures does { AnswersMap (Self.hierarchy self.old) (A.supply frame_allocator.old) S.LEVEL
+            (MapTo page frame (bits_of flags)) (map_answer frame result)
+            (Self.hierarchy self.new) (A.supply frame_allocator.new) }
         ensures page { IfOk result (λ flush. flush ≡ page) }
-        ensures arrives { let h = Self.hierarchy self.new in let given = bits_of flags in
-            IfOk result (λ _. present given ≡ true → ArrivesIn h S.SIZE page frame given) }
+        ensures arrives { IfOk result (λ _.
+            ArrivesIfPresent (Self.hierarchy self.new) S.SIZE page frame (bits_of flags)) }
         ensures serves { A.serves frame_allocator.new ≡ A.serves frame_allocator.old }
     {
         calls::map_to(self, page, frame, flags, frame_allocator)
@@ -92,16 +90,14 @@ pub trait Mapper57<S: PageSize>: TableAccess + PageTables57 {
         flags: PageTableFlags,
         frame_allocator: &mut A,
     ) -> Result<MapperFlush57<S>, MapToError<S>>
-        requires { let h = Self.hierarchy self.old in
-            let call = MapTo (path_of h S.LEVEL frame) frame (bits_of flags) in
-            MayMap h (A.supply frame_allocator.old) call }
-        ensures does { let h = Self.hierarchy self.old in
-            let call = IdentityMap S.LEVEL frame (bits_of flags) in
-            let supply = A.supply frame_allocator.old in let rest = A.supply frame_allocator.new in
-            DoesMap h supply call (map_answer frame result) (Self.hierarchy self.new) rest }
+        requires { MayAskMap (Self.hierarchy self.old) (A.supply frame_allocator.old) S.LEVEL
+            (MapTo frame frame (bits_of flags)) }
+        ensures does { AnswersMap (Self.hierarchy self.old) (A.supply frame_allocator.old) S.LEVEL
+            (IdentityMap frame (bits_of flags)) (map_answer frame result)
+            (Self.hierarchy self.new) (A.supply frame_allocator.new) }
         ensures page { IfOk result (λ flush. flush ≡ frame) }
-        ensures arrives { let h = Self.hierarchy self.new in let given = bits_of flags in
-            IfOk result (λ _. present given ≡ true → ArrivesIn h S.SIZE frame frame given) }
+        ensures arrives { IfOk result (λ _.
+            ArrivesIfPresent (Self.hierarchy self.new) S.SIZE frame frame (bits_of flags)) }
         ensures serves { A.serves frame_allocator.new ≡ A.serves frame_allocator.old }
     {
         calls::identity_map(self, frame, flags, frame_allocator)
@@ -119,8 +115,8 @@ pub trait Mapper57<S: PageSize>: TableAccess + PageTables57 {
         parent_flags: PageTableFlags,
     ) -> bool
         requires { Valid (Self.hierarchy self.now) }
-        ensures { let h = Self.hierarchy self.now in
-            result ≡ allows_map h (path_of h S.LEVEL page) (bits_of flags) (bits_of parent_flags) }
+        ensures { result
+            ≡ allows_page (Self.hierarchy self.now) S.LEVEL page (bits_of flags) (bits_of parent_flags) }
     {
         calls::map_allowed(self, page, flags, parent_flags)
     }
@@ -136,10 +132,9 @@ pub trait Mapper57<S: PageSize>: TableAccess + PageTables57 {
         &mut self,
         page: Page57<S>,
     ) -> Result<(PhysFrame<S>, MapperFlush57<S>), UnmapError>
-        requires { let h = Self.hierarchy self.old in
-            May h (Unmap (path_of h S.LEVEL page)) }
-        ensures does { let h = Self.hierarchy self.old in
-            Does h (Unmap (path_of h S.LEVEL page)) (unmap_answer result) (Self.hierarchy self.new) }
+        requires { MayAsk (Self.hierarchy self.old) S.LEVEL (Unmap page) }
+        ensures does { Answers (Self.hierarchy self.old) S.LEVEL (Unmap page)
+            (unmap_answer result) (Self.hierarchy self.new) }
         ensures page { IfOk result (λ unmapped. unmapped.1 ≡ page) }
     {
         calls::unmap(self, page)
@@ -158,11 +153,9 @@ pub trait Mapper57<S: PageSize>: TableAccess + PageTables57 {
         page: Page57<S>,
         flags: PageTableFlags,
     ) -> Result<MapperFlush57<S>, FlagUpdateError>
-        requires { let h = Self.hierarchy self.old in
-            May h (UpdateFlags (path_of h S.LEVEL page) (bits_of flags)) }
-        ensures does { let h = Self.hierarchy self.old in
-            let call = UpdateFlags (path_of h S.LEVEL page) (bits_of flags) in
-            Does h call (flags_answer (named h call) result) (Self.hierarchy self.new) }
+        requires { MayAsk (Self.hierarchy self.old) S.LEVEL (UpdateFlags page (bits_of flags)) }
+        ensures does { AnswersFlags (Self.hierarchy self.old) S.LEVEL (UpdateFlags page (bits_of flags))
+            result (Self.hierarchy self.new) }
         ensures page { IfOk result (λ flush. flush ≡ page) }
     {
         calls::update_flags(self, page, flags)
@@ -188,17 +181,11 @@ pub trait Mapper57<S: PageSize>: TableAccess + PageTables57 {
         frame_allocator: &mut A,
     ) -> Result<MapperFlushRange57<S>, MapRangeError57<S>>
         requires fits { SupplyFits (Self.hierarchy self.old) (A.supply frame_allocator.old) }
-        requires may { let range = range_of S.LEVEL page frame (bits_of flags) (bits_of parent_flags) in
-            MayMapRange (Self.hierarchy self.old) range count }
-        ensures maps { let range = range_of S.LEVEL page frame (bits_of flags) (bits_of parent_flags) in
-            let h = Self.hierarchy self.old in let supply = A.supply frame_allocator.old in
-            let after = Self.hierarchy self.new in let rest = A.supply frame_allocator.new in
-            OnOk result (MapsAll h supply range count after rest) }
-        ensures stops { let range = range_of S.LEVEL page frame (bits_of flags) (bits_of parent_flags) in
-            let h = Self.hierarchy self.old in let supply = A.supply frame_allocator.old in
-            let after = Self.hierarchy self.new in let rest = A.supply frame_allocator.new in
-            IfErr result (λ error.
-            StopsAt h supply range count error.mapped.count (map_refusal error.why) after rest) }
+        requires may { MayMapRange (Self.hierarchy self.old)
+            (range_of S.LEVEL page frame (bits_of flags) (bits_of parent_flags)) count }
+        ensures maps { MapsRange (Self.hierarchy self.old) (A.supply frame_allocator.old)
+            (range_of S.LEVEL page frame (bits_of flags) (bits_of parent_flags)) count result
+            (Self.hierarchy self.new) (A.supply frame_allocator.new) }
         ensures pages { IfOk result (λ flush. flush ≡ flush_range page count) }
         ensures first { IfErr result (λ error. error.mapped.page ≡ page) }
         ensures serves { A.serves frame_allocator.new ≡ A.serves frame_allocator.old }
@@ -224,9 +211,9 @@ pub trait Mapper57<S: PageSize>: TableAccess + PageTables57 {
         flags: PageTableFlags,
         parent_flags: PageTableFlags,
     ) -> bool
-        ensures { let h = Self.hierarchy self.now in let more = bits_of parent_flags in
-            let range = range_of S.LEVEL page frame (bits_of flags) more in
-            IsTrue result ↔ (present more ≡ true) × MayMapRange h range count }
+        ensures { IsTrue result ↔ (present (bits_of parent_flags) ≡ true)
+            × MayMapRange (Self.hierarchy self.now)
+            (range_of S.LEVEL page frame (bits_of flags) (bits_of parent_flags)) count }
     {
         calls::map_range_allowed(self, page, count, frame, flags, parent_flags)
     }
@@ -243,9 +230,8 @@ pub trait Mapper57<S: PageSize>: TableAccess + PageTables57 {
     ) -> MapperFlushRange57<S>
         requires valid { Valid (Self.hierarchy self.old) }
         requires pages { IsRange (Self.hierarchy self.old) S.LEVEL page count }
-        ensures does { let h = Self.hierarchy self.old in
-            let calls = unmaps h.layout.levels S.LEVEL page count in
-            (replies : List Reply) × DoesChanges h calls replies (Self.hierarchy self.new)
+        ensures does { (replies : List Reply)
+            × UnmapsEach (Self.hierarchy self.old) S.LEVEL page count replies (Self.hierarchy self.new)
             × (sink.new ≡ fold K.with_frame sink.old (frames_done replies)) }
         ensures pages { result ≡ flush_range page count }
     {
@@ -267,9 +253,9 @@ pub trait Mapper57<S: PageSize>: TableAccess + PageTables57 {
         requires valid { Valid (Self.hierarchy self.old) }
         requires pages { IsRange (Self.hierarchy self.old) S.LEVEL page count }
         requires flags { no_address (bits_of flags) ≡ true }
-        ensures does { let h = Self.hierarchy self.old in
-            let calls = updates h.layout.levels S.LEVEL page (bits_of flags) count in
-            (replies : List Reply) × DoesChanges h calls replies (Self.hierarchy self.new)
+        ensures does { (replies : List Reply)
+            × UpdatesEach (Self.hierarchy self.old) S.LEVEL page (bits_of flags) count
+            replies (Self.hierarchy self.new)
             × (result.0 ≡ length (frames_done replies)) }
         ensures pages { result.1 ≡ flush_range page count }
     {
@@ -297,11 +283,9 @@ pub trait Mapper57<S: PageSize>: TableAccess + PageTables57 {
         page: Page57<S>,
         flags: PageTableFlags,
     ) -> Result<MapperFlushAll, FlagUpdateError>
-        requires { let h = Self.hierarchy self.old in
-            May h (SetFlags 5 (path_of h S.LEVEL page) (bits_of flags)) }
-        ensures { let h = Self.hierarchy self.old in
-            let call = SetFlags 5 (path_of h S.LEVEL page) (bits_of flags) in
-            Does h call (flags_answer (named h call) result) (Self.hierarchy self.new) }
+        requires { MayAsk (Self.hierarchy self.old) S.LEVEL (SetFlags 5 page (bits_of flags)) }
+        ensures { AnswersFlags (Self.hierarchy self.old) S.LEVEL (SetFlags 5 page (bits_of flags))
+            result (Self.hierarchy self.new) }
     {
         calls::set_table_flags(self, page, 5, flags)
     }
@@ -319,11 +303,9 @@ pub trait Mapper57<S: PageSize>: TableAccess + PageTables57 {
         page: Page57<S>,
         flags: PageTableFlags,
     ) -> Result<MapperFlushAll, FlagUpdateError>
-        requires { let h = Self.hierarchy self.old in
-            May h (SetFlags 4 (path_of h S.LEVEL page) (bits_of flags)) }
-        ensures { let h = Self.hierarchy self.old in
-            let call = SetFlags 4 (path_of h S.LEVEL page) (bits_of flags) in
-            Does h call (flags_answer (named h call) result) (Self.hierarchy self.new) }
+        requires { MayAsk (Self.hierarchy self.old) S.LEVEL (SetFlags 4 page (bits_of flags)) }
+        ensures { AnswersFlags (Self.hierarchy self.old) S.LEVEL (SetFlags 4 page (bits_of flags))
+            result (Self.hierarchy self.new) }
     {
         calls::set_table_flags(self, page, 4, flags)
     }
@@ -343,11 +325,9 @@ pub trait Mapper57<S: PageSize>: TableAccess + PageTables57 {
         page: Page57<S>,
         flags: PageTableFlags,
     ) -> Result<MapperFlushAll, FlagUpdateError>
-        requires { let h = Self.hierarchy self.old in
-            May h (SetFlags 3 (path_of h S.LEVEL page) (bits_of flags)) }
-        ensures { let h = Self.hierarchy self.old in
-            let call = SetFlags 3 (path_of h S.LEVEL page) (bits_of flags) in
-            Does h call (flags_answer (named h call) result) (Self.hierarchy self.new) }
+        requires { MayAsk (Self.hierarchy self.old) S.LEVEL (SetFlags 3 page (bits_of flags)) }
+        ensures { AnswersFlags (Self.hierarchy self.old) S.LEVEL (SetFlags 3 page (bits_of flags))
+            result (Self.hierarchy self.new) }
     {
         calls::set_table_flags(self, page, 3, flags)
     }
@@ -369,11 +349,9 @@ pub trait Mapper57<S: PageSize>: TableAccess + PageTables57 {
         page: Page57<S>,
         flags: PageTableFlags,
     ) -> Result<MapperFlushAll, FlagUpdateError>
-        requires { let h = Self.hierarchy self.old in
-            May h (SetFlags 2 (path_of h S.LEVEL page) (bits_of flags)) }
-        ensures { let h = Self.hierarchy self.old in
-            let call = SetFlags 2 (path_of h S.LEVEL page) (bits_of flags) in
-            Does h call (flags_answer (named h call) result) (Self.hierarchy self.new) }
+        requires { MayAsk (Self.hierarchy self.old) S.LEVEL (SetFlags 2 page (bits_of flags)) }
+        ensures { AnswersFlags (Self.hierarchy self.old) S.LEVEL (SetFlags 2 page (bits_of flags))
+            result (Self.hierarchy self.new) }
     {
         calls::set_table_flags(self, page, 2, flags)
     }
@@ -385,8 +363,7 @@ pub trait Mapper57<S: PageSize>: TableAccess + PageTables57 {
     /// Requires that the hierarchy is valid.
     final fn p3_flags_allowed(&self, page: Page57<S>, flags: PageTableFlags) -> bool
         requires { Valid (Self.hierarchy self.now) }
-        ensures { let h = Self.hierarchy self.now in
-            result ≡ allows h (SetFlags 3 (path_of h S.LEVEL page) (bits_of flags)) }
+        ensures { result ≡ allows_call (Self.hierarchy self.now) S.LEVEL (SetFlags 3 page (bits_of flags)) }
     {
         calls::table_flags_allowed(self, page, 3, flags)
     }
@@ -398,8 +375,7 @@ pub trait Mapper57<S: PageSize>: TableAccess + PageTables57 {
     /// Requires that the hierarchy is valid.
     final fn p2_flags_allowed(&self, page: Page57<S>, flags: PageTableFlags) -> bool
         requires { Valid (Self.hierarchy self.now) }
-        ensures { let h = Self.hierarchy self.now in
-            result ≡ allows h (SetFlags 2 (path_of h S.LEVEL page) (bits_of flags)) }
+        ensures { result ≡ allows_call (Self.hierarchy self.now) S.LEVEL (SetFlags 2 page (bits_of flags)) }
     {
         calls::table_flags_allowed(self, page, 2, flags)
     }
@@ -414,8 +390,7 @@ pub trait Mapper57<S: PageSize>: TableAccess + PageTables57 {
     /// Those of [`Mapper::translate_page`](super::Mapper::translate_page).
     final fn translate_page(&self, page: Page57<S>) -> Result<PhysFrame<S>, TranslateError>
         requires { Valid (Self.hierarchy self.now) }
-        ensures { let h = Self.hierarchy self.now in
-            translate_answer result ≡ page_translation h (path_of h S.LEVEL page) }
+        ensures { translate_answer result ≡ translated_page (Self.hierarchy self.now) S.LEVEL page }
     {
         calls::translate_page(self, page)
     }

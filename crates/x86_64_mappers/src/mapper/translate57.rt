@@ -20,8 +20,8 @@ pub trait Translate57: TableAccess + PageTables57 {
     final fn translate(&self, addr: VirtAddr57) -> TranslateResult
         requires { Valid (Self.hierarchy self.now) }
         ensures answer { translation_of result ≡ Some (translation (Self.hierarchy self.now) addr) }
-        ensures walk { let walked = walk (Self.hierarchy self.now) addr in
-            reaches result ≡ option_map (λ walked. walked.address) walked }
+        ensures walk { reaches result
+            ≡ option_map (λ walked. walked.address) (walk (Self.hierarchy self.now) addr) }
     {
         calls::translate(self, addr)
     }

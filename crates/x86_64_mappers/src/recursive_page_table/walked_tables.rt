@@ -1,11 +1,12 @@
 //! Tables that are reached at virtual addresses.
-ghost use Rattle.std.specs.Prelude.{◌≡◌, ◌<◌, ◌/◌, ℕ, List, IsSome, unwrap_or};
+ghost use Rattle.std.specs.Prelude.{◌≡◌, ◌<◌, ◌/◌, ℕ, List, IsSome};
 ghost use Rattle.std.specs.Borrow.{sem};
 ghost use Rattle.std.specs.FinMap.{insert};
 ghost use Rattle.std.specs.Option.{option_copied, option_copied_mut};
 ghost use Rattle.x86_64_model.specs.Memory.{Memory, words_of, identity_places};
 ghost use Rattle.x86_64_model.specs.Position.{position_count};
-ghost use Rattle.x86_64_tables.specs.ActiveMemory.{walked_frame, walked_table};
+ghost use Rattle.x86_64_mappers.specs.Recursive.{by_number, shown_frame};
+ghost use Rattle.x86_64_tables.specs.ActiveMemory.{walked_table};
 ghost use Rattle.x86_64_tables.specs.SelfEntries.{has_self_entry};
 ghost use Rattle.x86_64_tables.specs.Lending.{LendsTableIfBy};
 
@@ -39,24 +40,22 @@ pub trait WalkedTables<L: LevelCount> {
 
     /// Returns true if the root's word at an index has `PRESENT`, lacks `HUGE_PAGE` and names the root.
     fn self_entry(&self, index: PageTableIndex) -> bool
-        ensures { let words = words_of (Self.memory self.now) identity_places in
-            result ≡ has_self_entry words (Self.root self.now) index };
+        ensures { result ≡ has_self_entry (by_number (Self.memory self.now)) (Self.root self.now) index };
 
     /// Returns the table at which the page walk of a position arrives. A position is an address counted without the
     /// gap between the halves.
     fn table(&self, position: u64) -> Option<&PageTable>
         requires { position < position_count L.LEVELS }
-        ensures { let words = words_of (Self.memory self.now) identity_places in
-            option_copied result ≡ walked_table L.LEVELS words (Self.root self.now) position };
+        ensures { option_copied result
+            ≡ walked_table L.LEVELS (by_number (Self.memory self.now)) (Self.root self.now) position };
 
     /// Lends the table at which the page walk of a position arrives.
     fn table_mut(&mut self, position: u64) -> Option<&mut PageTable>
         requires { position < position_count L.LEVELS }
-        ensures* lends { let words = words_of (Self.memory self.old) identity_places in
-            let frame = unwrap_or (walked_frame L.LEVELS words (Self.root self.old) position) 0 in
-            sem 𝓛 (LendsTableIfBy Self.row self.entry result (Self.with_table self.old frame)) }
-        ensures value { let words = words_of (Self.memory self.old) identity_places in
-            option_copied_mut result ≡ walked_table L.LEVELS words (Self.root self.old) position };
+        ensures* lends { sem 𝓛 (LendsTableIfBy Self.row self.entry result (Self.with_table self.old
+            (shown_frame L.LEVELS (Self.memory self.old) (Self.root self.old) position))) }
+        ensures value { option_copied_mut result
+            ≡ walked_table L.LEVELS (by_number (Self.memory self.old)) (Self.root self.old) position };
 
     ghost puts: { (s : Self) (f : ℕ) (t : List ℕ) → IsSome (words_of (memory s) identity_places f) →
         memory (with_table s f t) ≡ insert (memory s) (identity_places.place f) t };

@@ -78,8 +78,7 @@ fn table_window<S: PageSize, L: LevelCount>(
 /// Returns the address of the window of the table that a path leads to.
 pub(super) fn window<L: LevelCount>(index: PageTableIndex, path: &[PageTableIndex]) -> VirtAddrIn<L>
     requires { length path.now < L.LEVELS }
-    ensures path { let times = L.LEVELS - length path.now in
-        page_path L.LEVELS result ≡ replicate times index ++ path.now }
+    ensures path { page_path L.LEVELS result ≡ replicate (L.LEVELS - length path.now) index ++ path.now }
     ensures aligned { result % 4096 ≡ 0 }
     ensures table { ShowsTable L.LEVELS index path.now result }
 {
@@ -89,8 +88,7 @@ pub(super) fn window<L: LevelCount>(index: PageTableIndex, path: &[PageTableInde
 /// Returns the window's position. A position is an address counted without the gap between the halves.
 pub(super) fn window_position<L: LevelCount>(index: PageTableIndex, path: &[PageTableIndex]) -> u64
     requires { length path.now < L.LEVELS }
-    ensures path { let times = L.LEVELS - length path.now in
-        page_path L.LEVELS result ≡ replicate times index ++ path.now }
+    ensures path { page_path L.LEVELS result ≡ replicate (L.LEVELS - length path.now) index ++ path.now }
     ensures aligned { result % 4096 ≡ 0 }
     ensures inside { result < position_count L.LEVELS }
 {

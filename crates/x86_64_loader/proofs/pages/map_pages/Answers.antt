@@ -60,7 +60,7 @@ returns-in-Err-clause-stopped g c =
     let done = c.count-count.result in
     let why = c.in-Err.error.why in
     let stops : StopsAt h supply (range_of level page frame given (parent_part given)) count c.in-Err.error.mapped.count (map_refusal why) after rest =
-    subst (λ more. StopsAt h supply (range_of level page frame given more) count c.in-Err.error.mapped.count (map_refusal why) after rest) c.parent_flags-parent_flags.ensures c.in-Err.ensures.stops in
+    subst (λ more. StopsAt h supply (range_of level page frame given more) count c.in-Err.error.mapped.count (map_refusal why) after rest) c.parent_flags-parent_flags.ensures c.in-Err.ensures.maps in
     subst (λ z. IsStopped h supply level z page frame given count done (map_refusal why) after rest) (sym g.S.PageSize.size)
     (some_mapped h supply level page frame given g.S.PageSize.low g.S.PageSize.high (g.met.M.Tables.at_least_four s) (g.M.Tables.added_flags s).adds (g.met.M.Tables.is_mapping s) c.requires.is_present
     (ap (λ z. page % z) (sym g.S.PageSize.size) ∙ page_aligned) (ap (λ z. frame % z) (sym g.S.PageSize.size) ∙ frame_aligned) c.requires.fits count done why frames after rest

@@ -75,8 +75,8 @@ add-requires g c =
     let few = few_left c.parts.done c.in-Ok.mapped c.args.count (512 - c.from-room.result) c.min-part.result c.parts-test.true c.min-part.ensures c.if-mapped-part.true in
     subst (λ z. c.args.frame + k * z < 2 ^ 52) (sym g.S.PageSize.size) (c.requires.may.frames k few)
 
-pub returns-then-mapped-part-clause-stops : goal.returns-then-mapped-part-clause-stops
-returns-then-mapped-part-clause-stops g c =
+pub returns-then-mapped-part-clause-maps : goal.returns-then-mapped-part-clause-maps
+returns-then-mapped-part-clause-maps g c =
     let s = c.args.mapper.now in
     let h = g.M.Tables.hierarchy s in
     let l = h.layout in
@@ -163,8 +163,8 @@ parts-preserved g c =
       serves = c.map_part.ensures.serves ∙ inv.serves;
     }
 
-pub returns-in-Err-clause-stops : goal.returns-in-Err-clause-stops
-returns-in-Err-clause-stops g c =
+pub returns-in-Err-clause-maps : goal.returns-in-Err-clause-maps
+returns-in-Err-clause-maps g c =
     let s = c.args.mapper.now in
     let h = g.M.Tables.hierarchy s in
     let l = h.layout in
