@@ -56,7 +56,8 @@ pub trait FrameDeallocator<S: PageSize>: FrameKeeper<S> {
     ghost held_is_served: { (deallocator : Self) (frame : ℕ) → In (held deallocator) frame
         → Self.serves deallocator frame ≡ true };
 
-    ghost take_back_rearranges: { (held : List ℕ) (frame : ℕ) → IsPermutation (frame ∷ held) (take_back held frame) };
+    ghost take_back_rearranges: { (held : List ℕ) (frame : ℕ)
+        → IsPermutation (frame ∷ held) (take_back held frame) };
 }
 
 /// A store of 4KiB frames, which hands them out and takes them back.

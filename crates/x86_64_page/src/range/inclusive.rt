@@ -136,8 +136,10 @@ impl<B: Block> Iterator for BlockRangeInclusive<B> {
     }
 
     fn size_hint(&self) -> (usize, Option<usize>)
-        ensures lower { IsWithinCount result.0 (at_most (length (inclusive_blocks_in B.SIZE B.place self.now))) }
-        ensures ends { IfSome result.1 (UpTo (at_most (length (inclusive_blocks_in B.SIZE B.place self.now)))) }
+        ensures lower { IsWithinCount result.0
+            (at_most (length (inclusive_blocks_in B.SIZE B.place self.now))) }
+        ensures ends { IfSome result.1
+            (UpTo (at_most (length (inclusive_blocks_in B.SIZE B.place self.now)))) }
         ensures exact { result.0 ≡ length (inclusive_blocks_in B.SIZE B.place self.now) }
         ensures upper { result.1 ≡ Some (length (inclusive_blocks_in B.SIZE B.place self.now)) }
     {
