@@ -239,8 +239,8 @@ fn record_pages<S: PageSize, L: LevelCount>(
         ≡ recorder.old.items ++ range_items L.LEVELS S.SIZE MOST_PAGE_ITEMS (flush_range page count)) }
     ensures room { OnOk result (recorder.old.room
         ≤ recorder.new.room + length (range_items L.LEVELS S.SIZE MOST_PAGE_ITEMS (flush_range page count))) }
-    ensures succeeds { length (range_items L.LEVELS S.SIZE MOST_PAGE_ITEMS (flush_range page count)) ≤ recorder.old.room
-        → IsOk result }
+    ensures succeeds { length (range_items L.LEVELS S.SIZE MOST_PAGE_ITEMS (flush_range page count))
+        ≤ recorder.old.room → IsOk result }
     ensures unchanged { OnErr result (recorder.new ≡ recorder.old) }
 {
     if count > MOST_PAGE_ITEMS {
