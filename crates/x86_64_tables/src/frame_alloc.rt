@@ -38,7 +38,7 @@ pub trait FrameAllocator<S: PageSize>: FrameKeeper<S> {
 /// Laws: it serves each frame that it holds. After taking a frame back, it holds this frame and those that it held before,
 /// in some order.
 pub trait FrameDeallocator<S: PageSize>: FrameKeeper<S> {
-    /// The frames that were taken back and not handed out since.
+    /// The frames that it holds now.
     ghost held: { Self → List ℕ };
 
     /// The frames that are held after a frame is taken back, as a function that the type fixes.

@@ -1,6 +1,6 @@
 //! Tests of whether the words below a root form a valid hierarchy, and whether a pool fits it.
-ghost use Rattle.std.specs.Prelude.{◌≡◌, ◌<◌, ◌↔◌, suc, ℕ, if◌then◌else◌, length, IfOk, IsTrue, Some, None, false, true, slice_index_or};
-ghost use Rattle.std.specs.FinMap.{keys};
+ghost use Rattle.std.specs.Prelude.{◌≡◌, ◌<◌, ◌↔◌, suc, ℕ, if◌then◌else◌, length, IfOk, OnErr, IsTrue, Some, None, false, true, slice_index_or};
+ghost use Rattle.std.specs.FinMap.{keys, len};
 ghost use Rattle.std.specs.Option.{option_copied};
 ghost use Rattle.x86_64_model.specs.Memory.{identity_places, words_of};
 ghost use Rattle.x86_64_model.specs.private.Tables.{tables_from};
@@ -31,15 +31,16 @@ pub const FRAME_COUNT: u64 = 1 << 40;
 ///
 /// # Errors
 ///
-/// `AllocError` if memory allocation fails.
+/// `AllocError` if memory allocation fails. A memory without places needs no allocation.
 pub fn is_valid_hierarchy<T: TableMemory, P: PageTableFrameMapping>(
     alloc: Global,
     memory: &T,
     mapping: &P,
     root: PhysFrame<Size4KiB>,
 ) -> Result<bool, AllocError>
-    ensures { IfOk result (λ b. IsTrue b
+    ensures decides { IfOk result (λ b. IsTrue b
         ↔ ValidHierarchy 4 (words_of (T.tables memory.now) (P.places mapping.now)) root) }
+    ensures needs_memory { OnErr result (0 < len (T.tables memory.now)) }
 {
     passes(alloc, memory, mapping, root, None, None, 3)
 }
@@ -53,15 +54,16 @@ pub fn is_valid_hierarchy<T: TableMemory, P: PageTableFrameMapping>(
 ///
 /// # Errors
 ///
-/// `AllocError` if memory allocation fails.
+/// `AllocError` if memory allocation fails. A memory without places needs no allocation.
 pub fn is_valid_hierarchy_57<T: TableMemory, P: PageTableFrameMapping>(
     alloc: Global,
     memory: &T,
     mapping: &P,
     root: PhysFrame<Size4KiB>,
 ) -> Result<bool, AllocError>
-    ensures { IfOk result (λ b. IsTrue b
+    ensures decides { IfOk result (λ b. IsTrue b
         ↔ ValidHierarchy 5 (words_of (T.tables memory.now) (P.places mapping.now)) root) }
+    ensures needs_memory { OnErr result (0 < len (T.tables memory.now)) }
 {
     passes(alloc, memory, mapping, root, None, None, 4)
 }
@@ -76,15 +78,16 @@ pub fn is_valid_hierarchy_57<T: TableMemory, P: PageTableFrameMapping>(
 ///
 /// # Errors
 ///
-/// `AllocError` if memory allocation fails.
+/// `AllocError` if memory allocation fails. A memory without places needs no allocation.
 pub fn is_valid_recursive<T: TableMemory>(
     alloc: Global,
     memory: &T,
     root: PhysFrame<Size4KiB>,
     index: PageTableIndex,
 ) -> Result<bool, AllocError>
-    ensures { IfOk result (λ b. IsTrue b
+    ensures decides { IfOk result (λ b. IsTrue b
         ↔ ValidRecursive 4 (words_of (T.tables memory.now) identity_places) root index) }
+    ensures needs_memory { OnErr result (0 < len (T.tables memory.now)) }
 {
     passes(alloc, memory, &IdentityMapping, root, Some(index), None, 3)
 }
@@ -99,15 +102,16 @@ pub fn is_valid_recursive<T: TableMemory>(
 ///
 /// # Errors
 ///
-/// `AllocError` if memory allocation fails.
+/// `AllocError` if memory allocation fails. A memory without places needs no allocation.
 pub fn is_valid_recursive_57<T: TableMemory>(
     alloc: Global,
     memory: &T,
     root: PhysFrame<Size4KiB>,
     index: PageTableIndex,
 ) -> Result<bool, AllocError>
-    ensures { IfOk result (λ b. IsTrue b
+    ensures decides { IfOk result (λ b. IsTrue b
         ↔ ValidRecursive 5 (words_of (T.tables memory.now) identity_places) root index) }
+    ensures needs_memory { OnErr result (0 < len (T.tables memory.now)) }
 {
     passes(alloc, memory, &IdentityMapping, root, Some(index), None, 4)
 }
@@ -122,7 +126,7 @@ pub fn is_valid_recursive_57<T: TableMemory>(
 ///
 /// # Errors
 ///
-/// `AllocError` if memory allocation fails.
+/// `AllocError` if memory allocation fails. A memory without places needs no allocation.
 pub fn pool_fits<T: TableMemory, P: PageTableFrameMapping>(
     alloc: Global,
     memory: &T,
@@ -130,8 +134,9 @@ pub fn pool_fits<T: TableMemory, P: PageTableFrameMapping>(
     root: PhysFrame<Size4KiB>,
     pool: &FramePool,
 ) -> Result<bool, AllocError>
-    ensures { IfOk result (λ b. IsTrue b
+    ensures decides { IfOk result (λ b. IsTrue b
         ↔ FitsHierarchy 4 (words_of (T.tables memory.now) (P.places mapping.now)) root pool.now) }
+    ensures needs_memory { OnErr result (0 < len (T.tables memory.now)) }
 {
     passes(alloc, memory, mapping, root, None, Some(pool), 3)
 }
@@ -144,7 +149,7 @@ pub fn pool_fits<T: TableMemory, P: PageTableFrameMapping>(
 ///
 /// # Errors
 ///
-/// `AllocError` if memory allocation fails.
+/// `AllocError` if memory allocation fails. A memory without places needs no allocation.
 pub fn pool_fits_57<T: TableMemory, P: PageTableFrameMapping>(
     alloc: Global,
     memory: &T,
@@ -152,8 +157,9 @@ pub fn pool_fits_57<T: TableMemory, P: PageTableFrameMapping>(
     root: PhysFrame<Size4KiB>,
     pool: &FramePool,
 ) -> Result<bool, AllocError>
-    ensures { IfOk result (λ b. IsTrue b
+    ensures decides { IfOk result (λ b. IsTrue b
         ↔ FitsHierarchy 5 (words_of (T.tables memory.now) (P.places mapping.now)) root pool.now) }
+    ensures needs_memory { OnErr result (0 < len (T.tables memory.now)) }
 {
     passes(alloc, memory, mapping, root, None, Some(pool), 4)
 }
@@ -168,7 +174,7 @@ pub fn pool_fits_57<T: TableMemory, P: PageTableFrameMapping>(
 ///
 /// # Errors
 ///
-/// `AllocError` if memory allocation fails.
+/// `AllocError` if memory allocation fails. A memory without places needs no allocation.
 pub fn pool_fits_recursive<T: TableMemory>(
     alloc: Global,
     memory: &T,
@@ -176,8 +182,9 @@ pub fn pool_fits_recursive<T: TableMemory>(
     index: PageTableIndex,
     pool: &FramePool,
 ) -> Result<bool, AllocError>
-    ensures { IfOk result (λ b. IsTrue b
+    ensures decides { IfOk result (λ b. IsTrue b
         ↔ FitsRecursive 4 (words_of (T.tables memory.now) identity_places) root index pool.now) }
+    ensures needs_memory { OnErr result (0 < len (T.tables memory.now)) }
 {
     passes(
         alloc,
@@ -199,7 +206,7 @@ pub fn pool_fits_recursive<T: TableMemory>(
 ///
 /// # Errors
 ///
-/// `AllocError` if memory allocation fails.
+/// `AllocError` if memory allocation fails. A memory without places needs no allocation.
 pub fn pool_fits_recursive_57<T: TableMemory>(
     alloc: Global,
     memory: &T,
@@ -207,8 +214,9 @@ pub fn pool_fits_recursive_57<T: TableMemory>(
     index: PageTableIndex,
     pool: &FramePool,
 ) -> Result<bool, AllocError>
-    ensures { IfOk result (λ b. IsTrue b
+    ensures decides { IfOk result (λ b. IsTrue b
         ↔ FitsRecursive 5 (words_of (T.tables memory.now) identity_places) root index pool.now) }
+    ensures needs_memory { OnErr result (0 < len (T.tables memory.now)) }
 {
     passes(
         alloc,
@@ -226,7 +234,7 @@ pub fn pool_fits_recursive_57<T: TableMemory>(
 ///
 /// # Errors
 ///
-/// `AllocError` if memory allocation fails.
+/// `AllocError` if memory allocation fails. A memory without places needs no allocation.
 fn passes<T: TableMemory, P: PageTableFrameMapping>(
     alloc: Global,
     memory: &T,
@@ -236,8 +244,9 @@ fn passes<T: TableMemory, P: PageTableFrameMapping>(
     pool: Option<&FramePool>,
     levels: u8,
 ) -> Result<bool, AllocError>
-    ensures { IfOk result (λ b. IsTrue b ↔ Passes (suc levels)
+    ensures decides { IfOk result (λ b. IsTrue b ↔ Passes (suc levels)
         (words_of (T.tables memory.now) (P.places mapping.now)) root recursive (option_copied pool.entry)) }
+    ensures needs_memory { OnErr result (0 < len (T.tables memory.now)) }
 {
     let view = HierarchyView {
         memory,
@@ -277,7 +286,7 @@ impl<'a, T: TableMemory, P: PageTableFrameMapping> HierarchyTest<'a, T, P> {
     ///
     /// # Errors
     ///
-    /// `AllocError` if memory allocation fails.
+    /// `AllocError` if memory allocation fails. A memory without places needs no allocation.
     #[tactic(auto, using(crate::specs::PhysMemory::length_keys))]
     fn is_sound(
         &self,
@@ -285,15 +294,17 @@ impl<'a, T: TableMemory, P: PageTableFrameMapping> HierarchyTest<'a, T, P> {
         levels: u8,
         pool: Option<&FramePool>,
     ) -> Result<bool, AllocError>
-        ensures { IfOk result (λ b. IsTrue b
+        ensures decides { IfOk result (λ b. IsTrue b
             ↔ SoundFor T.tables P.places self.now levels (free_in (option_copied pool.entry))) }
+        ensures needs_memory { OnErr result (0 < len (T.tables self.now.view.memory.now)) }
     {
         if let Some(index) = self.view.recursive {
             if !has_self_entry(self.view.memory, &self.view.mapping, self.view.root, index) {
                 return Ok(false);
             }
         }
-        let mut marks = vec![in alloc; false; self.view.memory.len()]?;
+        let mut marks = Vec::new(alloc);
+        marks.resize(self.view.memory.len(), false)?;
         Ok(self.is_sound_by(levels, pool, &mut marks))
     }
 
