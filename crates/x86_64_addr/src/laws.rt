@@ -22,7 +22,8 @@ pub fn virtual_addresses_are_ordered_by_position<L: LevelCount>(
 )
     ensures equality { ⟦<VirtAddrIn<L> as PartialEq>⟧.eq left right ≡ (left == right) }
     ensures order { ⟦<VirtAddrIn<L> as Ord>⟧.cmp left right ≡ nat_cmp left right }
-    ensures partial_order { ⟦<VirtAddrIn<L> as PartialOrd>⟧.partial_cmp left right ≡ Some (nat_cmp left right) }
+    ensures partial_order { ⟦<VirtAddrIn<L> as PartialOrd>⟧.partial_cmp left right
+        ≡ Some (nat_cmp left right) }
     ensures hash { ⟦<VirtAddrIn<L> as Hash>⟧.hash_input left ≡ fed.u64 (raw L.LEVELS left) }
 {}
 

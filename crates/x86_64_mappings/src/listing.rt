@@ -115,8 +115,8 @@ pub(crate) fn all_mappings<'a, L: LevelCount, T: TableMemory, P: PageTableFrameM
     mapping: &'a P,
     root: PhysFrame<Size4KiB>,
 ) -> MappingsIn<'a, L, T, P>
-    ensures { let words = words_of (T.tables memory.now) (P.places mapping.now) in
-        result ≡ model.mappings_of L.LEVELS words root }
+    ensures { result
+        ≡ model.mappings_of L.LEVELS (words_of (T.tables memory.now) (P.places mapping.now)) root }
 {
     mappings_from(memory, mapping, root, VirtAddrIn::zero())
 }
@@ -129,8 +129,8 @@ pub fn mappings_from<'a, L: LevelCount, T: TableMemory, P: PageTableFrameMapping
     root: PhysFrame<Size4KiB>,
     addr: VirtAddrIn<L>,
 ) -> MappingsIn<'a, L, T, P>
-    ensures { let words = words_of (T.tables memory.now) (P.places mapping.now) in
-        result ≡ model.mappings_from addr (model.mappings_of L.LEVELS words root) }
+    ensures { result ≡ model.mappings_from addr
+        (model.mappings_of L.LEVELS (words_of (T.tables memory.now) (P.places mapping.now)) root) }
 {
     MappingsIn {
         memory,

@@ -132,8 +132,8 @@ fn write_line<W: Write>(
     rights: Rights,
     flags: u64,
 ) -> FmtResult
-    ensures { let text = texts.line_text start size frame rights.write rights.user rights.execute flags in
-        WritesOnOk W.write_str_gives f.old result text f.new }
+    ensures { WritesOnOk W.write_str_gives f.old result
+        (texts.line_text start size frame rights.write rights.user rights.execute flags) f.new }
 {
     write_place(f, start, size, frame)?;
     f.write_str(" ")?;
@@ -145,8 +145,7 @@ fn write_line<W: Write>(
 /// Writes where a mapping starts, its size, and where its frame starts.
 #[tactic(auto, unfolding(crate::specs::Texts::place_text))]
 fn write_place<W: Write>(f: &mut Formatter<W>, start: u64, size: u64, frame: u64) -> FmtResult
-    ensures { let text = texts.place_text start size frame in
-        WritesOnOk W.write_str_gives f.old result text f.new }
+    ensures { WritesOnOk W.write_str_gives f.old result (texts.place_text start size frame) f.new }
 {
     write_hexadecimal(f, start)?;
     f.write_str(" ")?;

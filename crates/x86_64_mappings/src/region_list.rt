@@ -96,8 +96,8 @@ fn all_regions<'a, L: LevelCount, T: TableMemory, P: PageTableFrameMapping>(
     mapping: &'a P,
     root: PhysFrame<Size4KiB>,
 ) -> RegionsIn<'a, L, T, P>
-    ensures { let words = words_of (T.tables memory.now) (P.places mapping.now) in
-        result ≡ model.regions_of L.LEVELS words root }
+    ensures { result
+        ≡ model.regions_of L.LEVELS (words_of (T.tables memory.now) (P.places mapping.now)) root }
 {
     let mut mappings = all_mappings(memory, mapping, root);
     let ahead = mappings.next();

@@ -43,8 +43,7 @@ pub fn write_rights<W: Write>(
     user: bool,
     execute: bool,
 ) -> FmtResult
-    ensures { let text = texts.rights_text write user execute in
-        WritesOnOk W.write_str_gives f.old result text f.new }
+    ensures { WritesOnOk W.write_str_gives f.old result (texts.rights_text write user execute) f.new }
 {
     f.write_str("r")?;
     f.write_str(if write { "w" } else { "-" })?;

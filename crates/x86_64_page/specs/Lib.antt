@@ -1,4 +1,5 @@
 pub mod Blocks
+pub mod BlockRanges
 pub mod PageSteps
 pub mod Ranges
 pub mod Steps

@@ -23,7 +23,8 @@ pub fn pages_are_ordered_by_position<S: PageSize, L: LevelCount>(
 )
     ensures equality { ⟦<PageIn<S, L> as PartialEq>⟧.eq left right ≡ (left == right) }
     ensures order { ⟦<PageIn<S, L> as Ord>⟧.cmp left right ≡ nat_cmp left right }
-    ensures partial_order { ⟦<PageIn<S, L> as PartialOrd>⟧.partial_cmp left right ≡ Some (nat_cmp left right) }
+    ensures partial_order { ⟦<PageIn<S, L> as PartialOrd>⟧.partial_cmp left right
+        ≡ Some (nat_cmp left right) }
     ensures hash { ⟦<PageIn<S, L> as Hash>⟧.hash_input left ≡ fed.u64 (raw L.LEVELS left) }
 {}
 

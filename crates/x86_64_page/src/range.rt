@@ -5,7 +5,8 @@
 ghost use Rattle.std.specs.Prelude.{◌≡◌, ℕ, ◌+◌, ◌*◌, ◌%◌, ◌<◌, ◌↔◌, IsTrue, IfSome, Some, option_map, [], length, slice_get, reverse};
 ghost use Rattle.std.specs.Iterator.{YieldsFirstBy, YieldsLastBy, item_count, UpTo, at_most};
 ghost use Rattle.std.specs.Iterator.SizeHint.{IsWithinCount};
-ghost use Rattle.x86_64_page.specs.Blocks.{IsBlockSize, IsLimit, blocks, ends, front_taken, back_taken};
+ghost use Rattle.x86_64_page.specs.BlockRanges.{blocks_in};
+ghost use Rattle.x86_64_page.specs.Blocks.{IsBlockSize, IsLimit, ends, front_taken, back_taken};
 
 use crate::frame::PhysFrame;
 use crate::page::{PageIn, PageSize};
@@ -80,30 +81,28 @@ pub struct BlockRange<B: Block> {
 impl<B: Block> BlockRange<B> {
     /// Returns true if the range has no block.
     pub fn is_empty(&self) -> bool
-        ensures { IsTrue result ↔ (blocks B.SIZE (B.place self.now.start) (B.place self.now.end) ≡ []) }
+        ensures { IsTrue result ↔ (blocks_in B.SIZE B.place self.now ≡ []) }
     {
         self.end.place() <= self.start.place()
     }
 
     /// Returns the number of blocks.
     pub fn len(&self) -> u64
-        ensures { result ≡ length (blocks B.SIZE (B.place self.now.start) (B.place self.now.end)) }
+        ensures { result ≡ length (blocks_in B.SIZE B.place self.now) }
     {
         self.size() / B::SIZE
     }
 
     /// Returns the number of bytes in the blocks.
     pub fn size(&self) -> u64
-        ensures { let start = B.place self.now.start in let end = B.place self.now.end in
-            result ≡ length (blocks B.SIZE start end) * B.SIZE }
+        ensures { result ≡ length (blocks_in B.SIZE B.place self.now) * B.SIZE }
     {
         self.end.place().saturating_sub(self.start.place())
     }
 
     /// Skips `n` blocks and returns the next one, in constant time. Leaves the range as `n + 1` calls of `next` do.
     pub fn nth(&mut self, n: usize) -> Option<B>
-        ensures item { let start = B.place self.old.start in let end = B.place self.old.end in
-            option_map B.place result ≡ slice_get (blocks B.SIZE start end) n }
+        ensures item { option_map B.place result ≡ slice_get (blocks_in B.SIZE B.place self.old) n }
         ensures ends { ends B.place self.new.start self.new.end
             ≡ front_taken B.SIZE (n + 1) (ends B.place self.old.start self.old.end) }
     {
@@ -123,8 +122,7 @@ impl<B: Block> BlockRange<B> {
     /// Skips `n` blocks from the back and returns the next one, in constant time. Leaves the range as `n + 1` calls of
     /// `next_back` do.
     pub fn nth_back(&mut self, n: usize) -> Option<B>
-        ensures item { let start = B.place self.old.start in let end = B.place self.old.end in
-            option_map B.place result ≡ slice_get (reverse (blocks B.SIZE start end)) n }
+        ensures item { option_map B.place result ≡ slice_get (reverse (blocks_in B.SIZE B.place self.old)) n }
         ensures ends { ends B.place self.new.start self.new.end
             ≡ back_taken B.SIZE (n + 1) (ends B.place self.old.start self.old.end) }
     {
@@ -145,10 +143,10 @@ impl<B: Block> Iterator for BlockRange<B> {
     type Item = B;
 
     ghost next_gives = { λ r block s.
-        YieldsFirstBy B.place (λ r. blocks B.SIZE (B.place r.start) (B.place r.end)) r block s
+        YieldsFirstBy B.place (blocks_in B.SIZE B.place) r block s
         × (ends B.place s.start s.end ≡ front_taken B.SIZE 1 (ends B.place r.start r.end)) };
 
-    ghost remaining = { item_count (λ r. blocks B.SIZE (B.place r.start) (B.place r.end)) };
+    ghost remaining = { item_count (blocks_in B.SIZE B.place) };
 
     fn next(&mut self) -> Option<B> {
         let start = self.start.place();
@@ -161,14 +159,10 @@ impl<B: Block> Iterator for BlockRange<B> {
     }
 
     fn size_hint(&self) -> (usize, Option<usize>)
-        ensures lower { let start = B.place self.now.start in let end = B.place self.now.end in
-            IsWithinCount result.0 (at_most (length (blocks B.SIZE start end))) }
-        ensures ends { let start = B.place self.now.start in let end = B.place self.now.end in
-            IfSome result.1 (UpTo (at_most (length (blocks B.SIZE start end)))) }
-        ensures exact { let start = B.place self.now.start in let end = B.place self.now.end in
-            result.0 ≡ length (blocks B.SIZE start end) }
-        ensures upper { let start = B.place self.now.start in let end = B.place self.now.end in
-            result.1 ≡ Some (length (blocks B.SIZE start end)) }
+        ensures lower { IsWithinCount result.0 (at_most (length (blocks_in B.SIZE B.place self.now))) }
+        ensures ends { IfSome result.1 (UpTo (at_most (length (blocks_in B.SIZE B.place self.now)))) }
+        ensures exact { result.0 ≡ length (blocks_in B.SIZE B.place self.now) }
+        ensures upper { result.1 ≡ Some (length (blocks_in B.SIZE B.place self.now)) }
     {
         let len = self.len() as usize;
         (len, Some(len))
@@ -177,7 +171,7 @@ impl<B: Block> Iterator for BlockRange<B> {
 
 impl<B: Block> DoubleEndedIterator for BlockRange<B> {
     ghost next_back_gives = { λ r block s.
-        YieldsLastBy B.place (λ r. blocks B.SIZE (B.place r.start) (B.place r.end)) r block s
+        YieldsLastBy B.place (blocks_in B.SIZE B.place) r block s
         × (ends B.place s.start s.end ≡ back_taken B.SIZE 1 (ends B.place r.start r.end)) };
 
     fn next_back(&mut self) -> Option<B> {

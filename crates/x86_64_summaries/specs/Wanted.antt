@@ -2,6 +2,7 @@
 use Rattle.std.specs.Prelude.{ℕ, ◌+◌, ◌&&◌, nat_le, nat_lt, Bool, true, List, filter, Option, Some, None}
 use Rattle.x86_64_model.specs.Memory.{Memory, Places, Words, words_of}
 use Rattle.x86_64_model.specs.Mappings.{Mapping, mappings_of}
+use Rattle.x86_64_model.specs.Regions.{Region, regions_in}
 
 -- whether a mapping leads to a physical address
 abbrev pub leads_to : (address : ℕ) → Mapping → Bool
@@ -23,6 +24,10 @@ pub record Asked : Type 0 where
 
 abbrev pub asked_mappings : Asked → (level frame : ℕ) → List Mapping
 asked_mappings asked level frame = wanted_mappings asked.wanted level asked.words frame
+
+-- the regions formed by the wanted mappings of a frame's table of a level
+abbrev pub asked_regions : Asked → (level frame : ℕ) → List Region
+asked_regions asked level frame = regions_in level (asked_mappings asked level frame)
 
 -- a memory, where frames lie in it, and which of its mappings are wanted
 pub record Asking (T P : Type 0) : Type 0 where

@@ -55,8 +55,8 @@ impl<'a, T, P> Query<'a, T, P> {
     pub(crate) fn page_summary(&self, level: u64, entry: &PageTableEntry) -> Summary
         requires low { 1 ≤ level }
         requires page { page_mapped level entry.now ≡ true }
-        ensures { (start : ℕ) → let page = page_from start level every_right entry.now in
-            result ≡ summary_of (filter (is_wanted self.now.wanted) (page ∷ [])) }
+        ensures { (start : ℕ) → result ≡ summary_of
+            (filter (is_wanted self.now.wanted) (page_from start level every_right entry.now ∷ [])) }
     {
         let page = MappingIn::<FiveLevels>::of_page(level, 0, entry, Rights::ALL);
         if self.wants(&page) {

@@ -1,13 +1,12 @@
 //! Visits of regions.
-ghost use Rattle.std.specs.Prelude.{◌≡◌, ◌<◌, ◌≤◌, ◌+◌, ◌*◌, ◌%◌, ◌∷◌, [], true, OnOk, map, filter};
+ghost use Rattle.std.specs.Prelude.{◌≡◌, ◌<◌, ◌≤◌, ◌+◌, ◌*◌, ◌%◌, ◌∷◌, [], true, OnOk, filter};
 ghost use Rattle.x86_64_mappings.specs.Views.{seen_rights};
 ghost use Rattle.x86_64_model.specs.Mappings.{maps_page as page_mapped};
 ghost use Rattle.x86_64_model.specs.Position.{span as span_of, position_count};
-ghost use Rattle.x86_64_model.specs.Regions.{regions_in};
 ghost use Rattle.x86_64_model.specs.private.Found.{page_at};
-ghost use Rattle.x86_64_summaries.specs.Wanted.{asked_of, asked_mappings, is_wanted};
+ghost use Rattle.x86_64_summaries.specs.Wanted.{asked_of, asked_regions, is_wanted};
 ghost use Rattle.x86_64_summaries.specs.private.Joined.{region_between, Joins};
-ghost use Rattle.x86_64_summaries.specs.private.Placed.{placed};
+ghost use Rattle.x86_64_summaries.specs.private.Targets.{asked_in};
 
 mod extent;
 mod joiner;
@@ -44,9 +43,8 @@ pub fn visit_regions<
     root: PhysFrame<Size4KiB>,
     visitor: &mut V,
 ) -> Result<(), V::Error>
-    ensures { let asked = asked_of T.tables P.places summaries.now in
-        let regions = regions_in L.LEVELS (asked_mappings asked L.LEVELS root) in
-        OnOk result (V.Visits visitor.old visitor.new regions) }
+    ensures { OnOk result (V.Visits visitor.old visitor.new
+        (asked_regions (asked_of T.tables P.places summaries.now) L.LEVELS root)) }
 {
     let mut joiner = Joiner::new();
     join_table(
@@ -77,9 +75,9 @@ fn join_table<L: LevelCount, T: TableMemory, P: PageTableFrameMapping, V: Visito
     requires high { level ≤ L.LEVELS }
     requires aligned { start % span_of level ≡ 0 }
     requires inside { start + 512 * span_of level ≤ position_count L.LEVELS }
-    ensures { let asked = asked_of T.tables P.places summaries.now in
-        let mappings = map (placed start (seen_rights above)) (asked_mappings asked level frame) in
-        OnOk result (Joins V.Visits L.LEVELS mappings joiner.old visitor.old joiner.new visitor.new) }
+    ensures { OnOk result (Joins V.Visits L.LEVELS
+        (asked_in (asked_of T.tables P.places summaries.now) level start (seen_rights above) frame)
+        joiner.old visitor.old joiner.new visitor.new) }
 {
     let query = summaries.query();
     let Some(table) = query.table(frame) else {
@@ -116,9 +114,9 @@ fn join_below<L: LevelCount, T: TableMemory, P: PageTableFrameMapping, V: Visito
     requires high { level < L.LEVELS }
     requires aligned { start % position_count level ≡ 0 }
     requires inside { start + position_count level ≤ position_count L.LEVELS }
-    ensures { let asked = asked_of T.tables P.places summaries.now in
-        let mappings = map (placed start (seen_rights above)) (asked_mappings asked level frame) in
-        OnOk result (Joins V.Visits L.LEVELS mappings joiner.old visitor.old joiner.new visitor.new) }
+    ensures { OnOk result (Joins V.Visits L.LEVELS
+        (asked_in (asked_of T.tables P.places summaries.now) level start (seen_rights above) frame)
+        joiner.old visitor.old joiner.new visitor.new) }
 {
     match extent_of(summaries.of(level, frame), level, above) {
         Extent::Nothing => Ok(()),
@@ -141,9 +139,9 @@ fn join_page<L: LevelCount, T: TableMemory, P: PageTableFrameMapping, V: Visitor
     requires low { 1 ≤ level }
     requires page { page_mapped level entry.now ≡ true }
     requires inside { start + span_of level ≤ position_count L.LEVELS }
-    ensures { let page = page_at start level (seen_rights above) entry.now in
-        let mappings = filter (is_wanted query.now.wanted) (page ∷ []) in
-        OnOk result (Joins V.Visits L.LEVELS mappings joiner.old visitor.old joiner.new visitor.new) }
+    ensures { OnOk result (Joins V.Visits L.LEVELS
+        (filter (is_wanted query.now.wanted) (page_at start level (seen_rights above) entry.now ∷ []))
+        joiner.old visitor.old joiner.new visitor.new) }
 {
     let page = MappingIn::of_page(level, start, entry, above);
     if query.wants(&page) {

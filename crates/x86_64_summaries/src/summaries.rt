@@ -131,9 +131,8 @@ fn table_summary<T: TableMemory, P: PageTableFrameMapping>(
 ) -> Option<Summary>
     requires few { length below.now < 5 }
     requires known { AreLevels (asked_of T.tables P.places (asking query.now)) below.now }
-    ensures { let asked = asked_of T.tables P.places (asking query.now) in
-        let mappings = asked_mappings asked (length below.now + 1) frame in
-        IfSome result (λ summary. summary ≡ summary_of mappings) }
+    ensures { IfSome result (λ summary. summary ≡ summary_of
+        (asked_mappings (asked_of T.tables P.places (asking query.now)) (length below.now + 1) frame)) }
 {
     let Some(table) = query.table(frame) else {
         return Some(Summary::NONE);
@@ -154,9 +153,9 @@ fn entry_summary<T: TableMemory, P: PageTableFrameMapping>(
 ) -> Option<Summary>
     requires few { length below.now < 5 }
     requires known { AreLevels (asked_of T.tables P.places (asking query.now)) below.now }
-    ensures { (start : ℕ) → let asked = asked_of T.tables P.places (asking query.now) in
-        let mappings = asked_by asked (length below.now + 1) start every_right entry.now in
-        IfSome result (λ summary. summary ≡ summary_of mappings) }
+    ensures { (start : ℕ) → IfSome result (λ summary. summary ≡ summary_of
+        (asked_by (asked_of T.tables P.places (asking query.now)) (length below.now + 1) start
+            every_right entry.now)) }
 {
     let level = below.len() as u64 + 1;
     match target_of(level, entry) {
@@ -177,8 +176,8 @@ fn child_summary<T: TableMemory, P: PageTableFrameMapping>(
     frame: PhysFrame<Size4KiB>,
 ) -> Option<Summary>
     requires { AreLevels (asked_of T.tables P.places (asking query.now)) known.now }
-    ensures { let asked = asked_of T.tables P.places (asking query.now) in
-        IfSome result (λ summary. summary ≡ summary_of (asked_mappings asked (length known.now) frame)) }
+    ensures { IfSome result (λ summary. summary ≡ summary_of
+        (asked_mappings (asked_of T.tables P.places (asking query.now)) (length known.now) frame)) }
 {
     match known.last()?.get(&frame.start_address().as_u64()) {
         Some(summary) => Some(*summary),

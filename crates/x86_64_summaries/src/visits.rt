@@ -1,10 +1,9 @@
 //! Visits of mappings.
-ghost use Rattle.std.specs.Prelude.{◌≡◌, ◌<◌, ◌≤◌, ◌+◌, ◌*◌, ◌%◌, OnOk, map, length, true, []};
+ghost use Rattle.std.specs.Prelude.{◌≡◌, ◌<◌, ◌≤◌, ◌+◌, ◌*◌, ◌%◌, OnOk, length, true, []};
 ghost use Rattle.x86_64_mappings.specs.Views.{seen_rights};
 ghost use Rattle.x86_64_model.specs.Position.{span as span_of, position_count};
 ghost use Rattle.x86_64_summaries.specs.Wanted.{asked_of, asked_mappings};
-ghost use Rattle.x86_64_summaries.specs.private.Placed.{placed};
-ghost use Rattle.x86_64_summaries.specs.private.Targets.{asked_on};
+ghost use Rattle.x86_64_summaries.specs.private.Targets.{asked_in, asked_on};
 ghost use Rattle.x86_64_summaries.specs.private.Known.{asking};
 
 use crate::entries::{Target, target_of};
@@ -35,8 +34,8 @@ pub fn visit_mappings<
     root: PhysFrame<Size4KiB>,
     visitor: &mut V,
 ) -> Result<(), V::Error>
-    ensures { let asked = asked_of T.tables P.places summaries.now in
-        OnOk result (V.Visits visitor.old visitor.new (asked_mappings asked L.LEVELS root)) }
+    ensures { OnOk result (V.Visits visitor.old visitor.new
+        (asked_mappings (asked_of T.tables P.places summaries.now) L.LEVELS root)) }
 {
     visit_table::<L, T, P, V>(summaries, L::LEVELS, root, 0, Rights::ALL, visitor)
 }
@@ -55,9 +54,8 @@ fn visit_table<L: LevelCount, T: TableMemory, P: PageTableFrameMapping, V: Visit
     requires high { level ≤ 5 }
     requires aligned { start % span_of level ≡ 0 }
     requires inside { start + 512 * span_of level ≤ position_count L.LEVELS }
-    ensures { let asked = asked_of T.tables P.places summaries.now in
-        let mappings = map (placed start (seen_rights above)) (asked_mappings asked level frame) in
-        OnOk result (V.Visits visitor.old visitor.new mappings) }
+    ensures { OnOk result (V.Visits visitor.old visitor.new
+        (asked_in (asked_of T.tables P.places summaries.now) level start (seen_rights above) frame)) }
 {
     let query = summaries.query();
     let Some(table) = query.table(frame) else {
@@ -102,8 +100,7 @@ fn maps_nothing<T: TableMemory, P: PageTableFrameMapping>(
     level: u64,
     frame: PhysFrame<Size4KiB>,
 ) -> bool
-    ensures { let asked = asked_of T.tables P.places summaries.now in
-        result ≡ true → asked_mappings asked level frame ≡ [] }
+    ensures { result ≡ true → asked_mappings (asked_of T.tables P.places summaries.now) level frame ≡ [] }
 {
     match summaries.of(level, frame) {
         Some(summary) => summary.count == 0,
@@ -128,9 +125,8 @@ fn visit_small_pages<
     requires size { length entries.now ≡ 512 }
     requires aligned { start % span_of 1 ≡ 0 }
     requires inside { start + 512 * span_of 1 ≤ position_count L.LEVELS }
-    ensures { let asked = asked_of T.tables P.places (asking query.now) in
-        let mappings = asked_on asked 1 start (seen_rights above) entries.now in
-        OnOk result (V.Visits visitor.old visitor.new mappings) }
+    ensures { OnOk result (V.Visits visitor.old visitor.new
+        (asked_on (asked_of T.tables P.places (asking query.now)) 1 start (seen_rights above) entries.now)) }
 {
     let mut start = start;
     for entry in entries {

@@ -8,6 +8,7 @@ pub mod Walks
 pub mod SelfEntries
 pub mod Views
 pub mod PathsSeen
+pub mod Tested
 pub mod ActiveMemory
 pub mod Translations
 pub mod MapperAnswers

@@ -38,7 +38,7 @@ pub trait FrameAllocator<S: PageSize>: FrameKeeper<S> {
 /// Laws: it serves each frame that it holds. After taking a frame back, it holds this frame and those that it held before,
 /// in some order.
 pub trait FrameDeallocator<S: PageSize>: FrameKeeper<S> {
-    /// The frames that were taken back and not handed out since.
+    /// The frames that it holds now.
     ghost held: { Self → List ℕ };
 
     /// The frames that are held after a frame is taken back, as a function that the type fixes.
@@ -56,7 +56,8 @@ pub trait FrameDeallocator<S: PageSize>: FrameKeeper<S> {
     ghost held_is_served: { (deallocator : Self) (frame : ℕ) → In (held deallocator) frame
         → Self.serves deallocator frame ≡ true };
 
-    ghost take_back_rearranges: { (held : List ℕ) (frame : ℕ) → IsPermutation (frame ∷ held) (take_back held frame) };
+    ghost take_back_rearranges: { (held : List ℕ) (frame : ℕ)
+        → IsPermutation (frame ∷ held) (take_back held frame) };
 }
 
 /// A store of 4KiB frames, which hands them out and takes them back.

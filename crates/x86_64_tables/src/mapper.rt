@@ -124,7 +124,7 @@ impl<T: TablesIn<FiveLevels>> PageTables57 for T {}
 pub enum MapToError<S: PageSize> {
     /// A page table was missing, and there was no frame for it.
     FrameAllocationFailed,
-    /// A parent entry of the page maps a larger page.
+    /// A used parent entry of the page has `HUGE_PAGE`, whether it has `PRESENT` or not.
     ParentEntryHugePage,
     /// The page's entry was already used. The frame is the requested one, not the one that the page is mapped to.
     PageAlreadyMapped(PhysFrame<S>),

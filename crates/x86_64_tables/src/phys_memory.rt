@@ -10,7 +10,7 @@ ghost use Rattle.x86_64_model.specs.Memory.{Places, IsMapping, identity_places};
 ghost use Rattle.x86_64_tables.specs.PageTable.{zero_words};
 ghost use Rattle.x86_64_tables.specs.PhysMemory.{zero_tables_at};
 ghost use Rattle.x86_64_tables.specs.Lending.{LendsTable, LendsTableAt};
-ghost use Rattle.x86_64_tables.specs.private.SortedPlaces.{HasRun};
+ghost use Rattle.x86_64_tables.specs.private.SortedPlaces.{IsDense};
 
 mod active;
 mod alike;
@@ -214,7 +214,7 @@ impl PhysMemory {
 
     /// Returns true if the places are known to be all numbers from 0 on, so that the index of each place is its number.
     fn is_dense(&self) -> bool
-        ensures { let places = map.keys self.now in result ≡ true → HasRun places 0 (length places) }
+        ensures { result ≡ true → IsDense (map.keys self.now) }
     {
         self.places.is_dense()
     }

@@ -69,7 +69,7 @@ impl<L: LevelCount> VirtAddrIn<L> {
     /// Requires that `align` is a power of two. Check this with [`u64::is_power_of_two`].
     pub fn align_down(self, align: u64) -> Self
         requires { IsTrue (is_power_of_two align) }
-        ensures value { let n = raw L.LEVELS self in result ≡ (n - n % align) % position_count L.LEVELS }
+        ensures value { result ≡ (raw L.LEVELS self - raw L.LEVELS self % align) % position_count L.LEVELS }
         ensures position { result ≡ self - self % align }
     {
         Self::new_truncate(align_down(self.as_u64(), align))

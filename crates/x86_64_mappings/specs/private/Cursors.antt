@@ -33,6 +33,14 @@ listed_from L T root next = mappings_from next (mappings_of L T root)
 abbrev pub to_come : (L : ℕ) → Words → (root : ℕ) → Cursor → List Mapping
 to_come L T root c = listed_from L T root c.next
 
+-- what is listed from a position on is to come at a cursor
+abbrev pub ComesFrom : (L : ℕ) → Words → (root next : ℕ) → Cursor → Type 0
+ComesFrom L T root next c = listed_from L T root next ≡ to_come L T root c
+
+-- the start of the span that lies so many entries of a level after the one that spans a position
+abbrev pub position_past : (level next count : ℕ) → ℕ
+position_past level next count = next / span level * span level + count * span level
+
 -- whether the first remaining entry is of level one and maps a page
 abbrev pub small_page_first : (level : ℕ) (rest : List ℕ) → Bool
 small_page_first level [] = false

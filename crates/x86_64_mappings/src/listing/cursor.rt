@@ -68,10 +68,8 @@ impl<'a> Cursor<'a> {
         requires low { 1 ≤ self.level }
         requires high { self.level ≤ 5 }
         requires within { count ≤ length self.rest.now }
-        requires room { let span = span_of self.level in
-            self.next / span * span + count * span ≤ position_count 5 }
-        ensures next { let span = span_of self.entry.level in
-            result.next ≡ self.entry.next / span * span + count * span }
+        requires room { cursors.position_past self.level self.next count ≤ position_count 5 }
+        ensures next { result.next ≡ cursors.position_past self.entry.level self.entry.next count }
         ensures level { result.level ≡ self.entry.level }
         ensures rights { result.rights ≡ self.entry.rights }
         ensures rest { result.rest.now ≡ drop count self.entry.rest.now }
@@ -97,8 +95,8 @@ impl<'a> Cursor<'a> {
 
     /// Returns true if the first remaining entry maps a page, or no entry remains and all positions are past.
     fn is_there<L: LevelCount>(self) -> bool
-        ensures { let c = self.entry in
-            result ≡ cursors.is_there L.LEVELS c.next c.level c.rest.now }
+        ensures { result
+            ≡ cursors.is_there L.LEVELS self.entry.next self.entry.level self.entry.rest.now }
     {
         match self.rest.first() {
             Some(entry) => has_flag(entry, PageTableFlags::PRESENT) && maps_page(self.level, entry),
@@ -116,14 +114,14 @@ pub(super) fn find_page<'a, L: LevelCount, T: TableMemory, P: PageTableFrameMapp
     root: PhysFrame<Size4KiB>,
     cursor: &mut Cursor<'a>,
 )
-    requires { let words = words_of (T.tables memory.now) (P.places mapping.now) in
-        cursors.IsCursor L.LEVELS words root cursor.old }
-    ensures on { let words = words_of (T.tables memory.now) (P.places mapping.now) in
-        cursors.IsCursor L.LEVELS words root cursor.new }
-    ensures same { let words = words_of (T.tables memory.now) (P.places mapping.now) in
-        cursors.to_come L.LEVELS words root cursor.old ≡ cursors.to_come L.LEVELS words root cursor.new }
-    ensures there { let c = cursor.new in
-        cursors.is_there L.LEVELS c.next c.level c.rest.now ≡ true }
+    requires { cursors.IsCursor L.LEVELS
+        (words_of (T.tables memory.now) (P.places mapping.now)) root cursor.old }
+    ensures on { cursors.IsCursor L.LEVELS
+        (words_of (T.tables memory.now) (P.places mapping.now)) root cursor.new }
+    ensures same { cursors.ComesFrom L.LEVELS
+        (words_of (T.tables memory.now) (P.places mapping.now)) root cursor.old.next cursor.new }
+    ensures there { cursors.is_there L.LEVELS
+        cursor.new.next cursor.new.level cursor.new.rest.now ≡ true }
 {
     while !cursor.is_there::<L>() {
         *cursor = step::<L, T, P>(memory, mapping, root, *cursor);
@@ -137,11 +135,11 @@ fn step<'a, L: LevelCount, T: TableMemory, P: PageTableFrameMapping>(
     root: PhysFrame<Size4KiB>,
     cursor: Cursor<'a>,
 ) -> Cursor<'a>
-    requires on { let words = words_of (T.tables memory.now) (P.places mapping.now) in
-        cursors.IsCursor L.LEVELS words root cursor }
+    requires on { cursors.IsCursor L.LEVELS
+        (words_of (T.tables memory.now) (P.places mapping.now)) root cursor }
     requires not_there { cursors.is_there L.LEVELS cursor.next cursor.level cursor.rest.now ≡ false }
-    ensures { let words = words_of (T.tables memory.now) (P.places mapping.now) in
-        cursors.IsStep L.LEVELS words root cursor.entry result }
+    ensures { cursors.IsStep L.LEVELS
+        (words_of (T.tables memory.now) (P.places mapping.now)) root cursor.entry result }
 {
     let Some(first) = cursor.rest.first() else {
         return start::<L, T, P>(memory, mapping, root, cursor.next);
@@ -167,10 +165,10 @@ fn start<'a, L: LevelCount, T: TableMemory, P: PageTableFrameMapping>(
     next: u64,
 ) -> Cursor<'a>
     requires { next < position_count L.LEVELS }
-    ensures on { let words = words_of (T.tables memory.now) (P.places mapping.now) in
-        cursors.IsCursor L.LEVELS words root result }
-    ensures same { let words = words_of (T.tables memory.now) (P.places mapping.now) in
-        cursors.listed_from L.LEVELS words root next ≡ cursors.to_come L.LEVELS words root result }
+    ensures on { cursors.IsCursor L.LEVELS
+        (words_of (T.tables memory.now) (P.places mapping.now)) root result }
+    ensures same { cursors.ComesFrom L.LEVELS
+        (words_of (T.tables memory.now) (P.places mapping.now)) root next result }
     ensures nearer { cursors.way_left L.LEVELS result.next result.level result.rest.now
         < cursors.way_left L.LEVELS next 1 [] }
 {
@@ -203,8 +201,8 @@ fn table_below<'a, T: TableMemory, P: PageTableFrameMapping>(
     level: u64,
     entry: &PageTableEntry,
 ) -> Option<&'a PageTable>
-    ensures { let words = words_of (T.tables memory.now) (P.places mapping.now) in
-        option_copied result ≡ cond ((level == 1) || huge entry.now) None (words (address entry.now)) }
+    ensures { option_copied result ≡ cond ((level == 1) || huge entry.now) None
+        (words_of (T.tables memory.now) (P.places mapping.now) (address entry.now)) }
 {
     if level == 1 || has_flag(entry, PageTableFlags::HUGE_PAGE) {
         return None;

@@ -5,7 +5,8 @@
 ghost use Rattle.std.specs.Prelude.{◌≡◌, ℕ, ◌+◌, ◌-◌, ◌*◌, ◌<◌, ◌≤◌, ◌↔◌, IsTrue, IfSome, Some, option_map, [], length, slice_get, reverse};
 ghost use Rattle.std.specs.Iterator.{YieldsFirstBy, YieldsLastBy, item_count, UpTo, at_most};
 ghost use Rattle.std.specs.Iterator.SizeHint.{IsWithinCount};
-ghost use Rattle.x86_64_page.specs.Blocks.{blocks_inclusive, ends, front_taken_inclusive, back_taken_inclusive};
+ghost use Rattle.x86_64_page.specs.BlockRanges.{inclusive_blocks_in};
+ghost use Rattle.x86_64_page.specs.Blocks.{ends, front_taken_inclusive, back_taken_inclusive};
 
 use crate::range::{Block, write_range};
 use std::fmt::{Debug, Formatter, Result as FmtResult, Write};
@@ -22,32 +23,28 @@ pub struct BlockRangeInclusive<B: Block> {
 impl<B: Block> BlockRangeInclusive<B> {
     /// Returns true if the range has no block.
     pub fn is_empty(&self) -> bool
-        ensures { let start = B.place self.now.start in let end = B.place self.now.end in
-            IsTrue result ↔ (blocks_inclusive B.SIZE start end ≡ []) }
+        ensures { IsTrue result ↔ (inclusive_blocks_in B.SIZE B.place self.now ≡ []) }
     {
         self.start.place() > self.end.place()
     }
 
     /// Returns the number of blocks.
     pub fn len(&self) -> u64
-        ensures { let start = B.place self.now.start in let end = B.place self.now.end in
-            result ≡ length (blocks_inclusive B.SIZE start end) }
+        ensures { result ≡ length (inclusive_blocks_in B.SIZE B.place self.now) }
     {
         self.size() / B::SIZE
     }
 
     /// Returns the number of bytes in the blocks.
     pub fn size(&self) -> u64
-        ensures { let start = B.place self.now.start in let end = B.place self.now.end in
-            result ≡ length (blocks_inclusive B.SIZE start end) * B.SIZE }
+        ensures { result ≡ length (inclusive_blocks_in B.SIZE B.place self.now) * B.SIZE }
     {
         (self.end.place() + B::SIZE).saturating_sub(self.start.place())
     }
 
     /// Skips `n` blocks and returns the next one, in constant time. Leaves the range as `n + 1` calls of `next` do.
     pub fn nth(&mut self, n: usize) -> Option<B>
-        ensures item { let start = B.place self.old.start in let end = B.place self.old.end in
-            option_map B.place result ≡ slice_get (blocks_inclusive B.SIZE start end) n }
+        ensures item { option_map B.place result ≡ slice_get (inclusive_blocks_in B.SIZE B.place self.old) n }
         ensures ends { ends B.place self.new.start self.new.end
             ≡ front_taken_inclusive B.SIZE B.LIMIT (n + 1) (ends B.place self.old.start self.old.end) }
     {
@@ -67,8 +64,8 @@ impl<B: Block> BlockRangeInclusive<B> {
     /// Skips `n` blocks from the back and returns the next one, in constant time. Leaves the range as `n + 1` calls of
     /// `next_back` do.
     pub fn nth_back(&mut self, n: usize) -> Option<B>
-        ensures item { let start = B.place self.old.start in let end = B.place self.old.end in
-            option_map B.place result ≡ slice_get (reverse (blocks_inclusive B.SIZE start end)) n }
+        ensures item { option_map B.place result
+            ≡ slice_get (reverse (inclusive_blocks_in B.SIZE B.place self.old)) n }
         ensures ends { ends B.place self.new.start self.new.end
             ≡ back_taken_inclusive B.SIZE (n + 1) (ends B.place self.old.start self.old.end) }
     {
@@ -123,11 +120,11 @@ impl<B: Block> BlockRangeInclusive<B> {
 impl<B: Block> Iterator for BlockRangeInclusive<B> {
     type Item = B;
 
-    ghost next_gives = { λ r block s. let left = ends B.place s.start s.end in
-        YieldsFirstBy B.place (λ r. blocks_inclusive B.SIZE (B.place r.start) (B.place r.end)) r block s
-        × (left ≡ front_taken_inclusive B.SIZE B.LIMIT 1 (ends B.place r.start r.end)) };
+    ghost next_gives = { λ r block s. YieldsFirstBy B.place (inclusive_blocks_in B.SIZE B.place) r block s
+        × (ends B.place s.start s.end
+        ≡ front_taken_inclusive B.SIZE B.LIMIT 1 (ends B.place r.start r.end)) };
 
-    ghost remaining = { item_count (λ r. blocks_inclusive B.SIZE (B.place r.start) (B.place r.end)) };
+    ghost remaining = { item_count (inclusive_blocks_in B.SIZE B.place) };
 
     fn next(&mut self) -> Option<B> {
         if self.end.place() < self.start.place() {
@@ -139,14 +136,12 @@ impl<B: Block> Iterator for BlockRangeInclusive<B> {
     }
 
     fn size_hint(&self) -> (usize, Option<usize>)
-        ensures lower { let start = B.place self.now.start in let end = B.place self.now.end in
-            IsWithinCount result.0 (at_most (length (blocks_inclusive B.SIZE start end))) }
-        ensures ends { let start = B.place self.now.start in let end = B.place self.now.end in
-            IfSome result.1 (UpTo (at_most (length (blocks_inclusive B.SIZE start end)))) }
-        ensures exact { let start = B.place self.now.start in let end = B.place self.now.end in
-            result.0 ≡ length (blocks_inclusive B.SIZE start end) }
-        ensures upper { let start = B.place self.now.start in let end = B.place self.now.end in
-            result.1 ≡ Some (length (blocks_inclusive B.SIZE start end)) }
+        ensures lower { IsWithinCount result.0
+            (at_most (length (inclusive_blocks_in B.SIZE B.place self.now))) }
+        ensures ends { IfSome result.1
+            (UpTo (at_most (length (inclusive_blocks_in B.SIZE B.place self.now)))) }
+        ensures exact { result.0 ≡ length (inclusive_blocks_in B.SIZE B.place self.now) }
+        ensures upper { result.1 ≡ Some (length (inclusive_blocks_in B.SIZE B.place self.now)) }
     {
         let len = self.len() as usize;
         (len, Some(len))
@@ -155,7 +150,7 @@ impl<B: Block> Iterator for BlockRangeInclusive<B> {
 
 impl<B: Block> DoubleEndedIterator for BlockRangeInclusive<B> {
     ghost next_back_gives = { λ r block s.
-        YieldsLastBy B.place (λ r. blocks_inclusive B.SIZE (B.place r.start) (B.place r.end)) r block s
+        YieldsLastBy B.place (inclusive_blocks_in B.SIZE B.place) r block s
         × (ends B.place s.start s.end ≡ back_taken_inclusive B.SIZE 1 (ends B.place r.start r.end)) };
 
     fn next_back(&mut self) -> Option<B> {

@@ -7,7 +7,7 @@ use Rattle.x86_64_model.specs.Mappings.{Rights, Mapping, maps_page, mappings_of}
 use Rattle.x86_64_model.specs.private.Found.{narrowed, page_from}
 use Rattle.x86_64_summaries.specs.declared.entries.Target.{Target}
 use Rattle.x86_64_summaries.specs.declared.entries.Target.TheVariants.{Nothing, Page, Table}
-use Rattle.x86_64_summaries.specs.Wanted.{Asked, is_wanted}
+use Rattle.x86_64_summaries.specs.Wanted.{Asked, is_wanted, asked_mappings}
 use Rattle.x86_64_summaries.specs.private.Placed.{placed}
 
 -- what an entry of a level leads to
@@ -33,3 +33,7 @@ asked_by asked level s r e = filter (is_wanted asked.wanted) (mapped_by asked.wo
 abbrev pub asked_on : Asked → (level start : ℕ) → Rights → (entries : List ℕ) → List Mapping
 asked_on asked level s r [] = []
 asked_on asked level s r (e ∷ rest) = asked_by asked level s r e ++ asked_on asked level (s + span level) r rest
+
+-- the wanted mappings of a frame's table of a level whose span starts at a position, below words with rights r
+abbrev pub asked_in : Asked → (level start : ℕ) → Rights → (frame : ℕ) → List Mapping
+asked_in asked level s r frame = map (placed s r) (asked_mappings asked level frame)

@@ -1,12 +1,12 @@
 //! How much of its span a table maps.
-ghost use Rattle.std.specs.Prelude.{◌≡◌, ◌+◌, ◌<◌, ◌≤◌, ◌↔◌, ℕ, IfSome, IsTrue, map};
+ghost use Rattle.std.specs.Prelude.{◌≡◌, ◌+◌, ◌<◌, ◌≤◌, ◌↔◌, ℕ, IfSome, IsTrue};
 ghost use Rattle.x86_64_mappings.specs.Views.{seen_rights};
 ghost use Rattle.x86_64_model.specs.Position.{span as span_of};
 ghost use Rattle.x86_64_summaries.specs.Summaries.{summary_of};
 ghost use Rattle.x86_64_summaries.specs.Wanted.{Asked, asked_mappings};
 ghost use Rattle.x86_64_summaries.specs.private.Extents.{IsExtent};
 ghost use Rattle.x86_64_summaries.specs.private.Merged.{lessened};
-ghost use Rattle.x86_64_summaries.specs.private.Placed.{placed};
+ghost use Rattle.x86_64_summaries.specs.private.Targets.{asked_in};
 
 use crate::summary::Summary;
 use x86_64_mappings::span;
@@ -27,9 +27,9 @@ pub(super) enum Extent {
 pub(super) fn extent_of(summary: Option<Summary>, level: u64, above: Rights) -> Extent
     requires low { 1 ≤ level }
     requires high { level < 5 }
-    ensures extent { (asked : Asked) (frame start : ℕ) → let mappings = asked_mappings asked level frame in
-        IfSome summary (λ summary. summary ≡ summary_of mappings)
-        → IsExtent level start (map (placed start (seen_rights above)) mappings) result }
+    ensures extent { (asked : Asked) (frame start : ℕ) →
+        IfSome summary (λ summary. summary ≡ summary_of (asked_mappings asked level frame))
+        → IsExtent level start (asked_in asked level start (seen_rights above) frame) result }
     ensures nothing { IfSome summary (λ summary. summary.count ≡ 0 → result ≡ Extent.Nothing) }
     ensures whole { IfSome summary (λ summary. let below = lessened above summary in
         0 < summary.count → below.bytes ≡ span_of (level + 1) → below.some ≡ below.all

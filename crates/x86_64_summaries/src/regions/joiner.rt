@@ -45,8 +45,8 @@ impl<L: LevelCount> Joiner<L> {
         region: RegionIn<L>,
         visitor: &mut V,
     ) -> Result<(), V::Error>
-        ensures { let joins = JoinsRegion V.Visits L.LEVELS region in
-            OnOk result (joins self.old visitor.old self.new visitor.new) }
+        ensures { OnOk result
+            (JoinsRegion V.Visits L.LEVELS region self.old visitor.old self.new visitor.new) }
     {
         if let Some(held) = self.held {
             if held.is_followed_by(&region) {

@@ -6,3 +6,7 @@ pub record HasRun (places : List ℕ) (first run : ℕ) : Type 0 where
   pub within : run ≤ length places
   pub follow : (i : ℕ) → i < run → slice_index places i ≡ first + i
   pub fits : first + run ≤ 2 ^ 64
+
+-- the places are the numbers from 0 on, as many as there are
+abbrev pub IsDense : (places : List ℕ) → Type 0
+IsDense places = HasRun places 0 (length places)

@@ -1,5 +1,5 @@
 //! A pool of free frames in an array that its owner lends.
-ghost use Rattle.std.specs.Prelude.{◌≡◌, ℕ, List, ◌∷◌, ◌≤◌, true, length, drop, slice_get};
+ghost use Rattle.std.specs.Prelude.{◌≡◌, ℕ, List, ◌∷◌, ◌≤◌, true, length, drop, slice_get, slice_set};
 ghost use Rattle.std.specs.Borrow.{ftrue};
 ghost use Rattle.x86_64_model.specs.Entry.{is_frame};
 ghost use Rattle.x86_64_model.specs.Lists.{In, EachOnce};
@@ -35,7 +35,8 @@ impl OwnFrames {
 /// Holds free 4KiB frames in an array that is lent, beside their number, and takes no memory.
 ///
 /// The first `count` entries of the array are the addresses of the free frames, a stack: the last of them is handed out first, and
-/// a frame that comes back goes on top. Each call takes constant time.
+/// a frame that comes back goes on top. Each call takes constant time. Taking a frame writes no entry, and a frame that comes back
+/// is written to the first entry behind the free ones; all other entries stay.
 ///
 /// It serves the frames of a list, [`OwnFrames`], which is no longer than the array: so there is an entry for each frame that comes
 /// back. Two numbers that it serves are no frames and name the loans. So a call that keeps what is served keeps the loans too, and
@@ -64,6 +65,8 @@ impl<'a> LentPool<'a> {
         ensures supply { ⟦<Self as FrameAllocator<Size4KiB>>⟧.supply result ≡ stacked entries.old count.old }
         ensures serves { ⟦<Self as FrameKeeper<Size4KiB>>⟧.serves result
             ≡ served_by own.frames entries.entry.ghost_name count.entry.ghost_name }
+        ensures array { result.entries.now ≡ entries.old }
+        ensures count { result.count.now ≡ count.old }
     {
         LentPool {
             entries,
@@ -78,6 +81,8 @@ impl<'a> Drop for LentPool<'a> {
         ensures in_array { self.exit.1.0.now ≤ length self.exit.0.now }
         ensures free { stacked self.exit.0.now self.exit.1.0.now
             ≡ ⟦<Self as FrameAllocator<Size4KiB>>⟧.supply self.entry }
+        ensures array { self.exit.0.now ≡ self.entry.entries.now }
+        ensures count { self.exit.1.0.now ≡ self.entry.count.now }
     {
         let LentPool {
             entries: _,
@@ -99,7 +104,14 @@ impl<'a> FrameAllocator<Size4KiB> for LentPool<'a> {
     // Few maps of pages make a table, so this stays out of the way of the others.
     #[cold]
     #[inline(never)]
-    fn allocate_frame(&mut self) -> Option<PhysFrame<Size4KiB>> {
+    fn allocate_frame(&mut self) -> Option<PhysFrame<Size4KiB>>
+        ensures first { result ≡ slice_get (stacked self.old.entries.now self.old.count.now) 0 }
+        ensures rest { stacked self.new.entries.now self.new.count.now
+            ≡ drop 1 (stacked self.old.entries.now self.old.count.now) }
+        ensures serves { ⟦<Self as FrameKeeper<Size4KiB>>⟧.serves self.new
+            ≡ ⟦<Self as FrameKeeper<Size4KiB>>⟧.serves self.old }
+        ensures array { self.new.entries.now ≡ self.old.entries.now }
+    {
         if *self.count == 0 {
             return None;
         }
@@ -128,6 +140,8 @@ impl<'a> FrameDeallocator<Size4KiB> for LentPool<'a> {
             ≡ frame ∷ stacked self.old.entries.now self.old.count.now }
         ensures serves { ⟦<Self as FrameKeeper<Size4KiB>>⟧.serves self.new
             ≡ ⟦<Self as FrameKeeper<Size4KiB>>⟧.serves self.old }
+        ensures array { self.new.entries.now
+            ≡ slice_set self.old.entries.now self.old.count.now frame }
     {
         // The frame is served and not among the others, so these are fewer than the entries.
         let end = *self.count;

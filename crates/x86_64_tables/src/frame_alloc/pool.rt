@@ -1,5 +1,5 @@
 //! A pool of free frames.
-ghost use Rattle.std.specs.Prelude.{◌≡◌, ◌≢◌, ◌↔◌, ℕ, ◌/◌, ◌≤◌, [], ◌∷◌, ◌++◌, true, length, drop, slice_get, vec_len, IfOk, OnOk, OnErr, IsTrue};
+ghost use Rattle.std.specs.Prelude.{◌≡◌, ◌≢◌, ◌↔◌, ℕ, ◌/◌, ◌<◌, ◌≤◌, [], ◌∷◌, ◌++◌, true, length, drop, slice_get, vec_len, IfOk, OnOk, OnErr, IsTrue};
 ghost use Rattle.x86_64_model.specs.Lists.{In};
 ghost use Rattle.x86_64_model.specs.Pool.{serves_below};
 
@@ -56,16 +56,17 @@ impl FramePool {
     ///
     /// # Errors
     ///
-    /// `AllocError` if memory allocation fails.
+    /// `AllocError` if memory allocation fails. A pool with the limit 0 needs no allocation.
     pub fn new(alloc: Global, limit: u64) -> Result<FramePool, AllocError>
         ensures empty { IfOk result (λ pool. pool.frames ≡ []) }
         ensures limit { IfOk result (λ pool. pool.limit ≡ limit) }
+        ensures needs_memory { OnErr result (0 < limit) }
     {
         let places = limit as usize;
-        Ok(FramePool {
-            frames: VecDeque::with_capacity(alloc, places)?,
-            is_free: vec![in alloc; false; places]?,
-        })
+        let frames = VecDeque::with_capacity(alloc, places)?;
+        let mut is_free = Vec::new(alloc);
+        is_free.resize(places, false)?;
+        Ok(FramePool { frames, is_free })
     }
 
     /// Adds a frame at the back of the list.

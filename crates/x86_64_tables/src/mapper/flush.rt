@@ -152,12 +152,12 @@ impl<S: PageSize, L: LevelCount> MapperFlushRangeIn<S, L> {
     ///
     /// The token itself if memory allocation fails. Then the recorder is unchanged.
     pub fn flush(self, recorder: &mut FlushRecorder) -> Result<(), Self>
-        ensures items { let items = range_items L.LEVELS S.SIZE MOST_PAGE_ITEMS self in
-            OnOk result (recorder.new.items ≡ recorder.old.items ++ items) }
-        ensures room { let items = range_items L.LEVELS S.SIZE MOST_PAGE_ITEMS self in
-            OnOk result (recorder.old.room ≤ recorder.new.room + length items) }
-        ensures succeeds { let items = range_items L.LEVELS S.SIZE MOST_PAGE_ITEMS self in
-            length items ≤ recorder.old.room → IsOk result }
+        ensures items { OnOk result (recorder.new.items
+            ≡ recorder.old.items ++ range_items L.LEVELS S.SIZE MOST_PAGE_ITEMS self) }
+        ensures room { OnOk result (recorder.old.room
+            ≤ recorder.new.room + length (range_items L.LEVELS S.SIZE MOST_PAGE_ITEMS self)) }
+        ensures succeeds { length (range_items L.LEVELS S.SIZE MOST_PAGE_ITEMS self) ≤ recorder.old.room
+            → IsOk result }
         ensures token { IfErr result (λ token. token ≡ self) }
         ensures unchanged { OnErr result (recorder.new ≡ recorder.old) }
     {
@@ -235,12 +235,12 @@ fn record_pages<S: PageSize, L: LevelCount>(
     recorder: &mut FlushRecorder,
 ) -> Result<(), AllocError>
     requires there { (k : ℕ) → k < count → page + k * S.SIZE < position_count L.LEVELS }
-    ensures items { let items = range_items L.LEVELS S.SIZE MOST_PAGE_ITEMS (flush_range page count) in
-        OnOk result (recorder.new.items ≡ recorder.old.items ++ items) }
-    ensures room { let items = range_items L.LEVELS S.SIZE MOST_PAGE_ITEMS (flush_range page count) in
-        OnOk result (recorder.old.room ≤ recorder.new.room + length items) }
-    ensures succeeds { let items = range_items L.LEVELS S.SIZE MOST_PAGE_ITEMS (flush_range page count) in
-        length items ≤ recorder.old.room → IsOk result }
+    ensures items { OnOk result (recorder.new.items
+        ≡ recorder.old.items ++ range_items L.LEVELS S.SIZE MOST_PAGE_ITEMS (flush_range page count)) }
+    ensures room { OnOk result (recorder.old.room
+        ≤ recorder.new.room + length (range_items L.LEVELS S.SIZE MOST_PAGE_ITEMS (flush_range page count))) }
+    ensures succeeds { length (range_items L.LEVELS S.SIZE MOST_PAGE_ITEMS (flush_range page count))
+        ≤ recorder.old.room → IsOk result }
     ensures unchanged { OnErr result (recorder.new ≡ recorder.old) }
 {
     if count > MOST_PAGE_ITEMS {

@@ -88,7 +88,7 @@ impl FlushRecorder {
         self.items.as_slice()
     }
 
-    /// Raises the room to `n` flushes, or keeps it if it is larger.
+    /// Raises the room to at least `n` flushes, and never lowers it.
     ///
     /// # Errors
     ///

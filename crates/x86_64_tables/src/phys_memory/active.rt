@@ -68,8 +68,8 @@ impl<'a, L: LevelCount, T: TableMemory> Active<'a, L, T> {
     /// Returns the table at an address, or `None` if the page walk of the address from CR3 arrives nowhere, not at a multiple
     /// of 4096, or at no table in the memory. It may arrive inside a huge page.
     pub fn table(&self, addr: VirtAddrIn<L>) -> Option<&PageTable>
-        ensures { let words = words_in T.tables self.now in
-            option_copied result ≡ walked_table L.LEVELS words (cr3_of self.now) addr }
+        ensures { option_copied result
+            ≡ walked_table L.LEVELS (words_in T.tables self.now) (cr3_of self.now) addr }
     {
         let frame = self.arrive(addr)?;
         self.memory.table(place_of(frame))
@@ -78,10 +78,10 @@ impl<'a, L: LevelCount, T: TableMemory> Active<'a, L, T> {
     /// Lends the table at an address mutably, or returns `None` if [`table`](Active::table) does. All other tables are
     /// unchanged. What is written may change where later walks arrive.
     pub fn table_mut(&mut self, addr: VirtAddrIn<L>) -> Option<&mut PageTable>
-        ensures* writes_back { let memory = ⟦<T as TableMemory>⟧ in
-            sem 𝓛 (LendsWalked L.row T.row memory L.LEVELS self.entry addr result) }
-        ensures value { let words = words_in T.tables self.old in
-            option_copied_mut result ≡ walked_table L.LEVELS words (cr3_of self.old) addr }
+        ensures* writes_back { sem 𝓛
+            (LendsWalked L.row T.row ⟦<T as TableMemory>⟧ L.LEVELS self.entry addr result) }
+        ensures value { option_copied_mut result
+            ≡ walked_table L.LEVELS (words_in T.tables self.old) (cr3_of self.old) addr }
     {
         match self.arrive(addr) {
             Some(frame) => self.table_in(frame),
@@ -99,8 +99,8 @@ impl<'a, L: LevelCount, T: TableMemory> Active<'a, L, T> {
 
     /// Lends the table in a frame mutably, if the memory has it.
     fn table_in(&mut self, frame: PhysFrame<Size4KiB>) -> Option<&mut PageTable>
-        ensures* writes_back { let memory = ⟦<T as TableMemory>⟧ in
-            sem 𝓛 (LendsFrame L.row T.row memory self.entry frame result) }
+        ensures* writes_back { sem 𝓛
+            (LendsFrame L.row T.row ⟦<T as TableMemory>⟧ self.entry frame result) }
         ensures value { option_copied_mut result ≡ words_in T.tables self.old frame }
     {
         let place = place_of(frame);

@@ -2,7 +2,7 @@
 //! indices from the root to the entry.
 ghost use Rattle.std.specs.Prelude.{◌≡◌, ◌==◌, ◌↔◌, IsTrue, suc};
 ghost use Rattle.x86_64_model.specs.Alike.{Alike, without_writable};
-ghost use Rattle.x86_64_tables.specs.Views.{seen};
+ghost use Rattle.x86_64_tables.specs.Views.{words_seen};
 ghost use Rattle.x86_64_tables.specs.PathsSeen.{AlikeFrom, paths_seen, paths_seen_57, paths_seen_at, places_for};
 
 use super::hierarchy_view::HierarchyView;
@@ -39,10 +39,9 @@ pub fn tables_alike<
     other_root: PhysFrame<Size4KiB>,
     other_index: Option<PageTableIndex>,
 ) -> bool
-    ensures { let paths = paths_seen (T.tables memory.now) (P.places mapping.now) root index in
-        let other_places = Q.places other_mapping.now in
-        let other_paths = paths_seen (U.tables other_memory.now) other_places other_root other_index in
-        IsTrue result ↔ Alike 4 paths other_paths }
+    ensures { IsTrue result ↔ Alike 4
+        (paths_seen (T.tables memory.now) (P.places mapping.now) root index)
+        (paths_seen (U.tables other_memory.now) (Q.places other_mapping.now) other_root other_index) }
 {
     alike_through(
         memory,
@@ -77,10 +76,9 @@ pub fn tables_alike_57<
     other_root: PhysFrame<Size4KiB>,
     other_index: Option<PageTableIndex>,
 ) -> bool
-    ensures { let paths = paths_seen_57 (T.tables memory.now) (P.places mapping.now) root index in
-        let other_places = Q.places other_mapping.now in
-        let other_paths = paths_seen_57 (U.tables other_memory.now) other_places other_root other_index in
-        IsTrue result ↔ Alike 5 paths other_paths }
+    ensures { IsTrue result ↔ Alike 5
+        (paths_seen_57 (T.tables memory.now) (P.places mapping.now) root index)
+        (paths_seen_57 (U.tables other_memory.now) (Q.places other_mapping.now) other_root other_index) }
 {
     alike_through(
         memory,
@@ -112,10 +110,10 @@ fn alike_through<
     other_index: Option<PageTableIndex>,
     levels: u8,
 ) -> bool
-    ensures { let paths = paths_seen_at (suc levels) (T.tables memory.now) (P.places mapping.now) root index in
-        let other_places = Q.places other_mapping.now in
-        let other_paths = paths_seen_at (suc levels) (U.tables other_memory.now) other_places other_root other_index in
-        IsTrue result ↔ Alike (suc levels) paths other_paths }
+    ensures { IsTrue result ↔ Alike (suc levels)
+        (paths_seen_at (suc levels) (T.tables memory.now) (P.places mapping.now) root index)
+        (paths_seen_at (suc levels) (U.tables other_memory.now) (Q.places other_mapping.now)
+        other_root other_index) }
 {
     let mapping = MappingFor {
         by_number: index.is_some(),
@@ -149,10 +147,8 @@ fn alike_from<T: TableMemory, P: PageTableFrameMapping, U: TableMemory, Q: PageT
     other_frame: PhysFrame<Size4KiB>,
     levels: u8,
 ) -> bool
-    ensures { let a = one.now in let b = other.now in
-        let words = seen (T.tables a.memory.now) (P.places a.mapping) a.root a.recursive in
-        let other_words = seen (U.tables b.memory.now) (Q.places b.mapping) b.root b.recursive in
-        IsTrue result ↔ AlikeFrom levels words frame other_words other_frame }
+    ensures { IsTrue result ↔ AlikeFrom levels
+        (words_seen T.tables P.places one.now) frame (words_seen U.tables Q.places other.now) other_frame }
 {
     for index in 0..512 {
         let word = one.word(frame, index);

@@ -5,7 +5,7 @@ ghost use Rattle.std.specs.Option.{option_copied};
 ghost use Rattle.x86_64_model.specs.Entry.{huge};
 ghost use Rattle.x86_64_model.specs.Memory.{word, words_of};
 ghost use Rattle.x86_64_model.specs.private.Tables.{NoneHuge};
-ghost use Rattle.x86_64_tables.specs.Views.{seen, below_word};
+ghost use Rattle.x86_64_tables.specs.Views.{words_seen, below_word};
 ghost use Rattle.x86_64_tables.specs.SelfEntries.{has_self_entry, names_frame};
 
 use super::walk::{entry_at, has_flag};
@@ -33,9 +33,7 @@ impl<'a, T: TableMemory, P: PageTableFrameMapping> HierarchyView<'a, T, P> {
     /// Returns true if no word above level three has `HUGE_PAGE`, in the table in a frame and in the tables of `levels` levels
     /// below it.
     pub fn none_huge(&self, frame: PhysFrame<Size4KiB>, levels: u8) -> bool
-        ensures { let view = self.now in let places = P.places view.mapping in
-            let words = seen (T.tables view.memory.now) places view.root view.recursive in
-            IsTrue result ↔ NoneHuge levels words frame }
+        ensures { IsTrue result ↔ NoneHuge levels (words_seen T.tables P.places self.now) frame }
     {
         if 2 < levels {
             for index in 0..512 {
@@ -55,9 +53,7 @@ impl<'a, T: TableMemory, P: PageTableFrameMapping> HierarchyView<'a, T, P> {
     /// Returns true if the word at an index of the table in a frame has `HUGE_PAGE`.
     fn is_huge(&self, frame: PhysFrame<Size4KiB>, index: usize) -> bool
         requires { index < 512 }
-        ensures { let view = self.now in let places = P.places view.mapping in
-            let words = seen (T.tables view.memory.now) places view.root view.recursive in
-            result ≡ huge (word words frame index) }
+        ensures { result ≡ huge (word (words_seen T.tables P.places self.now) frame index) }
     {
         match self.entry(frame, index) {
             Some(entry) => has_flag(entry, PageTableFlags::HUGE_PAGE),
@@ -74,9 +70,7 @@ impl<'a, T: TableMemory, P: PageTableFrameMapping> HierarchyView<'a, T, P> {
         index: usize,
     ) -> Option<PhysFrame<Size4KiB>>
         requires { index < 512 }
-        ensures { let view = self.now in let places = P.places view.mapping in
-            let words = seen (T.tables view.memory.now) places view.root view.recursive in
-            result ≡ below_word (word words frame index) }
+        ensures { result ≡ below_word (word (words_seen T.tables P.places self.now) frame index) }
     {
         match self.entry(frame, index) {
             Some(entry) => named_table(entry),
@@ -89,9 +83,7 @@ impl<'a, T: TableMemory, P: PageTableFrameMapping> HierarchyView<'a, T, P> {
     /// Requires that the index is below 512.
     pub fn word(&self, frame: PhysFrame<Size4KiB>, index: usize) -> u64
         requires { index < 512 }
-        ensures { let view = self.now in let places = P.places view.mapping in
-            let words = seen (T.tables view.memory.now) places view.root view.recursive in
-            result ≡ word words frame index }
+        ensures { result ≡ word (words_seen T.tables P.places self.now) frame index }
     {
         match self.entry(frame, index) {
             Some(entry) => entry.word(),
@@ -102,9 +94,8 @@ impl<'a, T: TableMemory, P: PageTableFrameMapping> HierarchyView<'a, T, P> {
     /// Returns the entry at an index of the table in a frame, if there is one and it isn't the recursive one.
     fn entry(&self, frame: PhysFrame<Size4KiB>, index: usize) -> Option<&'a PageTableEntry>
         requires { index < 512 }
-        ensures { let view = self.now in let places = P.places view.mapping in
-            let words = seen (T.tables view.memory.now) places view.root view.recursive in
-            unwrap_or (option_copied result) 0 ≡ word words frame index }
+        ensures { unwrap_or (option_copied result) 0
+            ≡ word (words_seen T.tables P.places self.now) frame index }
     {
         match self.recursive {
             Some(recursive) if frame == self.root && index == usize::from(recursive) => None,

@@ -2,13 +2,12 @@
 ghost use Rattle.std.specs.Prelude.{◌≡◌, ◌≤◌, ◌+◌, ◌↔◌, suc, if◌then◌else◌, length, replicate, reverse, count_by, IsTrue, Some, None, false};
 ghost use Rattle.std.specs.FinMap as map;
 ghost use Rattle.x86_64_model.specs.Entry.{is_frame};
-ghost use Rattle.x86_64_model.specs.Hierarchy.{IsValid, paths_of};
 ghost use Rattle.x86_64_model.specs.Memory.{words_of};
-ghost use Rattle.x86_64_model.specs.Pool.{serves_below};
 ghost use Rattle.x86_64_model.specs.private.Marks.{mark_one, mark_all};
-ghost use Rattle.x86_64_model.specs.private.Tables.{tables_from, SoundTables};
 ghost use Rattle.x86_64_tables.specs.LentPool.{FitsRoom};
-ghost use Rattle.x86_64_tables.specs.Views.{seen, mark_slot};
+ghost use Rattle.x86_64_tables.specs.Tested.{ValidHierarchy};
+ghost use Rattle.x86_64_tables.specs.Views.{mark_of};
+ghost use Rattle.x86_64_tables.specs.private.Soundness.{TablesSoundFor, tables_met};
 
 use super::hierarchy_view::HierarchyView;
 use super::validity::{FRAME_COUNT, HierarchyTest};
@@ -31,8 +30,8 @@ pub fn is_valid_by_marks<L: LevelCount, T: TableMemory, P: PageTableFrameMapping
     marks: &mut [bool],
 ) -> bool
     requires { length marks.old ≡ map.len (T.tables memory.now) }
-    ensures { let words = words_of (T.tables memory.now) (P.places mapping.now) in
-        IsTrue result ↔ IsValid L.LEVELS words root (paths_of L.LEVELS words root) }
+    ensures { IsTrue result
+        ↔ ValidHierarchy L.LEVELS (words_of (T.tables memory.now) (P.places mapping.now)) root }
 {
     marks.fill(false);
     let view = HierarchyView {
@@ -63,8 +62,8 @@ pub fn pool_fits_by_marks<L: LevelCount, T: TableMemory, P: PageTableFrameMappin
     marks: &mut [bool],
 ) -> bool
     requires { length marks.old ≡ map.len (T.tables memory.now) }
-    ensures { let words = words_of (T.tables memory.now) (P.places mapping.now) in
-        IsTrue result ↔ FitsRoom L.LEVELS words root capacity (reverse frames.now) }
+    ensures { IsTrue result ↔ FitsRoom L.LEVELS
+        (words_of (T.tables memory.now) (P.places mapping.now)) root capacity (reverse frames.now) }
 {
     marks.fill(false);
     let view = HierarchyView {
@@ -82,11 +81,8 @@ impl<'a, T: TableMemory, P: PageTableFrameMapping> HierarchyTest<'a, T, P> {
     /// of them than the capacity, by marks that are all clear at first.
     fn has_room_by(&self, levels: u8, frames: &[u64], capacity: usize, marks: &mut [bool]) -> bool
         requires { marks.old ≡ replicate (length (map.keys (T.tables self.now.view.memory.now))) false }
-        ensures { let view = self.now.view in let places = P.places view.mapping in
-            let words = seen (T.tables view.memory.now) places view.root view.recursive in
-            let serves = serves_below self.now.limit in let tables = tables_from levels words view.root in
-            IsTrue result ↔ (SoundTables levels words view.root serves frames.now
-            × (length tables + length frames.now ≤ suc capacity)) }
+        ensures { IsTrue result ↔ (TablesSoundFor T.tables P.places self.now levels frames.now
+            × (length (tables_met T.tables P.places self.now levels) + length frames.now ≤ suc capacity)) }
     {
         if !self.mark_tables(marks, self.view.root, levels) {
             return false;
@@ -106,9 +102,8 @@ impl<'a, T: TableMemory, P: PageTableFrameMapping> HierarchyTest<'a, T, P> {
     /// Requires that there are as many marks as places.
     pub fn mark_frames(&self, marks: &mut [bool], frames: &[u64]) -> bool
         requires { length marks.old ≡ length (map.keys (T.tables self.now.view.memory.now)) }
-        ensures { let view = self.now.view in let places = P.places view.mapping in
-            let slot = mark_slot (T.tables view.memory.now) places view.root self.now.limit in
-            (if result then Some marks.new else None) ≡ mark_all slot marks.old frames.now }
+        ensures { (if result then Some marks.new else None)
+            ≡ mark_all (mark_of T.tables P.places self.now) marks.old frames.now }
     {
         for &address in frames {
             if !self.mark_at(marks, address) {
@@ -121,9 +116,8 @@ impl<'a, T: TableMemory, P: PageTableFrameMapping> HierarchyTest<'a, T, P> {
     /// Marks the frame at an address, if there is one that may be met and was not before.
     fn mark_at(&self, marks: &mut [bool], address: u64) -> bool
         requires { length marks.old ≡ length (map.keys (T.tables self.now.view.memory.now)) }
-        ensures { let view = self.now.view in let places = P.places view.mapping in
-            let slot = mark_slot (T.tables view.memory.now) places view.root self.now.limit in
-            (if result then Some marks.new else None) ≡ mark_one slot marks.old address }
+        ensures { (if result then Some marks.new else None)
+            ≡ mark_one (mark_of T.tables P.places self.now) marks.old address }
     {
         match frame_at(address) {
             Some(frame) => self.mark(marks, frame),

@@ -3,7 +3,7 @@ ghost use Rattle.std.specs.Prelude.{◌≡◌, ◌<◌, ◌↔◌, true, Some, I
 ghost use Rattle.std.specs.List.{position};
 ghost use Rattle.std.specs.List.Sorted.{IsStrictlyIncreasing};
 ghost use Rattle.std.specs.Ordering.{nat_cmp, eq_by_cmp};
-ghost use Rattle.x86_64_tables.specs.private.SortedPlaces.{HasRun};
+ghost use Rattle.x86_64_tables.specs.private.SortedPlaces.{HasRun, IsDense};
 
 use std::marker::Model;
 
@@ -24,7 +24,7 @@ pub(super) struct SortedPlaces {
 impl Model for SortedPlaces {
     ghost use Rattle.std.specs.Prelude.{◌≡◌, true, List, ℕ, length};
     ghost use Rattle.std.specs.List.Sorted.{IsStrictlyIncreasing};
-    ghost use Rattle.x86_64_tables.specs.private.SortedPlaces.{HasRun};
+    ghost use Rattle.x86_64_tables.specs.private.SortedPlaces.{HasRun, IsDense};
 
     ghost Value = { List ℕ };
 
@@ -32,7 +32,7 @@ impl Model for SortedPlaces {
 
     ghost invariant = { λ places. IsStrictlyIncreasing places.numbers.items
         × HasRun places.numbers.items places.first places.run
-        × (places.is_dense ≡ true → HasRun places.numbers.items 0 (length places.numbers.items)) };
+        × (places.is_dense ≡ true → IsDense places.numbers.items) };
 }
 
 impl SortedPlaces {
@@ -101,7 +101,7 @@ impl SortedPlaces {
 
     /// Returns true if the places are known to be all numbers from 0 up to the last, so that the index of each is its number.
     pub(super) fn is_dense(&self) -> bool
-        ensures { result ≡ true → HasRun self.now 0 (length self.now) }
+        ensures { result ≡ true → IsDense self.now }
     {
         self.is_dense
     }

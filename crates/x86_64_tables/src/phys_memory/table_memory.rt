@@ -28,7 +28,8 @@ pub trait TableMemory {
 
     /// Replacing a table keeps all places.
     ghost keeps_places: { (memory : Self) (place : ℕ) (table : List ℕ) (other : ℕ) →
-        IsSome (map.get (tables memory) other) → IsSome (map.get (tables (with_table memory place table)) other) };
+        IsSome (map.get (tables memory) other)
+        → IsSome (map.get (tables (with_table memory place table)) other) };
 
     /// Returns the number of places.
     fn len(&self) -> usize
@@ -48,8 +49,7 @@ pub trait TableMemory {
 
     /// Lends the table at a place mutably, or returns `None` if the memory lacks the place.
     fn table_mut(&mut self, place: FramePlace) -> Option<&mut PageTable>
-        ensures* writes_back { let put = with_table self.old place in
-            sem 𝓛 (LendsTableIfBy Self.row self.entry result put) }
+        ensures* writes_back { sem 𝓛 (LendsTableIfBy Self.row self.entry result (with_table self.old place)) }
         ensures value { option_copied_mut result ≡ map.get (tables self.old) place };
 
     /// Returns the table at a place.
@@ -64,8 +64,7 @@ pub trait TableMemory {
     /// Requires that the memory has the place.
     fn table_at_mut(&mut self, place: FramePlace) -> &mut PageTable
         requires { IsSome (map.get (tables self.old) place) }
-        ensures* writes_back { let put = with_table self.old place in
-            sem 𝓛 (LendsTableBy Self.row self.entry result put) }
+        ensures* writes_back { sem 𝓛 (LendsTableBy Self.row self.entry result (with_table self.old place)) }
         ensures value { map.get (tables self.old) place ≡ Some result.now };
 
     ghost puts: { (memory : Self) (place : ℕ) (table : List ℕ) → IsSome (map.get (tables memory) place) →

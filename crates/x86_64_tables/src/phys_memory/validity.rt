@@ -1,18 +1,14 @@
 //! Tests of whether the words below a root form a valid hierarchy, and whether a pool fits it.
-ghost use Rattle.std.specs.Prelude.{◌≡◌, ◌<◌, ◌↔◌, suc, ℕ, if◌then◌else◌, length, IfOk, IsTrue, Some, None, false, true, slice_index_or};
-ghost use Rattle.std.specs.FinMap.{keys};
+ghost use Rattle.std.specs.Prelude.{◌≡◌, ◌<◌, ◌↔◌, suc, ℕ, if◌then◌else◌, length, IfOk, OnErr, IsTrue, Some, None, false, true, slice_index_or};
+ghost use Rattle.std.specs.FinMap.{keys, len};
 ghost use Rattle.std.specs.Option.{option_copied};
 ghost use Rattle.x86_64_model.specs.Memory.{identity_places, words_of};
-ghost use Rattle.x86_64_model.specs.Hierarchy.{IsValid, paths_of};
-ghost use Rattle.x86_64_model.specs.Window.{outside_window, IsValidFor};
-ghost use Rattle.x86_64_model.specs.Pool.{Fits};
-ghost use Rattle.x86_64_model.specs.private.Tables.{tables_from, SoundTables};
+ghost use Rattle.x86_64_model.specs.private.Tables.{tables_from};
 ghost use Rattle.x86_64_model.specs.private.Marks.{mark_one, mark_all};
-ghost use Rattle.x86_64_model.specs.Pool.{serves_below};
-ghost use Rattle.x86_64_tables.specs.Views.{seen, mark_slot};
-ghost use Rattle.x86_64_tables.specs.private.Soundness.{free_in, IsSound};
+ghost use Rattle.x86_64_tables.specs.Tested.{ValidHierarchy, ValidRecursive, FitsHierarchy, FitsRecursive};
+ghost use Rattle.x86_64_tables.specs.Views.{words_seen, mark_of};
+ghost use Rattle.x86_64_tables.specs.private.Soundness.{free_in, SoundFor, TablesSoundFor};
 ghost use Rattle.x86_64_tables.specs.private.HierarchyTests.{limit_of, Passes};
-ghost use Rattle.x86_64_tables.specs.SelfEntries.{window_at};
 
 use super::hierarchy_view::{HierarchyView, has_self_entry};
 use super::{IdentityMapping, PageTableFrameMapping, TableMemory};
@@ -35,15 +31,16 @@ pub const FRAME_COUNT: u64 = 1 << 40;
 ///
 /// # Errors
 ///
-/// `AllocError` if memory allocation fails.
+/// `AllocError` if memory allocation fails. A memory without places needs no allocation.
 pub fn is_valid_hierarchy<T: TableMemory, P: PageTableFrameMapping>(
     alloc: Global,
     memory: &T,
     mapping: &P,
     root: PhysFrame<Size4KiB>,
 ) -> Result<bool, AllocError>
-    ensures { let words = words_of (T.tables memory.now) (P.places mapping.now) in
-        IfOk result (λ b. IsTrue b ↔ IsValid 4 words root (paths_of 4 words root)) }
+    ensures decides { IfOk result (λ b. IsTrue b
+        ↔ ValidHierarchy 4 (words_of (T.tables memory.now) (P.places mapping.now)) root) }
+    ensures needs_memory { OnErr result (0 < len (T.tables memory.now)) }
 {
     passes(alloc, memory, mapping, root, None, None, 3)
 }
@@ -57,15 +54,16 @@ pub fn is_valid_hierarchy<T: TableMemory, P: PageTableFrameMapping>(
 ///
 /// # Errors
 ///
-/// `AllocError` if memory allocation fails.
+/// `AllocError` if memory allocation fails. A memory without places needs no allocation.
 pub fn is_valid_hierarchy_57<T: TableMemory, P: PageTableFrameMapping>(
     alloc: Global,
     memory: &T,
     mapping: &P,
     root: PhysFrame<Size4KiB>,
 ) -> Result<bool, AllocError>
-    ensures { let words = words_of (T.tables memory.now) (P.places mapping.now) in
-        IfOk result (λ b. IsTrue b ↔ IsValid 5 words root (paths_of 5 words root)) }
+    ensures decides { IfOk result (λ b. IsTrue b
+        ↔ ValidHierarchy 5 (words_of (T.tables memory.now) (P.places mapping.now)) root) }
+    ensures needs_memory { OnErr result (0 < len (T.tables memory.now)) }
 {
     passes(alloc, memory, mapping, root, None, None, 4)
 }
@@ -80,17 +78,16 @@ pub fn is_valid_hierarchy_57<T: TableMemory, P: PageTableFrameMapping>(
 ///
 /// # Errors
 ///
-/// `AllocError` if memory allocation fails.
+/// `AllocError` if memory allocation fails. A memory without places needs no allocation.
 pub fn is_valid_recursive<T: TableMemory>(
     alloc: Global,
     memory: &T,
     root: PhysFrame<Size4KiB>,
     index: PageTableIndex,
 ) -> Result<bool, AllocError>
-    ensures { let words = words_of (T.tables memory.now) identity_places in
-        let window = Some (window_at words root index) in
-        let paths = paths_of 4 (outside_window window root words) root in
-        IfOk result (λ b. IsTrue b ↔ IsValidFor 4 window words root paths) }
+    ensures decides { IfOk result (λ b. IsTrue b
+        ↔ ValidRecursive 4 (words_of (T.tables memory.now) identity_places) root index) }
+    ensures needs_memory { OnErr result (0 < len (T.tables memory.now)) }
 {
     passes(alloc, memory, &IdentityMapping, root, Some(index), None, 3)
 }
@@ -105,17 +102,16 @@ pub fn is_valid_recursive<T: TableMemory>(
 ///
 /// # Errors
 ///
-/// `AllocError` if memory allocation fails.
+/// `AllocError` if memory allocation fails. A memory without places needs no allocation.
 pub fn is_valid_recursive_57<T: TableMemory>(
     alloc: Global,
     memory: &T,
     root: PhysFrame<Size4KiB>,
     index: PageTableIndex,
 ) -> Result<bool, AllocError>
-    ensures { let words = words_of (T.tables memory.now) identity_places in
-        let window = Some (window_at words root index) in
-        let paths = paths_of 5 (outside_window window root words) root in
-        IfOk result (λ b. IsTrue b ↔ IsValidFor 5 window words root paths) }
+    ensures decides { IfOk result (λ b. IsTrue b
+        ↔ ValidRecursive 5 (words_of (T.tables memory.now) identity_places) root index) }
+    ensures needs_memory { OnErr result (0 < len (T.tables memory.now)) }
 {
     passes(alloc, memory, &IdentityMapping, root, Some(index), None, 4)
 }
@@ -130,7 +126,7 @@ pub fn is_valid_recursive_57<T: TableMemory>(
 ///
 /// # Errors
 ///
-/// `AllocError` if memory allocation fails.
+/// `AllocError` if memory allocation fails. A memory without places needs no allocation.
 pub fn pool_fits<T: TableMemory, P: PageTableFrameMapping>(
     alloc: Global,
     memory: &T,
@@ -138,9 +134,9 @@ pub fn pool_fits<T: TableMemory, P: PageTableFrameMapping>(
     root: PhysFrame<Size4KiB>,
     pool: &FramePool,
 ) -> Result<bool, AllocError>
-    ensures { let words = words_of (T.tables memory.now) (P.places mapping.now) in
-        let serves = serves_below pool.now.limit in
-        IfOk result (λ b. IsTrue b ↔ Fits 4 None words root (paths_of 4 words root) serves pool.now.frames) }
+    ensures decides { IfOk result (λ b. IsTrue b
+        ↔ FitsHierarchy 4 (words_of (T.tables memory.now) (P.places mapping.now)) root pool.now) }
+    ensures needs_memory { OnErr result (0 < len (T.tables memory.now)) }
 {
     passes(alloc, memory, mapping, root, None, Some(pool), 3)
 }
@@ -153,7 +149,7 @@ pub fn pool_fits<T: TableMemory, P: PageTableFrameMapping>(
 ///
 /// # Errors
 ///
-/// `AllocError` if memory allocation fails.
+/// `AllocError` if memory allocation fails. A memory without places needs no allocation.
 pub fn pool_fits_57<T: TableMemory, P: PageTableFrameMapping>(
     alloc: Global,
     memory: &T,
@@ -161,9 +157,9 @@ pub fn pool_fits_57<T: TableMemory, P: PageTableFrameMapping>(
     root: PhysFrame<Size4KiB>,
     pool: &FramePool,
 ) -> Result<bool, AllocError>
-    ensures { let words = words_of (T.tables memory.now) (P.places mapping.now) in
-        let serves = serves_below pool.now.limit in
-        IfOk result (λ b. IsTrue b ↔ Fits 5 None words root (paths_of 5 words root) serves pool.now.frames) }
+    ensures decides { IfOk result (λ b. IsTrue b
+        ↔ FitsHierarchy 5 (words_of (T.tables memory.now) (P.places mapping.now)) root pool.now) }
+    ensures needs_memory { OnErr result (0 < len (T.tables memory.now)) }
 {
     passes(alloc, memory, mapping, root, None, Some(pool), 4)
 }
@@ -178,7 +174,7 @@ pub fn pool_fits_57<T: TableMemory, P: PageTableFrameMapping>(
 ///
 /// # Errors
 ///
-/// `AllocError` if memory allocation fails.
+/// `AllocError` if memory allocation fails. A memory without places needs no allocation.
 pub fn pool_fits_recursive<T: TableMemory>(
     alloc: Global,
     memory: &T,
@@ -186,10 +182,9 @@ pub fn pool_fits_recursive<T: TableMemory>(
     index: PageTableIndex,
     pool: &FramePool,
 ) -> Result<bool, AllocError>
-    ensures { let words = words_of (T.tables memory.now) identity_places in
-        let window = Some (window_at words root index) in let serves = serves_below pool.now.limit in
-        let paths = paths_of 4 (outside_window window root words) root in
-        IfOk result (λ b. IsTrue b ↔ Fits 4 window words root paths serves pool.now.frames) }
+    ensures decides { IfOk result (λ b. IsTrue b
+        ↔ FitsRecursive 4 (words_of (T.tables memory.now) identity_places) root index pool.now) }
+    ensures needs_memory { OnErr result (0 < len (T.tables memory.now)) }
 {
     passes(
         alloc,
@@ -211,7 +206,7 @@ pub fn pool_fits_recursive<T: TableMemory>(
 ///
 /// # Errors
 ///
-/// `AllocError` if memory allocation fails.
+/// `AllocError` if memory allocation fails. A memory without places needs no allocation.
 pub fn pool_fits_recursive_57<T: TableMemory>(
     alloc: Global,
     memory: &T,
@@ -219,10 +214,9 @@ pub fn pool_fits_recursive_57<T: TableMemory>(
     index: PageTableIndex,
     pool: &FramePool,
 ) -> Result<bool, AllocError>
-    ensures { let words = words_of (T.tables memory.now) identity_places in
-        let window = Some (window_at words root index) in let serves = serves_below pool.now.limit in
-        let paths = paths_of 5 (outside_window window root words) root in
-        IfOk result (λ b. IsTrue b ↔ Fits 5 window words root paths serves pool.now.frames) }
+    ensures decides { IfOk result (λ b. IsTrue b
+        ↔ FitsRecursive 5 (words_of (T.tables memory.now) identity_places) root index pool.now) }
+    ensures needs_memory { OnErr result (0 < len (T.tables memory.now)) }
 {
     passes(
         alloc,
@@ -240,7 +234,7 @@ pub fn pool_fits_recursive_57<T: TableMemory>(
 ///
 /// # Errors
 ///
-/// `AllocError` if memory allocation fails.
+/// `AllocError` if memory allocation fails. A memory without places needs no allocation.
 fn passes<T: TableMemory, P: PageTableFrameMapping>(
     alloc: Global,
     memory: &T,
@@ -250,8 +244,9 @@ fn passes<T: TableMemory, P: PageTableFrameMapping>(
     pool: Option<&FramePool>,
     levels: u8,
 ) -> Result<bool, AllocError>
-    ensures { let words = words_of (T.tables memory.now) (P.places mapping.now) in
-        IfOk result (λ b. IsTrue b ↔ Passes (suc levels) words root recursive (option_copied pool.entry)) }
+    ensures decides { IfOk result (λ b. IsTrue b ↔ Passes (suc levels)
+        (words_of (T.tables memory.now) (P.places mapping.now)) root recursive (option_copied pool.entry)) }
+    ensures needs_memory { OnErr result (0 < len (T.tables memory.now)) }
 {
     let view = HierarchyView {
         memory,
@@ -291,7 +286,7 @@ impl<'a, T: TableMemory, P: PageTableFrameMapping> HierarchyTest<'a, T, P> {
     ///
     /// # Errors
     ///
-    /// `AllocError` if memory allocation fails.
+    /// `AllocError` if memory allocation fails. A memory without places needs no allocation.
     #[tactic(auto, using(crate::specs::PhysMemory::length_keys))]
     fn is_sound(
         &self,
@@ -299,17 +294,17 @@ impl<'a, T: TableMemory, P: PageTableFrameMapping> HierarchyTest<'a, T, P> {
         levels: u8,
         pool: Option<&FramePool>,
     ) -> Result<bool, AllocError>
-        ensures { let view = self.now.view in
-            let words = words_of (T.tables view.memory.now) (P.places view.mapping) in
-            let serves = serves_below self.now.limit in let free = free_in (option_copied pool.entry) in
-            IfOk result (λ b. IsTrue b ↔ IsSound levels words view.root view.recursive serves free) }
+        ensures decides { IfOk result (λ b. IsTrue b
+            ↔ SoundFor T.tables P.places self.now levels (free_in (option_copied pool.entry))) }
+        ensures needs_memory { OnErr result (0 < len (T.tables self.now.view.memory.now)) }
     {
         if let Some(index) = self.view.recursive {
             if !has_self_entry(self.view.memory, &self.view.mapping, self.view.root, index) {
                 return Ok(false);
             }
         }
-        let mut marks = vec![in alloc; false; self.view.memory.len()]?;
+        let mut marks = Vec::new(alloc);
+        marks.resize(self.view.memory.len(), false)?;
         Ok(self.is_sound_by(levels, pool, &mut marks))
     }
 
@@ -325,10 +320,8 @@ impl<'a, T: TableMemory, P: PageTableFrameMapping> HierarchyTest<'a, T, P> {
         requires length { length marks.old ≡ length (keys (T.tables self.now.view.memory.now)) }
         requires clear { (k : ℕ) → k < length (keys (T.tables self.now.view.memory.now))
             → slice_index_or marks.old k true ≡ false }
-        ensures { let view = self.now.view in let places = P.places view.mapping in
-            let words = seen (T.tables view.memory.now) places view.root view.recursive in
-            let serves = serves_below self.now.limit in let free = free_in (option_copied pool.entry) in
-            IsTrue result ↔ SoundTables levels words view.root serves free }
+        ensures { IsTrue result
+            ↔ TablesSoundFor T.tables P.places self.now levels (free_in (option_copied pool.entry)) }
     {
         if !self.mark_tables(marks, self.view.root, levels) {
             return false;
@@ -347,11 +340,8 @@ impl<'a, T: TableMemory, P: PageTableFrameMapping> HierarchyTest<'a, T, P> {
     /// Requires that there are as many marks as places.
     pub fn mark_tables(&self, marks: &mut [bool], frame: PhysFrame<Size4KiB>, levels: u8) -> bool
         requires { length marks.old ≡ length (keys (T.tables self.now.view.memory.now)) }
-        ensures { let view = self.now.view in let places = P.places view.mapping in
-            let words = seen (T.tables view.memory.now) places view.root view.recursive in
-            let slot = mark_slot (T.tables view.memory.now) places view.root self.now.limit in
-            (if result then Some marks.new else None)
-            ≡ mark_all slot marks.old (tables_from levels words frame) }
+        ensures { (if result then Some marks.new else None) ≡ mark_all (mark_of T.tables P.places self.now)
+            marks.old (tables_from levels (words_seen T.tables P.places self.now.view) frame) }
     {
         if !self.mark(marks, frame) {
             return false;
@@ -373,9 +363,8 @@ impl<'a, T: TableMemory, P: PageTableFrameMapping> HierarchyTest<'a, T, P> {
     /// Requires that there are as many marks as places.
     pub fn mark_pool(&self, marks: &mut [bool], pool: &FramePool) -> bool
         requires { length marks.old ≡ length (keys (T.tables self.now.view.memory.now)) }
-        ensures { let view = self.now.view in let places = P.places view.mapping in
-            let slot = mark_slot (T.tables view.memory.now) places view.root self.now.limit in
-            (if result then Some marks.new else None) ≡ mark_all slot marks.old pool.now.frames }
+        ensures { (if result then Some marks.new else None)
+            ≡ mark_all (mark_of T.tables P.places self.now) marks.old pool.now.frames }
     {
         for n in 0..pool.len() {
             if let Some(frame) = pool.frame_at(n) {
@@ -393,9 +382,8 @@ impl<'a, T: TableMemory, P: PageTableFrameMapping> HierarchyTest<'a, T, P> {
     #[tactic(auto, unfolding(x86_64_model::specs::private::Marks::mark_one))]
     pub fn mark(&self, marks: &mut [bool], frame: PhysFrame<Size4KiB>) -> bool
         requires { length marks.old ≡ length (keys (T.tables self.now.view.memory.now)) }
-        ensures { let view = self.now.view in let places = P.places view.mapping in
-            let slot = mark_slot (T.tables view.memory.now) places view.root self.now.limit in
-            (if result then Some marks.new else None) ≡ mark_one slot marks.old frame }
+        ensures { (if result then Some marks.new else None)
+            ≡ mark_one (mark_of T.tables P.places self.now) marks.old frame }
     {
         match self.slot(frame) {
             Some(place) => {
@@ -413,10 +401,8 @@ impl<'a, T: TableMemory, P: PageTableFrameMapping> HierarchyTest<'a, T, P> {
     /// Returns the index of a frame's mark, or `None` if the frame may not be met, or isn't in the memory.
     #[tactic(auto, unfolding(x86_64_model::specs::private::Marks::spot_of))]
     fn slot(&self, frame: PhysFrame<Size4KiB>) -> Option<usize>
-        ensures value { let view = self.now.view in let places = P.places view.mapping in
-            result ≡ mark_slot (T.tables view.memory.now) places view.root self.now.limit frame }
-        ensures within { let memory = T.tables self.now.view.memory.now in
-            (k : ℕ) → result ≡ Some k → k < length (keys memory) }
+        ensures value { result ≡ mark_of T.tables P.places self.now frame }
+        ensures within { (k : ℕ) → result ≡ Some k → k < length (keys (T.tables self.now.view.memory.now)) }
     {
         let number = frame.start_address().as_u64() / Size4KiB::SIZE;
         if frame == self.view.root || (0 < number && number < self.limit) {

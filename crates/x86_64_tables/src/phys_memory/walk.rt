@@ -46,8 +46,8 @@ pub fn page_walk<T: TableMemory, P: PageTableFrameMapping, L: LevelCount>(
     root: PhysFrame<Size4KiB>,
     addr: VirtAddrIn<L>,
 ) -> Option<Walked>
-    ensures { let tables = words_of (T.tables memory.now) (P.places mapping.now) in
-        option_map walked_of result ≡ page_walk_of L.LEVELS tables root addr }
+    ensures { option_map walked_of result
+        ≡ page_walk_of L.LEVELS (words_of (T.tables memory.now) (P.places mapping.now)) root addr }
 {
     walk_from(memory, mapping, L::LEVELS, root, addr.position())
 }
@@ -94,8 +94,8 @@ fn walk_from<T: TableMemory, P: PageTableFrameMapping>(
     position: u64,
 ) -> Option<Walked>
     requires { levels ≤ 5 }
-    ensures { let words = words_of (T.tables memory.now) (P.places mapping.now) in
-        option_map walked_of result ≡ walk_on words position levels true true root }
+    ensures { option_map walked_of result
+        ≡ walk_on (words_of (T.tables memory.now) (P.places mapping.now)) position levels true true root }
 {
     let mut frame = root;
     let mut rights = Rights::ALL;
@@ -138,7 +138,8 @@ pub(super) fn entry_at<'a, T: TableMemory, P: PageTableFrameMapping>(
     index: usize,
 ) -> Option<&'a PageTableEntry>
     requires { index < 512 }
-    ensures { option_copied result ≡ read (words_of (T.tables memory.now) (P.places mapping.now)) frame index }
+    ensures { option_copied result
+        ≡ read (words_of (T.tables memory.now) (P.places mapping.now)) frame index }
 {
     let table = table_in(memory, mapping, frame)?;
     Some(&table[index])

@@ -8,4 +8,4 @@ measure_clean_up-requires g c =
     let pool = c.measure_maps.new.pool in
     let mapper = c.new_unchecked-mapper-3.ensures in
     let holds : c.in_ok-pool_fits_recursive-3.field-0 ≡ true = search rules in
-    fitting_cleans_up _ _ _ mapper.layout (ap (λ active. active.memory.now) mapper.active) (serves_below pool.limit) pool.frames (rw (c.new-3.ensures.memory, c.new-3.ensures.cr3) (c.in_ok-pool_fits_recursive-3.ensures.0 holds))
+    fitting_cleans_up _ _ _ mapper.layout (ap (λ active. active.memory.now) mapper.active) (serves_below pool.limit) pool.frames (rw (c.new-3.ensures.memory, c.new-3.ensures.cr3) (c.in_ok-pool_fits_recursive-3.ensures.decides.0 holds))

@@ -8,8 +8,8 @@ use Rattle.x86_64_tables.specs.private.Soundness.{IsSound, free_in}
 use Rattle.x86_64_tables.proofs.Tested.{sound_passes}
 use Rattle.x86_64_tables.proofs.phys_memory.validity.passes.Goals as goal
 
-pub returns : goal.returns
-returns g c =
+pub returns-clause-decides : goal.returns-clause-decides
+returns-clause-decides g c =
     let places = g.P.PageTableFrameMapping.places c.args.mapping.now in
     let words = words_of (g.T.TableMemory.tables c.args.memory.now) places in
     let pool = option_copied c.args.pool in
@@ -17,4 +17,4 @@ returns g c =
     IfOk-weaker c.is_sound.result
     (λ b. IsTrue b ↔ IsSound c.args.levels words c.args.root c.args.recursive (serves_below (limit_of pool)) (free_in pool))
     (λ b. IsTrue b ↔ Passes (suc c.args.levels) words c.args.root c.args.recursive pool)
-    (λ b is. (λ t. passes.0 (is.0 t), λ v. is.1 (passes.1 v))) (rw c.limit_of-limit.ensures at c.is_sound.ensures)
+    (λ b is. (λ t. passes.0 (is.0 t), λ v. is.1 (passes.1 v))) (rw c.limit_of-limit.ensures at c.is_sound.ensures.decides)

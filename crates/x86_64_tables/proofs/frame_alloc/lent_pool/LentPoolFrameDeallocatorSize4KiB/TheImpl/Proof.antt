@@ -1,4 +1,4 @@
--- The block meets its trait: a list of frames that stays keeps what is served, and its other clauses are the trait's. Rattle makes this proof
+-- The block meets its trait, whose clauses are its own but for the last, which says what the array holds. Rattle makes this proof
 -- for other blocks; here it does not see which impl meets the bound of a frame that is passed by value.
 use Rattle.std.below.core.specs.contracts.clone.Clone+copy.TheImpl as clone
 use Rattle.x86_64_page.specs.contracts.page.Size4KiB as size
@@ -19,10 +19,10 @@ use Rattle.x86_64_tables.specs.contracts.frame_alloc.lent_pool.LentPoolFrameDeal
 use Rattle.x86_64_tables.specs.contracts.frame_alloc.lent_pool.LentPoolFrameKeeperSize4KiB.TheImpl as keeper
 use Rattle.std.proofs.Common.{[], true, refl}
 use base.Fml.{Lft}
-use base.Logic.{SProp, sep, id⊢}
+use base.Logic.{SProp, ent, sep, id⊢, mono_r, fst∗}
 use contract.BorrowLft.{◌⊑◌, ⊑_refl, ⊑_trans}
 use contract.Lifetimes.{Lfts}
-use contract.Monad.{Fun}
+use contract.Monad.{Fun, fact}
 use contract.Running.{within}
 use denote.Param.{layouts}
 use denote.RattleType.{RattleType}
@@ -55,6 +55,10 @@ wanted_clauses κ = asked.clauses (pool_row κ) size.the_row deallocator.ghosts 
 abbrev wanted_spec : (κ : Lft) {M : Type 1} {𝓤 : Ura M} → Logic 𝓤 → (Memory → SProp 𝓤) → (Routine → Fun 𝓤) → Spec 𝓤 (wanted κ).signature
 wanted_spec κ = asked.spec (pool_row κ) size.the_row deallocator.ghosts deallocator.dict keeper.ghosts keeper.dict page_size.ghosts page_size.dict (clone.ghosts size.the_row) (clone.dict size.the_row) eq.ghosts eq.dict partial_eq.ghosts partial_eq.dict partial_ord.ghosts partial_ord.dict ord.ghosts ord.dict sealed.ghosts sealed.dict
 
+-- leaves out the third of three facts
+without_third : {M : Type 1} (𝓤 : Ura M) (P Q R : Type 0) → ent 𝓤 (sep 𝓤 (fact 𝓤 P) (sep 𝓤 (fact 𝓤 Q) (fact 𝓤 R))) (sep 𝓤 (fact 𝓤 P) (fact 𝓤 Q))
+without_third 𝓤 P Q R = mono_r 𝓤 (fact 𝓤 P) (fst∗ 𝓤 (fact 𝓤 Q) (fact 𝓤 R))
+
 pub bound : statement
 bound γ wired κ M 𝓤 𝓛 𝓜 𝓡 =
     let routine = γ (method deallocator.dict 0 (layouts [] tt)) in
@@ -81,7 +85,7 @@ bound γ wired κ M 𝓤 𝓛 𝓜 𝓡 =
           (λ τs a y r. hidden 2 (at τs) 𝓛 own.signature.params own.ended.kept (true, (true, tt)) a
           (λ ws. (own.clauses 𝓛 𝓜.mem 𝓡.returns (at τs) a).ensures y r (outs {n = 2} (at τs) own.signature.params own.ended.kept a ws))
           (λ ws. (wanted_clauses κ 𝓛 𝓜.mem 𝓡.returns τs a).ensures y r (outs {n = 3} τs (wanted κ).signature.params (wanted κ).kept a ws))
-          (λ ws. id⊢ 𝓤 _))
+          (λ ws. without_third 𝓤 _ _ _))
           (widened 𝓤 𝓛.H (triple_of 𝓛 own.signature (own.spec 𝓛 𝓜.mem 𝓡.returns)) 𝓜 𝓡 γ (γ Symbol.name) routine
           (Symbol.as_method γ wired (method deallocator.dict 0 (layouts [] tt)) refl) (Met.met 𝓤 𝓛 𝓜 (within 𝓤 𝓛.H 𝓜 𝓡 γ) wired));
     }
