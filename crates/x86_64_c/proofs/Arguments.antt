@@ -4,8 +4,9 @@ use Rattle.std.specs.FinMap.{len}
 use Rattle.std.specs.Option.{option_or}
 use Rattle.x86_64_tables.specs.LentMemory.{numbered, tables_in_order}
 use Rattle.x86_64_tables.proofs.NumberedTables.{in_order-numbered, len-numbered}
-use Rattle.x86_64_c.specs.Calls.{bad_on_page, bad_on_table, bad_pool, bad_with_pool, is_table_level}
+use Rattle.x86_64_c.specs.Calls.{bad_on_page, bad_on_table, is_table_level}
 use Rattle.x86_64_c.specs.Given.{bad_hierarchy, bad_address, bad_page, bad_read, unless}
+use Rattle.x86_64_c.specs.PoolCalls.{bad_pool}
 use Rattle.x86_64_c.specs.Status.{bad_levels, bad_array}
 use Rattle.x86_64_c.specs.declared.given.Hierarchy.{Hierarchy}
 use Rattle.x86_64_c.specs.declared.given.Page.{Page}
@@ -38,7 +39,7 @@ table_at h n level page L good there levels =
 pub pool_is : (h : Hierarchy) (n capacity free : ℕ) → bad_hierarchy h n ≡ None → free ≤ capacity → bad_pool h n capacity free ≡ None
 pool_is h n capacity free good within = ap (λ o. option_or o (unless (nat_le free capacity) bad_array)) good ∙ ap (λ b. unless b bad_array) (le-leb free capacity within)
 
-pub with_pool : (h : Hierarchy) (n capacity free L : ℕ) (other : ℕ → Option ℕ) → bad_hierarchy h n ≡ None → free ≤ capacity → h.levels ≡ L → bad_with_pool h n capacity free (other h.levels) ≡ other L
+pub with_pool : (h : Hierarchy) (n capacity free L : ℕ) (other : ℕ → Option ℕ) → bad_hierarchy h n ≡ None → free ≤ capacity → h.levels ≡ L → option_or (bad_pool h n capacity free) (other h.levels) ≡ other L
 with_pool h n capacity free L other good within levels = ap (λ o. option_or o (other h.levels)) (pool_is h n capacity free good within) ∙ ap other levels
 
 pub there : (h : Hierarchy) (level : ℕ) → 2 ≤ level → level ≤ h.levels → is_table_level h.levels level ≡ true

@@ -16,7 +16,8 @@ use Rattle.x86_64_model.proofs.Lemmas.Machines.Giving.{giving_from}
 use Rattle.x86_64_mappers.specs.private.ImplLaws.{no_flags}
 use Rattle.x86_64.specs.Runs.{KeepsPool}
 use Rattle.x86_64.proofs.Keeping.{keeps_step}
-use Rattle.x86_64_c.specs.Calls.{Changes, answer_status, to_front}
+use Rattle.x86_64_c.specs.Calls.{Changes, answer_status}
+use Rattle.x86_64_c.specs.PoolCalls.{to_front}
 
 -- a layout's hierarchy in a memory
 abbrev pub of : Layout → Memory → Hierarchy (Unit {0})

@@ -3,7 +3,7 @@ ghost use Rattle.std.specs.Prelude.{◌≡◌, ◌≤◌, ℕ, true, false, leng
 ghost use Rattle.x86_64_c.specs.Calls as calls;
 ghost use Rattle.x86_64_c.specs.Given as given;
 ghost use Rattle.x86_64_c.specs.Status as status;
-ghost use Rattle.x86_64_model.specs.Call.{Call, Unmap, UpdateFlags, SetFlags};
+ghost use Rattle.x86_64_model.specs.Call.{UpdateFlags, SetFlags};
 ghost use Rattle.x86_64_model.specs.Mapper.{Valid, allows, path_of};
 ghost use Rattle.x86_64_model.specs.Path.{path_at};
 ghost use Rattle.x86_64_tables.specs.MapperAnswers.{unmap_answer, unmap_refusal, flags_answer};
@@ -36,11 +36,10 @@ pub extern "C" fn x64_unmap(
         → Valid (given.hierarchy_in hierarchy.now tables.old) }
     ensures bad { (status : ℕ) → calls.bad_on_page hierarchy.now (length tables.old) page.now ≡ Some status
         → (result ≡ status) × (tables.new ≡ tables.old) × (frame.new ≡ frame.old) }
-    ensures unmaps { let h = given.hierarchy_in hierarchy.now tables.old in
-        let after = given.hierarchy_in hierarchy.now tables.new in
-        let call = Unmap (given.path_of_page h.layout.levels page.now) in
-        calls.bad_on_page hierarchy.now (length tables.old) page.now ≡ None
-        → calls.Unmaps h call after result frame.old frame.new }
+    ensures unmaps { calls.bad_on_page hierarchy.now (length tables.old) page.now ≡ None
+        → calls.Unmaps (given.hierarchy_in hierarchy.now tables.old)
+        (given.path_of_page hierarchy.now.levels page.now)
+        (given.hierarchy_in hierarchy.now tables.new) result frame.old frame.new }
 {
     let located = match locate(hierarchy, tables.len()) {
         Ok(located) => located,
@@ -65,11 +64,10 @@ fn unmap_in<L: LevelCount, T: TableMemory>(
         → Valid (given.at L.LEVELS located (T.tables memory.old)) }
     ensures bad { (status : ℕ) → given.bad_page L.LEVELS page.now ≡ Some status
         → (result ≡ status) × (T.tables memory.new ≡ T.tables memory.old) × (frame.new ≡ frame.old) }
-    ensures unmaps { let h = given.at L.LEVELS located (T.tables memory.old) in
-        let after = given.at L.LEVELS located (T.tables memory.new) in
-        let call = Unmap (given.path_of_page L.LEVELS page.now) in
-        given.bad_page L.LEVELS page.now ≡ None
-        → calls.Unmaps h call after result frame.old frame.new }
+    ensures unmaps { given.bad_page L.LEVELS page.now ≡ None
+        → calls.Unmaps (given.at L.LEVELS located (T.tables memory.old))
+        (given.path_of_page L.LEVELS page.now)
+        (given.at L.LEVELS located (T.tables memory.new)) result frame.old frame.new }
     ensures lent { T.lent memory.new ≡ T.lent memory.old }
 {
     let Some(page) = page_of::<L>(page) else {
@@ -90,10 +88,9 @@ fn unmap_page<S: PageSize, L: LevelCount, T: TableMemory>(
     frame: &mut u64,
 ) -> u32
     requires { Valid (given.at L.LEVELS located (T.tables memory.old)) }
-    ensures unmaps { let h = given.at L.LEVELS located (T.tables memory.old) in
-        let after = given.at L.LEVELS located (T.tables memory.new) in
-        let call = Unmap (path_at L.LEVELS S.LEVEL page) in
-        calls.Unmaps h call after result frame.old frame.new }
+    ensures unmaps { calls.Unmaps (given.at L.LEVELS located (T.tables memory.old))
+        (path_at L.LEVELS S.LEVEL page)
+        (given.at L.LEVELS located (T.tables memory.new)) result frame.old frame.new }
     ensures lent { T.lent memory.new ≡ T.lent memory.old }
 {
     let mut mapper = MappedPageTableIn::<_, L, T>::new(memory, located.root, located.mapping);
@@ -150,11 +147,10 @@ pub extern "C" fn x64_update_flags(
         → Valid (given.hierarchy_in hierarchy.now tables.old) }
     ensures bad { (status : ℕ) → calls.bad_on_page hierarchy.now (length tables.old) page.now ≡ Some status
         → (result ≡ status) × (tables.new ≡ tables.old) }
-    ensures updates { let h = given.hierarchy_in hierarchy.now tables.old in
-        let after = given.hierarchy_in hierarchy.now tables.new in
-        let call = UpdateFlags (given.path_of_page h.layout.levels page.now) flags in
-        calls.bad_on_page hierarchy.now (length tables.old) page.now ≡ None
-        → calls.MayChange h call after result }
+    ensures updates { calls.bad_on_page hierarchy.now (length tables.old) page.now ≡ None
+        → calls.MayChange (given.hierarchy_in hierarchy.now tables.old)
+        (UpdateFlags (given.path_of_page hierarchy.now.levels page.now) flags)
+        (given.hierarchy_in hierarchy.now tables.new) result }
 {
     let located = match locate(hierarchy, tables.len()) {
         Ok(located) => located,
@@ -180,10 +176,10 @@ fn update_in<L: LevelCount, T: TableMemory>(
         → Valid (given.at L.LEVELS located (T.tables memory.old)) }
     ensures bad { (status : ℕ) → given.bad_page L.LEVELS page.now ≡ Some status
         → (result ≡ status) × (T.tables memory.new ≡ T.tables memory.old) }
-    ensures updates { let h = given.at L.LEVELS located (T.tables memory.old) in
-        let after = given.at L.LEVELS located (T.tables memory.new) in
-        let call = UpdateFlags (given.path_of_page L.LEVELS page.now) (bits_of flags) in
-        given.bad_page L.LEVELS page.now ≡ None → calls.MayChange h call after result }
+    ensures updates { given.bad_page L.LEVELS page.now ≡ None
+        → calls.MayChange (given.at L.LEVELS located (T.tables memory.old))
+        (UpdateFlags (given.path_of_page L.LEVELS page.now) (bits_of flags))
+        (given.at L.LEVELS located (T.tables memory.new)) result }
     ensures lent { T.lent memory.new ≡ T.lent memory.old }
 {
     let Some(page) = page_of::<L>(page) else {
@@ -204,9 +200,9 @@ fn update_page<S: PageSize, L: LevelCount, T: TableMemory>(
     flags: PageTableFlags,
 ) -> u32
     requires { Valid (given.at L.LEVELS located (T.tables memory.old)) }
-    ensures updates { let h = given.at L.LEVELS located (T.tables memory.old) in
-        let after = given.at L.LEVELS located (T.tables memory.new) in
-        calls.MayChange h (UpdateFlags (path_at L.LEVELS S.LEVEL page) (bits_of flags)) after result }
+    ensures updates { calls.MayChange (given.at L.LEVELS located (T.tables memory.old))
+        (UpdateFlags (path_at L.LEVELS S.LEVEL page) (bits_of flags))
+        (given.at L.LEVELS located (T.tables memory.new)) result }
     ensures lent { T.lent memory.new ≡ T.lent memory.old }
 {
     if flags.has_address_bits() {
@@ -250,11 +246,10 @@ pub extern "C" fn x64_set_table_flags(
     ensures bad { (status : ℕ) →
         calls.bad_on_table hierarchy.now (length tables.old) level page.now ≡ Some status →
         (result ≡ status) × (tables.new ≡ tables.old) }
-    ensures sets { let h = given.hierarchy_in hierarchy.now tables.old in
-        let after = given.hierarchy_in hierarchy.now tables.new in
-        let call = SetFlags level (given.path_of_page h.layout.levels page.now) flags in
-        calls.bad_on_table hierarchy.now (length tables.old) level page.now ≡ None
-        → calls.MayChange h call after result }
+    ensures sets { calls.bad_on_table hierarchy.now (length tables.old) level page.now ≡ None
+        → calls.MayChange (given.hierarchy_in hierarchy.now tables.old)
+        (SetFlags level (given.path_of_page hierarchy.now.levels page.now) flags)
+        (given.hierarchy_in hierarchy.now tables.new) result }
 {
     let located = match locate(hierarchy, tables.len()) {
         Ok(located) => located,
@@ -286,10 +281,10 @@ fn set_in<L: LevelCount, T: TableMemory>(
         → Valid (given.at L.LEVELS located (T.tables memory.old)) }
     ensures bad { (status : ℕ) → given.bad_page L.LEVELS page.now ≡ Some status
         → (result ≡ status) × (T.tables memory.new ≡ T.tables memory.old) }
-    ensures sets { let h = given.at L.LEVELS located (T.tables memory.old) in
-        let after = given.at L.LEVELS located (T.tables memory.new) in
-        let call = SetFlags level (given.path_of_page L.LEVELS page.now) (bits_of flags) in
-        given.bad_page L.LEVELS page.now ≡ None → calls.MayChange h call after result }
+    ensures sets { given.bad_page L.LEVELS page.now ≡ None
+        → calls.MayChange (given.at L.LEVELS located (T.tables memory.old))
+        (SetFlags level (given.path_of_page L.LEVELS page.now) (bits_of flags))
+        (given.at L.LEVELS located (T.tables memory.new)) result }
     ensures lent { T.lent memory.new ≡ T.lent memory.old }
 {
     let Some(page) = page_of::<L>(page) else {
@@ -313,9 +308,9 @@ fn set_page<S: PageSize, L: LevelCount, T: TableMemory>(
     requires low { 2 ≤ level }
     requires high { level ≤ L.LEVELS }
     requires valid { Valid (given.at L.LEVELS located (T.tables memory.old)) }
-    ensures sets { let h = given.at L.LEVELS located (T.tables memory.old) in
-        let after = given.at L.LEVELS located (T.tables memory.new) in
-        calls.MayChange h (SetFlags level (path_at L.LEVELS S.LEVEL page) (bits_of flags)) after result }
+    ensures sets { calls.MayChange (given.at L.LEVELS located (T.tables memory.old))
+        (SetFlags level (path_at L.LEVELS S.LEVEL page) (bits_of flags))
+        (given.at L.LEVELS located (T.tables memory.new)) result }
     ensures lent { T.lent memory.new ≡ T.lent memory.old }
 {
     let mut mapper = MappedPageTableIn::<_, L, T>::new(memory, located.root, located.mapping);
@@ -337,8 +332,8 @@ fn may_set<S: PageSize, L: LevelCount, M: TableAccess + TablesIn<L>>(
     requires low { 2 ≤ level }
     requires high { level ≤ L.LEVELS }
     requires valid { Valid (M.hierarchy mapper.now) }
-    ensures { let h = M.hierarchy mapper.now in
-        result ≡ allows h (SetFlags level (path_of h S.LEVEL page) (bits_of flags)) }
+    ensures { result ≡ allows (M.hierarchy mapper.now)
+        (SetFlags level (path_of (M.hierarchy mapper.now) S.LEVEL page) (bits_of flags)) }
 {
     if level <= 3 {
         return calls::table_flags_allowed(mapper, page, level, flags);

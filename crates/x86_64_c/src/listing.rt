@@ -2,9 +2,6 @@
 ghost use Rattle.std.specs.Prelude.{◌≡◌, ℕ, ◌++◌, length, map, take, drop, Some, None};
 ghost use Rattle.x86_64_c.specs.Given as given;
 ghost use Rattle.x86_64_c.specs.Listing as listing;
-ghost use Rattle.x86_64_model.specs.Mapper.{words};
-ghost use Rattle.x86_64_model.specs.Mappings as model;
-ghost use Rattle.x86_64_model.specs.Memory.{words_of};
 
 use crate::given::{Hierarchy, Located, locate};
 use crate::status;
@@ -71,11 +68,9 @@ pub extern "C" fn x64_mappings(
     ensures bad { (status : ℕ) → given.bad_read hierarchy.now (length tables.old) from ≡ Some status
         → (result ≡ status) × (mappings.new ≡ mappings.old)
         × (count.new ≡ count.old) × (next.new ≡ next.old) }
-    ensures lists { let h = given.hierarchy_in hierarchy.now tables.old in let L = h.layout.levels in
-        let of_root = model.mappings_of L (words h) h.layout.root in
-        let all = model.mappings_from (given.position_of L from) of_root in
-        given.bad_read hierarchy.now (length tables.old) from ≡ None
-        → listing.Lists L all mappings.old result mappings.new count.new next.old next.new }
+    ensures lists { given.bad_read hierarchy.now (length tables.old) from ≡ None
+        → listing.Lists (listing.mappings_at (given.hierarchy_in hierarchy.now tables.old) from)
+        hierarchy.now.levels mappings.old result mappings.new count.new next.old next.new }
     ensures tables { tables.new ≡ tables.old }
 {
     let located = match locate(hierarchy, tables.len()) {
@@ -102,11 +97,9 @@ fn list_in<L: LevelCount, T: TableMemory>(
     ensures bad { (status : ℕ) → given.bad_address L.LEVELS from ≡ Some status
         → (result ≡ status) × (mappings.new ≡ mappings.old)
         × (count.new ≡ count.old) × (next.new ≡ next.old) }
-    ensures lists { let words = words_of (T.tables memory.now) (given.places_of located) in
-        let of_root = model.mappings_of L.LEVELS words located.root in
-        let all = model.mappings_from (given.position_of L.LEVELS from) of_root in
-        given.bad_address L.LEVELS from ≡ None
-        → listing.Lists L.LEVELS all mappings.old result mappings.new count.new next.old next.new }
+    ensures lists { given.bad_address L.LEVELS from ≡ None
+        → listing.Lists (listing.mappings_at (given.at L.LEVELS located (T.tables memory.now)) from)
+        L.LEVELS mappings.old result mappings.new count.new next.old next.new }
 {
     let Some(from) = VirtAddrIn::<L>::checked_new(from) else {
         return status::BAD_ADDRESS;

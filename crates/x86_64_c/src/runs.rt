@@ -1,11 +1,10 @@
 //! Calls that take frames from a pool or return frames to it: maps and clean ups.
 ghost use Rattle.std.specs.Prelude.{◌≡◌, ◌≤◌, ◌⊎◌, ℕ, List, true, false, length, Some, None, IfOk, IfErr, IfSome, IfNone};
-ghost use Rattle.x86_64_c.specs.Calls as calls;
 ghost use Rattle.x86_64_c.specs.Given as given;
+ghost use Rattle.x86_64_c.specs.PoolCalls as calls;
 ghost use Rattle.x86_64_c.specs.Status as statuses;
-ghost use Rattle.x86_64_model.specs.Mapper.{PoolFits};
+ghost use Rattle.x86_64_model.specs.Store.{Fits};
 ghost use Rattle.x86_64_tables.specs.LentMemory.{numbered};
-ghost use Rattle.x86_64_tables.specs.LentPool.{stacked, is_in};
 ghost use Rattle.x86_64_tables.specs.PageTableFlags.{bits_of};
 ghost use Rattle.x86_64.specs.Asked as asked;
 ghost use Rattle.x86_64.specs.Calls.{asks, size_asks};
@@ -25,8 +24,8 @@ use x86_64_page::page::PageIn;
 ///
 /// The pool is a stack of addresses of free frames: the last of the first `free_count` entries is taken first. Requires that the
 /// hierarchy is valid, and that the pool fits it with room, which `x64_pool_fits` tests; both hold again afterwards. Returns `OK`,
-/// `NOT_ALLOWED`, `FRAME_ALLOCATION_FAILED`, `PARENT_ENTRY_HUGE_PAGE`, `PAGE_ALREADY_MAPPED`, or what is wrong with an argument; then
-/// nothing changes.
+/// `NOT_ALLOWED`, `FRAME_ALLOCATION_FAILED`, `PARENT_ENTRY_HUGE_PAGE`, `PAGE_ALREADY_MAPPED`, or what is wrong with an argument. If an
+/// argument is wrong, or the call isn't allowed, nothing changes.
 #[unsafe(no_mangle)]
 pub extern "C" fn x64_map(
     hierarchy: &Hierarchy,
@@ -36,24 +35,10 @@ pub extern "C" fn x64_map(
     request: &MapRequest,
 ) -> u32
     ghost own: { List ℕ }
-    requires room { length own ≤ length pool.old }
-    requires fits { let free = free_count.old in let other = calls.bad_map hierarchy.now.levels request.now in
-        calls.bad_with_pool hierarchy.now (length tables.old) (length pool.old) free other ≡ None
-        → calls.OwnFits own (given.hierarchy_in hierarchy.now tables.old) pool.old free }
-    ensures bad { let free = free_count.old in let other = calls.bad_map hierarchy.now.levels request.now in
-        (status : ℕ) →
-        calls.bad_with_pool hierarchy.now (length tables.old) (length pool.old) free other ≡ Some status →
-        (result ≡ status) × (tables.new ≡ tables.old)
-        × (pool.new ≡ pool.old) × (free_count.new ≡ free_count.old) }
-    ensures runs { let h = given.hierarchy_in hierarchy.now tables.old in
-        let after = given.hierarchy_in hierarchy.now tables.new in
-        let free = stacked pool.old free_count.old in let rest = stacked pool.new free_count.new in
-        let other = calls.bad_map h.layout.levels request.now in
-        let call = calls.map_call h.layout.levels request.now in
-        calls.bad_with_pool hierarchy.now (length tables.old) (length pool.old) free_count.old other ≡ None
-        → calls.Runs calls.to_front (is_in own) h free call after rest result }
-    ensures room { length pool.new ≡ length pool.old }
-    ensures in_array { free_count.old ≤ length pool.old → free_count.new ≤ length pool.new }
+    requires { calls.MayRun own hierarchy.now (calls.loan tables.old pool.old free_count.old)
+        (calls.to_map request.now) }
+    ensures { calls.RunsLent own hierarchy.now (calls.loan tables.old pool.old free_count.old)
+        (calls.to_map request.now) result (calls.loan tables.new pool.new free_count.new) }
 {
     let located = match locate(hierarchy, tables.len()) {
         Ok(located) => located,
@@ -146,12 +131,12 @@ fn run_lent(
     ghost own: { List ℕ }
     requires in_array { free_count.old ≤ length pool.old }
     requires room { length own ≤ length pool.old }
-    requires fits { let h = given.at (calls.any_levels call) located (numbered tables.old) in
-        calls.OwnFits own h pool.old free_count.old }
-    ensures runs { let h = given.at (calls.any_levels call) located (numbered tables.old) in
-        let after = given.at (calls.any_levels call) located (numbered tables.new) in
-        let free = stacked pool.old free_count.old in let rest = stacked pool.new free_count.new in
-        calls.Runs calls.to_front (is_in own) h free (calls.any_asks call) after rest result }
+    requires fits { Fits (given.at (calls.any_levels call) located (numbered tables.old))
+        (calls.pool_in own pool.old free_count.old) }
+    ensures runs { calls.Runs (given.at (calls.any_levels call) located (numbered tables.old))
+        (calls.pool_in own pool.old free_count.old) (calls.any_asks call)
+        (given.at (calls.any_levels call) located (numbered tables.new))
+        (calls.pool_in own pool.new free_count.new) result }
     ensures room { length pool.new ≡ length pool.old }
     ensures in_array { free_count.new ≤ length pool.new }
 {
@@ -170,12 +155,12 @@ fn run_in<L: LevelCount, P5: LevelFiveFlags<L>, T: TableMemory, F: FrameStore>(
     frames: &mut F,
     call: CallIn<L, P5>,
 ) -> u32
-    requires { let h = given.at L.LEVELS located (T.tables memory.old) in
-        PoolFits h (F.serves frames.old) (F.supply frames.old) }
-    ensures runs { let h = given.at L.LEVELS located (T.tables memory.old) in
-        let after = given.at L.LEVELS located (T.tables memory.new) in
-        let free = F.supply frames.old in let rest = F.supply frames.new in
-        calls.Runs F.take_back (F.serves frames.old) h free (asks P5.bits call) after rest result }
+    requires { Fits (given.at L.LEVELS located (T.tables memory.old))
+        (calls.store_of (F.supply frames.old) (F.serves frames.old) F.take_back) }
+    ensures runs { calls.Runs (given.at L.LEVELS located (T.tables memory.old))
+        (calls.store_of (F.supply frames.old) (F.serves frames.old) F.take_back) (asks P5.bits call)
+        (given.at L.LEVELS located (T.tables memory.new))
+        (calls.store_of (F.supply frames.new) (F.serves frames.new) F.take_back) result }
     ensures lent { T.lent memory.new ≡ T.lent memory.old }
     ensures serves { F.serves frames.new ≡ F.serves frames.old }
 {
@@ -199,26 +184,11 @@ pub extern "C" fn x64_clean_up(
     last_page: u64,
 ) -> u32
     ghost own: { List ℕ }
-    requires room { length own ≤ length pool.old }
-    requires fits { let free = free_count.old in
-        let other = calls.bad_range hierarchy.now.levels first_page last_page in
-        calls.bad_with_pool hierarchy.now (length tables.old) (length pool.old) free other ≡ None
-        → calls.OwnFits own (given.hierarchy_in hierarchy.now tables.old) pool.old free }
-    ensures bad { let free = free_count.old in
-        let other = calls.bad_range hierarchy.now.levels first_page last_page in
-        (status : ℕ) →
-        calls.bad_with_pool hierarchy.now (length tables.old) (length pool.old) free other ≡ Some status →
-        (result ≡ status) × (tables.new ≡ tables.old)
-        × (pool.new ≡ pool.old) × (free_count.new ≡ free_count.old) }
-    ensures runs { let h = given.hierarchy_in hierarchy.now tables.old in
-        let after = given.hierarchy_in hierarchy.now tables.new in
-        let free = stacked pool.old free_count.old in let rest = stacked pool.new free_count.new in
-        let other = calls.bad_range h.layout.levels first_page last_page in
-        let call = calls.clean_up_call h.layout.levels first_page last_page in
-        calls.bad_with_pool hierarchy.now (length tables.old) (length pool.old) free_count.old other ≡ None
-        → calls.Runs calls.to_front (is_in own) h free call after rest result }
-    ensures room { length pool.new ≡ length pool.old }
-    ensures in_array { free_count.old ≤ length pool.old → free_count.new ≤ length pool.new }
+    requires { calls.MayRun own hierarchy.now (calls.loan tables.old pool.old free_count.old)
+        (calls.to_clean_up first_page last_page) }
+    ensures { calls.RunsLent own hierarchy.now (calls.loan tables.old pool.old free_count.old)
+        (calls.to_clean_up first_page last_page) result
+        (calls.loan tables.new pool.new free_count.new) }
 {
     let located = match locate(hierarchy, tables.len()) {
         Ok(located) => located,

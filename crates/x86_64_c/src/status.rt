@@ -25,13 +25,15 @@ pub const NOT_ALLOWED: u32 = 4;
 /// A table is missing, and the pool is empty.
 pub const FRAME_ALLOCATION_FAILED: u32 = 5;
 
-/// A parent of the page maps a larger page, or the page's own entry has not `HUGE_PAGE` as its size wants it.
+/// An entry above the page has `HUGE_PAGE`, an unmap finds `HUGE_PAGE` in the entry of a 4KiB page or misses it in that of a larger
+/// one, or the level of a table's entry isn't above that of the page's own.
 pub const PARENT_ENTRY_HUGE_PAGE: u32 = 6;
 
 /// The page's entry is used.
 pub const PAGE_ALREADY_MAPPED: u32 = 7;
 
-/// A parent or the page's own entry lacks `PRESENT`.
+/// An entry above lacks `PRESENT`, an unmap finds the page's entry without `PRESENT`, or the entry whose flags are to be set is 0 or, as
+/// the own entry of a page larger than 4KiB, lacks `HUGE_PAGE`.
 pub const PAGE_NOT_MAPPED: u32 = 8;
 
 /// The page's entry names an address that isn't a multiple of the page's size.

@@ -1,10 +1,9 @@
 //! The tests of a hierarchy and of a pool, over marks that the caller lends.
-ghost use Rattle.std.specs.Prelude.{◌≡◌, ◌⊎◌, ◌↔◌, ℕ, length, reverse, IsTrue, Some, None};
+ghost use Rattle.std.specs.Prelude.{◌≡◌, ◌↔◌, ℕ, length, reverse, IsTrue, Some, None};
 ghost use Rattle.std.specs.FinMap.{len};
 ghost use Rattle.x86_64_c.specs.Given as given;
-ghost use Rattle.x86_64_c.specs.Status as status;
-ghost use Rattle.x86_64_model.specs.Mapper.{Valid, words};
-ghost use Rattle.x86_64_tables.specs.LentPool.{FitsRoom, stacked};
+ghost use Rattle.x86_64_c.specs.Reads as reads;
+ghost use Rattle.x86_64_model.specs.Mapper.{Valid};
 
 use crate::given::{Hierarchy, Located, locate};
 use crate::status;
@@ -14,8 +13,8 @@ use x86_64::{
     pool_fits_by_marks,
 };
 
-/// Tests whether a hierarchy is valid: the root and each table that a used word without `HUGE_PAGE` names above level one has a table
-/// in the array, is named once, and isn't frame 0, and no word above level three has `HUGE_PAGE`.
+/// Tests whether a hierarchy is valid: the root, and each table that a used word without `HUGE_PAGE` names above level one, has a table
+/// in the array and a frame of its own, which is frame 0 for none but the root, and no word above level three has `HUGE_PAGE`.
 ///
 /// The marks, one for each table, may hold anything before and after. Returns `OK`, `NOT_VALID`, or what is wrong with an argument.
 #[tactic(auto, using(crate::proofs::Arguments::handed_back, crate::proofs::Arguments::counted))]
@@ -29,9 +28,7 @@ pub extern "C" fn x64_is_valid(
         given.bad_test hierarchy.now (length tables.old) (length marks.old) ≡ Some status →
         (result ≡ status) × (marks.new ≡ marks.old) }
     ensures valid { given.bad_test hierarchy.now (length tables.old) (length marks.old) ≡ None
-        → (result ≡ status.ok) ↔ Valid (given.hierarchy_in hierarchy.now tables.old) }
-    ensures otherwise { given.bad_test hierarchy.now (length tables.old) (length marks.old) ≡ None
-        → (result ≡ status.ok) ⊎ (result ≡ status.not_valid) }
+        → reads.TellsWhether (Valid (given.hierarchy_in hierarchy.now tables.old)) result }
     ensures tables { tables.new ≡ tables.old }
 {
     let count = tables.len();
@@ -75,16 +72,12 @@ pub extern "C" fn x64_pool_fits(
     free_count: usize,
     marks: &mut [bool],
 ) -> u32
-    ensures bad { let capacity = length pool.now in (status : ℕ) →
-        given.bad_fit hierarchy.now (length tables.old) capacity free_count (length marks.old) ≡ Some status →
-        (result ≡ status) × (marks.new ≡ marks.old) }
-    ensures fits { let h = given.hierarchy_in hierarchy.now tables.old in let capacity = length pool.now in
-        given.bad_fit hierarchy.now (length tables.old) capacity free_count (length marks.old) ≡ None
-        → (result ≡ status.ok)
-        ↔ FitsRoom h.layout.levels (words h) h.layout.root capacity (stacked pool.now free_count) }
-    ensures otherwise { let capacity = length pool.now in
-        given.bad_fit hierarchy.now (length tables.old) capacity free_count (length marks.old) ≡ None
-        → (result ≡ status.ok) ⊎ (result ≡ status.not_valid) }
+    ensures bad { (status : ℕ) →
+        given.bad_fit hierarchy.now (length tables.old) (length pool.now) free_count (length marks.old)
+        ≡ Some status → (result ≡ status) × (marks.new ≡ marks.old) }
+    ensures fits { given.bad_fit hierarchy.now (length tables.old) (length pool.now) free_count
+        (length marks.old) ≡ None → reads.TellsWhether
+        (reads.FitsArray (given.hierarchy_in hierarchy.now tables.old) pool.now free_count) result }
     ensures tables { tables.new ≡ tables.old }
 {
     let count = tables.len();
@@ -125,8 +118,8 @@ fn fits<L: LevelCount, T: TableMemory>(
     marks: &mut [bool],
 ) -> bool
     requires { length marks.old ≡ len (T.tables memory.now) }
-    ensures { let h = given.at L.LEVELS located (T.tables memory.now) in
-        IsTrue result ↔ FitsRoom L.LEVELS (words h) located.root capacity (reverse free.now) }
+    ensures { IsTrue result ↔ reads.FitsRoomFor (given.at L.LEVELS located (T.tables memory.now))
+        capacity (reverse free.now) }
 {
     pool_fits_by_marks::<L, _, _>(
         memory,
@@ -141,8 +134,7 @@ fn fits<L: LevelCount, T: TableMemory>(
 /// Tests whether a hierarchy with `L` levels of tables is valid, and returns the status.
 fn valid<L: LevelCount, T: TableMemory>(memory: &T, located: Located, marks: &mut [bool]) -> u32
     requires { length marks.old ≡ len (T.tables memory.now) }
-    ensures valid { (result ≡ status.ok) ↔ Valid (given.at L.LEVELS located (T.tables memory.now)) }
-    ensures otherwise { (result ≡ status.ok) ⊎ (result ≡ status.not_valid) }
+    ensures { reads.TellsWhether (Valid (given.at L.LEVELS located (T.tables memory.now))) result }
 {
     if is_valid_by_marks::<L, _, _>(memory, &located.mapping, located.root, marks) {
         status::OK

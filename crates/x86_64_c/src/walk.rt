@@ -2,11 +2,7 @@
 ghost use Rattle.std.specs.Prelude.{◌≡◌, ℕ, length, Some, None};
 ghost use Rattle.x86_64_c.specs.Given as given;
 ghost use Rattle.x86_64_c.specs.Reads as reads;
-ghost use Rattle.x86_64_mappers.specs.Layouts.{direct_at};
-ghost use Rattle.x86_64_model.specs.Layout.{Valid as ValidIn, walk as walk_of, read_entry};
-ghost use Rattle.x86_64_model.specs.Mapper.{Valid, walk};
-ghost use Rattle.x86_64_model.specs.Mapper as mapper;
-ghost use Rattle.x86_64_model.specs.Translation.{translate};
+ghost use Rattle.x86_64_model.specs.Mapper.{Valid};
 
 use crate::given::{Hierarchy, Located, locate};
 use crate::status;
@@ -57,9 +53,9 @@ pub extern "C" fn x64_page_walk(
 ) -> u32
     ensures bad { (status : ℕ) → given.bad_read hierarchy.now (length tables.old) address ≡ Some status
         → (result ≡ status) × (walked.new ≡ walked.old) }
-    ensures told { let h = given.hierarchy_in hierarchy.now tables.old in
-        given.bad_read hierarchy.now (length tables.old) address ≡ None
-        → reads.TellsWalk (walk h (given.position_of h.layout.levels address)) result walked.old walked.new }
+    ensures told { given.bad_read hierarchy.now (length tables.old) address ≡ None
+        → reads.TellsWalk (reads.walk_to (given.hierarchy_in hierarchy.now tables.old) address)
+        result walked.old walked.new }
     ensures tables { tables.new ≡ tables.old }
 {
     let located = match locate(hierarchy, tables.len()) {
@@ -83,9 +79,9 @@ fn walk_in<L: LevelCount, T: TableMemory>(
 ) -> u32
     ensures bad { (status : ℕ) → given.bad_address L.LEVELS address ≡ Some status
         → (result ≡ status) × (walked.new ≡ walked.old) }
-    ensures told { let layout = direct_at L.LEVELS (given.places_of located) located.root in
-        let arrival = walk_of layout (T.tables memory.now) (given.position_of L.LEVELS address) in
-        given.bad_address L.LEVELS address ≡ None → reads.TellsWalk arrival result walked.old walked.new }
+    ensures told { given.bad_address L.LEVELS address ≡ None
+        → reads.TellsWalk (reads.walk_to (given.at L.LEVELS located (T.tables memory.now)) address)
+        result walked.old walked.new }
 {
     let Some(address) = VirtAddrIn::<L>::checked_new(address) else {
         return status::BAD_ADDRESS;
@@ -119,10 +115,10 @@ pub extern "C" fn x64_translate(
         → Valid (given.hierarchy_in hierarchy.now tables.old) }
     ensures bad { (status : ℕ) → given.bad_read hierarchy.now (length tables.old) address ≡ Some status
         → (result ≡ status) × (translation.new ≡ translation.old) }
-    ensures told { let h = given.hierarchy_in hierarchy.now tables.old in
-        let translated = mapper.translation h (given.position_of h.layout.levels address) in
-        given.bad_read hierarchy.now (length tables.old) address ≡ None
-        → reads.TellsTranslation translated result translation.old translation.new }
+    ensures told { given.bad_read hierarchy.now (length tables.old) address ≡ None
+        → reads.TellsTranslation
+        (reads.translation_of (given.hierarchy_in hierarchy.now tables.old) address)
+        result translation.old translation.new }
     ensures tables { tables.new ≡ tables.old }
 {
     let located = match locate(hierarchy, tables.len()) {
@@ -144,15 +140,14 @@ fn translate_in<L: LevelCount, T: TableMemory>(
     address: u64,
     translation: &mut Translation,
 ) -> u32
-    requires { let layout = direct_at L.LEVELS (given.places_of located) located.root in
-        given.bad_address L.LEVELS address ≡ None → ValidIn layout (T.tables memory.old) }
+    requires { given.bad_address L.LEVELS address ≡ None
+        → Valid (given.at L.LEVELS located (T.tables memory.old)) }
     ensures bad { (status : ℕ) → given.bad_address L.LEVELS address ≡ Some status
         → (result ≡ status) × (translation.new ≡ translation.old) }
-    ensures told { let layout = direct_at L.LEVELS (given.places_of located) located.root in
-        let entries = read_entry layout (T.tables memory.old) in
-        let translated = translate L.LEVELS entries (given.position_of L.LEVELS address) in
-        given.bad_address L.LEVELS address ≡ None
-        → reads.TellsTranslation translated result translation.old translation.new }
+    ensures told { given.bad_address L.LEVELS address ≡ None
+        → reads.TellsTranslation
+        (reads.translation_of (given.at L.LEVELS located (T.tables memory.old)) address)
+        result translation.old translation.new }
     ensures memory { T.tables memory.new ≡ T.tables memory.old }
     ensures lent { T.lent memory.new ≡ T.lent memory.old }
 {

@@ -16,9 +16,9 @@ use Rattle.x86_64_tables.specs.MapperAnswers.{map_refusal}
 use Rattle.x86_64_tables.specs.declared.mapper.MapToError.{MapToError}
 use Rattle.x86_64_mappers.specs.Ranges.{MapRange, MapsAll, MayMapRange, MapsEach, StopsAt, accepted, frame_at, map_at, range_of}
 use Rattle.x86_64_mappers.proofs.Range.Runs.{accepted_more}
-use Rattle.x86_64_loader.specs.private.Loads.{IsStopped}
+use Rattle.x86_64_loader.specs.private.Loads.{AreMapped, IsStopped}
 use Rattle.x86_64_loader.specs.Maps.{Accepts, Made, Refuses}
-use Rattle.x86_64_loader.specs.Pages.{IsFree, Leaves, MayBeMapped, RunStands}
+use Rattle.x86_64_loader.specs.Pages.{MayBeMapped}
 use Rattle.x86_64_loader.specs.Segments.{mapping_of, run_of}
 use Rattle.x86_64_loader.proofs.Listed.{run_more}
 use Rattle.x86_64_loader.proofs.Made.{accepts_none, accepts_then, kept_none, made_one, refuses_then}
@@ -33,13 +33,6 @@ may_map h four level size page frame given more count spans is may = record {
   frames = λ k less. subst (λ z. frame + k * z < 2 ^ 52) spans (may k less).frame_there;
   allowed = λ k less. subst₂ (λ z m. allows_map h (path_of h level (page + k * z)) given m ≡ true) spans (sym is) (may k less).allowed;
 }
-
--- the first k pages are mapped
-pub record AreMapped {Lent : Type 0} (h : Hierarchy Lent) (supply : List ℕ) (level size page frame flags k : ℕ) (now : Hierarchy Lent) (left : List ℕ) : Type 0 where
-  pub stand : RunStands now level size page frame flags k
-  pub were_free : IsFree h page (k * size)
-  pub leaves : Leaves 3 h supply now left
-  pub accepted : Accepts h supply (run_of level page frame flags k) now left
 
 module _ {Lent : Type 0} (h : Hierarchy Lent) (supply : List ℕ) (level page frame given : ℕ) (low : 1 ≤ level) (high : level ≤ 3) (some : 3 < h.layout.levels) (adds : IsParentFlags h.layout.added_flags)
     (mapping : IsMapping h.layout.places) (is_present : present given ≡ true) (page_aligned : page % span level ≡ 0) (frame_aligned : frame % span level ≡ 0) (fits : SupplyFits h supply) where

@@ -1,4 +1,5 @@
 pub mod Maps
 pub mod Pages
 pub mod Segments
+pub mod Loads
 pub mod private

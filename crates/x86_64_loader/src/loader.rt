@@ -1,9 +1,9 @@
 //! Loads of segments.
-ghost use Rattle.std.specs.Prelude.{◌≡◌, ◌%◌, flat_map, IsOk, OnOk, IfErr};
+ghost use Rattle.std.specs.Prelude.{◌≡◌, ◌%◌};
 ghost use Rattle.std.specs.List.{All};
-ghost use Rattle.x86_64_loader.specs.private.Loads.{LoadsPart, pages_by};
-ghost use Rattle.x86_64_loader.specs.Maps.{Accepts, Kept};
-ghost use Rattle.x86_64_loader.specs.Segments.{Disjoint, IsAllowed, IsLoaded, IsRefused, Suffices, large_pages, size_of, small_pages};
+ghost use Rattle.x86_64_loader.specs.Loads.{Loads};
+ghost use Rattle.x86_64_loader.specs.Segments.{IsAllowed, large_pages, small_pages};
+ghost use Rattle.x86_64_loader.specs.private.Loads.{LoadsSegment, pages_by};
 ghost use Rattle.x86_64_model.specs.Mapper.{SupplyFits};
 
 use crate::pages::Stopped;
@@ -48,19 +48,8 @@ pub fn load<M: MapperAllSizes, A: FrameAllocator<Size4KiB>>(
 ) -> Result<(), LoadError>
     requires fits { SupplyFits (M.hierarchy mapper.old) (A.supply frames.old) }
     requires allowed { All (IsAllowed (M.hierarchy mapper.old)) segments.now }
-    ensures accepted { let h = M.hierarchy mapper.old in let supply = A.supply frames.old in
-        let after = M.hierarchy mapper.new in let pages = flat_map small_pages segments.now in
-        OnOk result (Accepts h supply pages after (A.supply frames.new)) }
-    ensures loaded { let after = M.hierarchy mapper.new in
-        OnOk result (All (IsLoaded small_pages after) segments.now) }
-    ensures disjoint { OnOk result (Disjoint segments.now) }
-    ensures refused { let h = M.hierarchy mapper.old in let supply = A.supply frames.old in
-        let after = M.hierarchy mapper.new in let rest = A.supply frames.new in
-        IfErr result (λ error. IsRefused small_pages h supply segments.now error after rest) }
-    ensures succeeds { let h = M.hierarchy mapper.old in
-        Suffices small_pages h (A.supply frames.old) segments.now → IsOk result }
-    ensures kept { let h = M.hierarchy mapper.old in let supply = A.supply frames.old in
-        Kept h supply (M.hierarchy mapper.new) (A.supply frames.new) }
+    ensures loads { Loads small_pages (M.hierarchy mapper.old) (A.supply frames.old)
+        segments.now result (M.hierarchy mapper.new) (A.supply frames.new) }
     ensures serves { A.serves frames.new ≡ A.serves frames.old }
 {
     load_each(mapper, frames, segments, Sizes::Small)
@@ -79,19 +68,8 @@ pub fn load_large<M: MapperAllSizes, A: FrameAllocator<Size4KiB>>(
 ) -> Result<(), LoadError>
     requires fits { SupplyFits (M.hierarchy mapper.old) (A.supply frames.old) }
     requires allowed { All (IsAllowed (M.hierarchy mapper.old)) segments.now }
-    ensures accepted { let h = M.hierarchy mapper.old in let supply = A.supply frames.old in
-        let after = M.hierarchy mapper.new in let pages = flat_map large_pages segments.now in
-        OnOk result (Accepts h supply pages after (A.supply frames.new)) }
-    ensures loaded { let after = M.hierarchy mapper.new in
-        OnOk result (All (IsLoaded large_pages after) segments.now) }
-    ensures disjoint { OnOk result (Disjoint segments.now) }
-    ensures refused { let h = M.hierarchy mapper.old in let supply = A.supply frames.old in
-        let after = M.hierarchy mapper.new in let rest = A.supply frames.new in
-        IfErr result (λ error. IsRefused large_pages h supply segments.now error after rest) }
-    ensures succeeds { let h = M.hierarchy mapper.old in
-        Suffices large_pages h (A.supply frames.old) segments.now → IsOk result }
-    ensures kept { let h = M.hierarchy mapper.old in let supply = A.supply frames.old in
-        Kept h supply (M.hierarchy mapper.new) (A.supply frames.new) }
+    ensures loads { Loads large_pages (M.hierarchy mapper.old) (A.supply frames.old)
+        segments.now result (M.hierarchy mapper.new) (A.supply frames.new) }
     ensures serves { A.serves frames.new ≡ A.serves frames.old }
 {
     load_each(mapper, frames, segments, Sizes::Large)
@@ -115,19 +93,8 @@ fn load_each<M: MapperAllSizes, A: FrameAllocator<Size4KiB>>(
 ) -> Result<(), LoadError>
     requires fits { SupplyFits (M.hierarchy mapper.old) (A.supply frames.old) }
     requires allowed { All (IsAllowed (M.hierarchy mapper.old)) segments.now }
-    ensures accepted { let h = M.hierarchy mapper.old in let supply = A.supply frames.old in
-        let after = M.hierarchy mapper.new in let pages = flat_map (pages_by sizes) segments.now in
-        OnOk result (Accepts h supply pages after (A.supply frames.new)) }
-    ensures loaded { let after = M.hierarchy mapper.new in
-        OnOk result (All (IsLoaded (pages_by sizes) after) segments.now) }
-    ensures disjoint { OnOk result (Disjoint segments.now) }
-    ensures refused { let h = M.hierarchy mapper.old in let supply = A.supply frames.old in
-        let after = M.hierarchy mapper.new in let rest = A.supply frames.new in
-        IfErr result (λ error. IsRefused (pages_by sizes) h supply segments.now error after rest) }
-    ensures succeeds { let h = M.hierarchy mapper.old in
-        Suffices (pages_by sizes) h (A.supply frames.old) segments.now → IsOk result }
-    ensures kept { let h = M.hierarchy mapper.old in let supply = A.supply frames.old in
-        Kept h supply (M.hierarchy mapper.new) (A.supply frames.new) }
+    ensures loads { Loads (pages_by sizes) (M.hierarchy mapper.old) (A.supply frames.old)
+        segments.now result (M.hierarchy mapper.new) (A.supply frames.new) }
     ensures serves { A.serves frames.new ≡ A.serves frames.old }
 {
     for (index, segment) in segments.iter().enumerate() {
@@ -152,9 +119,8 @@ fn load_segment<M: MapperAllSizes, A: FrameAllocator<Size4KiB>>(
 ) -> Result<(), Stopped<Size4KiB>>
     requires fits { SupplyFits (M.hierarchy mapper.old) (A.supply frames.old) }
     requires allowed { IsAllowed (M.hierarchy mapper.old) segment }
-    ensures loads { let h = M.hierarchy mapper.old in let supply = A.supply frames.old in
-        let s = segment in let after = M.hierarchy mapper.new in let rest = A.supply frames.new in
-        LoadsPart h supply s (pages_by sizes s) 0 (size_of s) result after rest }
+    ensures loads { LoadsSegment (pages_by sizes) (M.hierarchy mapper.old) (A.supply frames.old)
+        segment result (M.hierarchy mapper.new) (A.supply frames.new) }
     ensures serves { A.serves frames.new ≡ A.serves frames.old }
     ensures aligned { segment.page % 0x1000 ≡ 0 }
 {
@@ -172,9 +138,8 @@ fn load_small_pages<M: MapperAllSizes, A: FrameAllocator<Size4KiB>>(
 ) -> Result<(), Stopped<Size4KiB>>
     requires fits { SupplyFits (M.hierarchy mapper.old) (A.supply frames.old) }
     requires allowed { IsAllowed (M.hierarchy mapper.old) segment.now }
-    ensures loads { let h = M.hierarchy mapper.old in let supply = A.supply frames.old in
-        let s = segment.now in let after = M.hierarchy mapper.new in let rest = A.supply frames.new in
-        LoadsPart h supply s (small_pages s) 0 (size_of s) result after rest }
+    ensures loads { LoadsSegment small_pages (M.hierarchy mapper.old) (A.supply frames.old)
+        segment.now result (M.hierarchy mapper.new) (A.supply frames.new) }
     ensures serves { A.serves frames.new ≡ A.serves frames.old }
 {
     map_part::<Size4KiB, M, A>(mapper, frames, segment, 0, segment.pages)
@@ -188,9 +153,8 @@ fn load_large_pages<M: MapperAllSizes, A: FrameAllocator<Size4KiB>>(
 ) -> Result<(), Stopped<Size4KiB>>
     requires fits { SupplyFits (M.hierarchy mapper.old) (A.supply frames.old) }
     requires allowed { IsAllowed (M.hierarchy mapper.old) segment.now }
-    ensures loads { let h = M.hierarchy mapper.old in let supply = A.supply frames.old in
-        let s = segment.now in let after = M.hierarchy mapper.new in let rest = A.supply frames.new in
-        LoadsPart h supply s (large_pages s) 0 (size_of s) result after rest }
+    ensures loads { LoadsSegment large_pages (M.hierarchy mapper.old) (A.supply frames.old)
+        segment.now result (M.hierarchy mapper.new) (A.supply frames.new) }
     ensures serves { A.serves frames.new ≡ A.serves frames.old }
 {
     let head = pages_before_large(segment);

@@ -1,9 +1,7 @@
 //! Maps of runs of pages of one size.
-ghost use Rattle.std.specs.Prelude.{◌≡◌, ◌*◌, ◌%◌, ◌<◌, ℕ, true, OnOk, IfErr};
-ghost use Rattle.x86_64_loader.specs.private.Loads.{IsStopped};
-ghost use Rattle.x86_64_loader.specs.Maps.{Accepts};
-ghost use Rattle.x86_64_loader.specs.Pages.{MayBeMapped, RunStands, IsFree, Leaves};
-ghost use Rattle.x86_64_loader.specs.Segments.{run_of};
+ghost use Rattle.std.specs.Prelude.{◌≡◌, ◌%◌, ◌<◌, ℕ, true, OnOk, IfErr};
+ghost use Rattle.x86_64_loader.specs.private.Loads.{AreMapped, IsStopped};
+ghost use Rattle.x86_64_loader.specs.Pages.{MayBeMapped};
 ghost use Rattle.x86_64_model.specs.Entry.{present};
 ghost use Rattle.x86_64_model.specs.Mapper.{SupplyFits};
 ghost use Rattle.x86_64_tables.specs.MapperAnswers.{map_refusal};
@@ -37,18 +35,11 @@ pub(crate) fn map_pages<S: PageSize, M: Mapper<S>, A: FrameAllocator<Size4KiB>>(
     requires is_present { present (bits_of flags) ≡ true }
     requires may { (k : ℕ) → k < count
         → MayBeMapped (M.hierarchy mapper.old) S.LEVEL S.SIZE page frame (bits_of flags) k }
-    ensures stand { OnOk result (
-        RunStands (M.hierarchy mapper.new) S.LEVEL S.SIZE page frame (bits_of flags) count) }
-    ensures were_free { OnOk result (IsFree (M.hierarchy mapper.old) page (count * S.SIZE)) }
-    ensures leaves { let h = M.hierarchy mapper.old in let supply = A.supply frames.old in
-        OnOk result (Leaves 3 h supply (M.hierarchy mapper.new) (A.supply frames.new)) }
-    ensures accepted { let h = M.hierarchy mapper.old in let supply = A.supply frames.old in
-        let pages = run_of S.LEVEL page frame (bits_of flags) count in
-        OnOk result (Accepts h supply pages (M.hierarchy mapper.new) (A.supply frames.new)) }
-    ensures stopped { let h = M.hierarchy mapper.old in let after = M.hierarchy mapper.new in
-        let supply = A.supply frames.old in let rest = A.supply frames.new in let given = bits_of flags in
-        IfErr result (λ stopped. let why = map_refusal stopped.why in
-        IsStopped h supply S.LEVEL S.SIZE page frame given count stopped.mapped why after rest) }
+    ensures mapped { OnOk result (AreMapped (M.hierarchy mapper.old) (A.supply frames.old)
+        S.LEVEL S.SIZE page frame (bits_of flags) count (M.hierarchy mapper.new) (A.supply frames.new)) }
+    ensures stopped { IfErr result (λ stopped. IsStopped (M.hierarchy mapper.old) (A.supply frames.old)
+        S.LEVEL S.SIZE page frame (bits_of flags) count stopped.mapped (map_refusal stopped.why)
+        (M.hierarchy mapper.new) (A.supply frames.new)) }
     ensures serves { A.serves frames.new ≡ A.serves frames.old }
     ensures page_aligned { page % S.SIZE ≡ 0 }
     ensures frame_aligned { frame % S.SIZE ≡ 0 }

@@ -25,10 +25,9 @@ pub(crate) fn map_part<S: PageSize, M: Mapper<S>, A: FrameAllocator<Size4KiB>>(
     requires page_aligned { 0 < count → 1 < S.LEVEL → (segment.now.page + first * 0x1000) % S.SIZE ≡ 0 }
     requires frame_aligned { 0 < count → 1 < S.LEVEL → (segment.now.frame + first * 0x1000) % S.SIZE ≡ 0 }
     requires within { first * 0x1000 + count * S.SIZE ≤ size_of segment.now }
-    ensures loads { let h = M.hierarchy mapper.old in let supply = A.supply frames.old in
-        let s = segment.now in let after = M.hierarchy mapper.new in let rest = A.supply frames.new in
-        let pages = part_of S.LEVEL s first count in
-        LoadsPart h supply s pages (first * 0x1000) (count * S.SIZE) result after rest }
+    ensures loads { LoadsPart (M.hierarchy mapper.old) (A.supply frames.old) segment.now
+        (part_of S.LEVEL segment.now first count) (first * 0x1000) (count * S.SIZE) result
+        (M.hierarchy mapper.new) (A.supply frames.new) }
     ensures serves { A.serves frames.new ≡ A.serves frames.old }
 {
     if count == 0 {

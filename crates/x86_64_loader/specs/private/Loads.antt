@@ -28,6 +28,13 @@ pub record IsStopped {Lent : Type 0} (h : Hierarchy Lent) (supply : List ℕ) (l
   pub leaves : Leaves level h supply after rest
   pub refused : Refuses h supply (run_of level page frame flags mapped) (mapping_of level (page + mapped * span level) (frame + mapped * span level) flags) why after rest
 
+-- these pages of a run are mapped: they stand, no page that stood overlapped them, and what stood still stands
+pub record AreMapped {Lent : Type 0} (h : Hierarchy Lent) (supply : List ℕ) (level size page frame flags count : ℕ) (after : Hierarchy Lent) (rest : List ℕ) : Type 0 where
+  pub stand : RunStands after level size page frame flags count
+  pub were_free : IsFree h page (count * size)
+  pub leaves : Leaves 3 h supply after rest
+  pub accepted : Accepts h supply (run_of level page frame flags count) after rest
+
 -- the segment's positions from one offset up to another, which isn't included, are held and mapped where they should be
 abbrev pub HoldsPart : {Lent : Type 0} → Hierarchy Lent → Segment → (low high : ℕ) → Type 0
 HoldsPart h s low high = (offset : ℕ) → low ≤ offset → offset < high → IsHeld h (s.page + offset) (s.frame + offset) (bits_of s.flags)
@@ -64,3 +71,8 @@ abbrev pub LoadsPart : {Lent Value Size : Type 0} → Hierarchy Lent → (supply
     → (after : Hierarchy Lent) → (rest : List ℕ) → Type 0
 LoadsPart h supply s pages low size (Ok _) after rest = IsMapped h supply s pages low size after rest
 LoadsPart h supply s pages low size (Err stopped) after rest = IsHalted h supply s pages low stopped.mapped (map_refusal stopped.why) after rest
+
+-- the effect of the load of a whole segment, by its result
+abbrev pub LoadsSegment : {Lent Value Size : Type 0} → (pages_of : Segment → List PageMapping) → Hierarchy Lent → (supply : List ℕ) → Segment → Result Value (Stopped Size)
+    → (after : Hierarchy Lent) → (rest : List ℕ) → Type 0
+LoadsSegment pages_of h supply s result after rest = LoadsPart h supply s (pages_of s) 0 (size_of s) result after rest

@@ -3,6 +3,7 @@ use Rattle.std.proofs.lemmas.List.{take_all}
 use Rattle.x86_64_loader.specs.private.Loads.{pages_by}
 use Rattle.x86_64_loader.specs.Maps.{Accepts}
 use Rattle.x86_64_loader.specs.Segments.{AllStand}
+use Rattle.x86_64_loader.specs.declared.segment.LoadError.{LoadError}
 use Rattle.x86_64_loader.proofs.Made.{accepts_none, accepts_then, kept_none}
 use Rattle.x86_64_loader.proofs.Runs.{kept_then, leaves_then, still_stand}
 use Rattle.x86_64_loader.proofs.Segments.{allowed_at, apart_next, held_is_loaded, held_next, next_too, pages_next, refused_here, still_allowed}
@@ -30,32 +31,32 @@ load_segment-requires-clause-allowed g c =
     still_allowed h (g.M.Tables.hierarchy c.loop-index.mapper) (g.A.FrameAllocator.supply c.loop-index.frames) s c.loop-index.invariant.leaves
     (allowed_at c.args.segments.now c.loop-index.index s c.loop-index-test.true c.index-segments-index.is h c.requires.allowed)
 
-pub returns-in-Err-clause-refused : goal.returns-in-Err-clause-refused
-returns-in-Err-clause-refused g c =
+pub returns-in-Err-clause-loads : goal.returns-in-Err-clause-loads
+returns-in-Err-clause-loads g c =
+    let h = g.M.Tables.hierarchy c.args.mapper.now in
+    let supply = g.A.FrameAllocator.supply c.args.frames.now in
     let now = g.M.Tables.hierarchy c.loop-index.mapper in
-    let inv = c.loop-index.invariant in
-    refused_here c.args.segments.now c.loop-index.index c.index-segments-index.result c.loop-index-test.true c.index-segments-index.is
-    now (g.M.Tables.hierarchy c.load_segment.new.mapper) (g.A.FrameAllocator.supply c.load_segment.new.frames) inv.held (pages_by c.args.sizes)
-    (g.M.Tables.hierarchy c.args.mapper.now) (g.A.FrameAllocator.supply c.args.frames.now) (g.A.FrameAllocator.supply c.loop-index.frames)
-    (record { segment = c.loop-index.index; page = c.page_after.result; mapped = c.in-Err.stopped.mapped; why = c.in-Err.stopped.why })
-    inv.leaves refl c.page_after.ensures inv.accepted c.in-Err.ensures.loads
-
-pub returns-in-Err-clause-succeeds : goal.returns-in-Err-clause-succeeds
-returns-in-Err-clause-succeeds g c suffices =
+    let between = g.A.FrameAllocator.supply c.loop-index.frames in
+    let after = g.M.Tables.hierarchy c.load_segment.new.mapper in
+    let rest = g.A.FrameAllocator.supply c.load_segment.new.frames in
     let segments = c.args.segments.now in
+    let i = c.loop-index.index in
+    let s = c.index-segments-index.result in
     let here = c.loop-index-test.true in
     let item = c.index-segments-index.is in
-    absurd (cannot_be_refused (g.M.Tables.hierarchy c.args.mapper.now) (g.A.FrameAllocator.supply c.args.frames.now) c.args.sizes segments (g.met.M.TablesIn.level_count c.args.mapper.now)
-    (g.M.Tables.added_flags c.args.mapper.now).adds c.requires.fits c.requires.allowed suffices
-    (record { segment = c.loop-index.index; page = c.page_after.result; mapped = c.in-Err.stopped.mapped; why = c.in-Err.stopped.why })
-    (g.M.Tables.hierarchy c.load_segment.new.mapper) (g.A.FrameAllocator.supply c.load_segment.new.frames)
-    (next_too segments c.loop-index.index c.index-segments-index.result here item (λ t. t.page % 0x1000 ≡ 0) c.loop-index.invariant.aligned c.in-Err.ensures.aligned)
-    (returns-in-Err-clause-refused g c))
-
-pub returns-in-Err-clause-kept : goal.returns-in-Err-clause-kept
-returns-in-Err-clause-kept g c =
-    kept_then (g.M.Tables.hierarchy c.args.mapper.now) (g.M.Tables.hierarchy c.loop-index.mapper) (g.M.Tables.hierarchy c.load_segment.new.mapper)
-    (g.A.FrameAllocator.supply c.loop-index.frames) (g.A.FrameAllocator.supply c.load_segment.new.frames) c.loop-index.invariant.leaves.kept c.in-Err.ensures.loads.kept
+    let inv = c.loop-index.invariant in
+    let cut = pages_by c.args.sizes in
+    let error : LoadError = record { segment = i; page = c.page_after.result; mapped = c.in-Err.stopped.mapped; why = c.in-Err.stopped.why } in
+    let refused = refused_here segments i s here item now after rest inv.held cut h supply between error inv.leaves refl c.page_after.ensures inv.accepted c.in-Err.ensures.loads in
+    record {
+      accepted = tt;
+      loaded = tt;
+      disjoint = tt;
+      refused = refused;
+      succeeds = λ suffices. absurd (cannot_be_refused h supply c.args.sizes segments (g.met.M.TablesIn.level_count c.args.mapper.now) (g.M.Tables.added_flags c.args.mapper.now).adds c.requires.fits c.requires.allowed suffices
+          error after rest (next_too segments i s here item (λ t. t.page % 0x1000 ≡ 0) inv.aligned c.in-Err.ensures.aligned) refused);
+      kept = kept_then h now after between rest inv.leaves.kept c.in-Err.ensures.loads.kept;
+    }
 
 pub loop-index-preserved : goal.loop-index-preserved
 loop-index-preserved g c =
@@ -85,17 +86,18 @@ loop-index-preserved g c =
       serves = c.in_default.ensures.serves ∙ inv.serves;
     }
 
-pub returns-clause-accepted : goal.returns-clause-accepted
-returns-clause-accepted g c =
+pub returns-clause-loads : goal.returns-clause-loads
+returns-clause-loads g c =
+    let h = g.M.Tables.hierarchy c.args.mapper.now in
+    let now = g.M.Tables.hierarchy c.loop-index.mapper in
     let segments = c.args.segments.now in
-    subst (λ these. Accepts (g.M.Tables.hierarchy c.args.mapper.now) (g.A.FrameAllocator.supply c.args.frames.now) (flat_map (pages_by c.args.sizes) these) (g.M.Tables.hierarchy c.loop-index.mapper) (g.A.FrameAllocator.supply c.loop-index.frames))
-    (take_all c.loop-index.index segments (omega arith)) c.loop-index.invariant.accepted
-
-pub returns-clause-loaded : goal.returns-clause-loaded
-returns-clause-loaded g c =
     let inv = c.loop-index.invariant in
-    λ k d within. held_is_loaded (pages_by c.args.sizes) (g.M.Tables.hierarchy c.loop-index.mapper) (g.M.Tables.hierarchy c.args.mapper.now) _ inv.leaves.kept.fits.valid
-    (inv.aligned k d (omega arith)) (c.requires.allowed k d within) (inv.stand k d (omega arith)) (inv.held k d (omega arith))
-
-pub returns-clause-disjoint : goal.returns-clause-disjoint
-returns-clause-disjoint g c = λ i j d less within. c.loop-index.invariant.apart i j d less (omega arith)
+    let cut = pages_by c.args.sizes in
+    record {
+      accepted = subst (λ these. Accepts h (g.A.FrameAllocator.supply c.args.frames.now) (flat_map cut these) now (g.A.FrameAllocator.supply c.loop-index.frames)) (take_all c.loop-index.index segments (omega arith)) inv.accepted;
+      loaded = λ k d within. held_is_loaded cut now h _ inv.leaves.kept.fits.valid (inv.aligned k d (omega arith)) (c.requires.allowed k d within) (inv.stand k d (omega arith)) (inv.held k d (omega arith));
+      disjoint = λ i j d less within. inv.apart i j d less (omega arith);
+      refused = tt;
+      succeeds = λ suffices. refl;
+      kept = inv.leaves.kept;
+    }

@@ -3,8 +3,8 @@ use Rattle.x86_64_model.specs.MapRule.{parent_part}
 use Rattle.x86_64_model.specs.Position.{span}
 use Rattle.x86_64_tables.specs.MapperAnswers.{map_refusal}
 use Rattle.x86_64_mappers.specs.Ranges.{MapsAll, StopsAt, range_of}
-use Rattle.x86_64_loader.specs.private.Loads.{IsStopped}
-use Rattle.x86_64_loader.proofs.MappedRanges.{AreMapped, all_mapped, may_map, some_mapped}
+use Rattle.x86_64_loader.specs.private.Loads.{AreMapped, IsStopped}
+use Rattle.x86_64_loader.proofs.MappedRanges.{all_mapped, may_map, some_mapped}
 use Rattle.x86_64_loader.proofs.pages.map_pages.Goals as goal
 
 pub map_range-requires-clause-may : goal.map_range-requires-clause-may
@@ -32,10 +32,7 @@ returns-in-Ok g c =
     let mapped = subst (λ z. AreMapped h supply level z page frame given count after rest) (sym g.S.PageSize.size)
     (all_mapped h supply level page frame given g.S.PageSize.low g.S.PageSize.high (g.met.M.Tables.at_least_four s) (g.M.Tables.added_flags s).adds (g.met.M.Tables.is_mapping s) c.requires.is_present
     (ap (λ z. page % z) (sym g.S.PageSize.size) ∙ page_aligned) (ap (λ z. frame % z) (sym g.S.PageSize.size) ∙ frame_aligned) c.requires.fits count frames after rest maps) in record {
-      stand = mapped.stand;
-      were_free = mapped.were_free;
-      leaves = mapped.leaves;
-      accepted = mapped.accepted;
+      mapped = mapped;
       stopped = tt;
       serves = c.in-Ok.ensures.serves;
       page_aligned = page_aligned;

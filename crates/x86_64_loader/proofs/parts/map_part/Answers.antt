@@ -56,7 +56,7 @@ overflow_add-result g c =
 pub returns-in-Ok-clause-loads : goal.returns-in-Ok-clause-loads
 returns-in-Ok-clause-loads g c =
     let levels = g.met.M.Tables.at_least_four c.args.mapper.now in let high = g.S.PageSize.high in
-    let done = c.in-Ok.ensures in
+    let done = c.in-Ok.ensures.mapped in
     let h = g.M.Tables.hierarchy c.args.mapper.now in
     let after = g.M.Tables.hierarchy c.map_pages.new.mapper in
     let rest = g.A.FrameAllocator.supply c.map_pages.new.frames in

@@ -1,0 +1,123 @@
+-- What calls that take frames from a pool or return frames to it do: maps and clean ups.
+use Rattle.std.specs.Prelude.{◌≡◌, ◌≤◌, ℕ, ◌+◌, Bool, true, ◌==◌, ◌&&◌, nat_le, cond, List, ◌∷◌, length, Option, Some, None}
+use Rattle.std.specs.Option.{option_or}
+use Rattle.x86_64_model.specs.Mapper.{Hierarchy, machine_of, state_of}
+use Rattle.x86_64_model.specs.Store.{Store, Fits}
+use Rattle.x86_64_tables.specs.LentPool.{is_in, stacked}
+use Rattle.x86_64_tables.specs.PageTableFlags.{bits_of}
+use Rattle.x86_64.specs.Asked as asked
+use Rattle.x86_64.specs.Asked.{MapperCall, machine_call}
+use Rattle.x86_64.specs.Calls.{asks, no_bits}
+use Rattle.x86_64.specs.FreeFrames.{KeepsFree, back_by}
+use Rattle.x86_64.specs.Replies.{Reply, changes_nothing}
+use Rattle.x86_64.specs.Runs.{KeepsPool, step_by}
+use Rattle.x86_64_c.specs.Calls.{reply_status}
+use Rattle.x86_64_c.specs.Given.{unless, bad_hierarchy, bad_page, bad_frame, hierarchy_in, starts_page, position_of}
+use Rattle.x86_64_c.specs.Status as status
+use Rattle.x86_64_c.specs.declared.given.Hierarchy.{Hierarchy as Given}
+use Rattle.x86_64_c.specs.declared.given.MapRequest.{MapRequest}
+use Rattle.x86_64_c.specs.declared.runs.AnyCall.{AnyCall}
+use Rattle.x86_64_c.specs.declared.runs.AnyCall.TheVariants.{FourLevels, FiveLevels}
+
+-- ---- what a caller asks for
+
+-- A request: the call with a number of levels, and what is wrong with the arguments that say which call it is.
+pub record Request : Type 0 where
+  pub call : (L : ℕ) → MapperCall
+  pub wrong : (L : ℕ) → Option ℕ
+
+-- What is wrong with a request to map a page with L levels.
+abbrev pub bad_map : (L : ℕ) → MapRequest → Option ℕ
+bad_map L request = option_or (bad_page L request.page) (bad_frame request.page.size request.frame)
+
+-- The call of a request to map a page.
+abbrev pub map_call : (L : ℕ) → MapRequest → MapperCall
+map_call L request =
+    let call = asked.MapToWithTableFlags (position_of L request.page.start) request.frame request.flags request.parent_flags in
+    cond (request.page.size == 0x1000) (asked.Of4KiB call) (cond (request.page.size == 0x20_0000) (asked.Of2MiB call) (asked.Of1GiB call))
+
+-- What is wrong with the first and the last 4KiB page of a range.
+abbrev pub bad_range : (L first last : ℕ) → Option ℕ
+bad_range L first last = unless (starts_page L 4096 first && starts_page L 4096 last) status.bad_page
+
+-- The clean up of the pages from the first to the last.
+abbrev pub clean_up_call : (L first last : ℕ) → MapperCall
+clean_up_call L first last = asked.CleanUpRange (position_of L first) (position_of L last + 0xfff)
+
+-- The requests to map a page, and to clean up the pages from the first to the last.
+abbrev pub to_map : MapRequest → Request
+to_map request = record { call = λ L. map_call L request; wrong = λ L. bad_map L request }
+
+abbrev pub to_clean_up : (first last : ℕ) → Request
+to_clean_up first last = record { call = λ L. clean_up_call L first last; wrong = λ L. bad_range L first last }
+
+-- How many levels a call is for, and what it asks.
+abbrev pub any_levels : AnyCall → ℕ
+any_levels (FourLevels call) = 4
+any_levels (FiveLevels call) = 5
+
+abbrev pub any_asks : AnyCall → MapperCall
+any_asks (FourLevels call) = asks no_bits call
+any_asks (FiveLevels call) = asks (λ flags. bits_of flags) call
+
+-- ---- what a caller lends
+
+-- What a caller lends: the tables, and the array whose first entries are the pool's free frames, with their number.
+pub record Loan : Type 0 where
+  pub tables : List (List ℕ)
+  pub array : List ℕ
+  pub free : ℕ
+
+-- These tables, this array and this number.
+abbrev pub loan : (tables : List (List ℕ)) → (array : List ℕ) → (free : ℕ) → Loan
+loan tables array free = record { tables = tables; array = array; free = free }
+
+-- What is wrong with a hierarchy and with a pool of so many free frames in an array.
+abbrev pub bad_pool : Given → (count capacity free : ℕ) → Option ℕ
+bad_pool h count capacity free = option_or (bad_hierarchy h count) (unless (nat_le free capacity) status.bad_array)
+
+-- What is wrong with any of the arguments.
+abbrev pub bad_call : Given → Loan → Request → Option ℕ
+bad_call h lent request = option_or (bad_pool h (length lent.tables) (length lent.array) lent.free) (request.wrong h.levels)
+
+-- ---- what a call does
+
+-- A pool puts a frame that comes back at the front.
+abbrev pub to_front : (held : List ℕ) → (frame : ℕ) → List ℕ
+to_front held f = f ∷ held
+
+-- The store with these free frames, which serves these frames and takes one back so.
+abbrev pub store_of : (frames : List ℕ) → (serves : ℕ → Bool) → (take_back : List ℕ → ℕ → List ℕ) → Store
+store_of frames serves take_back = record { frames = frames; serves = serves; take_back = take_back }
+
+-- The pool in an array whose first entries are its free frames. It serves (may hold) its own frames, which are a list.
+abbrev pub pool_in : (own entries : List ℕ) → (count : ℕ) → Store
+pool_in own entries count = store_of (stacked entries count) (is_in own) to_front
+
+-- A call was executed as the machine does it, with the status of the reply. The hierarchy is valid again, and the rest of the pool
+-- fits it. If the reply says that nothing changed, no word did. Free frames keep their words, except those that came back.
+pub record Runs (h : Hierarchy (Unit {0})) (pool : Store) (call : MapperCall) (after : Hierarchy (Unit {0})) (rest : Store) (status : ℕ) : Type 0 where
+  pub reply : Reply
+  pub step : step_by (machine_of h.layout pool.take_back) (state_of h pool.frames) call ≡ record { state = state_of after rest.frames; reply = Some reply }
+  pub status_is : status ≡ reply_status reply
+  pub keeps : KeepsPool h.layout pool.serves h.memory pool.frames after.memory rest.frames
+  pub unchanged : changes_nothing reply ≡ true → after.memory ≡ h.memory
+  pub free : KeepsFree h.layout h.memory pool.frames (back_by (machine_of h.layout pool.take_back) (state_of h pool.frames) (machine_call h.layout.levels call)) after.memory rest.frames
+
+-- A request may be made, with a pool that has these frames as its own.
+pub record MayRun (own : List ℕ) (h : Given) (lent : Loan) (request : Request) : Type 0 where
+  -- The array has room for all of its own frames.
+  pub room : length own ≤ length lent.array
+  -- If no argument is wrong, the hierarchy is valid, and the pool fits it.
+  pub fits : bad_call h lent request ≡ None → Fits (hierarchy_in h lent.tables) (pool_in own lent.array lent.free)
+
+-- A request returned this status, and left this of what the caller lent.
+pub record RunsLent (own : List ℕ) (h : Given) (lent : Loan) (request : Request) (status : ℕ) (after : Loan) : Type 0 where
+  -- If an argument is wrong, the status says what, and nothing changes.
+  pub bad : (why : ℕ) → bad_call h lent request ≡ Some why → (status ≡ why) × (after ≡ lent)
+  -- Otherwise the call is executed.
+  pub runs : bad_call h lent request ≡ None
+      → Runs (hierarchy_in h lent.tables) (pool_in own lent.array lent.free) (request.call h.levels) (hierarchy_in h after.tables) (pool_in own after.array after.free) status
+  -- The array is as long as before, and the free frames are in it if they were before.
+  pub room : length after.array ≡ length lent.array
+  pub in_array : lent.free ≤ length lent.array → after.free ≤ length after.array
